@@ -1,0 +1,27 @@
+-- What a list of programs and a schedule have to be, to be played.
+use Rattle.std.specs.Prelude.{ℕ, ◌<◌, List, length, All}
+use Rattle.book_core.specs.declared.commands.Command.{Command}
+use Rattle.book_core.specs.declared.commands.Command.TheVariants.{Push, Grow, AtLeast, Fail, Read, Size}
+use Rattle.book_core.specs.declared.commands.Item.{Item}
+use Rattle.book_core.specs.declared.commands.Ended.{Ended}
+
+-- a refused construction stands at one of its call's own places
+abbrev pub IsSound : Command → Type 0
+IsSound (Push value) = Unit {0}
+IsSound (Grow n value) = Unit {0}
+IsSound (AtLeast to value) = Unit {0}
+IsSound (Fail n value at) = at < n
+IsSound (Read place) = Unit {0}
+IsSound Size = Unit {0}
+
+-- each command of each program is sound
+abbrev pub AreSound : List (List Command) → Type 0
+AreSound programs = All (λ program. All IsSound program) programs
+
+-- each item's actor has a program
+abbrev pub HavePrograms : List (List Command) → List Item → Type 0
+HavePrograms programs items = All (λ item. item.actor < length programs) items
+
+-- each ended call is of one of so many actors
+abbrev pub HaveActors : ℕ → List Ended → Type 0
+HaveActors count calls = All (λ ended. ended.actor < count) calls

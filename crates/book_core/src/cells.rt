@@ -1,0 +1,12 @@
+//! What a place of the vector holds.
+
+/// One claimed place, as a reader sees it.
+#[derive(Clone, Copy, Debug, PartialEq, Eq)]
+pub enum Cell {
+    /// Claimed by this actor, and not finished.
+    Pending(u32),
+    /// Published, with this value.
+    Filled(u64),
+    /// Its construction was refused; it holds no value.
+    Broken,
+}

@@ -1,0 +1,26 @@
+//! The sequential vector: the plain list of cells that every other layer is held against.
+//!
+//! - `CellVec` is a limit and a list of cells; contracts see it as the record `CellList` of `specs/Cells.antt`.
+//! - `CellVec::apply` is the table of events there, `apply_event`: one equation a row.
+//! - A history is a list of events with their replies; `specs/History.antt` says when it is legal, which runs it claims,
+//!   that they tile the length, and who owns a place.
+//! - `Sequence` is the list type of all results: contracts see it as a list.
+//!
+//! A caller can prove what each event does and answers, and when it is refused. Nothing here knows of segments, atomic
+//! steps or threads.
+#![tactic(auto)]
+
+mod cells;
+mod commands;
+mod events;
+mod list;
+mod vector;
+
+#[cfg(test)]
+mod tests;
+
+pub use cells::Cell;
+pub use commands::{Answer, Command, Ended, Item};
+pub use events::{Event, Reply};
+pub use list::Sequence;
+pub use vector::{BookError, CellVec};

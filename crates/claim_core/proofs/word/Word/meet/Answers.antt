@@ -1,0 +1,17 @@
+use Rattle.std.proofs.Common.{ap}
+use Rattle.claim_core.proofs.Steps.{spares}
+use Rattle.claim_core.proofs.Belonging.{belongs, owned_apart}
+use Rattle.claim_core.proofs.word.Word.meet.Goals as goal
+
+pub split_seat-spare-requires : goal.split_seat-spare-requires
+split_seat-spare-requires g c =
+    let b = belongs c.a.invariant c.self.invariant c.a.view_is c.self.view_is c.requires.ours in
+    (b.same, b.words, spares _ _ _)
+
+pub returns-clause-apart : goal.returns-clause-apart
+returns-clause-apart g c =
+    let shown = c.show-size.ensures in
+    let a = ap (λ m. m.0.mine) shown.me in
+    let b = ap (λ m. m.0.mine) shown.other_me in
+    let both = shown.looks.same.mine in
+    owned_apart c.show-size.new.seat.me.0.mine c.show-size.result.1.me.0.mine shown.looks.sound (cc)

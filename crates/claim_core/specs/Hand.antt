@@ -1,0 +1,77 @@
+-- A hand as callers see it, and what one call does to it.
+use Rattle.std.specs.Prelude.{◌≡◌, ℕ, ◌+◌, ◌<◌, ◌≤◌, List, [], ◌∷◌, ◌++◌, length, slice_index}
+use Rattle.std.specs.List.{Contains}
+use mathlib.Core.List.{IsPrefix}
+use Rattle.claim_core.specs.declared.run.Run.{Run}
+use Rattle.claim_core.specs.Lengths.{start_of, end_of}
+use Rattle.claim_core.specs.Word.{WordView}
+
+-- the word that it belongs to, the lengths of all runs that it has seen, the indices of its own runs among them, and its shares
+pub record HandView : Type 0 where
+  pub of : WordView
+  pub seen : List ℕ
+  pub mine : List ℕ
+  pub shares : ℕ
+
+-- the size that the hand has seen
+abbrev pub seen_size : HandView → ℕ
+seen_size hand = end_of hand.of.base hand.seen
+
+-- the hand belongs to the word
+abbrev pub IsHandOf : WordView → HandView → Type 0
+IsHandOf word hand = hand.of ≡ word
+
+-- the hand has all shares
+abbrev pub IsWholeHand : HandView → Type 0
+IsWholeHand hand = hand.shares ≡ 65536
+
+-- the word's first hand has all shares, and has seen nothing
+abbrev pub IsNewHand : WordView → HandView → Type 0
+IsNewHand word hand = hand ≡ record { of = word; seen = []; mine = []; shares = 65536 }
+
+-- the hand's word, indices and shares are as before
+pub record KeepsOwn (old new : HandView) : Type 0 where
+  pub of : new.of ≡ old.of
+  pub mine : new.mine ≡ old.mine
+  pub shares : new.shares ≡ old.shares
+
+-- the hand has one more run. It begins where the runs before it end, and they begin with all that the hand had seen
+pub record AddsRun (old new : HandView) (run : Run) : Type 0 where
+  pub between : List ℕ
+  pub begins : run.from ≡ end_of old.of.base (old.seen ++ between)
+  pub positive : 0 < run.n
+  pub within : run.from + run.n ≤ old.of.limit
+  pub seen : new.seen ≡ (old.seen ++ between) ++ run.n ∷ []
+  pub mine : new.mine ≡ length (old.seen ++ between) ∷ old.mine
+  pub shares : new.shares ≡ old.shares
+  pub of : new.of ≡ old.of
+
+-- the hand has seen this size, and nothing else of it has changed
+pub record SeesSize (old new : HandView) (size : ℕ) : Type 0 where
+  pub seen : IsPrefix old.seen new.seen
+  pub ends : seen_size new ≡ size
+  pub within : size ≤ old.of.limit
+  pub own : KeepsOwn old new
+
+-- no run is owned by both
+abbrev pub OwnApart : HandView → HandView → Type 0
+OwnApart a b = (k : ℕ) → Contains a.mine k → Contains b.mine k → ⊥
+
+-- the run is the one of this index among those that the hand has seen
+pub record SeesRun (hand : HandView) (index : ℕ) (run : Run) : Type 0 where
+  pub there : index < length hand.seen
+  pub from : run.from ≡ start_of hand.of.base hand.seen index
+  pub n : run.n ≡ slice_index hand.seen index
+
+-- the hand has seen the run
+abbrev pub HasSeen : HandView → Run → Type 0
+HasSeen hand run = (index : ℕ) × SeesRun hand index run
+
+-- the hand has seen the run, and owns it
+abbrev pub OwnsRun : HandView → Run → Type 0
+OwnsRun hand run = (index : ℕ) × Contains hand.mine index × SeesRun hand index run
+
+-- no place is in both runs
+abbrev pub AreDisjoint : Run → Run → Type 0
+AreDisjoint a b =
+    (place : ℕ) → a.from ≤ place → place < a.from + a.n → b.from ≤ place → place < b.from + b.n → ⊥

@@ -1,0 +1,15 @@
+-- The claim word as callers see it.
+use Rattle.std.specs.Prelude.{ℕ, ◌<◌, ◌≤◌, ◌^◌}
+use Rattle.atomic_table.specs.Seated.{TableId}
+
+-- which word it is, the greatest size that it may have, and the size that it began with
+pub record WordView : Type 0 where
+  pub table : TableId
+  pub limit : ℕ
+  pub base : ℕ
+
+-- a word may have this limit, and begin at this base
+pub record IsLimit (limit base : ℕ) : Type 0 where
+  pub positive : 0 < limit
+  pub small : limit ≤ 2 ^ 32
+  pub room : base ≤ limit

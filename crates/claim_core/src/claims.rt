@@ -1,0 +1,65 @@
+//! The two steps that claim places.
+ghost use Rattle.std.specs.Prelude.{◌≡◌, ◌+◌, ◌<◌, ◌≤◌, IsOk, IfOk, IfErr};
+ghost use Rattle.claim_core.specs.Hand.{IsHandOf, IsWholeHand, AddsRun, SeesSize, seen_size};
+
+use crate::hand::Hand;
+use crate::rule::{Exchange, Raise};
+use crate::run::{Enough, Moved, Run};
+use crate::word::Word;
+use std::alloc::Allocator;
+
+impl<A: Allocator> Word<A> {
+    /// One try to move the size from `from` to `from + n`. It waits for nobody.
+    pub fn exchange(&self, hand: &mut Hand, from: u64, n: u64) -> Result<Run, Moved>
+        requires ours { IsHandOf self.now hand.old }
+        requires some_places { 0 < n }
+        requires within_limit { from + n ≤ self.now.limit }
+        requires not_ahead { from ≤ seen_size hand.old }
+        // Won: this step is the linearization point of the growth.
+        ensures run { IfOk result (λ run. run ≡ record { from = from; n = n }) }
+        ensures claimed { IfOk result (λ run. AddsRun hand.old hand.new run) }
+        // Lost: nothing is claimed, and the hand has seen the size that it is told.
+        ensures moved { IfErr result (λ lost. from < lost.size) }
+        ensures seen { IfErr result (λ lost. SeesSize hand.old hand.new lost.size) }
+        // Nobody else can claim beside a whole hand.
+        ensures whole { IsWholeHand hand.old → from ≡ seen_size hand.old → IsOk result }
+    {
+        let shared = &self.table.shared;
+        let found = shared.compare_exchange::<Exchange>(&mut hand.seat, 0, from, from + n);
+        if found == from {
+            hand.seen = from + n;
+            Ok(Run { from, n })
+        } else {
+            hand.seen = found;
+            Err(Moved { size: found })
+        }
+    }
+
+    /// One step that makes the size the greater of itself and `to`. It waits for nobody.
+    pub fn raise(&self, hand: &mut Hand, to: u64) -> Result<Run, Enough>
+        requires ours { IsHandOf self.now hand.old }
+        requires within_limit { to ≤ self.now.limit }
+        // The size grew: this step is the linearization point of the growth.
+        ensures run { IfOk result (λ run. run.from + run.n ≡ to) }
+        ensures claimed { IfOk result (λ run. AddsRun hand.old hand.new run) }
+        // It was large enough: nothing is claimed, and the hand has seen the size that it is told.
+        ensures enough { IfErr result (λ enough. to ≤ enough.size) }
+        ensures seen { IfErr result (λ enough. SeesSize hand.old hand.new enough.size) }
+        // Nobody else can claim beside a whole hand.
+        ensures whole { IsWholeHand hand.old → IfOk result (λ run. run.from ≡ seen_size hand.old) }
+        ensures whole_enough { IsWholeHand hand.old → IfErr result (λ enough. enough.size ≡ seen_size hand.old) }
+    {
+        let shared = &self.table.shared;
+        let found = shared.fetch_max::<Raise>(&mut hand.seat, 0, to);
+        if found < to {
+            hand.seen = to;
+            Ok(Run {
+                from: found,
+                n: to - found,
+            })
+        } else {
+            hand.seen = found;
+            Err(Enough { size: found })
+        }
+    }
+}

@@ -1,0 +1,77 @@
+//! A caller's token of what it has seen.
+ghost use Rattle.std.specs.Prelude.{◌≡◌, ℕ, ◌<◌, ◌≤◌, ◌↔◌, IsTrue, All, Contains, length};
+ghost use Rattle.claim_core.specs.Lengths.{Tiles, times};
+ghost use Rattle.claim_core.specs.Hand.{IsWholeHand, seen_size};
+
+use crate::seat_view::SeatView;
+use atomic_table::Seat;
+use std::marker::Model;
+
+// The shares of a whole hand.
+pub(crate) const WHOLE: u32 = 65536;
+
+/// What a caller has seen of the size, and its part of the right to close the word. It may be lost: its runs and shares
+/// are then lost for good.
+#[derive(Drop)]
+pub struct Hand {
+    pub(crate) seat: Seat<(), SeatView>,
+    pub(crate) shares: u32,
+    pub(crate) seen: u64,
+}
+
+impl Model for Hand {
+    ghost use Rattle.claim_core.specs.Hand.{HandView};
+
+    ghost Value = { HandView };
+
+    ghost use Rattle.claim_core.specs.Held.{hand_view, IsHeld};
+
+    ghost view = { λ h. hand_view h.seat };
+
+    ghost invariant = { λ h. IsHeld h.seat h.shares h.seen };
+}
+
+impl Hand {
+    /// Its part of the right to close the word.
+    pub fn share(&self) -> u32
+        ensures { result ≡ self.now.shares }
+    {
+        self.shares
+    }
+
+    /// Whether it has all shares.
+    pub fn is_whole(&self) -> bool
+        ensures { IsTrue result ↔ IsWholeHand self.now }
+    {
+        self.share() == WHOLE
+    }
+
+    /// What every hand keeps. It does nothing.
+    pub fn laws(&self)
+        ensures positive { All (λ n. 0 < n) self.now.seen }
+        ensures within { seen_size self.now ≤ self.now.of.limit }
+        // It has seen each run that it owns, and owns none twice.
+        ensures below { (k : ℕ) → Contains self.now.mine k → k < length self.now.seen }
+        ensures once { (k : ℕ) → times k self.now.mine ≤ 1 }
+        ensures some_shares { 0 < self.now.shares }
+        ensures not_more { self.now.shares ≤ 65536 }
+    {
+        let _seen = self.seen;
+    }
+
+    /// What a whole hand keeps: it has seen all that was claimed, and owns it. It does nothing.
+    pub fn whole_laws(&self)
+        requires whole { IsWholeHand self.now }
+        ensures all { (k : ℕ) → k < length self.now.seen → Contains self.now.mine k }
+        ensures tiles { Tiles self.now.of.base self.now.seen self.now.mine }
+    {
+        let _seen = self.seen;
+    }
+
+    /// The size that it has seen.
+    pub fn seen(&self) -> u64
+        ensures { result ≡ seen_size self.now }
+    {
+        self.seen
+    }
+}

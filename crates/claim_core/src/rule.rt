@@ -1,0 +1,118 @@
+//! The rule of the word, and the kinds of step that keep it.
+use crate::seat_view::SeatView;
+use crate::terms::Terms;
+use atomic_table::{Join, Play, Seat, Split, TableRule};
+use std::marker::{Brand, PhantomData};
+
+/// There is one list of lengths, which ends at the word.
+pub struct OneList;
+
+impl TableRule<(), SeatView, Terms> for OneList {
+    ghost use Rattle.claim_core.specs.Rule.{Kept, first_view};
+
+    ghost holds = { Kept };
+
+    ghost first = { first_view };
+}
+
+/// The steps on the word.
+pub type ClaimTable = atomic_table::Shared<(), SeatView, Terms, OneList>;
+
+/// What a caller makes them with.
+pub type ClaimSeat = Seat<(), SeatView>;
+
+/// A load that tells the size.
+pub struct Load;
+
+impl Play<(), SeatView> for Load {
+    ghost use Rattle.claim_core.specs.Rule.{loaded};
+
+    ghost then = { loaded };
+}
+
+/// The load that ends a join. It tells no size.
+pub struct Settle;
+
+impl Play<(), SeatView> for Settle {
+    ghost use Rattle.claim_core.specs.Rule.{settled};
+
+    ghost then = { settled };
+}
+
+/// An exchange of the size.
+pub struct Exchange;
+
+impl Play<(), SeatView> for Exchange {
+    ghost use Rattle.claim_core.specs.Rule.{exchanged};
+
+    ghost then = { exchanged };
+}
+
+/// A step to the greater of two sizes.
+pub struct Raise;
+
+impl Play<(), SeatView> for Raise {
+    ghost use Rattle.claim_core.specs.Rule.{raised};
+
+    ghost then = { raised };
+}
+
+/// Two seats become one.
+pub struct Both;
+
+impl Join<SeatView> for Both {
+    ghost use Rattle.claim_core.specs.Rule.{joined, spent_view};
+
+    ghost both = { joined };
+
+    ghost spent = { spent_view };
+}
+
+/// A seat with nothing is split off.
+pub struct Blank;
+
+impl Split<SeatView> for Blank {
+    ghost use Rattle.claim_core.specs.Rule.{spent_view};
+
+    ghost left = { λ v. v };
+
+    ghost right = { λ v. spent_view };
+}
+
+/// What a split leaves, and what it gives away. Each call picks it.
+pub trait Parts {
+    ghost use Rattle.std.specs.Prelude.{ℕ, List};
+
+    ghost kept_runs: { List ℕ };
+
+    ghost kept_shares: { ℕ };
+
+    ghost given_runs: { List ℕ };
+
+    ghost given_shares: { ℕ };
+}
+
+impl Parts for Brand {
+    ghost use Rattle.std.specs.Prelude.{[]};
+
+    ghost kept_runs = { [] };
+
+    ghost kept_shares = { 0 };
+
+    ghost given_runs = { [] };
+
+    ghost given_shares = { 0 };
+}
+
+/// A seat is cut in two, which have seen the same.
+pub struct Cut<P: Parts> {
+    parts: PhantomData<P>,
+}
+
+impl<P: Parts> Split<SeatView> for Cut<P> {
+    ghost use Rattle.claim_core.specs.Rule.{with_own};
+
+    ghost left = { λ v. with_own v P.kept_runs P.kept_shares };
+
+    ghost right = { λ v. with_own v P.given_runs P.given_shares };
+}

@@ -1,0 +1,8 @@
+//! What a word is told once, when it is opened.
+
+/// The greatest size, and the size at the start.
+#[derive(Clone, Copy)]
+pub struct Terms {
+    pub limit: u64,
+    pub base: u64,
+}

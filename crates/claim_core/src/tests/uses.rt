@@ -1,0 +1,72 @@
+// What callers prove by the public clauses alone.
+ghost use Rattle.std.specs.Prelude.{◌≡◌, IfSome};
+ghost use Rattle.claim_core.specs.Lengths.{Tiles};
+ghost use Rattle.claim_core.specs.Hand.{IsHandOf, IsWholeHand, HasSeen, OwnsRun, AreDisjoint, seen_size};
+
+use crate::{Hand, Run, Word, laws};
+use std::alloc::Allocator;
+use std::test::Fail;
+
+// Claims one place, where there is room.
+fn claim_one<A: Allocator>(word: &Word<A>, hand: &mut Hand) -> Option<Run>
+    requires ours { IsHandOf word.now hand.old }
+    ensures of { hand.new.of ≡ hand.old.of }
+    ensures shares { hand.new.shares ≡ hand.old.shares }
+    ensures owned { IfSome result (OwnsRun hand.new) }
+{
+    let from = word.size(hand);
+    if from == word.limit() {
+        return None;
+    }
+    laws::added_runs_are_owned();
+    word.exchange(hand, from, 1).ok()
+}
+
+// Two hands claim a place each, and meet: their runs are disjoint, and both have seen both.
+fn claim_two<A: Allocator>(word: &Word<A>, a: &mut Hand, b: &mut Hand) -> Option<(Run, Run)>
+    requires ours { IsHandOf word.now a.old }
+    requires also_ours { IsHandOf word.now b.old }
+    ensures of { (a.new.of ≡ a.old.of) × (b.new.of ≡ b.old.of) }
+    ensures shares { (a.new.shares ≡ a.old.shares) × (b.new.shares ≡ b.old.shares) }
+    ensures disjoint { IfSome result (λ (x, y). AreDisjoint x y) }
+    ensures seen { IfSome result (λ (x, y). HasSeen a.new x × HasSeen a.new y) }
+    ensures also_seen { IfSome result (λ (x, y). HasSeen b.new x × HasSeen b.new y) }
+{
+    let first = claim_one(word, a)?;
+    let second = claim_one(word, b)?;
+    word.meet(a, b);
+    laws::seen_runs_stay();
+    laws::owners_are_apart();
+    Some((first, second))
+}
+
+// A whole hand claims: its runs tile the places from the base to the size.
+fn claim_all<A: Allocator>(word: Word<A>, mut hand: Hand) -> (u64, Hand)
+    requires ours { IsHandOf word hand }
+    requires whole { IsWholeHand hand }
+    ensures size { result.0 ≡ seen_size result.1 }
+    ensures tiles { Tiles word.base result.1.seen result.1.mine }
+{
+    let _first = claim_one(&word, &mut hand);
+    let _second = claim_one(&word, &mut hand);
+    let size = word.size(&mut hand);
+    hand.whole_laws();
+    (size, hand)
+}
+
+#[test]
+fn two_hands_claim_and_meet(rt: HostRuntime) -> Result<(), Fail> {
+    let (word, mut a) = Word::open(rt.alloc(), 8, 0)?;
+    let mut b = word.split(&mut a, 1);
+    word.laws();
+    a.laws();
+    laws::runs_stay();
+    laws::runs_are_apart();
+    let won = claim_two(&word, &mut a, &mut b);
+    assert_eq!(rt; won, Some((Run { from: 0, n: 1 }, Run { from: 1, n: 1 })));
+    assert_eq!(rt; (a.seen(), b.seen()), (2, 2));
+    word.join(&mut a, b);
+    assert!(rt; a.is_whole());
+    assert_eq!(rt; claim_all(word, a).0, 4);
+    Ok(())
+}

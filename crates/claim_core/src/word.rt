@@ -1,0 +1,115 @@
+//! The word: how it is opened, looked at and closed.
+ghost use Rattle.std.specs.Prelude.{◌≡◌, ◌≤◌, ◌↔◌, IfOk, Err};
+ghost use Rattle.claim_core.specs.Word.{IsLimit};
+ghost use Rattle.claim_core.specs.Hand.{IsHandOf, IsWholeHand, IsNewHand, SeesSize, seen_size};
+
+use crate::hand::{Hand, WHOLE};
+use crate::rule::{Load, OneList};
+use crate::seat_view::SeatView;
+use crate::terms::Terms;
+use atomic_table::Table;
+use std::alloc::{Allocator, Global};
+use std::marker::Model;
+
+// The greatest limit.
+const GREATEST_LIMIT: u64 = 1 << 32;
+
+/// Why a word was not opened.
+#[derive(Clone, Copy, Debug, PartialEq, Eq)]
+pub enum OpenError {
+    /// There was no memory.
+    NoMemory = 1,
+    /// The limit is not from 1 to 2^32, or the base is above it.
+    BadLimit = 2,
+}
+
+/// The size of what all callers share. Contracts see which word it is, its limit and its base.
+#[derive(Drop)]
+pub struct Word<A: Allocator = Global> {
+    pub(crate) table: Table<(), SeatView, Terms, OneList, A>,
+    terms: Terms,
+}
+
+impl<A: Allocator> Model for Word<A> {
+    ghost use Rattle.claim_core.specs.Word.{WordView};
+    ghost use Rattle.claim_core.specs.Held.{word_view, IsOpened};
+
+    ghost Value = { WordView };
+
+    ghost view = { λ w. word_view w.table.shared.table_id w.terms };
+
+    ghost invariant = { λ w. IsOpened w.table.shared.table_id w.table.shared.key w.terms };
+}
+
+impl<A: Allocator> Word<A> {
+    /// A new word, and the hand that has all shares.
+    pub fn open(alloc: A, limit: u64, base: u64) -> Result<(Word<A>, Hand), OpenError>
+        ensures word { IfOk result (λ (word, _). (word.limit ≡ limit) × (word.base ≡ base)) }
+        ensures hand { IfOk result (λ (word, hand). IsNewHand word hand) }
+        // The limit is looked at before memory is asked for.
+        ensures bad_limit { (result ≡ Err OpenError.BadLimit) ↔ ¬ IsLimit limit base }
+    {
+        if limit == 0 || limit > GREATEST_LIMIT || base > limit {
+            return Err(OpenError::BadLimit);
+        }
+        let terms = Terms { limit, base };
+        let (table, seat) = Table::of_words(alloc, &[base], &terms).map_err(
+            |_| OpenError::NoMemory,
+        )?;
+        let hand = Hand {
+            seat,
+            shares: WHOLE,
+            seen: base,
+        };
+        Ok((Word { table, terms }, hand))
+    }
+
+    /// The greatest size that it may have.
+    pub fn limit(&self) -> u64
+        ensures { result ≡ self.now.limit }
+    {
+        self.terms.limit
+    }
+
+    /// The size that it began with.
+    pub fn base(&self) -> u64
+        ensures { result ≡ self.now.base }
+    {
+        self.terms.base
+    }
+
+    /// What every word keeps. It does nothing.
+    pub fn laws(&self)
+        ensures { IsLimit self.now.limit self.now.base }
+    {
+        let _limit = self.terms.limit;
+    }
+
+    /// A load of the size.
+    pub fn size(&self, hand: &mut Hand) -> u64
+        requires ours { IsHandOf self.now hand.old }
+        ensures seen { SeesSize hand.old hand.new result }
+        ensures grows { seen_size hand.old ≤ result }
+        // Nobody else can claim beside a whole hand.
+        ensures whole { IsWholeHand hand.old → result ≡ seen_size hand.old }
+    {
+        let shared = &self.table.shared;
+        let found = shared.load::<Load>(&mut hand.seat, 0);
+        hand.seen = found;
+        found
+    }
+
+    /// Ends the word, and answers its last size.
+    pub fn close(self, hand: Hand) -> u64
+        requires ours { IsHandOf self hand }
+        requires whole { IsWholeHand hand }
+        ensures { result ≡ seen_size hand }
+    {
+        let Word { table, terms: _ } = self;
+        let Hand { seat, .. } = hand;
+        let closed = table.close_with(seat);
+        let size = closed.word(0);
+        closed.free();
+        size
+    }
+}

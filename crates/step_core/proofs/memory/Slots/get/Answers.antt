@@ -1,0 +1,9 @@
+use Rattle.std.proofs.Common.{ap, sym, ◌∙◌}
+use Rattle.std.specs.FinMap.{get}
+use Rattle.step_core.proofs.MapViews.{get-seen}
+use Rattle.step_core.proofs.memory.Slots.get.Goals as goal
+
+pub returns : goal.returns
+returns c =
+    let seen = get-seen c.self.inside.taken.entries c.args.place in
+    cc (seen, c.self.view_is, c.get.ensures.value, c.copied.ensures)

@@ -1,0 +1,10 @@
+pub mod Calls
+pub mod Following
+pub mod MadeCall
+pub mod CallLaws
+pub mod Shared
+pub mod Step
+pub mod Stepping
+pub mod Within
+pub mod Play
+pub mod Tiling

@@ -1,0 +1,50 @@
+//! Why a play or a machine isn't made.
+use std::error::Error;
+use std::fmt;
+
+/// Why a schedule wasn't played. They are looked for in the order 2, 3, 4, before anything is played; 1 comes last.
+#[derive(Clone, Copy, Debug, PartialEq, Eq)]
+pub enum PlayError {
+    NoMemory = 1,
+    /// The limit isn't from 1 to 2^32.
+    BadLimit = 2,
+    /// A `fail` has its construction refused at a place that it doesn't ask for.
+    BadCommand = 3,
+    /// An item is of an actor without a program.
+    BadActor = 4,
+}
+
+impl fmt::Display for PlayError {
+    fn fmt<W: fmt::Write>(&self, f: &mut fmt::Formatter<W>) -> fmt::Result {
+        match self {
+            PlayError::NoMemory => write!(f, "out of memory"),
+            PlayError::BadLimit => write!(f, "the limit is not from 1 to 4294967296"),
+            PlayError::BadCommand => write!(f, "a refused construction is past the end of its call"),
+            PlayError::BadActor => write!(f, "an item is of an actor without a program"),
+        }
+    }
+}
+
+impl Error for PlayError {}
+
+/// Why a machine wasn't made. 2 is looked for before 3, and 1 comes last.
+#[derive(Clone, Copy, Debug, PartialEq, Eq)]
+pub enum MakeError {
+    NoMemory = 1,
+    /// The limit isn't from 1 to 2^32.
+    BadLimit = 2,
+    /// A `fail` has its construction refused at a place that it doesn't ask for.
+    BadCommand = 3,
+}
+
+impl fmt::Display for MakeError {
+    fn fmt<W: fmt::Write>(&self, f: &mut fmt::Formatter<W>) -> fmt::Result {
+        match self {
+            MakeError::NoMemory => write!(f, "out of memory"),
+            MakeError::BadLimit => write!(f, "the limit is not from 1 to 4294967296"),
+            MakeError::BadCommand => write!(f, "a refused construction is past the end of its call"),
+        }
+    }
+}
+
+impl Error for MakeError {}

@@ -1,0 +1,144 @@
+//! The machine of atomic steps.
+ghost use Rattle.std.specs.Prelude.{◌≡◌, ◌≤◌, ◌<◌, ◌↔◌, length, IfOk, OnErr, IsErrOf, Some, None, map};
+ghost use Rattle.book_core.specs.Cells.{IsLimit};
+ghost use Rattle.book_core.specs.Commands.{AreSound};
+ghost use Rattle.step_core.specs.Step.{step_of};
+ghost use Rattle.step_core.specs.Stepping.{Gives};
+ghost use Rattle.step_core.specs.Within.{IsInLimit};
+
+use crate::errors::MakeError;
+use crate::phase::{Actor, Phase};
+use crate::programs::are_sound;
+use crate::shared::Shared;
+use book_core::{CellVec, Command, Ended, Event, Reply, Sequence};
+use std::alloc::{AllocError, Global};
+use std::marker::Model;
+
+/// What one step gave: at most one event with its reply, and at most one call that ended.
+#[derive(Clone, Copy, Debug, PartialEq, Eq)]
+pub struct Stepped {
+    pub event: Option<(Event, Reply)>,
+    pub ended: Option<Ended>,
+}
+
+const NOTHING: Stepped = Stepped {
+    event: None,
+    ended: None,
+};
+
+/// Actors with programs over one vector, which move it by one atomic step at a time.
+#[derive(Drop)]
+pub struct Machine {
+    limit: u64,
+    shared: Shared,
+    actors: Vec<Actor>,
+}
+
+impl Model for Machine {
+    ghost use Rattle.step_core.specs.Step.{Configuration, configuration_code};
+    ghost use Rattle.step_core.specs.Within.{IsInLimit};
+
+    ghost Value = { Configuration };
+
+    ghost coded = { configuration_code };
+
+    ghost view = { λ m. record { limit = m.limit; shared = m.shared; actors = m.actors.items } };
+
+    ghost invariant = { λ m. IsInLimit (record { limit = m.limit; shared = m.shared; actors = m.actors.items }) };
+}
+
+impl Machine {
+    ghost use Rattle.step_core.specs.Step.{opening, step_of};
+    ghost use Rattle.step_core.specs.Stepping.{Gives};
+
+    /// The machine before the first step. It takes memory in line with the actors.
+    pub fn new(
+        alloc: Global,
+        limit: u64,
+        programs: Sequence<Sequence<Command>>,
+    ) -> Result<Machine, MakeError>
+        requires { length programs ≤ 65536 }
+        ensures made { IfOk result (λ machine. machine ≡ opening limit programs) }
+        ensures bad_limit { IsErrOf result MakeError.BadLimit ↔ (IsLimit limit → ⊥) }
+        ensures bad_command { IsErrOf result MakeError.BadCommand ↔ IsLimit limit × (AreSound programs → ⊥) }
+    {
+        if !CellVec::is_limit(limit) {
+            return Err(MakeError::BadLimit);
+        }
+        if !are_sound(programs.as_slice()) {
+            return Err(MakeError::BadCommand);
+        }
+        match actors_of(alloc, programs) {
+            Ok(actors) => Ok(Machine {
+                limit,
+                shared: Shared::new(alloc),
+                actors,
+            }),
+            Err(_) => Err(MakeError::NoMemory),
+        }
+    }
+
+    /// How many actors there are.
+    pub fn actors(&self) -> usize
+        ensures { result ≡ length self.now.actors }
+    {
+        self.actors.len()
+    }
+
+    /// One atomic step of an actor; one with nothing left, or without a program, changes nothing.
+    ///
+    /// `memory` says whether a request for a segment is granted in this step. It takes time in line with the logarithm of the
+    /// slots that are taken.
+    pub fn step(&mut self, actor: u32, memory: bool) -> Result<Stepped, AllocError>
+        ensures steps { IfOk result (λ stepped. Gives (step_of self.old actor memory) self.new stepped) }
+        // A real want of memory, which `memory` doesn't cause.
+        ensures err { OnErr result (self.new ≡ self.old) }
+    {
+        step_among(self.limit, &mut self.shared, &mut self.actors, actor, memory)
+    }
+}
+
+fn step_among(
+    limit: u64,
+    shared: &mut Shared,
+    actors: &mut Vec<Actor>,
+    who: u32,
+    memory: bool,
+) -> Result<Stepped, AllocError>
+    requires { IsInLimit (record { limit = limit; shared = shared.old; actors = actors.old.items }) }
+    ensures steps {
+        IfOk result (λ stepped. Gives
+            (step_of (record { limit = limit; shared = shared.old; actors = actors.old.items }) who memory)
+            (record { limit = limit; shared = shared.new; actors = actors.new.items })
+            stepped)
+    }
+    ensures err { OnErr result ((shared.new ≡ shared.old) × (actors.new.items ≡ actors.old.items)) }
+{
+    let Some(current) = actors.get(who as usize) else {
+        return Ok(NOTHING);
+    };
+    let phase = current.phase;
+    let Some(command) = current.command() else {
+        return Ok(NOTHING);
+    };
+    let outcome = shared.step(limit, who, &command, memory, phase)?;
+    let ended = actors[who as usize].follow(who, command, outcome.next);
+    Ok(Stepped {
+        event: outcome.event,
+        ended,
+    })
+}
+
+fn actors_of(alloc: Global, programs: Sequence<Sequence<Command>>) -> Result<Vec<Actor>, AllocError>
+    ensures { IfOk result (λ actors. actors.items ≡ map (λ program. record { program = program; ended = 0; phase = Phase.Load }) programs) }
+{
+    programs
+        .into_vec()
+        .into_iter()
+        .map(|program| Actor {
+            program,
+            ended: 0,
+            phase: Phase::Load,
+        })
+        .collect(alloc)
+}

@@ -1,0 +1,11 @@
+pub mod Cuts
+pub mod Each
+pub mod Numbers
+pub mod Marks
+pub mod Body
+pub mod Spelled
+pub mod Commands
+pub mod Schedules
+pub mod Actors
+pub mod Scripts
+pub mod Written

@@ -1,0 +1,60 @@
+-- The faults of a text: their numbers and lines, and what it means that a function gives what reading gives.
+use Rattle.std.specs.Prelude.{◌≡◌, ℕ, Option, Some, None, Result, Ok, Err}
+use Rattle.script_core.specs.declared.error.ScriptError.{ScriptError}
+use Rattle.script_core.specs.declared.error.ScriptError.TheVariants.{NoMemory, Empty, BadLimit, BadLine, BadName, TwiceNamed, BadCommand, NumberTooLarge, TooMany, NoItems}
+use Rattle.script_core.specs.declared.error.Fault.{Fault}
+use Rattle.script_core.specs.declared.error.Fault.TheVariants as faults
+use Rattle.script_core.specs.declared.error.Stop.{Stop}
+use Rattle.script_core.specs.declared.error.Stop.TheVariants as stops
+
+-- the number that stands for each fault
+abbrev pub number_of : ScriptError → ℕ
+number_of NoMemory = 1
+number_of (Empty line) = 2
+number_of (BadLimit line) = 3
+number_of (BadLine line) = 4
+number_of (BadName line) = 5
+number_of (TwiceNamed line) = 6
+number_of (BadCommand line) = 7
+number_of (NumberTooLarge line) = 8
+number_of (TooMany line) = 9
+number_of (NoItems line) = 10
+
+-- the line of each fault
+abbrev pub line_of : ScriptError → Option ℕ
+line_of NoMemory = None
+line_of (Empty line) = Some line
+line_of (BadLimit line) = Some line
+line_of (BadLine line) = Some line
+line_of (BadName line) = Some line
+line_of (TwiceNamed line) = Some line
+line_of (BadCommand line) = Some line
+line_of (NumberTooLarge line) = Some line
+line_of (TooMany line) = Some line
+line_of (NoItems line) = Some line
+
+-- a fault of a line, with the line's number
+abbrev pub error_at : ℕ → Fault → ScriptError
+error_at line faults.BadLimit = BadLimit line
+error_at line faults.BadLine = BadLine line
+error_at line faults.BadName = BadName line
+error_at line faults.TwiceNamed = TwiceNamed line
+error_at line faults.BadCommand = BadCommand line
+error_at line faults.NumberTooLarge = NumberTooLarge line
+error_at line faults.TooMany = TooMany line
+
+-- want of memory, or a fault with its line
+abbrev pub script_error : ℕ → Stop → ScriptError
+script_error line stops.Memory = NoMemory
+script_error line (stops.Fault fault) = error_at line fault
+
+-- What a reader of a part of a line answered is what the grammar gives, want of memory aside.
+abbrev pub Gives : {X : Type 0} → Result X Stop → Result X Fault → Type 0
+Gives (Ok x) given = given ≡ Ok x
+Gives (Err stops.Memory) given = Unit {0}
+Gives (Err (stops.Fault fault)) given = given ≡ Err fault
+
+-- What a reader of lines answered is what the grammar gives, want of memory aside.
+abbrev pub GivesLines : {X : Type 0} → Result X ScriptError → Result X ScriptError → Type 0
+GivesLines (Ok x) given = given ≡ Ok x
+GivesLines (Err e) given = (e ≡ NoMemory → ⊥) → given ≡ Err e

@@ -1,0 +1,207 @@
+-- Scripts, read line by line. The first fault that is met is the answer.
+use Rattle.std.specs.Prelude.{ℕ, ◌+◌, ◌^◌, nat_lt, nat_le, ◌==◌, Bool, true, false, ◌&&◌, ◌||◌, if◌then◌else◌, List, [], ◌∷◌, ◌++◌, length, take, drop, count_by, position, Option, Some, None, Result, Ok, Err, codes}
+use Rattle.std.specs.List.{slice_split, onto_first, list_any, list_all, starts_with}
+use Rattle.std.specs.Bool.{nat_eq}
+use Rattle.std.specs.Char.{is_ascii_digit}
+use Rattle.std.specs.Str.{bytes_eq}
+use Rattle.std.specs.Str.Parse.{digits_value}
+use Rattle.book_core.specs.declared.commands.Command.{Command}
+use Rattle.book_core.specs.declared.commands.Command.TheVariants.{Push, Grow, AtLeast, Fail, Read, Size}
+use Rattle.book_core.specs.declared.commands.Item.{Item}
+use Rattle.script_core.specs.declared.error.ScriptError.{ScriptError}
+use Rattle.script_core.specs.declared.error.ScriptError.TheVariants as errors
+use Rattle.script_core.specs.declared.error.Fault.{Fault}
+use Rattle.script_core.specs.declared.error.Fault.TheVariants.{BadLimit, BadLine, BadName, TwiceNamed, BadCommand, NumberTooLarge, TooMany}
+use Rattle.script_core.specs.declared.script.Script.{Script}
+use Rattle.script_core.specs.Faults.{error_at}
+
+-- one step after another; a fault ends them
+infixl 10 ◌>>=◌
+abbrev pub ◌>>=◌ : {A B E : Type 0} → Result A E → (A → Result B E) → Result B E
+(Ok x) >>= f = f x
+(Err e) >>= f = Err e
+
+-- ---- Lines, words and pieces
+
+-- the parts between LFs, where an LF that ends the bytes begins no line
+abbrev pub lines_of_parts : List (List ℕ) → List (List ℕ)
+lines_of_parts [] = []
+lines_of_parts (part ∷ []) = if length part == 0 then [] else part ∷ []
+lines_of_parts (part ∷ next ∷ more) = part ∷ lines_of_parts (next ∷ more)
+
+-- the lines of the bytes
+unfoldable pub lines : List ℕ → List (List ℕ)
+lines text = lines_of_parts (slice_split (λ b. b == 10) text)
+
+-- the words of the bytes, which are split at each space
+unfoldable pub words : List ℕ → List (List ℕ)
+words text = slice_split (λ b. b == 32) text
+
+-- the pieces of the bytes, which are split at each comma that a space follows
+unfoldable pub pieces : List ℕ → List (List ℕ)
+pieces [] = [] ∷ []
+pieces (b ∷ []) = (b ∷ []) ∷ []
+pieces (b ∷ c ∷ bs) = if (b == 44) && (c == 32) then [] ∷ pieces bs else onto_first b (pieces (c ∷ bs))
+
+-- the bytes before the first separator, and those behind it, where there is one
+unfoldable pub cut : List ℕ → List ℕ → List ℕ × Option (List ℕ)
+cut separator [] = ([], None)
+cut separator (b ∷ bs) =
+    if starts_with nat_eq (b ∷ bs) separator
+    then ([], Some (drop (length separator) (b ∷ bs)))
+    else (b ∷ (cut separator bs).0, (cut separator bs).1)
+
+-- what the step gives for each of the list, behind what is done; one more than the most is a fault before its step
+unfoldable pub try_each : {X Y : Type 0} → (X → Result Y Fault) → ℕ → List Y → List X → Result (List Y) Fault
+try_each step most done [] = Ok done
+try_each step most done (x ∷ xs) =
+    if nat_le most (length done) then Err TooMany else (step x >>= λ y. try_each step most (done ++ y ∷ []) xs)
+
+-- ---- Numbers and commands
+
+-- a number is 0 alone, or a digit from 1 to 9 and digits
+abbrev pub is_number : List ℕ → Bool
+is_number [] = false
+is_number (d ∷ ds) = if d == 48 then length ds == 0 else (is_ascii_digit d && list_all is_ascii_digit ds)
+
+-- the number below 2^64 that the bytes spell; otherwise says what it is where they spell none
+unfoldable pub number_or : Fault → List ℕ → Result ℕ Fault
+number_or otherwise word =
+    if is_number word
+    then (if nat_lt (digits_value 10 word) (2 ^ 64) then Ok (digits_value 10 word) else Err NumberTooLarge)
+    else Err otherwise
+
+-- an argument of a command
+abbrev pub argument : List ℕ → Result ℕ Fault
+argument word = number_or BadCommand word
+
+-- a command without arguments
+unfoldable pub command_alone : List ℕ → Result Command Fault
+command_alone word = if bytes_eq word (codes "size") then Ok Size else Err BadCommand
+
+-- a command with one argument
+unfoldable pub command_with_one : List ℕ → List ℕ → Result Command Fault
+command_with_one word a =
+    if bytes_eq word (codes "push") then (argument a >>= λ value. Ok (Push value))
+    else if bytes_eq word (codes "read") then (argument a >>= λ place. Ok (Read place))
+    else Err BadCommand
+
+-- a command with two arguments, which are read in order
+unfoldable pub command_with_two : List ℕ → List ℕ → List ℕ → Result Command Fault
+command_with_two word a b =
+    if bytes_eq word (codes "grow") then (argument a >>= λ n. (argument b >>= λ value. Ok (Grow n value)))
+    else if bytes_eq word (codes "atleast") then (argument a >>= λ to. (argument b >>= λ value. Ok (AtLeast to value)))
+    else Err BadCommand
+
+-- a command with three arguments: the place that is refused is one of its own run
+unfoldable pub command_with_three : List ℕ → List ℕ → List ℕ → List ℕ → Result Command Fault
+command_with_three word a b c =
+    if bytes_eq word (codes "fail")
+    then (argument a >>= λ n. (argument b >>= λ value. (argument c >>= λ at. (if nat_lt at n then Ok (Fail n value at) else Err BadCommand))))
+    else Err BadCommand
+
+-- the command that the words spell, by how many they are
+unfoldable pub command_of : List (List ℕ) → Result Command Fault
+command_of [] = Err BadCommand
+command_of (word ∷ []) = command_alone word
+command_of (word ∷ a ∷ []) = command_with_one word a
+command_of (word ∷ a ∷ b ∷ []) = command_with_two word a b
+command_of (word ∷ a ∷ b ∷ c ∷ []) = command_with_three word a b c
+command_of (word ∷ a ∷ b ∷ c ∷ d ∷ more) = Err BadCommand
+
+-- a program: a command for each piece, and at most 1,000
+unfoldable pub program_of : List ℕ → Result (List Command) Fault
+program_of text = try_each (λ piece. command_of (words piece)) 1000 [] (pieces text)
+
+-- ---- Lines
+
+-- the limit: a number from 1 to 65,536
+unfoldable pub limit_in : List ℕ → Result ℕ Fault
+limit_in text = number_or BadLimit text >>= λ limit. (if nat_le 1 limit && nat_le limit 65536 then Ok limit else Err BadLimit)
+
+-- the first line
+unfoldable pub limit_of : List ℕ → Result ℕ Fault
+limit_of line = if starts_with nat_eq line (codes "limit ") then limit_in (drop 6 line) else Err BadLine
+
+-- a name is one letter from a to z
+unfoldable pub name_of : List ℕ → Result ℕ Fault
+name_of [] = Err BadName
+name_of (c ∷ []) = if nat_le 97 c && nat_le c 122 then Ok c else Err BadName
+name_of (c ∷ d ∷ more) = Err BadName
+
+-- what follows an actor's name: a space and a program
+abbrev pub program_behind : Option (List ℕ) → Result (List Command) Fault
+program_behind None = Err BadCommand
+program_behind (Some text) = program_of text
+
+-- an actor line behind its word: the name and the program. The names are those of the actor lines before it
+unfoldable pub actor_of : List ℕ → List ℕ → Result (ℕ × List Command) Fault
+actor_of names text =
+    if nat_le 16 (length names) then Err TooMany
+    else (name_of (cut (codes " ") text).0 >>= λ name.
+    (if list_any (λ n. n == name) names then Err TwiceNamed
+    else (program_behind (cut (codes " ") text).1 >>= λ program. Ok (name, program))))
+
+-- a turn of the actor at this place, if there is one
+abbrev pub turn_of : Option ℕ → Bool → Result Item Fault
+turn_of None memory = Err BadName
+turn_of (Some actor) memory = Ok (record { actor = actor; memory = memory })
+
+-- an item: the name of an actor, alone or with a mark, which says that its memory is refused
+unfoldable pub item_of : List ℕ → List ℕ → Result Item Fault
+item_of names [] = Err BadName
+item_of names (name ∷ []) = turn_of (position (λ n. n == name) names) true
+item_of names (name ∷ mark ∷ []) = if mark == 33 then turn_of (position (λ n. n == name) names) false else Err BadName
+item_of names (name ∷ mark ∷ b ∷ more) = Err BadName
+
+-- an items line behind its word: nothing, or a space and an item for each word, and at most 100,000
+unfoldable pub items_of : List ℕ → List ℕ → Result (List Item) Fault
+items_of names [] = Ok []
+items_of names (space ∷ text) = try_each (item_of names) 100000 [] (words text)
+
+-- an actor line begins with its word and a space
+unfoldable pub is_actor_line : List ℕ → Bool
+is_actor_line line = starts_with nat_eq line (codes "actor ")
+
+-- an items line is its word alone, or begins with it and a space
+unfoldable pub is_items_line : List ℕ → Bool
+is_items_line line = bytes_eq line (codes "steps") || starts_with nat_eq line (codes "steps ")
+
+-- ---- Scripts
+
+-- a fault of a line gets the line's number
+abbrev pub at_line : {X : Type 0} → ℕ → Result X Fault → Result X ScriptError
+at_line line (Ok x) = Ok x
+at_line line (Err fault) = Err (error_at line fault)
+
+-- a script of these parts
+abbrev pub script : ℕ → List ℕ → List (List Command) → List Item → Script
+script limit names programs items = record { limit = limit; names = names; programs = programs; items = items }
+
+-- nothing stands behind the items line
+abbrev pub closed : ℕ → Script → List (List ℕ) → Result Script ScriptError
+closed line s [] = Ok s
+closed line s (text ∷ rest) = Err (errors.BadLine line)
+
+-- the lines from this one on, behind actor lines with these names and programs
+unfoldable pub body_of : ℕ → ℕ → List ℕ → List (List Command) → List (List ℕ) → Result Script ScriptError
+body_of limit line names programs [] = Err (errors.NoItems line)
+body_of limit line names programs (text ∷ rest) =
+    if is_actor_line text
+    then (at_line line (actor_of names (drop 6 text)) >>= λ actor.
+    body_of limit (line + 1) (names ++ actor.0 ∷ []) (programs ++ actor.1 ∷ []) rest)
+    else if is_items_line text
+    then (at_line line (items_of names (drop 5 text)) >>= λ items. closed (line + 1) (script limit names programs items) rest)
+    else Err (errors.BadLine line)
+
+-- all lines
+unfoldable pub script_of_lines : List (List ℕ) → Result Script ScriptError
+script_of_lines [] = Err (errors.Empty 1)
+script_of_lines (text ∷ rest) = at_line 1 (limit_of text) >>= λ limit. body_of limit 2 [] [] rest
+
+-- the script that the bytes are, or their first fault
+unfoldable pub script_of : List ℕ → Result Script ScriptError
+script_of text =
+    if length text == 0 then Err (errors.Empty 1)
+    else if nat_lt 1048576 (length text) then Err (errors.TooMany (1 + count_by (λ b. b == 10) (take 1048576 text)))
+    else script_of_lines (lines text)

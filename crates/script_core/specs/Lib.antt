@@ -1,0 +1,5 @@
+pub mod Faults
+pub mod Grammar
+pub mod Lines
+pub mod Spelling
+pub mod Text

@@ -1,0 +1,47 @@
+//! Actor lines.
+ghost use Rattle.std.specs.Prelude.{◌≡◌, ◌<◌, length, OnOk};
+ghost use Rattle.script_core.specs.Faults.{Gives};
+ghost use Rattle.script_core.specs.Grammar.{name_of, actor_of};
+
+use crate::command::program;
+use crate::cut::cut_at;
+use crate::error::{Fault, Stop};
+use book_core::{Command, Sequence};
+use std::alloc::Global;
+
+/// A script has at most so many actors.
+const MOST_ACTORS: usize = 16;
+
+#[tactic(auto, unfolding(crate::specs::Grammar::name_of))]
+fn name(word: &[u8]) -> Result<u8, Fault>
+    ensures { result ≡ name_of word.now }
+{
+    match word {
+        [letter] if letter.is_ascii_lowercase() => Ok(*letter),
+        _ => Err(Fault::BadName),
+    }
+}
+
+/// The name and the program of an actor line, read behind its word. `names` are those of the lines before it.
+#[tactic(auto, unfolding(crate::specs::Grammar::actor_of))]
+pub(crate) fn actor(
+    alloc: Global,
+    names: &[u8],
+    text: &[u8],
+) -> Result<(u8, Sequence<Command>), Stop>
+    ensures given { Gives result (actor_of names.now text.now) }
+    ensures room { OnOk result (length names.now < 16) }
+{
+    if names.len() >= MOST_ACTORS {
+        return Err(Stop::Fault(Fault::TooMany));
+    }
+    let (word, rest) = cut_at(text, b" ");
+    let name = name(word)?;
+    if names.contains(&name) {
+        return Err(Stop::Fault(Fault::TwiceNamed));
+    }
+    let Some(rest) = rest else {
+        return Err(Stop::Fault(Fault::BadCommand));
+    };
+    Ok((name, program(alloc, rest)?))
+}

@@ -1,0 +1,150 @@
+//! Commands and programs.
+ghost use Rattle.std.specs.Prelude.{◌≡◌};
+ghost use Rattle.script_core.specs.Faults.{Gives};
+ghost use Rattle.std.specs.Str.{bytes_eq};
+ghost use Rattle.script_core.specs.Grammar.{words, argument, command_alone, command_with_one, command_with_two, command_with_three, command_of, program_of};
+ghost use Rattle.script_core.specs.Lines.{AreWords};
+
+use crate::cut::cut_at;
+use crate::error::{Fault, Stop};
+use crate::number::number;
+use book_core::{Command, Sequence};
+use std::alloc::Global;
+
+/// A program has at most so many commands.
+const MOST_COMMANDS: usize = 1_000;
+
+/// The words of a piece, as many as a command may have.
+pub(crate) enum Words<'a> {
+    One(&'a [u8]),
+    Two(&'a [u8], &'a [u8]),
+    Three(&'a [u8], &'a [u8], &'a [u8]),
+    Four(&'a [u8], &'a [u8], &'a [u8], &'a [u8]),
+    More,
+}
+
+fn words_of(piece: &[u8]) -> Words<'_>
+    ensures { AreWords (words piece.now) result }
+{
+    let (first, rest) = cut_at(piece, b" ");
+    let Some(rest) = rest else {
+        return Words::One(first);
+    };
+    let (second, rest) = cut_at(rest, b" ");
+    let Some(rest) = rest else {
+        return Words::Two(first, second);
+    };
+    let (third, rest) = cut_at(rest, b" ");
+    let Some(rest) = rest else {
+        return Words::Three(first, second, third);
+    };
+    let (fourth, rest) = cut_at(rest, b" ");
+    if rest.is_some() {
+        return Words::More;
+    }
+    Words::Four(first, second, third, fourth)
+}
+
+fn argument(word: &[u8]) -> Result<u64, Fault>
+    ensures { result ≡ argument word.now }
+{
+    number(word, Fault::BadCommand)
+}
+
+fn is(word: &[u8], name: &str) -> bool
+    ensures { result ≡ bytes_eq word.now name.now }
+{
+    word == name.as_bytes()
+}
+
+#[tactic(auto, unfolding(crate::specs::Grammar::command_alone))]
+fn command_alone(word: &[u8]) -> Result<Command, Fault>
+    ensures { result ≡ command_alone word.now }
+{
+    if is(word, "size") {
+        Ok(Command::Size)
+    } else {
+        Err(Fault::BadCommand)
+    }
+}
+
+#[tactic(auto, unfolding(crate::specs::Grammar::command_with_one))]
+fn command_with_one(word: &[u8], a: &[u8]) -> Result<Command, Fault>
+    ensures { result ≡ command_with_one word.now a.now }
+{
+    if is(word, "push") {
+        let value = argument(a)?;
+        Ok(Command::Push { value })
+    } else if is(word, "read") {
+        let place = argument(a)?;
+        Ok(Command::Read { place })
+    } else {
+        Err(Fault::BadCommand)
+    }
+}
+
+#[tactic(auto, unfolding(crate::specs::Grammar::command_with_two))]
+fn command_with_two(word: &[u8], a: &[u8], b: &[u8]) -> Result<Command, Fault>
+    ensures { result ≡ command_with_two word.now a.now b.now }
+{
+    if is(word, "grow") {
+        let n = argument(a)?;
+        let value = argument(b)?;
+        Ok(Command::Grow { n, value })
+    } else if is(word, "atleast") {
+        let to = argument(a)?;
+        let value = argument(b)?;
+        Ok(Command::AtLeast { to, value })
+    } else {
+        Err(Fault::BadCommand)
+    }
+}
+
+#[tactic(auto, unfolding(crate::specs::Grammar::command_with_three))]
+fn command_with_three(word: &[u8], a: &[u8], b: &[u8], c: &[u8]) -> Result<Command, Fault>
+    ensures { result ≡ command_with_three word.now a.now b.now c.now }
+{
+    if !is(word, "fail") {
+        return Err(Fault::BadCommand);
+    }
+    let n = argument(a)?;
+    let value = argument(b)?;
+    let at = argument(c)?;
+    if at < n {
+        Ok(Command::Fail { n, value, at })
+    } else {
+        Err(Fault::BadCommand)
+    }
+}
+
+#[tactic(auto, unfolding(crate::specs::Grammar::command_of))]
+fn command(piece: &[u8]) -> Result<Command, Fault>
+    ensures { result ≡ command_of (words piece.now) }
+{
+    match words_of(piece) {
+        Words::One(word) => command_alone(word),
+        Words::Two(word, a) => command_with_one(word, a),
+        Words::Three(word, a, b) => command_with_two(word, a, b),
+        Words::Four(word, a, b, c) => command_with_three(word, a, b, c),
+        Words::More => Err(Fault::BadCommand),
+    }
+}
+
+/// A command for each piece of the text.
+pub(crate) fn program(alloc: Global, text: &[u8]) -> Result<Sequence<Command>, Stop>
+    ensures { Gives result (program_of text.now) }
+{
+    let mut commands = Vec::new(alloc);
+    let mut text = text;
+    loop {
+        if commands.len() >= MOST_COMMANDS {
+            return Err(Stop::Fault(Fault::TooMany));
+        }
+        let (piece, rest) = cut_at(text, b", ");
+        commands.push(command(piece)?)?;
+        let Some(rest) = rest else {
+            return Ok(Sequence::from_vec(commands));
+        };
+        text = rest;
+    }
+}

@@ -1,0 +1,31 @@
+//! Scripts and replies as text.
+//!
+//! - `read` reads a script: a limit, the actors with their programs, and the items of a schedule. Contracts see what it
+//!   answers as `script_of` of `specs/Grammar.antt`: the script, or the first fault with its line.
+//! - `specs/Spelling.antt` says the same in the grammar's own words: `text_of` is the spelling of a script, and a text is
+//!   read exactly where it is the spelling of some script that is one (`IsScript`).
+//! - `write_reply` and `write_cells` write the replies and the last line, as `specs/Text.antt` has them.
+//!
+//! A caller can prove which script a text is, which fault stands in it and at which line, and every byte that is written.
+//! Want of memory may come in place of any answer of `read`. Nothing here knows what a call does.
+#![tactic(auto)]
+
+mod actor;
+mod command;
+mod cut;
+mod error;
+mod items;
+mod line;
+mod lines;
+mod number;
+mod reading;
+mod script;
+#[cfg(test)]
+mod tests;
+mod write;
+
+pub use error::ScriptError;
+pub use line::WriteFault;
+pub use reading::read;
+pub use script::Script;
+pub use write::{write_cells, write_reply};

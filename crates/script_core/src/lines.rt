@@ -1,0 +1,65 @@
+//! Lines, and what they are.
+ghost use Rattle.std.specs.Prelude.{◌≡◌, ◌<◌, ◌≤◌, ◌∷◌, length, IsTrue};
+ghost use Rattle.script_core.specs.Grammar.{lines, limit_of, is_items_line};
+ghost use Rattle.script_core.specs.Lines.{IsKind};
+
+use crate::cut::cut_at;
+use crate::error::Fault;
+use crate::number::number;
+
+/// What a line behind the first is, and what stands behind its word.
+pub(crate) enum Line<'a> {
+    Actor(&'a [u8]),
+    Items(&'a [u8]),
+    Other,
+}
+
+/// The first line, and the bytes behind it.
+pub(crate) fn first_line(text: &[u8]) -> (&[u8], &[u8])
+    requires { 0 < length text.now }
+    ensures lines { lines text.now ≡ result.0.now ∷ lines result.1.now }
+    ensures shorter { length result.1.now < length text.now }
+{
+    let (line, rest) = cut_at(text, b"\n");
+    match rest {
+        Some(rest) => (line, rest),
+        None => (line, &text[text.len()..]),
+    }
+}
+
+#[tactic(auto, unfolding(crate::specs::Grammar::is_items_line))]
+fn is_items_line(line: &[u8]) -> bool
+    ensures value { result ≡ is_items_line line.now }
+    ensures long { IsTrue result → 5 ≤ length line.now }
+{
+    line == b"steps".as_slice() || line.starts_with(b"steps ")
+}
+
+#[tactic(auto, unfolding(crate::specs::Grammar::is_actor_line))]
+pub(crate) fn kind(line: &[u8]) -> Line<'_>
+    ensures { IsKind line.now result }
+{
+    if line.starts_with(b"actor ") {
+        Line::Actor(&line[6..])
+    } else if is_items_line(line) {
+        Line::Items(&line[5..])
+    } else {
+        Line::Other
+    }
+}
+
+/// The limit of a first line.
+#[tactic(auto, unfolding(crate::specs::Grammar::limit_of, crate::specs::Grammar::limit_in))]
+pub(crate) fn limit(line: &[u8]) -> Result<u64, Fault>
+    ensures { result ≡ limit_of line.now }
+{
+    if !line.starts_with(b"limit ") {
+        return Err(Fault::BadLine);
+    }
+    let limit = number(&line[6..], Fault::BadLimit)?;
+    if (1..=65_536).contains(&limit) {
+        Ok(limit)
+    } else {
+        Err(Fault::BadLimit)
+    }
+}

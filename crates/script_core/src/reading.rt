@@ -1,0 +1,153 @@
+//! Whole scripts.
+ghost use Rattle.std.specs.Prelude.{◌≡◌, ◌≢◌, ◌⊎◌, ◌+◌, ◌^◌, ◌<◌, ◌≤◌, ◌==◌, count_by, take, length, OnOk, [], IfOk, IfErr, IsErrOf, Ok, Err, Bool};
+ghost use Rattle.book_core.specs.Cells.{IsLimit};
+ghost use Rattle.book_core.specs.Commands.{AreSound, HavePrograms};
+ghost use Rattle.script_core.specs.declared.script.Script.{Script};
+ghost use Rattle.script_core.specs.Faults.{GivesLines};
+ghost use Rattle.script_core.specs.Grammar.{lines, limit_of, actor_of, items_of, at_line, closed, body_of, script_of};
+ghost use Rattle.script_core.specs.Spelling.{IsScript, text_of};
+
+use crate::actor::actor;
+use crate::error::ScriptError;
+use crate::items::items;
+use crate::lines::{Line, first_line, kind, limit};
+use crate::script::Script;
+use book_core::{Command, Item, Sequence};
+use std::alloc::Global;
+
+/// A script has at most so many bytes.
+const MOST_BYTES: usize = 1_048_576;
+
+/// Reads a script. The first fault is answered with its line; want of memory may come in place of any answer.
+pub fn read(alloc: Global, text: &[u8]) -> Result<Script, ScriptError>
+    ensures ok { IfOk result (λ s. script_of text.now ≡ Ok s) }
+    ensures fault { IfErr result (λ e. e ≢ ScriptError.NoMemory → script_of text.now ≡ Err e) }
+
+    // In the grammar's own words: a text is read exactly where it is the spelling of a script.
+    ensures found { IfOk result (λ s. (last_lf : Bool) × IsScript s last_lf × (text.now ≡ text_of s last_lf)) }
+    ensures only { (s : Script) (last_lf : Bool) → IsScript s last_lf → text.now ≡ text_of s last_lf
+        → (result ≡ Ok s) ⊎ IsErrOf result ScriptError.NoMemory }
+
+    // So it can be played.
+    ensures limit { IfOk result (λ s. IsLimit s.limit × (s.limit ≤ 65536)) }
+    ensures names { IfOk result (λ s. length s.names ≡ length s.programs) }
+    ensures sound { IfOk result (λ s. AreSound s.programs) }
+    ensures actors { IfOk result (λ s. HavePrograms s.programs s.items) }
+{
+    whole(alloc, text)
+}
+
+fn whole(alloc: Global, text: &[u8]) -> Result<Script, ScriptError>
+    ensures { GivesLines result (script_of text.now) }
+{
+    if text.is_empty() {
+        return Err(ScriptError::Empty { line: 1 });
+    }
+    if text.len() > MOST_BYTES {
+        let line = line_behind_most(text);
+        return Err(ScriptError::TooMany { line });
+    }
+    let (first, rest) = first_line(text);
+    let limit = limit_at(first)?;
+    body(alloc, limit, rest)
+}
+
+/// The line of the last byte that a script may have.
+fn line_behind_most(text: &[u8]) -> u64
+    requires { 1048576 < length text.now }
+    ensures { result ≡ 1 + count_by (λ b. b == 10) (take 1048576 text.now) }
+{
+    line_ends(&text[..MOST_BYTES]) as u64 + 1
+}
+
+fn line_ends(bytes: &[u8]) -> usize
+    requires { length bytes.now < 2 ^ 32 }
+    ensures count { result ≡ count_by (λ b. b == 10) bytes.now }
+    ensures bound { result ≤ length bytes.now }
+{
+    bytes.iter().filter(|b| **b == b'\n').count()
+}
+
+fn limit_at(line: &[u8]) -> Result<u64, ScriptError>
+    ensures { result ≡ at_line 1 (limit_of line.now) }
+{
+    limit(line).map_err(|fault| fault.at(1))
+}
+
+fn actor_at(
+    alloc: Global,
+    line: u64,
+    names: &[u8],
+    text: &[u8],
+) -> Result<(u8, Sequence<Command>), ScriptError>
+    ensures given { GivesLines result (at_line line (actor_of names.now text.now)) }
+    ensures room { OnOk result (length names.now < 16) }
+{
+    match actor(alloc, names, text) {
+        Ok(found) => Ok(found),
+        Err(stop) => Err(stop.at(line)),
+    }
+}
+
+fn items_at(
+    alloc: Global,
+    line: u64,
+    names: &[u8],
+    text: &[u8],
+) -> Result<Sequence<Item>, ScriptError>
+    requires { length names.now ≤ 16 }
+    ensures { GivesLines result (at_line line (items_of names.now text.now)) }
+{
+    match items(alloc, names, text) {
+        Ok(found) => Ok(found),
+        Err(stop) => Err(stop.at(line)),
+    }
+}
+
+/// The script, if nothing is left behind its items line.
+fn closed(line: u64, script: Script, rest: &[u8]) -> Result<Script, ScriptError>
+    ensures { result ≡ closed line script (lines rest.now) }
+{
+    if rest.is_empty() {
+        Ok(script)
+    } else {
+        Err(ScriptError::BadLine { line })
+    }
+}
+
+/// The lines behind the first.
+fn body(alloc: Global, limit: u64, text: &[u8]) -> Result<Script, ScriptError>
+    requires { length text.now ≤ 1048576 }
+    ensures { GivesLines result (body_of limit 2 [] [] (lines text.now)) }
+{
+    let mut names = Vec::new(alloc);
+    let mut programs = Vec::new(alloc);
+    let mut line = 2;
+    let mut text = text;
+    while !text.is_empty() {
+        let (first, rest) = first_line(text);
+        match kind(first) {
+            Line::Actor(words) => {
+                let (name, program) = actor_at(alloc, line, &names, words)?;
+                names.push(name)?;
+                programs.push(program)?;
+            }
+            Line::Items(words) => {
+                let items = items_at(alloc, line, &names, words)?;
+                let names = Sequence::from_vec(names);
+                let programs = Sequence::from_vec(programs);
+                let script = Script {
+                    limit,
+                    names,
+                    programs,
+                    items,
+                };
+                return closed(line + 1, script, rest);
+            }
+            Line::Other => return Err(ScriptError::BadLine { line }),
+        }
+        text = rest;
+        line += 1;
+    }
+    Err(ScriptError::NoItems { line })
+}

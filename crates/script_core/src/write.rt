@@ -1,0 +1,110 @@
+//! Replies and cells as text.
+ghost use Rattle.std.specs.Prelude.{◌≡◌, ◌++◌, codes, decimal, length, OnOk, OnErr};
+ghost use Rattle.std.specs.Io.KnownBytes.{Appends};
+ghost use Rattle.script_core.specs.Text.{word_of, answer_text, reply_text, cell_text, cells_text, AppendsPart};
+
+use crate::line::{Line, WriteFault, put};
+use book_core::{Answer, Cell, Command, Ended};
+use std::io::Write;
+
+fn word(command: &Command) -> &'static [u8]
+    ensures { result.now ≡ word_of command.now }
+{
+    match command {
+        Command::Push { .. } => b"push",
+        Command::Grow { .. } => b"grow",
+        Command::AtLeast { .. } => b"atleast",
+        Command::Fail { .. } => b"fail",
+        Command::Read { .. } => b"read",
+        Command::Size => b"size",
+    }
+}
+
+fn write_answer<W: Write>(w: &mut W, answer: &Answer) -> Result<(), WriteFault>
+    ensures { OnOk result (Appends (W.contents w.old) (W.contents w.new) (answer_text answer.now)) }
+{
+    match answer {
+        Answer::At { place } => write!(w, "at {place}")?,
+        Answer::Run { from, n } => write!(w, "run {from} {n}")?,
+        Answer::Enough { size } => write!(w, "enough {size}")?,
+        Answer::BrokenRun { from, n, made } => write!(w, "broken {from} {n} {made}")?,
+        Answer::Full { size } => write!(w, "full {size}")?,
+        Answer::NoMemory => write!(w, "nomemory")?,
+        Answer::Value { value } => write!(w, "value {value}")?,
+        Answer::Pending => write!(w, "pending")?,
+        Answer::Broken => write!(w, "broken")?,
+        Answer::OutOfRange { size } => write!(w, "outofrange {size}")?,
+        Answer::Size { size } => write!(w, "{size}")?,
+    }
+    Ok(())
+}
+
+fn write_line<W: Write>(w: &mut W, name: u8, ended: &Ended) -> Result<(), WriteFault>
+    ensures { OnOk result (Appends (W.contents w.old) (W.contents w.new) (reply_text name ended.now)) }
+{
+    w.write_all(&[name])?;
+    write!(w, "{} ", ended.number)?;
+    w.write_all(word(&ended.command))?;
+    w.write_all(b" ")?;
+    write_answer(w, &ended.answer)?;
+    w.write_all(b"\n")?;
+    Ok(())
+}
+
+/// Writes the line of a call that ended. It takes no memory of its own.
+pub fn write_reply<W: Write>(w: &mut W, name: u8, ended: &Ended) -> Result<(), WriteFault>
+    ensures ok { OnOk result (Appends (W.contents w.old) (W.contents w.new) (reply_text name ended.now)) }
+    ensures fault { OnErr result (AppendsPart (W.contents w.old) (W.contents w.new) (reply_text name ended.now)) }
+{
+    let mut line = Line::new();
+    write_line(&mut line, name, ended)?;
+    put(w, line.as_slice())
+}
+
+fn write_cell<W: Write>(w: &mut W, cell: &Cell) -> Result<(), WriteFault>
+    ensures { OnOk result (Appends (W.contents w.old) (W.contents w.new) (codes " " ++ cell_text cell.now)) }
+{
+    match cell {
+        Cell::Pending(_) => write!(w, " .")?,
+        Cell::Filled(value) => write!(w, " {value}")?,
+        Cell::Broken => write!(w, " x")?,
+    }
+    Ok(())
+}
+
+fn put_cell<W: Write>(w: &mut W, cell: &Cell) -> Result<(), WriteFault>
+    ensures ok { OnOk result (Appends (W.contents w.old) (W.contents w.new) (codes " " ++ cell_text cell.now)) }
+    ensures fault { OnErr result (AppendsPart (W.contents w.old) (W.contents w.new) (codes " " ++ cell_text cell.now)) }
+{
+    let mut line = Line::new();
+    write_cell(&mut line, cell)?;
+    put(w, line.as_slice())
+}
+
+fn write_size<W: Write>(w: &mut W, size: usize) -> Result<(), WriteFault>
+    ensures { OnOk result (Appends (W.contents w.old) (W.contents w.new) (codes "size " ++ decimal size ++ codes ":")) }
+{
+    write!(w, "size {size}:")?;
+    Ok(())
+}
+
+fn put_size<W: Write>(w: &mut W, size: usize) -> Result<(), WriteFault>
+    ensures ok { OnOk result (Appends (W.contents w.old) (W.contents w.new) (codes "size " ++ decimal size ++ codes ":")) }
+    ensures fault { OnErr result (AppendsPart (W.contents w.old) (W.contents w.new) (codes "size " ++ decimal size ++ codes ":")) }
+{
+    let mut line = Line::new();
+    write_size(&mut line, size)?;
+    put(w, line.as_slice())
+}
+
+/// Writes the last line: the size and each cell. It takes no memory of its own.
+pub fn write_cells<W: Write>(w: &mut W, cells: &[Cell]) -> Result<(), WriteFault>
+    ensures ok { OnOk result (Appends (W.contents w.old) (W.contents w.new) (cells_text cells.now)) }
+    ensures fault { OnErr result (AppendsPart (W.contents w.old) (W.contents w.new) (cells_text cells.now)) }
+{
+    put_size(w, cells.len())?;
+    for cell in cells {
+        put_cell(w, cell)?;
+    }
+    put(w, b"\n")
+}

@@ -14,10 +14,9 @@ mod cells;
 mod commands;
 mod events;
 mod list;
-mod vector;
-
 #[cfg(test)]
 mod tests;
+mod vector;
 
 pub use cells::Cell;
 pub use commands::{Answer, Command, Ended, Item};

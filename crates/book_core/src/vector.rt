@@ -89,9 +89,7 @@ impl CellVec {
             } => self.settle(actor, place, Cell::Filled(value)),
             Event::Break { actor, place } => self.settle(actor, place, Cell::Broken),
             Event::Look { place, .. } => Ok(self.look(place)),
-            Event::Size { .. } => Ok(Reply::Size {
-                size: self.size(),
-            }),
+            Event::Size { .. } => Ok(Reply::Size { size: self.size() }),
             Event::RefusedFull { n, .. } => self.refuse(n),
             Event::RefusedMemory { .. } => Ok(Reply::NoMemory),
         }
@@ -185,14 +183,10 @@ impl CellVec {
 
     // The actor finishes its pending place, or breaks it.
     fn settle(&mut self, actor: u32, place: u64, cell: Cell) -> Result<Reply, BookError>
-        ensures ok {
-            IfOk result (λ reply. (reply ≡ Reply.Done) × (self.new ≡ with_cell self.old place cell)
-                × IsTrue (is_pending_for actor (slice_get self.old.cells place)))
-        }
-        ensures err {
-            IfErr result (λ e. (e ≡ BookError.NotLegal) × (self.new ≡ self.old)
-                × (is_pending_for actor (slice_get self.old.cells place) ≡ false))
-        }
+        ensures ok { IfOk result (λ reply. (reply ≡ Reply.Done) × (self.new ≡ with_cell self.old place cell)
+            × IsTrue (is_pending_for actor (slice_get self.old.cells place))) }
+        ensures err { IfErr result (λ e. (e ≡ BookError.NotLegal) × (self.new ≡ self.old)
+            × (is_pending_for actor (slice_get self.old.cells place) ≡ false)) }
     {
         if !self.is_pending_for(actor, place) {
             return Err(BookError::NotLegal);

@@ -48,13 +48,14 @@ first_behind_has : (further segment place : ℕ) → start_of segment ≤ place 
 first_behind_has zero segment place begins ends =
     record { from = begins; before = subst (λ k. place < end_of k) (add-zero segment) ends }
 first_behind_has (suc further) segment place begins ends =
-    elim (nat_lt place (end_of segment)) as (λ b. nat_lt place (end_of segment) ≡ b → HasPlace (elim b [ true ↦ segment | false ↦ first_behind further (segment + 1) place ]) place)
-    [ true ↦ (λ e. record { from = begins; before = grind (arith, nat_tests) })
-    | false ↦ (λ e.
-      let past : end_of segment ≤ place = grind (arith, nat_tests) in
-      first_behind_has further (segment + 1) place
-      (subst (λ n. n ≤ place) (sym (start_of-next segment)) past)
-      (subst (λ k. place < end_of k) (let e : segment + suc further ≡ segment + 1 + further = omega arith in e) ends)) ]
+    elim (nat_lt place (end_of segment)) as (λ b. nat_lt place (end_of segment) ≡ b → HasPlace (elim b [ true ↦ segment | false ↦ first_behind further (segment + 1) place ]) place) [
+      | true ↦ (λ e. record { from = begins; before = grind (arith, nat_tests) })
+      | false ↦ (λ e.
+          let past : end_of segment ≤ place = grind (arith, nat_tests) in
+          first_behind_has further (segment + 1) place
+          (subst (λ n. n ≤ place) (sym (start_of-next segment)) past)
+          (subst (λ k. place < end_of k) (let e : segment + suc further ≡ segment + 1 + further = omega arith in e) ends))
+    ]
     refl
 
 -- a number is below that power of two
@@ -123,7 +124,7 @@ between_touches first last from n k has_first has_last some low high =
         place = start_of k;
         inside = (
           let gap : end_of first ≤ start_of k = end_of-le-start_of first k after in let a : from < end_of first = has_first.before in omega arith,
-          let a : start_of last ≤ from + n - 1 = has_last.from in let b : start_of k ≤ start_of last = start_of-le k last (omega arith) in omega arith
+          let a : start_of last ≤ from + n - 1 = has_last.from in let b : start_of k ≤ start_of last = start_of-le k last (omega arith) in omega arith,
         );
         there = record { from = le_refl (start_of k); before = start_of-lt-end_of k };
       }

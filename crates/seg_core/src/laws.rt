@@ -6,5 +6,4 @@ pub fn places()
     ensures located { IsInItsSegment }
     ensures one_segment { OneSegment }
     ensures one_place { OnePlace }
-{
-}
+{}

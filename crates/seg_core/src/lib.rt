@@ -9,7 +9,6 @@
 
 pub mod laws;
 mod segments;
-
 #[cfg(test)]
 mod tests;
 

@@ -37,27 +37,30 @@ told_event limit s t event (Some after) applies is told =
 told_events : (limit : ℕ) (s t : Stage) (events : List Event) → with_events s events ≡ Some t → Told limit s → Told limit t
 told_events limit s t [] is told = subst (Told limit) (same_Some s t is) told
 told_events limit s t (event ∷ events) is told =
-    elim (with_event s event) as (λ o. with_event s event ≡ o → option_and_then (λ after. with_events after events) o ≡ Some t → Told limit t)
-    [ None ↦ (λ _ none. absurd (none-some t none))
-    | Some mid ↦ (λ happens rest. told_events limit mid t events rest (told_event limit s mid event _ refl happens told)) ]
+    elim (with_event s event) as (λ o. with_event s event ≡ o → option_and_then (λ after. with_events after events) o ≡ Some t → Told limit t) [
+      | None ↦ (λ _ none. absurd (none-some t none))
+      | Some mid ↦ (λ happens rest. told_events limit mid t events rest (told_event limit s mid event _ refl happens told))
+    ]
     refl is
 
 told_call : (limit : ℕ) (s t : Stage) (actor : ℕ) (command : Option Command) → with_call s actor command ≡ Some t → Told limit s → Told limit t
 unfolding Told
 told_call limit s t actor None is told = subst (Told limit) (same_Some s t is) told
 told_call limit s t actor (Some command) is told =
-    elim (with_events s (call_on s.list actor command).events) as (λ o. with_events s (call_on s.list actor command).events ≡ o → option_map (λ after. with_ended after actor command (call_on s.list actor command).answer) o ≡ Some t → Told limit t)
-    [ None ↦ (λ _ none. absurd (none-some t none))
-    | Some mid ↦ (λ plays ends. subst (Told limit) (same_Some _ t ends) (told_events limit s mid (call_on s.list actor command).events plays told)) ]
+    elim (with_events s (call_on s.list actor command).events) as (λ o. with_events s (call_on s.list actor command).events ≡ o → option_map (λ after. with_ended after actor command (call_on s.list actor command).answer) o ≡ Some t → Told limit t) [
+      | None ↦ (λ _ none. absurd (none-some t none))
+      | Some mid ↦ (λ plays ends. subst (Told limit) (same_Some _ t ends) (told_events limit s mid (call_on s.list actor command).events plays told))
+    ]
     refl is
 
 told_items : (limit : ℕ) (programs : List (List Command)) (s t : Stage) (items : List Item) → with_items programs s items ≡ Some t → Told limit s → Told limit t
 told_items limit programs s t [] is told = subst (Told limit) (same_Some s t is) told
 told_items limit programs s t (item ∷ items) is told =
     let turn = with_call s item.actor (next_call programs s.counts item.actor) in
-    elim turn as (λ o. turn ≡ o → option_and_then (λ after. with_items programs after items) o ≡ Some t → Told limit t)
-    [ None ↦ (λ _ none. absurd (none-some t none))
-    | Some mid ↦ (λ plays rest. told_items limit programs mid t items rest (told_call limit s mid item.actor _ plays told)) ]
+    elim turn as (λ o. turn ≡ o → option_and_then (λ after. with_items programs after items) o ≡ Some t → Told limit t) [
+      | None ↦ (λ _ none. absurd (none-some t none))
+      | Some mid ↦ (λ plays rest. told_items limit programs mid t items rest (told_call limit s mid item.actor _ plays told))
+    ]
     refl is
 
 -- a list's limit after an event, or else this one
@@ -91,12 +94,13 @@ pub calls_are_legal : CallsAreLegal
 unfolding Told
 calls_are_legal limit programs items played is =
     let played_all = with_items programs (opening limit programs) items in
-    elim played_all as (λ o. played_all ≡ o → option_map shown o ≡ Some played → IsHistory (empty_list limit) played.events (record { limit = limit; cells = played.cells }))
-    [ None ↦ (λ _ none. absurd (none-some played none))
-    | Some last ↦ (λ plays shows.
-      let told : IsHistory (empty_list limit) last.events last.list = told_items limit programs (opening limit programs) last items plays refl in
-      let same : last.list ≡ record { limit = limit; cells = last.list.cells } = ap (λ k. record { limit = k; cells = last.list.cells }) (history_limit _ _ _ told) in
-      subst (λ (p : Played). IsHistory (empty_list limit) p.events (record { limit = limit; cells = p.cells })) (same_Some _ played shows) (subst (IsHistory (empty_list limit) last.events) same told)) ]
+    elim played_all as (λ o. played_all ≡ o → option_map shown o ≡ Some played → IsHistory (empty_list limit) played.events (record { limit = limit; cells = played.cells })) [
+      | None ↦ (λ _ none. absurd (none-some played none))
+      | Some last ↦ (λ plays shows.
+          let told : IsHistory (empty_list limit) last.events last.list = told_items limit programs (opening limit programs) last items plays refl in
+          let same : last.list ≡ record { limit = limit; cells = last.list.cells } = ap (λ k. record { limit = k; cells = last.list.cells }) (history_limit _ _ _ told) in
+          subst (λ (p : Played). IsHistory (empty_list limit) p.events (record { limit = limit; cells = p.cells })) (same_Some _ played shows) (subst (IsHistory (empty_list limit) last.events) same told))
+    ]
     refl is
 
 -- what holds of each member of a list holds of one that is there
@@ -107,9 +111,10 @@ at_place P xs i x all is =
 -- each command of sound programs is sound
 next_is_sound : (programs : List (List Command)) (counts : List ℕ) (actor : ℕ) (command : Command) → AreSound programs → next_call programs counts actor ≡ Some command → IsSound command
 next_is_sound programs counts actor command sound is =
-    elim (slice_get programs actor) as (λ o. slice_get programs actor ≡ o → option_and_then (λ program. slice_get program (slice_index counts actor)) o ≡ Some command → IsSound command)
-    [ None ↦ (λ _ none. absurd (none-some command none))
-    | Some program ↦ (λ has gets. at_place IsSound program (slice_index counts actor) command (at_place (λ p. All (λ c. IsSound c) p) programs actor program sound has) gets) ]
+    elim (slice_get programs actor) as (λ o. slice_get programs actor ≡ o → option_and_then (λ program. slice_get program (slice_index counts actor)) o ≡ Some command → IsSound command) [
+      | None ↦ (λ _ none. absurd (none-some command none))
+      | Some program ↦ (λ has gets. at_place IsSound program (slice_index counts actor) command (at_place (λ p. All (λ c. IsSound c) p) programs actor program sound has) gets)
+    ]
     refl is
 
 -- an actor's next call always plays

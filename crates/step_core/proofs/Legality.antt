@@ -41,36 +41,36 @@ unfolding Settles
 leads_settled actor f cell settles zero s front rest is = record { after = s; plays = refl; limit = refl; cells_are = is }
 leads_settled actor f cell settles (suc n) s front rest is =
     let at_seam : slice_get s.list.cells (length front) ≡ Some (Pending actor) =
-        ap (λ cells. slice_get cells (length front)) is ∙ slice_get-append_seam front (Pending actor) (replicate n (Pending actor) ++ rest)
+    ap (λ cells. slice_get cells (length front)) is ∙ slice_get-append_seam front (Pending actor) (replicate n (Pending actor) ++ rest)
     in
     let ours : is_pending_for actor (slice_get s.list.cells (length front)) ≡ true =
-        ap (is_pending_for actor) at_seam ∙ eq-eqb actor actor refl
+    ap (is_pending_for actor) at_seam ∙ eq-eqb actor actor refl
     in
     let one : apply_event s.list (f (length front)) ≡ Some (with_cell s.list (length front) cell, replies.Done) = settles s.list (length front) ours in
     let changed : slice_set s.list.cells (length front) cell ≡ (front ++ cell ∷ []) ++ (replicate n (Pending actor) ++ rest) =
-        ap (λ cells. slice_set cells (length front) cell) is
-        ∙ set-append_seam front (Pending actor) (replicate n (Pending actor) ++ rest) cell
-        ∙ sym (append_assoc front (cell ∷ []) (replicate n (Pending actor) ++ rest))
+    ap (λ cells. slice_set cells (length front) cell) is
+    ∙ set-append_seam front (Pending actor) (replicate n (Pending actor) ++ rest) cell
+    ∙ sym (append_assoc front (cell ∷ []) (replicate n (Pending actor) ++ rest))
     in
     let next : Stage =
-        record {
-          list = with_cell s.list (length front) cell;
-          counts = s.counts;
-          events = s.events ++ (f (length front), replies.Done) ∷ [];
-          ended = s.ended;
-        }
+    record {
+      list = with_cell s.list (length front) cell;
+      counts = s.counts;
+      events = s.events ++ (f (length front), replies.Done) ∷ [];
+      ended = s.ended;
+    }
     in
     let others = leads_settled actor f cell settles n next (front ++ cell ∷ []) rest changed in
     let count : length (front ++ cell ∷ []) ≡ length front + 1 = length-append front (cell ∷ []) in
     let happened : with_event s (f (length front)) ≡ Some next =
-        ap (option_map (λ (after : CellList × Reply). record { list = after.0; counts = s.counts; events = s.events ++ (f (length front), after.1) ∷ []; ended = s.ended })) one
+    ap (option_map (λ (after : CellList × Reply). record { list = after.0; counts = s.counts; events = s.events ++ (f (length front), after.1) ∷ []; ended = s.ended })) one
     in
     record {
       after = others.after;
       plays =
-        ap (option_and_then (λ after. with_events after (map f (range_with_len (length front + 1) n)))) happened
-        ∙ ap (λ k. with_events next (map f (range_with_len k n))) (sym count)
-        ∙ others.plays;
+          ap (option_and_then (λ after. with_events after (map f (range_with_len (length front + 1) n)))) happened
+          ∙ ap (λ k. with_events next (map f (range_with_len k n))) (sym count)
+          ∙ others.plays;
       limit = others.limit;
       cells_are = others.cells_are ∙ append_assoc front (cell ∷ []) (replicate n cell ++ rest);
     }
@@ -98,21 +98,21 @@ leads_somewhere s events cells leads = rw leads.plays refl
 run_legal : (t : Stage) (actor n made value : ℕ) (front : List Cell) → made ≤ n → t.list.cells ≡ front ++ replicate n (Pending actor) → IsSome (with_events t (finishes actor (length front) made value ++ breaks actor (length front + made) (n - made)))
 run_legal t actor n made value front within is =
     let parts : replicate n (Pending actor) ≡ replicate made (Pending actor) ++ replicate (n - made) (Pending actor) =
-        ap (λ k. replicate k (Pending actor)) (let e : n ≡ made + (n - made) = omega arith in e)
-        ∙ sym (replicate-append-replicate made (n - made) (Pending actor))
+    ap (λ k. replicate k (Pending actor)) (let e : n ≡ made + (n - made) = omega arith in e)
+    ∙ sym (replicate-append-replicate made (n - made) (Pending actor))
     in
     let filled = leads_settled actor (λ place. Finish actor place value) (Filled value) (finish_settles actor value) made t front (replicate (n - made) (Pending actor)) (is ∙ ap (λ xs. front ++ xs) parts) in
     let there : filled.after.list.cells ≡ (front ++ replicate made (Filled value)) ++ (replicate (n - made) (Pending actor) ++ []) =
-        filled.cells_are
-        ∙ sym (append_assoc front (replicate made (Filled value)) (replicate (n - made) (Pending actor)))
-        ∙ ap (λ xs. (front ++ replicate made (Filled value)) ++ xs) (sym (append-nil (replicate (n - made) (Pending actor))))
+    filled.cells_are
+    ∙ sym (append_assoc front (replicate made (Filled value)) (replicate (n - made) (Pending actor)))
+    ∙ ap (λ xs. (front ++ replicate made (Filled value)) ++ xs) (sym (append-nil (replicate (n - made) (Pending actor))))
     in
     let broken = leads_settled actor (λ place. Break actor place) Broken (break_settles actor) (n - made) filled.after (front ++ replicate made (Filled value)) [] there in
     let count : length (front ++ replicate made (Filled value)) ≡ length front + made =
-        length-append front (replicate made (Filled value)) ∙ ap (λ k. length front + k) (length-replicate made (Filled value))
+    length-append front (replicate made (Filled value)) ∙ ap (λ k. length front + k) (length-replicate made (Filled value))
     in
     let breaking : IsSome (with_events filled.after (breaks actor (length front + made) (n - made))) =
-        rw (← count) (leads_somewhere _ _ _ broken)
+    rw (← count) (leads_somewhere _ _ _ broken)
     in
     rw (with_events-append, filled.plays) breaking
 
@@ -162,32 +162,37 @@ past_limit size limit to grows full = grind (arith, nat_tests)
 pub call_legal : (s : Stage) (actor : ℕ) (command : Command) → IsSound command → IsSome (with_events s (call_on s.list actor command).events)
 call_legal s actor (commands.Push value) sound =
     let fits = nat_le (length s.list.cells + 1) s.list.limit in
-    elim fits as (λ b. fits ≡ b → IsSome (with_events s (if b then record { events = Claim actor 1 ∷ finishes actor (length s.list.cells) 1 value; answer = answers.At (length s.list.cells) } else refused s.list actor 1).events))
-    [ true ↦ (λ e. filled_legal s actor 1 value (Claim actor 1) (claim_happens s actor 1 e))
-    | false ↦ (λ e. refusal_legal s actor 1 e) ]
+    elim fits as (λ b. fits ≡ b → IsSome (with_events s (if b then record { events = Claim actor 1 ∷ finishes actor (length s.list.cells) 1 value; answer = answers.At (length s.list.cells) } else refused s.list actor 1).events)) [
+      | true ↦ (λ e. filled_legal s actor 1 value (Claim actor 1) (claim_happens s actor 1 e))
+      | false ↦ (λ e. refusal_legal s actor 1 e)
+    ]
     refl
 call_legal s actor (commands.Grow n value) sound =
     let fits = nat_le (length s.list.cells + n) s.list.limit in
-    elim fits as (λ b. fits ≡ b → IsSome (with_events s (if b then record { events = Claim actor n ∷ finishes actor (length s.list.cells) n value; answer = answers.Run (length s.list.cells) n } else refused s.list actor n).events))
-    [ true ↦ (λ e. filled_legal s actor n value (Claim actor n) (claim_happens s actor n e))
-    | false ↦ (λ e. refusal_legal s actor n e) ]
+    elim fits as (λ b. fits ≡ b → IsSome (with_events s (if b then record { events = Claim actor n ∷ finishes actor (length s.list.cells) n value; answer = answers.Run (length s.list.cells) n } else refused s.list actor n).events)) [
+      | true ↦ (λ e. filled_legal s actor n value (Claim actor n) (claim_happens s actor n e))
+      | false ↦ (λ e. refusal_legal s actor n e)
+    ]
     refl
 call_legal s actor (commands.AtLeast to value) sound =
     let size = length s.list.cells in
     let grown = λ (b : Bool). if b then record { events = Raise actor to ∷ finishes actor size (to - size) value; answer = answers.Run size (to - size) } else refused s.list actor (to - size) in
-    elim (nat_le to size) as (λ b. nat_le to size ≡ b → IsSome (with_events s (if b then record { events = Raise actor to ∷ []; answer = answers.Enough size } else grown (nat_le to s.list.limit)).events))
-    [ true ↦ (λ e. enough_legal s actor to e)
-    | false ↦ (λ grows.
-      elim (nat_le to s.list.limit) as (λ b. nat_le to s.list.limit ≡ b → IsSome (with_events s (grown b).events))
-      [ true ↦ (λ fits. filled_legal s actor (to - size) value (Raise actor to) (raise_happens s actor to grows fits))
-      | false ↦ (λ full. refusal_legal s actor (to - size) (past_limit size s.list.limit to grows full)) ]
-      refl) ]
+    elim (nat_le to size) as (λ b. nat_le to size ≡ b → IsSome (with_events s (if b then record { events = Raise actor to ∷ []; answer = answers.Enough size } else grown (nat_le to s.list.limit)).events)) [
+      | true ↦ (λ e. enough_legal s actor to e)
+      | false ↦ (λ grows.
+          elim (nat_le to s.list.limit) as (λ b. nat_le to s.list.limit ≡ b → IsSome (with_events s (grown b).events)) [
+            | true ↦ (λ fits. filled_legal s actor (to - size) value (Raise actor to) (raise_happens s actor to grows fits))
+            | false ↦ (λ full. refusal_legal s actor (to - size) (past_limit size s.list.limit to grows full))
+          ]
+          refl)
+    ]
     refl
 call_legal s actor (commands.Fail n value at) sound =
     let fits = nat_le (length s.list.cells + n) s.list.limit in
-    elim fits as (λ b. fits ≡ b → IsSome (with_events s (if b then record { events = Claim actor n ∷ (finishes actor (length s.list.cells) at value ++ breaks actor (length s.list.cells + at) (n - at)); answer = answers.BrokenRun (length s.list.cells) n at } else refused s.list actor n).events))
-    [ true ↦ (λ e. growth_legal s actor n at value (Claim actor n) (omega arith) (claim_happens s actor n e))
-    | false ↦ (λ e. refusal_legal s actor n e) ]
+    elim fits as (λ b. fits ≡ b → IsSome (with_events s (if b then record { events = Claim actor n ∷ (finishes actor (length s.list.cells) at value ++ breaks actor (length s.list.cells + at) (n - at)); answer = answers.BrokenRun (length s.list.cells) n at } else refused s.list actor n).events)) [
+      | true ↦ (λ e. growth_legal s actor n at value (Claim actor n) (omega arith) (claim_happens s actor n e))
+      | false ↦ (λ e. refusal_legal s actor n e)
+    ]
     refl
 call_legal s actor (commands.Read place) sound = refl
 call_legal s actor commands.Size sound = refl

@@ -4,3 +4,8 @@ pub mod CallHistory
 pub mod MapViews
 pub mod Staying
 pub mod Runs
+pub mod Keeping
+pub mod Effects
+pub mod Steps
+pub mod Rows
+pub mod Tiled

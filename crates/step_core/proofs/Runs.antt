@@ -13,7 +13,7 @@ use Rattle.std.proofs.lemmas.List.{append_assoc}
 has_place : OwnedRun → ℕ → Bool
 has_place run place = nat_le run.from place && nat_lt place (run.from + run.n)
 
-has_place-true : (run : OwnedRun) (place : ℕ) → run.from ≤ place → place < run.from + run.n → (nat_le run.from place && nat_lt place (run.from + run.n)) ≡ true
+pub has_place-true : (run : OwnedRun) (place : ℕ) → run.from ≤ place → place < run.from + run.n → (nat_le run.from place && nat_lt place (run.from + run.n)) ≡ true
 has_place-true run place low high = grind (arith, nat_tests)
 
 has_place-below : (run : OwnedRun) (place : ℕ) → place < run.from → (nat_le run.from place && nat_lt place (run.from + run.n)) ≡ false
@@ -66,9 +66,9 @@ owned_between start end (run ∷ runs) place (begins, others) low high =
     elim (cases_lt place (start + run.n)) [
       | inl inside ↦ (let here = has_place-true run place (omega arith) (omega arith) in (run.owner, rw here refl))
       | inr after ↦
-        let rest = owned_between (start + run.n) end runs place others after high in
-        let outside = has_place-past run place (omega arith) in
-        (rest.0, rw outside rest.1)
+          let rest = owned_between (start + run.n) end runs place others after high in
+          let outside = has_place-past run place (omega arith) in
+          (rest.0, rw outside rest.1)
     ]
 
 -- the runs and the settlers of a history, in two parts

@@ -61,30 +61,34 @@ pub record Stays (limit : ℕ) (command : Command) (outcome : Outcome) : Type 0 
 
 growth_stays : (limit : ℕ) (m : Shared) (actor n : ℕ) (command : Command) → limit ≤ 2 ^ 32 → m.size ≤ limit → Wants command m.size n → Stays limit command (load_growth limit m actor n)
 growth_stays limit m actor n command is_limit size wants =
-    elim (n == 0) as (λ b. (n == 0) ≡ b → Stays limit command (if b then ends m (events.Claim actor 0) (replies.Run m.size 0) (answers.Run m.size 0) else if nat_le (m.size + n) limit then goes_on m (Scout m.size n (segment_of m.size)) else ends m (events.RefusedFull actor n) (replies.Full m.size) (answers.Full m.size)))
-    [ true ↦ (λ _. record { size = size; next = tt })
-    | false ↦ (λ some.
-      elim (nat_le (m.size + n) limit) as (λ b. nat_le (m.size + n) limit ≡ b → Stays limit command (if b then goes_on m (Scout m.size n (segment_of m.size)) else ends m (events.RefusedFull actor n) (replies.Full m.size) (answers.Full m.size)))
-      [ true ↦ (λ fits.
-        let room : m.size + n ≤ limit = grind (arith, nat_tests) in
-        let more : 0 < n = grind (arith, nat_tests) in
-        record { size = size; next = (more, room, segment_below m.size (omega arith), wants) })
-      | false ↦ (λ _. record { size = size; next = tt }) ]
-      refl) ]
+    elim (n == 0) as (λ b. (n == 0) ≡ b → Stays limit command (if b then ends m (events.Claim actor 0) (replies.Run m.size 0) (answers.Run m.size 0) else if nat_le (m.size + n) limit then goes_on m (Scout m.size n (segment_of m.size)) else ends m (events.RefusedFull actor n) (replies.Full m.size) (answers.Full m.size))) [
+      | true ↦ (λ _. record { size = size; next = tt })
+      | false ↦ (λ some.
+          elim (nat_le (m.size + n) limit) as (λ b. nat_le (m.size + n) limit ≡ b → Stays limit command (if b then goes_on m (Scout m.size n (segment_of m.size)) else ends m (events.RefusedFull actor n) (replies.Full m.size) (answers.Full m.size))) [
+            | true ↦ (λ fits.
+                let room : m.size + n ≤ limit = grind (arith, nat_tests) in
+                let more : 0 < n = grind (arith, nat_tests) in
+                record { size = size; next = (more, room, segment_below m.size (omega arith), wants) })
+            | false ↦ (λ _. record { size = size; next = tt })
+          ]
+          refl)
+    ]
     refl
 
 at_least_stays : (limit : ℕ) (m : Shared) (actor to value : ℕ) → limit ≤ 2 ^ 32 → m.size ≤ limit → Stays limit (commands.AtLeast to value) (load_at_least limit m actor to)
 at_least_stays limit m actor to value is_limit size =
-    elim (nat_le to m.size) as (λ b. nat_le to m.size ≡ b → Stays limit (commands.AtLeast to value) (if b then ends m (events.Raise actor to) (replies.Enough m.size) (answers.Enough m.size) else if nat_le to limit then goes_on m (Scout m.size (to - m.size) (segment_of m.size)) else ends m (events.RefusedFull actor (to - m.size)) (replies.Full m.size) (answers.Full m.size)))
-    [ true ↦ (λ _. record { size = size; next = tt })
-    | false ↦ (λ grows.
-      elim (nat_le to limit) as (λ b. nat_le to limit ≡ b → Stays limit (commands.AtLeast to value) (if b then goes_on m (Scout m.size (to - m.size) (segment_of m.size)) else ends m (events.RefusedFull actor (to - m.size)) (replies.Full m.size) (answers.Full m.size)))
-      [ true ↦ (λ fits.
-        let room : to ≤ limit = grind (arith, nat_tests) in
-        let more : m.size < to = grind (arith, nat_tests) in
-        record { size = size; next = (omega arith, omega arith, segment_below m.size (omega arith), omega arith) })
-      | false ↦ (λ _. record { size = size; next = tt }) ]
-      refl) ]
+    elim (nat_le to m.size) as (λ b. nat_le to m.size ≡ b → Stays limit (commands.AtLeast to value) (if b then ends m (events.Raise actor to) (replies.Enough m.size) (answers.Enough m.size) else if nat_le to limit then goes_on m (Scout m.size (to - m.size) (segment_of m.size)) else ends m (events.RefusedFull actor (to - m.size)) (replies.Full m.size) (answers.Full m.size))) [
+      | true ↦ (λ _. record { size = size; next = tt })
+      | false ↦ (λ grows.
+          elim (nat_le to limit) as (λ b. nat_le to limit ≡ b → Stays limit (commands.AtLeast to value) (if b then goes_on m (Scout m.size (to - m.size) (segment_of m.size)) else ends m (events.RefusedFull actor (to - m.size)) (replies.Full m.size) (answers.Full m.size))) [
+            | true ↦ (λ fits.
+                let room : to ≤ limit = grind (arith, nat_tests) in
+                let more : m.size < to = grind (arith, nat_tests) in
+                record { size = size; next = (omega arith, omega arith, segment_below m.size (omega arith), omega arith) })
+            | false ↦ (λ _. record { size = size; next = tt })
+          ]
+          refl)
+    ]
     refl
 
 read_stays : (limit : ℕ) (m : Shared) (actor place : ℕ) (command : Command) → m.size ≤ limit → Stays limit command (load_read m actor place)
@@ -111,39 +115,44 @@ claiming_within limit commands.Size from n some room wants = (some, room, tt)
 
 segment_after_within : (limit : ℕ) (command : Command) (from n segment : ℕ) → limit ≤ 2 ^ 32 → 0 < n → from + n ≤ limit → Wants command from n → IsWithin limit command (after_segment command from n segment)
 segment_after_within limit command from n segment is_limit some room wants =
-    elim (nat_lt (end_of segment) (from + n)) as (λ b. nat_lt (end_of segment) (from + n) ≡ b → IsWithin limit command (if b then Scout from n (segment + 1) else claiming command from n))
-    [ true ↦ (λ more.
-      let before : end_of segment < from + n = grind (arith, nat_tests) in
-      (some, room, exponent_below (segment + 1) (omega arith), wants))
-    | false ↦ (λ _. claiming_within limit command from n some room wants) ]
+    elim (nat_lt (end_of segment) (from + n)) as (λ b. nat_lt (end_of segment) (from + n) ≡ b → IsWithin limit command (if b then Scout from n (segment + 1) else claiming command from n)) [
+      | true ↦ (λ more.
+          let before : end_of segment < from + n = grind (arith, nat_tests) in
+          (some, room, exponent_below (segment + 1) (omega arith), wants))
+      | false ↦ (λ _. claiming_within limit command from n some room wants)
+    ]
     refl
 
 place_after_within : (limit : ℕ) (command : Command) (from n place : ℕ) → from ≤ place → from + n ≤ limit → StaysWithin limit command (after_place command from n place)
 place_after_within limit command from n place low room =
-    elim (nat_lt (place + 1) (from + n)) as (λ b. nat_lt (place + 1) (from + n) ≡ b → StaysWithin limit command (if b then Goes (Begin from n (place + 1)) else Ends (answer_of_run command from n)))
-    [ true ↦ (λ more. let before : place + 1 < from + n = grind (arith, nat_tests) in (omega arith, before, room))
-    | false ↦ (λ _. tt) ]
+    elim (nat_lt (place + 1) (from + n)) as (λ b. nat_lt (place + 1) (from + n) ≡ b → StaysWithin limit command (if b then Goes (Begin from n (place + 1)) else Ends (answer_of_run command from n))) [
+      | true ↦ (λ more. let before : place + 1 < from + n = grind (arith, nat_tests) in (omega arith, before, room))
+      | false ↦ (λ _. tt)
+    ]
     refl
 
 exchange_stays : (limit : ℕ) (m : Shared) (actor from n : ℕ) (command : Command) → limit ≤ 2 ^ 32 → m.size ≤ limit → 0 < n → from + n ≤ limit → Wants command m.size n → Stays limit command (exchange limit m actor from n)
 exchange_stays limit m actor from n command is_limit size some room wants =
-    elim (m.size == from) as (λ b. Stays limit command (if b then record { shared = with_size m (from + n); event = Some (events.Claim actor n, replies.Run from n); next = Goes (Begin from n from) } else if nat_le (m.size + n) limit then goes_on m (Scout m.size n (segment_of m.size)) else ends m (events.RefusedFull actor n) (replies.Full m.size) (answers.Full m.size)))
-    [ true ↦ record { size = room; next = (le_refl from, omega arith, room) }
-    | false ↦
-      elim (nat_le (m.size + n) limit) as (λ b. nat_le (m.size + n) limit ≡ b → Stays limit command (if b then goes_on m (Scout m.size n (segment_of m.size)) else ends m (events.RefusedFull actor n) (replies.Full m.size) (answers.Full m.size)))
-      [ true ↦ (λ fits.
-        let more : m.size + n ≤ limit = grind (arith, nat_tests) in
-        record { size = size; next = (some, more, segment_below m.size (omega arith), wants) })
-      | false ↦ (λ _. record { size = size; next = tt }) ]
-      refl ]
+    elim (m.size == from) as (λ b. Stays limit command (if b then record { shared = with_size m (from + n); event = Some (events.Claim actor n, replies.Run from n); next = Goes (Begin from n from) } else if nat_le (m.size + n) limit then goes_on m (Scout m.size n (segment_of m.size)) else ends m (events.RefusedFull actor n) (replies.Full m.size) (answers.Full m.size))) [
+      | true ↦ record { size = room; next = (le_refl from, omega arith, room) }
+      | false ↦
+          elim (nat_le (m.size + n) limit) as (λ b. nat_le (m.size + n) limit ≡ b → Stays limit command (if b then goes_on m (Scout m.size n (segment_of m.size)) else ends m (events.RefusedFull actor n) (replies.Full m.size) (answers.Full m.size))) [
+            | true ↦ (λ fits.
+                let more : m.size + n ≤ limit = grind (arith, nat_tests) in
+                record { size = size; next = (some, more, segment_below m.size (omega arith), wants) })
+            | false ↦ (λ _. record { size = size; next = tt })
+          ]
+          refl
+    ]
 
 raise_stays : (limit : ℕ) (m : Shared) (actor to : ℕ) (command : Command) → m.size ≤ limit → to ≤ limit → Stays limit command (raise m actor to)
 raise_stays limit m actor to command size room =
-    elim (nat_le to m.size) as (λ b. nat_le to m.size ≡ b → Stays limit command (if b then ends m (events.Raise actor to) (replies.Enough m.size) (answers.Enough m.size) else record { shared = with_size m to; event = Some (events.Raise actor to, replies.Run m.size (to - m.size)); next = Goes (Begin m.size (to - m.size) m.size) }))
-    [ true ↦ (λ _. record { size = size; next = tt })
-    | false ↦ (λ grows.
-      let more : m.size < to = grind (arith, nat_tests) in
-      record { size = room; next = (le_refl m.size, omega arith, omega arith) }) ]
+    elim (nat_le to m.size) as (λ b. nat_le to m.size ≡ b → Stays limit command (if b then ends m (events.Raise actor to) (replies.Enough m.size) (answers.Enough m.size) else record { shared = with_size m to; event = Some (events.Raise actor to, replies.Run m.size (to - m.size)); next = Goes (Begin m.size (to - m.size) m.size) })) [
+      | true ↦ (λ _. record { size = size; next = tt })
+      | false ↦ (λ grows.
+          let more : m.size < to = grind (arith, nat_tests) in
+          record { size = room; next = (le_refl m.size, omega arith, omega arith) })
+    ]
     refl
 
 begin_stays : (limit : ℕ) (m : Shared) (actor from n place : ℕ) (command : Command) (slot : Option Slot) → m.size ≤ limit → from ≤ place → place < from + n → from + n ≤ limit → Stays limit command (begin_at m actor command from n place slot)
@@ -158,7 +167,6 @@ look_stays limit m actor place command (Some (Busy owner)) size = record { size 
 look_stays limit m actor place command (Some (Filled value)) size = record { size = size; next = tt }
 look_stays limit m actor place command (Some Broken) size = record { size = size; next = tt }
 
-
 -- an exchange's call wants as many places anywhere
 exchange_wants : (command : Command) (from n : ℕ) → Exchanges command → Wants command from n
 exchange_wants (commands.Push value) from n exchanges = tt
@@ -171,13 +179,15 @@ exchange_wants commands.Size from n exchanges = tt
 pub outcome_stays : (limit : ℕ) (m : Shared) (actor : ℕ) (command : Command) (memory : Bool) (phase : Phase) → limit ≤ 2 ^ 32 → m.size ≤ limit → IsWithin limit command phase → Stays limit command (outcome_of limit m actor command memory phase)
 outcome_stays limit m actor command memory Load is_limit size within = load_stays limit m actor command is_limit size
 outcome_stays limit m actor command memory (Scout from n segment) is_limit size (some, room, number, wants) =
-    elim (set.contains m.installed segment) as (λ b. Stays limit command (if b then goes_on m (after_segment command from n segment) else goes_on m (Put from n segment)))
-    [ true ↦ record { size = size; next = segment_after_within limit command from n segment is_limit some room wants }
-    | false ↦ record { size = size; next = (some, room, number, wants) } ]
+    elim (set.contains m.installed segment) as (λ b. Stays limit command (if b then goes_on m (after_segment command from n segment) else goes_on m (Put from n segment))) [
+      | true ↦ record { size = size; next = segment_after_within limit command from n segment is_limit some room wants }
+      | false ↦ record { size = size; next = (some, room, number, wants) }
+    ]
 outcome_stays limit m actor command memory (Put from n segment) is_limit size (some, room, number, wants) =
-    elim memory as (λ b. Stays limit command (put m actor command b from n segment))
-    [ true ↦ record { size = size; next = segment_after_within limit command from n segment is_limit some room wants }
-    | false ↦ record { size = size; next = tt } ]
+    elim memory as (λ b. Stays limit command (put m actor command b from n segment)) [
+      | true ↦ record { size = size; next = segment_after_within limit command from n segment is_limit some room wants }
+      | false ↦ record { size = size; next = tt }
+    ]
 outcome_stays limit m actor command memory (Exchange from n) is_limit size (some, room, exchanges) =
     exchange_stays limit m actor from n command is_limit size some room (exchange_wants command m.size n exchanges)
 outcome_stays limit m actor command memory (Raise to) is_limit size within = raise_stays limit m actor to command size within
@@ -205,7 +215,7 @@ pub step_to_in_limit : (c : Configuration) (who : ℕ) (actor : Actor) (command 
 step_to_in_limit c who actor command outcome in_limit is stays = (
   in_limit.0,
   stays.size,
-  All-set (λ a. IsPlaced c.limit a) c.actors who (actor_after actor outcome.next) (after_is_placed c.limit actor command outcome.next is stays.next) in_limit.2
+  All-set (λ a. IsPlaced c.limit a) c.actors who (actor_after actor outcome.next) (after_is_placed c.limit actor command outcome.next is stays.next) in_limit.2,
 )
 
 -- the step of an actor that is there, with a call under way or to begin
@@ -220,17 +230,19 @@ step_is_none c who memory actor there is = ap (step_as c who memory) there ∙ a
 -- a step stays within the limit
 pub step_in_limit : (c : Configuration) (who : ℕ) (memory : Bool) → IsInLimit c → IsInLimit (step_of c who memory).to
 step_in_limit c who memory in_limit =
-    elim (slice_get c.actors who) as (λ o. slice_get c.actors who ≡ o → IsInLimit (step_as c who memory o).to)
-    [ None ↦ (λ _. in_limit)
-    | Some actor ↦ (λ there.
-      elim (slice_get actor.program actor.ended) as (λ o. slice_get actor.program actor.ended ≡ o → IsInLimit (step_in c who memory actor o).to)
-      [ None ↦ (λ _. in_limit)
-      | Some command ↦ (λ is.
-        let placed = actor_at c.limit c.actors who actor in_limit.2 there in
-        let within : IsWithin c.limit command actor.phase = subst (λ o. IfSome o (λ k. IsWithin c.limit k actor.phase)) is placed in
-        step_to_in_limit c who actor command (outcome_of c.limit c.shared who command memory actor.phase) in_limit is
-        (outcome_stays c.limit c.shared who command memory actor.phase in_limit.0.1 in_limit.1 within)) ]
-      refl) ]
+    elim (slice_get c.actors who) as (λ o. slice_get c.actors who ≡ o → IsInLimit (step_as c who memory o).to) [
+      | None ↦ (λ _. in_limit)
+      | Some actor ↦ (λ there.
+          elim (slice_get actor.program actor.ended) as (λ o. slice_get actor.program actor.ended ≡ o → IsInLimit (step_in c who memory actor o).to) [
+            | None ↦ (λ _. in_limit)
+            | Some command ↦ (λ is.
+                let placed = actor_at c.limit c.actors who actor in_limit.2 there in
+                let within : IsWithin c.limit command actor.phase = subst (λ o. IfSome o (λ k. IsWithin c.limit k actor.phase)) is placed in
+                step_to_in_limit c who actor command (outcome_of c.limit c.shared who command memory actor.phase) in_limit is
+                (outcome_stays c.limit c.shared who command memory actor.phase in_limit.0.1 in_limit.1 within))
+          ]
+          refl)
+    ]
     refl
 
 -- so is what a step that succeeded, or changed nothing, leaves
@@ -240,7 +252,7 @@ left_in_limit (Ok stepped) c new who memory in_limit limit gives kept =
 left_in_limit (Err e) c new who memory in_limit limit gives kept = (
   subst IsLimit (sym limit) in_limit.0,
   (let same : new.shared.size ≡ c.shared.size = ap (λ (m : Shared). m.size) kept.0 in let room = in_limit.1 in omega arith),
-  subst (λ l. All (λ a. IsPlaced l a) new.actors) (sym limit) (subst (All (λ a. IsPlaced c.limit a)) (sym kept.1) in_limit.2)
+  subst (λ l. All (λ a. IsPlaced l a) new.actors) (sym limit) (subst (All (λ a. IsPlaced c.limit a)) (sym kept.1) in_limit.2),
 )
 
 -- so is a new machine
@@ -248,5 +260,5 @@ pub new_in_limit : (limit : ℕ) (m : Shared) (actors : List Actor) (programs : 
 new_in_limit limit m actors programs is_limit shared_is actors_are = (
   is_limit,
   (let same : m.size ≡ 0 = ap (λ (x : Shared). x.size) shared_is in omega arith),
-  subst (All (λ a. IsPlaced limit a)) (sym actors_are) (opening_in_limit limit programs is_limit).2
+  subst (All (λ a. IsPlaced limit a)) (sym actors_are) (opening_in_limit limit programs is_limit).2,
 )

@@ -56,14 +56,14 @@ call_on v actor (commands.AtLeast to value) =
     else if nat_le to v.limit
     then record {
       events = Raise actor to ∷ finishes actor (length v.cells) (to - length v.cells) value;
-      answer = answers.Run (length v.cells) (to - length v.cells)
+      answer = answers.Run (length v.cells) (to - length v.cells);
     }
     else refused v actor (to - length v.cells)
 call_on v actor (commands.Fail n value at) =
     if nat_le (length v.cells + n) v.limit
     then record {
       events = Claim actor n ∷ (finishes actor (length v.cells) at value ++ breaks actor (length v.cells + at) (n - at));
-      answer = answers.BrokenRun (length v.cells) n at
+      answer = answers.BrokenRun (length v.cells) n at;
     }
     else refused v actor n
 call_on v actor (commands.Read place) =

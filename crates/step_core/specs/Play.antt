@@ -32,7 +32,7 @@ abbrev pub with_step : Play → Step → Play
 with_step p step = record {
   at = step.to;
   events = p.events ++ option_to_list step.event;
-  ended = p.ended ++ option_to_list step.ended
+  ended = p.ended ++ option_to_list step.ended;
 }
 
 -- each item is one step of its actor

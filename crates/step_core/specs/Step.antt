@@ -136,7 +136,7 @@ exchange limit m actor from n =
     then record {
       shared = with_size m (from + n);
       event = Some (events.Claim actor n, replies.Run from n);
-      next = Goes (Begin from n from)
+      next = Goes (Begin from n from);
     }
     else if nat_le (m.size + n) limit
     -- a lost exchange
@@ -150,7 +150,7 @@ raise m actor to =
     else record {
       shared = with_size m to;
       event = Some (events.Raise actor to, replies.Run m.size (to - m.size));
-      next = Goes (Begin m.size (to - m.size) m.size)
+      next = Goes (Begin m.size (to - m.size) m.size);
     }
 
 -- ---- Begin, Fill and Spoil
@@ -197,14 +197,14 @@ abbrev pub fill : Shared → ℕ → Command → ℕ → ℕ → ℕ → Outcome
 fill m actor command from n place = record {
   shared = with_slot m place (Filled (value_of command));
   event = Some (events.Finish actor place (value_of command), replies.Done);
-  next = after_place command from n place
+  next = after_place command from n place;
 }
 
 abbrev pub spoil : Shared → ℕ → Command → ℕ → ℕ → ℕ → Outcome
 spoil m actor command from n place = record {
   shared = with_slot m place Broken;
   event = Some (events.Break actor place, replies.Done);
-  next = after_place command from n place
+  next = after_place command from n place;
 }
 
 -- ---- Look
@@ -248,7 +248,7 @@ abbrev pub step_to : Configuration → ℕ → Actor → Command → Outcome →
 step_to c who actor command outcome = record {
   to = with_actor c outcome.shared who (actor_after actor outcome.next);
   event = outcome.event;
-  ended = ended_by who actor command outcome.next
+  ended = ended_by who actor command outcome.next;
 }
 
 -- the step of an actor with this call under way or to begin; with none left nothing changes
@@ -270,5 +270,5 @@ abbrev pub opening : ℕ → List (List Command) → Configuration
 opening limit programs = record {
   limit = limit;
   shared = record { size = 0; installed = set.empty; slots = empty };
-  actors = map (λ program. record { program = program; ended = 0; phase = Load }) programs
+  actors = map (λ program. record { program = program; ended = 0; phase = Load }) programs;
 }

@@ -9,7 +9,6 @@ use Rattle.book_core.specs.declared.events.Reply.{Reply}
 use Rattle.book_core.specs.declared.commands.Command.{Command}
 use Rattle.book_core.specs.declared.commands.Item.{Item}
 use Rattle.book_core.specs.Cells.{IsLimit}
-use Rattle.book_core.specs.Commands.{AreSound}
 use Rattle.book_core.specs.History.{runs_of, owner_of, Tile}
 use Rattle.step_core.specs.declared.phase.Slot.{Slot}
 use Rattle.step_core.specs.declared.phase.Slot.TheVariants.{Busy, Filled, Broken}
@@ -105,4 +104,4 @@ pub record IsTiled (p : Play) : Type 0 where
 -- all of it holds of every play: any limit, any programs, any schedule, with any marks of memory
 abbrev pub EveryPlayIsTiled : Type 0
 EveryPlayIsTiled =
-    (limit : ℕ) (programs : List (List Command)) (items : List Item) → IsLimit limit → AreSound programs → IsTiled (play_of limit programs items)
+    (limit : ℕ) (programs : List (List Command)) (items : List Item) → IsLimit limit → IsTiled (play_of limit programs items)

@@ -115,9 +115,7 @@ impl CallPlay {
         requires sound { AreSound programs.now }
         requires actors { HaveActors (length programs.now) self.old.ended }
         ensures actors { OnOk result (HaveActors (length programs.now) self.new.ended) }
-        ensures ok {
-            OnOk result (with_call self.old actor (next_call programs.now self.old.counts actor) ≡ Some self.new)
-        }
+        ensures ok { OnOk result (with_call self.old actor (next_call programs.now self.old.counts actor) ≡ Some self.new) }
         ensures counted { OnOk result (length self.new.counts ≡ length self.old.counts) }
     {
         match self.next(programs, actor) {
@@ -188,10 +186,8 @@ pub fn play_calls(
     ensures actors { IfOk result (λ played. HaveActors (length programs) played.ended) }
     ensures bad_limit { IsErrOf result PlayError.BadLimit ↔ (IsLimit limit → ⊥) }
     ensures bad_command { IsErrOf result PlayError.BadCommand ↔ IsLimit limit × (AreSound programs → ⊥) }
-    ensures bad_actor {
-        IsErrOf result PlayError.BadActor
-            ↔ IsLimit limit × AreSound programs × (HavePrograms programs items.now → ⊥)
-    }
+    ensures bad_actor { IsErrOf result PlayError.BadActor
+        ↔ IsLimit limit × AreSound programs × (HavePrograms programs items.now → ⊥) }
 {
     let programs = programs.as_slice();
     if !CellVec::is_limit(limit) {

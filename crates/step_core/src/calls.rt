@@ -61,7 +61,11 @@ fn refused_call(alloc: Global, list: &CellVec, actor: u32, n: u64) -> Result<Who
     ensures { IfOk result (λ call. Is (refused list.now actor n) call) }
 {
     let size = list.cells().len() as u64;
-    single(alloc, Event::RefusedFull { actor, n }, Answer::Full { size })
+    single(
+        alloc,
+        Event::RefusedFull { actor, n },
+        Answer::Full { size },
+    )
 }
 
 // The places that a growth appends, and what becomes of them.
@@ -76,13 +80,16 @@ struct Growth {
 }
 
 // The claiming event, and then what the owner does at its places.
-fn grown(alloc: Global, claim: Event, growth: Growth, answer: Answer) -> Result<WholeCall, AllocError>
+fn grown(
+    alloc: Global,
+    claim: Event,
+    growth: Growth,
+    answer: Answer,
+) -> Result<WholeCall, AllocError>
     requires made { growth.made ≤ growth.n }
     requires fits { growth.from + growth.n < 2 ^ 64 }
-    ensures events {
-        IfOk result (λ call. call.events.items ≡ claim ∷ (finishes growth.actor growth.from growth.made growth.value
-            ++ breaks growth.actor (growth.from + growth.made) (growth.n - growth.made)))
-    }
+    ensures events { IfOk result (λ call. call.events.items ≡ claim ∷ (finishes growth.actor growth.from growth.made growth.value
+        ++ breaks growth.actor (growth.from + growth.made) (growth.n - growth.made))) }
     ensures answer { IfOk result (λ call. call.answer ≡ answer) }
 {
     let Growth {
@@ -120,7 +127,12 @@ fn push_call(alloc: Global, list: &CellVec, actor: u32, value: u64) -> Result<Wh
         value,
         made: 1,
     };
-    grown(alloc, Event::Claim { actor, n: 1 }, growth, Answer::At { place: from })
+    grown(
+        alloc,
+        Event::Claim { actor, n: 1 },
+        growth,
+        Answer::At { place: from },
+    )
 }
 
 fn grow_call(
@@ -143,7 +155,12 @@ fn grow_call(
         value,
         made: n,
     };
-    grown(alloc, Event::Claim { actor, n }, growth, Answer::Run { from, n })
+    grown(
+        alloc,
+        Event::Claim { actor, n },
+        growth,
+        Answer::Run { from, n },
+    )
 }
 
 fn at_least_call(
@@ -177,9 +194,7 @@ fn at_least_call(
 fn fail_call(alloc: Global, list: &CellVec, growth: Growth) -> Result<WholeCall, AllocError>
     requires from { growth.from ≡ length list.now.cells }
     requires made { growth.made ≤ growth.n }
-    ensures {
-        IfOk result (λ call. Is (call_on list.now growth.actor (Command.Fail growth.n growth.value growth.made)) call)
-    }
+    ensures { IfOk result (λ call. Is (call_on list.now growth.actor (Command.Fail growth.n growth.value growth.made)) call) }
 {
     let Growth {
         actor,
@@ -191,7 +206,12 @@ fn fail_call(alloc: Global, list: &CellVec, growth: Growth) -> Result<WholeCall,
     if room(list) < n {
         return refused_call(alloc, list, actor, n);
     }
-    grown(alloc, Event::Claim { actor, n }, growth, Answer::BrokenRun { from, n, made })
+    grown(
+        alloc,
+        Event::Claim { actor, n },
+        growth,
+        Answer::BrokenRun { from, n, made },
+    )
 }
 
 fn read_call(alloc: Global, list: &CellVec, actor: u32, place: u64) -> Result<WholeCall, AllocError>

@@ -19,7 +19,10 @@ impl fmt::Display for PlayError {
         match self {
             PlayError::NoMemory => write!(f, "out of memory"),
             PlayError::BadLimit => write!(f, "the limit is not from 1 to 4294967296"),
-            PlayError::BadCommand => write!(f, "a refused construction is past the end of its call"),
+            PlayError::BadCommand => write!(
+                f,
+                "a refused construction is past the end of its call"
+            ),
             PlayError::BadActor => write!(f, "an item is of an actor without a program"),
         }
     }
@@ -42,7 +45,10 @@ impl fmt::Display for MakeError {
         match self {
             MakeError::NoMemory => write!(f, "out of memory"),
             MakeError::BadLimit => write!(f, "the limit is not from 1 to 4294967296"),
-            MakeError::BadCommand => write!(f, "a refused construction is past the end of its call"),
+            MakeError::BadCommand => write!(
+                f,
+                "a refused construction is past the end of its call"
+            ),
         }
     }
 }

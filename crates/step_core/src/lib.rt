@@ -4,16 +4,14 @@
 mod call_play;
 mod calls;
 mod errors;
+pub mod laws;
 mod machine;
 mod memory;
 mod phase;
-pub mod laws;
 mod programs;
 mod shared;
-
 #[cfg(test)]
 mod tests;
-
 
 pub use call_play::play_calls;
 pub use errors::{MakeError, PlayError};

@@ -94,7 +94,13 @@ impl Machine {
         // A real want of memory, which `memory` doesn't cause.
         ensures err { OnErr result (self.new ≡ self.old) }
     {
-        step_among(self.limit, &mut self.shared, &mut self.actors, actor, memory)
+        step_among(
+            self.limit,
+            &mut self.shared,
+            &mut self.actors,
+            actor,
+            memory,
+        )
     }
 }
 
@@ -106,12 +112,10 @@ fn step_among(
     memory: bool,
 ) -> Result<Stepped, AllocError>
     requires { IsInLimit (record { limit = limit; shared = shared.old; actors = actors.old.items }) }
-    ensures steps {
-        IfOk result (λ stepped. Gives
-            (step_of (record { limit = limit; shared = shared.old; actors = actors.old.items }) who memory)
-            (record { limit = limit; shared = shared.new; actors = actors.new.items })
-            stepped)
-    }
+    ensures steps { IfOk result (λ stepped. Gives
+        (step_of (record { limit = limit; shared = shared.old; actors = actors.old.items }) who memory)
+        (record { limit = limit; shared = shared.new; actors = actors.new.items })
+        stepped) }
     ensures err { OnErr result ((shared.new ≡ shared.old) × (actors.new.items ≡ actors.old.items)) }
 {
     let Some(current) = actors.get(who as usize) else {

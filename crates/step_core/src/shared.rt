@@ -84,13 +84,15 @@ impl Shared {
     }
 
     fn refuse(&self, actor: u32, n: u64) -> Outcome
-        ensures {
-            given self.now result
-                ≡ ends_with self.now (Event.RefusedFull actor n) (Reply.Full self.now.size) (Answer.Full self.now.size)
-        }
+        ensures { given self.now result
+            ≡ ends_with self.now (Event.RefusedFull actor n) (Reply.Full self.now.size) (Answer.Full self.now.size) }
     {
         let size = self.size;
-        ends(Event::RefusedFull { actor, n }, Reply::Full { size }, Answer::Full { size })
+        ends(
+            Event::RefusedFull { actor, n },
+            Reply::Full { size },
+            Answer::Full { size },
+        )
     }
 
     // The call wants n places from the size on, and looks at their first segment.
@@ -115,7 +117,11 @@ impl Shared {
         let size = self.size;
         if n == 0 {
             let reply = Reply::Run { from: size, n: 0 };
-            return ends(Event::Claim { actor, n: 0 }, reply, Answer::Run { from: size, n: 0 });
+            return ends(
+                Event::Claim { actor, n: 0 },
+                reply,
+                Answer::Run { from: size, n: 0 },
+            );
         }
         if n <= limit - size {
             return goes(self.scout_first(n));
@@ -130,7 +136,11 @@ impl Shared {
     {
         let size = self.size;
         if to <= size {
-            return ends(Event::Raise { actor, to }, Reply::Enough { size }, Answer::Enough { size });
+            return ends(
+                Event::Raise { actor, to },
+                Reply::Enough { size },
+                Answer::Enough { size },
+            );
         }
         if to <= limit {
             return goes(self.scout_first(to - size));
@@ -145,7 +155,11 @@ impl Shared {
         if place < size {
             return goes(Phase::Look { place });
         }
-        ends(Event::Look { actor, place }, Reply::OutOfRange { size }, Answer::OutOfRange { size })
+        ends(
+            Event::Look { actor, place },
+            Reply::OutOfRange { size },
+            Answer::OutOfRange { size },
+        )
     }
 
     fn load(&self, limit: u64, actor: u32, command: &Command) -> Outcome
@@ -160,7 +174,11 @@ impl Shared {
             Command::Read { place } => self.load_read(actor, place),
             Command::Size => {
                 let size = self.size;
-                ends(Event::Size { actor }, Reply::Size { size }, Answer::Size { size })
+                ends(
+                    Event::Size { actor },
+                    Reply::Size { size },
+                    Answer::Size { size },
+                )
             }
         }
     }
@@ -187,9 +205,7 @@ impl Shared {
     ) -> Result<Outcome, AllocError>
         requires segment { segment < 32 }
         requires places { from + n ≤ 2 ^ 32 }
-        ensures gives {
-            IfOk result (λ outcome. given self.new outcome ≡ put self.old actor command.now memory from n segment)
-        }
+        ensures gives { IfOk result (λ outcome. given self.new outcome ≡ put self.old actor command.now memory from n segment) }
         ensures err { OnErr result (self.new ≡ self.old) }
     {
         if !memory {
@@ -230,7 +246,11 @@ impl Shared {
         let from = self.size;
         let event = Event::Raise { actor, to };
         if to <= from {
-            return ends(event, Reply::Enough { size: from }, Answer::Enough { size: from });
+            return ends(
+                event,
+                Reply::Enough { size: from },
+                Answer::Enough { size: from },
+            );
         }
         let n = to - from;
         self.size = to;
@@ -253,10 +273,8 @@ impl Shared {
         place: u64,
     ) -> Result<Outcome, AllocError>
         requires place { from ≤ place }
-        ensures gives {
-            IfOk result (λ outcome. given self.new outcome
-                ≡ begin_at self.old actor command.now from n place (map.get self.old.slots place))
-        }
+        ensures gives { IfOk result (λ outcome. given self.new outcome
+            ≡ begin_at self.old actor command.now from n place (map.get self.old.slots place)) }
         ensures err { OnErr result (self.new ≡ self.old) }
     {
         if self.slots.get(place).is_some() {
@@ -322,7 +340,11 @@ impl Shared {
         let event = Event::Look { actor, place };
         match self.slots.get(place) {
             None | Some(Slot::Busy(_)) => ends(event, Reply::Pending, Answer::Pending),
-            Some(Slot::Filled(value)) => ends(event, Reply::Value { value }, Answer::Value { value }),
+            Some(Slot::Filled(value)) => ends(
+                event,
+                Reply::Value { value },
+                Answer::Value { value },
+            ),
             Some(Slot::Broken) => ends(event, Reply::Broken, Answer::Broken),
         }
     }
@@ -339,9 +361,7 @@ impl Shared {
         requires limit { limit ≤ 2 ^ 32 }
         requires size { self.old.size ≤ limit }
         requires phase { IsWithin limit command.now phase }
-        ensures gives {
-            IfOk result (λ outcome. given self.new outcome ≡ outcome_of limit self.old actor command.now memory phase)
-        }
+        ensures gives { IfOk result (λ outcome. given self.new outcome ≡ outcome_of limit self.old actor command.now memory phase) }
         ensures err { OnErr result (self.new ≡ self.old) }
     {
         match phase {

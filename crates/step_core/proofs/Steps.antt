@@ -1,0 +1,100 @@
+-- Each row of the step table keeps what holds.
+use Rattle.std.proofs.Common.{◌≡◌, ◌≢◌, ℕ, ◌+◌, ◌-◌, ◌<◌, ◌≤◌, ◌⊎◌, nat_le, nat_lt, ◌==◌, ◌&&◌, Bool, true, false, if◌then◌else◌, List, [], ◌∷◌, ◌++◌, Option, Some, None, slice_get, slice_set, refl, ap, sym, ◌∙◌, subst, arith, inl, inr}
+use Rattle.std.proofs.Math.Nat.{le_refl}
+use Rattle.std.proofs.lemmas.Bool.{cases_lt}
+use Rattle.std.proofs.lemmas.Bool.Decides.{nat_tests, eqb_tells}
+use Rattle.std.proofs.lemmas.List.{append-nil}
+use Rattle.std.proofs.lemmas.Option.{none-some, same_Some}
+use Rattle.std.specs.Option.{option_to_list}
+use Rattle.std.specs.FinMap as map
+use Rattle.std.specs.FinSet as set
+use Rattle.seg_core.specs.Segment.{HasPlace, start_of, end_of, segment_of}
+use Rattle.seg_core.proofs.Doubling.{segment_of_has, start_of-next}
+use Rattle.book_core.specs.declared.events.Event.{Event}
+use Rattle.book_core.specs.declared.events.Event.TheVariants as events
+use Rattle.book_core.specs.declared.events.Reply.{Reply}
+use Rattle.book_core.specs.declared.events.Reply.TheVariants as replies
+use Rattle.book_core.specs.declared.commands.Command.{Command}
+use Rattle.book_core.specs.declared.commands.Command.TheVariants as commands
+use Rattle.book_core.specs.declared.commands.Answer.{Answer}
+use Rattle.book_core.specs.declared.commands.Answer.TheVariants as answers
+use Rattle.book_core.specs.History.{OwnedRun, runs_of, owner_of, Tile}
+use Rattle.step_core.specs.declared.phase.Slot.{Slot}
+use Rattle.step_core.specs.declared.phase.Slot.TheVariants.{Busy, Filled, Broken}
+use Rattle.step_core.specs.declared.phase.Phase.{Phase}
+use Rattle.step_core.specs.declared.phase.Phase.TheVariants.{Load, Scout, Put, Exchange, Raise, Begin, Fill, Spoil, Look}
+use Rattle.step_core.specs.declared.phase.Next.{Next}
+use Rattle.step_core.specs.declared.phase.Next.TheVariants.{Goes, Ends}
+use Rattle.step_core.specs.declared.phase.Actor.{Actor}
+use Rattle.step_core.specs.Shared.{Shared}
+use Rattle.step_core.specs.Following.{actor_after}
+use Rattle.step_core.specs.Step.{Outcome, goes_on, ends, with_size, with_segment, with_slot, load_growth, load_at_least, load_read, load, claiming, after_segment, scout, put, exchange, raise, begin_at, is_refused, value_of, answer_of_run, after_place, fill, spoil, look_at, outcome_of}
+use Rattle.step_core.specs.Within.{Wants, Exchanges, IsWithin}
+use Rattle.step_core.specs.Tiling.{IsUnfinished, IsOfRun, settlers_of}
+use Rattle.step_core.proofs.Runs.{owner_new, none_past, has_place-true, tile-append}
+use Rattle.step_core.proofs.Keeping.{get_set_same, get_set_other, Ready, ready_kept, ready_through, installed_now, Won, Knows, Settlement, ByOwner, Holds, Effect}
+use Rattle.step_core.proofs.Effects.{Covered, combined, quiet_effect, install_effect, claim_effect, begin_effect, settle_effect}
+
+-- the phase in which an actor stands after a step
+abbrev pub phase_after : Next → Phase
+phase_after (Goes phase) = phase
+phase_after (Ends answer) = Load
+
+phase_after_is : (actor : Actor) (next : Next) → (actor_after actor next).phase ≡ phase_after next
+phase_after_is actor (Goes phase) = refl
+phase_after_is actor (Ends answer) = refl
+
+-- between two steps, with a step of this actor
+pub record Stands (m : Shared) (actors : List Actor) (runs : List OwnedRun) (settlers : ℕ → List ℕ) (who : ℕ) (actor : Actor) (phase : Phase) : Type 0 where
+  pub holds : Holds m actors runs settlers
+  pub there : slice_get actors who ≡ Some actor
+  pub stands : actor.phase ≡ phase
+
+-- what a step leaves and gives keeps what holds
+abbrev pub Kept : List Actor → List OwnedRun → (ℕ → List ℕ) → ℕ → Actor → Outcome → Type 0
+Kept actors runs settlers who actor o =
+    Holds o.shared (slice_set actors who (actor_after actor o.next)) (runs ++ runs_of (option_to_list o.event)) (λ q. settlers q ++ settlers_of q (option_to_list o.event))
+
+-- the effect of a step, what its actor knows then, and that each unfinished place is covered
+pub kept_by : (m : Shared) (actors : List Actor) (runs : List OwnedRun) (settlers : ℕ → List ℕ) (who : ℕ) (actor : Actor) (phase : Phase) (o : Outcome) → Stands m actors runs settlers who actor phase → Effect who m o.shared runs (runs ++ runs_of (option_to_list o.event)) (λ q. settlers q ++ settlers_of q (option_to_list o.event)) → Knows o.shared (runs ++ runs_of (option_to_list o.event)) who (phase_after o.next) → ((q : ℕ) → q < o.shared.size → IsUnfinished (map.get o.shared.slots q) → Covered m o.shared phase (phase_after o.next) q) → Kept actors runs settlers who actor o
+kept_by m actors runs settlers who actor phase o s effect knows covered =
+    combined m o.shared actors runs (runs ++ runs_of (option_to_list o.event)) settlers (λ q. settlers q ++ settlers_of q (option_to_list o.event)) who actor (actor_after actor o.next) s.holds s.there effect
+    (subst (Knows o.shared (runs ++ runs_of (option_to_list o.event)) who) (sym (phase_after_is actor o.next)) knows)
+    (λ q inside unfinished. subst (λ p. Covered m o.shared p (actor_after actor o.next).phase q) (sym s.stands) (subst (λ p. Covered m o.shared phase p q) (sym (phase_after_is actor o.next)) (covered q inside unfinished)))
+
+-- an effect where the runs and settlers have nothing added
+pub same_effect : (who : ℕ) (m m' : Shared) (runs added : List OwnedRun) (settlers gained : ℕ → List ℕ) → added ≡ [] → ((q : ℕ) → gained q ≡ []) → Effect who m m' runs runs settlers → Effect who m m' runs (runs ++ added) (λ q. settlers q ++ gained q)
+same_effect who m m' runs added settlers gained none nobody effect =
+    let runs_are : runs ≡ runs ++ added = sym (ap (λ rs. runs ++ rs) none ∙ append-nil runs) in
+    record {
+      tile = subst (λ rs. Tile 0 rs m'.size) runs_are effect.tile;
+      ready = effect.ready;
+      taken = effect.taken;
+      settled = λ q. subst (λ rs. Settlement rs (settlers q ++ gained q) q (map.get m'.slots q)) runs_are
+          (subst (λ xs. Settlement runs xs q (map.get m'.slots q)) (sym (ap (λ xs. settlers q ++ xs) (nobody q) ∙ append-nil (settlers q))) (effect.settled q));
+      grows = effect.grows;
+      stays_ready = effect.stays_ready;
+      stays_owned = λ q owner is. subst (λ rs. owner_of rs q ≡ Some owner) runs_are (effect.stays_owned q owner is);
+      others = effect.others;
+    }
+
+-- a step that claims, begins and finishes nothing, of an actor that owes nothing
+pub quiet : (m : Shared) (actors : List Actor) (runs : List OwnedRun) (settlers : ℕ → List ℕ) (who : ℕ) (actor : Actor) (phase : Phase) (event : Option (Event × Reply)) (next : Next) → Stands m actors runs settlers who actor phase → ((q : ℕ) → IsOfRun phase q → ⊥) → runs_of (option_to_list event) ≡ [] → ((q : ℕ) → settlers_of q (option_to_list event) ≡ []) → Knows m runs who (phase_after next) → Kept actors runs settlers who actor (record { shared = m; event = event; next = next })
+quiet m actors runs settlers who actor phase event next s owes_nothing none nobody knows =
+    kept_by m actors runs settlers who actor phase (record { shared = m; event = event; next = next }) s
+    (same_effect who m m runs (runs_of (option_to_list event)) settlers (λ q. settlers_of q (option_to_list event)) none nobody (quiet_effect who m actors runs settlers s.holds))
+    (subst (λ rs. Knows m rs who (phase_after next)) (sym (ap (λ rs. runs ++ rs) none ∙ append-nil runs)) knows)
+    (λ q inside unfinished. inr (inside, unfinished, owes_nothing q))
+
+-- the same where a segment is installed
+pub installs : (k : ℕ) (m : Shared) (actors : List Actor) (runs : List OwnedRun) (settlers : ℕ → List ℕ) (who : ℕ) (actor : Actor) (phase next : Phase) → Stands m actors runs settlers who actor phase → ((q : ℕ) → IsOfRun phase q → ⊥) → Knows (with_segment m k) runs who next → Kept actors runs settlers who actor (goes_on (with_segment m k) next)
+installs k m actors runs settlers who actor phase next s owes_nothing knows =
+    kept_by m actors runs settlers who actor phase (goes_on (with_segment m k) next) s
+    (same_effect who m (with_segment m k) runs [] settlers (λ q. []) refl (λ q. refl) (install_effect who k m actors runs settlers s.holds))
+    (subst (λ rs. Knows (with_segment m k) rs who next) (sym (append-nil runs)) knows)
+    (λ q inside unfinished. inr (inside, unfinished, owes_nothing q))
+
+-- at the first segment of the places from the size on, all places before it are claimed
+pub first_segment_ready : (m : Shared) (actors : List Actor) (runs : List OwnedRun) (settlers : ℕ → List ℕ) (who n : ℕ) → Holds m actors runs settlers → Knows m runs who (Scout m.size n (segment_of m.size))
+first_segment_ready m actors runs settlers who n holds q before inside =
+    holds.ready q (let has = segment_of_has m.size in let from : start_of (segment_of m.size) ≤ m.size = has.from in omega arith)

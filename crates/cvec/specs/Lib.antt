@@ -1,0 +1,4 @@
+pub mod Faults
+pub mod Output
+pub mod Playable
+pub mod Written

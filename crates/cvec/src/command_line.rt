@@ -1,0 +1,54 @@
+//! The command line.
+ghost use Rattle.std.specs.Prelude.{◌≡◌, ◌↔◌, IsTrue};
+ghost use Rattle.clap.specs.Values.{kind_of};
+
+use clap::error::ErrorKind;
+use clap::{Command, Error};
+use std::alloc::{AllocError, Global};
+use std::env::{self, Env};
+use std::io;
+
+/// What the command line asks for.
+#[derive(Clone, Copy, Debug, PartialEq, Eq)]
+pub enum Engine {
+    /// Each item of the script is one whole call.
+    Calls,
+}
+
+/// The words of the command line, of which the first is the program's name.
+pub fn words<R: Env + AllocGlobal>(rt: &R) -> io::Result<Vec<String>> {
+    let mut words = Vec::new(rt.alloc());
+    for word in env::args(rt)? {
+        words.push(word)?;
+    }
+    Ok(words)
+}
+
+fn cvec<'a>(alloc: Global) -> Result<Command<'a>, AllocError> {
+    let calls = Command::new(alloc, "calls").about(
+        "Plays each item of the script on standard input as one whole call",
+    );
+    let command = Command::new(alloc, "cvec")
+        .bin_name("cvec")?
+        .about("Runs scripts of calls on a vector that several actors grow")
+        .subcommand(calls)?
+        .subcommand_required(true)
+        .disable_help_subcommand(true);
+    Ok(command)
+}
+
+/// What the words ask for. Help that is asked for is an error, too.
+pub fn engine_of(alloc: Global, words: &[String]) -> Result<Engine, Error> {
+    let matches = cvec(alloc)?.try_get_matches_from(words)?;
+    match matches.subcommand() {
+        Some(("calls", _)) => Ok(Engine::Calls),
+        _ => Err(cvec(alloc)?.error(ErrorKind::MissingSubcommand, "a command is required")?),
+    }
+}
+
+/// Whether there was no memory to read the words.
+pub fn is_memory(error: &Error) -> bool
+    ensures { IsTrue result ↔ (kind_of error.now ≡ ErrorKind.OutOfMemory) }
+{
+    matches!(error.kind(), ErrorKind::OutOfMemory)
+}

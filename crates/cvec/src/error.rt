@@ -1,0 +1,81 @@
+//! Why a run ends without its whole text.
+ghost use Rattle.std.specs.Prelude.{◌≡◌};
+ghost use Rattle.cvec.specs.Faults.{status_of};
+
+use crate::input::InputError;
+use crate::output::OutputError;
+use script_core::ScriptError;
+use std::alloc::AllocError;
+use std::error::Error;
+use std::fmt;
+
+/// Why a run ended without its whole text. Want of memory and a fault of the reader may come at any time.
+#[derive(Clone, Copy, Debug, PartialEq, Eq)]
+pub enum RunError {
+    /// The input is no script. The fault is never want of memory.
+    Script(ScriptError),
+    NoMemory,
+    /// The reader failed, or was interrupted too often.
+    Read,
+    /// The writer failed, took no byte, or was interrupted too often.
+    Write,
+}
+
+impl RunError {
+    /// The program's exit status.
+    pub fn status(&self) -> u8
+        ensures { result ≡ status_of self.now }
+    {
+        match self {
+            RunError::Script(_) => 2,
+            RunError::NoMemory => 3,
+            RunError::Read | RunError::Write => 4,
+        }
+    }
+}
+
+impl fmt::Display for RunError {
+    fn fmt<W: fmt::Write>(&self, f: &mut fmt::Formatter<W>) -> fmt::Result {
+        match self {
+            RunError::Script(fault) => write!(f, "{fault}"),
+            RunError::NoMemory => write!(f, "memory"),
+            RunError::Read => write!(f, "read fault"),
+            RunError::Write => write!(f, "write fault"),
+        }
+    }
+}
+
+impl Error for RunError {}
+
+impl From<AllocError> for RunError {
+    ghost use Rattle.cvec.specs.declared.error.RunError.TheVariants.{NoMemory};
+
+    ghost from_gives = { λ _ e. e ≡ NoMemory };
+
+    fn from(_: AllocError) -> Self {
+        RunError::NoMemory
+    }
+}
+
+impl From<InputError> for RunError {
+    ghost use Rattle.cvec.specs.Faults.{unread};
+
+    ghost from_gives = { λ input e. e ≡ unread input };
+
+    fn from(error: InputError) -> Self {
+        match error {
+            InputError::NoMemory => RunError::NoMemory,
+            InputError::Read => RunError::Read,
+        }
+    }
+}
+
+impl From<OutputError> for RunError {
+    ghost use Rattle.cvec.specs.declared.error.RunError.TheVariants.{Write};
+
+    ghost from_gives = { λ _ e. e ≡ Write };
+
+    fn from(_: OutputError) -> Self {
+        RunError::Write
+    }
+}

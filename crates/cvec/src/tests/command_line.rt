@@ -1,0 +1,34 @@
+//! Which command lines are taken.
+
+use crate::command_line::{Engine, engine_of};
+use clap::error::ErrorKind;
+use std::alloc::Global;
+use std::test::Fail;
+
+fn asked(alloc: Global, words: &str) -> Result<Result<Engine, ErrorKind>, Fail> {
+    let mut list = Vec::new(alloc);
+    for word in words.split(' ') {
+        list.push(word.to_string(alloc)?)?;
+    }
+    match engine_of(alloc, &list) {
+        Ok(engine) => Ok(Ok(engine)),
+        Err(error) => Ok(Err(error.kind())),
+    }
+}
+
+#[test]
+fn a_command_line_names_an_engine(rt: HostRuntime) -> Result<(), Fail> {
+    for (words, want) in [
+        ("cvec calls", Ok(Engine::Calls)),
+        ("cvec -h", Err(ErrorKind::DisplayHelp)),
+        ("cvec calls --help", Err(ErrorKind::DisplayHelp)),
+        ("cvec help", Err(ErrorKind::InvalidSubcommand)),
+        ("cvec call", Err(ErrorKind::InvalidSubcommand)),
+        ("cvec calls more", Err(ErrorKind::UnknownArgument)),
+        ("cvec --limit 8", Err(ErrorKind::UnknownArgument)),
+    ] {
+        assert_eq!(rt; asked(rt.alloc(), words)?, want, "{words}");
+    }
+    assert!(rt; asked(rt.alloc(), "cvec")?.is_err());
+    Ok(())
+}

@@ -1,0 +1,433 @@
+//! Texts that are no scripts, and the first fault of each.
+
+use super::{answer, repeated};
+use std::test::Fail;
+
+// What is wrong, a text and what is answered.
+type Row = (&'static str, &'static str, &'static str);
+
+const ROWS: [Row; 83] = [
+    ("no bytes", "", "line 1: fault 2"),
+    ("a limit of 0", "limit 0\nsteps", "line 1: fault 3"),
+    (
+        "a limit above 65,536",
+        "limit 65537\nsteps",
+        "line 1: fault 3",
+    ),
+    ("a leading zero", "limit 08\nsteps", "line 1: fault 3"),
+    ("two zeros", "limit 00\nsteps", "line 1: fault 3"),
+    ("no number", "limit \nsteps", "line 1: fault 3"),
+    (
+        "a space behind the limit",
+        "limit 8 \nsteps",
+        "line 1: fault 3",
+    ),
+    (
+        "two spaces before the limit",
+        "limit  8\nsteps",
+        "line 1: fault 3",
+    ),
+    (
+        "a CR behind the limit",
+        "limit 8\r\nsteps",
+        "line 1: fault 3",
+    ),
+    ("a sign", "limit +8\nsteps", "line 1: fault 3"),
+    (
+        "a limit of 2^64 - 1",
+        "limit 18446744073709551615\nsteps",
+        "line 1: fault 3",
+    ),
+    (
+        "a limit of 2^64",
+        "limit 18446744073709551616\nsteps",
+        "line 1: fault 8",
+    ),
+    (
+        "a letter in a number",
+        "limit 1844674407370955161x\nsteps",
+        "line 1: fault 3",
+    ),
+    ("an empty line alone", "\n", "line 1: fault 4"),
+    ("a limit's word alone", "limit", "line 1: fault 4"),
+    (
+        "a line end behind the word",
+        "limit\nsteps",
+        "line 1: fault 4",
+    ),
+    (
+        "a tab behind the word",
+        "limit\t8\nsteps",
+        "line 1: fault 4",
+    ),
+    (
+        "a space before the word",
+        " limit 8\nsteps",
+        "line 1: fault 4",
+    ),
+    ("a capital letter", "Limit 8\nsteps", "line 1: fault 4"),
+    ("no limit", "steps", "line 1: fault 4"),
+    ("an empty first line", "\nlimit 8\nsteps", "line 1: fault 4"),
+    (
+        "a mark of the byte order",
+        "\u{feff}limit 8\nsteps",
+        "line 1: fault 4",
+    ),
+    (
+        "an empty line between",
+        "limit 8\n\nsteps",
+        "line 2: fault 4",
+    ),
+    (
+        "a line of one space",
+        "limit 8\n \nsteps",
+        "line 2: fault 4",
+    ),
+    (
+        "an actor's word alone",
+        "limit 8\nactor\nsteps",
+        "line 2: fault 4",
+    ),
+    (
+        "another word",
+        "limit 8\nactors a size\nsteps",
+        "line 2: fault 4",
+    ),
+    (
+        "a tab behind an actor's word",
+        "limit 8\nactor\ta size\nsteps",
+        "line 2: fault 4",
+    ),
+    (
+        "a second limit",
+        "limit 8\nlimit 8\nsteps",
+        "line 2: fault 4",
+    ),
+    (
+        "the items' word in part",
+        "limit 8\nstep",
+        "line 2: fault 4",
+    ),
+    (
+        "the items' word and more",
+        "limit 8\nstepsa",
+        "line 2: fault 4",
+    ),
+    (
+        "a CR behind the items' word",
+        "limit 8\nsteps\r\n",
+        "line 2: fault 4",
+    ),
+    (
+        "a NUL behind the items' word",
+        "limit 8\nsteps\0",
+        "line 2: fault 4",
+    ),
+    (
+        "an empty line at the end",
+        "limit 8\nsteps\n\n",
+        "line 3: fault 4",
+    ),
+    (
+        "a second items line",
+        "limit 8\nsteps\nsteps",
+        "line 3: fault 4",
+    ),
+    (
+        "an actor behind the items",
+        "limit 8\nactor a size\nsteps a\nactor b size",
+        "line 4: fault 4",
+    ),
+    ("no name", "limit 8\nactor \nsteps", "line 2: fault 5"),
+    (
+        "a capital name",
+        "limit 8\nactor A size\nsteps",
+        "line 2: fault 5",
+    ),
+    (
+        "a digit for a name",
+        "limit 8\nactor 1 size\nsteps",
+        "line 2: fault 5",
+    ),
+    (
+        "the byte before a",
+        "limit 8\nactor ` size\nsteps",
+        "line 2: fault 5",
+    ),
+    (
+        "the byte behind z",
+        "limit 8\nactor { size\nsteps",
+        "line 2: fault 5",
+    ),
+    (
+        "two letters",
+        "limit 8\nactor ab size\nsteps",
+        "line 2: fault 5",
+    ),
+    (
+        "two spaces before a name",
+        "limit 8\nactor  a size\nsteps",
+        "line 2: fault 5",
+    ),
+    (
+        "a tab behind a name",
+        "limit 8\nactor a\tsize\nsteps",
+        "line 2: fault 5",
+    ),
+    (
+        "a name above 127",
+        "limit 8\nactor \u{e9} size\nsteps",
+        "line 2: fault 5",
+    ),
+    (
+        "a NUL for a name",
+        "limit 8\nactor \0 size\nsteps",
+        "line 2: fault 5",
+    ),
+    ("an item of nobody", "limit 8\nsteps a", "line 2: fault 5"),
+    (
+        "an item of another",
+        "limit 8\nactor a size\nsteps b",
+        "line 3: fault 5",
+    ),
+    (
+        "an empty item alone",
+        "limit 8\nactor a size\nsteps ",
+        "line 3: fault 5",
+    ),
+    (
+        "an empty item at the end",
+        "limit 8\nactor a size\nsteps a ",
+        "line 3: fault 5",
+    ),
+    (
+        "an empty item between",
+        "limit 8\nactor a size\nsteps a  a",
+        "line 3: fault 5",
+    ),
+    (
+        "a tab between items",
+        "limit 8\nactor a size\nsteps a\ta",
+        "line 3: fault 5",
+    ),
+    (
+        "a CR behind the items",
+        "limit 8\nactor a size\nsteps a\r\n",
+        "line 3: fault 5",
+    ),
+    (
+        "two marks",
+        "limit 8\nactor a size\nsteps a!!",
+        "line 3: fault 5",
+    ),
+    (
+        "a mark before a name",
+        "limit 8\nactor a size\nsteps !a",
+        "line 3: fault 5",
+    ),
+    (
+        "a mark alone",
+        "limit 8\nactor a size\nsteps a !",
+        "line 3: fault 5",
+    ),
+    (
+        "another mark",
+        "limit 8\nactor a size\nsteps a?",
+        "line 3: fault 5",
+    ),
+    (
+        "a name twice",
+        "limit 8\nactor a size\nactor a size\nsteps",
+        "line 3: fault 6",
+    ),
+    (
+        "a name twice, and no command",
+        "limit 8\nactor a size\nactor b size\nactor a\nsteps",
+        "line 4: fault 6",
+    ),
+    (
+        "an actor without commands",
+        "limit 8\nactor a\nsteps",
+        "line 2: fault 7",
+    ),
+    (
+        "an empty program",
+        "limit 8\nactor a \nsteps",
+        "line 2: fault 7",
+    ),
+    (
+        "a command in part",
+        "limit 8\nactor a pu",
+        "line 2: fault 7",
+    ),
+    (
+        "a command in part, and a bad line",
+        "limit 8\nactor a read\nste",
+        "line 2: fault 7",
+    ),
+    (
+        "an argument short",
+        "limit 8\nactor a push\nsteps",
+        "line 2: fault 7",
+    ),
+    (
+        "an argument over",
+        "limit 8\nactor a push 1 2\nsteps",
+        "line 2: fault 7",
+    ),
+    (
+        "an argument with a leading zero",
+        "limit 8\nactor a push 01\nsteps",
+        "line 2: fault 7",
+    ),
+    (
+        "two spaces in a command",
+        "limit 8\nactor a push  1\nsteps",
+        "line 2: fault 7",
+    ),
+    (
+        "a CR behind a command",
+        "limit 8\nactor a push 1\r\nsteps",
+        "line 2: fault 7",
+    ),
+    (
+        "a mark behind a command",
+        "limit 8\nactor a push 1!\nsteps",
+        "line 2: fault 7",
+    ),
+    (
+        "a comma without its space",
+        "limit 8\nactor a size,size\nsteps",
+        "line 2: fault 7",
+    ),
+    (
+        "a comma behind a space",
+        "limit 8\nactor a size , size\nsteps",
+        "line 2: fault 7",
+    ),
+    (
+        "a comma at the end",
+        "limit 8\nactor a size, \nsteps",
+        "line 2: fault 7",
+    ),
+    (
+        "a fail at its own end",
+        "limit 8\nactor a fail 3 7 3\nsteps",
+        "line 2: fault 7",
+    ),
+    (
+        "a fail of nothing",
+        "limit 8\nactor a fail 0 7 0\nsteps",
+        "line 2: fault 7",
+    ),
+    (
+        "an argument over, and too large",
+        "limit 8\nactor a push 18446744073709551616 5\nsteps",
+        "line 2: fault 7",
+    ),
+    (
+        "no number, and one too large",
+        "limit 8\nactor a grow x 18446744073709551616\nsteps",
+        "line 2: fault 7",
+    ),
+    (
+        "one too large, and no number",
+        "limit 8\nactor a grow 18446744073709551616 x\nsteps",
+        "line 2: fault 8",
+    ),
+    (
+        "a value of 2^64",
+        "limit 8\nactor a push 18446744073709551616\nsteps a",
+        "line 2: fault 8",
+    ),
+    (
+        "a place far too large",
+        "limit 8\nactor a size, read 99999999999999999999999\nsteps",
+        "line 2: fault 8",
+    ),
+    (
+        "a fail too large",
+        "limit 8\nactor a fail 1 7 18446744073709551616\nsteps",
+        "line 2: fault 8",
+    ),
+    ("a limit alone", "limit 8", "line 2: fault 10"),
+    (
+        "a limit and its line's end",
+        "limit 8\n",
+        "line 2: fault 10",
+    ),
+    ("no items", "limit 8\nactor a size", "line 3: fault 10"),
+    (
+        "no items behind an end",
+        "limit 8\nactor a size\n",
+        "line 3: fault 10",
+    ),
+];
+
+#[test]
+fn the_first_fault_is_answered_with_its_line(rt: HostRuntime) -> Result<(), Fail> {
+    for (name, script, fault) in ROWS {
+        let got = answer(rt.alloc(), script.as_bytes())?;
+        assert_eq!(rt; got.as_slice(), fault.as_bytes(), "{name}");
+    }
+    Ok(())
+}
+
+#[test]
+fn bytes_that_are_no_text_are_faults(rt: HostRuntime) -> Result<(), Fail> {
+    for (front, byte, back, fault) in [
+        ("", 0xff, "limit 8\nsteps", "line 1: fault 4"),
+        ("limit ", 0x80, "\nsteps", "line 1: fault 3"),
+        ("limit 8\nactor ", 0xe1, " size\nsteps", "line 2: fault 5"),
+        ("limit 8\nactor a push ", 0xb1, "\nsteps", "line 2: fault 7"),
+        ("limit 8\nactor a size\nsteps ", 0xe1, "", "line 3: fault 5"),
+    ] {
+        let mut script = repeated(rt.alloc(), front, "", 0, "")?;
+        script.push(byte)?;
+        script.extend_from_slice(back.as_bytes())?;
+        let got = answer(rt.alloc(), &script)?;
+        assert_eq!(rt; got.as_slice(), fault.as_bytes(), "{front}");
+    }
+    Ok(())
+}
+
+#[test]
+fn one_part_too_many_is_a_fault(rt: HostRuntime) -> Result<(), Fail> {
+    let program = "limit 8\nactor a size";
+    let items = "limit 8\nactor a size\nsteps";
+    for (front, piece, times, back, fault) in [
+        (program, ", size", 1_000, "\nsteps", "line 2: fault 9"),
+        (program, ", size", 999, ", pu\nsteps", "line 2: fault 9"),
+        (
+            program,
+            ", size",
+            998,
+            ", pu, size\nsteps",
+            "line 2: fault 7",
+        ),
+        (items, " a", 100_001, "", "line 3: fault 9"),
+        (items, " a", 100_000, " b", "line 3: fault 9"),
+        (items, " a", 99_999, " b a", "line 3: fault 5"),
+        ("", "\n", 1_048_577, "", "line 1048577: fault 9"),
+        ("", "\n", 1_048_576, "", "line 1: fault 4"),
+        (
+            "limit 8\nactor a push ",
+            "1",
+            1_048_555,
+            "",
+            "line 2: fault 8",
+        ),
+        (
+            "limit 8\nactor a push ",
+            "1",
+            1_048_556,
+            "",
+            "line 2: fault 9",
+        ),
+    ] {
+        let script = repeated(rt.alloc(), front, piece, times, back)?;
+        let got = answer(rt.alloc(), &script)?;
+        assert_eq!(rt; got.as_slice(), fault.as_bytes(), "{front}{piece}{back}");
+    }
+    Ok(())
+}

@@ -1,0 +1,244 @@
+//! Readers and writers that give or take little, fail, or are interrupted.
+
+use crate::engine::run_calls;
+use crate::error::RunError;
+use crate::input::MOST_INTERRUPTIONS;
+use script_core::ScriptError;
+use std::alloc::Global;
+use std::io::{self, ErrorKind, Read, Write};
+use std::test::Fail;
+
+const SCRIPT: &[u8] = b"limit 8\nactor a push 5, size\nactor b push 6\nsteps a b a\n";
+
+const TEXT: &[u8] = b"a1 push at 0\nb1 push at 1\na2 size 2\nsize 2: 5 6\n";
+
+// Gives a byte at a time, and is interrupted before each; fails behind the last where it has to.
+#[derive(Drop)]
+struct Slow {
+    rest: &'static [u8],
+    interrupted: bool,
+    fails: bool,
+}
+
+impl Read for Slow {
+    fn read(&mut self, buf: &mut [u8]) -> io::Result<usize> {
+        self.interrupted = !self.interrupted;
+        if self.interrupted {
+            return Err(io::Error::from(ErrorKind::Interrupted));
+        }
+        if self.fails && self.rest.is_empty() {
+            return Err(io::Error::from(ErrorKind::UnexpectedEof));
+        }
+        let most = buf.len().min(1);
+        self.rest.read(&mut buf[..most])
+    }
+}
+
+// Is interrupted each time, and counts how often.
+#[derive(Drop)]
+struct Interrupted {
+    times: usize,
+}
+
+impl Interrupted {
+    fn interrupt(&mut self) -> io::Result<usize> {
+        self.times = self.times.wrapping_add(1);
+        Err(io::Error::from(ErrorKind::Interrupted))
+    }
+}
+
+impl Read for Interrupted {
+    fn read(&mut self, _buf: &mut [u8]) -> io::Result<usize> {
+        match self.interrupt() {
+            Ok(_) => Ok(0),
+            Err(error) => Err(error),
+        }
+    }
+}
+
+impl Write for Interrupted {
+    fn write(&mut self, _buf: &[u8]) -> io::Result<usize> {
+        match self.interrupt() {
+            Ok(_) => Ok(0),
+            Err(error) => Err(error),
+        }
+    }
+
+    fn flush(&mut self) -> io::Result<()> {
+        Ok(())
+    }
+}
+
+// One line that never ends; counts the bytes that were taken.
+#[derive(Drop)]
+struct Endless {
+    given: usize,
+}
+
+impl Read for Endless {
+    fn read(&mut self, buf: &mut [u8]) -> io::Result<usize> {
+        buf.fill(b'x');
+        self.given = self.given.wrapping_add(buf.len());
+        Ok(buf.len())
+    }
+}
+
+// Takes up to three bytes at a time, and is interrupted before each; fails where it has no room.
+#[derive(Drop)]
+struct Narrow {
+    text: Vec<u8>,
+    room: usize,
+    interrupted: bool,
+    full: Option<ErrorKind>,
+}
+
+impl Narrow {
+    fn new(alloc: Global, room: usize, full: Option<ErrorKind>) -> Self {
+        Narrow {
+            text: Vec::new(alloc),
+            room,
+            interrupted: false,
+            full,
+        }
+    }
+}
+
+impl Write for Narrow {
+    fn write(&mut self, buf: &[u8]) -> io::Result<usize> {
+        self.interrupted = !self.interrupted;
+        if self.interrupted {
+            return Err(io::Error::from(ErrorKind::Interrupted));
+        }
+        let n = buf.len().min(3).min(self.room);
+        if n == 0 {
+            return match self.full {
+                Some(kind) => Err(io::Error::from(kind)),
+                None => Ok(0),
+            };
+        }
+        self.text.extend_from_slice(&buf[..n])?;
+        self.room -= n;
+        Ok(n)
+    }
+
+    fn flush(&mut self) -> io::Result<()> {
+        Ok(())
+    }
+}
+
+// Takes all, and fails to see it through.
+#[derive(Drop)]
+struct Unflushed {
+    text: Vec<u8>,
+}
+
+impl Write for Unflushed {
+    fn write(&mut self, buf: &[u8]) -> io::Result<usize> {
+        self.text.extend_from_slice(buf)?;
+        Ok(buf.len())
+    }
+
+    fn flush(&mut self) -> io::Result<()> {
+        Err(io::Error::from(ErrorKind::BrokenPipe))
+    }
+}
+
+#[test]
+fn a_reader_may_give_a_byte_at_a_time(rt: HostRuntime) -> Result<(), Fail> {
+    let mut text = Vec::new(rt.alloc());
+    let mut reader = Slow {
+        rest: SCRIPT,
+        interrupted: false,
+        fails: false,
+    };
+    assert_eq!(rt; run_calls(rt.alloc(), &mut reader, &mut text), Ok(()));
+    assert_eq!(rt; text.as_slice(), TEXT);
+    let fault = RunError::Script(ScriptError::Empty { line: 1 });
+    assert_eq!(rt; run_calls(rt.alloc(), &mut reader, &mut text), Err(fault));
+    assert_eq!(rt; text.as_slice(), TEXT);
+    Ok(())
+}
+
+#[test]
+fn a_reader_that_fails_has_no_text(rt: HostRuntime) {
+    let mut text = Vec::new(rt.alloc());
+    let mut reader = Slow {
+        rest: SCRIPT,
+        interrupted: false,
+        fails: true,
+    };
+    assert_eq!(rt;
+        run_calls(rt.alloc(), &mut reader, &mut text),
+        Err(RunError::Read)
+    );
+    assert_eq!(rt; text.len(), 0);
+}
+
+#[test]
+fn interruptions_without_end_are_a_fault(rt: HostRuntime) {
+    let mut text = Vec::new(rt.alloc());
+    let mut reader = Interrupted { times: 0 };
+    assert_eq!(rt;
+        run_calls(rt.alloc(), &mut reader, &mut text),
+        Err(RunError::Read)
+    );
+    assert_eq!(rt; reader.times, MOST_INTERRUPTIONS);
+    assert_eq!(rt; text.len(), 0);
+    let mut script = SCRIPT;
+    let mut writer = Interrupted { times: 0 };
+    assert_eq!(rt;
+        run_calls(rt.alloc(), &mut script, &mut writer),
+        Err(RunError::Write)
+    );
+    assert_eq!(rt; writer.times, MOST_INTERRUPTIONS);
+}
+
+#[test]
+fn of_an_endless_line_one_byte_too_many_is_read(rt: HostRuntime) {
+    let mut text = Vec::new(rt.alloc());
+    let mut reader = Endless { given: 0 };
+    let fault = RunError::Script(ScriptError::TooMany { line: 1 });
+    assert_eq!(rt; run_calls(rt.alloc(), &mut reader, &mut text), Err(fault));
+    assert_eq!(rt; reader.given, 1_048_577);
+    assert_eq!(rt; text.len(), 0);
+}
+
+#[test]
+fn a_writer_may_take_a_few_bytes_at_a_time(rt: HostRuntime) {
+    let mut script = SCRIPT;
+    let mut writer = Narrow::new(rt.alloc(), 100, None);
+    assert_eq!(rt; run_calls(rt.alloc(), &mut script, &mut writer), Ok(()));
+    assert_eq!(rt; writer.text.as_slice(), TEXT);
+}
+
+#[test]
+fn a_writer_that_fails_has_a_beginning(rt: HostRuntime) {
+    for full in [None, Some(ErrorKind::StorageFull)] {
+        for room in 0..TEXT.len() {
+            let mut script = SCRIPT;
+            let mut writer = Narrow::new(rt.alloc(), room, full);
+            let got = run_calls(rt.alloc(), &mut script, &mut writer);
+            assert_eq!(rt; got, Err(RunError::Write), "{room}");
+            assert_eq!(rt; writer.text.as_slice(), &TEXT[..room], "{room}");
+        }
+    }
+    let mut script = SCRIPT;
+    let mut writer = Narrow::new(rt.alloc(), 9, Some(ErrorKind::StorageFull));
+    assert_eq!(rt;
+        run_calls(rt.alloc(), &mut script, &mut writer),
+        Err(RunError::Write)
+    );
+    assert_eq!(rt; writer.text.as_slice(), b"a1 push a".as_slice());
+}
+
+#[test]
+fn a_text_that_is_not_seen_through_is_a_fault(rt: HostRuntime) {
+    let mut script = SCRIPT;
+    let text = Vec::new(rt.alloc());
+    let mut writer = Unflushed { text };
+    assert_eq!(rt;
+        run_calls(rt.alloc(), &mut script, &mut writer),
+        Err(RunError::Write)
+    );
+    assert_eq!(rt; writer.text.as_slice(), TEXT);
+}

@@ -1,12 +1,14 @@
 //! Texts that are no scripts, and the first fault of each.
 
 use super::{answer, repeated};
+use std::alloc::Global;
+use std::process::Abort;
 use std::test::Fail;
 
 // What is wrong, a text and what is answered.
 type Row = (&'static str, &'static str, &'static str);
 
-const ROWS: [Row; 83] = [
+const LIMITS: [Row; 22] = [
     ("no bytes", "", "line 1: fault 2"),
     ("a limit of 0", "limit 0\nsteps", "line 1: fault 3"),
     (
@@ -73,6 +75,9 @@ const ROWS: [Row; 83] = [
         "\u{feff}limit 8\nsteps",
         "line 1: fault 4",
     ),
+];
+
+const LINES: [Row; 17] = [
     (
         "an empty line between",
         "limit 8\n\nsteps",
@@ -138,6 +143,21 @@ const ROWS: [Row; 83] = [
         "limit 8\nactor a size\nsteps a\nactor b size",
         "line 4: fault 4",
     ),
+    ("a limit alone", "limit 8", "line 2: fault 10"),
+    (
+        "a limit and its line's end",
+        "limit 8\n",
+        "line 2: fault 10",
+    ),
+    ("no items", "limit 8\nactor a size", "line 3: fault 10"),
+    (
+        "no items behind an end",
+        "limit 8\nactor a size\n",
+        "line 3: fault 10",
+    ),
+];
+
+const NAMES: [Row; 11] = [
     ("no name", "limit 8\nactor \nsteps", "line 2: fault 5"),
     (
         "a capital name",
@@ -185,6 +205,9 @@ const ROWS: [Row; 83] = [
         "line 2: fault 5",
     ),
     ("an item of nobody", "limit 8\nsteps a", "line 2: fault 5"),
+];
+
+const ITEMS: [Row; 12] = [
     (
         "an item of another",
         "limit 8\nactor a size\nsteps b",
@@ -245,6 +268,9 @@ const ROWS: [Row; 83] = [
         "limit 8\nactor a size\nactor b size\nactor a\nsteps",
         "line 4: fault 6",
     ),
+];
+
+const COMMANDS: [Row; 21] = [
     (
         "an actor without commands",
         "limit 8\nactor a\nsteps",
@@ -350,27 +376,39 @@ const ROWS: [Row; 83] = [
         "limit 8\nactor a fail 1 7 18446744073709551616\nsteps",
         "line 2: fault 8",
     ),
-    ("a limit alone", "limit 8", "line 2: fault 10"),
-    (
-        "a limit and its line's end",
-        "limit 8\n",
-        "line 2: fault 10",
-    ),
-    ("no items", "limit 8\nactor a size", "line 3: fault 10"),
-    (
-        "no items behind an end",
-        "limit 8\nactor a size\n",
-        "line 3: fault 10",
-    ),
 ];
 
-#[test]
-fn the_first_fault_is_answered_with_its_line(rt: HostRuntime) -> Result<(), Fail> {
-    for (name, script, fault) in ROWS {
-        let got = answer(rt.alloc(), script.as_bytes())?;
-        assert_eq!(rt; got.as_slice(), fault.as_bytes(), "{name}");
+fn answered(rt: &impl Abort, alloc: Global, rows: &[Row]) -> Result<(), Fail> {
+    for (name, script, fault) in rows {
+        let got = answer(alloc, script.as_bytes())?;
+        assert!(rt; got.as_slice() == fault.as_bytes(), "{name}");
     }
     Ok(())
+}
+
+#[test]
+fn a_bad_limit_is_the_first_fault(rt: HostRuntime) -> Result<(), Fail> {
+    answered(&rt, rt.alloc(), &LIMITS)
+}
+
+#[test]
+fn a_bad_line_is_the_first_fault(rt: HostRuntime) -> Result<(), Fail> {
+    answered(&rt, rt.alloc(), &LINES)
+}
+
+#[test]
+fn a_bad_name_is_the_first_fault(rt: HostRuntime) -> Result<(), Fail> {
+    answered(&rt, rt.alloc(), &NAMES)
+}
+
+#[test]
+fn a_bad_item_or_a_name_twice_is_the_first_fault(rt: HostRuntime) -> Result<(), Fail> {
+    answered(&rt, rt.alloc(), &ITEMS)
+}
+
+#[test]
+fn a_bad_command_is_the_first_fault(rt: HostRuntime) -> Result<(), Fail> {
+    answered(&rt, rt.alloc(), &COMMANDS)
 }
 
 #[test]

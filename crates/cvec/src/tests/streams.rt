@@ -6,7 +6,7 @@ use crate::input::MOST_INTERRUPTIONS;
 use script_core::ScriptError;
 use std::alloc::Global;
 use std::io::{self, ErrorKind, Read, Write};
-use std::test::Fail;
+use std::process::Abort;
 
 const SCRIPT: &[u8] = b"limit 8\nactor a push 5, size\nactor b push 6\nsteps a b a\n";
 
@@ -143,102 +143,125 @@ impl Write for Unflushed {
     }
 }
 
+// Runs the script that a reader has, which ends so.
+fn ends<R: Read, W: Write>(
+    rt: &impl Abort,
+    alloc: Global,
+    reader: &mut R,
+    writer: &mut W,
+    want: Result<(), RunError>,
+) {
+    let got = run_calls(alloc, reader, writer);
+    assert!(rt; got == want);
+}
+
 #[test]
-fn a_reader_may_give_a_byte_at_a_time(rt: HostRuntime) -> Result<(), Fail> {
-    let mut text = Vec::new(rt.alloc());
+fn a_reader_may_give_a_byte_at_a_time(rt: HostRuntime) {
+    let alloc = rt.alloc();
+    let mut text = Vec::new(alloc);
     let mut reader = Slow {
         rest: SCRIPT,
         interrupted: false,
         fails: false,
     };
-    assert_eq!(rt; run_calls(rt.alloc(), &mut reader, &mut text), Ok(()));
-    assert_eq!(rt; text.as_slice(), TEXT);
+    ends(&rt, alloc, &mut reader, &mut text, Ok(()));
     let fault = RunError::Script(ScriptError::Empty { line: 1 });
-    assert_eq!(rt; run_calls(rt.alloc(), &mut reader, &mut text), Err(fault));
-    assert_eq!(rt; text.as_slice(), TEXT);
-    Ok(())
+    ends(&rt, alloc, &mut reader, &mut text, Err(fault));
+    assert!(rt; text.as_slice() == TEXT);
 }
 
 #[test]
 fn a_reader_that_fails_has_no_text(rt: HostRuntime) {
-    let mut text = Vec::new(rt.alloc());
+    let alloc = rt.alloc();
+    let mut text = Vec::new(alloc);
     let mut reader = Slow {
         rest: SCRIPT,
         interrupted: false,
         fails: true,
     };
-    assert_eq!(rt;
-        run_calls(rt.alloc(), &mut reader, &mut text),
-        Err(RunError::Read)
-    );
-    assert_eq!(rt; text.len(), 0);
+    ends(&rt, alloc, &mut reader, &mut text, Err(RunError::Read));
+    assert!(rt; text.is_empty());
 }
 
 #[test]
-fn interruptions_without_end_are_a_fault(rt: HostRuntime) {
-    let mut text = Vec::new(rt.alloc());
+fn a_reader_may_not_be_interrupted_for_ever(rt: HostRuntime) {
+    let alloc = rt.alloc();
+    let mut text = Vec::new(alloc);
     let mut reader = Interrupted { times: 0 };
-    assert_eq!(rt;
-        run_calls(rt.alloc(), &mut reader, &mut text),
-        Err(RunError::Read)
-    );
-    assert_eq!(rt; reader.times, MOST_INTERRUPTIONS);
-    assert_eq!(rt; text.len(), 0);
+    ends(&rt, alloc, &mut reader, &mut text, Err(RunError::Read));
+    assert!(rt; reader.times == MOST_INTERRUPTIONS);
+    assert!(rt; text.is_empty());
+}
+
+#[test]
+fn a_writer_may_not_be_interrupted_for_ever(rt: HostRuntime) {
     let mut script = SCRIPT;
     let mut writer = Interrupted { times: 0 };
-    assert_eq!(rt;
-        run_calls(rt.alloc(), &mut script, &mut writer),
-        Err(RunError::Write)
+    ends(
+        &rt,
+        rt.alloc(),
+        &mut script,
+        &mut writer,
+        Err(RunError::Write),
     );
-    assert_eq!(rt; writer.times, MOST_INTERRUPTIONS);
+    assert!(rt; writer.times == MOST_INTERRUPTIONS);
 }
 
 #[test]
 fn of_an_endless_line_one_byte_too_many_is_read(rt: HostRuntime) {
-    let mut text = Vec::new(rt.alloc());
+    let alloc = rt.alloc();
+    let mut text = Vec::new(alloc);
     let mut reader = Endless { given: 0 };
     let fault = RunError::Script(ScriptError::TooMany { line: 1 });
-    assert_eq!(rt; run_calls(rt.alloc(), &mut reader, &mut text), Err(fault));
-    assert_eq!(rt; reader.given, 1_048_577);
-    assert_eq!(rt; text.len(), 0);
+    ends(&rt, alloc, &mut reader, &mut text, Err(fault));
+    assert!(rt; reader.given == 1_048_577);
+    assert!(rt; text.is_empty());
 }
 
 #[test]
 fn a_writer_may_take_a_few_bytes_at_a_time(rt: HostRuntime) {
+    let alloc = rt.alloc();
     let mut script = SCRIPT;
-    let mut writer = Narrow::new(rt.alloc(), 100, None);
-    assert_eq!(rt; run_calls(rt.alloc(), &mut script, &mut writer), Ok(()));
-    assert_eq!(rt; writer.text.as_slice(), TEXT);
+    let mut writer = Narrow::new(alloc, 100, None);
+    ends(&rt, alloc, &mut script, &mut writer, Ok(()));
+    assert!(rt; writer.text.as_slice() == TEXT);
 }
 
 #[test]
 fn a_writer_that_fails_has_a_beginning(rt: HostRuntime) {
-    for full in [None, Some(ErrorKind::StorageFull)] {
-        for room in 0..TEXT.len() {
-            let mut script = SCRIPT;
-            let mut writer = Narrow::new(rt.alloc(), room, full);
-            let got = run_calls(rt.alloc(), &mut script, &mut writer);
-            assert_eq!(rt; got, Err(RunError::Write), "{room}");
-            assert_eq!(rt; writer.text.as_slice(), &TEXT[..room], "{room}");
-        }
+    let alloc = rt.alloc();
+    for room in 0..TEXT.len() {
+        let mut script = SCRIPT;
+        let mut writer = Narrow::new(alloc, room, Some(ErrorKind::StorageFull));
+        ends(&rt, alloc, &mut script, &mut writer, Err(RunError::Write));
+        assert!(rt; writer.text.as_slice() == &TEXT[..room], "{room}");
     }
+}
+
+#[test]
+fn a_writer_that_fails_behind_nine_bytes_has_them(rt: HostRuntime) {
+    let alloc = rt.alloc();
     let mut script = SCRIPT;
-    let mut writer = Narrow::new(rt.alloc(), 9, Some(ErrorKind::StorageFull));
-    assert_eq!(rt;
-        run_calls(rt.alloc(), &mut script, &mut writer),
-        Err(RunError::Write)
-    );
-    assert_eq!(rt; writer.text.as_slice(), b"a1 push a".as_slice());
+    let mut writer = Narrow::new(alloc, 9, Some(ErrorKind::StorageFull));
+    ends(&rt, alloc, &mut script, &mut writer, Err(RunError::Write));
+    assert!(rt; writer.text.as_slice() == b"a1 push a".as_slice());
+}
+
+#[test]
+fn a_writer_that_takes_no_byte_fails(rt: HostRuntime) {
+    let alloc = rt.alloc();
+    let mut script = SCRIPT;
+    let mut writer = Narrow::new(alloc, 0, None);
+    ends(&rt, alloc, &mut script, &mut writer, Err(RunError::Write));
+    assert!(rt; writer.text.is_empty());
 }
 
 #[test]
 fn a_text_that_is_not_seen_through_is_a_fault(rt: HostRuntime) {
+    let alloc = rt.alloc();
     let mut script = SCRIPT;
-    let text = Vec::new(rt.alloc());
+    let text = Vec::new(alloc);
     let mut writer = Unflushed { text };
-    assert_eq!(rt;
-        run_calls(rt.alloc(), &mut script, &mut writer),
-        Err(RunError::Write)
-    );
-    assert_eq!(rt; writer.text.as_slice(), TEXT);
+    ends(&rt, alloc, &mut script, &mut writer, Err(RunError::Write));
+    assert!(rt; writer.text.as_slice() == TEXT);
 }

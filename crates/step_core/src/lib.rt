@@ -1,4 +1,15 @@
-//! The machine of atomic steps, and plays of whole calls.
+//! Plays of whole calls, and the machine of atomic steps.
+//!
+//! - `play_calls` plays one whole call for each item of a schedule; contracts see it as `calls_played` of
+//!   `specs/Calls.antt`, by the table `call_on` of whole calls on the sequential vector.
+//! - `Machine` moves one actor by one atomic step at a time; contracts see it as a `Configuration`, and a step as `step_of`
+//!   of `specs/Step.antt`, the table of steps, one equation a row.
+//! - `laws` has what holds of every play, as contracts of calls without a body: `specs/CallLaws.antt` of whole calls,
+//!   `specs/Tiling.antt` of every schedule of atomic steps.
+//!
+//! A caller can prove each event, reply and answer of a play, and when it is refused. Nothing is said of progress, fairness
+//! or time. The proofs by hand are in `proofs/`: `Legality` and `CallHistory` of whole calls; of the machine `Staying` (the
+//! limit), `Keeping`, `Effects`, `Steps` and `Rows` (what every step keeps) and `Tiled` (the law).
 #![tactic(auto)]
 
 mod call_play;

@@ -8,6 +8,7 @@ use Rattle.script_core.specs.Grammar.{script_of}
 use Rattle.script_core.specs.Text.{reply_text, cells_text}
 use Rattle.step_core.specs.declared.programs.Played.{Played}
 use Rattle.step_core.specs.Calls.{calls_played}
+use Rattle.step_core.specs.Play.{play_of, played_of}
 use Rattle.cvec.specs.Written.{AppendsBeginning}
 
 -- the line of a call that ended, with its actor's letter
@@ -21,6 +22,10 @@ played_text names played = flat_map (ended_text names) played.ended ++ cells_tex
 -- the play of a script whose items are whole calls
 abbrev pub whole_calls : Script → Option Played
 whole_calls s = calls_played s.limit s.programs s.items
+
+-- the play of a script whose items are atomic steps
+abbrev pub atomic_steps : Script → Option Played
+atomic_steps s = Some (played_of (play_of s.limit s.programs s.items))
 
 -- The input is a script, and the text is that of its play.
 pub record IsTextOf (play : Script → Option Played) (input text : List ℕ) : Type 0 where

@@ -13,6 +13,8 @@ use std::io;
 pub enum Engine {
     /// Each item of the script is one whole call.
     Calls,
+    /// Each item of the script is one atomic step.
+    Steps,
 }
 
 /// The words of the command line, of which the first is the program's name.
@@ -28,10 +30,14 @@ fn cvec<'a>(alloc: Global) -> Result<Command<'a>, AllocError> {
     let calls = Command::new(alloc, "calls").about(
         "Plays each item of the script on standard input as one whole call",
     );
+    let steps = Command::new(alloc, "steps").about(
+        "Plays each item of the script on standard input as one atomic step",
+    );
     let command = Command::new(alloc, "cvec")
         .bin_name("cvec")?
         .about("Runs scripts of calls on a vector that several actors grow")
         .subcommand(calls)?
+        .subcommand(steps)?
         .subcommand_required(true)
         .disable_help_subcommand(true);
     Ok(command)
@@ -42,6 +48,7 @@ pub fn engine_of(alloc: Global, words: &[String]) -> Result<Engine, Error> {
     let matches = cvec(alloc)?.try_get_matches_from(words)?;
     match matches.subcommand() {
         Some(("calls", _)) => Ok(Engine::Calls),
+        Some(("steps", _)) => Ok(Engine::Steps),
         _ => Err(cvec(alloc)?.error(ErrorKind::MissingSubcommand, "a command is required")?),
     }
 }

@@ -5,7 +5,8 @@ ghost use Rattle.book_core.specs.Cells.{IsLimit};
 ghost use Rattle.book_core.specs.Commands.{AreSound, HavePrograms, HaveActors};
 ghost use Rattle.script_core.specs.Grammar.{script_of};
 ghost use Rattle.step_core.specs.Calls.{calls_played};
-ghost use Rattle.cvec.specs.Output.{played_text, whole_calls, AppendsText, AppendsBeginningOfText};
+ghost use Rattle.step_core.specs.Play.{play_of, played_of};
+ghost use Rattle.cvec.specs.Output.{played_text, whole_calls, atomic_steps, AppendsText, AppendsBeginningOfText};
 ghost use Rattle.cvec.specs.Playable.{IsPlayable};
 ghost use Rattle.cvec.specs.Written.{AppendsBeginning};
 
@@ -17,7 +18,7 @@ use book_core::{Command, Item, Sequence};
 use script_core::{Script, ScriptError, read};
 use std::alloc::{AllocError, Global};
 use std::io::{Read, Write};
-use step_core::{PlayError, Played, play_calls};
+use step_core::{PlayError, Played, play, play_calls};
 
 // The script that the bytes are.
 fn script_in(alloc: Global, bytes: &[u8]) -> Result<Script, RunError>
@@ -67,6 +68,27 @@ fn play_whole_calls(
     }
 }
 
+// The same for atomic steps.
+fn play_atomic_steps(
+    alloc: Global,
+    limit: u64,
+    programs: Sequence<Sequence<Command>>,
+    items: &[Item],
+) -> Result<Played, AllocError>
+    requires limit { IsLimit limit }
+    requires few { length programs ≤ 65536 }
+    requires sound { AreSound programs }
+    requires programs { HavePrograms programs items.now }
+    ensures played { IfOk result (λ played. played ≡ played_of (play_of limit programs items.now)) }
+    ensures actors { IfOk result (λ played. HaveActors (length programs) played.ended) }
+{
+    match play(alloc, limit, programs, items) {
+        Ok(played) => Ok(played),
+        Err(PlayError::NoMemory) => Err(AllocError),
+        Err(PlayError::BadLimit | PlayError::BadCommand | PlayError::BadActor) => unreachable!(),
+    }
+}
+
 // Nothing is written before the whole text is made.
 fn write_play<W: Write>(
     alloc: Global,
@@ -109,5 +131,32 @@ pub fn run_calls<R: Read, W: Write>(
         items,
     } = read_script(alloc, reader)?;
     let played = play_whole_calls(alloc, limit, programs, items.as_slice())?;
+    write_play(alloc, writer, names.as_slice(), &played)
+}
+
+/// Reads a script, plays each of its items as one atomic step, and writes the text of the play.
+///
+/// It is `run_calls` but for what an item plays.
+pub fn run_steps<R: Read, W: Write>(
+    alloc: Global,
+    reader: &mut R,
+    writer: &mut W,
+) -> Result<(), RunError>
+    ensures written { OnOk result (IfSome (R.remaining reader.old) (λ input.
+        AppendsText atomic_steps input (W.contents writer.old) (W.contents writer.new))) }
+    // The input is no script, and this is its first fault.
+    ensures script { (fault : ScriptError) → result ≡ Err (RunError.Script fault)
+        → (fault ≢ ScriptError.NoMemory) × IfSome (R.remaining reader.old) (λ input. script_of input ≡ Err fault) }
+    ensures beginning { IsErrOf result RunError.Write → IfSome (R.remaining reader.old) (λ input.
+        AppendsBeginningOfText atomic_steps input (W.contents writer.old) (W.contents writer.new)) }
+    ensures unwritten { IfErr result (λ e. e ≢ RunError.Write → Keeps (W.contents writer.old) (W.contents writer.new)) }
+{
+    let Script {
+        limit,
+        names,
+        programs,
+        items,
+    } = read_script(alloc, reader)?;
+    let played = play_atomic_steps(alloc, limit, programs, items.as_slice())?;
     write_play(alloc, writer, names.as_slice(), &played)
 }

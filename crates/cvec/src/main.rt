@@ -1,7 +1,8 @@
 //! Runs scripts of calls on a vector that several actors grow.
 //!
 //! - `run_calls` goes from the bytes of a reader to those of a writer: it reads a script, plays each item as one whole call,
-//!   and writes the replies and the cells. Its clauses are over whole bytes, by `IsTextOf` of `specs/Output.antt`.
+//!   and writes the replies and the cells. `run_steps` does the same with each item as one atomic step. Their clauses are over
+//!   whole bytes, by `IsTextOf` of `specs/Output.antt`.
 //! - The program runs an engine over standard input and output; `RunError::status` is its exit status.
 //!
 //! No clause says what the command line means, nor what reaches the system's standard streams.
@@ -20,7 +21,7 @@ mod tests;
 mod texts;
 
 use crate::command_line::{Engine, engine_of, is_memory, words};
-use crate::engine::run_calls;
+use crate::engine::{run_calls, run_steps};
 use crate::error::RunError;
 use std::env::Env;
 use std::fmt::Display;
@@ -62,6 +63,7 @@ fn refused<R: Print + Eprint>(rt: &R, error: &clap::Error) -> u8 {
 fn run<R: Input + Print + AllocGlobal>(rt: &R, engine: Engine) -> Result<(), RunError> {
     match engine {
         Engine::Calls => run_calls(rt.alloc(), &mut rt.reader(), &mut io::writer(rt)),
+        Engine::Steps => run_steps(rt.alloc(), &mut rt.reader(), &mut io::writer(rt)),
     }
 }
 

@@ -4,9 +4,10 @@ mod command_line;
 mod faults;
 mod largest;
 mod plays;
+mod steps;
 mod streams;
 
-use crate::engine::run_calls;
+use crate::engine::{run_calls, run_steps};
 use std::alloc::{AllocError, Global};
 
 // What is written, and behind it the error that is answered, if one is.
@@ -14,6 +15,16 @@ fn answer(alloc: Global, script: &[u8]) -> Result<Vec<u8>, AllocError> {
     let mut reader = script;
     let mut text = Vec::new(alloc);
     if let Err(error) = run_calls(alloc, &mut reader, &mut text) {
+        text.extend_from_slice(error.to_string(alloc)?.as_bytes())?;
+    }
+    Ok(text)
+}
+
+// The same of a run by atomic steps.
+fn steps_answer(alloc: Global, script: &[u8]) -> Result<Vec<u8>, AllocError> {
+    let mut reader = script;
+    let mut text = Vec::new(alloc);
+    if let Err(error) = run_steps(alloc, &mut reader, &mut text) {
         text.extend_from_slice(error.to_string(alloc)?.as_bytes())?;
     }
     Ok(text)

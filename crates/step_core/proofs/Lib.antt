@@ -9,3 +9,4 @@ pub mod Effects
 pub mod Steps
 pub mod Rows
 pub mod Tiled
+pub mod Owners

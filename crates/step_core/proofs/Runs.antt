@@ -19,7 +19,7 @@ has_place-true run place low high = grind (arith, nat_tests)
 has_place-below : (run : OwnedRun) (place : ℕ) → place < run.from → (nat_le run.from place && nat_lt place (run.from + run.n)) ≡ false
 has_place-below run place low = grind (arith, nat_tests)
 
-has_place-past : (run : OwnedRun) (place : ℕ) → run.from + run.n ≤ place → (nat_le run.from place && nat_lt place (run.from + run.n)) ≡ false
+pub has_place-past : (run : OwnedRun) (place : ℕ) → run.from + run.n ≤ place → (nat_le run.from place && nat_lt place (run.from + run.n)) ≡ false
 has_place-past run place high = grind (arith, nat_tests)
 
 -- the owner in one run, or else in others

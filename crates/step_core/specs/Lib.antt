@@ -7,4 +7,9 @@ pub mod Step
 pub mod Stepping
 pub mod Within
 pub mod Play
+pub mod Owners
 pub mod Tiling
+pub mod Record
+pub mod Permanence
+pub mod Legal
+pub mod Interleavings

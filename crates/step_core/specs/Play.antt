@@ -1,5 +1,6 @@
 -- Plays of the machine: the fold of its steps over a schedule, and its slots as a reader sees them.
-use Rattle.std.specs.Prelude.{ℕ, ◌++◌, List, [], ◌∷◌, map, Option, Some, None, unwrap_or}
+use Rattle.std.specs.Prelude.{ℕ, ◌++◌, List, [], ◌∷◌, map, Option, Some, None, unwrap_or, refl}
+use Rattle.std.specs.Coded.{Coded, code_by, coded×, coded_list}
 use Rattle.std.specs.Option.{option_to_list}
 use Rattle.std.specs.List.{range_with_len}
 use Rattle.std.specs.FinMap.{get}
@@ -15,13 +16,25 @@ use Rattle.step_core.specs.declared.phase.Slot.{Slot}
 use Rattle.step_core.specs.declared.phase.Slot.TheVariants.{Busy, Filled, Broken}
 use Rattle.step_core.specs.declared.programs.Played.{Played}
 use Rattle.step_core.specs.Shared.{Shared}
-use Rattle.step_core.specs.Step.{Configuration, Step, step_of, opening}
+use Rattle.step_core.specs.Step.{Configuration, configuration_code, Step, step_of, opening}
+use Rattle.book_core.specs.contracts.events.Event as event
+use Rattle.book_core.specs.contracts.events.Reply as reply
+use Rattle.book_core.specs.contracts.commands.Ended as ended
 
 -- a play so far: the configuration, the events with their replies, and the ended calls, both in order
 pub record Play : Type 0 where
   pub at : Configuration
   pub events : List (Event × Reply)
   pub ended : List Ended
+
+-- it is stored as its fields
+abbrev pub play_code : Coded Play
+play_code =
+    code_by (Configuration × (List (Event × Reply) × List Ended))
+    (coded× configuration_code (coded× (coded_list (coded× event.the_row.coded reply.the_row.coded)) (coded_list ended.the_row.coded)))
+    (λ p. (p.at, (p.events, p.ended)))
+    (λ p. record { at = p.0; events = p.1.0; ended = p.1.1 })
+    (λ _. refl)
 
 -- before the first item
 abbrev pub play_opening : ℕ → List (List Command) → Play

@@ -1,5 +1,6 @@
 //! The machine of atomic steps.
-ghost use Rattle.std.specs.Prelude.{◌≡◌, ◌≤◌, ◌<◌, ◌↔◌, length, IfOk, OnErr, IsErrOf, Some, None, map};
+ghost use Rattle.std.specs.Prelude.{◌≡◌, ◌≤◌, ◌<◌, ◌↔◌, length, IfOk, OnErr, IsErrOf, Some, None, map as list_map};
+ghost use Rattle.std.specs.FinMap as map;
 ghost use Rattle.book_core.specs.Cells.{IsLimit};
 ghost use Rattle.book_core.specs.Commands.{AreSound};
 ghost use Rattle.step_core.specs.Step.{step_of};
@@ -7,7 +8,7 @@ ghost use Rattle.step_core.specs.Stepping.{Gives};
 ghost use Rattle.step_core.specs.Within.{IsInLimit};
 
 use crate::errors::MakeError;
-use crate::phase::{Actor, Phase};
+use crate::phase::{Actor, Phase, Slot};
 use crate::programs::are_sound;
 use crate::shared::Shared;
 use book_core::{CellVec, Command, Ended, Event, Reply, Sequence};
@@ -85,6 +86,20 @@ impl Machine {
         self.actors.len()
     }
 
+    /// How many places are claimed.
+    pub fn size(&self) -> u64
+        ensures { result ≡ self.now.shared.size }
+    {
+        self.shared.size()
+    }
+
+    /// What the slot of a place holds; `None` where it is empty.
+    pub fn slot(&self, place: u64) -> Option<Slot>
+        ensures { result ≡ map.get self.now.shared.slots place }
+    {
+        self.shared.slot(place)
+    }
+
     /// One atomic step of an actor; one with nothing left, or without a program, changes nothing.
     ///
     /// `memory` says whether a request for a segment is granted in this step. It takes time in line with the logarithm of the
@@ -134,7 +149,7 @@ fn step_among(
 }
 
 fn actors_of(alloc: Global, programs: Sequence<Sequence<Command>>) -> Result<Vec<Actor>, AllocError>
-    ensures { IfOk result (λ actors. actors.items ≡ map (λ program. record { program = program; ended = 0; phase = Phase.Load }) programs) }
+    ensures { IfOk result (λ actors. actors.items ≡ list_map (λ program. record { program = program; ended = 0; phase = Phase.Load }) programs) }
 {
     programs
         .into_vec()

@@ -20,6 +20,8 @@ fn asked(alloc: Global, words: &str) -> Result<Result<Engine, ErrorKind>, Fail> 
 fn a_command_line_names_an_engine(rt: HostRuntime) -> Result<(), Fail> {
     for (words, want) in [
         ("cvec calls", Ok(Engine::Calls)),
+        ("cvec steps", Ok(Engine::Steps)),
+        ("cvec calls steps", Err(ErrorKind::UnknownArgument)),
         ("cvec -h", Err(ErrorKind::DisplayHelp)),
         ("cvec calls --help", Err(ErrorKind::DisplayHelp)),
         ("cvec help", Err(ErrorKind::InvalidSubcommand)),

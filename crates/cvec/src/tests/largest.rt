@@ -1,6 +1,6 @@
 //! Scripts of the greatest size.
 
-use super::{answer, repeated};
+use super::{answer, repeated, steps_answer};
 use std::alloc::Global;
 use std::io::Write;
 use std::test::Fail;
@@ -96,5 +96,20 @@ fn a_script_may_have_a_mebibyte(rt: HostRuntime) -> Result<(), Fail> {
     script.push(b'!')?;
     let got = answer(alloc, &script)?;
     assert_eq!(rt; got.as_slice(), b"line 18: fault 9".as_slice());
+    Ok(())
+}
+
+#[test]
+fn a_thousand_pushes_by_their_steps_have_a_place_each(rt: HostRuntime) -> Result<(), Fail> {
+    let alloc = rt.alloc();
+    let pushes = repeated(alloc, "push 7", ", push 7", 999, "")?;
+    let mut script = actors(alloc, "65536", b"a", str::from_utf8(&pushes)?)?;
+    script.extend_from_slice(&repeated(alloc, "steps", " a", 100_000, "\n")?)?;
+    let mut text = Vec::new(alloc);
+    for number in 1..1_001_u32 {
+        writeln!(text, "a{number} push at {place}", place = number.wrapping_sub(1))?;
+    }
+    text.extend_from_slice(&repeated(alloc, "size 1000:", " 7", 1_000, "\n")?)?;
+    assert!(rt; steps_answer(alloc, &script)?.as_slice() == text.as_slice());
     Ok(())
 }

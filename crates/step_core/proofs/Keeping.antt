@@ -92,7 +92,7 @@ Knows m runs who (Raise to) = (q : ℕ) → q < to → Ready m q
 Knows m runs who (Begin from n place) = Won m runs who from n place × (map.get m.slots place ≡ None)
 Knows m runs who (Fill from n place) = Won m runs who from n place × (map.get m.slots place ≡ Some (Busy who))
 Knows m runs who (Spoil from n place) = Won m runs who from n place × (map.get m.slots place ≡ Some (Busy who))
-Knows m runs who (Look place) = Unit {0}
+Knows m runs who (Look place) = place < m.size
 
 -- a place is finished once, by its owner
 pub record ByOwner (runs : List OwnedRun) (settlers : List ℕ) (place : ℕ) : Type 0 where
@@ -162,4 +162,4 @@ knows_kept who other m m' runs runs' settlers' (Fill from n place) effect apart 
     (won_kept who other m m' runs runs' settlers' from n place effect apart won, own_kept who other m m' runs runs' settlers' from n place effect apart won ∙ slot)
 knows_kept who other m m' runs runs' settlers' (Spoil from n place) effect apart (won, slot) =
     (won_kept who other m m' runs runs' settlers' from n place effect apart won, own_kept who other m m' runs runs' settlers' from n place effect apart won ∙ slot)
-knows_kept who other m m' runs runs' settlers' (Look place) effect apart knows = tt
+knows_kept who other m m' runs runs' settlers' (Look place) effect apart inside = (let a = effect.grows in omega arith)

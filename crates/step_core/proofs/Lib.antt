@@ -10,3 +10,7 @@ pub mod Steps
 pub mod Rows
 pub mod Tiled
 pub mod Owners
+pub mod Ranges
+pub mod Table
+pub mod Replies
+pub mod PlayHistory

@@ -89,10 +89,11 @@ module _ (m : Shared) (actors : List Actor) (runs : List OwnedRun) (settlers : �
 
   read_loaded : (place : ℕ) → Stands m actors runs settlers who actor Load → Keeps (load_read m who place)
   read_loaded place s =
-      elim (nat_lt place m.size) as (λ b. Keeps (if b then goes_on m (Look place) else ends m (events.Look who place) (replies.OutOfRange m.size) (answers.OutOfRange m.size))) [
-        | true ↦ gone_on Load (Look place) s (λ q x. x) tt
-        | false ↦ ended Load (events.Look who place) (replies.OutOfRange m.size) (answers.OutOfRange m.size) s (λ q x. x) refl (λ q. refl)
+      elim (nat_lt place m.size) as (λ b. nat_lt place m.size ≡ b → Keeps (if b then goes_on m (Look place) else ends m (events.Look who place) (replies.OutOfRange m.size) (answers.OutOfRange m.size))) [
+        | true ↦ (λ test. gone_on Load (Look place) s (λ q x. x) (let inside : place < m.size = grind (arith, nat_tests) in inside))
+        | false ↦ (λ _. ended Load (events.Look who place) (replies.OutOfRange m.size) (answers.OutOfRange m.size) s (λ q x. x) refl (λ q. refl))
       ]
+      refl
 
   loaded : (limit : ℕ) (command : Command) → Stands m actors runs settlers who actor Load → Keeps (load limit m who command)
   loaded limit (commands.Push value) s = growth_loaded limit 1 s

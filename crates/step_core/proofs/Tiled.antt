@@ -29,7 +29,7 @@ use Rattle.step_core.proofs.Steps.{Kept}
 use Rattle.step_core.proofs.Rows.{row_kept}
 
 -- what holds between two steps, of a configuration and its history
-abbrev HoldsAt : Configuration → List (Event × Reply) → Type 0
+abbrev pub HoldsAt : Configuration → List (Event × Reply) → Type 0
 HoldsAt c events = Holds c.shared c.actors (runs_of events) (λ q. settlers_of q events)
 
 -- the same with the history in two parts
@@ -50,7 +50,7 @@ unchanged : (c : Configuration) (events : List (Event × Reply)) → HoldsAt c e
 unchanged c events holds = subst (HoldsAt c) (sym (append-nil events)) holds
 
 -- every step keeps what holds
-step_holds : (c : Configuration) (events : List (Event × Reply)) (who : ℕ) (memory : Bool) → IsInLimit c → HoldsAt c events → HoldsAt (step_of c who memory).to (events ++ option_to_list (step_of c who memory).event)
+pub step_holds : (c : Configuration) (events : List (Event × Reply)) (who : ℕ) (memory : Bool) → IsInLimit c → HoldsAt c events → HoldsAt (step_of c who memory).to (events ++ option_to_list (step_of c who memory).event)
 step_holds c events who memory in_limit holds =
     elim (slice_get c.actors who) as (λ o. slice_get c.actors who ≡ o → HoldsAt (step_as c who memory o).to (events ++ option_to_list (step_as c who memory o).event)) [
       | None ↦ (λ _. unchanged c events holds)
@@ -68,7 +68,7 @@ step_holds c events who memory in_limit holds =
     ]
     refl
 
-items_hold : (p : Play) (items : List Item) → IsInLimit p.at → HoldsAt p.at p.events → HoldsAt (after_items p items).at (after_items p items).events
+pub items_hold : (p : Play) (items : List Item) → IsInLimit p.at → HoldsAt p.at p.events → HoldsAt (after_items p items).at (after_items p items).events
 items_hold p [] in_limit holds = holds
 items_hold p (item ∷ items) in_limit holds =
     items_hold (with_step p (step_of p.at item.actor item.memory)) items (step_in_limit p.at item.actor item.memory in_limit) (step_holds p.at p.events item.actor item.memory in_limit holds)
@@ -83,7 +83,7 @@ at_load programs who actor is =
 empty_slot : (q : ℕ) → finite.get (opening 0 []).shared.slots q ≡ None
 empty_slot q = finite.get-empty nat_cmp q
 
-opening_holds : (limit : ℕ) (programs : List (List Command)) → HoldsAt (opening limit programs) []
+pub opening_holds : (limit : ℕ) (programs : List (List Command)) → HoldsAt (opening limit programs) []
 opening_holds limit programs = record {
   tile = refl;
   ready = λ q inside. absurd (omega arith);

@@ -1,0 +1,5 @@
+use Rattle.step_core.proofs.PlayHistory.{every_play_is_kept}
+use Rattle.step_core.proofs.laws.kept.Goals as goal
+
+pub returns : goal.returns
+returns c = every_play_is_kept

@@ -11,6 +11,10 @@ abbrev pub IsHistory : CellList → List (Event × Reply) → CellList → Type 
 IsHistory old [] new = new ≡ old
 IsHistory old (e ∷ es) new = (mid : CellList) × (apply_event old e.0 ≡ Some (mid, e.1)) × IsHistory mid es new
 
+-- it is a history from a list on, whatever it leads to
+abbrev pub IsLegalFrom : CellList → List (Event × Reply) → Type 0
+IsLegalFrom old es = (new : CellList) × IsHistory old es new
+
 -- the places from one on, so many, that one actor won
 pub record OwnedRun : Type 0 where
   pub owner : ℕ

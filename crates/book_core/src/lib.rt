@@ -4,6 +4,7 @@
 //! - `CellVec::apply` is the table of events there, `apply_event`: one equation a row.
 //! - A history is a list of events with their replies; `specs/History.antt` says when it is legal, which runs it claims,
 //!   that they tile the length, and who owns a place.
+//! - `check` tells whether a list of events with replies is a history of the empty list: `IsLegalFrom` there.
 //! - `Sequence` is the list type of all results: contracts see it as a list.
 //!
 //! A caller can prove what each event does and answers, and when it is refused. Nothing here knows of segments, atomic
@@ -13,6 +14,7 @@
 mod cells;
 mod commands;
 mod events;
+mod history;
 mod list;
 #[cfg(test)]
 mod tests;
@@ -21,5 +23,6 @@ mod vector;
 pub use cells::Cell;
 pub use commands::{Answer, Command, Ended, Item};
 pub use events::{Event, Reply};
+pub use history::check;
 pub use list::Sequence;
 pub use vector::{BookError, CellVec};

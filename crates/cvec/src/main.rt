@@ -11,18 +11,21 @@
 ghost use Rattle.std.specs.Prelude.{◌≡◌};
 ghost use Rattle.cvec.specs.Faults.{status_of};
 
+mod calls;
 mod command_line;
 mod engine;
 mod error;
 mod input;
 mod output;
+mod steps;
 #[cfg(test)]
 mod tests;
 mod texts;
 
+use crate::calls::run_calls;
 use crate::command_line::{Engine, engine_of, is_memory, words};
-use crate::engine::{run_calls, run_steps};
 use crate::error::RunError;
+use crate::steps::run_steps;
 use std::env::Env;
 use std::fmt::Display;
 use std::io;

@@ -7,7 +7,8 @@ mod plays;
 mod steps;
 mod streams;
 
-use crate::engine::{run_calls, run_steps};
+use crate::calls::run_calls;
+use crate::steps::run_steps;
 use std::alloc::{AllocError, Global};
 
 // What is written, and behind it the error that is answered, if one is.

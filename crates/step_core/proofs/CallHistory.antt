@@ -14,7 +14,7 @@ use Rattle.book_core.specs.Cells.{CellList, empty_list, apply_event, with_pendin
 use Rattle.book_core.specs.Commands.{IsSound, AreSound}
 use Rattle.book_core.specs.History.{IsHistory}
 use Rattle.step_core.specs.declared.programs.Played.{Played}
-use Rattle.step_core.specs.Calls.{Stage, opening, call_on, with_event, with_events, with_ended, with_call, with_items, next_call, shown, calls_played}
+use Rattle.step_core.specs.Calls.{Stage, opening, call_on, with_event, with_events, with_ended, with_call, with_items, next_call, shown}
 use Rattle.step_core.specs.CallLaws.{CallsPlay, CallsAreLegal}
 use Rattle.step_core.proofs.Legality.{call_legal}
 
@@ -104,7 +104,7 @@ calls_are_legal limit programs items played is =
     refl is
 
 -- what holds of each member of a list holds of one that is there
-at_place : {X : Type 0} (P : X → Type 0) (xs : List X) (i : ℕ) (x : X) → All P xs → slice_get xs i ≡ Some x → P x
+pub at_place : {X : Type 0} (P : X → Type 0) (xs : List X) (i : ℕ) (x : X) → All P xs → slice_get xs i ≡ Some x → P x
 at_place P xs i x all is =
     subst P (get_or_from_slice_get xs i x x is) (All-get_or P xs i x (slice_get_within xs i x is) all)
 

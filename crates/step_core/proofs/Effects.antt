@@ -1,13 +1,10 @@
 -- What the kinds of step do to what is shared, and that they keep what holds.
-use Rattle.std.proofs.Common.{◌≡◌, ◌≢◌, ℕ, ◌+◌, ◌-◌, ◌<◌, ◌≤◌, ◌⊎◌, List, [], ◌∷◌, ◌++◌, Option, Some, None, slice_get, slice_set, refl, ap, sym, ◌∙◌, subst, arith, inl, inr, zero, suc}
+use Rattle.std.proofs.Common.{◌≡◌, ◌≢◌, ℕ, ◌+◌, ◌<◌, ◌⊎◌, List, [], ◌∷◌, ◌++◌, Option, Some, None, slice_get, slice_set, refl, ap, sym, ◌∙◌, subst, arith, inl, inr, zero, suc}
 use Rattle.std.proofs.Math.Nat.{le_refl}
-use Rattle.std.proofs.lemmas.Bool.{cases_lt}
 use Rattle.std.proofs.lemmas.Bool.Decides.{eqb_tells}
-use Rattle.std.proofs.lemmas.List.{append-nil}
 use Rattle.std.proofs.lemmas.Option.{none-some, same_Some}
 use Rattle.std.specs.FinMap as map
-use Rattle.std.specs.FinSet as set
-use Rattle.book_core.specs.History.{OwnedRun, owner_of, Tile}
+use Rattle.book_core.specs.History.{OwnedRun, owner_of}
 use Rattle.step_core.specs.declared.phase.Slot.{Slot}
 use Rattle.step_core.specs.declared.phase.Slot.TheVariants.{Busy, Filled, Broken}
 use Rattle.step_core.specs.declared.phase.Phase.{Phase}
@@ -15,17 +12,17 @@ use Rattle.step_core.specs.declared.phase.Actor.{Actor}
 use Rattle.step_core.specs.Shared.{Shared}
 use Rattle.step_core.specs.Step.{with_size, with_segment, with_slot}
 use Rattle.step_core.specs.Tiling.{IsUnfinished, IsOfRun}
-use Rattle.step_core.proofs.Runs.{owner_kept, owner_new, tile_grows, tile-append, none_past, owned_between}
-use Rattle.step_core.proofs.Keeping.{get_set_same, get_set_other, Ready, ready_kept, Won, Knows, ByOwner, Settlement, IsWonBySome, Holds, Effect, knows_kept}
+use Rattle.step_core.proofs.Runs.{owner_kept, tile-append}
+use Rattle.step_core.proofs.Keeping.{get_set_same, get_set_other, Ready, ready_kept, Knows, Settlement, Holds, Effect, knows_kept}
 
 -- the member that was set is there
-get_set_here : (xs : List Actor) (i : ℕ) (x d : Actor) → slice_get xs i ≡ Some d → slice_get (slice_set xs i x) i ≡ Some x
+pub get_set_here : (xs : List Actor) (i : ℕ) (x d : Actor) → slice_get xs i ≡ Some d → slice_get (slice_set xs i x) i ≡ Some x
 get_set_here [] i x d is = absurd (none-some d is)
 get_set_here (y ∷ ys) zero x d is = refl
 get_set_here (y ∷ ys) (suc i) x d is = get_set_here ys i x d is
 
 -- any other is as it was
-get_set_there : (xs : List Actor) (i j : ℕ) (x : Actor) → j ≢ i → slice_get (slice_set xs i x) j ≡ slice_get xs j
+pub get_set_there : (xs : List Actor) (i j : ℕ) (x : Actor) → j ≢ i → slice_get (slice_set xs i x) j ≡ slice_get xs j
 get_set_there [] i j x apart = refl
 get_set_there (y ∷ ys) zero zero x apart = absurd (apart refl)
 get_set_there (y ∷ ys) zero (suc j) x apart = refl

@@ -1,27 +1,22 @@
 -- What every step keeps: the facts from which the clauses on tiling, owners, segments and debts follow.
-use Rattle.std.proofs.Common.{◌≡◌, ◌≢◌, ℕ, ◌+◌, ◌-◌, ◌<◌, ◌≤◌, ◌⊎◌, nat_le, nat_lt, ◌==◌, ◌||◌, Bool, true, false, cond, if◌then◌else◌, List, [], ◌∷◌, ◌++◌, length, Option, Some, None, slice_get, slice_set, refl, ap, sym, ◌∙◌, subst, arith, inl, inr, zero, suc}
-use Rattle.std.proofs.lemmas.Bool.{cases_lt, eqb-true}
-use Rattle.std.proofs.lemmas.Bool.Decides.{nat_tests, eqb_tells}
-use Rattle.std.proofs.lemmas.List.{append-nil}
-use Rattle.std.proofs.lemmas.Option.{none-some, same_Some, slice_get_within}
+use Rattle.std.proofs.Common.{◌≡◌, ◌≢◌, ℕ, ◌+◌, ◌<◌, ◌≤◌, ◌==◌, ◌||◌, Bool, true, false, cond, List, [], ◌∷◌, Option, Some, None, slice_get, refl, ap, ◌∙◌, subst, arith, inl, inr}
+use Rattle.std.proofs.lemmas.Bool.{cases_lt}
+use Rattle.std.proofs.lemmas.Bool.Decides.{nat_tests}
 use Rattle.std.specs.Ordering.{nat_cmp, eq_by_cmp}
 use Rattle.std.specs.Cmp.{nat_cmp_total, unsigned_tied}
 use Rattle.std.specs.FinMap as map
 use Rattle.std.specs.FinSet as set
 use Rattle.seg_core.specs.Segment.{HasPlace, start_of, end_of, segment_of}
-use Rattle.seg_core.proofs.Doubling.{segment_of_has, is_segment_of}
+use Rattle.seg_core.proofs.Doubling.{is_segment_of}
 use Rattle.book_core.specs.History.{OwnedRun, owner_of, Tile}
 use Rattle.step_core.specs.declared.phase.Slot.{Slot}
 use Rattle.step_core.specs.declared.phase.Slot.TheVariants.{Busy, Filled, Broken}
 use Rattle.step_core.specs.declared.phase.Phase.{Phase}
 use Rattle.step_core.specs.declared.phase.Phase.TheVariants.{Load, Scout, Put, Exchange, Raise, Begin, Fill, Spoil, Look}
-use Rattle.step_core.specs.declared.phase.Next.{Next}
-use Rattle.step_core.specs.declared.phase.Next.TheVariants.{Goes, Ends}
 use Rattle.step_core.specs.declared.phase.Actor.{Actor}
 use Rattle.step_core.specs.Shared.{Shared}
-use Rattle.step_core.specs.Step.{Configuration, with_size, with_segment, with_slot}
+use Rattle.step_core.specs.Step.{with_segment, with_slot}
 use Rattle.step_core.specs.Tiling.{IsUnfinished, IsOfRun}
-use Rattle.step_core.proofs.Runs.{owner_kept, owner_new, tile_grows, tile-append, none_past, owned_between}
 
 -- ---- Slots and segments after a change
 

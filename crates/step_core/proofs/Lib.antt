@@ -14,3 +14,6 @@ pub mod Ranges
 pub mod Table
 pub mod Replies
 pub mod PlayHistory
+pub mod Settling
+pub mod Recording
+pub mod Recorded

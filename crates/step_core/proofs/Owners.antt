@@ -1,11 +1,10 @@
 -- Where the runs of a play follow each other, its cells are those of their owners, place by place.
-use Rattle.std.proofs.Common.{◌≡◌, ℕ, ◌+◌, ◌<◌, ◌≤◌, Bool, List, [], ◌∷◌, ◌++◌, length, map, replicate, Option, Some, None, Result, Ok, Err, IfOk, All, slice_get, zero, suc, refl, ap, sym, ◌∙◌, subst, arith, add-one}
+use Rattle.std.proofs.Common.{◌≡◌, ℕ, ◌+◌, ◌<◌, ◌≤◌, Bool, List, [], ◌∷◌, ◌++◌, length, map, replicate, Option, Some, None, Result, Ok, Err, IfOk, All, slice_get, zero, suc, refl, ap, sym, ◌∙◌, subst, arith}
 use Rattle.std.proofs.lemmas.List.{length-append, length-replicate}
 use Rattle.std.proofs.lemmas.List.Elements.{All-append, All-nil, All-cons}
 use Rattle.std.specs.List.{range_with_len}
 use Rattle.std.specs.Option.{option_to_list}
 use Rattle.std.specs.FinMap.{get}
-use Rattle.book_core.specs.declared.cells.Cell.{Cell}
 use Rattle.book_core.specs.declared.commands.Command.{Command}
 use Rattle.book_core.specs.declared.commands.Item.{Item}
 use Rattle.book_core.specs.declared.commands.Ended.{Ended}
@@ -21,7 +20,7 @@ use Rattle.step_core.specs.Following.{ended_by}
 use Rattle.step_core.specs.Step.{Configuration, step_of, step_as, step_in, outcome_of}
 use Rattle.step_core.specs.Play.{Play, play_opening, with_step, after_items, play_of, cell_of, played_of}
 use Rattle.step_core.specs.Owners.{owners_of, cells_from, played_by_owners}
-use Rattle.step_core.proofs.Runs.{has_place-true, has_place-past, tile_grows}
+use Rattle.step_core.proofs.Runs.{has_place-true, has_place-past}
 use Rattle.step_core.proofs.Tiled.{every_play_is_tiled}
 
 -- the owners of the places from one on are these, in order

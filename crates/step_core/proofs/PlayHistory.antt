@@ -1,8 +1,8 @@
 -- The events of a play of the machine are a legal history, and what is finished stays.
-use Rattle.std.proofs.Common.{◌≡◌, ◌≢◌, ℕ, ◌+◌, ◌-◌, ◌<◌, ◌≤◌, nat_le, ◌==◌, Bool, true, false, if◌then◌else◌, List, [], ◌∷◌, ◌++◌, length, replicate, Option, Some, None, IfSome, slice_get, slice_set, zero, suc, refl, ap, sym, ◌∙◌, subst, arith, append_assoc, inl, inr}
+use Rattle.std.proofs.Common.{◌≡◌, ◌≢◌, ℕ, ◌+◌, ◌-◌, nat_le, Bool, true, false, if◌then◌else◌, List, [], ◌∷◌, ◌++◌, length, replicate, Option, Some, None, IfSome, slice_get, slice_set, zero, suc, refl, ap, sym, ◌∙◌, subst, append_assoc, inl, inr}
 use Rattle.std.proofs.lemmas.Bool.Decides.{eqb_tells}
 use Rattle.std.proofs.lemmas.List.{append-nil}
-use Rattle.std.proofs.lemmas.Option.{none-some, same_Some, slice_get_within, get_or_from_slice_get, slice_get-get_or}
+use Rattle.std.proofs.lemmas.Option.{none-some, same_Some}
 use Rattle.std.specs.Option.{option_to_list}
 use Rattle.book_core.specs.declared.cells.Cell.{Cell}
 use Rattle.book_core.specs.declared.cells.Cell.TheVariants as cells
@@ -10,14 +10,12 @@ use Rattle.book_core.specs.declared.events.Event.{Event}
 use Rattle.book_core.specs.declared.events.Event.TheVariants.{Claim, Raise, Finish, Break, Look, Size, RefusedFull, RefusedMemory}
 use Rattle.book_core.specs.declared.events.Reply.{Reply}
 use Rattle.book_core.specs.declared.events.Reply.TheVariants as replies
-use Rattle.book_core.specs.declared.commands.Command.{Command}
 use Rattle.book_core.specs.declared.commands.Item.{Item}
-use Rattle.book_core.specs.Cells.{CellList, IsLimit, empty_list, with_pending, with_cell, is_pending_for, reply_of_look, apply_event}
+use Rattle.book_core.specs.Cells.{CellList, empty_list, with_pending, with_cell, is_pending_for, reply_of_look, apply_event}
 use Rattle.book_core.specs.History.{IsHistory, runs_of}
-use Rattle.step_core.specs.declared.phase.Actor.{Actor}
 use Rattle.step_core.specs.Step.{Configuration, step_of, step_as, step_in, outcome_of}
 use Rattle.step_core.specs.Within.{IsWithin, IsInLimit}
-use Rattle.step_core.specs.Play.{Play, play_opening, with_step, after_items, play_of, cells_of}
+use Rattle.step_core.specs.Play.{Play, play_opening, with_step, after_items, play_of}
 use Rattle.step_core.specs.Legal.{list_seen, EveryPlayIsLegal}
 use Rattle.step_core.specs.Permanence.{IsFinished, EveryPlayIsKept}
 use Rattle.step_core.proofs.Staying.{opening_in_limit, step_in_limit, actor_at}

@@ -1,5 +1,5 @@
 -- Lists that are made of a range of places, when one of their cells or their length changes.
-use Rattle.std.proofs.Common.{◌≡◌, ◌≢◌, ℕ, ◌+◌, ◌<◌, ◌≤◌, List, [], ◌∷◌, ◌++◌, map, replicate, Option, Some, None, slice_get, slice_set, zero, suc, refl, ap, sym, ◌∙◌, arith}
+use Rattle.std.proofs.Common.{◌≡◌, ◌≢◌, ℕ, ◌+◌, ◌<◌, ◌≤◌, ◌∷◌, ◌++◌, map, replicate, Some, slice_get, slice_set, zero, suc, refl, ap, sym, ◌∙◌, arith}
 use Rattle.std.specs.List.{range_with_len}
 
 -- two functions that are the same at each place of a range
@@ -47,4 +47,4 @@ map_set f g a (suc n) (suc k) inside others =
     let behind : a + 1 + k ≡ a + suc k = omega arith in
     ap (λ x. x ∷ map g (range_with_len (a + 1) n)) (sym (others a (λ same. omega arith)))
     ∙ ap (λ xs. f a ∷ xs) (map_set f g (a + 1) n k (omega arith) (λ p apart. others p (λ same. apart (same ∙ sym behind)))
-        ∙ ap (λ p. slice_set (map f (range_with_len (a + 1) n)) k (g p)) behind)
+    ∙ ap (λ p. slice_set (map f (range_with_len (a + 1) n)) k (g p)) behind)

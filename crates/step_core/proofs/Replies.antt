@@ -1,10 +1,10 @@
 -- Each row of the step table replies as the sequential vector does, on the cells that a reader sees.
-use Rattle.std.proofs.Common.{◌≡◌, ◌≢◌, ℕ, ◌+◌, ◌-◌, ◌<◌, ◌≤◌, nat_le, nat_lt, ◌==◌, Bool, true, false, if◌then◌else◌, List, [], ◌∷◌, ◌++◌, length, map, replicate, Option, Some, None, slice_get, slice_set, unwrap_or, zero, suc, refl, ap, sym, ◌∙◌, subst, arith, inl, inr}
+use Rattle.std.proofs.Common.{◌≡◌, ◌≢◌, ℕ, ◌+◌, ◌-◌, ◌<◌, ◌≤◌, nat_le, nat_lt, ◌==◌, Bool, true, false, if◌then◌else◌, List, [], ◌∷◌, ◌++◌, length, map, replicate, Option, Some, None, slice_get, slice_set, refl, ap, sym, ◌∙◌, subst, arith, inl, inr}
 use Rattle.std.proofs.lemmas.Bool.{eqb-true}
 use Rattle.std.proofs.lemmas.Bool.Decides.{nat_tests, eqb_tells}
 use Rattle.std.proofs.lemmas.List.{append-nil}
 use Rattle.std.proofs.lemmas.List.FromFn.{length-map-range_with_len}
-use Rattle.std.proofs.lemmas.Option.{none-some, slice_get_past}
+use Rattle.std.proofs.lemmas.Option.{slice_get_past}
 use Rattle.std.specs.List.{range_with_len}
 use Rattle.std.specs.Option.{option_to_list}
 use Rattle.std.specs.FinMap as finite
@@ -26,9 +26,9 @@ use Rattle.step_core.specs.declared.phase.Slot.{Slot}
 use Rattle.step_core.specs.declared.phase.Slot.TheVariants.{Busy, Filled, Broken}
 use Rattle.step_core.specs.declared.phase.Phase.{Phase}
 use Rattle.step_core.specs.declared.phase.Phase.TheVariants.{Load, Scout, Put, Exchange, Raise, Begin, Fill, Spoil, Look}
-use Rattle.step_core.specs.declared.phase.Next.TheVariants.{Goes, Ends}
+use Rattle.step_core.specs.declared.phase.Next.TheVariants.{Goes}
 use Rattle.step_core.specs.Shared.{Shared}
-use Rattle.step_core.specs.Step.{Outcome, goes_on, ends, with_size, with_segment, with_slot, load_growth, load_at_least, load_read, load, after_segment, scout, put, exchange, raise, begin_at, is_refused, value_of, after_place, fill, spoil, look_at, outcome_of}
+use Rattle.step_core.specs.Step.{Outcome, goes_on, ends, with_size, with_segment, with_slot, load_growth, load_at_least, load_read, load, after_segment, scout, put, exchange, raise, begin_at, is_refused, value_of, fill, spoil, look_at, outcome_of}
 use Rattle.step_core.specs.Play.{cell_of, cells_of}
 use Rattle.step_core.specs.Within.{IsWithin}
 use Rattle.step_core.proofs.Runs.{owner_new, owner_kept, none_past, has_place-true, owned_between}
@@ -90,13 +90,13 @@ module _ (limit : ℕ) (m : Shared) (runs : List OwnedRun) (who : ℕ) (sees : S
       let run : OwnedRun = record { owner = who; from = m.size; n = n } in
       let more : List OwnedRun = runs ++ run ∷ [] in
       let before : map (seen_at m more) (range_with_len 0 m.size) ≡ map (seen_at m runs) (range_with_len 0 m.size) =
-          map_same (seen_at m more) (seen_at m runs) 0 m.size (λ p low high.
-              let owned = owned_between 0 m.size runs p sees.tile (omega arith) (omega arith) in
-              ap (λ o. cell_of o (finite.get m.slots p)) (owner_kept runs (run ∷ []) p owned.0 owned.1 ∙ sym owned.1)) in
+      map_same (seen_at m more) (seen_at m runs) 0 m.size (λ p low high.
+      let owned = owned_between 0 m.size runs p sees.tile (omega arith) (omega arith) in
+      ap (λ o. cell_of o (finite.get m.slots p)) (owner_kept runs (run ∷ []) p owned.0 owned.1 ∙ sym owned.1)) in
       let behind : map (seen_at m more) (range_with_len m.size n) ≡ replicate n (cells.Pending who) =
-          map_all (seen_at m more) (cells.Pending who) m.size n (λ p low high.
-              let owner : owner_of more p ≡ Some who = owner_new runs (run ∷ []) p (none_past 0 m.size runs p sees.tile low) ∙ ap (λ b. if b then Some who else None) (has_place-true run p low high) in
-              ap (λ o. cell_of o (finite.get m.slots p)) owner ∙ ap (λ s. cell_of (Some who) s) (not_taken p low)) in
+      map_all (seen_at m more) (cells.Pending who) m.size n (λ p low high.
+      let owner : owner_of more p ≡ Some who = owner_new runs (run ∷ []) p (none_past 0 m.size runs p sees.tile low) ∙ ap (λ b. if b then Some who else None) (has_place-true run p low high) in
+      ap (λ o. cell_of o (finite.get m.slots p)) owner ∙ ap (λ s. cell_of (Some who) s) (not_taken p low)) in
       let start : 0 + m.size ≡ m.size = omega arith in
       map_more (seen_at m more) 0 m.size n
       ∙ ap (λ s. map (seen_at m more) (range_with_len 0 m.size) ++ map (seen_at m more) (range_with_len s n)) start
@@ -107,7 +107,7 @@ module _ (limit : ℕ) (m : Shared) (runs : List OwnedRun) (who : ℕ) (sees : S
   claims : (n : ℕ) (event : Event) (next : Phase) → runs_of ((event, replies.Run m.size n) ∷ []) ≡ record { owner = who; from = m.size; n = n } ∷ [] → apply_event (seen limit m runs) event ≡ Some (with_pending (seen limit m runs) who n, replies.Run m.size n) → IsHistory (seen limit m runs) ((event, replies.Run m.size n) ∷ []) (seen limit (with_size m (m.size + n)) (runs ++ runs_of ((event, replies.Run m.size n) ∷ [])))
   claims n event next run_is is =
       let now : seen limit (with_size m (m.size + n)) (runs ++ runs_of ((event, replies.Run m.size n) ∷ [])) ≡ with_pending (seen limit m runs) who n =
-          ap (λ rs. seen limit (with_size m (m.size + n)) (runs ++ rs)) run_is ∙ ap (λ cs. record { limit = limit; cells = cs }) (claimed n) in
+      ap (λ rs. seen limit (with_size m (m.size + n)) (runs ++ rs)) run_is ∙ ap (λ cs. record { limit = limit; cells = cs }) (claimed n) in
       one_event (seen limit m runs) _ event (replies.Run m.size n) (is ∙ ap (λ v. Some (v, replies.Run m.size n)) (sym now))
 
   -- ---- Load

@@ -1,15 +1,14 @@
 -- The rows of the step table, one after another: each keeps what holds.
-use Rattle.std.proofs.Common.{◌≡◌, ◌≢◌, ℕ, ◌+◌, ◌-◌, ◌<◌, ◌≤◌, ◌⊎◌, nat_le, nat_lt, ◌==◌, ◌&&◌, Bool, true, false, if◌then◌else◌, List, [], ◌∷◌, ◌++◌, Option, Some, None, slice_get, slice_set, refl, ap, sym, ◌∙◌, subst, arith, inl, inr}
+use Rattle.std.proofs.Common.{◌≡◌, ◌≢◌, ℕ, ◌+◌, ◌-◌, ◌<◌, ◌≤◌, ◌⊎◌, nat_le, nat_lt, ◌==◌, Bool, true, false, if◌then◌else◌, List, [], ◌∷◌, ◌++◌, Option, Some, None, refl, ap, sym, ◌∙◌, subst, arith, inl, inr}
 use Rattle.std.proofs.Math.Nat.{le_refl}
 use Rattle.std.proofs.lemmas.Bool.{cases_lt, eqb-true}
 use Rattle.std.proofs.lemmas.Bool.Decides.{nat_tests, eqb_tells}
 use Rattle.std.proofs.lemmas.List.{append-nil}
-use Rattle.std.proofs.lemmas.Option.{none-some, same_Some}
-use Rattle.std.specs.Option.{option_to_list}
+use Rattle.std.proofs.lemmas.Option.{none-some}
 use Rattle.std.specs.FinMap as map
 use Rattle.std.specs.FinSet as set
-use Rattle.seg_core.specs.Segment.{HasPlace, start_of, end_of, segment_of}
-use Rattle.seg_core.proofs.Doubling.{segment_of_has, start_of-next}
+use Rattle.seg_core.specs.Segment.{end_of, segment_of}
+use Rattle.seg_core.proofs.Doubling.{start_of-next}
 use Rattle.book_core.specs.declared.events.Event.{Event}
 use Rattle.book_core.specs.declared.events.Event.TheVariants as events
 use Rattle.book_core.specs.declared.events.Reply.{Reply}
@@ -23,17 +22,16 @@ use Rattle.step_core.specs.declared.phase.Slot.{Slot}
 use Rattle.step_core.specs.declared.phase.Slot.TheVariants.{Busy, Filled, Broken}
 use Rattle.step_core.specs.declared.phase.Phase.{Phase}
 use Rattle.step_core.specs.declared.phase.Phase.TheVariants.{Load, Scout, Put, Exchange, Raise, Begin, Fill, Spoil, Look}
-use Rattle.step_core.specs.declared.phase.Next.{Next}
 use Rattle.step_core.specs.declared.phase.Next.TheVariants.{Goes, Ends}
 use Rattle.step_core.specs.declared.phase.Actor.{Actor}
 use Rattle.step_core.specs.Shared.{Shared}
-use Rattle.step_core.specs.Step.{Outcome, goes_on, ends, with_size, with_segment, with_slot, load_growth, load_at_least, load_read, load, claiming, after_segment, scout, put, exchange, raise, begin_at, is_refused, value_of, answer_of_run, after_place, fill, spoil, look_at, outcome_of}
-use Rattle.step_core.specs.Within.{Wants, Exchanges, IsWithin}
+use Rattle.step_core.specs.Step.{Outcome, goes_on, ends, with_size, with_segment, with_slot, load_growth, load_at_least, load_read, load, claiming, after_segment, scout, put, exchange, raise, begin_at, is_refused, value_of, answer_of_run, after_place, look_at, outcome_of}
+use Rattle.step_core.specs.Within.{Wants, IsWithin}
 use Rattle.step_core.specs.Tiling.{IsUnfinished, IsOfRun, settlers_of}
 use Rattle.step_core.proofs.Runs.{owner_new, none_past, has_place-true, tile-append, owner_kept}
-use Rattle.step_core.proofs.Keeping.{get_set_same, get_set_other, Ready, ready_kept, ready_through, installed_now, Won, Knows, Settlement, ByOwner, Holds, Effect}
-use Rattle.step_core.proofs.Effects.{Covered, claim_effect, begin_effect, settle_effect, settlement_kept}
-use Rattle.step_core.proofs.Steps.{phase_after, Stands, Kept, kept_by, quiet, installs, first_segment_ready, same_effect}
+use Rattle.step_core.proofs.Keeping.{get_set_same, get_set_other, Ready, ready_kept, ready_through, installed_now, Won, Knows, Settlement, Holds, Effect}
+use Rattle.step_core.proofs.Effects.{claim_effect, begin_effect, settle_effect, settlement_kept}
+use Rattle.step_core.proofs.Steps.{Stands, Kept, kept_by, quiet, installs, first_segment_ready, same_effect}
 
 module _ (m : Shared) (actors : List Actor) (runs : List OwnedRun) (settlers : ℕ → List ℕ) (who : ℕ) (actor : Actor) where
   abbrev Keeps : Outcome → Type 0

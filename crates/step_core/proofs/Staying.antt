@@ -1,5 +1,5 @@
 -- Every step stays within the limit.
-use Rattle.std.proofs.Common.{◌≡◌, ℕ, ◌+◌, ◌-◌, ◌^◌, ◌<◌, ◌≤◌, ◌==◌, nat_le, nat_lt, Bool, true, false, if◌then◌else◌, List, [], ◌∷◌, length, map, All, Option, Some, None, IfSome, Result, Ok, Err, IfOk, OnErr, slice_get, slice_set, zero, suc, refl, ap, sym, ◌∙◌, subst, arith, lit<, inl, inr, add-one}
+use Rattle.std.proofs.Common.{◌≡◌, ℕ, ◌+◌, ◌-◌, ◌^◌, ◌<◌, ◌≤◌, ◌==◌, nat_le, nat_lt, Bool, true, false, if◌then◌else◌, List, All, Option, Some, None, IfSome, Result, Ok, Err, IfOk, OnErr, slice_get, zero, suc, refl, ap, sym, ◌∙◌, subst, arith, lit<, inl, inr, add-one}
 use Rattle.std.proofs.Math.Nat.{pow-le-pow_right, le_refl}
 use Rattle.std.proofs.lemmas.Bool.{cases_lt}
 use Rattle.std.proofs.lemmas.Bool.Decides.{nat_tests}
@@ -7,7 +7,7 @@ use Rattle.std.proofs.lemmas.List.Elements.{All-map, All-set, All-get_or}
 use Rattle.std.proofs.lemmas.Option.{slice_get_within, get_or_from_slice_get}
 use Rattle.std.specs.FinSet as set
 use Rattle.std.specs.FinMap as map
-use Rattle.seg_core.specs.Segment.{HasPlace, start_of, end_of, segment_of}
+use Rattle.seg_core.specs.Segment.{start_of, end_of, segment_of}
 use Rattle.seg_core.proofs.Doubling.{segment_of_has}
 use Rattle.book_core.specs.Cells.{IsLimit}
 use Rattle.book_core.specs.declared.commands.Command.{Command}
@@ -23,8 +23,8 @@ use Rattle.step_core.specs.declared.phase.Next.{Next}
 use Rattle.step_core.specs.declared.phase.Next.TheVariants.{Goes, Ends}
 use Rattle.step_core.specs.declared.phase.Actor.{Actor}
 use Rattle.step_core.specs.Shared.{Shared}
-use Rattle.step_core.specs.Following.{actor_after, ended_by}
-use Rattle.step_core.specs.Step.{Configuration, Outcome, Step, opening, load_growth, load_at_least, load_read, load, claiming, after_segment, scout, put, exchange, raise, begin_at, is_refused, after_place, answer_of_run, goes_on, ends, fill, spoil, look_at, outcome_of, with_actor, with_size, with_slot, no_step, step_to, step_in, step_as, step_of}
+use Rattle.step_core.specs.Following.{actor_after}
+use Rattle.step_core.specs.Step.{Configuration, Outcome, opening, load_growth, load_at_least, load_read, load, claiming, after_segment, put, exchange, raise, begin_at, is_refused, after_place, answer_of_run, goes_on, ends, look_at, outcome_of, with_actor, with_size, with_slot, no_step, step_to, step_in, step_as, step_of}
 use Rattle.step_core.specs.declared.machine.Stepped.{Stepped}
 use Rattle.step_core.specs.Stepping.{Gives}
 use Rattle.step_core.specs.Within.{Wants, Exchanges, IsWithin, StaysWithin, IsPlaced, IsInLimit}

@@ -1,39 +1,24 @@
 -- Each row of the step table keeps what holds.
-use Rattle.std.proofs.Common.{◌≡◌, ◌≢◌, ℕ, ◌+◌, ◌-◌, ◌<◌, ◌≤◌, ◌⊎◌, nat_le, nat_lt, ◌==◌, ◌&&◌, Bool, true, false, if◌then◌else◌, List, [], ◌∷◌, ◌++◌, Option, Some, None, slice_get, slice_set, refl, ap, sym, ◌∙◌, subst, arith, inl, inr}
-use Rattle.std.proofs.Math.Nat.{le_refl}
-use Rattle.std.proofs.lemmas.Bool.{cases_lt}
-use Rattle.std.proofs.lemmas.Bool.Decides.{nat_tests, eqb_tells}
+use Rattle.std.proofs.Common.{◌≡◌, ℕ, ◌<◌, ◌≤◌, List, [], ◌++◌, Option, Some, slice_get, slice_set, refl, ap, sym, ◌∙◌, subst, arith, inr}
 use Rattle.std.proofs.lemmas.List.{append-nil}
-use Rattle.std.proofs.lemmas.Option.{none-some, same_Some}
 use Rattle.std.specs.Option.{option_to_list}
 use Rattle.std.specs.FinMap as map
-use Rattle.std.specs.FinSet as set
-use Rattle.seg_core.specs.Segment.{HasPlace, start_of, end_of, segment_of}
-use Rattle.seg_core.proofs.Doubling.{segment_of_has, start_of-next}
+use Rattle.seg_core.specs.Segment.{start_of, segment_of}
+use Rattle.seg_core.proofs.Doubling.{segment_of_has}
 use Rattle.book_core.specs.declared.events.Event.{Event}
-use Rattle.book_core.specs.declared.events.Event.TheVariants as events
 use Rattle.book_core.specs.declared.events.Reply.{Reply}
-use Rattle.book_core.specs.declared.events.Reply.TheVariants as replies
-use Rattle.book_core.specs.declared.commands.Command.{Command}
-use Rattle.book_core.specs.declared.commands.Command.TheVariants as commands
-use Rattle.book_core.specs.declared.commands.Answer.{Answer}
-use Rattle.book_core.specs.declared.commands.Answer.TheVariants as answers
 use Rattle.book_core.specs.History.{OwnedRun, runs_of, owner_of, Tile}
-use Rattle.step_core.specs.declared.phase.Slot.{Slot}
-use Rattle.step_core.specs.declared.phase.Slot.TheVariants.{Busy, Filled, Broken}
 use Rattle.step_core.specs.declared.phase.Phase.{Phase}
-use Rattle.step_core.specs.declared.phase.Phase.TheVariants.{Load, Scout, Put, Exchange, Raise, Begin, Fill, Spoil, Look}
+use Rattle.step_core.specs.declared.phase.Phase.TheVariants.{Load, Scout}
 use Rattle.step_core.specs.declared.phase.Next.{Next}
 use Rattle.step_core.specs.declared.phase.Next.TheVariants.{Goes, Ends}
 use Rattle.step_core.specs.declared.phase.Actor.{Actor}
 use Rattle.step_core.specs.Shared.{Shared}
 use Rattle.step_core.specs.Following.{actor_after}
-use Rattle.step_core.specs.Step.{Outcome, goes_on, ends, with_size, with_segment, with_slot, load_growth, load_at_least, load_read, load, claiming, after_segment, scout, put, exchange, raise, begin_at, is_refused, value_of, answer_of_run, after_place, fill, spoil, look_at, outcome_of}
-use Rattle.step_core.specs.Within.{Wants, Exchanges, IsWithin}
+use Rattle.step_core.specs.Step.{Outcome, goes_on, with_segment}
 use Rattle.step_core.specs.Tiling.{IsUnfinished, IsOfRun, settlers_of}
-use Rattle.step_core.proofs.Runs.{owner_new, none_past, has_place-true, tile-append}
-use Rattle.step_core.proofs.Keeping.{get_set_same, get_set_other, Ready, ready_kept, ready_through, installed_now, Won, Knows, Settlement, ByOwner, Holds, Effect}
-use Rattle.step_core.proofs.Effects.{Covered, combined, quiet_effect, install_effect, claim_effect, begin_effect, settle_effect}
+use Rattle.step_core.proofs.Keeping.{Knows, Settlement, Holds, Effect}
+use Rattle.step_core.proofs.Effects.{Covered, combined, quiet_effect, install_effect}
 
 -- the phase in which an actor stands after a step
 abbrev pub phase_after : Next → Phase

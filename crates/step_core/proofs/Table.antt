@@ -1,9 +1,9 @@
 -- The rows of the table of events, for a list whose length is known.
-use Rattle.std.proofs.Common.{◌≡◌, ℕ, ◌+◌, ◌-◌, ◌<◌, ◌≤◌, nat_le, ◌==◌, Bool, true, false, if◌then◌else◌, length, Option, Some, None, slice_get, refl, ap, ◌∙◌, arith}
+use Rattle.std.proofs.Common.{◌≡◌, ℕ, ◌+◌, ◌-◌, ◌<◌, ◌≤◌, nat_le, ◌==◌, true, false, if◌then◌else◌, length, Option, Some, None, slice_get, ap, ◌∙◌, arith}
 use Rattle.std.proofs.lemmas.Bool.Decides.{nat_tests}
 use Rattle.book_core.specs.declared.cells.Cell.{Cell}
 use Rattle.book_core.specs.declared.cells.Cell.TheVariants.{Pending, Filled, Broken}
-use Rattle.book_core.specs.declared.events.Event.TheVariants.{Claim, Raise, Finish, Break, Look, Size, RefusedFull, RefusedMemory}
+use Rattle.book_core.specs.declared.events.Event.TheVariants.{Claim, Raise, Finish, Break, Look, Size, RefusedFull}
 use Rattle.book_core.specs.declared.events.Reply.TheVariants as replies
 use Rattle.book_core.specs.Cells.{CellList, with_pending, with_cell, is_pending_for, reply_of_look, apply_event}
 

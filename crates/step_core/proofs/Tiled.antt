@@ -1,16 +1,14 @@
 -- Every play is tiled: what holds between steps holds along every schedule.
-use Rattle.std.proofs.Common.{◌≡◌, ◌≢◌, ℕ, ◌+◌, ◌<◌, ◌≤◌, ◌⊎◌, Bool, List, [], ◌∷◌, ◌++◌, map, Option, Some, None, IfSome, slice_get, slice_set, refl, ap, sym, ◌∙◌, subst, arith, inl, inr, lit<}
+use Rattle.std.proofs.Common.{◌≡◌, ℕ, ◌<◌, ◌⊎◌, Bool, List, [], ◌∷◌, ◌++◌, Option, Some, None, IfSome, slice_get, refl, ap, sym, ◌∙◌, subst, arith, inl, inr}
 use Rattle.std.proofs.lemmas.List.{append-nil}
 use Rattle.std.proofs.lemmas.Option.{none-some, same_Some, slice_get-map}
 use Rattle.std.specs.Option.{option_to_list, option_map}
 use Rattle.std.specs.Ordering.{nat_cmp}
 use Rattle.std.specs.FinMap as finite
-use Rattle.std.specs.FinSet as set
 use Rattle.book_core.specs.declared.events.Event.{Event}
 use Rattle.book_core.specs.declared.events.Reply.{Reply}
 use Rattle.book_core.specs.declared.commands.Command.{Command}
 use Rattle.book_core.specs.declared.commands.Item.{Item}
-use Rattle.book_core.specs.Cells.{IsLimit}
 use Rattle.book_core.specs.History.{OwnedRun, runs_of, owner_of, Tile}
 use Rattle.step_core.specs.declared.phase.Slot.{Slot}
 use Rattle.step_core.specs.declared.phase.Slot.TheVariants.{Busy, Filled, Broken}
@@ -18,14 +16,13 @@ use Rattle.step_core.specs.declared.phase.Phase.{Phase}
 use Rattle.step_core.specs.declared.phase.Phase.TheVariants.{Load, Scout, Put, Exchange, Raise, Begin, Fill, Spoil, Look}
 use Rattle.step_core.specs.declared.phase.Actor.{Actor}
 use Rattle.step_core.specs.Shared.{Shared}
-use Rattle.step_core.specs.Step.{Configuration, Step, no_step, opening, outcome_of, step_to, step_in, step_as, step_of}
-use Rattle.step_core.specs.Within.{IsWithin, IsPlaced, IsInLimit}
+use Rattle.step_core.specs.Step.{Configuration, opening, outcome_of, step_to, step_in, step_as, step_of}
+use Rattle.step_core.specs.Within.{IsWithin, IsInLimit}
 use Rattle.step_core.specs.Play.{Play, play_opening, with_step, after_items, play_of}
-use Rattle.step_core.specs.Tiling.{IsUnfinished, IsOfRun, Owes, settlers_of, IsTiled, EveryPlayIsTiled}
+use Rattle.step_core.specs.Tiling.{IsOfRun, settlers_of, IsTiled, EveryPlayIsTiled}
 use Rattle.step_core.proofs.Staying.{opening_in_limit, step_in_limit, actor_at}
 use Rattle.step_core.proofs.Runs.{owned_between, runs_of-append, settlers_of-append}
-use Rattle.step_core.proofs.Keeping.{Won, Knows, Settlement, ByOwner, IsWonBySome, Holds}
-use Rattle.step_core.proofs.Steps.{Kept}
+use Rattle.step_core.proofs.Keeping.{Knows, Settlement, Holds}
 use Rattle.step_core.proofs.Rows.{row_kept}
 
 -- what holds between two steps, of a configuration and its history

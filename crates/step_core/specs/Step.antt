@@ -1,7 +1,6 @@
 -- The machine of atomic steps: its configurations, and the table of its steps.
-use Rattle.std.specs.Prelude.{◌≡◌, ℕ, ◌+◌, ◌-◌, ◌<◌, ◌≤◌, nat_le, nat_lt, ◌==◌, Bool, true, false, if◌then◌else◌, List, [], ◌∷◌, ◌++◌, length, map, Option, Some, None, slice_get, slice_set, refl}
-use Rattle.std.specs.Ordering.{nat_cmp}
-use Rattle.std.specs.FinMap.{FinMap, get, insert, empty}
+use Rattle.std.specs.Prelude.{ℕ, ◌+◌, ◌-◌, nat_le, nat_lt, ◌==◌, Bool, false, if◌then◌else◌, List, map, Option, Some, None, slice_get, slice_set, refl}
+use Rattle.std.specs.FinMap.{get, insert, empty}
 use Rattle.std.specs.FinSet as set
 use Rattle.seg_core.specs.Segment.{end_of, segment_of}
 use Rattle.book_core.specs.declared.events.Event.{Event}

@@ -1,7 +1,9 @@
 //! Laws over the definitions alone, each the contract of a call without a body.
 ghost use Rattle.step_core.specs.CallLaws.{CallsPlay, CallsAreLegal};
+ghost use Rattle.step_core.specs.Interleavings.{EveryInterleavingIsSequential};
 ghost use Rattle.step_core.specs.Legal.{EveryPlayIsLegal};
 ghost use Rattle.step_core.specs.Permanence.{EveryPlayIsKept};
+ghost use Rattle.step_core.specs.Record.{EveryPlayIsRecorded};
 ghost use Rattle.step_core.specs.Tiling.{EveryPlayIsTiled};
 
 /// What holds of every play of whole calls.
@@ -20,7 +22,20 @@ pub fn legal()
     ensures { EveryPlayIsLegal }
 {}
 
+/// The events of every actor in every play are the records of its calls, in its program's order.
+pub fn records()
+    ensures { EveryPlayIsRecorded }
+{}
+
 /// What a reader finds filled or broken in a play, it finds so after every further item.
 pub fn kept()
     ensures { EveryPlayIsKept }
+{}
+
+/// The headline: in every play, every reply is the one that a sequential vector of cells gives in one legal history.
+///
+/// That history holds each call that claimed once, at its claim, in its caller's order; its runs tile the claimed size; a
+/// filled cell keeps the value that its owner gave it; and a refused construction breaks its own cells alone.
+pub fn interleavings()
+    ensures { EveryInterleavingIsSequential }
 {}

@@ -1,6 +1,6 @@
 //! Readers and writers that give or take little, fail, or are interrupted.
 
-use crate::engine::run_calls;
+use crate::calls::run_calls;
 use crate::error::RunError;
 use crate::input::MOST_INTERRUPTIONS;
 use script_core::ScriptError;

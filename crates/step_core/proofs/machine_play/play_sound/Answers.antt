@@ -1,5 +1,4 @@
 use Rattle.std.proofs.Common.{refl}
-use Rattle.step_core.specs.Play.{Play, play_opening}
 use Rattle.step_core.proofs.Owners.{from_opening, play_shown, play_actors}
 use Rattle.step_core.proofs.machine_play.play_sound.Goals as goal
 

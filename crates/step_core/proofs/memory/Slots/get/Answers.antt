@@ -1,5 +1,3 @@
-use Rattle.std.proofs.Common.{ap, sym, ◌∙◌}
-use Rattle.std.specs.FinMap.{get}
 use Rattle.step_core.proofs.MapViews.{get-seen}
 use Rattle.step_core.proofs.memory.Slots.get.Goals as goal
 

@@ -2,7 +2,7 @@ use Rattle.std.proofs.Common.{◌≡◌, Result, Err, IfErr, ap, refl, subst}
 use Rattle.std.proofs.lemmas.Result.{err_from_is_err_and}
 use Rattle.script_core.specs.declared.error.ScriptError.{ScriptError}
 use Rattle.cvec.specs.declared.error.RunError.TheVariants.{Script}
-use Rattle.cvec.proofs.engine.run_steps.Goals as goal
+use Rattle.cvec.proofs.calls.run_calls.Goals as goal
 
 -- two errors that are the same in one result are the same in another
 same_error : {A B E : Type 0} (e f : E) → ◌≡◌ {A = Result A E} (Err e) (Err f) → ◌≡◌ {A = Result B E} (Err e) (Err f)

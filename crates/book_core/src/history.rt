@@ -1,0 +1,38 @@
+//! Whether a list of events with replies is a history of the sequential vector.
+ghost use Rattle.std.specs.Prelude.{◌≡◌, ◌≢◌, ◌↔◌, false, Some, IsTrue, IfOk, IfSome};
+ghost use Rattle.book_core.specs.Cells.{IsLimit, empty_list, apply_event};
+ghost use Rattle.book_core.specs.History.{IsLegalFrom};
+
+use crate::events::{Event, Reply};
+use crate::vector::{BookError, CellVec};
+use std::alloc::{AllocError, Global};
+
+// Whether the event is legal and has this reply. Where it is legal it happens, with another reply too.
+fn replies(list: &mut CellVec, event: Event, reply: Reply) -> Result<bool, AllocError>
+    ensures yes { IfOk result (λ yes. IsTrue yes → apply_event list.old event ≡ Some (list.new, reply)) }
+    ensures no { IfOk result (λ yes. yes ≡ false → IfSome (apply_event list.old event) (λ after. after.1 ≢ reply)) }
+{
+    match list.apply(event) {
+        Ok(replied) => Ok(replied == reply),
+        Err(BookError::NoMemory) => Err(AllocError),
+        Err(BookError::NotLegal) => Ok(false),
+    }
+}
+
+/// Whether a list of events with replies is a history of the sequential vector: each event is legal where it stands, and
+/// its reply is right.
+///
+/// It takes time in line with the history and the places that it claims, and memory in line with those places. The error
+/// comes where that memory is refused; no event is looked at after the first that isn't legal or has another reply.
+pub fn check(alloc: Global, limit: u64, history: &[(Event, Reply)]) -> Result<bool, AllocError>
+    requires { IsLimit limit }
+    ensures exact { IfOk result (λ yes. IsTrue yes ↔ IsLegalFrom (empty_list limit) history.now) }
+{
+    let mut list = CellVec::new(alloc, limit);
+    for told in history {
+        if !replies(&mut list, told.0, told.1)? {
+            return Ok(false);
+        }
+    }
+    Ok(true)
+}

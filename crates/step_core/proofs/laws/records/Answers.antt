@@ -1,0 +1,5 @@
+use Rattle.step_core.proofs.Recorded.{every_play_is_recorded}
+use Rattle.step_core.proofs.laws.records.Goals as goal
+
+pub returns : goal.returns
+returns c = every_play_is_recorded

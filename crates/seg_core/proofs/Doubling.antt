@@ -1,5 +1,5 @@
 -- Segments double: where they begin and end, and which one has a place.
-use Rattle.std.proofs.Common.{◌≡◌, ℕ, ◌+◌, ◌-◌, ◌*◌, ◌^◌, ◌<◌, ◌≤◌, ◌⊎◌, nat_lt, Bool, true, false, zero, suc, refl, ap, sym, ◌∙◌, subst, arith, inl, inr, add-one, add-zero, lit<}
+use Rattle.std.proofs.Common.{◌≡◌, ℕ, ◌+◌, ◌-◌, ◌*◌, ◌^◌, ◌<◌, ◌≤◌, nat_lt, true, false, zero, suc, refl, ap, sym, ◌∙◌, subst, arith, inl, inr, add-one, add-zero, lit<}
 use Rattle.std.proofs.Math.Nat.{pow-le-pow_right, pow-suc, le_refl}
 use Rattle.std.proofs.Math.Pow.{pow-lt}
 use Rattle.std.proofs.lemmas.Bool.{cases_lt}

@@ -1,5 +1,5 @@
 -- Segments: the intervals [0, 2), [2, 4), [4, 8), .. of places.
-use Rattle.std.specs.Prelude.{◌≡◌, ℕ, ◌+◌, ◌-◌, ◌^◌, ◌<◌, ◌≤◌, nat_lt, Bool, true, false, zero, suc}
+use Rattle.std.specs.Prelude.{ℕ, ◌+◌, ◌^◌, ◌<◌, ◌≤◌, nat_lt, true, false, zero, suc}
 
 -- the place behind a segment's last
 abbrev pub end_of : ℕ → ℕ

@@ -107,7 +107,11 @@ fn a_thousand_pushes_by_their_steps_have_a_place_each(rt: HostRuntime) -> Result
     script.extend_from_slice(&repeated(alloc, "steps", " a", 100_000, "\n")?)?;
     let mut text = Vec::new(alloc);
     for number in 1..1_001_u32 {
-        writeln!(text, "a{number} push at {place}", place = number.wrapping_sub(1))?;
+        writeln!(
+            text,
+            "a{number} push at {place}",
+            place = number.wrapping_sub(1)
+        )?;
     }
     text.extend_from_slice(&repeated(alloc, "size 1000:", " 7", 1_000, "\n")?)?;
     assert!(rt; steps_answer(alloc, &script)?.as_slice() == text.as_slice());

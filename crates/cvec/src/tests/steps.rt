@@ -115,21 +115,9 @@ const ROWS: [Row; 21] = [
 ];
 
 const FAULTS: [Row; 5] = [
-    (
-        "no bytes",
-        "",
-        "line 1: fault 2",
-    ),
-    (
-        "a limit of nothing",
-        "limit 0\nsteps",
-        "line 1: fault 3",
-    ),
-    (
-        "no items",
-        "limit 8\n",
-        "line 2: fault 10",
-    ),
+    ("no bytes", "", "line 1: fault 2"),
+    ("a limit of nothing", "limit 0\nsteps", "line 1: fault 3"),
+    ("no items", "limit 8\n", "line 2: fault 10"),
     (
         "a letter twice",
         "limit 8\nactor a size\nactor a size\nsteps",

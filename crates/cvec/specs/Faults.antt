@@ -1,5 +1,6 @@
 -- How a run ends without its text.
-use Rattle.std.specs.Prelude.{ℕ}
+use Rattle.std.specs.Prelude.{ℕ, List, codes}
+use Rattle.script_core.specs.Faults.{fault_text}
 use Rattle.cvec.specs.declared.input.InputError.{InputError}
 use Rattle.cvec.specs.declared.input.InputError.TheVariants as inputs
 use Rattle.cvec.specs.declared.error.RunError.{RunError}
@@ -11,6 +12,13 @@ status_of (Script fault) = 2
 status_of NoMemory = 3
 status_of Read = 4
 status_of Write = 4
+
+-- how each is shown
+abbrev pub error_text : RunError → List ℕ
+error_text (Script fault) = fault_text fault
+error_text NoMemory = codes "memory"
+error_text Read = codes "read fault"
+error_text Write = codes "write fault"
 
 -- why a run ends where its input was not read
 abbrev pub unread : InputError → RunError

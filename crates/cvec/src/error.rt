@@ -35,6 +35,11 @@ impl RunError {
 }
 
 impl fmt::Display for RunError {
+    ghost use Rattle.std.specs.Prelude.{Some};
+    ghost use Rattle.cvec.specs.Faults.{error_text};
+
+    ghost output = { λ e. Some (error_text e) };
+
     fn fmt<W: fmt::Write>(&self, f: &mut fmt::Formatter<W>) -> fmt::Result {
         match self {
             RunError::Script(fault) => write!(f, "{fault}"),

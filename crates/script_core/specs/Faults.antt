@@ -1,5 +1,5 @@
 -- The faults of a text: their numbers and lines, and what it means that a function gives what reading gives.
-use Rattle.std.specs.Prelude.{◌≡◌, ℕ, Option, Some, None, Result, Ok, Err}
+use Rattle.std.specs.Prelude.{◌≡◌, ℕ, List, ◌++◌, Option, Some, None, Result, Ok, Err, codes, decimal}
 use Rattle.script_core.specs.declared.error.ScriptError.{ScriptError}
 use Rattle.script_core.specs.declared.error.ScriptError.TheVariants.{NoMemory, Empty, BadLimit, BadLine, BadName, TwiceNamed, BadCommand, NumberTooLarge, TooMany, NoItems}
 use Rattle.script_core.specs.declared.error.Fault.{Fault}
@@ -32,6 +32,15 @@ line_of (BadCommand line) = Some line
 line_of (NumberTooLarge line) = Some line
 line_of (TooMany line) = Some line
 line_of (NoItems line) = Some line
+
+-- how a fault of this number is shown, by its line
+abbrev pub text_at : Option ℕ → ℕ → List ℕ
+text_at None number = codes "memory"
+text_at (Some line) number = codes "line " ++ decimal line ++ codes ": fault " ++ decimal number
+
+-- how a fault is shown
+abbrev pub fault_text : ScriptError → List ℕ
+fault_text e = text_at (line_of e) (number_of e)
 
 -- a fault of a line, with the line's number
 abbrev pub error_at : ℕ → Fault → ScriptError

@@ -69,6 +69,11 @@ impl ScriptError {
 }
 
 impl fmt::Display for ScriptError {
+    ghost use Rattle.std.specs.Prelude.{Some};
+    ghost use Rattle.script_core.specs.Faults.{fault_text};
+
+    ghost output = { λ e. Some (fault_text e) };
+
     fn fmt<W: fmt::Write>(&self, f: &mut fmt::Formatter<W>) -> fmt::Result {
         match self.line() {
             None => write!(f, "memory"),

@@ -1,5 +1,5 @@
 -- The first 1,048,577 bytes of a text are the script that the text is, or have its fault.
-use Rattle.std.proofs.Common.{◌≡◌, ℕ, ◌+◌, ◌≤◌, ◌<◌, ◌==◌, inl, inr, List, length, take, Option, Some, None, Result, Err, arith, refl, sym, ap, subst, ◌∙◌}
+use Rattle.std.proofs.Common.{◌≡◌, ℕ, ◌+◌, ◌<◌, ◌==◌, inl, inr, List, length, take, Option, Some, None, Result, Err, arith, refl, sym, ap, subst, ◌∙◌}
 use Rattle.std.specs.Prelude.{IfSome, count_by}
 use Rattle.std.proofs.lemmas.Bool.{lt-ltb, ne_eqb, cases_lt}
 use Rattle.std.proofs.lemmas.List.{take_all, take-take, length-take}

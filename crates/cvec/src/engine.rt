@@ -16,8 +16,8 @@ use std::alloc::Global;
 use std::io::{Read, Write};
 use step_core::Played;
 
-// The script that the bytes are.
-fn script_in(alloc: Global, bytes: &[u8]) -> Result<Script, RunError>
+/// The script that the bytes are.
+pub(crate) fn script_in(alloc: Global, bytes: &[u8]) -> Result<Script, RunError>
     ensures read { IfOk result (λ s. script_of bytes.now ≡ Ok s) }
     ensures script { (fault : ScriptError) → result ≡ Err (RunError.Script fault)
         → (fault ≢ ScriptError.NoMemory) × (script_of bytes.now ≡ Err fault) }

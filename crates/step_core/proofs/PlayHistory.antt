@@ -10,12 +10,14 @@ use Rattle.book_core.specs.declared.events.Event.{Event}
 use Rattle.book_core.specs.declared.events.Event.TheVariants.{Claim, Raise, Finish, Break, Look, Size, RefusedFull, RefusedMemory}
 use Rattle.book_core.specs.declared.events.Reply.{Reply}
 use Rattle.book_core.specs.declared.events.Reply.TheVariants as replies
+use Rattle.book_core.specs.declared.commands.Command.{Command}
 use Rattle.book_core.specs.declared.commands.Item.{Item}
-use Rattle.book_core.specs.Cells.{CellList, empty_list, with_pending, with_cell, is_pending_for, reply_of_look, apply_event}
-use Rattle.book_core.specs.History.{IsHistory, runs_of}
+use Rattle.book_core.specs.Cells.{CellList, IsLimit, empty_list, with_pending, with_cell, is_pending_for, reply_of_look, apply_event}
+use Rattle.book_core.specs.History.{IsHistory, OwnedRun, runs_of, Tile}
 use Rattle.step_core.specs.Step.{Configuration, step_of, step_as, step_in, outcome_of}
 use Rattle.step_core.specs.Within.{IsWithin, IsInLimit}
 use Rattle.step_core.specs.Play.{Play, play_opening, with_step, after_items, play_of}
+use Rattle.step_core.specs.Interleavings.{MovesAtClaims}
 use Rattle.step_core.specs.Legal.{list_seen, EveryPlayIsLegal}
 use Rattle.step_core.specs.Permanence.{IsFinished, EveryPlayIsKept}
 use Rattle.step_core.proofs.Staying.{opening_in_limit, step_in_limit, actor_at}
@@ -189,3 +191,20 @@ every_play_is_kept limit programs items is_limit more place cell here finished =
     let holds : HoldsAt p.at p.events = items_hold (play_opening limit programs) items opens (opening_holds limit programs) in
     let further = items_told limit p more (items_limit (play_opening limit programs) items) in_limit holds in
     history_stays place cell finished (list_seen limit p) further.more (list_seen limit (after_items p more)) further.told here
+
+-- ---- The size moves at claims
+
+-- what tiles from a start, behind what tiles the places before
+tile_behind : (start mid end : ℕ) (xs ys : List OwnedRun) → Tile start xs mid → Tile start (xs ++ ys) end → Tile mid ys end
+tile_behind start mid end [] ys first whole = subst (λ s. Tile s ys end) first whole
+tile_behind start mid end (x ∷ xs) ys (begins, others) (_, whole) = tile_behind (start + x.n) mid end xs ys others whole
+
+pub every_play_moves_at_claims : (limit : ℕ) (programs : List (List Command)) (items : List Item) → IsLimit limit → MovesAtClaims (play_of limit programs items)
+every_play_moves_at_claims limit programs items is_limit item =
+    let opens = opening_in_limit limit programs is_limit in
+    let p = play_of limit programs items in
+    let holds : HoldsAt p.at p.events = items_hold (play_opening limit programs) items opens (opening_holds limit programs) in
+    let step = step_of p.at item.actor item.memory in
+    let after : HoldsAt step.to (p.events ++ option_to_list step.event) = step_holds p.at p.events item.actor item.memory (items_in_limit (play_opening limit programs) items opens) holds in
+    tile_behind 0 p.at.shared.size step.to.shared.size (runs_of p.events) (runs_of (option_to_list step.event)) holds.tile
+    (subst (λ rs. Tile 0 rs step.to.shared.size) (runs_of-append p.events (option_to_list step.event)) after.tile)

@@ -1,5 +1,5 @@
 -- the reader has lost the bytes that were read, which are no more than are wanted
-use Rattle.std.proofs.Common.{◌≡◌, ◌+◌, ◌-◌, ◌≤◌, ◌<◌, vec_len, length}
+use Rattle.std.proofs.Common.{◌+◌, ◌-◌, ◌≤◌, ◌<◌, vec_len}
 use Rattle.std.specs.Io.KnownBytes.{Consumes}
 use Rattle.cvec.proofs.input.read_up_to.Given as goal
 

@@ -1,7 +1,5 @@
 use Rattle.std.proofs.Common.{◌≡◌, Result, Err, IfErr, ap, refl, subst}
 use Rattle.std.proofs.lemmas.Result.{err_from_is_err_and}
-use Rattle.script_core.specs.declared.error.ScriptError.{ScriptError}
-use Rattle.cvec.specs.declared.error.RunError.TheVariants.{Script}
 use Rattle.cvec.proofs.steps.run_steps.Goals as goal
 
 -- two errors that are the same in one result are the same in another

@@ -3,51 +3,53 @@ use crate::{BookError, Cell, CellVec, Event, Reply, Sequence, check};
 use std::alloc::{AllocError, Global};
 use std::test::Fail;
 
+// An event and its reply, in turn on a list with a limit of 6.
+const EVENTS: [(Event, Reply); 13] = [
+    (
+        Event::Claim { actor: 0, n: 2 },
+        Reply::Run { from: 0, n: 2 },
+    ),
+    (
+        Event::Claim { actor: 1, n: 0 },
+        Reply::Run { from: 2, n: 0 },
+    ),
+    (
+        Event::Raise { actor: 1, to: 4 },
+        Reply::Run { from: 2, n: 2 },
+    ),
+    (Event::Raise { actor: 0, to: 4 }, Reply::Enough { size: 4 }),
+    (
+        Event::Finish {
+            actor: 0,
+            place: 1,
+            value: 7,
+        },
+        Reply::Done,
+    ),
+    (Event::Break { actor: 1, place: 2 }, Reply::Done),
+    (Event::Look { actor: 2, place: 0 }, Reply::Pending),
+    (
+        Event::Look { actor: 2, place: 1 },
+        Reply::Value { value: 7 },
+    ),
+    (Event::Look { actor: 2, place: 2 }, Reply::Broken),
+    (
+        Event::Look { actor: 2, place: 4 },
+        Reply::OutOfRange { size: 4 },
+    ),
+    (Event::Size { actor: 0 }, Reply::Size { size: 4 }),
+    (
+        Event::RefusedFull { actor: 0, n: 3 },
+        Reply::Full { size: 4 },
+    ),
+    (Event::RefusedMemory { actor: 0 }, Reply::NoMemory),
+];
+
 #[test]
 fn each_event_has_its_reply(rt: HostRuntime) -> Result<(), Fail> {
     let mut list = CellVec::new(rt.alloc(), 6);
-    let rows = [
-        (
-            Event::Claim { actor: 0, n: 2 },
-            Reply::Run { from: 0, n: 2 },
-        ),
-        (
-            Event::Claim { actor: 1, n: 0 },
-            Reply::Run { from: 2, n: 0 },
-        ),
-        (
-            Event::Raise { actor: 1, to: 4 },
-            Reply::Run { from: 2, n: 2 },
-        ),
-        (Event::Raise { actor: 0, to: 4 }, Reply::Enough { size: 4 }),
-        (
-            Event::Finish {
-                actor: 0,
-                place: 1,
-                value: 7,
-            },
-            Reply::Done,
-        ),
-        (Event::Break { actor: 1, place: 2 }, Reply::Done),
-        (Event::Look { actor: 2, place: 0 }, Reply::Pending),
-        (
-            Event::Look { actor: 2, place: 1 },
-            Reply::Value { value: 7 },
-        ),
-        (Event::Look { actor: 2, place: 2 }, Reply::Broken),
-        (
-            Event::Look { actor: 2, place: 4 },
-            Reply::OutOfRange { size: 4 },
-        ),
-        (Event::Size { actor: 0 }, Reply::Size { size: 4 }),
-        (
-            Event::RefusedFull { actor: 0, n: 3 },
-            Reply::Full { size: 4 },
-        ),
-        (Event::RefusedMemory { actor: 0 }, Reply::NoMemory),
-    ];
-    for (event, reply) in rows {
-        assert_eq!(rt; list.apply(event), Ok(reply), "{event:?}");
+    for (event, reply) in EVENTS.as_slice() {
+        assert_eq!(rt; list.apply(*event), Ok(*reply), "{event:?}");
     }
     let cells = [
         Cell::Pending(0),
@@ -61,6 +63,28 @@ fn each_event_has_its_reply(rt: HostRuntime) -> Result<(), Fail> {
     Ok(())
 }
 
+// None of them is legal where actor 0 has claimed two places of a list with a limit of 3.
+const REFUSED: [Event; 7] = [
+    Event::Claim { actor: 0, n: 2 },
+    Event::Claim {
+        actor: 0,
+        n: u64::MAX,
+    },
+    Event::Raise { actor: 0, to: 4 },
+    Event::Finish {
+        actor: 1,
+        place: 0,
+        value: 5,
+    },
+    Event::Finish {
+        actor: 0,
+        place: 2,
+        value: 5,
+    },
+    Event::Break { actor: 1, place: 1 },
+    Event::RefusedFull { actor: 0, n: 1 },
+];
+
 #[test]
 fn an_event_that_is_not_legal_changes_nothing(rt: HostRuntime) -> Result<(), Fail> {
     let mut list = CellVec::new(rt.alloc(), 3);
@@ -68,28 +92,8 @@ fn an_event_that_is_not_legal_changes_nothing(rt: HostRuntime) -> Result<(), Fai
         list.apply(Event::Claim { actor: 0, n: 2 }),
         Ok(Reply::Run { from: 0, n: 2 })
     );
-    let refused = [
-        Event::Claim { actor: 0, n: 2 },
-        Event::Claim {
-            actor: 0,
-            n: u64::MAX,
-        },
-        Event::Raise { actor: 0, to: 4 },
-        Event::Finish {
-            actor: 1,
-            place: 0,
-            value: 5,
-        },
-        Event::Finish {
-            actor: 0,
-            place: 2,
-            value: 5,
-        },
-        Event::Break { actor: 1, place: 1 },
-        Event::RefusedFull { actor: 0, n: 1 },
-    ];
-    for event in refused {
-        assert_eq!(rt; list.apply(event), Err(BookError::NotLegal), "{event:?}");
+    for event in REFUSED.as_slice() {
+        assert_eq!(rt; list.apply(*event), Err(BookError::NotLegal), "{event:?}");
     }
     assert_eq!(rt;
         list.cells(),
@@ -156,130 +160,134 @@ fn with_wrong_reply(
     Ok(history)
 }
 
+// An event, its reply, and a wrong one.
+const ROWS: [(Event, Reply, Reply); 13] = [
+    (
+        Event::Claim { actor: 0, n: 2 },
+        Reply::Run { from: 0, n: 2 },
+        Reply::Run { from: 0, n: 1 },
+    ),
+    (
+        Event::Claim { actor: 1, n: 1 },
+        Reply::Run { from: 2, n: 1 },
+        Reply::Run { from: 0, n: 1 },
+    ),
+    (
+        Event::Raise { actor: 2, to: 6 },
+        Reply::Run { from: 3, n: 3 },
+        Reply::Enough { size: 6 },
+    ),
+    (
+        Event::Raise { actor: 0, to: 4 },
+        Reply::Enough { size: 6 },
+        Reply::Enough { size: 4 },
+    ),
+    (
+        Event::Finish {
+            actor: 0,
+            place: 0,
+            value: 7,
+        },
+        Reply::Done,
+        Reply::Value { value: 7 },
+    ),
+    (
+        Event::Break { actor: 1, place: 2 },
+        Reply::Done,
+        Reply::Broken,
+    ),
+    (
+        Event::Look { actor: 1, place: 0 },
+        Reply::Value { value: 7 },
+        Reply::Value { value: 8 },
+    ),
+    (
+        Event::Look { actor: 1, place: 1 },
+        Reply::Pending,
+        Reply::Value { value: 7 },
+    ),
+    (
+        Event::Look { actor: 0, place: 2 },
+        Reply::Broken,
+        Reply::Pending,
+    ),
+    (
+        Event::Look { actor: 0, place: 6 },
+        Reply::OutOfRange { size: 6 },
+        Reply::OutOfRange { size: 8 },
+    ),
+    (
+        Event::Size { actor: 2 },
+        Reply::Size { size: 6 },
+        Reply::Enough { size: 6 },
+    ),
+    (
+        Event::RefusedFull { actor: 2, n: 3 },
+        Reply::Full { size: 6 },
+        Reply::Full { size: 8 },
+    ),
+    (
+        Event::RefusedMemory { actor: 2 },
+        Reply::NoMemory,
+        Reply::Done,
+    ),
+];
+
 #[test]
 fn check_refuses_each_wrong_reply(rt: HostRuntime) -> Result<(), Fail> {
-    // An event, its reply, and a wrong one.
-    let rows = [
-        (
-            Event::Claim { actor: 0, n: 2 },
-            Reply::Run { from: 0, n: 2 },
-            Reply::Run { from: 0, n: 1 },
-        ),
-        (
-            Event::Claim { actor: 1, n: 1 },
-            Reply::Run { from: 2, n: 1 },
-            Reply::Run { from: 0, n: 1 },
-        ),
-        (
-            Event::Raise { actor: 2, to: 6 },
-            Reply::Run { from: 3, n: 3 },
-            Reply::Enough { size: 6 },
-        ),
-        (
-            Event::Raise { actor: 0, to: 4 },
-            Reply::Enough { size: 6 },
-            Reply::Enough { size: 4 },
-        ),
-        (
-            Event::Finish {
-                actor: 0,
-                place: 0,
-                value: 7,
-            },
-            Reply::Done,
-            Reply::Value { value: 7 },
-        ),
-        (
-            Event::Break { actor: 1, place: 2 },
-            Reply::Done,
-            Reply::Broken,
-        ),
-        (
-            Event::Look { actor: 1, place: 0 },
-            Reply::Value { value: 7 },
-            Reply::Value { value: 8 },
-        ),
-        (
-            Event::Look { actor: 1, place: 1 },
-            Reply::Pending,
-            Reply::Value { value: 7 },
-        ),
-        (
-            Event::Look { actor: 0, place: 2 },
-            Reply::Broken,
-            Reply::Pending,
-        ),
-        (
-            Event::Look { actor: 0, place: 6 },
-            Reply::OutOfRange { size: 6 },
-            Reply::OutOfRange { size: 8 },
-        ),
-        (
-            Event::Size { actor: 2 },
-            Reply::Size { size: 6 },
-            Reply::Enough { size: 6 },
-        ),
-        (
-            Event::RefusedFull { actor: 2, n: 3 },
-            Reply::Full { size: 6 },
-            Reply::Full { size: 8 },
-        ),
-        (
-            Event::RefusedMemory { actor: 2 },
-            Reply::NoMemory,
-            Reply::Done,
-        ),
-    ];
-    for wrong in 0..rows.len() {
-        let history = with_wrong_reply(rt.alloc(), &rows, wrong)?;
+    for wrong in 0..ROWS.len() {
+        let history = with_wrong_reply(rt.alloc(), &ROWS, wrong)?;
         assert!(rt; !check(rt.alloc(), 8, &history)?, "{wrong}");
     }
-    let history = with_wrong_reply(rt.alloc(), &rows, rows.len())?;
+    let history = with_wrong_reply(rt.alloc(), &ROWS, ROWS.len())?;
     assert!(rt; check(rt.alloc(), 8, &history)?);
     // Without the first claim the second one begins elsewhere.
-    let history = with_wrong_reply(rt.alloc(), &rows[1..], rows.len())?;
+    let history = with_wrong_reply(rt.alloc(), &ROWS[1..], ROWS.len())?;
     assert!(rt; !check(rt.alloc(), 8, &history)?);
     Ok(())
 }
 
+// A reply that the event has in no history behind a claim of two places by actor 0.
+const NOT_LEGAL: [(Event, Reply); 6] = [
+    (
+        Event::Claim { actor: 0, n: 7 },
+        Reply::Run { from: 2, n: 7 },
+    ),
+    (
+        Event::Claim {
+            actor: 0,
+            n: u64::MAX,
+        },
+        Reply::Full { size: 2 },
+    ),
+    (
+        Event::Raise { actor: 0, to: 9 },
+        Reply::Run { from: 2, n: 7 },
+    ),
+    (
+        Event::Finish {
+            actor: 1,
+            place: 0,
+            value: 5,
+        },
+        Reply::Done,
+    ),
+    (Event::Break { actor: 0, place: 2 }, Reply::Done),
+    (
+        Event::RefusedFull { actor: 0, n: 6 },
+        Reply::Full { size: 2 },
+    ),
+];
+
 #[test]
 fn check_refuses_each_event_that_is_not_legal(rt: HostRuntime) -> Result<(), Fail> {
-    for (event, reply) in [
-        (
-            Event::Claim { actor: 0, n: 7 },
-            Reply::Run { from: 2, n: 7 },
-        ),
-        (
-            Event::Claim {
-                actor: 0,
-                n: u64::MAX,
-            },
-            Reply::Full { size: 2 },
-        ),
-        (
-            Event::Raise { actor: 0, to: 9 },
-            Reply::Run { from: 2, n: 7 },
-        ),
-        (
-            Event::Finish {
-                actor: 1,
-                place: 0,
-                value: 5,
-            },
-            Reply::Done,
-        ),
-        (Event::Break { actor: 0, place: 2 }, Reply::Done),
-        (
-            Event::RefusedFull { actor: 0, n: 6 },
-            Reply::Full { size: 2 },
-        ),
-    ] {
+    for (event, reply) in NOT_LEGAL.as_slice() {
         let history = [
             (
                 Event::Claim { actor: 0, n: 2 },
                 Reply::Run { from: 0, n: 2 },
             ),
-            (event, reply),
+            (*event, *reply),
         ];
         assert!(rt; !check(rt.alloc(), 8, &history)?, "{event:?}");
     }

@@ -26,21 +26,26 @@ pub fn words<R: Env + AllocGlobal>(rt: &R) -> io::Result<Vec<String>> {
     Ok(words)
 }
 
+// A command without arguments of its own.
+fn subcommand<'a>(alloc: Global, name: &'a str, about: &'a str) -> Command<'a> {
+    Command::new(alloc, name).about(about)
+}
+
 fn cvec<'a>(alloc: Global) -> Result<Command<'a>, AllocError> {
-    let calls = Command::new(alloc, "calls").about(
-        "Plays each item of the script on standard input as one whole call",
-    );
-    let steps = Command::new(alloc, "steps").about(
-        "Plays each item of the script on standard input as one atomic step",
-    );
+    let calls = "Plays each item of the script on standard input as one whole call";
+    let steps = "Plays each item of the script on standard input as one atomic step";
     let command = Command::new(alloc, "cvec")
         .bin_name("cvec")?
         .about("Runs scripts of calls on a vector that several actors grow")
-        .subcommand(calls)?
-        .subcommand(steps)?
+        .subcommand(subcommand(alloc, "calls", calls))?
+        .subcommand(subcommand(alloc, "steps", steps))?
         .subcommand_required(true)
         .disable_help_subcommand(true);
     Ok(command)
+}
+
+fn missing(alloc: Global) -> Result<Error, AllocError> {
+    cvec(alloc)?.error(ErrorKind::MissingSubcommand, "a command is required")
 }
 
 /// What the words ask for. Help that is asked for is an error, too.
@@ -49,7 +54,7 @@ pub fn engine_of(alloc: Global, words: &[String]) -> Result<Engine, Error> {
     match matches.subcommand() {
         Some(("calls", _)) => Ok(Engine::Calls),
         Some(("steps", _)) => Ok(Engine::Steps),
-        _ => Err(cvec(alloc)?.error(ErrorKind::MissingSubcommand, "a command is required")?),
+        _ => Err(missing(alloc)?),
     }
 }
 

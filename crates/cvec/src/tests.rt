@@ -1,14 +1,23 @@
-//! What no clause says: which text and which fault some scripts have, by the rules, and that runs succeed.
+//! What no clause says: which text, which fault and which history some scripts have, by the rules, and that calls succeed
+//! where there is memory. The tests of `script_core` and `step_core` are here too, since a crate with tests is proved twice.
+
+ghost use Rattle.std.specs.Prelude.{◌≡◌, IfOk, length};
 
 mod command_line;
 mod faults;
+mod histories;
 mod largest;
+mod lines;
+mod machine;
 mod plays;
+mod scripts;
 mod steps;
 mod streams;
+mod whole_calls;
 
 use crate::calls::run_calls;
 use crate::steps::run_steps;
+use book_core::{Command, Sequence};
 use std::alloc::{AllocError, Global};
 
 // What is written, and behind it the error that is answered, if one is.
@@ -46,3 +55,18 @@ fn repeated(
     text.extend_from_slice(back.as_bytes())?;
     Ok(text)
 }
+
+// The programs of one actor with one call.
+fn one_call(alloc: Global, call: Command) -> Result<Sequence<Sequence<Command>>, AllocError>
+    ensures { IfOk result (λ programs. length programs ≡ 1) }
+{
+    let program = Sequence::from_vec(vec![in alloc; call]?);
+    Ok(Sequence::from_vec(vec![in alloc; program]?))
+}
+
+// No script has it.
+const UNSOUND: Command = Command::Fail {
+    n: 2,
+    value: 0,
+    at: 2,
+};

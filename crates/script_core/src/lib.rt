@@ -20,8 +20,6 @@ mod lines;
 mod number;
 mod reading;
 mod script;
-#[cfg(test)]
-mod tests;
 mod write;
 
 pub use error::ScriptError;

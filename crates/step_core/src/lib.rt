@@ -25,8 +25,6 @@ mod memory;
 mod phase;
 mod programs;
 mod shared;
-#[cfg(test)]
-mod tests;
 
 pub use call_play::play_calls;
 pub use errors::{MakeError, PlayError};

@@ -16,20 +16,25 @@ fn asked(alloc: Global, words: &str) -> Result<Result<Engine, ErrorKind>, Fail> 
     }
 }
 
+// Words, and what they ask for.
+type Row = (&'static str, Result<Engine, ErrorKind>);
+
+const ROWS: [Row; 9] = [
+    ("cvec calls", Ok(Engine::Calls)),
+    ("cvec steps", Ok(Engine::Steps)),
+    ("cvec calls steps", Err(ErrorKind::UnknownArgument)),
+    ("cvec -h", Err(ErrorKind::DisplayHelp)),
+    ("cvec calls --help", Err(ErrorKind::DisplayHelp)),
+    ("cvec help", Err(ErrorKind::InvalidSubcommand)),
+    ("cvec call", Err(ErrorKind::InvalidSubcommand)),
+    ("cvec calls more", Err(ErrorKind::UnknownArgument)),
+    ("cvec --limit 8", Err(ErrorKind::UnknownArgument)),
+];
+
 #[test]
 fn a_command_line_names_an_engine(rt: HostRuntime) -> Result<(), Fail> {
-    for (words, want) in [
-        ("cvec calls", Ok(Engine::Calls)),
-        ("cvec steps", Ok(Engine::Steps)),
-        ("cvec calls steps", Err(ErrorKind::UnknownArgument)),
-        ("cvec -h", Err(ErrorKind::DisplayHelp)),
-        ("cvec calls --help", Err(ErrorKind::DisplayHelp)),
-        ("cvec help", Err(ErrorKind::InvalidSubcommand)),
-        ("cvec call", Err(ErrorKind::InvalidSubcommand)),
-        ("cvec calls more", Err(ErrorKind::UnknownArgument)),
-        ("cvec --limit 8", Err(ErrorKind::UnknownArgument)),
-    ] {
-        assert_eq!(rt; asked(rt.alloc(), words)?, want, "{words}");
+    for (words, want) in ROWS.as_slice() {
+        assert_eq!(rt; asked(rt.alloc(), words)?, *want, "{words}");
     }
     assert!(rt; asked(rt.alloc(), "cvec")?.is_err());
     Ok(())

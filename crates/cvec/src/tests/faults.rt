@@ -157,7 +157,7 @@ const LINES: [Row; 17] = [
     ),
 ];
 
-const NAMES: [Row; 11] = [
+const NAMES: [Row; 12] = [
     ("no name", "limit 8\nactor \nsteps", "line 2: fault 5"),
     (
         "a capital name",
@@ -205,6 +205,11 @@ const NAMES: [Row; 11] = [
         "line 2: fault 5",
     ),
     ("an item of nobody", "limit 8\nsteps a", "line 2: fault 5"),
+    (
+        "an empty item of nobody",
+        "limit 8\nsteps ",
+        "line 2: fault 5",
+    ),
 ];
 
 const ITEMS: [Row; 12] = [
@@ -270,7 +275,7 @@ const ITEMS: [Row; 12] = [
     ),
 ];
 
-const COMMANDS: [Row; 21] = [
+const COMMANDS: [Row; 24] = [
     (
         "an actor without commands",
         "limit 8\nactor a\nsteps",
@@ -372,6 +377,21 @@ const COMMANDS: [Row; 21] = [
         "line 2: fault 8",
     ),
     (
+        "an argument of a size",
+        "limit 8\nactor a size 1\nsteps",
+        "line 2: fault 7",
+    ),
+    (
+        "a growth without its value",
+        "limit 8\nactor a grow 1\nsteps",
+        "line 2: fault 7",
+    ),
+    (
+        "one too large, and then no number",
+        "limit 8\nactor a fail 18446744073709551616 7 x\nsteps",
+        "line 2: fault 8",
+    ),
+    (
         "a fail too large",
         "limit 8\nactor a fail 1 7 18446744073709551616\nsteps",
         "line 2: fault 8",
@@ -411,17 +431,22 @@ fn a_bad_command_is_the_first_fault(rt: HostRuntime) -> Result<(), Fail> {
     answered(&rt, rt.alloc(), &COMMANDS)
 }
 
+// A front, a byte, a back, and what is answered.
+type Byte = (&'static str, u8, &'static str, &'static str);
+
+const BYTES: [Byte; 5] = [
+    ("", 0xff, "limit 8\nsteps", "line 1: fault 4"),
+    ("limit ", 0x80, "\nsteps", "line 1: fault 3"),
+    ("limit 8\nactor ", 0xe1, " size\nsteps", "line 2: fault 5"),
+    ("limit 8\nactor a push ", 0xb1, "\nsteps", "line 2: fault 7"),
+    ("limit 8\nactor a size\nsteps ", 0xe1, "", "line 3: fault 5"),
+];
+
 #[test]
 fn bytes_that_are_no_text_are_faults(rt: HostRuntime) -> Result<(), Fail> {
-    for (front, byte, back, fault) in [
-        ("", 0xff, "limit 8\nsteps", "line 1: fault 4"),
-        ("limit ", 0x80, "\nsteps", "line 1: fault 3"),
-        ("limit 8\nactor ", 0xe1, " size\nsteps", "line 2: fault 5"),
-        ("limit 8\nactor a push ", 0xb1, "\nsteps", "line 2: fault 7"),
-        ("limit 8\nactor a size\nsteps ", 0xe1, "", "line 3: fault 5"),
-    ] {
-        let mut script = repeated(rt.alloc(), front, "", 0, "")?;
-        script.push(byte)?;
+    for (front, byte, back, fault) in BYTES.as_slice() {
+        let mut script = Vec::from_slice(rt.alloc(), front.as_bytes())?;
+        script.push(*byte)?;
         script.extend_from_slice(back.as_bytes())?;
         let got = answer(rt.alloc(), &script)?;
         assert_eq!(rt; got.as_slice(), fault.as_bytes(), "{front}");
@@ -429,41 +454,38 @@ fn bytes_that_are_no_text_are_faults(rt: HostRuntime) -> Result<(), Fail> {
     Ok(())
 }
 
+const PROGRAM: &str = "limit 8\nactor a size";
+
+const ITEMS_OF_A: &str = "limit 8\nactor a size\nsteps";
+
+const PUSH: &str = "limit 8\nactor a push ";
+
+// The front, so many copies of a piece, the back, and what is answered.
+type Repeated = (&'static str, &'static str, u32, &'static str, &'static str);
+
+const PARTS: [Repeated; 10] = [
+    (PROGRAM, ", size", 1_000, "\nsteps", "line 2: fault 9"),
+    (PROGRAM, ", size", 999, ", pu\nsteps", "line 2: fault 9"),
+    (
+        PROGRAM,
+        ", size",
+        998,
+        ", pu, size\nsteps",
+        "line 2: fault 7",
+    ),
+    (ITEMS_OF_A, " a", 100_001, "", "line 3: fault 9"),
+    (ITEMS_OF_A, " a", 100_000, " b", "line 3: fault 9"),
+    (ITEMS_OF_A, " a", 99_999, " b a", "line 3: fault 5"),
+    ("", "\n", 1_048_577, "", "line 1048577: fault 9"),
+    ("", "\n", 1_048_576, "", "line 1: fault 4"),
+    (PUSH, "1", 1_048_555, "", "line 2: fault 8"),
+    (PUSH, "1", 1_048_556, "", "line 2: fault 9"),
+];
+
 #[test]
 fn one_part_too_many_is_a_fault(rt: HostRuntime) -> Result<(), Fail> {
-    let program = "limit 8\nactor a size";
-    let items = "limit 8\nactor a size\nsteps";
-    for (front, piece, times, back, fault) in [
-        (program, ", size", 1_000, "\nsteps", "line 2: fault 9"),
-        (program, ", size", 999, ", pu\nsteps", "line 2: fault 9"),
-        (
-            program,
-            ", size",
-            998,
-            ", pu, size\nsteps",
-            "line 2: fault 7",
-        ),
-        (items, " a", 100_001, "", "line 3: fault 9"),
-        (items, " a", 100_000, " b", "line 3: fault 9"),
-        (items, " a", 99_999, " b a", "line 3: fault 5"),
-        ("", "\n", 1_048_577, "", "line 1048577: fault 9"),
-        ("", "\n", 1_048_576, "", "line 1: fault 4"),
-        (
-            "limit 8\nactor a push ",
-            "1",
-            1_048_555,
-            "",
-            "line 2: fault 8",
-        ),
-        (
-            "limit 8\nactor a push ",
-            "1",
-            1_048_556,
-            "",
-            "line 2: fault 9",
-        ),
-    ] {
-        let script = repeated(rt.alloc(), front, piece, times, back)?;
+    for (front, piece, times, back, fault) in PARTS.as_slice() {
+        let script = repeated(rt.alloc(), front, piece, *times, back)?;
         let got = answer(rt.alloc(), &script)?;
         assert_eq!(rt; got.as_slice(), fault.as_bytes(), "{front}{piece}{back}");
     }

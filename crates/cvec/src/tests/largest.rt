@@ -20,22 +20,22 @@ fn actors(alloc: Global, limit: &str, letters: &[u8], program: &str) -> Result<V
     Ok(text)
 }
 
+// What follows sixteen actors, and what is answered.
+const BEHIND: [(&'static str, &'static str); 4] = [
+    ("", "line 18: fault 10"),
+    ("steps p", "p1 size 0\nsize 0:\n"),
+    ("actor q size\nsteps q", "line 18: fault 9"),
+    ("actor \nsteps", "line 18: fault 9"),
+];
+
 #[test]
 fn sixteen_actors_are_enough(rt: HostRuntime) -> Result<(), Fail> {
-    let mut script = actors(rt.alloc(), "8", LETTERS, "size")?;
-    let missing = answer(rt.alloc(), &script)?;
-    assert_eq!(rt; missing.as_slice(), b"line 18: fault 10".as_slice());
-    script.extend_from_slice(b"steps p")?;
-    let got = answer(rt.alloc(), &script)?;
-    assert_eq!(rt; got.as_slice(), b"p1 size 0\nsize 0:\n".as_slice());
-    let mut script = actors(rt.alloc(), "8", LETTERS, "size")?;
-    script.extend_from_slice(b"actor q size\nsteps q")?;
-    let got = answer(rt.alloc(), &script)?;
-    assert_eq!(rt; got.as_slice(), b"line 18: fault 9".as_slice());
-    let mut script = actors(rt.alloc(), "8", LETTERS, "size")?;
-    script.extend_from_slice(b"actor \nsteps")?;
-    let got = answer(rt.alloc(), &script)?;
-    assert_eq!(rt; got.as_slice(), b"line 18: fault 9".as_slice());
+    for (back, want) in BEHIND.as_slice() {
+        let mut script = actors(rt.alloc(), "8", LETTERS, "size")?;
+        script.extend_from_slice(back.as_bytes())?;
+        let got = answer(rt.alloc(), &script)?;
+        assert_eq!(rt; got.as_slice(), want.as_bytes(), "{back}");
+    }
     Ok(())
 }
 

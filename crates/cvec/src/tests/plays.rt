@@ -136,7 +136,7 @@ const ROWS: [Row; 25] = [
 
 #[test]
 fn scripts_have_the_texts_of_their_plays(rt: HostRuntime) -> Result<(), Fail> {
-    for (name, script, text) in ROWS {
+    for (name, script, text) in ROWS.as_slice() {
         let got = answer(rt.alloc(), script.as_bytes())?;
         assert_eq!(rt; got.as_slice(), text.as_bytes(), "{name}");
     }

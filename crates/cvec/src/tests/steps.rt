@@ -6,7 +6,7 @@ use std::test::Fail;
 // A name, a script and its text.
 type Row = (&'static str, &'static str, &'static str);
 
-const ROWS: [Row; 21] = [
+pub(super) const ROWS: [Row; 22] = [
     (
         "a push may be refused while another is under way",
         "limit 1\nactor a push 5\nactor b push 6, size\nsteps a b a a b a b b a a",
@@ -26,6 +26,11 @@ const ROWS: [Row; 21] = [
         "a lost exchange is tried again",
         "limit 8\nactor a push 5\nactor b push 6\nsteps a b a a b a b b b b b a a",
         "b1 push at 1\na1 push at 0\nsize 2: 5 6\n",
+    ),
+    (
+        "what lost its exchange may no longer fit",
+        "limit 3\nactor a grow 3 1\nactor b grow 2 2, read 0\nsteps a b a b a b a b a b a b a b a b a b a b",
+        "a1 grow full 2\nb1 grow run 0 2\nb2 read value 2\nsize 2: 2 2\n",
     ),
     (
         "a growth may fill the vector",
@@ -132,7 +137,7 @@ const FAULTS: [Row; 5] = [
 
 #[test]
 fn steps_have_the_texts_of_their_plays(rt: HostRuntime) -> Result<(), Fail> {
-    for (name, script, text) in ROWS {
+    for (name, script, text) in ROWS.as_slice() {
         let got = steps_answer(rt.alloc(), script.as_bytes())?;
         assert_eq!(rt; got.as_slice(), text.as_bytes(), "{name}");
     }
@@ -141,7 +146,7 @@ fn steps_have_the_texts_of_their_plays(rt: HostRuntime) -> Result<(), Fail> {
 
 #[test]
 fn steps_of_no_script_have_its_fault(rt: HostRuntime) -> Result<(), Fail> {
-    for (name, script, fault) in FAULTS {
+    for (name, script, fault) in FAULTS.as_slice() {
         let got = steps_answer(rt.alloc(), script.as_bytes())?;
         assert_eq!(rt; got.as_slice(), fault.as_bytes(), "{name}");
     }

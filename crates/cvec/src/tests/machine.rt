@@ -1,0 +1,127 @@
+//! The machine, one step after another.
+
+use super::{UNSOUND, one_call};
+use book_core::{Answer, Event, Reply};
+use script_core::read;
+use std::alloc::Global;
+use std::test::Fail;
+use step_core::{Machine, MakeError};
+
+// An actor's step with memory, the size after it, and whether it is an event.
+type Row = (u32, u64, bool);
+
+// Two pushes, of which the second loses its first exchange.
+const LOST: [Row; 13] = [
+    (0, 0, false),
+    (1, 0, false),
+    (0, 0, false),
+    (0, 0, false),
+    (1, 0, false),
+    (0, 1, true),
+    (1, 1, false),
+    (1, 1, false),
+    (1, 2, true),
+    (1, 2, false),
+    (1, 2, true),
+    (0, 2, false),
+    (0, 2, true),
+];
+
+// Two growths to a size, of which the first finds enough.
+const RAISED: [Row; 22] = [
+    (0, 0, false),
+    (0, 0, false),
+    (0, 0, false),
+    (0, 0, false),
+    (0, 0, false),
+    (1, 0, false),
+    (1, 0, false),
+    (1, 0, false),
+    (1, 0, false),
+    (1, 0, false),
+    (1, 5, true),
+    (1, 5, false),
+    (1, 5, true),
+    (1, 5, false),
+    (1, 5, true),
+    (1, 5, false),
+    (1, 5, true),
+    (1, 5, false),
+    (1, 5, true),
+    (1, 5, false),
+    (1, 5, true),
+    (0, 5, true),
+];
+
+// A growth whose construction is refused at its second place.
+const BROKEN: [Row; 12] = [
+    (0, 0, false),
+    (0, 0, false),
+    (0, 0, false),
+    (0, 0, false),
+    (0, 0, false),
+    (0, 3, true),
+    (0, 3, false),
+    (0, 3, true),
+    (0, 3, false),
+    (0, 3, true),
+    (0, 3, false),
+    (0, 3, true),
+];
+
+const PLAYS: [(&'static str, &'static [Row]); 3] = [
+    ("limit 8\nactor a push 5\nactor b push 5\nsteps", &LOST),
+    (
+        "limit 8\nactor a atleast 4 0\nactor b atleast 5 1\nsteps",
+        &RAISED,
+    ),
+    ("limit 8\nactor a fail 3 7 1\nsteps", &BROKEN),
+];
+
+// A machine at the programs of a script.
+fn machine(alloc: Global, script: &str) -> Result<Machine, Fail> {
+    let script = read(alloc, script.as_bytes())?;
+    Ok(Machine::new(alloc, script.limit, script.programs)?)
+}
+
+#[test]
+fn the_size_moves_at_the_claiming_steps(rt: HostRuntime) -> Result<(), Fail> {
+    for (script, rows) in PLAYS.as_slice() {
+        let mut machine = machine(rt.alloc(), script)?;
+        for (actor, size, is_event) in *rows {
+            let stepped = machine.step(*actor, true)?;
+            assert_eq!(rt;
+                (machine.size(), stepped.event.is_some()),
+                (*size, *is_event)
+            );
+        }
+    }
+    Ok(())
+}
+
+#[test]
+fn a_refused_segment_ends_the_call_though_it_is_there(rt: HostRuntime) -> Result<(), Fail> {
+    let mut machine = machine(rt.alloc(), "limit 8\nactor a push 5\nactor b push 6\nsteps")?;
+    for actor in [0, 0, 1, 1, 1] {
+        assert_eq!(rt; machine.step(actor, true)?.event, None, "{actor}");
+    }
+    assert_eq!(rt;
+        (machine.actors(), machine.size(), machine.slot(0)),
+        (2, 0, None)
+    );
+    let stepped = machine.step(0, false)?;
+    let event = (Event::RefusedMemory { actor: 0 }, Reply::NoMemory);
+    assert_eq!(rt; stepped.event, Some(event));
+    let answer = stepped.ended.map(|ended| ended.answer);
+    assert_eq!(rt; answer, Some(Answer::NoMemory));
+    Ok(())
+}
+
+#[test]
+fn a_machine_that_cannot_be_is_refused(rt: HostRuntime) -> Result<(), Fail> {
+    for (limit, want) in [(0, MakeError::BadLimit), (1, MakeError::BadCommand)] {
+        let made = Machine::new(rt.alloc(), limit, one_call(rt.alloc(), UNSOUND)?);
+        assert_eq!(rt; made.err(), Some(want), "{limit}");
+    }
+    Ok(())
+}

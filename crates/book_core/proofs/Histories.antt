@@ -1,10 +1,18 @@
--- What is left of a history after its next event.
-use Rattle.std.proofs.Common.{◌≡◌, ◌↔◌, ℕ, ◌+◌, ◌<◌, List, ◌∷◌, length, drop, get_or, drop-cons, add-one, ap, refl, sym, ◌∙◌, subst, Option, Some}
+-- Histories in parts; and what every history keeps, since each event does: the limit, tiling runs, finished cells.
+use Rattle.std.proofs.Common.{◌≡◌, ◌↔◌, ℕ, ◌+◌, ◌<◌, List, [], ◌∷◌, ◌++◌, length, replicate, drop, get_or, drop-cons, add-one, slice_get, ap, refl, sym, ◌∙◌, subst, Option, Some, inl, inr}
+use Rattle.std.proofs.lemmas.Bool.Decides.{eqb_tells}
+use Rattle.std.proofs.lemmas.List.{length-append, length-replicate, length-set}
 use Rattle.std.proofs.lemmas.Option.{same_Some}
+use Rattle.book_core.specs.declared.cells.Cell.{Cell}
+use Rattle.book_core.specs.declared.cells.Cell.TheVariants.{Pending}
 use Rattle.book_core.specs.declared.events.Event.{Event}
 use Rattle.book_core.specs.declared.events.Reply.{Reply}
-use Rattle.book_core.specs.Cells.{CellList, apply_event}
-use Rattle.book_core.specs.History.{IsHistory, IsLegalFrom}
+use Rattle.book_core.specs.Cells.{CellList, IsFinished, apply_event}
+use Rattle.book_core.specs.History.{IsHistory, IsLegalFrom, run_of, runs_of, Tile}
+use Rattle.book_core.specs.Laws.{HistoriesSplit, RunsTile, FinishedCellsStay}
+use Rattle.book_core.proofs.EventEffects.{Does, event_does}
+use Rattle.book_core.proofs.Lists.{get_before, get_other}
+use Rattle.book_core.proofs.Runs.{tile-append}
 
 -- the entry at an index, and those after it
 first_left : (es : List (Event × Reply)) (i : ℕ) (d : Event × Reply) → i < length es → drop i es ≡ get_or es i d ∷ drop (i + 1) es
@@ -23,3 +31,82 @@ after_next old mid es i d whole inside so_far happens =
           let legal : IsLegalFrom old (get_or es i d ∷ drop (i + 1) es) = split.1 is in
           (legal.0, subst (λ from. IsHistory from (drop (i + 1) es) legal.0) (same_after _ mid legal.1.0 _ happens legal.1.1) legal.1.2)),
     )
+
+-- ---- Histories one after the other
+
+pub IsHistory-append : (old : CellList) (es fs : List (Event × Reply)) (mid new : CellList) → IsHistory old es mid → IsHistory mid fs new → IsHistory old (es ++ fs) new
+IsHistory-append old [] fs mid new first second = subst (λ v. IsHistory v fs new) first second
+IsHistory-append old (e ∷ es) fs mid new (next, is, others) second = (next, is, IsHistory-append next es fs mid new others second)
+
+-- a history in two parts is two histories
+pub IsHistory-split : (old : CellList) (es fs : List (Event × Reply)) (new : CellList) → IsHistory old (es ++ fs) new → (mid : CellList) × IsHistory old es mid × IsHistory mid fs new
+IsHistory-split old [] fs new history = (old, refl, history)
+IsHistory-split old (e ∷ es) fs new (next, is, others) =
+    let (mid, first, second) = IsHistory-split next es fs new others in
+    (mid, (next, is, first), second)
+
+-- one more event goes at the end of a history
+pub IsHistory-push : (old : CellList) (es : List (Event × Reply)) (mid new : CellList) (event : Event) (reply : Reply) → IsHistory old es mid → apply_event mid event ≡ Some (new, reply) → IsHistory old (es ++ (event, reply) ∷ []) new
+IsHistory-push old es mid new event reply history applies = IsHistory-append old es ((event, reply) ∷ []) mid new history (new, applies, refl)
+
+pub histories_split : HistoriesSplit
+histories_split old new es fs =
+    (IsHistory-split old es fs new, λ (mid, first, second). IsHistory-append old es fs mid new first second)
+
+-- ---- What every event keeps, every history keeps
+
+-- no event moves the limit
+limit_kept : (v : CellList) (event : Event) (w : CellList) (reply : Reply) → Does v event w reply → w.limit ≡ v.limit
+limit_kept v event w reply does = elim does [
+  | inl nothing ↦ ap (λ (x : CellList). x.limit) nothing.list
+  | inr (inl run) ↦ ap (λ (x : CellList). x.limit) run.list
+  | inr (inr write) ↦ ap (λ (x : CellList). x.limit) write.list
+]
+
+pub history_limit : (old : CellList) (es : List (Event × Reply)) (new : CellList) → IsHistory old es new → new.limit ≡ old.limit
+history_limit old [] new is = ap (λ (v : CellList). v.limit) is
+history_limit old (e ∷ es) new (mid, first, others) =
+    history_limit mid es new others ∙ limit_kept old e.0 mid e.1 (event_does old e.0 mid e.1 first)
+
+-- the run of an event tiles the places that it appends
+run_tiles : (v : CellList) (event : Event) (w : CellList) (reply : Reply) → Does v event w reply → Tile (length v.cells) (run_of event reply) (length w.cells)
+run_tiles v event w reply does = elim does [
+  | inl nothing ↦ subst (λ runs. Tile (length v.cells) runs (length w.cells)) (sym nothing.run) (ap (λ (x : CellList). length x.cells) (sym nothing.list))
+  | inr (inl run) ↦
+      subst (λ runs. Tile (length v.cells) runs (length w.cells)) (sym run.run)
+      (refl, sym (ap (λ (x : CellList). length x.cells) run.list ∙ length-append v.cells (replicate run.n (Pending run.actor)) ∙ ap (λ k. length v.cells + k) (length-replicate run.n (Pending run.actor))))
+  | inr (inr write) ↦
+      subst (λ runs. Tile (length v.cells) runs (length w.cells)) (sym write.run)
+      (sym (ap (λ (x : CellList). length x.cells) write.list ∙ length-set v.cells write.at write.cell))
+]
+
+pub runs_tile : RunsTile
+runs_tile old new [] is = ap (λ (v : CellList). length v.cells) (sym is)
+runs_tile old new (e ∷ es) (mid, first, others) =
+    tile-append (length old.cells) (length mid.cells) (length new.cells) (run_of e.0 e.1) (runs_of es)
+    (run_tiles old e.0 mid e.1 (event_does old e.0 mid e.1 first)) (runs_tile mid new es others)
+
+-- ---- Finished cells
+
+-- a cell that is not pending
+not_pending : (actor : ℕ) (cell : Cell) → IsFinished cell → Some cell ≡ Some (Pending actor) → ⊥
+not_pending actor cell finished is = subst (λ c. IsFinished c) (same_Some cell (Pending actor) is) finished
+
+finished_stays : (v : CellList) (event : Event) (w : CellList) (reply : Reply) (place : ℕ) (cell : Cell) → Does v event w reply → slice_get v.cells place ≡ Some cell → IsFinished cell → slice_get w.cells place ≡ Some cell
+finished_stays v event w reply place cell does here finished = elim does [
+  | inl nothing ↦ ap (λ (x : CellList). slice_get x.cells place) nothing.list ∙ here
+  | inr (inl run) ↦
+      ap (λ (x : CellList). slice_get x.cells place) run.list
+      ∙ get_before v.cells (replicate run.n (Pending run.actor)) place cell here
+  | inr (inr write) ↦
+      ap (λ (x : CellList). slice_get x.cells place) write.list
+      ∙ elim (eqb_tells place write.at) [
+        | inl same ↦ absurd (not_pending write.actor cell finished (sym here ∙ ap (λ q. slice_get v.cells q) same.1 ∙ write.pending))
+        | inr apart ↦ get_other v.cells write.at place write.cell apart.1 ∙ here
+      ]
+]
+
+pub finished_cells_stay : FinishedCellsStay
+finished_cells_stay old new [] place cell is here finished = ap (λ (v : CellList). slice_get v.cells place) is ∙ here
+finished_cells_stay old new (e ∷ es) place cell (mid, first, others) here finished =
+    finished_cells_stay mid new es place cell others (finished_stays old e.0 mid e.1 place cell (event_does old e.0 mid e.1 first) here finished) finished

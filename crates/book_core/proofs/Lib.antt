@@ -1,1 +1,5 @@
 pub mod Histories
+pub mod Lists
+pub mod Runs
+pub mod EventEffects
+pub mod WrittenPlaces

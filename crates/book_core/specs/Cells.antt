@@ -16,6 +16,12 @@ pub record CellList : Type 0 where
 abbrev pub IsLimit : ℕ → Type 0
 IsLimit limit = (1 ≤ limit) × (limit ≤ 4294967296)
 
+-- the cell is filled or broken
+abbrev pub IsFinished : Cell → Type 0
+IsFinished (Pending owner) = ⊥
+IsFinished (Filled value) = Unit {0}
+IsFinished Broken = Unit {0}
+
 -- no place is claimed yet
 abbrev pub empty_list : ℕ → CellList
 empty_list limit = record { limit = limit; cells = [] }

@@ -1,5 +1,5 @@
 -- What a list of programs and a schedule have to be, to be played.
-use Rattle.std.specs.Prelude.{ℕ, ◌<◌, List, length, All}
+use Rattle.std.specs.Prelude.{ℕ, ◌<◌, ◌==◌, List, length, filter, All}
 use Rattle.book_core.specs.declared.commands.Command.{Command}
 use Rattle.book_core.specs.declared.commands.Command.TheVariants.{Push, Grow, AtLeast, Fail, Read, Size}
 use Rattle.book_core.specs.declared.commands.Item.{Item}
@@ -25,3 +25,7 @@ HavePrograms programs items = All (λ item. item.actor < length programs) items
 -- each ended call is of one of so many actors
 abbrev pub HaveActors : ℕ → List Ended → Type 0
 HaveActors count calls = All (λ ended. ended.actor < count) calls
+
+-- the calls of an actor that have ended, in the order in which they did
+abbrev pub calls_of : ℕ → List Ended → List Ended
+calls_of actor calls = filter (λ (ended : Ended). ended.actor == actor) calls

@@ -1,10 +1,11 @@
 -- Histories: lists of events with their replies; the runs that they claim, and whose each place is.
-use Rattle.std.specs.Prelude.{◌≡◌, ℕ, ◌+◌, nat_le, nat_lt, ◌&&◌, if◌then◌else◌, List, [], ◌∷◌, ◌++◌, Option, Some, None}
+use Rattle.std.specs.Prelude.{◌≡◌, ℕ, ◌+◌, nat_le, nat_lt, ◌&&◌, ◌==◌, if◌then◌else◌, List, [], ◌∷◌, ◌++◌, filter, Option, Some, None}
 use Rattle.book_core.specs.declared.events.Event.{Event}
 use Rattle.book_core.specs.declared.events.Event.TheVariants.{Claim, Raise, Finish, Break, Look, Size, RefusedFull, RefusedMemory}
 use Rattle.book_core.specs.declared.events.Reply.{Reply}
 use Rattle.book_core.specs.declared.events.Reply.TheVariants as replies
 use Rattle.book_core.specs.Cells.{CellList, apply_event}
+use Rattle.book_core.specs.Events.{actor_of, writer_in}
 
 -- Each event is legal where it stands, and its reply is the list's; the list before the first is old, after the last new.
 abbrev pub IsHistory : CellList → List (Event × Reply) → CellList → Type 0
@@ -60,3 +61,12 @@ abbrev pub owner_of : List OwnedRun → ℕ → Option ℕ
 owner_of [] place = None
 owner_of (run ∷ runs) place =
     if nat_le run.from place && nat_lt place (run.from + run.n) then Some run.owner else owner_of runs place
+
+-- the events of an actor with their replies, in the order of the history
+abbrev pub events_of : ℕ → List (Event × Reply) → List (Event × Reply)
+events_of actor es = filter (λ e. actor_of e.0 == actor) es
+
+-- the actors that filled or broke this place, in the order of the history
+abbrev pub writers_of : ℕ → List (Event × Reply) → List ℕ
+writers_of place [] = []
+writers_of place (e ∷ es) = writer_in place e.0 ++ writers_of place es

@@ -1,3 +1,5 @@
-pub mod Commands
 pub mod Cells
+pub mod Commands
+pub mod Events
 pub mod History
+pub mod Laws

@@ -15,6 +15,7 @@ mod cells;
 mod commands;
 mod events;
 mod history;
+pub mod laws;
 mod list;
 #[cfg(test)]
 mod tests;

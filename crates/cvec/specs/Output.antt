@@ -7,8 +7,8 @@ use Rattle.script_core.specs.declared.script.Script.{Script}
 use Rattle.script_core.specs.Grammar.{script_of}
 use Rattle.script_core.specs.Text.{reply_text, cells_text}
 use Rattle.step_core.specs.declared.programs.Played.{Played}
-use Rattle.step_core.specs.Calls.{calls_played}
-use Rattle.step_core.specs.Play.{play_of, played_of}
+use Rattle.step_core.specs.calls.Play.{calls_played}
+use Rattle.step_core.specs.machine.Play.{play_of, played_of}
 use Rattle.cvec.specs.Written.{AppendsBeginning}
 
 -- the line of a call that ended, with its actor's letter

@@ -4,7 +4,7 @@ ghost use Rattle.std.specs.Io.KnownBytes.{Keeps};
 ghost use Rattle.book_core.specs.Cells.{IsLimit};
 ghost use Rattle.book_core.specs.Commands.{AreSound, HavePrograms, HaveActors};
 ghost use Rattle.script_core.specs.Grammar.{script_of};
-ghost use Rattle.step_core.specs.Play.{play_of, played_of};
+ghost use Rattle.step_core.specs.machine.Play.{play_of, played_of};
 ghost use Rattle.cvec.specs.Output.{atomic_steps, AppendsText, AppendsBeginningOfText};
 
 use crate::engine::{read_script, write_play};

@@ -2,28 +2,28 @@
 use Rattle.std.specs.Prelude.{ℕ, ◌+◌, ◌^◌, ◌<◌, ◌≤◌, nat_lt, true, false, zero, suc}
 
 -- the place behind a segment's last
-abbrev pub end_of : ℕ → ℕ
-end_of k = 2 ^ (k + 1)
+abbrev pub segment_end : ℕ → ℕ
+segment_end k = 2 ^ (k + 1)
 
 -- a segment's first place: the first segment's is 0, and each other begins where the one before it ends
-abbrev pub start_of : ℕ → ℕ
-start_of zero = 0
-start_of (suc k) = end_of k
+abbrev pub segment_start : ℕ → ℕ
+segment_start zero = 0
+segment_start (suc k) = segment_end k
 
 -- the segment's interval has the place
 pub record HasPlace (segment place : ℕ) : Type 0 where
-  pub from : start_of segment ≤ place
-  pub before : place < end_of segment
+  pub from : segment_start segment ≤ place
+  pub before : place < segment_end segment
 
 -- the first segment from this one on, at most so many further, that ends behind the place
-abbrev pub first_behind : ℕ → ℕ → ℕ → ℕ
-first_behind zero segment place = segment
-first_behind (suc further) segment place =
-    elim (nat_lt place (end_of segment)) [ true ↦ segment | false ↦ first_behind further (segment + 1) place ]
+abbrev pub first_ending_after : ℕ → ℕ → ℕ → ℕ
+first_ending_after zero segment place = segment
+first_ending_after (suc further) segment place =
+    elim (nat_lt place (segment_end segment)) [ true ↦ segment | false ↦ first_ending_after further (segment + 1) place ]
 
 -- the segment of a place
 unfoldable pub segment_of : ℕ → ℕ
-segment_of place = first_behind place 0 place
+segment_of place = first_ending_after place 0 place
 
 -- some place of the run from a place on, so many long, is the segment's
 pub record Touches (segment from n : ℕ) : Type 0 where

@@ -1,13 +1,13 @@
 //! The arithmetic of segments.
 ghost use Rattle.std.specs.Prelude.{◌≡◌, ◌+◌, ◌-◌, ◌^◌, ◌<◌, ◌≤◌, ◌↔◌, ℕ};
-ghost use Rattle.seg_core.specs.Segment.{start_of, end_of, HasPlace, segment_of, Touches};
+ghost use Rattle.seg_core.specs.Segment.{segment_start, segment_end, HasPlace, segment_of, Touches};
 
 /// The segment of a place, and its offset there. It takes a few instructions.
 pub fn locate(place: u64) -> (u32, u64)
     requires { place < 2 ^ 32 }
     ensures segment { HasPlace result.0 place }
     ensures number { result.0 ≡ segment_of place }
-    ensures offset { start_of result.0 + result.1 ≡ place }
+    ensures offset { segment_start result.0 + result.1 ≡ place }
     ensures bound { result.0 < 32 }
 {
     let segment = segment_at(place);
@@ -26,7 +26,7 @@ fn segment_at(place: u64) -> u32
 /// The first place of a segment.
 pub fn first(k: u32) -> u64
     requires { k < 32 }
-    ensures { result ≡ start_of k }
+    ensures { result ≡ segment_start k }
 {
     if k == 0 { 0 } else { 1 << k }
 }
@@ -34,7 +34,7 @@ pub fn first(k: u32) -> u64
 /// How many places a segment has.
 pub fn len(k: u32) -> u64
     requires { k < 32 }
-    ensures { start_of k + result ≡ end_of k }
+    ensures { segment_start k + result ≡ segment_end k }
 {
     if k == 0 { 2 } else { 1 << k }
 }
@@ -56,9 +56,9 @@ pub fn segments_of(from: u64, n: u64) -> (u32, u32)
 pub fn capacity_for(n: u64) -> u64
     requires { n ≤ 2 ^ 32 }
     ensures none { n ≡ 0 → result ≡ 0 }
-    ensures whole { 0 < n → (k : ℕ) × (result ≡ end_of k) }
+    ensures whole { 0 < n → (k : ℕ) × (result ≡ segment_end k) }
     ensures room { n ≤ result }
-    ensures least { 0 < n → (k : ℕ) → n ≤ end_of k → result ≤ end_of k }
+    ensures least { 0 < n → (k : ℕ) → n ≤ segment_end k → result ≤ segment_end k }
 {
     if n == 0 {
         return 0;

@@ -1,15 +1,2 @@
-pub mod Calls
-pub mod Following
-pub mod MadeCall
-pub mod CallLaws
-pub mod Shared
-pub mod Step
-pub mod Stepping
-pub mod Within
-pub mod Play
-pub mod Owners
-pub mod Tiling
-pub mod Record
-pub mod Permanence
-pub mod Legal
-pub mod Interleavings
+pub mod calls
+pub mod machine

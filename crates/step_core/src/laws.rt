@@ -1,10 +1,11 @@
 //! Laws over the definitions alone, each the contract of a call without a body.
-ghost use Rattle.step_core.specs.CallLaws.{CallsPlay, CallsAreLegal};
-ghost use Rattle.step_core.specs.Interleavings.{EveryInterleavingIsSequential};
-ghost use Rattle.step_core.specs.Legal.{EveryPlayIsLegal};
-ghost use Rattle.step_core.specs.Permanence.{EveryPlayIsKept};
-ghost use Rattle.step_core.specs.Record.{EveryPlayIsRecorded};
-ghost use Rattle.step_core.specs.Tiling.{EveryPlayIsTiled};
+ghost use Rattle.step_core.specs.calls.Laws.{CallsPlay, CallsAreLegal};
+ghost use Rattle.step_core.specs.machine.Headline.{EveryInterleavingIsSequential};
+ghost use Rattle.step_core.specs.machine.Legal.{EveryPlayIsLegal};
+ghost use Rattle.step_core.specs.machine.Kept.{EveryPlayIsKept};
+ghost use Rattle.step_core.specs.machine.Play.{PlaysBeginAtTheFirst, PlaysGoOnByAStep};
+ghost use Rattle.step_core.specs.machine.Record.{EveryPlayIsRecorded};
+ghost use Rattle.step_core.specs.machine.Tiling.{EveryPlayIsTiled};
 
 /// What holds of every play of whole calls.
 pub fn whole_calls()
@@ -38,4 +39,10 @@ pub fn kept()
 /// filled cell keeps the value that its owner gave it; and a refused construction breaks its own cells alone.
 pub fn interleavings()
     ensures { EveryInterleavingIsSequential }
+{}
+
+/// The machine that has taken the steps of a schedule is at the configuration of its play.
+pub fn stepping()
+    ensures begins { PlaysBeginAtTheFirst }
+    ensures goes_on { PlaysGoOnByAStep }
 {}

@@ -15,20 +15,13 @@
 //! kept); `Settling`, `Recording` and `Recorded` (records); and `Owners` (a play's cells).
 #![tactic(auto)]
 
-mod call_play;
 mod calls;
 mod errors;
 pub mod laws;
 mod machine;
-mod machine_play;
-mod memory;
-mod phase;
 mod programs;
-mod shared;
 
-pub use call_play::play_calls;
+pub use calls::play_calls;
 pub use errors::{MakeError, PlayError};
-pub use machine::{Machine, Stepped};
-pub use machine_play::play;
-pub use phase::{Actor, Next, Phase, Slot};
+pub use machine::{Actor, Machine, Next, Phase, Slot, Stepped, play};
 pub use programs::Played;

@@ -1,17 +1,22 @@
 //! The machine of atomic steps.
-ghost use Rattle.std.specs.Prelude.{◌≡◌, ◌≤◌, ◌<◌, ◌↔◌, length, IfOk, OnErr, IsErrOf, Some, None, map as list_map};
+ghost use Rattle.std.specs.Prelude.{◌≡◌, ◌≤◌, ◌<◌, ◌↔◌, length, IfOk, OnOk, OnErr, IsErrOf, Some, None, map as list_map};
 ghost use Rattle.std.specs.FinMap as map;
 ghost use Rattle.book_core.specs.Cells.{IsLimit};
 ghost use Rattle.book_core.specs.Commands.{AreSound};
-ghost use Rattle.step_core.specs.Step.{step_of};
-ghost use Rattle.step_core.specs.Stepping.{Gives};
-ghost use Rattle.step_core.specs.Within.{IsInLimit};
+ghost use Rattle.step_core.specs.machine.Step.{step_of, Gives};
+ghost use Rattle.step_core.specs.machine.Bounds.{IsInLimit};
+
+mod maps;
+mod phase;
+mod schedule;
+mod storage;
 
 use crate::errors::MakeError;
-use crate::phase::{Actor, Phase, Slot};
-use crate::programs::are_sound;
-use crate::shared::Shared;
-use book_core::{CellVec, Command, Ended, Event, Reply, Sequence};
+use crate::machine::storage::Storage;
+use crate::programs::check_programs;
+use book_core::{Command, Ended, Event, Reply, Sequence};
+pub use phase::{Actor, Next, Phase, Slot};
+pub use schedule::play;
 use std::alloc::{AllocError, Global};
 use std::marker::Model;
 
@@ -31,26 +36,26 @@ const NOTHING: Stepped = Stepped {
 #[derive(Drop)]
 pub struct Machine {
     limit: u64,
-    shared: Shared,
+    storage: Storage,
     actors: Vec<Actor>,
 }
 
 impl Model for Machine {
-    ghost use Rattle.step_core.specs.Step.{Configuration, configuration_code};
-    ghost use Rattle.step_core.specs.Within.{IsInLimit};
+    ghost use Rattle.step_core.specs.machine.Step.{Configuration, configuration_code};
+    ghost use Rattle.step_core.specs.machine.Bounds.{IsInLimit};
 
     ghost Value = { Configuration };
 
     ghost coded = { configuration_code };
 
-    ghost view = { λ m. record { limit = m.limit; shared = m.shared; actors = m.actors.items } };
+    ghost view = { λ m. record { limit = m.limit; storage = m.storage; actors = m.actors.items } };
 
-    ghost invariant = { λ m. IsInLimit (record { limit = m.limit; shared = m.shared; actors = m.actors.items }) };
+    ghost invariant = { λ m. IsInLimit (record { limit = m.limit; storage = m.storage; actors = m.actors.items }) };
 }
 
 impl Machine {
-    ghost use Rattle.step_core.specs.Step.{opening, step_of};
-    ghost use Rattle.step_core.specs.Stepping.{Gives};
+    ghost use Rattle.step_core.specs.machine.Step.{first_configuration, step_of};
+    ghost use Rattle.step_core.specs.machine.Step.{Gives};
 
     /// The machine before the first step. It takes memory in line with the actors.
     pub fn new(
@@ -59,20 +64,18 @@ impl Machine {
         programs: Sequence<Sequence<Command>>,
     ) -> Result<Machine, MakeError>
         requires { length programs ≤ 65536 }
-        ensures made { IfOk result (λ machine. machine ≡ opening limit programs) }
+        ensures made { IfOk result (λ machine. machine ≡ first_configuration limit programs) }
+        // What the laws ask for.
+        ensures limit { OnOk result (IsLimit limit) }
+        ensures sound { OnOk result (AreSound programs) }
         ensures bad_limit { IsErrOf result MakeError.BadLimit ↔ (IsLimit limit → ⊥) }
         ensures bad_command { IsErrOf result MakeError.BadCommand ↔ IsLimit limit × (AreSound programs → ⊥) }
     {
-        if !CellVec::is_limit(limit) {
-            return Err(MakeError::BadLimit);
-        }
-        if !are_sound(programs.as_slice()) {
-            return Err(MakeError::BadCommand);
-        }
+        check_programs(limit, programs.as_slice())?;
         match actors_of(alloc, programs) {
             Ok(actors) => Ok(Machine {
                 limit,
-                shared: Shared::new(alloc),
+                storage: Storage::new(alloc),
                 actors,
             }),
             Err(_) => Err(MakeError::NoMemory),
@@ -88,16 +91,16 @@ impl Machine {
 
     /// How many places are claimed.
     pub fn size(&self) -> u64
-        ensures { result ≡ self.now.shared.size }
+        ensures { result ≡ self.now.storage.size }
     {
-        self.shared.size()
+        self.storage.size()
     }
 
     /// What the slot of a place holds; `None` where it is empty.
     pub fn slot(&self, place: u64) -> Option<Slot>
-        ensures { result ≡ map.get self.now.shared.slots place }
+        ensures { result ≡ map.get self.now.storage.slots place }
     {
-        self.shared.slot(place)
+        self.storage.slot(place)
     }
 
     /// One atomic step of an actor; one with nothing left, or without a program, changes nothing.
@@ -111,7 +114,7 @@ impl Machine {
     {
         step_among(
             self.limit,
-            &mut self.shared,
+            &mut self.storage,
             &mut self.actors,
             actor,
             memory,
@@ -121,17 +124,17 @@ impl Machine {
 
 fn step_among(
     limit: u64,
-    shared: &mut Shared,
+    storage: &mut Storage,
     actors: &mut Vec<Actor>,
     who: u32,
     memory: bool,
 ) -> Result<Stepped, AllocError>
-    requires { IsInLimit (record { limit = limit; shared = shared.old; actors = actors.old.items }) }
+    requires { IsInLimit (record { limit = limit; storage = storage.old; actors = actors.old.items }) }
     ensures steps { IfOk result (λ stepped. Gives
-        (step_of (record { limit = limit; shared = shared.old; actors = actors.old.items }) who memory)
-        (record { limit = limit; shared = shared.new; actors = actors.new.items })
+        (step_of (record { limit = limit; storage = storage.old; actors = actors.old.items }) who memory)
+        (record { limit = limit; storage = storage.new; actors = actors.new.items })
         stepped) }
-    ensures err { OnErr result ((shared.new ≡ shared.old) × (actors.new.items ≡ actors.old.items)) }
+    ensures err { OnErr result ((storage.new ≡ storage.old) × (actors.new.items ≡ actors.old.items)) }
 {
     let Some(current) = actors.get(who as usize) else {
         return Ok(NOTHING);
@@ -140,7 +143,7 @@ fn step_among(
     let Some(command) = current.command() else {
         return Ok(NOTHING);
     };
-    let outcome = shared.step(limit, who, &command, memory, phase)?;
+    let outcome = storage.step(limit, who, &command, memory, phase)?;
     let ended = actors[who as usize].follow(who, command, outcome.next);
     Ok(Stepped {
         event: outcome.event,

@@ -1,8 +1,10 @@
 //! Programs and schedules, and what a play of them gives.
-ghost use Rattle.std.specs.Prelude.{◌<◌, ◌↔◌, IsTrue, All, length};
+ghost use Rattle.std.specs.Prelude.{◌<◌, ◌↔◌, IsTrue, OnOk, IsErrOf, All, length};
+ghost use Rattle.book_core.specs.Cells.{IsLimit};
 ghost use Rattle.book_core.specs.Commands.{IsSound, AreSound, HavePrograms};
 
-use book_core::{Cell, Command, Ended, Event, Item, Reply, Sequence};
+use crate::errors::{MakeError, PlayError};
+use book_core::{Cell, CellVec, Command, Ended, Event, Item, Reply, Sequence};
 
 /// What a play gives: the events with their replies, the calls that ended, each in order, and the cells at the end.
 #[derive(Debug, Drop)]
@@ -27,15 +29,59 @@ fn is_sound_program(program: &Sequence<Command>) -> bool
     program.as_slice().iter().all(is_sound)
 }
 
-pub(crate) fn are_sound(programs: &[Sequence<Command>]) -> bool
+fn are_sound(programs: &[Sequence<Command>]) -> bool
     ensures { IsTrue result ↔ AreSound programs.now }
 {
     programs.iter().all(is_sound_program)
 }
 
-pub(crate) fn have_programs(programs: &[Sequence<Command>], items: &[Item]) -> bool
+fn have_programs(programs: &[Sequence<Command>], items: &[Item]) -> bool
     ensures { IsTrue result ↔ HavePrograms programs.now items.now }
 {
     let count = programs.len();
     items.iter().all(|item| (item.actor as usize) < count)
+}
+
+/// Whether the programs can be run: the limit is looked at first, then the commands.
+pub(crate) fn check_programs(limit: u64, programs: &[Sequence<Command>]) -> Result<(), MakeError>
+    ensures limit { OnOk result (IsLimit limit) }
+    ensures sound { OnOk result (AreSound programs.now) }
+    ensures bad_limit { IsErrOf result MakeError.BadLimit ↔ (IsLimit limit → ⊥) }
+    ensures bad_command { IsErrOf result MakeError.BadCommand ↔ IsLimit limit × (AreSound programs.now → ⊥) }
+    ensures no_memory_taken { IsErrOf result MakeError.NoMemory → ⊥ }
+{
+    if !CellVec::is_limit(limit) {
+        return Err(MakeError::BadLimit);
+    }
+    if !are_sound(programs) {
+        return Err(MakeError::BadCommand);
+    }
+    Ok(())
+}
+
+/// Whether the schedule can be played: the programs are looked at first, and then whether each item has one.
+pub(crate) fn check_schedule(
+    limit: u64,
+    programs: &[Sequence<Command>],
+    items: &[Item],
+) -> Result<(), PlayError>
+    ensures limit { OnOk result (IsLimit limit) }
+    ensures sound { OnOk result (AreSound programs.now) }
+    ensures items { OnOk result (HavePrograms programs.now items.now) }
+    ensures bad_limit { IsErrOf result PlayError.BadLimit ↔ (IsLimit limit → ⊥) }
+    ensures bad_command { IsErrOf result PlayError.BadCommand ↔ IsLimit limit × (AreSound programs.now → ⊥) }
+    ensures bad_actor { IsErrOf result PlayError.BadActor
+        ↔ IsLimit limit × AreSound programs.now × (HavePrograms programs.now items.now → ⊥) }
+    ensures no_memory_taken { IsErrOf result PlayError.NoMemory → ⊥ }
+{
+    match check_programs(limit, programs) {
+        Ok(()) => {}
+        Err(MakeError::BadLimit) => return Err(PlayError::BadLimit),
+        Err(MakeError::BadCommand) => return Err(PlayError::BadCommand),
+        Err(MakeError::NoMemory) => unreachable!(),
+    }
+    if !have_programs(programs, items) {
+        return Err(PlayError::BadActor);
+    }
+    Ok(())
 }

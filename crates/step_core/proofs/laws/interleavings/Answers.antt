@@ -1,6 +1,7 @@
-use Rattle.step_core.proofs.PlayHistory.{every_play_is_legal, every_play_is_kept, every_play_moves_at_claims}
-use Rattle.step_core.proofs.Recorded.{every_play_is_recorded}
-use Rattle.step_core.proofs.Tiled.{every_play_is_tiled}
+use Rattle.step_core.proofs.atomic_steps.Claims.{every_play_moves_at_claims, every_move_is_own, every_nothing_is_at_load}
+use Rattle.step_core.proofs.atomic_steps.Legal.{every_play_is_legal, every_play_is_kept}
+use Rattle.step_core.proofs.atomic_steps.Record.{every_play_is_recorded}
+use Rattle.step_core.proofs.atomic_steps.Tiling.{every_play_is_tiled}
 use Rattle.step_core.proofs.laws.interleavings.Goals as goal
 
 pub returns : goal.returns
@@ -8,6 +9,8 @@ returns c = λ limit programs items is_limit sound. record {
   legal = every_play_is_legal limit programs items is_limit;
   recorded = every_play_is_recorded limit programs items is_limit sound;
   at_claims = every_play_moves_at_claims limit programs items is_limit;
+  own_claims = every_move_is_own limit programs items is_limit sound;
+  nothing_at_load = every_nothing_is_at_load limit programs items is_limit sound;
   tiled = every_play_is_tiled limit programs items is_limit;
   kept = every_play_is_kept limit programs items is_limit;
 }

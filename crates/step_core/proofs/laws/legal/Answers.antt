@@ -1,4 +1,4 @@
-use Rattle.step_core.proofs.PlayHistory.{every_play_is_legal}
+use Rattle.step_core.proofs.atomic_steps.Legal.{every_play_is_legal}
 use Rattle.step_core.proofs.laws.legal.Goals as goal
 
 pub returns : goal.returns

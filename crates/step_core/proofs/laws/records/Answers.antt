@@ -1,4 +1,4 @@
-use Rattle.step_core.proofs.Recorded.{every_play_is_recorded}
+use Rattle.step_core.proofs.atomic_steps.Record.{every_play_is_recorded}
 use Rattle.step_core.proofs.laws.records.Goals as goal
 
 pub returns : goal.returns

@@ -1,4 +1,4 @@
-use Rattle.step_core.proofs.CallHistory.{calls_play, calls_are_legal}
+use Rattle.step_core.proofs.whole_calls.History.{calls_play, calls_are_legal}
 use Rattle.step_core.proofs.laws.whole_calls.Goals as goal
 
 pub returns-clause-plays : goal.returns-clause-plays

@@ -1,5 +1,5 @@
 use Rattle.std.proofs.Common.{rules}
-use Rattle.step_core.proofs.Staying.{new_in_limit}
+use Rattle.step_core.proofs.atomic_steps.Bounds.{new_in_limit}
 use Rattle.step_core.proofs.machine.Machine.new.Goals as goal
 
 pub invariant_of-result : goal.invariant_of-result

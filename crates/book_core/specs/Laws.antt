@@ -1,0 +1,46 @@
+-- What holds of every legal history, by the table of events alone.
+use Rattle.std.specs.Prelude.{◌≡◌, ◌↔◌, ℕ, List, [], ◌∷◌, ◌++◌, length, Some, slice_get}
+use Rattle.std.specs.List.{Contains}
+use Rattle.book_core.specs.declared.cells.Cell.{Cell}
+use Rattle.book_core.specs.declared.cells.Cell.TheVariants.{Filled}
+use Rattle.book_core.specs.declared.events.Event.{Event}
+use Rattle.book_core.specs.declared.events.Event.TheVariants.{Finish, Look}
+use Rattle.book_core.specs.declared.events.Reply.{Reply}
+use Rattle.book_core.specs.declared.events.Reply.TheVariants as replies
+use Rattle.book_core.specs.Cells.{CellList, IsFinished, empty_list}
+use Rattle.book_core.specs.History.{IsHistory, runs_of, Tile, owner_of, writers_of}
+
+-- a history in two parts is two histories, one after the other
+abbrev pub HistoriesSplit : Type 0
+HistoriesSplit =
+    (old new : CellList) (es fs : List (Event × Reply)) → IsHistory old (es ++ fs) new
+    ↔ ((mid : CellList) × IsHistory old es mid × IsHistory mid fs new)
+
+-- the runs of a history tile the places that it appends
+abbrev pub RunsTile : Type 0
+RunsTile = (old new : CellList) (es : List (Event × Reply)) → IsHistory old es new → Tile (length old.cells) (runs_of es) (length new.cells)
+
+-- a cell that is filled or broken stays as it is
+abbrev pub FinishedCellsStay : Type 0
+FinishedCellsStay =
+    (old new : CellList) (es : List (Event × Reply)) (place : ℕ) (cell : Cell) → IsHistory old es new
+    → slice_get old.cells place ≡ Some cell → IsFinished cell → slice_get new.cells place ≡ Some cell
+
+-- the owner of the place filled it with this value, and nobody else wrote it
+pub record IsFilledByOwner (es : List (Event × Reply)) (place value : ℕ) : Type 0 where
+  pub owner : ℕ
+  pub owns : owner_of (runs_of es) place ≡ Some owner
+  pub filled : Contains es (Finish owner place value, replies.Done)
+  pub once : writers_of place es ≡ owner ∷ []
+
+-- a cell that holds a value was filled with it by the owner of its place
+abbrev pub ValuesAreTheOwners : Type 0
+ValuesAreTheOwners =
+    (limit : ℕ) (new : CellList) (es : List (Event × Reply)) (place value : ℕ) → IsHistory (empty_list limit) es new
+    → slice_get new.cells place ≡ Some (Filled value) → IsFilledByOwner es place value
+
+-- so was a value that a look was told, before that look
+abbrev pub LooksTellTheOwnersValue : Type 0
+LooksTellTheOwnersValue =
+    (limit : ℕ) (new : CellList) (es rest : List (Event × Reply)) (actor place value : ℕ)
+    → IsHistory (empty_list limit) (es ++ (Look actor place, replies.Value value) ∷ rest) new → IsFilledByOwner es place value

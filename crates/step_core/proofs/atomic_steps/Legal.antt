@@ -1,0 +1,109 @@
+-- The events of a play of the machine are a legal history, and what is finished stays.
+pub mod Ranges
+pub mod Table
+pub mod Replies
+use Rattle.std.proofs.Common.{◌≡◌, ◌≢◌, ℕ, ◌+◌, ◌-◌, nat_le, Bool, true, false, if◌then◌else◌, List, [], ◌∷◌, ◌++◌, length, replicate, Option, Some, None, IfSome, slice_get, slice_set, zero, suc, refl, ap, sym, ◌∙◌, subst, append_assoc, inl, inr}
+use Rattle.std.proofs.lemmas.Bool.Decides.{eqb_tells}
+use Rattle.std.proofs.lemmas.List.{append-nil}
+use Rattle.std.proofs.lemmas.Option.{none-some, same_Some}
+use Rattle.std.specs.Option.{option_to_list}
+use Rattle.book_core.specs.declared.cells.Cell.{Cell}
+use Rattle.book_core.specs.declared.cells.Cell.TheVariants as cells
+use Rattle.book_core.specs.declared.events.Event.{Event}
+use Rattle.book_core.specs.declared.events.Event.TheVariants.{Claim, Raise, Finish, Break, Look, Size, RefusedFull, RefusedMemory}
+use Rattle.book_core.specs.declared.events.Reply.{Reply}
+use Rattle.book_core.specs.declared.events.Reply.TheVariants as replies
+use Rattle.book_core.specs.declared.commands.Command.{Command}
+use Rattle.book_core.specs.declared.commands.Item.{Item}
+use Rattle.book_core.specs.Cells.{CellList, IsLimit, empty_list, with_pending, with_cell, is_pending_for, reply_of_look, apply_event, IsFinished}
+use Rattle.book_core.specs.History.{IsHistory, OwnedRun, runs_of, Tile}
+use Rattle.step_core.specs.machine.Step.{Configuration, step_of, step_as, step_in, outcome_of}
+use Rattle.step_core.specs.machine.Bounds.{IsWithin, IsInLimit}
+use Rattle.step_core.specs.machine.Play.{Play, empty_play, with_step, after_items, play_of}
+use Rattle.step_core.specs.machine.Legal.{list_seen, EveryPlayIsLegal}
+use Rattle.step_core.specs.machine.Kept.{EveryPlayIsKept}
+use Rattle.step_core.proofs.atomic_steps.Bounds.{opening_in_limit, step_in_limit, actor_at}
+use Rattle.book_core.proofs.Histories.{IsHistory-append, finished_cells_stay}
+use Rattle.book_core.proofs.Runs.{runs_of-append}
+use Rattle.step_core.proofs.atomic_steps.Tiling.{HoldsAt, step_holds, opening_holds, items_hold}
+use Rattle.step_core.proofs.atomic_steps.Legal.Replies.{seen, row_told}
+
+-- what a step does to the vector that is seen of a configuration and its history
+abbrev StepTold : ℕ → Configuration → List (Event × Reply) → Configuration → Option (Event × Reply) → Type 0
+StepTold limit c events c' event =
+    IsHistory (seen limit c.storage (runs_of events)) (option_to_list event) (seen limit c'.storage (runs_of (events ++ option_to_list event)))
+
+-- a step that changes nothing
+nothing_told : (limit : ℕ) (c : Configuration) (events : List (Event × Reply)) → StepTold limit c events c None
+nothing_told limit c events = ap (λ es. seen limit c.storage (runs_of es)) (append-nil events)
+
+step_told : (c : Configuration) (events : List (Event × Reply)) (who : ℕ) (memory : Bool) → IsInLimit c → HoldsAt c events → StepTold c.limit c events (step_of c who memory).to (step_of c who memory).event
+step_told c events who memory in_limit holds =
+    elim (slice_get c.actors who) as (λ o. slice_get c.actors who ≡ o → StepTold c.limit c events (step_as c who memory o).to (step_as c who memory o).event) [
+      | None ↦ (λ _. nothing_told c.limit c events)
+      | Some actor ↦ (λ there.
+          elim (slice_get actor.program actor.ended) as (λ o. slice_get actor.program actor.ended ≡ o → StepTold c.limit c events (step_in c who memory actor o).to (step_in c who memory actor o).event) [
+            | None ↦ (λ _. nothing_told c.limit c events)
+            | Some command ↦ (λ is.
+                let placed = actor_at c.limit c.actors who actor in_limit.2 there in
+                let within : IsWithin c.limit command actor.phase = subst (λ o. IfSome o (λ k. IsWithin c.limit k actor.phase)) is placed in
+                let outcome = outcome_of c.limit c.storage who command memory actor.phase in
+                subst (λ rs. IsHistory (seen c.limit c.storage (runs_of events)) (option_to_list outcome.event) (seen c.limit outcome.storage rs)) (sym (runs_of-append events (option_to_list outcome.event)))
+                (row_told c.limit c.storage (runs_of events) who (record { room = in_limit.1; tile = holds.tile; taken = holds.taken }) command memory actor.phase within (holds.knows who actor there)))
+          ]
+          refl)
+    ]
+    refl
+
+-- a step leaves the limit
+limit_kept : (c : Configuration) (who : ℕ) (memory : Bool) → (step_of c who memory).to.limit ≡ c.limit
+limit_kept c who memory =
+    elim (slice_get c.actors who) as (λ o. (step_as c who memory o).to.limit ≡ c.limit) [
+      | None ↦ refl
+      | Some actor ↦ elim (slice_get actor.program actor.ended) as (λ o. (step_in c who memory actor o).to.limit ≡ c.limit) [ None ↦ refl | Some command ↦ refl ]
+    ]
+
+-- so do items, which stay within it
+items_limit : (p : Play) (items : List Item) → (after_items p items).at.limit ≡ p.at.limit
+items_limit p [] = refl
+items_limit p (item ∷ items) = items_limit (with_step p (step_of p.at item.actor item.memory)) items ∙ limit_kept p.at item.actor item.memory
+
+pub items_in_limit : (p : Play) (items : List Item) → IsInLimit p.at → IsInLimit (after_items p items).at
+items_in_limit p [] in_limit = in_limit
+items_in_limit p (item ∷ items) in_limit = items_in_limit (with_step p (step_of p.at item.actor item.memory)) items (step_in_limit p.at item.actor item.memory in_limit)
+
+-- the events that further items add, and what they do to the vector that is seen
+record Further (limit : ℕ) (p q : Play) : Type 0 where
+  pub more : List (Event × Reply)
+  pub events : q.events ≡ p.events ++ more
+  pub told : IsHistory (list_seen limit p) more (list_seen limit q)
+
+items_told : (limit : ℕ) (p : Play) (items : List Item) → p.at.limit ≡ limit → IsInLimit p.at → HoldsAt p.at p.events → Further limit p (after_items p items)
+items_told limit p [] is in_limit holds = record { more = []; events = sym (append-nil p.events); told = refl }
+items_told limit p (item ∷ items) is in_limit holds =
+    let step = step_of p.at item.actor item.memory in
+    let next = with_step p step in
+    let others = items_told limit next items (limit_kept p.at item.actor item.memory ∙ is) (step_in_limit p.at item.actor item.memory in_limit) (step_holds p.at p.events item.actor item.memory in_limit holds) in
+    record {
+      more = option_to_list step.event ++ others.more;
+      events = others.events ∙ append_assoc p.events (option_to_list step.event) others.more;
+      told = IsHistory-append (list_seen limit p) (option_to_list step.event) others.more (list_seen limit next) (list_seen limit (after_items next items))
+          (subst (λ k. StepTold k p.at p.events step.to step.event) is (step_told p.at p.events item.actor item.memory in_limit holds))
+          others.told;
+    }
+
+pub every_play_is_legal : EveryPlayIsLegal
+every_play_is_legal limit programs items is_limit =
+    let further = items_told limit (empty_play limit programs) items refl (opening_in_limit limit programs is_limit) (opening_holds limit programs) in
+    subst (λ es. IsHistory (empty_list limit) es (list_seen limit (play_of limit programs items))) (sym further.events) further.told
+
+-- ---- What is finished stays
+
+pub every_play_is_kept : EveryPlayIsKept
+every_play_is_kept limit programs items is_limit more place cell here finished =
+    let opens = opening_in_limit limit programs is_limit in
+    let p = play_of limit programs items in
+    let in_limit : IsInLimit p.at = items_in_limit (empty_play limit programs) items opens in
+    let holds : HoldsAt p.at p.events = items_hold (empty_play limit programs) items opens (opening_holds limit programs) in
+    let further = items_told limit p more (items_limit (empty_play limit programs) items) in_limit holds in
+    finished_cells_stay (list_seen limit p) (list_seen limit (after_items p more)) further.more place cell further.told here finished

@@ -1,0 +1,106 @@
+-- Where the runs of a play follow each other, its cells are those of their owners, place by place.
+use Rattle.std.proofs.Common.{◌≡◌, ℕ, ◌+◌, ◌<◌, ◌≤◌, Bool, List, [], ◌∷◌, ◌++◌, length, map, replicate, Option, Some, None, Result, Ok, Err, IfOk, All, slice_get, zero, suc, refl, ap, sym, ◌∙◌, subst, arith}
+use Rattle.std.proofs.lemmas.List.{length-append, length-replicate}
+use Rattle.std.proofs.lemmas.List.Elements.{All-append, All-nil, All-cons}
+use Rattle.std.specs.List.{range_with_len}
+use Rattle.std.specs.Option.{option_to_list}
+use Rattle.std.specs.FinMap.{get}
+use Rattle.book_core.specs.declared.commands.Command.{Command}
+use Rattle.book_core.specs.declared.commands.Item.{Item}
+use Rattle.book_core.specs.declared.commands.Ended.{Ended}
+use Rattle.book_core.specs.Cells.{IsLimit}
+use Rattle.book_core.specs.Commands.{HavePrograms, HaveActors}
+use Rattle.book_core.specs.History.{OwnedRun, runs_of, owner_of, Tile}
+use Rattle.step_core.specs.declared.machine.phase.Slot.{Slot}
+use Rattle.step_core.specs.declared.machine.phase.Next.{Next}
+use Rattle.step_core.specs.declared.machine.phase.Next.TheVariants.{Goes, Ends}
+use Rattle.step_core.specs.declared.machine.phase.Actor.{Actor}
+use Rattle.step_core.specs.declared.programs.Played.{Played}
+use Rattle.step_core.specs.machine.Step.{ended_by, Configuration, step_of, step_as, step_in, outcome_of}
+use Rattle.step_core.specs.machine.Play.{Play, empty_play, with_step, after_items, play_of, cell_of, played_of}
+use Rattle.step_core.specs.machine.Owners.{owners_of, cells_from, played_by_owners}
+use Rattle.book_core.proofs.Runs.{has_place-true, has_place-past}
+use Rattle.step_core.proofs.atomic_steps.Tiling.{every_play_is_tiled}
+
+-- the owners of the places from one on are these, in order
+abbrev AreOwners : (ℕ → Option ℕ) → ℕ → List ℕ → Type 0
+AreOwners owner place [] = Unit {0}
+AreOwners owner place (o ∷ os) = (owner place ≡ Some o) × AreOwners owner (place + 1) os
+
+-- cells by their owners
+by_owners : (owner : ℕ → Option ℕ) (slot : ℕ → Option Slot) (place : ℕ) (owners : List ℕ) → AreOwners owner place owners → cells_from slot place owners ≡ map (λ p. cell_of (owner p) (slot p)) (range_with_len place (length owners))
+by_owners owner slot place [] are = refl
+by_owners owner slot place (o ∷ os) (is, are) = rw (is, by_owners owner slot (place + 1) os are) refl
+
+-- an owner that is the same from a place on
+same_owners : (owner other : ℕ → Option ℕ) (place : ℕ) (owners : List ℕ) → ((p : ℕ) → place ≤ p → owner p ≡ other p) → AreOwners owner place owners → AreOwners other place owners
+same_owners owner other place [] same are = tt
+same_owners owner other place (o ∷ os) same (is, are) = (sym (same place (omega arith)) ∙ is, same_owners owner other (place + 1) os (λ p low. same p (omega arith)) are)
+
+-- one owner of n places, and then others
+one_owner : (owner : ℕ → Option ℕ) (place n who : ℕ) (owners : List ℕ) → ((p : ℕ) → place ≤ p → p < place + n → owner p ≡ Some who) → AreOwners owner (place + n) owners → AreOwners owner place (replicate n who ++ owners)
+one_owner owner place zero who owners ours are = subst (λ p. AreOwners owner p owners) (omega arith) are
+one_owner owner place (suc n) who owners ours are = (ours place (omega arith) (omega arith), one_owner owner (place + 1) n who owners (λ p low high. ours p (omega arith) (omega arith)) (subst (λ p. AreOwners owner p owners) (omega arith) are))
+
+-- the owners of runs that tile
+tile_owners : (start end : ℕ) (runs : List OwnedRun) → Tile start runs end → AreOwners (owner_of runs) start (owners_of runs)
+tile_owners start end [] tile = tt
+tile_owners start end (run ∷ runs) (begins, others) =
+    one_owner (owner_of (run ∷ runs)) start run.n run.owner (owners_of runs)
+    (λ p low high. rw (has_place-true run p (omega arith) (omega arith)) refl)
+    (same_owners (owner_of runs) (owner_of (run ∷ runs)) (start + run.n) (owners_of runs) (λ p low. rw (has_place-past run p (omega arith)) refl) (tile_owners (start + run.n) end runs others))
+
+-- and how many there are
+tile_length : (start end : ℕ) (runs : List OwnedRun) → Tile start runs end → start + length (owners_of runs) ≡ end
+tile_length start end [] tile = (let same : start ≡ end = tile in omega arith)
+tile_length start end (run ∷ runs) (begins, others) =
+    let rest = tile_length (start + run.n) end runs others in
+    let parts : length (replicate run.n run.owner ++ owners_of runs) ≡ run.n + length (owners_of runs) = length-append (replicate run.n run.owner) (owners_of runs) ∙ ap (λ k. k + length (owners_of runs)) (length-replicate run.n run.owner) in
+    omega arith
+
+-- what a play shows is what its owners show
+shown : (p : Play) → Tile 0 (runs_of p.events) p.at.storage.size → played_by_owners p ≡ played_of p
+shown p tile =
+    let are = by_owners (owner_of (runs_of p.events)) (get p.at.storage.slots) 0 (owners_of (runs_of p.events)) (tile_owners 0 p.at.storage.size (runs_of p.events) tile) in
+    let whole : 0 + length (owners_of (runs_of p.events)) ≡ p.at.storage.size = tile_length 0 p.at.storage.size (runs_of p.events) tile in
+    let count : length (owners_of (runs_of p.events)) ≡ p.at.storage.size = omega arith in
+    ap (λ cells. record { events = p.events; ended = p.ended; cells = cells }) (are ∙ ap (λ n. map (λ place. cell_of (owner_of (runs_of p.events) place) (get p.at.storage.slots place)) (range_with_len 0 n)) count)
+
+-- a play from nothing claimed
+pub from_opening : (limit : ℕ) (programs : List (List Command)) (items : List Item) (p q : Play) → p ≡ after_items q items → q ≡ empty_play limit programs → p ≡ play_of limit programs items
+from_opening limit programs items p q is opens = is ∙ ap (λ o. after_items o items) opens
+
+pub play_shown : {E : Type 0} (limit : ℕ) (programs : List (List Command)) (items : List Item) (p : Play) (result : Result Played E) → IsLimit limit → p ≡ play_of limit programs items → IfOk result (λ played. played ≡ played_by_owners p) → IfOk result (λ played. played ≡ played_of (play_of limit programs items))
+play_shown limit programs items p (Ok played) is_limit plays is =
+    let tiled = every_play_is_tiled limit programs items is_limit in
+    is ∙ ap played_by_owners plays ∙ shown (play_of limit programs items) tiled.runs_tile
+play_shown limit programs items p (Err e) is_limit plays is = tt
+
+-- ---- Whose calls end
+
+-- a call that ends is its actor's
+ended_is_its : (count who : ℕ) (actor : Actor) (command : Command) (next : Next) → who < count → HaveActors count (option_to_list (ended_by who actor command next))
+ended_is_its count who actor command (Goes phase) has = All-nil _
+ended_is_its count who actor command (Ends answer) has = All-cons (λ (e : Ended). e.actor < count) (record { actor = who; number = actor.ended + 1; command = command; answer = answer }) [] has (All-nil _)
+
+step_actors : (count : ℕ) (c : Configuration) (who : ℕ) (memory : Bool) → who < count → HaveActors count (option_to_list (step_of c who memory).ended)
+step_actors count c who memory has =
+    elim (slice_get c.actors who) as (λ o. HaveActors count (option_to_list (step_as c who memory o).ended)) [
+      | None ↦ All-nil _
+      | Some actor ↦
+          elim (slice_get actor.program actor.ended) as (λ o. HaveActors count (option_to_list (step_in c who memory actor o).ended)) [
+            | None ↦ All-nil _
+            | Some command ↦ ended_is_its count who actor command (outcome_of c.limit c.storage who command memory actor.phase).next has
+          ]
+    ]
+
+items_actors : (count : ℕ) (p : Play) (items : List Item) → All (λ item. item.actor < count) items → HaveActors count p.ended → HaveActors count (after_items p items).ended
+items_actors count p [] have actors = actors
+items_actors count p (item ∷ items) have actors =
+    items_actors count (with_step p (step_of p.at item.actor item.memory)) items (λ k d inside. have (suc k) d (omega arith))
+    (All-append (λ (e : Ended). e.actor < count) p.ended (option_to_list (step_of p.at item.actor item.memory).ended) actors (step_actors count p.at item.actor item.memory (have 0 item (omega arith))))
+
+pub play_actors : {E : Type 0} (limit : ℕ) (programs : List (List Command)) (items : List Item) (p : Play) (result : Result Played E) → HavePrograms programs items → p ≡ play_of limit programs items → IfOk result (λ played. played ≡ played_by_owners p) → IfOk result (λ played. HaveActors (length programs) played.ended)
+play_actors limit programs items p (Ok played) have plays is =
+    subst (λ (r : Played). HaveActors (length programs) r.ended) (sym (is ∙ ap played_by_owners plays)) (items_actors (length programs) (empty_play limit programs) items have (All-nil _))
+play_actors limit programs items p (Err e) have plays is = tt

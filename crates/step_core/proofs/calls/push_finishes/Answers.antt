@@ -1,6 +1,0 @@
-use Rattle.step_core.proofs.CallLemmas.{one_more_place}
-use Rattle.step_core.proofs.calls.push_finishes.Goals as goal
-
-pub loop-place-preserved : goal.loop-place-preserved
-loop-place-preserved c =
-    rw c.in_ok-push.ensures.items (one_more_place _ _ _ _ _ c.loop-place-test.true c.loop-place.invariant)

@@ -1,8 +1,0 @@
--- the owners so far, and then those of the events that are left, are all of them
-use Rattle.std.proofs.Common.{◌≡◌, ◌++◌, drop}
-use Rattle.book_core.specs.History.{runs_of}
-use Rattle.step_core.specs.Owners.{owners_of}
-use Rattle.step_core.proofs.machine_play.MachinePlay.owners.Given as goal
-
-abbrev pub invariant-loop-told : goal.invariant-loop-told
-invariant-loop-told l = l.owners.items ++ owners_of (runs_of (drop l.told-index l.self.events)) ≡ owners_of (runs_of l.self.events)

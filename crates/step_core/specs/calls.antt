@@ -1,0 +1,3 @@
+pub mod WholeCall
+pub mod Play
+pub mod Laws

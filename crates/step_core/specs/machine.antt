@@ -1,0 +1,11 @@
+pub mod Storage
+pub mod Step
+pub mod Play
+pub mod Legal
+pub mod Record
+pub mod Claims
+pub mod Tiling
+pub mod Kept
+pub mod Headline
+pub mod Bounds
+pub mod Owners

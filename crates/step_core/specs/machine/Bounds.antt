@@ -1,0 +1,60 @@
+-- The numbers of a phase stay within the limit, and what it wants is what its command wants.
+use Rattle.std.specs.Prelude.{◌≡◌, ℕ, ◌+◌, ◌<◌, ◌≤◌, IfSome, All, slice_get}
+use Rattle.book_core.specs.declared.commands.Command.{Command}
+use Rattle.book_core.specs.declared.commands.Command.TheVariants.{Push, Grow, AtLeast, Fail, Read, Size}
+use Rattle.step_core.specs.declared.machine.phase.Phase.{Phase}
+use Rattle.step_core.specs.declared.machine.phase.Phase.TheVariants.{Load, Scout, Put, Exchange, Raise, Begin, Fill, Spoil, Look}
+use Rattle.step_core.specs.declared.machine.phase.Next.{Next}
+use Rattle.step_core.specs.declared.machine.phase.Next.TheVariants.{Goes, Ends}
+use Rattle.step_core.specs.declared.machine.storage.Outcome.{Outcome as Given}
+use Rattle.step_core.specs.machine.Storage.{Storage}
+use Rattle.step_core.specs.declared.machine.phase.Actor.{Actor}
+use Rattle.book_core.specs.Cells.{IsLimit}
+use Rattle.step_core.specs.machine.Step.{Outcome, Configuration}
+
+-- a growth to at least a size wants the places up to it
+abbrev pub Wants : Command → ℕ → ℕ → Type 0
+Wants (Push value) from n = Unit {0}
+Wants (Grow m value) from n = Unit {0}
+Wants (AtLeast to value) from n = from + n ≡ to
+Wants (Fail m value at) from n = Unit {0}
+Wants (Read place) from n = Unit {0}
+Wants Size from n = Unit {0}
+
+-- a growth to at least a size claims by a raise; no other call does
+abbrev pub Exchanges : Command → Type 0
+Exchanges (Push value) = Unit {0}
+Exchanges (Grow m value) = Unit {0}
+Exchanges (AtLeast to value) = ⊥
+Exchanges (Fail m value at) = Unit {0}
+Exchanges (Read place) = Unit {0}
+Exchanges Size = Unit {0}
+
+-- where an actor stands is within the limit
+abbrev pub IsWithin : ℕ → Command → Phase → Type 0
+IsWithin limit command Load = Unit {0}
+IsWithin limit command (Scout from n segment) = (0 < n) × (from + n ≤ limit) × (segment < 32) × Wants command from n
+IsWithin limit command (Put from n segment) = (0 < n) × (from + n ≤ limit) × (segment < 32) × Wants command from n
+IsWithin limit command (Exchange from n) = (0 < n) × (from + n ≤ limit) × Exchanges command
+IsWithin limit command (Raise to) = to ≤ limit
+IsWithin limit command (Begin from n place) = (from ≤ place) × (place < from + n) × (from + n ≤ limit)
+IsWithin limit command (Fill from n place) = (from ≤ place) × (place < from + n) × (from + n ≤ limit)
+IsWithin limit command (Spoil from n place) = (from ≤ place) × (place < from + n) × (from + n ≤ limit)
+IsWithin limit command (Look place) = Unit {0}
+
+-- where an actor goes on, it stays within
+abbrev pub StaysWithin : ℕ → Command → Next → Type 0
+StaysWithin limit command (Goes phase) = IsWithin limit command phase
+StaysWithin limit command (Ends answer) = Unit {0}
+
+-- an outcome: what is left, and what is given
+abbrev pub given : Storage → Given → Outcome
+given m outcome = record { storage = m; event = outcome.event; next = outcome.next }
+
+-- an actor with a call under way stands within the limit
+abbrev pub IsPlaced : ℕ → Actor → Type 0
+IsPlaced limit actor = IfSome (slice_get actor.program actor.ended) (λ command. IsWithin limit command actor.phase)
+
+-- so do all actors, and the size
+abbrev pub IsInLimit : Configuration → Type 0
+IsInLimit c = IsLimit c.limit × (c.storage.size ≤ c.limit) × All (λ actor. IsPlaced c.limit actor) c.actors

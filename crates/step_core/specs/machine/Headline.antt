@@ -1,0 +1,34 @@
+-- The headline: every interleaving of the machine's steps is one history of the sequential vector.
+use Rattle.std.specs.Prelude.{ℕ, List}
+use Rattle.book_core.specs.declared.commands.Command.{Command}
+use Rattle.book_core.specs.declared.commands.Item.{Item}
+use Rattle.book_core.specs.Cells.{IsLimit}
+use Rattle.book_core.specs.Commands.{AreSound}
+use Rattle.step_core.specs.machine.Claims.{MovesAtClaims, MovesAreOwnClaims, NothingIsClaimedAtLoad}
+use Rattle.step_core.specs.machine.Play.{Play, play_of}
+use Rattle.step_core.specs.machine.Legal.{IsLegal}
+use Rattle.step_core.specs.machine.Record.{AreRecorded}
+use Rattle.step_core.specs.machine.Tiling.{IsTiled}
+use Rattle.step_core.specs.machine.Kept.{IsKept}
+
+-- what holds of a play of these programs
+pub record IsSequential (limit : ℕ) (programs : List (List Command)) (p : Play) : Type 0 where
+  -- every reply is the one that a sequential vector of cells gives in one legal history, which leads to the cells seen
+  pub legal : IsLegal limit p
+  -- the history holds each call that claimed once, in its caller's order, with its answer
+  pub recorded : AreRecorded programs p
+  -- and at its claim: its run is the event of the step that moved the size
+  pub at_claims : MovesAtClaims p
+  -- which is the claim of the stepping actor's own call under way
+  pub own_claims : MovesAreOwnClaims p
+  -- and a growth of nothing is claimed at its load
+  pub nothing_at_load : NothingIsClaimedAtLoad p
+  -- runs tile the claimed size; each place is its owner's, who fills or breaks it once; a refusal breaks its own cells alone
+  pub tiled : IsTiled p
+  -- a published cell keeps its value, and a broken one stays broken
+  pub kept : IsKept p
+
+-- Over every limit, every sound programs, every schedule with any marks of memory.
+abbrev pub EveryInterleavingIsSequential : Type 0
+EveryInterleavingIsSequential =
+    (limit : ℕ) (programs : List (List Command)) (items : List Item) → IsLimit limit → AreSound programs → IsSequential limit programs (play_of limit programs items)

@@ -1,0 +1,23 @@
+-- What the actors of the machine share.
+use Rattle.std.specs.Prelude.{ℕ, refl}
+use Rattle.std.specs.Ordering.{nat_cmp}
+use Rattle.std.specs.FinMap as map
+use Rattle.std.specs.FinSet as set
+use Rattle.std.specs.Coded.{Coded, code_by, coded×, coded_ℕ}
+use Rattle.step_core.specs.declared.machine.phase.Slot.{Slot}
+use Rattle.step_core.specs.contracts.machine.phase.Slot as slot
+
+-- the size, the installed segments, and the slots that aren't empty
+pub record Storage : Type 0 where
+  pub size : ℕ
+  pub installed : set.FinSet nat_cmp
+  pub slots : map.FinMap nat_cmp Slot
+
+-- it is stored as its fields
+abbrev pub storage_code : Coded Storage
+storage_code =
+    code_by (ℕ × (set.FinSet nat_cmp × map.FinMap nat_cmp Slot))
+    (coded× coded_ℕ (coded× (set.code coded_ℕ) (map.code coded_ℕ slot.the_row.coded)))
+    (λ m. (m.size, (m.installed, m.slots)))
+    (λ p. record { size = p.0; installed = p.1.0; slots = p.1.1 })
+    (λ _. refl)

@@ -1,0 +1,87 @@
+//! Where an actor of the machine stands.
+ghost use Rattle.std.specs.Prelude.{◌≡◌, ◌+◌, ◌<◌, ◌^◌, OnSome, slice_get};
+
+use book_core::{Answer, Command, Ended, Sequence};
+
+/// What a slot of the machine holds; a slot that isn't there is empty.
+#[derive(Clone, Copy, Debug, PartialEq, Eq)]
+pub enum Slot {
+    /// An actor has taken it, and constructs a value in it.
+    Busy(u32),
+    Filled(u64),
+    Broken,
+}
+
+/// The atomic step that an actor takes next. A growth wants the places from `from` on, `n` of them.
+#[derive(Clone, Copy, Debug, PartialEq, Eq)]
+pub enum Phase {
+    /// It loads the size.
+    Load,
+    /// It looks whether a segment is installed.
+    Scout { from: u64, n: u64, segment: u32 },
+    /// It installs a segment.
+    Put { from: u64, n: u64, segment: u32 },
+    /// It tries to move the size from `from` by `n`.
+    Exchange { from: u64, n: u64 },
+    /// It raises the size to `to`, if it is less.
+    Raise { to: u64 },
+    /// It takes the empty slot of a place of its run.
+    Begin { from: u64, n: u64, place: u64 },
+    /// It fills that slot.
+    Fill { from: u64, n: u64, place: u64 },
+    /// It breaks that slot.
+    Spoil { from: u64, n: u64, place: u64 },
+    /// It reads a place.
+    Look { place: u64 },
+}
+
+/// What follows a step: the actor goes on to a phase, or its call ends.
+#[derive(Clone, Copy, Debug, PartialEq, Eq)]
+pub enum Next {
+    Goes(Phase),
+    Ends(Answer),
+}
+
+/// An actor: its program, how many of its calls have ended, and its phase in the one under way.
+#[derive(Debug, Drop)]
+pub struct Actor {
+    pub program: Sequence<Command>,
+    pub ended: u64,
+    pub phase: Phase,
+}
+
+impl Actor {
+    ghost use Rattle.step_core.specs.machine.Step.{actor_after, ended_by};
+
+    // The call under way, or the one to begin, if one is left.
+    pub(crate) fn command(&self) -> Option<Command>
+        ensures call { result ≡ slice_get self.now.program self.now.ended }
+        ensures another { OnSome result (self.now.ended + 1 < 2 ^ 64) }
+    {
+        self.program.as_slice().get(self.ended as usize).copied()
+    }
+
+    // What follows a step comes to pass.
+    pub(crate) fn follow(&mut self, who: u32, command: Command, next: Next) -> Option<Ended>
+        requires { self.old.ended + 1 < 2 ^ 64 }
+        ensures actor { self.new ≡ actor_after self.old next }
+        ensures ended { result ≡ ended_by who self.old command next }
+    {
+        match next {
+            Next::Goes(phase) => {
+                self.phase = phase;
+                None
+            }
+            Next::Ends(answer) => {
+                self.ended += 1;
+                self.phase = Phase::Load;
+                Some(Ended {
+                    actor: who,
+                    number: self.ended,
+                    command,
+                    answer,
+                })
+            }
+        }
+    }
+}

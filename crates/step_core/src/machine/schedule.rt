@@ -1,0 +1,179 @@
+//! Plays of the machine: each item of a schedule is one atomic step.
+ghost use Rattle.std.specs.Prelude.{◌≡◌, ◌≤◌, ◌↔◌, ◌++◌, length, replicate, IfOk, OnOk, Some, IsErrOf};
+ghost use Rattle.std.specs.FinMap as map;
+ghost use Rattle.book_core.specs.Cells.{IsLimit};
+ghost use Rattle.book_core.specs.Commands.{AreSound, HavePrograms, HaveActors};
+ghost use Rattle.book_core.specs.History.{run_of};
+ghost use Rattle.step_core.specs.machine.Owners.{owners_of};
+ghost use Rattle.step_core.specs.machine.Play.{play_of, played_of};
+
+use crate::errors::{MakeError, PlayError};
+use crate::machine::Machine;
+use crate::machine::phase::Slot;
+use crate::programs::{Played, check_schedule};
+use book_core::{Cell, Command, Ended, Event, Item, Reply, Sequence};
+use std::alloc::{AllocError, Global};
+use std::marker::Model;
+
+// A play so far.
+#[derive(Drop)]
+struct MachinePlay {
+    machine: Machine,
+    events: Vec<(Event, Reply)>,
+    ended: Vec<Ended>,
+}
+
+impl Model for MachinePlay {
+    ghost use Rattle.step_core.specs.machine.Play.{Play, play_code};
+
+    ghost Value = { Play };
+
+    ghost coded = { play_code };
+
+    ghost view = { λ p. record { at = p.machine; events = p.events.items; ended = p.ended.items } };
+}
+
+impl MachinePlay {
+    ghost use Rattle.book_core.specs.History.{runs_of};
+    ghost use Rattle.step_core.specs.machine.Owners.{cells_from, played_by_owners};
+    ghost use Rattle.step_core.specs.machine.Play.{with_step, after_items, cell_of};
+    ghost use Rattle.step_core.specs.machine.Step.{step_of};
+
+    fn item(&mut self, item: &Item) -> Result<(), AllocError>
+        ensures { OnOk result (self.new ≡ with_step self.old (step_of self.old.at item.now.actor item.now.memory)) }
+    {
+        let stepped = self.machine.step(item.actor, item.memory)?;
+        if let Some(told) = stepped.event {
+            self.events.push(told)?;
+        }
+        if let Some(ended) = stepped.ended {
+            self.ended.push(ended)?;
+        }
+        Ok(())
+    }
+
+    fn play(&mut self, items: &[Item]) -> Result<(), AllocError>
+        ensures { OnOk result (self.new ≡ after_items self.old items.now) }
+    {
+        for item in items {
+            self.item(item)?;
+        }
+        Ok(())
+    }
+
+    // The owner of each claimed place, in order.
+    fn owners(&self, alloc: Global) -> Result<Vec<u32>, AllocError>
+        ensures { IfOk result (λ owners. owners.items ≡ owners_of (runs_of self.now.events)) }
+    {
+        let mut owners = Vec::new(alloc);
+        for told in &self.events {
+            push_run(&mut owners, told)?;
+        }
+        Ok(owners)
+    }
+
+    fn cell(&self, owner: u32, place: u64) -> Cell
+        ensures { result ≡ cell_of (Some owner) (map.get self.now.at.storage.slots place) }
+    {
+        match self.machine.slot(place) {
+            None | Some(Slot::Busy(_)) => Cell::Pending(owner),
+            Some(Slot::Filled(value)) => Cell::Filled(value),
+            Some(Slot::Broken) => Cell::Broken,
+        }
+    }
+
+    fn cells(&self, alloc: Global, owners: &[u32]) -> Result<Vec<Cell>, AllocError>
+        ensures { IfOk result (λ cells. cells.items ≡ cells_from (map.get self.now.at.storage.slots) 0 owners.now) }
+    {
+        let mut cells = Vec::new(alloc);
+        for owner in owners {
+            cells.push(self.cell(*owner, cells.len() as u64))?;
+        }
+        Ok(cells)
+    }
+
+    fn into_played(self, alloc: Global) -> Result<Played, AllocError>
+        ensures { IfOk result (λ played. played ≡ played_by_owners self) }
+    {
+        let owners = self.owners(alloc)?;
+        let cells = self.cells(alloc, &owners)?;
+        Ok(Played {
+            events: Sequence::from_vec(self.events),
+            ended: Sequence::from_vec(self.ended),
+            cells: Sequence::from_vec(cells),
+        })
+    }
+}
+
+fn push_owner(owners: &mut Vec<u32>, owner: u32, n: u64) -> Result<(), AllocError>
+    ensures { OnOk result (owners.new.items ≡ owners.old.items ++ replicate n owner) }
+{
+    for _more in 0..n {
+        owners.push(owner)?;
+    }
+    Ok(())
+}
+
+// The owner of the run that an event won, once for each of its places.
+fn push_run(owners: &mut Vec<u32>, told: &(Event, Reply)) -> Result<(), AllocError>
+    ensures { OnOk result (owners.new.items ≡ owners.old.items ++ owners_of (run_of told.now.0 told.now.1)) }
+{
+    match *told {
+        (Event::Claim { actor, .. } | Event::Raise { actor, .. }, Reply::Run { n, .. }) => {
+            push_owner(owners, actor, n)
+        }
+        _ => Ok(()),
+    }
+}
+
+fn play_sound(
+    alloc: Global,
+    limit: u64,
+    programs: Sequence<Sequence<Command>>,
+    items: &[Item],
+) -> Result<Played, AllocError>
+    requires few { length programs ≤ 65536 }
+    requires limit { IsLimit limit }
+    requires sound { AreSound programs }
+    requires programs { HavePrograms programs items.now }
+    ensures played { IfOk result (λ played. played ≡ played_of (play_of limit programs items.now)) }
+    ensures actors { IfOk result (λ played. HaveActors (length programs) played.ended) }
+{
+    let machine = match Machine::new(alloc, limit, programs) {
+        Ok(machine) => machine,
+        Err(MakeError::NoMemory) => return Err(AllocError),
+        Err(MakeError::BadLimit | MakeError::BadCommand) => unreachable!(),
+    };
+    let mut play = MachinePlay {
+        machine,
+        events: Vec::new(alloc),
+        ended: Vec::new(alloc),
+    };
+    play.play(items)?;
+    play.into_played(alloc)
+}
+
+/// Plays one atomic step for each item; an item of an actor with nothing left changes nothing.
+///
+/// What a reader finds at a place that its owner hasn't finished is pending. It takes time in line with the items times the
+/// logarithm of the places that they claim, and those places; and memory in line with both.
+pub fn play(
+    alloc: Global,
+    limit: u64,
+    programs: Sequence<Sequence<Command>>,
+    items: &[Item],
+) -> Result<Played, PlayError>
+    requires { length programs ≤ 65536 }
+    ensures played { IfOk result (λ played. played ≡ played_of (play_of limit programs items.now)) }
+    ensures actors { IfOk result (λ played. HaveActors (length programs) played.ended) }
+    // What the laws ask for.
+    ensures limit { OnOk result (IsLimit limit) }
+    ensures sound { OnOk result (AreSound programs) }
+    ensures bad_limit { IsErrOf result PlayError.BadLimit ↔ (IsLimit limit → ⊥) }
+    ensures bad_command { IsErrOf result PlayError.BadCommand ↔ IsLimit limit × (AreSound programs → ⊥) }
+    ensures bad_actor { IsErrOf result PlayError.BadActor
+        ↔ IsLimit limit × AreSound programs × (HavePrograms programs items.now → ⊥) }
+{
+    check_schedule(limit, programs.as_slice(), items)?;
+    play_sound(alloc, limit, programs, items).map_err(|_| PlayError::NoMemory)
+}

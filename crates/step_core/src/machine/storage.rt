@@ -1,0 +1,115 @@
+//! What the actors of the machine share. Each kind of step has a file of its own.
+ghost use Rattle.std.specs.Prelude.{◌≡◌, ◌+◌, ◌-◌, ◌≤◌, ◌<◌, ◌^◌, ℕ, IfOk, OnErr, true, false, Some, None};
+ghost use Rattle.std.specs.FinMap as map;
+ghost use Rattle.std.specs.FinSet as set;
+
+mod claim;
+mod load;
+mod places;
+mod segments;
+
+use crate::machine::maps::{Segments, Slots};
+use crate::machine::phase::{Next, Phase, Slot};
+use book_core::{Answer, Command, Event, Reply};
+use std::alloc::{AllocError, Global};
+use std::marker::Model;
+
+/// The size, the installed segments, and the slots that aren't empty.
+#[derive(Drop)]
+pub(crate) struct Storage {
+    size: u64,
+    installed: Segments,
+    slots: Slots,
+}
+
+impl Model for Storage {
+    ghost use Rattle.step_core.specs.machine.Storage.{Storage as StorageView, storage_code};
+
+    ghost Value = { StorageView };
+
+    ghost coded = { storage_code };
+
+    ghost view = { λ s. record { size = s.size; installed = s.installed; slots = s.slots } };
+}
+
+/// What a step gives beside what it leaves: at most one event with its reply, and what follows.
+#[derive(Clone, Copy)]
+pub(crate) struct Outcome {
+    pub(crate) event: Option<(Event, Reply)>,
+    pub(crate) next: Next,
+}
+
+pub(crate) fn goes(phase: Phase) -> Outcome
+    ensures { (result.event ≡ None) × (result.next ≡ Next.Goes phase) }
+{
+    Outcome {
+        event: None,
+        next: Next::Goes(phase),
+    }
+}
+
+pub(crate) fn ends(event: Event, reply: Reply, answer: Answer) -> Outcome
+    ensures { (result.event ≡ Some (event, reply)) × (result.next ≡ Next.Ends answer) }
+{
+    Outcome {
+        event: Some((event, reply)),
+        next: Next::Ends(answer),
+    }
+}
+
+impl Storage {
+    ghost use Rattle.step_core.specs.machine.Step.{outcome_of};
+    ghost use Rattle.step_core.specs.machine.Bounds.{IsWithin, given};
+
+    pub(crate) fn new(alloc: Global) -> Self
+        ensures { result ≡ record { size = 0; installed = set.empty; slots = map.empty } }
+    {
+        Storage {
+            size: 0,
+            installed: Segments::new(alloc),
+            slots: Slots::new(alloc),
+        }
+    }
+
+    /// How many places are claimed.
+    pub(crate) fn size(&self) -> u64
+        ensures { result ≡ self.now.size }
+    {
+        self.size
+    }
+
+    /// What the slot of a place holds.
+    pub(crate) fn slot(&self, place: u64) -> Option<Slot>
+        ensures { result ≡ map.get self.now.slots place }
+    {
+        self.slots.get(place)
+    }
+
+    /// One step of an actor in this phase of this call.
+    pub(crate) fn step(
+        &mut self,
+        limit: u64,
+        actor: u32,
+        command: &Command,
+        memory: bool,
+        phase: Phase,
+    ) -> Result<Outcome, AllocError>
+        requires limit { limit ≤ 2 ^ 32 }
+        requires size { self.old.size ≤ limit }
+        requires phase { IsWithin limit command.now phase }
+        ensures gives { IfOk result (λ outcome. given self.new outcome ≡ outcome_of limit self.old actor command.now memory phase) }
+        ensures err { OnErr result (self.new ≡ self.old) }
+    {
+        match phase {
+            Phase::Load => Ok(self.load(limit, actor, command)),
+            Phase::Scout { from, n, segment } => Ok(self.scout(command, from, n, segment)),
+            Phase::Put { from, n, segment } => self.put(actor, command, memory, from, n, segment),
+            Phase::Exchange { from, n } => Ok(self.exchange(limit, actor, from, n)),
+            Phase::Raise { to } => Ok(self.raise(actor, to)),
+            Phase::Begin { from, n, place } => self.begin(actor, command, from, n, place),
+            Phase::Fill { from, n, place } => self.fill(actor, command, from, n, place),
+            Phase::Spoil { from, n, place } => self.spoil(actor, command, from, n, place),
+            Phase::Look { place } => Ok(self.look(actor, place)),
+        }
+    }
+}

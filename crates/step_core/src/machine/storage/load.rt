@@ -1,0 +1,113 @@
+//! Load: what a call finds of the size, and whether it goes on.
+ghost use Rattle.std.specs.Prelude.{◌≡◌, ◌+◌, ◌≤◌, ◌<◌, ◌^◌, ℕ};
+ghost use Rattle.seg_core.specs.Segment.{segment_of};
+
+use crate::machine::phase::Phase;
+use crate::machine::storage::{Outcome, Storage, ends, goes};
+use book_core::{Answer, Command, Event, Reply};
+use seg_core::locate;
+
+impl Storage {
+    ghost use Rattle.step_core.specs.machine.Step.{load_growth, load_at_least, load_read, load, ends as ends_with};
+    ghost use Rattle.step_core.specs.machine.Bounds.{given};
+
+    pub(crate) fn refuse(&self, actor: u32, n: u64) -> Outcome
+        ensures { given self.now result
+            ≡ ends_with self.now (Event.RefusedFull actor n) (Reply.Full self.now.size) (Answer.Full self.now.size) }
+    {
+        let size = self.size;
+        ends(
+            Event::RefusedFull { actor, n },
+            Reply::Full { size },
+            Answer::Full { size },
+        )
+    }
+
+    // The call wants n places from the size on, and looks at their first segment.
+    pub(crate) fn scout_first(&self, n: u64) -> Phase
+        requires some { 0 < n }
+        requires places { self.now.size + n ≤ 2 ^ 32 }
+        ensures { (segment : ℕ) × (segment ≡ segment_of self.now.size) × (segment < 32) × (result ≡ Phase.Scout self.now.size n segment) }
+    {
+        let (segment, _) = locate(self.size);
+        Phase::Scout {
+            from: self.size,
+            n,
+            segment,
+        }
+    }
+
+    fn load_growth(&self, limit: u64, actor: u32, n: u64) -> Outcome
+        requires limit { limit ≤ 2 ^ 32 }
+        requires size { self.now.size ≤ limit }
+        ensures gives { given self.now result ≡ load_growth limit self.now actor n }
+    {
+        let size = self.size;
+        if n == 0 {
+            let reply = Reply::Run { from: size, n: 0 };
+            return ends(
+                Event::Claim { actor, n: 0 },
+                reply,
+                Answer::Run { from: size, n: 0 },
+            );
+        }
+        if n <= limit - size {
+            return goes(self.scout_first(n));
+        }
+        self.refuse(actor, n)
+    }
+
+    fn load_at_least(&self, limit: u64, actor: u32, to: u64) -> Outcome
+        requires limit { limit ≤ 2 ^ 32 }
+        requires size { self.now.size ≤ limit }
+        ensures gives { given self.now result ≡ load_at_least limit self.now actor to }
+    {
+        let size = self.size;
+        if to <= size {
+            return ends(
+                Event::Raise { actor, to },
+                Reply::Enough { size },
+                Answer::Enough { size },
+            );
+        }
+        if to <= limit {
+            return goes(self.scout_first(to - size));
+        }
+        self.refuse(actor, to - size)
+    }
+
+    fn load_read(&self, actor: u32, place: u64) -> Outcome
+        ensures gives { given self.now result ≡ load_read self.now actor place }
+    {
+        let size = self.size;
+        if place < size {
+            return goes(Phase::Look { place });
+        }
+        ends(
+            Event::Look { actor, place },
+            Reply::OutOfRange { size },
+            Answer::OutOfRange { size },
+        )
+    }
+
+    pub(crate) fn load(&self, limit: u64, actor: u32, command: &Command) -> Outcome
+        requires limit { limit ≤ 2 ^ 32 }
+        requires size { self.now.size ≤ limit }
+        ensures gives { given self.now result ≡ load limit self.now actor command.now }
+    {
+        match *command {
+            Command::Push { .. } => self.load_growth(limit, actor, 1),
+            Command::Grow { n, .. } | Command::Fail { n, .. } => self.load_growth(limit, actor, n),
+            Command::AtLeast { to, .. } => self.load_at_least(limit, actor, to),
+            Command::Read { place } => self.load_read(actor, place),
+            Command::Size => {
+                let size = self.size;
+                ends(
+                    Event::Size { actor },
+                    Reply::Size { size },
+                    Answer::Size { size },
+                )
+            }
+        }
+    }
+}

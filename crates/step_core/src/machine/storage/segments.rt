@@ -1,0 +1,75 @@
+//! Scout and Put: a growth sees to it that the segments of its places are installed.
+ghost use Rattle.std.specs.Prelude.{◌≡◌, ◌+◌, ◌≤◌, ◌<◌, ◌^◌, IfOk, OnErr};
+ghost use Rattle.step_core.specs.machine.Step.{claiming, after_segment};
+
+use crate::machine::phase::Phase;
+use crate::machine::storage::{Outcome, Storage, ends, goes};
+use book_core::{Answer, Command, Event, Reply};
+use seg_core::{first, len};
+use std::alloc::AllocError;
+
+impl Storage {
+    ghost use Rattle.step_core.specs.machine.Step.{scout, put};
+    ghost use Rattle.step_core.specs.machine.Bounds.{given};
+
+    pub(crate) fn scout(&self, command: &Command, from: u64, n: u64, segment: u32) -> Outcome
+        requires segment { segment < 32 }
+        requires places { from + n ≤ 2 ^ 32 }
+        ensures gives { given self.now result ≡ scout self.now command.now from n segment }
+    {
+        if self.installed.has(segment) {
+            return goes(after_segment(command, from, n, segment));
+        }
+        goes(Phase::Put { from, n, segment })
+    }
+
+    pub(crate) fn put(
+        &mut self,
+        actor: u32,
+        command: &Command,
+        memory: bool,
+        from: u64,
+        n: u64,
+        segment: u32,
+    ) -> Result<Outcome, AllocError>
+        requires segment { segment < 32 }
+        requires places { from + n ≤ 2 ^ 32 }
+        ensures gives { IfOk result (λ outcome. given self.new outcome ≡ put self.old actor command.now memory from n segment) }
+        ensures err { OnErr result (self.new ≡ self.old) }
+    {
+        if !memory {
+            let event = Event::RefusedMemory { actor };
+            return Ok(ends(event, Reply::NoMemory, Answer::NoMemory));
+        }
+        self.installed.install(segment)?;
+        Ok(goes(after_segment(command, from, n, segment)))
+    }
+}
+
+// The phase that claims the places.
+fn claiming(command: &Command, from: u64, n: u64) -> Phase
+    ensures { result ≡ claiming command.now from n }
+{
+    match *command {
+        Command::AtLeast { to, .. } => Phase::Raise { to },
+        _ => Phase::Exchange { from, n },
+    }
+}
+
+// The next segment of the places, or their claim after the last.
+fn after_segment(command: &Command, from: u64, n: u64, segment: u32) -> Phase
+    requires segment { segment < 32 }
+    requires places { from + n ≤ 2 ^ 32 }
+    ensures { result ≡ after_segment command.now from n segment }
+{
+    let end = first(segment) + len(segment);
+    if end < from + n {
+        Phase::Scout {
+            from,
+            n,
+            segment: segment + 1,
+        }
+    } else {
+        claiming(command, from, n)
+    }
+}

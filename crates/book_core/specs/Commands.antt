@@ -22,7 +22,7 @@ AreSound programs = All (λ program. All IsSound program) programs
 abbrev pub HavePrograms : List (List Command) → List Item → Type 0
 HavePrograms programs items = All (λ item. item.actor < length programs) items
 
--- each ended call is of one of so many actors
+-- each ended call is of an actor below the count
 abbrev pub HaveActors : ℕ → List Ended → Type 0
 HaveActors count calls = All (λ ended. ended.actor < count) calls
 

@@ -16,7 +16,7 @@ IsHistory old (e ∷ es) new = (mid : CellList) × (apply_event old e.0 ≡ Some
 abbrev pub IsLegalFrom : CellList → List (Event × Reply) → Type 0
 IsLegalFrom old es = (new : CellList) × IsHistory old es new
 
--- the places from one on, so many, that one actor won
+-- the n places from one on, which one actor won
 pub record OwnedRun : Type 0 where
   pub owner : ℕ
   pub from : ℕ

@@ -40,7 +40,7 @@ pub enum Answer {
     Size { size: u64 },
 }
 
-/// One turn of a schedule: whose it is, and whether a request for memory in it is granted.
+/// One item of a schedule: whose step or call it is, and whether a request for memory in it is granted.
 #[derive(Clone, Copy, Debug, PartialEq, Eq)]
 pub struct Item {
     pub actor: u32,

@@ -71,11 +71,12 @@ impl CellVec {
 
     /// The event happens, and the list replies.
     ///
-    /// It takes time in line with the places that are appended, and memory for them alone.
+    /// Its time is linear in the places that are appended, and it takes memory for them alone.
     pub fn apply(&mut self, event: Event) -> Result<Reply, BookError>
         ensures ok { IfOk result (λ reply. apply_event self.old event ≡ Some (self.new, reply)) }
         // Whether the event is legal is looked at before memory is asked for.
-        ensures not_legal { IsErrOf result BookError.NotLegal ↔ IsNone (apply_event self.old event) }
+        ensures not_legal { IsErrOf result BookError.NotLegal
+            ↔ IsNone (apply_event self.old event) }
         ensures err { OnErr result (self.new ≡ self.old) }
         ensures no_memory_taken { AppendsNothing self.old event → result ≢ Err BookError.NoMemory }
     {

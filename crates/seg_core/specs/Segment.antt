@@ -1,7 +1,7 @@
 -- Segments: the intervals [0, 2), [2, 4), [4, 8), .. of places.
 use Rattle.std.specs.Prelude.{ℕ, ◌+◌, ◌^◌, ◌<◌, ◌≤◌, nat_lt, true, false, zero, suc}
 
--- the place behind a segment's last
+-- the place after a segment's last
 abbrev pub segment_end : ℕ → ℕ
 segment_end k = 2 ^ (k + 1)
 
@@ -15,7 +15,7 @@ pub record HasPlace (segment place : ℕ) : Type 0 where
   pub from : segment_start segment ≤ place
   pub before : place < segment_end segment
 
--- the first segment from this one on, at most so many further, that ends behind the place
+-- the first segment from this one on that ends after the place, of this one and the given number of next ones
 abbrev pub first_ending_after : ℕ → ℕ → ℕ → ℕ
 first_ending_after zero segment place = segment
 first_ending_after (suc further) segment place =
@@ -25,7 +25,7 @@ first_ending_after (suc further) segment place =
 unfoldable pub segment_of : ℕ → ℕ
 segment_of place = first_ending_after place 0 place
 
--- some place of the run from a place on, so many long, is the segment's
+-- some place of the run of n places from a place on is the segment's
 pub record Touches (segment from n : ℕ) : Type 0 where
   pub place : ℕ
   pub inside : (from ≤ place) × (place < from + n)

@@ -57,7 +57,7 @@ impl Machine {
     ghost use Rattle.step_core.specs.machine.Step.{first_configuration, step_of};
     ghost use Rattle.step_core.specs.machine.Step.{Gives};
 
-    /// The machine before the first step. It takes memory in line with the actors.
+    /// The machine before the first step. Its memory is linear in the actors.
     pub fn new(
         alloc: Global,
         limit: u64,
@@ -69,7 +69,8 @@ impl Machine {
         ensures limit { OnOk result (IsLimit limit) }
         ensures sound { OnOk result (AreSound programs) }
         ensures bad_limit { IsErrOf result MakeError.BadLimit ↔ (IsLimit limit → ⊥) }
-        ensures bad_command { IsErrOf result MakeError.BadCommand ↔ IsLimit limit × (AreSound programs → ⊥) }
+        ensures bad_command { IsErrOf result MakeError.BadCommand
+            ↔ IsLimit limit × (AreSound programs → ⊥) }
     {
         check_programs(limit, programs.as_slice())?;
         match actors_of(alloc, programs) {
@@ -105,11 +106,12 @@ impl Machine {
 
     /// One atomic step of an actor; one with nothing left, or without a program, changes nothing.
     ///
-    /// `memory` says whether a request for a segment is granted in this step. It takes time in line with the logarithm of the
+    /// `memory` says whether a request for a segment is granted in this step. It takes time logarithmic in the
     /// slots that are taken.
     pub fn step(&mut self, actor: u32, memory: bool) -> Result<Stepped, AllocError>
-        ensures steps { IfOk result (λ stepped. Gives (step_of self.old actor memory) self.new stepped) }
-        // A real want of memory, which `memory` doesn't cause.
+        ensures steps { IfOk result (λ stepped.
+            Gives (step_of self.old actor memory) self.new stepped) }
+        // Real memory ran out, which `memory` does not cause.
         ensures err { OnErr result (self.new ≡ self.old) }
     {
         step_among(

@@ -47,7 +47,8 @@ pub(crate) fn check_programs(limit: u64, programs: &[Sequence<Command>]) -> Resu
     ensures limit { OnOk result (IsLimit limit) }
     ensures sound { OnOk result (AreSound programs.now) }
     ensures bad_limit { IsErrOf result MakeError.BadLimit ↔ (IsLimit limit → ⊥) }
-    ensures bad_command { IsErrOf result MakeError.BadCommand ↔ IsLimit limit × (AreSound programs.now → ⊥) }
+    ensures bad_command { IsErrOf result MakeError.BadCommand
+        ↔ IsLimit limit × (AreSound programs.now → ⊥) }
     ensures no_memory_taken { IsErrOf result MakeError.NoMemory → ⊥ }
 {
     if !CellVec::is_limit(limit) {
@@ -69,7 +70,8 @@ pub(crate) fn check_schedule(
     ensures sound { OnOk result (AreSound programs.now) }
     ensures items { OnOk result (HavePrograms programs.now items.now) }
     ensures bad_limit { IsErrOf result PlayError.BadLimit ↔ (IsLimit limit → ⊥) }
-    ensures bad_command { IsErrOf result PlayError.BadCommand ↔ IsLimit limit × (AreSound programs.now → ⊥) }
+    ensures bad_command { IsErrOf result PlayError.BadCommand
+        ↔ IsLimit limit × (AreSound programs.now → ⊥) }
     ensures bad_actor { IsErrOf result PlayError.BadActor
         ↔ IsLimit limit × AreSound programs.now × (HavePrograms programs.now items.now → ⊥) }
     ensures no_memory_taken { IsErrOf result PlayError.NoMemory → ⊥ }

@@ -228,7 +228,7 @@ outcome_of limit m actor command memory (Look place) = look_at m actor place (ge
 
 -- ---- What follows a step
 
--- where the actor stands: in the next phase, or at the beginning of its next call
+-- where the actor stands: in the next phase, or at Load of its next call
 abbrev pub actor_after : Actor → Next → Actor
 actor_after actor (Goes phase) = record { program = actor.program; ended = actor.ended; phase = phase }
 actor_after actor (Ends answer) = record { program = actor.program; ended = actor.ended + 1; phase = Load }

@@ -174,7 +174,7 @@ fn play_sound(
 
 /// Plays one whole call for each item, on a list of cells; an item of an actor with no call left plays nothing.
 ///
-/// The marks of the items have no effect, since such a call asks for no segment. It takes time and memory in line with the
+/// The marks of the items have no effect, since such a call asks for no segment. Its time and memory are linear in the
 /// items and the places that they append.
 pub fn play_calls(
     alloc: Global,
@@ -189,7 +189,8 @@ pub fn play_calls(
     ensures limit { OnOk result (IsLimit limit) }
     ensures sound { OnOk result (AreSound programs) }
     ensures bad_limit { IsErrOf result PlayError.BadLimit ↔ (IsLimit limit → ⊥) }
-    ensures bad_command { IsErrOf result PlayError.BadCommand ↔ IsLimit limit × (AreSound programs → ⊥) }
+    ensures bad_command { IsErrOf result PlayError.BadCommand
+        ↔ IsLimit limit × (AreSound programs → ⊥) }
     ensures bad_actor { IsErrOf result PlayError.BadActor
         ↔ IsLimit limit × AreSound programs × (HavePrograms programs items.now → ⊥) }
 {

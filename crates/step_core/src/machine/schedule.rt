@@ -155,8 +155,8 @@ fn play_sound(
 
 /// Plays one atomic step for each item; an item of an actor with nothing left changes nothing.
 ///
-/// What a reader finds at a place that its owner hasn't finished is pending. It takes time in line with the items times the
-/// logarithm of the places that they claim, and those places; and memory in line with both.
+/// What a reader finds at a place that its owner hasn't finished is pending. Its time is that of the
+/// items, each times the logarithm of the places that are claimed, and of those places; its memory is linear in both.
 pub fn play(
     alloc: Global,
     limit: u64,
@@ -170,7 +170,8 @@ pub fn play(
     ensures limit { OnOk result (IsLimit limit) }
     ensures sound { OnOk result (AreSound programs) }
     ensures bad_limit { IsErrOf result PlayError.BadLimit ↔ (IsLimit limit → ⊥) }
-    ensures bad_command { IsErrOf result PlayError.BadCommand ↔ IsLimit limit × (AreSound programs → ⊥) }
+    ensures bad_command { IsErrOf result PlayError.BadCommand
+        ↔ IsLimit limit × (AreSound programs → ⊥) }
     ensures bad_actor { IsErrOf result PlayError.BadActor
         ↔ IsLimit limit × AreSound programs × (HavePrograms programs items.now → ⊥) }
 {

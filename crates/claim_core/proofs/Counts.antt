@@ -1,8 +1,12 @@
--- How often a number stands in a list, and the sums of what all seats have.
+-- How often a number is in a list, and the sums of what all seats have.
 use Rattle.std.proofs.Common.{◌≡◌, ℕ, zero, suc, ◌+◌, ◌<◌, ◌≤◌, List, [], ◌∷◌, ◌++◌, length, get_or, set, refl, ap, sym, arith}
-use Rattle.std.specs.List.{Contains}
+use Rattle.std.specs.Prelude.{nat_eq, false}
+use Rattle.std.specs.List.{Contains, AllByRecursion, IsDistinct}
+use Rattle.std.proofs.lemmas.Map.Keys.{IsDistinct-cons}
 use Rattle.std.proofs.lemmas.Bool.Decides.{nat_tests}
 use mathlib.Core.Option.{some, some-injective, some-ne-none}
+use mathlib.Core.Logic.{dite}
+use native.Mathlib.Decide.{ℕ_discrete}
 use lib.ListN.{get_elem?}
 use Rattle.claim_core.specs.declared.seat_view.SeatView.{SeatView}
 use Rattle.claim_core.specs.Lengths.{times, once_below}
@@ -12,14 +16,34 @@ pub times-append : (k : ℕ) (xs ys : List ℕ) → times k (xs ++ ys) ≡ times
 times-append k [] ys = omega arith
 times-append k (x ∷ xs) ys = let r = times-append k xs ys in omega arith
 
--- a number that is in a list stands there
-times_at : (xs : List ℕ) (k i : ℕ) → i < length xs → get_or xs i k ≡ k → 0 < times k xs
-times_at [] k i lt is = absurd (omega arith)
-times_at (x ∷ xs) k zero lt is = grind (arith, nat_tests)
-times_at (x ∷ xs) k (suc i) lt is = let r = times_at xs k i (omega arith) is in omega arith
+-- a number that is in a list is there at least once
+times-at : (xs : List ℕ) (k i : ℕ) → i < length xs → get_or xs i k ≡ k → 0 < times k xs
+times-at [] k i lt is = absurd (omega arith)
+times-at (x ∷ xs) k zero lt is = grind (arith, nat_tests)
+times-at (x ∷ xs) k (suc i) lt is = let r = times-at xs k i (omega arith) is in omega arith
 
-pub Contains-times : (xs : List ℕ) (k : ℕ) → Contains xs k → 0 < times k xs
-Contains-times xs k there = times_at xs k there.0 there.1 there.2
+pub times-from_Contains : (xs : List ℕ) (k : ℕ) → Contains xs k → 0 < times k xs
+times-from_Contains xs k there = times-at xs k there.0 there.1 there.2
+
+-- a number that is in a list at least once is in it
+pub Contains-from_times : (xs : List ℕ) (k : ℕ) → 0 < times k xs → Contains xs k
+Contains-from_times [] k more = absurd (omega arith)
+Contains-from_times (x ∷ xs) k more =
+    dite (ℕ_discrete x k)
+    (λ same. (zero, omega arith, same))
+    (λ other. let rest : 0 < times k xs = grind (arith, nat_tests) in let t = Contains-from_times xs k rest in (suc t.0, omega arith, t.2))
+
+-- a list that has no number twice is distinct
+absent_differs : (x : ℕ) (xs : List ℕ) → times x xs ≡ 0 → AllByRecursion (λ y. nat_eq x y ≡ false) xs
+absent_differs x [] none = tt
+absent_differs x (y ∷ ys) none = (grind (arith, nat_tests), absent_differs x ys (omega arith))
+
+pub IsDistinct-from_times : (xs : List ℕ) → ((k : ℕ) → times k xs ≤ 1) → IsDistinct nat_eq xs
+unfolding IsDistinct
+IsDistinct-from_times [] once = tt
+IsDistinct-from_times (x ∷ xs) once =
+    let absent : times x xs ≡ 0 = let o = once x in grind (arith, nat_tests) in
+    IsDistinct-cons nat_eq x xs (absent_differs x xs absent) (IsDistinct-from_times xs (λ k. let o = once k in omega arith))
 
 -- the number n is once more among the numbers below n + 1
 pub once_more : (k n : ℕ) → once_below k (n + 1) ≡ times k (n ∷ []) + once_below k n

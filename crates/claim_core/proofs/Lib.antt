@@ -1,7 +1,11 @@
-pub mod Prefixes
-pub mod Counts
-pub mod Fitting
-pub mod Steps
-pub mod Belonging
-pub mod Tiling
-pub mod Owning
+mod Prefixes
+mod Counts
+mod Tiles
+mod Places
+mod RunLaws
+mod Fits
+mod Kept
+mod Belongs
+mod WholeHand
+mod KeyRows
+mod OwnCounts

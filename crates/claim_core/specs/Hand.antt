@@ -3,7 +3,7 @@ use Rattle.std.specs.Prelude.{◌≡◌, ℕ, ◌+◌, ◌<◌, ◌≤◌, List,
 use Rattle.std.specs.List.{Contains}
 use mathlib.Core.List.{IsPrefix}
 use Rattle.claim_core.specs.declared.run.Run.{Run}
-use Rattle.claim_core.specs.Lengths.{start_of, end_of}
+use Rattle.claim_core.specs.Lengths.{run_start, runs_end, places_in}
 use Rattle.claim_core.specs.Word.{WordView}
 
 -- the word that it belongs to, the lengths of all runs that it has seen, the indices of its own runs among them, and its shares
@@ -15,7 +15,11 @@ pub record HandView : Type 0 where
 
 -- the size that the hand has seen
 abbrev pub seen_size : HandView → ℕ
-seen_size hand = end_of hand.of.base hand.seen
+seen_size hand = runs_end hand.of.base hand.seen
+
+-- how many places the hand's own runs have together
+abbrev pub own_places : HandView → ℕ
+own_places hand = places_in hand.seen hand.mine
 
 -- the hand belongs to the word
 abbrev pub IsHandOf : WordView → HandView → Type 0
@@ -35,10 +39,10 @@ pub record KeepsOwn (old new : HandView) : Type 0 where
   pub mine : new.mine ≡ old.mine
   pub shares : new.shares ≡ old.shares
 
--- the hand has one more run. It begins where the runs before it end, and they begin with all that the hand had seen
+-- the hand has one more run. It begins where the runs before it end, and all that the hand had seen is a prefix of them
 pub record AddsRun (old new : HandView) (run : Run) : Type 0 where
   pub between : List ℕ
-  pub begins : run.from ≡ end_of old.of.base (old.seen ++ between)
+  pub begins : run.from ≡ runs_end old.of.base (old.seen ++ between)
   pub positive : 0 < run.n
   pub within : run.from + run.n ≤ old.of.limit
   pub seen : new.seen ≡ (old.seen ++ between) ++ run.n ∷ []
@@ -60,7 +64,7 @@ OwnApart a b = (k : ℕ) → Contains a.mine k → Contains b.mine k → ⊥
 -- the run is the one of this index among those that the hand has seen
 pub record SeesRun (hand : HandView) (index : ℕ) (run : Run) : Type 0 where
   pub there : index < length hand.seen
-  pub from : run.from ≡ start_of hand.of.base hand.seen index
+  pub from : run.from ≡ run_start hand.of.base hand.seen index
   pub n : run.n ≡ slice_index hand.seen index
 
 -- the hand has seen the run
@@ -70,6 +74,14 @@ HasSeen hand run = (index : ℕ) × SeesRun hand index run
 -- the hand has seen the run, and owns it
 abbrev pub OwnsRun : HandView → Run → Type 0
 OwnsRun hand run = (index : ℕ) × Contains hand.mine index × SeesRun hand index run
+
+-- the run has the last index of all that the hand has seen. That index is new to the hand, and is its own
+pub record GainsRun (old new : HandView) (index : ℕ) (run : Run) : Type 0 where
+  pub last : length new.seen ≡ index + 1
+  pub later : length old.seen ≤ index
+  pub mine : new.mine ≡ index ∷ old.mine
+  pub seen : IsPrefix old.seen new.seen
+  pub sees : SeesRun new index run
 
 -- no place is in both runs
 abbrev pub AreDisjoint : Run → Run → Type 0

@@ -1,23 +1,40 @@
 -- What follows of runs and hands, by the definitions alone.
-use Rattle.std.specs.Prelude.{◌≡◌, ℕ, List}
+use Rattle.std.specs.Prelude.{◌≡◌, ℕ, ◌+◌, ◌<◌, ◌≤◌, List, length}
+use Rattle.std.specs.List.{Contains}
 use mathlib.Core.List.{IsPrefix}
 use Rattle.claim_core.specs.declared.run.Run.{Run}
-use Rattle.claim_core.specs.Lengths.{InRun}
-use Rattle.claim_core.specs.Hand.{HandView, AddsRun, SeesRun, OwnsRun, OwnApart, AreDisjoint}
+use Rattle.claim_core.specs.Lengths.{InRun, places_in}
+use Rattle.claim_core.specs.Hand.{HandView, AddsRun, SeesRun, OwnsRun, GainsRun, OwnApart, AreDisjoint, seen_size}
 
 -- a run stays where it is when the list goes on
 abbrev pub RunsStay : Type 0
 RunsStay =
     (base : ℕ) (before after : List ℕ) (k place : ℕ) → IsPrefix before after → InRun base before k place → InRun base after k place
 
+-- a run of the longer list, whose index is below the length of the shorter one, is a run of the shorter one
+abbrev pub RunsWereThere : Type 0
+RunsWereThere =
+    (base : ℕ) (before after : List ℕ) (k place : ℕ)
+    → IsPrefix before after → k < length before → InRun base after k place → InRun base before k place
+
 -- two runs of one list that share a place are one
 abbrev pub RunsAreApart : Type 0
 RunsAreApart =
     (base : ℕ) (lengths : List ℕ) (j k place : ℕ) → InRun base lengths j place → InRun base lengths k place → j ≡ k
 
+-- the runs of these indices have as many places as before when the list goes on
+abbrev pub PlacesStay : Type 0
+PlacesStay =
+    (before after indices : List ℕ) → IsPrefix before after → ((k : ℕ) → Contains indices k → k < length before)
+    → places_in after indices ≡ places_in before indices
+
 -- a run that a step adds is the hand's own
 abbrev pub AddedRunsAreOwned : Type 0
 AddedRunsAreOwned = (old new : HandView) (run : Run) → AddsRun old new run → OwnsRun new run
+
+-- a run that a step adds has the last index, which is new to the hand
+abbrev pub AddedRunsAreLast : Type 0
+AddedRunsAreLast = (old new : HandView) (run : Run) → AddsRun old new run → (index : ℕ) × GainsRun old new index run
 
 -- a run that was seen is the same run in all that is seen later
 abbrev pub SeenRunsStay : Type 0
@@ -25,8 +42,27 @@ SeenRunsStay =
     (old new : HandView) (index : ℕ) (run : Run) → new.of ≡ old.of → IsPrefix old.seen new.seen
     → SeesRun old index run → SeesRun new index run
 
+-- a run that is seen later, whose index was seen before, is the run that was seen
+abbrev pub SeenRunsWereThere : Type 0
+SeenRunsWereThere =
+    (old new : HandView) (index : ℕ) (run : Run) → new.of ≡ old.of → IsPrefix old.seen new.seen
+    → index < length old.seen → SeesRun new index run → SeesRun old index run
+
+-- a run that was seen lies between the base and the size that was seen
+abbrev pub SeenRunsAreWithin : Type 0
+SeenRunsAreWithin =
+    (hand : HandView) (index : ℕ) (run : Run) → SeesRun hand index run
+    → (hand.of.base ≤ run.from) × (run.from + run.n ≤ seen_size hand)
+
 -- two hands that own no run both, and have seen the same, have disjoint runs
 abbrev pub OwnersAreApart : Type 0
 OwnersAreApart =
     (a b : HandView) (x y : Run) → b.of ≡ a.of → b.seen ≡ a.seen → OwnApart a b
+    → OwnsRun a x → OwnsRun b y → AreDisjoint x y
+
+-- two hands that own no run both, and have seen prefixes of one list, have disjoint runs
+abbrev pub JoinedOwnersAreApart : Type 0
+JoinedOwnersAreApart =
+    (a b : HandView) (lengths : List ℕ) (x y : Run)
+    → b.of ≡ a.of → IsPrefix a.seen lengths → IsPrefix b.seen lengths → OwnApart a b
     → OwnsRun a x → OwnsRun b y → AreDisjoint x y

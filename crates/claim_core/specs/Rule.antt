@@ -1,20 +1,20 @@
--- The rule of the claim word, which holds between any two steps, and what one step tells the seat that makes it.
-use Rattle.std.specs.Prelude.{◌≡◌, ℕ, ◌+◌, ◌-◌, ◌<◌, ◌≤◌, ◌==◌, nat_lt, nat_le, if◌then◌else◌, List, [], ◌∷◌, ◌++◌, length, slice_index, MatchBool}
+-- The rule of the claim word: what holds between any two steps.
+use Rattle.std.specs.Prelude.{◌≡◌, ℕ, ◌+◌, ◌<◌, ◌≤◌, List, [], ◌∷◌, length, slice_index}
 use Rattle.std.specs.List.{All}
 use mathlib.Core.Option.{some}
 use mathlib.Core.List.{IsPrefix}
 use lib.ListN.{get_elem?}
-use Rattle.atomic_table.specs.Table.{State, Me, Step}
+use Rattle.atomic_table.specs.Table.{State}
 use Rattle.claim_core.specs.declared.seat_view.SeatView.{SeatView}
 use Rattle.claim_core.specs.declared.terms.Terms.{Terms}
-use Rattle.claim_core.specs.Lengths.{end_of, times, once_below}
+use Rattle.claim_core.specs.Lengths.{runs_end, times, once_below}
 
 -- a number of each view, added up
 abbrev pub total : (SeatView → ℕ) → List SeatView → ℕ
 total f [] = 0
 total f (v ∷ vs) = f v + total f vs
 
--- a seat has seen beginnings of the list of all lengths. It owns runs that it has seen, each once. With no share it has nothing
+-- what a seat has seen is a prefix of the list of all lengths. It owns runs that it has seen, each once. With no share it has nothing
 pub record Suits (lengths : List ℕ) (v : SeatView) : Type 0 where
   pub seen : IsPrefix v.seen lengths
   pub one : IsPrefix v.one lengths
@@ -24,7 +24,7 @@ pub record Suits (lengths : List ℕ) (v : SeatView) : Type 0 where
 
 -- the size is where the lengths end, at most the limit. All seats together own each run once, and have 65536 shares
 pub record Fits (limit base size : ℕ) (lengths : List ℕ) (views : List SeatView) : Type 0 where
-  pub ends : size ≡ end_of base lengths
+  pub ends : size ≡ runs_end base lengths
   pub within : size ≤ limit
   pub positive : All (λ n. 0 < n) lengths
   pub each : (id : ℕ) (v : SeatView) → get_elem? views id ≡ some v → Suits lengths v
@@ -36,96 +36,3 @@ pub record Kept (terms : Terms) (s : State (Unit {0}) SeatView) : Type 0 where
   pub one_word : length s.words ≡ 1
   pub lengths : List ℕ
   pub fits : Fits terms.limit terms.base (slice_index s.words 0) lengths s.views
-
--- the first seat has all shares, and has seen nothing
-abbrev pub first_view : Terms → SeatView
-first_view terms =
-    record { limit = terms.limit; base = terms.base; seen = []; mine = []; shares = 65536; one = []; other = [] }
-
--- a seat that was joined to another has nothing left
-abbrev pub spent_view : SeatView
-spent_view = record { limit = 0; base = 0; seen = []; mine = []; shares = 0; one = []; other = [] }
-
--- the longer of two lists, and the first where they are as long
-abbrev pub longer : List ℕ → List ℕ → List ℕ
-longer xs ys = if nat_le (length ys) (length xs) then xs else ys
-
--- two views as one. It keeps both lists that were seen, until a load tells that the longer begins with both
-abbrev pub joined : SeatView → SeatView → SeatView
-joined v w =
-    record {
-      limit = v.limit;
-      base = v.base;
-      seen = longer v.seen w.seen;
-      mine = v.mine ++ w.mine;
-      shares = v.shares + w.shares;
-      one = v.seen;
-      other = w.seen;
-    }
-
--- a view with these runs and shares
-abbrev pub with_own : SeatView → List ℕ → ℕ → SeatView
-with_own v mine shares =
-    record { limit = v.limit; base = v.base; seen = v.seen; mine = mine; shares = shares; one = []; other = [] }
-
--- what holds of a seat whose lists have been told
-pub record IsSound (v : SeatView) : Type 0 where
-  pub positive : All (λ n. 0 < n) v.seen
-  pub within : end_of v.base v.seen ≤ v.limit
-  pub shares : v.shares ≤ 65536
-  pub own : (k : ℕ) → times k v.mine ≤ once_below k (length v.seen)
-  pub whole : v.shares ≡ 65536 → (k : ℕ) → times k v.mine ≡ once_below k (length v.seen)
-
--- the seat's word, runs and shares stay
-pub record SameOwn (v w : SeatView) : Type 0 where
-  pub limit : w.limit ≡ v.limit
-  pub base : w.base ≡ v.base
-  pub mine : w.mine ≡ v.mine
-  pub shares : w.shares ≡ v.shares
-
--- the seat has seen the list of all lengths, which ends at the size that was found
-pub record Looks (v : SeatView) (found : ℕ) (w : SeatView) : Type 0 where
-  pub size : end_of w.base w.seen ≡ found
-  pub seen : IsPrefix v.seen w.seen
-  pub one : IsPrefix v.one w.seen
-  pub other : IsPrefix v.other w.seen
-  pub same : SameOwn v w
-  pub sound : IsSound w
-
--- the seat has seen the list of all lengths, and added a run of n places to it, which is its own
-pub record Claims (v : SeatView) (found n : ℕ) (w : SeatView) : Type 0 where
-  pub between : List ℕ
-  pub size : end_of w.base (v.seen ++ between) ≡ found
-  pub seen : w.seen ≡ (v.seen ++ between) ++ n ∷ []
-  pub mine : w.mine ≡ length (v.seen ++ between) ∷ v.mine
-  pub same : SameOwn v (record w { mine = v.mine })
-  pub sound : IsSound w
-
--- the two lists of a join are beginnings of what the seat has seen. Nothing else is told
-pub record Settles (v w : SeatView) : Type 0 where
-  pub one : IsPrefix v.one v.seen
-  pub other : IsPrefix v.other v.seen
-  pub seen : w.seen ≡ v.seen
-  pub same : SameOwn v w
-  pub sound : IsSound w
-
-abbrev Seated : Type 0
-Seated = Me (Unit {0}) SeatView
-
--- a load
-abbrev pub loaded : Step (Unit {0}) → Seated → ℕ → Seated → Type 0
-loaded step v found w = Looks v.0 found w.0 × (w.1 ≡ v.1)
-
--- the load that ends a join
-abbrev pub settled : Step (Unit {0}) → Seated → ℕ → Seated → Type 0
-settled step v found w = Settles v.0 w.0 × (w.1 ≡ v.1)
-
--- an exchange: won where it found what it expected
-abbrev pub exchanged : Step (Unit {0}) → Seated → ℕ → Seated → Type 0
-exchanged step v found w =
-    MatchBool (found == step.first) (Claims v.0 found (step.second - step.first) w.0) (Looks v.0 found w.0) × (w.1 ≡ v.1)
-
--- a greatest-value step: it grows the size where it found less
-abbrev pub raised : Step (Unit {0}) → Seated → ℕ → Seated → Type 0
-raised step v found w =
-    MatchBool (nat_lt found step.first) (Claims v.0 found (step.first - found) w.0) (Looks v.0 found w.0) × (w.1 ≡ v.1)

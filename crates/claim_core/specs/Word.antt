@@ -9,7 +9,7 @@ pub record WordView : Type 0 where
   pub base : ℕ
 
 -- a word may have this limit, and begin at this base
-pub record IsLimit (limit base : ℕ) : Type 0 where
+pub record AreBounds (limit base : ℕ) : Type 0 where
   pub positive : 0 < limit
   pub small : limit ≤ 2 ^ 32
   pub room : base ≤ limit

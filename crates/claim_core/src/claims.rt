@@ -18,6 +18,7 @@ impl<A: Allocator> Word<A> {
         // Won: this step is the linearization point of the growth.
         ensures run { IfOk result (λ run. run ≡ record { from = from; n = n }) }
         ensures claimed { IfOk result (λ run. AddsRun hand.old hand.new run) }
+        ensures not_below { IfOk result (λ run. seen_size hand.old ≤ run.from) }
         // Lost: nothing is claimed, and the hand has seen the size that it is told.
         ensures moved { IfErr result (λ lost. from < lost.size) }
         ensures seen { IfErr result (λ lost. SeesSize hand.old hand.new lost.size) }
@@ -42,6 +43,7 @@ impl<A: Allocator> Word<A> {
         // The size grew: this step is the linearization point of the growth.
         ensures run { IfOk result (λ run. run.from + run.n ≡ to) }
         ensures claimed { IfOk result (λ run. AddsRun hand.old hand.new run) }
+        ensures not_below { IfOk result (λ run. seen_size hand.old ≤ run.from) }
         // It was large enough: nothing is claimed, and the hand has seen the size that it is told.
         ensures enough { IfErr result (λ enough. to ≤ enough.size) }
         ensures seen { IfErr result (λ enough. SeesSize hand.old hand.new enough.size) }

@@ -1,10 +1,12 @@
 //! A caller's token of what it has seen.
-ghost use Rattle.std.specs.Prelude.{◌≡◌, ℕ, ◌<◌, ◌≤◌, ◌↔◌, IsTrue, All, Contains, length};
+ghost use Rattle.std.specs.Prelude.{◌≡◌, ℕ, ◌+◌, ◌<◌, ◌≤◌, ◌↔◌, nat_eq, IsTrue, All, Contains, length};
+ghost use Rattle.std.specs.List.{IsDistinct};
 ghost use Rattle.claim_core.specs.Lengths.{Tiles, times};
-ghost use Rattle.claim_core.specs.Hand.{IsWholeHand, seen_size};
+ghost use Rattle.claim_core.specs.Hand.{IsWholeHand, seen_size, own_places};
 
 use crate::seat_view::SeatView;
 use atomic_table::Seat;
+use std::fmt;
 use std::marker::Model;
 
 // The shares of a whole hand.
@@ -24,11 +26,20 @@ impl Model for Hand {
 
     ghost Value = { HandView };
 
-    ghost use Rattle.claim_core.specs.Held.{hand_view, IsHeld};
+    ghost use Rattle.claim_core.specs.Seat.{hand_view, IsHeld};
 
     ghost view = { λ h. hand_view h.seat };
 
     ghost invariant = { λ h. IsHeld h.seat h.shares h.seen };
+}
+
+impl fmt::Debug for Hand {
+    fn fmt<W: fmt::Write>(&self, f: &mut fmt::Formatter<W>) -> fmt::Result {
+        f.debug_struct("Hand")
+            .field("seen", &self.seen)
+            .field("shares", &self.shares)
+            .finish_non_exhaustive()
+    }
 }
 
 impl Hand {
@@ -53,17 +64,21 @@ impl Hand {
         // It has seen each run that it owns, and owns none twice.
         ensures below { (k : ℕ) → Contains self.now.mine k → k < length self.now.seen }
         ensures once { (k : ℕ) → times k self.now.mine ≤ 1 }
+        ensures distinct { IsDistinct nat_eq self.now.mine }
+        ensures places { self.now.of.base + own_places self.now ≤ seen_size self.now }
         ensures some_shares { 0 < self.now.shares }
         ensures not_more { self.now.shares ≤ 65536 }
     {
         let _seen = self.seen;
     }
 
-    /// What a whole hand keeps: it has seen all that was claimed, and owns it. It does nothing.
+    /// What a whole hand keeps: it has seen all that was claimed, and owns it. The size is the base
+    /// and the places of all its runs. It does nothing.
     pub fn whole_laws(&self)
         requires whole { IsWholeHand self.now }
         ensures all { (k : ℕ) → k < length self.now.seen → Contains self.now.mine k }
         ensures tiles { Tiles self.now.of.base self.now.seen self.now.mine }
+        ensures size { seen_size self.now ≡ self.now.of.base + own_places self.now }
     {
         let _seen = self.seen;
     }

@@ -1,9 +1,18 @@
-//! What follows of runs and hands by their definitions alone, for proofs about several hands. No call does anything.
-ghost use Rattle.claim_core.specs.Laws.{RunsStay, RunsAreApart, AddedRunsAreOwned, SeenRunsStay, OwnersAreApart};
+//! What follows of runs and hands by their definitions alone, for proofs about several hands.
+//! No call does anything.
+ghost use Rattle.claim_core.specs.Laws.{RunsStay, RunsWereThere, RunsAreApart, PlacesStay};
+ghost use Rattle.claim_core.specs.Laws.{AddedRunsAreOwned, AddedRunsAreLast};
+ghost use Rattle.claim_core.specs.Laws.{SeenRunsStay, SeenRunsWereThere, SeenRunsAreWithin};
+ghost use Rattle.claim_core.specs.Laws.{OwnersAreApart, JoinedOwnersAreApart};
 
 /// A run stays where it is when the list goes on.
 pub fn runs_stay()
     ensures { RunsStay }
+{}
+
+/// A run of a list, whose index is below the length of a prefix, is a run of the prefix.
+pub fn runs_were_there()
+    ensures { RunsWereThere }
 {}
 
 /// Two runs of one list that share a place are one.
@@ -11,9 +20,19 @@ pub fn runs_are_apart()
     ensures { RunsAreApart }
 {}
 
+/// Runs have as many places as before when the list goes on.
+pub fn places_stay()
+    ensures { PlacesStay }
+{}
+
 /// A run that a step adds is the hand's own.
 pub fn added_runs_are_owned()
     ensures { AddedRunsAreOwned }
+{}
+
+/// A run that a step adds has the last index of all that the hand has seen, which is new to it.
+pub fn added_runs_are_last()
+    ensures { AddedRunsAreLast }
 {}
 
 /// A run that was seen is the same run in all that is seen later.
@@ -21,7 +40,23 @@ pub fn seen_runs_stay()
     ensures { SeenRunsStay }
 {}
 
-/// Two hands that own no run both, and have seen the same, have disjoint runs.
+/// A run that is seen later, whose index was seen before, is the run that was seen.
+pub fn seen_runs_were_there()
+    ensures { SeenRunsWereThere }
+{}
+
+/// A run that was seen begins at or above the base, and ends at or below the size that was seen.
+pub fn seen_runs_are_within()
+    ensures { SeenRunsAreWithin }
+{}
+
+/// Two hands that own no run both, and have seen the same, have disjoint runs: so after a meeting.
 pub fn owners_are_apart()
     ensures { OwnersAreApart }
+{}
+
+/// Two hands that own no run both, and have seen prefixes of one list, have disjoint runs: so
+/// where the two are joined.
+pub fn joined_owners_are_apart()
+    ensures { JoinedOwnersAreApart }
 {}

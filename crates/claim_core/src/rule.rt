@@ -8,7 +8,8 @@ use std::marker::{Brand, PhantomData};
 pub struct OneList;
 
 impl TableRule<(), SeatView, Terms> for OneList {
-    ghost use Rattle.claim_core.specs.Rule.{Kept, first_view};
+    ghost use Rattle.claim_core.specs.Rule.{Kept};
+    ghost use Rattle.claim_core.specs.SeatView.{first_view};
 
     ghost holds = { Kept };
 
@@ -25,7 +26,7 @@ pub type ClaimSeat = Seat<(), SeatView>;
 pub struct Load;
 
 impl Play<(), SeatView> for Load {
-    ghost use Rattle.claim_core.specs.Rule.{loaded};
+    ghost use Rattle.claim_core.specs.SeatView.{loaded};
 
     ghost then = { loaded };
 }
@@ -34,7 +35,7 @@ impl Play<(), SeatView> for Load {
 pub struct Settle;
 
 impl Play<(), SeatView> for Settle {
-    ghost use Rattle.claim_core.specs.Rule.{settled};
+    ghost use Rattle.claim_core.specs.SeatView.{settled};
 
     ghost then = { settled };
 }
@@ -43,7 +44,7 @@ impl Play<(), SeatView> for Settle {
 pub struct Exchange;
 
 impl Play<(), SeatView> for Exchange {
-    ghost use Rattle.claim_core.specs.Rule.{exchanged};
+    ghost use Rattle.claim_core.specs.SeatView.{exchanged};
 
     ghost then = { exchanged };
 }
@@ -52,7 +53,7 @@ impl Play<(), SeatView> for Exchange {
 pub struct Raise;
 
 impl Play<(), SeatView> for Raise {
-    ghost use Rattle.claim_core.specs.Rule.{raised};
+    ghost use Rattle.claim_core.specs.SeatView.{raised};
 
     ghost then = { raised };
 }
@@ -61,9 +62,9 @@ impl Play<(), SeatView> for Raise {
 pub struct Both;
 
 impl Join<SeatView> for Both {
-    ghost use Rattle.claim_core.specs.Rule.{joined, spent_view};
+    ghost use Rattle.claim_core.specs.SeatView.{joined_view, spent_view};
 
-    ghost both = { joined };
+    ghost both = { joined_view };
 
     ghost spent = { spent_view };
 }
@@ -72,7 +73,7 @@ impl Join<SeatView> for Both {
 pub struct Blank;
 
 impl Split<SeatView> for Blank {
-    ghost use Rattle.claim_core.specs.Rule.{spent_view};
+    ghost use Rattle.claim_core.specs.SeatView.{spent_view};
 
     ghost left = { λ v. v };
 
@@ -110,7 +111,7 @@ pub struct Cut<P: Parts> {
 }
 
 impl<P: Parts> Split<SeatView> for Cut<P> {
-    ghost use Rattle.claim_core.specs.Rule.{with_own};
+    ghost use Rattle.claim_core.specs.SeatView.{with_own};
 
     ghost left = { λ v. with_own v P.kept_runs P.kept_shares };
 

@@ -1,4 +1,6 @@
 //! What a call answers.
+use std::error::Error;
+use std::fmt;
 
 /// The places that a call won: `n` of them, from `from` on.
 #[derive(Clone, Copy, Debug, PartialEq, Eq)]
@@ -18,3 +20,29 @@ pub struct Moved {
 pub struct Enough {
     pub size: u64,
 }
+
+impl fmt::Display for Moved {
+    ghost use Rattle.std.specs.Prelude.{Some};
+    ghost use Rattle.claim_core.specs.Errors.{moved_text};
+
+    ghost output = { λ moved. Some (moved_text moved) };
+
+    fn fmt<W: fmt::Write>(&self, f: &mut fmt::Formatter<W>) -> fmt::Result {
+        write!(f, "the size has moved to {}", self.size)
+    }
+}
+
+impl Error for Moved {}
+
+impl fmt::Display for Enough {
+    ghost use Rattle.std.specs.Prelude.{Some};
+    ghost use Rattle.claim_core.specs.Errors.{enough_text};
+
+    ghost output = { λ enough. Some (enough_text enough) };
+
+    fn fmt<W: fmt::Write>(&self, f: &mut fmt::Formatter<W>) -> fmt::Result {
+        write!(f, "the size is already {}", self.size)
+    }
+}
+
+impl Error for Enough {}

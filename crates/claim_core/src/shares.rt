@@ -2,7 +2,7 @@
 ghost use Rattle.std.specs.Prelude.{◌≡◌, ◌+◌, ◌-◌, ◌<◌, ◌++◌, ◌⊎◌, []};
 ghost use mathlib.Core.List.{IsPrefix};
 ghost use Rattle.claim_core.specs.Hand.{IsHandOf, KeepsOwn, OwnApart};
-ghost use Rattle.claim_core.specs.Held.{IsPair, Shows};
+ghost use Rattle.claim_core.specs.Seat.{IsPair, Shows};
 
 use crate::hand::Hand;
 use crate::rule::{Blank, Both, ClaimSeat, ClaimTable, Cut, Load, Parts, Settle};

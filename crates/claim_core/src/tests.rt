@@ -1,6 +1,9 @@
 use super::*;
 use std::test::Fail;
 
+mod counts;
+mod keys;
+mod looks;
 mod race;
 mod speed;
 mod uses;

@@ -1,6 +1,6 @@
 //! The word: how it is opened, looked at and closed.
 ghost use Rattle.std.specs.Prelude.{◌≡◌, ◌≤◌, ◌↔◌, IfOk, Err};
-ghost use Rattle.claim_core.specs.Word.{IsLimit};
+ghost use Rattle.claim_core.specs.Word.{AreBounds};
 ghost use Rattle.claim_core.specs.Hand.{IsHandOf, IsWholeHand, IsNewHand, SeesSize, seen_size};
 
 use crate::hand::{Hand, WHOLE};
@@ -9,6 +9,8 @@ use crate::seat_view::SeatView;
 use crate::terms::Terms;
 use atomic_table::Table;
 use std::alloc::{Allocator, Global};
+use std::error::Error;
+use std::fmt;
 use std::marker::Model;
 
 // The greatest limit.
@@ -17,11 +19,32 @@ const GREATEST_LIMIT: u64 = 1 << 32;
 /// Why a word was not opened.
 #[derive(Clone, Copy, Debug, PartialEq, Eq)]
 pub enum OpenError {
-    /// There was no memory.
+    /// Out of memory.
     NoMemory = 1,
     /// The limit is not from 1 to 2^32, or the base is above it.
     BadLimit = 2,
 }
+
+impl fmt::Display for OpenError {
+    ghost use Rattle.std.specs.Prelude.{Some};
+    ghost use Rattle.claim_core.specs.Errors.{open_error_text};
+
+    ghost output = { λ error. Some (open_error_text error) };
+
+    fn fmt<W: fmt::Write>(&self, f: &mut fmt::Formatter<W>) -> fmt::Result {
+        match self {
+            OpenError::NoMemory => write!(f, "out of memory"),
+            OpenError::BadLimit => {
+                write!(
+                    f,
+                    "the limit is not from 1 to 4294967296, or the base is above it"
+                )
+            }
+        }
+    }
+}
+
+impl Error for OpenError {}
 
 /// The size of what all callers share. Contracts see which word it is, its limit and its base.
 #[derive(Drop)]
@@ -32,7 +55,7 @@ pub struct Word<A: Allocator = Global> {
 
 impl<A: Allocator> Model for Word<A> {
     ghost use Rattle.claim_core.specs.Word.{WordView};
-    ghost use Rattle.claim_core.specs.Held.{word_view, IsOpened};
+    ghost use Rattle.claim_core.specs.Seat.{word_view, IsOpened};
 
     ghost Value = { WordView };
 
@@ -41,13 +64,23 @@ impl<A: Allocator> Model for Word<A> {
     ghost invariant = { λ w. IsOpened w.table.shared.table_id w.table.shared.key w.terms };
 }
 
+// The size itself is left out: only a step with a hand may look at it.
+impl<A: Allocator> fmt::Debug for Word<A> {
+    fn fmt<W: fmt::Write>(&self, f: &mut fmt::Formatter<W>) -> fmt::Result {
+        f.debug_struct("Word")
+            .field("limit", &self.terms.limit)
+            .field("base", &self.terms.base)
+            .finish_non_exhaustive()
+    }
+}
+
 impl<A: Allocator> Word<A> {
     /// A new word, and the hand that has all shares.
     pub fn open(alloc: A, limit: u64, base: u64) -> Result<(Word<A>, Hand), OpenError>
         ensures word { IfOk result (λ (word, _). (word.limit ≡ limit) × (word.base ≡ base)) }
         ensures hand { IfOk result (λ (word, hand). IsNewHand word hand) }
         // The limit is looked at before memory is asked for.
-        ensures bad_limit { (result ≡ Err OpenError.BadLimit) ↔ ¬ IsLimit limit base }
+        ensures bad_limit { (result ≡ Err OpenError.BadLimit) ↔ ¬ AreBounds limit base }
     {
         if limit == 0 || limit > GREATEST_LIMIT || base > limit {
             return Err(OpenError::BadLimit);
@@ -80,7 +113,7 @@ impl<A: Allocator> Word<A> {
 
     /// What every word keeps. It does nothing.
     pub fn laws(&self)
-        ensures { IsLimit self.now.limit self.now.base }
+        ensures { AreBounds self.now.limit self.now.base }
     {
         let _limit = self.terms.limit;
     }

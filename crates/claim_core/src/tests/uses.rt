@@ -40,6 +40,22 @@ fn claim_two<A: Allocator>(word: &Word<A>, a: &mut Hand, b: &mut Hand) -> Option
     Some((first, second))
 }
 
+// Two hands claim a place each, and become one, without a meeting: their runs are disjoint, and the one hand has seen both.
+fn claim_joined<A: Allocator>(word: &Word<A>, a: &mut Hand, mut b: Hand) -> Option<(Run, Run)>
+    requires ours { IsHandOf word.now a.old }
+    requires also_ours { IsHandOf word.now b }
+    ensures of { a.new.of ≡ a.old.of }
+    ensures disjoint { IfSome result (λ (x, y). AreDisjoint x y) }
+    ensures seen { IfSome result (λ (x, y). HasSeen a.new x × HasSeen a.new y) }
+{
+    let first = claim_one(word, a)?;
+    let second = claim_one(word, &mut b)?;
+    laws::seen_runs_stay();
+    laws::joined_owners_are_apart();
+    word.join(a, b);
+    Some((first, second))
+}
+
 // A whole hand claims: its runs tile the places from the base to the size.
 fn claim_all<A: Allocator>(word: Word<A>, mut hand: Hand) -> (u64, Hand)
     requires ours { IsHandOf word hand }
@@ -55,7 +71,7 @@ fn claim_all<A: Allocator>(word: Word<A>, mut hand: Hand) -> (u64, Hand)
 }
 
 #[test]
-fn two_hands_claim_and_meet(rt: HostRuntime) -> Result<(), Fail> {
+fn two_hands_claim_meet_and_join(rt: HostRuntime) -> Result<(), Fail> {
     let (word, mut a) = Word::open(rt.alloc(), 8, 0)?;
     let mut b = word.split(&mut a, 1);
     word.laws();
@@ -65,8 +81,12 @@ fn two_hands_claim_and_meet(rt: HostRuntime) -> Result<(), Fail> {
     let won = claim_two(&word, &mut a, &mut b);
     assert_eq!(rt; won, Some((Run { from: 0, n: 1 }, Run { from: 1, n: 1 })));
     assert_eq!(rt; (a.seen(), b.seen()), (2, 2));
-    word.join(&mut a, b);
+    let joined = claim_joined(&word, &mut a, b);
+    assert_eq!(rt;
+        joined,
+        Some((Run { from: 2, n: 1 }, Run { from: 3, n: 1 }))
+    );
     assert!(rt; a.is_whole());
-    assert_eq!(rt; claim_all(word, a).0, 4);
+    assert_eq!(rt; claim_all(word, a).0, 6);
     Ok(())
 }

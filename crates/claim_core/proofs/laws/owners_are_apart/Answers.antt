@@ -1,4 +1,4 @@
-use Rattle.claim_core.proofs.Owning.{owners_apart}
+use Rattle.claim_core.proofs.RunLaws.{owners_apart}
 use Rattle.claim_core.proofs.laws.owners_are_apart.Goals as goal
 
 pub returns : goal.returns

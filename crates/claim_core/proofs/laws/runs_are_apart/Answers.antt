@@ -1,4 +1,4 @@
-use Rattle.claim_core.proofs.Tiling.{run_apart}
+use Rattle.claim_core.proofs.Tiles.{run_apart}
 use Rattle.claim_core.proofs.laws.runs_are_apart.Goals as goal
 
 pub returns : goal.returns

@@ -1,4 +1,4 @@
-use Rattle.claim_core.proofs.Tiling.{run_stays}
+use Rattle.claim_core.proofs.Tiles.{run_stays}
 use Rattle.claim_core.proofs.laws.runs_stay.Goals as goal
 
 pub returns : goal.returns

@@ -1,5 +1,5 @@
-use Rattle.claim_core.proofs.Owning.{seen_runs}
+use Rattle.claim_core.proofs.RunLaws.{seen_stay}
 use Rattle.claim_core.proofs.laws.seen_runs_stay.Goals as goal
 
 pub returns : goal.returns
-returns c = seen_runs
+returns c = seen_stay

@@ -1,7 +1,7 @@
 use Rattle.std.proofs.Common.{◌≡◌, ◌+◌, ◌<◌, ◌∙◌, ap, arith, ℕ}
 use Rattle.claim_core.specs.Lengths.{times}
 use Rattle.claim_core.proofs.Counts.{times-append}
-use Rattle.claim_core.proofs.Steps.{loads, cuts, merges}
+use Rattle.claim_core.proofs.Kept.{loads, cuts, merges}
 use Rattle.claim_core.proofs.shares.show.Goals as goal
 
 pub join_seat-requires : goal.join_seat-requires

@@ -1,5 +1,11 @@
-use Rattle.claim_core.proofs.Belonging.{owns_seen}
+use Rattle.claim_core.proofs.Belongs.{owns_seen, owns_once, owns_part}
 use Rattle.claim_core.proofs.hand.Hand.laws.Goals as goal
 
 pub returns-clause-below : goal.returns-clause-below
 returns-clause-below c = owns_seen c.self.invariant c.self.view_is
+
+pub returns-clause-distinct : goal.returns-clause-distinct
+returns-clause-distinct c = owns_once c.self.invariant c.self.view_is
+
+pub returns-clause-places : goal.returns-clause-places
+returns-clause-places c = owns_part c.self.invariant c.self.view_is

@@ -1,5 +1,6 @@
 use Rattle.std.proofs.Common.{arith}
-use Rattle.claim_core.proofs.Belonging.{belongs, closes}
+use Rattle.claim_core.proofs.Belongs.{belongs}
+use Rattle.claim_core.proofs.WholeHand.{closes}
 use Rattle.claim_core.proofs.word.Word.close.Goals as goal
 
 pub free-requires : goal.free-requires

@@ -1,6 +1,6 @@
 use Rattle.std.proofs.Common.{arith}
-use Rattle.claim_core.proofs.Steps.{exchanges}
-use Rattle.claim_core.proofs.Belonging.{belongs}
+use Rattle.claim_core.proofs.Kept.{exchanges}
+use Rattle.claim_core.proofs.Belongs.{belongs}
 use Rattle.claim_core.proofs.word.Word.exchange.Goals as goal
 
 pub compare_exchange-found-requires : goal.compare_exchange-found-requires

@@ -1,7 +1,7 @@
 use Rattle.std.proofs.Common.{◌≡◌, ◌+◌, ap, arith, ℕ}
 use Rattle.claim_core.specs.Lengths.{times}
-use Rattle.claim_core.proofs.Steps.{cuts}
-use Rattle.claim_core.proofs.Belonging.{belongs}
+use Rattle.claim_core.proofs.Kept.{cuts}
+use Rattle.claim_core.proofs.Belongs.{belongs}
 use Rattle.claim_core.proofs.word.Word.give.Goals as goal
 
 pub split_seat-seat-requires : goal.split_seat-seat-requires

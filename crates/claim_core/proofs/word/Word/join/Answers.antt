@@ -1,7 +1,7 @@
 use Rattle.std.proofs.Common.{◌<◌, ◌∙◌, ap, sym, arith}
-use Rattle.claim_core.specs.Rule.{longer}
-use Rattle.claim_core.proofs.Steps.{merges, settles}
-use Rattle.claim_core.proofs.Belonging.{belongs, owned_apart}
+use Rattle.claim_core.specs.SeatView.{longer}
+use Rattle.claim_core.proofs.Kept.{merges, settles}
+use Rattle.claim_core.proofs.Belongs.{belongs, owned_apart}
 use Rattle.claim_core.proofs.word.Word.join.Goals as goal
 
 pub join_seat-requires : goal.join_seat-requires
@@ -25,4 +25,4 @@ returns-clause-apart g c =
     let mine = s.same.mine ∙ ap (λ m. m.0.mine) e.2 in
     let hand = ap (λ h. h.mine) c.hand.view_is in
     let other = ap (λ h. h.mine) c.other.view_is in
-    owned_apart c.args.hand.now.mine c.args.other.mine s.sound (cc)
+    owned_apart c.args.hand.now.mine c.args.other.mine s.consistent (cc)

@@ -1,6 +1,6 @@
 use Rattle.std.proofs.Common.{ap}
-use Rattle.claim_core.proofs.Steps.{spares}
-use Rattle.claim_core.proofs.Belonging.{belongs, owned_apart}
+use Rattle.claim_core.proofs.Kept.{spares}
+use Rattle.claim_core.proofs.Belongs.{belongs, owned_apart}
 use Rattle.claim_core.proofs.word.Word.meet.Goals as goal
 
 pub split_seat-spare-requires : goal.split_seat-spare-requires
@@ -14,4 +14,4 @@ returns-clause-apart g c =
     let a = ap (λ m. m.0.mine) shown.me in
     let b = ap (λ m. m.0.mine) shown.other_me in
     let both = shown.looks.same.mine in
-    owned_apart c.show-size.new.seat.me.0.mine c.show-size.result.1.me.0.mine shown.looks.sound (cc)
+    owned_apart c.show-size.new.seat.me.0.mine c.show-size.result.1.me.0.mine shown.looks.consistent (cc)

@@ -1,5 +1,5 @@
 use Rattle.std.proofs.Common.{arith}
-use Rattle.claim_core.proofs.Steps.{opens}
+use Rattle.claim_core.proofs.Kept.{opens}
 use Rattle.claim_core.proofs.word.Word.open.Goals as goal
 
 pub of_words-requires : goal.of_words-requires

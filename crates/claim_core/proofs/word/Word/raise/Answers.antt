@@ -1,6 +1,7 @@
 use Rattle.std.proofs.Common.{refl, arith}
-use Rattle.claim_core.proofs.Steps.{raises}
-use Rattle.claim_core.proofs.Belonging.{belongs, claims_seen, grew}
+use Rattle.claim_core.proofs.Kept.{raises}
+use Rattle.claim_core.proofs.Belongs.{belongs, grew}
+use Rattle.claim_core.proofs.WholeHand.{claims_seen}
 use Rattle.claim_core.proofs.word.Word.raise.Goals as goal
 
 pub fetch_max-found-requires : goal.fetch_max-found-requires

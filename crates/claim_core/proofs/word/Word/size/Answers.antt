@@ -1,5 +1,6 @@
-use Rattle.claim_core.proofs.Steps.{loads}
-use Rattle.claim_core.proofs.Belonging.{belongs, finds_seen}
+use Rattle.claim_core.proofs.Kept.{loads}
+use Rattle.claim_core.proofs.Belongs.{belongs}
+use Rattle.claim_core.proofs.WholeHand.{finds_seen}
 use Rattle.claim_core.proofs.word.Word.size.Goals as goal
 
 pub load-found-requires : goal.load-found-requires

@@ -1,13 +1,13 @@
--- What a word and a hand keep.
+-- What a word and a hand keep of their table and seat. Only proofs use it.
 use Rattle.std.specs.Prelude.{◌≡◌, ℕ, ◌<◌, []}
 use Rattle.atomic_table.specs.Seated.{TableId}
 use Rattle.atomic_table.specs.declared.shared.Seat.{Seat}
 use Rattle.claim_core.specs.declared.seat_view.SeatView.{SeatView}
 use Rattle.claim_core.specs.declared.terms.Terms.{Terms}
-use Rattle.claim_core.specs.Lengths.{end_of}
-use Rattle.claim_core.specs.Word.{WordView, IsLimit}
+use Rattle.claim_core.specs.Lengths.{runs_end}
+use Rattle.claim_core.specs.Word.{WordView, AreBounds}
 use Rattle.claim_core.specs.Hand.{HandView}
-use Rattle.claim_core.specs.Rule.{IsSound, Looks, joined, with_own}
+use Rattle.claim_core.specs.SeatView.{IsConsistent, Looks, joined_view, with_own}
 
 -- what a hand holds
 abbrev pub ClaimSeat : Type 0
@@ -22,10 +22,10 @@ pub record IsOpened (table : TableId) (key terms : Terms) : Type 0 where
   pub words : table.words ≡ 1
   pub slots : table.slots ≡ 0
   pub key_is : key ≡ terms
-  pub limit : IsLimit terms.limit terms.base
+  pub limit : AreBounds terms.limit terms.base
 
 -- the seat as callers see it
-abbrev pub hand_view : Seat (Unit {0}) SeatView → HandView
+abbrev pub hand_view : ClaimSeat → HandView
 hand_view seat =
     record {
       of = record { table = seat.table_id; limit = seat.me.0.limit; base = seat.me.0.base };
@@ -35,12 +35,12 @@ hand_view seat =
     }
 
 -- the two numbers are those of the seat, which takes part in the shares
-pub record IsHeld (seat : Seat (Unit {0}) SeatView) (share size : ℕ) : Type 0 where
+pub record IsHeld (seat : ClaimSeat) (share size : ℕ) : Type 0 where
   pub no_slot : seat.me.1 ≡ []
   pub shares : share ≡ seat.me.0.shares
-  pub seen : size ≡ end_of seat.me.0.base seat.me.0.seen
+  pub seen : size ≡ runs_end seat.me.0.base seat.me.0.seen
   pub positive : 0 < share
-  pub sound : IsSound seat.me.0
+  pub consistent : IsConsistent seat.me.0
 
 -- two seats of one table, with its terms, which both have shares
 pub record IsPair (table : TableId) (key : Terms) (seat other : ClaimSeat) : Type 0 where
@@ -53,10 +53,10 @@ pub record IsPair (table : TableId) (key : Terms) (seat other : ClaimSeat) : Typ
   pub part : 0 < seat.me.0.shares
   pub other_part : 0 < other.me.0.shares
 
--- two seats, while they were one, saw a list whose end was found. Each has the runs and shares that it had
+-- two seats, while they were one, saw a list that ends at the size found. Each has the runs and shares that it had
 pub record Shows (old_seat old_other : ClaimSeat) (found : ℕ) (seat other : ClaimSeat) : Type 0 where
   pub both : SeatView
-  pub looks : Looks (joined old_seat.me.0 old_other.me.0) found both
+  pub looks : Looks (joined_view old_seat.me.0 old_other.me.0) found both
   pub same : seat.table_id ≡ old_seat.table_id
   pub other_same : other.table_id ≡ old_seat.table_id
   pub me : seat.me ≡ (with_own both old_seat.me.0.mine old_seat.me.0.shares, old_seat.me.1)

@@ -8,7 +8,8 @@ use Rattle.atomic_table.proofs.Lists.{at_set, at_snoc, set_else}
 use Rattle.claim_core.specs.declared.seat_view.SeatView.{SeatView}
 use Rattle.claim_core.specs.declared.terms.Terms.{Terms}
 use Rattle.claim_core.specs.Lengths.{times, once_below}
-use Rattle.claim_core.specs.Rule.{Suits, Fits, SameOwn, IsSound, longer, joined, first_view, spent_view}
+use Rattle.claim_core.specs.Rule.{Suits, Fits}
+use Rattle.claim_core.specs.SeatView.{SameOwn, IsConsistent, longer, joined_view, first_view, spent_view}
 use Rattle.claim_core.proofs.Prefixes.{prefix_self, prefix_append, prefix_nil, prefix_trans, prefix_whole, prefix_length, prefix_sum, prefix_All, longer_begins, sum_snoc}
 use Rattle.claim_core.proofs.Counts.{times-append, once_more, total-set, total-snoc, member_le, alone}
 
@@ -67,9 +68,9 @@ module _ (limit base size : ℕ) (lengths : List ℕ) (vs : List SeatView) (fits
       let e = alone (λ (u : SeatView). u.shares) (λ (u : SeatView). times k u.mine) vs id v at (let o = fits.shares in omega arith) (λ j w here none. ap (times k) ((fits.each j w here).spent none).1) in
       let o = fits.owned k in omega arith
 
-  -- each seat is sound
-  pub sound : v.limit ≡ limit → v.base ≡ base → IsSound v
-  sound is_limit is_base =
+  -- each seat is consistent
+  pub consistent : v.limit ≡ limit → v.base ≡ base → IsConsistent v
+  consistent is_limit is_base =
       let suits = fits.each id v at in
       record {
         positive = prefix_All (λ n. 0 < n) v.seen lengths suits.seen fits.positive;
@@ -140,10 +141,10 @@ module _ (limit base size : ℕ) (lengths : List ℕ) (vs : List SeatView) (fits
       }
 
   -- another seat is joined to the seat
-  pub joins : (j : ℕ) (w : SeatView) → j ≢ id → get_elem? (set vs id (joined v w)) j ≡ some w → 0 < v.shares
-      → Fits limit base size lengths (set (set vs id (joined v w)) j spent_view)
+  pub joins : (j : ℕ) (w : SeatView) → j ≢ id → get_elem? (set vs id (joined_view v w)) j ≡ some w → 0 < v.shares
+      → Fits limit base size lengths (set (set vs id (joined_view v w)) j spent_view)
   joins j w apart at' part =
-      let both = joined v w in
+      let both = joined_view v w in
       let was : get_elem? vs j ≡ some w = sym (set_else vs id j both apart) ∙ at' in
       let mine = fits.each id v at in
       let theirs = fits.each j w was in

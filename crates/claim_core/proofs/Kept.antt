@@ -5,19 +5,17 @@ use mathlib.Core.Option.{none, some}
 use mathlib.Core.List.{IsPrefix}
 use lib.ListN.{get_elem?}
 use prog.Atomic.{either}
-use Rattle.atomic_table.specs.Table.{State, Me, step, keeps, stepped, opening, Allows, Splits, Joins}
+use Rattle.atomic_table.specs.Table.{State, step, keeps, stepped, opening, Allows, Splits, Joins}
 use Rattle.claim_core.specs.declared.seat_view.SeatView.{SeatView}
 use Rattle.claim_core.specs.declared.terms.Terms.{Terms}
-use Rattle.claim_core.specs.Lengths.{end_of, times}
-use Rattle.claim_core.specs.Rule.{Suits, Fits, Kept, SameOwn, Looks, Claims, loaded, settled, exchanged, raised, longer, joined, first_view, spent_view, with_own}
+use Rattle.claim_core.specs.Lengths.{runs_end, times}
+use Rattle.claim_core.specs.Rule.{Suits, Fits, Kept}
+use Rattle.claim_core.specs.SeatView.{Seated, SameOwn, Looks, Claims, loaded, settled, exchanged, raised, longer, joined_view, first_view, spent_view, with_own}
 use Rattle.claim_core.proofs.Prefixes.{prefix_self, prefix_nil, prefix_length, longer_begins}
-use Rattle.claim_core.proofs.Fitting.{begins, at_set_here, spent_suits, sound, stays, grows, splits, joins}
+use Rattle.claim_core.proofs.Fits.{begins, at_set_here, spent_suits, consistent, stays, grows, splits, joins}
 
 abbrev Table : Type 0
 Table = State (Unit {0}) SeatView
-
-abbrev Seated : Type 0
-Seated = Me (Unit {0}) SeatView
 
 -- after a step the word is n, and this list of lengths fits
 placed : (terms : Terms) (s : Table) (kept : Kept terms s) (n id : ℕ) (me : Seated) (w : SeatView) (lengths : List ℕ)
@@ -59,7 +57,7 @@ module _ (terms : Terms) (slots id : ℕ) (me : Seated) (is_limit : me.0.limit �
           one = mine.one;
           other = mine.other;
           same = same;
-          sound = sound terms.limit terms.base (get_or s.words 0 0) all (set s.views id w) fits' id w (at_set_here s.views id v w at) is_limit is_base;
+          consistent = consistent terms.limit terms.base (get_or s.words 0 0) all (set s.views id w) fits' id w (at_set_here s.views id v w at) is_limit is_base;
         },
       )
 
@@ -74,16 +72,16 @@ module _ (terms : Terms) (slots id : ℕ) (me : Seated) (is_limit : me.0.limit �
       let w : SeatView = record { limit = v.limit; base = v.base; seen = all ++ n ∷ []; mine = length all ∷ v.mine; shares = v.shares; one = []; other = [] } in
       let fits' = grows terms.limit terms.base (get_or s.words 0 0) all s.views fits id v at n w one_place room part refl refl refl refl refl in
       let ends = fits.ends in
-      let size : end_of v.base all ≡ get_or s.words 0 0 = omega arith in (
+      let size : runs_end v.base all ≡ get_or s.words 0 0 = omega arith in (
         w,
         placed terms s kept (get_or s.words 0 0 + n) id me w (all ++ n ∷ []) fits',
         record {
           between = mine.seen.0;
-          size = ap (end_of v.base) mine.seen.1 ∙ size;
+          size = ap (runs_end v.base) mine.seen.1 ∙ size;
           seen = ap (λ l. l ++ n ∷ []) (sym mine.seen.1);
           mine = ap (λ (l : List ℕ). length l ∷ v.mine) (sym mine.seen.1);
           same = record { limit = refl; base = refl; mine = refl; shares = refl };
-          sound = sound terms.limit terms.base (get_or s.words 0 0 + n) (all ++ n ∷ []) (set s.views id w) fits' id w (at_set_here s.views id v w at) is_limit is_base;
+          consistent = consistent terms.limit terms.base (get_or s.words 0 0 + n) (all ++ n ∷ []) (set s.views id w) fits' id w (at_set_here s.views id v w at) is_limit is_base;
         },
       )
 
@@ -148,7 +146,7 @@ module _ (terms : Terms) (slots id : ℕ) (me : Seated) (is_limit : me.0.limit �
             other = subst (λ l. IsPrefix v.other l) (sym is_longer) begins.1;
             seen = refl;
             same = same;
-            sound = sound terms.limit terms.base (get_or s.words 0 0) all (set s.views id w) fits' id w (at_set_here s.views id v w at) is_limit is_base;
+            consistent = consistent terms.limit terms.base (get_or s.words 0 0) all (set s.views id w) fits' id w (at_set_here s.views id v w at) is_limit is_base;
           },
           refl,
         ),
@@ -195,7 +193,7 @@ spares terms id v s kept at =
     }
 
 -- a seat is joined to another
-pub merges : (terms : Terms) (id : ℕ) (v : SeatView) (other : ℕ) (w : SeatView) → 0 < v.shares → Joins (Kept terms) id v other w (joined v w) spent_view
+pub merges : (terms : Terms) (id : ℕ) (v : SeatView) (other : ℕ) (w : SeatView) → 0 < v.shares → Joins (Kept terms) id v other w (joined_view v w) spent_view
 merges terms id v other w part s kept at apart at' =
     record {
       one_word = kept.one_word;

@@ -1,0 +1,25 @@
+-- How many places a hand's own runs have after a call, for the small layer of the tests that counts them. The premise is a public law.
+use Rattle.std.proofs.Common.{◌≡◌, ℕ, ◌+◌, ◌<◌, ◌++◌, length, ap, ◌∙◌, arith}
+use Rattle.std.specs.List.{Contains}
+use Rattle.std.proofs.lemmas.List.Sums.{sum_by-append}
+use Rattle.std.specs.Prelude.{slice_index}
+use mathlib.Core.List.{IsPrefix}
+use Rattle.claim_core.specs.Lengths.{places_in}
+use Rattle.claim_core.specs.Hand.{HandView, own_places}
+use Rattle.claim_core.specs.Laws.{PlacesStay}
+
+-- a hand that has seen more, and owns what it owned
+pub own_places-same : PlacesStay → (old new : HandView) → IsPrefix old.seen new.seen → new.mine ≡ old.mine
+    → ((k : ℕ) → Contains old.mine k → k < length old.seen) → own_places new ≡ own_places old
+own_places-same law old new seen mine below = ap (places_in new.seen) mine ∙ law old.seen new.seen old.mine seen below
+
+-- a hand that owns what two hands owned
+pub own_places-joined : PlacesStay → (a b new : HandView) → IsPrefix a.seen new.seen → IsPrefix b.seen new.seen → new.mine ≡ a.mine ++ b.mine
+    → ((k : ℕ) → Contains a.mine k → k < length a.seen) → ((k : ℕ) → Contains b.mine k → k < length b.seen)
+    → own_places new ≡ own_places a + own_places b
+own_places-joined law a b new seen_a seen_b mine below_a below_b =
+    let all = ap (places_in new.seen) mine in
+    let both = sum_by-append (λ k. slice_index new.seen k) a.mine b.mine in
+    let of_a = law a.seen new.seen a.mine seen_a below_a in
+    let of_b = law b.seen new.seen b.mine seen_b below_b in
+    omega arith

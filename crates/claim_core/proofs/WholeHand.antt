@@ -1,0 +1,85 @@
+-- A whole hand has seen all that was claimed, and owns it.
+use Rattle.std.proofs.Common.{◌≡◌, ℕ, ◌+◌, ◌<◌, List, [], ◌∷◌, ◌++◌, length, get_or, refl, ap, sym, ◌∙◌, subst, arith, length-append}
+use Rattle.std.specs.List.{Contains}
+use mathlib.Core.Option.{some, some-injective, some-ne-none}
+use lib.ListN.{get_elem?}
+use Rattle.atomic_table.specs.Seated.{TableId}
+use Rattle.atomic_table.specs.Table.{Seen, Final}
+use Rattle.claim_core.specs.declared.seat_view.SeatView.{SeatView}
+use Rattle.claim_core.specs.declared.terms.Terms.{Terms}
+use Rattle.claim_core.specs.Lengths.{runs_end, times, once_below}
+use Rattle.claim_core.specs.Word.{WordView}
+use Rattle.claim_core.specs.Hand.{HandView, IsWholeHand, seen_size, own_places}
+use Rattle.claim_core.specs.Seat.{ClaimSeat, hand_view, IsHeld}
+use Rattle.claim_core.specs.Rule.{Kept}
+use Rattle.claim_core.specs.SeatView.{IsConsistent, Looks, Claims}
+use Rattle.claim_core.proofs.Prefixes.{prefix_whole}
+use Rattle.claim_core.proofs.Counts.{Contains-from_times, once_more}
+use Rattle.claim_core.proofs.Fits.{whole_saw}
+use Rattle.claim_core.proofs.Places.{places_in-all}
+use Rattle.claim_core.proofs.Belongs.{Belongs}
+
+-- a whole hand finds the size that it has seen
+Looks-whole : (v w : SeatView) (found : ℕ) → IsConsistent v → Looks v found w → v.shares ≡ 65536 → found ≡ runs_end v.base v.seen
+Looks-whole v w found consistent looks all =
+    let still : w.shares ≡ 65536 = looks.same.shares ∙ all in
+    let before = consistent.whole all (length v.seen) in
+    let after = looks.consistent.whole still (length v.seen) in
+    let same : times (length v.seen) w.mine ≡ times (length v.seen) v.mine = ap (times (length v.seen)) looks.same.mine in
+    let is : v.seen ≡ w.seen = prefix_whole v.seen w.seen looks.seen (omega arith) in
+    sym looks.size ∙ (ap (λ b. runs_end b w.seen) looks.same.base ∙ ap (runs_end v.base) (sym is))
+
+Claims-whole : (v w : SeatView) (found n : ℕ) → IsConsistent v → Claims v found n w → v.shares ≡ 65536 → found ≡ runs_end v.base v.seen
+Claims-whole v w found n consistent claims all =
+    let still : w.shares ≡ 65536 = claims.same.shares ∙ all in
+    let front = v.seen ++ claims.between in
+    let k = length v.seen in
+    let before = consistent.whole all k in
+    let after = claims.consistent.whole still k in
+    let mine : times k w.mine ≡ times k (length front ∷ []) + times k v.mine = omega (arith, ap (times k) claims.mine) in
+    let long : length w.seen ≡ length front + 1 = ap length claims.seen ∙ length-append front (n ∷ []) in
+    let more = once_more k (length front) in
+    let same : once_below k (length w.seen) ≡ once_below k (length front + 1) = ap (once_below k) long in
+    let is : v.seen ≡ front = prefix_whole v.seen front (claims.between, refl) (omega arith) in
+    sym claims.size ∙ (ap (λ b. runs_end b front) claims.same.base ∙ ap (runs_end v.base) (sym is))
+
+-- the same, as a caller sees it
+pub finds_seen : {seat : ClaimSeat} {share size found : ℕ} {w : SeatView} {hand : HandView} → IsHeld seat share size → hand_view seat ≡ hand
+    → Looks seat.me.0 found w → hand.shares ≡ 65536 → found ≡ seen_size hand
+finds_seen {seat} {share} {size} {found} {w} {hand} held hand_is looks all =
+    Looks-whole seat.me.0 w found held.consistent looks (ap (λ (h : HandView). h.shares) hand_is ∙ all) ∙ ap seen_size hand_is
+
+pub claims_seen : {seat : ClaimSeat} {share size found n : ℕ} {w : SeatView} {hand : HandView} → IsHeld seat share size → hand_view seat ≡ hand
+    → Claims seat.me.0 found n w → hand.shares ≡ 65536 → found ≡ seen_size hand
+claims_seen {seat} {share} {size} {found} {n} {w} {hand} held hand_is claims all =
+    Claims-whole seat.me.0 w found n held.consistent claims (ap (λ (h : HandView). h.shares) hand_is ∙ all) ∙ ap seen_size hand_is
+
+-- a whole hand owns each run that it has seen
+pub owns_all : {seat : ClaimSeat} {share size : ℕ} {hand : HandView} → IsHeld seat share size → hand_view seat ≡ hand
+    → IsWholeHand hand → (k : ℕ) → k < length hand.seen → Contains hand.mine k
+owns_all {seat} {share} {size} {hand} held hand_is =
+    subst (λ (h : HandView). IsWholeHand h → (k : ℕ) → k < length h.seen → Contains h.mine k) hand_is
+    (λ all k below. Contains-from_times seat.me.0.mine k (let o = held.consistent.whole all k in omega arith))
+
+-- and where it ends is the base and the places of all its runs
+pub owns_places : {seat : ClaimSeat} {share size : ℕ} {hand : HandView} → IsHeld seat share size → hand_view seat ≡ hand
+    → IsWholeHand hand → seen_size hand ≡ hand.of.base + own_places hand
+owns_places {seat} {share} {size} {hand} held hand_is =
+    subst (λ (h : HandView). IsWholeHand h → seen_size h ≡ h.of.base + own_places h) hand_is
+    (λ all. let p = places_in-all seat.me.0.seen seat.me.0.mine (held.consistent.whole all) in omega arith)
+
+first_of_list : (xs : List ℕ) (x : ℕ) → get_elem? xs 0 ≡ some x → get_or xs 0 0 ≡ x
+first_of_list [] x at = absurd (some-ne-none x (sym at))
+first_of_list (y ∷ ys) x at = some-injective y x at
+
+-- the last size is the one that a whole hand has seen
+pub closes : {seat : ClaimSeat} {table : TableId} {key : Terms} {word : WordView} {hand : HandView} (words : List ℕ) (slots : List (Unit {0})) (last : ℕ)
+    → Belongs seat table key word → hand_view seat ≡ hand → Final (Seen (Kept key) seat.id seat.me.0) words slots → get_elem? words 0 ≡ some last
+    → hand.shares ≡ 65536 → last ≡ seen_size hand
+closes {seat} {table} {key} {word} {hand} words slots last belong hand_is final at all =
+    let s = final.0 in
+    let kept = final.1.0 in
+    let v = seat.me.0 in
+    let found : get_or s.words 0 0 ≡ last = ap (λ (ws : List ℕ). get_or ws 0 0) final.2 ∙ first_of_list words last at in
+    let saw : v.seen ≡ kept.lengths = whole_saw key.limit key.base (get_or s.words 0 0) kept.lengths s.views kept.fits seat.id v final.1.1 (ap (λ (h : HandView). h.shares) hand_is ∙ all) in
+    sym found ∙ (kept.fits.ends ∙ (ap (λ b. runs_end b kept.lengths) (sym belong.base) ∙ (ap (runs_end v.base) (sym saw) ∙ ap seen_size hand_is)))

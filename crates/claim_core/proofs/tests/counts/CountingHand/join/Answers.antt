@@ -1,0 +1,12 @@
+use Rattle.std.proofs.Common.{ap, arith}
+use Rattle.claim_core.specs.Hand.{own_places}
+use Rattle.claim_core.proofs.OwnCounts.{own_places-joined}
+use Rattle.claim_core.proofs.tests.counts.CountingHand.join.Goals as goal
+
+pub returns-clause-places : goal.returns-clause-places
+returns-clause-places g c =
+    let joined = c.join.ensures in
+    let both = own_places-joined c.places_stay.ensures c.self.inside.hand c.other.inside.hand c.join.new.hand joined.begins joined.also_begins joined.mine c.laws-2.ensures.below c.laws-3.ensures.below in
+    let one = ap own_places c.self.view_is in
+    let other = ap own_places c.other.view_is in
+    omega arith

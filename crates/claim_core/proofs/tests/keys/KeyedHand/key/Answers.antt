@@ -1,0 +1,28 @@
+use Rattle.std.proofs.Common.{ap, arith, subst}
+use Rattle.claim_core.specs.Word.{WordView}
+use Rattle.claim_core.specs.Hand.{HandView}
+use Rattle.claim_core.specs.Lengths.{runs_end}
+use Rattle.claim_core.proofs.KeyRows.{HasKeys}
+use Rattle.claim_core.proofs.tests.keys.KeyedHand.key.Goals as goal
+
+pub bounds-self-inside-place : goal.bounds-self-inside-place
+bounds-self-inside-place g c =
+    let owned = c.requires.owned in
+    let within = (c.seen_runs_are_within.ensures c.args.self.now owned.0 c.args.run owned.2).1 in
+    let size = c.laws-2.ensures.within in
+    let small = c.laws.ensures.small in
+    let hand = ap (λ (h : HandView). runs_end h.of.base h.seen) c.self.view_is in
+    let limit = ap (λ (h : HandView). h.of.limit) c.self.view_is in
+    let word = ap (λ (w : WordView). w.limit) c.requires.ours in
+    let before = c.requires.before in
+    omega arith
+
+pub unwrap-requires : goal.unwrap-requires
+unwrap-requires g c =
+    let owned = c.requires.owned in
+    let from = owned.2.from in
+    let n = owned.2.n in
+    let after = c.requires.from in
+    let before = c.requires.before in
+    let has = subst (λ (h : HandView). HasKeys h c.self.inside.row) c.self.view_is c.self.invariant in
+    has owned.0 c.args.place owned.1 (record { there = owned.2.there; after = omega arith; before = omega arith })

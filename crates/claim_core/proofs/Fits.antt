@@ -13,6 +13,13 @@ use Rattle.claim_core.specs.SeatView.{SameOwn, IsConsistent, longer, joined_view
 use Rattle.claim_core.proofs.Prefixes.{prefix_self, prefix_append, prefix_nil, prefix_trans, prefix_whole, prefix_length, prefix_sum, prefix_All, longer_begins, sum_snoc}
 use Rattle.claim_core.proofs.Counts.{times-append, once_more, total-set, total-snoc, member_le, alone}
 
+-- how often a seat owns run k, and its shares
+abbrev owned : ℕ → SeatView → ℕ
+owned k v = times k v.mine
+
+abbrev share : SeatView → ℕ
+share v = v.shares
+
 -- what holds of the new member and of each old one holds of all after a change
 each_set : (F : SeatView → Type 0) (vs : List SeatView) (i : ℕ) (w : SeatView) → F w → ((j : ℕ) (v : SeatView) → get_elem? vs j ≡ some v → F v)
     → (j : ℕ) (v : SeatView) → get_elem? (set vs i w) j ≡ some v → F v
@@ -35,7 +42,15 @@ begins terms room =
       ends = omega arith;
       within = room;
       positive = All-nil (λ n. 0 < n);
-      each = each_one (Suits []) (first_view terms) (record { seen = prefix_nil []; one = prefix_nil []; other = prefix_nil []; own = λ k. omega arith; spent = λ none. absurd (omega arith) });
+      each =
+          each_one (Suits []) (first_view terms)
+          (record {
+            seen = prefix_nil [];
+            one = prefix_nil [];
+            other = prefix_nil [];
+            own = λ k. omega arith;
+            spent = λ none. absurd (omega arith);
+          });
       owned = λ k. omega arith;
       shares = omega arith;
     }
@@ -59,13 +74,24 @@ suits_more lengths n v suits =
     }
 
 pub spent_suits : (lengths : List ℕ) → Suits lengths spent_view
-spent_suits lengths = record { seen = prefix_nil lengths; one = prefix_nil lengths; other = prefix_nil lengths; own = λ k. omega arith; spent = λ none. (refl, refl) }
+spent_suits lengths =
+    record {
+      seen = prefix_nil lengths;
+      one = prefix_nil lengths;
+      other = prefix_nil lengths;
+      own = λ k. omega arith;
+      spent = λ none. (refl, refl);
+    }
 
-module _ (limit base size : ℕ) (lengths : List ℕ) (vs : List SeatView) (fits : Fits limit base size lengths vs) (id : ℕ) (v : SeatView) (at : get_elem? vs id ≡ some v) where
+module _
+    (limit base size : ℕ) (lengths : List ℕ) (vs : List SeatView) (fits : Fits limit base size lengths vs)
+    (id : ℕ) (v : SeatView) (at : get_elem? vs id ≡ some v) where
   -- the seat of all shares owns all runs
   whole_owns : v.shares ≡ 65536 → (k : ℕ) → times k v.mine ≡ once_below k (length lengths)
   whole_owns all k =
-      let e = alone (λ (u : SeatView). u.shares) (λ (u : SeatView). times k u.mine) vs id v at (let o = fits.shares in omega arith) (λ j w here none. ap (times k) ((fits.each j w here).spent none).1) in
+      let e =
+      alone share (owned k) vs id v at (let o = fits.shares in omega arith)
+      (λ j w here none. ap (times k) ((fits.each j w here).spent none).1) in
       let o = fits.owned k in omega arith
 
   -- each seat is consistent
@@ -75,9 +101,13 @@ module _ (limit base size : ℕ) (lengths : List ℕ) (vs : List SeatView) (fits
       record {
         positive = prefix_All (λ n. 0 < n) v.seen lengths suits.seen fits.positive;
         within = let le = prefix_sum v.seen lengths suits.seen in let e = fits.ends in let l = fits.within in omega arith;
-        shares = let m = member_le (λ (u : SeatView). u.shares) vs id v at in let o = fits.shares in omega arith;
+        shares = let m = member_le share vs id v at in let o = fits.shares in omega arith;
         own = suits.own;
-        whole = λ all k. let le = prefix_length v.seen lengths suits.seen in let o = whole_owns all k in let part = suits.own k in omega arith;
+        whole = λ all k.
+            let le = prefix_length v.seen lengths suits.seen in
+            let o = whole_owns all k in
+            let part = suits.own k in
+            omega arith;
       }
 
   -- the seat of all shares has seen all
@@ -88,7 +118,7 @@ module _ (limit base size : ℕ) (lengths : List ℕ) (vs : List SeatView) (fits
       let part = suits.own (length v.seen) in
       prefix_whole v.seen lengths suits.seen (omega arith)
 
-  -- a seat with the same runs and shares, whose lists begin the list of all lengths
+  -- a seat with the same runs and shares, whose lists are prefixes of the list of all lengths
   pub stays : (w : SeatView) → SameOwn v w → Suits lengths w → Fits limit base size lengths (set vs id w)
   stays w same suits =
       record {
@@ -96,8 +126,12 @@ module _ (limit base size : ℕ) (lengths : List ℕ) (vs : List SeatView) (fits
         within = fits.within;
         positive = fits.positive;
         each = each_set (Suits lengths) vs id w suits fits.each;
-        owned = λ k. let t = total-set (λ (u : SeatView). times k u.mine) vs id v w at in let e : times k w.mine ≡ times k v.mine = ap (times k) same.mine in let o = fits.owned k in omega arith;
-        shares = let t = total-set (λ (u : SeatView). u.shares) vs id v w at in let e = same.shares in let o = fits.shares in omega arith;
+        owned = λ k.
+            let t = total-set (owned k) vs id v w at in
+            let e : times k w.mine ≡ times k v.mine = ap (times k) same.mine in
+            let o = fits.owned k in
+            omega arith;
+        shares = let t = total-set share vs id v w at in let e = same.shares in let o = fits.shares in omega arith;
       }
 
   -- the seat has added a run to the list of all lengths
@@ -108,7 +142,8 @@ module _ (limit base size : ℕ) (lengths : List ℕ) (vs : List SeatView) (fits
       let long : length all ≡ length lengths + 1 = length-append lengths (n ∷ []) in
       let old = fits.each id v at in
       let owns : (k : ℕ) → times k w.mine ≡ times k (length lengths ∷ []) + times k v.mine = λ k. omega (arith, ap (times k) mine) in
-      let more : (k : ℕ) → once_below k (length all) ≡ times k (length lengths ∷ []) + once_below k (length lengths) = λ k. ap (once_below k) long ∙ once_more k (length lengths) in
+      let more : (k : ℕ) → once_below k (length all) ≡ times k (length lengths ∷ []) + once_below k (length lengths) =
+      λ k. ap (once_below k) long ∙ once_more k (length lengths) in
       record {
         ends = let e = fits.ends in omega (arith, sum_snoc lengths n);
         within = room;
@@ -119,12 +154,23 @@ module _ (limit base size : ℕ) (lengths : List ℕ) (vs : List SeatView) (fits
               seen = subst (λ l. IsPrefix l all) (sym seen) (prefix_self all);
               one = subst (λ l. IsPrefix l all) (sym one) (prefix_nil all);
               other = subst (λ l. IsPrefix l all) (sym other) (prefix_nil all);
-              own = λ k. let o = old.own k in let le = prefix_length v.seen lengths old.seen in let a = owns k in let b = more k in let c : once_below k (length w.seen) ≡ once_below k (length all) = ap (λ l. once_below k (length l)) seen in omega arith;
+              own = λ k.
+                  let o = old.own k in
+                  let le = prefix_length v.seen lengths old.seen in
+                  let a = owns k in
+                  let b = more k in
+                  let c : once_below k (length w.seen) ≡ once_below k (length all) = ap (λ l. once_below k (length l)) seen in
+                  omega arith;
               spent = λ none. absurd (omega arith);
             })
             (λ j u here. suits_more lengths n u (fits.each j u here));
-        owned = λ k. let t = total-set (λ (u : SeatView). times k u.mine) vs id v w at in let o = fits.owned k in let a = owns k in let b = more k in omega arith;
-        shares = let t = total-set (λ (u : SeatView). u.shares) vs id v w at in let o = fits.shares in omega arith;
+        owned = λ k.
+            let t = total-set (owned k) vs id v w at in
+            let o = fits.owned k in
+            let a = owns k in
+            let b = more k in
+            omega arith;
+        shares = let t = total-set share vs id v w at in let o = fits.shares in omega arith;
       }
 
   -- the seat is cut in two
@@ -136,8 +182,17 @@ module _ (limit base size : ℕ) (lengths : List ℕ) (vs : List SeatView) (fits
         within = fits.within;
         positive = fits.positive;
         each = each_snoc (Suits lengths) (set vs id left) right suits_right (each_set (Suits lengths) vs id left suits_left fits.each);
-        owned = λ k. let t = total-set (λ (u : SeatView). times k u.mine) vs id v left at in let u = total-snoc (λ (u : SeatView). times k u.mine) (set vs id left) right in let o = fits.owned k in let r = runs k in omega arith;
-        shares = let t = total-set (λ (u : SeatView). u.shares) vs id v left at in let u = total-snoc (λ (u : SeatView). u.shares) (set vs id left) right in let o = fits.shares in omega arith;
+        owned = λ k.
+            let t = total-set (owned k) vs id v left at in
+            let u = total-snoc (owned k) (set vs id left) right in
+            let o = fits.owned k in
+            let r = runs k in
+            omega arith;
+        shares =
+            let t = total-set share vs id v left at in
+            let u = total-snoc share (set vs id left) right in
+            let o = fits.shares in
+            omega arith;
       }
 
   -- another seat is joined to the seat
@@ -162,8 +217,8 @@ module _ (limit base size : ℕ) (lengths : List ℕ) (vs : List SeatView) (fits
               other = theirs.seen;
               own = λ k.
                   let a = times-append k v.mine w.mine in
-                  let t = total-set (λ (u : SeatView). times k u.mine) vs id v spent_view at in
-                  let m = member_le (λ (u : SeatView). times k u.mine) (set vs id spent_view) j w (set_else vs id j spent_view apart ∙ was) in
+                  let t = total-set (owned k) vs id v spent_view at in
+                  let m = member_le (owned k) (set vs id spent_view) j w (set_else vs id j spent_view apart ∙ was) in
                   let o = fits.owned k in
                   let x = mine.own k in
                   let y = theirs.own k in
@@ -173,7 +228,15 @@ module _ (limit base size : ℕ) (lengths : List ℕ) (vs : List SeatView) (fits
               spent = λ none. absurd (omega arith);
             })
             fits.each);
-        owned = λ k. let t = total-set (λ (u : SeatView). times k u.mine) vs id v both at in let u = total-set (λ (u : SeatView). times k u.mine) (set vs id both) j w spent_view at' in
-            let a = times-append k v.mine w.mine in let o = fits.owned k in omega arith;
-        shares = let t = total-set (λ (u : SeatView). u.shares) vs id v both at in let u = total-set (λ (u : SeatView). u.shares) (set vs id both) j w spent_view at' in let o = fits.shares in omega arith;
+        owned = λ k.
+            let t = total-set (owned k) vs id v both at in
+            let u = total-set (owned k) (set vs id both) j w spent_view at' in
+            let a = times-append k v.mine w.mine in
+            let o = fits.owned k in
+            omega arith;
+        shares =
+            let t = total-set share vs id v both at in
+            let u = total-set share (set vs id both) j w spent_view at' in
+            let o = fits.shares in
+            omega arith;
       }

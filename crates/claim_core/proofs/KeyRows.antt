@@ -22,7 +22,7 @@ abbrev pub HasKeys : {K : Type 0} → HandView → List (Option K) → Type 0
 HasKeys hand row = (k place : ℕ) → Contains hand.mine k → InRun hand.of.base hand.seen k place → HasKey row (place / 134217728)
 
 -- the hand has seen each run that it owns
-abbrev pub OwnIsSeen : HandView → Type 0
+abbrev OwnIsSeen : HandView → Type 0
 OwnIsSeen hand = (k : ℕ) → Contains hand.mine k → k < length hand.seen
 
 -- an entry that is set has a key, and the others keep theirs

@@ -78,6 +78,10 @@ pub all_tile : (base : ℕ) (lengths indices : List ℕ) → ((k : ℕ) → k < 
 all_tile base lengths indices all =
     record {
       covers = λ place from to. let r = find_run base lengths place from to in (r.0, all r.0 r.1.there, r.1);
-      within = λ k place run. let w = run_within lengths k run.there in let a = run.after in let b = run.before in (omega arith, omega arith);
+      within = λ k place run.
+          let w = run_within lengths k run.there in
+          let a = run.after in
+          let b = run.before in
+          (omega arith, omega arith);
       apart = run_apart base lengths;
     }

@@ -49,7 +49,8 @@ impl<A: Allocator> Word<A> {
         ensures seen { IfErr result (λ enough. SeesSize hand.old hand.new enough.size) }
         // Nobody else can claim beside a whole hand.
         ensures whole { IsWholeHand hand.old → IfOk result (λ run. run.from ≡ seen_size hand.old) }
-        ensures whole_enough { IsWholeHand hand.old → IfErr result (λ enough. enough.size ≡ seen_size hand.old) }
+        ensures whole_enough { IsWholeHand hand.old
+            → IfErr result (λ enough. enough.size ≡ seen_size hand.old) }
     {
         let shared = &self.table.shared;
         let found = shared.fetch_max::<Raise>(&mut hand.seat, 0, to);

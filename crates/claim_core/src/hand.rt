@@ -12,8 +12,8 @@ use std::marker::Model;
 // The shares of a whole hand.
 pub(crate) const WHOLE: u32 = 65536;
 
-/// What a caller has seen of the size, and its part of the right to close the word. It may be lost: its runs and shares
-/// are then lost for good.
+/// What a caller has seen of the size, and its part of the right to close the word. It takes 16 bytes.
+/// It may be lost: its runs and shares are then lost for good, and the word can no longer be closed.
 #[derive(Drop)]
 pub struct Hand {
     pub(crate) seat: Seat<(), SeatView>,
@@ -57,7 +57,7 @@ impl Hand {
         self.share() == WHOLE
     }
 
-    /// What every hand keeps. It does nothing.
+    /// What every hand keeps. The call does nothing.
     pub fn laws(&self)
         ensures positive { All (λ n. 0 < n) self.now.seen }
         ensures within { seen_size self.now ≤ self.now.of.limit }
@@ -73,7 +73,7 @@ impl Hand {
     }
 
     /// What a whole hand keeps: it has seen all that was claimed, and owns it. The size is the base
-    /// and the places of all its runs. It does nothing.
+    /// and the places of all its runs. The call does nothing.
     pub fn whole_laws(&self)
         requires whole { IsWholeHand self.now }
         ensures all { (k : ℕ) → k < length self.now.seen → Contains self.now.mine k }

@@ -4,7 +4,7 @@ use crate::terms::Terms;
 use atomic_table::{Join, Play, Seat, Split, TableRule};
 use std::marker::{Brand, PhantomData};
 
-/// There is one list of lengths, which ends at the word.
+/// There is one list of lengths, which ends at the size.
 pub struct OneList;
 
 impl TableRule<(), SeatView, Terms> for OneList {

@@ -1,4 +1,4 @@
-//! What a call answers.
+//! What a claim answers.
 use std::error::Error;
 use std::fmt;
 

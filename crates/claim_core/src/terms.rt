@@ -1,4 +1,4 @@
-//! What a word is told once, when it is opened.
+//! What is fixed when a word is opened.
 
 /// The greatest size, and the size at the start.
 #[derive(Clone, Copy)]

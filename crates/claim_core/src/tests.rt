@@ -5,7 +5,6 @@ mod counts;
 mod keys;
 mod looks;
 mod race;
-mod speed;
 mod uses;
 
 #[test]

@@ -75,7 +75,7 @@ impl<A: Allocator> fmt::Debug for Word<A> {
 }
 
 impl<A: Allocator> Word<A> {
-    /// A new word, and the hand that has all shares.
+    /// A new word, and the hand that has all shares. It takes two allocations.
     pub fn open(alloc: A, limit: u64, base: u64) -> Result<(Word<A>, Hand), OpenError>
         ensures word { IfOk result (λ (word, _). (word.limit ≡ limit) × (word.base ≡ base)) }
         ensures hand { IfOk result (λ (word, hand). IsNewHand word hand) }
@@ -111,14 +111,14 @@ impl<A: Allocator> Word<A> {
         self.terms.base
     }
 
-    /// What every word keeps. It does nothing.
+    /// What every word keeps. The call does nothing.
     pub fn laws(&self)
         ensures { AreBounds self.now.limit self.now.base }
     {
         let _limit = self.terms.limit;
     }
 
-    /// A load of the size.
+    /// One load of the size.
     pub fn size(&self, hand: &mut Hand) -> u64
         requires ours { IsHandOf self.now hand.old }
         ensures seen { SeesSize hand.old hand.new result }
@@ -132,7 +132,7 @@ impl<A: Allocator> Word<A> {
         found
     }
 
-    /// Ends the word, and answers its last size.
+    /// Ends the word, and returns its last size.
     pub fn close(self, hand: Hand) -> u64
         requires ours { IsHandOf self hand }
         requires whole { IsWholeHand hand }

@@ -39,8 +39,10 @@ impl Model for KeyedHand {
 
 // Puts the other row's keys into the row.
 fn put_keys(row: &mut Row, other: &Row)
-    ensures kept { (b : ℕ) → IsSome (slice_index_or row.old b None) → IsSome (slice_index_or row.new b None) }
-    ensures put { (b : ℕ) → IsSome (slice_index_or other.now b None) → IsSome (slice_index_or row.new b None) }
+    ensures kept { (b : ℕ) → IsSome (slice_index_or row.old b None)
+        → IsSome (slice_index_or row.new b None) }
+    ensures put { (b : ℕ) → IsSome (slice_index_or other.now b None)
+        → IsSome (slice_index_or row.new b None) }
 {
     for b in 0..32usize {
         if row[b].is_none() {

@@ -10,7 +10,7 @@ use std::thread::{Threads, join};
 
 const LIMIT: u64 = 20_000;
 
-// Claims single places until the limit, and answers how many it won.
+// Claims single places up to the limit, and returns how many it won.
 fn claim_to_limit(word: &Word<Global>, mut hand: Hand) -> (Hand, u64)
     requires ours { IsHandOf word.now hand }
     ensures { result.0.of ≡ word.now }
@@ -76,8 +76,8 @@ fn claim_by_four<R: Threads + Sync>(rt: &R, word: &Word<Global>, mut a: Hand) ->
 fn four_threads_claim_every_place_once(rt: HostRuntime) -> Result<(), Fail> {
     let (word, hand) = Word::open(rt.alloc(), LIMIT, 7)?;
     let (hand, won) = claim_by_four(&rt, &word, hand);
-    assert_eq!(rt; won, LIMIT - 7);
+    assert_eq!(rt; won, 19_993);
     assert!(rt; hand.is_whole());
-    assert_eq!(rt; word.close(hand), LIMIT);
+    assert_eq!(rt; word.close(hand), 20_000);
     Ok(())
 }

@@ -1,6 +1,6 @@
 use Rattle.std.specs.List.{All}
 use Rattle.claim_core.specs.Hand.{IsHandOf}
-use Rattle.claim_core.proofs.tests.speed.hands_for.Given as goal
+use Rattle.bench.proofs.claim_word.hands_for.Given as goal
 
 abbrev pub invariant-loop-thread : goal.invariant-loop-thread
 invariant-loop-thread l = IsHandOf l.word l.hand × All (IsHandOf l.word) l.hands.items

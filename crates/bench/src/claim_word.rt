@@ -1,0 +1,73 @@
+//! The claim word: each thread has a hand, and tries to claim one place after another.
+ghost use Rattle.std.specs.Prelude.{◌≡◌, All, IfOk};
+ghost use Rattle.claim_core.specs.Hand.{IsHandOf};
+
+use crate::trial::{Trial, sum_of};
+use anyhow::Result;
+use claim_core::{Hand, Word};
+use std::alloc::{AllocError, AllocGlobal, Global};
+use std::rt::Clock;
+use std::thread;
+use std::thread::Threads;
+use std::time::Instant;
+
+// One exchange a try, from what the hand has seen.
+fn claim(word: &Word<Global>, mut hand: Hand, tries: u64) -> u64
+    requires ours { IsHandOf word.now hand }
+{
+    let mut won: u64 = 0;
+    for _try in 0..tries {
+        let from = hand.seen();
+        if from >= word.limit() {
+            break;
+        }
+        if let Ok(run) = word.exchange(&mut hand, from, 1) {
+            won = won.wrapping_add(run.n);
+        }
+    }
+    won
+}
+
+// A hand for each thread, cut from this one.
+fn hands_for(
+    alloc: Global,
+    word: &Word<Global>,
+    hand: &mut Hand,
+    threads: usize,
+) -> Result<Vec<Hand>, AllocError>
+    requires ours { IsHandOf word.now hand.old }
+    ensures of { hand.new.of ≡ hand.old.of }
+    ensures hands { IfOk result (λ hands. All (IsHandOf word.now) hands.items) }
+{
+    let mut hands = Vec::new(alloc);
+    for _thread in 0..threads {
+        if hand.share() > 1 {
+            hands.push(word.split(hand, 1))?;
+        }
+    }
+    Ok(hands)
+}
+
+/// Exchanges on one claim word.
+pub fn run_claims<R: Threads + Clock + AllocGlobal + Sync>(
+    rt: &R,
+    threads: usize,
+    tries: u64,
+) -> Result<Trial> {
+    let (word, mut hand) = Word::open(rt.alloc(), 1 << 32, 0)?;
+    let hands = hands_for(rt.alloc(), &word, &mut hand, threads)?;
+    let start = Instant::now(rt)?;
+    let wins = thread::map_vec(
+        rt,
+        hands,
+        &|hand: Hand| -> u64
+            requires { IsHandOf word hand }
+        { claim(&word, hand, tries) },
+    )?;
+    let took = start.elapsed(rt)?;
+    Ok(Trial {
+        took,
+        wins: sum_of(wins.as_slice()),
+        size: word.size(&mut hand),
+    })
+}

@@ -1,5 +1,6 @@
 -- What each kind of step does to a list of lengths that fits.
 use Rattle.std.proofs.Common.{◌≡◌, ◌≢◌, ℕ, zero, suc, ◌+◌, ◌<◌, ◌≤◌, List, [], ◌∷◌, ◌++◌, length, set, refl, ap, sym, ◌∙◌, subst, ⊎_elim, arith, length-append}
+use Rattle.std.proofs.lemmas.List.Sums.{sum_by_push}
 use Rattle.std.proofs.lemmas.List.Elements.{All-nil, All-push}
 use mathlib.Core.Option.{some, some-injective, some-ne-none}
 use mathlib.Core.List.{IsPrefix}
@@ -10,7 +11,7 @@ use Rattle.claim_core.specs.declared.terms.Terms.{Terms}
 use Rattle.claim_core.specs.Lengths.{times, once_below}
 use Rattle.claim_core.specs.Rule.{Suits, Fits}
 use Rattle.claim_core.specs.SeatView.{SameOwn, IsConsistent, longer, joined_view, first_view, spent_view}
-use Rattle.claim_core.proofs.Prefixes.{prefix_self, prefix_append, prefix_nil, prefix_trans, prefix_whole, prefix_length, prefix_sum, prefix_All, longer_begins, sum_snoc}
+use Rattle.claim_core.proofs.Prefixes.{prefix_self, prefix_append, prefix_nil, prefix_trans, prefix_whole, prefix_length, prefix_sum, prefix_All, longer_begins}
 use Rattle.claim_core.proofs.Counts.{times-append, once_more, total-set, total-snoc, member_le, alone}
 
 -- how often a seat owns run k, and its shares
@@ -145,7 +146,7 @@ module _
       let more : (k : ℕ) → once_below k (length all) ≡ times k (length lengths ∷ []) + once_below k (length lengths) =
       λ k. ap (once_below k) long ∙ once_more k (length lengths) in
       record {
-        ends = let e = fits.ends in omega (arith, sum_snoc lengths n);
+        ends = let e = fits.ends in omega (arith, sum_by_push (λ x. x) lengths n);
         within = room;
         positive = All-push (λ m. 0 < m) lengths n fits.positive one_place;
         each =

@@ -1,5 +1,5 @@
 -- That a row has the keys of a hand's own runs, for the small layer of the tests. The premises are public laws and clauses.
-use Rattle.std.proofs.Common.{◌≡◌, ℕ, zero, suc, ◌+◌, ◌/◌, ◌<◌, ◌≤◌, List, ◌∷◌, ◌++◌, length, get_or, set, Option, Some, None, sym, subst, ⊎_elim, refl, [], arith}
+use Rattle.std.proofs.Common.{◌≡◌, ℕ, zero, suc, ◌/◌, ◌<◌, List, ◌∷◌, ◌++◌, length, get_or, set, Option, Some, None, sym, subst, ⊎_elim, refl, [], arith}
 use Rattle.std.specs.Prelude.{IsSome}
 use Rattle.std.specs.List.{Contains}
 use Rattle.std.proofs.lemmas.List.{get_or-set_same, get_or-set_other}
@@ -10,8 +10,8 @@ use native.Mathlib.Decide.{ℕ_discrete}
 use Rattle.claim_core.specs.declared.run.Run.{Run}
 use Rattle.claim_core.specs.Lengths.{InRun}
 use Rattle.claim_core.specs.Word.{WordView}
-use Rattle.claim_core.specs.Hand.{HandView, GainsRun}
-use Rattle.claim_core.specs.Laws.{RunsWereThere}
+use Rattle.claim_core.specs.Hand.{HandView, GainsRun, IsPlaceOf}
+use Rattle.claim_core.specs.Laws.{RunsWereThere, SeenRunsHavePlaces}
 
 -- the row has a key in this entry
 abbrev pub HasKey : {K : Type 0} → List (Option K) → ℕ → Type 0
@@ -51,22 +51,18 @@ only x k (zero, lt, is) = is
 only x k (suc i, lt, is) = absurd (omega arith)
 
 -- the hand has one more run, and the row has its keys
-pub gains : {K : Type 0} → RunsWereThere → (old new : HandView) (index : ℕ) (run : Run) (row row' : List (Option K)) → new.of ≡ old.of
+pub gains : {K : Type 0} → RunsWereThere → SeenRunsHavePlaces → (old new : HandView) (index : ℕ) (run : Run) (row row' : List (Option K)) → new.of ≡ old.of
     → GainsRun old new index run → OwnIsSeen old → HasKeys old row
     → ((b : ℕ) → HasKey row b → HasKey row' b)
-    → ((place : ℕ) → run.from ≤ place → place < run.from + run.n → HasKey row' (place / 134217728))
+    → ((place : ℕ) → IsPlaceOf run place → HasKey row' (place / 134217728))
     → HasKeys new row'
-gains law old new index run row row' of gain below has more keys k place own in_run =
+gains law places old new index run row row' of gain below has more keys k place own in_run =
     let at : Contains (index ∷ old.mine) k = subst (λ m. Contains m k) gain.mine own in
     ⊎_elim
     (λ (one : Contains (index ∷ []) k).
     let is : index ≡ k = only index k one in
-    let from = gain.sees.from in
-    let n = gain.sees.n in
     let here : InRun new.of.base new.seen index place = subst (λ i. InRun new.of.base new.seen i place) (sym is) in_run in
-    let after = here.after in
-    let before = here.before in
-    keys place (omega arith) (omega arith))
+    keys place ((places new index run place gain.sees).1 here))
     (λ (was : Contains old.mine k). more (place / 134217728) (stays law old new row of gain.seen below has k place was in_run))
     (Contains-append_cases (index ∷ []) old.mine k at)
 

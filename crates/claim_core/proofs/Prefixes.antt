@@ -1,5 +1,5 @@
 -- Prefixes of one list, and their sums.
-use Rattle.std.proofs.Common.{◌≡◌, ℕ, ◌+◌, ◌≤◌, ◌⊎◌, Bool, true, false, nat_le, List, [], ◌∷◌, ◌++◌, length, refl, ap, sym, ◌∙◌, subst, inl, inr, ⊎_elim, arith, append_assoc, length-append}
+use Rattle.std.proofs.Common.{◌≡◌, ℕ, ◌≤◌, ◌⊎◌, Bool, true, false, nat_le, List, [], ◌∷◌, ◌++◌, length, refl, ap, sym, ◌∙◌, subst, inl, inr, ⊎_elim, arith, append_assoc, length-append}
 use Rattle.std.specs.List.{All, sum}
 use Rattle.std.proofs.lemmas.List.{append-nil}
 use Rattle.std.proofs.lemmas.List.Sums.{sum_by-append}
@@ -66,6 +66,3 @@ longer_begins xs ys zs p q =
     (λ (c : (length ys ≤ length xs) × (longer xs ys ≡ xs)). subst F (sym c.1) (prefix_self xs, prefix_shorter ys xs zs q p c.0, p))
     (λ (c : (length xs ≤ length ys) × (longer xs ys ≡ ys)). subst F (sym c.1) (prefix_shorter xs ys zs p q c.0, prefix_self ys, q))
     (longer_picks xs ys (nat_le (length ys) (length xs)) refl)
-
-pub sum_snoc : (xs : List ℕ) (n : ℕ) → sum (xs ++ n ∷ []) ≡ sum xs + n
-sum_snoc xs n = omega (arith, sum_by-append (λ x. x) xs (n ∷ []))

@@ -7,8 +7,8 @@ use mathlib.Core.List.{IsPrefix}
 use Rattle.claim_core.specs.declared.run.Run.{Run}
 use Rattle.claim_core.specs.Lengths.{InRun}
 use Rattle.claim_core.specs.Word.{WordView}
-use Rattle.claim_core.specs.Hand.{HandView, SeesRun}
-use Rattle.claim_core.specs.Laws.{AddedRunsAreLast, AddedRunsAreOwned, SeenRunsStay, SeenRunsWereThere, SeenRunsAreWithin, OwnersAreApart, JoinedOwnersAreApart}
+use Rattle.claim_core.specs.Hand.{HandView, SeesRun, IsPlaceOf}
+use Rattle.claim_core.specs.Laws.{AddedRunsAreLast, AddedRunsAreOwned, SeenRunsStay, SeenRunsWereThere, SeenRunsAreWithin, SeenRunsHavePlaces, OwnersAreApart, JoinedOwnersAreApart}
 use Rattle.claim_core.proofs.Prefixes.{prefix_self, prefix_length}
 use Rattle.claim_core.proofs.Tiles.{run_within, run_apart, run_stays, starts_there, reads_there}
 
@@ -70,13 +70,19 @@ seen_within hand k run sees =
     let within = run_within hand.seen k sees.there in
     (omega arith, omega arith)
 
--- a place of a run that was seen lies in the run of that index, and in that of each list that goes on
+pub seen_places : SeenRunsHavePlaces
+seen_places hand index run place sees =
+    let f = sees.from in
+    let n = sees.n in (
+      λ (is : IsPlaceOf run place). record { there = sees.there; after = let a = is.0 in omega arith; before = let b = is.1 in omega arith },
+      λ (in_run : InRun hand.of.base hand.seen index place). let a = in_run.after in let b = in_run.before in (omega arith, omega arith),
+    )
+
+-- a place of a run that was seen lies in the run of that index of each list that goes on
 place_in : (hand : HandView) (lengths : List ℕ) (index : ℕ) (run : Run) (place : ℕ) → IsPrefix hand.seen lengths → SeesRun hand index run
     → run.from ≤ place → place < run.from + run.n → InRun hand.of.base lengths index place
 place_in hand lengths index run place more sees from to =
-    let f = sees.from in
-    let n = sees.n in
-    run_stays hand.of.base hand.seen lengths index place more (record { there = sees.there; after = omega arith; before = omega arith })
+    run_stays hand.of.base hand.seen lengths index place more ((seen_places hand index run place sees).0 (from, to))
 
 pub joined_owners_apart : JoinedOwnersAreApart
 joined_owners_apart a b lengths x y word more_a more_b apart own_x own_y place from_x to_x from_y to_y =

@@ -83,6 +83,10 @@ pub record GainsRun (old new : HandView) (index : ℕ) (run : Run) : Type 0 wher
   pub seen : IsPrefix old.seen new.seen
   pub sees : SeesRun new index run
 
+-- the place is one of the run
+abbrev pub IsPlaceOf : Run → ℕ → Type 0
+IsPlaceOf run place = (run.from ≤ place) × (place < run.from + run.n)
+
 -- no place is in both runs
 abbrev pub AreDisjoint : Run → Run → Type 0
 AreDisjoint a b =

@@ -1,10 +1,10 @@
 -- What follows of runs and hands, by the definitions alone.
-use Rattle.std.specs.Prelude.{◌≡◌, ℕ, ◌+◌, ◌<◌, ◌≤◌, List, length}
+use Rattle.std.specs.Prelude.{◌≡◌, ℕ, ◌+◌, ◌<◌, ◌≤◌, ◌↔◌, List, length}
 use Rattle.std.specs.List.{Contains}
 use mathlib.Core.List.{IsPrefix}
 use Rattle.claim_core.specs.declared.run.Run.{Run}
 use Rattle.claim_core.specs.Lengths.{InRun, places_in}
-use Rattle.claim_core.specs.Hand.{HandView, AddsRun, SeesRun, OwnsRun, GainsRun, OwnApart, AreDisjoint, seen_size}
+use Rattle.claim_core.specs.Hand.{HandView, AddsRun, SeesRun, OwnsRun, GainsRun, OwnApart, IsPlaceOf, AreDisjoint, seen_size}
 
 -- a run stays where it is when the list goes on
 abbrev pub RunsStay : Type 0
@@ -53,6 +53,12 @@ abbrev pub SeenRunsAreWithin : Type 0
 SeenRunsAreWithin =
     (hand : HandView) (index : ℕ) (run : Run) → SeesRun hand index run
     → (hand.of.base ≤ run.from) × (run.from + run.n ≤ seen_size hand)
+
+-- a place is one of a run that was seen exactly where it lies in the run of that index
+abbrev pub SeenRunsHavePlaces : Type 0
+SeenRunsHavePlaces =
+    (hand : HandView) (index : ℕ) (run : Run) (place : ℕ) → SeesRun hand index run
+    → (IsPlaceOf run place ↔ InRun hand.of.base hand.seen index place)
 
 -- two hands that own no run both, and have seen the same, have disjoint runs
 abbrev pub OwnersAreApart : Type 0

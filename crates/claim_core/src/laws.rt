@@ -2,7 +2,7 @@
 //! No call does anything.
 ghost use Rattle.claim_core.specs.Laws.{RunsStay, RunsWereThere, RunsAreApart, PlacesStay};
 ghost use Rattle.claim_core.specs.Laws.{AddedRunsAreOwned, AddedRunsAreLast};
-ghost use Rattle.claim_core.specs.Laws.{SeenRunsStay, SeenRunsWereThere, SeenRunsAreWithin};
+ghost use Rattle.claim_core.specs.Laws.{SeenRunsStay, SeenRunsWereThere, SeenRunsAreWithin, SeenRunsHavePlaces};
 ghost use Rattle.claim_core.specs.Laws.{OwnersAreApart, JoinedOwnersAreApart};
 
 /// A run stays where it is when the list goes on.
@@ -48,6 +48,11 @@ pub fn seen_runs_were_there()
 /// A run that was seen begins at or above the base, and ends at or below the size that was seen.
 pub fn seen_runs_are_within()
     ensures { SeenRunsAreWithin }
+{}
+
+/// A place is one of a run that was seen exactly where it lies in the run of that index.
+pub fn seen_runs_have_places()
+    ensures { SeenRunsHavePlaces }
 {}
 
 /// Two hands that own no run both, and have seen the same, have disjoint runs: so after a meeting.

@@ -76,6 +76,7 @@ impl KeyedHand {
         laws::runs_were_there();
         laws::added_runs_are_last();
         laws::added_runs_are_owned();
+        laws::seen_runs_have_places();
         let from = self.hand.seen();
         if n > word.limit() - from {
             return None;
@@ -135,6 +136,7 @@ impl KeyedHand {
         word.laws();
         self.hand.laws();
         laws::seen_runs_are_within();
+        laws::seen_runs_have_places();
         let entry = self.row[(place / BLOCK) as usize];
         entry.unwrap()
     }

@@ -1,5 +1,5 @@
 use Rattle.std.proofs.Common.{◌<◌, ◌∙◌, ap, sym, arith}
-use Rattle.claim_core.specs.SeatView.{longer}
+use Rattle.claim_core.specs.SeatView.{Seated, longer}
 use Rattle.claim_core.proofs.Kept.{merges, settles}
 use Rattle.claim_core.proofs.Belongs.{belongs, owned_apart}
 use Rattle.claim_core.proofs.word.Word.join.Goals as goal
@@ -14,15 +14,15 @@ pub load-hand-inside-requires : goal.load-hand-inside-requires
 load-hand-inside-requires g c =
     let b = belongs c.hand.invariant c.self.invariant c.hand.view_is c.self.view_is c.requires.ours in
     let e = c.join_seat.ensures in
-    let part : 0 < c.join_seat.new.seat.me.0.shares = let s = ap (λ m. m.0.shares) e.2 in let q = b.part in omega arith in
-    let seen = ap (λ m. m.0.seen) e.2 ∙ sym (ap (λ m. longer m.0.one m.0.other) e.2) in
-    (e.0 ∙ b.same, b.words, settles _ _ _ _ (ap (λ m. m.0.limit) e.2 ∙ b.limit) (ap (λ m. m.0.base) e.2 ∙ b.base) part seen)
+    let part : 0 < c.join_seat.new.seat.me.0.shares = let s = ap {A = Seated} (λ m. m.0.shares) e.2 in let q = b.part in omega arith in
+    let seen = ap {A = Seated} (λ m. m.0.seen) e.2 ∙ sym (ap (λ m. longer m.0.one m.0.other) e.2) in
+    (e.0 ∙ b.same, b.words, settles _ _ _ _ (ap {A = Seated} (λ m. m.0.limit) e.2 ∙ b.limit) (ap {A = Seated} (λ m. m.0.base) e.2 ∙ b.base) part seen)
 
 pub returns-clause-apart : goal.returns-clause-apart
 returns-clause-apart g c =
     let e = c.join_seat.ensures in
     let s = c.load-hand-inside.ensures.2.0 in
-    let mine = s.same.mine ∙ ap (λ m. m.0.mine) e.2 in
+    let mine = s.same.mine ∙ ap {A = Seated} (λ m. m.0.mine) e.2 in
     let hand = ap (λ h. h.mine) c.hand.view_is in
     let other = ap (λ h. h.mine) c.other.view_is in
     owned_apart c.args.hand.now.mine c.args.other.mine s.consistent (cc)

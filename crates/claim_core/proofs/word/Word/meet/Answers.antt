@@ -1,4 +1,5 @@
 use Rattle.std.proofs.Common.{ap}
+use Rattle.claim_core.specs.SeatView.{Seated}
 use Rattle.claim_core.proofs.Kept.{spares}
 use Rattle.claim_core.proofs.Belongs.{belongs, owned_apart}
 use Rattle.claim_core.proofs.word.Word.meet.Goals as goal
@@ -11,7 +12,7 @@ split_seat-spare-requires g c =
 pub returns-clause-apart : goal.returns-clause-apart
 returns-clause-apart g c =
     let shown = c.show-size.ensures in
-    let a = ap (λ m. m.0.mine) shown.me in
-    let b = ap (λ m. m.0.mine) shown.other_me in
+    let a = ap {A = Seated} (λ m. m.0.mine) shown.me in
+    let b = ap {A = Seated} (λ m. m.0.mine) shown.other_me in
     let both = shown.looks.same.mine in
     owned_apart c.show-size.new.seat.me.0.mine c.show-size.result.1.me.0.mine shown.looks.consistent (cc)

@@ -30,9 +30,11 @@ invariant_of-self-2 g c =
     let long : length row ≡ 32 = let ranges = c.self.ranges in omega arith in
     let in_first : first < length row = omega arith in
     let in_last : last < length (set row first (Some key)) = omega (arith, length-set row first (Some key)) in
-    gains c.runs_were_there.ensures hand c.exchange.new.hand gain.0 c.in-Ok.run' row (set (set row first (Some key)) last (Some key)) claimed.of gain.1 c.laws-2.ensures.below c.self.invariant
+    gains c.runs_were_there.ensures c.seen_runs_have_places.ensures hand c.exchange.new.hand gain.0 c.in-Ok.run' row (set (set row first (Some key)) last (Some key)) claimed.of gain.1 c.laws-2.ensures.below c.self.invariant
     (λ b has. set_keeps (set row first (Some key)) last b key in_last (set_keeps row first b key in_first has))
-    (λ place after before.
+    (λ place is_place.
+    let after = is_place.0 in
+    let before = is_place.1 in
     let from = ap (λ (r : Run). r.from) c.in-Ok.ensures.run in
     let n = ap (λ (r : Run). r.n) c.in-Ok.ensures.run in
     ⊎_elim

@@ -20,9 +20,6 @@ bounds-self-inside-place g c =
 pub unwrap-requires : goal.unwrap-requires
 unwrap-requires g c =
     let owned = c.requires.owned in
-    let from = owned.2.from in
-    let n = owned.2.n in
-    let after = c.requires.from in
-    let before = c.requires.before in
+    let in_run = (c.seen_runs_have_places.ensures c.args.self.now owned.0 c.args.run c.args.place owned.2).0 (c.requires.from, c.requires.before) in
     let has = subst (λ (h : HandView). HasKeys h c.self.inside.row) c.self.view_is c.self.invariant in
-    has owned.0 c.args.place owned.1 (record { there = owned.2.there; after = omega arith; before = omega arith })
+    has owned.0 c.args.place owned.1 in_run

@@ -9,7 +9,7 @@ use Rattle.book_core.specs.declared.events.Event.{Event}
 use Rattle.book_core.specs.declared.events.Reply.{Reply}
 use Rattle.book_core.specs.Cells.{CellList, IsFinished, apply_event}
 use Rattle.book_core.specs.History.{IsHistory, IsLegalFrom, run_of, runs_of, Tile}
-use Rattle.book_core.specs.Laws.{HistoriesSplit, RunsTile, FinishedCellsStay}
+use Rattle.book_core.specs.Laws.{HistoriesSplit, HistoriesTile, FinishedCellsStay}
 use Rattle.book_core.proofs.EventEffects.{Does, event_does}
 use Rattle.book_core.proofs.Lists.{get_before, get_other}
 use Rattle.book_core.proofs.Runs.{tile-append}
@@ -80,7 +80,7 @@ run_tiles v event w reply does = elim does [
       (sym (ap (λ (x : CellList). length x.cells) write.list ∙ length-set v.cells write.at write.cell))
 ]
 
-pub runs_tile : RunsTile
+pub runs_tile : HistoriesTile
 runs_tile old new [] is = ap (λ (v : CellList). length v.cells) (sym is)
 runs_tile old new (e ∷ es) (mid, first, others) =
     tile-append (length old.cells) (length mid.cells) (length new.cells) (run_of e.0 e.1) (runs_of es)

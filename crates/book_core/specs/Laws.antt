@@ -17,8 +17,8 @@ HistoriesSplit =
     ↔ ((mid : CellList) × IsHistory old es mid × IsHistory mid fs new)
 
 -- the runs of a history tile the places that it appends
-abbrev pub RunsTile : Type 0
-RunsTile = (old new : CellList) (es : List (Event × Reply)) → IsHistory old es new → Tile (length old.cells) (runs_of es) (length new.cells)
+abbrev pub HistoriesTile : Type 0
+HistoriesTile = (old new : CellList) (es : List (Event × Reply)) → IsHistory old es new → Tile (length old.cells) (runs_of es) (length new.cells)
 
 -- a cell that is filled or broken stays as it is
 abbrev pub FinishedCellsStay : Type 0

@@ -1,5 +1,5 @@
 //! What holds of every legal history, each the contract of a call without a body.
-ghost use Rattle.book_core.specs.Laws.{HistoriesSplit, RunsTile, FinishedCellsStay, ValuesAreTheOwners, LooksTellTheOwnersValue};
+ghost use Rattle.book_core.specs.Laws.{HistoriesSplit, HistoriesTile, FinishedCellsStay, ValuesAreTheOwners, LooksTellTheOwnersValue};
 
 /// A history in two parts is two histories, one after the other.
 pub fn histories_split()
@@ -8,7 +8,7 @@ pub fn histories_split()
 
 /// The runs of a history tile the places that it appends.
 pub fn runs_tile()
-    ensures { RunsTile }
+    ensures { HistoriesTile }
 {}
 
 /// A cell that is filled or broken stays as it is.

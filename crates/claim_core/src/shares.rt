@@ -2,7 +2,7 @@
 ghost use Rattle.std.specs.Prelude.{◌≡◌, ◌+◌, ◌-◌, ◌<◌, ◌++◌, ◌⊎◌, []};
 ghost use mathlib.Core.List.{IsPrefix};
 ghost use Rattle.claim_core.specs.Hand.{IsHandOf, KeepsOwn, OwnApart};
-ghost use Rattle.claim_core.specs.Seat.{IsPair, Shows};
+ghost use Rattle.claim_core.specs.Seat.{IsPair, SeesAsOne};
 
 use crate::hand::Hand;
 use crate::rule::{Blank, Both, ClaimSeat, ClaimTable, Cut, Load, Parts, Settle};
@@ -67,7 +67,7 @@ impl<A: Allocator> Word<A> {
         hand.seen = hand.seen.max(seen);
     }
 
-    /// Shows two hands to each other: both have then seen all that was claimed before one load of the
+    /// SeesAsOne two hands to each other: both have then seen all that was claimed before one load of the
     /// size. It takes three more loads, which tell nothing.
     pub fn meet(&self, a: &mut Hand, b: &mut Hand)
         requires ours { IsHandOf self.now a.old }
@@ -96,7 +96,7 @@ fn show<P: Parts>(shared: &ClaimTable, seat: &mut ClaimSeat, other: ClaimSeat) -
     requires kept_shares { P.kept_shares ≡ seat.old.me.0.shares }
     requires given_runs { P.given_runs ≡ other.me.0.mine }
     requires given_shares { P.given_shares ≡ other.me.0.shares }
-    ensures { Shows seat.old other result.0 seat.new result.1 }
+    ensures { SeesAsOne seat.old other result.0 seat.new result.1 }
 {
     shared.join_seat::<Both>(seat, other);
     let size = shared.load::<Load>(seat, 0);

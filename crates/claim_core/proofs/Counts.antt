@@ -65,7 +65,7 @@ member_le f [] i v at = absurd (some-ne-none v (sym at))
 member_le f (x ∷ xs) zero v at = let same : f x ≡ f v = ap f (some-injective x v at) in omega arith
 member_le f (x ∷ xs) (suc i) v at = let r = member_le f xs i v at in omega arith
 
--- where nobody has anything of the one, and who has nothing of it has nothing of the other, nobody has anything of the other
+-- a member whose f is 0 has a g of 0: where f adds up to 0, so does g
 nobody : (f g : SeatView → ℕ) (vs : List SeatView) → total f vs ≡ 0
     → ((j : ℕ) (w : SeatView) → get_elem? vs j ≡ some w → f w ≡ 0 → g w ≡ 0) → total g vs ≡ 0
 nobody f g [] all none = refl
@@ -74,7 +74,7 @@ nobody f g (x ∷ xs) all none =
     let rest : total g xs ≡ 0 = nobody f g xs (omega arith) (λ j w at. none (suc j) w at) in
     omega arith
 
--- where one member has all of the one, and who has nothing of it has nothing of the other, that member has all of the other
+-- a member whose f is 0 has a g of 0: where one member has all of f, it has all of g
 pub alone : (f g : SeatView → ℕ) (vs : List SeatView) (i : ℕ) (v : SeatView) → get_elem? vs i ≡ some v → total f vs ≡ f v
     → ((j : ℕ) (w : SeatView) → get_elem? vs j ≡ some w → f w ≡ 0 → g w ≡ 0) → total g vs ≡ g v
 alone f g [] i v at all none = absurd (some-ne-none v (sym at))

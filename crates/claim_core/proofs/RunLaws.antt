@@ -1,4 +1,4 @@
--- What follows of runs and hands, by the definitions alone.
+-- What follows from the definitions of runs and hands alone.
 use Rattle.std.proofs.Common.{◌≡◌, ℕ, zero, ◌+◌, ◌<◌, ◌≤◌, List, [], ◌∷◌, ◌++◌, length, get_or, take, refl, ap, sym, ◌∙◌, subst, arith, append_assoc, length-append}
 use Rattle.std.specs.List.{Contains, sum}
 use Rattle.std.proofs.Math.Seq.{take-length}

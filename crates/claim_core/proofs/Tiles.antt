@@ -46,7 +46,7 @@ find_run base (x ∷ xs) place from to =
     (suc r.0, record { there = omega arith; after = omega (arith, sum_by-cons (λ y. y) x (take r.0 xs)); before = omega (arith, sum_by-cons (λ y. y) x (take r.0 xs)) }))
     (λ less. (zero, record { there = omega arith; after = omega arith; before = omega arith }))
 
--- of two lists, of which the one is a prefix of the other: a run of both begins at the same place, and is as long
+-- where one list is a prefix of another, a run of both begins at the same place in both, and has the same length
 pub starts_there : (xs ys : List ℕ) (k : ℕ) → IsPrefix xs ys → k ≤ length xs → sum (take k ys) ≡ sum (take k xs)
 starts_there xs ys k p le = ap (λ l. sum (take k l)) (sym p.1) ∙ ap sum (take-append-le k xs p.0 le)
 

@@ -1,4 +1,4 @@
--- What follows of runs and hands, by the definitions alone.
+-- What follows from the definitions of runs and hands alone.
 use Rattle.std.specs.Prelude.{◌≡◌, ℕ, ◌+◌, ◌<◌, ◌≤◌, ◌↔◌, List, length}
 use Rattle.std.specs.List.{Contains}
 use mathlib.Core.List.{IsPrefix}
@@ -60,13 +60,13 @@ SeenRunsHavePlaces =
     (hand : HandView) (index : ℕ) (run : Run) (place : ℕ) → SeesRun hand index run
     → (IsPlaceOf run place ↔ InRun hand.of.base hand.seen index place)
 
--- two hands that own no run both, and have seen the same, have disjoint runs
+-- two hands that own no run in common, and have seen the same, have disjoint runs
 abbrev pub OwnersAreApart : Type 0
 OwnersAreApart =
     (a b : HandView) (x y : Run) → b.of ≡ a.of → b.seen ≡ a.seen → OwnApart a b
     → OwnsRun a x → OwnsRun b y → AreDisjoint x y
 
--- two hands that own no run both, and have seen prefixes of one list, have disjoint runs
+-- two hands that own no run in common, and have seen prefixes of one list, have disjoint runs
 abbrev pub JoinedOwnersAreApart : Type 0
 JoinedOwnersAreApart =
     (a b : HandView) (lengths : List ℕ) (x y : Run)

@@ -34,7 +34,7 @@ hand_view seat =
       shares = seat.me.0.shares;
     }
 
--- the two numbers are those of the seat, which takes part in the shares
+-- the two numbers are those of the seat, which has a share
 pub record IsHeld (seat : ClaimSeat) (share size : ℕ) : Type 0 where
   pub no_slot : seat.me.1 ≡ []
   pub shares : share ≡ seat.me.0.shares

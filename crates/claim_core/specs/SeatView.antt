@@ -16,7 +16,7 @@ first_view terms =
 abbrev pub spent_view : SeatView
 spent_view = record { limit = 0; base = 0; seen = []; mine = []; shares = 0; one = []; other = [] }
 
--- the longer of two lists, and the first where they are as long
+-- the longer of two lists, and the first where both have one length
 abbrev pub longer : List ℕ → List ℕ → List ℕ
 longer xs ys = if nat_le (length ys) (length xs) then xs else ys
 

@@ -1,4 +1,4 @@
-//! What follows of runs and hands by their definitions alone, for proofs about several hands.
+//! What follows from the definitions of runs and hands alone, for proofs about several hands.
 //! No call does anything.
 ghost use Rattle.claim_core.specs.Laws.{RunsStay, RunsWereThere, RunsAreApart, PlacesStay};
 ghost use Rattle.claim_core.specs.Laws.{AddedRunsAreOwned, AddedRunsAreLast};
@@ -55,13 +55,14 @@ pub fn seen_runs_have_places()
     ensures { SeenRunsHavePlaces }
 {}
 
-/// Two hands that own no run both, and have seen the same, have disjoint runs: so after a meeting.
+/// Two hands that own no run in common, and have seen the same, have disjoint runs. So it is after
+/// a meeting.
 pub fn owners_are_apart()
     ensures { OwnersAreApart }
 {}
 
-/// Two hands that own no run both, and have seen prefixes of one list, have disjoint runs: so
-/// where the two are joined.
+/// Two hands that own no run in common, and have seen prefixes of one list, have disjoint runs. So
+/// it is where the two are joined.
 pub fn joined_owners_are_apart()
     ensures { JoinedOwnersAreApart }
 {}

@@ -13,7 +13,7 @@ use std::mem;
 
 impl<A: Allocator> Word<A> {
     /// Gives some of the shares to a new hand, which has seen the same. It takes one load of the word,
-    /// which tells nothing of the size.
+    /// which tells nothing about the size.
     pub fn split(&self, hand: &mut Hand, shares: u32) -> Hand
         requires ours { IsHandOf self.now hand.old }
         requires some_shares { 0 < shares }
@@ -47,7 +47,7 @@ impl<A: Allocator> Word<A> {
     }
 
     /// Puts the other hand's runs and shares into the hand, which has then seen the more of what the two
-    /// had seen. It takes two loads of the word, which tell nothing of the size.
+    /// had seen. It takes two loads of the word, which tell nothing about the size.
     pub fn join(&self, hand: &mut Hand, other: Hand)
         requires ours { IsHandOf self.now hand.old }
         requires also_ours { IsHandOf self.now other }

@@ -10,7 +10,7 @@ PART is a number above 0 and up to 1; with none it is 1. SHAPE is one of:
     cells    16 actors that each grow by all the places there may be: 65,536 for one, refused for the others
     bytes    1,048,576 bytes: 16,000 calls of the longest numbers, and items with marks
 
-A part of it has so many of the calls, of the items and of the places.
+A part of a shape has that fraction of its calls, items and places.
 """
 import sys
 
@@ -47,9 +47,9 @@ def cells(part):
 def bytes_(part):
     number = 2**64 - 1
     program = ", ".join([f"grow {number} {number}"] * round(1_000 * part))
-    turns = rounds(round(MOST_ITEMS * part))
-    marks = round(MOST_BYTES * part) - len(script(65_536, program, turns))
-    marked = [turn + "!" if i < marks else turn for i, turn in enumerate(turns)]
+    schedule = rounds(round(MOST_ITEMS * part))
+    marks = round(MOST_BYTES * part) - len(script(65_536, program, schedule))
+    marked = [item + "!" if i < marks else item for i, item in enumerate(schedule)]
     return script(65_536, program, marked)
 
 

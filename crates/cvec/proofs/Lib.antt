@@ -1,2 +1,3 @@
-pub mod Errors
-pub mod Front
+mod Errors
+mod LongInput
+mod Prefixes

@@ -1,4 +1,5 @@
-pub mod Faults
 pub mod Output
-pub mod Playable
-pub mod Written
+pub mod Program
+pub mod Reading
+pub mod Request
+pub mod RunError

@@ -1,24 +1,138 @@
-//! The command line.
-ghost use Rattle.std.specs.Prelude.{◌≡◌, ◌↔◌, IsTrue};
+//! What a command line asks for.
+ghost use Rattle.std.specs.Prelude.{◌≡◌, ◌≢◌, ◌⊎◌, ◌↔◌, IsTrue};
 ghost use Rattle.clap.specs.Values.{kind_of};
+ghost use Rattle.cvec.specs.Request.{IsShown, IsRefused};
 
+use crate::engine::Engine;
 use clap::error::ErrorKind;
 use clap::{Command, Error};
 use std::alloc::{AllocError, Global};
 use std::env::{self, Env};
 use std::io;
 
-/// What the command line asks for.
-#[derive(Clone, Copy, Debug, PartialEq, Eq)]
-pub enum Engine {
-    /// Each item of the script is one whole call.
-    Calls,
-    /// Each item of the script is one atomic step.
-    Steps,
+/// What a command line asks for.
+#[derive(Debug, Drop)]
+pub enum Request {
+    /// To play the script on standard input.
+    Play(Engine),
+    /// To show this text: help, or the version.
+    Show(String),
+    /// Nothing that there is. The text says why.
+    Refuse(String),
+    /// There was no memory to read it.
+    NoMemory,
 }
 
-/// The words of the command line, of which the first is the program's name.
-pub fn words<R: Env + AllocGlobal>(rt: &R) -> io::Result<Vec<String>> {
+const ABOUT: &str = "Runs scripts of calls on a vector that several actors grow";
+
+const CALLS: &str = "Plays each item of the script on standard input as one whole call";
+
+const STEPS: &str = "Plays each item of the script on standard input as one atomic step";
+
+const MORE: &str = "\
+Example:
+  $ cat examples/first.cvec
+  limit 8
+  actor a push 5, size
+  actor b push 6
+  steps a b a
+  $ cvec calls < examples/first.cvec
+  a1 push at 0
+  b1 push at 1
+  a2 size 2
+  size 2: 5 6
+
+Exit status, with the line on standard error:
+  0  done
+  2  the input is not a script      line L: fault N
+  3  out of memory                  memory
+  4  standard input failed          read fault
+  4  standard output failed         write fault
+  5  the command line is refused    the reason
+
+The grammar of scripts, the answers and the faults are in docs/SCRIPTS.md.";
+
+fn cvec<'a>(alloc: Global) -> Result<Command<'a>, AllocError> {
+    let calls = Command::new(alloc, "calls").about(CALLS);
+    let steps = Command::new(alloc, "steps").about(STEPS);
+    let command = Command::new(alloc, "cvec")
+        .bin_name("cvec")?
+        .version("0.1.0")
+        .about(ABOUT)
+        .after_help(MORE)
+        .subcommand(calls)?
+        .subcommand(steps)?
+        .subcommand_required(true)
+        .disable_help_subcommand(true);
+    Ok(command)
+}
+
+// An error of the command line's own, in the parser's form.
+fn mistake(alloc: Global, kind: ErrorKind, message: &str) -> Error
+    ensures { (kind_of result ≡ kind) ⊎ (kind_of result ≡ ErrorKind.OutOfMemory) }
+{
+    match cvec(alloc) {
+        Ok(mut command) => match command.error(kind, message) {
+            Ok(error) => error,
+            Err(error) => Error::from(error),
+        },
+        Err(error) => Error::from(error),
+    }
+}
+
+/// The engine that the words name. Help and the version are errors, too.
+pub(crate) fn engine_of(alloc: Global, words: &[String]) -> Result<Engine, Error> {
+    let matches = cvec(alloc)?.try_get_matches_from(words)?;
+    match matches.subcommand() {
+        Some(("calls", _)) => Ok(Engine::Calls),
+        Some(("steps", _)) => Ok(Engine::Steps),
+        _ => Err(mistake(alloc, ErrorKind::MissingSubcommand, "a command is required")),
+    }
+}
+
+/// Whether the parser was out of memory.
+pub(crate) fn is_memory(error: &Error) -> bool
+    ensures { IsTrue result ↔ (kind_of error.now ≡ ErrorKind.OutOfMemory) }
+{
+    matches!(error.kind(), ErrorKind::OutOfMemory)
+}
+
+/// What becomes of a command line at which the parser stopped.
+pub(crate) fn stopped(alloc: Global, error: &Error) -> Request
+    ensures memory { kind_of error.now ≡ ErrorKind.OutOfMemory → result ≡ Request.NoMemory }
+    ensures shown { (kind_of error.now ≡ ErrorKind.DisplayHelp)
+        ⊎ (kind_of error.now ≡ ErrorKind.DisplayVersion) → IsShown result }
+    ensures refused { kind_of error.now ≢ ErrorKind.DisplayHelp
+        → kind_of error.now ≢ ErrorKind.DisplayVersion → IsRefused result }
+{
+    if is_memory(error) {
+        return Request::NoMemory;
+    }
+    match error.to_string(alloc) {
+        Ok(text) if error.use_stderr() => Request::Refuse(text),
+        Ok(text) => Request::Show(text),
+        Err(_) => Request::NoMemory,
+    }
+}
+
+/// What the words ask for.
+pub(crate) fn asked(alloc: Global, words: &[String]) -> Request {
+    match engine_of(alloc, words) {
+        Ok(engine) => Request::Play(engine),
+        Err(error) => stopped(alloc, &error),
+    }
+}
+
+// The system gives no word that is not UTF-8, so the text cannot show it.
+fn not_utf8(alloc: Global) -> Request
+    ensures { IsRefused result }
+{
+    let message = "invalid UTF-8 was detected in one or more arguments";
+    stopped(alloc, &mistake(alloc, ErrorKind::Io, message))
+}
+
+// The words of the command line, of which the first is the program's name.
+fn words<R: Env + AllocGlobal>(rt: &R) -> io::Result<Vec<String>> {
     let mut words = Vec::new(rt.alloc());
     for word in env::args(rt)? {
         words.push(word)?;
@@ -26,41 +140,11 @@ pub fn words<R: Env + AllocGlobal>(rt: &R) -> io::Result<Vec<String>> {
     Ok(words)
 }
 
-// A command without arguments of its own.
-fn subcommand<'a>(alloc: Global, name: &'a str, about: &'a str) -> Command<'a> {
-    Command::new(alloc, name).about(about)
-}
-
-fn cvec<'a>(alloc: Global) -> Result<Command<'a>, AllocError> {
-    let calls = "Plays each item of the script on standard input as one whole call";
-    let steps = "Plays each item of the script on standard input as one atomic step";
-    let command = Command::new(alloc, "cvec")
-        .bin_name("cvec")?
-        .about("Runs scripts of calls on a vector that several actors grow")
-        .subcommand(subcommand(alloc, "calls", calls))?
-        .subcommand(subcommand(alloc, "steps", steps))?
-        .subcommand_required(true)
-        .disable_help_subcommand(true);
-    Ok(command)
-}
-
-fn missing(alloc: Global) -> Result<Error, AllocError> {
-    cvec(alloc)?.error(ErrorKind::MissingSubcommand, "a command is required")
-}
-
-/// What the words ask for. Help that is asked for is an error, too.
-pub fn engine_of(alloc: Global, words: &[String]) -> Result<Engine, Error> {
-    let matches = cvec(alloc)?.try_get_matches_from(words)?;
-    match matches.subcommand() {
-        Some(("calls", _)) => Ok(Engine::Calls),
-        Some(("steps", _)) => Ok(Engine::Steps),
-        _ => Err(missing(alloc)?),
+/// What the command line of this process asks for.
+pub fn requested<R: Env + AllocGlobal>(rt: &R) -> Request {
+    match words(rt) {
+        Ok(words) => asked(rt.alloc(), &words),
+        Err(error) if error.kind() == io::ErrorKind::OutOfMemory => Request::NoMemory,
+        Err(_) => not_utf8(rt.alloc()),
     }
-}
-
-/// Whether there was no memory to read the words.
-pub fn is_memory(error: &Error) -> bool
-    ensures { IsTrue result ↔ (kind_of error.now ≡ ErrorKind.OutOfMemory) }
-{
-    matches!(error.kind(), ErrorKind::OutOfMemory)
 }

@@ -1,18 +1,17 @@
 //! Why a run ends without its whole text.
 ghost use Rattle.std.specs.Prelude.{◌≡◌};
-ghost use Rattle.cvec.specs.Faults.{status_of};
+ghost use Rattle.cvec.specs.RunError.{status_of};
 
 use crate::input::InputError;
-use crate::output::OutputError;
-use script_core::ScriptError;
+use script_core::{ScriptError, WriteFault};
 use std::alloc::AllocError;
 use std::error::Error;
 use std::fmt;
 
-/// Why a run ended without its whole text. Want of memory and a fault of the reader may come at any time.
+/// Why a run ended without its whole text. `NoMemory` and `Read` may come for any input.
 #[derive(Clone, Copy, Debug, PartialEq, Eq)]
 pub enum RunError {
-    /// The input is no script. The fault is never want of memory.
+    /// The input is not a script. The fault is never `NoMemory`.
     Script(ScriptError),
     NoMemory,
     /// The reader failed, or was interrupted too often.
@@ -36,7 +35,7 @@ impl RunError {
 
 impl fmt::Display for RunError {
     ghost use Rattle.std.specs.Prelude.{Some};
-    ghost use Rattle.cvec.specs.Faults.{error_text};
+    ghost use Rattle.cvec.specs.RunError.{error_text};
 
     ghost output = { λ e. Some (error_text e) };
 
@@ -63,7 +62,7 @@ impl From<AllocError> for RunError {
 }
 
 impl From<InputError> for RunError {
-    ghost use Rattle.cvec.specs.Faults.{unread};
+    ghost use Rattle.cvec.specs.Reading.{unread};
 
     ghost from_gives = { λ input e. e ≡ unread input };
 
@@ -75,12 +74,12 @@ impl From<InputError> for RunError {
     }
 }
 
-impl From<OutputError> for RunError {
+impl From<WriteFault> for RunError {
     ghost use Rattle.cvec.specs.declared.error.RunError.TheVariants.{Write};
 
     ghost from_gives = { λ _ e. e ≡ Write };
 
-    fn from(_: OutputError) -> Self {
+    fn from(_: WriteFault) -> Self {
         RunError::Write
     }
 }

@@ -32,13 +32,13 @@ enum Stop {
 // One byte more than a script may have, so that a script which is too long shows.
 const MOST_READ: usize = 1_048_577;
 
-// A loop gives up after so many interrupted turns.
-pub const MOST_INTERRUPTIONS: usize = 1_048_576;
+// One read fails for good at this number of interruptions.
+const MOST_INTERRUPTIONS: usize = 1_048_576;
 
 // How much is asked for at once.
 const CHUNK: usize = 65_536;
 
-// One read, whose bytes go behind those that are there.
+// One read, whose bytes go after those that are there.
 fn read_once<R: Read>(reader: &mut R, chunk: &mut [u8], bytes: &mut Vec<u8>) -> Result<usize, Stop>
     ensures bound { IfOk result (λ n. n ≤ length chunk.old) }
     ensures appended { IfOk result (λ n. bytes.new.items ≡ bytes.old.items ++ take n chunk.new) }
@@ -87,7 +87,7 @@ fn new_chunk(alloc: Global) -> Result<Vec<u8>, AllocError>
     vec![in alloc; 0; CHUNK]
 }
 
-/// Reads the bytes that the reader has, 1,048,577 of them at the most.
+/// Reads the bytes that the reader has, at most 1,048,577 of them.
 pub fn read_input<R: Read>(alloc: Global, reader: &mut R) -> Result<Vec<u8>, InputError>
     ensures { IfOk result (λ bytes. IfSome (R.remaining reader.old) (λ input. bytes.items ≡ take 1048577 input)) }
 {

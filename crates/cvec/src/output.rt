@@ -1,29 +1,19 @@
 //! Writing a text.
-ghost use Rattle.std.specs.Prelude.{◌≡◌, ◌≤◌, ℕ, take, length, OnOk, OnErr};
+ghost use Rattle.std.specs.Prelude.{◌≡◌, OnOk, OnErr};
 ghost use Rattle.std.specs.Io.KnownBytes.{Appends};
-ghost use Rattle.cvec.specs.Written.{AppendsBeginning};
+ghost use Rattle.script_core.specs.Text.{AppendsPrefix};
 
-use crate::input::MOST_INTERRUPTIONS;
-use std::io::{ErrorKind, Write};
+use script_core::{WriteFault, write_bytes};
+use std::io::Write;
 
-/// The writer failed, took no byte, or was interrupted too often.
-#[derive(Clone, Copy, Debug, PartialEq, Eq)]
-pub struct OutputError;
-
-/// Writes the whole text, and sees it through to where the writer puts it.
-pub fn write_output<W: Write>(writer: &mut W, text: &[u8]) -> Result<(), OutputError>
-    ensures ok { OnOk result (Appends (W.contents writer.old) (W.contents writer.new) text.now) }
-    ensures beginning { OnErr result (AppendsBeginning (W.contents writer.old) (W.contents writer.new) text.now) }
+/// Writes the whole text, and flushes the writer.
+pub(crate) fn write_output<W: Write>(writer: &mut W, text: &[u8]) -> Result<(), WriteFault>
+    ensures ok { OnOk result
+        (Appends (W.contents writer.old) (W.contents writer.new) text.now) }
+    ensures fault { OnErr result
+        (AppendsPrefix (W.contents writer.old) (W.contents writer.new) text.now) }
 {
-    let mut at = 0;
-    let mut patience = MOST_INTERRUPTIONS;
-    while at < text.len() {
-        match writer.write(&text[at..]) {
-            Ok(0) => return Err(OutputError),
-            Ok(n) => at += n,
-            Err(error) if error.kind() == ErrorKind::Interrupted && patience > 1 => patience -= 1,
-            Err(_) => return Err(OutputError),
-        }
-    }
-    writer.flush().map_err(|_| OutputError)
+    write_bytes(writer, text)?;
+    writer.flush()?;
+    Ok(())
 }

@@ -1,7 +1,8 @@
-//! What no clause says: which text, which fault and which history some scripts have, by the rules, and that calls succeed
+//! What no clause says: which text, which fault and which history some scripts have by the rules, and that calls succeed
 //! where there is memory. The tests of `script_core` and `step_core` are here too, since a crate with tests is proved twice.
 
 ghost use Rattle.std.specs.Prelude.{◌≡◌, IfOk, length};
+ghost use Rattle.book_core.specs.Cells.{IsLimit};
 
 mod command_line;
 mod faults;
@@ -10,17 +11,20 @@ mod largest;
 mod lines;
 mod machine;
 mod plays;
+mod program;
 mod scripts;
 mod steps;
 mod streams;
 mod whole_calls;
 
-use crate::calls::run_calls;
-use crate::steps::run_steps;
+use crate::engine::{run_calls, run_steps};
 use book_core::{Command, Sequence};
+use script_core::{Script, read};
 use std::alloc::{AllocError, Global};
+use std::test::Fail;
+use step_core::{Played, play, play_calls};
 
-// What is written, and behind it the error that is answered, if one is.
+// What is written, and then the error that is returned, if one is.
 fn answer(alloc: Global, script: &[u8]) -> Result<Vec<u8>, AllocError> {
     let mut reader = script;
     let mut text = Vec::new(alloc);
@@ -40,7 +44,31 @@ fn steps_answer(alloc: Global, script: &[u8]) -> Result<Vec<u8>, AllocError> {
     Ok(text)
 }
 
-// The front, so many copies of a piece, and the back.
+// The limit of a script, and its play by whole calls.
+fn calls_played(alloc: Global, script: &str) -> Result<(u64, Played), Fail> {
+    let Script {
+        limit,
+        programs,
+        items,
+        ..
+    } = read(alloc, script.as_bytes())?;
+    Ok((limit, play_calls(alloc, limit, programs, items.as_slice())?))
+}
+
+// The limit of a script, and its play by atomic steps.
+fn steps_played(alloc: Global, script: &str) -> Result<(u64, Played), Fail>
+    ensures { IfOk result (λ r. IsLimit r.0) }
+{
+    let Script {
+        limit,
+        programs,
+        items,
+        ..
+    } = read(alloc, script.as_bytes())?;
+    Ok((limit, play(alloc, limit, programs, items.as_slice())?))
+}
+
+// The front, copies of a piece, and the back.
 fn repeated(
     alloc: Global,
     front: &str,

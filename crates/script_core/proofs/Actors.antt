@@ -7,7 +7,7 @@ use Rattle.std.proofs.lemmas.Bool.Decides.{Decides-eqb}
 use Rattle.std.proofs.lemmas.Slice.Eq.{starts_is}
 use Rattle.book_core.specs.declared.commands.Command.{Command}
 use Rattle.script_core.specs.declared.error.Fault.TheVariants.{BadLimit, BadLine, BadName, TwiceNamed, TooMany}
-use Rattle.script_core.specs.Grammar.{◌>>=◌, cut, number_or, limit_in, limit_of, name_of, program_of, program_behind, actor_of}
+use Rattle.script_core.specs.Grammar.{◌>>=◌, cut, number_or, limit_in, parsed_limit, parsed_name, parsed_program, program_after, parsed_actor}
 use Rattle.script_core.specs.Spelling.{limit_line, program_text, IsName, IsProgram}
 use Rattle.script_core.proofs.Spelled.{bind_ok, test_ok, refusal_ok, ok_is, number_takes, number_again}
 use Rattle.script_core.proofs.Commands.{program_takes, program_again}
@@ -18,8 +18,8 @@ use Rattle.script_core.proofs.Commands.{program_takes, program_again}
 pub begins : (text front : List ℕ) → starts_with eqb text front ≡ true → text ≡ front ++ drop (length front) text
 begins text front h = (starts_is Decides-eqb text front (starts_with eqb text front) refl).0 h
 
-pub limit_takes : (line : List ℕ) (limit : ℕ) → limit_of line ≡ Ok limit → (line ≡ limit_line limit) × ((1 ≤ limit) × (limit ≤ 65536))
-unfolding limit_of limit_in
+pub limit_takes : (line : List ℕ) (limit : ℕ) → parsed_limit line ≡ Ok limit → (line ≡ limit_line limit) × ((1 ≤ limit) × (limit ≤ 65536))
+unfolding parsed_limit limit_in
 limit_takes line limit h =
     let p = test_ok (starts_with eqb line (codes "limit ")) (number_or BadLimit (drop 6 line) >>= λ n. (cond (leb 1 n && leb n 65536) (Ok n) (Err BadLimit))) BadLine limit h in
     let q = bind_ok (number_or BadLimit (drop 6 line)) (λ n. (cond (leb 1 n && leb n 65536) (Ok n) (Err BadLimit))) limit p.1 in
@@ -29,15 +29,15 @@ limit_takes line limit h =
     subst (λ (k : ℕ). (line ≡ limit_line k) × ((1 ≤ k) × (k ≤ 65536))) (ok_is _ _ t.1)
     (begins line (codes "limit ") p.0 ∙ ap (λ (w : List ℕ). codes "limit " ++ w) n.0, (leb-true 1 q.0 range.0, leb-true q.0 65536 range.1))
 
-pub limit_again : (limit : ℕ) → 1 ≤ limit → limit ≤ 65536 → limit_of (limit_line limit) ≡ Ok limit
-unfolding limit_of limit_in
+pub limit_again : (limit : ℕ) → 1 ≤ limit → limit ≤ 65536 → parsed_limit (limit_line limit) ≡ Ok limit
+unfolding parsed_limit limit_in
 limit_again limit low high =
     rw (number_again BadLimit limit (omega arith), le-leb 1 limit low, le-leb limit 65536 high) refl
 
 -- ---- Actor lines
 
-name_takes : (word : List ℕ) (name : ℕ) → name_of word ≡ Ok name → (word ≡ name ∷ []) × IsName name
-unfolding name_of
+name_takes : (word : List ℕ) (name : ℕ) → parsed_name word ≡ Ok name → (word ≡ name ∷ []) × IsName name
+unfolding parsed_name
 name_takes [] name h = absurd cc
 name_takes (c ∷ []) name h =
     let p = test_ok (leb 97 c && leb c 122) (Ok c) BadName name h in
@@ -48,9 +48,9 @@ name_takes (c ∷ d ∷ more) name h = absurd cc
 abbrev some_list : List ℕ → Option (List ℕ)
 some_list a = Some a
 
-behind_takes : (behind : Option (List ℕ)) (program : List Command) → program_behind behind ≡ Ok program → (text : List ℕ) × (behind ≡ Some text) × (program_of text ≡ Ok program)
-behind_takes None program h = absurd cc
-behind_takes (Some text) program h = (text, refl, h)
+after_takes : (after : Option (List ℕ)) (program : List Command) → program_after after ≡ Ok program → (text : List ℕ) × (after ≡ Some text) × (parsed_program text ≡ Ok program)
+after_takes None program h = absurd cc
+after_takes (Some text) program h = (text, refl, h)
 
 some_is : (a b : List ℕ) → some_list a ≡ some_list b → a ≡ b
 some_is a b e = cc
@@ -72,7 +72,7 @@ cut_joined (b ∷ bs) rest h =
           ap (λ (l : List ℕ). b ∷ l) tail ∙ sym (ap (λ (p : List ℕ × Option (List ℕ)). p.0 ++ (32 ∷ rest)) split)
     ]
 
--- what an actor line behind these names is
+-- what an actor line after these names is
 pub record IsActor (names : List ℕ) (text : List ℕ) (name : ℕ) (program : List Command) : Type 0 where
   pub room : length names < 16
   pub letter : IsName name
@@ -80,16 +80,16 @@ pub record IsActor (names : List ℕ) (text : List ℕ) (name : ℕ) (program : 
   pub commands : IsProgram program
   pub spelled : text ≡ name ∷ 32 ∷ program_text program
 
-pub actor_takes : (names text : List ℕ) (actor : ℕ × List Command) → actor_of names text ≡ Ok actor → IsActor names text actor.0 actor.1
-unfolding actor_of
+pub actor_takes : (names text : List ℕ) (actor : ℕ × List Command) → parsed_actor names text ≡ Ok actor → IsActor names text actor.0 actor.1
+unfolding parsed_actor
 actor_takes names text actor h =
-    let behind = (cut (codes " ") text).1 in
+    let after = (cut (codes " ") text).1 in
     let room = refusal_ok (leb 16 (length names)) _ TooMany actor h in
-    let named = bind_ok (name_of (cut (codes " ") text).0) (λ name. (cond (list_any (λ n. eqb n name) names) (Err TwiceNamed) (program_behind (cut (codes " ") text).1 >>= λ program. Ok (name, program)))) actor room.1 in
-    let fresh = refusal_ok (list_any (λ n. eqb n named.0) names) (program_behind (cut (codes " ") text).1 >>= λ program. Ok (named.0, program)) TwiceNamed actor named.2 in
-    let read = bind_ok (program_behind (cut (codes " ") text).1) (λ program. Ok (named.0, program)) actor fresh.1 in
+    let named = bind_ok (parsed_name (cut (codes " ") text).0) (λ name. (cond (list_any (λ n. eqb n name) names) (Err TwiceNamed) (program_after (cut (codes " ") text).1 >>= λ program. Ok (name, program)))) actor room.1 in
+    let fresh = refusal_ok (list_any (λ n. eqb n named.0) names) (program_after (cut (codes " ") text).1 >>= λ program. Ok (named.0, program)) TwiceNamed actor named.2 in
+    let read = bind_ok (program_after (cut (codes " ") text).1) (λ program. Ok (named.0, program)) actor fresh.1 in
     let name = name_takes (cut (codes " ") text).0 named.0 named.1 in
-    let rest = behind_takes (cut (codes " ") text).1 read.0 read.1 in
+    let rest = after_takes (cut (codes " ") text).1 read.0 read.1 in
     let program = program_takes rest.0 read.0 rest.2 in
     let made : ℕ × List Command = (named.0, read.0) in
     subst (λ (a : ℕ × List Command). IsActor names text a.0 a.1) (ok_is made actor read.2) (record {
@@ -104,8 +104,8 @@ cut_name : (name : ℕ) (rest : List ℕ) → IsName name → cut (32 ∷ []) (n
 unfolding cut
 cut_name name rest letter = rw (ne_eqb 32 name (λ e. absurd (omega (arith, letter)))) refl
 
-pub actor_again : (names : List ℕ) (name : ℕ) (program : List Command) → length names < 16 → IsName name → list_any (λ n. eqb n name) names ≡ false → IsProgram program → actor_of names (name ∷ 32 ∷ program_text program) ≡ Ok (name, program)
-unfolding actor_of name_of
+pub actor_again : (names : List ℕ) (name : ℕ) (program : List Command) → length names < 16 → IsName name → list_any (λ n. eqb n name) names ≡ false → IsProgram program → parsed_actor names (name ∷ 32 ∷ program_text program) ≡ Ok (name, program)
+unfolding parsed_actor parsed_name
 actor_again names name program room letter fresh h =
     rw (lt-leb 16 (length names) room, cut_name name (program_text program) letter, le-leb 97 name letter.0, le-leb name 122 letter.1, fresh, program_again program h) refl
 

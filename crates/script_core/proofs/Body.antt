@@ -9,8 +9,8 @@ use Rattle.script_core.specs.declared.error.Fault.{Fault}
 use Rattle.script_core.specs.declared.error.Stop.{Stop}
 use Rattle.script_core.specs.declared.error.Stop.TheVariants as stops
 use Rattle.script_core.specs.declared.script.Script.{Script}
-use Rattle.script_core.specs.Faults.{Gives, GivesLines, script_error}
-use Rattle.script_core.specs.Grammar.{◌>>=◌, lines, at_line, limit_of, actor_of, items_of, is_actor_line, is_items_line, closed, script, body_of, script_of_lines, script_of}
+use Rattle.script_core.specs.Reading.{Gives, GivesLines, script_error}
+use Rattle.script_core.specs.Grammar.{◌>>=◌, lines, at_line, parsed_limit, parsed_actor, parsed_items, is_actor_line, is_items_line, closed, script, body_of, script_of_lines, script_of}
 use Rattle.script_core.proofs.Cuts.{some_lines}
 
 -- a stop inside a line, with the line's number
@@ -25,28 +25,28 @@ found_at line x given h = rw h refl
 pub stops_whole : {X : Type 0} (e : ScriptError) (so_far total : Result X ScriptError) → so_far ≡ total → GivesLines (Err e) so_far → GivesLines (Err e) total
 stops_whole e so_far total same h memory = sym same ∙ h memory
 
-pub actor_fault : (e : ScriptError) (limit line : ℕ) (names : List ℕ) (programs : List (List Command)) (text words : List ℕ) (rest : List (List ℕ)) → is_actor_line text ≡ true → words ≡ drop 6 text → GivesLines (Err e) (at_line line (actor_of names words)) → GivesLines (Err e) (body_of limit line names programs (text ∷ rest))
+pub actor_fault : (e : ScriptError) (limit line : ℕ) (names : List ℕ) (programs : List (List Command)) (text words : List ℕ) (rest : List (List ℕ)) → is_actor_line text ≡ true → words ≡ drop 6 text → GivesLines (Err e) (at_line line (parsed_actor names words)) → GivesLines (Err e) (body_of limit line names programs (text ∷ rest))
 unfolding body_of
-actor_fault e limit line names programs text words rest here behind h memory =
-    let fault : at_line line (actor_of names (drop 6 text)) ≡ Err e = ap (λ (w : List ℕ). at_line line (actor_of names w)) (sym behind) ∙ h memory in
+actor_fault e limit line names programs text words rest here after h memory =
+    let fault : at_line line (parsed_actor names (drop 6 text)) ≡ Err e = ap (λ (w : List ℕ). at_line line (parsed_actor names w)) (sym after) ∙ h memory in
     rw (here, fault) refl
 
-pub actor_found : (limit line : ℕ) (names : List ℕ) (programs : List (List Command)) (text words : List ℕ) (rest : List (List ℕ)) (actor : ℕ × List Command) → is_actor_line text ≡ true → words ≡ drop 6 text → at_line line (actor_of names words) ≡ Ok actor → body_of limit line names programs (text ∷ rest) ≡ body_of limit (line + 1) (names ++ actor.0 ∷ []) (programs ++ actor.1 ∷ []) rest
+pub actor_found : (limit line : ℕ) (names : List ℕ) (programs : List (List Command)) (text words : List ℕ) (rest : List (List ℕ)) (actor : ℕ × List Command) → is_actor_line text ≡ true → words ≡ drop 6 text → at_line line (parsed_actor names words) ≡ Ok actor → body_of limit line names programs (text ∷ rest) ≡ body_of limit (line + 1) (names ++ actor.0 ∷ []) (programs ++ actor.1 ∷ []) rest
 unfolding body_of
-actor_found limit line names programs text words rest actor here behind h =
-    let found : at_line line (actor_of names (drop 6 text)) ≡ Ok actor = ap (λ (w : List ℕ). at_line line (actor_of names w)) (sym behind) ∙ h in
+actor_found limit line names programs text words rest actor here after h =
+    let found : at_line line (parsed_actor names (drop 6 text)) ≡ Ok actor = ap (λ (w : List ℕ). at_line line (parsed_actor names w)) (sym after) ∙ h in
     rw (here, found) refl
 
-pub items_fault : (e : ScriptError) (limit line : ℕ) (names : List ℕ) (programs : List (List Command)) (text words : List ℕ) (rest : List (List ℕ)) → is_actor_line text ≡ false → is_items_line text ≡ true → words ≡ drop 5 text → GivesLines (Err e) (at_line line (items_of names words)) → GivesLines (Err e) (body_of limit line names programs (text ∷ rest))
+pub items_fault : (e : ScriptError) (limit line : ℕ) (names : List ℕ) (programs : List (List Command)) (text words : List ℕ) (rest : List (List ℕ)) → is_actor_line text ≡ false → is_items_line text ≡ true → words ≡ drop 5 text → GivesLines (Err e) (at_line line (parsed_items names words)) → GivesLines (Err e) (body_of limit line names programs (text ∷ rest))
 unfolding body_of
-items_fault e limit line names programs text words rest other here behind h memory =
-    let fault : at_line line (items_of names (drop 5 text)) ≡ Err e = ap (λ (w : List ℕ). at_line line (items_of names w)) (sym behind) ∙ h memory in
+items_fault e limit line names programs text words rest other here after h memory =
+    let fault : at_line line (parsed_items names (drop 5 text)) ≡ Err e = ap (λ (w : List ℕ). at_line line (parsed_items names w)) (sym after) ∙ h memory in
     rw (other, here, fault) refl
 
-pub items_found : (limit line : ℕ) (names : List ℕ) (programs : List (List Command)) (text words : List ℕ) (rest : List (List ℕ)) (items : List Item) → is_actor_line text ≡ false → is_items_line text ≡ true → words ≡ drop 5 text → at_line line (items_of names words) ≡ Ok items → body_of limit line names programs (text ∷ rest) ≡ closed (line + 1) (script limit names programs items) rest
+pub items_found : (limit line : ℕ) (names : List ℕ) (programs : List (List Command)) (text words : List ℕ) (rest : List (List ℕ)) (items : List Item) → is_actor_line text ≡ false → is_items_line text ≡ true → words ≡ drop 5 text → at_line line (parsed_items names words) ≡ Ok items → body_of limit line names programs (text ∷ rest) ≡ closed (line + 1) (script limit names programs items) rest
 unfolding body_of
-items_found limit line names programs text words rest items other here behind h =
-    let found : at_line line (items_of names (drop 5 text)) ≡ Ok items = ap (λ (w : List ℕ). at_line line (items_of names w)) (sym behind) ∙ h in
+items_found limit line names programs text words rest items other here after h =
+    let found : at_line line (parsed_items names (drop 5 text)) ≡ Ok items = ap (λ (w : List ℕ). at_line line (parsed_items names w)) (sym after) ∙ h in
     rw (other, here, found) refl
 
 pub other_line : (limit line : ℕ) (names : List ℕ) (programs : List (List Command)) (text : List ℕ) (rest : List (List ℕ)) → is_actor_line text ≡ false → is_items_line text ≡ false → body_of limit line names programs (text ∷ rest) ≡ Err (BadLine line)
@@ -57,7 +57,7 @@ pub no_line : (limit line : ℕ) (names : List ℕ) (programs : List (List Comma
 unfolding body_of lines
 no_line limit line names programs text nothing = rw nothing refl
 
--- what stands behind the items line
+-- what stands after the items line
 pub closed_none : (line : ℕ) (s : Script) (text : List ℕ) → text ≡ [] → Ok s ≡ closed line s (lines text)
 unfolding lines
 closed_none line s text nothing = rw nothing refl
@@ -75,14 +75,14 @@ pub long_text : (text : List ℕ) → 1048576 < length text → script_of text �
 unfolding script_of
 long_text text long = rw (ne_eqb (length text) 0 (λ e. absurd (omega arith)), lt-ltb 1048576 (length text) long) refl
 
-pub read_text : (text first : List ℕ) (rest : List (List ℕ)) → 0 < length text → length text ≤ 1048576 → lines text ≡ first ∷ rest → script_of text ≡ (at_line 1 (limit_of first) >>= λ limit. body_of limit 2 [] [] rest)
+pub read_text : (text first : List ℕ) (rest : List (List ℕ)) → 0 < length text → length text ≤ 1048576 → lines text ≡ first ∷ rest → script_of text ≡ (at_line 1 (parsed_limit first) >>= λ limit. body_of limit 2 [] [] rest)
 unfolding script_of script_of_lines
 read_text text first rest some short e = rw (ne_eqb (length text) 0 (λ z. absurd (omega arith)), le-ltb 1048576 (length text) short, e) refl
 
-pub first_fault : (text first : List ℕ) (rest : List (List ℕ)) (e : ScriptError) → 0 < length text → length text ≤ 1048576 → lines text ≡ first ∷ rest → at_line 1 (limit_of first) ≡ Err e → script_of text ≡ Err e
+pub first_fault : (text first : List ℕ) (rest : List (List ℕ)) (e : ScriptError) → 0 < length text → length text ≤ 1048576 → lines text ≡ first ∷ rest → at_line 1 (parsed_limit first) ≡ Err e → script_of text ≡ Err e
 first_fault text first rest e some short split h = read_text text first rest some short split ∙ ap (λ (r : Result ℕ ScriptError). r >>= λ limit. body_of limit 2 [] [] rest) h
 
-pub first_found : (text first : List ℕ) (rest : List (List ℕ)) (limit : ℕ) → 0 < length text → length text ≤ 1048576 → lines text ≡ first ∷ rest → at_line 1 (limit_of first) ≡ Ok limit → script_of text ≡ body_of limit 2 [] [] rest
+pub first_found : (text first : List ℕ) (rest : List (List ℕ)) (limit : ℕ) → 0 < length text → length text ≤ 1048576 → lines text ≡ first ∷ rest → at_line 1 (parsed_limit first) ≡ Ok limit → script_of text ≡ body_of limit 2 [] [] rest
 first_found text first rest limit some short split h = read_text text first rest some short split ∙ ap (λ (r : Result ℕ ScriptError). r >>= λ limit. body_of limit 2 [] [] rest) h
 
 pub gives_same : {X : Type 0} (r given : Result X ScriptError) → r ≡ given → GivesLines r given

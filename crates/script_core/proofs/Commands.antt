@@ -12,7 +12,7 @@ use Rattle.book_core.specs.declared.commands.Command.{Command}
 use Rattle.book_core.specs.declared.commands.Command.TheVariants.{Push, Grow, AtLeast, Fail, Read, Size}
 use Rattle.script_core.specs.declared.error.Fault.{Fault}
 use Rattle.script_core.specs.declared.error.Fault.TheVariants.{BadCommand, TooMany}
-use Rattle.script_core.specs.Grammar.{◌>>=◌, words, pieces, try_each, argument, command_alone, command_with_one, command_with_two, command_with_three, command_of, program_of}
+use Rattle.script_core.specs.Grammar.{◌>>=◌, words, pieces, try_each, argument, command_alone, command_with_one, command_with_two, command_with_three, parsed_command, parsed_program}
 use Rattle.script_core.specs.Spelling.{joined, command_text, program_text, IsCommand, IsProgram}
 use Rattle.script_core.proofs.Cuts.{some_pieces}
 use Rattle.script_core.proofs.Spelled.{bind_ok, test_ok, refusal_ok, ok_is, number_takes, number_again, lacks, lacks-append, decimal_lacks, split_front, split_whole}
@@ -99,8 +99,8 @@ with_three_takes word a b d c h =
     subst (IsSpelled (word ∷ a ∷ b ∷ d ∷ [])) (ok_is _ _ test.1)
     (spelled_three word a b d (codes "fail") first.0 second.0 third.0 (word_is word (codes "fail") p.0) n.0 value.0 at.0, (n.1, value.1, ltb-true third.0 first.0 test.0))
 
-command_takes : (ws : List (List ℕ)) (c : Command) → command_of ws ≡ Ok c → IsSpelled ws c
-unfolding command_of
+command_takes : (ws : List (List ℕ)) (c : Command) → parsed_command ws ≡ Ok c → IsSpelled ws c
+unfolding parsed_command
 command_takes [] c h = absurd cc
 command_takes (word ∷ []) c h = alone_takes word c h
 command_takes (word ∷ a ∷ []) c h = with_one_takes word a c h
@@ -108,7 +108,7 @@ command_takes (word ∷ a ∷ b ∷ []) c h = with_two_takes word a b c h
 command_takes (word ∷ a ∷ b ∷ d ∷ []) c h = with_three_takes word a b d c h
 command_takes (word ∷ a ∷ b ∷ d ∷ e ∷ more) c h = absurd cc
 
-piece_takes : (piece : List ℕ) (c : Command) → command_of (words piece) ≡ Ok c → (piece ≡ command_text c) × IsCommand c
+piece_takes : (piece : List ℕ) (c : Command) → parsed_command (words piece) ≡ Ok c → (piece ≡ command_text c) × IsCommand c
 unfolding words
 piece_takes piece c h =
     let p = command_takes (slice_split (λ b. eqb b 32) piece) c h in
@@ -129,8 +129,8 @@ three_words n v at small-n small-v small-at =
     ∙ split_front 32 (decimal n) ((decimal v ++ 32 ∷ []) ++ decimal at) (decimal_lacks 32 n (omega arith) small-n)
     ∙ ap (λ (l : List (List ℕ)). decimal n ∷ l) (two_words v at small-v small-at)
 
-command_again : (c : Command) → IsCommand c → command_of (words (command_text c)) ≡ Ok c
-unfolding words command_of command_alone command_with_one command_with_two command_with_three
+command_again : (c : Command) → IsCommand c → parsed_command (words (command_text c)) ≡ Ok c
+unfolding words parsed_command command_alone command_with_one command_with_two command_with_three
 command_again (Push value) h = rw (split_whole 32 (decimal value) (decimal_lacks 32 value (omega arith) h), number_again BadCommand value h) refl
 command_again (Grow n value) h = rw (two_words n value h.0 h.1, number_again BadCommand n h.0, number_again BadCommand value h.1) refl
 command_again (AtLeast to value) h = rw (two_words to value h.0 h.1, number_again BadCommand to h.0, number_again BadCommand value h.1) refl
@@ -195,7 +195,7 @@ each_again step most done (z ∷ zs) (x ∷ xs) h le =
     let rest = each_again step most (done ++ z ∷ []) zs xs h.1 (omega (arith, length-append done (z ∷ []))) in
     rw (lt-leb most (length done) (omega arith), h.0) (rest ∙ ap (λ (l : List _). Ok l) (append_assoc done (z ∷ []) zs))
 
-pieces_spelled : (xs : List (List ℕ)) (program : List Command) → EachGives (λ piece. command_of (words piece)) xs program → (xs ≡ map command_text program) × AllByRecursion IsCommand program × (length xs ≡ length program)
+pieces_spelled : (xs : List (List ℕ)) (program : List Command) → EachGives (λ piece. parsed_command (words piece)) xs program → (xs ≡ map command_text program) × AllByRecursion IsCommand program × (length xs ≡ length program)
 pieces_spelled [] [] h = (refl, tt, refl)
 pieces_spelled [] (c ∷ cs) h = absurd h
 pieces_spelled (x ∷ xs) [] h = absurd h
@@ -204,7 +204,7 @@ pieces_spelled (x ∷ xs) (c ∷ cs) h =
     let rest = pieces_spelled xs cs h.1 in
     (rw (first.0, rest.0) refl, (first.1, rest.1), ap suc rest.2)
 
-pieces_read : (program : List Command) → AllByRecursion IsCommand program → EachGives (λ piece. command_of (words piece)) (map command_text program) program
+pieces_read : (program : List Command) → AllByRecursion IsCommand program → EachGives (λ piece. parsed_command (words piece)) (map command_text program) program
 pieces_read [] h = tt
 pieces_read (c ∷ cs) h = (command_again c h.0, pieces_read cs h.1)
 
@@ -265,23 +265,23 @@ pieces-program c (d ∷ cs) h =
     pieces_front (command_text c) (joined (44 ∷ 32 ∷ []) (map command_text (d ∷ cs))) (command_lacks_comma c h.0)
     ∙ ap (λ (l : List (List ℕ)). command_text c ∷ l) (pieces-program d cs h.1)
 
-pub program_takes : (text : List ℕ) (program : List Command) → program_of text ≡ Ok program → (text ≡ program_text program) × IsProgram program
-unfolding program_of
+pub program_takes : (text : List ℕ) (program : List Command) → parsed_program text ≡ Ok program → (text ≡ program_text program) × IsProgram program
+unfolding parsed_program
 program_takes text program h =
-    let each = each_takes (λ piece. command_of (words piece)) 1000 [] program (pieces text) (omega arith) h in
-    let gives : EachGives (λ piece. command_of (words piece)) (pieces text) program = subst (EachGives (λ piece. command_of (words piece)) (pieces text)) (sym each.1) each.2 in
+    let each = each_takes (λ piece. parsed_command (words piece)) 1000 [] program (pieces text) (omega arith) h in
+    let gives : EachGives (λ piece. parsed_command (words piece)) (pieces text) program = subst (EachGives (λ piece. parsed_command (words piece)) (pieces text)) (sym each.1) each.2 in
     let spelled = pieces_spelled (pieces text) program gives in (
       sym (joined-pieces text) ∙ ap (joined (44 ∷ 32 ∷ [])) spelled.0,
       (omega (arith, spelled.2, some_pieces text), each.3, All-from_recursion IsCommand program spelled.1),
     )
 
-pub program_again : (program : List Command) → IsProgram program → program_of (program_text program) ≡ Ok program
-unfolding program_of
+pub program_again : (program : List Command) → IsProgram program → parsed_program (program_text program) ≡ Ok program
+unfolding parsed_program
 program_again [] h = absurd (omega (arith, h.0))
 program_again (c ∷ cs) h =
     let all = recursion_from_All IsCommand (c ∷ cs) h.2 in
-    ap (try_each (λ piece. command_of (words piece)) 1000 []) (pieces-program c cs all)
-    ∙ each_again (λ piece. command_of (words piece)) 1000 [] (c ∷ cs) (map command_text (c ∷ cs)) (pieces_read (c ∷ cs) all) (omega (arith, h.1))
+    ap (try_each (λ piece. parsed_command (words piece)) 1000 []) (pieces-program c cs all)
+    ∙ each_again (λ piece. parsed_command (words piece)) 1000 [] (c ∷ cs) (map command_text (c ∷ cs)) (pieces_read (c ∷ cs) all) (omega (arith, h.1))
 
 program_lacks : (program : List Command) → AllByRecursion IsCommand program → lacks 10 (program_text program) ≡ true
 program_lacks [] h = refl

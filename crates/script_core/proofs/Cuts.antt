@@ -10,7 +10,7 @@ use Rattle.script_core.specs.Grammar.{cut, lines, lines_of_parts, words, pieces}
 pub drop_whole : {A : Type 0} (i n : ℕ) (l : List A) → n ≡ length l - i → take n (drop i l) ≡ drop i l
 drop_whole i n l e = take_all n (drop i l) (omega (arith, length-drop i l))
 
--- nothing stands behind the end
+-- nothing stands after the end
 pub drop_all : {A : Type 0} (i n : ℕ) (l : List A) → n ≡ length l → take i (drop n l) ≡ []
 drop_all i n l e = nil_from_length (take i (drop n l)) (omega (arith, length-take i (drop n l), length-drop n l))
 
@@ -23,12 +23,12 @@ cut_found separator (b ∷ bs) (suc i) lt before here =
     let rest = cut_found separator bs i (omega arith) (λ k h. before (suc k) (omega arith)) here in
     cond-false (starts_with eqb (b ∷ bs) separator) _ _ (before 0 (omega arith)) ∙ ap (λ (p : List ℕ × Option (List ℕ)). (b ∷ p.0, p.1)) rest
 
--- the same, with the bytes behind it as a slice up to the end
+-- the same, with the bytes after it as a slice up to the end
 pub cut_at_place : (separator text : List ℕ) (i m n : ℕ) → i < length text → ((k : ℕ) → k < i → starts_with eqb (drop k text) separator ≡ false) → m ≡ length text - i → starts_with eqb (take m (drop i text)) separator ≡ true → n ≡ length text - (i + length separator) → (take i text, Some (take n (drop (i + length separator) text))) ≡ cut separator text
 cut_at_place separator text i m n lt before me here ne =
     let test : starts_with eqb (drop i text) separator ≡ true = rw (← drop_whole i m text me) here in
-    let behind : drop (length separator) (drop i text) ≡ take n (drop (i + length separator) text) = drop-drop (length separator) i text ∙ sym (drop_whole (i + length separator) n text ne) in
-    sym (cut_found separator text i lt before test ∙ ap (λ (r : List ℕ). (take i text, Some r)) behind)
+    let after : drop (length separator) (drop i text) ≡ take n (drop (i + length separator) text) = drop-drop (length separator) i text ∙ sym (drop_whole (i + length separator) n text ne) in
+    sym (cut_found separator text i lt before test ∙ ap (λ (r : List ℕ). (take i text, Some r)) after)
 
 -- the separator stands nowhere
 pub cut_none : (separator text : List ℕ) → ((k : ℕ) → k < length text → starts_with eqb (drop k text) separator ≡ false) → cut separator text ≡ (text, None)
@@ -72,11 +72,11 @@ and_true : (b : Bool) → (b && true) ≡ b
 and_true true = refl
 and_true false = refl
 
-abbrev parts_behind : (ℕ → Bool) → Option (List ℕ) → List (List ℕ)
-parts_behind p None = []
-parts_behind p (Some rest) = slice_split p rest
+abbrev parts_after : (ℕ → Bool) → Option (List ℕ) → List (List ℕ)
+parts_after p None = []
+parts_after p (Some rest) = slice_split p rest
 
-split_cut : (c : ℕ) (text : List ℕ) → slice_split (λ b. eqb b c) text ≡ (cut (c ∷ []) text).0 ∷ parts_behind (λ b. eqb b c) (cut (c ∷ []) text).1
+split_cut : (c : ℕ) (text : List ℕ) → slice_split (λ b. eqb b c) text ≡ (cut (c ∷ []) text).0 ∷ parts_after (λ b. eqb b c) (cut (c ∷ []) text).1
 unfolding cut
 split_cut c [] = refl
 split_cut c (b ∷ bs) =
@@ -89,22 +89,22 @@ split_cut c (b ∷ bs) =
 pub words_last : (text : List ℕ) (r : Bor (List ℕ) × Option (Bor (List ℕ))) → (r.0.now, option_copied r.1) ≡ cut (32 ∷ []) text → r.1 ≡ None → words text ≡ r.0.now ∷ []
 unfolding words
 words_last text r e none =
-    let behind : (cut (32 ∷ []) text).1 ≡ None = ap (λ (p : List ℕ × Option (List ℕ)). p.1) (sym e) ∙ ap option_copied none in
+    let after : (cut (32 ∷ []) text).1 ≡ None = ap (λ (p : List ℕ × Option (List ℕ)). p.1) (sym e) ∙ ap option_copied none in
     let front : (cut (32 ∷ []) text).0 ≡ r.0.now = ap (λ (p : List ℕ × Option (List ℕ)). p.0) (sym e) in
-    rw (split_cut 32 text, behind, front) refl
+    rw (split_cut 32 text, after, front) refl
 
 pub words_more : (text : List ℕ) (r : Bor (List ℕ) × Option (Bor (List ℕ))) (rest : Bor (List ℕ)) → (r.0.now, option_copied r.1) ≡ cut (32 ∷ []) text → r.1 ≡ Some rest → words text ≡ r.0.now ∷ words rest.now
 unfolding words
 words_more text r rest e some =
-    let behind : (cut (32 ∷ []) text).1 ≡ Some rest.now = ap (λ (p : List ℕ × Option (List ℕ)). p.1) (sym e) ∙ ap option_copied some in
+    let after : (cut (32 ∷ []) text).1 ≡ Some rest.now = ap (λ (p : List ℕ × Option (List ℕ)). p.1) (sym e) ∙ ap option_copied some in
     let front : (cut (32 ∷ []) text).0 ≡ r.0.now = ap (λ (p : List ℕ × Option (List ℕ)). p.0) (sym e) in
-    rw (split_cut 32 text, behind, front) refl
+    rw (split_cut 32 text, after, front) refl
 
 pub words_first : (text : List ℕ) (r : Bor (List ℕ) × Option (Bor (List ℕ))) → (r.0.now, option_copied r.1) ≡ cut (32 ∷ []) text → (others : List (List ℕ)) × (words text ≡ r.0.now ∷ others)
 unfolding words
 words_first text r e =
     let front : (cut (32 ∷ []) text).0 ≡ r.0.now = ap (λ (p : List ℕ × Option (List ℕ)). p.0) (sym e) in
-    (parts_behind (λ b. eqb b 32) (cut (32 ∷ []) text).1, rw (split_cut 32 text, front) refl)
+    (parts_after (λ b. eqb b 32) (cut (32 ∷ []) text).1, rw (split_cut 32 text, front) refl)
 
 -- the words of any bytes are one or more
 pub some_words : (text : List ℕ) → 0 < length (words text)
@@ -114,18 +114,18 @@ some_words text = rw (split_cut 32 text) (omega arith)
 pub line_last : (text : List ℕ) (r : Bor (List ℕ) × Option (Bor (List ℕ))) → 0 < length text → (r.0.now, option_copied r.1) ≡ cut (10 ∷ []) text → r.1 ≡ None → lines text ≡ r.0.now ∷ lines []
 unfolding lines
 line_last text r some e none =
-    let behind : (cut (10 ∷ []) text).1 ≡ None = ap (λ (p : List ℕ × Option (List ℕ)). p.1) (sym e) ∙ ap option_copied none in
+    let after : (cut (10 ∷ []) text).1 ≡ None = ap (λ (p : List ℕ × Option (List ℕ)). p.1) (sym e) ∙ ap option_copied none in
     let front : (cut (10 ∷ []) text).0 ≡ r.0.now = ap (λ (p : List ℕ × Option (List ℕ)). p.0) (sym e) in
-    let all : (cut (10 ∷ []) text).0 ≡ text = cut_whole (10 ∷ []) text behind in
+    let all : (cut (10 ∷ []) text).0 ≡ text = cut_whole (10 ∷ []) text after in
     let long : eqb (length r.0.now) 0 ≡ false = ne_eqb _ _ (λ z. absurd (omega (arith, ap length (sym front ∙ all)))) in
-    rw (split_cut 10 text, behind, front, long) refl
+    rw (split_cut 10 text, after, front, long) refl
 
 pub line_more : (text : List ℕ) (r : Bor (List ℕ) × Option (Bor (List ℕ))) (rest : Bor (List ℕ)) → (r.0.now, option_copied r.1) ≡ cut (10 ∷ []) text → r.1 ≡ Some rest → lines text ≡ r.0.now ∷ lines rest.now
 unfolding lines
 line_more text r rest e some =
-    let behind : (cut (10 ∷ []) text).1 ≡ Some rest.now = ap (λ (p : List ℕ × Option (List ℕ)). p.1) (sym e) ∙ ap option_copied some in
+    let after : (cut (10 ∷ []) text).1 ≡ Some rest.now = ap (λ (p : List ℕ × Option (List ℕ)). p.1) (sym e) ∙ ap option_copied some in
     let front : (cut (10 ∷ []) text).0 ≡ r.0.now = ap (λ (p : List ℕ × Option (List ℕ)). p.0) (sym e) in
-    rw (split_cut 10 text, behind, front, split_cut 10 rest.now) refl
+    rw (split_cut 10 text, after, front, split_cut 10 rest.now) refl
 
 lines_by_cut : (text : List ℕ) → 0 < length text → (rest : Option (List ℕ)) → (cut (10 ∷ []) text).1 ≡ rest → (first : List ℕ) × (others : List (List ℕ)) × (lines_of_parts (slice_split (λ b. eqb b 10) text) ≡ first ∷ others)
 lines_by_cut text some None none =
@@ -144,11 +144,11 @@ some_lines text some =
 
 -- ---- Pieces
 
-abbrev pieces_behind : Option (List ℕ) → List (List ℕ)
-pieces_behind None = []
-pieces_behind (Some rest) = pieces rest
+abbrev pieces_after : Option (List ℕ) → List (List ℕ)
+pieces_after None = []
+pieces_after (Some rest) = pieces rest
 
-pieces_cut : (text : List ℕ) → pieces text ≡ (cut (44 ∷ 32 ∷ []) text).0 ∷ pieces_behind (cut (44 ∷ 32 ∷ []) text).1
+pieces_cut : (text : List ℕ) → pieces text ≡ (cut (44 ∷ 32 ∷ []) text).0 ∷ pieces_after (cut (44 ∷ 32 ∷ []) text).1
 unfolding cut pieces
 pieces_cut [] = refl
 pieces_cut (b ∷ []) =
@@ -163,20 +163,20 @@ pieces_cut (b ∷ c ∷ bs) =
 
 pub pieces_last : (text : List ℕ) (r : Bor (List ℕ) × Option (Bor (List ℕ))) → (r.0.now, option_copied r.1) ≡ cut (44 ∷ 32 ∷ []) text → r.1 ≡ None → pieces text ≡ r.0.now ∷ []
 pieces_last text r e none =
-    let behind : (cut (44 ∷ 32 ∷ []) text).1 ≡ None = ap (λ (p : List ℕ × Option (List ℕ)). p.1) (sym e) ∙ ap option_copied none in
+    let after : (cut (44 ∷ 32 ∷ []) text).1 ≡ None = ap (λ (p : List ℕ × Option (List ℕ)). p.1) (sym e) ∙ ap option_copied none in
     let front : (cut (44 ∷ 32 ∷ []) text).0 ≡ r.0.now = ap (λ (p : List ℕ × Option (List ℕ)). p.0) (sym e) in
-    rw (pieces_cut text, behind, front) refl
+    rw (pieces_cut text, after, front) refl
 
 pub pieces_more : (text : List ℕ) (r : Bor (List ℕ) × Option (Bor (List ℕ))) (rest : Bor (List ℕ)) → (r.0.now, option_copied r.1) ≡ cut (44 ∷ 32 ∷ []) text → r.1 ≡ Some rest → pieces text ≡ r.0.now ∷ pieces rest.now
 pieces_more text r rest e some =
-    let behind : (cut (44 ∷ 32 ∷ []) text).1 ≡ Some rest.now = ap (λ (p : List ℕ × Option (List ℕ)). p.1) (sym e) ∙ ap option_copied some in
+    let after : (cut (44 ∷ 32 ∷ []) text).1 ≡ Some rest.now = ap (λ (p : List ℕ × Option (List ℕ)). p.1) (sym e) ∙ ap option_copied some in
     let front : (cut (44 ∷ 32 ∷ []) text).0 ≡ r.0.now = ap (λ (p : List ℕ × Option (List ℕ)). p.0) (sym e) in
-    rw (pieces_cut text, behind, front) refl
+    rw (pieces_cut text, after, front) refl
 
 pub pieces_first : (text : List ℕ) (r : Bor (List ℕ) × Option (Bor (List ℕ))) → (r.0.now, option_copied r.1) ≡ cut (44 ∷ 32 ∷ []) text → (others : List (List ℕ)) × (pieces text ≡ r.0.now ∷ others)
 pieces_first text r e =
     let front : (cut (44 ∷ 32 ∷ []) text).0 ≡ r.0.now = ap (λ (p : List ℕ × Option (List ℕ)). p.0) (sym e) in
-    (pieces_behind (cut (44 ∷ 32 ∷ []) text).1, rw (pieces_cut text, front) refl)
+    (pieces_after (cut (44 ∷ 32 ∷ []) text).1, rw (pieces_cut text, front) refl)
 
 -- the pieces of any bytes are one or more
 pub some_pieces : (text : List ℕ) → 0 < length (pieces text)

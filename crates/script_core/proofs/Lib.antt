@@ -8,4 +8,4 @@ pub mod Commands
 pub mod Schedules
 pub mod Actors
 pub mod Scripts
-pub mod Written
+pub mod Prefixes

@@ -18,18 +18,18 @@ use Rattle.script_core.specs.declared.error.ScriptError.{ScriptError}
 use Rattle.script_core.specs.declared.error.ScriptError.TheVariants as errors
 use Rattle.script_core.specs.declared.error.Fault.{Fault}
 use Rattle.script_core.specs.declared.script.Script.{Script}
-use Rattle.script_core.specs.Faults.{GivesLines}
-use Rattle.script_core.specs.Grammar.{lines, lines_of_parts, at_line, limit_of, actor_of, items_of, is_actor_line, is_items_line, closed, script, body_of, script_of_lines, script_of}
+use Rattle.script_core.specs.Reading.{GivesLines}
+use Rattle.script_core.specs.Grammar.{lines, lines_of_parts, at_line, parsed_limit, parsed_actor, parsed_items, is_actor_line, is_items_line, closed, script, body_of, script_of_lines, script_of}
 use Rattle.script_core.specs.Spelling.{limit_line, actor_line, actors_text, items_line, item_text, program_text, text_of, IsName, IsCommand, IsProgram, IsScript}
 use Rattle.script_core.proofs.Body.{actor_found, items_found, first_found, found_at}
 use Rattle.script_core.proofs.Spelled.{bind_ok, refusal_ok, lacks, decimal_lacks, split_front, split_whole}
 use Rattle.script_core.proofs.Commands.{program_lacks_lf}
-use Rattle.script_core.proofs.Schedules.{IsBehindWord, items_takes, items_again, items_lack_lf}
+use Rattle.script_core.proofs.Schedules.{IsAfterWord, items_takes, items_again, items_lack_lf}
 use Rattle.script_core.proofs.Actors.{begins, limit_takes, limit_again, IsActor, actor_takes, actor_again, fresh_name, name_fresh}
 
 -- ---- Lines and the text that they are
 
--- lines with an LF behind each, or behind each but the last
+-- lines with an LF after each, or after each but the last
 abbrev text_of_lines : Bool → List (List ℕ) → List ℕ
 text_of_lines last [] = []
 text_of_lines last (l ∷ []) = l ++ cond last (10 ∷ []) []
@@ -95,20 +95,20 @@ actor_line_is : (text : List ℕ) → is_actor_line text ≡ true → text ≡ c
 unfolding is_actor_line
 actor_line_is text h = begins text (codes "actor ") h
 
--- an items line is its word and what stands behind it
-items_line_is : (text : List ℕ) → is_items_line text ≡ true → (text ≡ codes "steps" ++ drop 5 text) × IsBehindWord (drop 5 text)
+-- an items line is its word and what stands after it
+items_line_is : (text : List ℕ) → is_items_line text ≡ true → (text ≡ codes "steps" ++ drop 5 text) × IsAfterWord (drop 5 text)
 unfolding is_items_line
 items_line_is text h =
     elim (or_cases (bytes_eq text (codes "steps")) (starts_with eqb text (codes "steps ")) h) [
       | inl alone ↦
           let e : text ≡ codes "steps" = (bytes_eq-Decides text (codes "steps")).0 alone in
-          subst (λ (t : List ℕ). (t ≡ codes "steps" ++ drop 5 t) × IsBehindWord (drop 5 t)) (sym e) (refl, tt)
+          subst (λ (t : List ℕ). (t ≡ codes "steps" ++ drop 5 t) × IsAfterWord (drop 5 t)) (sym e) (refl, tt)
       | inr more ↦
           let e : text ≡ codes "steps " ++ drop 6 text = begins text (codes "steps ") more in
-          subst (λ (t : List ℕ). (t ≡ codes "steps" ++ drop 5 t) × IsBehindWord (drop 5 t)) (sym e) (refl, refl)
+          subst (λ (t : List ℕ). (t ≡ codes "steps" ++ drop 5 t) × IsAfterWord (drop 5 t)) (sym e) (refl, refl)
     ]
 
--- what the lines behind the first are, after actor lines with these names and programs
+-- what the lines after the first are, after actor lines with these names and programs
 record IsBody (limit : ℕ) (names : List ℕ) (programs : List (List Command)) (ls : List (List ℕ)) (s : Script) : Type 0 where
   later : List ℕ
   bodies : List (List Command)
@@ -142,7 +142,7 @@ closed_ok : (line : ℕ) (made s : Script) (rest : List (List ℕ)) → closed l
 closed_ok line made s [] h = (refl, whole_is made s h)
 closed_ok line made s (text ∷ rest) h = absurd cc
 
-items_end : (limit : ℕ) (names : List ℕ) (programs : List (List Command)) (text : List ℕ) (rest : List (List ℕ)) (items : List Item) (s : Script) → AreActors names programs → is_items_line text ≡ true → items_of names (drop 5 text) ≡ Ok items → rest ≡ [] → script limit names programs items ≡ s → IsBody limit names programs (text ∷ rest) s
+items_end : (limit : ℕ) (names : List ℕ) (programs : List (List Command)) (text : List ℕ) (rest : List (List ℕ)) (items : List Item) (s : Script) → AreActors names programs → is_items_line text ≡ true → parsed_items names (drop 5 text) ≡ Ok items → rest ≡ [] → script limit names programs items ≡ s → IsBody limit names programs (text ∷ rest) s
 items_end limit names programs text rest items s actors here read nothing made =
     let line = items_line_is text here in
     let found = items_takes names (drop 5 text) items line.1 read in
@@ -190,13 +190,13 @@ body_takes limit line names programs [] s actors h = absurd cc
 body_takes limit line names programs (text ∷ []) s actors h =
     elim (which (is_actor_line text) _ _ (Ok s) h) [
       | inl p ↦
-          let q = bind_ok (at_line line (actor_of names (drop 6 text))) (λ actor. body_of limit (line + 1) (names ++ actor.0 ∷ []) (programs ++ actor.1 ∷ []) []) s p.1 in
+          let q = bind_ok (at_line line (parsed_actor names (drop 6 text))) (λ actor. body_of limit (line + 1) (names ++ actor.0 ∷ []) (programs ++ actor.1 ∷ []) []) s p.1 in
           let no : Err (errors.NoItems (line + 1)) ≡ whole s = q.2 in
           absurd cc
       | inr p ↦
           elim (which (is_items_line text) _ _ (Ok s) p.1) [
             | inl t ↦
-                let q = bind_ok (at_line line (items_of names (drop 5 text))) (λ items. closed (line + 1) (script limit names programs items) []) s t.1 in
+                let q = bind_ok (at_line line (parsed_items names (drop 5 text))) (λ items. closed (line + 1) (script limit names programs items) []) s t.1 in
                 items_end limit names programs text [] q.0 s actors t.0 (at_line_ok line _ q.0 q.1) refl (whole_is _ s q.2)
             | inr t ↦ let no : Err (errors.BadLine line) ≡ whole s = t.1 in absurd cc
           ]
@@ -204,14 +204,14 @@ body_takes limit line names programs (text ∷ []) s actors h =
 body_takes limit line names programs (text ∷ next ∷ rest) s actors h =
     elim (which (is_actor_line text) _ _ (Ok s) h) [
       | inl p ↦
-          let q = bind_ok (at_line line (actor_of names (drop 6 text))) (λ actor. body_of limit (line + 1) (names ++ actor.0 ∷ []) (programs ++ actor.1 ∷ []) (next ∷ rest)) s p.1 in
+          let q = bind_ok (at_line line (parsed_actor names (drop 6 text))) (λ actor. body_of limit (line + 1) (names ++ actor.0 ∷ []) (programs ++ actor.1 ∷ []) (next ∷ rest)) s p.1 in
           let actor = actor_takes names (drop 6 text) q.0 (at_line_ok line _ q.0 q.1) in
           actor_then limit names programs text next rest q.0.0 q.0.1 s p.0 actor
           (body_takes limit (line + 1) (names ++ q.0.0 ∷ []) (programs ++ q.0.1 ∷ []) (next ∷ rest) s (one_more names programs (drop 6 text) q.0.0 q.0.1 actors actor) q.2)
       | inr p ↦
           elim (which (is_items_line text) _ _ (Ok s) p.1) [
             | inl t ↦
-                let q = bind_ok (at_line line (items_of names (drop 5 text))) (λ items. closed (line + 1) (script limit names programs items) (next ∷ rest)) s t.1 in
+                let q = bind_ok (at_line line (parsed_items names (drop 5 text))) (λ items. closed (line + 1) (script limit names programs items) (next ∷ rest)) s t.1 in
                 let no : Err (errors.BadLine (line + 1)) ≡ whole s = q.2 in
                 absurd cc
             | inr t ↦ let no : Err (errors.BadLine line) ≡ whole s = t.1 in absurd cc
@@ -225,11 +225,11 @@ lines_take : (text : List ℕ) (last : Bool) (ls : List (List ℕ)) (s : Script)
 unfolding script_of_lines body_of
 lines_take text last [] s short joined h = let no : Err (errors.Empty 1) ≡ whole s = h in absurd cc
 lines_take text last (first ∷ []) s short joined h =
-    let q = bind_ok (at_line 1 (limit_of first)) (λ limit. body_of limit 2 [] [] []) s h in
+    let q = bind_ok (at_line 1 (parsed_limit first)) (λ limit. body_of limit 2 [] [] []) s h in
     let no : Err (errors.NoItems 2) ≡ whole s = q.2 in
     absurd cc
 lines_take text last (first ∷ next ∷ rest) s short joined h =
-    let q = bind_ok (at_line 1 (limit_of first)) (λ limit. body_of limit 2 [] [] (next ∷ rest)) s h in
+    let q = bind_ok (at_line 1 (parsed_limit first)) (λ limit. body_of limit 2 [] [] (next ∷ rest)) s h in
     let limit = limit_takes first q.0 (at_line_ok 1 _ q.0 q.1) in
     let body = body_takes q.0 2 [] [] (next ∷ rest) s no_actors q.2 in
     let is : text ≡ text_of s last =
@@ -262,20 +262,20 @@ steps_is_no_actor : (text : List ℕ) → is_actor_line (codes "steps" ++ text) 
 unfolding is_actor_line
 steps_is_no_actor text = refl
 
-steps_is_items : (text : List ℕ) → IsBehindWord text → is_items_line (codes "steps" ++ text) ≡ true
+steps_is_items : (text : List ℕ) → IsAfterWord text → is_items_line (codes "steps" ++ text) ≡ true
 unfolding is_items_line
 steps_is_items [] h = refl
 steps_is_items (c ∷ cs) h = rw h refl
 
-items_behind : (names : List ℕ) (items : List Item) → IsBehindWord (flat_map (item_text names) items)
-items_behind names [] = tt
-items_behind names (i ∷ is) = refl
+items_after : (names : List ℕ) (items : List Item) → IsAfterWord (flat_map (item_text names) items)
+items_after names [] = tt
+items_after names (i ∷ is) = refl
 
 actor_is : (name : ℕ) (program : List Command) → is_actor_line (actor_line name program) ≡ true
 unfolding is_actor_line
 actor_is name program = refl
 
--- a name among others, which stand before it and behind it
+-- a name among others, which stand before it and after it
 name_among : (names all later : List ℕ) (name : ℕ) → all ≡ names ++ name ∷ later → AllPairs (λ a b. a ≢ b) all → (k : ℕ) → k < length names → get_or names k 0 ≢ name
 name_among names all later name is apart k lt same =
     let len : length all ≡ length names + suc (length later) = ap length is ∙ length-append names (name ∷ later) in
@@ -293,7 +293,7 @@ body_again limit line names all programs both [] [] items last all_is both_is sa
     let end : names ≡ all = sym (all_is ∙ append-nil names) in
     let ends : programs ≡ both = sym (both_is ∙ append-nil programs) in
     let one : lines (items_line all items ++ cond last (10 ∷ []) []) ≡ items_line all items ∷ [] = lines_last (items_line all items) last (items_lack_lf all items letters own) (omega arith) in
-    let found = items_found limit line all both (items_line all items) (flat_map (item_text all) items) [] items (steps_is_no_actor (flat_map (item_text all) items)) (steps_is_items (flat_map (item_text all) items) (items_behind all items)) refl (found_at line items _ (items_again all items letters apart few_items own)) in
+    let found = items_found limit line all both (items_line all items) (flat_map (item_text all) items) [] items (steps_is_no_actor (flat_map (item_text all) items)) (steps_is_items (flat_map (item_text all) items) (items_after all items)) refl (found_at line items _ (items_again all items letters apart few_items own)) in
     ap (λ (ns : List ℕ). body_of limit line ns programs (lines (items_line all items ++ cond last (10 ∷ []) []))) end
     ∙ ap (λ (ps : List (List Command)). body_of limit line all ps (lines (items_line all items ++ cond last (10 ∷ []) []))) ends
     ∙ ap (body_of limit line all both) one

@@ -13,7 +13,7 @@ use Rattle.script_core.specs.declared.error.ScriptError.TheVariants as errors
 use Rattle.script_core.specs.declared.error.Fault.{Fault}
 use Rattle.script_core.specs.declared.error.Fault.TheVariants.{BadLimit, BadLine, BadName, TwiceNamed, BadCommand, NumberTooLarge, TooMany}
 use Rattle.script_core.specs.declared.script.Script.{Script}
-use Rattle.script_core.specs.Faults.{error_at}
+use Rattle.script_core.specs.ScriptError.{error_at}
 
 -- one step after another; a fault ends them
 infixl 10 ◌>>=◌
@@ -43,7 +43,7 @@ pieces [] = [] ∷ []
 pieces (b ∷ []) = (b ∷ []) ∷ []
 pieces (b ∷ c ∷ bs) = if (b == 44) && (c == 32) then [] ∷ pieces bs else onto_first b (pieces (c ∷ bs))
 
--- the bytes before the first separator, and those behind it, where there is one
+-- the bytes before the first separator, and those after it, where there is one
 unfoldable pub cut : List ℕ → List ℕ → List ℕ × Option (List ℕ)
 cut separator [] = ([], None)
 cut separator (b ∷ bs) =
@@ -51,7 +51,7 @@ cut separator (b ∷ bs) =
     then ([], Some (drop (length separator) (b ∷ bs)))
     else (b ∷ (cut separator bs).0, (cut separator bs).1)
 
--- what the step gives for each of the list, behind what is done; one more than the most is a fault before its step
+-- what the step gives for each of the list, after what is done; one more than the most is a fault before its step
 unfoldable pub try_each : {X Y : Type 0} → (X → Result Y Fault) → ℕ → List Y → List X → Result (List Y) Fault
 try_each step most done [] = Ok done
 try_each step most done (x ∷ xs) =
@@ -101,17 +101,17 @@ command_with_three word a b c =
     else Err BadCommand
 
 -- the command that the words spell, by how many they are
-unfoldable pub command_of : List (List ℕ) → Result Command Fault
-command_of [] = Err BadCommand
-command_of (word ∷ []) = command_alone word
-command_of (word ∷ a ∷ []) = command_with_one word a
-command_of (word ∷ a ∷ b ∷ []) = command_with_two word a b
-command_of (word ∷ a ∷ b ∷ c ∷ []) = command_with_three word a b c
-command_of (word ∷ a ∷ b ∷ c ∷ d ∷ more) = Err BadCommand
+unfoldable pub parsed_command : List (List ℕ) → Result Command Fault
+parsed_command [] = Err BadCommand
+parsed_command (word ∷ []) = command_alone word
+parsed_command (word ∷ a ∷ []) = command_with_one word a
+parsed_command (word ∷ a ∷ b ∷ []) = command_with_two word a b
+parsed_command (word ∷ a ∷ b ∷ c ∷ []) = command_with_three word a b c
+parsed_command (word ∷ a ∷ b ∷ c ∷ d ∷ more) = Err BadCommand
 
 -- a program: a command for each piece, and at most 1,000
-unfoldable pub program_of : List ℕ → Result (List Command) Fault
-program_of text = try_each (λ piece. command_of (words piece)) 1000 [] (pieces text)
+unfoldable pub parsed_program : List ℕ → Result (List Command) Fault
+parsed_program text = try_each (λ piece. parsed_command (words piece)) 1000 [] (pieces text)
 
 -- ---- Lines
 
@@ -120,44 +120,44 @@ unfoldable pub limit_in : List ℕ → Result ℕ Fault
 limit_in text = number_or BadLimit text >>= λ limit. (if nat_le 1 limit && nat_le limit 65536 then Ok limit else Err BadLimit)
 
 -- the first line
-unfoldable pub limit_of : List ℕ → Result ℕ Fault
-limit_of line = if starts_with nat_eq line (codes "limit ") then limit_in (drop 6 line) else Err BadLine
+unfoldable pub parsed_limit : List ℕ → Result ℕ Fault
+parsed_limit line = if starts_with nat_eq line (codes "limit ") then limit_in (drop 6 line) else Err BadLine
 
 -- a name is one letter from a to z
-unfoldable pub name_of : List ℕ → Result ℕ Fault
-name_of [] = Err BadName
-name_of (c ∷ []) = if nat_le 97 c && nat_le c 122 then Ok c else Err BadName
-name_of (c ∷ d ∷ more) = Err BadName
+unfoldable pub parsed_name : List ℕ → Result ℕ Fault
+parsed_name [] = Err BadName
+parsed_name (c ∷ []) = if nat_le 97 c && nat_le c 122 then Ok c else Err BadName
+parsed_name (c ∷ d ∷ more) = Err BadName
 
 -- what follows an actor's name: a space and a program
-abbrev pub program_behind : Option (List ℕ) → Result (List Command) Fault
-program_behind None = Err BadCommand
-program_behind (Some text) = program_of text
+abbrev pub program_after : Option (List ℕ) → Result (List Command) Fault
+program_after None = Err BadCommand
+program_after (Some text) = parsed_program text
 
--- an actor line behind its word: the name and the program. The names are those of the actor lines before it
-unfoldable pub actor_of : List ℕ → List ℕ → Result (ℕ × List Command) Fault
-actor_of names text =
+-- an actor line after its word: the name and the program. The names are those of the actor lines before it
+unfoldable pub parsed_actor : List ℕ → List ℕ → Result (ℕ × List Command) Fault
+parsed_actor names text =
     if nat_le 16 (length names) then Err TooMany
-    else (name_of (cut (codes " ") text).0 >>= λ name.
+    else (parsed_name (cut (codes " ") text).0 >>= λ name.
     (if list_any (λ n. n == name) names then Err TwiceNamed
-    else (program_behind (cut (codes " ") text).1 >>= λ program. Ok (name, program))))
+    else (program_after (cut (codes " ") text).1 >>= λ program. Ok (name, program))))
 
 -- a turn of the actor at this place, if there is one
-abbrev pub turn_of : Option ℕ → Bool → Result Item Fault
-turn_of None memory = Err BadName
-turn_of (Some actor) memory = Ok (record { actor = actor; memory = memory })
+abbrev pub item_from : Option ℕ → Bool → Result Item Fault
+item_from None memory = Err BadName
+item_from (Some actor) memory = Ok (record { actor = actor; memory = memory })
 
 -- an item: the name of an actor, alone or with a mark, which says that its memory is refused
-unfoldable pub item_of : List ℕ → List ℕ → Result Item Fault
-item_of names [] = Err BadName
-item_of names (name ∷ []) = turn_of (position (λ n. n == name) names) true
-item_of names (name ∷ mark ∷ []) = if mark == 33 then turn_of (position (λ n. n == name) names) false else Err BadName
-item_of names (name ∷ mark ∷ b ∷ more) = Err BadName
+unfoldable pub parsed_item : List ℕ → List ℕ → Result Item Fault
+parsed_item names [] = Err BadName
+parsed_item names (name ∷ []) = item_from (position (λ n. n == name) names) true
+parsed_item names (name ∷ mark ∷ []) = if mark == 33 then item_from (position (λ n. n == name) names) false else Err BadName
+parsed_item names (name ∷ mark ∷ b ∷ more) = Err BadName
 
--- an items line behind its word: nothing, or a space and an item for each word, and at most 100,000
-unfoldable pub items_of : List ℕ → List ℕ → Result (List Item) Fault
-items_of names [] = Ok []
-items_of names (space ∷ text) = try_each (item_of names) 100000 [] (words text)
+-- an items line after its word: nothing, or a space and an item for each word, and at most 100,000
+unfoldable pub parsed_items : List ℕ → List ℕ → Result (List Item) Fault
+parsed_items names [] = Ok []
+parsed_items names (space ∷ text) = try_each (parsed_item names) 100000 [] (words text)
 
 -- an actor line begins with its word and a space
 unfoldable pub is_actor_line : List ℕ → Bool
@@ -178,26 +178,26 @@ at_line line (Err fault) = Err (error_at line fault)
 abbrev pub script : ℕ → List ℕ → List (List Command) → List Item → Script
 script limit names programs items = record { limit = limit; names = names; programs = programs; items = items }
 
--- nothing stands behind the items line
+-- nothing stands after the items line
 abbrev pub closed : ℕ → Script → List (List ℕ) → Result Script ScriptError
 closed line s [] = Ok s
 closed line s (text ∷ rest) = Err (errors.BadLine line)
 
--- the lines from this one on, behind actor lines with these names and programs
+-- the lines from this one on, after actor lines with these names and programs
 unfoldable pub body_of : ℕ → ℕ → List ℕ → List (List Command) → List (List ℕ) → Result Script ScriptError
 body_of limit line names programs [] = Err (errors.NoItems line)
 body_of limit line names programs (text ∷ rest) =
     if is_actor_line text
-    then (at_line line (actor_of names (drop 6 text)) >>= λ actor.
+    then (at_line line (parsed_actor names (drop 6 text)) >>= λ actor.
     body_of limit (line + 1) (names ++ actor.0 ∷ []) (programs ++ actor.1 ∷ []) rest)
     else if is_items_line text
-    then (at_line line (items_of names (drop 5 text)) >>= λ items. closed (line + 1) (script limit names programs items) rest)
+    then (at_line line (parsed_items names (drop 5 text)) >>= λ items. closed (line + 1) (script limit names programs items) rest)
     else Err (errors.BadLine line)
 
 -- all lines
 unfoldable pub script_of_lines : List (List ℕ) → Result Script ScriptError
 script_of_lines [] = Err (errors.Empty 1)
-script_of_lines (text ∷ rest) = at_line 1 (limit_of text) >>= λ limit. body_of limit 2 [] [] rest
+script_of_lines (text ∷ rest) = at_line 1 (parsed_limit text) >>= λ limit. body_of limit 2 [] [] rest
 
 -- the script that the bytes are, or their first fault
 unfoldable pub script_of : List ℕ → Result Script ScriptError

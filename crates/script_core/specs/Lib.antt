@@ -1,5 +1,5 @@
-pub mod Faults
 pub mod Grammar
-pub mod Lines
+pub mod Reading
+pub mod ScriptError
 pub mod Spelling
 pub mod Text

@@ -12,7 +12,7 @@ joined separator [] = []
 joined separator (x ∷ []) = x
 joined separator (x ∷ y ∷ more) = x ++ (separator ++ joined separator (y ∷ more))
 
--- a command: its word, and its arguments behind spaces
+-- a command: its word, and its arguments after spaces
 abbrev pub command_text : Command → List ℕ
 command_text (Push value) = codes "push " ++ decimal value
 command_text (Grow n value) = codes "grow " ++ decimal n ++ codes " " ++ decimal value
@@ -39,7 +39,7 @@ actors_text [] programs = []
 actors_text (name ∷ names) [] = []
 actors_text (name ∷ names) (program ∷ programs) = actor_line name program ++ (codes "\n" ++ actors_text names programs)
 
--- an item behind a space: the actor's name, and a mark where its memory is refused
+-- an item after a space: the actor's name, and a mark where its memory is refused
 abbrev pub item_text : List ℕ → Item → List ℕ
 item_text names item = codes " " ++ slice_index names item.actor ∷ (if item.memory then [] else codes "!")
 

@@ -1,5 +1,5 @@
--- The texts of replies and of cells.
-use Rattle.std.specs.Prelude.{◌≡◌, ℕ, List, ◌∷◌, ◌++◌, length, Option, codes, decimal}
+-- The lines that are printed, and what a writer holds where one was written in part.
+use Rattle.std.specs.Prelude.{ℕ, List, ◌∷◌, ◌++◌, length, take, Option, codes, decimal}
 use Rattle.std.specs.Io.KnownBytes.{Appends}
 use Rattle.std.specs.List.{flat_map}
 use Rattle.book_core.specs.declared.cells.Cell.{Cell}
@@ -33,9 +33,9 @@ answer_text answers.Broken = codes "broken"
 answer_text (answers.OutOfRange size) = codes "outofrange " ++ decimal size
 answer_text (answers.Size size) = decimal size
 
--- one line for a call that ended: the actor's name with the number of the call, the command's word, and the answer
-abbrev pub reply_text : ℕ → Ended → List ℕ
-reply_text name ended =
+-- the answer line of a call that ended: the actor's name with the call's number, the command's word, and the answer
+abbrev pub answer_line : ℕ → Ended → List ℕ
+answer_line name ended =
     name ∷ decimal ended.number ++ codes " " ++ word_of ended.command ++ codes " " ++ answer_text ended.answer ++ codes "\n"
 
 -- a cell
@@ -44,11 +44,11 @@ cell_text (cells.Pending actor) = codes "."
 cell_text (cells.Filled value) = decimal value
 cell_text cells.Broken = codes "x"
 
--- the last line: how many cells there are, and each of them behind a space
-abbrev pub cells_text : List Cell → List ℕ
-cells_text list =
+-- the last line: the number of cells, and each of them after a space
+abbrev pub cells_line : List Cell → List ℕ
+cells_line list =
     codes "size " ++ decimal (length list) ++ codes ":" ++ flat_map (λ cell. codes " " ++ cell_text cell) list ++ codes "\n"
 
--- known bytes grow by a beginning of the text
-abbrev pub AppendsPart : Option (List ℕ) → Option (List ℕ) → List ℕ → Type 0
-AppendsPart old new text = (front : List ℕ) × (rest : List ℕ) × (text ≡ front ++ rest) × Appends old new front
+-- known bytes grow by a prefix of the text
+abbrev pub AppendsPrefix : Option (List ℕ) → Option (List ℕ) → List ℕ → Type 0
+AppendsPrefix old new text = (n : ℕ) × Appends old new (take n text)

@@ -1,7 +1,7 @@
 //! Actor lines.
 ghost use Rattle.std.specs.Prelude.{◌≡◌, ◌<◌, length, OnOk};
-ghost use Rattle.script_core.specs.Faults.{Gives};
-ghost use Rattle.script_core.specs.Grammar.{name_of, actor_of};
+ghost use Rattle.script_core.specs.Reading.{Gives};
+ghost use Rattle.script_core.specs.Grammar.{parsed_name, parsed_actor};
 
 use crate::command::program;
 use crate::cut::cut_at;
@@ -9,12 +9,12 @@ use crate::error::{Fault, Stop};
 use book_core::{Command, Sequence};
 use std::alloc::Global;
 
-/// A script has at most so many actors.
+/// The most actors of a script.
 const MOST_ACTORS: usize = 16;
 
-#[tactic(auto, unfolding(crate::specs::Grammar::name_of))]
+#[tactic(auto, unfolding(crate::specs::Grammar::parsed_name))]
 fn name(word: &[u8]) -> Result<u8, Fault>
-    ensures { result ≡ name_of word.now }
+    ensures { result ≡ parsed_name word.now }
 {
     match word {
         [letter] if letter.is_ascii_lowercase() => Ok(*letter),
@@ -22,14 +22,14 @@ fn name(word: &[u8]) -> Result<u8, Fault>
     }
 }
 
-/// The name and the program of an actor line, read behind its word. `names` are those of the lines before it.
-#[tactic(auto, unfolding(crate::specs::Grammar::actor_of))]
+/// The name and the program of an actor line, read after its word. `names` are those of the lines before it.
+#[tactic(auto, unfolding(crate::specs::Grammar::parsed_actor))]
 pub(crate) fn actor(
     alloc: Global,
     names: &[u8],
     text: &[u8],
 ) -> Result<(u8, Sequence<Command>), Stop>
-    ensures given { Gives result (actor_of names.now text.now) }
+    ensures given { Gives result (parsed_actor names.now text.now) }
     ensures room { OnOk result (length names.now < 16) }
 {
     if names.len() >= MOST_ACTORS {

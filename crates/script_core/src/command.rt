@@ -1,9 +1,8 @@
 //! Commands and programs.
 ghost use Rattle.std.specs.Prelude.{◌≡◌};
-ghost use Rattle.script_core.specs.Faults.{Gives};
+ghost use Rattle.script_core.specs.Reading.{AreWords, Gives};
 ghost use Rattle.std.specs.Str.{bytes_eq};
-ghost use Rattle.script_core.specs.Grammar.{words, argument, command_alone, command_with_one, command_with_two, command_with_three, command_of, program_of};
-ghost use Rattle.script_core.specs.Lines.{AreWords};
+ghost use Rattle.script_core.specs.Grammar.{words, argument, command_alone, command_with_one, command_with_two, command_with_three, parsed_command, parsed_program};
 
 use crate::cut::cut_at;
 use crate::error::{Fault, Stop};
@@ -11,10 +10,10 @@ use crate::number::number;
 use book_core::{Command, Sequence};
 use std::alloc::Global;
 
-/// A program has at most so many commands.
+/// The most commands of a program.
 const MOST_COMMANDS: usize = 1_000;
 
-/// The words of a piece, as many as a command may have.
+/// The words of a piece, up to the most that a command may have.
 pub(crate) enum Words<'a> {
     One(&'a [u8]),
     Two(&'a [u8], &'a [u8]),
@@ -117,9 +116,9 @@ fn command_with_three(word: &[u8], a: &[u8], b: &[u8], c: &[u8]) -> Result<Comma
     }
 }
 
-#[tactic(auto, unfolding(crate::specs::Grammar::command_of))]
+#[tactic(auto, unfolding(crate::specs::Grammar::parsed_command))]
 fn command(piece: &[u8]) -> Result<Command, Fault>
-    ensures { result ≡ command_of (words piece.now) }
+    ensures { result ≡ parsed_command (words piece.now) }
 {
     match words_of(piece) {
         Words::One(word) => command_alone(word),
@@ -132,7 +131,7 @@ fn command(piece: &[u8]) -> Result<Command, Fault>
 
 /// A command for each piece of the text.
 pub(crate) fn program(alloc: Global, text: &[u8]) -> Result<Sequence<Command>, Stop>
-    ensures { Gives result (program_of text.now) }
+    ensures { Gives result (parsed_program text.now) }
 {
     let mut commands = Vec::new(alloc);
     let mut text = text;

@@ -1,26 +1,27 @@
-//! Why a text is no script.
+//! Why a text is not a script.
 ghost use Rattle.std.specs.Prelude.{◌≡◌};
-ghost use Rattle.script_core.specs.Faults.{number_of, line_of, error_at, script_error};
+ghost use Rattle.script_core.specs.Reading.{script_error};
+ghost use Rattle.script_core.specs.ScriptError.{number_of, line_of, error_at};
 
 use std::alloc::{AllocError, AllocFailed};
 use std::error::Error;
 use std::fmt;
 
-/// Why a text was not read: the first fault, with its line from 1 on, or want of memory.
+/// Why a text was not read: its first fault, with the number of its line from 1, or out of memory.
 #[derive(Clone, Copy, Debug, PartialEq, Eq)]
 pub enum ScriptError {
     NoMemory,
     /// There are no bytes.
     Empty { line: u64 },
-    /// The limit is no number, or not from 1 to 65,536.
+    /// The limit is not a number, or not from 1 to 65,536.
     BadLimit { line: u64 },
-    /// The line is of no kind that may stand there.
+    /// The line is of no kind that may stand here.
     BadLine { line: u64 },
-    /// A name isn't one letter from a to z, or an item is of no actor of the script.
+    /// A name is not one letter from a to z, or an item names no actor of the script.
     BadName { line: u64 },
-    /// The name is of an earlier actor.
+    /// An earlier actor has the name.
     TwiceNamed { line: u64 },
-    /// A command is unknown, has a wrong number of words, or an argument that it can't have.
+    /// A command is unknown, has the wrong number of words, or has an argument that it cannot have.
     BadCommand { line: u64 },
     /// A number is above 2^64 - 1.
     NumberTooLarge { line: u64 },
@@ -49,7 +50,7 @@ impl ScriptError {
         }
     }
 
-    /// The line of the fault. Want of memory has none.
+    /// The line of the fault. `NoMemory` has none.
     pub fn line(&self) -> Option<u64>
         ensures { result ≡ line_of self.now }
     {
@@ -70,7 +71,7 @@ impl ScriptError {
 
 impl fmt::Display for ScriptError {
     ghost use Rattle.std.specs.Prelude.{Some};
-    ghost use Rattle.script_core.specs.Faults.{fault_text};
+    ghost use Rattle.script_core.specs.ScriptError.{fault_text};
 
     ghost output = { λ e. Some (fault_text e) };
 
@@ -116,7 +117,7 @@ pub(crate) enum Fault {
     TooMany,
 }
 
-/// Why the reading of a line stopped.
+/// Why a line was not read to its end.
 #[derive(Clone, Copy, Debug, PartialEq, Eq)]
 pub(crate) enum Stop {
     Memory,

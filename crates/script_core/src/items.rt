@@ -1,14 +1,14 @@
 //! The items line.
 ghost use Rattle.std.specs.Prelude.{◌≡◌, ◌≤◌, ◌==◌, ◌<◌, [], length, IfSome, position};
-ghost use Rattle.script_core.specs.Faults.{Gives};
-ghost use Rattle.script_core.specs.Grammar.{turn_of, item_of, try_each, words, items_of};
+ghost use Rattle.script_core.specs.Reading.{Gives};
+ghost use Rattle.script_core.specs.Grammar.{item_from, parsed_item, try_each, words, parsed_items};
 
 use crate::cut::cut_at;
 use crate::error::{Fault, Stop};
 use book_core::{Item, Sequence};
 use std::alloc::Global;
 
-/// A script has at most so many items.
+/// The most items of a script.
 const MOST_ITEMS: usize = 100_000;
 
 fn place_of(names: &[u8], name: u8) -> Option<usize>
@@ -18,9 +18,9 @@ fn place_of(names: &[u8], name: u8) -> Option<usize>
     names.iter().position(|n| *n == name)
 }
 
-fn turn(names: &[u8], name: u8, memory: bool) -> Result<Item, Fault>
+fn item_of_actor(names: &[u8], name: u8, memory: bool) -> Result<Item, Fault>
     requires { length names.now ≤ 16 }
-    ensures { result ≡ turn_of (position (λ n. n == name) names.now) memory }
+    ensures { result ≡ item_from (position (λ n. n == name) names.now) memory }
 {
     match place_of(names, name) {
         Some(actor) => Ok(Item {
@@ -31,22 +31,22 @@ fn turn(names: &[u8], name: u8, memory: bool) -> Result<Item, Fault>
     }
 }
 
-#[tactic(auto, unfolding(crate::specs::Grammar::item_of))]
+#[tactic(auto, unfolding(crate::specs::Grammar::parsed_item))]
 fn item(names: &[u8], word: &[u8]) -> Result<Item, Fault>
     requires { length names.now ≤ 16 }
-    ensures { result ≡ item_of names.now word.now }
+    ensures { result ≡ parsed_item names.now word.now }
 {
     match word {
-        [name] => turn(names, *name, true),
-        [name, b'!'] => turn(names, *name, false),
+        [name] => item_of_actor(names, *name, true),
+        [name, b'!'] => item_of_actor(names, *name, false),
         _ => Err(Fault::BadName),
     }
 }
 
 /// An item for each word of the text.
-fn turns(alloc: Global, names: &[u8], text: &[u8]) -> Result<Sequence<Item>, Stop>
+fn some_items(alloc: Global, names: &[u8], text: &[u8]) -> Result<Sequence<Item>, Stop>
     requires { length names.now ≤ 16 }
-    ensures { Gives result (try_each (item_of names.now) 100000 [] (words text.now)) }
+    ensures { Gives result (try_each (parsed_item names.now) 100000 [] (words text.now)) }
 {
     let mut items = Vec::new(alloc);
     let mut text = text;
@@ -63,14 +63,14 @@ fn turns(alloc: Global, names: &[u8], text: &[u8]) -> Result<Sequence<Item>, Sto
     }
 }
 
-/// The items of an items line, read behind its word.
-#[tactic(auto, unfolding(crate::specs::Grammar::items_of))]
+/// The items of an items line, read after its word.
+#[tactic(auto, unfolding(crate::specs::Grammar::parsed_items))]
 pub(crate) fn items(alloc: Global, names: &[u8], text: &[u8]) -> Result<Sequence<Item>, Stop>
     requires { length names.now ≤ 16 }
-    ensures { Gives result (items_of names.now text.now) }
+    ensures { Gives result (parsed_items names.now text.now) }
 {
     match text {
         [] => Ok(Sequence::from_vec(Vec::new(alloc))),
-        [_, text @ ..] => turns(alloc, names, text),
+        [_, text @ ..] => some_items(alloc, names, text),
     }
 }

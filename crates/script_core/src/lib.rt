@@ -11,6 +11,7 @@
 #![tactic(auto)]
 
 mod actor;
+mod bytes;
 mod command;
 mod cut;
 mod error;
@@ -22,8 +23,9 @@ mod reading;
 mod script;
 mod write;
 
+pub use bytes::{WriteFault, write_bytes};
 pub use error::ScriptError;
-pub use line::WriteFault;
+pub use line::Line;
 pub use reading::read;
 pub use script::Script;
 pub use write::{write_cells, write_reply};

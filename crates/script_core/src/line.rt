@@ -1,46 +1,33 @@
-//! A line on the stack, and writers that may fail.
-ghost use Rattle.std.specs.Prelude.{◌≡◌, ◌≤◌, [], take, length, OnOk, OnErr, Some};
-ghost use Rattle.std.specs.Io.KnownBytes.{Appends};
-ghost use Rattle.script_core.specs.Text.{AppendsPart};
+//! A line on the stack.
+ghost use Rattle.std.specs.Prelude.{◌≡◌, []};
 
-use std::error::Error;
-use std::fmt;
-use std::io::{self, ErrorKind, Write};
+use std::io::{self, Write};
+use std::marker::Model;
 
-/// A writer failed, for this reason. Of a `Vec` it is want of memory.
-#[derive(Clone, Copy, Debug, PartialEq, Eq)]
-pub struct WriteFault {
-    pub kind: ErrorKind,
-}
-
-impl fmt::Display for WriteFault {
-    fn fmt<W: fmt::Write>(&self, f: &mut fmt::Formatter<W>) -> fmt::Result {
-        write!(f, "write fault: {}", self.kind)
-    }
-}
-
-impl Error for WriteFault {}
-
-impl From<io::Error> for WriteFault {
-    fn from(error: io::Error) -> WriteFault {
-        WriteFault { kind: error.kind() }
-    }
-}
-
-/// No line of a reply and no cell is longer.
+/// No answer line, no cell and no fault's line is longer.
 const MOST: usize = 128;
 
-/// A line that is being made.
+/// A line of at most 128 bytes, which takes no memory. Contracts see it as the list of its bytes.
 #[derive(Drop)]
-pub(crate) struct Line {
+pub struct Line {
     bytes: [u8; MOST],
     len: usize,
-    ghost room: { len ≤ 128 },
+}
+
+impl Model for Line {
+    ghost use Rattle.std.specs.Prelude.{ℕ, List, ◌≤◌, take};
+
+    ghost Value = { List ℕ };
+
+    ghost view = { λ l. take l.len l.bytes };
+
+    ghost invariant = { λ l. l.len ≤ 128 };
 }
 
 impl Line {
-    pub(crate) fn new() -> Line
-        ensures { take result.len result.bytes ≡ [] }
+    /// An empty line.
+    pub fn new() -> Line
+        ensures { result ≡ [] }
     {
         Line {
             bytes: [0; MOST],
@@ -48,19 +35,20 @@ impl Line {
         }
     }
 
-    pub(crate) fn as_slice(&self) -> &[u8]
-        ensures { result.now ≡ take self.now.len self.now.bytes }
+    /// The bytes so far.
+    pub fn as_slice(&self) -> &[u8]
+        ensures { result.now ≡ self.now }
     {
         &self.bytes[..self.len]
     }
 }
 
 impl Write for Line {
-    ghost use Rattle.std.specs.Prelude.{take};
+    ghost use Rattle.std.specs.Prelude.{Some};
 
-    ghost contents = { λ l. Some (take l.len l.bytes) };
+    ghost contents = { λ l. Some l };
 
-    /// Takes one byte at a time.
+    /// Takes one byte at a time, and none where there is no room.
     fn write(&mut self, buf: &[u8]) -> io::Result<usize> {
         match buf {
             [byte, ..] if self.len < MOST => {
@@ -75,39 +63,4 @@ impl Write for Line {
     fn flush(&mut self) -> io::Result<()> {
         Ok(())
     }
-}
-
-/// How many writes of one call may be interrupted.
-const RETRIES: usize = 64;
-
-/// Writes all the bytes, or a beginning of them.
-pub(crate) fn put<W: Write>(w: &mut W, bytes: &[u8]) -> Result<(), WriteFault>
-    ensures ok { OnOk result (Appends (W.contents w.old) (W.contents w.new) bytes.now) }
-    ensures fault { OnErr result (AppendsPart (W.contents w.old) (W.contents w.new) bytes.now) }
-{
-    let mut done = 0;
-    for _ in 0..bytes.len().saturating_add(RETRIES) {
-        if done >= bytes.len() {
-            return Ok(());
-        }
-        match w.write(&bytes[done..]) {
-            Ok(0) => {
-                return Err(WriteFault {
-                    kind: ErrorKind::WriteZero,
-                });
-            }
-            Ok(n) => done += n,
-            Err(error) => {
-                if error.kind() != ErrorKind::Interrupted {
-                    return Err(WriteFault { kind: error.kind() });
-                }
-            }
-        }
-    }
-    if done < bytes.len() {
-        return Err(WriteFault {
-            kind: ErrorKind::Interrupted,
-        });
-    }
-    Ok(())
 }

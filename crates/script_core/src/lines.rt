@@ -1,20 +1,20 @@
 //! Lines, and what they are.
 ghost use Rattle.std.specs.Prelude.{◌≡◌, ◌<◌, ◌≤◌, ◌∷◌, length, IsTrue};
-ghost use Rattle.script_core.specs.Grammar.{lines, limit_of, is_items_line};
-ghost use Rattle.script_core.specs.Lines.{IsKind};
+ghost use Rattle.script_core.specs.Grammar.{lines, parsed_limit, is_items_line};
+ghost use Rattle.script_core.specs.Reading.{IsKind};
 
 use crate::cut::cut_at;
 use crate::error::Fault;
 use crate::number::number;
 
-/// What a line behind the first is, and what stands behind its word.
-pub(crate) enum Line<'a> {
+/// What a line after the first is, and what stands after its word.
+pub(crate) enum LineKind<'a> {
     Actor(&'a [u8]),
     Items(&'a [u8]),
     Other,
 }
 
-/// The first line, and the bytes behind it.
+/// The first line, and the bytes after it.
 pub(crate) fn first_line(text: &[u8]) -> (&[u8], &[u8])
     requires { 0 < length text.now }
     ensures lines { lines text.now ≡ result.0.now ∷ lines result.1.now }
@@ -36,22 +36,22 @@ fn is_items_line(line: &[u8]) -> bool
 }
 
 #[tactic(auto, unfolding(crate::specs::Grammar::is_actor_line))]
-pub(crate) fn kind(line: &[u8]) -> Line<'_>
+pub(crate) fn kind(line: &[u8]) -> LineKind<'_>
     ensures { IsKind line.now result }
 {
     if line.starts_with(b"actor ") {
-        Line::Actor(&line[6..])
+        LineKind::Actor(&line[6..])
     } else if is_items_line(line) {
-        Line::Items(&line[5..])
+        LineKind::Items(&line[5..])
     } else {
-        Line::Other
+        LineKind::Other
     }
 }
 
 /// The limit of a first line.
-#[tactic(auto, unfolding(crate::specs::Grammar::limit_of, crate::specs::Grammar::limit_in))]
+#[tactic(auto, unfolding(crate::specs::Grammar::parsed_limit, crate::specs::Grammar::limit_in))]
 pub(crate) fn limit(line: &[u8]) -> Result<u64, Fault>
-    ensures { result ≡ limit_of line.now }
+    ensures { result ≡ parsed_limit line.now }
 {
     if !line.starts_with(b"limit ") {
         return Err(Fault::BadLine);

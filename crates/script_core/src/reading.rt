@@ -3,22 +3,24 @@ ghost use Rattle.std.specs.Prelude.{◌≡◌, ◌≢◌, ◌⊎◌, ◌+◌, �
 ghost use Rattle.book_core.specs.Cells.{IsLimit};
 ghost use Rattle.book_core.specs.Commands.{AreSound, HavePrograms};
 ghost use Rattle.script_core.specs.declared.script.Script.{Script};
-ghost use Rattle.script_core.specs.Faults.{GivesLines};
-ghost use Rattle.script_core.specs.Grammar.{lines, limit_of, actor_of, items_of, at_line, closed, body_of, script_of};
+ghost use Rattle.script_core.specs.Reading.{GivesLines};
+ghost use Rattle.script_core.specs.Grammar.{lines, parsed_limit, parsed_actor, parsed_items, at_line, closed, body_of, script_of};
 ghost use Rattle.script_core.specs.Spelling.{IsScript, text_of};
 
 use crate::actor::actor;
 use crate::error::ScriptError;
 use crate::items::items;
-use crate::lines::{Line, first_line, kind, limit};
+use crate::lines::{LineKind, first_line, kind, limit};
 use crate::script::Script;
 use book_core::{Command, Item, Sequence};
 use std::alloc::Global;
 
-/// A script has at most so many bytes.
+/// The most bytes of a script.
 const MOST_BYTES: usize = 1_048_576;
 
-/// Reads a script. The first fault is answered with its line; want of memory may come in place of any answer.
+/// Reads a script: its first fault comes with its line, and `NoMemory` may come in place of any answer.
+///
+/// Time and memory are linear in the length of the text.
 pub fn read(alloc: Global, text: &[u8]) -> Result<Script, ScriptError>
     ensures ok { IfOk result (λ s. script_of text.now ≡ Ok s) }
     ensures fault { IfErr result (λ e. e ≢ ScriptError.NoMemory → script_of text.now ≡ Err e) }
@@ -44,7 +46,7 @@ fn whole(alloc: Global, text: &[u8]) -> Result<Script, ScriptError>
         return Err(ScriptError::Empty { line: 1 });
     }
     if text.len() > MOST_BYTES {
-        let line = line_behind_most(text);
+        let line = line_of_last_byte(text);
         return Err(ScriptError::TooMany { line });
     }
     let (first, rest) = first_line(text);
@@ -53,7 +55,7 @@ fn whole(alloc: Global, text: &[u8]) -> Result<Script, ScriptError>
 }
 
 /// The line of the last byte that a script may have.
-fn line_behind_most(text: &[u8]) -> u64
+fn line_of_last_byte(text: &[u8]) -> u64
     requires { 1048576 < length text.now }
     ensures { result ≡ 1 + count_by (λ b. b == 10) (take 1048576 text.now) }
 {
@@ -69,7 +71,7 @@ fn line_ends(bytes: &[u8]) -> usize
 }
 
 fn limit_at(line: &[u8]) -> Result<u64, ScriptError>
-    ensures { result ≡ at_line 1 (limit_of line.now) }
+    ensures { result ≡ at_line 1 (parsed_limit line.now) }
 {
     limit(line).map_err(|fault| fault.at(1))
 }
@@ -80,7 +82,7 @@ fn actor_at(
     names: &[u8],
     text: &[u8],
 ) -> Result<(u8, Sequence<Command>), ScriptError>
-    ensures given { GivesLines result (at_line line (actor_of names.now text.now)) }
+    ensures given { GivesLines result (at_line line (parsed_actor names.now text.now)) }
     ensures room { OnOk result (length names.now < 16) }
 {
     match actor(alloc, names, text) {
@@ -96,7 +98,7 @@ fn items_at(
     text: &[u8],
 ) -> Result<Sequence<Item>, ScriptError>
     requires { length names.now ≤ 16 }
-    ensures { GivesLines result (at_line line (items_of names.now text.now)) }
+    ensures { GivesLines result (at_line line (parsed_items names.now text.now)) }
 {
     match items(alloc, names, text) {
         Ok(found) => Ok(found),
@@ -104,7 +106,7 @@ fn items_at(
     }
 }
 
-/// The script, if nothing is left behind its items line.
+/// The script, if nothing is left after its items line.
 fn closed(line: u64, script: Script, rest: &[u8]) -> Result<Script, ScriptError>
     ensures { result ≡ closed line script (lines rest.now) }
 {
@@ -115,7 +117,7 @@ fn closed(line: u64, script: Script, rest: &[u8]) -> Result<Script, ScriptError>
     }
 }
 
-/// The lines behind the first.
+/// The lines after the first.
 fn body(alloc: Global, limit: u64, text: &[u8]) -> Result<Script, ScriptError>
     requires { length text.now ≤ 1048576 }
     ensures { GivesLines result (body_of limit 2 [] [] (lines text.now)) }
@@ -127,12 +129,12 @@ fn body(alloc: Global, limit: u64, text: &[u8]) -> Result<Script, ScriptError>
     while !text.is_empty() {
         let (first, rest) = first_line(text);
         match kind(first) {
-            Line::Actor(words) => {
+            LineKind::Actor(words) => {
                 let (name, program) = actor_at(alloc, line, &names, words)?;
                 names.push(name)?;
                 programs.push(program)?;
             }
-            Line::Items(words) => {
+            LineKind::Items(words) => {
                 let items = items_at(alloc, line, &names, words)?;
                 let names = Sequence::from_vec(names);
                 let programs = Sequence::from_vec(programs);
@@ -144,7 +146,7 @@ fn body(alloc: Global, limit: u64, text: &[u8]) -> Result<Script, ScriptError>
                 };
                 return closed(line + 1, script, rest);
             }
-            Line::Other => return Err(ScriptError::BadLine { line }),
+            LineKind::Other => return Err(ScriptError::BadLine { line }),
         }
         text = rest;
         line += 1;

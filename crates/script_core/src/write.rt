@@ -1,9 +1,10 @@
 //! Replies and cells as text.
 ghost use Rattle.std.specs.Prelude.{◌≡◌, ◌++◌, codes, decimal, length, OnOk, OnErr};
 ghost use Rattle.std.specs.Io.KnownBytes.{Appends};
-ghost use Rattle.script_core.specs.Text.{word_of, answer_text, reply_text, cell_text, cells_text, AppendsPart};
+ghost use Rattle.script_core.specs.Text.{word_of, answer_text, answer_line, cell_text, cells_line, AppendsPrefix};
 
-use crate::line::{Line, WriteFault, put};
+use crate::bytes::{WriteFault, write_bytes};
+use crate::line::Line;
 use book_core::{Answer, Cell, Command, Ended};
 use std::io::Write;
 
@@ -40,7 +41,7 @@ fn write_answer<W: Write>(w: &mut W, answer: &Answer) -> Result<(), WriteFault>
 }
 
 fn write_line<W: Write>(w: &mut W, name: u8, ended: &Ended) -> Result<(), WriteFault>
-    ensures { OnOk result (Appends (W.contents w.old) (W.contents w.new) (reply_text name ended.now)) }
+    ensures { OnOk result (Appends (W.contents w.old) (W.contents w.new) (answer_line name ended.now)) }
 {
     w.write_all(&[name])?;
     write!(w, "{} ", ended.number)?;
@@ -53,12 +54,12 @@ fn write_line<W: Write>(w: &mut W, name: u8, ended: &Ended) -> Result<(), WriteF
 
 /// Writes the line of a call that ended. It takes no memory of its own.
 pub fn write_reply<W: Write>(w: &mut W, name: u8, ended: &Ended) -> Result<(), WriteFault>
-    ensures ok { OnOk result (Appends (W.contents w.old) (W.contents w.new) (reply_text name ended.now)) }
-    ensures fault { OnErr result (AppendsPart (W.contents w.old) (W.contents w.new) (reply_text name ended.now)) }
+    ensures ok { OnOk result (Appends (W.contents w.old) (W.contents w.new) (answer_line name ended.now)) }
+    ensures fault { OnErr result (AppendsPrefix (W.contents w.old) (W.contents w.new) (answer_line name ended.now)) }
 {
     let mut line = Line::new();
     write_line(&mut line, name, ended)?;
-    put(w, line.as_slice())
+    write_bytes(w, line.as_slice())
 }
 
 fn write_cell<W: Write>(w: &mut W, cell: &Cell) -> Result<(), WriteFault>
@@ -74,11 +75,11 @@ fn write_cell<W: Write>(w: &mut W, cell: &Cell) -> Result<(), WriteFault>
 
 fn put_cell<W: Write>(w: &mut W, cell: &Cell) -> Result<(), WriteFault>
     ensures ok { OnOk result (Appends (W.contents w.old) (W.contents w.new) (codes " " ++ cell_text cell.now)) }
-    ensures fault { OnErr result (AppendsPart (W.contents w.old) (W.contents w.new) (codes " " ++ cell_text cell.now)) }
+    ensures fault { OnErr result (AppendsPrefix (W.contents w.old) (W.contents w.new) (codes " " ++ cell_text cell.now)) }
 {
     let mut line = Line::new();
     write_cell(&mut line, cell)?;
-    put(w, line.as_slice())
+    write_bytes(w, line.as_slice())
 }
 
 fn write_size<W: Write>(w: &mut W, size: usize) -> Result<(), WriteFault>
@@ -90,21 +91,21 @@ fn write_size<W: Write>(w: &mut W, size: usize) -> Result<(), WriteFault>
 
 fn put_size<W: Write>(w: &mut W, size: usize) -> Result<(), WriteFault>
     ensures ok { OnOk result (Appends (W.contents w.old) (W.contents w.new) (codes "size " ++ decimal size ++ codes ":")) }
-    ensures fault { OnErr result (AppendsPart (W.contents w.old) (W.contents w.new) (codes "size " ++ decimal size ++ codes ":")) }
+    ensures fault { OnErr result (AppendsPrefix (W.contents w.old) (W.contents w.new) (codes "size " ++ decimal size ++ codes ":")) }
 {
     let mut line = Line::new();
     write_size(&mut line, size)?;
-    put(w, line.as_slice())
+    write_bytes(w, line.as_slice())
 }
 
 /// Writes the last line: the size and each cell. It takes no memory of its own.
 pub fn write_cells<W: Write>(w: &mut W, cells: &[Cell]) -> Result<(), WriteFault>
-    ensures ok { OnOk result (Appends (W.contents w.old) (W.contents w.new) (cells_text cells.now)) }
-    ensures fault { OnErr result (AppendsPart (W.contents w.old) (W.contents w.new) (cells_text cells.now)) }
+    ensures ok { OnOk result (Appends (W.contents w.old) (W.contents w.new) (cells_line cells.now)) }
+    ensures fault { OnErr result (AppendsPrefix (W.contents w.old) (W.contents w.new) (cells_line cells.now)) }
 {
     put_size(w, cells.len())?;
     for cell in cells {
         put_cell(w, cell)?;
     }
-    put(w, b"\n")
+    write_bytes(w, b"\n")
 }

@@ -1,6 +1,7 @@
 //! Which command lines are taken.
 
-use crate::command_line::{Engine, engine_of};
+use crate::command_line::engine_of;
+use crate::engine::Engine;
 use clap::error::ErrorKind;
 use std::alloc::Global;
 use std::test::Fail;
@@ -19,15 +20,19 @@ fn asked(alloc: Global, words: &str) -> Result<Result<Engine, ErrorKind>, Fail> 
 // Words, and what they ask for.
 type Row = (&'static str, Result<Engine, ErrorKind>);
 
-const ROWS: [Row; 9] = [
+const ROWS: [Row; 13] = [
     ("cvec calls", Ok(Engine::Calls)),
     ("cvec steps", Ok(Engine::Steps)),
     ("cvec calls steps", Err(ErrorKind::UnknownArgument)),
     ("cvec -h", Err(ErrorKind::DisplayHelp)),
+    ("cvec --help", Err(ErrorKind::DisplayHelp)),
     ("cvec calls --help", Err(ErrorKind::DisplayHelp)),
+    ("cvec --version", Err(ErrorKind::DisplayVersion)),
+    ("cvec -V", Err(ErrorKind::DisplayVersion)),
     ("cvec help", Err(ErrorKind::InvalidSubcommand)),
     ("cvec call", Err(ErrorKind::InvalidSubcommand)),
     ("cvec calls more", Err(ErrorKind::UnknownArgument)),
+    ("cvec steps more", Err(ErrorKind::UnknownArgument)),
     ("cvec --limit 8", Err(ErrorKind::UnknownArgument)),
 ];
 

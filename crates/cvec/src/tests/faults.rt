@@ -20,7 +20,7 @@ const LIMITS: [Row; 22] = [
     ("two zeros", "limit 00\nsteps", "line 1: fault 3"),
     ("no number", "limit \nsteps", "line 1: fault 3"),
     (
-        "a space behind the limit",
+        "a space after the limit",
         "limit 8 \nsteps",
         "line 1: fault 3",
     ),
@@ -30,7 +30,7 @@ const LIMITS: [Row; 22] = [
         "line 1: fault 3",
     ),
     (
-        "a CR behind the limit",
+        "a CR after the limit",
         "limit 8\r\nsteps",
         "line 1: fault 3",
     ),
@@ -53,15 +53,11 @@ const LIMITS: [Row; 22] = [
     ("an empty line alone", "\n", "line 1: fault 4"),
     ("a limit's word alone", "limit", "line 1: fault 4"),
     (
-        "a line end behind the word",
+        "a line end after the word",
         "limit\nsteps",
         "line 1: fault 4",
     ),
-    (
-        "a tab behind the word",
-        "limit\t8\nsteps",
-        "line 1: fault 4",
-    ),
+    ("a tab after the word", "limit\t8\nsteps", "line 1: fault 4"),
     (
         "a space before the word",
         " limit 8\nsteps",
@@ -99,7 +95,7 @@ const LINES: [Row; 17] = [
         "line 2: fault 4",
     ),
     (
-        "a tab behind an actor's word",
+        "a tab after an actor's word",
         "limit 8\nactor\ta size\nsteps",
         "line 2: fault 4",
     ),
@@ -119,12 +115,12 @@ const LINES: [Row; 17] = [
         "line 2: fault 4",
     ),
     (
-        "a CR behind the items' word",
+        "a CR after the items' word",
         "limit 8\nsteps\r\n",
         "line 2: fault 4",
     ),
     (
-        "a NUL behind the items' word",
+        "a NUL after the items' word",
         "limit 8\nsteps\0",
         "line 2: fault 4",
     ),
@@ -139,7 +135,7 @@ const LINES: [Row; 17] = [
         "line 3: fault 4",
     ),
     (
-        "an actor behind the items",
+        "an actor after the items",
         "limit 8\nactor a size\nsteps a\nactor b size",
         "line 4: fault 4",
     ),
@@ -151,7 +147,7 @@ const LINES: [Row; 17] = [
     ),
     ("no items", "limit 8\nactor a size", "line 3: fault 10"),
     (
-        "no items behind an end",
+        "no items after an end",
         "limit 8\nactor a size\n",
         "line 3: fault 10",
     ),
@@ -175,7 +171,7 @@ const NAMES: [Row; 12] = [
         "line 2: fault 5",
     ),
     (
-        "the byte behind z",
+        "the byte after z",
         "limit 8\nactor { size\nsteps",
         "line 2: fault 5",
     ),
@@ -190,7 +186,7 @@ const NAMES: [Row; 12] = [
         "line 2: fault 5",
     ),
     (
-        "a tab behind a name",
+        "a tab after a name",
         "limit 8\nactor a\tsize\nsteps",
         "line 2: fault 5",
     ),
@@ -239,7 +235,7 @@ const ITEMS: [Row; 12] = [
         "line 3: fault 5",
     ),
     (
-        "a CR behind the items",
+        "a CR after the items",
         "limit 8\nactor a size\nsteps a\r\n",
         "line 3: fault 5",
     ),
@@ -317,12 +313,12 @@ const COMMANDS: [Row; 24] = [
         "line 2: fault 7",
     ),
     (
-        "a CR behind a command",
+        "a CR after a command",
         "limit 8\nactor a push 1\r\nsteps",
         "line 2: fault 7",
     ),
     (
-        "a mark behind a command",
+        "a mark after a command",
         "limit 8\nactor a push 1!\nsteps",
         "line 2: fault 7",
     ),
@@ -332,7 +328,7 @@ const COMMANDS: [Row; 24] = [
         "line 2: fault 7",
     ),
     (
-        "a comma behind a space",
+        "a comma after a space",
         "limit 8\nactor a size , size\nsteps",
         "line 2: fault 7",
     ),

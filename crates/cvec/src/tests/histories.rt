@@ -1,21 +1,14 @@
 //! Plays by atomic steps: which histories they have.
 
 use super::steps::ROWS;
-use book_core::{Event, Reply, Sequence, check};
-use script_core::{Script, read};
+use super::{calls_played, steps_played};
+use book_core::{Event, Reply, check};
 use std::alloc::Global;
 use std::test::Fail;
-use step_core::play;
 
 // Whether the events of the play of a script are a history.
 fn is_history(alloc: Global, script: &str) -> Result<bool, Fail> {
-    let Script {
-        limit,
-        programs,
-        items,
-        ..
-    } = read(alloc, script.as_bytes())?;
-    let played = play(alloc, limit, programs, items.as_slice())?;
+    let (limit, played) = steps_played(alloc, script)?;
     Ok(check(alloc, limit, played.events.as_slice())?)
 }
 
@@ -46,16 +39,10 @@ fn broken(actor: u32, place: u64) -> (Event, Reply) {
     (Event::Break { actor, place }, Reply::Done)
 }
 
-// The events of the play of a script.
-fn history_of(alloc: Global, script: &str) -> Result<Sequence<(Event, Reply)>, Fail> {
-    let Script {
-        limit,
-        programs,
-        items,
-        ..
-    } = read(alloc, script.as_bytes())?;
-    let played = play(alloc, limit, programs, items.as_slice())?;
-    Ok(played.events)
+// Whether the play of a script by atomic steps has these events.
+fn has_events(alloc: Global, script: &str, events: &[(Event, Reply)]) -> Result<bool, Fail> {
+    let (_, played) = steps_played(alloc, script)?;
+    Ok(played.events.as_slice() == events)
 }
 
 #[test]
@@ -67,8 +54,7 @@ fn pushes_that_meet_have_their_history(rt: HostRuntime) -> Result<(), Fail> {
         finish(1, 1, 6),
         finish(0, 0, 5),
     ];
-    let got = history_of(rt.alloc(), script)?;
-    assert_eq!(rt; got.as_slice(), history.as_slice());
+    assert!(rt; has_events(rt.alloc(), script, &history)?);
     Ok(())
 }
 
@@ -76,8 +62,7 @@ fn pushes_that_meet_have_their_history(rt: HostRuntime) -> Result<(), Fail> {
 fn a_refused_segment_has_its_history(rt: HostRuntime) -> Result<(), Fail> {
     let script = "limit 8\nactor a push 5\nactor b push 6\nsteps a a b b b a!";
     let history = [(Event::RefusedMemory { actor: 0 }, Reply::NoMemory)];
-    let got = history_of(rt.alloc(), script)?;
-    assert_eq!(rt; got.as_slice(), history.as_slice());
+    assert!(rt; has_events(rt.alloc(), script, &history)?);
     Ok(())
 }
 
@@ -97,8 +82,7 @@ fn growths_to_a_size_have_their_history(rt: HostRuntime) -> Result<(), Fail> {
         finish(1, 4, 1),
         (Event::Raise { actor: 0, to: 4 }, Reply::Enough { size: 5 }),
     ];
-    let got = history_of(rt.alloc(), script)?;
-    assert_eq!(rt; got.as_slice(), history.as_slice());
+    assert!(rt; has_events(rt.alloc(), script, &history)?);
     Ok(())
 }
 
@@ -106,7 +90,36 @@ fn growths_to_a_size_have_their_history(rt: HostRuntime) -> Result<(), Fail> {
 fn a_refused_construction_has_its_history(rt: HostRuntime) -> Result<(), Fail> {
     let script = "limit 8\nactor a fail 3 7 1\nsteps a a a a a a a a a a a a";
     let history = [claim(0, 3, 0), finish(0, 0, 7), broken(0, 1), broken(0, 2)];
-    let got = history_of(rt.alloc(), script)?;
-    assert_eq!(rt; got.as_slice(), history.as_slice());
+    assert!(rt; has_events(rt.alloc(), script, &history)?);
+    Ok(())
+}
+
+// A push, and a growth to a size above the limit.
+const PAST_THE_LIMIT: [(Event, Reply); 3] = [
+    (
+        Event::Claim { actor: 0, n: 1 },
+        Reply::Run { from: 0, n: 1 },
+    ),
+    (
+        Event::Finish {
+            actor: 0,
+            place: 0,
+            value: 5,
+        },
+        Reply::Done,
+    ),
+    (
+        Event::RefusedFull { actor: 0, n: 8 },
+        Reply::Full { size: 1 },
+    ),
+];
+
+#[test]
+fn a_growth_to_a_size_past_the_limit_has_its_history(rt: HostRuntime) -> Result<(), Fail> {
+    let steps = "limit 4\nactor a push 5, atleast 9 0\nsteps a a a a a a a";
+    assert!(rt; has_events(rt.alloc(), steps, &PAST_THE_LIMIT)?);
+    let calls = "limit 4\nactor a push 5, atleast 9 0\nsteps a a";
+    let (_, played) = calls_played(rt.alloc(), calls)?;
+    assert!(rt; played.events.as_slice() == PAST_THE_LIMIT.as_slice());
     Ok(())
 }

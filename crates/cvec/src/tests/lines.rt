@@ -1,8 +1,9 @@
-//! The lines of replies and of cells.
+//! Answer lines, and the line of the cells.
 
+use super::streams::{Interrupted, Narrow};
 use book_core::{Answer, Cell, Command, Ended};
 use script_core::{WriteFault, write_cells, write_reply};
-use std::io::{self, ErrorKind, Write};
+use std::io::ErrorKind;
 use std::test::Fail;
 
 const GROW: Command = Command::Grow { n: 3, value: 7 };
@@ -20,7 +21,7 @@ const READ: Command = Command::Read { place: 3 };
 // A call, its answer, and the line of the tenth call of `a`.
 type Row = (Command, Answer, &'static str);
 
-const REPLIES: [Row; 11] = [
+const ANSWERS: [Row; 11] = [
     (
         Command::Push { value: 7 },
         Answer::At { place: 0 },
@@ -59,8 +60,8 @@ const REPLIES: [Row; 11] = [
 ];
 
 #[test]
-fn replies_are_written(rt: HostRuntime) -> Result<(), Fail> {
-    for (command, answer, line) in REPLIES.as_slice() {
+fn answer_lines_are_written(rt: HostRuntime) -> Result<(), Fail> {
+    for (command, answer, line) in ANSWERS.as_slice() {
         let ended = Ended {
             actor: 0,
             number: 10,
@@ -75,7 +76,7 @@ fn replies_are_written(rt: HostRuntime) -> Result<(), Fail> {
 }
 
 #[test]
-fn the_longest_reply_is_written(rt: HostRuntime) -> Result<(), Fail> {
+fn the_longest_answer_line_is_written(rt: HostRuntime) -> Result<(), Fail> {
     let most = u64::MAX;
     let ended = Ended {
         actor: 0,
@@ -111,44 +112,60 @@ fn cells_are_written(rt: HostRuntime) -> Result<(), Fail> {
     Ok(())
 }
 
-// A writer with room for so many bytes.
-#[derive(Drop)]
-struct Narrow {
-    text: Vec<u8>,
-    room: usize,
-}
+const CELLS: [Cell; 3] = [Cell::Filled(7), Cell::Pending(1), Cell::Broken];
 
-impl Write for Narrow {
-    fn write(&mut self, buf: &[u8]) -> io::Result<usize> {
-        let [byte, ..] = buf else {
-            return Ok(0);
-        };
-        if self.text.len() >= self.room {
-            return Err(io::Error::from(ErrorKind::StorageFull));
-        }
-        self.text.push(*byte)?;
-        Ok(1)
-    }
+const CELLS_LINE: &[u8] = b"size 3: 7 . x\n";
 
-    fn flush(&mut self) -> io::Result<()> {
-        Ok(())
+const ENDED: Ended = Ended {
+    actor: 0,
+    number: 10,
+    command: READ,
+    answer: Answer::Pending,
+};
+
+const ANSWER_LINE: &[u8] = b"a10 read pending\n";
+
+#[test]
+fn a_writer_that_fails_has_a_prefix_of_the_cells(rt: HostRuntime) {
+    let kind = ErrorKind::StorageFull;
+    for room in 0..CELLS_LINE.len() {
+        let mut narrow = Narrow::new(rt.alloc(), room, Some(kind));
+        let got = write_cells(&mut narrow, &CELLS);
+        assert_eq!(rt; got, Err(WriteFault { kind }), "{room}");
+        assert_eq!(rt; narrow.text.as_slice(), &CELLS_LINE[..room], "{room}");
     }
 }
 
 #[test]
-fn a_writer_that_fails_has_a_beginning(rt: HostRuntime) {
-    let want = b"size 3: 7 . x\n";
+fn a_writer_that_takes_no_byte_is_a_fault(rt: HostRuntime) {
     let fault = WriteFault {
-        kind: ErrorKind::StorageFull,
+        kind: ErrorKind::WriteZero,
     };
-    for room in 0..want.len() {
-        let text = Vec::new(rt.alloc());
-        let mut narrow = Narrow { text, room };
-        let got = write_cells(
-            &mut narrow,
-            &[Cell::Filled(7), Cell::Pending(1), Cell::Broken],
-        );
-        assert_eq!(rt; got, Err(fault), "{room}");
-        assert_eq!(rt; narrow.text.as_slice(), &want[..room], "{room}");
-    }
+    let mut narrow = Narrow::new(rt.alloc(), 3, None);
+    assert_eq!(rt; write_reply(&mut narrow, b'a', &ENDED), Err(fault));
+    assert_eq!(rt; narrow.text.as_slice(), b"a10".as_slice());
+}
+
+#[test]
+fn an_interrupted_write_is_tried_again(rt: HostRuntime) -> Result<(), Fail> {
+    let mut narrow = Narrow::new(rt.alloc(), 100, None);
+    write_reply(&mut narrow, b'a', &ENDED)?;
+    assert_eq!(rt; narrow.text.as_slice(), ANSWER_LINE);
+    let mut narrow = Narrow::new(rt.alloc(), 100, None);
+    write_cells(&mut narrow, &CELLS)?;
+    assert_eq!(rt; narrow.text.as_slice(), CELLS_LINE);
+    Ok(())
+}
+
+#[test]
+fn one_write_may_be_interrupted_less_than_1_048_576_times(rt: HostRuntime) {
+    let fault = WriteFault {
+        kind: ErrorKind::Interrupted,
+    };
+    let mut writer = Interrupted { times: 0 };
+    assert_eq!(rt; write_reply(&mut writer, b'a', &ENDED), Err(fault));
+    assert_eq!(rt; writer.times, 1_048_576);
+    let mut writer = Interrupted { times: 0 };
+    assert_eq!(rt; write_cells(&mut writer, &CELLS), Err(fault));
+    assert_eq!(rt; writer.times, 1_048_576);
 }

@@ -5,7 +5,7 @@ use book_core::{Answer, Event, Reply};
 use script_core::read;
 use std::alloc::Global;
 use std::test::Fail;
-use step_core::{Machine, MakeError};
+use step_core::{Machine, MakeError, Slot};
 
 // An actor's step with memory, the size after it, and whether it is an event.
 type Row = (u32, u64, bool);
@@ -95,6 +95,23 @@ fn the_size_moves_at_the_claiming_steps(rt: HostRuntime) -> Result<(), Fail> {
                 (*size, *is_event)
             );
         }
+    }
+    Ok(())
+}
+
+#[test]
+fn a_slot_is_busy_for_the_actor_that_began_it(rt: HostRuntime) -> Result<(), Fail> {
+    let mut machine = machine(rt.alloc(), "limit 8\nactor a push 5\nactor b push 6\nsteps")?;
+    for slot in [
+        None,
+        None,
+        None,
+        None,
+        Some(Slot::Busy(1)),
+        Some(Slot::Filled(6)),
+    ] {
+        machine.step(1, true)?;
+        assert_eq!(rt; machine.slot(0), slot);
     }
     Ok(())
 }

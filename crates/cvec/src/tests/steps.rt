@@ -6,7 +6,7 @@ use std::test::Fail;
 // A name, a script and its text.
 type Row = (&'static str, &'static str, &'static str);
 
-pub(super) const ROWS: [Row; 22] = [
+pub(super) const ROWS: [Row; 26] = [
     (
         "a push may be refused while another is under way",
         "limit 1\nactor a push 5\nactor b push 6, size\nsteps a b a a b a b b a a",
@@ -41,6 +41,26 @@ pub(super) const ROWS: [Row; 22] = [
         "a growth installs each of its segments",
         "limit 8\nactor a push 4, grow 5 1\nsteps a a a a a a a a a a a a a a a a a a a a a a a",
         "a1 push at 0\na2 grow run 1 5\nsize 6: 4 1 1 1 1 1\n",
+    ),
+    (
+        "a growth after the first segment installs its own",
+        "limit 8\nactor a grow 2 1, push 7\nsteps a a a a a a a a a a a a a a",
+        "a1 grow run 0 2\na2 push at 2\nsize 3: 1 1 7\n",
+    ),
+    (
+        "a push in the second segment has six steps",
+        "limit 8\nactor a grow 2 1, push 7\nsteps a a a a a a a a a a a a a",
+        "a1 grow run 0 2\nsize 3: 1 1 .\n",
+    ),
+    (
+        "after a lost exchange the segments of the new run are looked at",
+        "limit 8\nactor a push 7\nactor b grow 2 1\nsteps a a a b b b a a a a a a",
+        "a1 push at 2\nsize 3: . . 7\n",
+    ),
+    (
+        "after a lost exchange a push has five steps more",
+        "limit 8\nactor a push 7\nactor b grow 2 1\nsteps a a a b b b a a a a a",
+        "size 3: . . .\n",
     ),
     (
         "a growth by nothing has one step",

@@ -1,8 +1,7 @@
 //! Readers and writers that give or take little, fail, or are interrupted.
 
-use crate::calls::run_calls;
+use crate::engine::run_calls;
 use crate::error::RunError;
-use crate::input::MOST_INTERRUPTIONS;
 use script_core::ScriptError;
 use std::alloc::Global;
 use std::io::{self, ErrorKind, Read, Write};
@@ -12,12 +11,12 @@ const SCRIPT: &[u8] = b"limit 8\nactor a push 5, size\nactor b push 6\nsteps a b
 
 const TEXT: &[u8] = b"a1 push at 0\nb1 push at 1\na2 size 2\nsize 2: 5 6\n";
 
-// Gives a byte at a time, and is interrupted before each; fails behind the last where it has to.
+// Gives a byte at a time, and is interrupted before each; fails after the last where it is told to.
 #[derive(Drop)]
-struct Slow {
-    rest: &'static [u8],
-    interrupted: bool,
-    fails: bool,
+pub(super) struct Slow {
+    pub rest: &'static [u8],
+    pub interrupted: bool,
+    pub fails: bool,
 }
 
 impl Read for Slow {
@@ -36,8 +35,8 @@ impl Read for Slow {
 
 // Is interrupted each time, and counts how often.
 #[derive(Drop)]
-struct Interrupted {
-    times: usize,
+pub(super) struct Interrupted {
+    pub times: usize,
 }
 
 impl Interrupted {
@@ -85,15 +84,15 @@ impl Read for Endless {
 
 // Takes up to three bytes at a time, and is interrupted before each; fails where it has no room.
 #[derive(Drop)]
-struct Narrow {
-    text: Vec<u8>,
+pub(super) struct Narrow {
+    pub text: Vec<u8>,
     room: usize,
     interrupted: bool,
     full: Option<ErrorKind>,
 }
 
 impl Narrow {
-    fn new(alloc: Global, room: usize, full: Option<ErrorKind>) -> Self {
+    pub(super) fn new(alloc: Global, room: usize, full: Option<ErrorKind>) -> Self {
         Narrow {
             text: Vec::new(alloc),
             room,
@@ -126,7 +125,7 @@ impl Write for Narrow {
     }
 }
 
-// Takes all, and fails to see it through.
+// Takes all, and cannot be flushed.
 #[derive(Drop)]
 struct Unflushed {
     text: Vec<u8>,
@@ -143,7 +142,7 @@ impl Write for Unflushed {
     }
 }
 
-// Runs the script that a reader has, which ends so.
+// Runs the script that a reader has, and compares how it ends.
 fn ends<R: Read, W: Write>(
     rt: &impl Abort,
     alloc: Global,
@@ -184,17 +183,17 @@ fn a_reader_that_fails_has_no_text(rt: HostRuntime) {
 }
 
 #[test]
-fn a_reader_may_not_be_interrupted_for_ever(rt: HostRuntime) {
+fn a_read_may_be_interrupted_less_than_1_048_576_times(rt: HostRuntime) {
     let alloc = rt.alloc();
     let mut text = Vec::new(alloc);
     let mut reader = Interrupted { times: 0 };
     ends(&rt, alloc, &mut reader, &mut text, Err(RunError::Read));
-    assert!(rt; reader.times == MOST_INTERRUPTIONS);
+    assert!(rt; reader.times == 1_048_576);
     assert!(rt; text.is_empty());
 }
 
 #[test]
-fn a_writer_may_not_be_interrupted_for_ever(rt: HostRuntime) {
+fn a_write_may_be_interrupted_less_than_1_048_576_times(rt: HostRuntime) {
     let mut script = SCRIPT;
     let mut writer = Interrupted { times: 0 };
     ends(
@@ -204,7 +203,7 @@ fn a_writer_may_not_be_interrupted_for_ever(rt: HostRuntime) {
         &mut writer,
         Err(RunError::Write),
     );
-    assert!(rt; writer.times == MOST_INTERRUPTIONS);
+    assert!(rt; writer.times == 1_048_576);
 }
 
 #[test]
@@ -228,7 +227,7 @@ fn a_writer_may_take_a_few_bytes_at_a_time(rt: HostRuntime) {
 }
 
 #[test]
-fn a_writer_that_fails_has_a_beginning(rt: HostRuntime) {
+fn a_writer_that_fails_has_a_prefix(rt: HostRuntime) {
     let alloc = rt.alloc();
     for room in 0..TEXT.len() {
         let mut script = SCRIPT;
@@ -257,7 +256,7 @@ fn a_writer_that_takes_no_byte_fails(rt: HostRuntime) {
 }
 
 #[test]
-fn a_text_that_is_not_seen_through_is_a_fault(rt: HostRuntime) {
+fn a_text_that_is_not_flushed_is_a_fault(rt: HostRuntime) {
     let alloc = rt.alloc();
     let mut script = SCRIPT;
     let text = Vec::new(alloc);

@@ -1,21 +1,9 @@
 //! Plays of whole calls.
 
-use super::{UNSOUND, one_call};
+use super::{UNSOUND, calls_played, one_call};
 use book_core::{Cell, Command, Event, Item, Reply};
-use script_core::{Script, read};
-use std::alloc::Global;
 use std::test::Fail;
-use step_core::{PlayError, Played, play_calls};
-
-fn played(alloc: Global, script: &str) -> Result<Played, Fail> {
-    let Script {
-        limit,
-        programs,
-        items,
-        ..
-    } = read(alloc, script.as_bytes())?;
-    Ok(play_calls(alloc, limit, programs, items.as_slice())?)
-}
+use step_core::{PlayError, play_calls};
 
 const EVENTS: [(Event, Reply); 11] = [
     (
@@ -61,7 +49,7 @@ const EVENTS: [(Event, Reply); 11] = [
 fn whole_calls_have_their_events(rt: HostRuntime) -> Result<(), Fail> {
     let script =
         "limit 4\nactor a fail 3 7 1, atleast 2 0, read 3, grow 2 1\nactor b push 6, read 1, size\nsteps a a a b a b b a";
-    let played = played(rt.alloc(), script)?;
+    let (_, played) = calls_played(rt.alloc(), script)?;
     assert_eq!(rt; played.events.as_slice(), EVENTS.as_slice());
     assert_eq!(rt; played.ended.len(), 7);
     let cells = [Cell::Filled(7), Cell::Broken, Cell::Broken, Cell::Filled(6)];

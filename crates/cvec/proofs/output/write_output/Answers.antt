@@ -1,18 +1,9 @@
-use Rattle.std.proofs.Common.{◌≡◌, ℕ, ◌+◌, ◌-◌, List, ◌++◌, take, drop, length, arith, ap, sym, ◌∙◌, subst, length-drop}
-use Rattle.std.proofs.Math.Seq.{take-add}
-use Rattle.std.proofs.lemmas.List.{take_all}
-use Rattle.std.proofs.KnownBytes.{Appends-trans}
-use Rattle.std.specs.Io.KnownBytes.{Appends}
+use Rattle.std.proofs.lemmas.Result.{err_from_is_err_and}
+use Rattle.std.proofs.KnownBytes.{Appends-kept}
+use Rattle.cvec.proofs.Prefixes.{whole_prefix}
 use Rattle.cvec.proofs.output.write_output.Goals as goal
 
--- what was written and then the first of the rest are the first of the text
-written_more : (at n : ℕ) (text : List ℕ) → take at text ++ take n (take (length text - at) (drop at text)) ≡ take (at + n) text
-written_more at n text =
-    ap (λ rest. take at text ++ take n rest) (take_all (length text - at) (drop at text) (omega (arith, length-drop at text))) ∙ sym (take-add at n text)
-
-pub loop-at-preserved-in-Ok : goal.loop-at-preserved-in-Ok
-loop-at-preserved-in-Ok g c = record {
-  taken = subst (Appends _ _) (written_more _ _ _) (Appends-trans _ _ _ _ _ c.loop-at.invariant.taken c.in-Ok.ensures.bytes);
-  within = omega (arith, c.in-Ok.ensures.bound);
-  patience = c.loop-at.invariant.patience;
-}
+pub returns-in_err-flush-clause-fault : goal.returns-in_err-flush-clause-fault
+returns-in_err-flush-clause-fault g c =
+    let p = err_from_is_err_and c.from_residual-in_err-flush.result c.from_residual-in_err-flush.ensures.1 in
+    rw p.1 (whole_prefix _ _ _ (Appends-kept _ _ _ _ c.in_ok-write_bytes.ensures.ok c.in_err-flush.ensures.bytes))

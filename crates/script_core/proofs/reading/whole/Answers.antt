@@ -9,7 +9,7 @@ pub returns-then-is_empty : goal.returns-then-is_empty
 returns-then-is_empty c = λ memory. empty_text c.args.text.now (eqb-true _ _ (sym c.is_empty.ensures ∙ c.if-is_empty.true))
 
 pub returns-then-text-gt-MOST_BYTES : goal.returns-then-text-gt-MOST_BYTES
-returns-then-text-gt-MOST_BYTES c = λ memory. rw c.line_behind_most-line.ensures (long_text c.args.text.now (omega arith))
+returns-then-text-gt-MOST_BYTES c = λ memory. rw c.line_of_last_byte-line.ensures (long_text c.args.text.now (omega arith))
 
 pub returns-in_err-limit : goal.returns-in_err-limit
 returns-in_err-limit c =

@@ -1,0 +1,29 @@
+-- What the program does with its three streams, and its exit status.
+use Rattle.std.specs.Prelude.{◌≡◌, ◌≢◌, ℕ, List, Option, Result, Ok, Err, OnOk, IfErr, IfSome, IsErrOf}
+use Rattle.std.specs.Io.KnownBytes.{Appends, Keeps}
+use Rattle.script_core.specs.declared.error.ScriptError.{ScriptError}
+use Rattle.script_core.specs.declared.error.ScriptError.TheVariants as faults
+use Rattle.script_core.specs.Grammar.{script_of}
+use Rattle.script_core.specs.Text.{AppendsPrefix}
+use Rattle.cvec.specs.declared.engine.Engine.{Engine}
+use Rattle.cvec.specs.declared.error.RunError.{RunError}
+use Rattle.cvec.specs.declared.error.RunError.TheVariants.{Script, Write}
+use Rattle.cvec.specs.Output.{play_by, AppendsText, AppendsPrefixOfText}
+use Rattle.cvec.specs.RunError.{status_of, error_line}
+
+-- a run that has its whole text ends with status 0, and adds nothing to standard error; any other ends with the status of its error, and adds the error's line or a prefix of it
+abbrev pub EndsAs : Result (Unit {0}) RunError → ℕ → Option (List ℕ) → Option (List ℕ) → Type 0
+EndsAs (Ok done) status old new = (status ≡ 0) × Keeps old new
+EndsAs (Err e) status old new = (status ≡ status_of e) × AppendsPrefix old new (error_line e)
+
+-- a script is read and played by the engine: what the writer gets, and how it ends
+pub record Plays (engine : Engine) (input old new : Option (List ℕ)) (ended : Result (Unit {0}) RunError) : Type 0 where
+  pub written : OnOk ended (IfSome input (λ bytes. AppendsText (play_by engine) bytes old new))
+  pub script : (fault : ScriptError) → ended ≡ Err (Script fault) → (fault ≢ faults.NoMemory) × IfSome input (λ bytes. script_of bytes ≡ Err fault)
+  pub prefix : IsErrOf ended Write → IfSome input (λ bytes. AppendsPrefixOfText (play_by engine) bytes old new)
+  pub unwritten : IfErr ended (λ e. e ≢ Write → Keeps old new)
+
+-- a text is shown: the whole of it, or a prefix and a write fault
+abbrev pub Shows : List ℕ → Option (List ℕ) → Option (List ℕ) → Result (Unit {0}) RunError → Type 0
+Shows text old new (Ok done) = Appends old new text
+Shows text old new (Err e) = (e ≡ Write) × AppendsPrefix old new text

@@ -1,0 +1,18 @@
+-- What becomes of a command line that names no engine.
+use Rattle.std.specs.Prelude.{⊤}
+use Rattle.cvec.specs.declared.command_line.Request.{Request}
+use Rattle.cvec.specs.declared.command_line.Request.TheVariants.{Play, Show, Refuse, NoMemory}
+
+-- a text is shown, or there is no memory for it
+abbrev pub IsShown : Request → Type 0
+IsShown (Play engine) = ⊥
+IsShown (Show text) = ⊤
+IsShown (Refuse text) = ⊥
+IsShown NoMemory = ⊤
+
+-- it is refused with a text, or there is no memory for it
+abbrev pub IsRefused : Request → Type 0
+IsRefused (Play engine) = ⊥
+IsRefused (Show text) = ⊥
+IsRefused (Refuse text) = ⊤
+IsRefused NoMemory = ⊤

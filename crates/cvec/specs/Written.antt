@@ -1,7 +1,0 @@
--- What a writer holds after a text.
-use Rattle.std.specs.Prelude.{ℕ, List, take, Option}
-use Rattle.std.specs.Io.KnownBytes.{Appends}
-
--- known bytes grow by a beginning of the text
-abbrev pub AppendsBeginning : Option (List ℕ) → Option (List ℕ) → List ℕ → Type 0
-AppendsBeginning old new text = (n : ℕ) × Appends old new (take n text)

@@ -1,0 +1,93 @@
+//! The program over any three streams: `main` hands it the system's own.
+ghost use Rattle.std.specs.Prelude.{◌≡◌, Result, Err, String, OnOk, OnErr, string_bytes};
+ghost use Rattle.std.specs.Global.{Global};
+ghost use Rattle.std.specs.Io.KnownBytes.{Appends, Keeps};
+ghost use Rattle.script_core.specs.Text.{AppendsPrefix};
+ghost use Rattle.cvec.specs.Program.{EndsAs, Plays, Shows};
+ghost use Rattle.cvec.specs.RunError.{error_line};
+
+use crate::command_line::Request;
+use crate::engine::{Engine, run_calls, run_steps};
+use crate::error::RunError;
+use crate::output::write_output;
+use script_core::{Line, WriteFault, write_bytes};
+use std::alloc::Global;
+use std::io::{Read, Write};
+
+// The status of a refused command line.
+const REFUSED: u8 = 5;
+
+// The line is made before it is written, so that one write can take it.
+fn tell<E: Write>(errors: &mut E, error: RunError) -> Result<(), WriteFault>
+    ensures ok { OnOk result
+        (Appends (E.contents errors.old) (E.contents errors.new) (error_line error)) }
+    ensures fault { OnErr result
+        (AppendsPrefix (E.contents errors.old) (E.contents errors.new) (error_line error)) }
+{
+    let mut line = Line::new();
+    writeln!(line, "{error}")?;
+    write_bytes(errors, line.as_slice())
+}
+
+// Standard error may be closed or full. Then the status alone tells.
+fn told<E: Write>(errors: &mut E, ended: Result<(), RunError>) -> u8
+    ensures { EndsAs ended result (E.contents errors.old) (E.contents errors.new) }
+{
+    match ended {
+        Ok(()) => 0,
+        Err(error) => {
+            let _unseen = tell(errors, error);
+            error.status()
+        }
+    }
+}
+
+// Help may fail to be written, as any text may.
+fn show<W: Write>(writer: &mut W, text: &str) -> Result<(), RunError>
+    ensures { Shows text.now (W.contents writer.old) (W.contents writer.new) result }
+{
+    write_output(writer, text.as_bytes())?;
+    Ok(())
+}
+
+fn refuse<E: Write>(errors: &mut E, text: &str) -> u8
+    ensures status { result ≡ 5 }
+    ensures text { AppendsPrefix (E.contents errors.old) (E.contents errors.new) text.now }
+{
+    let _unseen = write_bytes(errors, text.as_bytes());
+    REFUSED
+}
+
+/// Does what a command line asks for, and returns the exit status of the program.
+///
+/// The writer of errors may fail too: clauses allow any prefix of its line, and the status alone tells.
+pub fn serve<R: Read, W: Write, E: Write>(
+    alloc: Global,
+    request: &Request,
+    reader: &mut R,
+    writer: &mut W,
+    errors: &mut E,
+) -> u8
+    ensures plays { (engine : Engine) → request.now ≡ Request.Play engine
+        → (ended : Result (Unit {0}) RunError)
+        × Plays engine (R.remaining reader.old) (W.contents writer.old) (W.contents writer.new) ended
+        × EndsAs ended result (E.contents errors.old) (E.contents errors.new) }
+    ensures shows { (text : String Global) → request.now ≡ Request.Show text
+        → (ended : Result (Unit {0}) RunError)
+        × Shows (string_bytes text) (W.contents writer.old) (W.contents writer.new) ended
+        × EndsAs ended result (E.contents errors.old) (E.contents errors.new) }
+    ensures refuses { (text : String Global) → request.now ≡ Request.Refuse text → (result ≡ 5)
+        × Keeps (W.contents writer.old) (W.contents writer.new)
+        × AppendsPrefix (E.contents errors.old) (E.contents errors.new) (string_bytes text) }
+    ensures memory { request.now ≡ Request.NoMemory
+        → EndsAs (Err RunError.NoMemory) result (E.contents errors.old) (E.contents errors.new)
+        × Keeps (W.contents writer.old) (W.contents writer.new) }
+{
+    match request {
+        Request::Play(Engine::Calls) => told(errors, run_calls(alloc, reader, writer)),
+        Request::Play(Engine::Steps) => told(errors, run_steps(alloc, reader, writer)),
+        Request::Show(text) => told(errors, show(writer, text)),
+        Request::Refuse(text) => refuse(errors, text),
+        Request::NoMemory => told(errors, Err(RunError::NoMemory)),
+    }
+}

@@ -11,7 +11,8 @@ use Rattle.cvec.specs.declared.error.RunError.TheVariants.{Script, Write}
 use Rattle.cvec.specs.Output.{play_by, AppendsText, AppendsPrefixOfText}
 use Rattle.cvec.specs.RunError.{status_of, error_line}
 
--- a run that has its whole text ends with status 0, and adds nothing to standard error; any other ends with the status of its error, and adds the error's line or a prefix of it
+-- a run that succeeds has status 0 and adds nothing to standard error; any other has the status of its error, and adds
+-- a prefix of the error's line: the whole line, unless standard error fails too
 abbrev pub EndsAs : Result (Unit {0}) RunError → ℕ → Option (List ℕ) → Option (List ℕ) → Type 0
 EndsAs (Ok done) status old new = (status ≡ 0) × Keeps old new
 EndsAs (Err e) status old new = (status ≡ status_of e) × AppendsPrefix old new (error_line e)

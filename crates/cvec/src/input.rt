@@ -29,16 +29,16 @@ enum Stop {
     Failed(InputError),
 }
 
-// One byte more than a script may have, so that a script which is too long shows.
+// One byte more than a script may have: enough to see that it is too long.
 const MOST_READ: usize = 1_048_577;
 
-// One read fails for good at this number of interruptions.
+// The number of interruptions at which a call gives up.
 const MOST_INTERRUPTIONS: usize = 1_048_576;
 
 // How much is asked for at once.
 const CHUNK: usize = 65_536;
 
-// One read, whose bytes go after those that are there.
+// One read, whose bytes are appended.
 fn read_once<R: Read>(reader: &mut R, chunk: &mut [u8], bytes: &mut Vec<u8>) -> Result<usize, Stop>
     ensures bound { IfOk result (λ n. n ≤ length chunk.old) }
     ensures appended { IfOk result (λ n. bytes.new.items ≡ bytes.old.items ++ take n chunk.new) }

@@ -5,6 +5,7 @@ ghost use Rattle.cvec.specs.Reading.{IsPlayable};
 
 use crate::error::RunError;
 use crate::input::read_input;
+use script_core::laws::long_texts;
 use script_core::{Script, ScriptError, read};
 use std::alloc::Global;
 use std::io::Read;
@@ -35,5 +36,6 @@ pub(crate) fn read_script<R: Read>(alloc: Global, reader: &mut R) -> Result<Scri
     ensures playable { IfOk result (λ s. IsPlayable s) }
 {
     let bytes = read_input(alloc, reader)?;
+    long_texts();
     script_in(alloc, &bytes)
 }

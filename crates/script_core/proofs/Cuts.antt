@@ -7,7 +7,7 @@ use Rattle.std.proofs.lemmas.List.{take_all, length-take, length-drop, drop-drop
 use Rattle.script_core.specs.Grammar.{cut, lines, lines_of_parts, words, pieces}
 
 -- a slice up to the end is what is left of the list
-pub drop_whole : {A : Type 0} (i n : ℕ) (l : List A) → n ≡ length l - i → take n (drop i l) ≡ drop i l
+drop_whole : {A : Type 0} (i n : ℕ) (l : List A) → n ≡ length l - i → take n (drop i l) ≡ drop i l
 drop_whole i n l e = take_all n (drop i l) (omega (arith, length-drop i l))
 
 -- nothing stands after the end

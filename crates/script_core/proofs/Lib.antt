@@ -1,11 +1,12 @@
-pub mod Cuts
-pub mod Each
-pub mod Numbers
-pub mod Marks
-pub mod Body
-pub mod Spelled
-pub mod Commands
-pub mod Schedules
-pub mod Actors
-pub mod Scripts
-pub mod Prefixes
+mod ActorSpelling
+mod CommandSpelling
+mod Cuts
+mod Digits
+mod ItemSpelling
+mod ItemWords
+mod LineByLine
+mod LongTexts
+mod NumberSpelling
+mod Prefixes
+mod ScriptSpelling
+mod TryEach

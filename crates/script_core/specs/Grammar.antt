@@ -1,4 +1,4 @@
--- Scripts, read line by line. The first fault that is met is the answer.
+-- Scripts, read line by line, up to the first fault.
 use Rattle.std.specs.Prelude.{ℕ, ◌+◌, ◌^◌, nat_lt, nat_le, ◌==◌, Bool, true, false, ◌&&◌, ◌||◌, if◌then◌else◌, List, [], ◌∷◌, ◌++◌, length, take, drop, count_by, position, Option, Some, None, Result, Ok, Err, codes}
 use Rattle.std.specs.List.{slice_split, onto_first, list_any, list_all, starts_with}
 use Rattle.std.specs.Bool.{nat_eq}
@@ -142,7 +142,7 @@ parsed_actor names text =
     (if list_any (λ n. n == name) names then Err TwiceNamed
     else (program_after (cut (codes " ") text).1 >>= λ program. Ok (name, program))))
 
--- a turn of the actor at this place, if there is one
+-- an item of the actor at this place, if there is one
 abbrev pub item_from : Option ℕ → Bool → Result Item Fault
 item_from None memory = Err BadName
 item_from (Some actor) memory = Ok (record { actor = actor; memory = memory })

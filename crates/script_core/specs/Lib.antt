@@ -1,4 +1,5 @@
 pub mod Grammar
+pub mod Laws
 pub mod Reading
 pub mod ScriptError
 pub mod Spelling

@@ -32,7 +32,7 @@ line_of (TooMany line) = Some line
 line_of (NoItems line) = Some line
 
 -- how a fault of this number is shown, by its line
-abbrev pub text_at : Option ℕ → ℕ → List ℕ
+abbrev text_at : Option ℕ → ℕ → List ℕ
 text_at None number = codes "memory"
 text_at (Some line) number = codes "line " ++ decimal line ++ codes ": fault " ++ decimal number
 

@@ -27,12 +27,12 @@ impl From<io::Error> for WriteFault {
     }
 }
 
-/// One write fails for good at this number of interruptions.
+/// The number of interruptions at which a call gives up.
 const MOST_INTERRUPTIONS: usize = 1_048_576;
 
 /// Writes all the bytes; it does not flush.
 ///
-/// A write that takes no byte is a fault, and so is the 1,048,576th write that is interrupted.
+/// A write that takes no byte is a fault, and so is the 1,048,576th interruption of one call.
 pub fn write_bytes<W: Write>(writer: &mut W, bytes: &[u8]) -> Result<(), WriteFault>
     ensures ok { OnOk result (Appends (W.contents writer.old) (W.contents writer.new) bytes.now) }
     ensures fault { OnErr result (AppendsPrefix (W.contents writer.old) (W.contents writer.new) bytes.now) }

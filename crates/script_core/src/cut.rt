@@ -1,4 +1,4 @@
-//! Bytes, cut at a separator.
+//! Bytes, split at a separator.
 ghost use Rattle.std.specs.Prelude.{◌≡◌, ◌<◌, length, [], IfSome};
 ghost use Rattle.std.specs.Option.{option_copied};
 ghost use Rattle.script_core.specs.Grammar.{cut};

@@ -1,13 +1,14 @@
-//! Scripts and replies as text.
+//! Scripts and answer lines as text.
 //!
 //! - `read` reads a script: a limit, the actors with their programs, and the items of a schedule. Contracts see what it
-//!   answers as `script_of` of `specs/Grammar.antt`: the script, or the first fault with its line.
+//!   returns as `script_of` of `specs/Grammar.antt`: the script, or the first fault with its line.
 //! - `specs/Spelling.antt` says the same in the grammar's own words: `text_of` is the spelling of a script, and a text is
-//!   read exactly where it is the spelling of some script that is one (`IsScript`).
-//! - `write_reply` and `write_cells` write the replies and the last line, as `specs/Text.antt` has them.
+//!   read exactly where it is the spelling of a script (`IsScript`).
+//! - `write_reply` and `write_cells` write the answer lines and the last line, as `specs/Text.antt` has them.
+//!   `write_bytes` is the one loop that writes, and `Line` a line on the stack.
 //!
-//! A caller can prove which script a text is, which fault stands in it and at which line, and every byte that is written.
-//! Want of memory may come in place of any answer of `read`. Nothing here knows what a call does.
+//! A caller can prove which script a text is, which fault it has at which line, and every byte that is written. `read`
+//! may be out of memory for any text. Nothing here knows what a call does. No proof is by hand over memory.
 #![tactic(auto)]
 
 mod actor;
@@ -16,6 +17,7 @@ mod command;
 mod cut;
 mod error;
 mod items;
+pub mod laws;
 mod line;
 mod lines;
 mod number;

@@ -1,4 +1,4 @@
-//! Replies and cells as text.
+//! Answer lines and cells as text.
 ghost use Rattle.std.specs.Prelude.{◌≡◌, ◌++◌, codes, decimal, length, OnOk, OnErr};
 ghost use Rattle.std.specs.Io.KnownBytes.{Appends};
 ghost use Rattle.script_core.specs.Text.{word_of, answer_text, answer_line, cell_text, cells_line, AppendsPrefix};
@@ -52,7 +52,7 @@ fn write_line<W: Write>(w: &mut W, name: u8, ended: &Ended) -> Result<(), WriteF
     Ok(())
 }
 
-/// Writes the line of a call that ended. It takes no memory of its own.
+/// Writes the answer line of a call that ended. It takes no memory.
 pub fn write_reply<W: Write>(w: &mut W, name: u8, ended: &Ended) -> Result<(), WriteFault>
     ensures ok { OnOk result (Appends (W.contents w.old) (W.contents w.new) (answer_line name ended.now)) }
     ensures fault { OnErr result (AppendsPrefix (W.contents w.old) (W.contents w.new) (answer_line name ended.now)) }
@@ -98,7 +98,7 @@ fn put_size<W: Write>(w: &mut W, size: usize) -> Result<(), WriteFault>
     write_bytes(w, line.as_slice())
 }
 
-/// Writes the last line: the size and each cell. It takes no memory of its own.
+/// Writes the last line: the size, and each cell. It takes no memory, and time linear in the cells.
 pub fn write_cells<W: Write>(w: &mut W, cells: &[Cell]) -> Result<(), WriteFault>
     ensures ok { OnOk result (Appends (W.contents w.old) (W.contents w.new) (cells_line cells.now)) }
     ensures fault { OnErr result (AppendsPrefix (W.contents w.old) (W.contents w.new) (cells_line cells.now)) }

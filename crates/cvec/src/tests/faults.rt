@@ -1,11 +1,11 @@
-//! Texts that are no scripts, and the first fault of each.
+//! Texts that are not scripts, and the first fault of each.
 
 use super::{answer, repeated};
 use std::alloc::Global;
 use std::process::Abort;
 use std::test::Fail;
 
-// What is wrong, a text and what is answered.
+// What is wrong, a text and what is printed.
 type Row = (&'static str, &'static str, &'static str);
 
 const LIMITS: [Row; 22] = [
@@ -394,7 +394,7 @@ const COMMANDS: [Row; 24] = [
     ),
 ];
 
-fn answered(rt: &impl Abort, alloc: Global, rows: &[Row]) -> Result<(), Fail> {
+fn are_refused(rt: &impl Abort, alloc: Global, rows: &[Row]) -> Result<(), Fail> {
     for (name, script, fault) in rows {
         let got = answer(alloc, script.as_bytes())?;
         assert!(rt; got.as_slice() == fault.as_bytes(), "{name}");
@@ -404,30 +404,30 @@ fn answered(rt: &impl Abort, alloc: Global, rows: &[Row]) -> Result<(), Fail> {
 
 #[test]
 fn a_bad_limit_is_the_first_fault(rt: HostRuntime) -> Result<(), Fail> {
-    answered(&rt, rt.alloc(), &LIMITS)
+    are_refused(&rt, rt.alloc(), &LIMITS)
 }
 
 #[test]
 fn a_bad_line_is_the_first_fault(rt: HostRuntime) -> Result<(), Fail> {
-    answered(&rt, rt.alloc(), &LINES)
+    are_refused(&rt, rt.alloc(), &LINES)
 }
 
 #[test]
 fn a_bad_name_is_the_first_fault(rt: HostRuntime) -> Result<(), Fail> {
-    answered(&rt, rt.alloc(), &NAMES)
+    are_refused(&rt, rt.alloc(), &NAMES)
 }
 
 #[test]
 fn a_bad_item_or_a_name_twice_is_the_first_fault(rt: HostRuntime) -> Result<(), Fail> {
-    answered(&rt, rt.alloc(), &ITEMS)
+    are_refused(&rt, rt.alloc(), &ITEMS)
 }
 
 #[test]
 fn a_bad_command_is_the_first_fault(rt: HostRuntime) -> Result<(), Fail> {
-    answered(&rt, rt.alloc(), &COMMANDS)
+    are_refused(&rt, rt.alloc(), &COMMANDS)
 }
 
-// A front, a byte, a back, and what is answered.
+// A front, a byte, a back, and what is printed.
 type Byte = (&'static str, u8, &'static str, &'static str);
 
 const BYTES: [Byte; 5] = [
@@ -456,7 +456,7 @@ const ITEMS_OF_A: &str = "limit 8\nactor a size\nsteps";
 
 const PUSH: &str = "limit 8\nactor a push ";
 
-// The front, so many copies of a piece, the back, and what is answered.
+// The front, a piece, how often it is repeated, the back, and what is printed.
 type Repeated = (&'static str, &'static str, u32, &'static str, &'static str);
 
 const PARTS: [Repeated; 10] = [

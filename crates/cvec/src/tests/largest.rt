@@ -20,7 +20,7 @@ fn actors(alloc: Global, limit: &str, letters: &[u8], program: &str) -> Result<V
     Ok(text)
 }
 
-// What follows sixteen actors, and what is answered.
+// What follows sixteen actors, and what is printed.
 const BEHIND: [(&'static str, &'static str); 4] = [
     ("", "line 18: fault 10"),
     ("steps p", "p1 size 0\nsize 0:\n"),

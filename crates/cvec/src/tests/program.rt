@@ -15,7 +15,7 @@ const CALLS: Request = Request::Play(Engine::Calls);
 
 const STEPS: Request = Request::Play(Engine::Steps);
 
-// Serves a request, and compares the status and what is told.
+// Serves a request, and compares the status and what standard error gets.
 fn ends<R: Read, W: Write>(
     rt: &impl Abort,
     alloc: Global,
@@ -29,7 +29,7 @@ fn ends<R: Read, W: Write>(
     assert_eq!(rt; (status, errors.as_slice()), (want.0, want.1.as_bytes()));
 }
 
-// A request, a script, the text, the status, and what is told.
+// An engine, a script, its text, the status, and what standard error gets.
 type Row = (Engine, &'static [u8], &'static str, u8, &'static str);
 
 const ROWS: [Row; 4] = [

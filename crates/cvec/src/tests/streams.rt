@@ -238,7 +238,7 @@ fn a_writer_that_fails_has_a_prefix(rt: HostRuntime) {
 }
 
 #[test]
-fn a_writer_that_fails_behind_nine_bytes_has_them(rt: HostRuntime) {
+fn a_writer_that_fails_after_nine_bytes_has_them(rt: HostRuntime) {
     let alloc = rt.alloc();
     let mut script = SCRIPT;
     let mut writer = Narrow::new(alloc, 9, Some(ErrorKind::StorageFull));

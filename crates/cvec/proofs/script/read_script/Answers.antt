@@ -7,10 +7,10 @@ use Rattle.cvec.proofs.script.read_script.Goals as goal
 pub returns-clause-read : goal.returns-clause-read
 returns-clause-read g c =
     IfOk-weaker c.script_in.result _ _
-    (λ s read. of_take (λ answer. answer ≡ Ok s) _ _ c.in_ok-bytes.ensures (ap script_of (sym c.deref.ensures.value) ∙ read))
+    (λ s read. of_take c.long_texts.ensures (λ answer. answer ≡ Ok s) _ _ c.in_ok-bytes.ensures (ap script_of (sym c.deref.ensures.value) ∙ read))
     c.script_in.ensures.read
 
 pub returns-clause-script : goal.returns-clause-script
 returns-clause-script g c = λ fault is.
     let found = c.script_in.ensures.script fault is in
-    (found.0, of_take (λ answer. answer ≡ Err fault) _ _ c.in_ok-bytes.ensures (ap script_of (sym c.deref.ensures.value) ∙ found.1))
+    (found.0, of_take c.long_texts.ensures (λ answer. answer ≡ Err fault) _ _ c.in_ok-bytes.ensures (ap script_of (sym c.deref.ensures.value) ∙ found.1))

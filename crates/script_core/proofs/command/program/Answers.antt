@@ -2,7 +2,7 @@ use Rattle.std.proofs.Common.{◌∙◌, arith, sym, refl}
 use Rattle.std.proofs.lemmas.Result.{err_from_is_err_and}
 use Rattle.script_core.specs.Grammar.{parsed_program, words, parsed_command, pieces}
 use Rattle.script_core.proofs.Cuts.{pieces_last, pieces_more, pieces_first, some_pieces}
-use Rattle.script_core.proofs.Each.{stop_full, stop_fault, stop_last, goes_on}
+use Rattle.script_core.proofs.TryEach.{stop_full, stop_fault, stop_last, goes_on}
 use Rattle.script_core.proofs.command.program.Goals as goal
 
 pub loop-text-init : goal.loop-text-init

@@ -1,5 +1,5 @@
 use Rattle.std.proofs.Common.{◌∙◌, arith}
-use Rattle.script_core.proofs.Marks.{item_alone, item_marked}
+use Rattle.script_core.proofs.ItemWords.{item_alone, item_marked}
 use Rattle.script_core.proofs.items.item.Goals as goal
 
 pub returns-in-len1 : goal.returns-in-len1

@@ -2,7 +2,7 @@ use Rattle.std.proofs.Common.{◌∙◌, arith, sym, refl}
 use Rattle.std.proofs.lemmas.Result.{err_from_is_err_and}
 use Rattle.script_core.specs.Grammar.{parsed_item, words}
 use Rattle.script_core.proofs.Cuts.{words_last, words_more, words_first, some_words}
-use Rattle.script_core.proofs.Each.{stop_full, stop_fault, stop_last, goes_on}
+use Rattle.script_core.proofs.TryEach.{stop_full, stop_fault, stop_last, goes_on}
 use Rattle.script_core.proofs.items.some_items.Goals as goal
 
 pub loop-text-init : goal.loop-text-init

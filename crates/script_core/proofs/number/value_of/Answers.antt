@@ -1,5 +1,5 @@
 use Rattle.std.proofs.Common.{◌∙◌, arith}
-use Rattle.script_core.proofs.Numbers.{value_next, value_too_large, value_done, digit_at_place, digit_is}
+use Rattle.script_core.proofs.Digits.{value_next, value_too_large, value_done, digit_at_place, digit_is}
 use Rattle.script_core.proofs.number.value_of.Goals as goal
 
 pub returns-in_err-checked_mul : goal.returns-in_err-checked_mul

@@ -3,7 +3,7 @@ use Rattle.std.proofs.lemmas.Bool.{eqb-true}
 use Rattle.std.proofs.lemmas.Result.{err_from_is_err_and}
 use Rattle.std.proofs.lemmas.List.{length-append, nil_from_length}
 use Rattle.script_core.specs.Grammar.{lines, body_of}
-use Rattle.script_core.proofs.Body.{stops_whole, actor_fault, actor_found, items_fault, items_found, other_line, no_line, gives_same, gives_along}
+use Rattle.script_core.proofs.LineByLine.{stops_whole, actor_fault, actor_found, items_fault, items_found, other_line, no_line, gives_same, gives_along}
 use Rattle.script_core.proofs.reading.body.Goals as goal
 
 pub loop-text-preserved : goal.loop-text-preserved

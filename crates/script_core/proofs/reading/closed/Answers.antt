@@ -1,7 +1,7 @@
 use Rattle.std.proofs.Common.{◌∙◌, sym, arith}
 use Rattle.std.proofs.lemmas.Bool.{eqb-true, eqb-false}
 use Rattle.std.proofs.lemmas.List.{nil_from_length}
-use Rattle.script_core.proofs.Body.{closed_none, closed_some}
+use Rattle.script_core.proofs.LineByLine.{closed_none, closed_some}
 use Rattle.script_core.proofs.reading.closed.Goals as goal
 
 pub returns-then-is_empty : goal.returns-then-is_empty

@@ -1,4 +1,4 @@
-use Rattle.script_core.proofs.Scripts.{found_by, only_by, limit_by, names_by, sound_by, actors_by}
+use Rattle.script_core.proofs.ScriptSpelling.{found_by, only_by, limit_by, names_by, sound_by, actors_by}
 use Rattle.script_core.proofs.reading.read.Goals as goal
 
 pub returns-clause-found : goal.returns-clause-found

@@ -2,7 +2,7 @@ use Rattle.std.proofs.Common.{◌<◌, length, ◌∙◌, sym, arith}
 use Rattle.std.proofs.lemmas.Bool.{eqb-true, eqb-false}
 use Rattle.std.proofs.lemmas.Result.{err_from_is_err_and}
 use Rattle.script_core.specs.Grammar.{lines}
-use Rattle.script_core.proofs.Body.{empty_text, long_text, first_fault, first_found, gives_along}
+use Rattle.script_core.proofs.LineByLine.{empty_text, long_text, first_fault, first_found, gives_along}
 use Rattle.script_core.proofs.reading.whole.Goals as goal
 
 pub returns-then-is_empty : goal.returns-then-is_empty

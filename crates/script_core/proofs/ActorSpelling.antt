@@ -9,8 +9,8 @@ use Rattle.book_core.specs.declared.commands.Command.{Command}
 use Rattle.script_core.specs.declared.error.Fault.TheVariants.{BadLimit, BadLine, BadName, TwiceNamed, TooMany}
 use Rattle.script_core.specs.Grammar.{◌>>=◌, cut, number_or, limit_in, parsed_limit, parsed_name, parsed_program, program_after, parsed_actor}
 use Rattle.script_core.specs.Spelling.{limit_line, program_text, IsName, IsProgram}
-use Rattle.script_core.proofs.Spelled.{bind_ok, test_ok, refusal_ok, ok_is, number_takes, number_again}
-use Rattle.script_core.proofs.Commands.{program_takes, program_again}
+use Rattle.script_core.proofs.NumberSpelling.{bind_ok, test_ok, refusal_ok, ok_is, number_takes, number_again}
+use Rattle.script_core.proofs.CommandSpelling.{program_takes, program_again}
 
 -- ---- First lines
 

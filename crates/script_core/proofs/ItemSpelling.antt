@@ -12,8 +12,8 @@ use Rattle.script_core.specs.declared.error.Fault.TheVariants.{BadName}
 use Rattle.script_core.specs.Grammar.{words, try_each, item_from, parsed_item, parsed_items}
 use Rattle.script_core.specs.Spelling.{item_text, IsName}
 use Rattle.script_core.proofs.Cuts.{some_words}
-use Rattle.script_core.proofs.Spelled.{test_ok, ok_is, lacks, lacks-append, split_front, split_whole}
-use Rattle.script_core.proofs.Commands.{EachGives, each_takes, each_again}
+use Rattle.script_core.proofs.NumberSpelling.{test_ok, ok_is, lacks, lacks-append, split_front, split_whole}
+use Rattle.script_core.proofs.CommandSpelling.{EachGives, each_takes, each_again}
 
 -- ---- What is read is spelled so
 

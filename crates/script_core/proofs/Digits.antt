@@ -7,7 +7,7 @@ use Rattle.std.proofs.lemmas.Bool.{and_parts, lt-ltb, le-ltb, cond-true, cond-fa
 use Rattle.std.proofs.lemmas.List.{nil_from_length, length-drop}
 
 -- digits that follow a number only make it larger
-pub value_grows : (n : ℕ) (ds : List ℕ) → n ≤ digits_value_after 10 n ds
+value_grows : (n : ℕ) (ds : List ℕ) → n ≤ digits_value_after 10 n ds
 value_grows n [] = omega arith
 value_grows n (d ∷ ds) = omega (arith, value_grows (n * 10 + digit_value d) ds)
 

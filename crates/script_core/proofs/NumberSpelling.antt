@@ -13,7 +13,7 @@ use Rattle.std.proofs.lemmas.Str.Parse.{IsNumeralModel, numerals_by_value, tells
 use Rattle.script_core.specs.declared.error.Fault.{Fault}
 use Rattle.script_core.specs.declared.error.Fault.TheVariants.{NumberTooLarge}
 use Rattle.script_core.specs.Grammar.{◌>>=◌, is_number, number_or}
-use Rattle.script_core.proofs.Numbers.{digit_is}
+use Rattle.script_core.proofs.Digits.{digit_is}
 
 -- the value of a step that did not fail
 pub bind_ok : {A B E : Type 0} (r : Result A E) (f : A → Result B E) (y : B) → (r >>= f) ≡ Ok y → (x : A) × (r ≡ Ok x) × (f x ≡ Ok y)
@@ -114,7 +114,7 @@ each_lacks b (x ∷ xs) h =
     let p = and_parts (not (eqb x b)) (lacks b xs) h in
     (not-true (eqb x b) p.0, each_lacks b xs p.1)
 
-pub all_lacks : (b : ℕ) (xs : List ℕ) → lacks b xs ≡ true → All (λ d. eqb d b ≡ false) xs
+all_lacks : (b : ℕ) (xs : List ℕ) → lacks b xs ≡ true → All (λ d. eqb d b ≡ false) xs
 all_lacks b xs h = All-from_recursion (λ d. eqb d b ≡ false) xs (each_lacks b xs h)
 
 pub lacks-append : (b : ℕ) (xs ys : List ℕ) → lacks b xs ≡ true → lacks b ys ≡ true → lacks b (xs ++ ys) ≡ true

@@ -14,7 +14,7 @@ use Rattle.script_core.specs.Grammar.{◌>>=◌, lines, at_line, parsed_limit, p
 use Rattle.script_core.proofs.Cuts.{some_lines}
 
 -- a stop inside a line, with the line's number
-pub stop_at : {X : Type 0} (line : ℕ) (stop : Stop) (given : Result X Fault) (e : ScriptError) → Gives (Err stop) given → e ≡ script_error line stop → GivesLines (Err e) (at_line line given)
+stop_at : {X : Type 0} (line : ℕ) (stop : Stop) (given : Result X Fault) (e : ScriptError) → Gives (Err stop) given → e ≡ script_error line stop → GivesLines (Err e) (at_line line given)
 stop_at line stops.Memory given e h is memory = absurd (memory is)
 stop_at line (stops.Fault fault) given e h is memory = rw (h, is) refl
 
@@ -75,7 +75,7 @@ pub long_text : (text : List ℕ) → 1048576 < length text → script_of text �
 unfolding script_of
 long_text text long = rw (ne_eqb (length text) 0 (λ e. absurd (omega arith)), lt-ltb 1048576 (length text) long) refl
 
-pub read_text : (text first : List ℕ) (rest : List (List ℕ)) → 0 < length text → length text ≤ 1048576 → lines text ≡ first ∷ rest → script_of text ≡ (at_line 1 (parsed_limit first) >>= λ limit. body_of limit 2 [] [] rest)
+read_text : (text first : List ℕ) (rest : List (List ℕ)) → 0 < length text → length text ≤ 1048576 → lines text ≡ first ∷ rest → script_of text ≡ (at_line 1 (parsed_limit first) >>= λ limit. body_of limit 2 [] [] rest)
 unfolding script_of script_of_lines
 read_text text first rest some short e = rw (ne_eqb (length text) 0 (λ z. absurd (omega arith)), le-ltb 1048576 (length text) short, e) refl
 

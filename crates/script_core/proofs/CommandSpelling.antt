@@ -15,7 +15,7 @@ use Rattle.script_core.specs.declared.error.Fault.TheVariants.{BadCommand, TooMa
 use Rattle.script_core.specs.Grammar.{◌>>=◌, words, pieces, try_each, argument, command_alone, command_with_one, command_with_two, command_with_three, parsed_command, parsed_program}
 use Rattle.script_core.specs.Spelling.{joined, command_text, program_text, IsCommand, IsProgram}
 use Rattle.script_core.proofs.Cuts.{some_pieces}
-use Rattle.script_core.proofs.Spelled.{bind_ok, test_ok, refusal_ok, ok_is, number_takes, number_again, lacks, lacks-append, decimal_lacks, split_front, split_whole}
+use Rattle.script_core.proofs.NumberSpelling.{bind_ok, test_ok, refusal_ok, ok_is, number_takes, number_again, lacks, lacks-append, decimal_lacks, split_front, split_whole}
 
 -- which way a test went
 chosen : {A : Type 0} (b : Bool) (x y z : A) → cond b x y ≡ z → ((b ≡ true) × (x ≡ z)) ⊎ ((b ≡ false) × (y ≡ z))

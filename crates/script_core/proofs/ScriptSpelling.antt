@@ -21,11 +21,11 @@ use Rattle.script_core.specs.declared.script.Script.{Script}
 use Rattle.script_core.specs.Reading.{GivesLines}
 use Rattle.script_core.specs.Grammar.{lines, lines_of_parts, at_line, parsed_limit, parsed_actor, parsed_items, is_actor_line, is_items_line, closed, script, body_of, script_of_lines, script_of}
 use Rattle.script_core.specs.Spelling.{limit_line, actor_line, actors_text, items_line, item_text, program_text, text_of, IsName, IsCommand, IsProgram, IsScript}
-use Rattle.script_core.proofs.Body.{actor_found, items_found, first_found, found_at}
-use Rattle.script_core.proofs.Spelled.{bind_ok, refusal_ok, lacks, decimal_lacks, split_front, split_whole}
-use Rattle.script_core.proofs.Commands.{program_lacks_lf}
-use Rattle.script_core.proofs.Schedules.{IsAfterWord, items_takes, items_again, items_lack_lf}
-use Rattle.script_core.proofs.Actors.{begins, limit_takes, limit_again, IsActor, actor_takes, actor_again, fresh_name, name_fresh}
+use Rattle.script_core.proofs.LineByLine.{actor_found, items_found, first_found, found_at}
+use Rattle.script_core.proofs.NumberSpelling.{bind_ok, refusal_ok, lacks, decimal_lacks, split_front, split_whole}
+use Rattle.script_core.proofs.CommandSpelling.{program_lacks_lf}
+use Rattle.script_core.proofs.ItemSpelling.{IsAfterWord, items_takes, items_again, items_lack_lf}
+use Rattle.script_core.proofs.ActorSpelling.{begins, limit_takes, limit_again, IsActor, actor_takes, actor_again, fresh_name, name_fresh}
 
 -- ---- Lines and the text that they are
 
@@ -247,7 +247,7 @@ lines_take text last (first ∷ next ∷ rest) s short joined h =
     )
 
 -- what is read is a script in its spelling
-pub script_takes : (text : List ℕ) (s : Script) → script_of text ≡ Ok s → (last_lf : Bool) × IsScript s last_lf × (text ≡ text_of s last_lf)
+script_takes : (text : List ℕ) (s : Script) → script_of text ≡ Ok s → (last_lf : Bool) × IsScript s last_lf × (text ≡ text_of s last_lf)
 unfolding script_of
 script_takes text s h =
     let some = refusal_ok (eqb (length text) 0) _ (errors.Empty 1) s h in
@@ -316,7 +316,7 @@ body_again limit line names all programs both (name ∷ later) (program ∷ bodi
     ∙ body_again limit (line + 1) (names ++ name ∷ []) all (programs ++ program ∷ []) both later bodies items last (all_is ∙ sym (append_assoc names (name ∷ []) later)) (both_is ∙ sym (append_assoc programs (program ∷ []) bodies)) (omega (arith, same)) few letters apart sound.1 few_items own
 
 -- a script in its spelling is read
-pub script_again : (s : Script) (last : Bool) → IsScript s last → script_of (text_of s last) ≡ Ok s
+script_again : (s : Script) (last : Bool) → IsScript s last → script_of (text_of s last) ≡ Ok s
 script_again s last is =
     let rest : List ℕ = actors_text s.names s.programs ++ (items_line s.names s.items ++ cond last (10 ∷ []) []) in
     let lack : lacks 10 (limit_line s.limit) ≡ true = decimal_lacks 10 s.limit (omega arith) (omega (arith, is.limit)) in
@@ -368,7 +368,7 @@ command_sound commands.Size h = tt
 program_sound : (program : List Command) → IsProgram program → All IsSound program
 program_sound program h = All-weaker IsCommand IsSound command_sound program h.2
 
-pub playable : (s : Script) (last : Bool) → IsScript s last → (IsLimit s.limit × (s.limit ≤ 65536)) × (length s.names ≡ length s.programs) × AreSound s.programs × HavePrograms s.programs s.items
+playable : (s : Script) (last : Bool) → IsScript s last → (IsLimit s.limit × (s.limit ≤ 65536)) × (length s.names ≡ length s.programs) × AreSound s.programs × HavePrograms s.programs s.items
 playable s last is = (
   ((is.limit.0, omega (arith, is.limit)), is.limit.1),
   is.actors.1,

@@ -18,13 +18,13 @@ EndsAs (Ok done) status old new = (status ≡ 0) × Keeps old new
 EndsAs (Err e) status old new = (status ≡ status_of e) × AppendsPrefix old new (error_line e)
 
 -- a script is read and played by the engine: what the writer gets, and how it ends
-pub record Plays (engine : Engine) (input old new : Option (List ℕ)) (ended : Result (Unit {0}) RunError) : Type 0 where
+pub record Plays (engine : Engine) (ended : Result (Unit {0}) RunError) (input old new : Option (List ℕ)) : Type 0 where
   pub written : OnOk ended (IfSome input (λ bytes. AppendsText (play_by engine) bytes old new))
   pub script : (fault : ScriptError) → ended ≡ Err (Script fault) → (fault ≢ faults.NoMemory) × IfSome input (λ bytes. script_of bytes ≡ Err fault)
   pub prefix : IsErrOf ended Write → IfSome input (λ bytes. AppendsPrefixOfText (play_by engine) bytes old new)
   pub unwritten : IfErr ended (λ e. e ≢ Write → Keeps old new)
 
 -- a text is shown: the whole of it, or a prefix and a write fault
-abbrev pub Shows : List ℕ → Option (List ℕ) → Option (List ℕ) → Result (Unit {0}) RunError → Type 0
-Shows text old new (Ok done) = Appends old new text
-Shows text old new (Err e) = (e ≡ Write) × AppendsPrefix old new text
+abbrev pub Shows : List ℕ → Result (Unit {0}) RunError → Option (List ℕ) → Option (List ℕ) → Type 0
+Shows text (Ok done) old new = Appends old new text
+Shows text (Err e) old new = (e ≡ Write) × AppendsPrefix old new text

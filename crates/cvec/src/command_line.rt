@@ -1,5 +1,7 @@
 //! What a command line asks for.
 ghost use Rattle.std.specs.Prelude.{◌≡◌, ◌≢◌, ◌⊎◌, ◌↔◌, IsTrue};
+ghost use Rattle.std.specs.IoError.{error_kind};
+ghost use Rattle.std.specs.declared.io.ErrorKind.TheVariants as io_kinds;
 ghost use Rattle.clap.specs.Values.{kind_of};
 ghost use Rattle.cvec.specs.Request.{IsShown, IsRefused};
 
@@ -123,10 +125,14 @@ pub(crate) fn asked(alloc: Global, words: &[String]) -> Request {
     }
 }
 
-// The system gives no word that is not UTF-8, so the text cannot show it.
-fn not_utf8(alloc: Global) -> Request
-    ensures { IsRefused result }
+/// What becomes of a command line that the system did not give, as it does where a word is not UTF-8.
+pub(crate) fn not_given(alloc: Global, error: &io::Error) -> Request
+    ensures memory { error_kind error.now ≡ io_kinds.OutOfMemory → result ≡ Request.NoMemory }
+    ensures refused { IsRefused result }
 {
+    if error.kind() == io::ErrorKind::OutOfMemory {
+        return Request::NoMemory;
+    }
     let message = "invalid UTF-8 was detected in one or more arguments";
     stopped(alloc, &mistake(alloc, ErrorKind::Io, message))
 }
@@ -144,7 +150,6 @@ fn words<R: Env + AllocGlobal>(rt: &R) -> io::Result<Vec<String>> {
 pub fn requested<R: Env + AllocGlobal>(rt: &R) -> Request {
     match words(rt) {
         Ok(words) => asked(rt.alloc(), &words),
-        Err(error) if error.kind() == io::ErrorKind::OutOfMemory => Request::NoMemory,
-        Err(_) => not_utf8(rt.alloc()),
+        Err(error) => not_given(rt.alloc(), &error),
     }
 }

@@ -42,9 +42,12 @@ const CHUNK: usize = 65_536;
 fn read_once<R: Read>(reader: &mut R, chunk: &mut [u8], bytes: &mut Vec<u8>) -> Result<usize, Stop>
     ensures bound { IfOk result (λ n. n ≤ length chunk.old) }
     ensures appended { IfOk result (λ n. bytes.new.items ≡ bytes.old.items ++ take n chunk.new) }
-    ensures consumed { IfOk result (λ n. Consumes (R.remaining reader.old) (R.remaining reader.new) (take n chunk.new)) }
-    ensures end { IfOk result (λ n. n ≡ 0 → 0 < length chunk.old → IsAtEnd (R.remaining reader.new)) }
-    ensures interrupted { IsErrOf result Stop.Interrupted → Keeps (R.remaining reader.old) (R.remaining reader.new) }
+    ensures consumed { IfOk result (λ n.
+        Consumes (R.remaining reader.old) (R.remaining reader.new) (take n chunk.new)) }
+    ensures end { IfOk result (λ n.
+        n ≡ 0 → 0 < length chunk.old → IsAtEnd (R.remaining reader.new)) }
+    ensures interrupted { IsErrOf result Stop.Interrupted
+        → Keeps (R.remaining reader.old) (R.remaining reader.new) }
     ensures nothing { IsErrOf result Stop.Interrupted → bytes.new.items ≡ bytes.old.items }
 {
     match reader.read(chunk) {
@@ -64,7 +67,8 @@ fn read_up_to<R: Read>(
     most: usize,
 ) -> Result<Vec<u8>, InputError>
     requires { 0 < length chunk.old }
-    ensures { IfOk result (λ bytes. IfSome (R.remaining reader.old) (λ input. bytes.items ≡ take most input)) }
+    ensures { IfOk result (λ bytes.
+        IfSome (R.remaining reader.old) (λ input. bytes.items ≡ take most input)) }
 {
     let mut bytes = Vec::new(alloc);
     let mut patience = MOST_INTERRUPTIONS;
@@ -89,7 +93,8 @@ fn new_chunk(alloc: Global) -> Result<Vec<u8>, AllocError>
 
 /// Reads the bytes that the reader has, at most 1,048,577 of them.
 pub fn read_input<R: Read>(alloc: Global, reader: &mut R) -> Result<Vec<u8>, InputError>
-    ensures { IfOk result (λ bytes. IfSome (R.remaining reader.old) (λ input. bytes.items ≡ take 1048577 input)) }
+    ensures { IfOk result (λ bytes.
+        IfSome (R.remaining reader.old) (λ input. bytes.items ≡ take 1048577 input)) }
 {
     let mut chunk = new_chunk(alloc)?;
     read_up_to(alloc, reader, &mut chunk, MOST_READ)

@@ -44,7 +44,7 @@ fn told<E: Write>(errors: &mut E, ended: Result<(), RunError>) -> u8
 
 // Help may fail to be written, as any text may.
 fn show<W: Write>(writer: &mut W, text: &str) -> Result<(), RunError>
-    ensures { Shows text.now (W.contents writer.old) (W.contents writer.new) result }
+    ensures { Shows text.now result (W.contents writer.old) (W.contents writer.new) }
 {
     write_output(writer, text.as_bytes())?;
     Ok(())
@@ -70,11 +70,12 @@ pub fn serve<R: Read, W: Write, E: Write>(
 ) -> u8
     ensures plays { (engine : Engine) → request.now ≡ Request.Play engine
         → (ended : Result (Unit {0}) RunError)
-        × Plays engine (R.remaining reader.old) (W.contents writer.old) (W.contents writer.new) ended
+        × Plays engine ended (R.remaining reader.old)
+        (W.contents writer.old) (W.contents writer.new)
         × EndsAs ended result (E.contents errors.old) (E.contents errors.new) }
     ensures shows { (text : String Global) → request.now ≡ Request.Show text
         → (ended : Result (Unit {0}) RunError)
-        × Shows (string_bytes text) (W.contents writer.old) (W.contents writer.new) ended
+        × Shows (string_bytes text) ended (W.contents writer.old) (W.contents writer.new)
         × EndsAs ended result (E.contents errors.old) (E.contents errors.new) }
     ensures refuses { (text : String Global) → request.now ≡ Request.Refuse text → (result ≡ 5)
         × Keeps (W.contents writer.old) (W.contents writer.new)

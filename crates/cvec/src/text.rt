@@ -58,7 +58,8 @@ pub(crate) fn write_play<W: Write>(
 ) -> Result<(), RunError>
     requires actors { HaveActors (length names.now) played.now.ended }
     ensures written { OnOk result
-        (Appends (W.contents writer.old) (W.contents writer.new) (played_text names.now played.now)) }
+        (Appends (W.contents writer.old) (W.contents writer.new)
+        (played_text names.now played.now)) }
     ensures prefix { IsErrOf result RunError.Write → AppendsPrefix (W.contents writer.old)
         (W.contents writer.new) (played_text names.now played.now) }
     ensures faults { IfErr result (λ e.

@@ -35,7 +35,8 @@ const MOST_INTERRUPTIONS: usize = 1_048_576;
 /// A write that takes no byte is a fault, and so is the 1,048,576th interruption of one call.
 pub fn write_bytes<W: Write>(writer: &mut W, bytes: &[u8]) -> Result<(), WriteFault>
     ensures ok { OnOk result (Appends (W.contents writer.old) (W.contents writer.new) bytes.now) }
-    ensures fault { OnErr result (AppendsPrefix (W.contents writer.old) (W.contents writer.new) bytes.now) }
+    ensures fault { OnErr result
+        (AppendsPrefix (W.contents writer.old) (W.contents writer.new) bytes.now) }
 {
     let mut at = 0;
     let mut patience = MOST_INTERRUPTIONS;

@@ -37,7 +37,8 @@ fn are_digits(bytes: &[u8]) -> bool
 
 fn value_of(digits: &[u8]) -> Option<u64>
     requires { IsTrue (list_all is_ascii_digit digits.now) }
-    ensures { result ≡ (if nat_lt (digits_value 10 digits.now) (2 ^ 64) then Some (digits_value 10 digits.now) else None) }
+    ensures { result ≡ (if nat_lt (digits_value 10 digits.now) (2 ^ 64)
+        then Some (digits_value 10 digits.now) else None) }
 {
     let mut value = 0u64;
     for digit in digits {

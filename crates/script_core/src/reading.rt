@@ -26,7 +26,8 @@ pub fn read(alloc: Global, text: &[u8]) -> Result<Script, ScriptError>
     ensures fault { IfErr result (λ e. e ≢ ScriptError.NoMemory → script_of text.now ≡ Err e) }
 
     // In the grammar's own words: a text is read exactly where it is the spelling of a script.
-    ensures found { IfOk result (λ s. (last_lf : Bool) × IsScript s last_lf × (text.now ≡ text_of s last_lf)) }
+    ensures found { IfOk result (λ s.
+        (last_lf : Bool) × IsScript s last_lf × (text.now ≡ text_of s last_lf)) }
     ensures only { (s : Script) (last_lf : Bool) → IsScript s last_lf → text.now ≡ text_of s last_lf
         → (result ≡ Ok s) ⊎ IsErrOf result ScriptError.NoMemory }
 

@@ -41,7 +41,8 @@ fn write_answer<W: Write>(w: &mut W, answer: &Answer) -> Result<(), WriteFault>
 }
 
 fn write_line<W: Write>(w: &mut W, name: u8, ended: &Ended) -> Result<(), WriteFault>
-    ensures { OnOk result (Appends (W.contents w.old) (W.contents w.new) (answer_line name ended.now)) }
+    ensures { OnOk result
+        (Appends (W.contents w.old) (W.contents w.new) (answer_line name ended.now)) }
 {
     w.write_all(&[name])?;
     write!(w, "{} ", ended.number)?;
@@ -54,8 +55,10 @@ fn write_line<W: Write>(w: &mut W, name: u8, ended: &Ended) -> Result<(), WriteF
 
 /// Writes the answer line of a call that ended. It takes no memory.
 pub fn write_reply<W: Write>(w: &mut W, name: u8, ended: &Ended) -> Result<(), WriteFault>
-    ensures ok { OnOk result (Appends (W.contents w.old) (W.contents w.new) (answer_line name ended.now)) }
-    ensures fault { OnErr result (AppendsPrefix (W.contents w.old) (W.contents w.new) (answer_line name ended.now)) }
+    ensures ok { OnOk result
+        (Appends (W.contents w.old) (W.contents w.new) (answer_line name ended.now)) }
+    ensures fault { OnErr result
+        (AppendsPrefix (W.contents w.old) (W.contents w.new) (answer_line name ended.now)) }
 {
     let mut line = Line::new();
     write_line(&mut line, name, ended)?;
@@ -63,7 +66,8 @@ pub fn write_reply<W: Write>(w: &mut W, name: u8, ended: &Ended) -> Result<(), W
 }
 
 fn write_cell<W: Write>(w: &mut W, cell: &Cell) -> Result<(), WriteFault>
-    ensures { OnOk result (Appends (W.contents w.old) (W.contents w.new) (codes " " ++ cell_text cell.now)) }
+    ensures { OnOk result
+        (Appends (W.contents w.old) (W.contents w.new) (codes " " ++ cell_text cell.now)) }
 {
     match cell {
         Cell::Pending(_) => write!(w, " .")?,
@@ -74,8 +78,10 @@ fn write_cell<W: Write>(w: &mut W, cell: &Cell) -> Result<(), WriteFault>
 }
 
 fn put_cell<W: Write>(w: &mut W, cell: &Cell) -> Result<(), WriteFault>
-    ensures ok { OnOk result (Appends (W.contents w.old) (W.contents w.new) (codes " " ++ cell_text cell.now)) }
-    ensures fault { OnErr result (AppendsPrefix (W.contents w.old) (W.contents w.new) (codes " " ++ cell_text cell.now)) }
+    ensures ok { OnOk result
+        (Appends (W.contents w.old) (W.contents w.new) (codes " " ++ cell_text cell.now)) }
+    ensures fault { OnErr result
+        (AppendsPrefix (W.contents w.old) (W.contents w.new) (codes " " ++ cell_text cell.now)) }
 {
     let mut line = Line::new();
     write_cell(&mut line, cell)?;
@@ -83,15 +89,21 @@ fn put_cell<W: Write>(w: &mut W, cell: &Cell) -> Result<(), WriteFault>
 }
 
 fn write_size<W: Write>(w: &mut W, size: usize) -> Result<(), WriteFault>
-    ensures { OnOk result (Appends (W.contents w.old) (W.contents w.new) (codes "size " ++ decimal size ++ codes ":")) }
+    ensures { OnOk result
+        (Appends (W.contents w.old) (W.contents w.new)
+        (codes "size " ++ decimal size ++ codes ":")) }
 {
     write!(w, "size {size}:")?;
     Ok(())
 }
 
 fn put_size<W: Write>(w: &mut W, size: usize) -> Result<(), WriteFault>
-    ensures ok { OnOk result (Appends (W.contents w.old) (W.contents w.new) (codes "size " ++ decimal size ++ codes ":")) }
-    ensures fault { OnErr result (AppendsPrefix (W.contents w.old) (W.contents w.new) (codes "size " ++ decimal size ++ codes ":")) }
+    ensures ok { OnOk result
+        (Appends (W.contents w.old) (W.contents w.new)
+        (codes "size " ++ decimal size ++ codes ":")) }
+    ensures fault { OnErr result
+        (AppendsPrefix (W.contents w.old) (W.contents w.new)
+        (codes "size " ++ decimal size ++ codes ":")) }
 {
     let mut line = Line::new();
     write_size(&mut line, size)?;
@@ -100,8 +112,10 @@ fn put_size<W: Write>(w: &mut W, size: usize) -> Result<(), WriteFault>
 
 /// Writes the last line: the size, and each cell. It takes no memory, and time linear in the cells.
 pub fn write_cells<W: Write>(w: &mut W, cells: &[Cell]) -> Result<(), WriteFault>
-    ensures ok { OnOk result (Appends (W.contents w.old) (W.contents w.new) (cells_line cells.now)) }
-    ensures fault { OnErr result (AppendsPrefix (W.contents w.old) (W.contents w.new) (cells_line cells.now)) }
+    ensures ok { OnOk result
+        (Appends (W.contents w.old) (W.contents w.new) (cells_line cells.now)) }
+    ensures fault { OnErr result
+        (AppendsPrefix (W.contents w.old) (W.contents w.new) (cells_line cells.now)) }
 {
     put_size(w, cells.len())?;
     for cell in cells {

@@ -1,3 +1,5 @@
 mod Errors
 mod LongInput
 mod Prefixes
+mod PushPlaces
+mod ReadValues

@@ -3,3 +3,4 @@ pub mod Program
 pub mod Reading
 pub mod Request
 pub mod RunError
+pub mod Uses

@@ -15,6 +15,7 @@ mod program;
 mod scripts;
 mod steps;
 mod streams;
+mod uses;
 mod whole_calls;
 
 use crate::engine::{run_calls, run_steps};

@@ -1,0 +1,55 @@
+//! What callers prove of plays by the public clauses alone.
+ghost use Rattle.std.specs.Prelude.{◌≤◌, length, IfOk};
+ghost use Rattle.cvec.specs.Uses.{PushesAreApart, ReadsTellTheOwners};
+
+use book_core::{Command, Item, Sequence};
+use script_core::{Script, read};
+use std::alloc::Global;
+use std::test::Fail;
+use step_core::{PlayError, Played, laws, play};
+
+// Two pushes that ended in one play are at different places.
+fn play_pushes(
+    alloc: Global,
+    limit: u64,
+    programs: Sequence<Sequence<Command>>,
+    items: &[Item],
+) -> Result<Played, PlayError>
+    requires { length programs ≤ 65536 }
+    ensures apart { IfOk result (λ played. PushesAreApart played.ended) }
+{
+    laws::interleavings();
+    play(alloc, limit, programs, items)
+}
+
+// A value that a read answered was filled in by the owner of its place, before that read.
+fn play_reads(
+    alloc: Global,
+    limit: u64,
+    programs: Sequence<Sequence<Command>>,
+    items: &[Item],
+) -> Result<Played, PlayError>
+    requires { length programs ≤ 65536 }
+    ensures owners { IfOk result (λ played. ReadsTellTheOwners played.ended played.events) }
+{
+    laws::interleavings();
+    book_core::laws::values_are_the_owners();
+    play(alloc, limit, programs, items)
+}
+
+#[test]
+fn callers_know_whose_each_place_and_value_is(rt: HostRuntime) -> Result<(), Fail> {
+    let text = b"limit 8\nactor a push 5\nactor b push 6, read 0\nsteps a a a a a a b b b b b b b";
+    let Script {
+        limit,
+        programs,
+        items,
+        ..
+    } = read(rt.alloc(), text)?;
+    let played = play_pushes(rt.alloc(), limit, programs, items.as_slice())?;
+    assert_eq!(rt; played.ended.len(), 3);
+    let again = read(rt.alloc(), text)?;
+    let read_back = play_reads(rt.alloc(), again.limit, again.programs, again.items.as_slice())?;
+    assert_eq!(rt; read_back.events.len(), 5);
+    Ok(())
+}

@@ -1,6 +1,5 @@
 -- A value that a read answered was filled in by the owner of its place, before that read.
-use Rattle.std.proofs.Common.{◌≡◌, ◌⊎◌, ℕ, ◌+◌, ◌==◌, Bool, true, false, if◌then◌else◌, List, [], ◌∷◌, ◌++◌, filter, get_or, Option, Some, None, Result, Ok, Err, IfOk, OnOk, slice_get, zero, suc, refl, ap, sym, ◌∙◌, subst, append_assoc, inl, inr, arith}
-use Rattle.std.proofs.lemmas.Bool.{eqb-true, false≢true}
+use Rattle.std.proofs.Common.{◌≡◌, ◌⊎◌, ℕ, ◌+◌, ◌==◌, true, false, if◌then◌else◌, List, [], ◌∷◌, ◌++◌, get_or, Option, Some, None, Result, Ok, Err, IfOk, OnOk, slice_get, zero, suc, ap, sym, ◌∙◌, subst, append_assoc, inl, inr, arith}
 use Rattle.std.proofs.lemmas.Bool.Decides.{nat_tests}
 use Rattle.std.proofs.lemmas.Option.{none-some, same_Some}
 use Rattle.book_core.specs.declared.events.Event.{Event}
@@ -24,7 +23,7 @@ use Rattle.step_core.specs.machine.Play.{Play, play_of, played_of}
 use Rattle.step_core.specs.machine.Legal.{list_seen}
 use Rattle.step_core.specs.machine.Record.{answer_to_look, IsLook, IsRecord, AreCalls, program_of}
 use Rattle.step_core.specs.machine.Headline.{IsSequential, EveryInterleavingIsSequential}
-use Rattle.cvec.specs.Uses.{IsReadOfOwners, ReadsTellTheOwners}
+use Rattle.cvec.specs.Uses.{ReadsTellTheOwners}
 
 -- an event stands in a history, between what came before and after it
 record Stands (es : List (Event × Reply)) (e : Event × Reply) : Type 0 where
@@ -57,9 +56,9 @@ stands_in k [] e s = record { before = s.before; after = s.after; is = s.is }
 stands_in k (x ∷ es) e s =
     elim (actor_of x.0 == k) as (λ b. Stands (if b then x ∷ events_of k es else events_of k es) e → Stands (x ∷ es) e) [
       | true ↦ (λ own. elim (cons_parts x e (events_of k es) own.before own.after own.is) [
-          | inl same ↦ record { before = []; after = es; is = ap (λ y. y ∷ es) same }
-          | inr later ↦ stands_right (x ∷ []) es e (stands_in k es e later)
-        ])
+        | inl same ↦ record { before = []; after = es; is = ap (λ y. y ∷ es) same }
+        | inr later ↦ stands_right (x ∷ []) es e (stands_in k es e later)
+      ])
       | false ↦ (λ other. stands_right (x ∷ []) es e (stands_in k es e other))
     ]
     s

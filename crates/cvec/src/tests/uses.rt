@@ -49,7 +49,12 @@ fn callers_know_whose_each_place_and_value_is(rt: HostRuntime) -> Result<(), Fai
     let played = play_pushes(rt.alloc(), limit, programs, items.as_slice())?;
     assert_eq!(rt; played.ended.len(), 3);
     let again = read(rt.alloc(), text)?;
-    let read_back = play_reads(rt.alloc(), again.limit, again.programs, again.items.as_slice())?;
+    let read_back = play_reads(
+        rt.alloc(),
+        again.limit,
+        again.programs,
+        again.items.as_slice(),
+    )?;
     assert_eq!(rt; read_back.events.len(), 5);
     Ok(())
 }

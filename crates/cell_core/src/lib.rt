@@ -1,0 +1,4 @@
+//! Cells that are filled once.
+#![tactic(auto)]
+
+pub mod row;

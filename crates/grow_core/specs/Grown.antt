@@ -1,0 +1,30 @@
+-- The token of a run.
+use Rattle.std.specs.Prelude.{◌≡◌, ℕ, ◌+◌, List, All, Some, length, map, slice_get}
+use base.Stored.{Coded, coded×, coded_ℕ, coded_list, coded_via}
+use Rattle.claim_core.specs.declared.run.Run.{Run}
+use Rattle.cell_core.specs.Row.{PlacedView, placed_coded}
+use Rattle.grow_core.specs.Vector.{VectorView, IsPlacedOf}
+
+-- the run, and the token of each of its places in order
+pub record GrownView (T : Type 0) : Type 0 where
+  pub run : Run
+  pub tokens : List (PlacedView T)
+
+abbrev pub grown_coded : {T : Type 0} → Coded T → Coded (GrownView T)
+grown_coded {T} c =
+    coded_via (coded× coded_ℕ (coded× coded_ℕ (coded_list (placed_coded c))))
+    (λ (g : GrownView T). (g.run.from, (g.run.n, g.tokens)))
+    (λ x y e i. record { run = record { from = (e i).0; n = (e i).1.0 }; tokens = (e i).1.1 })
+
+-- there is a token for each place of the run, in order
+pub record IsInOrder {T : Type 0} (run : Run) (tokens : List (PlacedView T)) : Type 0 where
+  pub n : length tokens ≡ run.n
+  pub places : (i : ℕ) (token : PlacedView T) → slice_get tokens i ≡ Some token → token.place ≡ run.from + i
+
+-- the run is one of the vector's
+abbrev pub IsGrownOf : {T : Type 0} → VectorView → GrownView T → Type 0
+IsGrownOf vector grown = All (IsPlacedOf vector) grown.tokens
+
+-- the values of the run's places, in order
+abbrev pub values_of : {T : Type 0} → GrownView T → List T
+values_of grown = map (λ token. token.value) grown.tokens

@@ -1,0 +1,19 @@
+-- What `at` answers.
+use Rattle.std.specs.Prelude.{◌≡◌, ℕ, ◌≤◌}
+use Rattle.claim_core.specs.Hand.{HandView, SeesSize}
+use Rattle.grow_core.specs.declared.errors.AtError.{AtError}
+use Rattle.grow_core.specs.declared.errors.AtError.TheVariants.{OutOfRange, Pending, Broken}
+use Rattle.grow_core.specs.declared.reads.At.{At}
+use Rattle.grow_core.specs.Vector.{VectorView, IsPlacedOf, IsSpoiltOf}
+
+-- the value is that of the token, which is of this place of the vector
+pub record IsAt {T : Type 0} (vector : VectorView) (place : ℕ) (at : At T) : Type 0 where
+  pub of : IsPlacedOf vector at.placed
+  pub here : at.placed.place ≡ place
+  pub value : at.value.now ≡ at.placed.value
+
+-- when each refusal comes, to a hand that saw the one before and sees the other now
+abbrev pub IsDueAt : VectorView → ℕ → HandView → HandView → AtError → Type 0
+IsDueAt vector place old new (OutOfRange size) = (size ≤ place) × SeesSize old new size
+IsDueAt vector place old new Pending = Unit {0}
+IsDueAt vector place old new (Broken spoilt) = IsSpoiltOf vector spoilt × (spoilt.place ≡ place)

@@ -1,0 +1,58 @@
+//! The token of a run.
+ghost use Rattle.std.specs.Prelude.{◌≡◌, ◌+◌, ◌<◌, slice_get, Some, []};
+ghost use Rattle.grow_core.specs.Vector.{VectorView, IsPlacedOf};
+ghost use Rattle.grow_core.specs.Grown.{IsGrownOf, values_of};
+
+use cell_core::row::Placed;
+use claim_core::Run;
+use std::alloc::Global;
+use std::marker::Model;
+
+/// Shows that each place of a run holds its value.
+#[derive(Drop)]
+pub struct Grown<T> {
+    pub(crate) run: Run,
+    pub(crate) tokens: Vec<Placed<T>>,
+}
+
+impl<T> Model for Grown<T> {
+    ghost use Rattle.grow_core.specs.Grown.{GrownView, grown_coded, IsInOrder};
+
+    ghost Value = { GrownView T };
+
+    ghost coded = { grown_coded T.code };
+
+    ghost view = { λ g. record { run = g.run; tokens = g.tokens.items } };
+
+    ghost invariant = { λ g. IsInOrder g.run g.tokens.items };
+}
+
+impl<T> Grown<T> {
+    // The token of no place.
+    pub(crate) fn empty(alloc: Global, from: u64) -> Grown<T>
+        ensures run { result.run ≡ record { from = from; n = 0 } }
+        ensures tokens { result.tokens ≡ [] }
+    {
+        Grown {
+            run: Run { from, n: 0 },
+            tokens: Vec::new(alloc),
+        }
+    }
+
+    /// The places of the run.
+    pub fn run(&self) -> Run
+        ensures { result ≡ self.now.run }
+    {
+        self.run
+    }
+
+    /// The token of place `i` of the run.
+    pub fn placed(&self, i: u64) -> Placed<T>
+        requires { i < self.now.run.n }
+        ensures place { result.place ≡ self.now.run.from + i }
+        ensures value { slice_get (values_of self.now) i ≡ Some result.value }
+        ensures of { (v : VectorView) → IsGrownOf v self.now → IsPlacedOf v result }
+    {
+        self.tokens[i as usize].again()
+    }
+}

@@ -1,0 +1,78 @@
+//! A caller's token of what it has seen.
+ghost use Rattle.std.specs.Prelude.{◌≡◌, ℕ, ◌<◌, ◌≤◌, ◌↔◌, IsTrue, All, Contains, length};
+ghost use Rattle.claim_core.specs.Lengths.{Tiles, times};
+ghost use Rattle.claim_core.specs.Hand.{IsWholeHand, seen_size};
+
+use claim_core::Hand as ClaimHand;
+use std::marker::{Model, PhantomData};
+
+/// What a caller has seen of the vector's size, and its part of the right to end the vector. It may be lost: the vector
+/// is then dropped, and never ended.
+#[derive(Drop)]
+pub struct Hand<T> {
+    pub(crate) claims: ClaimHand,
+    pub(crate) marker: PhantomData<T>,
+}
+
+impl<T> Model for Hand<T> {
+    ghost use Rattle.claim_core.specs.Hand.{HandView};
+
+    ghost Value = { HandView };
+
+    ghost view = { λ h. h.claims };
+}
+
+impl<T> Hand<T> {
+    // The hand of a vector around that of its claim word.
+    pub(crate) fn of(claims: ClaimHand) -> Hand<T>
+        ensures { result ≡ claims }
+    {
+        Hand {
+            claims,
+            marker: PhantomData,
+        }
+    }
+
+    /// Its part of the right to end the vector.
+    pub fn share(&self) -> u32
+        ensures { result ≡ self.now.shares }
+    {
+        self.claims.share()
+    }
+
+    /// Whether it has all shares.
+    pub fn is_whole(&self) -> bool
+        ensures { IsTrue result ↔ IsWholeHand self.now }
+    {
+        self.claims.is_whole()
+    }
+
+    /// The size that it has seen.
+    pub fn seen(&self) -> u64
+        ensures { result ≡ seen_size self.now }
+    {
+        self.claims.seen()
+    }
+
+    /// What every hand keeps. It does nothing.
+    pub fn laws(&self)
+        ensures positive { All (λ n. 0 < n) self.now.seen }
+        ensures within { seen_size self.now ≤ self.now.of.limit }
+        // It has seen each run that it owns, and owns none twice.
+        ensures below { (k : ℕ) → Contains self.now.mine k → k < length self.now.seen }
+        ensures once { (k : ℕ) → times k self.now.mine ≤ 1 }
+        ensures some_shares { 0 < self.now.shares }
+        ensures not_more { self.now.shares ≤ 65536 }
+    {
+        self.claims.laws();
+    }
+
+    /// What a whole hand keeps: it has seen all that was claimed, and owns it. It does nothing.
+    pub fn whole_laws(&self)
+        requires whole { IsWholeHand self.now }
+        ensures all { (k : ℕ) → k < length self.now.seen → Contains self.now.mine k }
+        ensures tiles { Tiles self.now.of.base self.now.seen self.now.mine }
+    {
+        self.claims.whole_laws();
+    }
+}

@@ -1,0 +1,78 @@
+//! The vector: how it is made, looked at and ended.
+ghost use Rattle.std.specs.Prelude.{◌≡◌, ◌≤◌, ◌↔◌, IfOk, Err};
+ghost use Rattle.claim_core.specs.Word.{IsLimit};
+ghost use Rattle.claim_core.specs.Hand.{IsWholeHand, IsNewHand, SeesSize, seen_size};
+ghost use Rattle.grow_core.specs.Vector.{IsHandOf, limit_of, base_of};
+
+use crate::hand::Hand;
+use cell_core::row::Row;
+use claim_core::{OpenError, Word};
+use std::alloc::Global;
+use std::marker::Model;
+
+/// A vector that many callers share. Contracts see which vector it is, its limit and its base.
+#[derive(Drop)]
+pub struct Shared<T> {
+    pub(crate) word: Word<Global>,
+    pub(crate) cells: Row<T>,
+    pub(crate) alloc: Global,
+}
+
+impl<T> Model for Shared<T> {
+    ghost use Rattle.grow_core.specs.Vector.{VectorView, HasCells};
+
+    ghost Value = { VectorView };
+
+    ghost view = { λ v. record { word = v.word; cells = v.cells } };
+
+    ghost invariant = { λ v. HasCells v.word v.cells };
+}
+
+impl<T: Drop> Shared<T> {
+    /// An empty vector, and the hand that has all shares. It takes time and memory linear in the limit.
+    pub fn fresh(alloc: Global, limit: u64) -> Result<(Shared<T>, Hand<T>), OpenError>
+        ensures limit { IfOk result (λ (vector, _). limit_of vector ≡ limit) }
+        ensures base { IfOk result (λ (vector, _). base_of vector ≡ 0) }
+        ensures hand { IfOk result (λ (vector, hand). IsNewHand vector.word hand) }
+        // The limit is looked at before memory is asked for.
+        ensures bad_limit { (result ≡ Err OpenError.BadLimit) ↔ ¬ IsLimit limit 0 }
+    {
+        let (word, claims) = Word::open(alloc, limit, 0)?;
+        word.laws();
+        // As many cells as the segments of this limit have.
+        let cells = Row::new(alloc, seg_core::capacity_for(limit)).map_err(
+            |_| OpenError::NoMemory,
+        )?;
+        Ok((Shared { word, cells, alloc }, Hand::of(claims)))
+    }
+
+    /// Ends the vector, drops its values, and answers its last size.
+    pub fn end(self, hand: Hand<T>) -> u64
+        requires ours { IsHandOf self hand }
+        requires whole { IsWholeHand hand }
+        ensures { result ≡ seen_size hand }
+    {
+        let Shared { word, .. } = self;
+        word.close(hand.claims)
+    }
+}
+
+impl<T> Shared<T> {
+    /// The greatest size that it may have.
+    pub fn limit(&self) -> u64
+        ensures { result ≡ limit_of self.now }
+    {
+        self.word.limit()
+    }
+
+    /// The size now, by one load.
+    pub fn size(&self, hand: &mut Hand<T>) -> u64
+        requires ours { IsHandOf self.now hand.old }
+        ensures seen { SeesSize hand.old hand.new result }
+        ensures grows { seen_size hand.old ≤ result }
+        // Nobody else can append beside a whole hand.
+        ensures whole { IsWholeHand hand.old → result ≡ seen_size hand.old }
+    {
+        self.word.size(&mut hand.claims)
+    }
+}

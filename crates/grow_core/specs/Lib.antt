@@ -1,3 +1,4 @@
 pub mod Vector
 pub mod Grown
 pub mod Read
+pub mod Growth

@@ -1,9 +1,11 @@
 //! The shared vector: many callers append to it and read it beside each other, and no element moves.
 #![tactic(auto)]
 
+mod claims;
 mod errors;
 mod grown;
 mod hand;
+mod pushes;
 mod reads;
 mod shares;
 mod vector;

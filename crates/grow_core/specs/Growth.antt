@@ -1,0 +1,78 @@
+-- What a growth of n places leaves, won or refused.
+use Rattle.std.specs.Prelude.{◌≡◌, ℕ, ◌+◌, ◌<◌, ◌≤◌}
+use Rattle.claim_core.specs.declared.run.Run.{Run}
+use Rattle.claim_core.specs.Hand.{HandView, AddsRun, SeesSize, IsWholeHand, seen_size}
+use Rattle.cell_core.specs.declared.row.token.Found.{Found}
+use Rattle.cell_core.specs.declared.row.token.Found.TheVariants as found
+use Rattle.grow_core.specs.declared.errors.GrowError.{GrowError}
+use Rattle.grow_core.specs.declared.errors.GrowError.TheVariants.{NoMemory, Full, Moved, Refused, Taken}
+use Rattle.grow_core.specs.Vector.{VectorView, IsPlacedOf, IsSpoiltOf, SeesMore, limit_of}
+use Rattle.grow_core.specs.Grown.{GrownView, IsGrownOf}
+
+-- the run of one place
+abbrev pub single : ℕ → Run
+single place = record { from = place; n = 1 }
+
+-- what stood at the place
+abbrev pub IsFoundAt : {T : Type 0} → VectorView → ℕ → Found T → Type 0
+IsFoundAt vector place found.Busy = Unit {0}
+IsFoundAt vector place (found.Filled placed) = IsPlacedOf vector placed × (placed.place ≡ place)
+IsFoundAt vector place (found.Broken spoilt) = IsSpoiltOf vector spoilt × (spoilt.place ≡ place)
+
+-- the hand owns one more run, of n places, and one of them was taken
+pub record LosesPlace {T : Type 0} (vector : VectorView) (n : ℕ) (old new : HandView) (place : ℕ) (found : Found T) : Type 0 where
+  pub run : Run
+  pub claimed : AddsRun old new run
+  pub all : run.n ≡ n
+  pub after : run.from ≤ place
+  pub before : place < run.from + n
+  pub there : IsFoundAt vector place found
+
+-- the hand owns one more run, of n places, and the first of them have the values that were made
+pub record KeepsMade {T : Type 0} (vector : VectorView) (n : ℕ) (old new : HandView) (run : Run) (made : GrownView T) : Type 0 where
+  pub claimed : AddsRun old new run
+  pub all : run.n ≡ n
+  pub first : made.run.from ≡ run.from
+  pub fewer : made.run.n < n
+  pub tokens : IsGrownOf vector made
+
+-- another caller claimed first: the size is above what the hand had seen, and there is still room. A whole hand is alone
+pub record IsOvertaken (vector : VectorView) (n : ℕ) (old : HandView) (size : ℕ) : Type 0 where
+  pub some_places : 0 < n
+  pub further : seen_size old < size
+  pub room : size + n ≤ limit_of vector
+  pub others : ¬ IsWholeHand old
+
+-- memory is asked for where there are new places, and where what the hand has seen leaves room for them
+pub record NeedsMemory (vector : VectorView) (n : ℕ) (old : HandView) : Type 0 where
+  pub some_places : 0 < n
+  pub room : seen_size old + n ≤ limit_of vector
+
+-- when each refusal comes, by what the hand had seen before the call
+abbrev pub IsDue : {T V E : Type 0} → VectorView → ℕ → HandView → GrowError T V E → Type 0
+IsDue vector n old (NoMemory back) = NeedsMemory vector n old
+IsDue vector n old (Full size back) = limit_of vector < size + n
+IsDue vector n old (Moved size back) = IsOvertaken vector n old size
+IsDue vector n old (Refused run made cause) = 0 < n
+IsDue vector n old (Taken place found) = 0 < n
+
+-- what each refusal leaves of the hand, and tells of the vector
+abbrev pub Leaves : {T V E : Type 0} → VectorView → ℕ → HandView → HandView → GrowError T V E → Type 0
+Leaves vector n old new (NoMemory back) = SeesMore old new
+Leaves vector n old new (Full size back) = SeesSize old new size
+Leaves vector n old new (Moved size back) = SeesSize old new size
+Leaves vector n old new (Refused run made cause) = KeepsMade vector n old new run made
+Leaves vector n old new (Taken place found) = LosesPlace vector n old new place found
+
+-- a refusal that claims nothing gives back what was moved in
+abbrev pub GivesBack : {T V E : Type 0} → V → GrowError T V E → Type 0
+GivesBack value (NoMemory back) = back ≡ value
+GivesBack value (Full size back) = back ≡ value
+GivesBack value (Moved size back) = back ≡ value
+GivesBack value (Refused run made cause) = Unit {0}
+GivesBack value (Taken place found) = Unit {0}
+
+-- the call does not stop at a lost exchange
+abbrev pub IsNotMoved : {T V E : Type 0} → GrowError T V E → Type 0
+IsNotMoved (Moved size back) = ⊥
+IsNotMoved refusal = Unit {0}

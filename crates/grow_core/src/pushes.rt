@@ -1,0 +1,71 @@
+//! How one value is appended.
+ghost use Rattle.std.specs.Prelude.{◌≡◌, ◌≤◌, IfOk, IfErr};
+ghost use Rattle.claim_core.specs.Hand.{AddsRun, seen_size};
+ghost use Rattle.grow_core.specs.Vector.{IsHandOf, IsPlacedOf};
+ghost use Rattle.grow_core.specs.Growth.{single, IsDue, Leaves, GivesBack, IsNotMoved};
+
+use crate::errors::{GrowError, Never};
+use crate::hand::Hand;
+use crate::vector::Shared;
+use cell_core::row::Placed;
+use std::sync::Wait;
+
+impl<T: Drop> Shared<T> {
+    /// Appends a value. It tries once, and waits for nobody. The exchange that wins the place is its linearization point.
+    pub fn try_push_back(
+        &self,
+        hand: &mut Hand<T>,
+        value: T,
+    ) -> Result<Placed<T>, GrowError<T, T, Never>>
+        requires ours { IsHandOf self.now hand.old }
+        ensures run { IfOk result (λ placed. AddsRun hand.old hand.new (single placed.place)) }
+        ensures not_below { IfOk result (λ placed. seen_size hand.old ≤ placed.place) }
+        ensures token { IfOk result (IsPlacedOf self.now) }
+        ensures value { IfOk result (λ placed. placed.value ≡ value) }
+        ensures refused { IfErr result (IsDue self.now 1 hand.old) }
+        ensures left { IfErr result (Leaves self.now 1 hand.old hand.new) }
+        ensures value_back { IfErr result (GivesBack value) }
+    {
+        let from = self.size(hand);
+        if from >= self.limit() {
+            return Err(GrowError::Full {
+                size: from,
+                back: value,
+            });
+        }
+        let Ok(room) = Box::new(self.alloc, None) else {
+            return Err(GrowError::NoMemory { back: value });
+        };
+        let value = self.claim(hand, from, 1, value)?;
+        match self.fill(from, room, value) {
+            Ok(placed) => Ok(placed),
+            Err(found) => Err(GrowError::Taken { place: from, found }),
+        }
+    }
+
+    /// As `try_push_back`, and it tries again where another caller was first.
+    pub fn push_back<R: Wait>(
+        &self,
+        rt: &R,
+        hand: &mut Hand<T>,
+        mut value: T,
+    ) -> Result<Placed<T>, GrowError<T, T, Never>>
+        requires ours { IsHandOf self.now hand.old }
+        ensures run { IfOk result (λ placed. AddsRun hand.old hand.new (single placed.place)) }
+        ensures not_below { IfOk result (λ placed. seen_size hand.old ≤ placed.place) }
+        ensures token { IfOk result (IsPlacedOf self.now) }
+        ensures value { IfOk result (λ placed. placed.value ≡ value) }
+        ensures refused { IfErr result (IsDue self.now 1 hand.old) }
+        ensures not_moved { IfErr result IsNotMoved }
+        ensures left { IfErr result (Leaves self.now 1 hand.old hand.new) }
+        ensures value_back { IfErr result (GivesBack value) }
+    {
+        for _try in rt.forever() {
+            match self.try_push_back(hand, value) {
+                Err(GrowError::Moved { size: _, back }) => value = back,
+                done => return done,
+            }
+        }
+        unreachable!()
+    }
+}

@@ -1,5 +1,5 @@
 -- What a hand is told holds of it as it was before, when it had seen less.
-use Rattle.std.proofs.Common.{◌≡◌, ℕ, ◌+◌, ◌<◌, ◌≤◌, List, [], ◌∷◌, ◌++◌, length, refl, sym, ap, ◌∙◌, subst, arith, append_assoc}
+use Rattle.std.proofs.Common.{◌≡◌, ℕ, ◌+◌, ◌≤◌, List, [], ◌∷◌, ◌++◌, length, refl, sym, ap, ◌∙◌, subst, arith, append_assoc}
 use Rattle.std.specs.List.{sum}
 use Rattle.std.proofs.lemmas.List.{append-nil}
 use Rattle.std.proofs.lemmas.List.Sums.{sum_by-append}
@@ -9,7 +9,7 @@ use Rattle.claim_core.specs.Hand.{HandView, KeepsOwn, AddsRun, SeesSize, IsWhole
 use Rattle.grow_core.specs.declared.errors.GrowError.{GrowError}
 use Rattle.grow_core.specs.declared.errors.GrowError.TheVariants.{NoMemory, Full, Moved, Refused, Taken}
 use Rattle.grow_core.specs.Vector.{VectorView, SeesMore}
-use Rattle.grow_core.specs.Growth.{IsDue, Leaves, LosesPlace, KeepsMade}
+use Rattle.grow_core.specs.Growth.{IsDue, Leaves}
 
 -- a hand sees what it sees
 pub more_self : (a : HandView) → SeesMore a a

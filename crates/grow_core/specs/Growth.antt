@@ -13,6 +13,11 @@ use Rattle.grow_core.specs.Grown.{GrownView, IsGrownOf}
 abbrev pub single : ℕ → Run
 single place = record { from = place; n = 1 }
 
+-- the growth won the run: it is the hand's own, or it is empty, and begins at the size that the hand has seen
+pub record Grows (old new : HandView) (run : Run) : Type 0 where
+  pub claimed : 0 < run.n → AddsRun old new run
+  pub empty : run.n ≡ 0 → SeesSize old new run.from
+
 -- what stood at the place
 abbrev pub IsFoundAt : {T : Type 0} → VectorView → ℕ → Found T → Type 0
 IsFoundAt vector place found.Busy = Unit {0}

@@ -31,7 +31,10 @@ impl<T: Drop> Shared<T> {
     {
         match self.word.exchange(&mut hand.claims, from, n) {
             Ok(_run) => Ok(value),
-            Err(Moved { size }) if self.limit() - size < n => Err(GrowError::Full { size, back: value }),
+            Err(Moved { size }) if self.limit() - size < n => Err(GrowError::Full {
+                size,
+                back: value,
+            }),
             Err(Moved { size }) => Err(GrowError::Moved { size, back: value }),
         }
     }

@@ -4,9 +4,11 @@
 mod claims;
 mod errors;
 mod grown;
+mod grows;
 mod hand;
 mod pushes;
 mod reads;
+mod room;
 mod shares;
 mod vector;
 

@@ -65,6 +65,13 @@ impl<T> Shared<T> {
         self.word.limit()
     }
 
+    /// What every vector keeps. It does nothing.
+    pub fn laws(&self)
+        ensures { IsLimit (limit_of self.now) (base_of self.now) }
+    {
+        let _cells = &self.cells;
+    }
+
     /// The size now, by one load.
     pub fn size(&self, hand: &mut Hand<T>) -> u64
         requires ours { IsHandOf self.now hand.old }

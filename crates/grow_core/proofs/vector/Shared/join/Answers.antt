@@ -1,4 +1,4 @@
-use Rattle.std.proofs.Common.{◌≡◌, subst}
+use Rattle.std.proofs.Common.{subst}
 use Rattle.claim_core.specs.Hand.{HandView, OwnApart}
 use Rattle.grow_core.proofs.vector.Shared.join.Goals as goal
 

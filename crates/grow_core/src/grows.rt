@@ -1,0 +1,114 @@
+//! How many values are appended at once.
+ghost use Rattle.std.specs.Prelude.{◌≡◌, ◌+◌, ◌<◌, ◌≤◌, [], IfOk, IfErr, vec_len, vec_capacity};
+ghost use Rattle.claim_core.specs.Hand.{seen_size};
+ghost use Rattle.grow_core.specs.Vector.{IsHandOf, limit_of};
+ghost use Rattle.grow_core.specs.Grown.{IsGrownOf, values_of};
+ghost use Rattle.grow_core.specs.Growth.{Grows, IsDue, Leaves, GivesBack, IsNotMoved, IsFoundAt};
+
+use crate::errors::{GrowError, Never};
+use crate::grown::Grown;
+use crate::hand::Hand;
+use crate::room::Room;
+use crate::vector::Shared;
+use cell_core::row::Found;
+use claim_core::Run;
+use std::sync::Wait;
+
+impl<T: Drop> Shared<T> {
+    /// Appends the values in one run. It tries once, and waits for nobody. The exchange that wins the run is its
+    /// linearization point, or, where there is no value, the load of the size.
+    pub fn try_grow_vec(
+        &self,
+        hand: &mut Hand<T>,
+        values: Vec<T>,
+    ) -> Result<Grown<T>, GrowError<T, Vec<T>, Never>>
+        requires ours { IsHandOf self.now hand.old }
+        ensures n { IfOk result (λ grown. grown.run.n ≡ vec_len values) }
+        ensures run { IfOk result (λ grown. Grows hand.old hand.new grown.run) }
+        ensures not_below { IfOk result (λ grown. seen_size hand.old ≤ grown.run.from) }
+        ensures tokens { IfOk result (IsGrownOf self.now) }
+        ensures values { IfOk result (λ grown. values_of grown ≡ values.items) }
+        ensures refused { IfErr result (IsDue self.now (vec_len values) hand.old) }
+        ensures left { IfErr result (Leaves self.now (vec_len values) hand.old hand.new) }
+        ensures value_back { IfErr result (GivesBack values) }
+    {
+        let n = values.len() as u64;
+        let from = self.size(hand);
+        if n == 0 {
+            return Ok(Grown::empty(self.alloc, from));
+        }
+        if self.limit() - from < n {
+            return Err(GrowError::Full {
+                size: from,
+                back: values,
+            });
+        }
+        let Ok(room) = Room::new(self.alloc, values.len()) else {
+            return Err(GrowError::NoMemory { back: values });
+        };
+        let values = self.claim(hand, from, n, values)?;
+        match self.fill_run(Run { from, n }, room, values) {
+            Ok(grown) => Ok(grown),
+            Err((place, found)) => Err(GrowError::Taken { place, found }),
+        }
+    }
+
+    /// As `try_grow_vec`, and it tries again where another caller was first.
+    pub fn grow_vec<R: Wait>(
+        &self,
+        rt: &R,
+        hand: &mut Hand<T>,
+        mut values: Vec<T>,
+    ) -> Result<Grown<T>, GrowError<T, Vec<T>, Never>>
+        requires ours { IsHandOf self.now hand.old }
+        ensures n { IfOk result (λ grown. grown.run.n ≡ vec_len values) }
+        ensures run { IfOk result (λ grown. Grows hand.old hand.new grown.run) }
+        ensures not_below { IfOk result (λ grown. seen_size hand.old ≤ grown.run.from) }
+        ensures tokens { IfOk result (IsGrownOf self.now) }
+        ensures values { IfOk result (λ grown. values_of grown ≡ values.items) }
+        ensures refused { IfErr result (IsDue self.now (vec_len values) hand.old) }
+        ensures not_moved { IfErr result IsNotMoved }
+        ensures left { IfErr result (Leaves self.now (vec_len values) hand.old hand.new) }
+        ensures value_back { IfErr result (GivesBack values) }
+    {
+        for _try in rt.forever() {
+            match self.try_grow_vec(hand, values) {
+                Err(GrowError::Moved { size: _, back }) => values = back,
+                done => return done,
+            }
+        }
+        unreachable!()
+    }
+
+    // Fills the places of a run with the values, in the room that was made for them. It stops at a place that was taken.
+    fn fill_run(&self, run: Run, room: Room<T>, values: Vec<T>) -> Result<Grown<T>, (u64, Found<T>)>
+        requires within { run.from + run.n ≤ limit_of self.now }
+        requires values { vec_len values ≡ run.n }
+        requires boxes { vec_len room.boxes ≡ run.n }
+        requires tokens { room.tokens.items ≡ [] }
+        requires capacity { run.n ≤ vec_capacity room.tokens }
+        ensures run { IfOk result (λ grown. grown.run ≡ run) }
+        ensures tokens { IfOk result (IsGrownOf self.now) }
+        ensures values { IfOk result (λ grown. values_of grown ≡ values.items) }
+        ensures after { IfErr result (λ (place, _). run.from ≤ place) }
+        ensures before { IfErr result (λ (place, _). place < run.from + run.n) }
+        ensures found { IfErr result (λ (place, found). IsFoundAt self.now place found) }
+    {
+        self.laws();
+        let Room {
+            mut boxes,
+            mut tokens,
+        } = room;
+        for value in values {
+            let place = run.from + tokens.len() as u64;
+            let Some(cell) = boxes.pop() else {
+                unreachable!()
+            };
+            match self.fill(place, cell, value) {
+                Ok(placed) => tokens.push_reserved(placed),
+                Err(found) => return Err((place, found)),
+            }
+        }
+        Ok(Grown { run, tokens })
+    }
+}

@@ -1,7 +1,7 @@
 -- The shared vector as callers see it, and what belongs to it.
 use Rattle.std.specs.Prelude.{◌≡◌, ℕ, ◌≤◌}
 use mathlib.Core.List.{IsPrefix}
-use Rattle.claim_core.specs.Word.{WordView, IsLimit}
+use Rattle.claim_core.specs.Word.{WordView, AreBounds}
 use Rattle.claim_core.specs.Hand.{HandView, KeepsOwn}
 use Rattle.cell_core.specs.Row.{RowView, PlacedView, SpoiltView, IsPlacedIn, IsSpoiltIn, row_len}
 
@@ -20,7 +20,7 @@ base_of vector = vector.word.base
 
 -- there is a cell for each place
 pub record HasCells (word : WordView) (cells : RowView) : Type 0 where
-  pub limit : IsLimit word.limit word.base
+  pub limit : AreBounds word.limit word.base
   pub room : word.limit ≤ row_len cells
 
 -- the hand belongs to the vector

@@ -1,9 +1,11 @@
 //! A caller's token of what it has seen.
-ghost use Rattle.std.specs.Prelude.{◌≡◌, ℕ, ◌<◌, ◌≤◌, ◌↔◌, IsTrue, All, Contains, length};
+ghost use Rattle.std.specs.Prelude.{◌≡◌, ℕ, ◌+◌, ◌<◌, ◌≤◌, ◌↔◌, nat_eq, IsTrue, All, Contains, length};
+ghost use Rattle.std.specs.List.{IsDistinct};
 ghost use Rattle.claim_core.specs.Lengths.{Tiles, times};
-ghost use Rattle.claim_core.specs.Hand.{IsWholeHand, seen_size};
+ghost use Rattle.claim_core.specs.Hand.{IsWholeHand, seen_size, own_places};
 
 use claim_core::Hand as ClaimHand;
+use std::fmt;
 use std::marker::{Model, PhantomData};
 
 /// What a caller has seen of the vector's size, and its part of the right to end the vector. It may be lost: the vector
@@ -20,6 +22,12 @@ impl<T> Model for Hand<T> {
     ghost Value = { HandView };
 
     ghost view = { λ h. h.claims };
+}
+
+impl<T> fmt::Debug for Hand<T> {
+    fn fmt<W: fmt::Write>(&self, f: &mut fmt::Formatter<W>) -> fmt::Result {
+        self.claims.fmt(f)
+    }
 }
 
 impl<T> Hand<T> {
@@ -61,17 +69,21 @@ impl<T> Hand<T> {
         // It has seen each run that it owns, and owns none twice.
         ensures below { (k : ℕ) → Contains self.now.mine k → k < length self.now.seen }
         ensures once { (k : ℕ) → times k self.now.mine ≤ 1 }
+        ensures distinct { IsDistinct nat_eq self.now.mine }
+        ensures places { self.now.of.base + own_places self.now ≤ seen_size self.now }
         ensures some_shares { 0 < self.now.shares }
         ensures not_more { self.now.shares ≤ 65536 }
     {
         self.claims.laws();
     }
 
-    /// What a whole hand keeps: it has seen all that was claimed, and owns it. It does nothing.
+    /// What a whole hand keeps: it has seen all that was claimed, and owns it. The size is the base and the places of all
+    /// its runs. It does nothing.
     pub fn whole_laws(&self)
         requires whole { IsWholeHand self.now }
         ensures all { (k : ℕ) → k < length self.now.seen → Contains self.now.mine k }
         ensures tiles { Tiles self.now.of.base self.now.seen self.now.mine }
+        ensures size { seen_size self.now ≡ self.now.of.base + own_places self.now }
     {
         self.claims.whole_laws();
     }

@@ -1,6 +1,6 @@
 //! The vector: how it is made, looked at and ended.
 ghost use Rattle.std.specs.Prelude.{◌≡◌, ◌≤◌, ◌↔◌, IfOk, Err};
-ghost use Rattle.claim_core.specs.Word.{IsLimit};
+ghost use Rattle.claim_core.specs.Word.{AreBounds};
 ghost use Rattle.claim_core.specs.Hand.{IsWholeHand, IsNewHand, SeesSize, seen_size};
 ghost use Rattle.grow_core.specs.Vector.{IsHandOf, limit_of, base_of};
 
@@ -35,7 +35,7 @@ impl<T: Drop> Shared<T> {
         ensures base { IfOk result (λ (vector, _). base_of vector ≡ 0) }
         ensures hand { IfOk result (λ (vector, hand). IsNewHand vector.word hand) }
         // The limit is looked at before memory is asked for.
-        ensures bad_limit { (result ≡ Err OpenError.BadLimit) ↔ ¬ IsLimit limit 0 }
+        ensures bad_limit { (result ≡ Err OpenError.BadLimit) ↔ ¬ AreBounds limit 0 }
     {
         let (word, claims) = Word::open(alloc, limit, 0)?;
         word.laws();
@@ -67,7 +67,7 @@ impl<T> Shared<T> {
 
     /// What every vector keeps. It does nothing.
     pub fn laws(&self)
-        ensures { IsLimit (limit_of self.now) (base_of self.now) }
+        ensures { AreBounds (limit_of self.now) (base_of self.now) }
     {
         let _cells = &self.cells;
     }

@@ -1,9 +1,9 @@
 //! How many values are appended at once.
-ghost use Rattle.std.specs.Prelude.{◌≡◌, ◌+◌, ◌<◌, ◌≤◌, [], IfOk, IfErr, vec_len, vec_capacity};
-ghost use Rattle.claim_core.specs.Hand.{seen_size};
+ghost use Rattle.std.specs.Prelude.{◌≡◌, ◌+◌, ◌<◌, ◌≤◌, [], IsOk, IfOk, IfErr, IsErrAnd, vec_len, vec_capacity};
+ghost use Rattle.claim_core.specs.Hand.{IsWholeHand, seen_size};
 ghost use Rattle.grow_core.specs.Vector.{IsHandOf, limit_of};
 ghost use Rattle.grow_core.specs.Grown.{IsGrownOf, values_of};
-ghost use Rattle.grow_core.specs.Growth.{Grows, IsDue, Leaves, GivesBack, IsNotMoved, IsFoundAt};
+ghost use Rattle.grow_core.specs.Growth.{Grows, IsDue, Leaves, GivesBack, IsFull, IsNotMoved, IsFoundAt};
 
 use crate::errors::{GrowError, Never};
 use crate::grown::Grown;
@@ -28,6 +28,9 @@ impl<T: Drop> Shared<T> {
         ensures not_below { IfOk result (λ grown. seen_size hand.old ≤ grown.run.from) }
         ensures tokens { IfOk result (IsGrownOf self.now) }
         ensures values { IfOk result (λ grown. values_of grown ≡ values.items) }
+        ensures alone { IsWholeHand hand.old → IfOk result (λ g. g.run.from ≡ seen_size hand.old) }
+        ensures empty { vec_len values ≡ 0 → IsOk result }
+        ensures full { limit_of self.now < seen_size hand.old + vec_len values → IsErrAnd result IsFull }
         ensures refused { IfErr result (IsDue self.now (vec_len values) hand.old) }
         ensures left { IfErr result (Leaves self.now (vec_len values) hand.old hand.new) }
         ensures value_back { IfErr result (GivesBack values) }
@@ -66,6 +69,9 @@ impl<T: Drop> Shared<T> {
         ensures not_below { IfOk result (λ grown. seen_size hand.old ≤ grown.run.from) }
         ensures tokens { IfOk result (IsGrownOf self.now) }
         ensures values { IfOk result (λ grown. values_of grown ≡ values.items) }
+        ensures alone { IsWholeHand hand.old → IfOk result (λ g. g.run.from ≡ seen_size hand.old) }
+        ensures empty { vec_len values ≡ 0 → IsOk result }
+        ensures full { limit_of self.now < seen_size hand.old + vec_len values → IsErrAnd result IsFull }
         ensures refused { IfErr result (IsDue self.now (vec_len values) hand.old) }
         ensures not_moved { IfErr result IsNotMoved }
         ensures left { IfErr result (Leaves self.now (vec_len values) hand.old hand.new) }

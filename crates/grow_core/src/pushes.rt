@@ -1,8 +1,8 @@
 //! How one value is appended.
-ghost use Rattle.std.specs.Prelude.{◌≡◌, ◌≤◌, IfOk, IfErr};
-ghost use Rattle.claim_core.specs.Hand.{AddsRun, seen_size};
-ghost use Rattle.grow_core.specs.Vector.{IsHandOf, IsPlacedOf};
-ghost use Rattle.grow_core.specs.Growth.{single, IsDue, Leaves, GivesBack, IsNotMoved};
+ghost use Rattle.std.specs.Prelude.{◌≡◌, ◌+◌, ◌<◌, ◌≤◌, IfOk, IfErr, IsErrAnd};
+ghost use Rattle.claim_core.specs.Hand.{AddsRun, IsWholeHand, seen_size};
+ghost use Rattle.grow_core.specs.Vector.{IsHandOf, IsPlacedOf, limit_of};
+ghost use Rattle.grow_core.specs.Growth.{single, IsDue, Leaves, GivesBack, IsFull, IsNotMoved};
 
 use crate::errors::{GrowError, Never};
 use crate::hand::Hand;
@@ -22,6 +22,8 @@ impl<T: Drop> Shared<T> {
         ensures not_below { IfOk result (λ placed. seen_size hand.old ≤ placed.place) }
         ensures token { IfOk result (IsPlacedOf self.now) }
         ensures value { IfOk result (λ placed. placed.value ≡ value) }
+        ensures alone { IsWholeHand hand.old → IfOk result (λ p. p.place ≡ seen_size hand.old) }
+        ensures full { limit_of self.now < seen_size hand.old + 1 → IsErrAnd result IsFull }
         ensures refused { IfErr result (IsDue self.now 1 hand.old) }
         ensures left { IfErr result (Leaves self.now 1 hand.old hand.new) }
         ensures value_back { IfErr result (GivesBack value) }
@@ -55,6 +57,8 @@ impl<T: Drop> Shared<T> {
         ensures not_below { IfOk result (λ placed. seen_size hand.old ≤ placed.place) }
         ensures token { IfOk result (IsPlacedOf self.now) }
         ensures value { IfOk result (λ placed. placed.value ≡ value) }
+        ensures alone { IsWholeHand hand.old → IfOk result (λ p. p.place ≡ seen_size hand.old) }
+        ensures full { limit_of self.now < seen_size hand.old + 1 → IsErrAnd result IsFull }
         ensures refused { IfErr result (IsDue self.now 1 hand.old) }
         ensures not_moved { IfErr result IsNotMoved }
         ensures left { IfErr result (Leaves self.now 1 hand.old hand.new) }

@@ -1,4 +1,5 @@
 use Rattle.std.proofs.Common.{◌≡◌}
+use Rattle.claim_core.specs.Hand.{IsWholeHand}
 use Rattle.grow_core.specs.Vector.{SeesMore}
 use Rattle.grow_core.proofs.vector.Shared.push_back.Given as goal
 
@@ -7,5 +8,6 @@ invariant-loop-try g l =
     (goal.iterator-loop-try g).can_next l._try-iterator
     × (goal.iterator-loop-try g).is_finite l._try-iterator
     × SeesMore l.fn.hand l.hand
+    × (IsWholeHand l.fn.hand → l.hand ≡ l.fn.hand)
     × (l.hand.of ≡ l.self.word)
     × (l.value ≡ l.fn.value)

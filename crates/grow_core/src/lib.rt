@@ -19,3 +19,6 @@ pub use grown::Grown;
 pub use hand::Hand;
 pub use reads::At;
 pub use vector::Shared;
+
+#[cfg(test)]
+mod tests;

@@ -2,13 +2,15 @@
 use crate::grown::Grown;
 use cell_core::row::{Found, Spoilt};
 use claim_core::Run;
+use std::error::Error;
+use std::fmt;
 
 /// The cause that never comes.
 #[derive(Clone, Copy, Debug)]
 pub enum Never {}
 
 /// Why a growth was refused. `V` is what was moved in, and `E` the cause of a refused construction.
-#[derive(Drop)]
+#[derive(Debug, Drop)]
 pub enum GrowError<T, V, E> {
     /// There was no memory. Nothing was claimed.
     NoMemory { back: V },
@@ -24,7 +26,7 @@ pub enum GrowError<T, V, E> {
 }
 
 /// Why `at` answers no value.
-#[derive(Drop)]
+#[derive(Debug, Drop)]
 pub enum AtError {
     /// The place is not below the size.
     OutOfRange { size: u64 },
@@ -33,3 +35,46 @@ pub enum AtError {
     /// The place is broken.
     Broken(Spoilt),
 }
+
+impl<T, V, E> fmt::Display for GrowError<T, V, E> {
+    ghost use Rattle.std.specs.Prelude.{Some};
+    ghost use Rattle.grow_core.specs.Errors.{grow_error_text};
+
+    ghost output = { λ error. Some (grow_error_text error) };
+
+    fn fmt<W: fmt::Write>(&self, f: &mut fmt::Formatter<W>) -> fmt::Result {
+        match self {
+            GrowError::NoMemory { back: _ } => write!(f, "out of memory"),
+            GrowError::Full { size, back: _ } => write!(f, "no room at size {size}"),
+            GrowError::Moved { size, back: _ } => write!(f, "the size has moved to {size}"),
+            GrowError::Refused { made, .. } => {
+                write!(f, "a value was refused after {} were made", made.run.n)
+            }
+            GrowError::Taken { place, found: _ } => write!(f, "place {place} is taken"),
+        }
+    }
+}
+
+impl<T, V, E> Error for GrowError<T, V, E>
+where
+    T: fmt::Debug + Drop,
+    V: fmt::Debug + Drop,
+    E: fmt::Debug + Drop,
+{}
+
+impl fmt::Display for AtError {
+    ghost use Rattle.std.specs.Prelude.{Some};
+    ghost use Rattle.grow_core.specs.Errors.{at_error_text};
+
+    ghost output = { λ error. Some (at_error_text error) };
+
+    fn fmt<W: fmt::Write>(&self, f: &mut fmt::Formatter<W>) -> fmt::Result {
+        match self {
+            AtError::OutOfRange { size } => write!(f, "not below size {size}"),
+            AtError::Pending => write!(f, "not filled yet"),
+            AtError::Broken(_) => write!(f, "broken"),
+        }
+    }
+}
+
+impl Error for AtError {}

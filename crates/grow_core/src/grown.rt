@@ -6,6 +6,7 @@ ghost use Rattle.grow_core.specs.Grown.{IsGrownOf, values_of};
 use cell_core::row::Placed;
 use claim_core::Run;
 use std::alloc::Global;
+use std::fmt;
 use std::marker::Model;
 
 /// Shows that each place of a run holds its value.
@@ -25,6 +26,14 @@ impl<T> Model for Grown<T> {
     ghost view = { λ g. record { run = g.run; tokens = g.tokens.items } };
 
     ghost invariant = { λ g. IsInOrder g.run g.tokens.items };
+}
+
+impl<T> fmt::Debug for Grown<T> {
+    fn fmt<W: fmt::Write>(&self, f: &mut fmt::Formatter<W>) -> fmt::Result {
+        f.debug_struct("Grown")
+            .field("run", &self.run)
+            .finish_non_exhaustive()
+    }
 }
 
 impl<T> Grown<T> {

@@ -10,7 +10,7 @@ use crate::vector::Shared;
 use cell_core::row::{Look, Placed, Spoilt};
 
 /// The value at a place, and the token that shows it.
-#[derive(Drop)]
+#[derive(Debug, Drop)]
 pub struct At<'a, T> {
     pub value: &'a T,
     pub placed: Placed<T>,

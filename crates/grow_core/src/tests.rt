@@ -11,9 +11,9 @@ fn what_one_hand_appends_another_reads(rt: HostRuntime) -> Result<(), Fail> {
     let (vector, mut h) = Shared::fresh(rt.alloc(), 8)?;
     let mut g = vector.split(&mut h, 1);
     let mut k = vector.split(&mut h, 1);
-    let placed = vector.push_back(&rt, &mut h, 5u64).ok().ok_or("pushed")?;
+    let placed = vector.push_back(&rt, &mut h, 5u64)?;
     assert_eq!(rt; placed.place(), 0);
-    let at = vector.at(&mut g, 0, None).ok().ok_or("there")?;
+    let at = vector.at(&mut g, 0, None)?;
     assert_eq!(rt; *at.value, 5);
     assert!(rt;
         matches!(
@@ -30,14 +30,11 @@ fn what_one_hand_appends_another_reads(rt: HostRuntime) -> Result<(), Fail> {
 fn a_try_looks_at_the_size_anew(rt: HostRuntime) -> Result<(), Fail> {
     let (vector, mut h) = Shared::fresh(rt.alloc(), 8)?;
     let mut g = vector.split(&mut h, 1);
-    let first = vector.try_push_back(&mut h, 5u64).ok().ok_or("pushed")?;
+    let first = vector.try_push_back(&mut h, 5u64)?;
     assert_eq!(rt; g.seen(), 0);
-    let second = vector.try_push_back(&mut g, 6).ok().ok_or("pushed too")?;
+    let second = vector.try_push_back(&mut g, 6)?;
     assert_eq!(rt; (first.place(), second.place()), (0, 1));
-    let third = vector
-        .try_grow_vec(&mut h, vec![in rt.alloc(); 7, 8]?)
-        .ok()
-        .ok_or("grown")?;
+    let third = vector.try_grow_vec(&mut h, vec![in rt.alloc(); 7, 8]?)?;
     assert_eq!(rt; third.run(), Run { from: 2, n: 2 });
     Ok(())
 }
@@ -45,15 +42,12 @@ fn a_try_looks_at_the_size_anew(rt: HostRuntime) -> Result<(), Fail> {
 #[test]
 fn a_run_has_its_values_in_order(rt: HostRuntime) -> Result<(), Fail> {
     let (vector, mut h) = Shared::fresh(rt.alloc(), 8)?;
-    let grown = vector
-        .grow_vec(&rt, &mut h, vec![in rt.alloc(); 7u64, 8, 9]?)
-        .ok()
-        .ok_or("grown")?;
+    let grown = vector.grow_vec(&rt, &mut h, vec![in rt.alloc(); 7u64, 8, 9]?)?;
     assert_eq!(rt; grown.run(), Run { from: 0, n: 3 });
     let token = grown.placed(1);
     assert_eq!(rt; (token.place(), *vector.get(&token)), (1, 8));
     assert_eq!(rt; *vector.get(&token.again()), 8);
-    let at = vector.at(&mut h, 1, Some(&token)).ok().ok_or("there")?;
+    let at = vector.at(&mut h, 1, Some(&token))?;
     assert_eq!(rt; *at.value, 8);
     vector.agree(&at.placed, &token);
     assert_eq!(rt; vector.limit(), 8);

@@ -8,6 +8,7 @@ use crate::hand::Hand;
 use cell_core::row::Row;
 use claim_core::{OpenError, Word};
 use std::alloc::Global;
+use std::fmt;
 use std::marker::Model;
 
 /// A vector that many callers share. Contracts see which vector it is, its limit and its base.
@@ -26,6 +27,15 @@ impl<T> Model for Shared<T> {
     ghost view = { λ v. record { word = v.word; cells = v.cells } };
 
     ghost invariant = { λ v. HasCells v.word v.cells };
+}
+
+// The size and the values are left out: only a step with a hand may look at them.
+impl<T> fmt::Debug for Shared<T> {
+    fn fmt<W: fmt::Write>(&self, f: &mut fmt::Formatter<W>) -> fmt::Result {
+        f.debug_struct("Shared")
+            .field("limit", &self.word.limit())
+            .finish_non_exhaustive()
+    }
 }
 
 impl<T: Drop> Shared<T> {

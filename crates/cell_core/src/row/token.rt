@@ -2,6 +2,7 @@
 ghost use Rattle.std.specs.Prelude.{◌≡◌};
 
 use crate::row::known::{KnownBroken, KnownFilled};
+use std::fmt;
 use std::marker::Model;
 
 /// Shows that the cell at a place holds a value, for good.
@@ -21,6 +22,14 @@ impl<T> Model for Placed<T> {
     ghost view = { λ p. record { place = p.place; value = p.known.value; name = p.known.cell } };
 }
 
+impl<T> fmt::Debug for Placed<T> {
+    fn fmt<W: fmt::Write>(&self, f: &mut fmt::Formatter<W>) -> fmt::Result {
+        f.debug_struct("Placed")
+            .field("place", &self.place)
+            .finish_non_exhaustive()
+    }
+}
+
 /// Shows that the cell at a place is broken, for good.
 #[derive(Drop)]
 pub struct Spoilt {
@@ -36,8 +45,16 @@ impl Model for Spoilt {
     ghost view = { λ s. record { place = s.place; name = s.known.cell } };
 }
 
+impl fmt::Debug for Spoilt {
+    fn fmt<W: fmt::Write>(&self, f: &mut fmt::Formatter<W>) -> fmt::Result {
+        f.debug_struct("Spoilt")
+            .field("place", &self.place)
+            .finish_non_exhaustive()
+    }
+}
+
 /// What `put` made of a cell.
-#[derive(Drop)]
+#[derive(Debug, Drop)]
 pub enum Token<T> {
     /// It holds the value.
     Placed(Placed<T>),
@@ -46,7 +63,7 @@ pub enum Token<T> {
 }
 
 /// What stood in the cell that a `put` was meant for.
-#[derive(Drop)]
+#[derive(Debug, Drop)]
 pub enum Found<T> {
     /// It showed nothing. This does not come: a `put` that lost has seen what stands there.
     Busy,
@@ -57,7 +74,7 @@ pub enum Found<T> {
 }
 
 /// What a cell shows.
-#[derive(Drop)]
+#[derive(Debug, Drop)]
 pub enum Look<'a, T> {
     /// Nothing yet.
     Empty,

@@ -41,15 +41,9 @@ fn a_whole_vec_comes_back(rt: HostRuntime) -> Result<(), Fail> {
 fn an_empty_growth_answers_an_empty_run(rt: HostRuntime) -> Result<(), Fail> {
     let (vector, mut h) = Shared::fresh(rt.alloc(), 1)?;
     let _only = vector.try_push_back(&mut h, 5u64);
-    let grown = vector
-        .try_grow_vec(&mut h, Vec::new(rt.alloc()))
-        .ok()
-        .ok_or("empty")?;
+    let grown = vector.try_grow_vec(&mut h, Vec::new(rt.alloc()))?;
     assert_eq!(rt; grown.run(), Run { from: 1, n: 0 });
-    let again = vector
-        .grow_vec(&rt, &mut h, Vec::new(rt.alloc()))
-        .ok()
-        .ok_or("empty")?;
+    let again = vector.grow_vec(&rt, &mut h, Vec::new(rt.alloc()))?;
     assert_eq!(rt; again.run(), Run { from: 1, n: 0 });
     Ok(())
 }

@@ -1,0 +1,20 @@
+-- How refusals are shown.
+use Rattle.std.specs.Prelude.{ℕ, List, ◌++◌, codes, decimal}
+use Rattle.grow_core.specs.declared.errors.GrowError.{GrowError}
+use Rattle.grow_core.specs.declared.errors.GrowError.TheVariants.{NoMemory, Full, Moved, Refused, Taken}
+use Rattle.grow_core.specs.declared.errors.AtError.{AtError}
+use Rattle.grow_core.specs.declared.errors.AtError.TheVariants.{OutOfRange, Pending, Broken}
+
+-- why a growth was refused
+abbrev pub grow_error_text : {T V E : Type 0} → GrowError T V E → List ℕ
+grow_error_text (NoMemory back) = codes "out of memory"
+grow_error_text (Full size back) = codes "no room at size " ++ decimal size
+grow_error_text (Moved size back) = codes "the size has moved to " ++ decimal size
+grow_error_text (Refused run made cause) = codes "a value was refused after " ++ decimal made.run.n ++ codes " were made"
+grow_error_text (Taken place found) = codes "place " ++ decimal place ++ codes " is taken"
+
+-- why no value was answered
+abbrev pub at_error_text : AtError → List ℕ
+at_error_text (OutOfRange size) = codes "not below size " ++ decimal size
+at_error_text Pending = codes "not filled yet"
+at_error_text (Broken spoilt) = codes "broken"

@@ -4,13 +4,17 @@ ghost use Rattle.cell_core.specs.Row.{row_len, IsPlacedIn, IsSpoiltIn, Names};
 ghost use Rattle.cell_core.specs.Look.{IsTokenOf, IsFoundAt, IsLookAt, Shows};
 
 mod known;
+mod placed;
+mod spoilt;
 mod token;
 
 use known::{KnownBroken, KnownFilled};
 use once_cell::race::{Note, OnceBox};
+pub use placed::Placed;
+pub use spoilt::Spoilt;
 use std::alloc::{AllocError, Global};
 use std::marker::Model;
-pub use token::{Found, Look, Placed, Spoilt, Token};
+pub use token::{Found, Look, Token};
 
 /// Cells that are each filled or broken once, and stay so. It has a pointer for each cell, and what its boxes hold.
 #[derive(Drop)]

@@ -1,6 +1,6 @@
 -- What `at` answers.
-use Rattle.std.specs.Prelude.{◌≡◌, ℕ, ◌≤◌}
-use Rattle.claim_core.specs.Hand.{HandView, SeesSize}
+use Rattle.std.specs.Prelude.{◌≡◌, ℕ, ◌<◌, ◌≤◌}
+use Rattle.claim_core.specs.Hand.{HandView, SeesSize, seen_size}
 use Rattle.grow_core.specs.declared.errors.AtError.{AtError}
 use Rattle.grow_core.specs.declared.errors.AtError.TheVariants.{OutOfRange, Pending, Broken}
 use Rattle.grow_core.specs.declared.reads.At.{At}
@@ -12,8 +12,8 @@ pub record IsAt {T : Type 0} (vector : VectorView) (place : ℕ) (at : At T) : T
   pub here : at.placed.place ≡ place
   pub value : at.value.now ≡ at.placed.value
 
--- when each refusal comes, to a hand that saw the one before and sees the other now
+-- when each refusal comes, by what the hand had seen, and sees now: a place is pending or broken below the size alone
 abbrev pub IsDueAt : VectorView → ℕ → HandView → HandView → AtError → Type 0
 IsDueAt vector place old new (OutOfRange size) = (size ≤ place) × SeesSize old new size
-IsDueAt vector place old new Pending = Unit {0}
-IsDueAt vector place old new (Broken spoilt) = IsSpoiltOf vector spoilt × (spoilt.place ≡ place)
+IsDueAt vector place old new Pending = place < seen_size new
+IsDueAt vector place old new (Broken spoilt) = (place < seen_size new) × IsSpoiltOf vector spoilt × (spoilt.place ≡ place)

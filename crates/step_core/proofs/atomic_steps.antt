@@ -1,6 +1,7 @@
-pub mod MapViews
+pub mod BlockViews
 pub mod Bounds
 pub mod Tiling
+pub mod Installed
 pub mod Owners
 pub mod Legal
 pub mod Record

@@ -1,4 +1,5 @@
 pub mod Storage
+pub mod Blocks
 pub mod Step
 pub mod Play
 pub mod Legal
@@ -8,4 +9,5 @@ pub mod Tiling
 pub mod Kept
 pub mod Headline
 pub mod Bounds
+pub mod Installed
 pub mod Owners

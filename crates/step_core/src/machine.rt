@@ -5,8 +5,9 @@ ghost use Rattle.book_core.specs.Cells.{IsLimit};
 ghost use Rattle.book_core.specs.Commands.{AreSound};
 ghost use Rattle.step_core.specs.machine.Step.{step_of, Gives};
 ghost use Rattle.step_core.specs.machine.Bounds.{IsInLimit};
+ghost use Rattle.step_core.specs.machine.Installed.{HasSegments, MayRunOut};
 
-mod maps;
+mod blocks;
 mod phase;
 mod schedule;
 mod storage;
@@ -43,6 +44,7 @@ pub struct Machine {
 impl Model for Machine {
     ghost use Rattle.step_core.specs.machine.Step.{Configuration, configuration_code};
     ghost use Rattle.step_core.specs.machine.Bounds.{IsInLimit};
+    ghost use Rattle.step_core.specs.machine.Installed.{HasSegments};
 
     ghost Value = { Configuration };
 
@@ -50,12 +52,14 @@ impl Model for Machine {
 
     ghost view = { λ m. record { limit = m.limit; storage = m.storage; actors = m.actors.items } };
 
-    ghost invariant = { λ m. IsInLimit (record { limit = m.limit; storage = m.storage; actors = m.actors.items }) };
+    ghost invariant = { λ m. IsInLimit (record { limit = m.limit; storage = m.storage; actors = m.actors.items })
+        × HasSegments (record { limit = m.limit; storage = m.storage; actors = m.actors.items }) };
 }
 
 impl Machine {
     ghost use Rattle.step_core.specs.machine.Step.{first_configuration, step_of};
     ghost use Rattle.step_core.specs.machine.Step.{Gives};
+    ghost use Rattle.step_core.specs.machine.Installed.{MayRunOut};
 
     /// The machine before the first step. Its memory is linear in the actors.
     pub fn new(
@@ -106,13 +110,14 @@ impl Machine {
 
     /// One atomic step of an actor; one with nothing left, or without a program, changes nothing.
     ///
-    /// `memory` says whether a request for a segment is granted in this step. It takes time logarithmic in the
-    /// slots that are taken.
+    /// `memory` says whether a request for a segment is granted in this step. A step takes constant time; Put of a
+    /// segment that is not installed makes its block, in one pass over it.
     pub fn step(&mut self, actor: u32, memory: bool) -> Result<Stepped, AllocError>
         ensures steps { IfOk result (λ stepped.
             Gives (step_of self.old actor memory) self.new stepped) }
-        // Real memory ran out, which `memory` does not cause.
+        // Real memory ran out, which `memory` does not cause: at Put of a new segment alone.
         ensures err { OnErr result (self.new ≡ self.old) }
+        ensures memory { OnErr result (MayRunOut self.old actor memory) }
     {
         step_among(
             self.limit,
@@ -131,12 +136,15 @@ fn step_among(
     who: u32,
     memory: bool,
 ) -> Result<Stepped, AllocError>
-    requires { IsInLimit (record { limit = limit; storage = storage.old; actors = actors.old.items }) }
+    requires limit { IsInLimit (record { limit = limit; storage = storage.old; actors = actors.old.items }) }
+    requires segments { HasSegments (record { limit = limit; storage = storage.old; actors = actors.old.items }) }
     ensures steps { IfOk result (λ stepped. Gives
         (step_of (record { limit = limit; storage = storage.old; actors = actors.old.items }) who memory)
         (record { limit = limit; storage = storage.new; actors = actors.new.items })
         stepped) }
     ensures err { OnErr result ((storage.new ≡ storage.old) × (actors.new.items ≡ actors.old.items)) }
+    ensures memory { OnErr result
+        (MayRunOut (record { limit = limit; storage = storage.old; actors = actors.old.items }) who memory) }
 {
     let Some(current) = actors.get(who as usize) else {
         return Ok(NOTHING);

@@ -155,8 +155,8 @@ fn play_sound(
 
 /// Plays one atomic step for each item; an item of an actor with nothing left changes nothing.
 ///
-/// What a reader finds at a place that its owner hasn't finished is pending. Its time is that of the
-/// items, each times the logarithm of the places that are claimed, and of those places; its memory is linear in both.
+/// What a reader finds at a place that its owner hasn't finished is pending. Its time and memory are linear in the
+/// items, and in the places of the installed segments.
 pub fn play(
     alloc: Global,
     limit: u64,

@@ -8,18 +8,17 @@ mod load;
 mod places;
 mod segments;
 
-use crate::machine::maps::{Segments, Slots};
+use crate::machine::blocks::Blocks;
 use crate::machine::phase::{Next, Phase, Slot};
 use book_core::{Answer, Command, Event, Reply};
 use std::alloc::{AllocError, Global};
 use std::marker::Model;
 
-/// The size, the installed segments, and the slots that aren't empty.
+/// The size, and the blocks of the installed segments.
 #[derive(Drop)]
 pub(crate) struct Storage {
     size: u64,
-    installed: Segments,
-    slots: Slots,
+    blocks: Blocks,
 }
 
 impl Model for Storage {
@@ -29,7 +28,7 @@ impl Model for Storage {
 
     ghost coded = { storage_code };
 
-    ghost view = { λ s. record { size = s.size; installed = s.installed; slots = s.slots } };
+    ghost view = { λ s. record { size = s.size; installed = s.blocks.installed; slots = s.blocks.slots } };
 }
 
 /// What a step gives beside what it leaves: at most one event with its reply, and what follows.
@@ -60,14 +59,14 @@ pub(crate) fn ends(event: Event, reply: Reply, answer: Answer) -> Outcome
 impl Storage {
     ghost use Rattle.step_core.specs.machine.Step.{outcome_of};
     ghost use Rattle.step_core.specs.machine.Bounds.{IsWithin, given};
+    ghost use Rattle.step_core.specs.machine.Installed.{HasPassed, TakesMemory};
 
     pub(crate) fn new(alloc: Global) -> Self
         ensures { result ≡ record { size = 0; installed = set.empty; slots = map.empty } }
     {
         Storage {
             size: 0,
-            installed: Segments::new(alloc),
-            slots: Slots::new(alloc),
+            blocks: Blocks::new(alloc),
         }
     }
 
@@ -82,7 +81,7 @@ impl Storage {
     pub(crate) fn slot(&self, place: u64) -> Option<Slot>
         ensures { result ≡ map.get self.now.slots place }
     {
-        self.slots.get(place)
+        self.blocks.get(place)
     }
 
     /// One step of an actor in this phase of this call.
@@ -97,8 +96,10 @@ impl Storage {
         requires limit { limit ≤ 2 ^ 32 }
         requires size { self.old.size ≤ limit }
         requires phase { IsWithin limit command.now phase }
+        requires passed { HasPassed self.old phase }
         ensures gives { IfOk result (λ outcome. given self.new outcome ≡ outcome_of limit self.old actor command.now memory phase) }
         ensures err { OnErr result (self.new ≡ self.old) }
+        ensures memory { OnErr result (TakesMemory self.old phase memory) }
     {
         match phase {
             Phase::Load => Ok(self.load(limit, actor, command)),
@@ -106,9 +107,9 @@ impl Storage {
             Phase::Put { from, n, segment } => self.put(actor, command, memory, from, n, segment),
             Phase::Exchange { from, n } => Ok(self.exchange(limit, actor, from, n)),
             Phase::Raise { to } => Ok(self.raise(actor, to)),
-            Phase::Begin { from, n, place } => self.begin(actor, command, from, n, place),
-            Phase::Fill { from, n, place } => self.fill(actor, command, from, n, place),
-            Phase::Spoil { from, n, place } => self.spoil(actor, command, from, n, place),
+            Phase::Begin { from, n, place } => Ok(self.begin(actor, command, from, n, place)),
+            Phase::Fill { from, n, place } => Ok(self.fill(actor, command, from, n, place)),
+            Phase::Spoil { from, n, place } => Ok(self.spoil(actor, command, from, n, place)),
             Phase::Look { place } => Ok(self.look(actor, place)),
         }
     }

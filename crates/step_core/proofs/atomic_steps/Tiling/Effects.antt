@@ -11,9 +11,10 @@ use Rattle.step_core.specs.declared.machine.phase.Phase.{Phase}
 use Rattle.step_core.specs.declared.machine.phase.Actor.{Actor}
 use Rattle.step_core.specs.machine.Storage.{Storage}
 use Rattle.step_core.specs.machine.Step.{with_size, with_segment, with_slot}
+use Rattle.step_core.specs.machine.Installed.{IsReady}
 use Rattle.step_core.specs.machine.Tiling.{IsUnfinished, IsOfRun}
 use Rattle.book_core.proofs.Runs.{owner_kept, tile-append}
-use Rattle.step_core.proofs.atomic_steps.Tiling.Invariant.{get_set_same, get_set_other, Ready, ready_kept, Knows, Settlement, Holds, Effect, knows_kept}
+use Rattle.step_core.proofs.atomic_steps.Tiling.Invariant.{get_set_same, get_set_other, ready_kept, Knows, Settlement, Holds, Effect, knows_kept}
 
 -- the member that was set is there
 pub get_set_here : (xs : List Actor) (i : ℕ) (x d : Actor) → slice_get xs i ≡ Some d → slice_get (slice_set xs i x) i ≡ Some x
@@ -96,7 +97,7 @@ settlement_kept runs more writers place (Some (Busy actor)) is = is
 settlement_kept runs more writers place (Some (Filled value)) is = record { owner = is.owner; owns = owner_kept runs more place is.owner is.owns; once = is.once }
 settlement_kept runs more writers place (Some Broken) is = record { owner = is.owner; owns = owner_kept runs more place is.owner is.owns; once = is.once }
 
-pub claim_effect : (who n : ℕ) (m : Storage) (actors : List Actor) (runs : List OwnedRun) (writers : ℕ → List ℕ) → Holds m actors runs writers → ((q : ℕ) → q < m.size + n → Ready m q) → Effect who m (with_size m (m.size + n)) runs (runs ++ record { owner = who; from = m.size; n = n } ∷ []) writers
+pub claim_effect : (who n : ℕ) (m : Storage) (actors : List Actor) (runs : List OwnedRun) (writers : ℕ → List ℕ) → Holds m actors runs writers → ((q : ℕ) → q < m.size + n → IsReady m q) → Effect who m (with_size m (m.size + n)) runs (runs ++ record { owner = who; from = m.size; n = n } ∷ []) writers
 claim_effect who n m actors runs writers holds ready = record {
   tile = tile-append 0 m.size (m.size + n) runs (record { owner = who; from = m.size; n = n } ∷ []) holds.tile (refl, refl);
   ready = ready;

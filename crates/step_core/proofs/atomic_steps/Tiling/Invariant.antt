@@ -16,6 +16,7 @@ use Rattle.step_core.specs.declared.machine.phase.Phase.TheVariants.{Load, Scout
 use Rattle.step_core.specs.declared.machine.phase.Actor.{Actor}
 use Rattle.step_core.specs.machine.Storage.{Storage}
 use Rattle.step_core.specs.machine.Step.{with_segment, with_slot}
+use Rattle.step_core.specs.machine.Installed.{IsReady}
 use Rattle.step_core.specs.machine.Tiling.{IsUnfinished, IsOfRun}
 
 -- ---- Slots and segments after a change
@@ -35,22 +36,18 @@ get_set_other m place slot q other =
     map.get-insert nat_cmp_total m.slots place slot q
     ∙ ap (λ b. cond b (Some slot) (map.get m.slots q)) (tied_is q place ∙ (let e : (q == place) ≡ false = grind (arith, nat_tests) in e))
 
--- the segment of a place is installed
-abbrev pub Ready : Storage → ℕ → Type 0
-Ready m place = set.contains m.installed (segment_of place) ≡ true
-
 or_true : (b : Bool) → (b || true) ≡ true
 or_true true = refl
 or_true false = refl
 
 -- an installed segment stays when another is
-pub ready_kept : (m : Storage) (k place : ℕ) → Ready m place → Ready (with_segment m k) place
+pub ready_kept : (m : Storage) (k place : ℕ) → IsReady m place → IsReady (with_segment m k) place
 ready_kept m k place ready =
     set.contains-insert nat_cmp_total m.installed k (segment_of place)
     ∙ ap (λ b. eq_by_cmp nat_cmp (segment_of place) k || b) ready ∙ or_true (eq_by_cmp nat_cmp (segment_of place) k)
 
 -- the places of an installed segment are ready
-pub ready_in : (m : Storage) (k place : ℕ) → set.contains m.installed k ≡ true → HasPlace k place → Ready m place
+pub ready_in : (m : Storage) (k place : ℕ) → set.contains m.installed k ≡ true → HasPlace k place → IsReady m place
 ready_in m k place there has = subst (λ j. set.contains m.installed j ≡ true) (is_segment_of k place has) there
 
 pub installed_now : (m : Storage) (k : ℕ) → set.contains (with_segment m k).installed k ≡ true
@@ -59,7 +56,7 @@ installed_now m k =
     ∙ ap (λ b. b || set.contains m.installed k) (tied_is k k ∙ (let e : (k == k) ≡ true = grind (arith, nat_tests) in e))
 
 -- where a segment and all before it are ready, so are all places before its end
-pub ready_through : (m : Storage) (k bound : ℕ) → ((q : ℕ) → q < segment_start k → q < bound → Ready m q) → set.contains m.installed k ≡ true → (q : ℕ) → q < segment_end k → q < bound → Ready m q
+pub ready_through : (m : Storage) (k bound : ℕ) → ((q : ℕ) → q < segment_start k → q < bound → IsReady m q) → set.contains m.installed k ≡ true → (q : ℕ) → q < segment_end k → q < bound → IsReady m q
 ready_through m k bound before there q ends inside =
     elim (cases_lt q (segment_start k)) [
       | inl earlier ↦ before q earlier inside
@@ -80,10 +77,10 @@ pub record Won (m : Storage) (runs : List OwnedRun) (who from n place : ℕ) : T
 -- what an actor in this phase knows
 abbrev pub Knows : Storage → List OwnedRun → ℕ → Phase → Type 0
 Knows m runs who Load = Unit {0}
-Knows m runs who (Scout from n k) = (q : ℕ) → q < segment_start k → q < from + n → Ready m q
-Knows m runs who (Put from n k) = (q : ℕ) → q < segment_start k → q < from + n → Ready m q
-Knows m runs who (Exchange from n) = (q : ℕ) → q < from + n → Ready m q
-Knows m runs who (Raise to) = (q : ℕ) → q < to → Ready m q
+Knows m runs who (Scout from n k) = (q : ℕ) → q < segment_start k → q < from + n → IsReady m q
+Knows m runs who (Put from n k) = (q : ℕ) → q < segment_start k → q < from + n → IsReady m q
+Knows m runs who (Exchange from n) = (q : ℕ) → q < from + n → IsReady m q
+Knows m runs who (Raise to) = (q : ℕ) → q < to → IsReady m q
 Knows m runs who (Begin from n place) = Won m runs who from n place × (map.get m.slots place ≡ None)
 Knows m runs who (Fill from n place) = Won m runs who from n place × (map.get m.slots place ≡ Some (Busy who))
 Knows m runs who (Spoil from n place) = Won m runs who from n place × (map.get m.slots place ≡ Some (Busy who))
@@ -112,7 +109,7 @@ pub record IsWonBySome (actors : List Actor) (place : ℕ) : Type 0 where
 -- what holds between two steps
 pub record Holds (m : Storage) (actors : List Actor) (runs : List OwnedRun) (writers : ℕ → List ℕ) : Type 0 where
   pub tile : Tile 0 runs m.size
-  pub ready : (q : ℕ) → q < m.size → Ready m q
+  pub ready : (q : ℕ) → q < m.size → IsReady m q
   pub taken : (q : ℕ) (slot : Slot) → map.get m.slots q ≡ Some slot → q < m.size
   pub settled : (q : ℕ) → Settlement runs (writers q) q (map.get m.slots q)
   pub knows : (who : ℕ) (actor : Actor) → slice_get actors who ≡ Some actor → Knows m runs who actor.phase
@@ -121,11 +118,11 @@ pub record Holds (m : Storage) (actors : List Actor) (runs : List OwnedRun) (wri
 -- what a step of an actor does to what is storage, as the others see it
 pub record Effect (who : ℕ) (m m' : Storage) (runs runs' : List OwnedRun) (writers' : ℕ → List ℕ) : Type 0 where
   pub tile : Tile 0 runs' m'.size
-  pub ready : (q : ℕ) → q < m'.size → Ready m' q
+  pub ready : (q : ℕ) → q < m'.size → IsReady m' q
   pub taken : (q : ℕ) (slot : Slot) → map.get m'.slots q ≡ Some slot → q < m'.size
   pub settled : (q : ℕ) → Settlement runs' (writers' q) q (map.get m'.slots q)
   pub grows : m.size ≤ m'.size
-  pub stays_ready : (q : ℕ) → Ready m q → Ready m' q
+  pub stays_ready : (q : ℕ) → IsReady m q → IsReady m' q
   pub stays_owned : (q owner : ℕ) → owner_of runs q ≡ Some owner → owner_of runs' q ≡ Some owner
   pub others : (q owner : ℕ) → owner_of runs q ≡ Some owner → owner ≢ who → map.get m'.slots q ≡ map.get m.slots q
 

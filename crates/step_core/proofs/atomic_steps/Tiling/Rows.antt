@@ -27,9 +27,10 @@ use Rattle.step_core.specs.declared.machine.phase.Actor.{Actor}
 use Rattle.step_core.specs.machine.Storage.{Storage}
 use Rattle.step_core.specs.machine.Step.{Outcome, goes_on, ends, with_size, with_segment, with_slot, load_growth, load_at_least, load_read, load, claiming, after_segment, scout, put, exchange, raise, begin_at, is_refused, value_of, answer_of_run, after_place, look_at, outcome_of}
 use Rattle.step_core.specs.machine.Bounds.{Wants, IsWithin}
+use Rattle.step_core.specs.machine.Installed.{IsReady}
 use Rattle.step_core.specs.machine.Tiling.{IsUnfinished, IsOfRun}
 use Rattle.book_core.proofs.Runs.{owner_new, none_past, has_place-true, tile-append, owner_kept}
-use Rattle.step_core.proofs.atomic_steps.Tiling.Invariant.{get_set_same, get_set_other, Ready, ready_kept, ready_through, installed_now, Won, Knows, Settlement, Holds, Effect}
+use Rattle.step_core.proofs.atomic_steps.Tiling.Invariant.{get_set_same, get_set_other, ready_kept, ready_through, installed_now, Won, Knows, Settlement, Holds, Effect}
 use Rattle.step_core.proofs.atomic_steps.Tiling.Effects.{claim_effect, begin_effect, settle_effect, settlement_kept}
 use Rattle.step_core.proofs.atomic_steps.Tiling.Steps.{Stands, Kept, kept_by, quiet, installs, first_segment_ready, same_effect}
 
@@ -110,7 +111,7 @@ module _ (m : Storage) (actors : List Actor) (runs : List OwnedRun) (writers : �
 -- ---- Segments
 
 -- what claims places whose segments are there
-claiming_knows : (m : Storage) (runs : List OwnedRun) (who : ℕ) (command : Command) (from n : ℕ) → Wants command from n → ((q : ℕ) → q < from + n → Ready m q) → Knows m runs who (claiming command from n)
+claiming_knows : (m : Storage) (runs : List OwnedRun) (who : ℕ) (command : Command) (from n : ℕ) → Wants command from n → ((q : ℕ) → q < from + n → IsReady m q) → Knows m runs who (claiming command from n)
 claiming_knows m runs who (commands.Push value) from n wants ready = ready
 claiming_knows m runs who (commands.Grow k value) from n wants ready = ready
 claiming_knows m runs who (commands.AtLeast to value) from n wants ready = λ q below. ready q (let same : from + n ≡ to = wants in omega arith)
@@ -119,7 +120,7 @@ claiming_knows m runs who (commands.Read place) from n wants ready = ready
 claiming_knows m runs who commands.Size from n wants ready = ready
 
 -- behind an installed segment
-segment_passed : (m : Storage) (runs : List OwnedRun) (who : ℕ) (command : Command) (from n k : ℕ) → Wants command from n → ((q : ℕ) → q < segment_end k → q < from + n → Ready m q) → Knows m runs who (after_segment command from n k)
+segment_passed : (m : Storage) (runs : List OwnedRun) (who : ℕ) (command : Command) (from n k : ℕ) → Wants command from n → ((q : ℕ) → q < segment_end k → q < from + n → IsReady m q) → Knows m runs who (after_segment command from n k)
 segment_passed m runs who command from n k wants ready =
     elim (nat_lt (segment_end k) (from + n)) as (λ b. nat_lt (segment_end k) (from + n) ≡ b → Knows m runs who (if b then Scout from n (k + 1) else claiming command from n)) [
       | true ↦ (λ _. λ q before inside. ready q (subst (λ e. q < e) (segment_start-next k) before) inside)
@@ -154,7 +155,7 @@ empty_past m actors runs writers holds q past =
     refl
 
 -- a claim of some places whose segments are there
-claims : (m : Storage) (actors : List Actor) (runs : List OwnedRun) (writers : ℕ → List ℕ) (who : ℕ) (actor : Actor) (phase : Phase) (n : ℕ) (event : Event) → Stands m actors runs writers who actor phase → ((q : ℕ) → IsOfRun phase q → ⊥) → 0 < n → ((q : ℕ) → q < m.size + n → Ready m q) → runs_of ((event, replies.Run m.size n) ∷ []) ≡ record { owner = who; from = m.size; n = n } ∷ [] → ((q : ℕ) → writers_of q ((event, replies.Run m.size n) ∷ []) ≡ []) → Kept actors runs writers who actor (record { storage = with_size m (m.size + n); event = Some (event, replies.Run m.size n); next = Goes (Begin m.size n m.size) })
+claims : (m : Storage) (actors : List Actor) (runs : List OwnedRun) (writers : ℕ → List ℕ) (who : ℕ) (actor : Actor) (phase : Phase) (n : ℕ) (event : Event) → Stands m actors runs writers who actor phase → ((q : ℕ) → IsOfRun phase q → ⊥) → 0 < n → ((q : ℕ) → q < m.size + n → IsReady m q) → runs_of ((event, replies.Run m.size n) ∷ []) ≡ record { owner = who; from = m.size; n = n } ∷ [] → ((q : ℕ) → writers_of q ((event, replies.Run m.size n) ∷ []) ≡ []) → Kept actors runs writers who actor (record { storage = with_size m (m.size + n); event = Some (event, replies.Run m.size n); next = Goes (Begin m.size n m.size) })
 claims m actors runs writers who actor phase n event s free some ready run_is nobody =
     let run : OwnedRun = record { owner = who; from = m.size; n = n } in
     let effect = claim_effect who n m actors runs writers s.holds ready in

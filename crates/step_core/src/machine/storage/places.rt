@@ -1,16 +1,16 @@
 //! Begin, Fill, Spoil and Look: what is done to the slot of one place.
-ghost use Rattle.std.specs.Prelude.{◌≡◌, ◌+◌, ◌≤◌, ◌<◌, ◌^◌, IfOk, OnErr};
+ghost use Rattle.std.specs.Prelude.{◌≡◌, ◌+◌, ◌≤◌, ◌<◌, ◌^◌};
 ghost use Rattle.std.specs.FinMap as map;
 ghost use Rattle.step_core.specs.machine.Step.{is_refused, value_of, answer_of_run, after_place};
 
 use crate::machine::phase::{Next, Phase, Slot};
 use crate::machine::storage::{Outcome, Storage, ends, goes};
 use book_core::{Answer, Command, Event, Reply};
-use std::alloc::AllocError;
 
 impl Storage {
     ghost use Rattle.step_core.specs.machine.Step.{begin_at, fill, spoil, look_at};
     ghost use Rattle.step_core.specs.machine.Bounds.{given};
+    ghost use Rattle.step_core.specs.machine.Installed.{IsReady};
 
     pub(crate) fn begin(
         &mut self,
@@ -19,20 +19,21 @@ impl Storage {
         from: u64,
         n: u64,
         place: u64,
-    ) -> Result<Outcome, AllocError>
-        requires place { from ≤ place }
-        ensures gives { IfOk result (λ outcome. given self.new outcome
-            ≡ begin_at self.old actor command.now from n place (map.get self.old.slots place)) }
-        ensures err { OnErr result (self.new ≡ self.old) }
+    ) -> Outcome
+        requires low { from ≤ place }
+        requires place { place < 2 ^ 32 }
+        requires there { IsReady self.old place }
+        ensures gives { given self.new result
+            ≡ begin_at self.old actor command.now from n place (map.get self.old.slots place) }
     {
-        if self.slots.get(place).is_some() {
-            return Ok(goes(Phase::Begin { from, n, place }));
+        if self.blocks.get(place).is_some() {
+            return goes(Phase::Begin { from, n, place });
         }
-        self.slots.set(place, Slot::Busy(actor))?;
+        self.blocks.set(place, Slot::Busy(actor));
         if is_refused(command, from, place) {
-            Ok(goes(Phase::Spoil { from, n, place }))
+            goes(Phase::Spoil { from, n, place })
         } else {
-            Ok(goes(Phase::Fill { from, n, place }))
+            goes(Phase::Fill { from, n, place })
         }
     }
 
@@ -43,23 +44,23 @@ impl Storage {
         from: u64,
         n: u64,
         place: u64,
-    ) -> Result<Outcome, AllocError>
+    ) -> Outcome
         requires place { place < from + n }
         requires places { from + n ≤ 2 ^ 32 }
-        ensures gives { IfOk result (λ outcome. given self.new outcome ≡ fill self.old actor command.now from n place) }
-        ensures err { OnErr result (self.new ≡ self.old) }
+        requires there { IsReady self.old place }
+        ensures gives { given self.new result ≡ fill self.old actor command.now from n place }
     {
         let value = value_of(command);
-        self.slots.set(place, Slot::Filled(value))?;
+        self.blocks.set(place, Slot::Filled(value));
         let event = Event::Finish {
             actor,
             place,
             value,
         };
-        Ok(Outcome {
+        Outcome {
             event: Some((event, Reply::Done)),
             next: after_place(command, from, n, place),
-        })
+        }
     }
 
     pub(crate) fn spoil(
@@ -69,24 +70,24 @@ impl Storage {
         from: u64,
         n: u64,
         place: u64,
-    ) -> Result<Outcome, AllocError>
+    ) -> Outcome
         requires place { place < from + n }
         requires places { from + n ≤ 2 ^ 32 }
-        ensures gives { IfOk result (λ outcome. given self.new outcome ≡ spoil self.old actor command.now from n place) }
-        ensures err { OnErr result (self.new ≡ self.old) }
+        requires there { IsReady self.old place }
+        ensures gives { given self.new result ≡ spoil self.old actor command.now from n place }
     {
-        self.slots.set(place, Slot::Broken)?;
-        Ok(Outcome {
+        self.blocks.set(place, Slot::Broken);
+        Outcome {
             event: Some((Event::Break { actor, place }, Reply::Done)),
             next: after_place(command, from, n, place),
-        })
+        }
     }
 
     pub(crate) fn look(&self, actor: u32, place: u64) -> Outcome
         ensures gives { given self.now result ≡ look_at self.now actor place (map.get self.now.slots place) }
     {
         let event = Event::Look { actor, place };
-        match self.slots.get(place) {
+        match self.blocks.get(place) {
             None | Some(Slot::Busy(_)) => ends(event, Reply::Pending, Answer::Pending),
             Some(Slot::Filled(value)) => ends(
                 event,

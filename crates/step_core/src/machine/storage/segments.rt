@@ -1,5 +1,6 @@
 //! Scout and Put: a growth sees to it that the segments of its places are installed.
-ghost use Rattle.std.specs.Prelude.{◌≡◌, ◌+◌, ◌≤◌, ◌<◌, ◌^◌, IfOk, OnErr};
+ghost use Rattle.std.specs.Prelude.{◌≡◌, ◌+◌, ◌≤◌, ◌<◌, ◌^◌, true, false, IfOk, OnErr};
+ghost use Rattle.std.specs.FinSet as set;
 ghost use Rattle.step_core.specs.machine.Step.{claiming, after_segment};
 
 use crate::machine::phase::Phase;
@@ -17,7 +18,7 @@ impl Storage {
         requires places { from + n ≤ 2 ^ 32 }
         ensures gives { given self.now result ≡ scout self.now command.now from n segment }
     {
-        if self.installed.has(segment) {
+        if self.blocks.has(segment) {
             return goes(after_segment(command, from, n, segment));
         }
         goes(Phase::Put { from, n, segment })
@@ -36,12 +37,14 @@ impl Storage {
         requires places { from + n ≤ 2 ^ 32 }
         ensures gives { IfOk result (λ outcome. given self.new outcome ≡ put self.old actor command.now memory from n segment) }
         ensures err { OnErr result (self.new ≡ self.old) }
+        ensures granted { OnErr result (memory ≡ true) }
+        ensures not_there { OnErr result (set.contains self.old.installed segment ≡ false) }
     {
         if !memory {
             let event = Event::RefusedMemory { actor };
             return Ok(ends(event, Reply::NoMemory, Answer::NoMemory));
         }
-        self.installed.install(segment)?;
+        self.blocks.install(segment)?;
         Ok(goes(after_segment(command, from, n, segment)))
     }
 }

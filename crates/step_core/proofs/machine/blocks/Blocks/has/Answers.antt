@@ -1,0 +1,8 @@
+use Rattle.std.proofs.Common.{ap, sym, ◌∙◌, is_some}
+use Rattle.step_core.proofs.atomic_steps.BlockViews.{installed_is}
+use Rattle.step_core.proofs.machine.blocks.Blocks.has.Goals as goal
+
+pub returns : goal.returns
+returns c =
+    c.is_some.ensures ∙ ap is_some (sym c.index-self-segment.is)
+    ∙ sym (installed_is c.self.inside.entries _ c.self.view_is c.self.invariant c.args.segment _ c.requires c.index-self-segment.is)

@@ -1,0 +1,147 @@
+//! The segments of the machine: an entry for each, empty or a block with a slot for each of its places.
+ghost use Rattle.std.specs.Prelude.{◌≡◌, ◌<◌, ◌^◌, true, length, replicate, slice_get, slice_set, IfOk, OnOk, OnErr, IsOk, IsSome, IfSome, Some, None};
+ghost use Rattle.std.specs.Option.{option_map};
+ghost use Rattle.std.specs.FinMap as map;
+ghost use Rattle.std.specs.FinSet as set;
+ghost use Rattle.seg_core.specs.Segment.{segment_of};
+ghost use Rattle.step_core.specs.machine.Blocks.{joined};
+
+use crate::machine::phase::Slot;
+use seg_core::{len, locate};
+use std::alloc::{AllocError, Global};
+use std::array;
+use std::marker::Model;
+
+// No segment has a place from here on.
+const PLACES: u64 = 1 << 32;
+
+// The slots of one segment, in the order of its places; `None` is an empty one.
+#[derive(Drop)]
+struct Block {
+    slots: Vec<Option<Slot>>,
+}
+
+impl Model for Block {
+    ghost use Rattle.std.specs.Prelude.{List, Option};
+    ghost use Rattle.step_core.specs.declared.machine.phase.Slot.{Slot};
+
+    ghost Value = { List (Option Slot) };
+
+    ghost view = { λ b. b.slots.items };
+}
+
+impl Block {
+    // A block of empty slots, made in one pass.
+    fn new(alloc: Global, len: u64) -> Result<Self, AllocError>
+        ensures { IfOk result (λ block. block ≡ replicate len None) }
+    {
+        Ok(Block {
+            slots: vec![in alloc; None; len as usize]?,
+        })
+    }
+
+    fn get(&self, offset: u64) -> Option<Slot>
+        ensures { result ≡ joined (slice_get self.now offset) }
+    {
+        self.slots.get(offset as usize).copied().flatten()
+    }
+
+    fn set(&mut self, offset: u64, slot: Slot)
+        requires { offset < length self.old }
+        ensures { self.new ≡ slice_set self.old offset (Some slot) }
+    {
+        self.slots[offset as usize] = Some(slot);
+    }
+}
+
+/// The entries of the segments.
+#[derive(Drop)]
+pub(crate) struct Blocks {
+    alloc: Global,
+    entries: [Option<Block>; 32],
+}
+
+impl Model for Blocks {
+    ghost use Rattle.step_core.specs.machine.Blocks.{Shown, shown_code, shown, AreBlocks};
+
+    ghost Value = { Shown };
+
+    ghost coded = { shown_code };
+
+    ghost view = { λ b. shown b.entries };
+
+    ghost invariant = { λ b. AreBlocks b.entries };
+}
+
+impl Blocks {
+    ghost use Rattle.step_core.specs.machine.Blocks.{with_segment, with_slot};
+
+    pub(crate) fn new(alloc: Global) -> Self
+        ensures { result ≡ record { installed = set.empty; slots = map.empty } }
+    {
+        Blocks {
+            alloc,
+            entries: array::from_fn(|_| None),
+        }
+    }
+
+    /// Whether a segment is installed.
+    pub(crate) fn has(&self, segment: u32) -> bool
+        requires { segment < 32 }
+        ensures { result ≡ set.contains self.now.installed segment }
+    {
+        self.entries[segment as usize].is_some()
+    }
+
+    /// What the slot of a place holds; nothing past all segments.
+    pub(crate) fn get(&self, place: u64) -> Option<Slot>
+        ensures { result ≡ map.get self.now.slots place }
+    {
+        let entries = &self.entries;
+        if PLACES <= place {
+            return None;
+        }
+        let (segment, offset) = locate(place);
+        match &entries[segment as usize] {
+            Some(block) => block.get(offset),
+            None => None,
+        }
+    }
+
+    /// Sets the slot of a place whose segment is installed. It takes no memory.
+    pub(crate) fn set(&mut self, place: u64, slot: Slot)
+        requires place { place < 2 ^ 32 }
+        requires there { set.contains self.old.installed (segment_of place) ≡ true }
+        ensures { self.new ≡ with_slot self.old place slot }
+    {
+        let (segment, offset) = locate(place);
+        set_in(&mut self.entries[segment as usize], offset, slot);
+    }
+
+    /// Makes the block of a segment, where it has none, in one pass over it. It takes memory there alone.
+    pub(crate) fn install(&mut self, segment: u32) -> Result<(), AllocError>
+        requires { segment < 32 }
+        ensures ok { OnOk result (self.new ≡ with_segment self.old segment) }
+        ensures err { OnErr result (self.new ≡ self.old) }
+        ensures there { set.contains self.old.installed segment ≡ true → IsOk result }
+    {
+        if self.has(segment) {
+            return Ok(());
+        }
+        let block = Block::new(self.alloc, len(segment))?;
+        self.entries[segment as usize] = Some(block);
+        Ok(())
+    }
+}
+
+// The slot at this offset of the block holds this now.
+fn set_in(entry: &mut Option<Block>, offset: u64, slot: Slot)
+    requires there { IsSome entry.old }
+    requires inside { IfSome entry.old (λ block. offset < length block) }
+    ensures { entry.new ≡ option_map (λ block. slice_set block offset (Some slot)) entry.old }
+{
+    match entry {
+        Some(block) => block.set(offset, slot),
+        None => unreachable!(),
+    }
+}

@@ -54,7 +54,8 @@ not_legal : (v : CellList) (event : Event) → Row v event None
 unfolding Row
 not_legal v event w reply is = absurd (none-some (w, reply) is)
 
-legal : (v : CellList) (event : Event) (to : CellList) (told : Reply) → Does v event to told → Row v event (Some (to, told))
+legal : (v : CellList) (event : Event) (to : CellList) (told : Reply) → Does v event to told
+    → Row v event (Some (to, told))
 unfolding Row
 legal v event to told does w reply is = subst (λ (a : CellList × Reply). Does v event a.0 a.1) (same_Some _ _ is) does
 
@@ -66,7 +67,10 @@ pending_is actor (Some Broken) is = absurd (false≢true is)
 pending_is actor None is = absurd (false≢true is)
 
 -- a write, where the place is pending for the actor
-write_row : (v : CellList) (actor at : ℕ) (cell : Cell) (event : Event) → IsWriteOf actor at cell event replies.Done → run_of event replies.Done ≡ [] → ((place : ℕ) → writer_in place event ≡ (if at == place then actor ∷ [] else [])) → Row v event (if is_pending_for actor (slice_get v.cells at) then Some (with_cell v at cell, replies.Done) else None)
+write_row : (v : CellList) (actor at : ℕ) (cell : Cell) (event : Event) → IsWriteOf actor at cell event replies.Done
+    → run_of event replies.Done ≡ []
+    → ((place : ℕ) → writer_in place event ≡ (if at == place then actor ∷ [] else []))
+    → Row v event (if is_pending_for actor (slice_get v.cells at) then Some (with_cell v at cell, replies.Done) else None)
 write_row v actor at cell event write run writer =
     elim (is_pending_for actor (slice_get v.cells at)) as (λ b. is_pending_for actor (slice_get v.cells at) ≡ b → Row v event (if b then Some (with_cell v at cell, replies.Done) else None)) [
       | true ↦ (λ ours. legal v event (with_cell v at cell) replies.Done (inr (inr (record {
@@ -84,11 +88,15 @@ write_row v actor at cell event write run writer =
     refl
 
 -- an event that changes nothing
-same_row : (v : CellList) (event : Event) (told : Reply) → run_of event told ≡ [] → ((place : ℕ) → writer_in place event ≡ []) → Row v event (Some (v, told))
+same_row : (v : CellList) (event : Event) (told : Reply) → run_of event told ≡ []
+    → ((place : ℕ) → writer_in place event ≡ []) → Row v event (Some (v, told))
 same_row v event told run writer = legal v event v told (inl (record { list = refl; run = run; writer = writer }))
 
 -- a claim
-claim_row : (v : CellList) (actor n : ℕ) (event : Event) → run_of event (replies.Run (length v.cells) n) ≡ record { owner = actor; from = length v.cells; n = n } ∷ [] → ((place : ℕ) → writer_in place event ≡ []) → Row v event (Some (with_pending v actor n, replies.Run (length v.cells) n))
+claim_row : (v : CellList) (actor n : ℕ) (event : Event)
+    → run_of event (replies.Run (length v.cells) n) ≡ record { owner = actor; from = length v.cells; n = n } ∷ []
+    → ((place : ℕ) → writer_in place event ≡ [])
+    → Row v event (Some (with_pending v actor n, replies.Run (length v.cells) n))
 claim_row v actor n event run writer =
     legal v event (with_pending v actor n) (replies.Run (length v.cells) n) (inr (inl (record { actor = actor; n = n; list = refl; run = run; writer = writer })))
 
@@ -113,6 +121,7 @@ row_of v (RefusedFull actor n) =
 row_of v (RefusedMemory actor) = same_row v (RefusedMemory actor) replies.NoMemory refl (λ _. refl)
 
 -- what an event does where it is legal
-pub event_does : (v : CellList) (event : Event) (w : CellList) (reply : Reply) → apply_event v event ≡ Some (w, reply) → Does v event w reply
+pub event_does : (v : CellList) (event : Event) (w : CellList) (reply : Reply)
+    → apply_event v event ≡ Some (w, reply) → Does v event w reply
 unfolding Row
 event_does v event w reply is = row_of v event w reply is

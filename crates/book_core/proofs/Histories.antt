@@ -15,15 +15,20 @@ use Rattle.book_core.proofs.Lists.{get_before, get_other}
 use Rattle.book_core.proofs.Runs.{tile-append}
 
 -- the entry at an index, and those after it
-first_left : (es : List (Event × Reply)) (i : ℕ) (d : Event × Reply) → i < length es → drop i es ≡ get_or es i d ∷ drop (i + 1) es
+first_left : (es : List (Event × Reply)) (i : ℕ) (d : Event × Reply) → i < length es
+    → drop i es ≡ get_or es i d ∷ drop (i + 1) es
 first_left es i d inside = rw (add-one, drop-cons es i d) refl
 
 -- an event that leads to one list, with one reply, leads to no other
-same_after : (o : Option (CellList × Reply)) (mid other : CellList) (reply : Reply) → o ≡ Some (mid, reply) → o ≡ Some (other, reply) → other ≡ mid
+same_after : (o : Option (CellList × Reply)) (mid other : CellList) (reply : Reply) → o ≡ Some (mid, reply)
+    → o ≡ Some (other, reply) → other ≡ mid
 same_after o mid other reply here there = ap (λ (after : CellList × Reply). after.0) (same_Some (other, reply) (mid, reply) (sym there ∙ here))
 
 -- after the next event, what is left is legal exactly where it was with that event
-pub after_next : (old mid : CellList) (es : List (Event × Reply)) (i : ℕ) (d : Event × Reply) (whole : Type 0) → i < length es → (IsLegalFrom old (drop i es) ↔ whole) → apply_event old (get_or es i d).0 ≡ Some (mid, (get_or es i d).1) → (IsLegalFrom mid (drop (i + 1) es) ↔ whole)
+pub after_next : (old mid : CellList) (es : List (Event × Reply)) (i : ℕ) (d : Event × Reply) (whole : Type 0)
+    → i < length es → (IsLegalFrom old (drop i es) ↔ whole)
+    → apply_event old (get_or es i d).0 ≡ Some (mid, (get_or es i d).1)
+    → (IsLegalFrom mid (drop (i + 1) es) ↔ whole)
 after_next old mid es i d whole inside so_far happens =
     let split : IsLegalFrom old (get_or es i d ∷ drop (i + 1) es) ↔ whole = subst (λ left. IsLegalFrom old left ↔ whole) (first_left es i d inside) so_far in (
       (λ legal. split.0 (legal.0, (mid, happens, legal.1))),
@@ -34,19 +39,23 @@ after_next old mid es i d whole inside so_far happens =
 
 -- ---- Histories one after the other
 
-pub IsHistory-append : (old : CellList) (es fs : List (Event × Reply)) (mid new : CellList) → IsHistory old es mid → IsHistory mid fs new → IsHistory old (es ++ fs) new
+pub IsHistory-append : (old : CellList) (es fs : List (Event × Reply)) (mid new : CellList) → IsHistory old es mid
+    → IsHistory mid fs new → IsHistory old (es ++ fs) new
 IsHistory-append old [] fs mid new first second = subst (λ v. IsHistory v fs new) first second
 IsHistory-append old (e ∷ es) fs mid new (next, is, others) second = (next, is, IsHistory-append next es fs mid new others second)
 
 -- a history in two parts is two histories
-pub IsHistory-split : (old : CellList) (es fs : List (Event × Reply)) (new : CellList) → IsHistory old (es ++ fs) new → (mid : CellList) × IsHistory old es mid × IsHistory mid fs new
+pub IsHistory-split : (old : CellList) (es fs : List (Event × Reply)) (new : CellList)
+    → IsHistory old (es ++ fs) new → (mid : CellList) × IsHistory old es mid × IsHistory mid fs new
 IsHistory-split old [] fs new history = (old, refl, history)
 IsHistory-split old (e ∷ es) fs new (next, is, others) =
     let (mid, first, second) = IsHistory-split next es fs new others in
     (mid, (next, is, first), second)
 
 -- one more event goes at the end of a history
-pub IsHistory-push : (old : CellList) (es : List (Event × Reply)) (mid new : CellList) (event : Event) (reply : Reply) → IsHistory old es mid → apply_event mid event ≡ Some (new, reply) → IsHistory old (es ++ (event, reply) ∷ []) new
+pub IsHistory-push : (old : CellList) (es : List (Event × Reply)) (mid new : CellList) (event : Event) (reply : Reply)
+    → IsHistory old es mid → apply_event mid event ≡ Some (new, reply)
+    → IsHistory old (es ++ (event, reply) ∷ []) new
 IsHistory-push old es mid new event reply history applies = IsHistory-append old es ((event, reply) ∷ []) mid new history (new, applies, refl)
 
 pub histories_split : HistoriesSplit
@@ -63,13 +72,15 @@ limit_kept v event w reply does = elim does [
   | inr (inr write) ↦ ap (λ (x : CellList). x.limit) write.list
 ]
 
-pub history_limit : (old : CellList) (es : List (Event × Reply)) (new : CellList) → IsHistory old es new → new.limit ≡ old.limit
+pub history_limit : (old : CellList) (es : List (Event × Reply)) (new : CellList) → IsHistory old es new
+    → new.limit ≡ old.limit
 history_limit old [] new is = ap (λ (v : CellList). v.limit) is
 history_limit old (e ∷ es) new (mid, first, others) =
     history_limit mid es new others ∙ limit_kept old e.0 mid e.1 (event_does old e.0 mid e.1 first)
 
 -- the run of an event tiles the places that it appends
-run_tiles : (v : CellList) (event : Event) (w : CellList) (reply : Reply) → Does v event w reply → Tile (length v.cells) (run_of event reply) (length w.cells)
+run_tiles : (v : CellList) (event : Event) (w : CellList) (reply : Reply) → Does v event w reply
+    → Tile (length v.cells) (run_of event reply) (length w.cells)
 run_tiles v event w reply does = elim does [
   | inl nothing ↦ subst (λ runs. Tile (length v.cells) runs (length w.cells)) (sym nothing.run) (ap (λ (x : CellList). length x.cells) (sym nothing.list))
   | inr (inl run) ↦
@@ -92,7 +103,9 @@ runs_tile old new (e ∷ es) (mid, first, others) =
 not_pending : (actor : ℕ) (cell : Cell) → IsFinished cell → Some cell ≡ Some (Pending actor) → ⊥
 not_pending actor cell finished is = subst (λ c. IsFinished c) (same_Some cell (Pending actor) is) finished
 
-finished_stays : (v : CellList) (event : Event) (w : CellList) (reply : Reply) (place : ℕ) (cell : Cell) → Does v event w reply → slice_get v.cells place ≡ Some cell → IsFinished cell → slice_get w.cells place ≡ Some cell
+finished_stays : (v : CellList) (event : Event) (w : CellList) (reply : Reply) (place : ℕ) (cell : Cell)
+    → Does v event w reply → slice_get v.cells place ≡ Some cell → IsFinished cell
+    → slice_get w.cells place ≡ Some cell
 finished_stays v event w reply place cell does here finished = elim does [
   | inl nothing ↦ ap (λ (x : CellList). slice_get x.cells place) nothing.list ∙ here
   | inr (inl run) ↦

@@ -3,13 +3,15 @@ use Rattle.std.proofs.Common.{◌≡◌, ◌≢◌, ℕ, ◌+◌, ◌<◌, ◌�
 use Rattle.std.proofs.lemmas.Option.{none-some}
 
 -- what stands before an end stays where a list goes on
-pub get_before : {X : Type 0} (front back : List X) (place : ℕ) (x : X) → slice_get front place ≡ Some x → slice_get (front ++ back) place ≡ Some x
+pub get_before : {X : Type 0} (front back : List X) (place : ℕ) (x : X) → slice_get front place ≡ Some x
+    → slice_get (front ++ back) place ≡ Some x
 get_before [] back place x is = absurd (none-some x is)
 get_before (y ∷ front) back zero x is = is
 get_before (y ∷ front) back (suc place) x is = get_before front back place x is
 
 -- another place that is set
-pub get_other : {X : Type 0} (xs : List X) (at place : ℕ) (new : X) → place ≢ at → slice_get (slice_set xs at new) place ≡ slice_get xs place
+pub get_other : {X : Type 0} (xs : List X) (at place : ℕ) (new : X) → place ≢ at
+    → slice_get (slice_set xs at new) place ≡ slice_get xs place
 get_other [] at place new apart = refl
 get_other (x ∷ xs) zero zero new apart = absurd (apart refl)
 get_other (x ∷ xs) zero (suc place) new apart = refl
@@ -17,13 +19,15 @@ get_other (x ∷ xs) (suc at) zero new apart = refl
 get_other (x ∷ xs) (suc at) (suc place) new apart = get_other xs at place new (λ same. apart (ap suc same))
 
 -- the place that is set
-pub get_set : {X : Type 0} (xs : List X) (at : ℕ) (old new : X) → slice_get xs at ≡ Some old → slice_get (slice_set xs at new) at ≡ Some new
+pub get_set : {X : Type 0} (xs : List X) (at : ℕ) (old new : X) → slice_get xs at ≡ Some old
+    → slice_get (slice_set xs at new) at ≡ Some new
 get_set [] at old new is = absurd (none-some old is)
 get_set (x ∷ xs) zero old new is = refl
 get_set (x ∷ xs) (suc at) old new is = get_set xs at old new is
 
 -- what was appended
-pub get_appended : {X : Type 0} (front : List X) (n place : ℕ) (x : X) → length front ≤ place → place < length front + n → slice_get (front ++ replicate n x) place ≡ Some x
+pub get_appended : {X : Type 0} (front : List X) (n place : ℕ) (x : X) → length front ≤ place
+    → place < length front + n → slice_get (front ++ replicate n x) place ≡ Some x
 get_appended [] zero place x low high = absurd (omega arith)
 get_appended [] (suc n) zero x low high = refl
 get_appended [] (suc n) (suc place) x low high = get_appended [] n place x (omega arith) (omega arith)

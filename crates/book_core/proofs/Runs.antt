@@ -13,13 +13,16 @@ use Rattle.std.proofs.lemmas.List.{append_assoc}
 has_place : OwnedRun → ℕ → Bool
 has_place run place = nat_le run.from place && nat_lt place (run.from + run.n)
 
-pub has_place-true : (run : OwnedRun) (place : ℕ) → run.from ≤ place → place < run.from + run.n → (nat_le run.from place && nat_lt place (run.from + run.n)) ≡ true
+pub has_place-true : (run : OwnedRun) (place : ℕ) → run.from ≤ place → place < run.from + run.n
+    → (nat_le run.from place && nat_lt place (run.from + run.n)) ≡ true
 has_place-true run place low high = grind (arith, nat_tests)
 
-has_place-below : (run : OwnedRun) (place : ℕ) → place < run.from → (nat_le run.from place && nat_lt place (run.from + run.n)) ≡ false
+has_place-below : (run : OwnedRun) (place : ℕ) → place < run.from
+    → (nat_le run.from place && nat_lt place (run.from + run.n)) ≡ false
 has_place-below run place low = grind (arith, nat_tests)
 
-pub has_place-past : (run : OwnedRun) (place : ℕ) → run.from + run.n ≤ place → (nat_le run.from place && nat_lt place (run.from + run.n)) ≡ false
+pub has_place-past : (run : OwnedRun) (place : ℕ) → run.from + run.n ≤ place
+    → (nat_le run.from place && nat_lt place (run.from + run.n)) ≡ false
 has_place-past run place high = grind (arith, nat_tests)
 
 -- the owner in one run, or else in others
@@ -27,7 +30,8 @@ owner_in : Bool → ℕ → Option ℕ → Option ℕ
 owner_in b owner others = if b then Some owner else others
 
 -- a place that has an owner keeps it where runs follow
-pub owner_kept : (xs ys : List OwnedRun) (place owner : ℕ) → owner_of xs place ≡ Some owner → owner_of (xs ++ ys) place ≡ Some owner
+pub owner_kept : (xs ys : List OwnedRun) (place owner : ℕ) → owner_of xs place ≡ Some owner
+    → owner_of (xs ++ ys) place ≡ Some owner
 owner_kept [] ys place owner is = absurd (none-some owner is)
 owner_kept (x ∷ xs) ys place owner is =
     elim (nat_le x.from place && nat_lt place (x.from + x.n)) as (λ b. (if b then Some x.owner else owner_of xs place) ≡ Some owner → (if b then Some x.owner else owner_of (xs ++ ys) place) ≡ Some owner)
@@ -35,7 +39,8 @@ owner_kept (x ∷ xs) ys place owner is =
     is
 
 -- a place without an owner has that of the runs that follow
-pub owner_new : (xs ys : List OwnedRun) (place : ℕ) → owner_of xs place ≡ None → owner_of (xs ++ ys) place ≡ owner_of ys place
+pub owner_new : (xs ys : List OwnedRun) (place : ℕ) → owner_of xs place ≡ None
+    → owner_of (xs ++ ys) place ≡ owner_of ys place
 owner_new [] ys place is = refl
 owner_new (x ∷ xs) ys place is =
     elim (nat_le x.from place && nat_lt place (x.from + x.n)) as (λ b. (if b then Some x.owner else owner_of xs place) ≡ None → (if b then Some x.owner else owner_of (xs ++ ys) place) ≡ owner_of ys place)
@@ -47,12 +52,14 @@ pub tile_grows : (start end : ℕ) (runs : List OwnedRun) → Tile start runs en
 tile_grows start end [] tile = omega arith
 tile_grows start end (run ∷ runs) (begins, others) = let more = tile_grows (start + run.n) end runs others in omega arith
 
-pub tile-append : (start mid end : ℕ) (xs ys : List OwnedRun) → Tile start xs mid → Tile mid ys end → Tile start (xs ++ ys) end
+pub tile-append : (start mid end : ℕ) (xs ys : List OwnedRun) → Tile start xs mid → Tile mid ys end
+    → Tile start (xs ++ ys) end
 tile-append start mid end [] ys first second = subst (λ s. Tile s ys end) (sym first) second
 tile-append start mid end (x ∷ xs) ys (begins, others) second = (begins, tile-append (start + x.n) mid end xs ys others second)
 
 -- no place past the end has an owner
-pub none_past : (start end : ℕ) (runs : List OwnedRun) (place : ℕ) → Tile start runs end → end ≤ place → owner_of runs place ≡ None
+pub none_past : (start end : ℕ) (runs : List OwnedRun) (place : ℕ) → Tile start runs end → end ≤ place
+    → owner_of runs place ≡ None
 none_past start end [] place tile past = refl
 none_past start end (run ∷ runs) place (begins, others) past =
     let grows = tile_grows (start + run.n) end runs others in
@@ -60,7 +67,8 @@ none_past start end (run ∷ runs) place (begins, others) past =
     rw outside (none_past (start + run.n) end runs place others past)
 
 -- each place between has one
-pub owned_between : (start end : ℕ) (runs : List OwnedRun) (place : ℕ) → Tile start runs end → start ≤ place → place < end → (owner : ℕ) × (owner_of runs place ≡ Some owner)
+pub owned_between : (start end : ℕ) (runs : List OwnedRun) (place : ℕ) → Tile start runs end → start ≤ place
+    → place < end → (owner : ℕ) × (owner_of runs place ≡ Some owner)
 owned_between start end [] place tile low high = absurd (omega arith)
 owned_between start end (run ∷ runs) place (begins, others) low high =
     elim (cases_lt place (start + run.n)) [
@@ -76,6 +84,7 @@ pub runs_of-append : (es fs : List (Event × Reply)) → runs_of (es ++ fs) ≡ 
 runs_of-append [] fs = refl
 runs_of-append (e ∷ es) fs = ap (λ rs. run_of e.0 e.1 ++ rs) (runs_of-append es fs) ∙ sym (append_assoc (run_of e.0 e.1) (runs_of es) (runs_of fs))
 
-pub writers_of-append : (place : ℕ) (es fs : List (Event × Reply)) → writers_of place (es ++ fs) ≡ writers_of place es ++ writers_of place fs
+pub writers_of-append : (place : ℕ) (es fs : List (Event × Reply))
+    → writers_of place (es ++ fs) ≡ writers_of place es ++ writers_of place fs
 writers_of-append place [] fs = refl
 writers_of-append place (e ∷ es) fs = ap (λ rs. writer_in place e.0 ++ rs) (writers_of-append place es fs) ∙ sym (append_assoc (writer_in place e.0) (writers_of place es) (writers_of place fs))

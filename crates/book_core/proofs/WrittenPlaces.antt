@@ -39,7 +39,8 @@ record Tells (es : List (Event × Reply)) (v : CellList) : Type 0 where
   pub says : (place : ℕ) → Says es place (slice_get v.cells place)
 
 -- what is said of a place stays where an event has a run, and doesn't write the place
-says_kept : (es : List (Event × Reply)) (e : Event × Reply) (place : ℕ) (cell : Cell) → writer_in place e.0 ≡ [] → Says es place (Some cell) → Says (es ++ e ∷ []) place (Some cell)
+says_kept : (es : List (Event × Reply)) (e : Event × Reply) (place : ℕ) (cell : Cell) → writer_in place e.0 ≡ []
+    → Says es place (Some cell) → Says (es ++ e ∷ []) place (Some cell)
 unfolding Says
 says_kept es e place cell nobody =
     let runs : runs_of (es ++ e ∷ []) ≡ runs_of es ++ run_of e.0 e.1 = runs_of-append es (e ∷ []) ∙ ap (λ rs. runs_of es ++ rs) (append-nil (run_of e.0 e.1)) in
@@ -54,7 +55,8 @@ says_kept es e place cell nobody =
     ]
 
 -- nobody has written a place that is not there
-none_kept : (es : List (Event × Reply)) (e : Event × Reply) (place : ℕ) → writer_in place e.0 ≡ [] → writers_of place es ≡ [] → writers_of place (es ++ e ∷ []) ≡ []
+none_kept : (es : List (Event × Reply)) (e : Event × Reply) (place : ℕ) → writer_in place e.0 ≡ []
+    → writers_of place es ≡ [] → writers_of place (es ++ e ∷ []) ≡ []
 none_kept es e place nobody none =
     writers_of-append place es (e ∷ []) ∙ ap (λ ws. ws ++ writers_of place (e ∷ [])) none ∙ ap (λ ws. ws ++ []) nobody
 
@@ -64,13 +66,15 @@ module _ (es : List (Event × Reply)) (v : CellList) (tells : Tells es v) (event
   e = (event, reply)
 
   -- the runs tile the list after the event, where its run tiles what it appends
-  tile_after : Tile (length v.cells) (run_of event reply) (length w.cells) → Tile 0 (runs_of (es ++ e ∷ [])) (length w.cells)
+  tile_after : Tile (length v.cells) (run_of event reply) (length w.cells)
+      → Tile 0 (runs_of (es ++ e ∷ [])) (length w.cells)
   tile_after more =
       subst (λ rs. Tile 0 rs (length w.cells)) (sym (runs_of-append es (e ∷ []) ∙ ap (λ rs. runs_of es ++ rs) (append-nil (run_of event reply))))
       (tile-append 0 (length v.cells) (length w.cells) (runs_of es) (run_of event reply) tells.tile more)
 
   -- of a place that the event neither appends nor writes
-  elsewhere : (place : ℕ) → writer_in place event ≡ [] → slice_get w.cells place ≡ slice_get v.cells place → Says (es ++ e ∷ []) place (slice_get w.cells place)
+  elsewhere : (place : ℕ) → writer_in place event ≡ [] → slice_get w.cells place ≡ slice_get v.cells place
+      → Says (es ++ e ∷ []) place (slice_get w.cells place)
   unfolding Says
   elsewhere place nobody same =
       subst (Says (es ++ e ∷ []) place) (sym same)
@@ -87,7 +91,8 @@ module _ (es : List (Event × Reply)) (v : CellList) (tells : Tells es v) (event
   }
 
   -- an appended place is its claimer's, and not written
-  appended_says : (run : AppendsRun v event w reply) (place : ℕ) → length v.cells ≤ place → place < length v.cells + run.n → Says (es ++ e ∷ []) place (slice_get w.cells place)
+  appended_says : (run : AppendsRun v event w reply) (place : ℕ) → length v.cells ≤ place
+      → place < length v.cells + run.n → Says (es ++ e ∷ []) place (slice_get w.cells place)
   unfolding Says
   appended_says run place low high =
       let here : slice_get w.cells place ≡ Some (Pending run.actor) =
@@ -175,7 +180,8 @@ module _ (es : List (Event × Reply)) (v : CellList) (tells : Tells es v) (event
   ]
 
 -- what holds of a history holds of what follows it
-history_told : (done : List (Event × Reply)) (v : CellList) (es : List (Event × Reply)) (w : CellList) → Tells done v → IsHistory v es w → Tells (done ++ es) w
+history_told : (done : List (Event × Reply)) (v : CellList) (es : List (Event × Reply)) (w : CellList)
+    → Tells done v → IsHistory v es w → Tells (done ++ es) w
 history_told done v [] w tells is = subst (λ xs. Tells xs w) (sym (append-nil done)) (subst (Tells done) (sym is) tells)
 history_told done v (e ∷ es) w tells (mid, first, others) =
     subst (λ xs. Tells xs w) (append_assoc done (e ∷ []) es)
@@ -217,7 +223,8 @@ value_in (replies.Full size) = 0
 value_in replies.NoMemory = 0
 
 -- a cell that a look tells a value of holds it
-value_told : (size : ℕ) (cell : Option Cell) (value : ℕ) → reply_of_look size cell ≡ replies.Value value → cell ≡ Some (Filled value)
+value_told : (size : ℕ) (cell : Option Cell) (value : ℕ) → reply_of_look size cell ≡ replies.Value value
+    → cell ≡ Some (Filled value)
 unfolding is_value value_in
 value_told size (Some (Pending owner)) value is = absurd (false≢true (ap is_value is))
 value_told size (Some (Filled held)) value is = ap (λ k. Some (Filled k)) (ap value_in is)

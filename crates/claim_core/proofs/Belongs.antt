@@ -40,7 +40,8 @@ belongs {seat} {share} {size} {table} {key} {terms} {word} {hand} held opened ha
     }
 
 -- two lists of runs that a consistent view has together have none in common
-pub owned_apart : {both : SeatView} (xs ys : List ℕ) → IsConsistent both → both.mine ≡ xs ++ ys → (k : ℕ) → Contains xs k → Contains ys k → ⊥
+pub owned_apart : {both : SeatView} (xs ys : List ℕ) → IsConsistent both → both.mine ≡ xs ++ ys → (k : ℕ)
+    → Contains xs k → Contains ys k → ⊥
 owned_apart {both} xs ys consistent is k here there =
     let x = times-from_Contains xs k here in
     let y = times-from_Contains ys k there in
@@ -57,7 +58,8 @@ owns_seen {seat} {share} {size} {hand} held hand_is =
     (λ k there. let t = times-from_Contains seat.me.0.mine k there in let o = held.consistent.own k in omega arith)
 
 -- and owns none twice
-pub owns_once : {seat : ClaimSeat} {share size : ℕ} {hand : HandView} → IsHeld seat share size → hand_view seat ≡ hand → IsDistinct nat_eq hand.mine
+pub owns_once : {seat : ClaimSeat} {share size : ℕ} {hand : HandView} → IsHeld seat share size
+    → hand_view seat ≡ hand → IsDistinct nat_eq hand.mine
 owns_once {seat} {share} {size} {hand} held hand_is =
     subst (λ (h : HandView). IsDistinct nat_eq h.mine) hand_is
     (IsDistinct-from_times seat.me.0.mine (λ k. let o = held.consistent.own k in omega arith))

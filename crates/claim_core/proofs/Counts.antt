@@ -50,7 +50,8 @@ pub once_more : (k n : ℕ) → once_below k (n + 1) ≡ times k (n ∷ []) + on
 once_more k n = grind (arith, nat_tests)
 
 -- the sum after a change of one member
-pub total-set : (f : SeatView → ℕ) (vs : List SeatView) (i : ℕ) (v w : SeatView) → get_elem? vs i ≡ some v → total f (set vs i w) + f v ≡ total f vs + f w
+pub total-set : (f : SeatView → ℕ) (vs : List SeatView) (i : ℕ) (v w : SeatView) → get_elem? vs i ≡ some v
+    → total f (set vs i w) + f v ≡ total f vs + f w
 total-set f [] i v w at = absurd (some-ne-none v (sym at))
 total-set f (x ∷ xs) zero v w at = let same : f x ≡ f v = ap f (some-injective x v at) in omega arith
 total-set f (x ∷ xs) (suc i) v w at = let r = total-set f xs i v w at in omega arith
@@ -60,7 +61,8 @@ total-snoc f [] w = omega arith
 total-snoc f (x ∷ xs) w = let r = total-snoc f xs w in omega arith
 
 -- no member has more than all
-pub member_le : (f : SeatView → ℕ) (vs : List SeatView) (i : ℕ) (v : SeatView) → get_elem? vs i ≡ some v → f v ≤ total f vs
+pub member_le : (f : SeatView → ℕ) (vs : List SeatView) (i : ℕ) (v : SeatView) → get_elem? vs i ≡ some v
+    → f v ≤ total f vs
 member_le f [] i v at = absurd (some-ne-none v (sym at))
 member_le f (x ∷ xs) zero v at = let same : f x ≡ f v = ap f (some-injective x v at) in omega arith
 member_le f (x ∷ xs) (suc i) v at = let r = member_le f xs i v at in omega arith
@@ -75,7 +77,8 @@ nobody f g (x ∷ xs) all none =
     omega arith
 
 -- a member whose f is 0 has a g of 0: where one member has all of f, it has all of g
-pub alone : (f g : SeatView → ℕ) (vs : List SeatView) (i : ℕ) (v : SeatView) → get_elem? vs i ≡ some v → total f vs ≡ f v
+pub alone : (f g : SeatView → ℕ) (vs : List SeatView) (i : ℕ) (v : SeatView) → get_elem? vs i ≡ some v
+    → total f vs ≡ f v
     → ((j : ℕ) (w : SeatView) → get_elem? vs j ≡ some w → f w ≡ 0 → g w ≡ 0) → total g vs ≡ g v
 alone f g [] i v at all none = absurd (some-ne-none v (sym at))
 alone f g (x ∷ xs) zero v at all none =

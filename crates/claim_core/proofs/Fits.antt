@@ -22,12 +22,14 @@ abbrev share : SeatView → ℕ
 share v = v.shares
 
 -- what holds of the new member and of each old one holds of all after a change
-each_set : (F : SeatView → Type 0) (vs : List SeatView) (i : ℕ) (w : SeatView) → F w → ((j : ℕ) (v : SeatView) → get_elem? vs j ≡ some v → F v)
+each_set : (F : SeatView → Type 0) (vs : List SeatView) (i : ℕ) (w : SeatView) → F w
+    → ((j : ℕ) (v : SeatView) → get_elem? vs j ≡ some v → F v)
     → (j : ℕ) (v : SeatView) → get_elem? (set vs i w) j ≡ some v → F v
 each_set F vs i w new old j v at =
     ⊎_elim (λ (c : (j ≡ i) × (w ≡ v)). subst F c.1 new) (λ (c : (j ≢ i) × (get_elem? vs j ≡ some v)). old j v c.1) (at_set vs i j w v at)
 
-each_snoc : (F : SeatView → Type 0) (vs : List SeatView) (w : SeatView) → F w → ((j : ℕ) (v : SeatView) → get_elem? vs j ≡ some v → F v)
+each_snoc : (F : SeatView → Type 0) (vs : List SeatView) (w : SeatView) → F w
+    → ((j : ℕ) (v : SeatView) → get_elem? vs j ≡ some v → F v)
     → (j : ℕ) (v : SeatView) → get_elem? (vs ++ w ∷ []) j ≡ some v → F v
 each_snoc F vs w new old j v at = ⊎_elim (λ (c : get_elem? vs j ≡ some v). old j v c) (λ (c : w ≡ v). subst F c new) (at_snoc vs w v j at)
 
@@ -37,7 +39,8 @@ each_one F w new zero v at = subst F (some-injective w v at) new
 each_one F w new (suc j) v at = absurd (some-ne-none v (sym at))
 
 -- one hand with all shares fits where nothing was claimed
-pub begins : (terms : Terms) → terms.base ≤ terms.limit → Fits terms.limit terms.base terms.base [] (first_view terms ∷ [])
+pub begins : (terms : Terms) → terms.base ≤ terms.limit
+    → Fits terms.limit terms.base terms.base [] (first_view terms ∷ [])
 begins terms room =
     record {
       ends = omega arith;
@@ -57,7 +60,8 @@ begins terms room =
     }
 
 -- the member after a change of it
-pub at_set_here : (vs : List SeatView) (i : ℕ) (v w : SeatView) → get_elem? vs i ≡ some v → get_elem? (set vs i w) i ≡ some w
+pub at_set_here : (vs : List SeatView) (i : ℕ) (v w : SeatView) → get_elem? vs i ≡ some v
+    → get_elem? (set vs i w) i ≡ some w
 at_set_here [] i v w at = absurd (some-ne-none v (sym at))
 at_set_here (x ∷ xs) zero v w at = refl
 at_set_here (x ∷ xs) (suc i) v w at = at_set_here xs i v w at
@@ -136,7 +140,8 @@ module _
       }
 
   -- the seat has added a run to the list of all lengths
-  pub grows : (n : ℕ) (w : SeatView) → 0 < n → size + n ≤ limit → 0 < v.shares → w.shares ≡ v.shares → w.mine ≡ length lengths ∷ v.mine
+  pub grows : (n : ℕ) (w : SeatView) → 0 < n → size + n ≤ limit → 0 < v.shares → w.shares ≡ v.shares
+      → w.mine ≡ length lengths ∷ v.mine
       → w.seen ≡ lengths ++ n ∷ [] → w.one ≡ [] → w.other ≡ [] → Fits limit base (size + n) (lengths ++ n ∷ []) (set vs id w)
   grows n w one_place room part shares mine seen one other =
       let all = lengths ++ n ∷ [] in
@@ -175,7 +180,8 @@ module _
       }
 
   -- the seat is cut in two
-  pub splits : (left right : SeatView) → Suits lengths left → Suits lengths right → ((k : ℕ) → times k left.mine + times k right.mine ≡ times k v.mine)
+  pub splits : (left right : SeatView) → Suits lengths left → Suits lengths right
+      → ((k : ℕ) → times k left.mine + times k right.mine ≡ times k v.mine)
       → left.shares + right.shares ≡ v.shares → Fits limit base size lengths (set vs id left ++ right ∷ [])
   splits left right suits_left suits_right runs shares =
       record {

@@ -62,7 +62,8 @@ module _ (terms : Terms) (slots id : ℕ) (me : Seated) (is_limit : me.0.limit �
       )
 
   -- a step that adds n to the size: the seat has one more run
-  claims : (n : ℕ) (s : Table) (kept : Kept terms s) → get_elem? s.views id ≡ some me.0 → 0 < n → get_or s.words 0 0 + n ≤ terms.limit
+  claims : (n : ℕ) (s : Table) (kept : Kept terms s) → get_elem? s.views id ≡ some me.0 → 0 < n
+      → get_or s.words 0 0 + n ≤ terms.limit
       → (w : SeatView) × Kept terms (stepped s 0 (get_or s.words 0 0 + n) id me.1 w keeps) × Claims me.0 (get_or s.words 0 0) n w
   claims n s kept at one_place room =
       let v = me.0 in
@@ -89,7 +90,8 @@ module _ (terms : Terms) (slots id : ℕ) (me : Seated) (is_limit : me.0.limit �
   pub loads : Allows (Kept terms) slots id me 0 (λ n. n) (loaded (step slots 0 0 0 none) me)
   loads s kept homes at small = let l = looks s kept at in (l.0, keeps, tt, l.1, (l.2, refl))
 
-  exchange_cases : (old new : ℕ) → old < new → new ≤ terms.limit → (s : Table) (kept : Kept terms s) → get_elem? s.views id ≡ some me.0
+  exchange_cases : (old new : ℕ) → old < new → new ≤ terms.limit → (s : Table) (kept : Kept terms s)
+      → get_elem? s.views id ≡ some me.0
       → (won : Bool) → (get_or s.words 0 0 == old) ≡ won
       → (w : SeatView) × Kept terms (stepped s 0 (either won new (get_or s.words 0 0)) id me.1 w keeps) × MatchBool won (Claims me.0 (get_or s.words 0 0) (new - old) w) (Looks me.0 (get_or s.words 0 0) w)
   exchange_cases old new more room s kept at true is =
@@ -120,12 +122,14 @@ module _ (terms : Terms) (slots id : ℕ) (me : Seated) (is_limit : me.0.limit �
       (l.0, subst (λ n. Kept terms (stepped s 0 n id me.1 l.0 keeps)) same l.1, l.2)
 
   -- a greatest-value step
-  pub raises : (to : ℕ) → to ≤ terms.limit → Allows (Kept terms) slots id me 0 (λ n. max n to) (raised (step slots 0 to 0 none) me)
+  pub raises : (to : ℕ) → to ≤ terms.limit
+      → Allows (Kept terms) slots id me 0 (λ n. max n to) (raised (step slots 0 to 0 none) me)
   raises to room s kept homes at small =
       let c = raise_cases to room s kept at (nat_lt (get_or s.words 0 0) to) refl in (c.0, keeps, tt, c.1, (c.2, refl))
 
   -- the load that ends a join
-  pub settles : me.0.seen ≡ longer me.0.one me.0.other → Allows (Kept terms) slots id me 0 (λ n. n) (settled (step slots 0 0 0 none) me)
+  pub settles : me.0.seen ≡ longer me.0.one me.0.other
+      → Allows (Kept terms) slots id me 0 (λ n. n) (settled (step slots 0 0 0 none) me)
   settles is_longer s kept homes at small =
       let v = me.0 in
       let all = kept.lengths in
@@ -193,7 +197,8 @@ spares terms id v s kept at =
     }
 
 -- a seat is joined to another
-pub merges : (terms : Terms) (id : ℕ) (v : SeatView) (other : ℕ) (w : SeatView) → 0 < v.shares → Joins (Kept terms) id v other w (joined_view v w) spent_view
+pub merges : (terms : Terms) (id : ℕ) (v : SeatView) (other : ℕ) (w : SeatView) → 0 < v.shares
+    → Joins (Kept terms) id v other w (joined_view v w) spent_view
 merges terms id v other w part s kept at apart at' =
     record {
       one_word = kept.one_word;

@@ -29,20 +29,23 @@ OwnIsSeen hand = (k : ℕ) → Contains hand.mine k → k < length hand.seen
 pub set_here : {K : Type 0} (row : List (Option K)) (b : ℕ) (key : K) → b < length row → HasKey (set row b (Some key)) b
 set_here row b key lt = subst IsSome (sym (get_or-set_same row b (Some key) None lt)) refl
 
-pub set_keeps : {K : Type 0} (row : List (Option K)) (b c : ℕ) (key : K) → b < length row → HasKey row c → HasKey (set row b (Some key)) c
+pub set_keeps : {K : Type 0} (row : List (Option K)) (b c : ℕ) (key : K) → b < length row → HasKey row c
+    → HasKey (set row b (Some key)) c
 set_keeps row b c key lt has =
     dite (ℕ_discrete c b)
     (λ same. subst (λ e. HasKey (set row b (Some key)) e) (sym same) (set_here row b key lt))
     (λ other. subst IsSome (sym (get_or-set_other row b c (Some key) None other)) has)
 
 -- a run that was owned before has its keys still
-stays : {K : Type 0} → RunsWereThere → (old new : HandView) (row : List (Option K)) → new.of ≡ old.of → IsPrefix old.seen new.seen
+stays : {K : Type 0} → RunsWereThere → (old new : HandView) (row : List (Option K)) → new.of ≡ old.of
+    → IsPrefix old.seen new.seen
     → OwnIsSeen old → HasKeys old row → (k place : ℕ) → Contains old.mine k → InRun new.of.base new.seen k place → HasKey row (place / 134217728)
 stays law old new row of seen below has k place own run =
     has k place own (law old.of.base old.seen new.seen k place seen (below k own) (subst (λ (w : WordView). InRun w.base new.seen k place) of run))
 
 -- the hand has seen more, and owns what it owned
-pub keeps : {K : Type 0} → RunsWereThere → (old new : HandView) (row : List (Option K)) → new.of ≡ old.of → IsPrefix old.seen new.seen
+pub keeps : {K : Type 0} → RunsWereThere → (old new : HandView) (row : List (Option K)) → new.of ≡ old.of
+    → IsPrefix old.seen new.seen
     → new.mine ≡ old.mine → OwnIsSeen old → HasKeys old row → HasKeys new row
 keeps law old new row of seen mine below has k place own = stays law old new row of seen below has k place (subst (λ m. Contains m k) mine own)
 
@@ -51,7 +54,8 @@ only x k (zero, lt, is) = is
 only x k (suc i, lt, is) = absurd (omega arith)
 
 -- the hand has one more run, and the row has its keys
-pub gains : {K : Type 0} → RunsWereThere → SeenRunsHavePlaces → (old new : HandView) (index : ℕ) (run : Run) (row row' : List (Option K)) → new.of ≡ old.of
+pub gains : {K : Type 0} → RunsWereThere → SeenRunsHavePlaces
+    → (old new : HandView) (index : ℕ) (run : Run) (row row' : List (Option K)) → new.of ≡ old.of
     → GainsRun old new index run → OwnIsSeen old → HasKeys old row
     → ((b : ℕ) → HasKey row b → HasKey row' b)
     → ((place : ℕ) → IsPlaceOf run place → HasKey row' (place / 134217728))
@@ -67,7 +71,8 @@ gains law places old new index run row row' of gain below has more keys k place 
     (Contains-append_cases (index ∷ []) old.mine k at)
 
 -- two hands are one, and the row has the keys of both
-pub joins : {K : Type 0} → RunsWereThere → (a b new : HandView) (row_a row_b row' : List (Option K)) → new.of ≡ a.of → new.of ≡ b.of
+pub joins : {K : Type 0} → RunsWereThere → (a b new : HandView) (row_a row_b row' : List (Option K)) → new.of ≡ a.of
+    → new.of ≡ b.of
     → IsPrefix a.seen new.seen → IsPrefix b.seen new.seen → new.mine ≡ a.mine ++ b.mine
     → OwnIsSeen a → OwnIsSeen b → HasKeys a row_a → HasKeys b row_b
     → ((c : ℕ) → HasKey row_a c → HasKey row' c) → ((c : ℕ) → HasKey row_b c → HasKey row' c) → HasKeys new row'

@@ -14,7 +14,8 @@ pub own_places-same : PlacesStay → (old new : HandView) → IsPrefix old.seen 
 own_places-same law old new seen mine below = ap (places_in new.seen) mine ∙ law old.seen new.seen old.mine seen below
 
 -- a hand that owns what two hands owned
-pub own_places-joined : PlacesStay → (a b new : HandView) → IsPrefix a.seen new.seen → IsPrefix b.seen new.seen → new.mine ≡ a.mine ++ b.mine
+pub own_places-joined : PlacesStay → (a b new : HandView) → IsPrefix a.seen new.seen → IsPrefix b.seen new.seen
+    → new.mine ≡ a.mine ++ b.mine
     → ((k : ℕ) → Contains a.mine k → k < length a.seen) → ((k : ℕ) → Contains b.mine k → k < length b.seen)
     → own_places new ≡ own_places a + own_places b
 own_places-joined law a b new seen_a seen_b mine below_a below_b =

@@ -52,7 +52,8 @@ sum_by-weigh f n (x ∷ ks) none =
     let w = weigh-below f n x ks lt in
     omega (arith, sum_by-cons f x ks)
 
-weigh-once : (xs ks : List ℕ) (n : ℕ) → n ≤ length xs → ((k : ℕ) → k < n → times k ks ≡ 1) → weigh (λ k. get_or xs k 0) n ks ≡ sum (take n xs)
+weigh-once : (xs ks : List ℕ) (n : ℕ) → n ≤ length xs → ((k : ℕ) → k < n → times k ks ≡ 1)
+    → weigh (λ k. get_or xs k 0) n ks ≡ sum (take n xs)
 weigh-once xs ks zero le once = refl
 weigh-once xs ks (suc n) le once =
     let r = weigh-once xs ks n (omega arith) (λ k lt. once k (omega arith)) in
@@ -65,7 +66,8 @@ at_most_once zero x le = omega arith
 at_most_once (suc zero) x le = omega arith
 at_most_once (suc (suc t)) x le = absurd (omega arith)
 
-weigh-le : (xs ks : List ℕ) (n : ℕ) → n ≤ length xs → ((k : ℕ) → times k ks ≤ 1) → weigh (λ k. get_or xs k 0) n ks ≤ sum (take n xs)
+weigh-le : (xs ks : List ℕ) (n : ℕ) → n ≤ length xs → ((k : ℕ) → times k ks ≤ 1)
+    → weigh (λ k. get_or xs k 0) n ks ≤ sum (take n xs)
 weigh-le xs ks zero le once = omega arith
 weigh-le xs ks (suc n) le once =
     let r = weigh-le xs ks n (omega arith) once in
@@ -88,7 +90,8 @@ places_in-all xs ks all =
     ∙ (weigh-once xs ks (length xs) (omega arith) (λ k lt. let a = all k in omega arith) ∙ ap sum (take-length xs))
 
 -- runs have as many places as before when the list goes on
-pub places_stay : (xs ys ks : List ℕ) → IsPrefix xs ys → ((k : ℕ) → Contains ks k → k < length xs) → places_in ys ks ≡ places_in xs ks
+pub places_stay : (xs ys ks : List ℕ) → IsPrefix xs ys → ((k : ℕ) → Contains ks k → k < length xs)
+    → places_in ys ks ≡ places_in xs ks
 places_stay xs ys [] p below = refl
 places_stay xs ys (k ∷ ks) p below =
     let here = reads_there xs ys k p (below k (zero, omega arith, refl)) in

@@ -79,7 +79,8 @@ seen_places hand index run place sees =
     )
 
 -- a place of a run that was seen lies in the run of that index of each list that goes on
-place_in : (hand : HandView) (lengths : List ℕ) (index : ℕ) (run : Run) (place : ℕ) → IsPrefix hand.seen lengths → SeesRun hand index run
+place_in : (hand : HandView) (lengths : List ℕ) (index : ℕ) (run : Run) (place : ℕ) → IsPrefix hand.seen lengths
+    → SeesRun hand index run
     → run.from ≤ place → place < run.from + run.n → InRun hand.of.base lengths index place
 place_in hand lengths index run place more sees from to =
     run_stays hand.of.base hand.seen lengths index place more ((seen_places hand index run place sees).0 (from, to))

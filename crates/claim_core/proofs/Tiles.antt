@@ -22,7 +22,8 @@ run_before (x ∷ xs) zero (suc k) less lt = omega (arith, sum_by-cons (λ y. y)
 run_before (x ∷ xs) (suc j) (suc k) less lt = let r = run_before xs j k (omega arith) (omega arith) in omega (arith, sum_by-cons (λ y. y) x (take j xs), sum_by-cons (λ y. y) x (take k xs))
 
 -- two runs that share a place are one
-pub run_apart : (base : ℕ) (lengths : List ℕ) (j k place : ℕ) → InRun base lengths j place → InRun base lengths k place → j ≡ k
+pub run_apart : (base : ℕ) (lengths : List ℕ) (j k place : ℕ) → InRun base lengths j place
+    → InRun base lengths k place → j ≡ k
 run_apart base lengths j k place a b =
     let x = a.there in
     let y = b.there in
@@ -35,7 +36,8 @@ run_apart base lengths j k place a b =
     (λ less. let l : j < k = omega arith in let o = run_before lengths j k l y in absurd (omega arith))
 
 -- each place before the end lies in a run
-find_run : (base : ℕ) (lengths : List ℕ) (place : ℕ) → base ≤ place → place < runs_end base lengths → (k : ℕ) × InRun base lengths k place
+find_run : (base : ℕ) (lengths : List ℕ) (place : ℕ) → base ≤ place → place < runs_end base lengths
+    → (k : ℕ) × InRun base lengths k place
 find_run base [] place from to = absurd (omega arith)
 find_run base (x ∷ xs) place from to =
     dite (dec_le (base + x) place)
@@ -54,7 +56,8 @@ pub reads_there : (xs ys : List ℕ) (k : ℕ) → IsPrefix xs ys → k < length
 reads_there xs ys k p lt = front_reads 0 ys xs p.0 (sym p.1) k lt
 
 -- a run stays where it is when the list goes on
-pub run_stays : (base : ℕ) (xs ys : List ℕ) (k place : ℕ) → IsPrefix xs ys → InRun base xs k place → InRun base ys k place
+pub run_stays : (base : ℕ) (xs ys : List ℕ) (k place : ℕ) → IsPrefix xs ys → InRun base xs k place
+    → InRun base ys k place
 run_stays base xs ys k place p run =
     let long = prefix_length xs ys p in
     let there = run.there in
@@ -65,7 +68,8 @@ run_stays base xs ys k place p run =
     record { there = omega arith; after = omega arith; before = omega arith }
 
 -- and it was there before, where its index was
-pub run_was_there : (base : ℕ) (xs ys : List ℕ) (k place : ℕ) → IsPrefix xs ys → k < length xs → InRun base ys k place → InRun base xs k place
+pub run_was_there : (base : ℕ) (xs ys : List ℕ) (k place : ℕ) → IsPrefix xs ys → k < length xs
+    → InRun base ys k place → InRun base xs k place
 run_was_there base xs ys k place p there run =
     let after = run.after in
     let before = run.before in
@@ -74,7 +78,8 @@ run_was_there base xs ys k place p there run =
     record { there = there; after = omega arith; before = omega arith }
 
 -- where each index is owned, the runs tile
-pub all_tile : (base : ℕ) (lengths indices : List ℕ) → ((k : ℕ) → k < length lengths → Contains indices k) → Tiles base lengths indices
+pub all_tile : (base : ℕ) (lengths indices : List ℕ) → ((k : ℕ) → k < length lengths → Contains indices k)
+    → Tiles base lengths indices
 all_tile base lengths indices all =
     record {
       covers = λ place from to. let r = find_run base lengths place from to in (r.0, all r.0 r.1.there, r.1);

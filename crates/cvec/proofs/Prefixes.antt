@@ -9,6 +9,7 @@ pub whole_prefix : (a b : Option (List ℕ)) (text : List ℕ) → Appends a b t
 whole_prefix a b text h = (length text, subst (Appends a b) (sym (take-length text)) h)
 
 -- whatever a write returns, a prefix was written
-pub some_prefix : {T E : Type 0} (r : Result T E) (a b : Option (List ℕ)) (text : List ℕ) → OnOk r (Appends a b text) → OnErr r (AppendsPrefix a b text) → AppendsPrefix a b text
+pub some_prefix : {T E : Type 0} (r : Result T E) (a b : Option (List ℕ)) (text : List ℕ)
+    → OnOk r (Appends a b text) → OnErr r (AppendsPrefix a b text) → AppendsPrefix a b text
 some_prefix (Ok x) a b text all part = whole_prefix a b text all
 some_prefix (Err e) a b text all part = part

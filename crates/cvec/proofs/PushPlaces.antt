@@ -40,7 +40,8 @@ place_in (answers.OutOfRange size) = None
 place_in (answers.Size size) = None
 
 -- an answer with this place is not one without
-other_answer : {A : Type 0} (answer other : Answer) (place : ℕ) → answer ≡ answers.At place → answer ≡ other → place_in other ≡ None → A
+other_answer : {A : Type 0} (answer other : Answer) (place : ℕ) → answer ≡ answers.At place → answer ≡ other
+    → place_in other ≡ None → A
 unfolding place_in
 other_answer answer other place at is none = absurd (none-some place (sym (sym (ap place_in at) ∙ ap place_in is ∙ none)))
 
@@ -59,7 +60,8 @@ no_place_told (replies.Full size) place is = none-some _ is
 no_place_told replies.NoMemory place is = none-some _ is
 
 -- the record of a call that answered this place has a write of it
-writes_place : (k : ℕ) (command : Command) (es : List (Event × Reply)) (answer : Answer) (place : ℕ) → IsRecord k command es answer → answer ≡ answers.At place → 0 < length (writers_of place es)
+writes_place : (k : ℕ) (command : Command) (es : List (Event × Reply)) (answer : Answer) (place : ℕ)
+    → IsRecord k command es answer → answer ≡ answers.At place → 0 < length (writers_of place es)
 unfolding place_in
 writes_place k (commands.Push value) es answer place is at = elim is [
   | inl grown ↦ (
@@ -116,7 +118,8 @@ here k place ended its at =
     rw one (ap (λ o. same_place place (place_in o)) at ∙ itself)
 
 -- one call counts once
-pushed_once : (k place : ℕ) (calls : List Ended) (i : ℕ) (a : Ended) → slice_get calls i ≡ Some a → a.actor ≡ k → a.answer ≡ answers.At place → 1 ≤ pushed k place calls
+pushed_once : (k place : ℕ) (calls : List Ended) (i : ℕ) (a : Ended) → slice_get calls i ≡ Some a → a.actor ≡ k
+    → a.answer ≡ answers.At place → 1 ≤ pushed k place calls
 unfolding pushed
 pushed_once k place [] i a is its at = absurd (none-some a is)
 pushed_once k place (x ∷ calls) zero a is its at =
@@ -126,7 +129,9 @@ pushed_once k place (x ∷ calls) (suc i) a is its at =
     let others = pushed_once k place calls i a is its at in omega arith
 
 -- two calls count twice
-pushed_twice : (k place : ℕ) (calls : List Ended) (i j : ℕ) (a b : Ended) → slice_get calls i ≡ Some a → slice_get calls j ≡ Some b → a.actor ≡ k → b.actor ≡ k → a.answer ≡ answers.At place → b.answer ≡ answers.At place → (i ≡ j) ⊎ (2 ≤ pushed k place calls)
+pushed_twice : (k place : ℕ) (calls : List Ended) (i j : ℕ) (a b : Ended) → slice_get calls i ≡ Some a
+    → slice_get calls j ≡ Some b → a.actor ≡ k → b.actor ≡ k → a.answer ≡ answers.At place
+    → b.answer ≡ answers.At place → (i ≡ j) ⊎ (2 ≤ pushed k place calls)
 unfolding pushed
 pushed_twice k place [] i j a b is_a is_b its_a its_b at_a at_b = absurd (none-some a is_a)
 pushed_twice k place (x ∷ calls) zero zero a b is_a is_b its_a its_b at_a at_b = inl refl
@@ -155,7 +160,8 @@ pushed_own k place (x ∷ calls) =
     ]
     refl
 
-writers_of-append : (place : ℕ) (es fs : List (Event × Reply)) → writers_of place (es ++ fs) ≡ writers_of place es ++ writers_of place fs
+writers_of-append : (place : ℕ) (es fs : List (Event × Reply))
+    → writers_of place (es ++ fs) ≡ writers_of place es ++ writers_of place fs
 writers_of-append place [] fs = refl
 writers_of-append place (e ∷ es) fs = ap (λ ws. writer_in place e.0 ++ ws) (writers_of-append place es fs) ∙ sym (append_assoc (writer_in place e.0) (writers_of place es) (writers_of place fs))
 
@@ -175,7 +181,8 @@ answer_at place (answers.OutOfRange size) is = absurd (false≢true is)
 answer_at place (answers.Size size) is = absurd (false≢true is)
 
 -- each call that ended at a place has a write of it
-calls_write : (k place : ℕ) (program : List Command) (number : ℕ) (calls : List Ended) (es : List (Event × Reply)) → AreCalls k program number calls es → pushed k place calls ≤ length (writers_of place es)
+calls_write : (k place : ℕ) (program : List Command) (number : ℕ) (calls : List Ended) (es : List (Event × Reply))
+    → AreCalls k program number calls es → pushed k place calls ≤ length (writers_of place es)
 unfolding pushed same_place place_in
 calls_write k place program number [] es are = (let n = length (writers_of place es) in omega arith)
 calls_write k place program number (x ∷ calls) es (first, rest, parts, is_call, others) =
@@ -199,14 +206,16 @@ times-append k [] ys = (let all : times k ys ≡ 0 + times k ys = omega arith in
 times-append k (x ∷ xs) ys = (let others = times-append k xs ys in let n : ℕ = (if x == k then 1 else 0) in omega arith)
 
 -- an event of an actor has no other writer
-written_by : (k place at : ℕ) (actor : ℕ) → actor ≡ k → length (if at == place then actor ∷ [] else []) ≤ times k (if at == place then actor ∷ [] else [])
+written_by : (k place at : ℕ) (actor : ℕ) → actor ≡ k
+    → length (if at == place then actor ∷ [] else []) ≤ times k (if at == place then actor ∷ [] else [])
 unfolding times
 written_by k place at actor its =
     let itself : (actor == k) ≡ true = grind (arith, nat_tests) in
     elim (at == place) as (λ b. length (if b then actor ∷ [] else []) ≤ times k (if b then actor ∷ [] else []))
     [ true ↦ rw itself (omega arith) | false ↦ omega arith ]
 
-writer_own : (k place : ℕ) (event : Event) → actor_of event ≡ k → length (writer_in place event) ≤ times k (writer_in place event)
+writer_own : (k place : ℕ) (event : Event) → actor_of event ≡ k
+    → length (writer_in place event) ≤ times k (writer_in place event)
 unfolding times
 writer_own k place (Claim actor n) its = omega arith
 writer_own k place (Raise actor to) its = omega arith
@@ -218,7 +227,8 @@ writer_own k place (RefusedFull actor n) its = omega arith
 writer_own k place (RefusedMemory actor) its = omega arith
 
 -- the writer of an event, as often as it is this actor's
-writes_own : (k place : ℕ) (es : List (Event × Reply)) → length (writers_of place (events_of k es)) ≤ times k (writers_of place es)
+writes_own : (k place : ℕ) (es : List (Event × Reply))
+    → length (writers_of place (events_of k es)) ≤ times k (writers_of place es)
 unfolding times
 writes_own k place [] = omega arith
 writes_own k place (e ∷ es) =
@@ -248,7 +258,8 @@ once_writer k owner =
     elim (owner == k) as (λ b. (if b then 1 else 0) + 0 ≤ 1) [ true ↦ omega arith | false ↦ omega arith ]
 
 -- calls of a sequential play that ended at one place are one call
-pub pushes_are_apart : (limit : ℕ) (programs : List (List Command)) (p : Play) → IsSequential limit programs p → PushesAreApart p.ended
+pub pushes_are_apart : (limit : ℕ) (programs : List (List Command)) (p : Play) → IsSequential limit programs p
+    → PushesAreApart p.ended
 unfolding times
 pushes_are_apart limit programs p is i j place a b is_a is_b at_a at_b =
     let counted : (k : ℕ) → pushed k place p.ended ≤ times k (writers_of place p.events) = λ k.
@@ -282,7 +293,9 @@ pushes_are_apart limit programs p is i j place a b is_a is_b at_a at_b =
     ]
 
 -- so it is of what a play answers
-pub pushes_of : (r : Result Played PlayError) (limit : ℕ) (programs : List (List Command)) (items : List Item) → EveryInterleavingIsSequential → IfOk r (λ played. played ≡ played_of (play_of limit programs items)) → OnOk r (IsLimit limit) → OnOk r (AreSound programs) → IfOk r (λ played. PushesAreApart played.ended)
+pub pushes_of : (r : Result Played PlayError) (limit : ℕ) (programs : List (List Command)) (items : List Item)
+    → EveryInterleavingIsSequential → IfOk r (λ played. played ≡ played_of (play_of limit programs items))
+    → OnOk r (IsLimit limit) → OnOk r (AreSound programs) → IfOk r (λ played. PushesAreApart played.ended)
 pushes_of (Ok played) limit programs items law is is_limit sound =
     subst (λ (x : Played). PushesAreApart x.ended) (sym is) (pushes_are_apart limit programs (play_of limit programs items) (law limit programs items is_limit sound))
 pushes_of (Err e) limit programs items law is is_limit sound = tt

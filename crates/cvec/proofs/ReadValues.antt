@@ -44,7 +44,8 @@ rest_of [] = []
 rest_of (x ∷ xs) = xs
 
 -- a list with a first member stands for an event by that member, or by what follows it
-cons_parts : (x e : Event × Reply) (xs before after : List (Event × Reply)) → x ∷ xs ≡ before ++ e ∷ after → (x ≡ e) ⊎ Stands xs e
+cons_parts : (x e : Event × Reply) (xs before after : List (Event × Reply)) → x ∷ xs ≡ before ++ e ∷ after
+    → (x ≡ e) ⊎ Stands xs e
 unfolding rest_of
 cons_parts x e xs [] after is = inl (ap (λ l. get_or l 0 x) is)
 cons_parts x e xs (b ∷ before) after is = inr (record { before = before; after = after; is = ap rest_of is })
@@ -78,7 +79,8 @@ value_in (answers.OutOfRange size) = None
 value_in (answers.Size size) = None
 
 -- the look of a read that answered a value was told it
-value_told : (reply : Reply) (value : ℕ) → answer_to_look reply ≡ Some (answers.Value value) → reply ≡ replies.Value value
+value_told : (reply : Reply) (value : ℕ) → answer_to_look reply ≡ Some (answers.Value value)
+    → reply ≡ replies.Value value
 unfolding value_in
 value_told (replies.Run from n) value is = absurd (none-some _ is)
 value_told (replies.Enough size) value is = absurd (none-some _ is)
@@ -92,7 +94,10 @@ value_told (replies.Full size) value is = absurd (none-some _ is)
 value_told replies.NoMemory value is = absurd (none-some _ is)
 
 -- the look of a read stands among the events of its actor
-call_looks : (k : ℕ) (program : List Command) (number : ℕ) (calls : List Ended) (es : List (Event × Reply)) (i place value : ℕ) (ended : Ended) → AreCalls k program number calls es → slice_get calls i ≡ Some ended → ended.command ≡ commands.Read place → ended.answer ≡ answers.Value value → Stands es (Look k place, replies.Value value)
+call_looks : (k : ℕ) (program : List Command) (number : ℕ) (calls : List Ended) (es : List (Event × Reply))
+    (i place value : ℕ) (ended : Ended)
+    → AreCalls k program number calls es → slice_get calls i ≡ Some ended → ended.command ≡ commands.Read place
+    → ended.answer ≡ answers.Value value → Stands es (Look k place, replies.Value value)
 call_looks k program number [] es i place value ended are is reads told = absurd (none-some ended is)
 call_looks k program number (x ∷ calls) es zero place value ended (first, rest, parts, is_call, others) is reads told =
     let same : x ≡ ended = same_Some x ended is in
@@ -111,7 +116,8 @@ record IsAmong (calls : List Ended) (ended : Ended) : Type 0 where
   pub at : ℕ
   pub is : slice_get calls at ≡ Some ended
 
-among_own : (calls : List Ended) (i : ℕ) (ended : Ended) → slice_get calls i ≡ Some ended → IsAmong (calls_of ended.actor calls) ended
+among_own : (calls : List Ended) (i : ℕ) (ended : Ended) → slice_get calls i ≡ Some ended
+    → IsAmong (calls_of ended.actor calls) ended
 among_own [] i ended is = absurd (none-some ended is)
 among_own (x ∷ calls) zero ended is =
     let same : x ≡ ended = same_Some x ended is in
@@ -122,7 +128,8 @@ among_own (x ∷ calls) (suc i) ended is =
     elim (x.actor == ended.actor) as (λ b. IsAmong (if b then x ∷ calls_of ended.actor calls else calls_of ended.actor calls) ended)
     [ true ↦ record { at = suc others.at; is = others.is } | false ↦ others ]
 
-pub reads_tell : (limit : ℕ) (programs : List (List Command)) (p : Play) → IsSequential limit programs p → LooksTellTheOwnersValue → ReadsTellTheOwners p.ended p.events
+pub reads_tell : (limit : ℕ) (programs : List (List Command)) (p : Play) → IsSequential limit programs p
+    → LooksTellTheOwnersValue → ReadsTellTheOwners p.ended p.events
 reads_tell limit programs p is law i place value ended there reads told =
     let r = is.recorded ended.actor in
     let own = among_own p.ended i ended there in
@@ -137,7 +144,10 @@ reads_tell limit programs p is law i place value ended there reads told =
     }
 
 -- so it is of what a play answers
-pub reads_of : (r : Result Played PlayError) (limit : ℕ) (programs : List (List Command)) (items : List Item) → EveryInterleavingIsSequential → LooksTellTheOwnersValue → IfOk r (λ played. played ≡ played_of (play_of limit programs items)) → OnOk r (IsLimit limit) → OnOk r (AreSound programs) → IfOk r (λ played. ReadsTellTheOwners played.ended played.events)
+pub reads_of : (r : Result Played PlayError) (limit : ℕ) (programs : List (List Command)) (items : List Item)
+    → EveryInterleavingIsSequential → LooksTellTheOwnersValue
+    → IfOk r (λ played. played ≡ played_of (play_of limit programs items)) → OnOk r (IsLimit limit)
+    → OnOk r (AreSound programs) → IfOk r (λ played. ReadsTellTheOwners played.ended played.events)
 reads_of (Ok played) limit programs items law looks is is_limit sound =
     subst (λ (x : Played). ReadsTellTheOwners x.ended x.events) (sym is) (reads_tell limit programs (play_of limit programs items) (law limit programs items is_limit sound) looks)
 reads_of (Err e) limit programs items law looks is is_limit sound = tt

@@ -18,7 +18,8 @@ use Rattle.script_core.proofs.CommandSpelling.{program_takes, program_again}
 pub begins : (text front : List ℕ) → starts_with eqb text front ≡ true → text ≡ front ++ drop (length front) text
 begins text front h = (starts_is Decides-eqb text front (starts_with eqb text front) refl).0 h
 
-pub limit_takes : (line : List ℕ) (limit : ℕ) → parsed_limit line ≡ Ok limit → (line ≡ limit_line limit) × ((1 ≤ limit) × (limit ≤ 65536))
+pub limit_takes : (line : List ℕ) (limit : ℕ) → parsed_limit line ≡ Ok limit
+    → (line ≡ limit_line limit) × ((1 ≤ limit) × (limit ≤ 65536))
 unfolding parsed_limit limit_in
 limit_takes line limit h =
     let p = test_ok (starts_with eqb line (codes "limit ")) (number_or BadLimit (drop 6 line) >>= λ n. (cond (leb 1 n && leb n 65536) (Ok n) (Err BadLimit))) BadLine limit h in
@@ -48,7 +49,8 @@ name_takes (c ∷ d ∷ more) name h = absurd cc
 abbrev some_list : List ℕ → Option (List ℕ)
 some_list a = Some a
 
-after_takes : (after : Option (List ℕ)) (program : List Command) → program_after after ≡ Ok program → (text : List ℕ) × (after ≡ Some text) × (parsed_program text ≡ Ok program)
+after_takes : (after : Option (List ℕ)) (program : List Command) → program_after after ≡ Ok program
+    → (text : List ℕ) × (after ≡ Some text) × (parsed_program text ≡ Ok program)
 after_takes None program h = absurd cc
 after_takes (Some text) program h = (text, refl, h)
 
@@ -80,7 +82,8 @@ pub record IsActor (names : List ℕ) (text : List ℕ) (name : ℕ) (program : 
   pub commands : IsProgram program
   pub spelled : text ≡ name ∷ 32 ∷ program_text program
 
-pub actor_takes : (names text : List ℕ) (actor : ℕ × List Command) → parsed_actor names text ≡ Ok actor → IsActor names text actor.0 actor.1
+pub actor_takes : (names text : List ℕ) (actor : ℕ × List Command) → parsed_actor names text ≡ Ok actor
+    → IsActor names text actor.0 actor.1
 unfolding parsed_actor
 actor_takes names text actor h =
     let after = (cut (codes " ") text).1 in
@@ -104,7 +107,9 @@ cut_name : (name : ℕ) (rest : List ℕ) → IsName name → cut (32 ∷ []) (n
 unfolding cut
 cut_name name rest letter = rw (ne_eqb 32 name (λ e. absurd (omega (arith, letter)))) refl
 
-pub actor_again : (names : List ℕ) (name : ℕ) (program : List Command) → length names < 16 → IsName name → list_any (λ n. eqb n name) names ≡ false → IsProgram program → parsed_actor names (name ∷ 32 ∷ program_text program) ≡ Ok (name, program)
+pub actor_again : (names : List ℕ) (name : ℕ) (program : List Command) → length names < 16 → IsName name
+    → list_any (λ n. eqb n name) names ≡ false → IsProgram program
+    → parsed_actor names (name ∷ 32 ∷ program_text program) ≡ Ok (name, program)
 unfolding parsed_actor parsed_name
 actor_again names name program room letter fresh h =
     rw (lt-leb 16 (length names) room, cut_name name (program_text program) letter, le-leb 97 name letter.0, le-leb name 122 letter.1, fresh, program_again program h) refl
@@ -112,12 +117,14 @@ actor_again names name program room letter fresh h =
 -- ---- Names that are all different
 
 -- a name that isn't found is of none
-pub fresh_name : (name : ℕ) (names : List ℕ) → list_any (λ n. eqb n name) names ≡ false → (k d : ℕ) → k < length names → get_or names k d ≢ name
+pub fresh_name : (name : ℕ) (names : List ℕ) → list_any (λ n. eqb n name) names ≡ false → (k d : ℕ)
+    → k < length names → get_or names k d ≢ name
 fresh_name name [] h k d lt e = absurd (omega arith)
 fresh_name name (n ∷ ns) h zero d lt e = eqb-false n name (or_parts (eqb n name) (list_any (λ m. eqb m name) ns) h).0 e
 fresh_name name (n ∷ ns) h (suc k) d lt e = fresh_name name ns (or_parts (eqb n name) (list_any (λ m. eqb m name) ns) h).1 k d (omega arith) e
 
 -- a name of none isn't found
-pub name_fresh : (name : ℕ) (names : List ℕ) → ((k : ℕ) → k < length names → get_or names k 0 ≢ name) → list_any (λ n. eqb n name) names ≡ false
+pub name_fresh : (name : ℕ) (names : List ℕ) → ((k : ℕ) → k < length names → get_or names k 0 ≢ name)
+    → list_any (λ n. eqb n name) names ≡ false
 name_fresh name [] h = refl
 name_fresh name (n ∷ ns) h = or_from (eqb n name) (list_any (λ m. eqb m name) ns) (ne_eqb n name (h 0 (omega arith))) (name_fresh name ns (λ k lt. h (suc k) (omega arith)))

@@ -27,13 +27,16 @@ word_is word name h = (bytes_eq-Decides word name).0 h
 
 -- ---- What is read is spelled so
 
-one_argument : (a : List ℕ) (make : ℕ → Command) (c : Command) → (argument a >>= λ v. Ok (make v)) ≡ Ok c → (v : ℕ) × (a ≡ decimal v) × (v < 2 ^ 64) × (make v ≡ c)
+one_argument : (a : List ℕ) (make : ℕ → Command) (c : Command) → (argument a >>= λ v. Ok (make v)) ≡ Ok c
+    → (v : ℕ) × (a ≡ decimal v) × (v < 2 ^ 64) × (make v ≡ c)
 one_argument a make c h =
     let p = bind_ok (argument a) (λ v. Ok (make v)) c h in
     let n = number_takes BadCommand a p.0 p.1 in
     (p.0, n.0, n.1, ok_is _ _ p.2)
 
-two_arguments : (a b : List ℕ) (make : ℕ → ℕ → Command) (c : Command) → (argument a >>= λ v. (argument b >>= λ w. Ok (make v w))) ≡ Ok c → (v : ℕ) × (w : ℕ) × (a ≡ decimal v) × (b ≡ decimal w) × (v < 2 ^ 64) × (w < 2 ^ 64) × (make v w ≡ c)
+two_arguments : (a b : List ℕ) (make : ℕ → ℕ → Command) (c : Command)
+    → (argument a >>= λ v. (argument b >>= λ w. Ok (make v w))) ≡ Ok c
+    → (v : ℕ) × (w : ℕ) × (a ≡ decimal v) × (b ≡ decimal w) × (v < 2 ^ 64) × (w < 2 ^ 64) × (make v w ≡ c)
 two_arguments a b make c h =
     let p = bind_ok (argument a) (λ v. (argument b >>= λ w. Ok (make v w))) c h in
     let n = number_takes BadCommand a p.0 p.1 in
@@ -44,13 +47,16 @@ two_arguments a b make c h =
 abbrev IsSpelled : List (List ℕ) → Command → Type 0
 IsSpelled ws c = (join_with_byte 32 ws ≡ command_text c) × IsCommand c
 
-spelled_one : (word a name : List ℕ) (v : ℕ) → word ≡ name → a ≡ decimal v → join_with_byte 32 (word ∷ a ∷ []) ≡ name ++ (32 ∷ decimal v)
+spelled_one : (word a name : List ℕ) (v : ℕ) → word ≡ name → a ≡ decimal v
+    → join_with_byte 32 (word ∷ a ∷ []) ≡ name ++ (32 ∷ decimal v)
 spelled_one word a name v w e = rw (w, e) refl
 
-spelled_two : (word a b name : List ℕ) (v w : ℕ) → word ≡ name → a ≡ decimal v → b ≡ decimal w → join_with_byte 32 (word ∷ a ∷ b ∷ []) ≡ name ++ (32 ∷ ((decimal v ++ 32 ∷ []) ++ decimal w))
+spelled_two : (word a b name : List ℕ) (v w : ℕ) → word ≡ name → a ≡ decimal v → b ≡ decimal w
+    → join_with_byte 32 (word ∷ a ∷ b ∷ []) ≡ name ++ (32 ∷ ((decimal v ++ 32 ∷ []) ++ decimal w))
 spelled_two word a b name v w is e f = rw (is, e, f) (simp append_assoc)
 
-spelled_three : (word a b d name : List ℕ) (v w u : ℕ) → word ≡ name → a ≡ decimal v → b ≡ decimal w → d ≡ decimal u → join_with_byte 32 (word ∷ a ∷ b ∷ d ∷ []) ≡ name ++ (32 ∷ ((((decimal v ++ 32 ∷ []) ++ decimal w) ++ 32 ∷ []) ++ decimal u))
+spelled_three : (word a b d name : List ℕ) (v w u : ℕ) → word ≡ name → a ≡ decimal v → b ≡ decimal w → d ≡ decimal u
+    → join_with_byte 32 (word ∷ a ∷ b ∷ d ∷ []) ≡ name ++ (32 ∷ ((((decimal v ++ 32 ∷ []) ++ decimal w) ++ 32 ∷ []) ++ decimal u))
 spelled_three word a b d name v w u is e f g = rw (is, e, f, g) (simp append_assoc)
 
 alone_takes : (word : List ℕ) (c : Command) → command_alone word ≡ Ok c → IsSpelled (word ∷ []) c
@@ -85,7 +91,8 @@ with_two_takes word a b c h =
           subst (IsSpelled (word ∷ a ∷ b ∷ [])) n.6 (spelled_two word a b (codes "atleast") n.0 n.1 (word_is word (codes "atleast") q.0) n.2 n.3, (n.4, n.5))
     ]
 
-with_three_takes : (word a b d : List ℕ) (c : Command) → command_with_three word a b d ≡ Ok c → IsSpelled (word ∷ a ∷ b ∷ d ∷ []) c
+with_three_takes : (word a b d : List ℕ) (c : Command) → command_with_three word a b d ≡ Ok c
+    → IsSpelled (word ∷ a ∷ b ∷ d ∷ []) c
 unfolding command_with_three
 with_three_takes word a b d c h =
     let p = test_ok (bytes_eq word (codes "fail")) (argument a >>= λ n. (argument b >>= λ value. (argument d >>= λ at. (cond (ltb at n) (Ok (Fail n value at)) (Err BadCommand))))) BadCommand c h in
@@ -108,7 +115,8 @@ command_takes (word ∷ a ∷ b ∷ []) c h = with_two_takes word a b c h
 command_takes (word ∷ a ∷ b ∷ d ∷ []) c h = with_three_takes word a b d c h
 command_takes (word ∷ a ∷ b ∷ d ∷ e ∷ more) c h = absurd cc
 
-piece_takes : (piece : List ℕ) (c : Command) → parsed_command (words piece) ≡ Ok c → (piece ≡ command_text c) × IsCommand c
+piece_takes : (piece : List ℕ) (c : Command) → parsed_command (words piece) ≡ Ok c
+    → (piece ≡ command_text c) × IsCommand c
 unfolding words
 piece_takes piece c h =
     let p = command_takes (slice_split (λ b. eqb b 32) piece) c h in
@@ -116,13 +124,16 @@ piece_takes piece c h =
 
 -- ---- What is spelled so is read
 
-two_words : (n v : ℕ) → n < 2 ^ 64 → v < 2 ^ 64 → slice_split (λ b. eqb b 32) ((decimal n ++ 32 ∷ []) ++ decimal v) ≡ decimal n ∷ decimal v ∷ []
+two_words : (n v : ℕ) → n < 2 ^ 64 → v < 2 ^ 64
+    → slice_split (λ b. eqb b 32) ((decimal n ++ 32 ∷ []) ++ decimal v) ≡ decimal n ∷ decimal v ∷ []
 two_words n v small-n small-v =
     ap (slice_split (λ b. eqb b 32)) (append_assoc (decimal n) (32 ∷ []) (decimal v))
     ∙ split_front 32 (decimal n) (decimal v) (decimal_lacks 32 n (omega arith) small-n)
     ∙ ap (λ (l : List (List ℕ)). decimal n ∷ l) (split_whole 32 (decimal v) (decimal_lacks 32 v (omega arith) small-v))
 
-three_words : (n v at : ℕ) → n < 2 ^ 64 → v < 2 ^ 64 → at < 2 ^ 64 → slice_split (λ b. eqb b 32) ((((decimal n ++ 32 ∷ []) ++ decimal v) ++ 32 ∷ []) ++ decimal at) ≡ decimal n ∷ decimal v ∷ decimal at ∷ []
+three_words : (n v at : ℕ) → n < 2 ^ 64 → v < 2 ^ 64 → at < 2 ^ 64
+    → slice_split (λ b. eqb b 32)
+    ((((decimal n ++ 32 ∷ []) ++ decimal v) ++ 32 ∷ []) ++ decimal at) ≡ decimal n ∷ decimal v ∷ decimal at ∷ []
 three_words n v at small-n small-v small-at =
     let regrouped : (((decimal n ++ 32 ∷ []) ++ decimal v) ++ 32 ∷ []) ++ decimal at ≡ decimal n ++ 32 ∷ ((decimal v ++ 32 ∷ []) ++ decimal at) = simp append_assoc in
     ap (slice_split (λ b. eqb b 32)) regrouped
@@ -141,11 +152,13 @@ command_again (Read place) h = rw (split_whole 32 (decimal place) (decimal_lacks
 command_again Size h = refl
 
 -- the bytes that stand in no number and are no space stand in no arguments
-two_lack : (b n v : ℕ) → b < 48 → lacks b (32 ∷ []) ≡ true → n < 2 ^ 64 → v < 2 ^ 64 → lacks b ((decimal n ++ 32 ∷ []) ++ decimal v) ≡ true
+two_lack : (b n v : ℕ) → b < 48 → lacks b (32 ∷ []) ≡ true → n < 2 ^ 64 → v < 2 ^ 64
+    → lacks b ((decimal n ++ 32 ∷ []) ++ decimal v) ≡ true
 two_lack b n v low space small-n small-v =
     lacks-append b (decimal n ++ 32 ∷ []) (decimal v) (lacks-append b (decimal n) (32 ∷ []) (decimal_lacks b n low small-n) space) (decimal_lacks b v low small-v)
 
-three_lack : (b n v at : ℕ) → b < 48 → lacks b (32 ∷ []) ≡ true → n < 2 ^ 64 → v < 2 ^ 64 → at < 2 ^ 64 → lacks b ((((decimal n ++ 32 ∷ []) ++ decimal v) ++ 32 ∷ []) ++ decimal at) ≡ true
+three_lack : (b n v at : ℕ) → b < 48 → lacks b (32 ∷ []) ≡ true → n < 2 ^ 64 → v < 2 ^ 64 → at < 2 ^ 64
+    → lacks b ((((decimal n ++ 32 ∷ []) ++ decimal v) ++ 32 ∷ []) ++ decimal at) ≡ true
 three_lack b n v at low space small-n small-v small-at =
     lacks-append b (((decimal n ++ 32 ∷ []) ++ decimal v) ++ 32 ∷ []) (decimal at) (lacks-append b ((decimal n ++ 32 ∷ []) ++ decimal v) (32 ∷ []) (two_lack b n v low space small-n small-v) space) (decimal_lacks b at low small-at)
 
@@ -174,7 +187,9 @@ EachGives step [] (z ∷ zs) = ⊥
 EachGives step (x ∷ xs) [] = ⊥
 EachGives step (x ∷ xs) (z ∷ zs) = (step x ≡ Ok z) × EachGives step xs zs
 
-pub each_takes : {X Y : Type 0} (step : X → Result Y Fault) (most : ℕ) (done ys : List Y) (xs : List X) → length done ≤ most → try_each step most done xs ≡ Ok ys → (zs : List Y) × (ys ≡ done ++ zs) × EachGives step xs zs × (length ys ≤ most)
+pub each_takes : {X Y : Type 0} (step : X → Result Y Fault) (most : ℕ) (done ys : List Y) (xs : List X)
+    → length done ≤ most → try_each step most done xs ≡ Ok ys
+    → (zs : List Y) × (ys ≡ done ++ zs) × EachGives step xs zs × (length ys ≤ most)
 unfolding try_each
 each_takes step most done ys [] le h =
     let e : done ≡ ys = ok_is done ys h in
@@ -186,7 +201,8 @@ each_takes step most done ys (x ∷ xs) le h =
     let rest = each_takes step most (done ++ q.0 ∷ []) ys xs (omega (arith, length-append done (q.0 ∷ []))) q.2 in
     (q.0 ∷ rest.0, rest.1 ∙ append_assoc done (q.0 ∷ []) rest.0, (q.1, rest.2), rest.3)
 
-pub each_again : {X Y : Type 0} (step : X → Result Y Fault) (most : ℕ) (done zs : List Y) (xs : List X) → EachGives step xs zs → length done + length zs ≤ most → try_each step most done xs ≡ Ok (done ++ zs)
+pub each_again : {X Y : Type 0} (step : X → Result Y Fault) (most : ℕ) (done zs : List Y) (xs : List X)
+    → EachGives step xs zs → length done + length zs ≤ most → try_each step most done xs ≡ Ok (done ++ zs)
 unfolding try_each
 each_again step most done [] [] h le = ap (λ (l : List _). Ok l) (sym (append-nil done))
 each_again step most done (z ∷ zs) [] h le = absurd h
@@ -195,7 +211,9 @@ each_again step most done (z ∷ zs) (x ∷ xs) h le =
     let rest = each_again step most (done ++ z ∷ []) zs xs h.1 (omega (arith, length-append done (z ∷ []))) in
     rw (lt-leb most (length done) (omega arith), h.0) (rest ∙ ap (λ (l : List _). Ok l) (append_assoc done (z ∷ []) zs))
 
-pieces_spelled : (xs : List (List ℕ)) (program : List Command) → EachGives (λ piece. parsed_command (words piece)) xs program → (xs ≡ map command_text program) × AllByRecursion IsCommand program × (length xs ≡ length program)
+pieces_spelled : (xs : List (List ℕ)) (program : List Command)
+    → EachGives (λ piece. parsed_command (words piece)) xs program
+    → (xs ≡ map command_text program) × AllByRecursion IsCommand program × (length xs ≡ length program)
 pieces_spelled [] [] h = (refl, tt, refl)
 pieces_spelled [] (c ∷ cs) h = absurd h
 pieces_spelled (x ∷ xs) [] h = absurd h
@@ -204,20 +222,24 @@ pieces_spelled (x ∷ xs) (c ∷ cs) h =
     let rest = pieces_spelled xs cs h.1 in
     (rw (first.0, rest.0) refl, (first.1, rest.1), ap suc rest.2)
 
-pieces_read : (program : List Command) → AllByRecursion IsCommand program → EachGives (λ piece. parsed_command (words piece)) (map command_text program) program
+pieces_read : (program : List Command) → AllByRecursion IsCommand program
+    → EachGives (λ piece. parsed_command (words piece)) (map command_text program) program
 pieces_read [] h = tt
 pieces_read (c ∷ cs) h = (command_again c h.0, pieces_read cs h.1)
 
 -- the pieces, joined again
-joined_onto : (b : ℕ) (x : List ℕ) (xs : List (List ℕ)) → joined (44 ∷ 32 ∷ []) (onto_first b (x ∷ xs)) ≡ b ∷ joined (44 ∷ 32 ∷ []) (x ∷ xs)
+joined_onto : (b : ℕ) (x : List ℕ) (xs : List (List ℕ))
+    → joined (44 ∷ 32 ∷ []) (onto_first b (x ∷ xs)) ≡ b ∷ joined (44 ∷ 32 ∷ []) (x ∷ xs)
 joined_onto b x [] = refl
 joined_onto b x (y ∷ ys) = refl
 
-joined_next : (x : List ℕ) (xs ys : List (List ℕ)) → 0 < length ys → joined (44 ∷ 32 ∷ []) (x ∷ ys) ≡ x ++ (44 ∷ 32 ∷ joined (44 ∷ 32 ∷ []) ys)
+joined_next : (x : List ℕ) (xs ys : List (List ℕ)) → 0 < length ys
+    → joined (44 ∷ 32 ∷ []) (x ∷ ys) ≡ x ++ (44 ∷ 32 ∷ joined (44 ∷ 32 ∷ []) ys)
 joined_next x xs [] some = absurd (omega arith)
 joined_next x xs (y ∷ ys) some = refl
 
-joined_on : (b : ℕ) (ps : List (List ℕ)) → 0 < length ps → joined (44 ∷ 32 ∷ []) (onto_first b ps) ≡ b ∷ joined (44 ∷ 32 ∷ []) ps
+joined_on : (b : ℕ) (ps : List (List ℕ)) → 0 < length ps
+    → joined (44 ∷ 32 ∷ []) (onto_first b ps) ≡ b ∷ joined (44 ∷ 32 ∷ []) ps
 joined_on b [] some = absurd (omega arith)
 joined_on b (x ∷ xs) some = joined_onto b x xs
 
@@ -259,13 +281,15 @@ pieces_whole (b ∷ c ∷ x) h =
     let p = not-true (eqb b 44) q.0 in
     rw (p, pieces_whole (c ∷ x) q.1) refl
 
-pieces-program : (c : Command) (cs : List Command) → AllByRecursion IsCommand (c ∷ cs) → pieces (joined (44 ∷ 32 ∷ []) (map command_text (c ∷ cs))) ≡ map command_text (c ∷ cs)
+pieces-program : (c : Command) (cs : List Command) → AllByRecursion IsCommand (c ∷ cs)
+    → pieces (joined (44 ∷ 32 ∷ []) (map command_text (c ∷ cs))) ≡ map command_text (c ∷ cs)
 pieces-program c [] h = pieces_whole (command_text c) (command_lacks_comma c h.0)
 pieces-program c (d ∷ cs) h =
     pieces_front (command_text c) (joined (44 ∷ 32 ∷ []) (map command_text (d ∷ cs))) (command_lacks_comma c h.0)
     ∙ ap (λ (l : List (List ℕ)). command_text c ∷ l) (pieces-program d cs h.1)
 
-pub program_takes : (text : List ℕ) (program : List Command) → parsed_program text ≡ Ok program → (text ≡ program_text program) × IsProgram program
+pub program_takes : (text : List ℕ) (program : List Command) → parsed_program text ≡ Ok program
+    → (text ≡ program_text program) × IsProgram program
 unfolding parsed_program
 program_takes text program h =
     let each = each_takes (λ piece. parsed_command (words piece)) 1000 [] program (pieces text) (omega arith) h in

@@ -15,7 +15,10 @@ pub drop_all : {A : Type 0} (i n : ℕ) (l : List A) → n ≡ length l → take
 drop_all i n l e = nil_from_length (take i (drop n l)) (omega (arith, length-take i (drop n l), length-drop n l))
 
 -- the first place where the separator stands
-cut_found : (separator text : List ℕ) (i : ℕ) → i < length text → ((k : ℕ) → k < i → starts_with eqb (drop k text) separator ≡ false) → starts_with eqb (drop i text) separator ≡ true → cut separator text ≡ (take i text, Some (drop (length separator) (drop i text)))
+cut_found : (separator text : List ℕ) (i : ℕ) → i < length text
+    → ((k : ℕ) → k < i → starts_with eqb (drop k text) separator ≡ false)
+    → starts_with eqb (drop i text) separator ≡ true
+    → cut separator text ≡ (take i text, Some (drop (length separator) (drop i text)))
 unfolding cut
 cut_found separator [] i lt before here = absurd (omega arith)
 cut_found separator (b ∷ bs) zero lt before here = cond-true (starts_with eqb (b ∷ bs) separator) _ _ here
@@ -24,14 +27,19 @@ cut_found separator (b ∷ bs) (suc i) lt before here =
     cond-false (starts_with eqb (b ∷ bs) separator) _ _ (before 0 (omega arith)) ∙ ap (λ (p : List ℕ × Option (List ℕ)). (b ∷ p.0, p.1)) rest
 
 -- the same, with the bytes after it as a slice up to the end
-pub cut_at_place : (separator text : List ℕ) (i m n : ℕ) → i < length text → ((k : ℕ) → k < i → starts_with eqb (drop k text) separator ≡ false) → m ≡ length text - i → starts_with eqb (take m (drop i text)) separator ≡ true → n ≡ length text - (i + length separator) → (take i text, Some (take n (drop (i + length separator) text))) ≡ cut separator text
+pub cut_at_place : (separator text : List ℕ) (i m n : ℕ) → i < length text
+    → ((k : ℕ) → k < i → starts_with eqb (drop k text) separator ≡ false) → m ≡ length text - i
+    → starts_with eqb (take m (drop i text)) separator ≡ true → n ≡ length text - (i + length separator)
+    → (take i text, Some (take n (drop (i + length separator) text))) ≡ cut separator text
 cut_at_place separator text i m n lt before me here ne =
     let test : starts_with eqb (drop i text) separator ≡ true = rw (← drop_whole i m text me) here in
     let after : drop (length separator) (drop i text) ≡ take n (drop (i + length separator) text) = drop-drop (length separator) i text ∙ sym (drop_whole (i + length separator) n text ne) in
     sym (cut_found separator text i lt before test ∙ ap (λ (r : List ℕ). (take i text, Some r)) after)
 
 -- the separator stands nowhere
-pub cut_none : (separator text : List ℕ) → ((k : ℕ) → k < length text → starts_with eqb (drop k text) separator ≡ false) → cut separator text ≡ (text, None)
+pub cut_none : (separator text : List ℕ)
+    → ((k : ℕ) → k < length text → starts_with eqb (drop k text) separator ≡ false)
+    → cut separator text ≡ (text, None)
 unfolding cut
 cut_none separator [] before = refl
 cut_none separator (b ∷ bs) before =
@@ -76,7 +84,8 @@ abbrev parts_after : (ℕ → Bool) → Option (List ℕ) → List (List ℕ)
 parts_after p None = []
 parts_after p (Some rest) = slice_split p rest
 
-split_cut : (c : ℕ) (text : List ℕ) → slice_split (λ b. eqb b c) text ≡ (cut (c ∷ []) text).0 ∷ parts_after (λ b. eqb b c) (cut (c ∷ []) text).1
+split_cut : (c : ℕ) (text : List ℕ)
+    → slice_split (λ b. eqb b c) text ≡ (cut (c ∷ []) text).0 ∷ parts_after (λ b. eqb b c) (cut (c ∷ []) text).1
 unfolding cut
 split_cut c [] = refl
 split_cut c (b ∷ bs) =
@@ -86,21 +95,24 @@ split_cut c (b ∷ bs) =
       | inr miss ↦ rw (test, miss, split_cut c bs) refl
     ]
 
-pub words_last : (text : List ℕ) (r : Bor (List ℕ) × Option (Bor (List ℕ))) → (r.0.now, option_copied r.1) ≡ cut (32 ∷ []) text → r.1 ≡ None → words text ≡ r.0.now ∷ []
+pub words_last : (text : List ℕ) (r : Bor (List ℕ) × Option (Bor (List ℕ)))
+    → (r.0.now, option_copied r.1) ≡ cut (32 ∷ []) text → r.1 ≡ None → words text ≡ r.0.now ∷ []
 unfolding words
 words_last text r e none =
     let after : (cut (32 ∷ []) text).1 ≡ None = ap (λ (p : List ℕ × Option (List ℕ)). p.1) (sym e) ∙ ap option_copied none in
     let front : (cut (32 ∷ []) text).0 ≡ r.0.now = ap (λ (p : List ℕ × Option (List ℕ)). p.0) (sym e) in
     rw (split_cut 32 text, after, front) refl
 
-pub words_more : (text : List ℕ) (r : Bor (List ℕ) × Option (Bor (List ℕ))) (rest : Bor (List ℕ)) → (r.0.now, option_copied r.1) ≡ cut (32 ∷ []) text → r.1 ≡ Some rest → words text ≡ r.0.now ∷ words rest.now
+pub words_more : (text : List ℕ) (r : Bor (List ℕ) × Option (Bor (List ℕ))) (rest : Bor (List ℕ))
+    → (r.0.now, option_copied r.1) ≡ cut (32 ∷ []) text → r.1 ≡ Some rest → words text ≡ r.0.now ∷ words rest.now
 unfolding words
 words_more text r rest e some =
     let after : (cut (32 ∷ []) text).1 ≡ Some rest.now = ap (λ (p : List ℕ × Option (List ℕ)). p.1) (sym e) ∙ ap option_copied some in
     let front : (cut (32 ∷ []) text).0 ≡ r.0.now = ap (λ (p : List ℕ × Option (List ℕ)). p.0) (sym e) in
     rw (split_cut 32 text, after, front) refl
 
-pub words_first : (text : List ℕ) (r : Bor (List ℕ) × Option (Bor (List ℕ))) → (r.0.now, option_copied r.1) ≡ cut (32 ∷ []) text → (others : List (List ℕ)) × (words text ≡ r.0.now ∷ others)
+pub words_first : (text : List ℕ) (r : Bor (List ℕ) × Option (Bor (List ℕ)))
+    → (r.0.now, option_copied r.1) ≡ cut (32 ∷ []) text → (others : List (List ℕ)) × (words text ≡ r.0.now ∷ others)
 unfolding words
 words_first text r e =
     let front : (cut (32 ∷ []) text).0 ≡ r.0.now = ap (λ (p : List ℕ × Option (List ℕ)). p.0) (sym e) in
@@ -111,7 +123,8 @@ pub some_words : (text : List ℕ) → 0 < length (words text)
 unfolding words
 some_words text = rw (split_cut 32 text) (omega arith)
 
-pub line_last : (text : List ℕ) (r : Bor (List ℕ) × Option (Bor (List ℕ))) → 0 < length text → (r.0.now, option_copied r.1) ≡ cut (10 ∷ []) text → r.1 ≡ None → lines text ≡ r.0.now ∷ lines []
+pub line_last : (text : List ℕ) (r : Bor (List ℕ) × Option (Bor (List ℕ))) → 0 < length text
+    → (r.0.now, option_copied r.1) ≡ cut (10 ∷ []) text → r.1 ≡ None → lines text ≡ r.0.now ∷ lines []
 unfolding lines
 line_last text r some e none =
     let after : (cut (10 ∷ []) text).1 ≡ None = ap (λ (p : List ℕ × Option (List ℕ)). p.1) (sym e) ∙ ap option_copied none in
@@ -120,14 +133,16 @@ line_last text r some e none =
     let long : eqb (length r.0.now) 0 ≡ false = ne_eqb _ _ (λ z. absurd (omega (arith, ap length (sym front ∙ all)))) in
     rw (split_cut 10 text, after, front, long) refl
 
-pub line_more : (text : List ℕ) (r : Bor (List ℕ) × Option (Bor (List ℕ))) (rest : Bor (List ℕ)) → (r.0.now, option_copied r.1) ≡ cut (10 ∷ []) text → r.1 ≡ Some rest → lines text ≡ r.0.now ∷ lines rest.now
+pub line_more : (text : List ℕ) (r : Bor (List ℕ) × Option (Bor (List ℕ))) (rest : Bor (List ℕ))
+    → (r.0.now, option_copied r.1) ≡ cut (10 ∷ []) text → r.1 ≡ Some rest → lines text ≡ r.0.now ∷ lines rest.now
 unfolding lines
 line_more text r rest e some =
     let after : (cut (10 ∷ []) text).1 ≡ Some rest.now = ap (λ (p : List ℕ × Option (List ℕ)). p.1) (sym e) ∙ ap option_copied some in
     let front : (cut (10 ∷ []) text).0 ≡ r.0.now = ap (λ (p : List ℕ × Option (List ℕ)). p.0) (sym e) in
     rw (split_cut 10 text, after, front, split_cut 10 rest.now) refl
 
-lines_by_cut : (text : List ℕ) → 0 < length text → (rest : Option (List ℕ)) → (cut (10 ∷ []) text).1 ≡ rest → (first : List ℕ) × (others : List (List ℕ)) × (lines_of_parts (slice_split (λ b. eqb b 10) text) ≡ first ∷ others)
+lines_by_cut : (text : List ℕ) → 0 < length text → (rest : Option (List ℕ)) → (cut (10 ∷ []) text).1 ≡ rest
+    → (first : List ℕ) × (others : List (List ℕ)) × (lines_of_parts (slice_split (λ b. eqb b 10) text) ≡ first ∷ others)
 lines_by_cut text some None none =
     let all : (cut (10 ∷ []) text).0 ≡ text = cut_whole (10 ∷ []) text none in
     let long : eqb (length text) 0 ≡ false = ne_eqb _ _ (λ z. absurd (omega arith)) in
@@ -136,7 +151,8 @@ lines_by_cut text some (Some rest) here =
     ((cut (10 ∷ []) text).0, lines_of_parts (slice_split (λ b. eqb b 10) rest), rw (split_cut 10 text, here, split_cut 10 rest) refl)
 
 -- some bytes have a line
-pub some_lines : (text : List ℕ) → 0 < length text → (first : List ℕ) × (rest : List (List ℕ)) × (lines text ≡ first ∷ rest)
+pub some_lines : (text : List ℕ) → 0 < length text
+    → (first : List ℕ) × (rest : List (List ℕ)) × (lines text ≡ first ∷ rest)
 unfolding lines
 some_lines text some =
     let p : (rest : Option (List ℕ)) → (cut (10 ∷ []) text).1 ≡ rest → (first : List ℕ) × (others : List (List ℕ)) × (lines_of_parts (slice_split (λ b. eqb b 10) text) ≡ first ∷ others) = lines_by_cut text some in
@@ -161,19 +177,24 @@ pieces_cut (b ∷ c ∷ bs) =
       | inr miss ↦ rw (test, miss, pieces_cut (c ∷ bs)) refl
     ]
 
-pub pieces_last : (text : List ℕ) (r : Bor (List ℕ) × Option (Bor (List ℕ))) → (r.0.now, option_copied r.1) ≡ cut (44 ∷ 32 ∷ []) text → r.1 ≡ None → pieces text ≡ r.0.now ∷ []
+pub pieces_last : (text : List ℕ) (r : Bor (List ℕ) × Option (Bor (List ℕ)))
+    → (r.0.now, option_copied r.1) ≡ cut (44 ∷ 32 ∷ []) text → r.1 ≡ None → pieces text ≡ r.0.now ∷ []
 pieces_last text r e none =
     let after : (cut (44 ∷ 32 ∷ []) text).1 ≡ None = ap (λ (p : List ℕ × Option (List ℕ)). p.1) (sym e) ∙ ap option_copied none in
     let front : (cut (44 ∷ 32 ∷ []) text).0 ≡ r.0.now = ap (λ (p : List ℕ × Option (List ℕ)). p.0) (sym e) in
     rw (pieces_cut text, after, front) refl
 
-pub pieces_more : (text : List ℕ) (r : Bor (List ℕ) × Option (Bor (List ℕ))) (rest : Bor (List ℕ)) → (r.0.now, option_copied r.1) ≡ cut (44 ∷ 32 ∷ []) text → r.1 ≡ Some rest → pieces text ≡ r.0.now ∷ pieces rest.now
+pub pieces_more : (text : List ℕ) (r : Bor (List ℕ) × Option (Bor (List ℕ))) (rest : Bor (List ℕ))
+    → (r.0.now, option_copied r.1) ≡ cut (44 ∷ 32 ∷ []) text → r.1 ≡ Some rest
+    → pieces text ≡ r.0.now ∷ pieces rest.now
 pieces_more text r rest e some =
     let after : (cut (44 ∷ 32 ∷ []) text).1 ≡ Some rest.now = ap (λ (p : List ℕ × Option (List ℕ)). p.1) (sym e) ∙ ap option_copied some in
     let front : (cut (44 ∷ 32 ∷ []) text).0 ≡ r.0.now = ap (λ (p : List ℕ × Option (List ℕ)). p.0) (sym e) in
     rw (pieces_cut text, after, front) refl
 
-pub pieces_first : (text : List ℕ) (r : Bor (List ℕ) × Option (Bor (List ℕ))) → (r.0.now, option_copied r.1) ≡ cut (44 ∷ 32 ∷ []) text → (others : List (List ℕ)) × (pieces text ≡ r.0.now ∷ others)
+pub pieces_first : (text : List ℕ) (r : Bor (List ℕ) × Option (Bor (List ℕ)))
+    → (r.0.now, option_copied r.1) ≡ cut (44 ∷ 32 ∷ []) text
+    → (others : List (List ℕ)) × (pieces text ≡ r.0.now ∷ others)
 pieces_first text r e =
     let front : (cut (44 ∷ 32 ∷ []) text).0 ≡ r.0.now = ap (λ (p : List ℕ × Option (List ℕ)). p.0) (sym e) in
     (pieces_after (cut (44 ∷ 32 ∷ []) text).1, rw (pieces_cut text, front) refl)

@@ -17,7 +17,9 @@ use Rattle.script_core.proofs.CommandSpelling.{EachGives, each_takes, each_again
 
 -- ---- What is read is spelled so
 
-item_from_by : (names : List ℕ) (name : ℕ) (memory : Bool) (item : Item) (place : Option ℕ) → position (λ n. eqb n name) names ≡ place → item_from place memory ≡ Ok item → (item.actor < length names) × (slice_index names item.actor ≡ name) × (item.memory ≡ memory)
+item_from_by : (names : List ℕ) (name : ℕ) (memory : Bool) (item : Item) (place : Option ℕ)
+    → position (λ n. eqb n name) names ≡ place → item_from place memory ≡ Ok item
+    → (item.actor < length names) × (slice_index names item.actor ≡ name) × (item.memory ≡ memory)
 item_from_by names name memory item None at h = absurd cc
 item_from_by names name memory item (Some k) at h =
     let found = position-Some (λ n. eqb n name) names k 0 at in
@@ -25,10 +27,13 @@ item_from_by names name memory item (Some k) at h =
     subst (λ (i : Item). (i.actor < length names) × (slice_index names i.actor ≡ name) × (i.memory ≡ memory)) (ok_is made item h)
     (found.0, eqb-true (get_or names k 0) name found.1, refl)
 
-item_from_takes : (names : List ℕ) (name : ℕ) (memory : Bool) (item : Item) → item_from (position (λ n. eqb n name) names) memory ≡ Ok item → (item.actor < length names) × (slice_index names item.actor ≡ name) × (item.memory ≡ memory)
+item_from_takes : (names : List ℕ) (name : ℕ) (memory : Bool) (item : Item)
+    → item_from (position (λ n. eqb n name) names) memory ≡ Ok item
+    → (item.actor < length names) × (slice_index names item.actor ≡ name) × (item.memory ≡ memory)
 item_from_takes names name memory item h = item_from_by names name memory item (position (λ n. eqb n name) names) refl h
 
-item_takes : (names word : List ℕ) (item : Item) → parsed_item names word ≡ Ok item → (32 ∷ word ≡ item_text names item) × (item.actor < length names)
+item_takes : (names word : List ℕ) (item : Item) → parsed_item names word ≡ Ok item
+    → (32 ∷ word ≡ item_text names item) × (item.actor < length names)
 unfolding parsed_item
 item_takes names [] item h = absurd cc
 item_takes names (name ∷ []) item h =
@@ -43,7 +48,9 @@ item_takes names (name ∷ mark ∷ b ∷ more) item h = absurd cc
 abbrev IsOwn : List ℕ → Item → Type 0
 IsOwn names item = item.actor < length names
 
-items_spelled : (names : List ℕ) (ws : List (List ℕ)) (items : List Item) → 0 < length ws → EachGives (parsed_item names) ws items → (32 ∷ join_with_byte 32 ws ≡ flat_map (item_text names) items) × AllByRecursion (IsOwn names) items
+items_spelled : (names : List ℕ) (ws : List (List ℕ)) (items : List Item) → 0 < length ws
+    → EachGives (parsed_item names) ws items
+    → (32 ∷ join_with_byte 32 ws ≡ flat_map (item_text names) items) × AllByRecursion (IsOwn names) items
 items_spelled names [] items some h = absurd (omega arith)
 items_spelled names (w ∷ []) [] some h = absurd h
 items_spelled names (w ∷ []) (i ∷ []) some h =
@@ -61,7 +68,8 @@ abbrev pub IsAfterWord : List ℕ → Type 0
 IsAfterWord [] = Unit {0}
 IsAfterWord (c ∷ cs) = c ≡ 32
 
-pub items_takes : (names text : List ℕ) (items : List Item) → IsAfterWord text → parsed_items names text ≡ Ok items → (text ≡ flat_map (item_text names) items) × (length items ≤ 100000) × All (λ item. item.actor < length names) items
+pub items_takes : (names text : List ℕ) (items : List Item) → IsAfterWord text → parsed_items names text ≡ Ok items
+    → (text ≡ flat_map (item_text names) items) × (length items ≤ 100000) × All (λ item. item.actor < length names) items
 unfolding parsed_items words
 items_takes names [] items space h =
     let none : List Item = [] in
@@ -78,7 +86,8 @@ items_takes names (c ∷ rest) items space h =
 apart_tail : (x : ℕ) (xs : List ℕ) → AllPairs (λ a b. a ≢ b) (x ∷ xs) → AllPairs (λ a b. a ≢ b) xs
 apart_tail x xs h i j d below within = h (suc i) (suc j) d (omega arith) (omega arith)
 
-first_place : (names : List ℕ) (k : ℕ) → k < length names → AllPairs (λ a b. a ≢ b) names → prefix_len (λ x. not (eqb x (get_or names k 0))) names ≡ k
+first_place : (names : List ℕ) (k : ℕ) → k < length names → AllPairs (λ a b. a ≢ b) names
+    → prefix_len (λ x. not (eqb x (get_or names k 0))) names ≡ k
 first_place [] k lt apart = absurd (omega arith)
 first_place (n ∷ ns) zero lt apart = rw (eq-eqb n n refl) refl
 first_place (n ∷ ns) (suc k) lt apart =
@@ -86,19 +95,22 @@ first_place (n ∷ ns) (suc k) lt apart =
     let rest = first_place ns k (omega arith) (apart_tail n ns apart) in
     rw (other, rest) (omega arith)
 
-place_again : (names : List ℕ) (k : ℕ) → k < length names → AllPairs (λ a b. a ≢ b) names → position (λ n. eqb n (get_or names k 0)) names ≡ Some k
+place_again : (names : List ℕ) (k : ℕ) → k < length names → AllPairs (λ a b. a ≢ b) names
+    → position (λ n. eqb n (get_or names k 0)) names ≡ Some k
 place_again names k lt apart = rw (first_place names k lt apart, lt-ltb k (length names) lt) refl
 
 -- an item's word
 abbrev word_text : List ℕ → Item → List ℕ
 word_text names item = slice_index names item.actor ∷ cond item.memory [] (33 ∷ [])
 
-word_again : (names : List ℕ) (k : ℕ) (memory : Bool) → k < length names → AllPairs (λ a b. a ≢ b) names → parsed_item names (get_or names k 0 ∷ cond memory [] (33 ∷ [])) ≡ Ok (record { actor = k; memory = memory })
+word_again : (names : List ℕ) (k : ℕ) (memory : Bool) → k < length names → AllPairs (λ a b. a ≢ b) names
+    → parsed_item names (get_or names k 0 ∷ cond memory [] (33 ∷ [])) ≡ Ok (record { actor = k; memory = memory })
 unfolding parsed_item
 word_again names k true lt apart = rw (place_again names k lt apart) refl
 word_again names k false lt apart = rw (place_again names k lt apart) refl
 
-words_read : (names : List ℕ) (items : List Item) → AllPairs (λ a b. a ≢ b) names → AllByRecursion (IsOwn names) items → EachGives (parsed_item names) (map (word_text names) items) items
+words_read : (names : List ℕ) (items : List Item) → AllPairs (λ a b. a ≢ b) names
+    → AllByRecursion (IsOwn names) items → EachGives (parsed_item names) (map (word_text names) items) items
 words_read names [] apart h = tt
 words_read names (i ∷ is) apart h = (word_again names i.actor i.memory h.0 apart, words_read names is apart h.1)
 
@@ -106,21 +118,26 @@ mark_lacks : (b : ℕ) (memory : Bool) → eqb 33 b ≡ false → lacks b (cond 
 mark_lacks b true h = refl
 mark_lacks b false h = rw h refl
 
-word_lacks : (b : ℕ) (names : List ℕ) (item : Item) → b < 33 → All IsName names → item.actor < length names → lacks b (word_text names item) ≡ true
+word_lacks : (b : ℕ) (names : List ℕ) (item : Item) → b < 33 → All IsName names → item.actor < length names
+    → lacks b (word_text names item) ≡ true
 word_lacks b names item low letters own =
     let name = All-get_or IsName names item.actor 0 own letters in
     and_from (not (eqb (get_or names item.actor 0) b)) (lacks b (cond item.memory [] (33 ∷ [])))
     (not_from_false (eqb (get_or names item.actor 0) b) (ne_eqb (get_or names item.actor 0) b (λ e. absurd (omega (arith, name)))))
     (mark_lacks b item.memory (ne_eqb 33 b (λ e. absurd (omega arith))))
 
-words-items : (names : List ℕ) (i : Item) (is : List Item) → All IsName names → AllByRecursion (IsOwn names) (i ∷ is) → slice_split (λ b. eqb b 32) (word_text names i ++ flat_map (item_text names) is) ≡ map (word_text names) (i ∷ is)
+words-items : (names : List ℕ) (i : Item) (is : List Item) → All IsName names
+    → AllByRecursion (IsOwn names) (i ∷ is)
+    → slice_split (λ b. eqb b 32) (word_text names i ++ flat_map (item_text names) is) ≡ map (word_text names) (i ∷ is)
 words-items names i [] letters h =
     ap (slice_split (λ b. eqb b 32)) (append-nil (word_text names i)) ∙ split_whole 32 (word_text names i) (word_lacks 32 names i (omega arith) letters h.0)
 words-items names i (j ∷ is) letters h =
     split_front 32 (word_text names i) (word_text names j ++ flat_map (item_text names) is) (word_lacks 32 names i (omega arith) letters h.0)
     ∙ ap (λ (l : List (List ℕ)). word_text names i ∷ l) (words-items names j is letters h.1)
 
-pub items_again : (names : List ℕ) (items : List Item) → All IsName names → AllPairs (λ a b. a ≢ b) names → length items ≤ 100000 → All (λ item. item.actor < length names) items → parsed_items names (flat_map (item_text names) items) ≡ Ok items
+pub items_again : (names : List ℕ) (items : List Item) → All IsName names → AllPairs (λ a b. a ≢ b) names
+    → length items ≤ 100000 → All (λ item. item.actor < length names) items
+    → parsed_items names (flat_map (item_text names) items) ≡ Ok items
 unfolding parsed_items words
 items_again names [] letters apart few own = refl
 items_again names (i ∷ is) letters apart few own =
@@ -128,11 +145,13 @@ items_again names (i ∷ is) letters apart few own =
     ap (try_each (parsed_item names) 100000 []) (words-items names i is letters all)
     ∙ each_again (parsed_item names) 100000 [] (i ∷ is) (map (word_text names) (i ∷ is)) (words_read names (i ∷ is) apart all) (omega (arith, few))
 
-items_lack : (names : List ℕ) (items : List Item) → All IsName names → AllByRecursion (IsOwn names) items → lacks 10 (flat_map (item_text names) items) ≡ true
+items_lack : (names : List ℕ) (items : List Item) → All IsName names → AllByRecursion (IsOwn names) items
+    → lacks 10 (flat_map (item_text names) items) ≡ true
 items_lack names [] letters h = refl
 items_lack names (i ∷ is) letters h =
     lacks-append 10 (item_text names i) (flat_map (item_text names) is) (word_lacks 10 names i (omega arith) letters h.0) (items_lack names is letters h.1)
 
 -- an items line has no LF
-pub items_lack_lf : (names : List ℕ) (items : List Item) → All IsName names → All (λ item. item.actor < length names) items → lacks 10 (flat_map (item_text names) items) ≡ true
+pub items_lack_lf : (names : List ℕ) (items : List Item) → All IsName names
+    → All (λ item. item.actor < length names) items → lacks 10 (flat_map (item_text names) items) ≡ true
 items_lack_lf names items letters own = items_lack names items letters (recursion_from_All (IsOwn names) items own)

@@ -16,16 +16,19 @@ use Rattle.script_core.specs.Grammar.{◌>>=◌, is_number, number_or}
 use Rattle.script_core.proofs.Digits.{digit_is}
 
 -- the value of a step that did not fail
-pub bind_ok : {A B E : Type 0} (r : Result A E) (f : A → Result B E) (y : B) → (r >>= f) ≡ Ok y → (x : A) × (r ≡ Ok x) × (f x ≡ Ok y)
+pub bind_ok : {A B E : Type 0} (r : Result A E) (f : A → Result B E) (y : B) → (r >>= f) ≡ Ok y
+    → (x : A) × (r ≡ Ok x) × (f x ≡ Ok y)
 bind_ok (Ok x) f y e = (x, refl, e)
 bind_ok (Err d) f y e = absurd cc
 
 -- a test that did not fail
-pub test_ok : {A E : Type 0} (b : Bool) (r : Result A E) (d : E) (y : A) → cond b r (Err d) ≡ Ok y → (b ≡ true) × (r ≡ Ok y)
+pub test_ok : {A E : Type 0} (b : Bool) (r : Result A E) (d : E) (y : A) → cond b r (Err d) ≡ Ok y
+    → (b ≡ true) × (r ≡ Ok y)
 test_ok true r d y e = (refl, e)
 test_ok false r d y e = absurd cc
 
-pub refusal_ok : {A E : Type 0} (b : Bool) (r : Result A E) (d : E) (y : A) → cond b (Err d) r ≡ Ok y → (b ≡ false) × (r ≡ Ok y)
+pub refusal_ok : {A E : Type 0} (b : Bool) (r : Result A E) (d : E) (y : A) → cond b (Err d) r ≡ Ok y
+    → (b ≡ false) × (r ≡ Ok y)
 refusal_ok true r d y e = absurd cc
 refusal_ok false r d y e = (refl, e)
 
@@ -54,7 +57,8 @@ digits_all (d ∷ ds) h =
     and_from (is_ascii_digit d) (list_all is_ascii_digit ds) (and_from (leb 48 d) (leb d 57) (le-leb 48 d range.0) (le-leb d 57 range.1)) (digits_all ds h.1)
 
 -- a number in digits is one spelling
-number_spelled : (word : List ℕ) → is_number word ≡ true → digits_value 10 word < 2 ^ 64 → word ≡ decimal (digits_value 10 word)
+number_spelled : (word : List ℕ) → is_number word ≡ true → digits_value 10 word < 2 ^ 64
+    → word ≡ decimal (digits_value 10 word)
 number_spelled [] h small = absurd cc
 number_spelled (d ∷ ds) h small =
     elim (cases_eq d 48) [
@@ -70,7 +74,8 @@ number_spelled (d ∷ ds) h small =
     ]
 
 -- what is read as a number is its one spelling
-pub number_takes : (otherwise : Fault) (word : List ℕ) (n : ℕ) → number_or otherwise word ≡ Ok n → (word ≡ decimal n) × (n < 2 ^ 64)
+pub number_takes : (otherwise : Fault) (word : List ℕ) (n : ℕ) → number_or otherwise word ≡ Ok n
+    → (word ≡ decimal n) × (n < 2 ^ 64)
 unfolding number_or
 number_takes otherwise word n h =
     let p = test_ok (is_number word) _ otherwise n h in
@@ -134,7 +139,8 @@ pub decimal_lacks : (b n : ℕ) → b < 48 → n < 2 ^ 64 → lacks b (decimal n
 decimal_lacks b n low small = digits_lack b (decimal n) low (decimal_is_IsNumeral n small).0.1
 
 -- what is split at a byte that the front lacks
-pub split_front : (b : ℕ) (xs ys : List ℕ) → lacks b xs ≡ true → slice_split (λ d. eqb d b) (xs ++ b ∷ ys) ≡ xs ∷ slice_split (λ d. eqb d b) ys
+pub split_front : (b : ℕ) (xs ys : List ℕ) → lacks b xs ≡ true
+    → slice_split (λ d. eqb d b) (xs ++ b ∷ ys) ≡ xs ∷ slice_split (λ d. eqb d b) ys
 split_front b xs ys h = slice_split_at (λ d. eqb d b) xs b ys (all_lacks b xs h) (eq-eqb b b refl)
 
 pub split_whole : (b : ℕ) (xs : List ℕ) → lacks b xs ≡ true → slice_split (λ d. eqb d b) xs ≡ xs ∷ []

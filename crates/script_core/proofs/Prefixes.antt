@@ -9,7 +9,8 @@ use Rattle.std.proofs.lemmas.List.{take_all, take-append-le}
 use Rattle.script_core.specs.Text.{AppendsPrefix}
 
 -- a prefix of the front is a prefix of the whole
-pub prefix_front : (a b : Option (List ℕ)) (x rest whole : List ℕ) → AppendsPrefix a b x → whole ≡ x ++ rest → AppendsPrefix a b whole
+pub prefix_front : (a b : Option (List ℕ)) (x rest whole : List ℕ) → AppendsPrefix a b x → whole ≡ x ++ rest
+    → AppendsPrefix a b whole
 prefix_front a b x rest whole p e =
     elim (cases_lt (length x) p.0) [
       | inl long ↦
@@ -21,14 +22,16 @@ prefix_front a b x rest whole p e =
     ]
 
 -- the front, and a prefix of what follows it
-pub prefix_after : (a b c : Option (List ℕ)) (x y rest whole : List ℕ) → Appends a b x → AppendsPrefix b c y → whole ≡ x ++ (y ++ rest) → AppendsPrefix a c whole
+pub prefix_after : (a b c : Option (List ℕ)) (x y rest whole : List ℕ) → Appends a b x → AppendsPrefix b c y
+    → whole ≡ x ++ (y ++ rest) → AppendsPrefix a c whole
 prefix_after a b c x y rest whole h p e =
     let q = prefix_front b c y rest (y ++ rest) p refl in
     let more : x ++ take q.0 (y ++ rest) ≡ take (length x + q.0) whole = sym (take-append-add x (y ++ rest) q.0) ∙ ap (take (length x + q.0)) (sym e) in
     (length x + q.0, subst (Appends a c) more (Appends-trans a b c x (take q.0 (y ++ rest)) h q.1))
 
 -- the texts of a list, up to one of its elements, its own, and those after it
-pub flat_map_at : {X : Type 0} (f : X → List ℕ) (xs : List X) (i : ℕ) (x : X) → i < length xs → x ≡ get_or xs i x → flat_map f xs ≡ flat_map f (take i xs) ++ (f x ++ flat_map f (drop (suc i) xs))
+pub flat_map_at : {X : Type 0} (f : X → List ℕ) (xs : List X) (i : ℕ) (x : X) → i < length xs → x ≡ get_or xs i x
+    → flat_map f xs ≡ flat_map f (take i xs) ++ (f x ++ flat_map f (drop (suc i) xs))
 flat_map_at f [] i x lt e = absurd (omega arith)
 flat_map_at f (y ∷ ys) zero x lt e = ap (λ (z : _). f z ++ flat_map f ys) (sym e)
 flat_map_at f (y ∷ ys) (suc i) x lt e =

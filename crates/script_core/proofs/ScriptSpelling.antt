@@ -43,7 +43,8 @@ two_parts : (x part : List ℕ) → (last : Bool) × (x ++ (10 ∷ part) ≡ tex
 two_parts x [] = (true, refl)
 two_parts x (b ∷ bs) = (false, rw (ne_eqb (length (b ∷ bs)) 0 (λ e. absurd (omega arith))) (ap (λ (l : List ℕ). x ++ (10 ∷ l)) (sym (append-nil (b ∷ bs)))))
 
-parts_joined : (parts : List (List ℕ)) → (last : Bool) × (join_with_byte 10 parts ≡ text_of_lines last (lines_of_parts parts))
+parts_joined : (parts : List (List ℕ))
+    → (last : Bool) × (join_with_byte 10 parts ≡ text_of_lines last (lines_of_parts parts))
 parts_joined [] = (true, refl)
 parts_joined (x ∷ []) = last_part x
 parts_joined (x ∷ y ∷ []) = two_parts x y
@@ -57,7 +58,8 @@ lines_joined text =
     let p = parts_joined (slice_split (λ b. eqb b 10) text) in
     (p.0, sym (join_with_byte-slice_split 10 text) ∙ p.1)
 
-parts_next : (x : List ℕ) (parts : List (List ℕ)) → 0 < length parts → lines_of_parts (x ∷ parts) ≡ x ∷ lines_of_parts parts
+parts_next : (x : List ℕ) (parts : List (List ℕ)) → 0 < length parts
+    → lines_of_parts (x ∷ parts) ≡ x ∷ lines_of_parts parts
 parts_next x [] some = absurd (omega arith)
 parts_next x (y ∷ ys) some = refl
 
@@ -67,7 +69,8 @@ lines_front l rest h =
     ap lines_of_parts (split_front 10 l rest h)
     ∙ parts_next l (slice_split (λ b. eqb b 10) rest) (omega (arith, length-slice_split (λ b. eqb b 10) rest))
 
-lines_last : (l : List ℕ) (last : Bool) → lacks 10 l ≡ true → 0 < length l → lines (l ++ cond last (10 ∷ []) []) ≡ l ∷ []
+lines_last : (l : List ℕ) (last : Bool) → lacks 10 l ≡ true → 0 < length l
+    → lines (l ++ cond last (10 ∷ []) []) ≡ l ∷ []
 unfolding lines
 lines_last l true h some = lines_front l [] h
 lines_last l false h some =
@@ -96,7 +99,8 @@ unfolding is_actor_line
 actor_line_is text h = begins text (codes "actor ") h
 
 -- an items line is its word and what stands after it
-items_line_is : (text : List ℕ) → is_items_line text ≡ true → (text ≡ codes "steps" ++ drop 5 text) × IsAfterWord (drop 5 text)
+items_line_is : (text : List ℕ) → is_items_line text ≡ true
+    → (text ≡ codes "steps" ++ drop 5 text) × IsAfterWord (drop 5 text)
 unfolding is_items_line
 items_line_is text h =
     elim (or_cases (bytes_eq text (codes "steps")) (starts_with eqb text (codes "steps ")) h) [
@@ -121,7 +125,8 @@ record IsBody (limit : ℕ) (names : List ℕ) (programs : List (List Command)) 
   apart : AllPairs (λ a b. a ≢ b) s.names
   sound : All IsProgram s.programs
   items : (length s.items ≤ 100000) × All (λ item. item.actor < length s.names) s.items
-  spelled : (last : Bool) → text_of_lines last ls ≡ actors_text later bodies ++ (items_line s.names s.items ++ cond last (10 ∷ []) [])
+  spelled : (last : Bool)
+      → text_of_lines last ls ≡ actors_text later bodies ++ (items_line s.names s.items ++ cond last (10 ∷ []) [])
 
 -- the names and programs of the actor lines so far
 record AreActors (names : List ℕ) (programs : List (List Command)) : Type 0 where
@@ -130,7 +135,9 @@ record AreActors (names : List ℕ) (programs : List (List Command)) : Type 0 wh
   apart : AllPairs (λ a b. a ≢ b) names
   sound : All IsProgram programs
 
-one_more : (names : List ℕ) (programs : List (List Command)) (text : List ℕ) (name : ℕ) (program : List Command) → AreActors names programs → IsActor names text name program → AreActors (names ++ name ∷ []) (programs ++ program ∷ [])
+one_more : (names : List ℕ) (programs : List (List Command)) (text : List ℕ) (name : ℕ) (program : List Command)
+    → AreActors names programs → IsActor names text name program
+    → AreActors (names ++ name ∷ []) (programs ++ program ∷ [])
 one_more names programs text name program so_far actor = record {
   few = omega (arith, length-append names (name ∷ []), actor.room);
   letters = All-push IsName names name so_far.letters actor.letter;
@@ -138,11 +145,15 @@ one_more names programs text name program so_far actor = record {
   sound = All-push IsProgram programs program so_far.sound actor.commands;
 }
 
-closed_ok : (line : ℕ) (made s : Script) (rest : List (List ℕ)) → closed line made rest ≡ Ok s → (rest ≡ []) × (made ≡ s)
+closed_ok : (line : ℕ) (made s : Script) (rest : List (List ℕ)) → closed line made rest ≡ Ok s
+    → (rest ≡ []) × (made ≡ s)
 closed_ok line made s [] h = (refl, whole_is made s h)
 closed_ok line made s (text ∷ rest) h = absurd cc
 
-items_end : (limit : ℕ) (names : List ℕ) (programs : List (List Command)) (text : List ℕ) (rest : List (List ℕ)) (items : List Item) (s : Script) → AreActors names programs → is_items_line text ≡ true → parsed_items names (drop 5 text) ≡ Ok items → rest ≡ [] → script limit names programs items ≡ s → IsBody limit names programs (text ∷ rest) s
+items_end : (limit : ℕ) (names : List ℕ) (programs : List (List Command)) (text : List ℕ) (rest : List (List ℕ))
+    (items : List Item) (s : Script)
+    → AreActors names programs → is_items_line text ≡ true → parsed_items names (drop 5 text) ≡ Ok items → rest ≡ []
+    → script limit names programs items ≡ s → IsBody limit names programs (text ∷ rest) s
 items_end limit names programs text rest items s actors here read nothing made =
     let line = items_line_is text here in
     let found = items_takes names (drop 5 text) items line.1 read in
@@ -163,7 +174,11 @@ items_end limit names programs text rest items s actors here read nothing made =
       spelled = λ last. ap (λ (t : List ℕ). t ++ cond last (10 ∷ []) []) is;
     }))
 
-actor_then : (limit : ℕ) (names : List ℕ) (programs : List (List Command)) (text next : List ℕ) (rest : List (List ℕ)) (name : ℕ) (program : List Command) (s : Script) → is_actor_line text ≡ true → IsActor names (drop 6 text) name program → IsBody limit (names ++ name ∷ []) (programs ++ program ∷ []) (next ∷ rest) s → IsBody limit names programs (text ∷ next ∷ rest) s
+actor_then : (limit : ℕ) (names : List ℕ) (programs : List (List Command)) (text next : List ℕ)
+    (rest : List (List ℕ)) (name : ℕ) (program : List Command) (s : Script)
+    → is_actor_line text ≡ true → IsActor names (drop 6 text) name program
+    → IsBody limit (names ++ name ∷ []) (programs ++ program ∷ []) (next ∷ rest) s
+    → IsBody limit names programs (text ∷ next ∷ rest) s
 actor_then limit names programs text next rest name program s here actor body =
     let is : text ≡ actor_line name program = actor_line_is text here ∙ ap (λ (t : List ℕ). codes "actor " ++ t) actor.spelled in
     record {
@@ -184,7 +199,8 @@ actor_then limit names programs text next rest name program s here actor body =
           ∙ sym (append_assoc (actor_line name program) (10 ∷ actors_text body.later body.bodies) (items_line s.names s.items ++ cond last (10 ∷ []) []));
     }
 
-body_takes : (limit line : ℕ) (names : List ℕ) (programs : List (List Command)) (ls : List (List ℕ)) (s : Script) → AreActors names programs → body_of limit line names programs ls ≡ Ok s → IsBody limit names programs ls s
+body_takes : (limit line : ℕ) (names : List ℕ) (programs : List (List Command)) (ls : List (List ℕ)) (s : Script)
+    → AreActors names programs → body_of limit line names programs ls ≡ Ok s → IsBody limit names programs ls s
 unfolding body_of
 body_takes limit line names programs [] s actors h = absurd cc
 body_takes limit line names programs (text ∷ []) s actors h =
@@ -221,7 +237,8 @@ body_takes limit line names programs (text ∷ next ∷ rest) s actors h =
 no_actors : AreActors [] []
 no_actors = record { few = omega arith; letters = All-nil IsName; apart = λ i j d below lt. absurd (omega (arith, lt)); sound = All-nil IsProgram }
 
-lines_take : (text : List ℕ) (last : Bool) (ls : List (List ℕ)) (s : Script) → length text ≤ 1048576 → text ≡ text_of_lines last ls → script_of_lines ls ≡ Ok s → IsScript s last × (text ≡ text_of s last)
+lines_take : (text : List ℕ) (last : Bool) (ls : List (List ℕ)) (s : Script) → length text ≤ 1048576
+    → text ≡ text_of_lines last ls → script_of_lines ls ≡ Ok s → IsScript s last × (text ≡ text_of s last)
 unfolding script_of_lines body_of
 lines_take text last [] s short joined h = let no : Err (errors.Empty 1) ≡ whole s = h in absurd cc
 lines_take text last (first ∷ []) s short joined h =
@@ -247,7 +264,8 @@ lines_take text last (first ∷ next ∷ rest) s short joined h =
     )
 
 -- what is read is a script in its spelling
-script_takes : (text : List ℕ) (s : Script) → script_of text ≡ Ok s → (last_lf : Bool) × IsScript s last_lf × (text ≡ text_of s last_lf)
+script_takes : (text : List ℕ) (s : Script) → script_of text ≡ Ok s
+    → (last_lf : Bool) × IsScript s last_lf × (text ≡ text_of s last_lf)
 unfolding script_of
 script_takes text s h =
     let some = refusal_ok (eqb (length text) 0) _ (errors.Empty 1) s h in
@@ -276,18 +294,24 @@ unfolding is_actor_line
 actor_is name program = refl
 
 -- a name among others, which stand before it and after it
-name_among : (names all later : List ℕ) (name : ℕ) → all ≡ names ++ name ∷ later → AllPairs (λ a b. a ≢ b) all → (k : ℕ) → k < length names → get_or names k 0 ≢ name
+name_among : (names all later : List ℕ) (name : ℕ) → all ≡ names ++ name ∷ later → AllPairs (λ a b. a ≢ b) all
+    → (k : ℕ) → k < length names → get_or names k 0 ≢ name
 name_among names all later name is apart k lt same =
     let len : length all ≡ length names + suc (length later) = ap length is ∙ length-append names (name ∷ later) in
     let left : get_or all k 0 ≡ get_or names k 0 = ap (λ (l : List ℕ). get_or l k 0) is ∙ get_or_append_left names (name ∷ later) 0 k lt in
     let right : get_or all (length names) 0 ≡ name = ap (λ (l : List ℕ). get_or l (length names) 0) is ∙ get_or_at names name later 0 (length names) refl in
     apart k (length names) 0 lt (omega (arith, len)) (left ∙ same ∙ sym right)
 
-name_line_lacks : (name : ℕ) (program : List Command) → IsName name → IsProgram program → lacks 10 (actor_line name program) ≡ true
+name_line_lacks : (name : ℕ) (program : List Command) → IsName name → IsProgram program
+    → lacks 10 (actor_line name program) ≡ true
 name_line_lacks name program letter h =
     rw (ne_eqb name 10 (λ e. absurd (omega (arith, letter)))) (program_lacks_lf program h)
 
-body_again : (limit line : ℕ) (names all : List ℕ) (programs both : List (List Command)) (later : List ℕ) (bodies : List (List Command)) (items : List Item) (last : Bool) → all ≡ names ++ later → both ≡ programs ++ bodies → length later ≡ length bodies → length all ≤ 16 → All IsName all → AllPairs (λ a b. a ≢ b) all → AllByRecursion IsProgram bodies → length items ≤ 100000 → All (λ item. item.actor < length all) items
+body_again : (limit line : ℕ) (names all : List ℕ) (programs both : List (List Command)) (later : List ℕ)
+    (bodies : List (List Command)) (items : List Item) (last : Bool)
+    → all ≡ names ++ later → both ≡ programs ++ bodies → length later ≡ length bodies → length all ≤ 16
+    → All IsName all → AllPairs (λ a b. a ≢ b) all → AllByRecursion IsProgram bodies → length items ≤ 100000
+    → All (λ item. item.actor < length all) items
     → body_of limit line names programs (lines (actors_text later bodies ++ (items_line all items ++ cond last (10 ∷ []) []))) ≡ Ok (script limit all both items)
 body_again limit line names all programs both [] [] items last all_is both_is same few letters apart sound few_items own =
     let end : names ≡ all = sym (all_is ∙ append-nil names) in
@@ -339,11 +363,13 @@ memory_or (errors.NumberTooLarge line) = inr (λ same. absurd cc)
 memory_or (errors.TooMany line) = inr (λ same. absurd cc)
 memory_or (errors.NoItems line) = inr (λ same. absurd cc)
 
-pub found_by : (r : Result Script ScriptError) (text : List ℕ) → GivesLines r (script_of text) → IfOk r (λ s. (last_lf : Bool) × IsScript s last_lf × (text ≡ text_of s last_lf))
+pub found_by : (r : Result Script ScriptError) (text : List ℕ) → GivesLines r (script_of text)
+    → IfOk r (λ s. (last_lf : Bool) × IsScript s last_lf × (text ≡ text_of s last_lf))
 found_by (Ok s) text h = script_takes text s h
 found_by (Err e) text h = tt
 
-pub only_by : (r : Result Script ScriptError) (text : List ℕ) → GivesLines r (script_of text) → (s : Script) (last : Bool) → IsScript s last → text ≡ text_of s last → (r ≡ Ok s) ⊎ (r ≡ Err errors.NoMemory)
+pub only_by : (r : Result Script ScriptError) (text : List ℕ) → GivesLines r (script_of text)
+    → (s : Script) (last : Bool) → IsScript s last → text ≡ text_of s last → (r ≡ Ok s) ⊎ (r ≡ Err errors.NoMemory)
 only_by (Ok x) text h s last is same =
     let e : whole x ≡ whole s = sym h ∙ ap script_of same ∙ script_again s last is in
     inl e
@@ -368,7 +394,8 @@ command_sound commands.Size h = tt
 program_sound : (program : List Command) → IsProgram program → All IsSound program
 program_sound program h = All-weaker IsCommand IsSound command_sound program h.2
 
-playable : (s : Script) (last : Bool) → IsScript s last → (IsLimit s.limit × (s.limit ≤ 65536)) × (length s.names ≡ length s.programs) × AreSound s.programs × HavePrograms s.programs s.items
+playable : (s : Script) (last : Bool) → IsScript s last
+    → (IsLimit s.limit × (s.limit ≤ 65536)) × (length s.names ≡ length s.programs) × AreSound s.programs × HavePrograms s.programs s.items
 playable s last is = (
   ((is.limit.0, omega (arith, is.limit)), is.limit.1),
   is.actors.1,
@@ -376,18 +403,22 @@ playable s last is = (
   All-weaker (λ item. item.actor < length s.names) (λ item. item.actor < length s.programs) (λ item own. subst (λ (n : ℕ). item.actor < n) is.actors.1 own) s.items is.items.1,
 )
 
-pub limit_by : (r : Result Script ScriptError) (text : List ℕ) → GivesLines r (script_of text) → IfOk r (λ s. IsLimit s.limit × (s.limit ≤ 65536))
+pub limit_by : (r : Result Script ScriptError) (text : List ℕ) → GivesLines r (script_of text)
+    → IfOk r (λ s. IsLimit s.limit × (s.limit ≤ 65536))
 limit_by (Ok s) text h = let p = script_takes text s h in (playable s p.0 p.1).0
 limit_by (Err e) text h = tt
 
-pub names_by : (r : Result Script ScriptError) (text : List ℕ) → GivesLines r (script_of text) → IfOk r (λ s. length s.names ≡ length s.programs)
+pub names_by : (r : Result Script ScriptError) (text : List ℕ) → GivesLines r (script_of text)
+    → IfOk r (λ s. length s.names ≡ length s.programs)
 names_by (Ok s) text h = let p = script_takes text s h in (playable s p.0 p.1).1
 names_by (Err e) text h = tt
 
-pub sound_by : (r : Result Script ScriptError) (text : List ℕ) → GivesLines r (script_of text) → IfOk r (λ s. AreSound s.programs)
+pub sound_by : (r : Result Script ScriptError) (text : List ℕ) → GivesLines r (script_of text)
+    → IfOk r (λ s. AreSound s.programs)
 sound_by (Ok s) text h = let p = script_takes text s h in (playable s p.0 p.1).2
 sound_by (Err e) text h = tt
 
-pub actors_by : (r : Result Script ScriptError) (text : List ℕ) → GivesLines r (script_of text) → IfOk r (λ s. HavePrograms s.programs s.items)
+pub actors_by : (r : Result Script ScriptError) (text : List ℕ) → GivesLines r (script_of text)
+    → IfOk r (λ s. HavePrograms s.programs s.items)
 actors_by (Ok s) text h = let p = script_takes text s h in (playable s p.0 p.1).3
 actors_by (Err e) text h = tt

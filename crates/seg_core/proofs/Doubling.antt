@@ -44,7 +44,8 @@ one_segment j k place in_j in_k =
     ]
 
 -- the search finds the segment, where it begins no later and goes far enough
-first_ending_after-has : (further segment place : ℕ) → segment_start segment ≤ place → place < segment_end (segment + further) → HasPlace (first_ending_after further segment place) place
+first_ending_after-has : (further segment place : ℕ) → segment_start segment ≤ place
+    → place < segment_end (segment + further) → HasPlace (first_ending_after further segment place) place
 first_ending_after-has zero segment place begins ends =
     record { from = begins; before = subst (λ k. place < segment_end k) (add-zero segment) ends }
 first_ending_after-has (suc further) segment place begins ends =
@@ -101,7 +102,8 @@ has_from_power (suc k) place positive power next = record {
 }
 
 -- each pair of a segment and an offset is one place
-pub one_place : (j k i o : ℕ) → segment_start j + i < segment_end j → segment_start k + o < segment_end k → segment_start j + i ≡ segment_start k + o → (j ≡ k) × (i ≡ o)
+pub one_place : (j k i o : ℕ) → segment_start j + i < segment_end j → segment_start k + o < segment_end k
+    → segment_start j + i ≡ segment_start k + o → (j ≡ k) × (i ≡ o)
 one_place j k i o in_j in_k same =
     let there : HasPlace j (segment_start j + i) = record { from = omega arith; before = in_j } in
     let here : HasPlace k (segment_start j + i) = record { from = omega arith; before = omega arith } in
@@ -110,14 +112,16 @@ one_place j k i o in_j in_k same =
     (segments, omega arith)
 
 -- a run touches the segments from its first place's to its last place's
-pub touches_between : (first last from n k : ℕ) → HasPlace first from → HasPlace last (from + n - 1) → 0 < n → Touches k from n → (first ≤ k) × (k < last + 1)
+pub touches_between : (first last from n k : ℕ) → HasPlace first from → HasPlace last (from + n - 1) → 0 < n
+    → Touches k from n → (first ≤ k) × (k < last + 1)
 touches_between first last from n k has_first has_last some touch =
     let low : first ≤ k = segments_in_order first k from touch.place has_first touch.there touch.inside.0 in
     let inside : touch.place < from + n = touch.inside.1 in
     let high : k ≤ last = segments_in_order k last touch.place (from + n - 1) touch.there has_last (omega arith) in
     (low, omega arith)
 
-pub between_touches : (first last from n k : ℕ) → HasPlace first from → HasPlace last (from + n - 1) → 0 < n → first ≤ k → k < last + 1 → Touches k from n
+pub between_touches : (first last from n k : ℕ) → HasPlace first from → HasPlace last (from + n - 1) → 0 < n
+    → first ≤ k → k < last + 1 → Touches k from n
 between_touches first last from n k has_first has_last some low high =
     elim (cases_lt first k) [
       | inl after ↦ record {
@@ -136,7 +140,8 @@ between_touches first last from n k has_first has_last some low high =
     ]
 
 -- no segment that ends behind the last place ends before its segment does
-pub least_end : (segment n k : ℕ) → HasPlace segment (n - 1) → 0 < n → n ≤ segment_end k → segment_end segment ≤ segment_end k
+pub least_end : (segment n k : ℕ) → HasPlace segment (n - 1) → 0 < n → n ≤ segment_end k
+    → segment_end segment ≤ segment_end k
 least_end segment n k has some room =
     elim (cases_lt k segment) [
       | inl below ↦ absurd (let gap : segment_end k ≤ segment_start segment = segment_end-le-segment_start k segment below in let a : segment_start segment ≤ n - 1 = has.from in omega arith)

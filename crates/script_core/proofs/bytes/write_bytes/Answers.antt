@@ -6,7 +6,8 @@ use Rattle.std.specs.Io.KnownBytes.{Appends}
 use Rattle.script_core.proofs.bytes.write_bytes.Goals as goal
 
 -- what was written and then the first of the rest are the first of the bytes
-written_more : (at n : ℕ) (bytes : List ℕ) → take at bytes ++ take n (take (length bytes - at) (drop at bytes)) ≡ take (at + n) bytes
+written_more : (at n : ℕ) (bytes : List ℕ)
+    → take at bytes ++ take n (take (length bytes - at) (drop at bytes)) ≡ take (at + n) bytes
 written_more at n bytes =
     ap (λ rest. take at bytes ++ take n rest) (take_all (length bytes - at) (drop at bytes) (omega (arith, length-drop at bytes))) ∙ sym (take-add at n bytes)
 

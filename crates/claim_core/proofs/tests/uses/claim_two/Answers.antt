@@ -8,11 +8,13 @@ use Rattle.claim_core.specs.Laws.{SeenRunsStay}
 use Rattle.claim_core.proofs.tests.uses.claim_two.Goals as goal
 
 -- a hand that sees more still owns its run
-still_owns : SeenRunsStay → (old new : HandView) (run : Run) → KeepsOwn old new → IsPrefix old.seen new.seen → OwnsRun old run → OwnsRun new run
+still_owns : SeenRunsStay → (old new : HandView) (run : Run) → KeepsOwn old new → IsPrefix old.seen new.seen
+    → OwnsRun old run → OwnsRun new run
 still_owns stay old new run own more owns = (owns.0, subst (λ m. Contains m owns.0) (sym own.mine) owns.1, stay old new owns.0 run own.of more owns.2)
 
 -- another hand has seen the run too
-has_seen : SeenRunsStay → (old new : HandView) (run : Run) → new.of ≡ old.of → IsPrefix old.seen new.seen → OwnsRun old run → HasSeen new run
+has_seen : SeenRunsStay → (old new : HandView) (run : Run) → new.of ≡ old.of → IsPrefix old.seen new.seen
+    → OwnsRun old run → HasSeen new run
 has_seen stay old new run of more owns = (owns.0, stay old new owns.0 run of more owns.2)
 
 pub returns-clause-disjoint : goal.returns-clause-disjoint

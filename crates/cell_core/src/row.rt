@@ -163,7 +163,8 @@ impl<T> Row<T> {
 }
 
 impl<T: Drop> Row<T> {
-    /// Fills the cell, or breaks it where there is no value, unless another call came first: one exchange.
+    /// Fills the cell, or breaks it where there is no value, unless another call came first: one
+    /// exchange, and a look for the token.
     pub fn put(
         &self,
         place: u64,

@@ -41,6 +41,10 @@ pub record KeepsMade {T : Type 0} (vector : VectorView) (n : ℕ) (old new : Han
   pub fewer : made.run.n < n
   pub tokens : IsGrownOf vector made
 
+-- what the hand has seen leaves no room for n more places
+abbrev pub HasNoRoom : VectorView → ℕ → HandView → Type 0
+HasNoRoom vector n hand = limit_of vector < seen_size hand + n
+
 -- another caller claimed first: the size is above what the hand had seen, and there is still room. A whole hand is alone
 pub record IsOvertaken (vector : VectorView) (n : ℕ) (old : HandView) (size : ℕ) : Type 0 where
   pub some_places : 0 < n

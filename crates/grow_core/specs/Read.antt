@@ -17,3 +17,8 @@ abbrev pub IsDueAt : VectorView → ℕ → HandView → HandView → AtError �
 IsDueAt vector place old new (OutOfRange size) = (size ≤ place) × SeesSize old new size
 IsDueAt vector place old new Pending = place < seen_size new
 IsDueAt vector place old new (Broken spoilt) = (place < seen_size new) × IsSpoiltOf vector spoilt × (spoilt.place ≡ place)
+
+-- the refusal is another one than that the place is not below the size
+abbrev pub IsInRange : AtError → Type 0
+IsInRange (OutOfRange size) = ⊥
+IsInRange refusal = Unit {0}

@@ -18,8 +18,8 @@ pub enum GrowError<T, V, E> {
     Full { size: u64, back: V },
     /// Another caller claimed first, so that the size was another one. Nothing was claimed.
     Moved { size: u64, back: V },
-    /// A value could not be made. The run is claimed: its first places have the values that were made, and the others are
-    /// broken.
+    /// A value could not be made. The run is claimed: its first places have the values that were
+    /// made, and the others are broken.
     Refused { run: Run, made: Grown<T>, cause: E },
     /// Something stood at a place of the run. The run is claimed, and the values that were not placed are dropped.
     Taken { place: u64, found: Found<T> },

@@ -3,7 +3,7 @@ ghost use Rattle.std.specs.Prelude.{◌≡◌, ◌+◌, ◌<◌, ◌≤◌, [], 
 ghost use Rattle.claim_core.specs.Hand.{IsWholeHand, seen_size};
 ghost use Rattle.grow_core.specs.Vector.{IsHandOf, limit_of};
 ghost use Rattle.grow_core.specs.Grown.{IsGrownOf, values_of};
-ghost use Rattle.grow_core.specs.Growth.{Grows, IsDue, Leaves, GivesBack, IsFull, IsNotMoved, IsFoundAt};
+ghost use Rattle.grow_core.specs.Growth.{Grows, HasNoRoom, IsDue, Leaves, GivesBack, IsFull, IsNotMoved, IsFoundAt};
 
 use crate::errors::{GrowError, Never};
 use crate::grown::Grown;
@@ -30,7 +30,7 @@ impl<T: Drop> Shared<T> {
         ensures values { IfOk result (λ grown. values_of grown ≡ values.items) }
         ensures alone { IsWholeHand hand.old → IfOk result (λ g. g.run.from ≡ seen_size hand.old) }
         ensures empty { vec_len values ≡ 0 → IsOk result }
-        ensures full { limit_of self.now < seen_size hand.old + vec_len values → IsErrAnd result IsFull }
+        ensures full { HasNoRoom self.now (vec_len values) hand.old → IsErrAnd result IsFull }
         ensures refused { IfErr result (IsDue self.now (vec_len values) hand.old) }
         ensures left { IfErr result (Leaves self.now (vec_len values) hand.old hand.new) }
         ensures value_back { IfErr result (GivesBack values) }
@@ -71,7 +71,7 @@ impl<T: Drop> Shared<T> {
         ensures values { IfOk result (λ grown. values_of grown ≡ values.items) }
         ensures alone { IsWholeHand hand.old → IfOk result (λ g. g.run.from ≡ seen_size hand.old) }
         ensures empty { vec_len values ≡ 0 → IsOk result }
-        ensures full { limit_of self.now < seen_size hand.old + vec_len values → IsErrAnd result IsFull }
+        ensures full { HasNoRoom self.now (vec_len values) hand.old → IsErrAnd result IsFull }
         ensures refused { IfErr result (IsDue self.now (vec_len values) hand.old) }
         ensures not_moved { IfErr result IsNotMoved }
         ensures left { IfErr result (Leaves self.now (vec_len values) hand.old hand.new) }
@@ -86,7 +86,8 @@ impl<T: Drop> Shared<T> {
         unreachable!()
     }
 
-    // Fills the places of a run with the values, in the room that was made for them. It stops at a place that was taken.
+    // Fills the places of a run with the values, in the room that was made for them. It stops at a
+    // place that was taken.
     fn fill_run(&self, run: Run, room: Room<T>, values: Vec<T>) -> Result<Grown<T>, (u64, Found<T>)>
         requires within { run.from + run.n ≤ limit_of self.now }
         requires values { vec_len values ≡ run.n }

@@ -1,16 +1,20 @@
-//! The shared vector: many callers append to it and read it beside each other, and no element moves.
+//! The shared vector: many callers append to it and read it beside each other, and no element
+//! moves.
 //!
-//! Contracts see a `Shared` as which vector it is, with its limit and its base (`specs/Vector.antt`); a `Hand` as what its
-//! caller has seen of the size (the lengths of all runs up to then), the indices of its own runs and its shares; a
-//! `Placed` as a place and its value; and a `Grown` as a run with the token of each place (`specs/Grown.antt`). What a
-//! growth leaves, won or refused, is `specs/Growth.antt`, and what `at` answers is `specs/Read.antt`.
+//! Contracts see a `Shared` as which vector it is, with its limit and its base
+//! (`specs/Vector.antt`); a `Hand` as what its caller has seen of the size (the lengths of all runs
+//! up to then), the indices of its own runs and its shares; a `Placed` as a place and its value;
+//! and a `Grown` as a run with the token of each place (`specs/Grown.antt`). What a growth leaves,
+//! won or refused, is `specs/Growth.antt`, and what `at` answers is `specs/Read.antt`.
 //!
-//! A caller can prove which places it won and that nobody else did, that a token's value is read back in any thread, what
-//! each refusal says and gives back, and that the runs of joined hands tile the size. It can't prove what a reader without
-//! a token finds, that a try wins, or anything of the order of callers that never met.
+//! A caller can prove which places it won and that nobody else did, that a token's value is read
+//! back in any thread, what each refusal says and gives back, and that the runs of joined hands
+//! tile the size. It can't prove what a reader without a token finds, that a try wins, or anything
+//! of the order of callers that never met.
 //!
-//! The code is safe, over `claim_core` and `cell_core`: a place is won by one exchange of the claim word, and filled by
-//! setting a box that was made before. Only `push_back` and `grow_vec` may wait.
+//! The code is safe, over `claim_core` and `cell_core`: a place is won by one exchange of the claim
+//! word, and filled by setting a box that was made before. Only `push_back` and `grow_vec` may
+//! wait.
 #![tactic(auto)]
 
 mod claims;

@@ -1,8 +1,8 @@
 //! How one value is appended.
-ghost use Rattle.std.specs.Prelude.{◌≡◌, ◌+◌, ◌<◌, ◌≤◌, IfOk, IfErr, IsErrAnd};
+ghost use Rattle.std.specs.Prelude.{◌≡◌, ◌≤◌, IfOk, IfErr, IsErrAnd};
 ghost use Rattle.claim_core.specs.Hand.{AddsRun, IsWholeHand, seen_size};
-ghost use Rattle.grow_core.specs.Vector.{IsHandOf, IsPlacedOf, limit_of};
-ghost use Rattle.grow_core.specs.Growth.{single, IsDue, Leaves, GivesBack, IsFull, IsNotMoved};
+ghost use Rattle.grow_core.specs.Vector.{IsHandOf, IsPlacedOf};
+ghost use Rattle.grow_core.specs.Growth.{single, HasNoRoom, IsDue, Leaves, GivesBack, IsFull, IsNotMoved};
 
 use crate::errors::{GrowError, Never};
 use crate::hand::Hand;
@@ -11,7 +11,8 @@ use cell_core::row::Placed;
 use std::sync::Wait;
 
 impl<T: Drop> Shared<T> {
-    /// Appends a value. It tries once, and waits for nobody. The exchange that wins the place is its linearization point.
+    /// Appends a value. It tries once, and waits for nobody. The exchange that wins the place is its
+    /// linearization point.
     pub fn try_push_back(
         &self,
         hand: &mut Hand<T>,
@@ -23,7 +24,7 @@ impl<T: Drop> Shared<T> {
         ensures token { IfOk result (IsPlacedOf self.now) }
         ensures value { IfOk result (λ placed. placed.value ≡ value) }
         ensures alone { IsWholeHand hand.old → IfOk result (λ p. p.place ≡ seen_size hand.old) }
-        ensures full { limit_of self.now < seen_size hand.old + 1 → IsErrAnd result IsFull }
+        ensures full { HasNoRoom self.now 1 hand.old → IsErrAnd result IsFull }
         ensures refused { IfErr result (IsDue self.now 1 hand.old) }
         ensures left { IfErr result (Leaves self.now 1 hand.old hand.new) }
         ensures value_back { IfErr result (GivesBack value) }
@@ -58,7 +59,7 @@ impl<T: Drop> Shared<T> {
         ensures token { IfOk result (IsPlacedOf self.now) }
         ensures value { IfOk result (λ placed. placed.value ≡ value) }
         ensures alone { IsWholeHand hand.old → IfOk result (λ p. p.place ≡ seen_size hand.old) }
-        ensures full { limit_of self.now < seen_size hand.old + 1 → IsErrAnd result IsFull }
+        ensures full { HasNoRoom self.now 1 hand.old → IsErrAnd result IsFull }
         ensures refused { IfErr result (IsDue self.now 1 hand.old) }
         ensures not_moved { IfErr result IsNotMoved }
         ensures left { IfErr result (Leaves self.now 1 hand.old hand.new) }

@@ -1,8 +1,8 @@
 //! How the vector is read.
-ghost use Rattle.std.specs.Prelude.{◌≡◌, ◌≢◌, ◌<◌, ℕ, IfOk, IfErr, IfSome, IsOkAnd, Err};
+ghost use Rattle.std.specs.Prelude.{◌≡◌, ◌≢◌, ◌<◌, IfOk, IfErr, IfSome, IsOkAnd};
 ghost use Rattle.claim_core.specs.Hand.{seen_size};
 ghost use Rattle.grow_core.specs.Vector.{IsHandOf, IsPlacedOf, IsSpoiltOf, SeesMore};
-ghost use Rattle.grow_core.specs.Read.{IsAt, IsDueAt};
+ghost use Rattle.grow_core.specs.Read.{IsAt, IsDueAt, IsInRange};
 
 use crate::errors::AtError;
 use crate::hand::Hand;
@@ -17,7 +17,8 @@ pub struct At<'a, T> {
 }
 
 impl<T> Shared<T> {
-    /// The value at the place. With a token it is one look at the place, and without one a load of the size comes first.
+    /// The value at the place. With a token it is one look at the place, and without one a load of the
+    /// size comes first.
     pub fn at<'a>(
         &'a self,
         hand: &mut Hand<T>,
@@ -29,9 +30,9 @@ impl<T> Shared<T> {
         ensures at { IfOk result (IsAt self.now place) }
         ensures refused { IfErr result (IsDueAt self.now place hand.old hand.new) }
         // A caller with a token reads the token's value.
-        ensures known { IfSome known.entry (λ p. IsOkAnd result (λ at. at.value.now ≡ p.now.value)) }
+        ensures known { IfSome known.entry (λ p. IsOkAnd result (λ a. a.value.now ≡ p.now.value)) }
         // A place that was claimed stays claimed.
-        ensures in_range { (n : ℕ) → place < seen_size hand.old → result ≢ Err (AtError.OutOfRange n) }
+        ensures in_range { place < seen_size hand.old → IfErr result IsInRange }
         ensures hand { SeesMore hand.old hand.new }
     {
         let look = match known {

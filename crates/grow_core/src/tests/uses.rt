@@ -90,7 +90,9 @@ fn end_of_both(vector: Shared<u64>, mut a: Hand<u64>, b: Hand<u64>) -> u64
     requires ours { IsHandOf vector a }
     requires also_ours { IsHandOf vector b }
     requires whole { a.shares + b.shares ≡ 65536 }
-    ensures { (lengths : List ℕ) × Tiles (base_of vector) lengths (a.mine ++ b.mine) × (result ≡ runs_end (base_of vector) lengths) }
+    ensures { (lengths : List ℕ)
+        × Tiles (base_of vector) lengths (a.mine ++ b.mine)
+        × (result ≡ runs_end (base_of vector) lengths) }
 {
     vector.join(&mut a, b);
     a.whole_laws();

@@ -32,7 +32,8 @@ module _ {M : Type 1} {𝓤 : Ura M} (𝓛 : Logic 𝓤) where
       use2 𝓛 (later (‵ (fbor κ P) ⊛ raw (lfts 𝓛 ts))) (apply∗ 𝓤 (sem 𝓛 P) Back) $ await ! tt $ split ! $ drop ! $ move ! (1 ∷ 0 ∷ []) $ now ! $ done !
 
   -- a cell's last value is known twice
-  pub filled_twice : (R : RattleType) (γ : ℕ) (x : R.Denot) → ent 𝓤 (sem 𝓛 (filled R γ x)) (sep 𝓤 (sem 𝓛 (filled R γ x)) (sem 𝓛 (filled R γ x)))
+  pub filled_twice : (R : RattleType) (γ : ℕ) (x : R.Denot)
+      → ent 𝓤 (sem 𝓛 (filled R γ x)) (sep 𝓤 (sem 𝓛 (filled R γ x)) (sem 𝓛 (filled R γ x)))
   filled_twice R γ x = noted_twice 𝓛 (OptionOf R) γ (Some (Some x))
 
   -- a token is made of what it owns
@@ -46,7 +47,9 @@ module _ {M : Type 1} {𝓤 : Ura M} (𝓛 : Logic 𝓤) where
   broken_twice γ = noted_twice 𝓛 (OptionOf u8) γ (Some None)
 
   -- a token of a broken cell is made of what it owns
-  pub broken_made : (γ : ℕ) → ent 𝓤 (sem 𝓛 (broken γ)) (sem 𝓛 (KnownBroken.the_row.own_val (record { marker = record {}; cell = γ }) (token ∷ [])))
+  pub broken_made : (γ : ℕ)
+      → ent 𝓤 (sem 𝓛 (broken γ))
+      (sem 𝓛 (KnownBroken.the_row.own_val (record { marker = record {}; cell = γ }) (token ∷ [])))
   broken_made γ = let F = (Struct (shape KnownBroken.the_type)).own_val (tt, tt) (token ∷ []) in
       qed 𝓛 (‵ (broken γ) ∷ []) ∵ use0 𝓛 (‵ F) (makes_shadow 𝓛 F (λ vss. (tt, ((λ uss. (tt, tt)), tt))) ((vstruct vnil ∷ [], tt), (refl, ((tt, (refl, tt)), tt)))) $ done !
 

@@ -59,7 +59,8 @@ seen_grows a b p =
 pub whole_after : (a b : HandView) → SeesMore a b → IsWholeHand a → IsWholeHand b
 whole_after a b p whole = p.own.shares ∙ whole
 
-pub leaves_after : {T V E : Type 0} (vector : VectorView) (n : ℕ) (a b c : HandView) (e : GrowError T V E) → SeesMore a b → Leaves vector n b c e → Leaves vector n a c e
+pub leaves_after : {T V E : Type 0} (vector : VectorView) (n : ℕ) (a b c : HandView) (e : GrowError T V E)
+    → SeesMore a b → Leaves vector n b c e → Leaves vector n a c e
 leaves_after vector n a b c (NoMemory back) p l = more_after a b c p l
 leaves_after vector n a b c (Full size back) p l = size_after a b c size p l
 leaves_after vector n a b c (Moved size back) p l = size_after a b c size p l
@@ -67,7 +68,8 @@ leaves_after vector n a b c (Refused run made cause) p l = record { claimed = ad
 leaves_after vector n a b c (Taken place found) p l =
     record { run = l.run; claimed = adds_after a b c l.run p l.claimed; all = l.all; after = l.after; before = l.before; there = l.there }
 
-pub due_after : {T V E : Type 0} (vector : VectorView) (n : ℕ) (a b : HandView) (e : GrowError T V E) → SeesMore a b → IsDue vector n b e → IsDue vector n a e
+pub due_after : {T V E : Type 0} (vector : VectorView) (n : ℕ) (a b : HandView) (e : GrowError T V E) → SeesMore a b
+    → IsDue vector n b e → IsDue vector n a e
 due_after vector n a b (NoMemory back) p d = let grows = seen_grows a b p in record { some_places = d.some_places; room = omega arith }
 due_after vector n a b (Full size back) p d = d
 due_after vector n a b (Moved size back) p d =

@@ -11,7 +11,8 @@ use Rattle.grow_core.specs.Growth.{single}
 use Rattle.grow_core.proofs.tests.uses.push_in_two_threads.Goals as goal
 
 -- a hand that sees more still owns its run
-still_owns : SeenRunsStay → (old new : HandView) (run : Run) → KeepsOwn old new → IsPrefix old.seen new.seen → OwnsRun old run → OwnsRun new run
+still_owns : SeenRunsStay → (old new : HandView) (run : Run) → KeepsOwn old new → IsPrefix old.seen new.seen
+    → OwnsRun old run → OwnsRun new run
 still_owns stay old new run own more owns = (owns.0, subst (λ m. Contains m owns.0) (sym own.mine) owns.1, stay old new owns.0 run own.of more owns.2)
 
 pub returns-clause-disjoint : goal.returns-clause-disjoint

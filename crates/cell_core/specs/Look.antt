@@ -28,8 +28,8 @@ IsLookAt row place (look.Filled value placed) = IsPlacedAt row place value.now p
 IsLookAt row place (look.Broken spoilt) = IsSpoiltAt row place spoilt
 
 -- what a look shows of a cell of which this is known
-abbrev pub Shows : {T : Type 0} → Option (Option T) → Look T → Type 0
-Shows None seen = Unit {0}
-Shows (Some (Some x)) (look.Filled value placed) = value.now ≡ x
-Shows (Some None) (look.Broken spoilt) = Unit {0}
-Shows (Some x) seen = ⊥
+abbrev pub SeesKnown : {T : Type 0} → Option (Option T) → Look T → Type 0
+SeesKnown None seen = Unit {0}
+SeesKnown (Some (Some x)) (look.Filled value placed) = value.now ≡ x
+SeesKnown (Some None) (look.Broken spoilt) = Unit {0}
+SeesKnown (Some x) seen = ⊥

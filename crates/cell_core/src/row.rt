@@ -1,7 +1,7 @@
 //! A row of cells, each a once-set box.
 ghost use Rattle.std.specs.Prelude.{◌≡◌, ◌≢◌, ◌<◌, IsSome, IfSome, IfOk, IfErr, Some};
 ghost use Rattle.cell_core.specs.Row.{row_len, IsPlacedIn, IsSpoiltIn, Names};
-ghost use Rattle.cell_core.specs.Look.{IsTokenOf, IsFoundAt, IsLookAt, Shows};
+ghost use Rattle.cell_core.specs.Look.{IsTokenOf, IsFoundAt, IsLookAt, SeesKnown};
 
 mod known;
 mod placed;
@@ -57,7 +57,7 @@ impl<T> Row<T> {
     pub fn look_as<'a>(&'a self, known: &Placed<T>) -> Look<'a, T>
         requires { IsPlacedIn self.now known.now }
         ensures look { IsLookAt self.now known.now.place result }
-        ensures known { Shows (Some (Some known.now.value)) result }
+        ensures known { SeesKnown (Some (Some known.now.value)) result }
     {
         let mut note = self.cells[known.place as usize].note();
         known.known.tell(&mut note);
@@ -69,7 +69,7 @@ impl<T> Row<T> {
         requires within { place < row_len self.now }
         requires note { Names self.now place note.old.cell }
         ensures look { IsLookAt self.now place result }
-        ensures known { Shows note.old.known result }
+        ensures known { SeesKnown note.old.known result }
     {
         match self.cells[place as usize].get_as(note) {
             None => Look::Empty,

@@ -82,9 +82,9 @@ GivesBack value (Refused run made cause) = Unit {0}
 GivesBack value (Taken place found) = Unit {0}
 
 -- the refusal is that there is no room
-abbrev pub IsFull : {T V E : Type 0} → GrowError T V E → Type 0
-IsFull (Full size back) = Unit {0}
-IsFull refusal = ⊥
+abbrev pub SaysFull : {T V E : Type 0} → GrowError T V E → Type 0
+SaysFull (Full size back) = Unit {0}
+SaysFull refusal = ⊥
 
 -- the call does not stop at a lost exchange
 abbrev pub IsNotMoved : {T V E : Type 0} → GrowError T V E → Type 0

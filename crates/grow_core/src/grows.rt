@@ -3,7 +3,7 @@ ghost use Rattle.std.specs.Prelude.{◌≡◌, ◌+◌, ◌<◌, ◌≤◌, [], 
 ghost use Rattle.claim_core.specs.Hand.{IsWholeHand, seen_size};
 ghost use Rattle.grow_core.specs.Vector.{IsHandOf, limit_of};
 ghost use Rattle.grow_core.specs.Grown.{IsGrownOf, values_of};
-ghost use Rattle.grow_core.specs.Growth.{Grows, HasNoRoom, IsDue, Leaves, GivesBack, IsFull, IsNotMoved, IsFoundAt};
+ghost use Rattle.grow_core.specs.Growth.{Grows, HasNoRoom, IsDue, Leaves, GivesBack, SaysFull, IsNotMoved, IsFoundAt};
 
 use crate::errors::{GrowError, Never};
 use crate::grown::Grown;
@@ -30,7 +30,7 @@ impl<T: Drop> Shared<T> {
         ensures values { IfOk result (λ grown. values_of grown ≡ values.items) }
         ensures alone { IsWholeHand hand.old → IfOk result (λ g. g.run.from ≡ seen_size hand.old) }
         ensures empty { vec_len values ≡ 0 → IsOk result }
-        ensures full { HasNoRoom self.now (vec_len values) hand.old → IsErrAnd result IsFull }
+        ensures full { HasNoRoom self.now (vec_len values) hand.old → IsErrAnd result SaysFull }
         ensures refused { IfErr result (IsDue self.now (vec_len values) hand.old) }
         ensures left { IfErr result (Leaves self.now (vec_len values) hand.old hand.new) }
         ensures value_back { IfErr result (GivesBack values) }
@@ -71,7 +71,7 @@ impl<T: Drop> Shared<T> {
         ensures values { IfOk result (λ grown. values_of grown ≡ values.items) }
         ensures alone { IsWholeHand hand.old → IfOk result (λ g. g.run.from ≡ seen_size hand.old) }
         ensures empty { vec_len values ≡ 0 → IsOk result }
-        ensures full { HasNoRoom self.now (vec_len values) hand.old → IsErrAnd result IsFull }
+        ensures full { HasNoRoom self.now (vec_len values) hand.old → IsErrAnd result SaysFull }
         ensures refused { IfErr result (IsDue self.now (vec_len values) hand.old) }
         ensures not_moved { IfErr result IsNotMoved }
         ensures left { IfErr result (Leaves self.now (vec_len values) hand.old hand.new) }

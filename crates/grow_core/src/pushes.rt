@@ -2,7 +2,7 @@
 ghost use Rattle.std.specs.Prelude.{◌≡◌, ◌≤◌, IfOk, IfErr, IsErrAnd};
 ghost use Rattle.claim_core.specs.Hand.{AddsRun, IsWholeHand, seen_size};
 ghost use Rattle.grow_core.specs.Vector.{IsHandOf, IsPlacedOf};
-ghost use Rattle.grow_core.specs.Growth.{single, HasNoRoom, IsDue, Leaves, GivesBack, IsFull, IsNotMoved};
+ghost use Rattle.grow_core.specs.Growth.{single, HasNoRoom, IsDue, Leaves, GivesBack, SaysFull, IsNotMoved};
 
 use crate::errors::{GrowError, Never};
 use crate::hand::Hand;
@@ -24,7 +24,7 @@ impl<T: Drop> Shared<T> {
         ensures token { IfOk result (IsPlacedOf self.now) }
         ensures value { IfOk result (λ placed. placed.value ≡ value) }
         ensures alone { IsWholeHand hand.old → IfOk result (λ p. p.place ≡ seen_size hand.old) }
-        ensures full { HasNoRoom self.now 1 hand.old → IsErrAnd result IsFull }
+        ensures full { HasNoRoom self.now 1 hand.old → IsErrAnd result SaysFull }
         ensures refused { IfErr result (IsDue self.now 1 hand.old) }
         ensures left { IfErr result (Leaves self.now 1 hand.old hand.new) }
         ensures value_back { IfErr result (GivesBack value) }
@@ -59,7 +59,7 @@ impl<T: Drop> Shared<T> {
         ensures token { IfOk result (IsPlacedOf self.now) }
         ensures value { IfOk result (λ placed. placed.value ≡ value) }
         ensures alone { IsWholeHand hand.old → IfOk result (λ p. p.place ≡ seen_size hand.old) }
-        ensures full { HasNoRoom self.now 1 hand.old → IsErrAnd result IsFull }
+        ensures full { HasNoRoom self.now 1 hand.old → IsErrAnd result SaysFull }
         ensures refused { IfErr result (IsDue self.now 1 hand.old) }
         ensures not_moved { IfErr result IsNotMoved }
         ensures left { IfErr result (Leaves self.now 1 hand.old hand.new) }

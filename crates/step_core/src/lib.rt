@@ -9,9 +9,9 @@
 //!   `specs/machine/Headline.antt` of every schedule of atomic steps, with its parts in `Legal`, `Record`, `Claims`,
 //!   `Tiling` and `Kept` beside it.
 //!
-//! A caller can prove each event, reply and answer of a play, and when it is refused. Nothing is said of progress, fairness
-//! or time. `Bounds` and `Owners` of `specs/machine` serve proofs alone. The proofs by hand are in `proofs/whole_calls` and
-//! `proofs/atomic_steps`.
+//! A caller can prove each event, reply and answer of a play, when it is refused, and at which steps memory may run out
+//! (`MayRunOut` of `specs/machine/Installed.antt`). Nothing is said of progress, fairness or time. `Blocks`, `Bounds` and
+//! `Owners` of `specs/machine` serve proofs alone. The proofs by hand are in `proofs/whole_calls` and `proofs/atomic_steps`.
 #![tactic(auto)]
 
 mod calls;

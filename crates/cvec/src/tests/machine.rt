@@ -78,6 +78,22 @@ const PLAYS: [(&'static str, &'static [Row]); 3] = [
     ("limit 8\nactor a fail 3 7 1\nsteps", &BROKEN),
 ];
 
+// The first and the last place of each of the first six segments, and the places from there to the first of the next.
+const ENDS: [(u64, u64); 12] = [
+    (0, 65),
+    (1, 64),
+    (2, 63),
+    (3, 62),
+    (4, 61),
+    (7, 58),
+    (8, 57),
+    (15, 50),
+    (16, 49),
+    (31, 34),
+    (32, 33),
+    (63, 2),
+];
+
 // A machine at the programs of a script.
 fn machine(alloc: Global, script: &str) -> Result<Machine, Fail> {
     let script = read(alloc, script.as_bytes())?;
@@ -94,6 +110,33 @@ fn the_size_moves_at_the_claiming_steps(rt: HostRuntime) -> Result<(), Fail> {
                 (machine.size(), stepped.event.is_some()),
                 (*size, *is_event)
             );
+        }
+    }
+    Ok(())
+}
+
+// A machine that has grown up to a place, and then by so many more.
+fn grown(alloc: Global, from: u64, n: u64) -> Result<Machine, Fail> {
+    let script = format!(in alloc; "limit 65\nactor a grow {from} 5, grow {n} 6\nsteps")?;
+    let mut machine = machine(alloc, &script)?;
+    for _step in 0..200 {
+        machine.step(0, true)?;
+    }
+    Ok(machine)
+}
+
+#[test]
+fn growths_fill_segments_from_both_ends(rt: HostRuntime) -> Result<(), Fail> {
+    for (from, n) in ENDS.as_slice() {
+        let machine = grown(rt.alloc(), *from, *n)?;
+        assert_eq!(rt; machine.size(), 65, "{from}");
+        for place in 0..70 {
+            let want = match place {
+                65.. => None,
+                _ if place < *from => Some(Slot::Filled(5)),
+                _ => Some(Slot::Filled(6)),
+            };
+            assert_eq!(rt; machine.slot(place), want, "{from} {place}");
         }
     }
     Ok(())

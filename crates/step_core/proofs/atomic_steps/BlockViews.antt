@@ -1,5 +1,5 @@
 -- What blocks show, segment by segment and place by place.
-use Rattle.std.proofs.Common.{◌≡◌, ◌≢◌, ℕ, ◌+◌, ◌-◌, ◌^◌, ◌<◌, ◌≤◌, ◌==◌, ◌||◌, Bool, true, false, cond, if◌then◌else◌, List, [], ◌∷◌, length, replicate, Option, Some, None, is_some, slice_get, slice_set, slice_index_or, refl, ap, sym, ◌∙◌, subst, arith, inl, inr, zero, suc}
+use Rattle.std.proofs.Common.{◌≡◌, ◌≢◌, ℕ, ◌+◌, ◌-◌, ◌^◌, ◌<◌, ◌≤◌, ◌==◌, ◌||◌, Bool, true, false, cond, if◌then◌else◌, length, replicate, Option, Some, None, is_some, slice_get, slice_set, slice_index_or, refl, ap, sym, ◌∙◌, subst, arith, inl, inr, zero, suc}
 use Rattle.std.proofs.Math.Nat.{le_refl}
 use Rattle.std.proofs.Math.ListN.{length-set}
 use Rattle.std.proofs.lemmas.Bool.{cases_lt, false≢true}
@@ -12,22 +12,9 @@ use Rattle.std.specs.FinMap as map
 use Rattle.std.specs.FinSet as set
 use Rattle.seg_core.specs.Segment.{HasPlace, segment_start, segment_end, segment_of}
 use Rattle.seg_core.proofs.Doubling.{segment_of_has, is_segment_of, segment_end-le}
+use Rattle.book_core.proofs.Lists.{get_other, get_set}
 use Rattle.step_core.specs.declared.machine.phase.Slot.{Slot}
-use Rattle.step_core.specs.machine.Blocks.{Shown, joined, block_of, slot_in, slot_at, with_value, map_below, set_below, shown, AreBlocks}
-
--- ---- Members of a list that is set at one index
-
-get_set_here : {X : Type 0} (xs : List X) (i : ℕ) (x : X) → i < length xs → slice_get (slice_set xs i x) i ≡ Some x
-get_set_here [] i x inside = absurd (omega arith)
-get_set_here (y ∷ ys) zero x inside = refl
-get_set_here (y ∷ ys) (suc i) x inside = get_set_here ys i x (omega arith)
-
-get_set_there : {X : Type 0} (xs : List X) (i j : ℕ) (x : X) → j ≢ i → slice_get (slice_set xs i x) j ≡ slice_get xs j
-get_set_there [] i j x apart = refl
-get_set_there (y ∷ ys) zero zero x apart = absurd (apart refl)
-get_set_there (y ∷ ys) zero (suc j) x apart = refl
-get_set_there (y ∷ ys) (suc i) zero x apart = refl
-get_set_there (y ∷ ys) (suc i) (suc j) x apart = get_set_there ys i j x (λ e. apart (ap suc e))
+use Rattle.step_core.specs.machine.Blocks.{Shown, Block, Entries, joined, block_of, slot_in, slot_at, with_value, map_below, set_below, shown, AreBlocks}
 
 -- ---- The map and the set below a bound
 
@@ -37,29 +24,29 @@ same_key k = unsigned_tied k k ∙ (let e : (k == k) ≡ true = grind (arith, na
 other_key : (q k : ℕ) → q ≢ k → eq_by_cmp nat_cmp q k ≡ false
 other_key q k apart = unsigned_tied q k ∙ (let e : (q == k) ≡ false = grind (arith, nat_tests) in e)
 
-get_other : (m : map.FinMap nat_cmp Slot) (key : ℕ) (o : Option Slot) (q : ℕ) → q ≢ key → map.get (with_value m key o) q ≡ map.get m q
-get_other m key None q apart = refl
-get_other m key (Some v) q apart =
+given_elsewhere : (m : map.FinMap nat_cmp Slot) (key : ℕ) (o : Option Slot) (q : ℕ) → q ≢ key → map.get (with_value m key o) q ≡ map.get m q
+given_elsewhere m key None q apart = refl
+given_elsewhere m key (Some v) q apart =
     map.get-insert nat_cmp_total m key v q ∙ ap (λ b. cond b (Some v) (map.get m q)) (other_key q key apart)
 
-get_here : (m : map.FinMap nat_cmp Slot) (key : ℕ) (o : Option Slot) → map.get m key ≡ None → map.get (with_value m key o) key ≡ o
-get_here m key None none = none
-get_here m key (Some v) none =
+given_here : (m : map.FinMap nat_cmp Slot) (key : ℕ) (o : Option Slot) → map.get m key ≡ None → map.get (with_value m key o) key ≡ o
+given_here m key None none = none
+given_here m key (Some v) none =
     map.get-insert nat_cmp_total m key v key ∙ ap (λ b. cond b (Some v) (map.get m key)) (same_key key)
 
 none_past : (f : ℕ → Option Slot) (n q : ℕ) → n ≤ q → map.get (map_below f n) q ≡ None
 unfolding map_below
 none_past f zero q past = map.get-empty nat_cmp q
 none_past f (suc n) q past =
-    get_other (map_below f n) n (f n) q (λ same. omega arith) ∙ none_past f n q (omega arith)
+    given_elsewhere (map_below f n) n (f n) q (λ same. omega arith) ∙ none_past f n q (omega arith)
 
 given_within : (f : ℕ → Option Slot) (n q : ℕ) → q < n → map.get (map_below f n) q ≡ f q
 unfolding map_below
 given_within f zero q inside = absurd (omega arith)
 given_within f (suc n) q inside =
     elim (eqb_tells q n) [
-      | inl same ↦ subst (λ k. map.get (with_value (map_below f n) n (f n)) k ≡ f k) (sym same.1) (get_here (map_below f n) n (f n) (none_past f n n (le_refl n)))
-      | inr apart ↦ get_other (map_below f n) n (f n) q apart.1 ∙ given_within f n q (let ne : q ≢ n = apart.1 in omega arith)
+      | inl same ↦ subst (λ k. map.get (with_value (map_below f n) n (f n)) k ≡ f k) (sym same.1) (given_here (map_below f n) n (f n) (none_past f n n (le_refl n)))
+      | inr apart ↦ given_elsewhere (map_below f n) n (f n) q apart.1 ∙ given_within f n q (let ne : q ≢ n = apart.1 in omega arith)
     ]
 
 -- where a function has nothing from the bound on, the map has what the function has
@@ -114,43 +101,43 @@ segment_past place past =
       | inr large ↦ large
     ]
 
-no_block : (entries : List (Option (List (Option Slot)))) (segment : ℕ) → length entries ≤ segment → block_of entries segment ≡ None
+no_block : (entries : Entries) (segment : ℕ) → length entries ≤ segment → block_of entries segment ≡ None
 no_block entries segment past = ap joined (slice_get_past entries segment past)
 
-pub contains_shown : (entries : List (Option (List (Option Slot)))) → length entries ≡ 32 → (segment : ℕ) → set.contains (shown entries).installed segment ≡ is_some (block_of entries segment)
+pub contains_shown : (entries : Entries) → length entries ≡ 32 → (segment : ℕ) → set.contains (shown entries).installed segment ≡ is_some (block_of entries segment)
 contains_shown entries long segment =
     contains_set_below (λ k. is_some (block_of entries k)) 32 (λ k past. ap is_some (no_block entries k (omega arith))) segment
 
-pub get_shown : (entries : List (Option (List (Option Slot)))) → length entries ≡ 32 → (place : ℕ) → map.get (shown entries).slots place ≡ slot_at entries place
+pub get_shown : (entries : Entries) → length entries ≡ 32 → (place : ℕ) → map.get (shown entries).slots place ≡ slot_at entries place
 get_shown entries long place =
     get_map_below (slot_at entries) (2 ^ 32)
     (λ q past. ap (λ b. slot_in b (q - segment_start (segment_of q))) (no_block entries (segment_of q) (let far = segment_past q past in omega arith))) place
 
 -- two lists of entries show the same where they have the same segments and slots
-shown_is : (entries : List (Option (List (Option Slot)))) → length entries ≡ 32 → (s : Shown) → ((k : ℕ) → is_some (block_of entries k) ≡ set.contains s.installed k) → ((q : ℕ) → slot_at entries q ≡ map.get s.slots q) → shown entries ≡ s
+shown_is : (entries : Entries) → length entries ≡ 32 → (s : Shown) → ((k : ℕ) → is_some (block_of entries k) ≡ set.contains s.installed k) → ((q : ℕ) → slot_at entries q ≡ map.get s.slots q) → shown entries ≡ s
 shown_is entries long s segments slots =
     let installed : (shown entries).installed ≡ s.installed = set.same_set nat_cmp_total set.nat_cmp-IsAntisymmetric _ _ (λ k. contains_shown entries long k ∙ segments k) in
     let there : (shown entries).slots ≡ s.slots = map.same_map nat_cmp_total map.nat_cmp-IsAntisymmetric _ _ (λ q. get_shown entries long q ∙ slots q) in
     λ i. record { installed = installed i; slots = there i }
 
 -- entries without a block show nothing
-pub shows_nothing : (entries : List (Option (List (Option Slot)))) → length entries ≡ 32 → ((k : ℕ) → block_of entries k ≡ None) → shown entries ≡ record { installed = set.empty; slots = map.empty }
+pub shows_nothing : (entries : Entries) → length entries ≡ 32 → ((k : ℕ) → block_of entries k ≡ None) → shown entries ≡ record { installed = set.empty; slots = map.empty }
 shows_nothing entries long none =
     shown_is entries long (record { installed = set.empty; slots = map.empty })
     (λ k. ap is_some (none k) ∙ sym (set.contains-empty nat_cmp k))
     (λ q. ap (λ b. slot_in b (q - segment_start (segment_of q))) (none (segment_of q)) ∙ sym (map.get-empty nat_cmp q))
 
-pub nothing_is_blocks : (entries : List (Option (List (Option Slot)))) → length entries ≡ 32 → ((k : ℕ) → block_of entries k ≡ None) → AreBlocks entries
+pub nothing_is_blocks : (entries : Entries) → length entries ≡ 32 → ((k : ℕ) → block_of entries k ≡ None) → AreBlocks entries
 nothing_is_blocks entries long none = record { count = long; whole = λ k block is. absurd (none-some block (sym (none k) ∙ is)) }
 
 -- ---- An entry that is set
 
-module _ (entries : List (Option (List (Option Slot)))) (k : ℕ) (new : List (Option Slot)) (inside : k < length entries) where
+module _ (entries : Entries) (k : ℕ) (new : Block) (inside : k < length entries) where
   pub block_set_here : block_of (slice_set entries k (Some new)) k ≡ Some new
-  block_set_here = ap joined (get_set_here entries k (Some new) inside)
+  block_set_here = ap joined (get_set entries k (slice_index_or entries k None) (Some new) (slice_get-get_or entries k None inside))
 
   pub block_set_there : (j : ℕ) → j ≢ k → block_of (slice_set entries k (Some new)) j ≡ block_of entries j
-  block_set_there j apart = ap joined (get_set_there entries k j (Some new) apart)
+  block_set_there j apart = ap joined (get_other entries k j (Some new) apart)
 
   pub blocks_set : AreBlocks entries → segment_start k + length new ≡ segment_end k → AreBlocks (slice_set entries k (Some new))
   blocks_set blocks long = record {
@@ -171,10 +158,10 @@ empty_block (suc n) zero = refl
 empty_block (suc n) (suc o) = empty_block n o
 
 -- a new block where there was none shows one segment more
-pub shows_block : (entries : List (Option (List (Option Slot)))) (k n : ℕ) → length entries ≡ 32 → k < 32 → block_of entries k ≡ None → shown (slice_set entries k (Some (replicate n None))) ≡ record { installed = set.insert (shown entries).installed k; slots = (shown entries).slots }
+pub shows_block : (entries : Entries) (k n : ℕ) → length entries ≡ 32 → k < 32 → block_of entries k ≡ None → shown (slice_set entries k (Some (replicate n None))) ≡ record { installed = set.insert (shown entries).installed k; slots = (shown entries).slots }
 shows_block entries k n long inside none =
-    let new : List (Option Slot) = replicate n None in
-    let entries' : List (Option (List (Option Slot))) = slice_set entries k (Some new) in
+    let new : Block = replicate n None in
+    let entries' : Entries = slice_set entries k (Some new) in
     let within : k < length entries = omega arith in
     let here = block_set_here entries k new within in
     shown_is entries' (length-set entries k (Some new) ∙ long) (record { installed = set.insert (shown entries).installed k; slots = (shown entries).slots })
@@ -192,21 +179,21 @@ shows_block entries k n long inside none =
     ])
 
 -- at another offset, or in another block, the slot is as it was
-slot_elsewhere : (entries entries' : List (Option (List (Option Slot)))) (k o : ℕ) (block : List (Option Slot)) (slot : Slot) (q : ℕ) → (segment_of q ≢ k → block_of entries' (segment_of q) ≡ block_of entries (segment_of q)) → block_of entries' k ≡ Some (slice_set block o (Some slot)) → block_of entries k ≡ Some block → (segment_of q ≡ k → q - segment_start (segment_of q) ≢ o) → slot_at entries' q ≡ slot_at entries q
+slot_elsewhere : (entries entries' : Entries) (k o : ℕ) (block : Block) (slot : Slot) (q : ℕ) → (segment_of q ≢ k → block_of entries' (segment_of q) ≡ block_of entries (segment_of q)) → block_of entries' k ≡ Some (slice_set block o (Some slot)) → block_of entries k ≡ Some block → (segment_of q ≡ k → q - segment_start (segment_of q) ≢ o) → slot_at entries' q ≡ slot_at entries q
 slot_elsewhere entries entries' k o block slot q elsewhere new old other =
     let at : ℕ = q - segment_start (segment_of q) in
     elim (eqb_tells (segment_of q) k) [
       | inl same ↦ ap (λ b. slot_in b at) (ap (block_of entries') same.1 ∙ new)
-          ∙ ap joined (get_set_there block o at (Some slot) (other same.1))
+          ∙ ap joined (get_other block o at (Some slot) (other same.1))
           ∙ sym (ap (λ b. slot_in b at) (ap (block_of entries) same.1 ∙ old))
       | inr apart ↦ ap (λ b. slot_in b at) (elsewhere apart.1)
     ]
 
 -- a slot that is set in the block of a place shows one slot changed
-pub shows_slot : (entries : List (Option (List (Option Slot)))) (k o place : ℕ) (block : List (Option Slot)) (slot : Slot) → length entries ≡ 32 → k < 32 → HasPlace k place → segment_start k + o ≡ place → block_of entries k ≡ Some block → o < length block → shown (slice_set entries k (Some (slice_set block o (Some slot)))) ≡ record { installed = (shown entries).installed; slots = map.insert (shown entries).slots place slot }
+pub shows_slot : (entries : Entries) (k o place : ℕ) (block : Block) (slot : Slot) → length entries ≡ 32 → k < 32 → HasPlace k place → segment_start k + o ≡ place → block_of entries k ≡ Some block → o < length block → shown (slice_set entries k (Some (slice_set block o (Some slot)))) ≡ record { installed = (shown entries).installed; slots = map.insert (shown entries).slots place slot }
 shows_slot entries k o place block slot long inside has lies is room =
-    let new : List (Option Slot) = slice_set block o (Some slot) in
-    let entries' : List (Option (List (Option Slot))) = slice_set entries k (Some new) in
+    let new : Block = slice_set block o (Some slot) in
+    let entries' : Entries = slice_set entries k (Some new) in
     let within : k < length entries = omega arith in
     let here = block_set_here entries k new within in
     let slots = (shown entries).slots in
@@ -222,7 +209,7 @@ shows_slot entries k o place block slot long inside has lies is room =
           (ap (λ i. slot_in (block_of entries' i) (place - segment_start i)) (sym number)
           ∙ ap (λ b. slot_in b (place - segment_start k)) here
           ∙ ap (λ i. joined (slice_get new i)) (let e : place - segment_start k ≡ o = omega arith in e)
-          ∙ ap joined (get_set_here block o (Some slot) room)
+          ∙ ap joined (get_set block o (slice_index_or block o None) (Some slot) (slice_get-get_or block o None room))
           ∙ sym (map.get-insert nat_cmp_total slots place slot place ∙ ap (λ b. cond b (Some slot) (map.get slots place)) (same_key place)))
       | inr apart ↦
           slot_elsewhere entries entries' k o block slot q
@@ -235,14 +222,14 @@ shows_slot entries k o place block slot long inside has lies is room =
 -- ---- As the program reads it
 
 -- past all segments no slot is there
-pub slot_past : (entries : List (Option (List (Option Slot)))) (seen : Shown) → shown entries ≡ seen → AreBlocks entries → (place : ℕ) → 2 ^ 32 ≤ place → map.get seen.slots place ≡ None
+pub slot_past : (entries : Entries) (seen : Shown) → shown entries ≡ seen → AreBlocks entries → (place : ℕ) → 2 ^ 32 ≤ place → map.get seen.slots place ≡ None
 slot_past entries seen view blocks place past =
     ap (λ (s : Shown). map.get s.slots place) (sym view)
     ∙ get_shown entries blocks.count place
     ∙ ap (λ b. slot_in b (place - segment_start (segment_of place))) (no_block entries (segment_of place) (let far = segment_past place past in let long = blocks.count in omega arith))
 
 -- the slot of a place, at its offset in the entry of its segment
-pub slot_in_entry : (entries : List (Option (List (Option Slot)))) (seen : Shown) → shown entries ≡ seen → AreBlocks entries → (place k o : ℕ) (read entry : Option (List (Option Slot))) → k ≡ segment_of place → k < 32 → segment_start k + o ≡ place → read ≡ slice_index_or entries k read → slice_index_or entries k read ≡ entry → map.get seen.slots place ≡ slot_in entry o
+pub slot_in_entry : (entries : Entries) (seen : Shown) → shown entries ≡ seen → AreBlocks entries → (place k o : ℕ) (read entry : Option Block) → k ≡ segment_of place → k < 32 → segment_start k + o ≡ place → read ≡ slice_index_or entries k read → slice_index_or entries k read ≡ entry → map.get seen.slots place ≡ slot_in entry o
 slot_in_entry entries seen view blocks place k o read entry number inside lies is entry_is =
     ap (λ (s : Shown). map.get s.slots place) (sym view)
     ∙ get_shown entries blocks.count place
@@ -252,17 +239,17 @@ slot_in_entry entries seen view blocks place k o read entry number inside lies i
     ∙ ap (λ e. slot_in e o) (is ∙ entry_is)
 
 -- an entry that is read is the block of its segment
-pub entry_is : (entries : List (Option (List (Option Slot)))) → AreBlocks entries → (k : ℕ) (read : Option (List (Option Slot))) → k < 32 → read ≡ slice_index_or entries k read → block_of entries k ≡ read
+pub entry_is : (entries : Entries) → AreBlocks entries → (k : ℕ) (read : Option Block) → k < 32 → read ≡ slice_index_or entries k read → block_of entries k ≡ read
 entry_is entries blocks k read inside is = ap joined (slice_get_read entries 32 k read (sym blocks.count) inside is)
 
 -- whether an entry that is read has a block
-pub installed_is : (entries : List (Option (List (Option Slot)))) (seen : Shown) → shown entries ≡ seen → AreBlocks entries → (k : ℕ) (read : Option (List (Option Slot))) → k < 32 → read ≡ slice_index_or entries k read → set.contains seen.installed k ≡ is_some read
+pub installed_is : (entries : Entries) (seen : Shown) → shown entries ≡ seen → AreBlocks entries → (k : ℕ) (read : Option Block) → k < 32 → read ≡ slice_index_or entries k read → set.contains seen.installed k ≡ is_some read
 installed_is entries seen view blocks k read inside is =
     ap (λ (s : Shown). set.contains s.installed k) (sym view)
     ∙ contains_shown entries blocks.count k ∙ ap is_some (entry_is entries blocks k read inside is)
 
 -- a segment that is not installed has no block
-pub no_block_there : (entries : List (Option (List (Option Slot)))) (seen : Shown) → shown entries ≡ seen → AreBlocks entries → (k : ℕ) → set.contains seen.installed k ≡ false → block_of entries k ≡ None
+pub no_block_there : (entries : Entries) (seen : Shown) → shown entries ≡ seen → AreBlocks entries → (k : ℕ) → set.contains seen.installed k ≡ false → block_of entries k ≡ None
 no_block_there entries seen view blocks k none =
     elim (block_of entries k) as (λ o. block_of entries k ≡ o → o ≡ None) [
       | None ↦ (λ _. refl)
@@ -283,7 +270,7 @@ installed_already seen k there =
 
 -- ---- A slot that is set in the entry that was read
 
-module _ (entries : List (Option (List (Option Slot)))) (seen : Shown) (view : shown entries ≡ seen) (blocks : AreBlocks entries) (place k o : ℕ) (has : HasPlace k place) (inside : k < 32) (lies : segment_start k + o ≡ place) (read : Option (List (Option Slot))) (is : read ≡ slice_index_or entries k read) where
+module _ (entries : Entries) (seen : Shown) (view : shown entries ≡ seen) (blocks : AreBlocks entries) (place k o : ℕ) (has : HasPlace k place) (inside : k < 32) (lies : segment_start k + o ≡ place) (read : Option Block) (is : read ≡ slice_index_or entries k read) where
   pub entry_there : set.contains seen.installed (segment_of place) ≡ true → is_some (slice_index_or entries k read) ≡ true
   entry_there there =
       ap is_some (sym is) ∙ sym (installed_is entries seen view blocks k read inside is)
@@ -321,7 +308,7 @@ module _ (entries : List (Option (List (Option Slot)))) (seen : Shown) (view : s
       (entry_is entries blocks k read inside is ∙ is) (entry_there there) entry_reaches
 
 -- entries that are all read empty are no blocks
-pub none_read : (entries : List (Option (List (Option Slot)))) → length entries ≡ 32 → ((i : ℕ) (e : Option (List (Option Slot))) → i < 32 → slice_index_or entries i e ≡ None) → (k : ℕ) → block_of entries k ≡ None
+pub none_read : (entries : Entries) → length entries ≡ 32 → ((i : ℕ) (e : Option Block) → i < 32 → slice_index_or entries i e ≡ None) → (k : ℕ) → block_of entries k ≡ None
 none_read entries long none k =
     elim (cases_lt k (length entries)) [
       | inl inside ↦ ap joined (slice_get-get_or entries k None inside) ∙ none k None (omega arith)

@@ -9,8 +9,11 @@ use Rattle.seg_core.specs.Segment.{segment_start, segment_end, segment_of}
 use Rattle.seg_core.proofs.Doubling.{segment_of_has, segment_start-next}
 use Rattle.book_core.specs.declared.commands.Command.{Command}
 use Rattle.book_core.specs.declared.commands.Command.TheVariants as commands
+use Rattle.book_core.specs.declared.events.Event.{Event}
 use Rattle.book_core.specs.declared.events.Event.TheVariants as events
+use Rattle.book_core.specs.declared.events.Reply.{Reply}
 use Rattle.book_core.specs.declared.events.Reply.TheVariants as replies
+use Rattle.book_core.specs.declared.commands.Answer.{Answer}
 use Rattle.book_core.specs.declared.commands.Answer.TheVariants as answers
 use Rattle.step_core.specs.declared.machine.phase.Slot.{Slot}
 use Rattle.step_core.specs.declared.machine.phase.Slot.TheVariants.{Busy, Filled, Broken}
@@ -55,7 +58,7 @@ module _ (m : Storage) (ready : (q : ℕ) → q < m.size → IsReady m q) where
   goes_passes : (phase : Phase) → HasPassed m phase → Passes m (goes_on m phase)
   goes_passes phase passed = record { stays = λ q r. r; ready = ready; next = passed }
 
-  ends_passes : (event : _) (reply : _) (answer : _) → Passes m (ends m event reply answer)
+  ends_passes : (event : Event) (reply : Reply) (answer : Answer) → Passes m (ends m event reply answer)
   ends_passes event reply answer = record { stays = λ q r. r; ready = ready; next = tt }
 
   -- at the first segment of the places from the size on, all places before it are claimed
@@ -119,9 +122,9 @@ module _ (m : Storage) (ready : (q : ℕ) → q < m.size → IsReady m q) where
       [ true ↦ record { stays = λ q r. r; ready = ready; next = passed } | false ↦ record { stays = λ q r. r; ready = ready; next = passed } ]
   begin_passes actor from n place command (Some slot) passed = goes_passes (Begin from n place) passed
 
-  after_place_passes : (m' : Storage) (command : Command) (from n place : ℕ) → ((q : ℕ) → q < from + n → IsReady m' q) → PassesOn m' (after_place command from n place)
-  after_place_passes m' command from n place passed =
-      elim (nat_lt (place + 1) (from + n)) as (λ b. PassesOn m' (if b then Goes (Begin from n (place + 1)) else Ends (answer_of_run command from n)))
+  after_place_passes : (command : Command) (from n place : ℕ) → ((q : ℕ) → q < from + n → IsReady m q) → PassesOn m (after_place command from n place)
+  after_place_passes command from n place passed =
+      elim (nat_lt (place + 1) (from + n)) as (λ b. PassesOn m (if b then Goes (Begin from n (place + 1)) else Ends (answer_of_run command from n)))
       [ true ↦ passed | false ↦ tt ]
 
   look_passes : (actor place : ℕ) (slot : Option Slot) → Passes m (look_at m actor place slot)
@@ -168,9 +171,9 @@ outcome_passes limit m actor command memory (Exchange from n) ready within passe
 outcome_passes limit m actor command memory (Raise to) ready within passed = raise_passes m ready actor to passed
 outcome_passes limit m actor command memory (Begin from n place) ready within passed = begin_passes m ready actor from n place command (map.get m.slots place) passed
 outcome_passes limit m actor command memory (Fill from n place) ready within passed =
-    record { stays = λ q r. r; ready = ready; next = after_place_passes m ready m command from n place passed }
+    record { stays = λ q r. r; ready = ready; next = after_place_passes m ready command from n place passed }
 outcome_passes limit m actor command memory (Spoil from n place) ready within passed =
-    record { stays = λ q r. r; ready = ready; next = after_place_passes m ready m command from n place passed }
+    record { stays = λ q r. r; ready = ready; next = after_place_passes m ready command from n place passed }
 outcome_passes limit m actor command memory (Look place) ready within passed = look_passes m ready actor place (map.get m.slots place)
 
 -- ---- Whole configurations

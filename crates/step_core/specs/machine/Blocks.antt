@@ -35,17 +35,25 @@ abbrev pub joined : {X : Type 0} → Option (Option X) → Option X
 joined None = None
 joined (Some inner) = inner
 
--- the block of a segment, if it is installed: each segment has an entry, and each place of it a slot
-abbrev pub block_of : List (Option (List (Option Slot))) → ℕ → Option (List (Option Slot))
+-- a block: the slots of one segment, in the order of its places
+abbrev pub Block : Type 0
+Block = List (Option Slot)
+
+-- the entries of the segments, each empty or a block
+abbrev pub Entries : Type 0
+Entries = List (Option Block)
+
+-- the block of a segment, if it is installed
+abbrev pub block_of : Entries → ℕ → Option Block
 block_of entries segment = joined (slice_get entries segment)
 
 -- what a block has at an offset
-abbrev pub slot_in : Option (List (Option Slot)) → ℕ → Option Slot
+abbrev pub slot_in : Option Block → ℕ → Option Slot
 slot_in None offset = None
 slot_in (Some block) offset = joined (slice_get block offset)
 
 -- what the slot of a place holds: it lies in the block of its segment, as far from the front as the place from the segment's first
-abbrev pub slot_at : List (Option (List (Option Slot))) → ℕ → Option Slot
+abbrev pub slot_at : Entries → ℕ → Option Slot
 slot_at entries place = slot_in (block_of entries (segment_of place)) (place - segment_start (segment_of place))
 
 -- a key with its value, where there is one
@@ -64,14 +72,14 @@ set_below f zero = set.empty
 set_below f (suc bound) = if f bound then set.insert (set_below f bound) bound else set_below f bound
 
 -- what the entries show
-abbrev pub shown : List (Option (List (Option Slot))) → Shown
+abbrev pub shown : Entries → Shown
 shown entries = record {
   installed = set_below (λ segment. is_some (block_of entries segment)) 32;
   slots = map_below (slot_at entries) (2 ^ 32);
 }
 
 -- each segment has an entry, and a block has as many slots as its segment has places
-pub record AreBlocks (entries : List (Option (List (Option Slot)))) : Type 0 where
+pub record AreBlocks (entries : Entries) : Type 0 where
   pub count : length entries ≡ 32
   pub whole :
-      (segment : ℕ) (block : List (Option Slot)) → block_of entries segment ≡ Some block → segment_start segment + length block ≡ segment_end segment
+      (segment : ℕ) (block : Block) → block_of entries segment ≡ Some block → segment_start segment + length block ≡ segment_end segment

@@ -3,7 +3,7 @@ ghost use Rattle.std.specs.Prelude.{◌≡◌, ◌≤◌, ◌<◌, ◌↔◌, le
 ghost use Rattle.std.specs.FinMap as map;
 ghost use Rattle.book_core.specs.Cells.{IsLimit};
 ghost use Rattle.book_core.specs.Commands.{AreSound};
-ghost use Rattle.step_core.specs.machine.Step.{step_of, Gives};
+ghost use Rattle.step_core.specs.machine.Step.{step_of, IsStepped};
 ghost use Rattle.step_core.specs.machine.Bounds.{IsInLimit};
 ghost use Rattle.step_core.specs.machine.Installed.{HasSegments, MayRunOut};
 
@@ -58,7 +58,7 @@ impl Model for Machine {
 
 impl Machine {
     ghost use Rattle.step_core.specs.machine.Step.{first_configuration, step_of};
-    ghost use Rattle.step_core.specs.machine.Step.{Gives};
+    ghost use Rattle.step_core.specs.machine.Step.{IsStepped};
     ghost use Rattle.step_core.specs.machine.Installed.{MayRunOut};
 
     /// The machine before the first step. Its memory is linear in the actors.
@@ -114,7 +114,7 @@ impl Machine {
     /// segment that is not installed makes its block, in one pass over it.
     pub fn step(&mut self, actor: u32, memory: bool) -> Result<Stepped, AllocError>
         ensures steps { IfOk result (λ stepped.
-            Gives (step_of self.old actor memory) self.new stepped) }
+            IsStepped (step_of self.old actor memory) self.new stepped) }
         // Real memory ran out, which `memory` does not cause: at Put of a new segment alone.
         ensures err { OnErr result (self.new ≡ self.old) }
         ensures memory { OnErr result (MayRunOut self.old actor memory) }
@@ -133,28 +133,28 @@ fn step_among(
     limit: u64,
     storage: &mut Storage,
     actors: &mut Vec<Actor>,
-    who: u32,
+    actor: u32,
     memory: bool,
 ) -> Result<Stepped, AllocError>
     requires limit { IsInLimit (record { limit = limit; storage = storage.old; actors = actors.old.items }) }
     requires segments { HasSegments (record { limit = limit; storage = storage.old; actors = actors.old.items }) }
-    ensures steps { IfOk result (λ stepped. Gives
-        (step_of (record { limit = limit; storage = storage.old; actors = actors.old.items }) who memory)
+    ensures steps { IfOk result (λ stepped. IsStepped
+        (step_of (record { limit = limit; storage = storage.old; actors = actors.old.items }) actor memory)
         (record { limit = limit; storage = storage.new; actors = actors.new.items })
         stepped) }
     ensures err { OnErr result ((storage.new ≡ storage.old) × (actors.new.items ≡ actors.old.items)) }
     ensures memory { OnErr result
-        (MayRunOut (record { limit = limit; storage = storage.old; actors = actors.old.items }) who memory) }
+        (MayRunOut (record { limit = limit; storage = storage.old; actors = actors.old.items }) actor memory) }
 {
-    let Some(current) = actors.get(who as usize) else {
+    let Some(current) = actors.get(actor as usize) else {
         return Ok(NOTHING);
     };
     let phase = current.phase;
     let Some(command) = current.command() else {
         return Ok(NOTHING);
     };
-    let outcome = storage.step(limit, who, &command, memory, phase)?;
-    let ended = actors[who as usize].follow(who, command, outcome.next);
+    let outcome = storage.step(limit, actor, &command, memory, phase)?;
+    let ended = actors[actor as usize].follow(actor, command, outcome.next);
     Ok(Stepped {
         event: outcome.event,
         ended,

@@ -14,7 +14,7 @@ use Rattle.seg_core.specs.Segment.{HasPlace, segment_start, segment_end, segment
 use Rattle.seg_core.proofs.Doubling.{segment_of_has, is_segment_of, segment_end-le}
 use Rattle.book_core.proofs.Lists.{get_other, get_set}
 use Rattle.step_core.specs.declared.machine.phase.Slot.{Slot}
-use Rattle.step_core.specs.machine.Blocks.{Shown, Block, Entries, joined, block_of, slot_in, slot_at, with_value, map_below, set_below, shown, AreBlocks}
+use Rattle.step_core.specs.machine.Blocks.{Shown, Block, Entries, flattened, block_of, slot_in, slot_at, with_value, map_below, set_below, shown, AreBlocks}
 
 -- ---- The map and the set below a bound
 
@@ -24,12 +24,14 @@ same_key k = unsigned_tied k k ∙ (let e : (k == k) ≡ true = grind (arith, na
 other_key : (q k : ℕ) → q ≢ k → eq_by_cmp nat_cmp q k ≡ false
 other_key q k apart = unsigned_tied q k ∙ (let e : (q == k) ≡ false = grind (arith, nat_tests) in e)
 
-given_elsewhere : (m : map.FinMap nat_cmp Slot) (key : ℕ) (o : Option Slot) (q : ℕ) → q ≢ key → map.get (with_value m key o) q ≡ map.get m q
+given_elsewhere : (m : map.FinMap nat_cmp Slot) (key : ℕ) (o : Option Slot) (q : ℕ) → q ≢ key
+    → map.get (with_value m key o) q ≡ map.get m q
 given_elsewhere m key None q apart = refl
 given_elsewhere m key (Some v) q apart =
     map.get-insert nat_cmp_total m key v q ∙ ap (λ b. cond b (Some v) (map.get m q)) (other_key q key apart)
 
-given_here : (m : map.FinMap nat_cmp Slot) (key : ℕ) (o : Option Slot) → map.get m key ≡ None → map.get (with_value m key o) key ≡ o
+given_here : (m : map.FinMap nat_cmp Slot) (key : ℕ) (o : Option Slot) → map.get m key ≡ None
+    → map.get (with_value m key o) key ≡ o
 given_here m key None none = none
 given_here m key (Some v) none =
     map.get-insert nat_cmp_total m key v key ∙ ap (λ b. cond b (Some v) (map.get m key)) (same_key key)
@@ -50,7 +52,8 @@ given_within f (suc n) q inside =
     ]
 
 -- where a function has nothing from the bound on, the map has what the function has
-get_map_below : (f : ℕ → Option Slot) (n : ℕ) → ((q : ℕ) → n ≤ q → f q ≡ None) → (q : ℕ) → map.get (map_below f n) q ≡ f q
+get_map_below : (f : ℕ → Option Slot) (n : ℕ) → ((q : ℕ) → n ≤ q → f q ≡ None) → (q : ℕ)
+    → map.get (map_below f n) q ≡ f q
 get_map_below f n nothing q =
     elim (cases_lt q n) [ inl inside ↦ given_within f n q inside | inr past ↦ none_past f n q past ∙ sym (nothing q past) ]
 
@@ -64,12 +67,14 @@ false_past f (suc n) q past =
       | false ↦ false_past f n q (omega arith)
     ]
 
-tested_last : (s : set.FinSet nat_cmp) (n : ℕ) (b : Bool) → set.contains s n ≡ false → set.contains (if b then set.insert s n else s) n ≡ b
+tested_last : (s : set.FinSet nat_cmp) (n : ℕ) (b : Bool) → set.contains s n ≡ false
+    → set.contains (if b then set.insert s n else s) n ≡ b
 tested_last s n true none =
     set.contains-insert nat_cmp_total s n n ∙ ap (λ b. b || set.contains s n) (same_key n)
 tested_last s n false none = none
 
-tested_before : (s : set.FinSet nat_cmp) (n q : ℕ) (b : Bool) → q ≢ n → set.contains (if b then set.insert s n else s) q ≡ set.contains s q
+tested_before : (s : set.FinSet nat_cmp) (n q : ℕ) (b : Bool) → q ≢ n
+    → set.contains (if b then set.insert s n else s) q ≡ set.contains s q
 tested_before s n q true apart =
     set.contains-insert nat_cmp_total s n q ∙ ap (λ b. b || set.contains s q) (other_key q n apart)
 tested_before s n q false apart = refl
@@ -84,7 +89,8 @@ tested_within f (suc n) q inside =
     ]
 
 -- where a test fails from the bound on, the set has what passes
-contains_set_below : (f : ℕ → Bool) (n : ℕ) → ((q : ℕ) → n ≤ q → f q ≡ false) → (q : ℕ) → set.contains (set_below f n) q ≡ f q
+contains_set_below : (f : ℕ → Bool) (n : ℕ) → ((q : ℕ) → n ≤ q → f q ≡ false) → (q : ℕ)
+    → set.contains (set_below f n) q ≡ f q
 contains_set_below f n nothing q =
     elim (cases_lt q n) [ inl inside ↦ tested_within f n q inside | inr past ↦ false_past f n q past ∙ sym (nothing q past) ]
 
@@ -102,44 +108,51 @@ segment_past place past =
     ]
 
 no_block : (entries : Entries) (segment : ℕ) → length entries ≤ segment → block_of entries segment ≡ None
-no_block entries segment past = ap joined (slice_get_past entries segment past)
+no_block entries segment past = ap flattened (slice_get_past entries segment past)
 
-pub contains_shown : (entries : Entries) → length entries ≡ 32 → (segment : ℕ) → set.contains (shown entries).installed segment ≡ is_some (block_of entries segment)
+pub contains_shown : (entries : Entries) → length entries ≡ 32 → (segment : ℕ)
+    → set.contains (shown entries).installed segment ≡ is_some (block_of entries segment)
 contains_shown entries long segment =
     contains_set_below (λ k. is_some (block_of entries k)) 32 (λ k past. ap is_some (no_block entries k (omega arith))) segment
 
-pub get_shown : (entries : Entries) → length entries ≡ 32 → (place : ℕ) → map.get (shown entries).slots place ≡ slot_at entries place
+pub get_shown : (entries : Entries) → length entries ≡ 32 → (place : ℕ)
+    → map.get (shown entries).slots place ≡ slot_at entries place
 get_shown entries long place =
     get_map_below (slot_at entries) (2 ^ 32)
     (λ q past. ap (λ b. slot_in b (q - segment_start (segment_of q))) (no_block entries (segment_of q) (let far = segment_past q past in omega arith))) place
 
 -- two lists of entries show the same where they have the same segments and slots
-shown_is : (entries : Entries) → length entries ≡ 32 → (s : Shown) → ((k : ℕ) → is_some (block_of entries k) ≡ set.contains s.installed k) → ((q : ℕ) → slot_at entries q ≡ map.get s.slots q) → shown entries ≡ s
+shown_is : (entries : Entries) → length entries ≡ 32 → (s : Shown)
+    → ((k : ℕ) → is_some (block_of entries k) ≡ set.contains s.installed k)
+    → ((q : ℕ) → slot_at entries q ≡ map.get s.slots q) → shown entries ≡ s
 shown_is entries long s segments slots =
     let installed : (shown entries).installed ≡ s.installed = set.same_set nat_cmp_total set.nat_cmp-IsAntisymmetric _ _ (λ k. contains_shown entries long k ∙ segments k) in
     let there : (shown entries).slots ≡ s.slots = map.same_map nat_cmp_total map.nat_cmp-IsAntisymmetric _ _ (λ q. get_shown entries long q ∙ slots q) in
     λ i. record { installed = installed i; slots = there i }
 
 -- entries without a block show nothing
-pub shows_nothing : (entries : Entries) → length entries ≡ 32 → ((k : ℕ) → block_of entries k ≡ None) → shown entries ≡ record { installed = set.empty; slots = map.empty }
+pub shows_nothing : (entries : Entries) → length entries ≡ 32 → ((k : ℕ) → block_of entries k ≡ None)
+    → shown entries ≡ record { installed = set.empty; slots = map.empty }
 shows_nothing entries long none =
     shown_is entries long (record { installed = set.empty; slots = map.empty })
     (λ k. ap is_some (none k) ∙ sym (set.contains-empty nat_cmp k))
     (λ q. ap (λ b. slot_in b (q - segment_start (segment_of q))) (none (segment_of q)) ∙ sym (map.get-empty nat_cmp q))
 
-pub nothing_is_blocks : (entries : Entries) → length entries ≡ 32 → ((k : ℕ) → block_of entries k ≡ None) → AreBlocks entries
+pub nothing_is_blocks : (entries : Entries) → length entries ≡ 32 → ((k : ℕ) → block_of entries k ≡ None)
+    → AreBlocks entries
 nothing_is_blocks entries long none = record { count = long; whole = λ k block is. absurd (none-some block (sym (none k) ∙ is)) }
 
 -- ---- An entry that is set
 
 module _ (entries : Entries) (k : ℕ) (new : Block) (inside : k < length entries) where
   pub block_set_here : block_of (slice_set entries k (Some new)) k ≡ Some new
-  block_set_here = ap joined (get_set entries k (slice_index_or entries k None) (Some new) (slice_get-get_or entries k None inside))
+  block_set_here = ap flattened (get_set entries k (slice_index_or entries k None) (Some new) (slice_get-get_or entries k None inside))
 
   pub block_set_there : (j : ℕ) → j ≢ k → block_of (slice_set entries k (Some new)) j ≡ block_of entries j
-  block_set_there j apart = ap joined (get_other entries k j (Some new) apart)
+  block_set_there j apart = ap flattened (get_other entries k j (Some new) apart)
 
-  pub blocks_set : AreBlocks entries → segment_start k + length new ≡ segment_end k → AreBlocks (slice_set entries k (Some new))
+  pub blocks_set : AreBlocks entries → segment_start k + length new ≡ segment_end k
+      → AreBlocks (slice_set entries k (Some new))
   blocks_set blocks long = record {
     count = length-set entries k (Some new) ∙ blocks.count;
     whole = λ j block is. elim (eqb_tells j k) [
@@ -158,7 +171,8 @@ empty_block (suc n) zero = refl
 empty_block (suc n) (suc o) = empty_block n o
 
 -- a new block where there was none shows one segment more
-pub shows_block : (entries : Entries) (k n : ℕ) → length entries ≡ 32 → k < 32 → block_of entries k ≡ None → shown (slice_set entries k (Some (replicate n None))) ≡ record { installed = set.insert (shown entries).installed k; slots = (shown entries).slots }
+pub shows_block : (entries : Entries) (k n : ℕ) → length entries ≡ 32 → k < 32 → block_of entries k ≡ None
+    → shown (slice_set entries k (Some (replicate n None))) ≡ record { installed = set.insert (shown entries).installed k; slots = (shown entries).slots }
 shows_block entries k n long inside none =
     let new : Block = replicate n None in
     let entries' : Entries = slice_set entries k (Some new) in
@@ -179,18 +193,23 @@ shows_block entries k n long inside none =
     ])
 
 -- at another offset, or in another block, the slot is as it was
-slot_elsewhere : (entries entries' : Entries) (k o : ℕ) (block : Block) (slot : Slot) (q : ℕ) → (segment_of q ≢ k → block_of entries' (segment_of q) ≡ block_of entries (segment_of q)) → block_of entries' k ≡ Some (slice_set block o (Some slot)) → block_of entries k ≡ Some block → (segment_of q ≡ k → q - segment_start (segment_of q) ≢ o) → slot_at entries' q ≡ slot_at entries q
+slot_elsewhere : (entries entries' : Entries) (k o : ℕ) (block : Block) (slot : Slot) (q : ℕ)
+    → (segment_of q ≢ k → block_of entries' (segment_of q) ≡ block_of entries (segment_of q))
+    → block_of entries' k ≡ Some (slice_set block o (Some slot)) → block_of entries k ≡ Some block
+    → (segment_of q ≡ k → q - segment_start (segment_of q) ≢ o) → slot_at entries' q ≡ slot_at entries q
 slot_elsewhere entries entries' k o block slot q elsewhere new old other =
     let at : ℕ = q - segment_start (segment_of q) in
     elim (eqb_tells (segment_of q) k) [
       | inl same ↦ ap (λ b. slot_in b at) (ap (block_of entries') same.1 ∙ new)
-          ∙ ap joined (get_other block o at (Some slot) (other same.1))
+          ∙ ap flattened (get_other block o at (Some slot) (other same.1))
           ∙ sym (ap (λ b. slot_in b at) (ap (block_of entries) same.1 ∙ old))
       | inr apart ↦ ap (λ b. slot_in b at) (elsewhere apart.1)
     ]
 
 -- a slot that is set in the block of a place shows one slot changed
-pub shows_slot : (entries : Entries) (k o place : ℕ) (block : Block) (slot : Slot) → length entries ≡ 32 → k < 32 → HasPlace k place → segment_start k + o ≡ place → block_of entries k ≡ Some block → o < length block → shown (slice_set entries k (Some (slice_set block o (Some slot)))) ≡ record { installed = (shown entries).installed; slots = map.insert (shown entries).slots place slot }
+pub shows_slot : (entries : Entries) (k o place : ℕ) (block : Block) (slot : Slot) → length entries ≡ 32 → k < 32
+    → HasPlace k place → segment_start k + o ≡ place → block_of entries k ≡ Some block → o < length block
+    → shown (slice_set entries k (Some (slice_set block o (Some slot)))) ≡ record { installed = (shown entries).installed; slots = map.insert (shown entries).slots place slot }
 shows_slot entries k o place block slot long inside has lies is room =
     let new : Block = slice_set block o (Some slot) in
     let entries' : Entries = slice_set entries k (Some new) in
@@ -208,8 +227,8 @@ shows_slot entries k o place block slot long inside has lies is room =
       | inl same ↦ subst (λ p. slot_at entries' p ≡ map.get (map.insert slots place slot) p) (sym same.1)
           (ap (λ i. slot_in (block_of entries' i) (place - segment_start i)) (sym number)
           ∙ ap (λ b. slot_in b (place - segment_start k)) here
-          ∙ ap (λ i. joined (slice_get new i)) (let e : place - segment_start k ≡ o = omega arith in e)
-          ∙ ap joined (get_set block o (slice_index_or block o None) (Some slot) (slice_get-get_or block o None room))
+          ∙ ap (λ i. flattened (slice_get new i)) (let e : place - segment_start k ≡ o = omega arith in e)
+          ∙ ap flattened (get_set block o (slice_index_or block o None) (Some slot) (slice_get-get_or block o None room))
           ∙ sym (map.get-insert nat_cmp_total slots place slot place ∙ ap (λ b. cond b (Some slot) (map.get slots place)) (same_key place)))
       | inr apart ↦
           slot_elsewhere entries entries' k o block slot q
@@ -222,34 +241,42 @@ shows_slot entries k o place block slot long inside has lies is room =
 -- ---- As the program reads it
 
 -- past all segments no slot is there
-pub slot_past : (entries : Entries) (seen : Shown) → shown entries ≡ seen → AreBlocks entries → (place : ℕ) → 2 ^ 32 ≤ place → map.get seen.slots place ≡ None
+pub slot_past : (entries : Entries) (seen : Shown) → shown entries ≡ seen → AreBlocks entries → (place : ℕ)
+    → 2 ^ 32 ≤ place → map.get seen.slots place ≡ None
 slot_past entries seen view blocks place past =
     ap (λ (s : Shown). map.get s.slots place) (sym view)
     ∙ get_shown entries blocks.count place
     ∙ ap (λ b. slot_in b (place - segment_start (segment_of place))) (no_block entries (segment_of place) (let far = segment_past place past in let long = blocks.count in omega arith))
 
 -- the slot of a place, at its offset in the entry of its segment
-pub slot_in_entry : (entries : Entries) (seen : Shown) → shown entries ≡ seen → AreBlocks entries → (place k o : ℕ) (read entry : Option Block) → k ≡ segment_of place → k < 32 → segment_start k + o ≡ place → read ≡ slice_index_or entries k read → slice_index_or entries k read ≡ entry → map.get seen.slots place ≡ slot_in entry o
+pub slot_in_entry : (entries : Entries) (seen : Shown) → shown entries ≡ seen → AreBlocks entries
+    → (place k o : ℕ) (read entry : Option Block) → k ≡ segment_of place → k < 32 → segment_start k + o ≡ place
+    → read ≡ slice_index_or entries k read → slice_index_or entries k read ≡ entry
+    → map.get seen.slots place ≡ slot_in entry o
 slot_in_entry entries seen view blocks place k o read entry number inside lies is entry_is =
     ap (λ (s : Shown). map.get s.slots place) (sym view)
     ∙ get_shown entries blocks.count place
     ∙ ap (λ i. slot_in (block_of entries i) (place - segment_start i)) (sym number)
     ∙ ap (λ i. slot_in (block_of entries k) i) (let e : place - segment_start k ≡ o = omega arith in e)
-    ∙ ap (λ e. slot_in (joined e) o) (slice_get_read entries 32 k read (sym blocks.count) inside is)
+    ∙ ap (λ e. slot_in (flattened e) o) (slice_get_read entries 32 k read (sym blocks.count) inside is)
     ∙ ap (λ e. slot_in e o) (is ∙ entry_is)
 
 -- an entry that is read is the block of its segment
-pub entry_is : (entries : Entries) → AreBlocks entries → (k : ℕ) (read : Option Block) → k < 32 → read ≡ slice_index_or entries k read → block_of entries k ≡ read
-entry_is entries blocks k read inside is = ap joined (slice_get_read entries 32 k read (sym blocks.count) inside is)
+pub entry_is : (entries : Entries) → AreBlocks entries → (k : ℕ) (read : Option Block) → k < 32
+    → read ≡ slice_index_or entries k read → block_of entries k ≡ read
+entry_is entries blocks k read inside is = ap flattened (slice_get_read entries 32 k read (sym blocks.count) inside is)
 
 -- whether an entry that is read has a block
-pub installed_is : (entries : Entries) (seen : Shown) → shown entries ≡ seen → AreBlocks entries → (k : ℕ) (read : Option Block) → k < 32 → read ≡ slice_index_or entries k read → set.contains seen.installed k ≡ is_some read
+pub installed_is : (entries : Entries) (seen : Shown) → shown entries ≡ seen → AreBlocks entries
+    → (k : ℕ) (read : Option Block) → k < 32 → read ≡ slice_index_or entries k read
+    → set.contains seen.installed k ≡ is_some read
 installed_is entries seen view blocks k read inside is =
     ap (λ (s : Shown). set.contains s.installed k) (sym view)
     ∙ contains_shown entries blocks.count k ∙ ap is_some (entry_is entries blocks k read inside is)
 
 -- a segment that is not installed has no block
-pub no_block_there : (entries : Entries) (seen : Shown) → shown entries ≡ seen → AreBlocks entries → (k : ℕ) → set.contains seen.installed k ≡ false → block_of entries k ≡ None
+pub no_block_there : (entries : Entries) (seen : Shown) → shown entries ≡ seen → AreBlocks entries → (k : ℕ)
+    → set.contains seen.installed k ≡ false → block_of entries k ≡ None
 no_block_there entries seen view blocks k none =
     elim (block_of entries k) as (λ o. block_of entries k ≡ o → o ≡ None) [
       | None ↦ (λ _. refl)
@@ -258,7 +285,8 @@ no_block_there entries seen view blocks k none =
     refl
 
 -- to install a segment that is there changes nothing
-pub installed_already : (seen : Shown) (k : ℕ) → set.contains seen.installed k ≡ true → seen ≡ record { installed = set.insert seen.installed k; slots = seen.slots }
+pub installed_already : (seen : Shown) (k : ℕ) → set.contains seen.installed k ≡ true
+    → seen ≡ record { installed = set.insert seen.installed k; slots = seen.slots }
 installed_already seen k there =
     let same : seen.installed ≡ set.insert seen.installed k = set.same_set nat_cmp_total set.nat_cmp-IsAntisymmetric _ _
     (λ q. elim (eqb_tells q k) [
@@ -271,7 +299,8 @@ installed_already seen k there =
 -- ---- A slot that is set in the entry that was read
 
 module _ (entries : Entries) (seen : Shown) (view : shown entries ≡ seen) (blocks : AreBlocks entries) (place k o : ℕ) (has : HasPlace k place) (inside : k < 32) (lies : segment_start k + o ≡ place) (read : Option Block) (is : read ≡ slice_index_or entries k read) where
-  pub entry_there : set.contains seen.installed (segment_of place) ≡ true → is_some (slice_index_or entries k read) ≡ true
+  pub entry_there : set.contains seen.installed (segment_of place) ≡ true
+      → is_some (slice_index_or entries k read) ≡ true
   entry_there there =
       ap is_some (sym is) ∙ sym (installed_is entries seen view blocks k read inside is)
       ∙ ap (set.contains seen.installed) (is_segment_of k place has) ∙ there
@@ -287,7 +316,8 @@ module _ (entries : Entries) (seen : Shown) (view : shown entries ≡ seen) (blo
       ]
       (entry_is entries blocks k read inside is ∙ is)
 
-  pub set_is_blocks : (slot : Slot) → set.contains seen.installed (segment_of place) ≡ true → AreBlocks (slice_set entries k (option_map (λ block. slice_set block o (Some slot)) (slice_index_or entries k read)))
+  pub set_is_blocks : (slot : Slot) → set.contains seen.installed (segment_of place) ≡ true
+      → AreBlocks (slice_set entries k (option_map (λ block. slice_set block o (Some slot)) (slice_index_or entries k read)))
   set_is_blocks slot there =
       elim (slice_index_or entries k read) as (λ r. block_of entries k ≡ r → is_some r ≡ true → AreBlocks (slice_set entries k (option_map (λ block. slice_set block o (Some slot)) r))) [
         | None ↦ (λ _ no. absurd (false≢true no))
@@ -297,7 +327,8 @@ module _ (entries : Entries) (seen : Shown) (view : shown entries ≡ seen) (blo
       ]
       (entry_is entries blocks k read inside is ∙ is) (entry_there there)
 
-  pub set_shows : (slot : Slot) → set.contains seen.installed (segment_of place) ≡ true → shown (slice_set entries k (option_map (λ block. slice_set block o (Some slot)) (slice_index_or entries k read))) ≡ record { installed = seen.installed; slots = map.insert seen.slots place slot }
+  pub set_shows : (slot : Slot) → set.contains seen.installed (segment_of place) ≡ true
+      → shown (slice_set entries k (option_map (λ block. slice_set block o (Some slot)) (slice_index_or entries k read))) ≡ record { installed = seen.installed; slots = map.insert seen.slots place slot }
   set_shows slot there =
       elim (slice_index_or entries k read) as (λ r. block_of entries k ≡ r → is_some r ≡ true → IfSome r (λ block. o < length block) → shown (slice_set entries k (option_map (λ block. slice_set block o (Some slot)) r)) ≡ record { installed = seen.installed; slots = map.insert seen.slots place slot }) [
         | None ↦ (λ _ no _. absurd (false≢true no))
@@ -308,9 +339,11 @@ module _ (entries : Entries) (seen : Shown) (view : shown entries ≡ seen) (blo
       (entry_is entries blocks k read inside is ∙ is) (entry_there there) entry_reaches
 
 -- entries that are all read empty are no blocks
-pub none_read : (entries : Entries) → length entries ≡ 32 → ((i : ℕ) (e : Option Block) → i < 32 → slice_index_or entries i e ≡ None) → (k : ℕ) → block_of entries k ≡ None
+pub none_read : (entries : Entries) → length entries ≡ 32
+    → ((i : ℕ) (e : Option Block) → i < 32 → slice_index_or entries i e ≡ None) → (k : ℕ)
+    → block_of entries k ≡ None
 none_read entries long none k =
     elim (cases_lt k (length entries)) [
-      | inl inside ↦ ap joined (slice_get-get_or entries k None inside) ∙ none k None (omega arith)
+      | inl inside ↦ ap flattened (slice_get-get_or entries k None inside) ∙ none k None (omega arith)
       | inr past ↦ no_block entries k past
     ]

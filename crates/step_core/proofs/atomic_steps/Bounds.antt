@@ -23,7 +23,7 @@ use Rattle.step_core.specs.declared.machine.phase.Next.{Next}
 use Rattle.step_core.specs.declared.machine.phase.Next.TheVariants.{Goes, Ends}
 use Rattle.step_core.specs.declared.machine.phase.Actor.{Actor}
 use Rattle.step_core.specs.machine.Storage.{Storage}
-use Rattle.step_core.specs.machine.Step.{actor_after, Configuration, Outcome, first_configuration, load_growth, load_at_least, load_read, load, claiming, after_segment, put, exchange, raise, begin_at, is_refused, after_place, answer_of_run, goes_on, ends, look_at, outcome_of, with_actor, with_size, with_slot, no_step, step_to, step_in, step_as, step_of, Gives}
+use Rattle.step_core.specs.machine.Step.{actor_after, Configuration, Outcome, first_configuration, load_growth, load_at_least, load_read, load, claiming, after_segment, put, exchange, raise, begin_at, is_refused, after_place, answer_of_run, goes_on, ends, look_at, outcome_of, with_actor, with_size, with_slot, no_step, step_to, step_in, step_as, step_of, IsStepped}
 use Rattle.step_core.specs.declared.machine.Stepped.{Stepped}
 use Rattle.step_core.specs.machine.Bounds.{Wants, Exchanges, IsWithin, StaysWithin, IsPlaced, IsInLimit}
 
@@ -33,7 +33,8 @@ placed_at_load limit None = tt
 placed_at_load limit (Some command) = tt
 
 -- before the first step every actor is placed
-pub opening_in_limit : (limit : ℕ) (programs : List (List Command)) → IsLimit limit → IsInLimit (first_configuration limit programs)
+pub opening_in_limit : (limit : ℕ) (programs : List (List Command)) → IsLimit limit
+    → IsInLimit (first_configuration limit programs)
 opening_in_limit limit programs is_limit = (is_limit, omega arith, All-map (λ actor. IsPlaced limit actor) _ programs (λ k d inside. placed_at_load limit (slice_get _ 0)))
 
 -- a power of two below 2^32 has an exponent below 32
@@ -57,7 +58,8 @@ pub record Stays (limit : ℕ) (command : Command) (outcome : Outcome) : Type 0 
   pub size : outcome.storage.size ≤ limit
   pub next : StaysWithin limit command outcome.next
 
-growth_stays : (limit : ℕ) (m : Storage) (actor n : ℕ) (command : Command) → limit ≤ 2 ^ 32 → m.size ≤ limit → Wants command m.size n → Stays limit command (load_growth limit m actor n)
+growth_stays : (limit : ℕ) (m : Storage) (actor n : ℕ) (command : Command) → limit ≤ 2 ^ 32 → m.size ≤ limit
+    → Wants command m.size n → Stays limit command (load_growth limit m actor n)
 growth_stays limit m actor n command is_limit size wants =
     elim (n == 0) as (λ b. (n == 0) ≡ b → Stays limit command (if b then ends m (events.Claim actor 0) (replies.Run m.size 0) (answers.Run m.size 0) else if nat_le (m.size + n) limit then goes_on m (Scout m.size n (segment_of m.size)) else ends m (events.RefusedFull actor n) (replies.Full m.size) (answers.Full m.size))) [
       | true ↦ (λ _. record { size = size; next = tt })
@@ -73,7 +75,8 @@ growth_stays limit m actor n command is_limit size wants =
     ]
     refl
 
-at_least_stays : (limit : ℕ) (m : Storage) (actor to value : ℕ) → limit ≤ 2 ^ 32 → m.size ≤ limit → Stays limit (commands.AtLeast to value) (load_at_least limit m actor to)
+at_least_stays : (limit : ℕ) (m : Storage) (actor to value : ℕ) → limit ≤ 2 ^ 32 → m.size ≤ limit
+    → Stays limit (commands.AtLeast to value) (load_at_least limit m actor to)
 at_least_stays limit m actor to value is_limit size =
     elim (nat_le to m.size) as (λ b. nat_le to m.size ≡ b → Stays limit (commands.AtLeast to value) (if b then ends m (events.Raise actor to) (replies.Enough m.size) (answers.Enough m.size) else if nat_le to limit then goes_on m (Scout m.size (to - m.size) (segment_of m.size)) else ends m (events.RefusedFull actor (to - m.size)) (replies.Full m.size) (answers.Full m.size))) [
       | true ↦ (λ _. record { size = size; next = tt })
@@ -89,12 +92,14 @@ at_least_stays limit m actor to value is_limit size =
     ]
     refl
 
-read_stays : (limit : ℕ) (m : Storage) (actor place : ℕ) (command : Command) → m.size ≤ limit → Stays limit command (load_read m actor place)
+read_stays : (limit : ℕ) (m : Storage) (actor place : ℕ) (command : Command) → m.size ≤ limit
+    → Stays limit command (load_read m actor place)
 read_stays limit m actor place command size =
     elim (nat_lt place m.size) as (λ b. Stays limit command (if b then goes_on m (Look place) else ends m (events.Look actor place) (replies.OutOfRange m.size) (answers.OutOfRange m.size)))
     [ true ↦ record { size = size; next = tt } | false ↦ record { size = size; next = tt } ]
 
-load_stays : (limit : ℕ) (m : Storage) (actor : ℕ) (command : Command) → limit ≤ 2 ^ 32 → m.size ≤ limit → Stays limit command (load limit m actor command)
+load_stays : (limit : ℕ) (m : Storage) (actor : ℕ) (command : Command) → limit ≤ 2 ^ 32 → m.size ≤ limit
+    → Stays limit command (load limit m actor command)
 load_stays limit m actor (commands.Push value) is_limit size = growth_stays limit m actor 1 (commands.Push value) is_limit size tt
 load_stays limit m actor (commands.Grow n value) is_limit size = growth_stays limit m actor n (commands.Grow n value) is_limit size tt
 load_stays limit m actor (commands.AtLeast to value) is_limit size = at_least_stays limit m actor to value is_limit size
@@ -103,7 +108,8 @@ load_stays limit m actor (commands.Read place) is_limit size = read_stays limit 
 load_stays limit m actor commands.Size is_limit size = record { size = size; next = tt }
 
 -- what claims wanted places is within
-claiming_within : (limit : ℕ) (command : Command) (from n : ℕ) → 0 < n → from + n ≤ limit → Wants command from n → IsWithin limit command (claiming command from n)
+claiming_within : (limit : ℕ) (command : Command) (from n : ℕ) → 0 < n → from + n ≤ limit → Wants command from n
+    → IsWithin limit command (claiming command from n)
 claiming_within limit (commands.Push value) from n some room wants = (some, room, tt)
 claiming_within limit (commands.Grow m value) from n some room wants = (some, room, tt)
 claiming_within limit (commands.AtLeast to value) from n some room wants = (let same : from + n ≡ to = wants in omega arith)
@@ -111,7 +117,8 @@ claiming_within limit (commands.Fail m value at) from n some room wants = (some,
 claiming_within limit (commands.Read place) from n some room wants = (some, room, tt)
 claiming_within limit commands.Size from n some room wants = (some, room, tt)
 
-segment_after_within : (limit : ℕ) (command : Command) (from n segment : ℕ) → limit ≤ 2 ^ 32 → 0 < n → from + n ≤ limit → Wants command from n → IsWithin limit command (after_segment command from n segment)
+segment_after_within : (limit : ℕ) (command : Command) (from n segment : ℕ) → limit ≤ 2 ^ 32 → 0 < n
+    → from + n ≤ limit → Wants command from n → IsWithin limit command (after_segment command from n segment)
 segment_after_within limit command from n segment is_limit some room wants =
     elim (nat_lt (segment_end segment) (from + n)) as (λ b. nat_lt (segment_end segment) (from + n) ≡ b → IsWithin limit command (if b then Scout from n (segment + 1) else claiming command from n)) [
       | true ↦ (λ more.
@@ -121,7 +128,8 @@ segment_after_within limit command from n segment is_limit some room wants =
     ]
     refl
 
-place_after_within : (limit : ℕ) (command : Command) (from n place : ℕ) → from ≤ place → from + n ≤ limit → StaysWithin limit command (after_place command from n place)
+place_after_within : (limit : ℕ) (command : Command) (from n place : ℕ) → from ≤ place → from + n ≤ limit
+    → StaysWithin limit command (after_place command from n place)
 place_after_within limit command from n place low room =
     elim (nat_lt (place + 1) (from + n)) as (λ b. nat_lt (place + 1) (from + n) ≡ b → StaysWithin limit command (if b then Goes (Begin from n (place + 1)) else Ends (answer_of_run command from n))) [
       | true ↦ (λ more. let before : place + 1 < from + n = grind (arith, nat_tests) in (omega arith, before, room))
@@ -129,7 +137,8 @@ place_after_within limit command from n place low room =
     ]
     refl
 
-exchange_stays : (limit : ℕ) (m : Storage) (actor from n : ℕ) (command : Command) → limit ≤ 2 ^ 32 → m.size ≤ limit → 0 < n → from + n ≤ limit → Wants command m.size n → Stays limit command (exchange limit m actor from n)
+exchange_stays : (limit : ℕ) (m : Storage) (actor from n : ℕ) (command : Command) → limit ≤ 2 ^ 32 → m.size ≤ limit
+    → 0 < n → from + n ≤ limit → Wants command m.size n → Stays limit command (exchange limit m actor from n)
 exchange_stays limit m actor from n command is_limit size some room wants =
     elim (m.size == from) as (λ b. Stays limit command (if b then record { storage = with_size m (from + n); event = Some (events.Claim actor n, replies.Run from n); next = Goes (Begin from n from) } else if nat_le (m.size + n) limit then goes_on m (Scout m.size n (segment_of m.size)) else ends m (events.RefusedFull actor n) (replies.Full m.size) (answers.Full m.size))) [
       | true ↦ record { size = room; next = (le_refl from, omega arith, room) }
@@ -143,7 +152,8 @@ exchange_stays limit m actor from n command is_limit size some room wants =
           refl
     ]
 
-raise_stays : (limit : ℕ) (m : Storage) (actor to : ℕ) (command : Command) → m.size ≤ limit → to ≤ limit → Stays limit command (raise m actor to)
+raise_stays : (limit : ℕ) (m : Storage) (actor to : ℕ) (command : Command) → m.size ≤ limit → to ≤ limit
+    → Stays limit command (raise m actor to)
 raise_stays limit m actor to command size room =
     elim (nat_le to m.size) as (λ b. nat_le to m.size ≡ b → Stays limit command (if b then ends m (events.Raise actor to) (replies.Enough m.size) (answers.Enough m.size) else record { storage = with_size m to; event = Some (events.Raise actor to, replies.Run m.size (to - m.size)); next = Goes (Begin m.size (to - m.size) m.size) })) [
       | true ↦ (λ _. record { size = size; next = tt })
@@ -153,13 +163,16 @@ raise_stays limit m actor to command size room =
     ]
     refl
 
-begin_stays : (limit : ℕ) (m : Storage) (actor from n place : ℕ) (command : Command) (slot : Option Slot) → m.size ≤ limit → from ≤ place → place < from + n → from + n ≤ limit → Stays limit command (begin_at m actor command from n place slot)
+begin_stays : (limit : ℕ) (m : Storage) (actor from n place : ℕ) (command : Command) (slot : Option Slot)
+    → m.size ≤ limit → from ≤ place → place < from + n → from + n ≤ limit
+    → Stays limit command (begin_at m actor command from n place slot)
 begin_stays limit m actor from n place command None size low high room =
     elim (is_refused command from place) as (λ b. Stays limit command (goes_on (with_slot m place (Busy actor)) (if b then Spoil from n place else Fill from n place)))
     [ true ↦ record { size = size; next = (low, high, room) } | false ↦ record { size = size; next = (low, high, room) } ]
 begin_stays limit m actor from n place command (Some slot) size low high room = record { size = size; next = (low, high, room) }
 
-look_stays : (limit : ℕ) (m : Storage) (actor place : ℕ) (command : Command) (slot : Option Slot) → m.size ≤ limit → Stays limit command (look_at m actor place slot)
+look_stays : (limit : ℕ) (m : Storage) (actor place : ℕ) (command : Command) (slot : Option Slot) → m.size ≤ limit
+    → Stays limit command (look_at m actor place slot)
 look_stays limit m actor place command None size = record { size = size; next = tt }
 look_stays limit m actor place command (Some (Busy owner)) size = record { size = size; next = tt }
 look_stays limit m actor place command (Some (Filled value)) size = record { size = size; next = tt }
@@ -174,7 +187,9 @@ exchange_wants (commands.Fail m value at) from n exchanges = tt
 exchange_wants (commands.Read place) from n exchanges = tt
 exchange_wants commands.Size from n exchanges = tt
 
-pub outcome_stays : (limit : ℕ) (m : Storage) (actor : ℕ) (command : Command) (memory : Bool) (phase : Phase) → limit ≤ 2 ^ 32 → m.size ≤ limit → IsWithin limit command phase → Stays limit command (outcome_of limit m actor command memory phase)
+pub outcome_stays : (limit : ℕ) (m : Storage) (actor : ℕ) (command : Command) (memory : Bool) (phase : Phase)
+    → limit ≤ 2 ^ 32 → m.size ≤ limit → IsWithin limit command phase
+    → Stays limit command (outcome_of limit m actor command memory phase)
 outcome_stays limit m actor command memory Load is_limit size within = load_stays limit m actor command is_limit size
 outcome_stays limit m actor command memory (Scout from n segment) is_limit size (some, room, number, wants) =
     elim (set.contains m.installed segment) as (λ b. Stays limit command (if b then goes_on m (after_segment command from n segment) else goes_on m (Put from n segment))) [
@@ -199,17 +214,22 @@ outcome_stays limit m actor command memory (Look place) is_limit size within =
     look_stays limit m actor place command (map.get m.slots place) size
 
 -- where the actor stands after a step is placed
-pub after_is_placed : (limit : ℕ) (actor : Actor) (command : Command) (next : Next) → slice_get actor.program actor.ended ≡ Some command → StaysWithin limit command next → IsPlaced limit (actor_after actor next)
+pub after_is_placed : (limit : ℕ) (actor : Actor) (command : Command) (next : Next)
+    → slice_get actor.program actor.ended ≡ Some command → StaysWithin limit command next
+    → IsPlaced limit (actor_after actor next)
 after_is_placed limit actor command (Goes phase) is stays = subst (λ o. IfSome o (λ c. IsWithin limit c phase)) (sym is) stays
 after_is_placed limit actor command (Ends answer) is stays = placed_at_load limit (slice_get actor.program (actor.ended + 1))
 
 -- what holds of each actor holds of one that is there
-pub actor_at : (limit : ℕ) (actors : List Actor) (who : ℕ) (actor : Actor) → All (λ a. IsPlaced limit a) actors → slice_get actors who ≡ Some actor → IsPlaced limit actor
+pub actor_at : (limit : ℕ) (actors : List Actor) (who : ℕ) (actor : Actor) → All (λ a. IsPlaced limit a) actors
+    → slice_get actors who ≡ Some actor → IsPlaced limit actor
 actor_at limit actors who actor all is =
     subst (IsPlaced limit) (get_or_from_slice_get actors who actor actor is) (All-get_or (λ a. IsPlaced limit a) actors who actor (slice_get_within actors who actor is) all)
 
 -- a configuration within the limit stays so where an actor takes a step
-pub step_to_in_limit : (c : Configuration) (who : ℕ) (actor : Actor) (command : Command) (outcome : Outcome) → IsInLimit c → slice_get actor.program actor.ended ≡ Some command → Stays c.limit command outcome → IsInLimit (with_actor c outcome.storage who (actor_after actor outcome.next))
+pub step_to_in_limit : (c : Configuration) (who : ℕ) (actor : Actor) (command : Command) (outcome : Outcome)
+    → IsInLimit c → slice_get actor.program actor.ended ≡ Some command → Stays c.limit command outcome
+    → IsInLimit (with_actor c outcome.storage who (actor_after actor outcome.next))
 step_to_in_limit c who actor command outcome in_limit is stays = (
   in_limit.0,
   stays.size,
@@ -217,12 +237,16 @@ step_to_in_limit c who actor command outcome in_limit is stays = (
 )
 
 -- the step of an actor that is there, with a call under way or to begin
-pub step_is : (c : Configuration) (who : ℕ) (memory : Bool) (actor : Actor) (command : Command) → slice_get c.actors who ≡ Some actor → slice_get actor.program actor.ended ≡ Some command → step_of c who memory ≡ step_to c who actor command (outcome_of c.limit c.storage who command memory actor.phase)
+pub step_is : (c : Configuration) (who : ℕ) (memory : Bool) (actor : Actor) (command : Command)
+    → slice_get c.actors who ≡ Some actor → slice_get actor.program actor.ended ≡ Some command
+    → step_of c who memory ≡ step_to c who actor command (outcome_of c.limit c.storage who command memory actor.phase)
 step_is c who memory actor command there is =
     ap (step_as c who memory) there ∙ ap (step_in c who memory actor) is
 
 -- the step of an actor with nothing left
-pub step_is_none : (c : Configuration) (who : ℕ) (memory : Bool) (actor : Actor) → slice_get c.actors who ≡ Some actor → slice_get actor.program actor.ended ≡ None → step_of c who memory ≡ no_step c
+pub step_is_none : (c : Configuration) (who : ℕ) (memory : Bool) (actor : Actor)
+    → slice_get c.actors who ≡ Some actor → slice_get actor.program actor.ended ≡ None
+    → step_of c who memory ≡ no_step c
 step_is_none c who memory actor there is = ap (step_as c who memory) there ∙ ap (step_in c who memory actor) is
 
 -- a step stays within the limit
@@ -244,7 +268,9 @@ step_in_limit c who memory in_limit =
     refl
 
 -- so is what a step that succeeded, or changed nothing, leaves
-pub left_in_limit : {E : Type 0} (r : Result Stepped E) (c new : Configuration) (who : ℕ) (memory : Bool) → IsInLimit c → new.limit ≡ c.limit → IfOk r (λ stepped. Gives (step_of c who memory) new stepped) → OnErr r ((new.storage ≡ c.storage) × (new.actors ≡ c.actors)) → IsInLimit new
+pub left_in_limit : {E : Type 0} (r : Result Stepped E) (c new : Configuration) (who : ℕ) (memory : Bool)
+    → IsInLimit c → new.limit ≡ c.limit → IfOk r (λ stepped. IsStepped (step_of c who memory) new stepped)
+    → OnErr r ((new.storage ≡ c.storage) × (new.actors ≡ c.actors)) → IsInLimit new
 left_in_limit (Ok stepped) c new who memory in_limit limit gives kept =
     subst IsInLimit (sym gives.0) (step_in_limit c who memory in_limit)
 left_in_limit (Err e) c new who memory in_limit limit gives kept = (
@@ -254,7 +280,9 @@ left_in_limit (Err e) c new who memory in_limit limit gives kept = (
 )
 
 -- so is a new machine
-pub new_in_limit : (limit : ℕ) (m : Storage) (actors : List Actor) (programs : List (List Command)) → IsLimit limit → m ≡ (first_configuration limit programs).storage → actors ≡ (first_configuration limit programs).actors → IsInLimit (record { limit = limit; storage = m; actors = actors })
+pub new_in_limit : (limit : ℕ) (m : Storage) (actors : List Actor) (programs : List (List Command)) → IsLimit limit
+    → m ≡ (first_configuration limit programs).storage → actors ≡ (first_configuration limit programs).actors
+    → IsInLimit (record { limit = limit; storage = m; actors = actors })
 new_in_limit limit m actors programs is_limit shared_is actors_are = (
   is_limit,
   (let same : m.size ≡ 0 = ap (λ (x : Storage). x.size) shared_is in omega arith),

@@ -36,11 +36,13 @@ use Rattle.step_core.proofs.atomic_steps.Record.Settled.{Asks}
 use Rattle.step_core.proofs.atomic_steps.Record.Rows.{StageOf, IsRaise}
 
 -- what tiles from a start, behind what tiles the places before
-tile_behind : (start mid end : ℕ) (xs ys : List OwnedRun) → Tile start xs mid → Tile start (xs ++ ys) end → Tile mid ys end
+tile_behind : (start mid end : ℕ) (xs ys : List OwnedRun) → Tile start xs mid → Tile start (xs ++ ys) end
+    → Tile mid ys end
 tile_behind start mid end [] ys first whole = subst (λ s. Tile s ys end) first whole
 tile_behind start mid end (x ∷ xs) ys (begins, others) (_, whole) = tile_behind (start + x.n) mid end xs ys others whole
 
-pub every_play_moves_at_claims : (limit : ℕ) (programs : List (List Command)) (items : List Item) → IsLimit limit → MovesAtClaims (play_of limit programs items)
+pub every_play_moves_at_claims : (limit : ℕ) (programs : List (List Command)) (items : List Item) → IsLimit limit
+    → MovesAtClaims (play_of limit programs items)
 every_play_moves_at_claims limit programs items is_limit item =
     let opens = opening_in_limit limit programs is_limit in
     let p = play_of limit programs items in
@@ -58,7 +60,8 @@ StaysOrClaims m who command o =
     (o.storage.size ≡ m.size)
     ⊎ ((claim : Event) × (claim_of who command ≡ Some claim) × (o.event ≡ Some (claim, replies.Run m.size (o.storage.size - m.size))))
 
-growth_stays : (limit : ℕ) (m : Storage) (who n : ℕ) (command : Command) → StaysOrClaims m who command (load_growth limit m who n)
+growth_stays : (limit : ℕ) (m : Storage) (who n : ℕ) (command : Command)
+    → StaysOrClaims m who command (load_growth limit m who n)
 growth_stays limit m who n command =
     elim (n == 0) as (λ b. StaysOrClaims m who command (if b then ends m (events.Claim who 0) (replies.Run m.size 0) (answers.Run m.size 0) else if nat_le (m.size + n) limit then goes_on m (Scout m.size n (segment_of m.size)) else ends m (events.RefusedFull who n) (replies.Full m.size) (answers.Full m.size))) [
       | true ↦ inl refl
@@ -67,7 +70,8 @@ growth_stays limit m who n command =
           [ true ↦ inl refl | false ↦ inl refl ]
     ]
 
-at_least_stays : (limit : ℕ) (m : Storage) (who to : ℕ) (command : Command) → StaysOrClaims m who command (load_at_least limit m who to)
+at_least_stays : (limit : ℕ) (m : Storage) (who to : ℕ) (command : Command)
+    → StaysOrClaims m who command (load_at_least limit m who to)
 at_least_stays limit m who to command =
     elim (nat_le to m.size) as (λ b. StaysOrClaims m who command (if b then ends m (events.Raise who to) (replies.Enough m.size) (answers.Enough m.size) else if nat_le to limit then goes_on m (Scout m.size (to - m.size) (segment_of m.size)) else ends m (events.RefusedFull who (to - m.size)) (replies.Full m.size) (answers.Full m.size))) [
       | true ↦ inl refl
@@ -81,7 +85,8 @@ read_stays m who place command =
     elim (nat_lt place m.size) as (λ b. StaysOrClaims m who command (if b then goes_on m (Look place) else ends m (events.Look who place) (replies.OutOfRange m.size) (answers.OutOfRange m.size)))
     [ true ↦ inl refl | false ↦ inl refl ]
 
-load_stays : (limit : ℕ) (m : Storage) (who : ℕ) (command : Command) → StaysOrClaims m who command (load limit m who command)
+load_stays : (limit : ℕ) (m : Storage) (who : ℕ) (command : Command)
+    → StaysOrClaims m who command (load limit m who command)
 load_stays limit m who (commands.Push value) = growth_stays limit m who 1 (commands.Push value)
 load_stays limit m who (commands.Grow n value) = growth_stays limit m who n (commands.Grow n value)
 load_stays limit m who (commands.AtLeast to value) = at_least_stays limit m who to (commands.AtLeast to value)
@@ -90,7 +95,8 @@ load_stays limit m who (commands.Read place) = read_stays m who place (commands.
 load_stays limit m who commands.Size = inl refl
 
 -- the claim of a growth that exchanges is by as many places as it asks for
-claim_by : (who : ℕ) (command : Command) (n : ℕ) → Asks command n → Exchanges command → claim_of who command ≡ Some (events.Claim who n)
+claim_by : (who : ℕ) (command : Command) (n : ℕ) → Asks command n → Exchanges command
+    → claim_of who command ≡ Some (events.Claim who n)
 claim_by who (commands.Push value) n asks exchanges = ap (λ k. Some (events.Claim who k)) (sym asks)
 claim_by who (commands.Grow m value) n asks exchanges = ap (λ k. Some (events.Claim who k)) (sym asks)
 claim_by who (commands.AtLeast to value) n asks exchanges = absurd exchanges
@@ -98,7 +104,8 @@ claim_by who (commands.Fail m value at) n asks exchanges = ap (λ k. Some (event
 claim_by who (commands.Read place) n asks exchanges = absurd asks
 claim_by who commands.Size n asks exchanges = absurd asks
 
-exchange_claims : (limit : ℕ) (m : Storage) (who : ℕ) (command : Command) (from n : ℕ) → Asks command n → Exchanges command → StaysOrClaims m who command (exchange limit m who from n)
+exchange_claims : (limit : ℕ) (m : Storage) (who : ℕ) (command : Command) (from n : ℕ) → Asks command n
+    → Exchanges command → StaysOrClaims m who command (exchange limit m who from n)
 exchange_claims limit m who command from n asks exchanges =
     elim (m.size == from) as (λ b. (m.size == from) ≡ b → StaysOrClaims m who command (if b then record { storage = with_size m (from + n); event = Some (events.Claim who n, replies.Run from n); next = Goes (Begin from n from) } else if nat_le (m.size + n) limit then goes_on m (Scout m.size n (segment_of m.size)) else ends m (events.RefusedFull who n) (replies.Full m.size) (answers.Full m.size))) [
       | true ↦ (λ test.
@@ -111,13 +118,15 @@ exchange_claims limit m who command from n asks exchanges =
     ]
     refl
 
-raise_claims : (m : Storage) (who : ℕ) (command : Command) (to : ℕ) → claim_of who command ≡ Some (events.Raise who to) → StaysOrClaims m who command (raise m who to)
+raise_claims : (m : Storage) (who : ℕ) (command : Command) (to : ℕ)
+    → claim_of who command ≡ Some (events.Raise who to) → StaysOrClaims m who command (raise m who to)
 raise_claims m who command to own =
     elim (nat_le to m.size) as (λ b. StaysOrClaims m who command (if b then ends m (events.Raise who to) (replies.Enough m.size) (answers.Enough m.size) else record { storage = with_size m to; event = Some (events.Raise who to, replies.Run m.size (to - m.size)); next = Goes (Begin m.size (to - m.size) m.size) }))
     [ true ↦ inl refl | false ↦ inr (events.Raise who to, own, refl) ]
 
 -- only a growth to at least a size raises
-raise_own : (who : ℕ) (command : Command) (to : ℕ) → IsRaise command to → claim_of who command ≡ Some (events.Raise who to)
+raise_own : (who : ℕ) (command : Command) (to : ℕ) → IsRaise command to
+    → claim_of who command ≡ Some (events.Raise who to)
 raise_own who (commands.Push value) to is = absurd is
 raise_own who (commands.Grow n value) to is = absurd is
 raise_own who (commands.AtLeast size value) to is = ap (λ k. Some (events.Raise who k)) is
@@ -125,17 +134,22 @@ raise_own who (commands.Fail n value at) to is = absurd is
 raise_own who (commands.Read place) to is = absurd is
 raise_own who commands.Size to is = absurd is
 
-begin_stays : (m : Storage) (who : ℕ) (command : Command) (from n place : ℕ) (slot : Option Slot) → StaysOrClaims m who command (begin_at m who command from n place slot)
+begin_stays : (m : Storage) (who : ℕ) (command : Command) (from n place : ℕ) (slot : Option Slot)
+    → StaysOrClaims m who command (begin_at m who command from n place slot)
 begin_stays m who command from n place None = inl refl
 begin_stays m who command from n place (Some slot) = inl refl
 
-look_stays : (m : Storage) (who place : ℕ) (command : Command) (slot : Option Slot) → StaysOrClaims m who command (look_at m who place slot)
+look_stays : (m : Storage) (who place : ℕ) (command : Command) (slot : Option Slot)
+    → StaysOrClaims m who command (look_at m who place slot)
 look_stays m who place command None = inl refl
 look_stays m who place command (Some (Busy owner)) = inl refl
 look_stays m who place command (Some (Filled value)) = inl refl
 look_stays m who place command (Some Broken) = inl refl
 
-row_claims : (limit : ℕ) (m : Storage) (who : ℕ) (command : Command) (memory : Bool) (phase : Phase) (now : List (Event × Reply)) → IsWithin limit command phase → StageOf who command phase now → StaysOrClaims m who command (outcome_of limit m who command memory phase)
+row_claims : (limit : ℕ) (m : Storage) (who : ℕ) (command : Command) (memory : Bool) (phase : Phase)
+    (now : List (Event × Reply))
+    → IsWithin limit command phase → StageOf who command phase now
+    → StaysOrClaims m who command (outcome_of limit m who command memory phase)
 row_claims limit m who command memory Load now within stage = load_stays limit m who command
 row_claims limit m who command memory (Scout from n segment) now within stage =
     elim (set.contains m.installed segment) as (λ b. StaysOrClaims m who command (if b then goes_on m (after_segment command from n segment) else goes_on m (Put from n segment)))
@@ -150,7 +164,8 @@ row_claims limit m who command memory (Spoil from n place) now within stage = in
 row_claims limit m who command memory (Look place) now within stage = look_stays m who place command (finite.get m.slots place)
 
 -- what is known of every actor of a play of sound programs
-stand_in : (limit : ℕ) (programs : List (List Command)) (items : List Item) → IsLimit limit → AreSound programs → AllStand programs (play_of limit programs items).at.actors (play_of limit programs items).events (play_of limit programs items).ended
+stand_in : (limit : ℕ) (programs : List (List Command)) (items : List Item) → IsLimit limit → AreSound programs
+    → AllStand programs (play_of limit programs items).at.actors (play_of limit programs items).events (play_of limit programs items).ended
 stand_in limit programs items is_limit sound =
     items_stand programs (empty_play limit programs) items sound (opening_in_limit limit programs is_limit) (opening_stands limit programs)
 
@@ -160,7 +175,11 @@ record UnderWay (limit who : ℕ) (actor : Actor) (command : Command) : Type 0 w
   pub stage : StageOf who command actor.phase now
   pub within : IsWithin limit command actor.phase
 
-under_way : (limit : ℕ) (programs : List (List Command)) (items : List Item) → IsLimit limit → AreSound programs → (who : ℕ) (actor : Actor) (command : Command) → slice_get (play_of limit programs items).at.actors who ≡ Some actor → slice_get actor.program actor.ended ≡ Some command → UnderWay (play_of limit programs items).at.limit who actor command
+under_way : (limit : ℕ) (programs : List (List Command)) (items : List Item) → IsLimit limit → AreSound programs
+    → (who : ℕ) (actor : Actor) (command : Command)
+    → slice_get (play_of limit programs items).at.actors who ≡ Some actor
+    → slice_get actor.program actor.ended ≡ Some command
+    → UnderWay (play_of limit programs items).at.limit who actor command
 under_way limit programs items is_limit sound who actor command there is =
     let p = play_of limit programs items in
     let in_limit : IsInLimit p.at = items_in_limit (empty_play limit programs) items (opening_in_limit limit programs is_limit) in
@@ -173,7 +192,8 @@ under_way limit programs items is_limit sound who actor command there is =
       within = subst (λ o. IfSome o (λ k. IsWithin p.at.limit k actor.phase)) is (actor_at p.at.limit p.at.actors who actor in_limit.2 there);
     }
 
-pub every_move_is_own : (limit : ℕ) (programs : List (List Command)) (items : List Item) → IsLimit limit → AreSound programs → MovesAreOwnClaims (play_of limit programs items)
+pub every_move_is_own : (limit : ℕ) (programs : List (List Command)) (items : List Item) → IsLimit limit
+    → AreSound programs → MovesAreOwnClaims (play_of limit programs items)
 every_move_is_own limit programs items is_limit sound item =
     let p = play_of limit programs items in
     let who = item.actor in
@@ -195,7 +215,8 @@ every_move_is_own limit programs items is_limit sound item =
     refl
 
 -- a growth of nothing is nowhere but at Load
-nothing_is_at_load : (limit who value : ℕ) (phase : Phase) (now : List (Event × Reply)) → IsWithin limit (commands.Grow 0 value) phase → StageOf who (commands.Grow 0 value) phase now → phase ≡ Load
+nothing_is_at_load : (limit who value : ℕ) (phase : Phase) (now : List (Event × Reply))
+    → IsWithin limit (commands.Grow 0 value) phase → StageOf who (commands.Grow 0 value) phase now → phase ≡ Load
 nothing_is_at_load limit who value Load now within stage = refl
 nothing_is_at_load limit who value (Scout from n segment) now (some, room, number, wants) (none, asks) = absurd (let zero_is : n ≡ 0 = asks in omega arith)
 nothing_is_at_load limit who value (Put from n segment) now (some, room, number, wants) (none, asks) = absurd (let zero_is : n ≡ 0 = asks in omega arith)
@@ -206,7 +227,8 @@ nothing_is_at_load limit who value (Fill from n place) now (low, high, room) (so
 nothing_is_at_load limit who value (Spoil from n place) now (low, high, room) (so_far, asks, refused) = absurd (let zero_is : n ≡ 0 = asks in omega arith)
 nothing_is_at_load limit who value (Look place) now within (none, is) = absurd is
 
-pub every_nothing_is_at_load : (limit : ℕ) (programs : List (List Command)) (items : List Item) → IsLimit limit → AreSound programs → NothingIsClaimedAtLoad (play_of limit programs items)
+pub every_nothing_is_at_load : (limit : ℕ) (programs : List (List Command)) (items : List Item) → IsLimit limit
+    → AreSound programs → NothingIsClaimedAtLoad (play_of limit programs items)
 every_nothing_is_at_load limit programs items is_limit sound item actor value there is =
     let p = play_of limit programs items in
     let way = under_way limit programs items is_limit sound item.actor actor (commands.Grow 0 value) there is in

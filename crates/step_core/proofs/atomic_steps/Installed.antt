@@ -24,7 +24,7 @@ use Rattle.step_core.specs.declared.machine.phase.Next.TheVariants.{Goes, Ends}
 use Rattle.step_core.specs.declared.machine.phase.Actor.{Actor}
 use Rattle.step_core.specs.declared.machine.Stepped.{Stepped}
 use Rattle.step_core.specs.machine.Storage.{Storage}
-use Rattle.step_core.specs.machine.Step.{actor_after, Configuration, Outcome, first_configuration, load_growth, load_at_least, load_read, load, claiming, after_segment, exchange, raise, begin_at, is_refused, after_place, answer_of_run, goes_on, ends, look_at, outcome_of, with_actor, with_size, with_slot, with_segment, step_in, step_as, step_of, Gives}
+use Rattle.step_core.specs.machine.Step.{actor_after, Configuration, Outcome, first_configuration, load_growth, load_at_least, load_read, load, claiming, after_segment, exchange, raise, begin_at, is_refused, after_place, answer_of_run, goes_on, ends, look_at, outcome_of, with_actor, with_size, with_slot, with_segment, step_in, step_as, step_of, IsStepped}
 use Rattle.step_core.specs.machine.Bounds.{Wants, IsWithin, IsInLimit}
 use Rattle.step_core.specs.machine.Installed.{IsReady, HasPassed, HasSegments}
 use Rattle.step_core.proofs.atomic_steps.Bounds.{actor_at}
@@ -42,7 +42,8 @@ pub record Passes (m : Storage) (outcome : Outcome) : Type 0 where
   pub next : PassesOn outcome.storage outcome.next
 
 -- what others have passed stays
-passed_stays : (m m' : Storage) (phase : Phase) → ((q : ℕ) → IsReady m q → IsReady m' q) → HasPassed m phase → HasPassed m' phase
+passed_stays : (m m' : Storage) (phase : Phase) → ((q : ℕ) → IsReady m q → IsReady m' q) → HasPassed m phase
+    → HasPassed m' phase
 passed_stays m m' Load stays passed = tt
 passed_stays m m' (Scout from n k) stays passed = λ q before inside. stays q (passed q before inside)
 passed_stays m m' (Put from n k) stays passed = λ q before inside. stays q (passed q before inside)
@@ -116,13 +117,15 @@ module _ (m : Storage) (ready : (q : ℕ) → q < m.size → IsReady m q) where
       ]
       refl
 
-  begin_passes : (actor from n place : ℕ) (command : Command) (slot : Option Slot) → HasPassed m (Begin from n place) → Passes m (begin_at m actor command from n place slot)
+  begin_passes : (actor from n place : ℕ) (command : Command) (slot : Option Slot)
+      → HasPassed m (Begin from n place) → Passes m (begin_at m actor command from n place slot)
   begin_passes actor from n place command None passed =
       elim (is_refused command from place) as (λ b. Passes m (goes_on (with_slot m place (Busy actor)) (if b then Spoil from n place else Fill from n place)))
       [ true ↦ record { stays = λ q r. r; ready = ready; next = passed } | false ↦ record { stays = λ q r. r; ready = ready; next = passed } ]
   begin_passes actor from n place command (Some slot) passed = goes_passes (Begin from n place) passed
 
-  after_place_passes : (command : Command) (from n place : ℕ) → ((q : ℕ) → q < from + n → IsReady m q) → PassesOn m (after_place command from n place)
+  after_place_passes : (command : Command) (from n place : ℕ) → ((q : ℕ) → q < from + n → IsReady m q)
+      → PassesOn m (after_place command from n place)
   after_place_passes command from n place passed =
       elim (nat_lt (place + 1) (from + n)) as (λ b. PassesOn m (if b then Goes (Begin from n (place + 1)) else Ends (answer_of_run command from n)))
       [ true ↦ passed | false ↦ tt ]
@@ -134,7 +137,8 @@ module _ (m : Storage) (ready : (q : ℕ) → q < m.size → IsReady m q) where
   look_passes actor place (Some Broken) = ends_passes _ _ _
 
 -- what claims wanted places has passed their segments
-claiming_passed : (m : Storage) (command : Command) (from n : ℕ) → Wants command from n → ((q : ℕ) → q < from + n → IsReady m q) → HasPassed m (claiming command from n)
+claiming_passed : (m : Storage) (command : Command) (from n : ℕ) → Wants command from n
+    → ((q : ℕ) → q < from + n → IsReady m q) → HasPassed m (claiming command from n)
 claiming_passed m (commands.Push value) from n wants ready = ready
 claiming_passed m (commands.Grow k value) from n wants ready = ready
 claiming_passed m (commands.AtLeast to value) from n wants ready = λ q below. ready q (let same : from + n ≡ to = wants in omega arith)
@@ -143,7 +147,8 @@ claiming_passed m (commands.Read place) from n wants ready = ready
 claiming_passed m commands.Size from n wants ready = ready
 
 -- so has what comes after an installed segment
-segment_passed : (m : Storage) (command : Command) (from n k : ℕ) → Wants command from n → ((q : ℕ) → q < segment_end k → q < from + n → IsReady m q) → HasPassed m (after_segment command from n k)
+segment_passed : (m : Storage) (command : Command) (from n k : ℕ) → Wants command from n
+    → ((q : ℕ) → q < segment_end k → q < from + n → IsReady m q) → HasPassed m (after_segment command from n k)
 segment_passed m command from n k wants ready =
     elim (nat_lt (segment_end k) (from + n)) as (λ b. nat_lt (segment_end k) (from + n) ≡ b → HasPassed m (if b then Scout from n (k + 1) else claiming command from n)) [
       | true ↦ (λ _. λ q before inside. ready q (subst (λ e. q < e) (segment_start-next k) before) inside)
@@ -153,7 +158,9 @@ segment_passed m command from n k wants ready =
     ]
     refl
 
-outcome_passes : (limit : ℕ) (m : Storage) (actor : ℕ) (command : Command) (memory : Bool) (phase : Phase) → ((q : ℕ) → q < m.size → IsReady m q) → IsWithin limit command phase → HasPassed m phase → Passes m (outcome_of limit m actor command memory phase)
+outcome_passes : (limit : ℕ) (m : Storage) (actor : ℕ) (command : Command) (memory : Bool) (phase : Phase)
+    → ((q : ℕ) → q < m.size → IsReady m q) → IsWithin limit command phase → HasPassed m phase
+    → Passes m (outcome_of limit m actor command memory phase)
 outcome_passes limit m actor command memory Load ready within passed = load_passes m ready limit actor command
 outcome_passes limit m actor command memory (Scout from n k) ready (some, room, number, wants) passed =
     elim (set.contains m.installed k) as (λ b. set.contains m.installed k ≡ b → Passes m (if b then goes_on m (after_segment command from n k) else goes_on m (Put from n k))) [
@@ -186,15 +193,18 @@ first_has_segments limit programs = (
 )
 
 -- what an actor that is there has passed
-pub passed_at : (m : Storage) (actors : List Actor) (who : ℕ) (actor : Actor) → All (λ (a : Actor). HasPassed m a.phase) actors → slice_get actors who ≡ Some actor → HasPassed m actor.phase
+pub passed_at : (m : Storage) (actors : List Actor) (who : ℕ) (actor : Actor)
+    → All (λ (a : Actor). HasPassed m a.phase) actors → slice_get actors who ≡ Some actor → HasPassed m actor.phase
 passed_at m actors who actor all is =
     subst (λ (a : Actor). HasPassed m a.phase) (get_or_from_slice_get actors who actor actor is) (All-get_or (λ (a : Actor). HasPassed m a.phase) actors who actor (slice_get_within actors who actor is) all)
 
-after_has_passed : (m : Storage) (actor : Actor) (next : Next) → PassesOn m next → HasPassed m (actor_after actor next).phase
+after_has_passed : (m : Storage) (actor : Actor) (next : Next) → PassesOn m next
+    → HasPassed m (actor_after actor next).phase
 after_has_passed m actor (Goes phase) passed = passed
 after_has_passed m actor (Ends answer) passed = tt
 
-step_to_has_segments : (c : Configuration) (who : ℕ) (actor : Actor) (outcome : Outcome) → HasSegments c → Passes c.storage outcome → HasSegments (with_actor c outcome.storage who (actor_after actor outcome.next))
+step_to_has_segments : (c : Configuration) (who : ℕ) (actor : Actor) (outcome : Outcome) → HasSegments c
+    → Passes c.storage outcome → HasSegments (with_actor c outcome.storage who (actor_after actor outcome.next))
 step_to_has_segments c who actor outcome has passes = (
   passes.ready,
   All-set (λ (a : Actor). HasPassed outcome.storage a.phase) c.actors who (actor_after actor outcome.next) (after_has_passed outcome.storage actor outcome.next passes.next)
@@ -202,7 +212,8 @@ step_to_has_segments c who actor outcome has passes = (
 )
 
 -- a step keeps the segments
-pub step_has_segments : (c : Configuration) (who : ℕ) (memory : Bool) → IsInLimit c → HasSegments c → HasSegments (step_of c who memory).to
+pub step_has_segments : (c : Configuration) (who : ℕ) (memory : Bool) → IsInLimit c → HasSegments c
+    → HasSegments (step_of c who memory).to
 step_has_segments c who memory in_limit has =
     elim (slice_get c.actors who) as (λ o. slice_get c.actors who ≡ o → HasSegments (step_as c who memory o).to) [
       | None ↦ (λ _. has)
@@ -220,7 +231,9 @@ step_has_segments c who memory in_limit has =
     refl
 
 -- so does what a step that succeeded, or changed nothing, leaves
-pub left_has_segments : {E : Type 0} (r : Result Stepped E) (c new : Configuration) (who : ℕ) (memory : Bool) → IsInLimit c → HasSegments c → IfOk r (λ stepped. Gives (step_of c who memory) new stepped) → OnErr r ((new.storage ≡ c.storage) × (new.actors ≡ c.actors)) → HasSegments new
+pub left_has_segments : {E : Type 0} (r : Result Stepped E) (c new : Configuration) (who : ℕ) (memory : Bool)
+    → IsInLimit c → HasSegments c → IfOk r (λ stepped. IsStepped (step_of c who memory) new stepped)
+    → OnErr r ((new.storage ≡ c.storage) × (new.actors ≡ c.actors)) → HasSegments new
 left_has_segments (Ok stepped) c new who memory in_limit has gives kept =
     subst HasSegments (sym gives.0) (step_has_segments c who memory in_limit has)
 left_has_segments (Err e) c new who memory in_limit has gives kept = (
@@ -229,7 +242,9 @@ left_has_segments (Err e) c new who memory in_limit has gives kept = (
 )
 
 -- so does a new machine
-pub new_has_segments : (limit : ℕ) (m : Storage) (actors : List Actor) (programs : List (List Command)) → m ≡ (first_configuration limit programs).storage → actors ≡ (first_configuration limit programs).actors → HasSegments (record { limit = limit; storage = m; actors = actors })
+pub new_has_segments : (limit : ℕ) (m : Storage) (actors : List Actor) (programs : List (List Command))
+    → m ≡ (first_configuration limit programs).storage → actors ≡ (first_configuration limit programs).actors
+    → HasSegments (record { limit = limit; storage = m; actors = actors })
 new_has_segments limit m actors programs storage_is actors_are = (
   (λ q inside. absurd (let same : m.size ≡ 0 = ap (λ (x : Storage). x.size) storage_is in omega arith)),
   subst (λ (x : Storage). All (λ (a : Actor). HasPassed x a.phase) actors) (sym storage_is) (subst (All (λ (a : Actor). HasPassed (first_configuration limit programs).storage a.phase)) (sym actors_are) (first_has_segments limit programs).1),

@@ -37,7 +37,8 @@ StepTold limit c events c' event =
 nothing_told : (limit : ℕ) (c : Configuration) (events : List (Event × Reply)) → StepTold limit c events c None
 nothing_told limit c events = ap (λ es. seen limit c.storage (runs_of es)) (append-nil events)
 
-step_told : (c : Configuration) (events : List (Event × Reply)) (who : ℕ) (memory : Bool) → IsInLimit c → HoldsAt c events → StepTold c.limit c events (step_of c who memory).to (step_of c who memory).event
+step_told : (c : Configuration) (events : List (Event × Reply)) (who : ℕ) (memory : Bool) → IsInLimit c
+    → HoldsAt c events → StepTold c.limit c events (step_of c who memory).to (step_of c who memory).event
 step_told c events who memory in_limit holds =
     elim (slice_get c.actors who) as (λ o. slice_get c.actors who ≡ o → StepTold c.limit c events (step_as c who memory o).to (step_as c who memory o).event) [
       | None ↦ (λ _. nothing_told c.limit c events)
@@ -78,7 +79,8 @@ record Further (limit : ℕ) (p q : Play) : Type 0 where
   pub events : q.events ≡ p.events ++ more
   pub told : IsHistory (list_seen limit p) more (list_seen limit q)
 
-items_told : (limit : ℕ) (p : Play) (items : List Item) → p.at.limit ≡ limit → IsInLimit p.at → HoldsAt p.at p.events → Further limit p (after_items p items)
+items_told : (limit : ℕ) (p : Play) (items : List Item) → p.at.limit ≡ limit → IsInLimit p.at
+    → HoldsAt p.at p.events → Further limit p (after_items p items)
 items_told limit p [] is in_limit holds = record { more = []; events = sym (append-nil p.events); told = refl }
 items_told limit p (item ∷ items) is in_limit holds =
     let step = step_of p.at item.actor item.memory in

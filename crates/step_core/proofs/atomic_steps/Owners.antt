@@ -28,22 +28,28 @@ AreOwners owner place [] = Unit {0}
 AreOwners owner place (o ∷ os) = (owner place ≡ Some o) × AreOwners owner (place + 1) os
 
 -- cells by their owners
-by_owners : (owner : ℕ → Option ℕ) (slot : ℕ → Option Slot) (place : ℕ) (owners : List ℕ) → AreOwners owner place owners → cells_from slot place owners ≡ map (λ p. cell_of (owner p) (slot p)) (range_with_len place (length owners))
+by_owners : (owner : ℕ → Option ℕ) (slot : ℕ → Option Slot) (place : ℕ) (owners : List ℕ)
+    → AreOwners owner place owners
+    → cells_from slot place owners ≡ map (λ p. cell_of (owner p) (slot p)) (range_with_len place (length owners))
 by_owners owner slot place [] are = refl
 by_owners owner slot place (o ∷ os) (is, are) = rw (is, by_owners owner slot (place + 1) os are) refl
 
 -- an owner that is the same from a place on
-same_owners : (owner other : ℕ → Option ℕ) (place : ℕ) (owners : List ℕ) → ((p : ℕ) → place ≤ p → owner p ≡ other p) → AreOwners owner place owners → AreOwners other place owners
+same_owners : (owner other : ℕ → Option ℕ) (place : ℕ) (owners : List ℕ) → ((p : ℕ) → place ≤ p → owner p ≡ other p)
+    → AreOwners owner place owners → AreOwners other place owners
 same_owners owner other place [] same are = tt
 same_owners owner other place (o ∷ os) same (is, are) = (sym (same place (omega arith)) ∙ is, same_owners owner other (place + 1) os (λ p low. same p (omega arith)) are)
 
 -- one owner of n places, and then others
-one_owner : (owner : ℕ → Option ℕ) (place n who : ℕ) (owners : List ℕ) → ((p : ℕ) → place ≤ p → p < place + n → owner p ≡ Some who) → AreOwners owner (place + n) owners → AreOwners owner place (replicate n who ++ owners)
+one_owner : (owner : ℕ → Option ℕ) (place n who : ℕ) (owners : List ℕ)
+    → ((p : ℕ) → place ≤ p → p < place + n → owner p ≡ Some who) → AreOwners owner (place + n) owners
+    → AreOwners owner place (replicate n who ++ owners)
 one_owner owner place zero who owners ours are = subst (λ p. AreOwners owner p owners) (omega arith) are
 one_owner owner place (suc n) who owners ours are = (ours place (omega arith) (omega arith), one_owner owner (place + 1) n who owners (λ p low high. ours p (omega arith) (omega arith)) (subst (λ p. AreOwners owner p owners) (omega arith) are))
 
 -- the owners of runs that tile
-tile_owners : (start end : ℕ) (runs : List OwnedRun) → Tile start runs end → AreOwners (owner_of runs) start (owners_of runs)
+tile_owners : (start end : ℕ) (runs : List OwnedRun) → Tile start runs end
+    → AreOwners (owner_of runs) start (owners_of runs)
 tile_owners start end [] tile = tt
 tile_owners start end (run ∷ runs) (begins, others) =
     one_owner (owner_of (run ∷ runs)) start run.n run.owner (owners_of runs)
@@ -67,10 +73,14 @@ shown p tile =
     ap (λ cells. record { events = p.events; ended = p.ended; cells = cells }) (are ∙ ap (λ n. map (λ place. cell_of (owner_of (runs_of p.events) place) (get p.at.storage.slots place)) (range_with_len 0 n)) count)
 
 -- a play from nothing claimed
-pub from_opening : (limit : ℕ) (programs : List (List Command)) (items : List Item) (p q : Play) → p ≡ after_items q items → q ≡ empty_play limit programs → p ≡ play_of limit programs items
+pub from_opening : (limit : ℕ) (programs : List (List Command)) (items : List Item) (p q : Play)
+    → p ≡ after_items q items → q ≡ empty_play limit programs → p ≡ play_of limit programs items
 from_opening limit programs items p q is opens = is ∙ ap (λ o. after_items o items) opens
 
-pub play_shown : {E : Type 0} (limit : ℕ) (programs : List (List Command)) (items : List Item) (p : Play) (result : Result Played E) → IsLimit limit → p ≡ play_of limit programs items → IfOk result (λ played. played ≡ played_by_owners p) → IfOk result (λ played. played ≡ played_of (play_of limit programs items))
+pub play_shown : {E : Type 0} (limit : ℕ) (programs : List (List Command)) (items : List Item) (p : Play)
+    (result : Result Played E)
+    → IsLimit limit → p ≡ play_of limit programs items → IfOk result (λ played. played ≡ played_by_owners p)
+    → IfOk result (λ played. played ≡ played_of (play_of limit programs items))
 play_shown limit programs items p (Ok played) is_limit plays is =
     let tiled = every_play_is_tiled limit programs items is_limit in
     is ∙ ap played_by_owners plays ∙ shown (play_of limit programs items) tiled.runs_tile
@@ -79,11 +89,13 @@ play_shown limit programs items p (Err e) is_limit plays is = tt
 -- ---- Whose calls end
 
 -- a call that ends is its actor's
-ended_is_its : (count who : ℕ) (actor : Actor) (command : Command) (next : Next) → who < count → HaveActors count (option_to_list (ended_by who actor command next))
+ended_is_its : (count who : ℕ) (actor : Actor) (command : Command) (next : Next) → who < count
+    → HaveActors count (option_to_list (ended_by who actor command next))
 ended_is_its count who actor command (Goes phase) has = All-nil _
 ended_is_its count who actor command (Ends answer) has = All-cons (λ (e : Ended). e.actor < count) (record { actor = who; number = actor.ended + 1; command = command; answer = answer }) [] has (All-nil _)
 
-step_actors : (count : ℕ) (c : Configuration) (who : ℕ) (memory : Bool) → who < count → HaveActors count (option_to_list (step_of c who memory).ended)
+step_actors : (count : ℕ) (c : Configuration) (who : ℕ) (memory : Bool) → who < count
+    → HaveActors count (option_to_list (step_of c who memory).ended)
 step_actors count c who memory has =
     elim (slice_get c.actors who) as (λ o. HaveActors count (option_to_list (step_as c who memory o).ended)) [
       | None ↦ All-nil _
@@ -94,13 +106,18 @@ step_actors count c who memory has =
           ]
     ]
 
-items_actors : (count : ℕ) (p : Play) (items : List Item) → All (λ item. item.actor < count) items → HaveActors count p.ended → HaveActors count (after_items p items).ended
+items_actors : (count : ℕ) (p : Play) (items : List Item) → All (λ item. item.actor < count) items
+    → HaveActors count p.ended → HaveActors count (after_items p items).ended
 items_actors count p [] have actors = actors
 items_actors count p (item ∷ items) have actors =
     items_actors count (with_step p (step_of p.at item.actor item.memory)) items (λ k d inside. have (suc k) d (omega arith))
     (All-append (λ (e : Ended). e.actor < count) p.ended (option_to_list (step_of p.at item.actor item.memory).ended) actors (step_actors count p.at item.actor item.memory (have 0 item (omega arith))))
 
-pub play_actors : {E : Type 0} (limit : ℕ) (programs : List (List Command)) (items : List Item) (p : Play) (result : Result Played E) → HavePrograms programs items → p ≡ play_of limit programs items → IfOk result (λ played. played ≡ played_by_owners p) → IfOk result (λ played. HaveActors (length programs) played.ended)
+pub play_actors : {E : Type 0} (limit : ℕ) (programs : List (List Command)) (items : List Item) (p : Play)
+    (result : Result Played E)
+    → HavePrograms programs items → p ≡ play_of limit programs items
+    → IfOk result (λ played. played ≡ played_by_owners p)
+    → IfOk result (λ played. HaveActors (length programs) played.ended)
 play_actors limit programs items p (Ok played) have plays is =
     subst (λ (r : Played). HaveActors (length programs) r.ended) (sym (is ∙ ap played_by_owners plays)) (items_actors (length programs) (empty_play limit programs) items have (All-nil _))
 play_actors limit programs items p (Err e) have plays is = tt

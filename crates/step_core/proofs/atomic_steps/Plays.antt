@@ -4,7 +4,8 @@ use Rattle.book_core.specs.declared.commands.Item.{Item}
 use Rattle.step_core.specs.machine.Step.{step_of}
 use Rattle.step_core.specs.machine.Play.{Play, empty_play, with_step, after_items, PlaysGoOnByAStep}
 
-after_items-append : (p : Play) (items more : List Item) → after_items p (items ++ more) ≡ after_items (after_items p items) more
+after_items-append : (p : Play) (items more : List Item)
+    → after_items p (items ++ more) ≡ after_items (after_items p items) more
 after_items-append p [] more = refl
 after_items-append p (item ∷ items) more = after_items-append (with_step p (step_of p.at item.actor item.memory)) items more
 

@@ -59,14 +59,16 @@ AllStand programs actors events ended = (who : ℕ) → Stands programs who (sli
 -- ---- One more event, and one more call
 
 -- an event of this actor goes behind its events
-events_own : (who : ℕ) (events : List (Event × Reply)) (event : Option (Event × Reply)) → IsOf who event → events_of who (events ++ option_to_list event) ≡ events_of who events ++ option_to_list event
+events_own : (who : ℕ) (events : List (Event × Reply)) (event : Option (Event × Reply)) → IsOf who event
+    → events_of who (events ++ option_to_list event) ≡ events_of who events ++ option_to_list event
 events_own who events None its = filter-append (λ e. actor_of e.0 == who) events []
 events_own who events (Some e) its =
     filter-append (λ e. actor_of e.0 == who) events (e ∷ [])
     ∙ ap (λ es. events_of who events ++ es) (rw (eq-eqb (actor_of e.0) who its) refl)
 
 -- to another's events it adds nothing
-events_other : (who other : ℕ) (events : List (Event × Reply)) (event : Option (Event × Reply)) → other ≢ who → IsOf who event → events_of other (events ++ option_to_list event) ≡ events_of other events
+events_other : (who other : ℕ) (events : List (Event × Reply)) (event : Option (Event × Reply)) → other ≢ who
+    → IsOf who event → events_of other (events ++ option_to_list event) ≡ events_of other events
 events_other who other events None apart its = ap (events_of other) (append-nil events)
 events_other who other events (Some e) apart its =
     let none : events_of other (e ∷ []) ≡ [] = rw (ne_eqb (actor_of e.0) other (λ same. apart (sym same ∙ its))) refl in
@@ -75,14 +77,16 @@ events_other who other events (Some e) apart its =
     ∙ append-nil (events_of other events)
 
 -- a call of this actor that ends goes behind its ended calls
-calls_own : (who : ℕ) (actor : Actor) (command : Command) (ended : List Ended) (next : Next) → calls_of who (ended ++ option_to_list (ended_by who actor command next)) ≡ calls_of who ended ++ option_to_list (ended_by who actor command next)
+calls_own : (who : ℕ) (actor : Actor) (command : Command) (ended : List Ended) (next : Next)
+    → calls_of who (ended ++ option_to_list (ended_by who actor command next)) ≡ calls_of who ended ++ option_to_list (ended_by who actor command next)
 calls_own who actor command ended (Goes phase) = filter-append (λ (e : Ended). e.actor == who) ended []
 calls_own who actor command ended (Ends answer) =
     filter-append (λ (e : Ended). e.actor == who) ended (option_to_list (ended_by who actor command (Ends answer)))
     ∙ ap (λ es. calls_of who ended ++ es) (rw (eq-eqb who who refl) refl)
 
 -- to another's calls it adds nothing
-calls_other : (who other : ℕ) (actor : Actor) (command : Command) (ended : List Ended) (next : Next) → other ≢ who → calls_of other (ended ++ option_to_list (ended_by who actor command next)) ≡ calls_of other ended
+calls_other : (who other : ℕ) (actor : Actor) (command : Command) (ended : List Ended) (next : Next) → other ≢ who
+    → calls_of other (ended ++ option_to_list (ended_by who actor command next)) ≡ calls_of other ended
 calls_other who other actor command ended (Goes phase) apart = ap (calls_of other) (append-nil ended)
 calls_other who other actor command ended (Ends answer) apart =
     let none : calls_of other (option_to_list (ended_by who actor command (Ends answer))) ≡ [] = rw (ne_eqb who other (λ same. apart (sym same))) refl in
@@ -91,7 +95,11 @@ calls_other who other actor command ended (Ends answer) apart =
     ∙ append-nil (calls_of other ended)
 
 -- the next call of the program goes behind the ended ones, with its record
-calls_more : (who : ℕ) (program : List Command) (number last : ℕ) (calls : List Ended) (es now : List (Event × Reply)) (command : Command) (answer : Answer) → AreCalls who program number calls es → number + length calls ≡ last → slice_get program last ≡ Some command → IsRecord who command now answer → AreCalls who program number (calls ++ record { actor = who; number = last + 1; command = command; answer = answer } ∷ []) (es ++ now)
+calls_more : (who : ℕ) (program : List Command) (number last : ℕ) (calls : List Ended)
+    (es now : List (Event × Reply)) (command : Command) (answer : Answer)
+    → AreCalls who program number calls es → number + length calls ≡ last → slice_get program last ≡ Some command
+    → IsRecord who command now answer
+    → AreCalls who program number (calls ++ record { actor = who; number = last + 1; command = command; answer = answer } ∷ []) (es ++ now)
 calls_more who program number last [] es now command answer are is_last there recorded =
     let same : last ≡ number = omega arith in (
       now,
@@ -121,7 +129,12 @@ load_stage who None = (refl, refl)
 load_stage who (Some command) = refl
 
 -- the actor that took the step
-standing_after : (programs : List (List Command)) (who : ℕ) (actor : Actor) (command : Command) (es added : List (Event × Reply)) (calls : List Ended) (next : Next) → (s : Standing programs who actor es calls) → slice_get actor.program actor.ended ≡ Some command → Told who command (s.now ++ added) next → Standing programs who (actor_after actor next) (es ++ added) (calls ++ option_to_list (ended_by who actor command next))
+standing_after : (programs : List (List Command)) (who : ℕ) (actor : Actor) (command : Command)
+    (es added : List (Event × Reply)) (calls : List Ended) (next : Next)
+    → (s : Standing programs who actor es calls) → slice_get actor.program actor.ended ≡ Some command
+    → Told who command (s.now ++ added) next
+    → Standing programs who (actor_after actor next) (es ++ added)
+    (calls ++ option_to_list (ended_by who actor command next))
 standing_after programs who actor command es added calls (Goes phase) s is told = record {
   program = s.program;
   done = s.done;
@@ -142,12 +155,21 @@ standing_after programs who actor command es added calls (Ends answer) s is told
 }
 
 -- each command of sound programs is sound
-command_is_sound : (programs : List (List Command)) (program : List Command) (who number : ℕ) (command : Command) → AreSound programs → slice_get programs who ≡ Some program → slice_get program number ≡ Some command → IsSound command
+command_is_sound : (programs : List (List Command)) (program : List Command) (who number : ℕ) (command : Command)
+    → AreSound programs → slice_get programs who ≡ Some program → slice_get program number ≡ Some command
+    → IsSound command
 command_is_sound programs program who number command sound there is =
     at_place IsSound program number command (at_place (λ p. All (λ c. IsSound c) p) programs who program sound there) is
 
 -- the actors after a step of one of them
-all_stand_after : (programs : List (List Command)) (c : Configuration) (events : List (Event × Reply)) (ended : List Ended) (who : ℕ) (actor : Actor) (command : Command) (outcome : Outcome) → AllStand programs c.actors events ended → slice_get c.actors who ≡ Some actor → slice_get actor.program actor.ended ≡ Some command → (s : Standing programs who actor (events_of who events) (calls_of who ended)) → Tells who command s.now outcome → AllStand programs (step_to c who actor command outcome).to.actors (events ++ option_to_list outcome.event) (ended ++ option_to_list (ended_by who actor command outcome.next))
+all_stand_after : (programs : List (List Command)) (c : Configuration) (events : List (Event × Reply))
+    (ended : List Ended) (who : ℕ) (actor : Actor) (command : Command) (outcome : Outcome)
+    → AllStand programs c.actors events ended → slice_get c.actors who ≡ Some actor
+    → slice_get actor.program actor.ended ≡ Some command
+    → (s : Standing programs who actor (events_of who events) (calls_of who ended))
+    → Tells who command s.now outcome
+    → AllStand programs (step_to c who actor command outcome).to.actors (events ++ option_to_list outcome.event)
+    (ended ++ option_to_list (ended_by who actor command outcome.next))
 all_stand_after programs c events ended who actor command outcome stand there is s tells =
     let new = actor_after actor outcome.next in
     let call = option_to_list (ended_by who actor command outcome.next) in
@@ -161,12 +183,17 @@ all_stand_after programs c events ended who actor command outcome stand there is
     ]
 
 -- a step that changes nothing
-unchanged : (programs : List (List Command)) (actors : List Actor) (events : List (Event × Reply)) (ended : List Ended) → AllStand programs actors events ended → AllStand programs actors (events ++ []) (ended ++ [])
+unchanged : (programs : List (List Command)) (actors : List Actor) (events : List (Event × Reply)) (ended : List Ended)
+    → AllStand programs actors events ended → AllStand programs actors (events ++ []) (ended ++ [])
 unchanged programs actors events ended stand =
     subst (λ es. AllStand programs actors es (ended ++ [])) (sym (append-nil events)) (subst (AllStand programs actors events) (sym (append-nil ended)) stand)
 
 -- any step
-step_stands : (programs : List (List Command)) (c : Configuration) (events : List (Event × Reply)) (ended : List Ended) (who : ℕ) (memory : Bool) → AreSound programs → IsInLimit c → AllStand programs c.actors events ended → AllStand programs (step_of c who memory).to.actors (events ++ option_to_list (step_of c who memory).event) (ended ++ option_to_list (step_of c who memory).ended)
+step_stands : (programs : List (List Command)) (c : Configuration) (events : List (Event × Reply))
+    (ended : List Ended) (who : ℕ) (memory : Bool)
+    → AreSound programs → IsInLimit c → AllStand programs c.actors events ended
+    → AllStand programs (step_of c who memory).to.actors (events ++ option_to_list (step_of c who memory).event)
+    (ended ++ option_to_list (step_of c who memory).ended)
 step_stands programs c events ended who memory sound in_limit stand =
     elim (slice_get c.actors who) as (λ o. slice_get c.actors who ≡ o → AllStand programs (step_as c who memory o).to.actors (events ++ option_to_list (step_as c who memory o).event) (ended ++ option_to_list (step_as c who memory o).ended)) [
       | None ↦ (λ _. unchanged programs c.actors events ended stand)
@@ -189,13 +216,16 @@ step_stands programs c events ended who memory sound in_limit stand =
 -- ---- A play
 
 -- any items
-pub items_stand : (programs : List (List Command)) (p : Play) (items : List Item) → AreSound programs → IsInLimit p.at → AllStand programs p.at.actors p.events p.ended → AllStand programs (after_items p items).at.actors (after_items p items).events (after_items p items).ended
+pub items_stand : (programs : List (List Command)) (p : Play) (items : List Item) → AreSound programs
+    → IsInLimit p.at → AllStand programs p.at.actors p.events p.ended
+    → AllStand programs (after_items p items).at.actors (after_items p items).events (after_items p items).ended
 items_stand programs p [] sound in_limit stand = stand
 items_stand programs p (item ∷ items) sound in_limit stand =
     items_stand programs (with_step p (step_of p.at item.actor item.memory)) items sound (step_in_limit p.at item.actor item.memory in_limit) (step_stands programs p.at p.events p.ended item.actor item.memory sound in_limit stand)
 
 -- before the first step
-pub opening_stands : (limit : ℕ) (programs : List (List Command)) → AllStand programs (first_configuration limit programs).actors [] []
+pub opening_stands : (limit : ℕ) (programs : List (List Command))
+    → AllStand programs (first_configuration limit programs).actors [] []
 opening_stands limit programs who =
     let first : List Command → Actor = λ program. record { program = program; ended = 0; phase = Load } in
     subst (λ o. Stands programs who o [] []) (sym (slice_get-map first programs who))
@@ -206,24 +236,31 @@ opening_stands limit programs who =
     refl)
 
 -- what is under way of a sound call is begun
-under_way : (limit who : ℕ) (command : Option Command) (phase : Phase) (now : List (Event × Reply)) → IfSome command (λ c. IsSound c) → IfSome command (λ c. IsWithin limit c phase) → OfStage who command phase now → IsUnderWay who command now
+under_way : (limit who : ℕ) (command : Option Command) (phase : Phase) (now : List (Event × Reply))
+    → IfSome command (λ c. IsSound c) → IfSome command (λ c. IsWithin limit c phase) → OfStage who command phase now
+    → IsUnderWay who command now
 under_way limit who None phase now sound within staged = staged.0
 under_way limit who (Some command) phase now sound within staged = stage_begun limit who command phase now sound within staged
 
 -- and it is as far as its phase
-so_far : (limit who : ℕ) (command : Option Command) (phase : Phase) (now : List (Event × Reply)) → IfSome command (λ c. IsWithin limit c phase) → OfStage who command phase now → AreSoFar phase now
+so_far : (limit who : ℕ) (command : Option Command) (phase : Phase) (now : List (Event × Reply))
+    → IfSome command (λ c. IsWithin limit c phase) → OfStage who command phase now → AreSoFar phase now
 so_far limit who None phase now within (none, at_load) = subst (λ p. AreSoFar p now) (sym at_load) none
 so_far limit who (Some command) phase now within staged = stage_so_far limit who command phase now within staged
 
 -- a command of a sound program, if there is one
-sound_if_there : (programs : List (List Command)) (program : List Command) (who number : ℕ) → AreSound programs → slice_get programs who ≡ Some program → IfSome (slice_get program number) (λ c. IsSound c)
+sound_if_there : (programs : List (List Command)) (program : List Command) (who number : ℕ) → AreSound programs
+    → slice_get programs who ≡ Some program → IfSome (slice_get program number) (λ c. IsSound c)
 sound_if_there programs program who number sound there =
     elim (slice_get program number) as (λ o. slice_get program number ≡ o → IfSome o (λ c. IsSound c))
     [ None ↦ (λ _. tt) | Some command ↦ (λ is. command_is_sound programs program who number command sound there is) ]
     refl
 
 -- what is known of an actor says that its events are recorded
-stands_recorded : (programs : List (List Command)) (p : Play) (who : ℕ) (o : Option Actor) → AreSound programs → IsInLimit p.at → slice_get p.at.actors who ≡ o → Stands programs who o (events_of who p.events) (calls_of who p.ended) → IsRecorded p who (program_of programs who)
+stands_recorded : (programs : List (List Command)) (p : Play) (who : ℕ) (o : Option Actor) → AreSound programs
+    → IsInLimit p.at → slice_get p.at.actors who ≡ o
+    → Stands programs who o (events_of who p.events) (calls_of who p.ended)
+    → IsRecorded p who (program_of programs who)
 stands_recorded programs p who None sound in_limit there (none, no_events, no_calls) =
     let program : program_of programs who ≡ [] = ap (λ o. unwrap_or o []) none in
     record {

@@ -36,7 +36,9 @@ abbrev pub HoldsAt : Configuration → List (Event × Reply) → Type 0
 HoldsAt c events = Holds c.storage c.actors (runs_of events) (λ q. writers_of q events)
 
 -- the same with the history in two parts
-joined : (m : Storage) (actors : List Actor) (es fs : List (Event × Reply)) → Holds m actors (runs_of es ++ runs_of fs) (λ q. writers_of q es ++ writers_of q fs) → Holds m actors (runs_of (es ++ fs)) (λ q. writers_of q (es ++ fs))
+joined : (m : Storage) (actors : List Actor) (es fs : List (Event × Reply))
+    → Holds m actors (runs_of es ++ runs_of fs) (λ q. writers_of q es ++ writers_of q fs)
+    → Holds m actors (runs_of (es ++ fs)) (λ q. writers_of q (es ++ fs))
 joined m actors es fs holds =
     let runs_are : runs_of es ++ runs_of fs ≡ runs_of (es ++ fs) = sym (runs_of-append es fs) in
     record {
@@ -53,7 +55,8 @@ unchanged : (c : Configuration) (events : List (Event × Reply)) → HoldsAt c e
 unchanged c events holds = subst (HoldsAt c) (sym (append-nil events)) holds
 
 -- every step keeps what holds
-pub step_holds : (c : Configuration) (events : List (Event × Reply)) (who : ℕ) (memory : Bool) → IsInLimit c → HoldsAt c events → HoldsAt (step_of c who memory).to (events ++ option_to_list (step_of c who memory).event)
+pub step_holds : (c : Configuration) (events : List (Event × Reply)) (who : ℕ) (memory : Bool) → IsInLimit c
+    → HoldsAt c events → HoldsAt (step_of c who memory).to (events ++ option_to_list (step_of c who memory).event)
 step_holds c events who memory in_limit holds =
     elim (slice_get c.actors who) as (λ o. slice_get c.actors who ≡ o → HoldsAt (step_as c who memory o).to (events ++ option_to_list (step_as c who memory o).event)) [
       | None ↦ (λ _. unchanged c events holds)
@@ -71,13 +74,15 @@ step_holds c events who memory in_limit holds =
     ]
     refl
 
-pub items_hold : (p : Play) (items : List Item) → IsInLimit p.at → HoldsAt p.at p.events → HoldsAt (after_items p items).at (after_items p items).events
+pub items_hold : (p : Play) (items : List Item) → IsInLimit p.at → HoldsAt p.at p.events
+    → HoldsAt (after_items p items).at (after_items p items).events
 items_hold p [] in_limit holds = holds
 items_hold p (item ∷ items) in_limit holds =
     items_hold (with_step p (step_of p.at item.actor item.memory)) items (step_in_limit p.at item.actor item.memory in_limit) (step_holds p.at p.events item.actor item.memory in_limit holds)
 
 -- before the first step each actor is at Load
-at_load : (programs : List (List Command)) (who : ℕ) (actor : Actor) → slice_get (first_configuration 0 programs).actors who ≡ Some actor → actor.phase ≡ Load
+at_load : (programs : List (List Command)) (who : ℕ) (actor : Actor)
+    → slice_get (first_configuration 0 programs).actors who ≡ Some actor → actor.phase ≡ Load
 at_load programs who actor is =
     elim (slice_get programs who) as (λ o. option_map (λ program. record { program = program; ended = 0; phase = Load }) o ≡ Some actor → actor.phase ≡ Load)
     [ None ↦ (λ none. absurd (none-some actor none)) | Some program ↦ (λ some. ap (λ (a : Actor). a.phase) (sym (same_Some _ actor some))) ]
@@ -99,7 +104,8 @@ opening_holds limit programs = record {
 -- ---- The clauses
 
 -- whose a place of a won run is, and where it lies
-owes_owner : (m : Storage) (runs : List OwnedRun) (who : ℕ) (phase : Phase) (q : ℕ) → Knows m runs who phase → IsOfRun phase q → (owner_of runs q ≡ Some who) × (q < m.size)
+owes_owner : (m : Storage) (runs : List OwnedRun) (who : ℕ) (phase : Phase) (q : ℕ) → Knows m runs who phase
+    → IsOfRun phase q → (owner_of runs q ≡ Some who) × (q < m.size)
 owes_owner m runs who Load q knows of_run = absurd of_run
 owes_owner m runs who (Scout from n k) q knows of_run = absurd of_run
 owes_owner m runs who (Put from n k) q knows of_run = absurd of_run
@@ -110,7 +116,9 @@ owes_owner m runs who (Fill from n place) q (won, slot) (low, high) = (won.owned
 owes_owner m runs who (Spoil from n place) q (won, slot) (low, high) = (won.owned q low high, (let a = won.claimed in omega arith))
 owes_owner m runs who (Look place) q knows of_run = absurd of_run
 
-once_settled : (runs : List OwnedRun) (writers : List ℕ) (q : ℕ) (slot : Option Slot) → Settlement runs writers q slot → (writers ≡ []) ⊎ ((owner : ℕ) × (owner_of runs q ≡ Some owner) × (writers ≡ owner ∷ []))
+once_settled : (runs : List OwnedRun) (writers : List ℕ) (q : ℕ) (slot : Option Slot)
+    → Settlement runs writers q slot
+    → (writers ≡ []) ⊎ ((owner : ℕ) × (owner_of runs q ≡ Some owner) × (writers ≡ owner ∷ []))
 once_settled runs writers q None is = inl is
 once_settled runs writers q (Some (Busy actor)) is = inl is
 once_settled runs writers q (Some (Filled value)) is = inr (is.owner, is.owns, is.once)
@@ -121,34 +129,39 @@ contains_none : (who : ℕ) → Contains [] who → ⊥
 contains_none who (k, inside, _) = absurd (omega arith)
 
 -- a place whose slot is unfinished has no writer
-nobody_wrote : (runs : List OwnedRun) (writers : List ℕ) (q : ℕ) (slot : Option Slot) → IsUnfinished slot → Settlement runs writers q slot → writers ≡ []
+nobody_wrote : (runs : List OwnedRun) (writers : List ℕ) (q : ℕ) (slot : Option Slot) → IsUnfinished slot
+    → Settlement runs writers q slot → writers ≡ []
 nobody_wrote runs writers q None unfinished is = is
 nobody_wrote runs writers q (Some (Busy actor)) unfinished is = is
 nobody_wrote runs writers q (Some (Filled value)) unfinished is = absurd unfinished
 nobody_wrote runs writers q (Some Broken) unfinished is = absurd unfinished
 
 -- a place that was written was written by its owner
-wrote_by_owner : (runs : List OwnedRun) (writers : List ℕ) (who q : ℕ) → owner_of runs q ≡ Some who → ByOwner runs writers q → Contains writers who
+wrote_by_owner : (runs : List OwnedRun) (writers : List ℕ) (who q : ℕ) → owner_of runs q ≡ Some who
+    → ByOwner runs writers q → Contains writers who
 wrote_by_owner runs writers who q owned is =
     let same : is.owner ≡ who = same_Some is.owner who (sym is.owns ∙ owned) in
     subst (λ ws. Contains ws who) (sym is.once) (0, omega arith, same)
 
 -- a place that its owner has not written is unfinished
-not_written : (runs : List OwnedRun) (writers : List ℕ) (who q : ℕ) (slot : Option Slot) → owner_of runs q ≡ Some who → (Contains writers who → ⊥) → Settlement runs writers q slot → IsUnfinished slot
+not_written : (runs : List OwnedRun) (writers : List ℕ) (who q : ℕ) (slot : Option Slot)
+    → owner_of runs q ≡ Some who → (Contains writers who → ⊥) → Settlement runs writers q slot → IsUnfinished slot
 not_written runs writers who q None owned not_wrote is = tt
 not_written runs writers who q (Some (Busy actor)) owned not_wrote is = tt
 not_written runs writers who q (Some (Filled value)) owned not_wrote is = absurd (not_wrote (wrote_by_owner runs writers who q owned is))
 not_written runs writers who q (Some Broken) owned not_wrote is = absurd (not_wrote (wrote_by_owner runs writers who q owned is))
 
 -- who owes a place is its owner, and nobody has written it
-debt_owned : (p : Play) → HoldsAt p.at p.events → (who place : ℕ) → Owes p.at who place → (owner_of (runs_of p.events) place ≡ Some who) × (writers_of place p.events ≡ [])
+debt_owned : (p : Play) → HoldsAt p.at p.events → (who place : ℕ) → Owes p.at who place
+    → (owner_of (runs_of p.events) place ≡ Some who) × (writers_of place p.events ≡ [])
 debt_owned p holds who place owes = (
   (owes_owner p.at.storage (runs_of p.events) who owes.state.phase place (holds.knows who owes.state owes.there) owes.of_run).0,
   nobody_wrote (runs_of p.events) (writers_of place p.events) place (finite.get p.at.storage.slots place) owes.unfinished (holds.settled place),
 )
 
 -- an owner that hasn't written its place owes it
-owner_owes : (p : Play) → HoldsAt p.at p.events → (who place : ℕ) → owner_of (runs_of p.events) place ≡ Some who → (Contains (writers_of place p.events) who → ⊥) → Owes p.at who place
+owner_owes : (p : Play) → HoldsAt p.at p.events → (who place : ℕ) → owner_of (runs_of p.events) place ≡ Some who
+    → (Contains (writers_of place p.events) who → ⊥) → Owes p.at who place
 owner_owes p holds who place owned not_wrote =
     let inside : place < p.at.storage.size = elim (cases_lt place p.at.storage.size) [
       | inl below ↦ below

@@ -21,13 +21,17 @@ use Rattle.step_core.proofs.whole_calls.Legal.{call_legal}
 Told : ℕ → CallPlay → Type 0
 Told limit s = IsHistory (empty_list limit) s.events s.list
 
-told_event : (limit : ℕ) (s t : CallPlay) (event : Event) (o : Option (CellList × Reply)) → apply_event s.list event ≡ o → option_map (λ (after : CellList × Reply). record { list = after.0; counts = s.counts; events = s.events ++ (event, after.1) ∷ []; ended = s.ended }) o ≡ Some t → Told limit s → Told limit t
+told_event : (limit : ℕ) (s t : CallPlay) (event : Event) (o : Option (CellList × Reply))
+    → apply_event s.list event ≡ o
+    → option_map (λ (after : CellList × Reply). record { list = after.0; counts = s.counts; events = s.events ++ (event, after.1) ∷ []; ended = s.ended }) o ≡ Some t
+    → Told limit s → Told limit t
 unfolding Told
 told_event limit s t event None applies is told = absurd (none-some t is)
 told_event limit s t event (Some after) applies is told =
     subst (Told limit) (same_Some _ t is) (IsHistory-push (empty_list limit) s.events s.list after.0 event after.1 told applies)
 
-told_events : (limit : ℕ) (s t : CallPlay) (events : List Event) → with_events s events ≡ Some t → Told limit s → Told limit t
+told_events : (limit : ℕ) (s t : CallPlay) (events : List Event) → with_events s events ≡ Some t → Told limit s
+    → Told limit t
 told_events limit s t [] is told = subst (Told limit) (same_Some s t is) told
 told_events limit s t (event ∷ events) is told =
     elim (with_event s event) as (λ o. with_event s event ≡ o → option_and_then (λ after. with_events after events) o ≡ Some t → Told limit t) [
@@ -36,7 +40,8 @@ told_events limit s t (event ∷ events) is told =
     ]
     refl is
 
-told_call : (limit : ℕ) (s t : CallPlay) (actor : ℕ) (command : Option Command) → with_call s actor command ≡ Some t → Told limit s → Told limit t
+told_call : (limit : ℕ) (s t : CallPlay) (actor : ℕ) (command : Option Command) → with_call s actor command ≡ Some t
+    → Told limit s → Told limit t
 unfolding Told
 told_call limit s t actor None is told = subst (Told limit) (same_Some s t is) told
 told_call limit s t actor (Some command) is told =
@@ -46,7 +51,8 @@ told_call limit s t actor (Some command) is told =
     ]
     refl is
 
-told_items : (limit : ℕ) (programs : List (List Command)) (s t : CallPlay) (items : List Item) → with_items programs s items ≡ Some t → Told limit s → Told limit t
+told_items : (limit : ℕ) (programs : List (List Command)) (s t : CallPlay) (items : List Item)
+    → with_items programs s items ≡ Some t → Told limit s → Told limit t
 told_items limit programs s t [] is told = subst (Told limit) (same_Some s t is) told
 told_items limit programs s t (item ∷ items) is told =
     let turn = with_call s item.actor (next_call programs s.counts item.actor) in
@@ -75,7 +81,8 @@ at_place P xs i x all is =
     subst P (get_or_from_slice_get xs i x x is) (All-get_or P xs i x (slice_get_within xs i x is) all)
 
 -- each command of sound programs is sound
-next_is_sound : (programs : List (List Command)) (counts : List ℕ) (actor : ℕ) (command : Command) → AreSound programs → next_call programs counts actor ≡ Some command → IsSound command
+next_is_sound : (programs : List (List Command)) (counts : List ℕ) (actor : ℕ) (command : Command)
+    → AreSound programs → next_call programs counts actor ≡ Some command → IsSound command
 next_is_sound programs counts actor command sound is =
     elim (slice_get programs actor) as (λ o. slice_get programs actor ≡ o → option_and_then (λ program. slice_get program (slice_index counts actor)) o ≡ Some command → IsSound command) [
       | None ↦ (λ _ none. absurd (none-some command none))
@@ -84,7 +91,8 @@ next_is_sound programs counts actor command sound is =
     refl is
 
 -- an actor's next call always plays
-call_plays : (programs : List (List Command)) (s : CallPlay) (actor : ℕ) (command : Option Command) → AreSound programs → next_call programs s.counts actor ≡ command → IsSome (with_call s actor command)
+call_plays : (programs : List (List Command)) (s : CallPlay) (actor : ℕ) (command : Option Command)
+    → AreSound programs → next_call programs s.counts actor ≡ command → IsSome (with_call s actor command)
 call_plays programs s actor None sound is = refl
 call_plays programs s actor (Some command) sound is =
     let events = (call_on s.list actor command).events in
@@ -92,7 +100,8 @@ call_plays programs s actor (Some command) sound is =
     [ None ↦ (λ none. none) | Some after ↦ (λ _. refl) ]
     (call_legal s actor command (next_is_sound programs s.counts actor command sound is))
 
-items_play : (programs : List (List Command)) (s : CallPlay) (items : List Item) → AreSound programs → IsSome (with_items programs s items)
+items_play : (programs : List (List Command)) (s : CallPlay) (items : List Item) → AreSound programs
+    → IsSome (with_items programs s items)
 items_play programs s [] sound = refl
 items_play programs s (item ∷ items) sound =
     elim (with_call s item.actor (next_call programs s.counts item.actor)) as (λ o. IsSome o → IsSome (option_and_then (λ after. with_items programs after items) o))

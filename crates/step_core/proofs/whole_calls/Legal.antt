@@ -21,7 +21,8 @@ use Rattle.step_core.specs.calls.Play.{CallPlay, with_event, with_events}
 use Rattle.book_core.specs.Events.{finishes, breaks}
 
 -- what stands right behind the front of a list
-slice_get-append_seam : (front : List Cell) (x : Cell) (rest : List Cell) → slice_get (front ++ x ∷ rest) (length front) ≡ Some x
+slice_get-append_seam : (front : List Cell) (x : Cell) (rest : List Cell)
+    → slice_get (front ++ x ∷ rest) (length front) ≡ Some x
 slice_get-append_seam [] x rest = refl
 slice_get-append_seam (y ∷ front) x rest = slice_get-append_seam front x rest
 
@@ -38,7 +39,10 @@ Settles actor f cell =
     (v : CellList) (place : ℕ) → is_pending_for actor (slice_get v.cells place) ≡ true → apply_event v (f place) ≡ Some (with_cell v place cell, replies.Done)
 
 -- the actor settles all its pending places behind a front, in ascending order
-leads_settled : (actor : ℕ) (f : ℕ → Event) (cell : Cell) → Settles actor f cell → (n : ℕ) (s : CallPlay) (front rest : List Cell) → s.list.cells ≡ front ++ (replicate n (Pending actor) ++ rest) → Leads s (map f (range_with_len (length front) n)) (front ++ (replicate n cell ++ rest))
+leads_settled : (actor : ℕ) (f : ℕ → Event) (cell : Cell) → Settles actor f cell
+    → (n : ℕ) (s : CallPlay) (front rest : List Cell)
+    → s.list.cells ≡ front ++ (replicate n (Pending actor) ++ rest)
+    → Leads s (map f (range_with_len (length front) n)) (front ++ (replicate n cell ++ rest))
 unfolding Settles
 leads_settled actor f cell settles zero s front rest is = record { after = s; plays = refl; limit = refl; cells_are = is }
 leads_settled actor f cell settles (suc n) s front rest is =
@@ -78,7 +82,8 @@ leads_settled actor f cell settles (suc n) s front rest is =
     }
 
 -- events that follow others happen to what those leave
-with_events-append : (s : CallPlay) (xs ys : List Event) → with_events s (xs ++ ys) ≡ option_and_then (λ after. with_events after ys) (with_events s xs)
+with_events-append : (s : CallPlay) (xs ys : List Event)
+    → with_events s (xs ++ ys) ≡ option_and_then (λ after. with_events after ys) (with_events s xs)
 with_events-append s [] ys = refl
 with_events-append s (x ∷ xs) ys =
     elim (with_event s x) as (λ o. option_and_then (λ after. with_events after (xs ++ ys)) o ≡ option_and_then (λ after. with_events after ys) (option_and_then (λ after. with_events after xs) o))
@@ -93,11 +98,14 @@ unfolding Settles
 break_settles actor v place ours = rw ours refl
 
 -- what leads somewhere succeeds
-leads_somewhere : (s : CallPlay) (events : List Event) (cells : List Cell) → Leads s events cells → IsSome (with_events s events)
+leads_somewhere : (s : CallPlay) (events : List Event) (cells : List Cell) → Leads s events cells
+    → IsSome (with_events s events)
 leads_somewhere s events cells leads = rw leads.plays refl
 
 -- a run whose first places are filled, and whose others are broken
-run_legal : (t : CallPlay) (actor n made value : ℕ) (front : List Cell) → made ≤ n → t.list.cells ≡ front ++ replicate n (Pending actor) → IsSome (with_events t (finishes actor (length front) made value ++ breaks actor (length front + made) (n - made)))
+run_legal : (t : CallPlay) (actor n made value : ℕ) (front : List Cell) → made ≤ n
+    → t.list.cells ≡ front ++ replicate n (Pending actor)
+    → IsSome (with_events t (finishes actor (length front) made value ++ breaks actor (length front + made) (n - made)))
 run_legal t actor n made value front within is =
     let parts : replicate n (Pending actor) ≡ replicate made (Pending actor) ++ replicate (n - made) (Pending actor) =
     ap (λ k. replicate k (Pending actor)) (let e : n ≡ made + (n - made) = omega arith in e)
@@ -129,39 +137,50 @@ claimed s actor event n =
     }
 
 -- a growth whose claim succeeds is legal as a whole
-growth_legal : (s : CallPlay) (actor n made value : ℕ) (claim : Event) → made ≤ n → with_event s claim ≡ Some (claimed s actor claim n) → IsSome (with_events s (claim ∷ (finishes actor (length s.list.cells) made value ++ breaks actor (length s.list.cells + made) (n - made))))
+growth_legal : (s : CallPlay) (actor n made value : ℕ) (claim : Event) → made ≤ n
+    → with_event s claim ≡ Some (claimed s actor claim n)
+    → IsSome (with_events s (claim ∷ (finishes actor (length s.list.cells) made value ++ breaks actor (length s.list.cells + made) (n - made))))
 unfolding claimed
 growth_legal s actor n made value claim within happens =
     let run = run_legal (claimed s actor claim n) actor n made value s.list.cells within refl in
     rw happens run
 
 -- the same where nothing is broken
-filled_legal : (s : CallPlay) (actor n value : ℕ) (claim : Event) → with_event s claim ≡ Some (claimed s actor claim n) → IsSome (with_events s (claim ∷ finishes actor (length s.list.cells) n value))
+filled_legal : (s : CallPlay) (actor n value : ℕ) (claim : Event)
+    → with_event s claim ≡ Some (claimed s actor claim n)
+    → IsSome (with_events s (claim ∷ finishes actor (length s.list.cells) n value))
 unfolding claimed
 filled_legal s actor n value claim happens =
     let filled = leads_settled actor (λ place. Finish actor place value) (Filled value) (finish_settles actor value) n (claimed s actor claim n) s.list.cells [] (ap (λ xs. s.list.cells ++ xs) (sym (append-nil (replicate n (Pending actor))))) in
     rw happens (leads_somewhere _ _ _ filled)
 
-claim_happens : (s : CallPlay) (actor n : ℕ) → nat_le (length s.list.cells + n) s.list.limit ≡ true → with_event s (Claim actor n) ≡ Some (claimed s actor (Claim actor n) n)
+claim_happens : (s : CallPlay) (actor n : ℕ) → nat_le (length s.list.cells + n) s.list.limit ≡ true
+    → with_event s (Claim actor n) ≡ Some (claimed s actor (Claim actor n) n)
 unfolding claimed
 claim_happens s actor n fits = rw fits refl
 
-raise_happens : (s : CallPlay) (actor to : ℕ) → nat_le to (length s.list.cells) ≡ false → nat_le to s.list.limit ≡ true → with_event s (Raise actor to) ≡ Some (claimed s actor (Raise actor to) (to - length s.list.cells))
+raise_happens : (s : CallPlay) (actor to : ℕ) → nat_le to (length s.list.cells) ≡ false
+    → nat_le to s.list.limit ≡ true
+    → with_event s (Raise actor to) ≡ Some (claimed s actor (Raise actor to) (to - length s.list.cells))
 unfolding claimed
 raise_happens s actor to grows fits = rw (grows, fits) refl
 
-refusal_legal : (s : CallPlay) (actor n : ℕ) → nat_le (length s.list.cells + n) s.list.limit ≡ false → IsSome (with_events s (RefusedFull actor n ∷ []))
+refusal_legal : (s : CallPlay) (actor n : ℕ) → nat_le (length s.list.cells + n) s.list.limit ≡ false
+    → IsSome (with_events s (RefusedFull actor n ∷ []))
 refusal_legal s actor n full = rw full refl
 
-enough_legal : (s : CallPlay) (actor to : ℕ) → nat_le to (length s.list.cells) ≡ true → IsSome (with_events s (Raise actor to ∷ []))
+enough_legal : (s : CallPlay) (actor to : ℕ) → nat_le to (length s.list.cells) ≡ true
+    → IsSome (with_events s (Raise actor to ∷ []))
 enough_legal s actor to enough = rw enough refl
 
 -- the refused growth of a raise: its new places are those from the length on
-past_limit : (size limit to : ℕ) → nat_le to size ≡ false → nat_le to limit ≡ false → nat_le (size + (to - size)) limit ≡ false
+past_limit : (size limit to : ℕ) → nat_le to size ≡ false → nat_le to limit ≡ false
+    → nat_le (size + (to - size)) limit ≡ false
 past_limit size limit to grows full = grind (arith, nat_tests)
 
 -- every whole call is legal on the list as it is when the call begins
-pub call_legal : (s : CallPlay) (actor : ℕ) (command : Command) → IsSound command → IsSome (with_events s (call_on s.list actor command).events)
+pub call_legal : (s : CallPlay) (actor : ℕ) (command : Command) → IsSound command
+    → IsSome (with_events s (call_on s.list actor command).events)
 call_legal s actor (commands.Push value) sound =
     let fits = nat_le (length s.list.cells + 1) s.list.limit in
     elim fits as (λ b. fits ≡ b → IsSome (with_events s (if b then record { events = Claim actor 1 ∷ finishes actor (length s.list.cells) 1 value; answer = answers.At (length s.list.cells) } else refused s.list actor 1).events)) [

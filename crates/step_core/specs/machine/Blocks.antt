@@ -31,9 +31,9 @@ abbrev pub with_slot : Shown → ℕ → Slot → Shown
 with_slot seen place slot = record { installed = seen.installed; slots = map.insert seen.slots place slot }
 
 -- what is inside, if both are there
-abbrev pub joined : {X : Type 0} → Option (Option X) → Option X
-joined None = None
-joined (Some inner) = inner
+abbrev pub flattened : {X : Type 0} → Option (Option X) → Option X
+flattened None = None
+flattened (Some inner) = inner
 
 -- a block: the slots of one segment, in the order of its places
 abbrev pub Block : Type 0
@@ -45,12 +45,12 @@ Entries = List (Option Block)
 
 -- the block of a segment, if it is installed
 abbrev pub block_of : Entries → ℕ → Option Block
-block_of entries segment = joined (slice_get entries segment)
+block_of entries segment = flattened (slice_get entries segment)
 
 -- what a block has at an offset
 abbrev pub slot_in : Option Block → ℕ → Option Slot
 slot_in None offset = None
-slot_in (Some block) offset = joined (slice_get block offset)
+slot_in (Some block) offset = flattened (slice_get block offset)
 
 -- what the slot of a place holds: it lies in the block of its segment, as far from the front as the place from the segment's first
 abbrev pub slot_at : Entries → ℕ → Option Slot

@@ -230,14 +230,14 @@ outcome_of limit m actor command memory (Look place) = look_at m actor place (ge
 
 -- where the actor stands: in the next phase, or at Load of its next call
 abbrev pub actor_after : Actor → Next → Actor
-actor_after actor (Goes phase) = record { program = actor.program; ended = actor.ended; phase = phase }
-actor_after actor (Ends answer) = record { program = actor.program; ended = actor.ended + 1; phase = Load }
+actor_after state (Goes phase) = record { program = state.program; ended = state.ended; phase = phase }
+actor_after state (Ends answer) = record { program = state.program; ended = state.ended + 1; phase = Load }
 
 -- the call that ended, if one did
 abbrev pub ended_by : ℕ → Actor → Command → Next → Option Ended
-ended_by who actor command (Goes phase) = None
-ended_by who actor command (Ends answer) =
-    Some (record { actor = who; number = actor.ended + 1; command = command; answer = answer })
+ended_by actor state command (Goes phase) = None
+ended_by actor state command (Ends answer) =
+    Some (record { actor = actor; number = state.ended + 1; command = command; answer = answer })
 
 -- ---- One step of the machine
 
@@ -253,29 +253,29 @@ no_step c = record { to = c; event = None; ended = None }
 
 -- the actor stands so now
 abbrev pub with_actor : Configuration → Storage → ℕ → Actor → Configuration
-with_actor c m who actor = record { limit = c.limit; storage = m; actors = slice_set c.actors who actor }
+with_actor c m actor state = record { limit = c.limit; storage = m; actors = slice_set c.actors actor state }
 
 -- the actor goes on, or its call ends and it comes to its next one
 abbrev pub step_to : Configuration → ℕ → Actor → Command → Outcome → Step
-step_to c who actor command outcome = record {
-  to = with_actor c outcome.storage who (actor_after actor outcome.next);
+step_to c actor state command outcome = record {
+  to = with_actor c outcome.storage actor (actor_after state outcome.next);
   event = outcome.event;
-  ended = ended_by who actor command outcome.next;
+  ended = ended_by actor state command outcome.next;
 }
 
 -- the step of an actor with this call under way or to begin; with none left nothing changes
 abbrev pub step_in : Configuration → ℕ → Bool → Actor → Option Command → Step
-step_in c who memory actor None = no_step c
-step_in c who memory actor (Some command) =
-    step_to c who actor command (outcome_of c.limit c.storage who command memory actor.phase)
+step_in c actor memory state None = no_step c
+step_in c actor memory state (Some command) =
+    step_to c actor state command (outcome_of c.limit c.storage actor command memory state.phase)
 
 abbrev pub step_as : Configuration → ℕ → Bool → Option Actor → Step
-step_as c who memory None = no_step c
-step_as c who memory (Some actor) = step_in c who memory actor (slice_get actor.program actor.ended)
+step_as c actor memory None = no_step c
+step_as c actor memory (Some state) = step_in c actor memory state (slice_get state.program state.ended)
 
 -- one step of an actor, whose memory is granted or refused
 abbrev pub step_of : Configuration → ℕ → Bool → Step
-step_of c who memory = step_as c who memory (slice_get c.actors who)
+step_of c actor memory = step_as c actor memory (slice_get c.actors actor)
 
 -- nothing is claimed, installed or filled, and each actor is at its first call
 abbrev pub first_configuration : ℕ → List (List Command) → Configuration
@@ -288,5 +288,5 @@ first_configuration limit programs = record {
 -- ---- A step as the program gives it
 
 -- the step leads to this configuration, with this event and this ended call
-abbrev pub Gives : Step → Configuration → Stepped → Type 0
-Gives step to stepped = (to ≡ step.to) × (stepped.event ≡ step.event) × (stepped.ended ≡ step.ended)
+abbrev pub IsStepped : Step → Configuration → Stepped → Type 0
+IsStepped step to stepped = (to ≡ step.to) × (stepped.event ≡ step.event) × (stepped.ended ≡ step.ended)

@@ -4,7 +4,7 @@ ghost use Rattle.std.specs.Option.{option_map};
 ghost use Rattle.std.specs.FinMap as map;
 ghost use Rattle.std.specs.FinSet as set;
 ghost use Rattle.seg_core.specs.Segment.{segment_of};
-ghost use Rattle.step_core.specs.machine.Blocks.{joined};
+ghost use Rattle.step_core.specs.machine.Blocks.{flattened};
 
 use crate::machine::phase::Slot;
 use seg_core::{len, locate};
@@ -41,7 +41,7 @@ impl Block {
     }
 
     fn get(&self, offset: u64) -> Option<Slot>
-        ensures { result ≡ joined (slice_get self.now offset) }
+        ensures { result ≡ flattened (slice_get self.now offset) }
     {
         self.slots.get(offset as usize).copied().flatten()
     }

@@ -62,10 +62,10 @@ impl Actor {
     }
 
     // What follows a step comes to pass.
-    pub(crate) fn follow(&mut self, who: u32, command: Command, next: Next) -> Option<Ended>
+    pub(crate) fn follow(&mut self, actor: u32, command: Command, next: Next) -> Option<Ended>
         requires { self.old.ended + 1 < 2 ^ 64 }
-        ensures actor { self.new ≡ actor_after self.old next }
-        ensures ended { result ≡ ended_by who self.old command next }
+        ensures state { self.new ≡ actor_after self.old next }
+        ensures ended { result ≡ ended_by actor self.old command next }
     {
         match next {
             Next::Goes(phase) => {
@@ -76,7 +76,7 @@ impl Actor {
                 self.ended += 1;
                 self.phase = Phase::Load;
                 Some(Ended {
-                    actor: who,
+                    actor,
                     number: self.ended,
                     command,
                     answer,

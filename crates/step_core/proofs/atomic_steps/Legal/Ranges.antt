@@ -3,14 +3,16 @@ use Rattle.std.proofs.Common.{◌≡◌, ◌≢◌, ℕ, ◌+◌, ◌<◌, ◌�
 use Rattle.std.specs.List.{range_with_len}
 
 -- two functions that are the same at each place of a range
-pub map_same : {X : Type 0} (f g : ℕ → X) (a n : ℕ) → ((p : ℕ) → a ≤ p → p < a + n → f p ≡ g p) → map f (range_with_len a n) ≡ map g (range_with_len a n)
+pub map_same : {X : Type 0} (f g : ℕ → X) (a n : ℕ) → ((p : ℕ) → a ≤ p → p < a + n → f p ≡ g p)
+    → map f (range_with_len a n) ≡ map g (range_with_len a n)
 map_same f g a zero same = refl
 map_same f g a (suc n) same =
     ap (λ x. x ∷ map f (range_with_len (a + 1) n)) (same a (omega arith) (omega arith))
     ∙ ap (λ xs. g a ∷ xs) (map_same f g (a + 1) n (λ p low high. same p (omega arith) (omega arith)))
 
 -- a longer range in two parts
-pub map_more : {X : Type 0} (f : ℕ → X) (a n k : ℕ) → map f (range_with_len a (n + k)) ≡ map f (range_with_len a n) ++ map f (range_with_len (a + n) k)
+pub map_more : {X : Type 0} (f : ℕ → X) (a n k : ℕ)
+    → map f (range_with_len a (n + k)) ≡ map f (range_with_len a n) ++ map f (range_with_len (a + n) k)
 map_more f a zero k =
     let none : zero + k ≡ k = omega arith in
     let here : a ≡ a + zero = omega arith in
@@ -22,7 +24,8 @@ map_more f a (suc n) k =
     ∙ ap (λ xs. f a ∷ xs) (map_more f (a + 1) n k ∙ ap (λ b. map f (range_with_len (a + 1) n) ++ map f (range_with_len b k)) behind)
 
 -- one value at all places of a range
-pub map_all : {X : Type 0} (f : ℕ → X) (x : X) (a n : ℕ) → ((p : ℕ) → a ≤ p → p < a + n → f p ≡ x) → map f (range_with_len a n) ≡ replicate n x
+pub map_all : {X : Type 0} (f : ℕ → X) (x : X) (a n : ℕ) → ((p : ℕ) → a ≤ p → p < a + n → f p ≡ x)
+    → map f (range_with_len a n) ≡ replicate n x
 map_all f x a zero is = refl
 map_all f x a (suc n) is =
     ap (λ y. y ∷ map f (range_with_len (a + 1) n)) (is a (omega arith) (omega arith))
@@ -37,7 +40,8 @@ map_get f a (suc n) (suc k) inside =
     map_get f (a + 1) n k (omega arith) ∙ ap (λ p. Some (f p)) behind
 
 -- one place that changes
-pub map_set : {X : Type 0} (f g : ℕ → X) (a n k : ℕ) → k < n → ((p : ℕ) → p ≢ a + k → f p ≡ g p) → map g (range_with_len a n) ≡ slice_set (map f (range_with_len a n)) k (g (a + k))
+pub map_set : {X : Type 0} (f g : ℕ → X) (a n k : ℕ) → k < n → ((p : ℕ) → p ≢ a + k → f p ≡ g p)
+    → map g (range_with_len a n) ≡ slice_set (map f (range_with_len a n)) k (g (a + k))
 map_set f g a zero k inside others = absurd (omega arith)
 map_set f g a (suc n) zero inside others =
     let here : a ≡ a + zero = omega arith in

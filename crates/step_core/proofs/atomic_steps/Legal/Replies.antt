@@ -55,7 +55,8 @@ pub record Sees (limit : ℕ) (m : Storage) (runs : List OwnedRun) : Type 0 wher
   pub tile : Tile 0 runs m.size
   pub taken : (q : ℕ) (slot : Slot) → finite.get m.slots q ≡ Some slot → q < m.size
 
-one_event : (old new : CellList) (event : Event) (reply : Reply) → apply_event old event ≡ Some (new, reply) → IsHistory old ((event, reply) ∷ []) new
+one_event : (old new : CellList) (event : Event) (reply : Reply) → apply_event old event ≡ Some (new, reply)
+    → IsHistory old ((event, reply) ∷ []) new
 one_event old new event reply is = (new, is, refl)
 
 module _ (limit : ℕ) (m : Storage) (runs : List OwnedRun) (who : ℕ) (sees : Sees limit m runs) where
@@ -63,12 +64,15 @@ module _ (limit : ℕ) (m : Storage) (runs : List OwnedRun) (who : ℕ) (sees : 
   seen_length = length-map-range_with_len (seen_at m runs) 0 m.size
 
   -- where no run is added and the cells are the same
-  same_seen : (m' : Storage) (added : List OwnedRun) → added ≡ [] → cells_of m' runs ≡ cells_of m runs → seen limit m' (runs ++ added) ≡ seen limit m runs
+  same_seen : (m' : Storage) (added : List OwnedRun) → added ≡ [] → cells_of m' runs ≡ cells_of m runs
+      → seen limit m' (runs ++ added) ≡ seen limit m runs
   same_seen m' added none is =
       ap (λ rs. seen limit m' rs) (ap (λ rs. runs ++ rs) none ∙ append-nil runs) ∙ ap (λ cs. record { limit = limit; cells = cs }) is
 
   -- an event that leaves the vector as it is, and adds no run
-  tells : (event : Event) (reply : Reply) (answer : Answer) → runs_of ((event, reply) ∷ []) ≡ [] → apply_event (seen limit m runs) event ≡ Some (seen limit m runs, reply) → Replies limit m runs (ends m event reply answer)
+  tells : (event : Event) (reply : Reply) (answer : Answer) → runs_of ((event, reply) ∷ []) ≡ []
+      → apply_event (seen limit m runs) event ≡ Some (seen limit m runs, reply)
+      → Replies limit m runs (ends m event reply answer)
   tells event reply answer none is =
       one_event (seen limit m runs) (seen limit m (runs ++ runs_of ((event, reply) ∷ []))) event reply
       (is ∙ ap (λ v. Some (v, reply)) (sym (same_seen m (runs_of ((event, reply) ∷ [])) none refl)))
@@ -85,7 +89,9 @@ module _ (limit : ℕ) (m : Storage) (runs : List OwnedRun) (who : ℕ) (sees : 
       refl
 
   -- the cells where n more places are claimed
-  claimed : (n : ℕ) → cells_of (with_size m (m.size + n)) (runs ++ record { owner = who; from = m.size; n = n } ∷ []) ≡ cells_of m runs ++ replicate n (cells.Pending who)
+  claimed : (n : ℕ)
+      → cells_of (with_size m (m.size + n))
+      (runs ++ record { owner = who; from = m.size; n = n } ∷ []) ≡ cells_of m runs ++ replicate n (cells.Pending who)
   claimed n =
       let run : OwnedRun = record { owner = who; from = m.size; n = n } in
       let more : List OwnedRun = runs ++ run ∷ [] in
@@ -104,7 +110,11 @@ module _ (limit : ℕ) (m : Storage) (runs : List OwnedRun) (who : ℕ) (sees : 
       ∙ ap (λ cs. cells_of m runs ++ cs) behind
 
   -- a claiming event
-  claims : (n : ℕ) (event : Event) (next : Phase) → runs_of ((event, replies.Run m.size n) ∷ []) ≡ record { owner = who; from = m.size; n = n } ∷ [] → apply_event (seen limit m runs) event ≡ Some (with_pending (seen limit m runs) who n, replies.Run m.size n) → IsHistory (seen limit m runs) ((event, replies.Run m.size n) ∷ []) (seen limit (with_size m (m.size + n)) (runs ++ runs_of ((event, replies.Run m.size n) ∷ [])))
+  claims : (n : ℕ) (event : Event) (next : Phase)
+      → runs_of ((event, replies.Run m.size n) ∷ []) ≡ record { owner = who; from = m.size; n = n } ∷ []
+      → apply_event (seen limit m runs) event ≡ Some (with_pending (seen limit m runs) who n, replies.Run m.size n)
+      → IsHistory (seen limit m runs) ((event, replies.Run m.size n) ∷ [])
+      (seen limit (with_size m (m.size + n)) (runs ++ runs_of ((event, replies.Run m.size n) ∷ [])))
   claims n event next run_is is =
       let now : seen limit (with_size m (m.size + n)) (runs ++ runs_of ((event, replies.Run m.size n) ∷ [])) ≡ with_pending (seen limit m runs) who n =
       ap (λ rs. seen limit (with_size m (m.size + n)) (runs ++ rs)) run_is ∙ ap (λ cs. record { limit = limit; cells = cs }) (claimed n) in
@@ -112,10 +122,12 @@ module _ (limit : ℕ) (m : Storage) (runs : List OwnedRun) (who : ℕ) (sees : 
 
   -- ---- Load
 
-  full_told : (n : ℕ) → limit < m.size + n → Replies limit m runs (ends m (events.RefusedFull who n) (replies.Full m.size) (answers.Full m.size))
+  full_told : (n : ℕ) → limit < m.size + n
+      → Replies limit m runs (ends m (events.RefusedFull who n) (replies.Full m.size) (answers.Full m.size))
   full_told n past = tells (events.RefusedFull who n) (replies.Full m.size) (answers.Full m.size) refl (full_applies (seen limit m runs) who m.size seen_length n past)
 
-  enough_told : (to : ℕ) → to ≤ m.size → Replies limit m runs (ends m (events.Raise who to) (replies.Enough m.size) (answers.Enough m.size))
+  enough_told : (to : ℕ) → to ≤ m.size
+      → Replies limit m runs (ends m (events.Raise who to) (replies.Enough m.size) (answers.Enough m.size))
   enough_told to had = tells (events.Raise who to) (replies.Enough m.size) (answers.Enough m.size) refl (enough_applies (seen limit m runs) who m.size seen_length to had)
 
   nothing_claimed : Replies limit m runs (ends m (events.Claim who 0) (replies.Run m.size 0) (answers.Run m.size 0))
@@ -153,7 +165,8 @@ module _ (limit : ℕ) (m : Storage) (runs : List OwnedRun) (who : ℕ) (sees : 
       ]
       refl
 
-  out_of_range_told : (place : ℕ) → m.size ≤ place → Replies limit m runs (ends m (events.Look who place) (replies.OutOfRange m.size) (answers.OutOfRange m.size))
+  out_of_range_told : (place : ℕ) → m.size ≤ place
+      → Replies limit m runs (ends m (events.Look who place) (replies.OutOfRange m.size) (answers.OutOfRange m.size))
   out_of_range_told place past =
       let none : slice_get (cells_of m runs) place ≡ None = slice_get_past (cells_of m runs) place (omega (arith, seen_length)) in
       tells (events.Look who place) (replies.OutOfRange m.size) (answers.OutOfRange m.size) refl
@@ -182,7 +195,8 @@ module _ (limit : ℕ) (m : Storage) (runs : List OwnedRun) (who : ℕ) (sees : 
       elim (set.contains m.installed k) as (λ b. Replies limit m runs (if b then goes_on m (after_segment command from n k) else goes_on m (Put from n k)))
       [ true ↦ silent m (after_segment command from n k) refl | false ↦ silent m (Put from n k) refl ]
 
-  put_told : (command : Command) (memory : Bool) (from n k : ℕ) → Replies limit m runs (put m who command memory from n k)
+  put_told : (command : Command) (memory : Bool) (from n k : ℕ)
+      → Replies limit m runs (put m who command memory from n k)
   put_told command true from n k = silent (with_segment m k) (after_segment command from n k) refl
   put_told command false from n k = tells (events.RefusedMemory who) replies.NoMemory answers.NoMemory refl refl
 
@@ -219,13 +233,16 @@ module _ (limit : ℕ) (m : Storage) (runs : List OwnedRun) (who : ℕ) (sees : 
   -- ---- Begin, Fill and Spoil
 
   -- a cell that is seen of a slot that was set
-  seen_set : (place : ℕ) (slot : Slot) → seen_at (with_slot m place slot) runs place ≡ cell_of (owner_of runs place) (Some slot)
+  seen_set : (place : ℕ) (slot : Slot)
+      → seen_at (with_slot m place slot) runs place ≡ cell_of (owner_of runs place) (Some slot)
   seen_set place slot = ap (λ s. cell_of (owner_of runs place) s) (get_set_same m place slot)
 
-  seen_other : (place : ℕ) (slot : Slot) (q : ℕ) → q ≢ place → seen_at m runs q ≡ seen_at (with_slot m place slot) runs q
+  seen_other : (place : ℕ) (slot : Slot) (q : ℕ) → q ≢ place
+      → seen_at m runs q ≡ seen_at (with_slot m place slot) runs q
   seen_other place slot q apart = ap (λ s. cell_of (owner_of runs q) s) (sym (get_set_other m place slot q apart))
 
-  begin_told : (command : Command) (from n place : ℕ) (slot : Option Slot) → finite.get m.slots place ≡ slot → Replies limit m runs (begin_at m who command from n place slot)
+  begin_told : (command : Command) (from n place : ℕ) (slot : Option Slot) → finite.get m.slots place ≡ slot
+      → Replies limit m runs (begin_at m who command from n place slot)
   begin_told command from n place (Some slot) is = silent m (Begin from n place) refl
   begin_told command from n place None is =
       silent (with_slot m place (Busy who)) (if is_refused command from place then Spoil from n place else Fill from n place)
@@ -236,7 +253,8 @@ module _ (limit : ℕ) (m : Storage) (runs : List OwnedRun) (who : ℕ) (sees : 
       ]))
 
   -- the cells where a slot of a place is finished
-  settled : (place : ℕ) (slot : Slot) → place < m.size → cells_of (with_slot m place slot) runs ≡ slice_set (cells_of m runs) place (cell_of (owner_of runs place) (Some slot))
+  settled : (place : ℕ) (slot : Slot) → place < m.size
+      → cells_of (with_slot m place slot) runs ≡ slice_set (cells_of m runs) place (cell_of (owner_of runs place) (Some slot))
   settled place slot inside =
       let here : 0 + place ≡ place = omega arith in
       map_set (seen_at m runs) (seen_at (with_slot m place slot) runs) 0 m.size place inside (λ p apart. seen_other place slot p (λ same. apart (same ∙ sym here)))
@@ -244,24 +262,30 @@ module _ (limit : ℕ) (m : Storage) (runs : List OwnedRun) (who : ℕ) (sees : 
       ∙ ap (λ c. slice_set (cells_of m runs) place c) (seen_set place slot)
 
   -- what a reader sees at a place
-  seen_there : (place : ℕ) (slot : Option Slot) → place < m.size → finite.get m.slots place ≡ slot → slice_get (cells_of m runs) place ≡ Some (cell_of (owner_of runs place) slot)
+  seen_there : (place : ℕ) (slot : Option Slot) → place < m.size → finite.get m.slots place ≡ slot
+      → slice_get (cells_of m runs) place ≡ Some (cell_of (owner_of runs place) slot)
   seen_there place slot inside is =
       let here : 0 + place ≡ place = omega arith in
       map_get (seen_at m runs) 0 m.size place inside ∙ ap (λ p. Some (seen_at m runs p)) here ∙ ap (λ s. Some (cell_of (owner_of runs place) s)) is
 
   -- the place is pending of its owner
-  pending_there : (from n place : ℕ) → Won m runs who from n place → finite.get m.slots place ≡ Some (Busy who) → slice_get (cells_of m runs) place ≡ Some (cells.Pending who)
+  pending_there : (from n place : ℕ) → Won m runs who from n place → finite.get m.slots place ≡ Some (Busy who)
+      → slice_get (cells_of m runs) place ≡ Some (cells.Pending who)
   pending_there from n place won busy =
       let inside : place < m.size = (let a = won.before in let b = won.claimed in omega arith) in
       seen_there place (Some (Busy who)) inside busy ∙ ap (λ o. Some (cell_of o (Some (Busy who)))) (won.owned place won.within won.before)
 
   -- what is seen where a slot that a filled or broken cell is of is set
-  finished : (place : ℕ) (slot : Slot) (cell : Cell) (event : Event) → place < m.size → cell_of (owner_of runs place) (Some slot) ≡ cell → runs_of ((event, replies.Done) ∷ []) ≡ [] → seen limit (with_slot m place slot) (runs ++ runs_of ((event, replies.Done) ∷ [])) ≡ with_cell (seen limit m runs) place cell
+  finished : (place : ℕ) (slot : Slot) (cell : Cell) (event : Event) → place < m.size
+      → cell_of (owner_of runs place) (Some slot) ≡ cell → runs_of ((event, replies.Done) ∷ []) ≡ []
+      → seen limit (with_slot m place slot)
+      (runs ++ runs_of ((event, replies.Done) ∷ [])) ≡ with_cell (seen limit m runs) place cell
   finished place slot cell event inside is none =
       ap (λ rs. seen limit (with_slot m place slot) rs) (ap (λ rs. runs ++ rs) none ∙ append-nil runs)
       ∙ ap (λ cs. record { limit = limit; cells = cs }) (settled place slot inside ∙ ap (λ c. slice_set (cells_of m runs) place c) is)
 
-  fill_told : (command : Command) (from n place : ℕ) → Won m runs who from n place → finite.get m.slots place ≡ Some (Busy who) → Replies limit m runs (fill m who command from n place)
+  fill_told : (command : Command) (from n place : ℕ) → Won m runs who from n place
+      → finite.get m.slots place ≡ Some (Busy who) → Replies limit m runs (fill m who command from n place)
   fill_told command from n place won busy =
       let inside : place < m.size = (let a = won.before in let b = won.claimed in omega arith) in
       let value = value_of command in
@@ -269,7 +293,8 @@ module _ (limit : ℕ) (m : Storage) (runs : List OwnedRun) (who : ℕ) (sees : 
       one_event (seen limit m runs) _ (events.Finish who place value) replies.Done
       (finish_applies (seen limit m runs) who place value (pending_there from n place won busy) ∙ ap (λ v. Some (v, replies.Done)) (sym now))
 
-  spoil_told : (command : Command) (from n place : ℕ) → Won m runs who from n place → finite.get m.slots place ≡ Some (Busy who) → Replies limit m runs (spoil m who command from n place)
+  spoil_told : (command : Command) (from n place : ℕ) → Won m runs who from n place
+      → finite.get m.slots place ≡ Some (Busy who) → Replies limit m runs (spoil m who command from n place)
   spoil_told command from n place won busy =
       let inside : place < m.size = (let a = won.before in let b = won.claimed in omega arith) in
       let now = finished place Broken cells.Broken (events.Break who place) inside refl refl in
@@ -278,12 +303,16 @@ module _ (limit : ℕ) (m : Storage) (runs : List OwnedRun) (who : ℕ) (sees : 
 
   -- ---- Look
 
-  looks : (place : ℕ) (slot : Option Slot) (reply : Reply) (answer : Answer) → place < m.size → finite.get m.slots place ≡ slot → reply_of_look (length (cells_of m runs)) (Some (cell_of (owner_of runs place) slot)) ≡ reply → Replies limit m runs (ends m (events.Look who place) reply answer)
+  looks : (place : ℕ) (slot : Option Slot) (reply : Reply) (answer : Answer) → place < m.size
+      → finite.get m.slots place ≡ slot
+      → reply_of_look (length (cells_of m runs)) (Some (cell_of (owner_of runs place) slot)) ≡ reply
+      → Replies limit m runs (ends m (events.Look who place) reply answer)
   looks place slot reply answer inside is told =
       tells (events.Look who place) reply answer refl
       (look_applies (seen limit m runs) who place (Some (cell_of (owner_of runs place) slot)) (seen_there place slot inside is) ∙ ap (λ r. Some (seen limit m runs, r)) told)
 
-  look_told : (place : ℕ) (slot : Option Slot) → place < m.size → finite.get m.slots place ≡ slot → Replies limit m runs (look_at m who place slot)
+  look_told : (place : ℕ) (slot : Option Slot) → place < m.size → finite.get m.slots place ≡ slot
+      → Replies limit m runs (look_at m who place slot)
   look_told place None inside is = looks place None replies.Pending answers.Pending inside is refl
   look_told place (Some (Busy owner)) inside is = looks place (Some (Busy owner)) replies.Pending answers.Pending inside is refl
   look_told place (Some (Filled value)) inside is = looks place (Some (Filled value)) (replies.Value value) (answers.Value value) inside is refl
@@ -291,7 +320,8 @@ module _ (limit : ℕ) (m : Storage) (runs : List OwnedRun) (who : ℕ) (sees : 
 
   -- ---- The table
 
-  pub row_told : (command : Command) (memory : Bool) (phase : Phase) → IsWithin limit command phase → Knows m runs who phase → Replies limit m runs (outcome_of limit m who command memory phase)
+  pub row_told : (command : Command) (memory : Bool) (phase : Phase) → IsWithin limit command phase
+      → Knows m runs who phase → Replies limit m runs (outcome_of limit m who command memory phase)
   row_told command memory Load within knows = load_told command
   row_told command memory (Scout from n k) within knows = scout_told command from n k
   row_told command memory (Put from n k) within knows = put_told command memory from n k

@@ -8,12 +8,14 @@ use Rattle.book_core.specs.declared.events.Reply.TheVariants as replies
 use Rattle.book_core.specs.Cells.{CellList, with_pending, with_cell, is_pending_for, reply_of_look, apply_event}
 
 module _ (v : CellList) (who size : ℕ) (is : length v.cells ≡ size) where
-  pub claim_applies : (n : ℕ) → size + n ≤ v.limit → apply_event v (Claim who n) ≡ Some (with_pending v who n, replies.Run size n)
+  pub claim_applies : (n : ℕ) → size + n ≤ v.limit
+      → apply_event v (Claim who n) ≡ Some (with_pending v who n, replies.Run size n)
   claim_applies n room =
       let fits : nat_le (length v.cells + n) v.limit ≡ true = grind (arith, nat_tests) in
       rw fits (ap (λ k. Some (with_pending v who n, replies.Run k n)) is)
 
-  pub raise_applies : (to : ℕ) → size < to → to ≤ v.limit → apply_event v (Raise who to) ≡ Some (with_pending v who (to - size), replies.Run size (to - size))
+  pub raise_applies : (to : ℕ) → size < to → to ≤ v.limit
+      → apply_event v (Raise who to) ≡ Some (with_pending v who (to - size), replies.Run size (to - size))
   raise_applies to more room =
       let grows : nat_le to (length v.cells) ≡ false = grind (arith, nat_tests) in
       let fits : nat_le to v.limit ≡ true = grind (arith, nat_tests) in
@@ -35,15 +37,18 @@ module _ (v : CellList) (who size : ℕ) (is : length v.cells ≡ size) where
 is_own : (who : ℕ) → is_pending_for who (Some (Pending who)) ≡ true
 is_own who = (let same : (who == who) ≡ true = grind (arith, nat_tests) in same)
 
-pub finish_applies : (v : CellList) (who place value : ℕ) → slice_get v.cells place ≡ Some (Pending who) → apply_event v (Finish who place value) ≡ Some (with_cell v place (Filled value), replies.Done)
+pub finish_applies : (v : CellList) (who place value : ℕ) → slice_get v.cells place ≡ Some (Pending who)
+    → apply_event v (Finish who place value) ≡ Some (with_cell v place (Filled value), replies.Done)
 finish_applies v who place value pending =
     ap (λ o. if is_pending_for who o then Some (with_cell v place (Filled value), replies.Done) else None) pending
     ∙ ap (λ b. if b then Some (with_cell v place (Filled value), replies.Done) else None) (is_own who)
 
-pub break_applies : (v : CellList) (who place : ℕ) → slice_get v.cells place ≡ Some (Pending who) → apply_event v (Break who place) ≡ Some (with_cell v place Broken, replies.Done)
+pub break_applies : (v : CellList) (who place : ℕ) → slice_get v.cells place ≡ Some (Pending who)
+    → apply_event v (Break who place) ≡ Some (with_cell v place Broken, replies.Done)
 break_applies v who place pending =
     ap (λ o. if is_pending_for who o then Some (with_cell v place Broken, replies.Done) else None) pending
     ∙ ap (λ b. if b then Some (with_cell v place Broken, replies.Done) else None) (is_own who)
 
-pub look_applies : (v : CellList) (who place : ℕ) (cell : Option Cell) → slice_get v.cells place ≡ cell → apply_event v (Look who place) ≡ Some (v, reply_of_look (length v.cells) cell)
+pub look_applies : (v : CellList) (who place : ℕ) (cell : Option Cell) → slice_get v.cells place ≡ cell
+    → apply_event v (Look who place) ≡ Some (v, reply_of_look (length v.cells) cell)
 look_applies v who place cell is = ap (λ o. Some (v, reply_of_look (length v.cells) o)) is

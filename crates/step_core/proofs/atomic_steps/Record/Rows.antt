@@ -81,7 +81,8 @@ pub record Tells (who : ℕ) (command : Command) (now : List (Event × Reply)) (
 -- ---- Records of one event
 
 -- a growth past the limit
-full_recorded : (who : ℕ) (command : Command) (n size : ℕ) → Asks command n → Exchanges command → IsRecord who command ((events.RefusedFull who n, replies.Full size) ∷ []) (answers.Full size)
+full_recorded : (who : ℕ) (command : Command) (n size : ℕ) → Asks command n → Exchanges command
+    → IsRecord who command ((events.RefusedFull who n, replies.Full size) ∷ []) (answers.Full size)
 full_recorded who (commands.Push value) n size asks exchanges = inr (inl (record { size = size; events = ap (λ k. (events.RefusedFull who k, replies.Full size) ∷ []) asks; answered = refl }))
 full_recorded who (commands.Grow m value) n size asks exchanges = inr (inl (record { size = size; events = ap (λ k. (events.RefusedFull who k, replies.Full size) ∷ []) asks; answered = refl }))
 full_recorded who (commands.AtLeast to value) n size asks exchanges = absurd exchanges
@@ -90,7 +91,8 @@ full_recorded who (commands.Read place) n size asks exchanges = absurd asks
 full_recorded who commands.Size n size asks exchanges = absurd asks
 
 -- a growth that was refused memory
-memory_recorded : (who : ℕ) (command : Command) (n : ℕ) → Asks command n → IsRecord who command ((events.RefusedMemory who, replies.NoMemory) ∷ []) answers.NoMemory
+memory_recorded : (who : ℕ) (command : Command) (n : ℕ) → Asks command n
+    → IsRecord who command ((events.RefusedMemory who, replies.NoMemory) ∷ []) answers.NoMemory
 memory_recorded who (commands.Push value) n asks = inr (inr (record { events = refl; answered = refl }))
 memory_recorded who (commands.Grow m value) n asks = inr (inr (record { events = refl; answered = refl }))
 memory_recorded who (commands.AtLeast to value) n asks = inr (inr (inr (record { events = refl; answered = refl })))
@@ -99,7 +101,8 @@ memory_recorded who (commands.Read place) n asks = absurd asks
 memory_recorded who commands.Size n asks = absurd asks
 
 -- a growth by no places
-nothing_recorded : (who : ℕ) (command : Command) (n size : ℕ) → IsSound command → Asks command n → Exchanges command → n ≡ 0 → IsRecord who command ((events.Claim who 0, replies.Run size 0) ∷ []) (answers.Run size 0)
+nothing_recorded : (who : ℕ) (command : Command) (n size : ℕ) → IsSound command → Asks command n → Exchanges command
+    → n ≡ 0 → IsRecord who command ((events.Claim who 0, replies.Run size 0) ∷ []) (answers.Run size 0)
 nothing_recorded who (commands.Push value) n size sound asks exchanges none = absurd (let one : n ≡ 1 = asks in omega arith)
 nothing_recorded who (commands.Grow m value) n size sound asks exchanges none =
     subst (λ k. IsRecord who (commands.Grow k value) ((events.Claim who 0, replies.Run size 0) ∷ []) (answers.Run size 0)) (sym none ∙ asks)
@@ -112,7 +115,8 @@ nothing_recorded who commands.Size n size sound asks exchanges none = absurd ask
 -- ---- Steps of a call that has no events so far
 
 -- a growth by so many is loaded
-growth_told : (limit : ℕ) (m : Storage) (who n : ℕ) (command : Command) → IsSound command → Asks command n → Exchanges command → Tells who command [] (load_growth limit m who n)
+growth_told : (limit : ℕ) (m : Storage) (who n : ℕ) (command : Command) → IsSound command → Asks command n
+    → Exchanges command → Tells who command [] (load_growth limit m who n)
 growth_told limit m who n command sound asks exchanges =
     elim (n == 0) as (λ b. (n == 0) ≡ b → Tells who command [] (if b then ends m (events.Claim who 0) (replies.Run m.size 0) (answers.Run m.size 0) else if nat_le (m.size + n) limit then goes_on m (Scout m.size n (segment_of m.size)) else ends m (events.RefusedFull who n) (replies.Full m.size) (answers.Full m.size))) [
       | true ↦ (λ none. record { its = refl; told = nothing_recorded who command n m.size sound asks exchanges (eqb-true n 0 none) })
@@ -125,7 +129,8 @@ growth_told limit m who n command sound asks exchanges =
     refl
 
 -- a growth to at least a size is loaded
-at_least_told : (limit : ℕ) (m : Storage) (who to value : ℕ) → Tells who (commands.AtLeast to value) [] (load_at_least limit m who to)
+at_least_told : (limit : ℕ) (m : Storage) (who to value : ℕ)
+    → Tells who (commands.AtLeast to value) [] (load_at_least limit m who to)
 at_least_told limit m who to value =
     elim (nat_le to m.size) as (λ b. Tells who (commands.AtLeast to value) [] (if b then ends m (events.Raise who to) (replies.Enough m.size) (answers.Enough m.size) else if nat_le to limit then goes_on m (Scout m.size (to - m.size) (segment_of m.size)) else ends m (events.RefusedFull who (to - m.size)) (replies.Full m.size) (answers.Full m.size))) [
       | true ↦ record { its = refl; told = inr (inl (record { size = m.size; events = refl; answered = refl })) }
@@ -145,7 +150,8 @@ read_told m who place =
     ]
 
 -- every call is loaded
-load_told : (limit : ℕ) (m : Storage) (who : ℕ) (command : Command) → IsSound command → Tells who command [] (load limit m who command)
+load_told : (limit : ℕ) (m : Storage) (who : ℕ) (command : Command) → IsSound command
+    → Tells who command [] (load limit m who command)
 load_told limit m who (commands.Push value) sound = growth_told limit m who 1 (commands.Push value) sound refl tt
 load_told limit m who (commands.Grow n value) sound = growth_told limit m who n (commands.Grow n value) sound refl tt
 load_told limit m who (commands.AtLeast to value) sound = at_least_told limit m who to value
@@ -154,7 +160,8 @@ load_told limit m who (commands.Read place) sound = read_told m who place
 load_told limit m who commands.Size sound = record { its = refl; told = record { size = m.size; events = refl; answered = refl } }
 
 -- what claims the places that a growth asks for
-claiming_told : (who : ℕ) (command : Command) (from n : ℕ) → Asks command n → StageOf who command (claiming command from n) []
+claiming_told : (who : ℕ) (command : Command) (from n : ℕ) → Asks command n
+    → StageOf who command (claiming command from n) []
 claiming_told who (commands.Push value) from n asks = (refl, asks)
 claiming_told who (commands.Grow m value) from n asks = (refl, asks)
 claiming_told who (commands.AtLeast to value) from n asks = (refl, refl)
@@ -163,13 +170,15 @@ claiming_told who (commands.Read place) from n asks = absurd asks
 claiming_told who commands.Size from n asks = absurd asks
 
 -- behind a segment comes the next one, or the claim
-segment_told : (who : ℕ) (command : Command) (from n segment : ℕ) → Asks command n → StageOf who command (after_segment command from n segment) []
+segment_told : (who : ℕ) (command : Command) (from n segment : ℕ) → Asks command n
+    → StageOf who command (after_segment command from n segment) []
 segment_told who command from n segment asks =
     elim (nat_lt (segment_end segment) (from + n)) as (λ b. StageOf who command (if b then Scout from n (segment + 1) else claiming command from n) [])
     [ true ↦ (refl, asks) | false ↦ claiming_told who command from n asks ]
 
 -- a segment is there, or is put
-scout_told : (m : Storage) (who : ℕ) (command : Command) (from n segment : ℕ) → Asks command n → Tells who command [] (scout m command from n segment)
+scout_told : (m : Storage) (who : ℕ) (command : Command) (from n segment : ℕ) → Asks command n
+    → Tells who command [] (scout m command from n segment)
 scout_told m who command from n segment asks =
     elim (set.contains m.installed segment) as (λ b. Tells who command [] (if b then goes_on m (after_segment command from n segment) else goes_on m (Put from n segment))) [
       | true ↦ record { its = tt; told = segment_told who command from n segment asks }
@@ -177,12 +186,14 @@ scout_told m who command from n segment asks =
     ]
 
 -- a segment is put, or memory is refused
-put_told : (m : Storage) (who : ℕ) (command : Command) (memory : Bool) (from n segment : ℕ) → Asks command n → Tells who command [] (put m who command memory from n segment)
+put_told : (m : Storage) (who : ℕ) (command : Command) (memory : Bool) (from n segment : ℕ) → Asks command n
+    → Tells who command [] (put m who command memory from n segment)
 put_told m who command true from n segment asks = record { its = tt; told = segment_told who command from n segment asks }
 put_told m who command false from n segment asks = record { its = refl; told = memory_recorded who command n asks }
 
 -- a growth that claims by an exchange claims by its count
-claim_of_exchange : (who : ℕ) (command : Command) (n : ℕ) → Exchanges command → events.Claim who n ≡ claim_of who command n
+claim_of_exchange : (who : ℕ) (command : Command) (n : ℕ) → Exchanges command
+    → events.Claim who n ≡ claim_of who command n
 claim_of_exchange who (commands.Push value) n exchanges = refl
 claim_of_exchange who (commands.Grow m value) n exchanges = refl
 claim_of_exchange who (commands.AtLeast to value) n exchanges = absurd exchanges
@@ -191,12 +202,14 @@ claim_of_exchange who (commands.Read place) n exchanges = refl
 claim_of_exchange who commands.Size n exchanges = refl
 
 -- a claim alone, with no place settled
-claim_alone : (who : ℕ) (command : Command) (from n : ℕ) (event : Event) → event ≡ claim_of who command n → (event, replies.Run from n) ∷ [] ≡ run_so_far who command from n (from - from)
+claim_alone : (who : ℕ) (command : Command) (from n : ℕ) (event : Event) → event ≡ claim_of who command n
+    → (event, replies.Run from n) ∷ [] ≡ run_so_far who command from n (from - from)
 claim_alone who command from n event is =
     ap (λ e. (e, replies.Run from n) ∷ []) is ∙ ap (run_so_far who command from n) (sym (sub_self from))
 
 -- an exchange claims the places, or begins again, or is past the limit
-exchange_told : (limit : ℕ) (m : Storage) (who : ℕ) (command : Command) (from n : ℕ) → Asks command n → Exchanges command → Tells who command [] (exchange limit m who from n)
+exchange_told : (limit : ℕ) (m : Storage) (who : ℕ) (command : Command) (from n : ℕ) → Asks command n
+    → Exchanges command → Tells who command [] (exchange limit m who from n)
 exchange_told limit m who command from n asks exchanges =
     elim (m.size == from) as (λ b. Tells who command [] (if b then record { storage = with_size m (from + n); event = Some (events.Claim who n, replies.Run from n); next = Goes (Begin from n from) } else if nat_le (m.size + n) limit then goes_on m (Scout m.size n (segment_of m.size)) else ends m (events.RefusedFull who n) (replies.Full m.size) (answers.Full m.size))) [
       | true ↦ record { its = refl; told = (claim_alone who command from n (events.Claim who n) (claim_of_exchange who command n exchanges), asks) }
@@ -216,7 +229,8 @@ at_least_raised m who to value =
     ]
 
 -- only a growth to at least a size raises
-raise_told : (m : Storage) (who : ℕ) (command : Command) (to : ℕ) → IsRaise command to → Tells who command [] (raise m who to)
+raise_told : (m : Storage) (who : ℕ) (command : Command) (to : ℕ) → IsRaise command to
+    → Tells who command [] (raise m who to)
 raise_told m who (commands.Push value) to is = absurd is
 raise_told m who (commands.Grow n value) to is = absurd is
 raise_told m who (commands.AtLeast size value) to is = subst (λ k. Tells who (commands.AtLeast size value) [] (raise m who k)) is (at_least_raised m who size value)
@@ -225,14 +239,16 @@ raise_told m who (commands.Read place) to is = absurd is
 raise_told m who commands.Size to is = absurd is
 
 -- a read ends by what the slot holds
-read_looked : (m : Storage) (who place : ℕ) (slot : Option Slot) → Tells who (commands.Read place) [] (look_at m who place slot)
+read_looked : (m : Storage) (who place : ℕ) (slot : Option Slot)
+    → Tells who (commands.Read place) [] (look_at m who place slot)
 read_looked m who place None = record { its = refl; told = record { reply = replies.Pending; events = refl; answered = refl } }
 read_looked m who place (Some (Busy owner)) = record { its = refl; told = record { reply = replies.Pending; events = refl; answered = refl } }
 read_looked m who place (Some (Filled value)) = record { its = refl; told = record { reply = replies.Value value; events = refl; answered = refl } }
 read_looked m who place (Some Broken) = record { its = refl; told = record { reply = replies.Broken; events = refl; answered = refl } }
 
 -- only a read looks
-look_told : (m : Storage) (who : ℕ) (command : Command) (place : ℕ) (slot : Option Slot) → IsReadOf command place → Tells who command [] (look_at m who place slot)
+look_told : (m : Storage) (who : ℕ) (command : Command) (place : ℕ) (slot : Option Slot) → IsReadOf command place
+    → Tells who command [] (look_at m who place slot)
 look_told m who (commands.Push value) place slot is = absurd is
 look_told m who (commands.Grow n value) place slot is = absurd is
 look_told m who (commands.AtLeast to value) place slot is = absurd is
@@ -243,7 +259,8 @@ look_told m who commands.Size place slot is = absurd is
 -- ---- Steps of a call that won its places
 
 -- an empty slot is taken, or the step changes nothing
-begin_told : (m : Storage) (who : ℕ) (command : Command) (from n place : ℕ) (slot : Option Slot) → Asks command n → Tells who command (run_so_far who command from n (place - from)) (begin_at m who command from n place slot)
+begin_told : (m : Storage) (who : ℕ) (command : Command) (from n place : ℕ) (slot : Option Slot) → Asks command n
+    → Tells who command (run_so_far who command from n (place - from)) (begin_at m who command from n place slot)
 begin_told m who command from n place None asks =
     let now = run_so_far who command from n (place - from) in
     elim (is_refused command from place) as (λ b. is_refused command from place ≡ b → Tells who command now (goes_on (with_slot m place (Busy who)) (if b then Spoil from n place else Fill from n place))) [
@@ -254,7 +271,9 @@ begin_told m who command from n place None asks =
 begin_told m who command from n place (Some slot) asks = record { its = tt; told = (append-nil (run_so_far who command from n (place - from)), asks) }
 
 -- one more place of the run is settled: the call goes on, or ends behind the last
-place_told : (who : ℕ) (command : Command) (from n place : ℕ) → IsSound command → Asks command n → from ≤ place → place < from + n → Told who command (run_so_far who command from n (place - from) ++ (settling who command from place, replies.Done) ∷ []) (after_place command from n place)
+place_told : (who : ℕ) (command : Command) (from n place : ℕ) → IsSound command → Asks command n → from ≤ place
+    → place < from + n
+    → Told who command (run_so_far who command from n (place - from) ++ (settling who command from place, replies.Done) ∷ []) (after_place command from n place)
 place_told who command from n place sound asks low high =
     let more : run_so_far who command from n (place - from) ++ (settling who command from place, replies.Done) ∷ [] ≡ run_so_far who command from n (place - from + 1) =
     ap (λ es. (claim_of who command n, replies.Run from n) ∷ es) (settled_more who command from (place - from) place (omega arith))
@@ -269,7 +288,9 @@ place_told who command from n place sound asks low high =
     refl
 
 -- a place that is not refused is filled
-fill_told : (m : Storage) (who : ℕ) (command : Command) (from n place : ℕ) → IsSound command → Asks command n → from ≤ place → place < from + n → is_refused command from place ≡ false → Tells who command (run_so_far who command from n (place - from)) (fill m who command from n place)
+fill_told : (m : Storage) (who : ℕ) (command : Command) (from n place : ℕ) → IsSound command → Asks command n
+    → from ≤ place → place < from + n → is_refused command from place ≡ false
+    → Tells who command (run_so_far who command from n (place - from)) (fill m who command from n place)
 fill_told m who command from n place sound asks low high fits =
     let is : settling who command from place ≡ events.Finish who place (value_of command) = rw fits refl in
     record {
@@ -278,7 +299,9 @@ fill_told m who command from n place sound asks low high fits =
     }
 
 -- a place that is refused is broken
-spoil_told : (m : Storage) (who : ℕ) (command : Command) (from n place : ℕ) → IsSound command → Asks command n → from ≤ place → place < from + n → is_refused command from place ≡ true → Tells who command (run_so_far who command from n (place - from)) (spoil m who command from n place)
+spoil_told : (m : Storage) (who : ℕ) (command : Command) (from n place : ℕ) → IsSound command → Asks command n
+    → from ≤ place → place < from + n → is_refused command from place ≡ true
+    → Tells who command (run_so_far who command from n (place - from)) (spoil m who command from n place)
 spoil_told m who command from n place sound asks low high refused =
     let is : settling who command from place ≡ events.Break who place = rw refused refl in
     record {
@@ -289,11 +312,15 @@ spoil_told m who command from n place sound asks low high refused =
 -- ---- Every row
 
 -- the same of events that are known
-after : (who : ℕ) (command : Command) (o : Outcome) (now known : List (Event × Reply)) → now ≡ known → Tells who command known o → Tells who command now o
+after : (who : ℕ) (command : Command) (o : Outcome) (now known : List (Event × Reply)) → now ≡ known
+    → Tells who command known o → Tells who command now o
 after who command o now known is tells = subst (λ es. Tells who command es o) (sym is) tells
 
 -- every step
-pub row_told : (limit : ℕ) (m : Storage) (who : ℕ) (command : Command) (memory : Bool) (phase : Phase) (now : List (Event × Reply)) → IsSound command → IsWithin limit command phase → StageOf who command phase now → Tells who command now (outcome_of limit m who command memory phase)
+pub row_told : (limit : ℕ) (m : Storage) (who : ℕ) (command : Command) (memory : Bool) (phase : Phase)
+    (now : List (Event × Reply))
+    → IsSound command → IsWithin limit command phase → StageOf who command phase now
+    → Tells who command now (outcome_of limit m who command memory phase)
 row_told limit m who command memory Load now sound within none = after who command (load limit m who command) now [] none (load_told limit m who command sound)
 row_told limit m who command memory (Scout from n segment) now sound within (none, asks) = after who command (scout m command from n segment) now [] none (scout_told m who command from n segment asks)
 row_told limit m who command memory (Put from n segment) now sound within (none, asks) = after who command (put m who command memory from n segment) now [] none (put_told m who command memory from n segment asks)
@@ -328,12 +355,14 @@ none_begun : (who : ℕ) (command : Command) (now : List (Event × Reply)) → n
 none_begun who command now none = subst (IsBegun who command) (sym none) (some_begun who command)
 
 -- where places are left, their events are left
-some_left : (f : ℕ → Event) (from left : ℕ) → 0 < left → map {B = Event × Reply} (λ event. (event, replies.Done)) (map f (range_with_len from left)) ≢ []
+some_left : (f : ℕ → Event) (from left : ℕ) → 0 < left
+    → map {B = Event × Reply} (λ event. (event, replies.Done)) (map f (range_with_len from left)) ≢ []
 some_left f from zero some = absurd (omega arith)
 some_left f from (suc left) some = cons_is_some (f from, replies.Done) (map (λ event. (event, replies.Done)) (map f (range_with_len (from + 1) left)))
 
 -- a call with some of its places settled, and some left, is begun
-run_begun : (who : ℕ) (command : Command) (from n k : ℕ) (now : List (Event × Reply)) → IsSound command → Asks command n → k < n → now ≡ run_so_far who command from n k → IsBegun who command now
+run_begun : (who : ℕ) (command : Command) (from n k : ℕ) (now : List (Event × Reply)) → IsSound command
+    → Asks command n → k < n → now ≡ run_so_far who command from n k → IsBegun who command now
 run_begun who command from n k now sound asks within so_far =
     subst (IsBegun who command) (sym so_far) (record {
       rest = map (λ event. (event, replies.Done)) (map (settling who command from) (range_with_len (from + k) (n - k)));
@@ -343,7 +372,8 @@ run_begun who command from n k now sound asks within so_far =
     })
 
 -- a call under way is begun, whatever its phase
-pub stage_begun : (limit : ℕ) (who : ℕ) (command : Command) (phase : Phase) (now : List (Event × Reply)) → IsSound command → IsWithin limit command phase → StageOf who command phase now → IsBegun who command now
+pub stage_begun : (limit : ℕ) (who : ℕ) (command : Command) (phase : Phase) (now : List (Event × Reply))
+    → IsSound command → IsWithin limit command phase → StageOf who command phase now → IsBegun who command now
 stage_begun limit who command Load now sound within none = none_begun who command now none
 stage_begun limit who command (Scout from n segment) now sound within (none, asks) = none_begun who command now none
 stage_begun limit who command (Put from n segment) now sound within (none, asks) = none_begun who command now none
@@ -355,7 +385,8 @@ stage_begun limit who command (Spoil from n place) now sound (low, high, room) (
 stage_begun limit who command (Look place) now sound within (none, is) = none_begun who command now none
 
 -- the claim, and the places settled before this one
-up_to : (who : ℕ) (command : Command) (from n place : ℕ) (now : List (Event × Reply)) → from ≤ place → now ≡ run_so_far who command from n (place - from) → IsClaimedUpTo from n place now
+up_to : (who : ℕ) (command : Command) (from n place : ℕ) (now : List (Event × Reply)) → from ≤ place
+    → now ≡ run_so_far who command from n (place - from) → IsClaimedUpTo from n place now
 up_to who command from n place now low so_far = record {
   claim = claim_of who command n;
   writes = settled who command from (place - from);
@@ -364,7 +395,8 @@ up_to who command from n place now low so_far = record {
 }
 
 -- so the events so far are what the phase says
-pub stage_so_far : (limit : ℕ) (who : ℕ) (command : Command) (phase : Phase) (now : List (Event × Reply)) → IsWithin limit command phase → StageOf who command phase now → AreSoFar phase now
+pub stage_so_far : (limit : ℕ) (who : ℕ) (command : Command) (phase : Phase) (now : List (Event × Reply))
+    → IsWithin limit command phase → StageOf who command phase now → AreSoFar phase now
 stage_so_far limit who command Load now within none = none
 stage_so_far limit who command (Scout from n segment) now within (none, asks) = none
 stage_so_far limit who command (Put from n segment) now within (none, asks) = none

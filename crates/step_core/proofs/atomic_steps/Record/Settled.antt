@@ -48,7 +48,8 @@ abbrev pub run_so_far : ℕ → Command → ℕ → ℕ → ℕ → List (Event 
 run_so_far who command from n count = (claim_of who command n, replies.Run from n) ∷ settled who command from count
 
 -- what is made of places is what is made of the first of them, and then of the others
-map_parts : (f : ℕ → Event) (from k rest n : ℕ) → k + rest ≡ n → map f (range_with_len from n) ≡ map f (range_with_len from k) ++ map f (range_with_len (from + k) rest)
+map_parts : (f : ℕ → Event) (from k rest n : ℕ) → k + rest ≡ n
+    → map f (range_with_len from n) ≡ map f (range_with_len from k) ++ map f (range_with_len (from + k) rest)
 map_parts f from zero rest n is =
     let count : n ≡ rest = omega arith in
     let place : from ≡ from + 0 = omega arith in
@@ -58,29 +59,36 @@ map_parts f from (suc k) rest (suc n) is =
     ap (λ es. f from ∷ es) (map_parts f (from + 1) k rest n (omega arith) ∙ ap (λ place. map f (range_with_len (from + 1) k) ++ map f (range_with_len place rest)) (omega arith))
 
 -- the same is made of places where it is made of each
-map_same : (f g : ℕ → Event) (from n : ℕ) → ((place : ℕ) → from ≤ place → place < from + n → f place ≡ g place) → map f (range_with_len from n) ≡ map g (range_with_len from n)
+map_same : (f g : ℕ → Event) (from n : ℕ) → ((place : ℕ) → from ≤ place → place < from + n → f place ≡ g place)
+    → map f (range_with_len from n) ≡ map g (range_with_len from n)
 map_same f g from zero same = refl
 map_same f g from (suc n) same =
     rw (same from (omega arith) (omega arith), map_same f g (from + 1) n (λ place low high. same place (omega arith) (omega arith))) refl
 
 -- one more place is settled
-pub settled_more : (who : ℕ) (command : Command) (from count place : ℕ) → from + count ≡ place → settled who command from count ++ (settling who command from place, replies.Done) ∷ [] ≡ settled who command from (count + 1)
+pub settled_more : (who : ℕ) (command : Command) (from count place : ℕ) → from + count ≡ place
+    → settled who command from count ++ (settling who command from place, replies.Done) ∷ [] ≡ settled who command from (count + 1)
 settled_more who command from count place is =
     sym (ap (map (λ event. (event, replies.Done))) (map-range_with_len_more (settling who command from) from count place is)
     ∙ map-append (λ event. (event, replies.Done)) (map (settling who command from) (range_with_len from count)) (settling who command from place ∷ []))
 
 -- some places settled, and then the others
-pub settled_parts : (who : ℕ) (command : Command) (from k n : ℕ) → k ≤ n → settled who command from n ≡ settled who command from k ++ map (λ event. (event, replies.Done)) (map (settling who command from) (range_with_len (from + k) (n - k)))
+pub settled_parts : (who : ℕ) (command : Command) (from k n : ℕ) → k ≤ n
+    → settled who command from n ≡ settled who command from k ++ map (λ event. (event, replies.Done))
+    (map (settling who command from) (range_with_len (from + k) (n - k)))
 settled_parts who command from k n within =
     ap (map (λ event. (event, replies.Done))) (map_parts (settling who command from) from k (n - k) n (omega arith))
     ∙ map-append (λ event. (event, replies.Done)) (map (settling who command from) (range_with_len from k)) (map (settling who command from) (range_with_len (from + k) (n - k)))
 
 -- where no place is refused, all are filled and none broken
-all_filled : (who from n value : ℕ) → finishes who from n value ≡ finishes who from n value ++ breaks who (from + n) (n - n)
+all_filled : (who from n value : ℕ)
+    → finishes who from n value ≡ finishes who from n value ++ breaks who (from + n) (n - n)
 all_filled who from n value = rw (sub_self n) (sym (append-nil (finishes who from n value)))
 
 -- where one place is refused, those before it are filled, and then the others broken
-filled_up_to : (who n value at from : ℕ) → at < n → map (settling who (commands.Fail n value at) from) (range_with_len from n) ≡ finishes who from at value ++ breaks who (from + at) (n - at)
+filled_up_to : (who n value at from : ℕ) → at < n
+    → map (settling who (commands.Fail n value at) from)
+    (range_with_len from n) ≡ finishes who from at value ++ breaks who (from + at) (n - at)
 filled_up_to who n value at from before =
     let f = settling who (commands.Fail n value at) from in
     map_parts f from at (n - at) n (omega arith)
@@ -94,7 +102,8 @@ filled_up_to who n value at from before =
     rw refused refl))
 
 -- a claim with all its places settled is a record
-pub run_recorded : (who : ℕ) (command : Command) (from n : ℕ) → IsSound command → Asks command n → IsRecord who command (run_so_far who command from n n) (answer_of_run command from n)
+pub run_recorded : (who : ℕ) (command : Command) (from n : ℕ) → IsSound command → Asks command n
+    → IsRecord who command (run_so_far who command from n n) (answer_of_run command from n)
 run_recorded who (commands.Push value) from n sound asks =
     subst (λ k. IsRecord who (commands.Push value) (run_so_far who (commands.Push value) from k k) (answer_of_run (commands.Push value) from k)) (sym asks)
     (inl (record { from = from; events = refl; answered = refl }))

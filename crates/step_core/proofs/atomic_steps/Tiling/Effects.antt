@@ -17,7 +17,8 @@ use Rattle.book_core.proofs.Runs.{owner_kept, tile-append}
 use Rattle.step_core.proofs.atomic_steps.Tiling.Invariant.{get_set_same, get_set_other, ready_kept, Knows, Settlement, Holds, Effect, knows_kept}
 
 -- the member that was set is there
-pub get_set_here : (xs : List Actor) (i : ℕ) (x d : Actor) → slice_get xs i ≡ Some d → slice_get (slice_set xs i x) i ≡ Some x
+pub get_set_here : (xs : List Actor) (i : ℕ) (x d : Actor) → slice_get xs i ≡ Some d
+    → slice_get (slice_set xs i x) i ≡ Some x
 get_set_here [] i x d is = absurd (none-some d is)
 get_set_here (y ∷ ys) zero x d is = refl
 get_set_here (y ∷ ys) (suc i) x d is = get_set_here ys i x d is
@@ -35,7 +36,12 @@ abbrev pub Covered : Storage → Storage → Phase → Phase → ℕ → Type 0
 Covered m m' old next q = IsOfRun next q ⊎ ((q < m.size) × IsUnfinished (map.get m.slots q) × (IsOfRun old q → ⊥))
 
 -- a step keeps what holds
-pub combined : (m m' : Storage) (actors : List Actor) (runs runs' : List OwnedRun) (writers writers' : ℕ → List ℕ) (who : ℕ) (actor next : Actor) → Holds m actors runs writers → slice_get actors who ≡ Some actor → Effect who m m' runs runs' writers' → Knows m' runs' who next.phase → ((q : ℕ) → q < m'.size → IsUnfinished (map.get m'.slots q) → Covered m m' actor.phase next.phase q) → Holds m' (slice_set actors who next) runs' writers'
+pub combined : (m m' : Storage) (actors : List Actor) (runs runs' : List OwnedRun) (writers writers' : ℕ → List ℕ)
+    (who : ℕ) (actor next : Actor)
+    → Holds m actors runs writers → slice_get actors who ≡ Some actor → Effect who m m' runs runs' writers'
+    → Knows m' runs' who next.phase
+    → ((q : ℕ) → q < m'.size → IsUnfinished (map.get m'.slots q) → Covered m m' actor.phase next.phase q)
+    → Holds m' (slice_set actors who next) runs' writers'
 combined m m' actors runs runs' writers writers' who actor next holds there effect knows covered = record {
   tile = effect.tile;
   ready = effect.ready;
@@ -64,7 +70,8 @@ combined m m' actors runs runs' writers writers' who actor next holds there effe
 -- ---- Nothing is claimed, begun or finished
 
 -- the writers and runs may have nothing added to them
-pub quiet_effect : (who : ℕ) (m : Storage) (actors : List Actor) (runs : List OwnedRun) (writers : ℕ → List ℕ) → Holds m actors runs writers → Effect who m m runs runs writers
+pub quiet_effect : (who : ℕ) (m : Storage) (actors : List Actor) (runs : List OwnedRun) (writers : ℕ → List ℕ)
+    → Holds m actors runs writers → Effect who m m runs runs writers
 quiet_effect who m actors runs writers holds = record {
   tile = holds.tile;
   ready = holds.ready;
@@ -76,7 +83,8 @@ quiet_effect who m actors runs writers holds = record {
   others = λ q o is apart. refl;
 }
 
-pub install_effect : (who k : ℕ) (m : Storage) (actors : List Actor) (runs : List OwnedRun) (writers : ℕ → List ℕ) → Holds m actors runs writers → Effect who m (with_segment m k) runs runs writers
+pub install_effect : (who k : ℕ) (m : Storage) (actors : List Actor) (runs : List OwnedRun) (writers : ℕ → List ℕ)
+    → Holds m actors runs writers → Effect who m (with_segment m k) runs runs writers
 install_effect who k m actors runs writers holds = record {
   tile = holds.tile;
   ready = λ q inside. ready_kept m k q (holds.ready q inside);
@@ -91,13 +99,16 @@ install_effect who k m actors runs writers holds = record {
 -- ---- Places are claimed
 
 -- who has finished a place is the same where runs follow
-pub settlement_kept : (runs more : List OwnedRun) (writers : List ℕ) (place : ℕ) (slot : Option Slot) → Settlement runs writers place slot → Settlement (runs ++ more) writers place slot
+pub settlement_kept : (runs more : List OwnedRun) (writers : List ℕ) (place : ℕ) (slot : Option Slot)
+    → Settlement runs writers place slot → Settlement (runs ++ more) writers place slot
 settlement_kept runs more writers place None is = is
 settlement_kept runs more writers place (Some (Busy actor)) is = is
 settlement_kept runs more writers place (Some (Filled value)) is = record { owner = is.owner; owns = owner_kept runs more place is.owner is.owns; once = is.once }
 settlement_kept runs more writers place (Some Broken) is = record { owner = is.owner; owns = owner_kept runs more place is.owner is.owns; once = is.once }
 
-pub claim_effect : (who n : ℕ) (m : Storage) (actors : List Actor) (runs : List OwnedRun) (writers : ℕ → List ℕ) → Holds m actors runs writers → ((q : ℕ) → q < m.size + n → IsReady m q) → Effect who m (with_size m (m.size + n)) runs (runs ++ record { owner = who; from = m.size; n = n } ∷ []) writers
+pub claim_effect : (who n : ℕ) (m : Storage) (actors : List Actor) (runs : List OwnedRun) (writers : ℕ → List ℕ)
+    → Holds m actors runs writers → ((q : ℕ) → q < m.size + n → IsReady m q)
+    → Effect who m (with_size m (m.size + n)) runs (runs ++ record { owner = who; from = m.size; n = n } ∷ []) writers
 claim_effect who n m actors runs writers holds ready = record {
   tile = tile-append 0 m.size (m.size + n) runs (record { owner = who; from = m.size; n = n } ∷ []) holds.tile (refl, refl);
   ready = ready;
@@ -112,19 +123,25 @@ claim_effect who n m actors runs writers holds ready = record {
 -- ---- A slot is set
 
 -- what the slots of other places hold
-others_set : (who place : ℕ) (slot : Slot) (m : Storage) (runs : List OwnedRun) → owner_of runs place ≡ Some who → (q owner : ℕ) → owner_of runs q ≡ Some owner → owner ≢ who → map.get (with_slot m place slot).slots q ≡ map.get m.slots q
+others_set : (who place : ℕ) (slot : Slot) (m : Storage) (runs : List OwnedRun) → owner_of runs place ≡ Some who
+    → (q owner : ℕ) → owner_of runs q ≡ Some owner → owner ≢ who
+    → map.get (with_slot m place slot).slots q ≡ map.get m.slots q
 others_set who place slot m runs ours q owner is apart =
     get_set_other m place slot q (λ same. apart (same_Some owner who (sym is ∙ ap (owner_of runs) same ∙ ours)))
 
 -- what is taken lies below the size
-taken_set : (place : ℕ) (slot : Slot) (m : Storage) (actors : List Actor) (runs : List OwnedRun) (writers : ℕ → List ℕ) → Holds m actors runs writers → place < m.size → (q : ℕ) (s : Slot) → map.get (with_slot m place slot).slots q ≡ Some s → q < m.size
+taken_set : (place : ℕ) (slot : Slot) (m : Storage) (actors : List Actor) (runs : List OwnedRun) (writers : ℕ → List ℕ)
+    → Holds m actors runs writers → place < m.size → (q : ℕ) (s : Slot)
+    → map.get (with_slot m place slot).slots q ≡ Some s → q < m.size
 taken_set place slot m actors runs writers holds inside q s is =
     elim (eqb_tells q place) [
       | inl same ↦ (let e : q ≡ place = same.1 in omega arith)
       | inr apart ↦ holds.taken q s (sym (get_set_other m place slot q apart.1) ∙ is)
     ]
 
-pub begin_effect : (who place : ℕ) (m : Storage) (actors : List Actor) (runs : List OwnedRun) (writers : ℕ → List ℕ) → Holds m actors runs writers → place < m.size → owner_of runs place ≡ Some who → map.get m.slots place ≡ None → Effect who m (with_slot m place (Busy who)) runs runs writers
+pub begin_effect : (who place : ℕ) (m : Storage) (actors : List Actor) (runs : List OwnedRun) (writers : ℕ → List ℕ)
+    → Holds m actors runs writers → place < m.size → owner_of runs place ≡ Some who → map.get m.slots place ≡ None
+    → Effect who m (with_slot m place (Busy who)) runs runs writers
 begin_effect who place m actors runs writers holds inside ours empty = record {
   tile = holds.tile;
   ready = holds.ready;
@@ -141,13 +158,19 @@ begin_effect who place m actors runs writers holds inside ours empty = record {
 }
 
 -- a finished slot has one settler
-finished_by : (who : ℕ) (runs : List OwnedRun) (place : ℕ) (slot : Slot) → (IsUnfinished (Some slot) → ⊥) → owner_of runs place ≡ Some who → Settlement runs (who ∷ []) place (Some slot)
+finished_by : (who : ℕ) (runs : List OwnedRun) (place : ℕ) (slot : Slot) → (IsUnfinished (Some slot) → ⊥)
+    → owner_of runs place ≡ Some who → Settlement runs (who ∷ []) place (Some slot)
 finished_by who runs place (Busy actor) finished ours = absurd (finished tt)
 finished_by who runs place (Filled value) finished ours = record { owner = who; owns = ours; once = refl }
 finished_by who runs place Broken finished ours = record { owner = who; owns = ours; once = refl }
 
 -- the owner finishes its place: the writers of that place gain it, and those of others nothing
-pub settle_effect : (who place : ℕ) (slot : Slot) (m : Storage) (actors : List Actor) (runs : List OwnedRun) (writers writers' : ℕ → List ℕ) → Holds m actors runs writers → place < m.size → owner_of runs place ≡ Some who → map.get m.slots place ≡ Some (Busy who) → (IsUnfinished (Some slot) → ⊥) → (writers' place ≡ writers place ++ who ∷ []) → ((q : ℕ) → q ≢ place → writers' q ≡ writers q) → Effect who m (with_slot m place slot) runs runs writers'
+pub settle_effect : (who place : ℕ) (slot : Slot) (m : Storage) (actors : List Actor) (runs : List OwnedRun)
+    (writers writers' : ℕ → List ℕ)
+    → Holds m actors runs writers → place < m.size → owner_of runs place ≡ Some who
+    → map.get m.slots place ≡ Some (Busy who) → (IsUnfinished (Some slot) → ⊥)
+    → (writers' place ≡ writers place ++ who ∷ []) → ((q : ℕ) → q ≢ place → writers' q ≡ writers q)
+    → Effect who m (with_slot m place slot) runs runs writers'
 settle_effect who place slot m actors runs writers writers' holds inside ours busy finished gained kept = record {
   tile = holds.tile;
   ready = holds.ready;

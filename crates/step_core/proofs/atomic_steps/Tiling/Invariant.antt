@@ -31,7 +31,8 @@ get_set_same m place slot =
     ∙ ap (λ b. cond b (Some slot) (map.get m.slots place)) (tied_is place place ∙ (let e : (place == place) ≡ true = grind (arith, nat_tests) in e))
 
 -- any other slot is as it was
-pub get_set_other : (m : Storage) (place : ℕ) (slot : Slot) (q : ℕ) → q ≢ place → map.get (with_slot m place slot).slots q ≡ map.get m.slots q
+pub get_set_other : (m : Storage) (place : ℕ) (slot : Slot) (q : ℕ) → q ≢ place
+    → map.get (with_slot m place slot).slots q ≡ map.get m.slots q
 get_set_other m place slot q other =
     map.get-insert nat_cmp_total m.slots place slot q
     ∙ ap (λ b. cond b (Some slot) (map.get m.slots q)) (tied_is q place ∙ (let e : (q == place) ≡ false = grind (arith, nat_tests) in e))
@@ -56,7 +57,8 @@ installed_now m k =
     ∙ ap (λ b. b || set.contains m.installed k) (tied_is k k ∙ (let e : (k == k) ≡ true = grind (arith, nat_tests) in e))
 
 -- where a segment and all before it are ready, so are all places before its end
-pub ready_through : (m : Storage) (k bound : ℕ) → ((q : ℕ) → q < segment_start k → q < bound → IsReady m q) → set.contains m.installed k ≡ true → (q : ℕ) → q < segment_end k → q < bound → IsReady m q
+pub ready_through : (m : Storage) (k bound : ℕ) → ((q : ℕ) → q < segment_start k → q < bound → IsReady m q)
+    → set.contains m.installed k ≡ true → (q : ℕ) → q < segment_end k → q < bound → IsReady m q
 ready_through m k bound before there q ends inside =
     elim (cases_lt q (segment_start k)) [
       | inl earlier ↦ before q earlier inside
@@ -127,7 +129,9 @@ pub record Effect (who : ℕ) (m m' : Storage) (runs runs' : List OwnedRun) (wri
   pub others : (q owner : ℕ) → owner_of runs q ≡ Some owner → owner ≢ who → map.get m'.slots q ≡ map.get m.slots q
 
 -- the places of others stay as they know them
-won_kept : (who other : ℕ) (m m' : Storage) (runs runs' : List OwnedRun) (writers' : ℕ → List ℕ) (from n place : ℕ) → Effect who m m' runs runs' writers' → other ≢ who → Won m runs other from n place → Won m' runs' other from n place
+won_kept : (who other : ℕ) (m m' : Storage) (runs runs' : List OwnedRun) (writers' : ℕ → List ℕ) (from n place : ℕ)
+    → Effect who m m' runs runs' writers' → other ≢ who → Won m runs other from n place
+    → Won m' runs' other from n place
 won_kept who other m m' runs runs' writers' from n place effect apart won = record {
   within = won.within;
   before = won.before;
@@ -138,11 +142,14 @@ won_kept who other m m' runs runs' writers' from n place effect apart won = reco
 }
 
 -- the actor's own slot, which others leave alone
-own_kept : (who other : ℕ) (m m' : Storage) (runs runs' : List OwnedRun) (writers' : ℕ → List ℕ) (from n place : ℕ) → Effect who m m' runs runs' writers' → other ≢ who → Won m runs other from n place → map.get m'.slots place ≡ map.get m.slots place
+own_kept : (who other : ℕ) (m m' : Storage) (runs runs' : List OwnedRun) (writers' : ℕ → List ℕ) (from n place : ℕ)
+    → Effect who m m' runs runs' writers' → other ≢ who → Won m runs other from n place
+    → map.get m'.slots place ≡ map.get m.slots place
 own_kept who other m m' runs runs' writers' from n place effect apart won =
     effect.others place other (won.owned place won.within won.before) apart
 
-pub knows_kept : (who other : ℕ) (m m' : Storage) (runs runs' : List OwnedRun) (writers' : ℕ → List ℕ) (phase : Phase) → Effect who m m' runs runs' writers' → other ≢ who → Knows m runs other phase → Knows m' runs' other phase
+pub knows_kept : (who other : ℕ) (m m' : Storage) (runs runs' : List OwnedRun) (writers' : ℕ → List ℕ) (phase : Phase)
+    → Effect who m m' runs runs' writers' → other ≢ who → Knows m runs other phase → Knows m' runs' other phase
 knows_kept who other m m' runs runs' writers' Load effect apart knows = tt
 knows_kept who other m m' runs runs' writers' (Scout from n k) effect apart knows = λ q a b. effect.stays_ready q (knows q a b)
 knows_kept who other m m' runs runs' writers' (Put from n k) effect apart knows = λ q a b. effect.stays_ready q (knows q a b)

@@ -39,15 +39,20 @@ module _ (m : Storage) (actors : List Actor) (runs : List OwnedRun) (writers : �
   Keeps o = Kept actors runs writers who actor o
 
   -- a call that ends, or goes on, without an effect, from a phase that owes nothing
-  ended : (phase : Phase) (event : Event) (reply : Reply) (answer : Answer) → Stands m actors runs writers who actor phase → ((q : ℕ) → IsOfRun phase q → ⊥) → runs_of ((event, reply) ∷ []) ≡ [] → ((q : ℕ) → writers_of q ((event, reply) ∷ []) ≡ []) → Keeps (ends m event reply answer)
+  ended : (phase : Phase) (event : Event) (reply : Reply) (answer : Answer)
+      → Stands m actors runs writers who actor phase → ((q : ℕ) → IsOfRun phase q → ⊥)
+      → runs_of ((event, reply) ∷ []) ≡ [] → ((q : ℕ) → writers_of q ((event, reply) ∷ []) ≡ [])
+      → Keeps (ends m event reply answer)
   ended phase event reply answer s free none nobody =
       quiet m actors runs writers who actor phase (Some (event, reply)) (Ends answer) s free none nobody tt
 
-  gone_on : (phase next : Phase) → Stands m actors runs writers who actor phase → ((q : ℕ) → IsOfRun phase q → ⊥) → Knows m runs who next → Keeps (goes_on m next)
+  gone_on : (phase next : Phase) → Stands m actors runs writers who actor phase → ((q : ℕ) → IsOfRun phase q → ⊥)
+      → Knows m runs who next → Keeps (goes_on m next)
   gone_on phase next s free knows = quiet m actors runs writers who actor phase None (Goes next) s free refl (λ q. refl) knows
 
   -- a growth of nothing has a run without places
-  nothing_claimed : Stands m actors runs writers who actor Load → Keeps (ends m (events.Claim who 0) (replies.Run m.size 0) (answers.Run m.size 0))
+  nothing_claimed : Stands m actors runs writers who actor Load
+      → Keeps (ends m (events.Claim who 0) (replies.Run m.size 0) (answers.Run m.size 0))
   nothing_claimed s =
       let none : List OwnedRun = record { owner = who; from = m.size; n = 0 } ∷ [] in
       kept_by m actors runs writers who actor Load (ends m (events.Claim who 0) (replies.Run m.size 0) (answers.Run m.size 0)) s
@@ -94,7 +99,8 @@ module _ (m : Storage) (actors : List Actor) (runs : List OwnedRun) (writers : �
       ]
       refl
 
-  loaded : (limit : ℕ) (command : Command) → Stands m actors runs writers who actor Load → Keeps (load limit m who command)
+  loaded : (limit : ℕ) (command : Command) → Stands m actors runs writers who actor Load
+      → Keeps (load limit m who command)
   loaded limit (commands.Push value) s = growth_loaded limit 1 s
   loaded limit (commands.Grow n value) s = growth_loaded limit n s
   loaded limit (commands.AtLeast to value) s = at_least_loaded limit to s
@@ -102,7 +108,8 @@ module _ (m : Storage) (actors : List Actor) (runs : List OwnedRun) (writers : �
   loaded limit (commands.Read place) s = read_loaded place s
   loaded limit commands.Size s = ended Load (events.Size who) (replies.Size m.size) (answers.Size m.size) s (λ q x. x) refl (λ q. refl)
 
-  looked : (place : ℕ) (slot : Option Slot) → Stands m actors runs writers who actor (Look place) → Keeps (look_at m who place slot)
+  looked : (place : ℕ) (slot : Option Slot) → Stands m actors runs writers who actor (Look place)
+      → Keeps (look_at m who place slot)
   looked place None s = ended (Look place) (events.Look who place) replies.Pending answers.Pending s (λ q x. x) refl (λ q. refl)
   looked place (Some (Busy owner)) s = ended (Look place) (events.Look who place) replies.Pending answers.Pending s (λ q x. x) refl (λ q. refl)
   looked place (Some (Filled value)) s = ended (Look place) (events.Look who place) (replies.Value value) (answers.Value value) s (λ q x. x) refl (λ q. refl)
@@ -111,7 +118,8 @@ module _ (m : Storage) (actors : List Actor) (runs : List OwnedRun) (writers : �
 -- ---- Segments
 
 -- what claims places whose segments are there
-claiming_knows : (m : Storage) (runs : List OwnedRun) (who : ℕ) (command : Command) (from n : ℕ) → Wants command from n → ((q : ℕ) → q < from + n → IsReady m q) → Knows m runs who (claiming command from n)
+claiming_knows : (m : Storage) (runs : List OwnedRun) (who : ℕ) (command : Command) (from n : ℕ)
+    → Wants command from n → ((q : ℕ) → q < from + n → IsReady m q) → Knows m runs who (claiming command from n)
 claiming_knows m runs who (commands.Push value) from n wants ready = ready
 claiming_knows m runs who (commands.Grow k value) from n wants ready = ready
 claiming_knows m runs who (commands.AtLeast to value) from n wants ready = λ q below. ready q (let same : from + n ≡ to = wants in omega arith)
@@ -120,7 +128,9 @@ claiming_knows m runs who (commands.Read place) from n wants ready = ready
 claiming_knows m runs who commands.Size from n wants ready = ready
 
 -- behind an installed segment
-segment_passed : (m : Storage) (runs : List OwnedRun) (who : ℕ) (command : Command) (from n k : ℕ) → Wants command from n → ((q : ℕ) → q < segment_end k → q < from + n → IsReady m q) → Knows m runs who (after_segment command from n k)
+segment_passed : (m : Storage) (runs : List OwnedRun) (who : ℕ) (command : Command) (from n k : ℕ)
+    → Wants command from n → ((q : ℕ) → q < segment_end k → q < from + n → IsReady m q)
+    → Knows m runs who (after_segment command from n k)
 segment_passed m runs who command from n k wants ready =
     elim (nat_lt (segment_end k) (from + n)) as (λ b. nat_lt (segment_end k) (from + n) ≡ b → Knows m runs who (if b then Scout from n (k + 1) else claiming command from n)) [
       | true ↦ (λ _. λ q before inside. ready q (subst (λ e. q < e) (segment_start-next k) before) inside)
@@ -130,7 +140,11 @@ segment_passed m runs who command from n k wants ready =
     ]
     refl
 
-pub scouted : (m : Storage) (actors : List Actor) (runs : List OwnedRun) (writers : ℕ → List ℕ) (who : ℕ) (actor : Actor) (command : Command) (from n k : ℕ) → Wants command from n → Knows m runs who (Scout from n k) → Stands m actors runs writers who actor (Scout from n k) → Kept actors runs writers who actor (scout m command from n k)
+pub scouted : (m : Storage) (actors : List Actor) (runs : List OwnedRun) (writers : ℕ → List ℕ) (who : ℕ)
+    (actor : Actor) (command : Command) (from n k : ℕ)
+    → Wants command from n → Knows m runs who (Scout from n k)
+    → Stands m actors runs writers who actor (Scout from n k)
+    → Kept actors runs writers who actor (scout m command from n k)
 scouted m actors runs writers who actor command from n k wants knows s =
     elim (set.contains m.installed k) as (λ b. set.contains m.installed k ≡ b → Kept actors runs writers who actor (if b then goes_on m (after_segment command from n k) else goes_on m (Put from n k))) [
       | true ↦ (λ there. gone_on m actors runs writers who actor (Scout from n k) (after_segment command from n k) s (λ q x. x) (segment_passed m runs who command from n k wants (ready_through m k (from + n) knows there)))
@@ -138,7 +152,10 @@ scouted m actors runs writers who actor command from n k wants knows s =
     ]
     refl
 
-pub put_in : (m : Storage) (actors : List Actor) (runs : List OwnedRun) (writers : ℕ → List ℕ) (who : ℕ) (actor : Actor) (command : Command) (memory : Bool) (from n k : ℕ) → Wants command from n → Knows m runs who (Put from n k) → Stands m actors runs writers who actor (Put from n k) → Kept actors runs writers who actor (put m who command memory from n k)
+pub put_in : (m : Storage) (actors : List Actor) (runs : List OwnedRun) (writers : ℕ → List ℕ) (who : ℕ)
+    (actor : Actor) (command : Command) (memory : Bool) (from n k : ℕ)
+    → Wants command from n → Knows m runs who (Put from n k) → Stands m actors runs writers who actor (Put from n k)
+    → Kept actors runs writers who actor (put m who command memory from n k)
 put_in m actors runs writers who actor command true from n k wants knows s =
     installs k m actors runs writers who actor (Put from n k) (after_segment command from n k) s (λ q x. x)
     (segment_passed (with_segment m k) runs who command from n k wants (ready_through (with_segment m k) k (from + n) (λ q a b. ready_kept m k q (knows q a b)) (installed_now m k)))
@@ -148,14 +165,21 @@ put_in m actors runs writers who actor command false from n k wants knows s =
 -- ---- Claims
 
 -- no slot at or past the size is taken
-empty_past : (m : Storage) (actors : List Actor) (runs : List OwnedRun) (writers : ℕ → List ℕ) → Holds m actors runs writers → (q : ℕ) → m.size ≤ q → map.get m.slots q ≡ None
+empty_past : (m : Storage) (actors : List Actor) (runs : List OwnedRun) (writers : ℕ → List ℕ)
+    → Holds m actors runs writers → (q : ℕ) → m.size ≤ q → map.get m.slots q ≡ None
 empty_past m actors runs writers holds q past =
     elim (map.get m.slots q) as (λ o. map.get m.slots q ≡ o → o ≡ None)
     [ None ↦ (λ _. refl) | Some slot ↦ (λ is. absurd (let inside = holds.taken q slot is in omega arith)) ]
     refl
 
 -- a claim of some places whose segments are there
-claims : (m : Storage) (actors : List Actor) (runs : List OwnedRun) (writers : ℕ → List ℕ) (who : ℕ) (actor : Actor) (phase : Phase) (n : ℕ) (event : Event) → Stands m actors runs writers who actor phase → ((q : ℕ) → IsOfRun phase q → ⊥) → 0 < n → ((q : ℕ) → q < m.size + n → IsReady m q) → runs_of ((event, replies.Run m.size n) ∷ []) ≡ record { owner = who; from = m.size; n = n } ∷ [] → ((q : ℕ) → writers_of q ((event, replies.Run m.size n) ∷ []) ≡ []) → Kept actors runs writers who actor (record { storage = with_size m (m.size + n); event = Some (event, replies.Run m.size n); next = Goes (Begin m.size n m.size) })
+claims : (m : Storage) (actors : List Actor) (runs : List OwnedRun) (writers : ℕ → List ℕ) (who : ℕ) (actor : Actor)
+    (phase : Phase) (n : ℕ) (event : Event)
+    → Stands m actors runs writers who actor phase → ((q : ℕ) → IsOfRun phase q → ⊥) → 0 < n
+    → ((q : ℕ) → q < m.size + n → IsReady m q)
+    → runs_of ((event, replies.Run m.size n) ∷ []) ≡ record { owner = who; from = m.size; n = n } ∷ []
+    → ((q : ℕ) → writers_of q ((event, replies.Run m.size n) ∷ []) ≡ [])
+    → Kept actors runs writers who actor (record { storage = with_size m (m.size + n); event = Some (event, replies.Run m.size n); next = Goes (Begin m.size n m.size) })
 claims m actors runs writers who actor phase n event s free some ready run_is nobody =
     let run : OwnedRun = record { owner = who; from = m.size; n = n } in
     let effect = claim_effect who n m actors runs writers s.holds ready in
@@ -190,7 +214,10 @@ claims m actors runs writers who actor phase n event s free some ready run_is no
       | inr after ↦ inl (after, inside)
     ])
 
-pub exchanged : (limit : ℕ) (m : Storage) (actors : List Actor) (runs : List OwnedRun) (writers : ℕ → List ℕ) (who : ℕ) (actor : Actor) (from n : ℕ) → 0 < n → Knows m runs who (Exchange from n) → Stands m actors runs writers who actor (Exchange from n) → Kept actors runs writers who actor (exchange limit m who from n)
+pub exchanged : (limit : ℕ) (m : Storage) (actors : List Actor) (runs : List OwnedRun) (writers : ℕ → List ℕ)
+    (who : ℕ) (actor : Actor) (from n : ℕ)
+    → 0 < n → Knows m runs who (Exchange from n) → Stands m actors runs writers who actor (Exchange from n)
+    → Kept actors runs writers who actor (exchange limit m who from n)
 exchanged limit m actors runs writers who actor from n some knows s =
     elim (m.size == from) as (λ b. (m.size == from) ≡ b → Kept actors runs writers who actor (if b then record { storage = with_size m (from + n); event = Some (events.Claim who n, replies.Run from n); next = Goes (Begin from n from) } else if nat_le (m.size + n) limit then goes_on m (Scout m.size n (segment_of m.size)) else ends m (events.RefusedFull who n) (replies.Full m.size) (answers.Full m.size))) [
       | true ↦ (λ won.
@@ -205,7 +232,10 @@ exchanged limit m actors runs writers who actor from n some knows s =
     ]
     refl
 
-pub raised : (m : Storage) (actors : List Actor) (runs : List OwnedRun) (writers : ℕ → List ℕ) (who : ℕ) (actor : Actor) (to : ℕ) → Knows m runs who (Raise to) → Stands m actors runs writers who actor (Raise to) → Kept actors runs writers who actor (raise m who to)
+pub raised : (m : Storage) (actors : List Actor) (runs : List OwnedRun) (writers : ℕ → List ℕ) (who : ℕ)
+    (actor : Actor) (to : ℕ)
+    → Knows m runs who (Raise to) → Stands m actors runs writers who actor (Raise to)
+    → Kept actors runs writers who actor (raise m who to)
 raised m actors runs writers who actor to knows s =
     elim (nat_le to m.size) as (λ b. nat_le to m.size ≡ b → Kept actors runs writers who actor (if b then ends m (events.Raise who to) (replies.Enough m.size) (answers.Enough m.size) else record { storage = with_size m to; event = Some (events.Raise who to, replies.Run m.size (to - m.size)); next = Goes (Begin m.size (to - m.size) m.size) })) [
       | true ↦ (λ _. ended m actors runs writers who actor (Raise to) (events.Raise who to) (replies.Enough m.size) (answers.Enough m.size) s (λ q x. x) refl (λ q. refl))
@@ -228,12 +258,15 @@ in_run from n q =
     ]
 
 -- an unfinished place outside of the run is as it was
-outside_run : (m : Storage) (place : ℕ) (slot : Slot) (from n q : ℕ) → from ≤ place → place < from + n → ((from ≤ q) × (q < from + n) → ⊥) → IsUnfinished (map.get (with_slot m place slot).slots q) → IsUnfinished (map.get m.slots q)
+outside_run : (m : Storage) (place : ℕ) (slot : Slot) (from n q : ℕ) → from ≤ place → place < from + n
+    → ((from ≤ q) × (q < from + n) → ⊥) → IsUnfinished (map.get (with_slot m place slot).slots q)
+    → IsUnfinished (map.get m.slots q)
 outside_run m place slot from n q low high outside unfinished =
     subst IsUnfinished (get_set_other m place slot q (λ same. outside (omega arith, omega arith))) unfinished
 
 -- what a taken slot leaves of a won run
-begun : (m : Storage) (runs : List OwnedRun) (who from n place : ℕ) → Won m runs who from n place → Won (with_slot m place (Busy who)) runs who from n place
+begun : (m : Storage) (runs : List OwnedRun) (who from n place : ℕ) → Won m runs who from n place
+    → Won (with_slot m place (Busy who)) runs who from n place
 begun m runs who from n place won = record {
   within = won.within;
   before = won.before;
@@ -243,7 +276,11 @@ begun m runs who from n place won = record {
   ahead = λ q low high. get_set_other m place (Busy who) q (λ same. omega arith) ∙ won.ahead q low high;
 }
 
-pub began : (m : Storage) (actors : List Actor) (runs : List OwnedRun) (writers : ℕ → List ℕ) (who : ℕ) (actor : Actor) (command : Command) (from n place : ℕ) (slot : Option Slot) → slot ≡ map.get m.slots place → Knows m runs who (Begin from n place) → Stands m actors runs writers who actor (Begin from n place) → Kept actors runs writers who actor (begin_at m who command from n place slot)
+pub began : (m : Storage) (actors : List Actor) (runs : List OwnedRun) (writers : ℕ → List ℕ) (who : ℕ)
+    (actor : Actor) (command : Command) (from n place : ℕ) (slot : Option Slot)
+    → slot ≡ map.get m.slots place → Knows m runs who (Begin from n place)
+    → Stands m actors runs writers who actor (Begin from n place)
+    → Kept actors runs writers who actor (begin_at m who command from n place slot)
 began m actors runs writers who actor command from n place (Some slot) is knows s = absurd (none-some slot (sym knows.1 ∙ sym is))
 began m actors runs writers who actor command from n place None is (won, empty) s =
     let m' : Storage = with_slot m place (Busy who) in
@@ -264,7 +301,14 @@ began m actors runs writers who actor command from n place None is (won, empty) 
     ])
 
 -- the owner finishes its place: an event of that place by that actor
-pub finished : (m : Storage) (actors : List Actor) (runs : List OwnedRun) (writers : ℕ → List ℕ) (who : ℕ) (actor : Actor) (command : Command) (phase : Phase) (from n place : ℕ) (slot : Slot) (event : Event) → (IsUnfinished (Some slot) → ⊥) → ((q : ℕ) → IsOfRun phase q → (from ≤ q) × (q < from + n)) → Won m runs who from n place → map.get m.slots place ≡ Some (Busy who) → Stands m actors runs writers who actor phase → runs_of ((event, replies.Done) ∷ []) ≡ [] → writers_of place ((event, replies.Done) ∷ []) ≡ who ∷ [] → ((q : ℕ) → q ≢ place → writers_of q ((event, replies.Done) ∷ []) ≡ []) → Kept actors runs writers who actor (record { storage = with_slot m place slot; event = Some (event, replies.Done); next = after_place command from n place })
+pub finished : (m : Storage) (actors : List Actor) (runs : List OwnedRun) (writers : ℕ → List ℕ) (who : ℕ)
+    (actor : Actor) (command : Command) (phase : Phase) (from n place : ℕ) (slot : Slot) (event : Event)
+    → (IsUnfinished (Some slot) → ⊥) → ((q : ℕ) → IsOfRun phase q → (from ≤ q) × (q < from + n))
+    → Won m runs who from n place → map.get m.slots place ≡ Some (Busy who)
+    → Stands m actors runs writers who actor phase → runs_of ((event, replies.Done) ∷ []) ≡ []
+    → writers_of place ((event, replies.Done) ∷ []) ≡ who ∷ []
+    → ((q : ℕ) → q ≢ place → writers_of q ((event, replies.Done) ∷ []) ≡ [])
+    → Kept actors runs writers who actor (record { storage = with_slot m place slot; event = Some (event, replies.Done); next = after_place command from n place })
 finished m actors runs writers who actor command phase from n place slot event final of_run won busy s none gained others =
     let m' : Storage = with_slot m place slot in
     let added : List OwnedRun = runs_of ((event, replies.Done) ∷ []) in
@@ -324,7 +368,10 @@ settler_elsewhere place who q apart = ap (λ b. (if b then who ∷ [] else []) +
 
 -- ---- The table
 
-pub row_kept : (limit : ℕ) (m : Storage) (actors : List Actor) (runs : List OwnedRun) (writers : ℕ → List ℕ) (who : ℕ) (actor : Actor) (command : Command) (memory : Bool) (phase : Phase) → IsWithin limit command phase → Knows m runs who phase → Stands m actors runs writers who actor phase → Kept actors runs writers who actor (outcome_of limit m who command memory phase)
+pub row_kept : (limit : ℕ) (m : Storage) (actors : List Actor) (runs : List OwnedRun) (writers : ℕ → List ℕ)
+    (who : ℕ) (actor : Actor) (command : Command) (memory : Bool) (phase : Phase)
+    → IsWithin limit command phase → Knows m runs who phase → Stands m actors runs writers who actor phase
+    → Kept actors runs writers who actor (outcome_of limit m who command memory phase)
 row_kept limit m actors runs writers who actor command memory Load within knows s = loaded m actors runs writers who actor limit command s
 row_kept limit m actors runs writers who actor command memory (Scout from n k) (some, room, number, wants) knows s = scouted m actors runs writers who actor command from n k wants knows s
 row_kept limit m actors runs writers who actor command memory (Put from n k) (some, room, number, wants) knows s = put_in m actors runs writers who actor command memory from n k wants knows s

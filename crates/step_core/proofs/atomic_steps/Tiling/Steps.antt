@@ -40,14 +40,23 @@ Kept actors runs writers who actor o =
     Holds o.storage (slice_set actors who (actor_after actor o.next)) (runs ++ runs_of (option_to_list o.event)) (λ q. writers q ++ writers_of q (option_to_list o.event))
 
 -- the effect of a step, what its actor knows then, and that each unfinished place is covered
-pub kept_by : (m : Storage) (actors : List Actor) (runs : List OwnedRun) (writers : ℕ → List ℕ) (who : ℕ) (actor : Actor) (phase : Phase) (o : Outcome) → Stands m actors runs writers who actor phase → Effect who m o.storage runs (runs ++ runs_of (option_to_list o.event)) (λ q. writers q ++ writers_of q (option_to_list o.event)) → Knows o.storage (runs ++ runs_of (option_to_list o.event)) who (phase_after o.next) → ((q : ℕ) → q < o.storage.size → IsUnfinished (map.get o.storage.slots q) → Covered m o.storage phase (phase_after o.next) q) → Kept actors runs writers who actor o
+pub kept_by : (m : Storage) (actors : List Actor) (runs : List OwnedRun) (writers : ℕ → List ℕ) (who : ℕ)
+    (actor : Actor) (phase : Phase) (o : Outcome)
+    → Stands m actors runs writers who actor phase
+    → Effect who m o.storage runs (runs ++ runs_of (option_to_list o.event))
+    (λ q. writers q ++ writers_of q (option_to_list o.event))
+    → Knows o.storage (runs ++ runs_of (option_to_list o.event)) who (phase_after o.next)
+    → ((q : ℕ) → q < o.storage.size → IsUnfinished (map.get o.storage.slots q) → Covered m o.storage phase (phase_after o.next) q)
+    → Kept actors runs writers who actor o
 kept_by m actors runs writers who actor phase o s effect knows covered =
     combined m o.storage actors runs (runs ++ runs_of (option_to_list o.event)) writers (λ q. writers q ++ writers_of q (option_to_list o.event)) who actor (actor_after actor o.next) s.holds s.there effect
     (subst (Knows o.storage (runs ++ runs_of (option_to_list o.event)) who) (sym (phase_after_is actor o.next)) knows)
     (λ q inside unfinished. subst (λ p. Covered m o.storage p (actor_after actor o.next).phase q) (sym s.stands) (subst (λ p. Covered m o.storage phase p q) (sym (phase_after_is actor o.next)) (covered q inside unfinished)))
 
 -- an effect where the runs and writers have nothing added
-pub same_effect : (who : ℕ) (m m' : Storage) (runs added : List OwnedRun) (writers gained : ℕ → List ℕ) → added ≡ [] → ((q : ℕ) → gained q ≡ []) → Effect who m m' runs runs writers → Effect who m m' runs (runs ++ added) (λ q. writers q ++ gained q)
+pub same_effect : (who : ℕ) (m m' : Storage) (runs added : List OwnedRun) (writers gained : ℕ → List ℕ) → added ≡ []
+    → ((q : ℕ) → gained q ≡ []) → Effect who m m' runs runs writers
+    → Effect who m m' runs (runs ++ added) (λ q. writers q ++ gained q)
 same_effect who m m' runs added writers gained none nobody effect =
     let runs_are : runs ≡ runs ++ added = sym (ap (λ rs. runs ++ rs) none ∙ append-nil runs) in
     record {
@@ -63,7 +72,12 @@ same_effect who m m' runs added writers gained none nobody effect =
     }
 
 -- a step that claims, begins and finishes nothing, of an actor that owes nothing
-pub quiet : (m : Storage) (actors : List Actor) (runs : List OwnedRun) (writers : ℕ → List ℕ) (who : ℕ) (actor : Actor) (phase : Phase) (event : Option (Event × Reply)) (next : Next) → Stands m actors runs writers who actor phase → ((q : ℕ) → IsOfRun phase q → ⊥) → runs_of (option_to_list event) ≡ [] → ((q : ℕ) → writers_of q (option_to_list event) ≡ []) → Knows m runs who (phase_after next) → Kept actors runs writers who actor (record { storage = m; event = event; next = next })
+pub quiet : (m : Storage) (actors : List Actor) (runs : List OwnedRun) (writers : ℕ → List ℕ) (who : ℕ)
+    (actor : Actor) (phase : Phase) (event : Option (Event × Reply)) (next : Next)
+    → Stands m actors runs writers who actor phase → ((q : ℕ) → IsOfRun phase q → ⊥)
+    → runs_of (option_to_list event) ≡ [] → ((q : ℕ) → writers_of q (option_to_list event) ≡ [])
+    → Knows m runs who (phase_after next)
+    → Kept actors runs writers who actor (record { storage = m; event = event; next = next })
 quiet m actors runs writers who actor phase event next s owes_nothing none nobody knows =
     kept_by m actors runs writers who actor phase (record { storage = m; event = event; next = next }) s
     (same_effect who m m runs (runs_of (option_to_list event)) writers (λ q. writers_of q (option_to_list event)) none nobody (quiet_effect who m actors runs writers s.holds))
@@ -71,7 +85,10 @@ quiet m actors runs writers who actor phase event next s owes_nothing none nobod
     (λ q inside unfinished. inr (inside, unfinished, owes_nothing q))
 
 -- the same where a segment is installed
-pub installs : (k : ℕ) (m : Storage) (actors : List Actor) (runs : List OwnedRun) (writers : ℕ → List ℕ) (who : ℕ) (actor : Actor) (phase next : Phase) → Stands m actors runs writers who actor phase → ((q : ℕ) → IsOfRun phase q → ⊥) → Knows (with_segment m k) runs who next → Kept actors runs writers who actor (goes_on (with_segment m k) next)
+pub installs : (k : ℕ) (m : Storage) (actors : List Actor) (runs : List OwnedRun) (writers : ℕ → List ℕ) (who : ℕ)
+    (actor : Actor) (phase next : Phase)
+    → Stands m actors runs writers who actor phase → ((q : ℕ) → IsOfRun phase q → ⊥)
+    → Knows (with_segment m k) runs who next → Kept actors runs writers who actor (goes_on (with_segment m k) next)
 installs k m actors runs writers who actor phase next s owes_nothing knows =
     kept_by m actors runs writers who actor phase (goes_on (with_segment m k) next) s
     (same_effect who m (with_segment m k) runs [] writers (λ q. []) refl (λ q. refl) (install_effect who k m actors runs writers s.holds))
@@ -79,6 +96,7 @@ installs k m actors runs writers who actor phase next s owes_nothing knows =
     (λ q inside unfinished. inr (inside, unfinished, owes_nothing q))
 
 -- at the first segment of the places from the size on, all places before it are claimed
-pub first_segment_ready : (m : Storage) (actors : List Actor) (runs : List OwnedRun) (writers : ℕ → List ℕ) (who n : ℕ) → Holds m actors runs writers → Knows m runs who (Scout m.size n (segment_of m.size))
+pub first_segment_ready : (m : Storage) (actors : List Actor) (runs : List OwnedRun) (writers : ℕ → List ℕ) (who n : ℕ)
+    → Holds m actors runs writers → Knows m runs who (Scout m.size n (segment_of m.size))
 first_segment_ready m actors runs writers who n holds q before inside =
     holds.ready q (let has = segment_of_has m.size in let from : segment_start (segment_of m.size) ≤ m.size = has.from in omega arith)

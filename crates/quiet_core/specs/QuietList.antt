@@ -1,0 +1,72 @@
+-- The exclusive list: what one owner has when nobody else has the vector.
+use Rattle.std.specs.Prelude.{◌≡◌, ℕ, ◌^◌, ◌≤◌, ◌⊎◌, max, Bool, Option, List, length, refl}
+use Rattle.std.specs.Option.{option_eq, option_partial_cmp, option_cmp}
+use Rattle.std.specs.Cmp.Lexicographic.{pointwise, slice_partial_cmp, slice_cmp}
+use Rattle.std.specs.Coded.{Coded, code_by, coded×, coded_ℕ, coded_list, coded_option}
+use Rattle.std.specs.declared.cmp.Ordering.{Ordering}
+use Rattle.seg_core.specs.Segment.{segment_end}
+
+-- each member is a value or broken (`None`); the greatest length; the places of the segments that are there
+pub record QuietList (T : Type 0) : Type 0 where
+  pub members : List (Option T)
+  pub limit : ℕ
+  pub capacity : ℕ
+
+-- a list is stored as the tuple of its fields
+abbrev pub quiet_code : {T : Type 0} → Coded T → Coded (QuietList T)
+quiet_code {T} code =
+    code_by
+    (List (Option T) × (ℕ × ℕ))
+    (coded× (coded_list (coded_option code)) (coded× coded_ℕ coded_ℕ))
+    (λ q. (q.members, (q.limit, q.capacity)))
+    (λ p. record { members = p.0; limit = p.1.0; capacity = p.1.1 })
+    (λ _. refl)
+
+-- a limit that a list may have
+abbrev pub IsLimit : ℕ → Type 0
+IsLimit limit = (1 ≤ limit) × (limit ≤ 2 ^ 32)
+
+-- a number of places that fill whole segments: none, or all up to the end of a segment
+abbrev pub IsWhole : ℕ → Type 0
+IsWhole places = (places ≡ 0) ⊎ ((segment : ℕ) × (places ≡ segment_end segment))
+
+-- the fewest whole segments with places for n members
+pub record IsCapacityFor (n capacity : ℕ) : Type 0 where
+  pub whole : IsWhole capacity
+  pub room : n ≤ capacity
+  pub least : (other : ℕ) → IsWhole other → n ≤ other → capacity ≤ other
+
+-- what holds of a list's numbers at all times, with the members that its memory has room for
+pub record IsSound (limit len capacity memory : ℕ) : Type 0 where
+  pub limited : IsLimit limit
+  pub within : len ≤ limit
+  pub whole : IsWhole capacity
+  pub inside : len ≤ capacity
+  pub there : capacity ≤ memory
+
+-- the new capacity is the greater of the old one and the one for n members
+abbrev pub GrowsFor : ℕ → ℕ → ℕ → Type 0
+GrowsFor n old new = (needed : ℕ) × IsCapacityFor n needed × (new ≡ max old needed)
+
+module _ {T : Type 0} where
+  -- no more member fits below the limit
+  abbrev pub IsFull : QuietList T → Type 0
+  IsFull list = length list.members ≡ list.limit
+
+  -- the members and the limit are the same, and no segment is given up
+  pub record IsUnchanged (old new : QuietList T) : Type 0 where
+    pub members : new.members ≡ old.members
+    pub limit : new.limit ≡ old.limit
+    pub capacity : old.capacity ≤ new.capacity
+
+  -- two members are equal where both are broken, or both are equal values
+  abbrev pub same_members : (T → T → Bool) → QuietList T → QuietList T → Bool
+  same_members eq a b = pointwise (option_eq eq) a.members b.members
+
+  -- the order of the first members that differ, broken below every value; else the shorter list is less
+  abbrev pub partial_order : (T → T → Option Ordering) → QuietList T → QuietList T → Option Ordering
+  partial_order cmp a b = slice_partial_cmp (option_partial_cmp cmp) a.members b.members
+
+  -- the same where any two values can be compared
+  abbrev pub order : (T → T → Ordering) → QuietList T → QuietList T → Ordering
+  order cmp a b = slice_cmp (option_cmp cmp) a.members b.members

@@ -1,0 +1,43 @@
+//! Why a call on a list was refused.
+use std::error::Error;
+use std::fmt;
+
+/// Why the list did not grow. What was moved in comes back.
+#[derive(Clone, Copy, Debug, PartialEq, Eq)]
+pub enum QuietError {
+    /// There was no memory. The members are unchanged.
+    NoMemory = 1,
+    /// The length would be above the limit. Nothing is changed, and no memory was asked for.
+    TooLong = 2,
+}
+
+impl fmt::Display for QuietError {
+    fn fmt<W: fmt::Write>(&self, f: &mut fmt::Formatter<W>) -> fmt::Result {
+        match self {
+            QuietError::NoMemory => write!(f, "out of memory"),
+            QuietError::TooLong => write!(f, "longer than the limit"),
+        }
+    }
+}
+
+impl Error for QuietError {}
+
+/// Why a place has no value to lend.
+#[derive(Clone, Copy, Debug, PartialEq, Eq)]
+pub enum QuietAt {
+    /// The place is not below the length, which is told.
+    OutOfRange { size: u64 },
+    /// The member is broken.
+    Broken,
+}
+
+impl fmt::Display for QuietAt {
+    fn fmt<W: fmt::Write>(&self, f: &mut fmt::Formatter<W>) -> fmt::Result {
+        match self {
+            QuietAt::OutOfRange { size } => write!(f, "out of the {size} places"),
+            QuietAt::Broken => write!(f, "broken"),
+        }
+    }
+}
+
+impl Error for QuietAt {}

@@ -1,0 +1,213 @@
+//! The list, and what its owner does with it.
+ghost use Rattle.std.specs.Prelude.{◌≡◌, ◌↔◌, ◌+◌, ◌^◌, ◌<◌, ◌≤◌, [], ◌∷◌, ◌++◌, length, map, slice_get, vec_len, Some, None, Ok, Err, IsOk, IsErrOf, IfOk, IfErr, OnOk, OnErr};
+ghost use Rattle.quiet_core.specs.QuietList.{IsLimit, IsWhole, IsCapacityFor, GrowsFor, IsFull, IsUnchanged};
+
+use crate::errors::{QuietAt, QuietError};
+use crate::room::{append, make_room, places_for, push_there};
+use std::alloc::Global;
+use std::marker::Model;
+use std::mem;
+
+/// A list of values and broken members, with a limit and a capacity of whole segments.
+#[derive(Debug, Drop)]
+pub struct Quiet<T> {
+    pub(crate) members: Vec<Option<T>>,
+    limit: u64,
+    capacity: u64,
+}
+
+impl<T> Model for Quiet<T> {
+    ghost use Rattle.std.specs.Prelude.{vec_len, vec_capacity};
+    ghost use Rattle.quiet_core.specs.QuietList.{QuietList, quiet_code, IsSound};
+
+    ghost Value = { QuietList T };
+
+    ghost coded = { quiet_code T.code };
+
+    ghost view = { λ q. record { members = q.members.items; limit = q.limit; capacity = q.capacity } };
+
+    ghost invariant = { λ q. IsSound q.limit (vec_len q.members) q.capacity (vec_capacity q.members) };
+}
+
+impl<T> Quiet<T> {
+    /// The empty list. It takes no memory yet.
+    pub fn new(alloc: Global, limit: u64) -> Self
+        requires { IsLimit limit }
+        ensures members { result.members ≡ [] }
+        ensures limit { result.limit ≡ limit }
+        ensures capacity { result.capacity ≡ 0 }
+    {
+        Quiet {
+            members: Vec::new(alloc),
+            limit,
+            capacity: 0,
+        }
+    }
+
+    /// How many members there are.
+    pub fn len(&self) -> u64
+        ensures value { result ≡ length self.now.members }
+        ensures within { result ≤ self.now.limit }
+        ensures small { result ≤ 2 ^ 32 }
+    {
+        self.members.len() as u64
+    }
+
+    /// The greatest length that the list may reach.
+    pub fn limit(&self) -> u64
+        ensures value { result ≡ self.now.limit }
+        ensures range { IsLimit result }
+        ensures bound { length self.now.members ≤ result }
+    {
+        self.limit
+    }
+
+    /// The length that can be reached without asking for memory, or the limit if that is less.
+    pub fn capacity(&self) -> u64
+        ensures value { result ≡ self.now.capacity }
+        ensures whole { IsWhole result }
+        ensures bound { length self.now.members ≤ result }
+    {
+        self.capacity
+    }
+
+    /// The value at a place.
+    pub fn get(&self, place: u64) -> Result<&T, QuietAt>
+        ensures value { IfOk result (λ x. slice_get self.now.members place ≡ Some (Some x.now)) }
+        ensures broken { IsErrOf result QuietAt.Broken
+            ↔ (slice_get self.now.members place ≡ Some None) }
+        ensures out_of_range { IsErrOf result (QuietAt.OutOfRange (length self.now.members))
+            ↔ (length self.now.members ≤ place) }
+    {
+        match self.members.get(place as usize) {
+            Some(Some(value)) => Ok(value),
+            Some(None) => Err(QuietAt::Broken),
+            None => Err(QuietAt::OutOfRange { size: self.len() }),
+        }
+    }
+
+    /// Makes room for n members in all. Nothing else changes.
+    pub fn reserve(&mut self, n: u64) -> Result<(), QuietError>
+        ensures members { self.new.members ≡ self.old.members }
+        ensures limit { self.new.limit ≡ self.old.limit }
+        ensures capacity { OnOk result (GrowsFor n self.old.capacity self.new.capacity) }
+        // The limit is looked at before memory is asked for.
+        ensures too_long { IsErrOf result QuietError.TooLong ↔ (self.old.limit < n) }
+        ensures unchanged { OnErr result (IsUnchanged self.old self.new) }
+        ensures spare { n ≤ self.old.limit → n ≤ self.old.capacity → IsOk result }
+    {
+        if self.limit < n {
+            return Err(QuietError::TooLong);
+        }
+        match make_room(&mut self.members, self.capacity, n) {
+            Ok(capacity) => {
+                self.capacity = capacity;
+                Ok(())
+            }
+            Err(_) => Err(QuietError::NoMemory),
+        }
+    }
+}
+
+impl<T: Drop> Quiet<T> {
+    /// The list of these values.
+    ///
+    /// Its time and memory are linear in the values. It takes memory of its own for them.
+    pub fn from_vec(
+        alloc: Global,
+        limit: u64,
+        values: Vec<T>,
+    ) -> Result<Quiet<T>, (QuietError, Vec<T>)>
+        requires { IsLimit limit }
+        ensures members { IfOk result (λ q. q.members ≡ map Some values.items) }
+        ensures limit { IfOk result (λ q. q.limit ≡ limit) }
+        ensures capacity { IfOk result (λ q. IsCapacityFor (vec_len values) q.capacity) }
+        // The limit is looked at before memory is asked for.
+        ensures too_long { (result ≡ Err (QuietError.TooLong, values)) ↔ (limit < vec_len values) }
+        ensures values_back { IfErr result (λ (_, back). back ≡ values) }
+    {
+        let mut list = Quiet::new(alloc, limit);
+        match list.assign(values) {
+            Ok(()) => Ok(list),
+            Err(refused) => Err(refused),
+        }
+    }
+
+    /// Appends a value and answers its place.
+    ///
+    /// Where a segment has to be added, its time and memory are linear in the members; else they are constant.
+    pub fn push(&mut self, value: T) -> Result<u64, (QuietError, T)>
+        ensures place { IfOk result (λ place. place ≡ length self.old.members) }
+        ensures appended { OnOk result (self.new.members ≡ self.old.members ++ Some value ∷ []) }
+        ensures limit { self.new.limit ≡ self.old.limit }
+        ensures capacity { OnOk result (GrowsFor (length self.new.members) self.old.capacity self.new.capacity) }
+        // The limit is looked at before memory is asked for.
+        ensures too_long { (result ≡ Err (QuietError.TooLong, value)) ↔ IsFull self.old }
+        ensures value_back { IfErr result (λ (_, back). back ≡ value) }
+        ensures unchanged { OnErr result (IsUnchanged self.old self.new) }
+        ensures spare { length self.old.members < self.old.limit
+            → length self.old.members < self.old.capacity → IsOk result }
+    {
+        let place = self.len();
+        match self.reserve(place + 1) {
+            Ok(()) => {
+                push_there(&mut self.members, value);
+                Ok(place)
+            }
+            Err(error) => Err((error, value)),
+        }
+    }
+
+    /// Replaces the members by these values, and drops the members that were there.
+    ///
+    /// Its time is linear in both. It takes memory where there are more values than the capacity.
+    pub fn assign(&mut self, values: Vec<T>) -> Result<(), (QuietError, Vec<T>)>
+        ensures members { OnOk result (self.new.members ≡ map Some values.items) }
+        ensures limit { self.new.limit ≡ self.old.limit }
+        ensures capacity { OnOk result (GrowsFor (vec_len values) self.old.capacity self.new.capacity) }
+        // The limit is looked at before memory is asked for.
+        ensures too_long { (result ≡ Err (QuietError.TooLong, values)) ↔ (self.old.limit < vec_len values) }
+        ensures values_back { IfErr result (λ (_, back). back ≡ values) }
+        ensures unchanged { OnErr result (IsUnchanged self.old self.new) }
+        ensures spare { vec_len values ≤ self.old.limit → vec_len values ≤ self.old.capacity → IsOk result }
+    {
+        match self.reserve(values.len() as u64) {
+            Ok(()) => {
+                self.members.clear();
+                append(&mut self.members, values);
+                Ok(())
+            }
+            Err(error) => Err((error, values)),
+        }
+    }
+
+    /// Drops all members. The capacity stays.
+    pub fn clear(&mut self)
+        ensures members { self.new.members ≡ [] }
+        ensures limit { self.new.limit ≡ self.old.limit }
+        ensures capacity { self.new.capacity ≡ self.old.capacity }
+    {
+        self.members.clear();
+    }
+}
+
+impl<T> Quiet<T> {
+    /// Gives up every segment that lies wholly above the length.
+    pub fn shrink_to_fit(&mut self)
+        ensures members { self.new.members ≡ self.old.members }
+        ensures limit { self.new.limit ≡ self.old.limit }
+        ensures capacity { IsCapacityFor (length self.old.members) self.new.capacity }
+    {
+        let capacity = places_for(self.len());
+        self.members.shrink_to(capacity as usize);
+        self.capacity = capacity;
+    }
+
+    /// Exchanges the two lists with all that they have, limits too.
+    pub fn swap(&mut self, other: &mut Quiet<T>)
+        ensures mine { self.new ≡ other.old }
+        ensures others { other.new ≡ self.old }
+    {
+        mem::swap(self, other);
+    }
+}

@@ -1,0 +1,38 @@
+-- Spans of places, and what they are cut into.
+use Rattle.std.specs.Prelude.{◌≡◌, ℕ, ◌+◌, ◌-◌, ◌/◌, ◌<◌, ◌≤◌, List, [], ◌∷◌, ◌++◌}
+
+-- the places from one on and before another; spans of more places than the grain are to be cut
+pub record Interval : Type 0 where
+  pub from : ℕ
+  pub to : ℕ
+  pub grain : ℕ
+
+-- a span may be so
+pub record IsSpan (span : Interval) : Type 0 where
+  pub ordered : span.from ≤ span.to
+  pub positive : 0 < span.grain
+
+-- how many places there are
+abbrev pub size_of : Interval → ℕ
+size_of span = span.to - span.from
+
+-- it has more places than the grain
+abbrev pub IsDivisible : Interval → Type 0
+IsDivisible span = span.grain < size_of span
+
+-- where it is cut, rounded down
+abbrev pub middle_of : Interval → ℕ
+middle_of span = span.from + size_of span / 2
+
+-- the half up to the middle
+abbrev pub lower_half : Interval → Interval
+lower_half span = record span { to = middle_of span }
+
+-- the half from the middle on
+abbrev pub upper_half : Interval → Interval
+upper_half span = record span { from = middle_of span }
+
+-- the leaves of a span: itself where it is not divisible, else the leaves of its two halves in order
+pub data AreLeaves : Interval → List Interval → Type 0 where
+  itself : (span : Interval) → size_of span ≤ span.grain → AreLeaves span (span ∷ [])
+  halves : (span : Interval) (lower upper : List Interval) → IsDivisible span → AreLeaves (lower_half span) lower → AreLeaves (upper_half span) upper → AreLeaves span (lower ++ upper)

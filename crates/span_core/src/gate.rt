@@ -1,0 +1,79 @@
+//! What each worker passes before and after its work.
+ghost use Rattle.std.specs.Prelude.{◌≡◌, ℕ, ◌<◌, IsTrue};
+ghost use Rattle.std.specs.Bool.{OnFalse};
+
+use std::sync::atomic::{AtomicBool, Ordering};
+
+/// What a worker asks before its first piece of work, and tells after its last.
+pub trait Gate {
+    /// Whether this gate may refuse this worker.
+    ghost may_refuse: { Self → ℕ → Type 0 };
+
+    /// Whether the worker may work.
+    fn before(&self, worker: u32) -> bool
+        ensures { OnFalse result (may_refuse self.now worker) };
+
+    /// The worker has ended its work, or was refused.
+    fn after(&self, worker: u32);
+}
+
+/// The gate that lets every worker through.
+#[derive(Clone, Copy, Debug)]
+pub struct Free;
+
+impl Gate for Free {
+    ghost may_refuse = { λ _ _. ⊥ };
+
+    fn before(&self, _worker: u32) -> bool
+        ensures { IsTrue result }
+    {
+        true
+    }
+
+    fn after(&self, _worker: u32) {}
+}
+
+/// The gate that lets workers 0 and 1 through only once both have come, so that they run at once.
+#[derive(Drop)]
+pub struct PairGate {
+    turns: u64,
+    first: AtomicBool,
+    second: AtomicBool,
+}
+
+impl PairGate {
+    /// A worker of the pair looks at most `turns` times whether the other came.
+    pub fn new(turns: u64) -> PairGate {
+        PairGate {
+            turns,
+            first: AtomicBool::new(false),
+            second: AtomicBool::new(false),
+        }
+    }
+
+    // Whether the other one of the pair came, looked at as often as the gate says.
+    fn waits_for(&self, other: &AtomicBool) -> bool {
+        for _ in 0..self.turns {
+            if other.load(Ordering::SeqCst) {
+                return true;
+            }
+        }
+        false
+    }
+}
+
+impl Gate for PairGate {
+    ghost may_refuse = { λ _ worker. worker < 2 };
+
+    fn before(&self, worker: u32) -> bool {
+        let (mine, other) = match worker {
+            0 => (&self.first, &self.second),
+            1 => (&self.second, &self.first),
+            _ => return true,
+        };
+        mine.store(true, Ordering::SeqCst);
+        self.waits_for(other)
+    }
+
+    fn after(&self, _worker: u32) {}
+}

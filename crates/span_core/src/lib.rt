@@ -1,0 +1,15 @@
+//! Spans of places, cursors over a list, and loops that share a span out among threads.
+//!
+//! Contracts see a `Span` as where it begins, where it ends and its grain, and what it is cut into as `AreLeaves`
+//! (`specs/Span.antt`); a `Cursor` as its list and its place (`specs/Cursor.antt`).
+#![tactic(auto)]
+
+mod cursor;
+mod gate;
+mod span;
+#[cfg(test)]
+mod tests;
+
+pub use cursor::Cursor;
+pub use gate::{Free, Gate, PairGate};
+pub use span::Span;

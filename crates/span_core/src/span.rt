@@ -1,0 +1,110 @@
+//! A span of places, and how it is cut.
+ghost use Rattle.std.specs.Prelude.{◌≡◌, ◌++◌, ◌<◌, ◌≤◌, ◌↔◌, List, IsTrue, IfOk};
+ghost use Rattle.span_core.specs.Span.{IsDivisible, IsSpan, AreLeaves, size_of, lower_half, upper_half};
+
+use std::alloc::{AllocError, Global};
+use std::marker::Model;
+
+/// The places from one on and before another, with a grain: how many places are not worth cutting.
+#[derive(Clone, Copy, Debug, PartialEq, Eq)]
+pub struct Span {
+    from: u64,
+    to: u64,
+    grain: u64,
+}
+
+impl Model for Span {
+    ghost use Rattle.span_core.specs.Span.{Interval, IsSpan};
+
+    ghost Value = { Interval };
+
+    ghost view = { λ s. record { from = s.from; to = s.to; grain = s.grain } };
+
+    ghost invariant = { λ s. IsSpan (record { from = s.from; to = s.to; grain = s.grain }) };
+
+    ghost inverse = { λ s. record { from = s.from; to = s.to; grain = s.grain } };
+}
+
+impl Span {
+    /// The places from `from` on and before `to`.
+    pub fn new(from: u64, to: u64, grain: u64) -> Span
+        requires ordered { from ≤ to }
+        requires positive { 0 < grain }
+        ensures { result ≡ record { from = from; to = to; grain = grain } }
+    {
+        Span { from, to, grain }
+    }
+
+    /// The first place, if there is one.
+    pub fn from(&self) -> u64
+        ensures value { result ≡ self.now.from }
+        ensures span { IsSpan self.now }
+    {
+        self.from
+    }
+
+    /// The place after the last.
+    pub fn to(&self) -> u64
+        ensures value { result ≡ self.now.to }
+        ensures ordered { self.now.from ≤ result }
+    {
+        self.to
+    }
+
+    /// How many places there are.
+    pub fn size(&self) -> u64
+        ensures { result ≡ size_of self.now }
+    {
+        self.to - self.from
+    }
+
+    /// Whether there are more places than the grain.
+    pub fn is_divisible(&self) -> bool
+        ensures { IsTrue result ↔ IsDivisible self.now }
+    {
+        self.size() > self.grain
+    }
+
+    /// Keeps the places before the middle, and answers those from the middle on.
+    pub fn split(&mut self) -> Span
+        requires { IsDivisible self.old }
+        ensures kept { self.new ≡ lower_half self.old }
+        ensures given { result ≡ upper_half self.old }
+    {
+        let middle = self.from + (self.to - self.from) / 2;
+        let upper = Span {
+            from: middle,
+            to: self.to,
+            grain: self.grain,
+        };
+        self.to = middle;
+        upper
+    }
+
+    /// The span itself where it is not divisible, else the leaves of its two halves in order.
+    ///
+    /// Its time and memory are linear in the number of leaves.
+    pub fn leaves(&self, alloc: Global) -> Result<Vec<Span>, AllocError>
+        ensures { IfOk result (λ leaves. AreLeaves self.now leaves.items) }
+    {
+        let mut leaves = Vec::new(alloc);
+        push_leaves(*self, &mut leaves)?;
+        Ok(leaves)
+    }
+}
+
+// Appends the leaves of a span.
+fn push_leaves(span: Span, leaves: &mut Vec<Span>) -> Result<(), AllocError>
+    ensures { IfOk result (λ _. (made : List _) × (leaves.new.items ≡ leaves.old.items ++ made)
+        × AreLeaves span made) }
+{
+    if !span.is_divisible() {
+        leaves.push(span)?;
+        return Ok(());
+    }
+    let mut lower = span;
+    let upper = lower.split();
+    push_leaves(lower, leaves)?;
+    push_leaves(upper, leaves)?;
+    Ok(())
+}

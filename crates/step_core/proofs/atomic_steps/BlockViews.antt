@@ -18,30 +18,36 @@ use Rattle.step_core.specs.machine.Blocks.{Shown, Block, Entries, flattened, blo
 
 -- ---- The map and the set below a bound
 
+-- a key ties with itself
 same_key : (k : ℕ) → eq_by_cmp nat_cmp k k ≡ true
 same_key k = unsigned_tied k k ∙ (let e : (k == k) ≡ true = grind (arith, nat_tests) in e)
 
+-- another key does not
 other_key : (q k : ℕ) → q ≢ k → eq_by_cmp nat_cmp q k ≡ false
 other_key q k apart = unsigned_tied q k ∙ (let e : (q == k) ≡ false = grind (arith, nat_tests) in e)
 
+-- at another key nothing changes
 given_elsewhere : (m : map.FinMap nat_cmp Slot) (key : ℕ) (o : Option Slot) (q : ℕ) → q ≢ key
     → map.get (with_value m key o) q ≡ map.get m q
 given_elsewhere m key None q apart = refl
 given_elsewhere m key (Some v) q apart =
     map.get-insert nat_cmp_total m key v q ∙ ap (λ b. cond b (Some v) (map.get m q)) (other_key q key apart)
 
+-- at a new key there is what was given
 given_here : (m : map.FinMap nat_cmp Slot) (key : ℕ) (o : Option Slot) → map.get m key ≡ None
     → map.get (with_value m key o) key ≡ o
 given_here m key None none = none
 given_here m key (Some v) none =
     map.get-insert nat_cmp_total m key v key ∙ ap (λ b. cond b (Some v) (map.get m key)) (same_key key)
 
+-- the map has nothing from its bound on
 none_past : (f : ℕ → Option Slot) (n q : ℕ) → n ≤ q → map.get (map_below f n) q ≡ None
 unfolding map_below
 none_past f zero q past = map.get-empty nat_cmp q
 none_past f (suc n) q past =
     given_elsewhere (map_below f n) n (f n) q (λ same. omega arith) ∙ none_past f n q (omega arith)
 
+-- below its bound it has what the function has
 given_within : (f : ℕ → Option Slot) (n q : ℕ) → q < n → map.get (map_below f n) q ≡ f q
 unfolding map_below
 given_within f zero q inside = absurd (omega arith)
@@ -57,6 +63,7 @@ get_map_below : (f : ℕ → Option Slot) (n : ℕ) → ((q : ℕ) → n ≤ q �
 get_map_below f n nothing q =
     elim (cases_lt q n) [ inl inside ↦ given_within f n q inside | inr past ↦ none_past f n q past ∙ sym (nothing q past) ]
 
+-- the set has nothing from its bound on
 false_past : (f : ℕ → Bool) (n q : ℕ) → n ≤ q → set.contains (set_below f n) q ≡ false
 unfolding set_below
 false_past f zero q past = set.contains-empty nat_cmp q
@@ -67,18 +74,21 @@ false_past f (suc n) q past =
       | false ↦ false_past f n q (omega arith)
     ]
 
+-- a number that was not there is there where it passes
 tested_last : (s : set.FinSet nat_cmp) (n : ℕ) (b : Bool) → set.contains s n ≡ false
     → set.contains (if b then set.insert s n else s) n ≡ b
 tested_last s n true none =
     set.contains-insert nat_cmp_total s n n ∙ ap (λ b. b || set.contains s n) (same_key n)
 tested_last s n false none = none
 
+-- any other number is there as before
 tested_before : (s : set.FinSet nat_cmp) (n q : ℕ) (b : Bool) → q ≢ n
     → set.contains (if b then set.insert s n else s) q ≡ set.contains s q
 tested_before s n q true apart =
     set.contains-insert nat_cmp_total s n q ∙ ap (λ b. b || set.contains s q) (other_key q n apart)
 tested_before s n q false apart = refl
 
+-- below its bound the set has what passes
 tested_within : (f : ℕ → Bool) (n q : ℕ) → q < n → set.contains (set_below f n) q ≡ f q
 unfolding set_below
 tested_within f zero q inside = absurd (omega arith)
@@ -96,6 +106,7 @@ contains_set_below f n nothing q =
 
 -- ---- What 32 entries show
 
+-- a place past all segments has a segment past all
 segment_past : (place : ℕ) → 2 ^ 32 ≤ place → 32 ≤ segment_of place
 segment_past place past =
     elim (cases_lt (segment_of place) 32) [
@@ -107,15 +118,18 @@ segment_past place past =
       | inr large ↦ large
     ]
 
+-- there is no block past all entries
 no_block : (entries : Entries) (segment : ℕ) → length entries ≤ segment → block_of entries segment ≡ None
 no_block entries segment past = ap flattened (slice_get_past entries segment past)
 
-pub contains_shown : (entries : Entries) → length entries ≡ 32 → (segment : ℕ)
+-- the segments that are seen are those with a block
+contains_shown : (entries : Entries) → length entries ≡ 32 → (segment : ℕ)
     → set.contains (shown entries).installed segment ≡ is_some (block_of entries segment)
 contains_shown entries long segment =
     contains_set_below (λ k. is_some (block_of entries k)) 32 (λ k past. ap is_some (no_block entries k (omega arith))) segment
 
-pub get_shown : (entries : Entries) → length entries ≡ 32 → (place : ℕ)
+-- the slots that are seen are those of the blocks
+get_shown : (entries : Entries) → length entries ≡ 32 → (place : ℕ)
     → map.get (shown entries).slots place ≡ slot_at entries place
 get_shown entries long place =
     get_map_below (slot_at entries) (2 ^ 32)
@@ -138,6 +152,7 @@ shows_nothing entries long none =
     (λ k. ap is_some (none k) ∙ sym (set.contains-empty nat_cmp k))
     (λ q. ap (λ b. slot_in b (q - segment_start (segment_of q))) (none (segment_of q)) ∙ sym (map.get-empty nat_cmp q))
 
+-- entries without a block are whole
 pub nothing_is_blocks : (entries : Entries) → length entries ≡ 32 → ((k : ℕ) → block_of entries k ≡ None)
     → AreBlocks entries
 nothing_is_blocks entries long none = record { count = long; whole = λ k block is. absurd (none-some block (sym (none k) ∙ is)) }
@@ -145,12 +160,15 @@ nothing_is_blocks entries long none = record { count = long; whole = λ k block 
 -- ---- An entry that is set
 
 module _ (entries : Entries) (k : ℕ) (new : Block) (inside : k < length entries) where
-  pub block_set_here : block_of (slice_set entries k (Some new)) k ≡ Some new
+  -- the entry that is set has the new block
+  block_set_here : block_of (slice_set entries k (Some new)) k ≡ Some new
   block_set_here = ap flattened (get_set entries k (slice_index_or entries k None) (Some new) (slice_get-get_or entries k None inside))
 
-  pub block_set_there : (j : ℕ) → j ≢ k → block_of (slice_set entries k (Some new)) j ≡ block_of entries j
+  -- any other has the block that it had
+  block_set_there : (j : ℕ) → j ≢ k → block_of (slice_set entries k (Some new)) j ≡ block_of entries j
   block_set_there j apart = ap flattened (get_other entries k j (Some new) apart)
 
+  -- a whole block keeps the entries whole
   pub blocks_set : AreBlocks entries → segment_start k + length new ≡ segment_end k
       → AreBlocks (slice_set entries k (Some new))
   blocks_set blocks long = record {
@@ -207,7 +225,7 @@ slot_elsewhere entries entries' k o block slot q elsewhere new old other =
     ]
 
 -- a slot that is set in the block of a place shows one slot changed
-pub shows_slot : (entries : Entries) (k o place : ℕ) (block : Block) (slot : Slot) → length entries ≡ 32 → k < 32
+shows_slot : (entries : Entries) (k o place : ℕ) (block : Block) (slot : Slot) → length entries ≡ 32 → k < 32
     → HasPlace k place → segment_start k + o ≡ place → block_of entries k ≡ Some block → o < length block
     → shown (slice_set entries k (Some (slice_set block o (Some slot)))) ≡ record { installed = (shown entries).installed; slots = map.insert (shown entries).slots place slot }
 shows_slot entries k o place block slot long inside has lies is room =
@@ -262,7 +280,7 @@ slot_in_entry entries seen view blocks place k o read entry number inside lies i
     ∙ ap (λ e. slot_in e o) (is ∙ entry_is)
 
 -- an entry that is read is the block of its segment
-pub entry_is : (entries : Entries) → AreBlocks entries → (k : ℕ) (read : Option Block) → k < 32
+entry_is : (entries : Entries) → AreBlocks entries → (k : ℕ) (read : Option Block) → k < 32
     → read ≡ slice_index_or entries k read → block_of entries k ≡ read
 entry_is entries blocks k read inside is = ap flattened (slice_get_read entries 32 k read (sym blocks.count) inside is)
 
@@ -299,12 +317,14 @@ installed_already seen k there =
 -- ---- A slot that is set in the entry that was read
 
 module _ (entries : Entries) (seen : Shown) (view : shown entries ≡ seen) (blocks : AreBlocks entries) (place k o : ℕ) (has : HasPlace k place) (inside : k < 32) (lies : segment_start k + o ≡ place) (read : Option Block) (is : read ≡ slice_index_or entries k read) where
+  -- the entry has a block where the segment of its place is installed
   pub entry_there : set.contains seen.installed (segment_of place) ≡ true
       → is_some (slice_index_or entries k read) ≡ true
   entry_there there =
       ap is_some (sym is) ∙ sym (installed_is entries seen view blocks k read inside is)
       ∙ ap (set.contains seen.installed) (is_segment_of k place has) ∙ there
 
+  -- its block reaches past the offset of its place
   pub entry_reaches : IfSome (slice_index_or entries k read) (λ block. o < length block)
   entry_reaches =
       elim (slice_index_or entries k read) as (λ r. block_of entries k ≡ r → IfSome r (λ block. o < length block)) [
@@ -316,6 +336,7 @@ module _ (entries : Entries) (seen : Shown) (view : shown entries ≡ seen) (blo
       ]
       (entry_is entries blocks k read inside is ∙ is)
 
+  -- the entries stay whole where the slot is set
   pub set_is_blocks : (slot : Slot) → set.contains seen.installed (segment_of place) ≡ true
       → AreBlocks (slice_set entries k (option_map (λ block. slice_set block o (Some slot)) (slice_index_or entries k read)))
   set_is_blocks slot there =
@@ -327,6 +348,7 @@ module _ (entries : Entries) (seen : Shown) (view : shown entries ≡ seen) (blo
       ]
       (entry_is entries blocks k read inside is ∙ is) (entry_there there)
 
+  -- they show one slot changed
   pub set_shows : (slot : Slot) → set.contains seen.installed (segment_of place) ≡ true
       → shown (slice_set entries k (option_map (λ block. slice_set block o (Some slot)) (slice_index_or entries k read))) ≡ record { installed = seen.installed; slots = map.insert seen.slots place slot }
   set_shows slot there =

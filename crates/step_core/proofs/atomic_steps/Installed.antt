@@ -31,12 +31,12 @@ use Rattle.step_core.proofs.atomic_steps.Bounds.{actor_at}
 use Rattle.step_core.proofs.atomic_steps.Tiling.Invariant.{ready_kept, ready_through, installed_now}
 
 -- where an actor goes on, it has passed the segments of its phase
-abbrev pub PassesOn : Storage → Next → Type 0
+abbrev PassesOn : Storage → Next → Type 0
 PassesOn m (Goes phase) = HasPassed m phase
 PassesOn m (Ends answer) = Unit {0}
 
 -- a step keeps installed segments, those of the claimed places, and what its actor has passed
-pub record Passes (m : Storage) (outcome : Outcome) : Type 0 where
+record Passes (m : Storage) (outcome : Outcome) : Type 0 where
   pub stays : (q : ℕ) → IsReady m q → IsReady outcome.storage q
   pub ready : (q : ℕ) → q < outcome.storage.size → IsReady outcome.storage q
   pub next : PassesOn outcome.storage outcome.next
@@ -59,6 +59,7 @@ module _ (m : Storage) (ready : (q : ℕ) → q < m.size → IsReady m q) where
   goes_passes : (phase : Phase) → HasPassed m phase → Passes m (goes_on m phase)
   goes_passes phase passed = record { stays = λ q r. r; ready = ready; next = passed }
 
+  -- so where the call ends
   ends_passes : (event : Event) (reply : Reply) (answer : Answer) → Passes m (ends m event reply answer)
   ends_passes event reply answer = record { stays = λ q r. r; ready = ready; next = tt }
 
@@ -67,6 +68,7 @@ module _ (m : Storage) (ready : (q : ℕ) → q < m.size → IsReady m q) where
   first_passed n q before inside =
       ready q (let has = segment_of_has m.size in let low : segment_start (segment_of m.size) ≤ m.size = has.from in omega arith)
 
+  -- Load
   growth_passes : (limit actor n : ℕ) → Passes m (load_growth limit m actor n)
   growth_passes limit actor n =
       elim (n == 0) as (λ b. Passes m (if b then ends m (events.Claim actor 0) (replies.Run m.size 0) (answers.Run m.size 0) else if nat_le (m.size + n) limit then goes_on m (Scout m.size n (segment_of m.size)) else ends m (events.RefusedFull actor n) (replies.Full m.size) (answers.Full m.size))) [
@@ -98,6 +100,7 @@ module _ (m : Storage) (ready : (q : ℕ) → q < m.size → IsReady m q) where
   load_passes limit actor (commands.Read place) = read_passes actor place
   load_passes limit actor commands.Size = ends_passes _ _ _
 
+  -- Exchange and Raise: what they claim, they have passed
   exchange_passes : (limit actor from n : ℕ) → HasPassed m (Exchange from n) → Passes m (exchange limit m actor from n)
   exchange_passes limit actor from n passed =
       elim (m.size == from) as (λ b. Passes m (if b then record { storage = with_size m (from + n); event = Some (events.Claim actor n, replies.Run from n); next = Goes (Begin from n from) } else if nat_le (m.size + n) limit then goes_on m (Scout m.size n (segment_of m.size)) else ends m (events.RefusedFull actor n) (replies.Full m.size) (answers.Full m.size))) [
@@ -117,6 +120,7 @@ module _ (m : Storage) (ready : (q : ℕ) → q < m.size → IsReady m q) where
       ]
       refl
 
+  -- Begin
   begin_passes : (actor from n place : ℕ) (command : Command) (slot : Option Slot)
       → HasPassed m (Begin from n place) → Passes m (begin_at m actor command from n place slot)
   begin_passes actor from n place command None passed =
@@ -124,12 +128,14 @@ module _ (m : Storage) (ready : (q : ℕ) → q < m.size → IsReady m q) where
       [ true ↦ record { stays = λ q r. r; ready = ready; next = passed } | false ↦ record { stays = λ q r. r; ready = ready; next = passed } ]
   begin_passes actor from n place command (Some slot) passed = goes_passes (Begin from n place) passed
 
+  -- after a place of the run come its other places
   after_place_passes : (command : Command) (from n place : ℕ) → ((q : ℕ) → q < from + n → IsReady m q)
       → PassesOn m (after_place command from n place)
   after_place_passes command from n place passed =
       elim (nat_lt (place + 1) (from + n)) as (λ b. PassesOn m (if b then Goes (Begin from n (place + 1)) else Ends (answer_of_run command from n)))
       [ true ↦ passed | false ↦ tt ]
 
+  -- Look
   look_passes : (actor place : ℕ) (slot : Option Slot) → Passes m (look_at m actor place slot)
   look_passes actor place None = ends_passes _ _ _
   look_passes actor place (Some (Busy owner)) = ends_passes _ _ _
@@ -158,6 +164,7 @@ segment_passed m command from n k wants ready =
     ]
     refl
 
+-- each row of the step table
 outcome_passes : (limit : ℕ) (m : Storage) (actor : ℕ) (command : Command) (memory : Bool) (phase : Phase)
     → ((q : ℕ) → q < m.size → IsReady m q) → IsWithin limit command phase → HasPassed m phase
     → Passes m (outcome_of limit m actor command memory phase)
@@ -186,23 +193,25 @@ outcome_passes limit m actor command memory (Look place) ready within passed = l
 -- ---- Whole configurations
 
 -- before the first step nothing is claimed, and nobody has passed a segment
-pub first_has_segments : (limit : ℕ) (programs : List (List Command)) → HasSegments (first_configuration limit programs)
+first_has_segments : (limit : ℕ) (programs : List (List Command)) → HasSegments (first_configuration limit programs)
 first_has_segments limit programs = (
   λ q inside. absurd (omega arith),
   All-map (λ (actor : Actor). HasPassed (first_configuration limit programs).storage actor.phase) _ programs (λ k d inside. tt),
 )
 
 -- what an actor that is there has passed
-pub passed_at : (m : Storage) (actors : List Actor) (who : ℕ) (actor : Actor)
+passed_at : (m : Storage) (actors : List Actor) (who : ℕ) (actor : Actor)
     → All (λ (a : Actor). HasPassed m a.phase) actors → slice_get actors who ≡ Some actor → HasPassed m actor.phase
 passed_at m actors who actor all is =
     subst (λ (a : Actor). HasPassed m a.phase) (get_or_from_slice_get actors who actor actor is) (All-get_or (λ (a : Actor). HasPassed m a.phase) actors who actor (slice_get_within actors who actor is) all)
 
+-- at Load of its next call an actor has passed nothing
 after_has_passed : (m : Storage) (actor : Actor) (next : Next) → PassesOn m next
     → HasPassed m (actor_after actor next).phase
 after_has_passed m actor (Goes phase) passed = passed
 after_has_passed m actor (Ends answer) passed = tt
 
+-- what a row keeps, the configuration keeps
 step_to_has_segments : (c : Configuration) (who : ℕ) (actor : Actor) (outcome : Outcome) → HasSegments c
     → Passes c.storage outcome → HasSegments (with_actor c outcome.storage who (actor_after actor outcome.next))
 step_to_has_segments c who actor outcome has passes = (
@@ -212,7 +221,7 @@ step_to_has_segments c who actor outcome has passes = (
 )
 
 -- a step keeps the segments
-pub step_has_segments : (c : Configuration) (who : ℕ) (memory : Bool) → IsInLimit c → HasSegments c
+step_has_segments : (c : Configuration) (who : ℕ) (memory : Bool) → IsInLimit c → HasSegments c
     → HasSegments (step_of c who memory).to
 step_has_segments c who memory in_limit has =
     elim (slice_get c.actors who) as (λ o. slice_get c.actors who ≡ o → HasSegments (step_as c who memory o).to) [

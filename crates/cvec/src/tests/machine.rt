@@ -5,7 +5,7 @@ use book_core::{Answer, Event, Reply};
 use script_core::read;
 use std::alloc::Global;
 use std::test::Fail;
-use step_core::{Machine, MakeError, Slot};
+use step_core::{Machine, MakeError, Slot, Stepped};
 
 // An actor's step with memory, the size after it, and whether it is an event.
 type Row = (u32, u64, bool);
@@ -142,6 +142,14 @@ fn growths_fill_segments_from_both_ends(rt: HostRuntime) -> Result<(), Fail> {
     Ok(())
 }
 
+// A step whose mark refuses memory takes none: a caller's proof, by the clauses of `step` alone.
+fn refused_step(machine: &mut Machine, actor: u32) -> Stepped {
+    match machine.step(actor, false) {
+        Ok(stepped) => stepped,
+        Err(_) => unreachable!(),
+    }
+}
+
 #[test]
 fn a_slot_is_busy_for_the_actor_that_began_it(rt: HostRuntime) -> Result<(), Fail> {
     let mut machine = machine(rt.alloc(), "limit 8\nactor a push 5\nactor b push 6\nsteps")?;
@@ -169,7 +177,7 @@ fn a_refused_segment_ends_the_call_though_it_is_there(rt: HostRuntime) -> Result
         (machine.actors(), machine.size(), machine.slot(0)),
         (2, 0, None)
     );
-    let stepped = machine.step(0, false)?;
+    let stepped = refused_step(&mut machine, 0);
     let event = (Event::RefusedMemory { actor: 0 }, Reply::NoMemory);
     assert_eq!(rt; stepped.event, Some(event));
     let answer = stepped.ended.map(|ended| ended.answer);

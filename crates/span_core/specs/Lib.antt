@@ -1,2 +1,4 @@
 pub mod Span
 pub mod Cursor
+pub mod Each
+pub mod Workers

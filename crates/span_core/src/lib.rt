@@ -5,11 +5,15 @@
 #![tactic(auto)]
 
 mod cursor;
+mod errors;
 mod gate;
 mod span;
 #[cfg(test)]
 mod tests;
+mod workers;
 
 pub use cursor::Cursor;
+pub use errors::ParError;
 pub use gate::{Free, Gate, PairGate};
 pub use span::Span;
+pub use workers::{Job, run_workers};

@@ -1,0 +1,15 @@
+-- What a range of workers answers.
+use Rattle.std.specs.Prelude.{◌≡◌, ℕ, ◌+◌, ◌<◌, ◌≤◌, ◌⊎◌, List, length}
+use Rattle.span_core.specs.Each.{EachFrom}
+
+-- one answer of each worker of the range, in order
+abbrev pub EachGives : {A : Type 0} → (ℕ → A → Type 0) → ℕ → ℕ → List A → Type 0
+EachGives gives first count answers = EachFrom gives first answers × (length answers ≡ count)
+
+-- the gate may refuse some worker of the range
+abbrev pub MayRefuseOne : (ℕ → Type 0) → ℕ → ℕ → Type 0
+MayRefuseOne may_refuse first count = (worker : ℕ) × (first ≤ worker) × (worker < first + count) × may_refuse worker
+
+-- not a number of workers from 1 to 64
+abbrev pub IsBadNumber : ℕ → Type 0
+IsBadNumber workers = (workers ≡ 0) ⊎ (64 < workers)

@@ -1,0 +1,45 @@
+//! Why a loop was refused.
+ghost use Rattle.std.specs.Prelude.{◌≡◌};
+ghost use Rattle.span_core.specs.declared.errors.Refusal.TheVariants.{NoMemory};
+
+use std::alloc::AllocError;
+use std::error::Error;
+use std::fmt;
+
+/// Why a loop has no answer. All workers that were started have ended.
+#[derive(Clone, Copy, Debug, PartialEq, Eq)]
+pub enum ParError {
+    /// There was no memory, or a thread couldn't be started.
+    NoMemory = 1,
+    /// The number of workers is not from 1 to 64. Nothing was started.
+    BadWorkers = 2,
+    /// The gate refused a worker.
+    Stuck = 3,
+}
+
+impl fmt::Display for ParError {
+    fn fmt<W: fmt::Write>(&self, f: &mut fmt::Formatter<W>) -> fmt::Result {
+        match self {
+            ParError::NoMemory => write!(f, "out of memory"),
+            ParError::BadWorkers => write!(f, "the number of workers is not from 1 to 64"),
+            ParError::Stuck => write!(f, "the gate refused a worker"),
+        }
+    }
+}
+
+impl Error for ParError {}
+
+// Why a worker, or a range of workers, has no answer.
+#[derive(Clone, Copy, Debug, PartialEq, Eq)]
+pub(crate) enum Refusal {
+    NoMemory,
+    Stuck,
+}
+
+impl From<AllocError> for Refusal {
+    ghost from_gives = { λ _ e. e ≡ NoMemory };
+
+    fn from(_error: AllocError) -> Refusal {
+        Refusal::NoMemory
+    }
+}

@@ -1,59 +1,116 @@
 //! The figures, which are printed only when they are asked for.
-use crate::thing::{THINGS, Thing};
+use crate::thing::{GROUPS, Group, Thing};
 use anyhow::Result;
 use std::alloc::AllocGlobal;
 use std::rt::Clock;
-use std::thread;
+use std::sync::Wait;
 use std::thread::Threads;
 
-// How often each thread tries, and how often each thing is measured.
-const TRIES: u64 = 2_000_000;
-
+// How often each thing is measured.
 const ROUNDS: usize = 7;
 
-// The picoseconds of a try, in each round, from the least to the greatest.
-fn measured<R: Threads + Clock + AllocGlobal + Sync>(
+// The least, the middle and the greatest time of the rounds.
+#[derive(Clone, Copy, Debug)]
+struct Spread {
+    least: u64,
+    middle: u64,
+    most: u64,
+}
+
+// The picoseconds that a try takes a thread.
+fn time_of<R: Threads + Wait + Clock + AllocGlobal + Sync>(
     rt: &R,
     thing: Thing,
     threads: usize,
-) -> Result<Vec<u128>> {
+    tries: u64,
+) -> Result<u64> {
+    let took = thing.run(rt, threads, tries)?.took.as_nanos();
+    Ok(u64::try_from(took.saturating_mul(1000) / u128::from(tries.max(1))).unwrap_or(u64::MAX))
+}
+
+// The times of a group's things, in each round. The things take turns, so that other work on the machine meets all of them.
+fn rounds_of<R: Threads + Wait + Clock + AllocGlobal + Sync>(
+    rt: &R,
+    group: Group,
+    threads: usize,
+) -> Result<Vec<[u64; 3]>> {
+    let [first, second, third] = group.things;
     let mut rounds = Vec::new(rt.alloc());
     for _round in 0..ROUNDS {
-        let trial = thing.run(rt, threads, TRIES)?;
-        rounds.push(trial.took.as_nanos().saturating_mul(1000) / TRIES as u128)?;
+        rounds.push([
+            time_of(rt, first, threads, group.tries)?,
+            time_of(rt, second, threads, group.tries)?,
+            time_of(rt, third, threads, group.tries)?,
+        ])?;
     }
-    rounds.sort()?;
     Ok(rounds)
 }
 
-// One row: the rounds' least, middle and greatest time, in nanoseconds with one digit after the point.
-fn print_row<R: Threads + Clock + Print + AllocGlobal + Sync>(
-    rt: &R,
-    thing: Thing,
-    threads: usize,
-) -> Result<()> {
-    let rounds = measured(rt, thing, threads)?;
-    let name = thing.name();
-    print!(rt; "{threads:<8} {name:<15}")?;
-    for round in [0, ROUNDS / 2, ROUNDS - 1] {
-        let time = rounds.get(round).copied().unwrap_or(0);
-        print!(rt; " {:>6}.{}", time / 1000, time / 100 % 10)?;
+// How the times of the thing at this index of its group are spread.
+fn spread_of<R: AllocGlobal>(rt: &R, rounds: &[[u64; 3]], index: usize) -> Result<Spread> {
+    let mut times = Vec::new(rt.alloc());
+    for round in rounds {
+        times.push(round.get(index).copied().unwrap_or(0))?;
     }
-    println!(rt; "")?;
+    times.sort()?;
+    let at = |index: usize| times.get(index).copied().unwrap_or(0);
+    Ok(Spread {
+        least: at(0),
+        middle: at(ROUNDS / 2),
+        most: at(ROUNDS - 1),
+    })
+}
+
+// Picoseconds as nanoseconds, with one digit after the point.
+fn print_time<R: Print>(rt: &R, time: u64) -> Result<()> {
+    print!(rt; " {:>6}.{}", time / 1000, time / 100 % 10)?;
     Ok(())
 }
 
-/// For one thread and for as many as the machine runs at once: the nanoseconds that a try takes a thread.
-pub fn print_figures<R: Threads + Clock + Print + AllocGlobal + Sync>(rt: &R) -> Result<()> {
-    let most = thread::available_parallelism(rt)?.get();
-    println!(rt; "nanoseconds a try, of {ROUNDS} rounds of {TRIES} tries a thread")?;
+// One row. The ratio is the middle time of the group's first thing to this one's.
+fn print_row<R: Print>(
+    rt: &R,
+    threads: usize,
+    thing: Thing,
+    time: Spread,
+    first: Spread,
+) -> Result<()> {
+    let name = thing.name();
+    print!(rt; "{threads:<8} {name:<15}")?;
+    print_time(rt, time.least)?;
+    print_time(rt, time.middle)?;
+    print_time(rt, time.most)?;
+    let ratio = first.middle.saturating_mul(100) / time.middle.max(1);
+    println!(rt; " {:>5}.{:02}", ratio / 100, ratio % 100)?;
+    Ok(())
+}
+
+fn print_group<R: Threads + Wait + Clock + Print + AllocGlobal + Sync>(
+    rt: &R,
+    group: Group,
+    threads: usize,
+) -> Result<()> {
+    let rounds = rounds_of(rt, group, threads)?;
+    let first = spread_of(rt, rounds.as_slice(), 0)?;
+    for index in 0..group.things.len() {
+        let time = spread_of(rt, rounds.as_slice(), index)?;
+        print_row(rt, threads, group.things[index], time, first)?;
+    }
+    Ok(())
+}
+
+/// The nanoseconds that a try takes a thread, for one thread, two and four.
+pub fn print_figures<R: Threads + Wait + Clock + Print + AllocGlobal + Sync>(rt: &R) -> Result<()> {
     println!(rt;
-        "{:<8} {:<15} {:>8} {:>8} {:>8}",
-        "threads", "what", "least", "middle", "most"
+        "nanoseconds a try, of {ROUNDS} rounds; the ratio of a group's first thing to each"
     )?;
-    for threads in [1, most] {
-        for thing in THINGS {
-            print_row(rt, thing, threads)?;
+    println!(rt;
+        "{:<8} {:<15} {:>8} {:>8} {:>8} {:>8}",
+        "threads", "what", "least", "middle", "most", "ratio"
+    )?;
+    for group in GROUPS {
+        for threads in [1, 2, 4] {
+            print_group(rt, group, threads)?;
         }
     }
     Ok(())

@@ -10,15 +10,18 @@
 mod bare_number;
 mod claim_word;
 mod figures;
+mod other_vectors;
+mod shared_vector;
 mod thing;
 mod trial;
 
 use crate::figures::print_figures;
-use crate::thing::THINGS;
+use crate::thing::{GROUPS, Group};
 use anyhow::{Result, ensure};
 use std::alloc::AllocGlobal;
 use std::env::{self, Env};
 use std::rt::Clock;
+use std::sync::Wait;
 use std::thread::Threads;
 
 // How the short run is made.
@@ -26,13 +29,23 @@ const THREADS: usize = 2;
 
 const TRIES: u64 = 500;
 
-// Runs each thing shortly.
-fn print_counts<R: Threads + Clock + Print + AllocGlobal + Sync>(rt: &R) -> Result<()> {
-    for thing in THINGS {
+// Runs each thing of a group shortly.
+fn print_counts_of<R: Threads + Wait + Clock + Print + AllocGlobal + Sync>(
+    rt: &R,
+    group: Group,
+) -> Result<()> {
+    for thing in group.things {
         let trial = thing.run(rt, THREADS, TRIES)?;
         let name = thing.name();
         ensure!(trial.wins == trial.size, "{name} lost a win");
         println!(rt; "{name}: {TRIES} tries by each of {THREADS} threads, every win counted")?;
+    }
+    Ok(())
+}
+
+fn print_counts<R: Threads + Wait + Clock + Print + AllocGlobal + Sync>(rt: &R) -> Result<()> {
+    for group in GROUPS {
+        print_counts_of(rt, group)?;
     }
     Ok(())
 }

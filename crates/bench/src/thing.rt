@@ -1,10 +1,13 @@
 //! The things that are measured.
 use crate::bare_number::{Step, run_steps};
 use crate::claim_word::run_claims;
+use crate::other_vectors::{run_boxcar, run_locked};
+use crate::shared_vector::run_pushes;
 use crate::trial::Trial;
 use anyhow::Result;
 use std::alloc::AllocGlobal;
 use std::rt::Clock;
+use std::sync::Wait;
 use std::thread::Threads;
 
 /// What is measured.
@@ -16,14 +19,36 @@ pub enum Thing {
     BareExchange,
     /// An addition to a plain atomic number, which never loses.
     BareAddition,
+    /// A push on the shared vector, which is tried until it wins.
+    SharedVector,
+    /// A push into a `Vec` under a `Mutex`.
+    LockedVec,
+    /// A push on a `boxcar::Vec`.
+    Boxcar,
+}
+
+/// Things that are measured beside each other, the one in question first, and how often a thread tries.
+#[derive(Clone, Copy, Debug)]
+pub struct Group {
+    pub things: [Thing; 3],
+    pub tries: u64,
 }
 
 /// All of them.
-pub const THINGS: [Thing; 3] = [Thing::ClaimWord, Thing::BareExchange, Thing::BareAddition];
+pub const GROUPS: [Group; 2] = [
+    Group {
+        things: [Thing::ClaimWord, Thing::BareExchange, Thing::BareAddition],
+        tries: 2_000_000,
+    },
+    Group {
+        things: [Thing::SharedVector, Thing::LockedVec, Thing::Boxcar],
+        tries: 200_000,
+    },
+];
 
 impl Thing {
     /// Runs the tries in this many threads.
-    pub fn run<R: Threads + Clock + AllocGlobal + Sync>(
+    pub fn run<R: Threads + Wait + Clock + AllocGlobal + Sync>(
         self,
         rt: &R,
         threads: usize,
@@ -33,6 +58,9 @@ impl Thing {
             Thing::ClaimWord => run_claims(rt, threads, tries),
             Thing::BareExchange => run_steps(rt, Step::Exchange, threads, tries),
             Thing::BareAddition => run_steps(rt, Step::Addition, threads, tries),
+            Thing::SharedVector => run_pushes(rt, threads, tries),
+            Thing::LockedVec => run_locked(rt, threads, tries),
+            Thing::Boxcar => run_boxcar(rt, threads, tries),
         }
     }
 
@@ -42,6 +70,9 @@ impl Thing {
             Thing::ClaimWord => "claim word",
             Thing::BareExchange => "bare exchange",
             Thing::BareAddition => "bare addition",
+            Thing::SharedVector => "shared vector",
+            Thing::LockedVec => "locked Vec",
+            Thing::Boxcar => "boxcar",
         }
     }
 }

@@ -1,0 +1,74 @@
+//! The shared vector: each thread has a hand, and appends one value after another.
+ghost use Rattle.std.specs.Prelude.{◌≡◌, ◌<◌, All, IfOk};
+ghost use Rattle.std.specs.Thread.{IsSync};
+ghost use Rattle.grow_core.specs.Vector.{IsHandOf};
+
+use crate::trial::{Trial, sum_of};
+use anyhow::Result;
+use grow_core::{Hand, Shared};
+use std::alloc::{AllocError, AllocGlobal, Global};
+use std::rt::Clock;
+use std::sync::Wait;
+use std::thread;
+use std::thread::Threads;
+use std::time::Instant;
+
+// How many of the pushes appended a value.
+fn push<R: Wait>(rt: &R, vector: &Shared<u64>, mut hand: Hand<u64>, tries: u64) -> u64
+    requires ours { IsHandOf vector.now hand }
+{
+    let mut won: u64 = 0;
+    for value in 0..tries {
+        if vector.push_back(rt, &mut hand, value).is_ok() {
+            won = won.wrapping_add(1);
+        }
+    }
+    won
+}
+
+/// New hands of so many shares each, cut from this one for as long as it has more.
+pub fn hands_for(
+    alloc: Global,
+    vector: &Shared<u64>,
+    hand: &mut Hand<u64>,
+    count: usize,
+    shares: u32,
+) -> Result<Vec<Hand<u64>>, AllocError>
+    requires ours { IsHandOf vector.now hand.old }
+    requires some_shares { 0 < shares }
+    ensures of { hand.new.of ≡ hand.old.of }
+    ensures hands { IfOk result (λ hands. All (IsHandOf vector.now) hands.items) }
+{
+    let mut hands = Vec::new(alloc);
+    for _hand in 0..count {
+        if hand.share() > shares {
+            hands.push(vector.split(hand, shares))?;
+        }
+    }
+    Ok(hands)
+}
+
+/// Pushes on one shared vector, which has room for all of them and is made before the time starts.
+pub fn run_pushes<R: Threads + Wait + Clock + AllocGlobal + Sync>(
+    rt: &R,
+    threads: usize,
+    tries: u64,
+) -> Result<Trial> {
+    let limit = (threads as u64).saturating_mul(tries);
+    let (vector, mut hand) = Shared::fresh(rt.alloc(), limit)?;
+    let hands = hands_for(rt.alloc(), &vector, &mut hand, threads, 1)?;
+    let start = Instant::now(rt)?;
+    let wins = thread::map_vec(
+        rt,
+        hands,
+        &|hand: Hand<u64>| -> u64
+            requires { IsSync R.row × IsHandOf vector hand }
+        { push(rt, &vector, hand, tries) },
+    )?;
+    let took = start.elapsed(rt)?;
+    Ok(Trial {
+        took,
+        wins: sum_of(wins.as_slice()),
+        size: vector.size(&mut hand),
+    })
+}

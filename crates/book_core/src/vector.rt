@@ -219,7 +219,8 @@ impl CellVec {
 
     fn refuse(&self, n: u64) -> Result<Reply, BookError>
         ensures ok { IfOk result (λ reply. apply_event self.now (Event.RefusedFull 0 n) ≡ Some (self.now, reply)) }
-        ensures err { IfErr result (λ e. (e ≡ BookError.NotLegal) × IsNone (apply_event self.now (Event.RefusedFull 0 n))) }
+        ensures err { IfErr result (λ e. (e ≡ BookError.NotLegal)
+            × IsNone (apply_event self.now (Event.RefusedFull 0 n))) }
     {
         if self.fits(n) {
             Err(BookError::NotLegal)

@@ -162,7 +162,8 @@ fn step_among(
 }
 
 fn actors_of(alloc: Global, programs: Sequence<Sequence<Command>>) -> Result<Vec<Actor>, AllocError>
-    ensures { IfOk result (λ actors. actors.items ≡ list_map (λ program. record { program = program; ended = 0; phase = Phase.Load }) programs) }
+    ensures { IfOk result (λ actors. actors.items
+        ≡ list_map (λ program. record { program = program; ended = 0; phase = Phase.Load }) programs) }
 {
     programs
         .into_vec()

@@ -97,7 +97,8 @@ impl Storage {
         requires size { self.old.size ≤ limit }
         requires phase { IsWithin limit command.now phase }
         requires passed { HasPassed self.old phase }
-        ensures gives { IfOk result (λ outcome. given self.new outcome ≡ outcome_of limit self.old actor command.now memory phase) }
+        ensures gives { IfOk result (λ outcome. given self.new outcome
+            ≡ outcome_of limit self.old actor command.now memory phase) }
         ensures err { OnErr result (self.new ≡ self.old) }
         ensures memory { OnErr result (TakesMemory self.old phase memory) }
     {

@@ -27,7 +27,8 @@ impl Storage {
     pub(crate) fn scout_first(&self, n: u64) -> Phase
         requires some { 0 < n }
         requires places { self.now.size + n ≤ 2 ^ 32 }
-        ensures { (segment : ℕ) × (segment ≡ segment_of self.now.size) × (segment < 32) × (result ≡ Phase.Scout self.now.size n segment) }
+        ensures { (segment : ℕ) × (segment ≡ segment_of self.now.size) × (segment < 32)
+            × (result ≡ Phase.Scout self.now.size n segment) }
     {
         let (segment, _) = locate(self.size);
         Phase::Scout {

@@ -35,7 +35,8 @@ impl Storage {
     ) -> Result<Outcome, AllocError>
         requires segment { segment < 32 }
         requires places { from + n ≤ 2 ^ 32 }
-        ensures gives { IfOk result (λ outcome. given self.new outcome ≡ put self.old actor command.now memory from n segment) }
+        ensures gives { IfOk result (λ outcome. given self.new outcome
+            ≡ put self.old actor command.now memory from n segment) }
         ensures err { OnErr result (self.new ≡ self.old) }
         ensures granted { OnErr result (memory ≡ true) }
         ensures not_there { OnErr result (set.contains self.old.installed segment ≡ false) }

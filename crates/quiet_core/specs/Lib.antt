@@ -1,1 +1,2 @@
 pub mod QuietList
+pub mod QuietAt

@@ -1,5 +1,6 @@
 //! The list, and what its owner does with it.
 ghost use Rattle.std.specs.Prelude.{◌≡◌, ◌↔◌, ◌+◌, ◌^◌, ◌<◌, ◌≤◌, [], ◌∷◌, ◌++◌, length, map, slice_get, vec_len, Some, None, Ok, Err, IsOk, IsErrOf, IfOk, IfErr, OnOk, OnErr};
+ghost use Rattle.quiet_core.specs.QuietAt.{IsRefusalAt};
 ghost use Rattle.quiet_core.specs.QuietList.{IsLimit, IsWhole, IsCapacityFor, GrowsFor, IsFull, IsUnchanged};
 
 use crate::errors::{QuietAt, QuietError};
@@ -71,13 +72,10 @@ impl<T> Quiet<T> {
         self.capacity
     }
 
-    /// The value at a place.
+    /// The value at a place. A refusal says that the place is not below the length, or that its member is broken.
     pub fn get(&self, place: u64) -> Result<&T, QuietAt>
         ensures value { IfOk result (λ x. slice_get self.now.members place ≡ Some (Some x.now)) }
-        ensures broken { IsErrOf result QuietAt.Broken
-            ↔ (slice_get self.now.members place ≡ Some None) }
-        ensures out_of_range { IsErrOf result (QuietAt.OutOfRange (length self.now.members))
-            ↔ (length self.now.members ≤ place) }
+        ensures refused { IfErr result (IsRefusalAt self.now.members place) }
     {
         match self.members.get(place as usize) {
             Some(Some(value)) => Ok(value),

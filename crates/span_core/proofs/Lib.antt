@@ -1,2 +1,5 @@
 pub mod Each
 pub mod Ranges
+pub mod ShareLemmas
+pub mod MemberLemmas
+pub mod Tiles

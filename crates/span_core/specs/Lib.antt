@@ -2,3 +2,5 @@ pub mod Span
 pub mod Cursor
 pub mod Each
 pub mod Workers
+pub mod Shares
+pub mod Loops

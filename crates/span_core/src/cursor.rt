@@ -1,5 +1,6 @@
 //! A place of a list, to which one can add and from which one can take away.
-ghost use Rattle.std.specs.Prelude.{◌≡◌, ◌↔◌, ◌+◌, ◌-◌, ◌≤◌, ◌+ℤ◌, pos, length, slice_get, Some, None, IsErrOf, IfOk};
+ghost use Rattle.std.specs.Prelude.{◌≡◌, ◌+◌, ◌-◌, ◌≤◌, ◌+ℤ◌, pos, length, slice_get, Some, IfOk, IfErr};
+ghost use Rattle.quiet_core.specs.QuietAt.{IsRefusalAt};
 
 use quiet_core::{Quiet, QuietAt};
 use std::marker::Model;
@@ -66,13 +67,10 @@ impl<'a, T> Cursor<'a, T> {
         other.place as i64 - self.place as i64
     }
 
-    /// The value at the cursor.
+    /// The value at the cursor, refused at the end and at a broken member.
     pub fn item(&self) -> Result<&'a T, QuietAt>
         ensures value { IfOk result (λ x. slice_get self.now.list.members self.now.place ≡ Some (Some x.now)) }
-        ensures broken { IsErrOf result QuietAt.Broken
-            ↔ (slice_get self.now.list.members self.now.place ≡ Some None) }
-        ensures at_end { IsErrOf result (QuietAt.OutOfRange (length self.now.list.members))
-            ↔ (self.now.place ≡ length self.now.list.members) }
+        ensures refused { IfErr result (IsRefusalAt self.now.list.members self.now.place) }
     {
         let list = self.list;
         list.get(self.place)

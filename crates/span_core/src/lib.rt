@@ -7,6 +7,8 @@
 mod cursor;
 mod errors;
 mod gate;
+mod map;
+mod shares;
 mod span;
 #[cfg(test)]
 mod tests;
@@ -15,5 +17,6 @@ mod workers;
 pub use cursor::Cursor;
 pub use errors::ParError;
 pub use gate::{Free, Gate, PairGate};
+pub use map::par_map;
 pub use span::Span;
 pub use workers::{Job, run_workers};

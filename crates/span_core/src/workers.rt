@@ -1,5 +1,6 @@
 //! Workers in threads of their own, started by halves.
 ghost use Rattle.std.specs.Prelude.{◌≡◌, ◌≢◌, ℕ, ◌+◌, ◌^◌, ◌<◌, ◌≤◌, [], ◌∷◌, ◌++◌, ◌⊎◌, ◌↔◌, Vec, Ok, IfOk, IsErrOf, Err, vec_len};
+ghost use Rattle.std.specs.Bool.{MatchBool};
 ghost use denote.Param.Send.{IsSync, IsSend};
 ghost use Rattle.span_core.specs.Workers.{EachGives, MayRefuseOne, IsBadNumber};
 
@@ -170,7 +171,7 @@ pub fn run_workers<R: Threads + Wait + Sync, A: Send + Drop, J: Job<A> + Sync, G
     ensures bad_workers { IsErrOf result ParError.BadWorkers ↔ IsBadNumber workers }
     ensures stuck { IsErrOf result ParError.Stuck → MayRefuseOne (G.may_refuse gate.now) 0 workers }
 {
-    if workers == 0 || workers > 64 {
+    if !are_workers(workers) {
         return Err(ParError::BadWorkers);
     }
     match range(rt, alloc, job, gate, 0, workers) {
@@ -178,4 +179,11 @@ pub fn run_workers<R: Threads + Wait + Sync, A: Send + Drop, J: Job<A> + Sync, G
         Err(Refusal::NoMemory) => Err(ParError::NoMemory),
         Err(Refusal::Stuck) => Err(ParError::Stuck),
     }
+}
+
+// Whether there may be this number of workers.
+pub(crate) fn are_workers(workers: u32) -> bool
+    ensures { MatchBool result (workers ≢ 0 × workers ≤ 64) (IsBadNumber workers) }
+{
+    1 <= workers && workers <= 64
 }

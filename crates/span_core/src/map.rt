@@ -1,0 +1,109 @@
+//! The answers of a function to each member of a span, by several workers.
+ghost use Rattle.std.specs.Prelude.{◌≡◌, ◌≤◌, ◌↔◌, None, List, length, slice_index_or, IfOk, IsErrOf};
+ghost use Rattle.std.specs.Option.{option_copied};
+ghost use Rattle.std.specs.List.{AllZip};
+ghost use Rattle.span_core.specs.Loops.{AnswersAt, AnswersOver};
+ghost use Rattle.span_core.specs.Span.{Interval, AreLeaves};
+ghost use Rattle.span_core.specs.Workers.{MayRefuseOne, IsBadNumber};
+
+use crate::errors::ParError;
+use crate::gate::Gate;
+use crate::shares::{LeafJob, each_leaf};
+use crate::span::Span;
+use quiet_core::Quiet;
+use std::alloc::{AllocError, Global};
+use std::sync::Wait;
+use std::thread::Threads;
+
+// Asks a function for its answers to the members of a leaf.
+#[derive(Drop)]
+struct MapLeaf<'a, T, F> {
+    alloc: Global,
+    list: &'a Quiet<T>,
+    f: &'a F,
+}
+
+impl<'a, T, U: Drop, F: Fn(u64, Option<&T>) -> U> LeafJob<Vec<U>> for MapLeaf<'a, T, F> {
+    ghost ready = { λ m. F.IsAlwaysCallable m.f.now };
+
+    ghost gives = { λ m leaf answers. AnswersOver (F.post m.f.now) m.list.now.members leaf answers.items };
+
+    fn leaf(&self, leaf: Span) -> Result<Vec<U>, AllocError> {
+        let mut answers = Vec::new(self.alloc);
+        for place in leaf.from()..leaf.to() {
+            let answer = answer_at(self.list, self.f, place);
+            answers.push(answer).map_err(AllocError::from)?;
+        }
+        Ok(answers)
+    }
+}
+
+// What a function answers to a place and the member there.
+fn answer_at<T, U, F: Fn(u64, Option<&T>) -> U>(list: &Quiet<T>, f: &F, place: u64) -> U
+    requires { F.IsAlwaysCallable f.now }
+    ensures { AnswersAt (F.post f.now) list.now.members place result }
+{
+    f(place, member_at(list, place))
+}
+
+// The value at a place, or `None` for a broken member.
+fn member_at<T>(list: &Quiet<T>, place: u64) -> Option<&T>
+    ensures { option_copied result ≡ slice_index_or list.now.members place None }
+{
+    match list.get(place) {
+        Ok(value) => Some(value),
+        Err(_) => None,
+    }
+}
+
+impl<'a, T, F> MapLeaf<'a, T, F> {
+    // The answers to all leaves, in one list.
+    fn flat<U: Drop>(&self, span: Span, parts: Vec<Vec<U>>) -> Result<Vec<U>, AllocError>
+    where
+        F: Fn(u64, Option<&T>) -> U,
+        requires { (leaves : List Interval) × AreLeaves span leaves
+            × AllZip (λ leaf part. AnswersOver (F.post self.now.f.now) self.now.list.now.members leaf part.items) leaves parts.items }
+        ensures { IfOk result (λ all. AnswersOver (F.post self.now.f.now) self.now.list.now.members span all.items) }
+    {
+        let mut all = Vec::with_capacity(self.alloc, span.size() as usize)?;
+        for mut part in parts {
+            all.append(&mut part)?;
+        }
+        Ok(all)
+    }
+}
+
+/// The answers of `f` to the places of a span and their members, in order of place, by a number of workers.
+///
+/// A member is `None` where it is broken. Leaf i of the span is the work of worker i mod the number of workers. The answers
+/// are those of a single thread. Its work is linear in the places; it takes memory for the leaves and, twice, for the
+/// answers.
+pub fn par_map<
+    R: Threads + Wait + Sync,
+    T: Sync,
+    U: Send + Drop,
+    F: Fn(u64, Option<&T>) -> U + Sync,
+    G: Gate + Sync,
+>(
+    rt: &R,
+    alloc: Global,
+    list: &Quiet<T>,
+    span: Span,
+    workers: u32,
+    f: &F,
+    gate: &G,
+) -> Result<Vec<U>, ParError>
+    requires callable { F.IsAlwaysCallable f.now }
+    requires inside { span.to ≤ length list.now.members }
+    ensures answers { IfOk result (λ all. AnswersOver (F.post f.now) list.now.members span all.items) }
+    // The number is looked at before anything is started.
+    ensures bad_workers { IsErrOf result ParError.BadWorkers ↔ IsBadNumber workers }
+    ensures stuck { IsErrOf result ParError.Stuck → MayRefuseOne (G.may_refuse gate.now) 0 workers }
+{
+    let each = MapLeaf { alloc, list, f };
+    let parts = each_leaf(rt, alloc, span, workers, &each, gate)?;
+    match each.flat(span, parts) {
+        Ok(all) => Ok(all),
+        Err(_) => Err(ParError::NoMemory),
+    }
+}

@@ -1,10 +1,12 @@
-//! Measures what calls cost, each beside a yardstick that does the least that the call could do.
+//! Measures what calls cost, each beside a yardstick that does the least that the call could do, and puts the shared vector
+//! under stress.
 //!
 //! - Without an argument it runs each thing shortly and prints that all of its wins were counted: the same whatever the
 //!   machine does. With the argument `figures` it measures for some seconds and prints times.
+//! - With `stress SECONDS` threads make random calls on shared vectors, which are compared with what they were answered.
 //! - Each measured thing has a file of its own with one function that runs its tries in threads and answers a `Trial`.
 //!
-//! Contracts say that each hand is used with its own word. No clause says what a run costs.
+//! Contracts say that each hand and each token is used with its own word or vector. No clause says what a run costs.
 #![tactic(auto)]
 
 mod bare_number;
@@ -12,12 +14,14 @@ mod claim_word;
 mod figures;
 mod other_vectors;
 mod shared_vector;
+mod stress;
 mod thing;
 mod trial;
 
 use crate::figures::print_figures;
+use crate::stress::print_stress;
 use crate::thing::{GROUPS, Group};
-use anyhow::{Result, ensure};
+use anyhow::{Result, bail, ensure};
 use std::alloc::AllocGlobal;
 use std::env::{self, Env};
 use std::rt::Clock;
@@ -50,18 +54,35 @@ fn print_counts<R: Threads + Wait + Clock + Print + AllocGlobal + Sync>(rt: &R) 
     Ok(())
 }
 
-fn asks_for_figures<R: Env + AllocGlobal>(rt: &R) -> Result<bool> {
-    let mut figures = false;
-    for word in env::args(rt)? {
-        figures = word.as_str() == "figures";
+// What the words after the program's name ask for.
+#[derive(Clone, Copy, Debug)]
+enum Task {
+    Counts,
+    Figures,
+    Stress(u64),
+}
+
+fn task_of(words: &[String]) -> Result<Task> {
+    match words {
+        [] => Ok(Task::Counts),
+        [word] if word.as_str() == "figures" => Ok(Task::Figures),
+        [word, seconds] if word.as_str() == "stress" => Ok(Task::Stress(seconds.as_str().parse()?)),
+        _ => bail!("usage: bench [figures | stress SECONDS]"),
     }
-    Ok(figures)
+}
+
+fn words_of<R: Env + AllocGlobal>(rt: &R) -> Result<Vec<String>> {
+    let mut words = Vec::new(rt.alloc());
+    for word in env::args(rt)?.skip(1) {
+        words.push(word)?;
+    }
+    Ok(words)
 }
 
 fn main(rt: HostRuntime) -> Result<()> {
-    if asks_for_figures(&rt)? {
-        print_figures(&rt)
-    } else {
-        print_counts(&rt)
+    match task_of(words_of(&rt)?.as_slice())? {
+        Task::Counts => print_counts(&rt),
+        Task::Figures => print_figures(&rt),
+        Task::Stress(seconds) => print_stress(&rt, seconds),
     }
 }

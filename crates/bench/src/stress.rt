@@ -1,0 +1,116 @@
+//! The stress: on one small vector after another, threads with many hands each make random calls, and then each place is
+//! compared with what the answers said.
+ghost use Rattle.std.specs.Prelude.{◌≡◌, All, IfOk};
+ghost use Rattle.std.specs.Thread.{IsSync};
+ghost use Rattle.grow_core.specs.Vector.{IsHandOf};
+
+mod calls;
+mod compare;
+mod job;
+mod random;
+mod record;
+
+use crate::stress::compare::compare_all;
+use crate::stress::job::{Job, Outcome, run_job};
+use crate::stress::random::Random;
+use crate::stress::record::{Counts, Record};
+use anyhow::{Result, ensure};
+use grow_core::{Hand, Shared};
+use std::alloc::{AllocError, AllocGlobal, Global};
+use std::rt::Clock;
+use std::sync::Wait;
+use std::thread;
+use std::thread::Threads;
+use std::time::{Duration, Instant};
+
+const THREADS: u64 = 4;
+
+// How many shares each thread gets.
+const SHARES: u32 = 10_000;
+
+// The limits of the vectors are not above it.
+const MOST: u64 = 16_384;
+
+// A hand for each thread.
+fn jobs_for(
+    alloc: Global,
+    number: u64,
+    vector: &Shared<u64>,
+    hand: &mut Hand<u64>,
+) -> Result<Vec<Job>, AllocError>
+    requires ours { IsHandOf vector.now hand.old }
+    ensures of { hand.new.of ≡ hand.old.of }
+    ensures jobs { IfOk result (λ jobs. All (λ job. IsHandOf vector.now job.hand) jobs.items) }
+{
+    let mut jobs = Vec::new(alloc);
+    for thread in 0..THREADS {
+        if hand.share() > SHARES {
+            jobs.push(Job {
+                vector: number,
+                thread,
+                hand: vector.split(hand, SHARES),
+            })?;
+        }
+    }
+    Ok(jobs)
+}
+
+// Joins the threads' hands to the hand, and gives what the threads were answered.
+fn join_outcomes(
+    alloc: Global,
+    vector: &Shared<u64>,
+    hand: &mut Hand<u64>,
+    outcomes: Vec<Result<Outcome>>,
+) -> Result<Vec<Record>>
+    requires ours { IsHandOf vector.now hand.old }
+    requires others_ours { All (λ o. IfOk o (λ o. IsHandOf vector.now o.hand)) outcomes.items }
+    ensures of { hand.new.of ≡ hand.old.of }
+{
+    let mut records = Vec::new(alloc);
+    for outcome in outcomes {
+        let Outcome {
+            hand: other,
+            record,
+        } = outcome?;
+        vector.join(hand, other);
+        records.push(record)?;
+    }
+    Ok(records)
+}
+
+// The vector of this number: all threads' calls, the comparison, and its end.
+fn stress_one<R: Threads + Wait + AllocGlobal + Sync>(rt: &R, number: u64) -> Result<Vec<Record>> {
+    let limit = 1 + Random::new(number, THREADS).below(MOST);
+    let (vector, mut hand) = Shared::fresh(rt.alloc(), limit)?;
+    let jobs = jobs_for(rt.alloc(), number, &vector, &mut hand)?;
+    let outcomes = thread::map_vec(
+        rt,
+        jobs,
+        &|job: Job| -> Result<Outcome>
+            requires { IsSync R.row × IsHandOf vector job.hand }
+            ensures { IfOk result (λ outcome. IsHandOf vector outcome.hand) }
+        { run_job(rt, &vector, job) },
+    )?;
+    let records = join_outcomes(rt.alloc(), &vector, &mut hand, outcomes)?;
+    compare_all(rt, &vector, &mut hand, records.as_slice())?;
+    ensure!(hand.is_whole(), "shares were lost");
+    vector.end(hand);
+    Ok(records)
+}
+
+/// One vector after another, for as long as it is said.
+pub fn print_stress<R: Threads + Wait + Clock + Print + AllocGlobal + Sync>(
+    rt: &R,
+    seconds: u64,
+) -> Result<()> {
+    let mut counts = Counts::default();
+    let start = Instant::now(rt)?;
+    for number in 0..u64::MAX {
+        if start.elapsed(rt)? >= Duration::from_secs(seconds) {
+            break;
+        }
+        counts.add(stress_one(rt, number)?.as_slice());
+    }
+    println!(rt; "{counts}")?;
+    Ok(())
+}

@@ -1,0 +1,240 @@
+//! Random calls of one thread.
+ghost use Rattle.std.specs.Prelude.{◌≡◌, ◌<◌, IfOk, IfSome};
+ghost use Rattle.grow_core.specs.Vector.{IsHandOf, IsPlacedOf};
+
+use crate::stress::random::Random;
+use crate::stress::record::Record;
+use anyhow::{Result, bail};
+use grow_core::{AtError, GrowError, Grown, Hand, Never, Placed, Shared};
+use std::alloc::{AllocError, Global};
+use std::sync::Wait;
+
+// The greatest number of values that are appended at once, and how far above the size a look goes.
+const MOST: u64 = 5;
+
+// The kinds of call.
+#[derive(Clone, Copy, Debug)]
+enum Kind {
+    TryPush,
+    Push,
+    Grow,
+    Size,
+    Look,
+    LookByToken,
+    Meet,
+    Share,
+}
+
+const KINDS: [Kind; 8] = [
+    Kind::TryPush,
+    Kind::Push,
+    Kind::Grow,
+    Kind::Size,
+    Kind::Look,
+    Kind::LookByToken,
+    Kind::Meet,
+    Kind::Share,
+];
+
+/// A thread that makes calls, and what it was answered.
+#[derive(Drop)]
+pub struct Caller {
+    random: Random,
+    next: u64,
+    pub record: Record,
+}
+
+impl Caller {
+    /// The calls of a thread on the vector of this number.
+    pub fn new(alloc: Global, vector: u64, thread: u64) -> Caller {
+        Caller {
+            random: Random::new(vector, thread),
+            next: thread << 32,
+            record: Record::new(alloc),
+        }
+    }
+
+    /// A number below the bound.
+    pub fn below(&mut self, bound: usize) -> usize
+        requires { 0 < bound }
+        ensures { result < bound }
+    {
+        self.random.below(bound as u64) as usize
+    }
+
+    // The first of so many values that no call has appended yet.
+    fn take_values(&mut self, n: u64) -> u64 {
+        let first = self.next;
+        self.next = first.wrapping_add(n);
+        first
+    }
+}
+
+// Notes the answer to a push.
+fn note_push(
+    vector: &Shared<u64>,
+    caller: &mut Caller,
+    value: u64,
+    answer: Result<Placed<u64>, GrowError<u64, u64, Never>>,
+) -> Result<Option<Placed<u64>>>
+    requires { IfOk answer (IsPlacedOf vector.now) }
+    ensures { IfOk result (λ token. IfSome token (IsPlacedOf vector.now)) }
+{
+    match answer {
+        Ok(placed) => {
+            caller.record.note_placed(placed.place(), value)?;
+            Ok(Some(placed))
+        }
+        Err(error) => {
+            caller.record.note_refused(error)?;
+            Ok(None)
+        }
+    }
+}
+
+fn try_push(
+    vector: &Shared<u64>,
+    hand: &mut Hand<u64>,
+    caller: &mut Caller,
+) -> Result<Option<Placed<u64>>>
+    requires ours { IsHandOf vector.now hand.old }
+    ensures of { hand.new.of ≡ hand.old.of }
+    ensures token { IfOk result (λ token. IfSome token (IsPlacedOf vector.now)) }
+{
+    let value = caller.take_values(1);
+    let answer = vector.try_push_back(hand, value);
+    note_push(vector, caller, value, answer)
+}
+
+fn push<R: Wait>(
+    rt: &R,
+    vector: &Shared<u64>,
+    hand: &mut Hand<u64>,
+    caller: &mut Caller,
+) -> Result<Option<Placed<u64>>>
+    requires ours { IsHandOf vector.now hand.old }
+    ensures of { hand.new.of ≡ hand.old.of }
+    ensures token { IfOk result (λ token. IfSome token (IsPlacedOf vector.now)) }
+{
+    let value = caller.take_values(1);
+    let answer = vector.push_back(rt, hand, value);
+    note_push(vector, caller, value, answer)
+}
+
+fn values_from(alloc: Global, first: u64, n: u64) -> Result<Vec<u64>, AllocError> {
+    let mut values = Vec::new(alloc);
+    for i in 0..n {
+        values.push(first.wrapping_add(i))?;
+    }
+    Ok(values)
+}
+
+fn note_run(caller: &mut Caller, first: u64, grown: &Grown<u64>) -> Result<()> {
+    for i in 0..grown.run().n {
+        caller
+            .record
+            .note_placed(grown.placed(i).place(), first.wrapping_add(i))?;
+    }
+    Ok(())
+}
+
+fn grow(
+    alloc: Global,
+    vector: &Shared<u64>,
+    hand: &mut Hand<u64>,
+    caller: &mut Caller,
+) -> Result<()>
+    requires ours { IsHandOf vector.now hand.old }
+    ensures of { hand.new.of ≡ hand.old.of }
+{
+    let n = caller.random.below(MOST + 1);
+    let first = caller.take_values(n);
+    match vector.try_grow_vec(hand, values_from(alloc, first, n)?) {
+        Ok(grown) => note_run(caller, first, &grown),
+        Err(error) => caller.record.note_refused(error),
+    }
+}
+
+// Looks at a place, which may not be filled yet.
+fn look(
+    vector: &Shared<u64>,
+    hand: &mut Hand<u64>,
+    caller: &mut Caller,
+    place: u64,
+    known: Option<&Placed<u64>>,
+) -> Result<()>
+    requires ours { IsHandOf vector.now hand.old }
+    requires known { IfSome known (λ p. IsPlacedOf vector.now p.now × (p.now.place ≡ place)) }
+    ensures of { hand.new.of ≡ hand.old.of }
+{
+    match vector.at(hand, place, known) {
+        Ok(at) => caller.record.note_read(place, *at.value),
+        Err(AtError::Broken(_spoilt)) => bail!("place {place} is broken"),
+        Err(AtError::OutOfRange { .. } | AtError::Pending) => Ok(()),
+    }
+}
+
+// Looks at the token's place, if there is a token.
+fn look_by_token(
+    vector: &Shared<u64>,
+    hand: &mut Hand<u64>,
+    caller: &mut Caller,
+    token: &Option<Placed<u64>>,
+) -> Result<()>
+    requires ours { IsHandOf vector.now hand.old }
+    requires token_ours { IfSome token.now (IsPlacedOf vector.now) }
+    ensures of { hand.new.of ≡ hand.old.of }
+{
+    match token {
+        Some(placed) => look(vector, hand, caller, placed.place(), Some(placed)),
+        None => Ok(()),
+    }
+}
+
+// Gives a share of the one hand to the other.
+fn share(vector: &Shared<u64>, hand: &mut Hand<u64>, other: &mut Hand<u64>)
+    requires ours { IsHandOf vector.now hand.old }
+    requires also_ours { IsHandOf vector.now other.old }
+    ensures of { hand.new.of ≡ hand.old.of }
+    ensures also_of { other.new.of ≡ other.old.of }
+{
+    if hand.share() > 1 {
+        let part = vector.split(hand, 1);
+        vector.join(other, part);
+    }
+}
+
+/// One random call by the hand, in some kinds with the other one. The token is that of the thread's last push.
+pub fn make_call<R: Wait>(
+    rt: &R,
+    alloc: Global,
+    vector: &Shared<u64>,
+    hand: &mut Hand<u64>,
+    other: &mut Hand<u64>,
+    token: Option<Placed<u64>>,
+    caller: &mut Caller,
+) -> Result<Option<Placed<u64>>>
+    requires ours { IsHandOf vector.now hand.old }
+    requires also_ours { IsHandOf vector.now other.old }
+    requires token_ours { IfSome token (IsPlacedOf vector.now) }
+    ensures of { hand.new.of ≡ hand.old.of }
+    ensures also_of { other.new.of ≡ other.old.of }
+    ensures token { IfOk result (λ token. IfSome token (IsPlacedOf vector.now)) }
+{
+    match KINDS[caller.below(KINDS.len())] {
+        Kind::TryPush => return try_push(vector, hand, caller),
+        Kind::Push => return push(rt, vector, hand, caller),
+        Kind::Grow => grow(alloc, vector, hand, caller)?,
+        Kind::Size => {
+            vector.size(hand);
+        }
+        Kind::Look => {
+            let place = caller.random.below(hand.seen().saturating_add(MOST));
+            look(vector, hand, caller, place, None)?;
+        }
+        Kind::LookByToken => look_by_token(vector, hand, caller, &token)?,
+        Kind::Meet => vector.meet(hand, other),
+        Kind::Share => share(vector, hand, other),
+    }
+    Ok(token)
+}

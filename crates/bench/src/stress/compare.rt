@@ -1,0 +1,78 @@
+//! Whether a vector has what the answers said.
+ghost use Rattle.std.specs.Prelude.{◌≡◌};
+ghost use Rattle.grow_core.specs.Vector.{IsHandOf};
+
+use crate::stress::record::{Filled, Record};
+use anyhow::{Result, bail, ensure};
+use grow_core::{Hand, Shared};
+use std::alloc::AllocGlobal;
+
+// Writes down which value an answer said to be at each place.
+fn write_down(places: &mut [Option<u64>], placed: &[Filled]) -> Result<()> {
+    for Filled { place, value } in placed {
+        match places.get_mut(*place as usize) {
+            None => bail!("place {place} was answered, and is not below the size"),
+            Some(Some(_)) => bail!("place {place} was answered twice"),
+            Some(free) => *free = Some(*value),
+        }
+    }
+    Ok(())
+}
+
+// The value at each place below the size, as the answers said it.
+fn places_of<R: AllocGlobal>(rt: &R, size: u64, records: &[Record]) -> Result<Vec<Option<u64>>> {
+    let mut places = vec![in rt.alloc(); None; size as usize]?;
+    for record in records {
+        write_down(places.as_mut_slice(), record.placed.as_slice())?;
+    }
+    Ok(places)
+}
+
+// Each place has the value that an answer said.
+fn compare_places(vector: &Shared<u64>, hand: &mut Hand<u64>, places: &[Option<u64>]) -> Result<()>
+    requires ours { IsHandOf vector.now hand.old }
+    ensures of { hand.new.of ≡ hand.old.of }
+{
+    for (place, said) in places.iter().enumerate() {
+        let Some(said) = said else {
+            bail!("place {place} is below the size, and was not answered")
+        };
+        let value = match vector.at(hand, place as u64, None) {
+            Ok(at) => *at.value,
+            Err(error) => bail!("place {place}: {error}"),
+        };
+        ensure!(
+            value == *said,
+            "place {place} has {value}, and {said} was pushed"
+        );
+    }
+    Ok(())
+}
+
+// What was read while others appended is what is there.
+fn compare_read(places: &[Option<u64>], read: &[Filled]) -> Result<()> {
+    for Filled { place, value } in read {
+        let said = places.get(*place as usize).copied().flatten();
+        ensure!(said == Some(*value), "{value} was read at place {place}");
+    }
+    Ok(())
+}
+
+/// Compares each place with what the answers said, by a hand that all other hands were joined to.
+pub fn compare_all<R: AllocGlobal>(
+    rt: &R,
+    vector: &Shared<u64>,
+    hand: &mut Hand<u64>,
+    records: &[Record],
+) -> Result<()>
+    requires ours { IsHandOf vector.now hand.old }
+    ensures of { hand.new.of ≡ hand.old.of }
+{
+    let size = vector.size(hand);
+    let places = places_of(rt, size, records)?;
+    compare_places(vector, hand, places.as_slice())?;
+    for record in records {
+        compare_read(places.as_slice(), record.read.as_slice())?;
+    }
+    Ok(())
+}

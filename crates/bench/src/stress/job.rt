@@ -1,0 +1,116 @@
+//! One thread of the stress: many hands, and random calls by them.
+ghost use Rattle.std.specs.Prelude.{◌≡◌, All, IfOk, IfSome};
+ghost use Rattle.grow_core.specs.Vector.{IsHandOf, IsPlacedOf};
+
+use crate::shared_vector::hands_for;
+use crate::stress::calls::{Caller, make_call};
+use crate::stress::record::Record;
+use anyhow::Result;
+use grow_core::{Hand, Placed, Shared};
+use std::alloc::{AllocGlobal, Global};
+use std::mem;
+use std::sync::Wait;
+
+// How many hands a thread has, and how many shares it gives to each of them but the first.
+const HANDS: usize = 10;
+
+const SHARES: u32 = 1_000;
+
+// How many calls a thread makes.
+const CALLS: u64 = 2_000;
+
+/// What a thread begins with: the number of its vector, its own, and a hand.
+#[derive(Drop)]
+pub struct Job {
+    pub vector: u64,
+    pub thread: u64,
+    pub hand: Hand<u64>,
+}
+
+/// What a thread leaves: a hand with all of its shares and runs, and what its calls were answered.
+#[derive(Drop)]
+pub struct Outcome {
+    pub hand: Hand<u64>,
+    pub record: Record,
+}
+
+// A random call by the hand and a random one of the others, which change places after it.
+fn call_with_another<R: Wait>(
+    rt: &R,
+    alloc: Global,
+    vector: &Shared<u64>,
+    hand: &mut Hand<u64>,
+    others: &mut [Hand<u64>],
+    token: Option<Placed<u64>>,
+    caller: &mut Caller,
+) -> Result<Option<Placed<u64>>>
+    requires ours { IsHandOf vector.now hand.old }
+    requires others_ours { All (IsHandOf vector.now) others.old }
+    requires token_ours { IfSome token (IsPlacedOf vector.now) }
+    ensures ours { IsHandOf vector.now hand.new }
+    ensures others_ours { All (IsHandOf vector.now) others.new }
+    ensures token { IfOk result (λ token. IfSome token (IsPlacedOf vector.now)) }
+{
+    if others.is_empty() {
+        return Ok(token);
+    }
+    let index = caller.below(others.len());
+    let other = &mut others[index];
+    let token = make_call(rt, alloc, vector, hand, other, token, caller)?;
+    mem::swap(hand, other);
+    Ok(token)
+}
+
+// All random calls of a thread.
+fn call_often<R: Wait>(
+    rt: &R,
+    alloc: Global,
+    vector: &Shared<u64>,
+    hand: &mut Hand<u64>,
+    others: &mut [Hand<u64>],
+    caller: &mut Caller,
+) -> Result<()>
+    requires ours { IsHandOf vector.now hand.old }
+    requires others_ours { All (IsHandOf vector.now) others.old }
+    ensures ours { IsHandOf vector.now hand.new }
+    ensures others_ours { All (IsHandOf vector.now) others.new }
+{
+    let mut token = None;
+    for _call in 0..CALLS {
+        token = call_with_another(rt, alloc, vector, hand, others, token, caller)?;
+    }
+    Ok(())
+}
+
+/// Joins all other hands to the hand.
+pub fn join_all(vector: &Shared<u64>, hand: &mut Hand<u64>, others: Vec<Hand<u64>>)
+    requires ours { IsHandOf vector.now hand.old }
+    requires others_ours { All (IsHandOf vector.now) others.items }
+    ensures of { hand.new.of ≡ hand.old.of }
+{
+    for other in others {
+        vector.join(hand, other);
+    }
+}
+
+/// The calls of one thread.
+pub fn run_job<R: Wait + AllocGlobal>(rt: &R, vector: &Shared<u64>, job: Job) -> Result<Outcome>
+    requires ours { IsHandOf vector.now job.hand }
+    ensures ours { IfOk result (λ outcome. IsHandOf vector.now outcome.hand) }
+{
+    let mut hand = job.hand;
+    let alloc = rt.alloc();
+    let mut caller = Caller::new(alloc, job.vector, job.thread);
+    let mut others = hands_for(alloc, vector, &mut hand, HANDS - 1, SHARES)?;
+    call_often(
+        rt,
+        alloc,
+        vector,
+        &mut hand,
+        others.as_mut_slice(),
+        &mut caller,
+    )?;
+    join_all(vector, &mut hand, others);
+    let Caller { record, .. } = caller;
+    Ok(Outcome { hand, record })
+}

@@ -1,0 +1,92 @@
+//! What the calls of one thread were answered.
+use anyhow::{Result, bail};
+use grow_core::{GrowError, Never};
+use std::alloc::Global;
+use std::fmt;
+
+/// A place and its value.
+#[derive(Clone, Copy, Debug)]
+pub struct Filled {
+    pub place: u64,
+    pub value: u64,
+}
+
+/// The answers that are compared, and how many calls were refused.
+#[derive(Drop)]
+pub struct Record {
+    /// What was appended.
+    pub placed: Vec<Filled>,
+    /// What was read while others appended.
+    pub read: Vec<Filled>,
+    /// How many exchanges were lost.
+    pub lost: u64,
+    /// How many growths found no room.
+    pub full: u64,
+}
+
+impl Record {
+    /// Of no call.
+    pub fn new(alloc: Global) -> Record {
+        Record {
+            placed: Vec::new(alloc),
+            read: Vec::new(alloc),
+            lost: 0,
+            full: 0,
+        }
+    }
+
+    /// A value was appended.
+    pub fn note_placed(&mut self, place: u64, value: u64) -> Result<()> {
+        self.placed.push(Filled { place, value })?;
+        Ok(())
+    }
+
+    /// A value was read.
+    pub fn note_read(&mut self, place: u64, value: u64) -> Result<()> {
+        self.read.push(Filled { place, value })?;
+        Ok(())
+    }
+
+    /// A growth was refused, for a reason that may come.
+    pub fn note_refused<V: Drop>(&mut self, error: GrowError<u64, V, Never>) -> Result<()> {
+        match error {
+            GrowError::Moved { .. } => self.lost = self.lost.wrapping_add(1),
+            GrowError::Full { .. } => self.full = self.full.wrapping_add(1),
+            other => bail!("a growth was refused: {other}"),
+        }
+        Ok(())
+    }
+}
+
+/// How much there was of each kind, on all vectors together.
+#[derive(Clone, Copy, Debug, Default)]
+pub struct Counts {
+    vectors: u64,
+    placed: u64,
+    read: u64,
+    lost: u64,
+    full: u64,
+}
+
+impl Counts {
+    /// Adds the threads' records of one vector.
+    pub fn add(&mut self, records: &[Record]) {
+        self.vectors = self.vectors.wrapping_add(1);
+        for record in records {
+            self.placed = self.placed.wrapping_add(record.placed.len() as u64);
+            self.read = self.read.wrapping_add(record.read.len() as u64);
+            self.lost = self.lost.wrapping_add(record.lost);
+            self.full = self.full.wrapping_add(record.full);
+        }
+    }
+}
+
+impl fmt::Display for Counts {
+    fn fmt<W: fmt::Write>(&self, f: &mut fmt::Formatter<W>) -> fmt::Result {
+        write!(
+            f,
+            "{} vectors: {} places and {} reads as answered, {} lost exchanges, {} times no room",
+            self.vectors, self.placed, self.read, self.lost, self.full
+        )
+    }
+}

@@ -28,7 +28,7 @@ fn time_of<R: Threads + Wait + Clock + AllocGlobal + Sync>(
     Ok(u64::try_from(took.saturating_mul(1000) / u128::from(tries.max(1))).unwrap_or(u64::MAX))
 }
 
-// The times of a group's things, in each round. The things take turns, so that other work on the machine meets all of them.
+// The times of a group's things, in each round. The things take turns, so that other work on the machine meets all.
 fn rounds_of<R: Threads + Wait + Clock + AllocGlobal + Sync>(
     rt: &R,
     group: Group,

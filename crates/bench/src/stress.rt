@@ -1,5 +1,5 @@
-//! The stress: on one small vector after another, threads with many hands each make random calls, and then each place is
-//! compared with what the answers said.
+//! The stress: on one small vector after another, threads with many hands each make random calls, and then each place
+//! is compared with what the answers said.
 ghost use Rattle.std.specs.Prelude.{◌≡◌, All, IfOk};
 ghost use Rattle.std.specs.Thread.{IsSync};
 ghost use Rattle.grow_core.specs.Vector.{IsHandOf};

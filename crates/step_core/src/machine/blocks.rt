@@ -128,8 +128,11 @@ impl Blocks {
         if self.has(segment) {
             return Ok(());
         }
-        let block = Block::new(self.alloc, len(segment))?;
-        self.entries[segment as usize] = Some(block);
+        make_in(
+            &mut self.entries[segment as usize],
+            self.alloc,
+            len(segment),
+        )?;
         Ok(())
     }
 }
@@ -144,4 +147,13 @@ fn set_in(entry: &mut Option<Block>, offset: u64, slot: Slot)
         Some(block) => block.set(offset, slot),
         None => unreachable!(),
     }
+}
+
+// The entry has an empty block of this length; where memory runs out, it is as it was.
+fn make_in(entry: &mut Option<Block>, alloc: Global, len: u64) -> Result<(), AllocError>
+    ensures ok { OnOk result (entry.new ≡ Some (replicate len None)) }
+    ensures err { OnErr result (entry.new ≡ entry.old) }
+{
+    *entry = Some(Block::new(alloc, len)?);
+    Ok(())
 }

@@ -171,7 +171,7 @@ impl<T: Drop> Quiet<T> {
     {
         match self.reserve(values.len() as u64) {
             Ok(()) => {
-                self.members.clear();
+                self.clear();
                 append(&mut self.members, values);
                 Ok(())
             }

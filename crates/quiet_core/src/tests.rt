@@ -1,6 +1,6 @@
 //! What no clause says: that the calls succeed where there is memory, and what the worked rows say.
 use crate::{Quiet, QuietAt, QuietError};
-use std::alloc::{AllocError, Global};
+use std::alloc::Global;
 use std::test::Fail;
 
 fn three(alloc: Global) -> Result<Quiet<u64>, Fail> {
@@ -11,13 +11,21 @@ fn three(alloc: Global) -> Result<Quiet<u64>, Fail> {
     }
 }
 
-// A list whose second member is broken: no public call makes one yet.
-fn first_alone(alloc: Global, value: u64) -> Result<Quiet<u64>, AllocError> {
+// A value and then a broken member. No public call makes such a list yet.
+fn broken_after(alloc: Global, value: u64) -> Result<Quiet<u64>, Fail> {
     let mut list = Quiet::new(alloc, 16);
-    list.reserve(2).map_err(|_| AllocError)?;
-    list.members.push(Some(value)).map_err(AllocError::from)?;
-    list.members.push(None).map_err(AllocError::from)?;
+    list.reserve(2)?;
+    list.members.push(Some(value))?;
+    list.members.push(None)?;
     Ok(list)
+}
+
+fn two(alloc: Global, first: u64, second: u64) -> Result<Quiet<u64>, Fail> {
+    let values = vec![in alloc; first, second]?;
+    match Quiet::from_vec(alloc, 16, values) {
+        Ok(list) => Ok(list),
+        Err((error, _)) => Err(Fail::from(error)),
+    }
 }
 
 #[test]
@@ -32,5 +40,55 @@ fn capacities_follow_the_segments(rt: HostRuntime) -> Result<(), Fail> {
     assert_eq!(rt; (list.len(), list.capacity()), (0, 4));
     list.shrink_to_fit();
     assert_eq!(rt; list.capacity(), 0);
+    Ok(())
+}
+
+#[test]
+fn broken_is_less_than_every_value(rt: HostRuntime) -> Result<(), Fail> {
+    let broken = broken_after(rt.alloc(), 1)?;
+    let zero = two(rt.alloc(), 1, 0)?;
+    assert!(rt; broken < zero);
+    assert!(rt; broken != zero);
+    assert!(rt; broken == broken_after(rt.alloc(), 1)?);
+    assert_eq!(rt; broken.get(1), Err(QuietAt::Broken));
+    assert_eq!(rt; broken.get(2), Err(QuietAt::OutOfRange { size: 2 }));
+    Ok(())
+}
+
+#[test]
+fn a_full_list_gives_the_value_back(rt: HostRuntime) -> Result<(), Fail> {
+    let mut list = Quiet::new(rt.alloc(), 1);
+    assert_eq!(rt; list.push(7), Ok(0));
+    assert_eq!(rt; list.push(8), Err((QuietError::TooLong, 8)));
+    assert_eq!(rt; list.reserve(2), Err(QuietError::TooLong));
+    Ok(())
+}
+
+#[test]
+fn members_come_from_both_ends(rt: HostRuntime) -> Result<(), Fail> {
+    let list = three(rt.alloc())?;
+    let mut members = list.iter();
+    assert_eq!(rt; members.len(), 3);
+    assert_eq!(rt; members.next().flatten().copied(), Some(1));
+    assert_eq!(rt; members.next_back().flatten().copied(), Some(3));
+    assert_eq!(rt; members.len(), 1);
+    let mut sum = 0u64;
+    for value in (&list).into_iter().flatten() {
+        sum = sum.wrapping_add(*value);
+    }
+    assert_eq!(rt; sum, 6);
+    Ok(())
+}
+
+#[test]
+fn lists_are_exchanged_and_replaced(rt: HostRuntime) -> Result<(), Fail> {
+    let mut list = three(rt.alloc())?;
+    let mut other = Quiet::new(rt.alloc(), 5);
+    list.swap(&mut other);
+    assert_eq!(rt; (list.len(), list.limit(), other.len(), other.limit()), (0, 5, 3, 16));
+    let refused = list.assign(vec![in rt.alloc(); 0u64; 6]?);
+    assert!(rt; matches!(refused, Err((QuietError::TooLong, _))));
+    assert!(rt; list.assign(vec![in rt.alloc(); 9u64; 5]?).is_ok());
+    assert_eq!(rt; (list.len(), list.capacity()), (5, 8));
     Ok(())
 }

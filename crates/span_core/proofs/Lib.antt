@@ -3,3 +3,4 @@ pub mod Ranges
 pub mod ShareLemmas
 pub mod MemberLemmas
 pub mod Tiles
+pub mod Folds

@@ -1,6 +1,6 @@
 -- What loops over a span answer.
-use Rattle.std.specs.Prelude.{◌≡◌, ℕ, ◌+◌, ◌-◌, Option, None, List, length, slice_index_or}
-use Rattle.std.specs.Option.{option_copied}
+use Rattle.std.specs.Prelude.{◌≡◌, ℕ, ◌+◌, ◌-◌, Option, None, Some, List, [], ◌∷◌, length, fold, slice_index_or}
+use Rattle.std.specs.Option.{option_copied, MatchOption}
 use Rattle.std.specs.Borrow.{Bor}
 use Rattle.span_core.specs.Each.{EachFrom}
 use Rattle.span_core.specs.Span.{Interval, size_of}
@@ -15,3 +15,44 @@ module _ {T U : Type 0} where
   abbrev pub AnswersOver : (ℕ → Option (Bor T) → U → Type 0) → List (Option T) → Interval → List U → Type 0
   AnswersOver post members span answers =
       EachFrom (AnswersAt post members) span.from answers × (span.from + length answers ≡ span.to)
+
+-- over the values of a domain, op is what join does; it may be grouped in any way, and the unit changes nothing
+pub record Joins {U : Type 0} (post : U → U → U → Type 0) (is_in : U → Type 0) (unit : U) (op : U → U → U) : Type 0 where
+  pub inside : is_in unit
+  pub computes : (a b r : U) → is_in a → is_in b → post a b r → r ≡ op a b
+  pub stays : (a b : U) → is_in a → is_in b → is_in (op a b)
+  pub associative : (a b c : U) → is_in a → is_in b → is_in c → op (op a b) c ≡ op a (op b c)
+  pub from_left : (a : U) → is_in a → op unit a ≡ a
+  pub from_right : (a : U) → is_in a → op a unit ≡ a
+
+-- the fold of these answers, for every operation that join computes
+abbrev pub IsFold : {U : Type 0} → (U → U → U → Type 0) → (U → Type 0) → U → List U → U → Type 0
+IsFold {U} post is_in unit answers result = (op : U → U → U) → Joins post is_in unit op → result ≡ fold op unit answers
+
+module _ {T U : Type 0} where
+  -- the fold of one answer to each place of the span, in order
+  abbrev pub FoldsOver : (ℕ → Option (Bor T) → U → Type 0) → (U → U → U → Type 0) → (U → Type 0) → List (Option T) → Interval → U → U → Type 0
+  FoldsOver f_post join_post is_in members span unit result =
+      (answers : List U) × AnswersOver f_post members span answers × IsFold join_post is_in unit answers result
+
+module _ {U : Type 0} (post : U → U → U → Type 0) (is_in : U → Type 0) where
+  -- each is a value of the domain
+  abbrev pub Within : List U → Type 0
+  Within [] = Unit {0}
+  Within (x ∷ xs) = is_in x × Within xs
+
+  -- no sum of no answers, or else their fold
+  abbrev pub Sums : List U → Option U → Type 0
+  Sums answers sum =
+      MatchOption sum (answers ≡ []) (λ x. is_in x × ((unit : U) → IsFold post is_in unit answers x))
+
+  -- both sums in one
+  abbrev pub Merges : Option U → Option U → Option U → Type 0
+  Merges None part result = result ≡ part
+  Merges (Some a) None result = result ≡ Some a
+  Merges (Some a) (Some b) result = (r : U) × (result ≡ Some r) × post a b r × is_in r
+
+  -- the sum of one answer to each place from one on and before another
+  abbrev pub SumsUpTo : (ℕ → U → Type 0) → ℕ → ℕ → Option U → Type 0
+  SumsUpTo P from to sum =
+      (answers : List U) × EachFrom P from answers × (from + length answers ≡ to) × Within answers × Sums answers sum

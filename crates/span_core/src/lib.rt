@@ -8,6 +8,7 @@ mod cursor;
 mod errors;
 mod gate;
 mod map;
+mod reduce;
 mod shares;
 mod span;
 #[cfg(test)]
@@ -18,5 +19,6 @@ pub use cursor::Cursor;
 pub use errors::ParError;
 pub use gate::{Free, Gate, PairGate};
 pub use map::par_map;
+pub use reduce::{Domain, par_reduce};
 pub use span::Span;
 pub use workers::{Job, run_workers};

@@ -39,7 +39,7 @@ impl<'a, T, U: Drop, F: Fn(u64, Option<&T>) -> U> LeafJob<Vec<U>> for MapLeaf<'a
 }
 
 // What a function answers to a place and the member there.
-fn answer_at<T, U, F: Fn(u64, Option<&T>) -> U>(list: &Quiet<T>, f: &F, place: u64) -> U
+pub(crate) fn answer_at<T, U, F: Fn(u64, Option<&T>) -> U>(list: &Quiet<T>, f: &F, place: u64) -> U
     requires { F.IsAlwaysCallable f.now }
     ensures { AnswersAt (F.post f.now) list.now.members place result }
 {

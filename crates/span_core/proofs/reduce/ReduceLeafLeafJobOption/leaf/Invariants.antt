@@ -1,0 +1,6 @@
+use Rattle.span_core.specs.Loops.{AnswersAt, SumsUpTo}
+use Rattle.span_core.proofs.reduce.ReduceLeafLeafJobOption.leaf.Given as goal
+
+abbrev pub invariant-loop-place : goal.invariant-loop-place
+invariant-loop-place g l =
+    SumsUpTo (goal.J-post g l.self.join.now) g.U.Domain.is_in (AnswersAt (goal.F-post g l.self.f.now) l.self.list.now.members) l.fn.leaf.from l.place l.sum

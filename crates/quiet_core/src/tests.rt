@@ -85,7 +85,10 @@ fn lists_are_exchanged_and_replaced(rt: HostRuntime) -> Result<(), Fail> {
     let mut list = three(rt.alloc())?;
     let mut other = Quiet::new(rt.alloc(), 5);
     list.swap(&mut other);
-    assert_eq!(rt; (list.len(), list.limit(), other.len(), other.limit()), (0, 5, 3, 16));
+    assert_eq!(rt;
+        (list.len(), list.limit(), other.len(), other.limit()),
+        (0, 5, 3, 16)
+    );
     let refused = list.assign(vec![in rt.alloc(); 0u64; 6]?);
     assert!(rt; matches!(refused, Err((QuietError::TooLong, _))));
     assert!(rt; list.assign(vec![in rt.alloc(); 9u64; 5]?).is_ok());

@@ -1,5 +1,5 @@
 //! What no clause says: that the loops answer where there is memory, that two threads really run at once, and the gate's order.
-use crate::{Free, Gate, PairGate, ParError, Span, par_map};
+use crate::{Free, Gate, PairGate, ParError, Span, par_map, par_reduce};
 use quiet_core::Quiet;
 use std::alloc::Global;
 use std::sync::atomic::{AtomicU64, Ordering};
@@ -125,5 +125,19 @@ fn each_worker_passes_the_gate_twice(rt: HostRuntime) -> Result<(), Fail> {
     assert_eq!(rt; shut.passed.load(Ordering::SeqCst), 505);
     let many = par_map(&rt, rt.alloc(), &list, Span::new(0, 10, 5), 65, &f, &Free);
     assert!(rt; matches!(many, Err(ParError::BadWorkers)));
+    Ok(())
+}
+
+#[test]
+fn every_number_of_workers_folds_the_same(rt: HostRuntime) -> Result<(), Fail> {
+    let list = squares(rt.alloc())?;
+    assert!(rt; list.len() == 10);
+    let f = |_place: u64, value: Option<&u64>| value.copied().unwrap_or(0);
+    let join = |a: u64, b: u64| a.wrapping_add(b);
+    for workers in 1..7 {
+        let span = Span::new(0, 10, 3);
+        let sum = par_reduce(&rt, rt.alloc(), &list, span, workers, &f, 0u64, &join, &Free)?;
+        assert_eq!(rt; sum, 285);
+    }
     Ok(())
 }

@@ -1,7 +1,12 @@
-//! Spans of places, cursors over a list, and loops that share a span out among threads.
+//! Spans of places, cursors over an exclusive list, and loops that share a span out among threads.
 //!
 //! Contracts see a `Span` as where it begins, where it ends and its grain, and what it is cut into as `AreLeaves`
 //! (`specs/Span.antt`); a `Cursor` as its list and its place (`specs/Cursor.antt`).
+//!
+//! A caller can prove that `par_map` answers what the function answers to each place, in order, and that `par_reduce`
+//! answers the fold of that (`specs/Loops.antt`), whatever the number of workers. Each worker passes a `Gate` before and
+//! after its work. `run_workers` starts any `Job` in the same way. Nothing is said of which worker took a leaf, nor that a
+//! loop returns.
 #![tactic(auto)]
 
 mod cursor;

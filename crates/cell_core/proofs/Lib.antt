@@ -1,2 +1,5 @@
 pub mod Made
 pub mod Sent
+mod CellSteps
+mod CellSent
+mod CellMade

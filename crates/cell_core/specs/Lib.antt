@@ -1,3 +1,4 @@
 pub mod Known
+pub mod Slot
 pub mod Row
 pub mod Look

@@ -14,5 +14,6 @@
 #![tactic(auto)]
 
 pub mod row;
+mod slot;
 #[cfg(test)]
 mod tests;

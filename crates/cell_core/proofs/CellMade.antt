@@ -1,0 +1,69 @@
+-- What the raw steps on a cell hand out, as values. Assumes `Logic`.
+use Rattle.std.proofs.Common.{◌≡◌, ℕ, T, List, [], ◌∷◌, ◌++◌, refl, ap, ◌∙◌}
+use Rattle.std.specs.Prelude.{Option, Some, None}
+use seplogic.Ra.Ura.{Ura}
+use mir.Syntax.{ty_ptr, ty_struct, tcons, tnil}
+use mir.Val.{Val, vstruct, vcons, vnil, of_list, has_ty, WT}
+use base.Logic.{ent, emp, never_e}
+use base.Fml.{Lft, fex}
+use contract.Monad.{fact, fact_i}
+use types.Logic.{Logic, sem}
+use types.Kit.{‵, ◌$◌, ◌∵◌, !, qed, use0, fpack, done}
+use denote.RattleType.{RattleType}
+use denote.Laws.{Is}
+use denote.Ref.{NamedLft}
+use denote.RawPtr.{Ptr, InBlock, block_ptr, null_ptr, ptr_val}
+use denote.Shadow.{makes_shadow}
+use denote.Struct.Struct.{Struct}
+use denote.Struct.Owning.{shape}
+use Rattle.cell_core.specs.Slot.{Names, written, spoilt, known, sighted, claimed}
+use Rattle.cell_core.specs.contracts.slot.steps.Claim as Claim
+use Rattle.cell_core.specs.contracts.slot.steps.Sight as Sight
+use Rattle.cell_core.specs.contracts.slot.steps.Written as Written
+use Rattle.cell_core.specs.contracts.slot.steps.Crack as Crack
+
+-- a token, whose one field has no bytes
+abbrev pub token_val : Val
+token_val = vstruct (vcons (vstruct vnil) vnil)
+
+abbrev pub claim_val : Ptr → Val
+claim_val p = vstruct (vcons (ptr_val p) (vcons (vstruct vnil) vnil))
+
+pub claim_typed : (p : Ptr) → InBlock p → T (has_ty (ty_struct [] (tcons ty_ptr (tcons (ty_struct [] tnil) tnil))) (claim_val p)) × WT (claim_val p)
+claim_typed (block_ptr b o) i = (tt, (tt, (tt, tt)))
+claim_typed null_ptr i = absurd i
+
+module _ (a : NamedLft) (R : RattleType) where
+  abbrev pub Words : RattleType
+  Words = Struct (shape (Claim.the_type a R))
+
+  pub claim_told : (p : Ptr) (vs : List Val) → Is Words (p, (tt, tt)) vs → vs ≡ claim_val p ∷ []
+  claim_told p vs is = is.1.0 ∙ ap (λ (ws : List Val). vstruct (of_list (ws ++ (is.0.1.0 ++ []))) ∷ []) is.1.1.0 ∙ ap (λ (ws : List Val). vstruct (of_list (ptr_val p ∷ (ws ++ []))) ∷ []) is.1.1.1.0.1.0
+
+  pub claim_made : {M : Type 1} {𝓤 : Ura M} (𝓛 : Logic 𝓤) (p : Ptr) → ent 𝓤 (emp 𝓤) (sem 𝓛 (Words.own_val (p, (tt, tt)) (claim_val p ∷ [])))
+  claim_made 𝓛 p = makes_shadow 𝓛 (Words.own_val (p, (tt, tt)) (claim_val p ∷ [])) (λ vss. (tt, (tt, ((λ uss. (tt, tt)), tt)))) ((ptr_val p ∷ [], (vstruct vnil ∷ [], tt)), (refl, (refl, ((tt, (refl, tt)), tt))))
+
+pub sight_told : (R : RattleType) (vs : List Val) → Is (Struct (shape (Sight.the_type R))) (tt, tt) vs → vs ≡ token_val ∷ []
+sight_told R vs is = is.1.0 ∙ ap (λ (ws : List Val). vstruct (of_list (ws ++ [])) ∷ []) is.1.1.0.1.0
+
+module _ {M : Type 1} {𝓤 : Ura M} (𝓛 : Logic 𝓤) (R : RattleType) where
+  -- what a claim owns lies in a block
+  pub claim_placed : (γ : Names) (β : Lft) (p : Ptr) (n : ℕ) → ent 𝓤 (sem 𝓛 (claimed R γ β p n)) (fact 𝓤 (InBlock p))
+  claim_placed γ β (block_ptr b o) n = fact_i 𝓤 (Unit {0}) _ tt
+  claim_placed γ β null_ptr n = never_e 𝓤 _
+
+  pub sight_made : (γ : Names) (n : ℕ) (v : Option R.Denot) → ent 𝓤 (sem 𝓛 (sighted R γ n v)) (sem 𝓛 ((Sight.the_row R).own_val (record { marker = record {}; of = γ; found = n; value = v }) (token_val ∷ [])))
+  sight_made γ n v = let F = (Struct (shape (Sight.the_type R))).own_val (tt, tt) (token_val ∷ []) in
+      qed 𝓛 (‵ (sighted R γ n v) ∷ []) ∵ use0 𝓛 (‵ F) (makes_shadow 𝓛 F (λ vss. (tt, ((λ uss. (tt, tt)), tt))) ((vstruct vnil ∷ [], tt), (refl, ((tt, (refl, tt)), tt)))) $ done !
+
+  pub written_made : (γ : ℕ) (x : R.Denot) → ent 𝓤 (sem 𝓛 (written R γ x)) (sem 𝓛 ((Written.the_row R).own_val (record { marker = record {}; of = γ; value = x }) (token_val ∷ [])))
+  written_made γ x = let F = (Struct (shape (Written.the_type R))).own_val (tt, tt) (token_val ∷ []) in
+      qed 𝓛 (‵ (written R γ x) ∷ []) ∵ use0 𝓛 (‵ F) (makes_shadow 𝓛 F (λ vss. (tt, ((λ uss. (tt, tt)), tt))) ((vstruct vnil ∷ [], tt), (refl, ((tt, (refl, tt)), tt)))) $ done !
+
+  pub known_some : (γ : Names) (v : Option R.Denot) → ent 𝓤 (sem 𝓛 (known R γ v)) (sem 𝓛 (fex R.Denot (written R γ.value)))
+  known_some γ (Some x) = qed 𝓛 (‵ (written R γ.value x) ∷ []) ∵ fpack ! R.Denot (written R γ.value) x $ done !
+  known_some γ None = never_e 𝓤 _
+
+pub crack_made : {M : Type 1} {𝓤 : Ura M} (𝓛 : Logic 𝓤) (δ : ℕ) → ent 𝓤 (sem 𝓛 (spoilt δ)) (sem 𝓛 (Crack.the_row.own_val (record { marker = record {}; of = δ }) (token_val ∷ [])))
+crack_made 𝓛 δ = let F = (Struct (shape Crack.the_type)).own_val (tt, tt) (token_val ∷ []) in
+    qed 𝓛 (‵ (spoilt δ) ∷ []) ∵ use0 𝓛 (‵ F) (makes_shadow 𝓛 F (λ vss. (tt, ((λ uss. (tt, tt)), tt))) ((vstruct vnil ∷ [], tt), (refl, ((tt, (refl, tt)), tt)))) $ done !

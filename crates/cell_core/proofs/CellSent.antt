@@ -1,0 +1,76 @@
+-- A `&` to a cell may go to another thread where its value may go there and be shared. Its tokens hold names alone.
+use Rattle.std.proofs.Common.{ℕ, zero, suc}
+use Rattle.std.specs.Prelude.{Option, Some, None}
+use base.Fraction.{full_share}
+use base.Fml.{Lft}
+use base.Shift.{Keyless}
+use denote.RattleType.{RattleType}
+use denote.RawPtr.{Ptr, block_ptr, null_ptr}
+use denote.Ref.{NamedLft}
+use denote.Param.Send.{IsSend, IsSync, part_keyless, sendable}
+use denote.Struct.Owning
+use denote.Struct.Struct
+use Rattle.core.proofs.atomic.Sent.{chain-Keyless}
+use Rattle.cell_core.specs.Slot.{Names, Phase, free, busy, full, broken, Turn, at, place, told, tie, lent, kept, won, claimed}
+use Rattle.cell_core.specs.contracts.slot.steps.Slot as Slot
+use Rattle.cell_core.specs.contracts.slot.steps.Claim as Claim
+use Rattle.cell_core.specs.contracts.slot.steps.Written as Written
+use Rattle.cell_core.specs.contracts.slot.steps.Crack as Crack
+
+module _ (R : RattleType) (γ : Names) where
+  told_keyless : (n : ℕ) (s : Phase R.Denot) → Keyless (told R γ n s)
+  told_keyless n free = (tt, (tt, tt))
+  told_keyless n busy = tt
+  told_keyless n (full x) = (tt, tt)
+  told_keyless n broken = (tt, (tt, tt))
+
+  tie_keyless : (t : Turn) (b o : ℕ) (s : Phase R.Denot) → Keyless (tie R γ t b o s)
+  tie_keyless t b o free = tt
+  tie_keyless t b o busy = tt
+  tie_keyless t b o (full x) = tt
+  tie_keyless t b o broken = tt
+
+  module _ (s : IsSend R) (y : IsSync R) where
+    place_keyless : (v : Option R.Denot) (b e : ℕ) → Keyless (place R v b e)
+    place_keyless None b e = tt
+    place_keyless (Some x) b e = part_keyless R s full_share x b e
+
+    lent_keyless : (t : Turn) (b o : ℕ) (p : Phase R.Denot) → Keyless (lent R γ t b o p)
+    lent_keyless t b o free = λ u. (place_keyless u b (at R o), tt)
+    lent_keyless t b o busy = tt
+    lent_keyless t b o (full x) = y.shared x b (at R o) t.0
+    lent_keyless t b o broken = λ u. (place_keyless u b (at R o), tt)
+
+    kept_keyless : (t : Turn) (b o : ℕ) (κ : Lft) → Keyless (kept R γ t b o κ)
+    kept_keyless t b o κ = ((λ νs. chain-Keyless νs κ t.0), λ u. ((tt, (((tt, tt), told_keyless u.0 u.1), tie_keyless t b o u.1)), lent_keyless t b o u.1))
+
+    won_keyless : (t : Turn) (b o n : ℕ) → Keyless (won R γ t b o n)
+    won_keyless t b o zero = ((tt, tt), (tt, λ u. (place_keyless u b (at R o), tt)))
+    won_keyless t b o (suc n) = tt
+
+    claimed_keyless : (β : Lft) (p : Ptr) (n : ℕ) → Keyless (claimed R γ β p n)
+    claimed_keyless β (block_ptr b o) n = λ t. (kept_keyless t b o β, won_keyless t b o n)
+    claimed_keyless β null_ptr n = tt
+
+pub slot_send : (R : RattleType) → IsSend (Slot.the_row R)
+slot_send R = record { owned = λ d vs. ((λ _. tt), tt); leaving = λ k d w. tt }
+
+pub slot_sync : (R : RattleType) → IsSend R → IsSync R → IsSync (Slot.the_row R)
+slot_sync R s y = record { shared = λ d b o κ t. kept_keyless R d s y t b o κ }
+
+pub claim_send : (a : NamedLft) (R : RattleType) → IsSend R → IsSync R → IsSend (Claim.the_row a R)
+claim_send a R s y = record { owned = λ d vs. ((λ vss. (tt, (tt, ((λ uss. (tt, tt)), tt)))), claimed_keyless R d.of s y a.lft d.slot d.found); leaving = λ k d w. tt }
+
+pub written_send : (R : RattleType) → IsSend (Written.the_row R)
+written_send R = record { owned = λ d vs. ((λ vss. (tt, ((λ uss. (tt, tt)), tt))), tt); leaving = λ k f vs. tt }
+
+pub written_sync : (R : RattleType) → IsSync (Written.the_row R)
+written_sync R = let fields : IsSync (denote.Struct.Struct.Struct (denote.Struct.Owning.shape (Written.the_type R))) = search sendable depth 20 in
+    record { shared = λ d b o κ. (fields.shared (tt, tt) b o κ, tt) }
+
+pub crack_send : IsSend Crack.the_row
+crack_send = record { owned = λ d vs. ((λ vss. (tt, ((λ uss. (tt, tt)), tt))), tt); leaving = λ k f vs. tt }
+
+pub crack_sync : IsSync Crack.the_row
+crack_sync = let fields : IsSync (denote.Struct.Struct.Struct (denote.Struct.Owning.shape Crack.the_type)) = search sendable depth 20 in
+    record { shared = λ d b o κ. (fields.shared (tt, tt) b o κ, tt) }

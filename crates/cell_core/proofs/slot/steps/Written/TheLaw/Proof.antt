@@ -1,0 +1,20 @@
+-- A `&` to a `Written` holds what it knows, which can be had twice. Assumes `Logic`.
+use base.Logic.{snd∗}
+use base.Before.{before}
+use types.Logic.{sem}
+use denote.RattleType.{RattleType}
+use denote.Param.Laws.{Laws}
+use denote.Param.Shared.{copy_shared}
+use denote.Struct.Laws.{field_copy}
+use denote.Struct.Lending.{of_Lends}
+use Rattle.core.specs.contracts.marker.PhantomData as P
+use Rattle.cell_core.specs.Slot.{written, mark, full}
+use Rattle.cell_core.specs.contracts.slot.steps.Written as C
+use Rattle.cell_core.proofs.Made.{lends_twice}
+use Rattle.cell_core.proofs.slot.steps.Written.TheLaw.Statement.{statement}
+
+pub shares : (T : RattleType) (L : Laws T) → statement T L
+shares T L = of_Lends (C.struct T) (C.the_codes T.Denot T.coded (P.the_row T).coded) (C.the_heap T) (C.the_lent T)
+    (λ d p. record { contraction = λ M 𝓤 𝓛 κ. 𝓛.names.res_dup d.of (mark T (full d.value)); mono = λ M 𝓤 𝓛 κ' κ. snd∗ 𝓤 (sem 𝓛 (before κ' κ)) (sem 𝓛 (written T d.of d.value)) })
+    (copy_shared (P.the_field T) (field_copy (P.the_type T) tt), tt)
+    (λ M 𝓤 𝓛 d p. lends_twice 𝓛 (written T d.of d.value) (𝓛.names.res_dup d.of (mark T (full d.value))) (C.the_row T).lives)

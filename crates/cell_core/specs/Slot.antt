@@ -1,0 +1,172 @@
+-- What a raw cell owns and lends.
+-- Each time the cell is lent it takes a turn: a lifetime, and a name that tracks what its room holds. One invariant holds the word, with the right to write or the shared value.
+use Rattle.std.specs.Prelude.{◌≡◌, ℕ, zero, suc, ◌+◌, Option, Some, None}
+use Rattle.std.specs.Coded.{coded_option}
+use mir.Syntax.{w64, ty_int}
+use mir.Raw.{raw}
+use mir.Val.{vint}
+use base.Fraction.{full_share}
+use base.Stored.{Gv, Coded, gnil, gcons, coded×, coded_ℕ, coded_via}
+use base.Fml.{Lft, GName, Fml, ftrue, ffalse, feq, fsep, fex, fat, fobs, fauth, fres, froom, fbor, finv}
+use base.Before.{before}
+use prog.Memory.{up, align}
+use denote.RattleType.{RattleType}
+use denote.Memory.{lone, part_at, shared_of}
+use denote.RawPtr.{Ptr, block_ptr, null_ptr}
+
+-- the names of a cell: one gets the value that fills it, the other is set where it breaks
+pub record Names : Type 0 where
+  pub value : GName
+  pub breach : GName
+
+abbrev pub names_coded : Coded Names
+names_coded = coded_via (coded× coded_ℕ coded_ℕ) (λ (n : Names). (n.value, n.breach)) (λ x y e i. record { value = (e i).0; breach = (e i).1 })
+
+pub data Phase (X : Type 0) : Type 0 where
+  free : Phase X
+  busy : Phase X
+  full : X → Phase X
+  broken : Phase X
+
+-- the word, what the room holds, and the phase
+abbrev pub Rest : Type 0 → Type 0
+Rest X = ℕ × Option X × Phase X
+
+abbrev pub Turn : Type 0
+Turn = Lft × GName
+
+abbrev pub fact : Type 0 → Fml
+fact φ = fex φ (λ _. ftrue)
+
+abbrev pub word : ℕ → ℕ → ℕ → Fml
+word b o n = fat full_share (ty_int w64) b o (vint w64 n)
+
+abbrev pub cross : Gv
+cross = gcons gnil gnil
+
+-- what shows that a cell is broken
+abbrev pub spoilt : GName → Fml
+spoilt δ = fres δ cross
+
+module _ (R : RattleType) where
+  abbrev pub content : Coded (Option R.Denot)
+  content = coded_option R.coded
+
+  abbrev pub mark : Phase R.Denot → Gv
+  mark free = gnil
+  mark busy = gnil
+  mark (full x) = gcons (R.coded.code x) gnil
+  mark broken = gnil
+
+  abbrev pub crossed : Phase R.Denot → Gv
+  crossed free = gnil
+  crossed busy = gnil
+  crossed (full x) = gnil
+  crossed broken = cross
+
+  -- what shows that a cell holds a value
+  abbrev pub written : GName → R.Denot → Fml
+  written γ x = fres γ (mark (full x))
+
+  -- what the room holds: nothing yet, or a value
+  abbrev pub place : Option R.Denot → ℕ → ℕ → Fml
+  place None b e = froom (raw (lone R.mir)) b e
+  place (Some x) b e = part_at R full_share x b e
+
+  abbrev pub Lies : Option R.Denot → Phase R.Denot → Type 0
+  Lies v free = v ≡ None
+  Lies v busy = Unit {0}
+  Lies v (full x) = v ≡ Some x
+  Lies v broken = v ≡ None
+
+  abbrev pub at : ℕ → ℕ
+  at o = o + up (align (lone R.mir)) 8
+
+  module _ (γ : Names) where
+    abbrev pub auths : Phase R.Denot → Fml
+    auths s = fsep (fauth γ.value (mark s)) (fauth γ.breach (crossed s))
+
+    -- the right to set both names
+    abbrev pub unset : Fml
+    unset = fsep (fobs γ.value gnil) (fobs γ.breach gnil)
+
+    abbrev pub told : ℕ → Phase R.Denot → Fml
+    told n free = fsep (feq ℕ n 0) unset
+    told n busy = feq ℕ n 1
+    told n (full x) = fsep (feq ℕ n 2) (written γ.value x)
+    told n broken = fsep (feq ℕ n 3) (fsep (spoilt γ.breach) (fobs γ.value gnil))
+
+    abbrev pub named : ℕ → Phase R.Denot → Fml
+    named n s = fsep (auths s) (told n s)
+
+    abbrev pub resting : Rest R.Denot → Fml
+    resting s = fsep (named s.0 s.2) (fact (Lies s.1 s.2))
+
+    module _ (t : Turn) (b o : ℕ) where
+      abbrev pub inside : Option R.Denot → Fml
+      inside v = fsep (place v b (at o)) (fauth t.1 (content.code v))
+
+      abbrev pub Room : Fml
+      Room = fex (Option R.Denot) inside
+
+      -- the room is empty, and may be written
+      abbrev pub empty : Fml
+      empty = fobs t.1 (content.code None)
+
+      abbrev pub tie : Phase R.Denot → Fml
+      tie free = empty
+      tie busy = ftrue
+      tie (full x) = fres t.1 (content.code (Some x))
+      tie broken = empty
+
+      abbrev pub lent : Phase R.Denot → Fml
+      lent free = fbor t.0 Room
+      lent busy = ftrue
+      lent (full x) = shared_of R x b (at o) t.0
+      lent broken = fbor t.0 Room
+
+      abbrev pub tied : ℕ × Phase R.Denot → Fml
+      tied s = fsep (word b (o + 0) s.0) (fsep (named s.0 s.1) (tie s.1))
+
+      abbrev pub standing : ℕ × Phase R.Denot → Fml
+      standing s = fsep (tied s) (lent s.1)
+
+      abbrev pub Cell : Fml
+      Cell = fex (ℕ × Phase R.Denot) standing
+
+      abbrev pub kept : Lft → Fml
+      kept κ = fsep (before κ t.0) (finv (fbor t.0 Cell))
+
+      -- the right to write
+      abbrev pub Right : Fml
+      Right = fsep unset (fsep empty (fbor t.0 Room))
+
+      -- what the exchange from empty to busy gains, where it found n
+      abbrev pub won : ℕ → Fml
+      won zero = Right
+      won (suc n) = ftrue
+
+    abbrev pub shared_at : ℕ → ℕ → Lft → Fml
+    shared_at b o κ = fex Turn (λ t. kept t b o κ)
+
+    abbrev pub shared : Ptr → Lft → Fml
+    shared (block_ptr b o) κ = shared_at b o κ
+    shared null_ptr κ = ffalse
+
+    -- what a claim owns, in a cell that is lent for β
+    abbrev pub claimed : Lft → Ptr → ℕ → Fml
+    claimed β (block_ptr b o) found = fex Turn (λ t. fsep (kept t b o β) (won t b o found))
+    claimed β null_ptr found = ffalse
+
+    -- a value that is known to be there
+    abbrev pub known : Option R.Denot → Fml
+    known (Some x) = written γ.value x
+    known None = ffalse
+
+    -- what a load of the word shows: at 2 a value, at 3 that the cell is broken, and else nothing
+    abbrev pub sighted : ℕ → Option R.Denot → Fml
+    sighted zero v = ftrue
+    sighted (suc zero) v = ftrue
+    sighted (suc (suc zero)) v = known v
+    sighted (suc (suc (suc zero))) v = spoilt γ.breach
+    sighted (suc (suc (suc (suc n)))) v = ftrue

@@ -1,0 +1,2 @@
+// One cell: a state word and room for one value.
+mod steps;

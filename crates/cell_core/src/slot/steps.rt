@@ -1,0 +1,238 @@
+// The raw steps on one cell, each a few lines round one atomic step.
+// The word is 0 where the cell is empty, 1 while one thread has it, 2 where it is filled and 3 where it is broken.
+ghost use Rattle.std.specs.Prelude.{◌≡◌, ℕ, ◌<◌, Option};
+ghost use base.Fml.{ffalse};
+ghost use denote.Sharing.{said};
+ghost use Rattle.std.specs.Coded.{coded_option};
+ghost use Rattle.cell_core.specs.Slot.{Names, names_coded, shared, claimed, sighted, written, spoilt};
+
+use atomic_table::exchange;
+use std::marker::{Brand, Model, Move, Owns, PhantomData};
+use std::sync::atomic::Ordering::SeqCst;
+use std::sync::atomic::raw;
+
+// A cell in its row. Nobody has one by value: its room may hold none.
+pub(crate) struct Slot<T> {
+    state: u64,
+    room: T,
+}
+
+impl<T> Owns for Slot<T> {
+    ghost Value = { Names };
+
+    ghost coded = { names_coded };
+
+    ghost shr_at = { λ n p κ. shared T.row n p κ };
+}
+
+impl<T> Move for Slot<T> {
+    ghost own_val = { λ n vs. ffalse };
+}
+
+// What the exchange from empty to busy gained, where it found the word `found`. It must be spent.
+pub(crate) struct Claim<'a, T> {
+    slot: *const Slot<T>,
+    marker: PhantomData<&'a T>,
+    pub(crate) ghost of: { Names } by { names_coded },
+    pub(crate) ghost found: { ℕ },
+}
+
+impl<'a, T> Model for Claim<'a, T> {
+    ghost also_owns = { λ c. claimed T.row c.of 'a c.slot c.found };
+}
+
+// What a load of the word `found` showed. It has no bytes.
+pub(crate) struct Sight<T> {
+    marker: PhantomData<T>,
+    pub(crate) ghost of: { Names } by { names_coded },
+    pub(crate) ghost found: { ℕ },
+    pub(crate) ghost value: { Option T } by { coded_option T.code },
+}
+
+impl<T> Model for Sight<T> {
+    ghost also_owns = { λ s. sighted T.row s.of s.found s.value };
+}
+
+// What shows that a cell holds a value, for good. It has no bytes.
+pub(crate) struct Written<T> {
+    marker: PhantomData<T>,
+    pub(crate) ghost of: { ℕ },
+    pub(crate) ghost value: { T },
+}
+
+impl<T> Model for Written<T> {
+    ghost also_owns = { λ w. written T.row w.of w.value };
+
+    ghost also_shares = { λ w _ κ. said (written T.row w.of w.value) κ };
+}
+
+// What shows that a cell is broken. It has no bytes.
+pub(crate) struct Crack {
+    marker: PhantomData<u8>,
+    pub(crate) ghost of: { ℕ },
+}
+
+impl Model for Crack {
+    ghost also_owns = { λ c. spoilt c.of };
+
+    ghost also_shares = { λ c _ κ. said (spoilt c.of) κ };
+}
+
+impl<T> Slot<T> {
+    // The exchange from empty to busy, which returns the word as it was.
+    pub(crate) fn claim(&self) -> (u64, Claim<'_, T>)
+        ensures { (result.1.of ≡ self.now) × (result.1.found ≡ result.0) }
+    {
+        let found = unsafe { exchange::<Brand>(&raw const self.state, 0, 1) };
+        let claim = Claim {
+            slot: self,
+            marker: PhantomData,
+        };
+        (found, claim)
+    }
+
+    // The word, and what it shows.
+    pub(crate) fn sight(&self) -> (u64, Sight<T>)
+        ensures { (result.1.of ≡ self.now) × (result.1.found ≡ result.0) }
+    {
+        let found = unsafe { raw::load::<Brand>(&raw const self.state, SeqCst) };
+        let sight = Sight {
+            marker: PhantomData,
+        };
+        (found, sight)
+    }
+
+    // The value, for whoever shows that there is one.
+    pub(crate) fn value<'a>(&'a self, written: &Written<T>) -> &'a T
+        requires { written.now.of ≡ self.now.value }
+        ensures { result.now ≡ written.now.value }
+    {
+        let slot = self as *const Slot<T>;
+        unsafe {
+            // The word is 2. The load is the step at which the proof finds the shared value.
+            raw::load::<Brand>(&raw const (*slot).state, SeqCst);
+            &(*slot).room
+        }
+    }
+
+    // No cell is filled and broken. It tells a proof so.
+    pub(crate) fn never_both(&self, written: &Written<T>, crack: &Crack)
+        requires { (written.now.of ≡ self.now.value) × (crack.now.of ≡ self.now.breach) }
+        ensures { ⊥ }
+    {
+        // The load is the step at which the proof finds them apart.
+        unsafe { raw::load::<Brand>(&raw const self.state, SeqCst) };
+    }
+}
+
+impl<'a, T> Claim<'a, T> {
+    // Writes the value and then the word 2.
+    pub(crate) fn fill(self, value: T) -> Written<T>
+        requires { self.found ≡ 0 }
+        ensures { (result.of ≡ self.entry.of.value) × (result.value ≡ value) }
+    {
+        let Claim { slot, marker: _ } = self;
+        unsafe { (&raw const (*slot).room as *mut T).write(value) };
+        unsafe { raw::store::<Brand>(&raw const (*slot).state, 2, SeqCst) };
+        Written {
+            marker: PhantomData,
+        }
+    }
+
+    // Writes the word 3.
+    pub(crate) fn spoil(self) -> Crack
+        requires { self.found ≡ 0 }
+        ensures { result.of ≡ self.entry.of.breach }
+    {
+        let Claim { slot, marker: _ } = self;
+        unsafe { raw::store::<Brand>(&raw const (*slot).state, 3, SeqCst) };
+        Crack {
+            marker: PhantomData,
+        }
+    }
+
+    // Ends a claim that gained nothing.
+    pub(crate) fn done(self)
+        requires { 0 < self.found }
+    {
+        let Claim { slot: _, marker: _ } = self;
+    }
+}
+
+impl<T> Sight<T> {
+    pub(crate) fn written(self) -> Written<T>
+        requires { self.found ≡ 2 }
+        ensures { result.of ≡ self.of.value }
+    {
+        let Sight { marker: _ } = self;
+        Written {
+            marker: PhantomData,
+        }
+    }
+
+    pub(crate) fn crack(self) -> Crack
+        requires { self.found ≡ 3 }
+        ensures { result.of ≡ self.of.breach }
+    {
+        let Sight { marker: _ } = self;
+        Crack {
+            marker: PhantomData,
+        }
+    }
+
+    pub(crate) fn unused(self) {
+        let Sight { marker: _ } = self;
+    }
+}
+
+impl<T> Written<T> {
+    pub(crate) fn again(&self) -> Written<T>
+        ensures { (result.of ≡ self.now.of) × (result.value ≡ self.now.value) }
+    {
+        Written {
+            marker: PhantomData,
+        }
+    }
+
+    // A cell holds one value. It tells a proof so.
+    pub(crate) fn agrees(&self, other: &Written<T>)
+        requires { self.now.of ≡ other.now.of }
+        ensures { self.now.value ≡ other.now.value }
+    {}
+}
+
+impl Crack {
+    pub(crate) fn again(&self) -> Crack
+        ensures { result.of ≡ self.now.of }
+    {
+        Crack {
+            marker: PhantomData,
+        }
+    }
+}
+
+impl<T> Drop for Written<T> {
+    fn drop(self) {
+        let Self { marker: _ } = self;
+    }
+}
+
+impl Drop for Crack {
+    fn drop(self) {
+        let Self { marker: _ } = self;
+    }
+}
+
+unsafe impl<T: Send> Send for Slot<T> {}
+
+unsafe impl<T: Send + Sync> Sync for Slot<T> {}
+
+unsafe impl<'a, T: Send + Sync> Send for Claim<'a, T> {}
+
+unsafe impl<T> Send for Written<T> {}
+
+unsafe impl<T> Sync for Written<T> {}
+
+unsafe impl Send for Crack {}
+
+unsafe impl Sync for Crack {}

@@ -3,3 +3,4 @@ pub mod Sent
 mod CellSteps
 mod CellSent
 mod CellMade
+mod CellLends

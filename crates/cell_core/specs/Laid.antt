@@ -1,0 +1,63 @@
+-- What a row of raw cells owns and lends.
+use Rattle.std.specs.Prelude.{◌≡◌, ℕ, ◌+◌, ◌*◌, ◌^◌, ◌<◌, List, [], ◌∷◌, length}
+use base.Fml.{Lft, Fml, ftrue, fsep, fex, fwand, froom}
+use mir.Syntax.{Ty, w64, ty_int, ty_array, ty_struct, tcons, tnil}
+use mir.Raw.{raw}
+use prog.Memory.{size}
+use denote.RattleType.{RattleType}
+use denote.Memory.{lone}
+use denote.Sharing.{said, beside, nothing}
+use denote.RawPtr.{Ptr, block_of, count_of, InBlock}
+use Rattle.cell_core.specs.Slot.{Names, Rest, fact, word, place, at, resting, shared_at}
+
+module _ (R : RattleType) where
+  abbrev pub cell_ty : Ty
+  cell_ty = ty_struct [] (tcons (ty_int w64) (tcons (lone R.mir) tnil))
+
+  abbrev pub stride : ℕ
+  stride = size cell_ty
+
+  abbrev pub row_ty : ℕ → Ty
+  row_ty n = raw (ty_array cell_ty n)
+
+  abbrev pub Small : Type 0
+  Small = stride < 2 ^ 23
+
+  -- n cells fit in a block
+  abbrev pub Fits : ℕ → Type 0
+  Fits n = Small × (n * stride < 2 ^ 63)
+
+  abbrev pub rooms : ℕ → ℕ → Fml
+  rooms b e = fsep (froom (ty_int w64) b (e + 0)) (fsep (froom (raw (lone R.mir)) b (at R e)) ftrue)
+
+  -- the parts of a cell, given back empty, make its room
+  abbrev pub rim : ℕ → ℕ → Fml
+  rim b e = fwand (rooms b e) (froom (raw cell_ty) b e)
+
+  abbrev pub rests : ℕ → Names → ℕ → Rest R.Denot → Fml
+  rests b γ e s = fsep (word b (e + 0) s.0) (fsep (place R s.1 b (at R e)) (resting R γ s))
+
+  -- a cell that no thread shares
+  abbrev pub still : ℕ → Names → ℕ → Fml
+  still b γ e = fex (Rest R.Denot) (rests b γ e)
+
+  abbrev pub owned : ℕ → Names → ℕ → Fml
+  owned b γ e = fsep (still b γ e) (rim b e)
+
+  abbrev pub along : (Names → ℕ → Fml) → List Names → ℕ → Fml
+  along F [] e = ftrue
+  along F (γ ∷ γs) e = fsep (F γ e) (along F γs (e + stride))
+
+  abbrev pub along_lent : ℕ → List Names → ℕ → Lft → Fml
+  along_lent b [] e = nothing
+  along_lent b (γ ∷ γs) e = beside (shared_at R γ b e) (along_lent b γs (e + stride))
+
+  abbrev pub lies : Ptr → ℕ → Fml
+  lies p n = fact (InBlock p × Fits n)
+
+  abbrev pub laid : (Ty → Ptr → Fml) → Ptr → List Names → ℕ → Fml
+  laid token p γs left = fsep (lies p (length γs + left)) (fsep (along (owned (block_of p)) γs (count_of p))
+      (fsep (froom (ty_array (raw cell_ty) left) (block_of p) (length γs * stride + count_of p)) (token (row_ty (length γs + left)) p)))
+
+  abbrev pub laid_lent : Ptr → List Names → ℕ → Lft → Fml
+  laid_lent p γs left = beside (said (lies p (length γs + left))) (along_lent (block_of p) γs (count_of p))

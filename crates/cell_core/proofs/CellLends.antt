@@ -1,5 +1,5 @@
 -- A `&` to a cell is made of a borrow of it: the cell takes a turn. Assumes `Logic`.
-use Rattle.std.proofs.Common.{◌≡◌, ℕ, ◌+◌, List, [], ◌∷◌, ◌++◌, sym, refl, subst}
+use Rattle.std.proofs.Common.{◌≡◌, ℕ, List, [], ◌∷◌, sym, subst}
 use Rattle.std.specs.Prelude.{Option, Some, None}
 use seplogic.Ra.Ura.{Ura}
 use base.Fraction.{full_share}
@@ -9,7 +9,7 @@ use base.Fml.{Lft, GName, Share, Incl, Fml, ftrue, fsep, fseps, fex, fwand, fupd
 use base.Before.{before}
 use ghost.Rules.{Toks, span}
 use types.Logic.{Logic, sem, lfts}
-use types.Kit.{Item, mean, ‵, raw, ◌⊛◌, some, given, later, ◌$◌, ◌∵◌, !, qed, by, move, keep, drop, use0, use1, use2, use3, split, split3, join, fsplit, fsplit3, fjoin, fjoin3, fpick, fpack, pick, learn, assume, suffices, await, updating, now, rewrite, done}
+use types.Kit.{Item, mean, ‵, raw, ◌⊛◌, some, later, ◌$◌, ◌∵◌, !, qed, by, move, keep, drop, use0, use1, use2, use3, split, split3, join, fsplit, fsplit3, fjoin, fjoin3, fpick, fpack, pick, assume, suffices, await, updating, now, done}
 use types.Tokens.{bor_open, obor_alter, name_new, name_agree, res_agree, res_dup, one_token}
 use types.Na.{before-Incl}
 use denote.RattleType.{RattleType}
@@ -19,7 +19,7 @@ use denote.Param.Laws.{Laws}
 use denote.Struct.Lending.{Lends}
 use contract.Monad as monad
 use Rattle.core.proofs.cell.Borrows.{by_one}
-use Rattle.cell_core.specs.Slot.{Names, Phase, free, busy, full, broken, Rest, Turn, fact, word, content, Lies, place, at, named, resting, inside, Room, tie, lent, tied, standing, Cell, kept, shared_at}
+use Rattle.cell_core.specs.Slot.{Names, Phase, free, busy, full, broken, Rest, Turn, content, Lies, at, inside, Room, tie, lent, tied, standing, Cell, kept, shared_at}
 use Rattle.cell_core.specs.Laid.{rests, still}
 use Rattle.cell_core.proofs.CellSteps.{pins}
 

@@ -1,8 +1,9 @@
 -- A `&` to a cell may go to another thread where its value may go there and be shared. Its tokens hold names alone.
-use Rattle.std.proofs.Common.{ℕ, zero, suc}
+use Rattle.std.proofs.Common.{ℕ, zero, suc, List, [], ◌∷◌}
 use Rattle.std.specs.Prelude.{Option, Some, None}
 use base.Fraction.{full_share}
-use base.Fml.{Lft}
+use base.Fml.{Lft, Fml}
+use mir.Syntax.{Ty}
 use base.Shift.{Keyless}
 use denote.RattleType.{RattleType}
 use denote.RawPtr.{Ptr, block_ptr, null_ptr}
@@ -12,6 +13,8 @@ use denote.Struct.Owning
 use denote.Struct.Struct
 use Rattle.core.proofs.atomic.Sent.{chain-Keyless}
 use Rattle.cell_core.specs.Slot.{Names, Phase, free, busy, full, broken, Turn, at, place, told, tie, lent, kept, won, claimed}
+use Rattle.cell_core.specs.Slot.{Rest, resting}
+use Rattle.cell_core.specs.Laid.{owned, along, along_lent, laid, laid_lent}
 use Rattle.cell_core.specs.contracts.slot.steps.Slot as Slot
 use Rattle.cell_core.specs.contracts.slot.steps.Claim as Claim
 use Rattle.cell_core.specs.contracts.slot.steps.Written as Written
@@ -74,3 +77,21 @@ crack_send = record { owned = λ d vs. ((λ vss. (tt, ((λ uss. (tt, tt)), tt)))
 pub crack_sync : IsSync Crack.the_row
 crack_sync = let fields : IsSync (denote.Struct.Struct.Struct (denote.Struct.Owning.shape Crack.the_type)) = search sendable depth 20 in
     record { shared = λ d b o κ. (fields.shared (tt, tt) b o κ, tt) }
+
+module _ (R : RattleType) (s : IsSend R) (y : IsSync R) where
+  resting_keyless : (γ : Names) (u : Rest R.Denot) → Keyless (resting R γ u)
+  resting_keyless γ u = (((tt, tt), told_keyless R γ u.0 u.2), λ _. tt)
+
+  along_keyless : (b : ℕ) (γs : List Names) (e : ℕ) → Keyless (along R (owned R b) γs e)
+  along_keyless b [] e = tt
+  along_keyless b (γ ∷ γs) e = (((λ u. (tt, (place_keyless R γ s y u.1 b (at R e), resting_keyless γ u))), ((tt, (tt, tt)), tt)), along_keyless b γs _)
+
+  pub laid_keyless : (token : Ty → Ptr → Fml) → ((τ : Ty) (p : Ptr) → Keyless (token τ p)) → (p : Ptr) (γs : List Names) (left : ℕ) → Keyless (laid R token p γs left)
+  laid_keyless token frees p γs left = ((λ _. tt), (along_keyless _ γs _, (tt, frees _ p)))
+
+  lent_along_keyless : (b : ℕ) (γs : List Names) (e : ℕ) (κ : Lft) → Keyless (along_lent R b γs e κ)
+  lent_along_keyless b [] e κ = tt
+  lent_along_keyless b (γ ∷ γs) e κ = ((λ t. kept_keyless R γ s y t b e κ), lent_along_keyless b γs _ κ)
+
+  pub laid_lent_keyless : (p : Ptr) (γs : List Names) (left : ℕ) (κ : Lft) → Keyless (laid_lent R p γs left κ)
+  laid_lent_keyless p γs left κ = ((λ _. tt), lent_along_keyless _ γs _ κ)

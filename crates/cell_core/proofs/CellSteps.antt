@@ -18,13 +18,14 @@ use denote.Memory.{shared_of, part_at}
 use denote.RawPtr.{block_ptr}
 use denote.Shares.{Shares}
 use denote.Steps.{nothing}
-use denote.SharingLaws.{contraction}
+use denote.SharingLaws.{contraction, ends_shr_laws}
+use denote.Sharing.{ShrLaws}
 use contract.Monad as monad
 use Rattle.core.proofs.once.Turns.{one_value}
 use Rattle.core.proofs.cell.Borrows.{by_one}
 use Rattle.core.specs.Sync.RawAtomic.{asks, always}
 use Rattle.core.proofs.raw_atomic.Asked.{borrowed, Lies, Again}
-use Rattle.cell_core.specs.Slot.{Names, Phase, free, busy, full, broken, Turn, word, cross, spoilt, content, mark, crossed, written, place, at, auths, unset, told, inside, Room, tie, lent, standing, Cell, kept, Right, won, sighted}
+use Rattle.cell_core.specs.Slot.{Names, Phase, free, busy, full, broken, Turn, word, cross, spoilt, content, mark, crossed, written, place, at, auths, unset, told, inside, Room, tie, lent, standing, Cell, kept, Right, won, sighted, shared_at}
 
 abbrev head : Gv → Gv
 head (gcons a b) = a
@@ -212,3 +213,12 @@ module _ {M : Type 1} {𝓤 : Ura M} (𝓛 : Logic 𝓤) (R : RattleType) (γ : 
 
 pub one_written : {M : Type 1} {𝓤 : Ura M} (𝓛 : Logic 𝓤) (R : RattleType) (γ : GName) (x y : R.Denot) → ent 𝓤 (sep 𝓤 (sem 𝓛 (written R γ x)) (sem 𝓛 (written R γ y))) (monad.fact 𝓤 (x ≡ y))
 one_written 𝓛 R γ x y = one_value 𝓛 record { code = λ (z : R.Denot). mark R (full z); inj = λ u v e. R.coded.inj u v (ap head e) } γ x y
+
+-- what a `&` to a cell holds can be had twice
+pub shared_laws : (R : RattleType) (γ : Names) (b o : ℕ) → ShrLaws (shared_at R γ b o)
+shared_laws R γ b o = record {
+  contraction = λ M 𝓤 𝓛 κ. qed 𝓛 (‵ (shared_at R γ b o κ) ∷ []) ∵ fpick ! (λ t. use1 𝓛 (‵ (kept R γ t b o κ) ⊛ ‵ (kept R γ t b o κ)) (kept_dup 𝓛 R γ t b o κ) $ split ! $
+      fpack ! Turn (λ u. kept R γ u b o κ) t $ move ! (1 ∷ []) $ fpack ! Turn (λ u. kept R γ u b o κ) t $ done !);
+  mono = λ M 𝓤 𝓛 κ' κ. qed 𝓛 (‵ (before κ' κ) ∷ ‵ (shared_at R γ b o κ) ∷ []) ∵ move ! (1 ∷ []) $ fpick ! (λ t. fsplit ! $ move ! (2 ∷ 0 ∷ []) $
+      use2 𝓛 (‵ (before κ' t.0)) ((ends_shr_laws t.0).mono M 𝓤 𝓛 κ' κ) $ fjoin ! $ fpack ! Turn (λ u. kept R γ u b o κ') t $ done !);
+}

@@ -4,3 +4,5 @@ mod CellSteps
 mod CellSent
 mod CellMade
 mod CellLends
+mod LaidParts
+mod LaidMade

@@ -1,5 +1,5 @@
 -- What a row of raw cells owns and lends.
-use Rattle.std.specs.Prelude.{◌≡◌, ℕ, ◌+◌, ◌*◌, ◌^◌, ◌<◌, List, [], ◌∷◌, length}
+use Rattle.std.specs.Prelude.{ℕ, ◌+◌, ◌*◌, ◌^◌, ◌<◌, List, [], ◌∷◌, length, get_or}
 use base.Fml.{Lft, Fml, ftrue, fsep, fex, fwand, froom}
 use mir.Syntax.{Ty, w64, ty_int, ty_array, ty_struct, tcons, tnil}
 use mir.Raw.{raw}
@@ -61,3 +61,7 @@ module _ (R : RattleType) where
 
   abbrev pub laid_lent : Ptr → List Names → ℕ → Lft → Fml
   laid_lent p γs left = beside (said (lies p (length γs + left))) (along_lent (block_of p) γs (count_of p))
+
+-- the names of the cell at an index
+abbrev pub cell_in : List Names → ℕ → Names
+cell_in γs i = get_or γs i (record { value = 0; breach = 0 })

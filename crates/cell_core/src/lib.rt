@@ -14,6 +14,7 @@
 #![tactic(auto)]
 
 pub mod row;
+mod blocks;
 mod slot;
 #[cfg(test)]
 mod tests;

@@ -1,2 +1,2 @@
 // One cell: a state word and room for one value.
-mod steps;
+pub(crate) mod steps;

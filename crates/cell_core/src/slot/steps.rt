@@ -13,8 +13,8 @@ use std::sync::atomic::raw;
 
 // A cell in its row. Nobody has one by value: its room may hold none.
 pub(crate) struct Slot<T> {
-    state: u64,
-    room: T,
+    pub(crate) state: u64,
+    pub(crate) room: T,
 }
 
 impl<T> Owns for Slot<T> {

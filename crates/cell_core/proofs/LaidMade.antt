@@ -1,0 +1,60 @@
+-- The machine value of a link to a row, and the size of a row. Assumes `Logic`.
+use Rattle.std.proofs.Common.{zero, suc, sym, suc-mul, zero-mul, ◌≡◌, ℕ, ◌*◌, ◌^◌, ◌<◌, T, ◌≤◌, mul-le-mul, List, [], ◌∷◌, ◌++◌, refl, ap, ◌∙◌, arith}
+use seplogic.Ra.Ura.{Ura}
+use mir.Val.{Val, vstruct, vcons, vnil, of_list, has_ty, WT}
+use base.Logic.{ent, emp}
+use mir.Syntax.{ty_array, ty_ptr, ty_struct, tcons, tnil}
+use prog.Memory.{capped, size, align}
+use prog.RawLaws.{size-raw, align-raw}
+use prog.Capped.{capped_is}
+use types.Logic.{Logic, sem}
+use denote.RattleType.{RattleType}
+use denote.Laws.{Is}
+use denote.RawPtr.{Ptr, block_ptr, null_ptr, ptr_val}
+use denote.Shadow.{makes_shadow}
+use denote.Struct.Struct.{Struct}
+use Rattle.core.specs.contracts.marker.PhantomData as marker
+use Rattle.cell_core.specs.Laid.{cell_ty, row_ty, stride}
+use Rattle.cell_core.specs.contracts.blocks.steps.Link as link
+
+abbrev pub token_val : Val
+token_val = vstruct (vcons (vstruct vnil) vnil)
+
+abbrev pub link_val : Ptr → Val
+link_val p = vstruct (vcons (ptr_val p) (vcons (vstruct vnil) vnil))
+
+pub link_good : (p : Ptr) → T (has_ty (ty_struct [] (tcons ty_ptr (tcons (ty_struct [] tnil) tnil))) (link_val p)) × WT (link_val p)
+link_good (block_ptr b o) = (tt, (tt, (tt, tt)))
+link_good null_ptr = (tt, (record { fits = omega arith }, (tt, tt)))
+
+module _ (X : RattleType) where
+  pub link_told : (x : (link.the_row X).Denot) (vs : List Val) → Is (link.the_row X) x vs → vs ≡ link_val x.ptr ∷ []
+  link_told x vs is = is.1.0 ∙ ap (λ (ws : List Val). vstruct (of_list (ws ++ (is.0.1.0 ++ []))) ∷ []) is.1.1.0 ∙ ap (λ (ws : List Val). vstruct (of_list (ptr_val x.ptr ∷ (ws ++ []))) ∷ []) is.1.1.1.0.1.0
+
+  pub link_made : {M : Type 1} {𝓤 : Ura M} (𝓛 : Logic 𝓤) (p : Ptr) → ent 𝓤 (emp 𝓤) (sem 𝓛 ((link.the_row X).own_val (record { ptr = p; marker = record {} }) (link_val p ∷ [])))
+  link_made 𝓛 p = makes_shadow 𝓛 ((link.the_row X).own_val (record { ptr = p; marker = record {} }) (link_val p ∷ [])) (λ vss. (tt, (tt, ((λ uss. (tt, tt)), tt))))
+      ((ptr_val p ∷ [], (vstruct vnil ∷ [], tt)), (refl, (refl, ((tt, (refl, tt)), tt))))
+
+pub reach : (i s : ℕ) → i < 2 ^ 40 → s < 2 ^ 23 → i * s < 2 ^ 64
+reach i s near small = let a : i * s ≤ 2 ^ 40 * 2 ^ 23 = mul-le-mul (let x : i ≤ 2 ^ 40 = omega arith in x) (let y : s ≤ 2 ^ 23 = omega arith in y) in omega arith
+
+pub row_size : (R : RattleType) (n : ℕ) → n * stride R < 2 ^ 64 → capped (size (row_ty R n)) ≡ n * stride R
+row_size R n small = ap capped (size-raw (ty_array (cell_ty R) n)) ∙ capped_is (n * stride R) small
+
+pub row_align : (R : RattleType) (n : ℕ) → capped (align (row_ty R n)) ≡ capped (align (cell_ty R))
+row_align R n = ap capped (align-raw (ty_array (cell_ty R) n))
+
+module _ (X : RattleType) where
+  abbrev pub Token : RattleType
+  Token = Struct record { name = []; args = []; types = []; fields = marker.the_row X ∷ [] }
+
+  pub token_told : (vs : List Val) → Is Token (record {}, tt) vs → vs ≡ token_val ∷ []
+  token_told vs is = is.1.0 ∙ ap (λ (ws : List Val). vstruct (of_list (ws ++ [])) ∷ []) is.1.1.0.1.0
+
+  pub token_made : {M : Type 1} {𝓤 : Ura M} (𝓛 : Logic 𝓤) → ent 𝓤 (emp 𝓤) (sem 𝓛 (Token.own_val (record {}, tt) (token_val ∷ [])))
+  token_made 𝓛 = makes_shadow 𝓛 (Token.own_val (record {}, tt) (token_val ∷ [])) (λ vss. (tt, ((λ uss. (tt, tt)), tt))) ((vstruct vnil ∷ [], tt), (refl, ((tt, (refl, tt)), tt)))
+
+
+pub uncapped : (i k : ℕ) → i * k < 2 ^ 64 → i * capped k ≡ i * k
+uncapped zero k h = zero-mul (capped k) ∙ sym (zero-mul k)
+uncapped (suc i) k h = let more = suc-mul i k in ap (λ (j : ℕ). suc i * j) (capped_is k (omega arith))

@@ -1,0 +1,2 @@
+// A block: one row of cells, laid raw.
+mod steps;

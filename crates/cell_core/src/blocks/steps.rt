@@ -1,0 +1,129 @@
+// The raw steps on a row of cells: its memory, a cell more, a cell less, and the cell at an index.
+ghost use Rattle.std.specs.Prelude.{◌≡◌, ℕ, ◌+◌, ◌<◌, true, List, [], ◌∷◌, ◌++◌, length, IfOk};
+ghost use base.Stored.{coded_list};
+ghost use prog.Memory.{capped};
+ghost use denote.RawPtr.{Ptr, InBlock, coded_ptr};
+ghost use Rattle.cell_core.specs.Slot.{Names, names_coded};
+ghost use Rattle.cell_core.specs.Laid.{laid, laid_lent, stride, Fits, cell_in};
+
+use crate::slot::steps::Slot;
+use std::alloc::{AllocError, Allocator};
+use std::marker::{Model, PhantomData};
+use std::mem::{align_of, size_of};
+
+// Where a row lies. It owns nothing.
+pub(crate) struct Link<T> {
+    pub(crate) ptr: *mut Slot<T>,
+    marker: PhantomData<T>,
+}
+
+impl<T> Clone for Link<T> {
+    ghost is_clone = { λ x y. y ≡ x };
+
+    ghost is_infallible = { λ _. Unit {0} };
+
+    fn clone(&self) -> Result<Link<T>, AllocError> {
+        Ok(*self)
+    }
+}
+
+impl<T> Copy for Link<T> {}
+
+unsafe impl<T> Send for Link<T> {}
+
+unsafe impl<T> Sync for Link<T> {}
+
+// The cells of the row at `at`, room for `left` more, and the right to free it. It has no bytes.
+pub(crate) struct Laid<T, A: Allocator> {
+    // `*mut` makes the type invariant, since values go in through a `&`.
+    marker: PhantomData<*mut (T, A)>,
+    pub(crate) ghost heap: { A },
+    pub(crate) ghost at: { Ptr } by { coded_ptr },
+    pub(crate) ghost cells: { List Names } by { coded_list names_coded },
+    pub(crate) ghost left: { ℕ },
+}
+
+impl<T, A: Allocator> Model for Laid<T, A> {
+    ghost also_owns = { λ l. laid T.row (A.dealloc_token l.heap) l.at l.cells l.left };
+
+    ghost also_shares = { λ l _ κ. laid_lent T.row l.at l.cells l.left κ };
+}
+
+fn cell_size<T>() -> usize
+    ensures { result ≡ capped (stride T.row) }
+{
+    size_of::<Slot<T>>()
+}
+
+fn fits<T>(len: usize) -> bool
+    ensures { result ≡ true → Fits T.row len }
+{
+    cell_size::<T>() < 1 << 23 && len < 1 << 40
+}
+
+impl<T, A: Allocator> Laid<T, A> {
+    fn allocate(alloc: &A, len: usize) -> Result<(Link<T>, Laid<T, A>), AllocError>
+        requires { Fits T.row len }
+        ensures { IfOk result (λ l. (l.1.heap ≡ alloc.now) × (l.1.at ≡ l.0.ptr) × InBlock l.0.ptr × (l.1.cells ≡ []) × (l.1.left ≡ len)) }
+    {
+        match alloc.allocate(len * size_of::<Slot<T>>(), align_of::<Slot<T>>()) {
+            Ok(room) => {
+                let ptr = room as *mut Slot<T>;
+                let marker = PhantomData;
+                let link = Link {
+                    ptr,
+                    marker: PhantomData,
+                };
+                Ok((link, Laid { marker }))
+            }
+            Err(error) => Err(error),
+        }
+    }
+
+    // Room for `len` cells. It refuses 2^40 cells or more, and a cell of 8 MiB or more.
+    pub(crate) fn reserve(alloc: &A, len: usize) -> Result<(Link<T>, Laid<T, A>), AllocError>
+        ensures { IfOk result (λ l. (l.1.heap ≡ alloc.now) × (l.1.at ≡ l.0.ptr) × InBlock l.0.ptr × (l.1.cells ≡ []) × (l.1.left ≡ len)) }
+    {
+        if !fits::<T>(len) {
+            return Err(AllocError);
+        }
+        Laid::allocate(alloc, len)
+    }
+
+    // One more cell, which is empty.
+    pub(crate) fn push(&mut self, link: Link<T>, index: usize)
+        requires { (self.old.at ≡ link.ptr) × InBlock link.ptr × (index ≡ length self.old.cells) × (0 < self.old.left) }
+        ensures { (self.new.heap ≡ self.old.heap) × (self.new.at ≡ self.old.at) × ((n : Names) × (self.new.cells ≡ self.old.cells ++ n ∷ [])) × (self.new.left + 1 ≡ self.old.left) }
+    {
+        unsafe {
+            let place = link.ptr.add(index);
+            (&raw mut (*place).state).write(0);
+        }
+    }
+
+    // The cell at an index.
+    pub(crate) fn cell(&self, link: Link<T>, index: usize) -> &Slot<T>
+        requires { (self.now.at ≡ link.ptr) × (index < length self.now.cells) }
+        ensures { result.now ≡ cell_in self.now.cells index }
+    {
+        unsafe { &*link.ptr.add(index) }
+    }
+
+    // Frees a row that has no cell left.
+    pub(crate) fn release(self, alloc: &A, link: Link<T>, len: usize)
+        requires { (self.heap ≡ alloc.now) × (self.at ≡ link.ptr) × (self.cells ≡ []) × (self.left ≡ len) }
+    {
+        let Laid { marker: _ } = self;
+        unsafe {
+            alloc.deallocate(
+                link.ptr as *mut u8,
+                len * size_of::<Slot<T>>(),
+                align_of::<Slot<T>>(),
+            );
+        }
+    }
+}
+
+unsafe impl<T: Send + Sync, A: Allocator + Send> Send for Laid<T, A> {}
+
+unsafe impl<T: Send + Sync, A: Allocator + Send> Sync for Laid<T, A> {}

@@ -4,6 +4,7 @@ use seplogic.Ra.Ura.{Ura}
 use mir.Val.{Val, vstruct, vcons, vnil, of_list, has_ty, WT}
 use base.Logic.{ent, emp}
 use mir.Syntax.{ty_array, ty_ptr, ty_struct, tcons, tnil}
+use mir.Syntax.{Body, seq, skip, assign, block, loop, cond, switch, exit, return, unreachable, lend_static, call, call_v}
 use prog.Memory.{capped, size, align}
 use prog.RawLaws.{size-raw, align-raw}
 use prog.Capped.{capped_is}
@@ -54,7 +55,37 @@ module _ (X : RattleType) where
   pub token_made : {M : Type 1} {𝓤 : Ura M} (𝓛 : Logic 𝓤) → ent 𝓤 (emp 𝓤) (sem 𝓛 (Token.own_val (record {}, tt) (token_val ∷ [])))
   token_made 𝓛 = makes_shadow 𝓛 (Token.own_val (record {}, tt) (token_val ∷ [])) (λ vss. (tt, ((λ uss. (tt, tt)), tt))) ((vstruct vnil ∷ [], tt), (refl, ((tt, (refl, tt)), tt)))
 
-
 pub uncapped : (i k : ℕ) → i * k < 2 ^ 64 → i * capped k ≡ i * k
 uncapped zero k h = zero-mul (capped k) ∙ sym (zero-mul k)
 uncapped (suc i) k h = let more = suc-mul i k in ap (λ (j : ℕ). suc i * j) (capped_is k (omega arith))
+
+abbrev opened : Body → Body
+opened (block a) = a
+opened (seq a b) = skip
+opened skip = skip
+opened (assign p r) = skip
+opened (loop a) = skip
+opened (cond c a b) = skip
+opened (switch c x) = skip
+opened (exit k) = skip
+opened return = skip
+opened unreachable = skip
+opened (lend_static p τ c) = skip
+opened (call f xs d) = skip
+opened (call_v c ς xs d) = skip
+
+-- the inside of the block that begins a body
+abbrev pub first_block : Body → Body
+first_block (seq a b) = opened a
+first_block (block a) = skip
+first_block skip = skip
+first_block (assign p r) = skip
+first_block (loop a) = skip
+first_block (cond c a b) = skip
+first_block (switch c x) = skip
+first_block (exit k) = skip
+first_block return = skip
+first_block unreachable = skip
+first_block (lend_static p τ c) = skip
+first_block (call f xs d) = skip
+first_block (call_v c ς xs d) = skip

@@ -9,15 +9,24 @@ use prog.Memory.{size, up}
 use prog.RawLaws.{size-raw, align-raw}
 use types.Logic.{Logic, sem}
 use types.Kit.{‵, ◌⊛◌, ◌$◌, ◌∵◌, !, qed, by, move, keep, drop, use1, use2, split, fsplit, fsplit3, fjoin, fjoin3, fpick, fpack, check, frame, each, assume, rewrite, done}
+use Rattle.std.specs.Prelude.{Option, Some, None}
+use base.Fraction.{full_share}
+use types.Kit.{feq_l}
+use denote.Memory.{part_at}
+use base.Fml.{fex}
+use base.Logic.{id⊢}
 use denote.RattleType.{RattleType}
 use denote.Memory.{lone}
 use denote.RawPtr.{Ptr, block_ptr, block_of, count_of, InBlock}
 use denote.Steps.{nothing}
 use denote.Sharing.{ShrLaws, said}
 use denote.SharingLaws.{beside_shr_laws, nothing_shr_laws, said_shr_laws}
-use denote.Param.Laws.{Laws}
+use denote.Param.{param, layout}
+use denote.Param.Laws.{Laws, param_laws}
+use denote.Struct.Members.{Member}
+use Rattle.core.proofs.cell.Inside.{spread}
 use denote.Struct.Lending.{Lends, Lends-both, Lends-nothing, Lends-said, Lends-first}
-use Rattle.cell_core.specs.Slot.{Names, shared_at}
+use Rattle.cell_core.specs.Slot.{Names, shared_at, Rest, place, resting, free, busy, full, broken}
 use Rattle.cell_core.specs.Laid.{cell_ty, stride, row_ty, Fits, rooms, rim, still, owned, along, along_lent, lies, laid, laid_lent, cell_in}
 use Rattle.cell_core.proofs.CellLends.{lends_cell}
 use Rattle.cell_core.proofs.CellSteps.{shared_laws}
@@ -121,3 +130,17 @@ module _ {M : Type 1} {𝓤 : Ura M} (𝓛 : Logic 𝓤) (R : RattleType) (token
   cell_shown b κ [] i e e' is near = absurd (omega arith)
   cell_shown b κ (γ ∷ γs) zero e e' is near = let z = zero-mul s in let same : e ≡ e' = omega arith in qed 𝓛 (‵ (shared_at R γ b e κ) ∷ ‵ (along_lent R b γs (e + s) κ) ∷ []) ∵ rewrite ! 0 (λ (j : ℕ). ‵ (shared_at R γ b j κ)) same refl $ keep ! (0 ∷ []) $ done !
   cell_shown b κ (γ ∷ γs) (suc i) e e' is near = let z = suc-mul i s in qed 𝓛 (‵ (shared_at R γ b e κ) ∷ ‵ (along_lent R b γs (e + s) κ) ∷ []) ∵ keep ! (1 ∷ []) $ by ! (cell_shown b κ γs i (e + s) e' (omega arith) (omega arith))
+
+  -- a cell whose word is 2 holds a value
+  pub filled_at : (γ : Names) (b e : ℕ) (r : Rest R.Denot) → r.0 ≡ 2 → ⟦ place R r.1 b e ⟧ ∗ ⟦ resting R γ r ⟧ ⊢ ⟦ fex R.Denot (λ x. part_at R full_share x b e) ⟧
+  filled_at γ b e (n, v, free) two = qed 𝓛 (‵ (place R v b e) ∷ ‵ (resting R γ (n, v, free)) ∷ []) ∵ move ! (1 ∷ []) $ fsplit ! $ fsplit ! $ move ! (1 ∷ []) $ fsplit ! $ feq_l ! (λ z. absurd (omega arith))
+  filled_at γ b e (n, v, busy) two = qed 𝓛 (‵ (place R v b e) ∷ ‵ (resting R γ (n, v, busy)) ∷ []) ∵ move ! (1 ∷ []) $ fsplit ! $ fsplit ! $ move ! (1 ∷ []) $ feq_l ! (λ z. absurd (omega arith))
+  filled_at γ b e (n, v, broken) two = qed 𝓛 (‵ (place R v b e) ∷ ‵ (resting R γ (n, v, broken)) ∷ []) ∵ move ! (1 ∷ []) $ fsplit ! $ fsplit ! $ move ! (1 ∷ []) $ fsplit ! $ feq_l ! (λ z. absurd (omega arith))
+  filled_at γ b e (n, v, full x) two = qed 𝓛 (‵ (place R v b e) ∷ ‵ (resting R γ (n, v, full x)) ∷ []) ∵ move ! (1 ∷ []) $ fsplit ! $ drop ! $ fpick ! (λ so. drop ! $
+      rewrite ! 0 (λ (u : Option R.Denot). ‵ (place R u b e)) so refl $ fpack ! R.Denot (λ y. part_at R full_share y b e) x $ done !)
+
+-- what the room of a cell holds is given up
+pub emptied : (T : RattleType) (L : Laws T) {M : Type 1} {𝓤 : Ura M} (𝓛 : Logic 𝓤) (b e : ℕ) (v : Option T.Denot) → ent 𝓤 (sem 𝓛 (place (param 0 T) v b e)) (𝓛.H.room (bare (layout T)) b e)
+emptied T L {𝓤 = 𝓤} 𝓛 b e None = id⊢ 𝓤 _
+emptied T L {𝓤 = 𝓤} 𝓛 b e (Some x) = let m : Member = record { row = param 0 T; ty = layout T } in
+    qed 𝓛 (‵ (place (param 0 T) (Some x) b e) ∷ []) ∵ spread m ! ((param_laws 0 T L).lawful 𝓛) x b e (λ v good. move ! (1 ∷ []) $ drop ! $ by ! (𝓛.laws.at_room (bare (layout T)) b e v))

@@ -13,8 +13,8 @@
 //! is what a token owns.
 #![tactic(auto)]
 
-pub mod row;
 mod blocks;
+pub mod row;
 mod slot;
 #[cfg(test)]
 mod tests;

@@ -109,6 +109,22 @@ impl<T, A: Allocator> Laid<T, A> {
         unsafe { &*link.ptr.add(index) }
     }
 
+    // The value of the last cell, if it holds one. The cell becomes room.
+    pub(crate) fn pop(&mut self, link: Link<T>, index: usize) -> Option<T>
+        requires { (self.old.at ≡ link.ptr) × InBlock link.ptr × ((cs : List Names) × (n : Names) × (self.old.cells ≡ cs ++ n ∷ []) × (index ≡ length cs)) }
+        ensures { (self.new.heap ≡ self.old.heap) × (self.new.at ≡ self.old.at) × (self.new.left ≡ self.old.left + 1) × ((n : Names) × (self.old.cells ≡ self.new.cells ++ n ∷ [])) }
+    {
+        unsafe {
+            let place = link.ptr.add(index);
+            let word = (&raw const (*place).state).read();
+            if word == 2 {
+                Some((&raw const (*place).room).read())
+            } else {
+                None
+            }
+        }
+    }
+
     // Frees a row that has no cell left.
     pub(crate) fn release(self, alloc: &A, link: Link<T>, len: usize)
         requires { (self.heap ≡ alloc.now) × (self.at ≡ link.ptr) × (self.cells ≡ []) × (self.left ≡ len) }

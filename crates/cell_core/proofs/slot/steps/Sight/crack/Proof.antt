@@ -37,7 +37,7 @@ crack_spec 𝓤 𝓛 𝓜 𝓡 wired T L =
     let h : Si.Denot = a.0 in let γ : Names = h.of in
     let y : (walk_of 𝓛 En hs c).Ghost = ((κs, qs, bounds, a, (token_val ∷ [], tt)), gh) in let Post : Val → SProp 𝓤 = (walk_of 𝓛 En hs c).post y in
     qed 𝓛 ((raw (alive 𝓛 En.signature κs qs) ⊛ ‵ (owns (types_at En.signature.params κs) a y.0.4)) ∷ raw (fact 𝓤 _) ∷ raw (fact 𝓤 (h.found ≡ 3)) ∷ []) ∵ keep ! (2 ∷ 0 ∷ []) $ heard ! (h.found ≡ 3) (λ asked.
-    split ! $ move ! (1 ∷ []) $ fsplit ! $ fsplit ! $ keep ! (1 ∷ 3 ∷ []) $ rewrite ! 0 (λ (k : ℕ). ‵ (sighted R γ k h.value)) asked refl $ 
+    split ! $ move ! (1 ∷ []) $ fsplit ! $ fsplit ! $ keep ! (1 ∷ 3 ∷ []) $ rewrite ! 0 (λ (k : ℕ). ‵ (sighted R γ k h.value)) asked refl $
     let r : S.Denot = record { marker = record {}; of = γ.breach } in let Told : Type 0 = γ.breach ≡ γ.breach in use1 𝓛 (‵ (S.own_val r (token_val ∷ []))) (crack_made 𝓛 γ.breach) $
     enter ! 𝓣.C 𝓣.Λ fn (token_val ∷ []) Post $ alloc_all ! (λ l. pass_all ! refl ((tt, (tt, tt)), tt) $
     sets ! (agg ! (no_more !)) refl (tt, tt) $ sets ! (agg ! (and_then ! (get ! refl) (no_more !))) refl (tt, (tt, tt)) $

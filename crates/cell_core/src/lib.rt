@@ -8,9 +8,11 @@
 //! two tokens of one cell have one value, and that a put that lost gives its box back with a token
 //! of what stands there. It can't prove what a look without a token shows.
 //!
-//! The row is safe code over `once_cell`. Its tokens own what the notes of `once_cell` know, in a
-//! form that is read behind a `&`: `row/known.rt` alone has proofs by hand, and `specs/Known.antt`
-//! is what a token owns.
+//! The row is safe code over `once_cell`. Its tokens own what the notes of `once_cell` know, in a form that is read behind
+//! a `&`: of the row, `row/known.rt` alone has proofs by hand, and `specs/Known.antt` is what a token owns.
+//!
+//! `slot/steps.rt` and `blocks/steps.rt` are the raw steps on a cell with room for one value, and on a row of such cells.
+//! They are proved by hand, and no public call reaches them yet. What they own is `specs/Slot.antt` and `specs/Laid.antt`.
 #![tactic(auto)]
 
 mod blocks;

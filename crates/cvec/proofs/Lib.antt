@@ -2,4 +2,6 @@ mod Errors
 mod LongInput
 mod Prefixes
 mod PushPlaces
+mod RaceHistory
+mod RaceTeams
 mod ReadValues

@@ -1,6 +1,7 @@
 pub mod Output
 pub mod Program
 pub mod Reading
+pub mod Race
 pub mod Request
 pub mod RunError
 pub mod Uses

@@ -9,6 +9,7 @@ use Rattle.cvec.specs.declared.engine.Engine.{Engine}
 use Rattle.cvec.specs.declared.error.RunError.{RunError}
 use Rattle.cvec.specs.declared.error.RunError.TheVariants.{Script, Write}
 use Rattle.cvec.specs.Output.{play_by, AppendsText, AppendsPrefixOfText}
+use Rattle.cvec.specs.Race.{race_text}
 use Rattle.cvec.specs.RunError.{status_of, error_line}
 
 -- a run that succeeds has status 0 and adds nothing to standard error; any other has the status of its error, and adds
@@ -22,6 +23,12 @@ pub record Plays (engine : Engine) (ended : Result (Unit {0}) RunError) (input o
   pub written : OnOk ended (IfSome input (λ bytes. AppendsText (play_by engine) bytes old new))
   pub script : (fault : ScriptError) → ended ≡ Err (Script fault) → (fault ≢ faults.NoMemory) × IfSome input (λ bytes. script_of bytes ≡ Err fault)
   pub prefix : IsErrOf ended Write → IfSome input (λ bytes. AppendsPrefixOfText (play_by engine) bytes old new)
+  pub unwritten : IfErr ended (λ e. e ≢ Write → Keeps old new)
+
+-- a race of this many values is held: what the writer gets, and how it ends
+pub record Races (size : ℕ) (ended : Result (Unit {0}) RunError) (old new : Option (List ℕ)) : Type 0 where
+  pub written : OnOk ended (Appends old new (race_text size))
+  pub prefix : IsErrOf ended Write → AppendsPrefix old new (race_text size)
   pub unwritten : IfErr ended (λ e. e ≢ Write → Keeps old new)
 
 -- a text is shown: the whole of it, or a prefix and a write fault

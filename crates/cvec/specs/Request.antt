@@ -1,11 +1,12 @@
 -- What becomes of a command line that names no engine.
 use Rattle.std.specs.Prelude.{⊤}
 use Rattle.cvec.specs.declared.command_line.Request.{Request}
-use Rattle.cvec.specs.declared.command_line.Request.TheVariants.{Play, Show, Refuse, NoMemory}
+use Rattle.cvec.specs.declared.command_line.Request.TheVariants.{Play, Race, Show, Refuse, NoMemory}
 
 -- a text is shown, or there is no memory for it
 abbrev pub IsShown : Request → Type 0
 IsShown (Play engine) = ⊥
+IsShown (Race workers each) = ⊥
 IsShown (Show text) = ⊤
 IsShown (Refuse text) = ⊥
 IsShown NoMemory = ⊤
@@ -13,6 +14,7 @@ IsShown NoMemory = ⊤
 -- it is refused with a text, or there is no memory for it
 abbrev pub IsRefused : Request → Type 0
 IsRefused (Play engine) = ⊥
+IsRefused (Race workers each) = ⊥
 IsRefused (Show text) = ⊥
 IsRefused (Refuse text) = ⊤
 IsRefused NoMemory = ⊤

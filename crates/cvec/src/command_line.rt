@@ -7,16 +7,25 @@ ghost use Rattle.cvec.specs.Request.{IsShown, IsRefused};
 
 use crate::engine::Engine;
 use clap::error::ErrorKind;
-use clap::{Command, Error};
+use clap::{Arg, ArgAction, ArgMatches, Command, Error};
 use std::alloc::{AllocError, Global};
 use std::env::{self, Env};
 use std::io;
+
+/// What a command names.
+#[derive(Clone, Copy, Debug, PartialEq, Eq)]
+pub(crate) enum Task {
+    Play(Engine),
+    Race { workers: u32, each: u32 },
+}
 
 /// What a command line asks for.
 #[derive(Debug, Drop)]
 pub enum Request {
     /// To play the script on standard input.
     Play(Engine),
+    /// To hold a race of so many workers, each with so many values.
+    Race { workers: u32, each: u32 },
     /// To show this text: help, or the version.
     Show(String),
     /// Nothing that there is. The text says why.
@@ -30,6 +39,8 @@ const ABOUT: &str = "Runs scripts of calls on a vector that several actors grow"
 const CALLS: &str = "Plays each item of the script on standard input as one whole call";
 
 const STEPS: &str = "Plays each item of the script on standard input as one atomic step";
+
+const RACE: &str = "Lets threads append to one shared vector, and checks what they won";
 
 const MORE: &str = "\
 Example:
@@ -51,12 +62,31 @@ Exit status, with the line on standard error:
   4  standard input failed          read fault
   4  standard output failed         write fault
   5  the command line is refused    the reason
+  6  a race is refused              race: fault N
 
 The grammar of scripts, the answers and the faults are in docs/SCRIPTS.md.";
 
 fn cvec<'a>(alloc: Global) -> Result<Command<'a>, AllocError> {
     let calls = Command::new(alloc, "calls").about(CALLS);
     let steps = Command::new(alloc, "steps").about(STEPS);
+    let workers = Arg::new(alloc, "workers")
+        .long("workers")
+        .value_name("W")
+        .help("How many threads append, from 1 to 64")
+        .required(true)
+        .action(ArgAction::Set)
+        .value_parser(clap::value_parser!(u32).range(1..=64));
+    let each = Arg::new(alloc, "each")
+        .long("each")
+        .value_name("E")
+        .help("How many values each appends, from 1 to 100000")
+        .required(true)
+        .action(ArgAction::Set)
+        .value_parser(clap::value_parser!(u32).range(1..=100_000));
+    let race = Command::new(alloc, "race")
+        .about(RACE)
+        .arg(workers)?
+        .arg(each)?;
     let command = Command::new(alloc, "cvec")
         .bin_name("cvec")?
         .version("0.1.0")
@@ -64,6 +94,7 @@ fn cvec<'a>(alloc: Global) -> Result<Command<'a>, AllocError> {
         .after_help(MORE)
         .subcommand(calls)?
         .subcommand(steps)?
+        .subcommand(race)?
         .subcommand_required(true)
         .disable_help_subcommand(true);
     Ok(command)
@@ -82,12 +113,28 @@ fn mistake(alloc: Global, kind: ErrorKind, message: &str) -> Error
     }
 }
 
-/// The engine that the words name. Help and the version are errors, too.
-pub(crate) fn engine_of(alloc: Global, words: &[String]) -> Result<Engine, Error> {
+// The numbers of a race.
+fn race_of(alloc: Global, matches: &ArgMatches<'_>) -> Result<Task, Error> {
+    match (
+        matches.get_one::<u32>("workers"),
+        matches.get_one::<u32>("each"),
+    ) {
+        (Some(workers), Some(each)) => Ok(Task::Race { workers, each }),
+        _ => Err(mistake(
+            alloc,
+            ErrorKind::MissingRequiredArgument,
+            "both numbers are required",
+        )),
+    }
+}
+
+/// What the words name. Help and the version are errors, too.
+pub(crate) fn task_of(alloc: Global, words: &[String]) -> Result<Task, Error> {
     let matches = cvec(alloc)?.try_get_matches_from(words)?;
     match matches.subcommand() {
-        Some(("calls", _)) => Ok(Engine::Calls),
-        Some(("steps", _)) => Ok(Engine::Steps),
+        Some(("calls", _)) => Ok(Task::Play(Engine::Calls)),
+        Some(("steps", _)) => Ok(Task::Play(Engine::Steps)),
+        Some(("race", matches)) => race_of(alloc, matches),
         _ => Err(mistake(alloc, ErrorKind::MissingSubcommand, "a command is required")),
     }
 }
@@ -119,8 +166,9 @@ pub(crate) fn stopped(alloc: Global, error: &Error) -> Request
 
 /// What the words ask for.
 pub(crate) fn asked(alloc: Global, words: &[String]) -> Request {
-    match engine_of(alloc, words) {
-        Ok(engine) => Request::Play(engine),
+    match task_of(alloc, words) {
+        Ok(Task::Play(engine)) => Request::Play(engine),
+        Ok(Task::Race { workers, each }) => Request::Race { workers, each },
         Err(error) => stopped(alloc, &error),
     }
 }

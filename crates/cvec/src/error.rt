@@ -1,8 +1,9 @@
 //! Why a run ends without its whole text.
 ghost use Rattle.std.specs.Prelude.{◌≡◌};
-ghost use Rattle.cvec.specs.RunError.{status_of};
+ghost use Rattle.cvec.specs.RunError.{status_of, race_ends};
 
 use crate::input::InputError;
+use crate::race::RaceError;
 use script_core::{ScriptError, WriteFault};
 use std::alloc::AllocError;
 use std::error::Error;
@@ -18,6 +19,8 @@ pub enum RunError {
     Read,
     /// The writer failed, took no byte, or was interrupted too often.
     Write,
+    /// A race was refused. The refusal is never `NoMemory`.
+    Race(RaceError),
 }
 
 impl RunError {
@@ -29,6 +32,7 @@ impl RunError {
             RunError::Script(_) => 2,
             RunError::NoMemory => 3,
             RunError::Read | RunError::Write => 4,
+            RunError::Race(_) => 6,
         }
     }
 }
@@ -45,6 +49,7 @@ impl fmt::Display for RunError {
             RunError::NoMemory => write!(f, "memory"),
             RunError::Read => write!(f, "read fault"),
             RunError::Write => write!(f, "write fault"),
+            RunError::Race(error) => write!(f, "race: fault {}", error.number()),
         }
     }
 }
@@ -81,5 +86,15 @@ impl From<WriteFault> for RunError {
 
     fn from(_: WriteFault) -> Self {
         RunError::Write
+    }
+}
+
+/// How a run ends whose race was refused.
+pub(crate) fn unraced(error: RaceError) -> RunError
+    ensures { result ≡ race_ends error }
+{
+    match error {
+        RaceError::NoMemory => RunError::NoMemory,
+        refusal => RunError::Race(refusal),
     }
 }

@@ -1,10 +1,11 @@
-//! Runs scripts of calls on a vector that several actors grow.
+//! Runs scripts of calls on a vector that several actors grow, and races of threads that do.
 //!
 //! - `run_calls` goes from the bytes of a reader to those of a writer: it reads a script, plays each item as one whole
 //!   call, and writes the answers and the cells. `run_steps` does the same with each item as one atomic step. Their
 //!   clauses are over whole bytes, by `IsTextOf` of `specs/Output.antt`.
 //! - `serve` is the program: what a command line asks for, over any reader and two writers. Its clauses say the exit
 //!   status, and what each of the two writers gets, by `specs/Program.antt`. `main` hands it the system's streams.
+//! - `race` holds a race of several threads on the shared vector. Its clauses say the whole report, by `specs/Race.antt`.
 //!
 //! No clause says which words ask for what, nor what reaches the system's streams: tests and `bin/test` show both.
 #![tactic(auto)]
@@ -15,6 +16,7 @@ mod error;
 mod input;
 mod output;
 mod program;
+mod race;
 mod script;
 #[cfg(test)]
 mod tests;
@@ -28,6 +30,7 @@ use std::process::ExitCode;
 fn main(rt: HostRuntime) -> ExitCode {
     let request = requested(&rt);
     ExitCode::from(serve(
+        &rt,
         rt.alloc(),
         &request,
         &mut rt.reader(),

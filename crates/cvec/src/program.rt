@@ -1,18 +1,23 @@
 //! The program over any three streams: `main` hands it the system's own.
-ghost use Rattle.std.specs.Prelude.{◌≡◌, Result, Err, String, OnOk, OnErr, string_bytes};
+ghost use Rattle.std.specs.Prelude.{◌≡◌, ◌≢◌, ◌*◌, ℕ, Result, Err, IfOk, String, OnOk, OnErr, string_bytes};
 ghost use Rattle.std.specs.Global.{Global};
 ghost use Rattle.std.specs.Io.KnownBytes.{Appends, Keeps};
 ghost use Rattle.script_core.specs.Text.{AppendsPrefix};
-ghost use Rattle.cvec.specs.Program.{EndsAs, Plays, Shows};
+ghost use Rattle.cvec.specs.Program.{EndsAs, Plays, Races, Shows};
+ghost use Rattle.cvec.specs.Race.{race_text};
 ghost use Rattle.cvec.specs.RunError.{error_line};
 
 use crate::command_line::Request;
 use crate::engine::{Engine, run_calls, run_steps};
-use crate::error::RunError;
+use crate::error::{RunError, unraced};
 use crate::output::write_output;
+use crate::race::race;
 use script_core::{Line, WriteFault, write_bytes};
+use span_core::Free;
 use std::alloc::Global;
 use std::io::{Read, Write};
+use std::sync::Wait;
+use std::thread::Threads;
 
 // The status of a refused command line.
 const REFUSED: u8 = 5;
@@ -42,6 +47,43 @@ fn told<E: Write>(errors: &mut E, ended: Result<(), RunError>) -> u8
     }
 }
 
+// The text of a race that goes through the free gate.
+fn raced<X: Threads + Wait + Sync>(
+    rt: &X,
+    alloc: Global,
+    workers: u32,
+    each: u32,
+) -> Result<String, RunError>
+    ensures text { IfOk result (λ text. string_bytes text ≡ race_text (workers * each)) }
+    ensures refused { result ≢ Err RunError.Write }
+{
+    let report = match race(rt, alloc, workers, each, &Free) {
+        Ok(report) => report,
+        Err(error) => return Err(unraced(error)),
+    };
+    match report.to_string(alloc) {
+        Ok(text) => Ok(text),
+        Err(_) => Err(RunError::NoMemory),
+    }
+}
+
+// Nothing is written before the race has ended.
+fn hold_race<X: Threads + Wait + Sync, W: Write>(
+    rt: &X,
+    alloc: Global,
+    workers: u32,
+    each: u32,
+    writer: &mut W,
+) -> Result<(), RunError>
+    ensures { Races (workers * each) result (W.contents writer.old) (W.contents writer.new) }
+{
+    let text = match raced(rt, alloc, workers, each) {
+        Ok(text) => text,
+        Err(error) => return Err(error),
+    };
+    show(writer, text.as_str())
+}
+
 // Help may fail to be written, as any text may.
 fn show<W: Write>(writer: &mut W, text: &str) -> Result<(), RunError>
     ensures { Shows text.now result (W.contents writer.old) (W.contents writer.new) }
@@ -61,7 +103,8 @@ fn refuse<E: Write>(errors: &mut E, text: &str) -> u8
 /// Does what a command line asks for, and returns the exit status of the program.
 ///
 /// The writer of errors may fail too: clauses allow any prefix of its line, and the status alone tells.
-pub fn serve<R: Read, W: Write, E: Write>(
+pub fn serve<X: Threads + Wait + Sync, R: Read, W: Write, E: Write>(
+    rt: &X,
     alloc: Global,
     request: &Request,
     reader: &mut R,
@@ -72,6 +115,10 @@ pub fn serve<R: Read, W: Write, E: Write>(
         → (ended : Result (Unit {0}) RunError)
         × Plays engine ended (R.remaining reader.old)
         (W.contents writer.old) (W.contents writer.new)
+        × EndsAs ended result (E.contents errors.old) (E.contents errors.new) }
+    ensures races { (workers each : ℕ) → request.now ≡ Request.Race workers each
+        → (ended : Result (Unit {0}) RunError)
+        × Races (workers * each) ended (W.contents writer.old) (W.contents writer.new)
         × EndsAs ended result (E.contents errors.old) (E.contents errors.new) }
     ensures shows { (text : String Global) → request.now ≡ Request.Show text
         → (ended : Result (Unit {0}) RunError)
@@ -87,6 +134,9 @@ pub fn serve<R: Read, W: Write, E: Write>(
     match request {
         Request::Play(Engine::Calls) => told(errors, run_calls(alloc, reader, writer)),
         Request::Play(Engine::Steps) => told(errors, run_steps(alloc, reader, writer)),
+        Request::Race { workers, each } => {
+            told(errors, hold_race(rt, alloc, *workers, *each, writer))
+        }
         Request::Show(text) => told(errors, show(writer, text)),
         Request::Refuse(text) => refuse(errors, text),
         Request::NoMemory => told(errors, Err(RunError::NoMemory)),

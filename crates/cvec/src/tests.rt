@@ -12,6 +12,7 @@ mod lines;
 mod machine;
 mod plays;
 mod program;
+mod race;
 mod scripts;
 mod steps;
 mod streams;

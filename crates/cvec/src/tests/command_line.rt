@@ -1,29 +1,48 @@
 //! Which command lines are taken.
 
-use crate::command_line::engine_of;
+use crate::command_line::{Task, task_of};
 use crate::engine::Engine;
 use clap::error::ErrorKind;
 use std::alloc::Global;
 use std::test::Fail;
 
-fn asked(alloc: Global, words: &str) -> Result<Result<Engine, ErrorKind>, Fail> {
+fn asked(alloc: Global, words: &str) -> Result<Result<Task, ErrorKind>, Fail> {
     let mut list = Vec::new(alloc);
     for word in words.split(' ') {
         list.push(word.to_string(alloc)?)?;
     }
-    match engine_of(alloc, &list) {
+    match task_of(alloc, &list) {
         Ok(engine) => Ok(Ok(engine)),
         Err(error) => Ok(Err(error.kind())),
     }
 }
 
 // Words, and what they ask for.
-type Row = (&'static str, Result<Engine, ErrorKind>);
+type Row = (&'static str, Result<Task, ErrorKind>);
 
-const ROWS: [Row; 13] = [
-    ("cvec calls", Ok(Engine::Calls)),
-    ("cvec steps", Ok(Engine::Steps)),
+const ROWS: [Row; 17] = [
+    ("cvec calls", Ok(Task::Play(Engine::Calls))),
+    ("cvec steps", Ok(Task::Play(Engine::Steps))),
     ("cvec calls steps", Err(ErrorKind::UnknownArgument)),
+    (
+        "cvec race --workers 4 --each 1000",
+        Ok(Task::Race {
+            workers: 4,
+            each: 1000,
+        }),
+    ),
+    (
+        "cvec race --workers 0 --each 1",
+        Err(ErrorKind::ValueValidation),
+    ),
+    (
+        "cvec race --workers 65 --each 1",
+        Err(ErrorKind::ValueValidation),
+    ),
+    (
+        "cvec race --workers 4",
+        Err(ErrorKind::MissingRequiredArgument),
+    ),
     ("cvec -h", Err(ErrorKind::DisplayHelp)),
     ("cvec --help", Err(ErrorKind::DisplayHelp)),
     ("cvec calls --help", Err(ErrorKind::DisplayHelp)),
@@ -37,7 +56,7 @@ const ROWS: [Row; 13] = [
 ];
 
 #[test]
-fn a_command_line_names_an_engine(rt: HostRuntime) -> Result<(), Fail> {
+fn a_command_line_names_a_task(rt: HostRuntime) -> Result<(), Fail> {
     for (words, want) in ROWS.as_slice() {
         assert_eq!(rt; asked(rt.alloc(), words)?, *want, "{words}");
     }

@@ -7,7 +7,9 @@ use crate::program::serve;
 use std::alloc::Global;
 use std::io::{ErrorKind, Read, Write};
 use std::process::Abort;
+use std::sync::Wait;
 use std::test::Fail;
+use std::thread::Threads;
 
 const SCRIPT: &[u8] = b"limit 8\nactor a push 5\nsteps a";
 
@@ -16,8 +18,8 @@ const CALLS: Request = Request::Play(Engine::Calls);
 const STEPS: Request = Request::Play(Engine::Steps);
 
 // Serves a request, and compares the status and what standard error gets.
-fn ends<R: Read, W: Write>(
-    rt: &impl Abort,
+fn ends<X: Threads + Wait + Abort + Sync, R: Read, W: Write>(
+    rt: &X,
     alloc: Global,
     request: &Request,
     reader: &mut R,
@@ -25,7 +27,7 @@ fn ends<R: Read, W: Write>(
     want: (u8, &str),
 ) {
     let mut errors = Vec::new(alloc);
-    let status = serve(alloc, request, reader, writer, &mut errors);
+    let status = serve(rt, alloc, request, reader, writer, &mut errors);
     assert_eq!(rt; (status, errors.as_slice()), (want.0, want.1.as_bytes()));
 }
 
@@ -129,7 +131,20 @@ fn the_status_tells_where_standard_error_fails(rt: HostRuntime) {
     let mut reader = b"".as_slice();
     let mut writer = Vec::new(alloc);
     let mut errors = Narrow::new(alloc, 4, Some(ErrorKind::BrokenPipe));
-    let status = serve(alloc, &CALLS, &mut reader, &mut writer, &mut errors);
+    let status = serve(&rt, alloc, &CALLS, &mut reader, &mut writer, &mut errors);
     assert_eq!(rt; status, 2);
     assert_eq!(rt; errors.text.as_slice(), b"line".as_slice());
+}
+
+#[test]
+fn a_race_is_told(rt: HostRuntime) {
+    let mut reader = b"".as_slice();
+    let mut writer = Vec::new(rt.alloc());
+    let request = Request::Race {
+        workers: 4,
+        each: 1000,
+    };
+    ends(&rt, rt.alloc(), &request, &mut reader, &mut writer, (0, ""));
+    let text = "size 4000\nsum 7998000\nlegal\n";
+    assert_eq!(rt; writer.as_slice(), text.as_bytes());
 }

@@ -1,0 +1,105 @@
+-- Wins put in order of place, and the history that they make.
+use Rattle.std.proofs.Common.{◌≡◌, ℕ, ◌+◌, ◌<◌, ◌≤◌, nat_le, ◌==◌, true, if◌then◌else◌, List, [], ◌∷◌, ◌++◌, length, get_or, set, Option, Some, None, refl, sym, ap, ◌∙◌, subst, arith, slice_get}
+use Rattle.std.proofs.lemmas.List.{get_or-set_same, get_or-set_other, length-append, length-set}
+use Rattle.std.proofs.lemmas.Bool.Decides.{nat_tests}
+use mathlib.Core.Logic.{dite}
+use native.Mathlib.Decide.{ℕ_discrete}
+use Rattle.book_core.specs.declared.cells.Cell.{Cell}
+use Rattle.book_core.specs.declared.cells.Cell.TheVariants.{Pending, Filled}
+use Rattle.book_core.specs.declared.events.Event.{Event}
+use Rattle.book_core.specs.declared.events.Event.TheVariants.{Claim, Finish}
+use Rattle.book_core.specs.declared.events.Reply.{Reply}
+use Rattle.book_core.specs.declared.events.Reply.TheVariants as replies
+use Rattle.book_core.specs.Cells.{CellList, empty_list, apply_event, with_pending, with_cell, is_pending_for}
+use Rattle.book_core.specs.History.{IsHistory, IsLegalFrom}
+use Rattle.book_core.specs.Laws.{HistoriesSplit}
+use Rattle.cvec.specs.declared.race.Win.{Win}
+use Rattle.cvec.specs.Race.{IsWinOf, AreAllPlaces, AreInOrder, events_of_win}
+
+-- the slot has the win of this place
+abbrev pub HasPlace : List (Option Win) → ℕ → Type 0
+HasPlace slots place = IsWinOf place (get_or slots place None)
+
+-- a win is put at its place, and the others stay
+pub put_here : (slots : List (Option Win)) (win : Win) → win.place < length slots → HasPlace (set slots win.place (Some win)) win.place
+put_here slots win lt = subst (IsWinOf win.place) (sym (get_or-set_same slots win.place (Some win) None lt)) refl
+
+pub put_keeps : (slots : List (Option Win)) (win : Win) (place : ℕ) → win.place < length slots → HasPlace slots place
+    → HasPlace (set slots win.place (Some win)) place
+put_keeps slots win place lt has =
+    dite (ℕ_discrete place win.place)
+    (λ same. subst (HasPlace (set slots win.place (Some win))) (sym same) (put_here slots win lt))
+    (λ other. subst (IsWinOf place) (sym (get_or-set_other slots win.place place (Some win) None other)) has)
+
+-- the wins before this index are at their places
+pub record ArePut (size : ℕ) (wins : List Win) (i : ℕ) (slots : List (Option Win)) : Type 0 where
+  pub long : length slots ≡ size
+  pub put : (j : ℕ) (win : Win) → j < i → j < length wins → get_or wins j win ≡ win → win.place < size → HasPlace slots win.place
+
+-- so all places have theirs, once each win is put
+pub all_put : (size : ℕ) (wins : List Win) (i : ℕ) (slots : List (Option Win)) → length wins ≤ i → AreAllPlaces size wins
+    → ArePut size wins i slots → AreInOrder size slots
+all_put size wins i slots end all put = (
+  put.long,
+  λ place below.
+      let won = all place below in
+      let at = won.1 in
+      subst (HasPlace slots) won.2 (put.put at.0 won.0 (omega (arith, at.1, end)) at.1 at.2 (subst (λ p. p < size) (sym won.2) below)),
+)
+
+-- the history leads to a list of this length
+pub record LeadsTo (limit : ℕ) (history : List (Event × Reply)) (n : ℕ) : Type 0 where
+  pub cells : List Cell
+  pub long : length cells ≡ n
+  pub legal : IsHistory (empty_list limit) history (record { limit = limit; cells = cells })
+
+-- the empty history
+pub leads_nowhere : (limit : ℕ) → LeadsTo limit [] 0
+leads_nowhere limit = record { cells = []; long = refl; legal = refl }
+
+-- the last place is pending for its claimer
+last_pending : (cells : List Cell) (actor : ℕ) → slice_get (cells ++ Pending actor ∷ []) (length cells) ≡ Some (Pending actor)
+last_pending [] actor = refl
+last_pending (c ∷ cells) actor = last_pending cells actor
+
+-- the claim of the next place is legal
+claims : (v : CellList) (who size : ℕ) → length v.cells ≡ size → size + 1 ≤ v.limit
+    → apply_event v (Claim who 1) ≡ Some (with_pending v who 1, replies.Run size 1)
+claims v who size is room =
+    let fits : nat_le (length v.cells + 1) v.limit ≡ true = grind (arith, nat_tests) in
+    rw fits (ap (λ k. Some (with_pending v who 1, replies.Run k 1)) is)
+
+is_own : (who : ℕ) → is_pending_for who (Some (Pending who)) ≡ true
+is_own who = (let same : (who == who) ≡ true = grind (arith, nat_tests) in same)
+
+-- and so is the filling of it
+finishes : (v : CellList) (who place value : ℕ) → slice_get v.cells place ≡ Some (Pending who)
+    → apply_event v (Finish who place value) ≡ Some (with_cell v place (Filled value), replies.Done)
+finishes v who place value pending =
+    ap (λ o. if is_pending_for who o then Some (with_cell v place (Filled value), replies.Done) else None) pending
+    ∙ ap (λ b. if b then Some (with_cell v place (Filled value), replies.Done) else None) (is_own who)
+
+-- the history goes on by the win of the next place
+pub leads_on : HistoriesSplit → (limit n : ℕ) (history : List (Event × Reply)) (win : Win)
+    → LeadsTo limit history n → win.place ≡ n → n + 1 ≤ limit
+    → LeadsTo limit (history ++ events_of_win win) (n + 1)
+leads_on split limit n history win leads here room =
+    let v : CellList = record { limit = limit; cells = leads.cells } in
+    let long : length leads.cells ≡ win.place = leads.long ∙ sym here in
+    let w : CellList = with_pending v win.worker 1 in
+    let pending : slice_get w.cells win.place ≡ Some (Pending win.worker) =
+    subst (λ p. slice_get w.cells p ≡ Some (Pending win.worker)) long (last_pending leads.cells win.worker)
+    in
+    let u : CellList = with_cell w win.place (Filled win.value) in
+    let claimed = claims v win.worker win.place long (omega arith) in
+    let filled = finishes w win.worker win.place win.value pending in
+    let both : IsHistory v (events_of_win win) u = (w, claimed, (u, filled, refl)) in
+    let size : length u.cells ≡ n + 1 = omega (arith, length-set w.cells win.place (Filled win.value), length-append leads.cells (Pending win.worker ∷ []), leads.long) in
+    record {
+      cells = u.cells;
+      long = size;
+      legal = (split (empty_list limit) u history (events_of_win win)).1 (v, leads.legal, both);
+    }
+
+pub legal_at_last : (limit n : ℕ) (history : List (Event × Reply)) → LeadsTo limit history n → IsLegalFrom (empty_list limit) history
+legal_at_last limit n history leads = (record { limit = limit; cells = leads.cells }, leads.legal)

@@ -1,0 +1,10 @@
+use Rattle.cvec.specs.declared.race.Team.{Team}
+use Rattle.cvec.proofs.RaceTeams.{teams_joined}
+use Rattle.cvec.proofs.race.Team.join.Goals as goal
+
+pub returns : goal.returns
+returns c = λ some more from middle to a b.
+    let new : Team = record { hand = c.join.new.hand; wins = c.append.new.self } in
+    let joined = c.join.ensures in
+    teams_joined c.places_stay.ensures c.seen_runs_stay.ensures c.args.vector.now.word some more from middle to c.args.self.now c.args.other new
+    a b c.laws.ensures.below c.laws-2.ensures.below joined.of joined.mine joined.shares joined.begins joined.also_begins c.in_ok-append.ensures.items

@@ -1,0 +1,71 @@
+//! Races under each gate.
+
+use crate::race::{RaceError, RaceReport, race};
+use span_core::{Free, Gate, PairGate};
+use std::sync::atomic::{AtomicU64, Ordering};
+
+#[test]
+fn a_pair_that_looks_no_times_is_stuck(rt: HostRuntime) {
+    let ended = race(&rt, rt.alloc(), 2, 10, &PairGate::new(0));
+    assert_eq!(rt; ended, Err(RaceError::Stuck));
+}
+
+#[test]
+fn two_workers_run_at_once(rt: HostRuntime) {
+    let ended = race(&rt, rt.alloc(), 2, 10, &PairGate::new(1_000_000_000));
+    let report = RaceReport {
+        size: 20,
+        sum: 190,
+        legal: true,
+    };
+    assert_eq!(rt; ended, Ok(report));
+}
+
+// Counts its calls, and refuses one worker.
+#[derive(Drop)]
+struct CountingGate {
+    refused: u32,
+    before: AtomicU64,
+    after: AtomicU64,
+}
+
+impl Gate for CountingGate {
+    ghost use Rattle.std.specs.Prelude.{◌≡◌};
+
+    ghost may_refuse = { λ gate worker. worker ≡ gate.refused };
+
+    fn before(&self, worker: u32) -> bool {
+        let _calls = self.before.fetch_add(1, Ordering::SeqCst);
+        worker != self.refused
+    }
+
+    fn after(&self, _worker: u32) {
+        let _calls = self.after.fetch_add(1, Ordering::SeqCst);
+    }
+}
+
+#[test]
+fn each_worker_passes_the_gate_twice_also_where_one_is_refused(rt: HostRuntime) {
+    for (refused, stuck) in [(0, true), (2, true), (5, false)] {
+        let gate = CountingGate {
+            refused,
+            before: AtomicU64::new(0),
+            after: AtomicU64::new(0),
+        };
+        let ended = race(&rt, rt.alloc(), 5, 10, &gate);
+        assert_eq!(rt; ended == Err(RaceError::Stuck), stuck, "{refused}");
+        let calls = (
+            gate.before.load(Ordering::SeqCst),
+            gate.after.load(Ordering::SeqCst),
+        );
+        assert_eq!(rt; calls, (5, 5), "{refused}");
+    }
+}
+
+#[test]
+fn a_bad_size_is_refused(rt: HostRuntime) {
+    for (workers, each) in [(0, 1), (65, 1), (1, 0), (1, 100_001)] {
+        let ended = race(&rt, rt.alloc(), workers, each, &Free);
+        assert_eq!(rt; ended, Err(RaceError::BadSize), "{workers} {each}");
+    }
+}

@@ -486,7 +486,8 @@ pub fn race<R: Threads + Wait + Sync, G: Gate + Sync>(
     ensures legal { IfOk result (λ report. report.legal ≡ true) }
     // The numbers are looked at before anything is started.
     ensures bad_size { IsErrOf result RaceError.BadSize ↔ IsBadSize workers each }
-    ensures stuck { IsErrOf result RaceError.Stuck → MayRefuseOne (G.may_refuse gate.now) 0 workers }
+    ensures stuck { IsErrOf result RaceError.Stuck
+        → MayRefuseOne (G.may_refuse gate.now) 0 workers }
     ensures grow { (number : ℕ) → result ≡ Err (RaceError.Grow number) → IsGrowth number }
 {
     if workers == 0 || workers > 64 || each == 0 || each > 100_000 {

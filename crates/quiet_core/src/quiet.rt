@@ -138,7 +138,8 @@ impl<T: Drop> Quiet<T> {
         ensures place { IfOk result (λ place. place ≡ length self.old.members) }
         ensures appended { OnOk result (self.new.members ≡ self.old.members ++ Some value ∷ []) }
         ensures limit { self.new.limit ≡ self.old.limit }
-        ensures capacity { OnOk result (GrowsFor (length self.new.members) self.old.capacity self.new.capacity) }
+        ensures capacity { OnOk result
+            (GrowsFor (length self.new.members) self.old.capacity self.new.capacity) }
         // The limit is looked at before memory is asked for.
         ensures too_long { (result ≡ Err (QuietError.TooLong, value)) ↔ IsFull self.old }
         ensures value_back { IfErr result (λ (_, back). back ≡ value) }
@@ -162,12 +163,15 @@ impl<T: Drop> Quiet<T> {
     pub fn assign(&mut self, values: Vec<T>) -> Result<(), (QuietError, Vec<T>)>
         ensures members { OnOk result (self.new.members ≡ map Some values.items) }
         ensures limit { self.new.limit ≡ self.old.limit }
-        ensures capacity { OnOk result (GrowsFor (vec_len values) self.old.capacity self.new.capacity) }
+        ensures capacity { OnOk result
+            (GrowsFor (vec_len values) self.old.capacity self.new.capacity) }
         // The limit is looked at before memory is asked for.
-        ensures too_long { (result ≡ Err (QuietError.TooLong, values)) ↔ (self.old.limit < vec_len values) }
+        ensures too_long { (result ≡ Err (QuietError.TooLong, values))
+            ↔ (self.old.limit < vec_len values) }
         ensures values_back { IfErr result (λ (_, back). back ≡ values) }
         ensures unchanged { OnErr result (IsUnchanged self.old self.new) }
-        ensures spare { vec_len values ≤ self.old.limit → vec_len values ≤ self.old.capacity → IsOk result }
+        ensures spare { vec_len values ≤ self.old.limit
+            → vec_len values ≤ self.old.capacity → IsOk result }
     {
         match self.reserve(values.len() as u64) {
             Ok(()) => {

@@ -69,7 +69,8 @@ impl<'a, T> Cursor<'a, T> {
 
     /// The value at the cursor, refused at the end and at a broken member.
     pub fn item(&self) -> Result<&'a T, QuietAt>
-        ensures value { IfOk result (λ x. slice_get self.now.list.members self.now.place ≡ Some (Some x.now)) }
+        ensures value { IfOk result (λ x.
+            slice_get self.now.list.members self.now.place ≡ Some (Some x.now)) }
         ensures refused { IfErr result (IsRefusalAt self.now.list.members self.now.place) }
     {
         let list = self.list;

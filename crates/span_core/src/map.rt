@@ -95,7 +95,8 @@ pub fn par_map<
 ) -> Result<Vec<U>, ParError>
     requires callable { F.IsAlwaysCallable f.now }
     requires inside { span.to ≤ length list.now.members }
-    ensures answers { IfOk result (λ all. AnswersOver (F.post f.now) list.now.members span all.items) }
+    ensures answers { IfOk result (λ all.
+        AnswersOver (F.post f.now) list.now.members span all.items) }
     // The number is looked at before anything is started.
     ensures bad_workers { IsErrOf result ParError.BadWorkers ↔ IsBadNumber workers }
     ensures stuck { IsErrOf result ParError.Stuck → MayRefuseOne (G.may_refuse gate.now) 0 workers }

@@ -136,7 +136,17 @@ fn every_number_of_workers_folds_the_same(rt: HostRuntime) -> Result<(), Fail> {
     let join = |a: u64, b: u64| a.wrapping_add(b);
     for workers in 1..7 {
         let span = Span::new(0, 10, 3);
-        let sum = par_reduce(&rt, rt.alloc(), &list, span, workers, &f, 0u64, &join, &Free)?;
+        let sum = par_reduce(
+            &rt,
+            rt.alloc(),
+            &list,
+            span,
+            workers,
+            &f,
+            0u64,
+            &join,
+            &Free,
+        )?;
         assert_eq!(rt; sum, 285);
     }
     Ok(())

@@ -6,11 +6,11 @@ use std::error::Error;
 use std::fmt;
 
 /// The cause that never comes.
-#[derive(Clone, Copy, Debug)]
+#[derive(Clone, Copy)]
 pub enum Never {}
 
 /// Why a growth was refused. `V` is what was moved in, and `E` the cause of a refused construction.
-#[derive(Debug, Drop)]
+#[derive(Drop)]
 pub enum GrowError<T, V, E> {
     /// There was no memory. Nothing was claimed.
     NoMemory { back: V },
@@ -55,12 +55,20 @@ impl<T, V, E> fmt::Display for GrowError<T, V, E> {
     }
 }
 
-impl<T, V, E> Error for GrowError<T, V, E>
-where
-    T: fmt::Debug + Drop,
-    V: fmt::Debug + Drop,
-    E: fmt::Debug + Drop,
-{}
+// Shows the refusal by name, and neither the values nor the cause, which need not be such as can be shown.
+impl<T, V, E> fmt::Debug for GrowError<T, V, E> {
+    fn fmt<W: fmt::Write>(&self, f: &mut fmt::Formatter<W>) -> fmt::Result {
+        match self {
+            GrowError::NoMemory { back: _ } => write!(f, "NoMemory"),
+            GrowError::Full { size, back: _ } => write!(f, "Full {{ size: {size}, .. }}"),
+            GrowError::Moved { size, back: _ } => write!(f, "Moved {{ size: {size}, .. }}"),
+            GrowError::Refused { made, .. } => write!(f, "Refused {{ made: {}, .. }}", made.run.n),
+            GrowError::Taken { place, found: _ } => write!(f, "Taken {{ place: {place}, .. }}"),
+        }
+    }
+}
+
+impl<T: Drop, V: Drop, E: Drop> Error for GrowError<T, V, E> {}
 
 impl fmt::Display for AtError {
     ghost use Rattle.std.specs.Prelude.{Some};

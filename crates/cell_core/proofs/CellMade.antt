@@ -1,5 +1,5 @@
 -- What the raw steps on a cell hand out, as values. Assumes `Logic`.
-use Rattle.std.proofs.Common.{◌≡◌, ℕ, T, List, [], ◌∷◌, ◌++◌, refl, ap, ◌∙◌}
+use Rattle.std.proofs.Common.{◌≡◌, ℕ, suc, T, List, [], ◌∷◌, ◌++◌, refl, ap, ◌∙◌}
 use Rattle.std.specs.Prelude.{Option, Some, None}
 use seplogic.Ra.Ura.{Ura}
 use mir.Syntax.{ty_ptr, ty_struct, tcons, tnil}
@@ -8,7 +8,7 @@ use base.Logic.{ent, emp, never_e}
 use base.Fml.{Lft, fex}
 use contract.Monad.{fact, fact_i}
 use types.Logic.{Logic, sem}
-use types.Kit.{‵, ◌$◌, ◌∵◌, !, qed, use0, fpack, done}
+use types.Kit.{‵, ◌$◌, ◌∵◌, !, qed, use0, keep, fsplit, fpick, fpack, done}
 use denote.RattleType.{RattleType}
 use denote.Laws.{Is}
 use denote.Ref.{NamedLft}
@@ -16,7 +16,7 @@ use denote.RawPtr.{Ptr, InBlock, block_ptr, null_ptr, ptr_val}
 use denote.Shadow.{makes_shadow}
 use denote.Struct.Struct.{Struct}
 use denote.Struct.Owning.{shape}
-use Rattle.cell_core.specs.Slot.{Names, written, spoilt, known, sighted, claimed}
+use Rattle.cell_core.specs.Slot.{Names, written, spoilt, known, sights, sighted, claimed}
 use Rattle.cell_core.specs.contracts.slot.steps.Claim as Claim
 use Rattle.cell_core.specs.contracts.slot.steps.Sight as Sight
 use Rattle.cell_core.specs.contracts.slot.steps.Written as Written
@@ -51,6 +51,11 @@ module _ {M : Type 1} {𝓤 : Ura M} (𝓛 : Logic 𝓤) (R : RattleType) where
   pub claim_placed : (γ : Names) (β : Lft) (p : Ptr) (n : ℕ) → ent 𝓤 (sem 𝓛 (claimed R γ β p n)) (fact 𝓤 (InBlock p))
   claim_placed γ β (block_ptr b o) n = fact_i 𝓤 (Unit {0}) _ tt
   claim_placed γ β null_ptr n = never_e 𝓤 _
+
+  -- what a lost exchange showed
+  pub claim_shows : (γ : Names) (β : Lft) (p : Ptr) (n : ℕ) → ent 𝓤 (sem 𝓛 (claimed R γ β p (suc n))) (sem 𝓛 (sights R γ (suc n)))
+  claim_shows γ β (block_ptr b o) n = qed 𝓛 (‵ (claimed R γ β (block_ptr b o) (suc n)) ∷ []) ∵ fpick ! (λ t. fsplit ! $ keep ! (1 ∷ []) $ done !)
+  claim_shows γ β null_ptr n = never_e 𝓤 _
 
   pub sight_made : (γ : Names) (n : ℕ) (v : Option R.Denot) → ent 𝓤 (sem 𝓛 (sighted R γ n v)) (sem 𝓛 ((Sight.the_row R).own_val (record { marker = record {}; of = γ; found = n; value = v }) (token_val ∷ [])))
   sight_made γ n v = let F = (Struct (shape (Sight.the_type R))).own_val (tt, tt) (token_val ∷ []) in

@@ -12,7 +12,7 @@ use denote.Param.Send.{IsSend, IsSync, part_keyless, sendable}
 use denote.Struct.Owning
 use denote.Struct.Struct
 use Rattle.core.proofs.atomic.Sent.{chain-Keyless}
-use Rattle.cell_core.specs.Slot.{Names, Phase, free, busy, full, broken, Turn, at, place, told, tie, lent, kept, won, claimed}
+use Rattle.cell_core.specs.Slot.{Names, Phase, free, busy, full, broken, Turn, at, place, told, tie, lent, kept, known, sighted, won, claimed}
 use Rattle.cell_core.specs.Slot.{Rest, resting}
 use Rattle.cell_core.specs.Laid.{owned, along, along_lent, laid, laid_lent}
 use Rattle.cell_core.specs.contracts.slot.steps.Slot as Slot
@@ -33,6 +33,17 @@ module _ (R : RattleType) (γ : Names) where
   tie_keyless t b o (full x) = tt
   tie_keyless t b o broken = tt
 
+  known_keyless : (v : Option R.Denot) → Keyless (known R γ v)
+  known_keyless (Some x) = tt
+  known_keyless None = tt
+
+  sighted_keyless : (n : ℕ) (v : Option R.Denot) → Keyless (sighted R γ n v)
+  sighted_keyless zero v = tt
+  sighted_keyless (suc zero) v = tt
+  sighted_keyless (suc (suc zero)) v = known_keyless v
+  sighted_keyless (suc (suc (suc zero))) v = tt
+  sighted_keyless (suc (suc (suc (suc n)))) v = tt
+
   module _ (s : IsSend R) (y : IsSync R) where
     place_keyless : (v : Option R.Denot) (b e : ℕ) → Keyless (place R v b e)
     place_keyless None b e = tt
@@ -49,7 +60,7 @@ module _ (R : RattleType) (γ : Names) where
 
     won_keyless : (t : Turn) (b o n : ℕ) → Keyless (won R γ t b o n)
     won_keyless t b o zero = ((tt, tt), (tt, λ u. (place_keyless u b (at R o), tt)))
-    won_keyless t b o (suc n) = tt
+    won_keyless t b o (suc n) = sighted_keyless (suc n)
 
     claimed_keyless : (β : Lft) (p : Ptr) (n : ℕ) → Keyless (claimed R γ β p n)
     claimed_keyless β (block_ptr b o) n = λ t. (kept_keyless t b o β, won_keyless t b o n)

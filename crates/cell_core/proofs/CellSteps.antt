@@ -5,7 +5,7 @@ use seplogic.Ra.Ura.{Ura}
 use base.Fraction.{full_share}
 use base.Stored.{Gv, gnil, gnum, gcons}
 use base.Logic.{SProp, ent, sep, wand, ex, emp, upd, upd_i, id⊢}
-use base.Fml.{Lft, Incl, GName, Share, Fml, ftrue, ffalse, fsep, fseps, fex, fwand, fupd, fdead, fobs, fauth, fres, fbor, flft, finv}
+use base.Fml.{Lft, Incl, GName, Share, Fml, ftrue, ffalse, fsep, fseps, fwand, fupd, fdead, fobs, fauth, fres, fbor, flft, finv}
 use base.Before.{before}
 use ghost.Rules.{Toks, span}
 use prog.Atomic.{either}
@@ -25,7 +25,7 @@ use Rattle.core.proofs.once.Turns.{one_value}
 use Rattle.core.proofs.cell.Borrows.{by_one}
 use Rattle.core.specs.Sync.RawAtomic.{asks, always}
 use Rattle.core.proofs.raw_atomic.Asked.{borrowed, Lies, Again}
-use Rattle.cell_core.specs.Slot.{Names, Phase, free, busy, full, broken, Turn, word, cross, spoilt, content, mark, crossed, written, place, at, auths, unset, told, inside, Room, tie, lent, standing, Cell, kept, Right, won, sighted, shared_at}
+use Rattle.cell_core.specs.Slot.{Names, Phase, free, busy, full, broken, Turn, word, cross, spoilt, content, mark, crossed, written, place, at, auths, unset, told, inside, Room, tie, lent, standing, Cell, kept, Right, won, sighted, sights, shared_at}
 
 abbrev head : Gv → Gv
 head (gcons a b) = a
@@ -99,20 +99,38 @@ module _ {M : Type 1} {𝓤 : Ura M} (𝓛 : Logic 𝓤) (R : RattleType) (γ : 
   abbrev rest : S → Fml
   rest s = fsep (tie R γ t b o s) (lent R γ t b o s)
 
+  -- what the word shows can be had beside the invariant
+  abbrev Sights : ℕ → Fml
+  Sights = sights R γ
+
+  looked : (n : ℕ) (s : S) → ⟦ beside n s ⟧ ⊢ ⟦ beside n s ⟧ ∗ ⟦ Sights n ⟧
+  looked n free = qed 𝓛 (‵ (beside n free) ∷ []) ∵ fsplit3 ! $ move ! (1 ∷ []) $ fsplit ! $ feq_l ! (λ e. keep ! (1 ∷ 0 ∷ 2 ∷ []) $
+      by ! (subst (λ (m : ℕ). ⟦ auths R γ free ⟧ ∗ ⟦ unset R γ ⟧ ∗ ⟦ rest free ⟧ ⊢ ⟦ beside m free ⟧ ∗ ⟦ Sights m ⟧) (sym e) (qed 𝓛 (‵ (auths R γ free) ∷ ‵ (unset R γ) ∷ ‵ (rest free) ∷ []) ∵
+      feq_i ! ℕ 0 0 refl $ move ! (0 ∷ 2 ∷ []) $ fjoin ! $ move ! (1 ∷ 0 ∷ []) $ fjoin3 ! $ frame ! $ nothing ! $ fpack ! (Option R.Denot) (sighted R γ 0) None $ done !)))
+  looked n busy = qed 𝓛 (‵ (beside n busy) ∷ []) ∵ fsplit3 ! $ move ! (1 ∷ []) $ feq_l ! (λ e.
+      by ! (subst (λ (m : ℕ). ⟦ auths R γ busy ⟧ ∗ ⟦ rest busy ⟧ ⊢ ⟦ beside m busy ⟧ ∗ ⟦ Sights m ⟧) (sym e) (qed 𝓛 (‵ (auths R γ busy) ∷ ‵ (rest busy) ∷ []) ∵
+      feq_i ! ℕ 1 1 refl $ move ! (1 ∷ 0 ∷ []) $ fjoin3 ! $ frame ! $ nothing ! $ fpack ! (Option R.Denot) (sighted R γ 1) None $ done !)))
+  looked n (full x) = qed 𝓛 (‵ (beside n (full x)) ∷ []) ∵ fsplit3 ! $ move ! (1 ∷ []) $ fsplit ! $ feq_l ! (λ e. keep ! (1 ∷ 0 ∷ 2 ∷ []) $
+      by ! (subst (λ (m : ℕ). ⟦ auths R γ (full x) ⟧ ∗ ⟦ written R γ.value x ⟧ ∗ ⟦ rest (full x) ⟧ ⊢ ⟦ beside m (full x) ⟧ ∗ ⟦ Sights m ⟧) (sym e) (qed 𝓛 (‵ (auths R γ (full x)) ∷ ‵ (written R γ.value x) ∷ ‵ (rest (full x)) ∷ []) ∵
+      move ! (1 ∷ []) $ res_dup ! $ feq_i ! ℕ 2 2 refl $ fjoin ! $ move ! (2 ∷ 0 ∷ 3 ∷ []) $ fjoin3 ! $ frame ! $ fpack ! (Option R.Denot) (sighted R γ 2) (Some x) $ done !)))
+  looked n broken = let K : Fml = fobs γ.value gnil in qed 𝓛 (‵ (beside n broken) ∷ []) ∵ fsplit3 ! $ move ! (1 ∷ []) $ fsplit ! $ feq_l ! (λ e. fsplit ! $ keep ! (2 ∷ 0 ∷ 1 ∷ 3 ∷ []) $
+      by ! (subst (λ (m : ℕ). ⟦ auths R γ broken ⟧ ∗ ⟦ spoilt γ.breach ⟧ ∗ ⟦ K ⟧ ∗ ⟦ rest broken ⟧ ⊢ ⟦ beside m broken ⟧ ∗ ⟦ Sights m ⟧) (sym e) (qed 𝓛 (‵ (auths R γ broken) ∷ ‵ (spoilt γ.breach) ∷ ‵ K ∷ ‵ (rest broken) ∷ []) ∵
+      move ! (1 ∷ []) $ res_dup ! $ move ! (0 ∷ 3 ∷ []) $ fjoin ! $ feq_i ! ℕ 3 3 refl $ fjoin ! $ move ! (2 ∷ 0 ∷ 3 ∷ []) $ fjoin3 ! $ frame ! $ fpack ! (Option R.Denot) (sighted R γ 3) None $ done !)))
+
   claims_at : (n : ℕ) (s : S) → ⟦ beside n s ⟧ ∗ emp 𝓤 ⊢ upd 𝓤 (ex 𝓤 (Next claim Won n))
   claims_at n free = qed 𝓛 (‵ (beside n free) ∷ raw (emp 𝓤) ∷ []) ∵ suffices ! _ (upd_i 𝓤 (ex 𝓤 (Next claim Won n))) $ fsplit3 ! $ move ! (1 ∷ []) $ fsplit ! $ feq_l ! (λ e. keep ! (1 ∷ 0 ∷ 2 ∷ []) $
       by ! (subst (λ (m : ℕ). ⟦ auths R γ free ⟧ ∗ ⟦ Right R γ t b o ⟧ ⊢ ex 𝓤 (Next claim Won m)) (sym e) (qed 𝓛 (‵ (auths R γ free) ∷ ‵ (Right R γ t b o) ∷ []) ∵ show ! (Next claim Won 0) busy $
       nothing ! $ nothing ! $ fjoin ! $ feq_i ! ℕ 1 1 refl $ move ! (2 ∷ 0 ∷ 1 ∷ []) $ fjoin3 ! $ done !)))
   claims_at n busy = qed 𝓛 (‵ (beside n busy) ∷ raw (emp 𝓤) ∷ []) ∵ suffices ! _ (upd_i 𝓤 (ex 𝓤 (Next claim Won n))) $ fsplit3 ! $ move ! (1 ∷ []) $ feq_l ! (λ e. keep ! (0 ∷ []) $
       by ! (subst (λ (m : ℕ). ⟦ auths R γ busy ⟧ ⊢ ex 𝓤 (Next claim Won m)) (sym e) (qed 𝓛 (‵ (auths R γ busy) ∷ []) ∵ show ! (Next claim Won 1) busy $
-      nothing ! $ nothing ! $ nothing ! $ fjoin ! $ feq_i ! ℕ 1 1 refl $ move ! (3 ∷ 0 ∷ 1 ∷ []) $ fjoin3 ! $ done !)))
+      nothing ! $ nothing ! $ fjoin ! $ feq_i ! ℕ 1 1 refl $ move ! (2 ∷ 0 ∷ 1 ∷ []) $ fjoin3 ! $ by ! (looked 1 busy))))
   claims_at n (full x) = qed 𝓛 (‵ (beside n (full x)) ∷ raw (emp 𝓤) ∷ []) ∵ suffices ! _ (upd_i 𝓤 (ex 𝓤 (Next claim Won n))) $ fsplit3 ! $ move ! (1 ∷ []) $ fsplit ! $ feq_l ! (λ e. keep ! (1 ∷ 0 ∷ 2 ∷ []) $
       by ! (subst (λ (m : ℕ). ⟦ auths R γ (full x) ⟧ ∗ ⟦ written R γ.value x ⟧ ∗ ⟦ rest (full x) ⟧ ⊢ ex 𝓤 (Next claim Won m)) (sym e) (qed 𝓛 (‵ (auths R γ (full x)) ∷ ‵ (written R γ.value x) ∷ ‵ (rest (full x)) ∷ []) ∵ show ! (Next claim Won 2) (full x) $
-      feq_i ! ℕ 2 2 refl $ move ! (0 ∷ 2 ∷ []) $ fjoin ! $ move ! (1 ∷ 0 ∷ []) $ fjoin3 ! $ frame ! $ nothing ! $ done !)))
+      feq_i ! ℕ 2 2 refl $ move ! (0 ∷ 2 ∷ []) $ fjoin ! $ move ! (1 ∷ 0 ∷ []) $ fjoin3 ! $ by ! (looked 2 (full x)))))
   claims_at n broken = qed 𝓛 (‵ (beside n broken) ∷ raw (emp 𝓤) ∷ []) ∵ suffices ! _ (upd_i 𝓤 (ex 𝓤 (Next claim Won n))) $ fsplit3 ! $ move ! (1 ∷ []) $ fsplit ! $ feq_l ! (λ e. keep ! (1 ∷ 0 ∷ 2 ∷ []) $
       let K : Fml = fsep (spoilt γ.breach) (fobs γ.value gnil) in
       by ! (subst (λ (m : ℕ). ⟦ auths R γ broken ⟧ ∗ ⟦ K ⟧ ∗ ⟦ rest broken ⟧ ⊢ ex 𝓤 (Next claim Won m)) (sym e) (qed 𝓛 (‵ (auths R γ broken) ∷ ‵ K ∷ ‵ (rest broken) ∷ []) ∵ show ! (Next claim Won 3) broken $
-      feq_i ! ℕ 3 3 refl $ move ! (0 ∷ 2 ∷ []) $ fjoin ! $ move ! (1 ∷ 0 ∷ []) $ fjoin3 ! $ frame ! $ nothing ! $ done !)))
+      feq_i ! ℕ 3 3 refl $ move ! (0 ∷ 2 ∷ []) $ fjoin ! $ move ! (1 ∷ 0 ∷ []) $ fjoin3 ! $ by ! (looked 3 broken))))
 
   pub claims : (q : Share) → A.inv (fbor α I) ∗ (A.lft α q ∗ emp 𝓤) ⊢ asks 𝓛 (block_ptr b (o + 0)) claim always (λ n. fsep (flft α q) (Won n))
   claims q = stepped q claim Won (emp 𝓤) claims_at
@@ -157,23 +175,6 @@ module _ {M : Type 1} {𝓤 : Ura M} (𝓛 : Logic 𝓤) (R : RattleType) (γ : 
       suffices ! _ (upd_i 𝓤 Z) $ use1 𝓛 (‵ (spoilt γ.breach)) (𝓛.names.obs-res γ.breach cross) $ res_dup ! $ show ! (N n) broken $
       -- [broken, twice; the breach's name; the right to the value's name; the value's name; the room]
       move ! (4 ∷ 2 ∷ []) $ fjoin ! $ move ! (1 ∷ 3 ∷ []) $ fjoin ! $ feq_i ! ℕ 3 3 refl $ fjoin ! $ move ! (1 ∷ 0 ∷ 3 ∷ []) $ fjoin3 ! $ done !)
-
-  abbrev Sights : ℕ → Fml
-  Sights n = fex (Option R.Denot) (sighted R γ n)
-
-  looked : (n : ℕ) (s : S) → ⟦ beside n s ⟧ ⊢ ⟦ beside n s ⟧ ∗ ⟦ Sights n ⟧
-  looked n free = qed 𝓛 (‵ (beside n free) ∷ []) ∵ fsplit3 ! $ move ! (1 ∷ []) $ fsplit ! $ feq_l ! (λ e. keep ! (1 ∷ 0 ∷ 2 ∷ []) $
-      by ! (subst (λ (m : ℕ). ⟦ auths R γ free ⟧ ∗ ⟦ unset R γ ⟧ ∗ ⟦ rest free ⟧ ⊢ ⟦ beside m free ⟧ ∗ ⟦ Sights m ⟧) (sym e) (qed 𝓛 (‵ (auths R γ free) ∷ ‵ (unset R γ) ∷ ‵ (rest free) ∷ []) ∵
-      feq_i ! ℕ 0 0 refl $ move ! (0 ∷ 2 ∷ []) $ fjoin ! $ move ! (1 ∷ 0 ∷ []) $ fjoin3 ! $ frame ! $ nothing ! $ fpack ! (Option R.Denot) (sighted R γ 0) None $ done !)))
-  looked n busy = qed 𝓛 (‵ (beside n busy) ∷ []) ∵ fsplit3 ! $ move ! (1 ∷ []) $ feq_l ! (λ e.
-      by ! (subst (λ (m : ℕ). ⟦ auths R γ busy ⟧ ∗ ⟦ rest busy ⟧ ⊢ ⟦ beside m busy ⟧ ∗ ⟦ Sights m ⟧) (sym e) (qed 𝓛 (‵ (auths R γ busy) ∷ ‵ (rest busy) ∷ []) ∵
-      feq_i ! ℕ 1 1 refl $ move ! (1 ∷ 0 ∷ []) $ fjoin3 ! $ frame ! $ nothing ! $ fpack ! (Option R.Denot) (sighted R γ 1) None $ done !)))
-  looked n (full x) = qed 𝓛 (‵ (beside n (full x)) ∷ []) ∵ fsplit3 ! $ move ! (1 ∷ []) $ fsplit ! $ feq_l ! (λ e. keep ! (1 ∷ 0 ∷ 2 ∷ []) $
-      by ! (subst (λ (m : ℕ). ⟦ auths R γ (full x) ⟧ ∗ ⟦ written R γ.value x ⟧ ∗ ⟦ rest (full x) ⟧ ⊢ ⟦ beside m (full x) ⟧ ∗ ⟦ Sights m ⟧) (sym e) (qed 𝓛 (‵ (auths R γ (full x)) ∷ ‵ (written R γ.value x) ∷ ‵ (rest (full x)) ∷ []) ∵
-      move ! (1 ∷ []) $ res_dup ! $ feq_i ! ℕ 2 2 refl $ fjoin ! $ move ! (2 ∷ 0 ∷ 3 ∷ []) $ fjoin3 ! $ frame ! $ fpack ! (Option R.Denot) (sighted R γ 2) (Some x) $ done !)))
-  looked n broken = let K : Fml = fobs γ.value gnil in qed 𝓛 (‵ (beside n broken) ∷ []) ∵ fsplit3 ! $ move ! (1 ∷ []) $ fsplit ! $ feq_l ! (λ e. fsplit ! $ keep ! (2 ∷ 0 ∷ 1 ∷ 3 ∷ []) $
-      by ! (subst (λ (m : ℕ). ⟦ auths R γ broken ⟧ ∗ ⟦ spoilt γ.breach ⟧ ∗ ⟦ K ⟧ ∗ ⟦ rest broken ⟧ ⊢ ⟦ beside m broken ⟧ ∗ ⟦ Sights m ⟧) (sym e) (qed 𝓛 (‵ (auths R γ broken) ∷ ‵ (spoilt γ.breach) ∷ ‵ K ∷ ‵ (rest broken) ∷ []) ∵
-      move ! (1 ∷ []) $ res_dup ! $ move ! (0 ∷ 3 ∷ []) $ fjoin ! $ feq_i ! ℕ 3 3 refl $ fjoin ! $ move ! (2 ∷ 0 ∷ 3 ∷ []) $ fjoin3 ! $ frame ! $ fpack ! (Option R.Denot) (sighted R γ 3) None $ done !)))
 
   pub looks : (q : Share) → A.inv (fbor α I) ∗ (A.lft α q ∗ emp 𝓤) ⊢ asks 𝓛 (block_ptr b (o + 0)) (λ n. n) always (λ n. fsep (flft α q) (Sights n))
   looks q = stepped q (λ n. n) Sights (emp 𝓤) (λ n s. let N : S → Pr = Next (λ m. m) Sights n in

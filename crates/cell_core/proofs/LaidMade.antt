@@ -16,7 +16,7 @@ use denote.Shadow.{makes_shadow}
 use denote.Struct.Struct.{Struct}
 use Rattle.core.specs.contracts.marker.PhantomData as marker
 use Rattle.cell_core.specs.Laid.{cell_ty, row_ty, stride}
-use Rattle.cell_core.specs.contracts.blocks.steps.Link as link
+use Rattle.cell_core.specs.contracts.block.steps.Link as link
 
 abbrev pub token_val : Val
 token_val = vstruct (vcons (vstruct vnil) vnil)

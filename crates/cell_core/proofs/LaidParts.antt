@@ -139,6 +139,13 @@ module _ {M : Type 1} {𝓤 : Ura M} (𝓛 : Logic 𝓤) (R : RattleType) (token
   filled_at γ b e (n, v, full x) two = qed 𝓛 (‵ (place R v b e) ∷ ‵ (resting R γ (n, v, full x)) ∷ []) ∵ move ! (1 ∷ []) $ fsplit ! $ drop ! $ fpick ! (λ so. drop ! $
       rewrite ! 0 (λ (u : Option R.Denot). ‵ (place R u b e)) so refl $ fpack ! R.Denot (λ y. part_at R full_share y b e) x $ done !)
 
+-- a list that is not empty has a last member
+pub last_of : (cs : List Names) (j : ℕ) → length cs ≡ j + 1 → (front : List Names) × (c : Names) × (cs ≡ front ++ c ∷ []) × (j ≡ length front)
+last_of [] j long = absurd (omega arith)
+last_of (c ∷ []) j long = ([], c, refl, omega arith)
+last_of (c ∷ d ∷ cs) zero long = absurd (omega arith)
+last_of (c ∷ d ∷ cs) (suc j) long = let end = last_of (d ∷ cs) j (omega arith) in (c ∷ end.0, end.1, ap (λ (xs : List Names). c ∷ xs) end.2, omega (arith, end.3))
+
 -- what the room of a cell holds is given up
 pub emptied : (T : RattleType) (L : Laws T) {M : Type 1} {𝓤 : Ura M} (𝓛 : Logic 𝓤) (b e : ℕ) (v : Option T.Denot) → ent 𝓤 (sem 𝓛 (place (param 0 T) v b e)) (𝓛.H.room (bare (layout T)) b e)
 emptied T L {𝓤 = 𝓤} 𝓛 b e None = id⊢ 𝓤 _

@@ -1,5 +1,5 @@
 -- What a row of raw cells owns and lends.
-use Rattle.std.specs.Prelude.{ℕ, ◌+◌, ◌*◌, ◌^◌, ◌<◌, List, [], ◌∷◌, length, get_or}
+use Rattle.std.specs.Prelude.{◌≡◌, ℕ, ◌+◌, ◌*◌, ◌^◌, ◌<◌, List, [], ◌∷◌, ◌++◌, length, get_or}
 use base.Fml.{Lft, Fml, ftrue, fsep, fex, fwand, froom}
 use mir.Syntax.{Ty, w64, ty_int, ty_array, ty_struct, tcons, tnil}
 use mir.Raw.{raw}
@@ -7,8 +7,16 @@ use prog.Memory.{size}
 use denote.RattleType.{RattleType}
 use denote.Memory.{lone}
 use denote.Sharing.{said, beside, nothing}
-use denote.RawPtr.{Ptr, block_of, count_of, InBlock}
+use denote.RawPtr.{Ptr, block_ptr, block_of, count_of, InBlock}
 use Rattle.cell_core.specs.Slot.{Names, Rest, fact, word, place, at, resting, shared_at}
+
+-- a row that lies at the first pointer has the second for its link, which is into memory
+abbrev pub IsLinked : Ptr → Ptr → Type 0
+IsLinked at link = (at ≡ link) × (link ≡ block_ptr (block_of link) (count_of link))
+
+-- the new cells are the old ones, and one more
+abbrev pub HasOneMore : List Names → List Names → Type 0
+HasOneMore old new = (n : Names) × (new ≡ old ++ n ∷ [])
 
 module _ (R : RattleType) where
   abbrev pub cell_ty : Ty

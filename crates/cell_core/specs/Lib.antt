@@ -3,3 +3,5 @@ pub mod Slot
 pub mod Row
 pub mod Look
 pub mod Laid
+pub mod Block
+pub mod Shown

@@ -102,6 +102,22 @@ module _ (R : RattleType) where
     abbrev pub resting : Rest R.Denot → Fml
     resting s = fsep (named s.0 s.2) (fact (Lies s.1 s.2))
 
+    -- a value that is known to be there
+    abbrev pub known : Option R.Denot → Fml
+    known (Some x) = written γ.value x
+    known None = ffalse
+
+    -- what the word shows: at 2 a value, at 3 that the cell is broken, and else nothing
+    abbrev pub sighted : ℕ → Option R.Denot → Fml
+    sighted zero v = ftrue
+    sighted (suc zero) v = ftrue
+    sighted (suc (suc zero)) v = known v
+    sighted (suc (suc (suc zero))) v = spoilt γ.breach
+    sighted (suc (suc (suc (suc n)))) v = ftrue
+
+    abbrev pub sights : ℕ → Fml
+    sights n = fex (Option R.Denot) (sighted n)
+
     module _ (t : Turn) (b o : ℕ) where
       abbrev pub inside : Option R.Denot → Fml
       inside v = fsep (place v b (at o)) (fauth t.1 (content.code v))
@@ -141,10 +157,10 @@ module _ (R : RattleType) where
       abbrev pub Right : Fml
       Right = fsep unset (fsep empty (fbor t.0 Room))
 
-      -- what the exchange from empty to busy gains, where it found n
+      -- what the exchange from empty to busy gains, where it found n: the right to write, or what n shows
       abbrev pub won : ℕ → Fml
       won zero = Right
-      won (suc n) = ftrue
+      won (suc n) = sights (suc n)
 
     abbrev pub shared_at : ℕ → ℕ → Lft → Fml
     shared_at b o κ = fex Turn (λ t. kept t b o κ)
@@ -157,16 +173,3 @@ module _ (R : RattleType) where
     abbrev pub claimed : Lft → Ptr → ℕ → Fml
     claimed β (block_ptr b o) found = fex Turn (λ t. fsep (kept t b o β) (won t b o found))
     claimed β null_ptr found = ffalse
-
-    -- a value that is known to be there
-    abbrev pub known : Option R.Denot → Fml
-    known (Some x) = written γ.value x
-    known None = ffalse
-
-    -- what a load of the word shows: at 2 a value, at 3 that the cell is broken, and else nothing
-    abbrev pub sighted : ℕ → Option R.Denot → Fml
-    sighted zero v = ftrue
-    sighted (suc zero) v = ftrue
-    sighted (suc (suc zero)) v = known v
-    sighted (suc (suc (suc zero))) v = spoilt γ.breach
-    sighted (suc (suc (suc (suc n)))) v = ftrue

@@ -11,11 +11,11 @@
 //! The row is safe code over `once_cell`. Its tokens own what the notes of `once_cell` know, in a form that is read behind
 //! a `&`: of the row, `row/known.rt` alone has proofs by hand, and `specs/Known.antt` is what a token owns.
 //!
-//! `slot/steps.rt` and `blocks/steps.rt` are the raw steps on a cell with room for one value, and on a row of such cells.
+//! `slot/steps.rt` and `block/steps.rt` are the raw steps on a cell with room for one value, and on a row of such cells.
 //! They are proved by hand, and no public call reaches them yet. What they own is `specs/Slot.antt` and `specs/Laid.antt`.
 #![tactic(auto)]
 
-mod blocks;
+pub mod block;
 pub mod row;
 mod slot;
 #[cfg(test)]

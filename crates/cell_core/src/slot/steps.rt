@@ -151,6 +151,27 @@ impl<'a, T> Claim<'a, T> {
         }
     }
 
+    // The token of what a lost exchange found.
+    pub(crate) fn written(self) -> Written<T>
+        requires { self.found ≡ 2 }
+        ensures { result.of ≡ self.entry.of.value }
+    {
+        let Claim { slot: _, marker: _ } = self;
+        Written {
+            marker: PhantomData,
+        }
+    }
+
+    pub(crate) fn crack(self) -> Crack
+        requires { self.found ≡ 3 }
+        ensures { result.of ≡ self.entry.of.breach }
+    {
+        let Claim { slot: _, marker: _ } = self;
+        Crack {
+            marker: PhantomData,
+        }
+    }
+
     // Ends a claim that gained nothing.
     pub(crate) fn done(self)
         requires { 0 < self.found }

@@ -1,10 +1,10 @@
 // The raw steps on a row of cells: its memory, a cell more, a cell less, and the cell at an index.
-ghost use Rattle.std.specs.Prelude.{◌≡◌, ℕ, ◌+◌, ◌<◌, true, List, [], ◌∷◌, ◌++◌, length, IfOk};
+ghost use Rattle.std.specs.Prelude.{◌≡◌, ℕ, ◌+◌, ◌<◌, true, List, [], length, IfOk};
 ghost use base.Stored.{coded_list};
 ghost use prog.Memory.{capped};
-ghost use denote.RawPtr.{Ptr, InBlock, coded_ptr};
+ghost use denote.RawPtr.{Ptr, coded_ptr};
 ghost use Rattle.cell_core.specs.Slot.{Names, names_coded};
-ghost use Rattle.cell_core.specs.Laid.{laid, laid_lent, stride, Fits, cell_in};
+ghost use Rattle.cell_core.specs.Laid.{laid, laid_lent, stride, Fits, IsLinked, HasOneMore, cell_in};
 
 use crate::slot::steps::Slot;
 use std::alloc::{AllocError, Allocator};
@@ -64,7 +64,8 @@ fn fits<T>(len: usize) -> bool
 impl<T, A: Allocator> Laid<T, A> {
     fn allocate(alloc: &A, len: usize) -> Result<(Link<T>, Laid<T, A>), AllocError>
         requires { Fits T.row len }
-        ensures { IfOk result (λ l. (l.1.heap ≡ alloc.now) × (l.1.at ≡ l.0.ptr) × InBlock l.0.ptr × (l.1.cells ≡ []) × (l.1.left ≡ len)) }
+        ensures { IfOk result (λ l. (l.1.heap ≡ alloc.now) × IsLinked l.1.at l.0.ptr
+            × (l.1.cells ≡ []) × (l.1.left ≡ len)) }
     {
         match alloc.allocate(len * size_of::<Slot<T>>(), align_of::<Slot<T>>()) {
             Ok(room) => {
@@ -82,7 +83,8 @@ impl<T, A: Allocator> Laid<T, A> {
 
     // Room for `len` cells. It refuses 2^40 cells or more, and a cell of 8 MiB or more.
     pub(crate) fn reserve(alloc: &A, len: usize) -> Result<(Link<T>, Laid<T, A>), AllocError>
-        ensures { IfOk result (λ l. (l.1.heap ≡ alloc.now) × (l.1.at ≡ l.0.ptr) × InBlock l.0.ptr × (l.1.cells ≡ []) × (l.1.left ≡ len)) }
+        ensures { IfOk result (λ l. (l.1.heap ≡ alloc.now) × IsLinked l.1.at l.0.ptr
+            × (l.1.cells ≡ []) × (l.1.left ≡ len)) }
     {
         if !fits::<T>(len) {
             return Err(AllocError);
@@ -92,8 +94,9 @@ impl<T, A: Allocator> Laid<T, A> {
 
     // One more cell, which is empty.
     pub(crate) fn push(&mut self, link: Link<T>, index: usize)
-        requires { (self.old.at ≡ link.ptr) × InBlock link.ptr × (index ≡ length self.old.cells) × (0 < self.old.left) }
-        ensures { (self.new.heap ≡ self.old.heap) × (self.new.at ≡ self.old.at) × ((n : Names) × (self.new.cells ≡ self.old.cells ++ n ∷ [])) × (self.new.left + 1 ≡ self.old.left) }
+        requires { IsLinked self.old.at link.ptr × (index ≡ length self.old.cells) × (0 < self.old.left) }
+        ensures { (self.new.heap ≡ self.old.heap) × (self.new.at ≡ self.old.at)
+            × HasOneMore self.old.cells self.new.cells × (self.new.left + 1 ≡ self.old.left) }
     {
         unsafe {
             let place = link.ptr.add(index);
@@ -111,8 +114,9 @@ impl<T, A: Allocator> Laid<T, A> {
 
     // The value of the last cell, if it holds one. The cell becomes room.
     pub(crate) fn pop(&mut self, link: Link<T>, index: usize) -> Option<T>
-        requires { (self.old.at ≡ link.ptr) × InBlock link.ptr × ((cs : List Names) × (n : Names) × (self.old.cells ≡ cs ++ n ∷ []) × (index ≡ length cs)) }
-        ensures { (self.new.heap ≡ self.old.heap) × (self.new.at ≡ self.old.at) × (self.new.left ≡ self.old.left + 1) × ((n : Names) × (self.old.cells ≡ self.new.cells ++ n ∷ [])) }
+        requires { IsLinked self.old.at link.ptr × (length self.old.cells ≡ index + 1) }
+        ensures { (self.new.heap ≡ self.old.heap) × (self.new.at ≡ self.old.at)
+            × HasOneMore self.new.cells self.old.cells × (self.new.left ≡ self.old.left + 1) }
     {
         unsafe {
             let place = link.ptr.add(index);

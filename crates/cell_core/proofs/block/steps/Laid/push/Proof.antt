@@ -17,7 +17,7 @@ use contract.Monad.{fact, fact_i}
 use denote.Exit.{yes, no}
 use denote.RattleType.{RattleType, owns}
 use denote.Signature.{types_at, plain}
-use denote.RawPtr.{Ptr, block_ptr, block_of, count_of, at_block, InBlock}
+use denote.RawPtr.{Ptr, block_ptr, block_of, count_of}
 use denote.Steps.{nothing, heard, opens, closes}
 use denote.Param.{param, bounded}
 use denote.Builtin.{usize}
@@ -27,17 +27,17 @@ use denote.Triple.Walked.{Stays, stay_dropped, stay_ref, walk_of, Goes-dropped, 
 use Rattle.core.proofs.atomic.Steps.{tail}
 use Rattle.atomic_table.proofs.Walks.{proved, leaves}
 use Rattle.cell_core.specs.Slot.{Names, Rest, free, Lies}
-use Rattle.cell_core.specs.Laid.{laid, stride, rooms, still, rests}
-use Rattle.cell_core.specs.contracts.blocks.steps.Link as link
-use Rattle.cell_core.specs.contracts.blocks.steps.Laid as loose
+use Rattle.cell_core.specs.Laid.{laid, stride, rooms, still, rests, IsLinked, HasOneMore}
+use Rattle.cell_core.specs.contracts.block.steps.Link as link
+use Rattle.cell_core.specs.contracts.block.steps.Laid as loose
 use Rattle.cell_core.proofs.LaidMade.{link_val, link_told, link_good, uncapped}
 use Rattle.cell_core.proofs.LaidParts as parts
 use base.Stored.{gnil}
 use types.Tokens.{name_new}
-use Rattle.cell_core.specs.contracts.blocks.steps.Laid.push.{ended, clauses}
-use Rattle.cell_core.specs.contracts.blocks.steps.Laid.push.Key.{name as #self}
-use Rattle.cell_core.proofs.blocks.steps.Laid.push.Statement.{statement}
-use Rattle.cell_core.proofs.blocks.steps.Laid.push.Code as code
+use Rattle.cell_core.specs.contracts.block.steps.Laid.push.{ended, clauses}
+use Rattle.cell_core.specs.contracts.block.steps.Laid.push.Key.{name as #self}
+use Rattle.cell_core.proofs.block.steps.Laid.push.Statement.{statement}
+use Rattle.cell_core.proofs.block.steps.Laid.push.Code as code
 
 pub push_spec : {M : Type 1} → statement M
 push_spec 𝓤 𝓛 𝓜 𝓡 wired T Al L _ ga da dd _ _ =
@@ -49,14 +49,14 @@ push_spec 𝓤 𝓛 𝓜 𝓡 wired T Al L _ ga da dd _ _ =
     let y : (walk_of 𝓛 En hs c).Ghost = ((κs, qs, bounds, a, (vptr a.0.ref_ptr.0 a.0.ref_ptr.1 ∷ [], (link_val a.1.0.ptr ∷ [], (vint w64 a.1.1.0 ∷ [], tt)))), gh) in let Post : Val → SProp 𝓤 = (walk_of 𝓛 En hs c).post y in
     let b' : ℕ = a.0.ref_ptr.0 in let o' : ℕ = a.0.ref_ptr.1 in let h : Lo.Denot = a.0.now in let token : Ty → Ptr → Fml = ga.dealloc_token h.heap in let p : Ptr = a.1.0.ptr in let j : ℕ = a.1.1.0 in
     let b : ℕ = block_of p in let e : ℕ = j * stride R + count_of p in let left : ℕ = h.left - 1 in
-    let Asked : Type 0 = (h.at ≡ p) × InBlock p × (j ≡ length h.cells) × (0 < h.left) in let others : Fml = fsep (flft κs.1.0 qs.1.0) (fsep (flft κs.1.1.0 qs.1.1.0) (ftrue)) in
+    let Asked : Type 0 = IsLinked h.at p × (j ≡ length h.cells) × (0 < h.left) in let others : Fml = fsep (flft κs.1.0 qs.1.0) (fsep (flft κs.1.1.0 qs.1.1.0) (ftrue)) in
     qed 𝓛 (((‵ (flft κs.0 qs.0) ⊛ ‵ others) ⊛ ‵ (owns (types_at En.signature.params κs) a y.0.4)) ∷ raw (fact 𝓤 _) ∷ raw (fact 𝓤 _) ∷ raw (fact 𝓤 Asked) ∷ []) ∵
     keep ! (3 ∷ 0 ∷ []) $ heard ! Asked (λ asked. split ! $ split ! $ move ! (2 ∷ []) $ fsplit ! $ fsplit3 ! $ keep ! (1 ∷ 2 ∷ 4 ∷ 5 ∷ []) $
     let us : Ptr → List Val = λ u. vptr a.0.ref_ptr.0 a.0.ref_ptr.1 ∷ link_val u ∷ vint w64 a.1.1.0 ∷ [] in let Run : List Val → SProp 𝓤 = λ ws. WpFn 𝓤 H 𝓣.C 𝓣.Λ fn ws Post in let p' : Ptr = block_ptr (block_of p) (count_of p) in
-    suffices ! (Run (us p')) (subst (λ (u : Ptr). ent 𝓤 (Run (us p')) (Run (us u))) (sym (at_block p asked.1)) (id⊢ 𝓤 (Run (us p')))) $
+    suffices ! (Run (us p')) (subst (λ (u : Ptr). ent 𝓤 (Run (us p')) (Run (us u))) (sym asked.0.1) (id⊢ 𝓤 (Run (us p')))) $
     enter ! 𝓣.C 𝓣.Λ fn (us p') Post $ alloc_all ! (λ l. pass_all ! refl ((tt, tt), (link_good p', ((tt, record { fits = are.1.1.0.1 }), tt))) $ let Ev = env fn.locals l in
-    opens ! tt Lo b' o' (λ ts. move ! (1 ∷ []) $ fsplit ! $ let pos : 0 < h.left = asked.3 in let long : j ≡ length h.cells = asked.2 in
-    rewrite ! 1 (λ (u : Ptr × ℕ). ‵ (laid R token u.0 h.cells u.1)) (λ i. (asked.0 i, (let r : h.left ≡ suc left = omega arith in r) i)) refl $ move ! (1 ∷ []) $ let Again = parts.Filled 𝓛 R token p h.cells left e in
+    opens ! tt Lo b' o' (λ ts. move ! (1 ∷ []) $ fsplit ! $ let pos : 0 < h.left = asked.2 in let long : j ≡ length h.cells = asked.1 in
+    rewrite ! 1 (λ (u : Ptr × ℕ). ‵ (laid R token u.0 h.cells u.1)) (λ i. (asked.0.0 i, (let r : h.left ≡ suc left = omega arith in r) i)) refl $ move ! (1 ∷ []) $ let Again = parts.Filled 𝓛 R token p h.cells left e in
     use1 𝓛 (given (length h.cells * stride R < 2 ^ 63) (‵ (rooms R b e) ⊛ raw (all 𝓤 Again))) (parts.next_room 𝓛 R token p h.cells left e (ap (λ (z : ℕ). z * stride R + count_of p) long)) $ learn ! (λ low.
     let small : j * stride R < 2 ^ 64 = (let x : j * stride R < 2 ^ 63 = subst (λ (z : ℕ). z * stride R < 2 ^ 63) (sym long) low in omega arith) in split ! $ fsplit3 ! $ move ! (2 ∷ []) $ drop ! $
     first ! $ blocks ! $ sets ! (is ! (bin ! (get ! refl) (size_word !) (record { fits = subst (λ (j : ℕ). j < 2 ^ 64) (sym (uncapped j (stride R) small)) small })) (ap (vint w64) (uncapped j (stride R) small))) refl (tt, record { fits = small }) $
@@ -69,6 +69,6 @@ push_spec 𝓤 𝓛 𝓜 𝓡 wired T Al L _ ga da dd _ _ =
     use2 𝓛 (‵ (laid R token p (h.cells ++ γ ∷ []) left)) (apply∗ 𝓤 (sem 𝓛 (still R b γ e)) (sem 𝓛 (laid R token p (h.cells ++ γ ∷ []) left))) $
     let h' : Lo.Denot = record { marker = h.marker; heap = h.heap; at = p; cells = h.cells ++ γ ∷ []; left = left } in move ! (1 ∷ 0 ∷ []) $ fjoin ! $ move ! (1 ∷ 0 ∷ []) $
     closes ! tt Lo h' ts b' o' $ feq_i ! (List Val) (vptr b' o' ∷ []) (vptr b' o' ∷ []) refl $ fjoin3 ! $ nothing ! $ nothing ! $ fjoin ! $ nothing ! $ fjoin ! $ move ! (1 ∷ 0 ∷ []) $ fjoin ! $ move ! (1 ∷ 2 ∷ []) $ join ! $
-    let Kept : Type 0 = (h.heap ≡ h.heap) × (p ≡ h.at) × ((n : Names) × (h'.cells ≡ h.cells ++ n ∷ [])) × (left + 1 ≡ h.left) in
-    use0 𝓛 (raw (fact 𝓤 Kept)) (fact_i 𝓤 Kept (emp 𝓤) (refl, sym asked.0, (γ, refl), omega arith)) $ feq_i ! (List Val) (vunit ∷ []) (vunit ∷ []) refl $
+    let Kept : Type 0 = (h.heap ≡ h.heap) × (p ≡ h.at) × HasOneMore h.cells h'.cells × (left + 1 ≡ h.left) in
+    use0 𝓛 (raw (fact 𝓤 Kept)) (fact_i 𝓤 Kept (emp 𝓤) (refl, sym asked.0.0, (γ, refl), omega arith)) $ feq_i ! (List Val) (vunit ∷ []) (vunit ∷ []) refl $
     returns ! (look_at ! 0 refl) $ free_all ! refl $ keep ! (2 ∷ 3 ∷ 0 ∷ 1 ∷ []) $ by ! (leaves 𝓛 En hs c y vunit tt (h', (tt, (tt, tt))) (tt, (tt, (tt, tt)))))))))))

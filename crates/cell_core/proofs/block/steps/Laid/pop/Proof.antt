@@ -1,5 +1,5 @@
 -- `pop` reads the value of the last cell, if its word is 2, and leaves room.
-use Rattle.std.proofs.Common.{◌≡◌, ℕ, ◌+◌, suc, length, ◌*◌, ◌^◌, ◌<◌, List, [], ◌∷◌, ◌++◌, sym, refl, ap, subst, arith, w64, lit<, eqb→eq}
+use Rattle.std.proofs.Common.{◌≡◌, ℕ, ◌+◌, suc, length, ◌*◌, ◌^◌, ◌<◌, List, [], ◌∷◌, sym, refl, ap, subst, arith, w64, lit<, eqb→eq}
 use Rattle.std.specs.Prelude.{Some, None}
 use mir.Syntax.{Ty, a_type, dcons, dnil, named, ty_int}
 use mir.Val.{Val, vint, vptr, vcons, vnil, has_ty, WT}
@@ -17,7 +17,7 @@ use contract.Monad.{fact, fact_i}
 use denote.Exit.{yes, no}
 use denote.RattleType.{RattleType, owns}
 use denote.Signature.{types_at, plain}
-use denote.RawPtr.{Ptr, block_ptr, block_of, count_of, at_block, InBlock}
+use denote.RawPtr.{Ptr, block_ptr, block_of, count_of}
 use denote.Steps.{nothing, heard, opens, closes, peeks}
 use denote.Param.{param, bounded, layout}
 use denote.Builtin.{usize}
@@ -27,9 +27,9 @@ use denote.Triple.Walked.{Stays, stay_dropped, stay_ref, walk_of, Goes-dropped, 
 use Rattle.core.proofs.atomic.Steps.{tail}
 use Rattle.atomic_table.proofs.Walks.{proved, leaves}
 use Rattle.cell_core.specs.Slot.{Names, word, at}
-use Rattle.cell_core.specs.Laid.{laid, stride, rooms, still}
-use Rattle.cell_core.specs.contracts.blocks.steps.Link as link
-use Rattle.cell_core.specs.contracts.blocks.steps.Laid as loose
+use Rattle.cell_core.specs.Laid.{laid, stride, rooms, still, IsLinked, HasOneMore}
+use Rattle.cell_core.specs.contracts.block.steps.Link as link
+use Rattle.cell_core.specs.contracts.block.steps.Laid as loose
 use Rattle.cell_core.proofs.LaidMade.{link_val, link_told, link_good, uncapped, first_block}
 use Rattle.cell_core.proofs.LaidParts as parts
 use mir.Raw.{raw as bare}
@@ -43,10 +43,10 @@ use types.Match.{live}
 use Rattle.core.specs.contracts.option.Option.{the_row as OptionOf}
 use Rattle.core.proofs.option.Made.{Some-of, none_of}
 use Rattle.core.proofs.option.Option.TheLaws.{the_row_laws as option_laws}
-use Rattle.cell_core.specs.contracts.blocks.steps.Laid.pop.{ended, clauses}
-use Rattle.cell_core.specs.contracts.blocks.steps.Laid.pop.Key.{name as #self}
-use Rattle.cell_core.proofs.blocks.steps.Laid.pop.Statement.{statement}
-use Rattle.cell_core.proofs.blocks.steps.Laid.pop.Code as code
+use Rattle.cell_core.specs.contracts.block.steps.Laid.pop.{ended, clauses}
+use Rattle.cell_core.specs.contracts.block.steps.Laid.pop.Key.{name as #self}
+use Rattle.cell_core.proofs.block.steps.Laid.pop.Statement.{statement}
+use Rattle.cell_core.proofs.block.steps.Laid.pop.Code as code
 
 pub pop_spec : {M : Type 1} → statement M
 pop_spec 𝓤 𝓛 𝓜 𝓡 wired T Al L _ ga da dd _ _ =
@@ -59,14 +59,14 @@ pop_spec 𝓤 𝓛 𝓜 𝓡 wired T Al L _ ga da dd _ _ =
     let y : (walk_of 𝓛 En hs c).Ghost = ((κs, qs, bounds, a, (vptr a.0.ref_ptr.0 a.0.ref_ptr.1 ∷ [], (link_val a.1.0.ptr ∷ [], (vint w64 a.1.1.0 ∷ [], tt)))), gh) in let Post : Val → SProp 𝓤 = (walk_of 𝓛 En hs c).post y in
     let b' : ℕ = a.0.ref_ptr.0 in let o' : ℕ = a.0.ref_ptr.1 in let h : Lo.Denot = a.0.now in let token : Ty → Ptr → Fml = ga.dealloc_token h.heap in let p : Ptr = a.1.0.ptr in let j : ℕ = a.1.1.0 in
     let b : ℕ = block_of p in let e : ℕ = j * stride R + count_of p in let i : ℕ = at R e in let LR = (param_laws 0 T L).lawful 𝓛 in let m : Member = record { row = R; ty = layout T } in
-    let Asked : Type 0 = (h.at ≡ p) × InBlock p × ((cs : List Names) × (γ : Names) × (h.cells ≡ cs ++ γ ∷ []) × (j ≡ length cs)) in let others : Fml = fsep (flft κs.1.0 qs.1.0) (fsep (flft κs.1.1.0 qs.1.1.0) (ftrue)) in
+    let Asked : Type 0 = IsLinked h.at p × (length h.cells ≡ j + 1) in let others : Fml = fsep (flft κs.1.0 qs.1.0) (fsep (flft κs.1.1.0 qs.1.1.0) (ftrue)) in
     qed 𝓛 (((‵ (flft κs.0 qs.0) ⊛ ‵ others) ⊛ ‵ (owns (types_at En.signature.params κs) a y.0.4)) ∷ raw (fact 𝓤 _) ∷ raw (fact 𝓤 _) ∷ raw (fact 𝓤 Asked) ∷ []) ∵
-    keep ! (3 ∷ 0 ∷ []) $ heard ! Asked (λ asked. let cs = asked.2.0 in let γ : Names = asked.2.1 in let long : j ≡ length cs = asked.2.3 in split ! $ split ! $ move ! (2 ∷ []) $ fsplit ! $ fsplit3 ! $ keep ! (1 ∷ 2 ∷ 4 ∷ 5 ∷ []) $
+    keep ! (3 ∷ 0 ∷ []) $ heard ! Asked (λ asked. let end = parts.last_of h.cells j asked.1 in let cs = end.0 in let γ : Names = end.1 in let long : j ≡ length cs = end.3 in split ! $ split ! $ move ! (2 ∷ []) $ fsplit ! $ fsplit3 ! $ keep ! (1 ∷ 2 ∷ 4 ∷ 5 ∷ []) $
     let us : Ptr → List Val = λ u. vptr a.0.ref_ptr.0 a.0.ref_ptr.1 ∷ link_val u ∷ vint w64 a.1.1.0 ∷ [] in let Run : List Val → SProp 𝓤 = λ ws. WpFn 𝓤 H 𝓣.C 𝓣.Λ fn ws Post in let p' : Ptr = block_ptr (block_of p) (count_of p) in
-    suffices ! (Run (us p')) (subst (λ (u : Ptr). ent 𝓤 (Run (us p')) (Run (us u))) (sym (at_block p asked.1)) (id⊢ 𝓤 (Run (us p')))) $
+    suffices ! (Run (us p')) (subst (λ (u : Ptr). ent 𝓤 (Run (us p')) (Run (us u))) (sym asked.0.1) (id⊢ 𝓤 (Run (us p')))) $
     enter ! 𝓣.C 𝓣.Λ fn (us p') Post $ alloc_all ! (λ l. pass_all ! refl ((tt, tt), (link_good p', ((tt, record { fits = are.1.1.0.1 }), tt))) $ let Ev = env fn.locals l in
     opens ! tt Lo b' o' (λ ts. move ! (1 ∷ []) $ fsplit ! $
-    rewrite ! 1 (λ (u : Ptr × List Names). ‵ (laid R token u.0 u.1 h.left)) (λ k. (asked.0 k, asked.2.2 k)) refl $ move ! (1 ∷ []) $ let Rooms : Fml = rooms R b e in let Less : Fml = laid R token p cs (suc h.left) in
+    rewrite ! 1 (λ (u : Ptr × List Names). ‵ (laid R token u.0 u.1 h.left)) (λ k. (asked.0.0 k, end.2 k)) refl $ move ! (1 ∷ []) $ let Rooms : Fml = rooms R b e in let Less : Fml = laid R token p cs (suc h.left) in
     use1 𝓛 (given (length cs * stride R < 2 ^ 63) (‵ (still R b γ e) ⊛ raw (base.Logic.wand 𝓤 (sem 𝓛 Rooms) (sem 𝓛 Less)))) (parts.last_cell 𝓛 R token p cs γ h.left e (ap (λ (z : ℕ). z * stride R + count_of p) long)) $ learn ! (λ low.
     let small : j * stride R < 2 ^ 64 = (let x : j * stride R < 2 ^ 63 = subst (λ (z : ℕ). z * stride R < 2 ^ 63) (sym long) low in omega arith) in split ! $ fpick ! (λ r. fsplit3 ! $
     first ! $ blocks ! $ sets ! (is ! (bin ! (get ! refl) (size_word !) (record { fits = subst (λ (j : ℕ). j < 2 ^ 64) (sym (uncapped j (stride R) small)) small })) (ap (vint w64) (uncapped j (stride R) small))) refl (tt, record { fits = small }) $
@@ -74,7 +74,7 @@ pop_spec 𝓤 𝓛 𝓜 𝓡 wired T Al L _ ga da dd _ _ =
     use1 𝓛 (given (lib.Dec.T (has_ty (ty_int w64) (vint w64 n)) × WT (vint w64 n)) (‵ (word b (e + 0) n))) (𝓛.laws.at_wt full_share (ty_int w64) b (e + 0) (vint w64 n)) $ learn ! (λ g.
     sets ! (addr ! (through ! refl (fld ! refl (stop !)))) refl (tt, tt) $ sets ! (of_opd ! (load ! (through ! refl (stop !)) (look_raw ! 0 refl))) refl g $
     let End = post 𝓤 H (at_ret Ev Post) in let Q = any_q (after_block 𝓤 H (after_seq 𝓤 H (Wp 𝓤 H 𝓣.C 𝓣.Λ Ev (tail fn.body) End) End)) in let last = tail (tail (tail (tail (tail (tail (first_block fn.body)))))) in
-    let h' : Lo.Denot = record { marker = h.marker; heap = h.heap; at = p; cells = cs; left = suc h.left } in let Kept : Type 0 = (h.heap ≡ h.heap) × (p ≡ h.at) × (suc h.left ≡ h.left + 1) × ((k : Names) × (h.cells ≡ cs ++ k ∷ [])) in
+    let h' : Lo.Denot = record { marker = h.marker; heap = h.heap; at = p; cells = cs; left = suc h.left } in let Kept : Type 0 = (h.heap ≡ h.heap) × (p ≡ h.at) × HasOneMore cs h.cells × (suc h.left ≡ h.left + 1) in
     -- [the word; the room; the names; the way back; ..]
     sets ! (bin ! (get ! refl) (lit ! tt) tt) refl (tt, tt) $ first ! $ branches ! (get ! refl)
     (λ hit. move ! (1 ∷ 2 ∷ []) $ use2 𝓛 (‵ (fex R.Denot (λ x. part_at R full_share x b i))) (parts.filled_at 𝓛 R token γ b i r (eqb→eq n 2 hit)) $ fpick ! (λ x. spread m ! LR x b i (λ v good. let val : Val = live 1 (vcons v vnil) in
@@ -85,12 +85,12 @@ pop_spec 𝓤 𝓛 𝓜 𝓡 wired T Al L _ ga da dd _ _ =
     move ! (1 ∷ []) $ use1 𝓛 (‵ (froom (bare (layout T)) b i)) (𝓛.laws.at_room (bare (layout T)) b i v) $ move ! (2 ∷ []) $ use1 𝓛 (‵ (froom (ty_int w64) b (e + 0))) (𝓛.laws.at_room (ty_int w64) b (e + 0) (vint w64 n)) $
     nothing ! $ move ! (1 ∷ 2 ∷ 0 ∷ []) $ fjoin3 ! $ move ! (0 ∷ 2 ∷ []) $ use2 𝓛 (‵ Less) (apply∗ 𝓤 (sem 𝓛 Rooms) (sem 𝓛 Less)) $
     move ! (2 ∷ 0 ∷ []) $ fjoin ! $ move ! (2 ∷ 0 ∷ 3 ∷ 4 ∷ 5 ∷ []) $ closes ! tt Lo h' ts b' o' $ feq_i ! (List Val) (vptr b' o' ∷ []) (vptr b' o' ∷ []) refl $ fjoin3 ! $ nothing ! $ nothing ! $ fjoin ! $ nothing ! $ fjoin ! $ move ! (1 ∷ 0 ∷ []) $ fjoin ! $ move ! (1 ∷ 3 ∷ []) $ join ! $
-    use0 𝓛 (raw (fact 𝓤 Kept)) (fact_i 𝓤 Kept (emp 𝓤) (refl, sym asked.0, omega arith, (γ, asked.2.2))) $
+    use0 𝓛 (raw (fact 𝓤 Kept)) (fact_i 𝓤 Kept (emp 𝓤) (refl, sym asked.0.0, (γ, end.2), omega arith)) $
     returns ! (look_at ! 0 refl) $ free_all ! refl $ keep ! (1 ∷ 2 ∷ 3 ∷ 0 ∷ []) $ by ! (leaves 𝓛 En hs c y val (Some x) (h', (tt, (tt, tt))) (tt, (tt, (tt, tt))))))))
     (λ miss. let val : Val = live 0 vnil in sets_last ! (agg ! (and_then ! (lit ! tt) (no_more !))) refl (tt, (record { fits = lit< tt }, tt)) $ exec ! 𝓣.C 𝓣.Λ Ev last Q $ sets_last ! (of_opd ! (get ! refl)) refl (tt, (record { fits = lit< tt }, tt)) $
     exec ! 𝓣.C 𝓣.Λ Ev (tail fn.body) (at_ret Ev Post) $ sets ! (of_opd ! (get ! refl)) refl (tt, (record { fits = lit< tt }, tt)) $
     move ! (1 ∷ []) $ use1 𝓛 (‵ (froom (bare (layout T)) b i)) (parts.emptied T L 𝓛 b i r.1) $ move ! (1 ∷ []) $ use1 𝓛 (‵ (froom (ty_int w64) b (e + 0))) (𝓛.laws.at_room (ty_int w64) b (e + 0) (vint w64 n)) $
     nothing ! $ move ! (1 ∷ 2 ∷ 0 ∷ []) $ fjoin3 ! $ move ! (0 ∷ 2 ∷ []) $ use2 𝓛 (‵ Less) (apply∗ 𝓤 (sem 𝓛 Rooms) (sem 𝓛 Less)) $
     move ! (2 ∷ 0 ∷ []) $ fjoin ! $ move ! (2 ∷ 0 ∷ 3 ∷ 4 ∷ 5 ∷ []) $ closes ! tt Lo h' ts b' o' $ feq_i ! (List Val) (vptr b' o' ∷ []) (vptr b' o' ∷ []) refl $ fjoin3 ! $ nothing ! $ nothing ! $ fjoin ! $ nothing ! $ fjoin ! $ move ! (1 ∷ 0 ∷ []) $ fjoin ! $ move ! (1 ∷ 3 ∷ []) $ join ! $ use0 𝓛 (‵ (O.own_val None (val ∷ []))) (none_of 𝓛 R) $ move ! (1 ∷ 2 ∷ 0 ∷ []) $
-    use0 𝓛 (raw (fact 𝓤 Kept)) (fact_i 𝓤 Kept (emp 𝓤) (refl, sym asked.0, omega arith, (γ, asked.2.2))) $
+    use0 𝓛 (raw (fact 𝓤 Kept)) (fact_i 𝓤 Kept (emp 𝓤) (refl, sym asked.0.0, (γ, end.2), omega arith)) $
     returns ! (look_at ! 0 refl) $ free_all ! refl $ keep ! (1 ∷ 2 ∷ 3 ∷ 0 ∷ []) $ by ! (leaves 𝓛 En hs c y val None (h', (tt, (tt, tt))) (tt, (tt, (tt, tt))))))))))))

@@ -10,8 +10,8 @@ use denote.Struct.Laws.{field_copy}
 use denote.Struct.Lending.{of_Lends}
 use Rattle.core.specs.contracts.marker.PhantomData as P
 use Rattle.core.specs.declared.alloc.Allocator as Allocator
-use Rattle.cell_core.specs.contracts.blocks.steps.Laid as C
-use Rattle.cell_core.proofs.blocks.steps.Laid.TheLaw.Statement.{statement}
+use Rattle.cell_core.specs.contracts.block.steps.Laid as C
+use Rattle.cell_core.proofs.block.steps.Laid.TheLaw.Statement.{statement}
 use Rattle.cell_core.proofs.LaidParts.{laid_laws, lends_laid}
 
 pub shares : (T Z : RattleType) (ga : Allocator.Ghosts Z.Denot) (L : Laws T) (L₁ : Laws Z) → statement T Z ga L L₁

@@ -19,10 +19,10 @@ use Rattle.atomic_table.proofs.Walks.{proved, leaves}
 use Rattle.cell_core.specs.Laid.{stride}
 use denote.Param.{layouts}
 use prog.Memory.{capped}
-use Rattle.cell_core.specs.contracts.blocks.steps.cell_size.{ended, clauses}
-use Rattle.cell_core.specs.contracts.blocks.steps.cell_size.Key.{name as #self}
-use Rattle.cell_core.proofs.blocks.steps.cell_size.Statement.{statement}
-use Rattle.cell_core.proofs.blocks.steps.cell_size.Code as code
+use Rattle.cell_core.specs.contracts.block.steps.cell_size.{ended, clauses}
+use Rattle.cell_core.specs.contracts.block.steps.cell_size.Key.{name as #self}
+use Rattle.cell_core.proofs.block.steps.cell_size.Statement.{statement}
+use Rattle.cell_core.proofs.block.steps.cell_size.Code as code
 
 pub cell_size_spec : {M : Type 1} → statement M
 cell_size_spec 𝓤 𝓛 𝓜 𝓡 wired T L =

@@ -26,17 +26,17 @@ use Rattle.core.proofs.atomic.Steps.{tail}
 use Rattle.atomic_table.proofs.Walks.{proved, leaves}
 use Rattle.cell_core.specs.Slot.{Names, shared_at}
 use Rattle.cell_core.specs.Laid.{stride, along_lent, cell_in}
-use Rattle.cell_core.specs.contracts.blocks.steps.Link as link
-use Rattle.cell_core.specs.contracts.blocks.steps.Laid as loose
+use Rattle.cell_core.specs.contracts.block.steps.Link as link
+use Rattle.cell_core.specs.contracts.block.steps.Laid as loose
 use Rattle.cell_core.proofs.LaidMade.{link_val, link_told, link_good, uncapped}
 use Rattle.cell_core.proofs.LaidParts as parts
 use denote.Opens.{hide, unhide}
 use denote.Memory.{shared_of}
 use Rattle.cell_core.specs.contracts.slot.steps.Slot as cell
-use Rattle.cell_core.specs.contracts.blocks.steps.Laid.cell.{ended, clauses}
-use Rattle.cell_core.specs.contracts.blocks.steps.Laid.cell.Key.{name as #self}
-use Rattle.cell_core.proofs.blocks.steps.Laid.cell.Statement.{statement}
-use Rattle.cell_core.proofs.blocks.steps.Laid.cell.Code as code
+use Rattle.cell_core.specs.contracts.block.steps.Laid.cell.{ended, clauses}
+use Rattle.cell_core.specs.contracts.block.steps.Laid.cell.Key.{name as #self}
+use Rattle.cell_core.proofs.block.steps.Laid.cell.Statement.{statement}
+use Rattle.cell_core.proofs.block.steps.Laid.cell.Code as code
 
 pub cell_spec : {M : Type 1} → statement M
 cell_spec 𝓤 𝓛 𝓜 𝓡 wired T Al L _ ga da dd _ _ =

@@ -28,8 +28,8 @@ use Rattle.atomic_table.proofs.Calls.{fm}
 use Rattle.cell_core.specs.Slot.{Names}
 use denote.RawPtr.{RawPtr}
 use Rattle.cell_core.specs.Laid.{laid, cell_ty, row_ty, stride, Fits}
-use Rattle.cell_core.specs.contracts.blocks.steps.Link as link
-use Rattle.cell_core.specs.contracts.blocks.steps.Laid as loose
+use Rattle.cell_core.specs.contracts.block.steps.Link as link
+use Rattle.cell_core.specs.contracts.block.steps.Laid as loose
 use Rattle.cell_core.proofs.LaidMade.{token_val, link_val, token_told, link_told, link_good, uncapped, row_size, row_align}
 use Rattle.cell_core.proofs.LaidParts as parts
 use base.Fml.{froom, Incl-trans}
@@ -39,10 +39,10 @@ use contract.BorrowLft.{◌⊑◌}
 use types.Run.{align_word}
 use denote.Triple.Call.{calls_at_last}
 use Rattle.core.proofs.alloc.Calls.{Al as Handle, Gives, at_gives, Gives-goes, Gives-Gives}
-use Rattle.cell_core.specs.contracts.blocks.steps.Laid.release.{ended, clauses}
-use Rattle.cell_core.specs.contracts.blocks.steps.Laid.release.Key.{name as #self}
-use Rattle.cell_core.proofs.blocks.steps.Laid.release.Statement.{statement}
-use Rattle.cell_core.proofs.blocks.steps.Laid.release.Code as code
+use Rattle.cell_core.specs.contracts.block.steps.Laid.release.{ended, clauses}
+use Rattle.cell_core.specs.contracts.block.steps.Laid.release.Key.{name as #self}
+use Rattle.cell_core.proofs.block.steps.Laid.release.Statement.{statement}
+use Rattle.cell_core.proofs.block.steps.Laid.release.Code as code
 
 pub release_spec : {M : Type 1} → statement M
 release_spec 𝓤 𝓛 𝓜 𝓡 wired T Al L LA ga da dd met _ =

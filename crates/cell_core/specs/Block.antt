@@ -1,0 +1,69 @@
+-- A block of cells as callers see it, and what is seen of its pens and tokens.
+use Rattle.std.specs.Prelude.{◌≡◌, ℕ, ◌<◌, List, length}
+use base.Stored.{Coded, coded×, coded_ℕ, coded_list, coded_via}
+use Rattle.cell_core.specs.Slot.{Names, names_coded}
+use Rattle.cell_core.specs.Laid.{cell_in}
+
+-- a block: the names of each cell
+pub record BlockView : Type 0 where
+  pub cells : List Names
+
+abbrev pub block_coded : Coded BlockView
+block_coded = coded_via (coded_list names_coded) (λ (b : BlockView). b.cells) (λ x y e i. record { cells = e i })
+
+-- the right to write a cell: its place, and the names of the cell
+pub record PenView : Type 0 where
+  pub place : ℕ
+  pub cell : Names
+
+abbrev pub pen_coded : Coded PenView
+pen_coded = coded_via (coded× coded_ℕ names_coded) (λ (p : PenView). (p.place, p.cell)) (λ x y e i. record { place = (e i).0; cell = (e i).1 })
+
+-- the token of a filled cell: its place, its value, and the name that the value has
+pub record PlacedView (T : Type 0) : Type 0 where
+  pub place : ℕ
+  pub value : T
+  pub name : ℕ
+
+abbrev pub placed_coded : {T : Type 0} → Coded T → Coded (PlacedView T)
+placed_coded {T} c =
+    coded_via (coded× coded_ℕ (coded× c coded_ℕ)) (λ (p : PlacedView T). (p.place, (p.value, p.name)))
+    (λ x y e i. record { place = (e i).0; value = (e i).1.0; name = (e i).1.1 })
+
+-- the token of a broken cell: its place, and the name that says so
+pub record SpoiltView : Type 0 where
+  pub place : ℕ
+  pub name : ℕ
+
+-- how many cells the block has
+abbrev pub block_len : BlockView → ℕ
+block_len block = length block.cells
+
+-- the names of the cell at the place
+abbrev pub cell_at : BlockView → ℕ → Names
+cell_at block place = cell_in block.cells place
+
+-- the pen is for the cell at the place
+pub record IsPenAt (block : BlockView) (place : ℕ) (pen : PenView) : Type 0 where
+  pub at : pen.place ≡ place
+  pub cell : pen.cell ≡ cell_at block place
+
+-- the token is of a cell of the block
+pub record IsPlacedIn {T : Type 0} (block : BlockView) (placed : PlacedView T) : Type 0 where
+  pub within : placed.place < block_len block
+  pub named : placed.name ≡ (cell_at block placed.place).value
+
+-- the same for a broken cell
+pub record IsSpoiltIn (block : BlockView) (spoilt : SpoiltView) : Type 0 where
+  pub within : spoilt.place < block_len block
+  pub named : spoilt.name ≡ (cell_at block spoilt.place).breach
+
+-- the token is of the cell at the place
+pub record IsPlacedAt {T : Type 0} (block : BlockView) (place : ℕ) (placed : PlacedView T) : Type 0 where
+  pub of : IsPlacedIn block placed
+  pub at : placed.place ≡ place
+
+-- the same for a broken cell
+pub record IsSpoiltAt (block : BlockView) (place : ℕ) (spoilt : SpoiltView) : Type 0 where
+  pub of : IsSpoiltIn block spoilt
+  pub at : spoilt.place ≡ place

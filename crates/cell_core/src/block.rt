@@ -1,0 +1,171 @@
+//! A block of cells, laid raw in one row: each is a state word and room for one value.
+ghost use Rattle.std.specs.Prelude.{◌≡◌, ◌≢◌, ◌<◌, IfOk, IfErr};
+ghost use Rattle.cell_core.specs.Block.{block_len, cell_at, IsPenAt, IsPlacedIn, IsSpoiltIn};
+ghost use Rattle.cell_core.specs.Shown.{IsFoundAt, IsLookAt};
+
+mod pen;
+mod placed;
+mod shown;
+mod spoilt;
+mod steps;
+
+use crate::slot::steps::Slot;
+pub use pen::Pen;
+pub use placed::Placed;
+pub use shown::{Found, Look};
+pub use spoilt::Spoilt;
+use std::alloc::{AllocError, Allocator, Global};
+use std::marker::Model;
+use steps::{Laid, Link};
+
+/// Cells that are each filled or broken once, and stay so. Beside its value a cell has one word.
+pub struct Block<T, A: Allocator = Global> {
+    alloc: A,
+    link: Link<T>,
+    laid: Laid<T, A>,
+    len: u64,
+}
+
+impl<T, A: Allocator> Model for Block<T, A> {
+    ghost use Rattle.cell_core.specs.Block.{BlockView, block_coded};
+    ghost use Rattle.cell_core.specs.Laid.{IsLinked};
+    ghost use Rattle.std.specs.Prelude.{◌≡◌, length};
+
+    ghost Value = { BlockView };
+
+    ghost coded = { block_coded };
+
+    ghost view = { λ b. record { cells = b.laid.cells } };
+
+    ghost invariant = { λ b. (b.laid.heap ≡ b.alloc) × IsLinked b.laid.at b.link.ptr
+        × (length b.laid.cells ≡ b.len) × (b.laid.left ≡ 0) };
+}
+
+impl<T, A: Allocator> Block<T, A> {
+    /// A block of `n` empty cells. It takes time and memory linear in `n`.
+    pub fn new(alloc: A, n: u64) -> Result<Block<T, A>, AllocError>
+        ensures { IfOk result (λ block. block_len block ≡ n) }
+    {
+        let (link, mut laid) = Laid::reserve(&alloc, n as usize)?;
+        for index in 0..n as usize {
+            laid.push(link, index);
+        }
+        Ok(Block {
+            alloc,
+            link,
+            laid,
+            len: n,
+        })
+    }
+
+    /// How many cells it has.
+    pub fn len(&self) -> u64
+        ensures { result ≡ block_len self.now }
+    {
+        self.len
+    }
+
+    fn cell(&self, place: u64) -> &Slot<T>
+        requires { place < block_len self.now }
+        ensures { result.now ≡ cell_at self.now place }
+    {
+        self.laid.cell(self.link, place as usize)
+    }
+
+    /// One exchange from empty to busy. The pen is the right to fill or break the cell.
+    pub fn begin(&self, place: u64) -> Result<Pen<'_, T>, Found<T>>
+        requires { place < block_len self.now }
+        ensures pen { IfOk result (IsPenAt self.now place) }
+        ensures found { IfErr result (IsFoundAt self.now place) }
+    {
+        match self.cell(place).claim() {
+            (0, claim) => Ok(Pen { place, claim }),
+            (2, claim) => Err(Found::Filled(Placed {
+                place,
+                written: claim.written(),
+            })),
+            (3, claim) => Err(Found::Broken(Spoilt {
+                place,
+                crack: claim.crack(),
+            })),
+            (_, claim) => {
+                claim.done();
+                Err(Found::Busy)
+            }
+        }
+    }
+
+    /// What the cell shows now. It waits for nobody.
+    pub fn look(&self, place: u64) -> Look<'_, T>
+        requires { place < block_len self.now }
+        ensures { IsLookAt self.now place result }
+    {
+        let cell = self.cell(place);
+        match cell.sight() {
+            (0, sight) => {
+                sight.unused();
+                Look::Empty
+            }
+            (2, sight) => {
+                let written = sight.written();
+                Look::Filled(cell.value(&written), Placed { place, written })
+            }
+            (3, sight) => Look::Broken(Spoilt {
+                place,
+                crack: sight.crack(),
+            }),
+            (_, sight) => {
+                sight.unused();
+                Look::Busy
+            }
+        }
+    }
+
+    /// The token's value.
+    pub fn value<'a>(&'a self, placed: &Placed<T>) -> &'a T
+        requires { IsPlacedIn self.now placed.now }
+        ensures { result.now ≡ placed.now.value }
+    {
+        self.cell(placed.place).value(&placed.written)
+    }
+
+    /// Two tokens of one place have one value. It tells a proof so.
+    pub fn agree(&self, a: &Placed<T>, b: &Placed<T>)
+        requires a { IsPlacedIn self.now a.now }
+        requires b { IsPlacedIn self.now b.now }
+        ensures { a.now.place ≡ b.now.place → a.now.value ≡ b.now.value }
+    {
+        if a.place == b.place {
+            a.written.agrees(&b.written);
+        }
+    }
+
+    /// A filled cell is not a broken one. It tells a proof so.
+    pub fn apart(&self, placed: &Placed<T>, spoilt: &Spoilt)
+        requires placed { IsPlacedIn self.now placed.now }
+        requires spoilt { IsSpoiltIn self.now spoilt.now }
+        ensures { placed.now.place ≢ spoilt.now.place }
+    {
+        if placed.place == spoilt.place {
+            let cell = self.cell(placed.place);
+            cell.never_both(&placed.written, &spoilt.crack);
+        }
+    }
+}
+
+impl<T: Drop, A: Allocator> Drop for Block<T, A> {
+    fn drop(self) {
+        let Block {
+            alloc,
+            link,
+            mut laid,
+            len,
+        } = self;
+        let mut count = len as usize;
+        'cells: while count > 0 {
+            count -= 1;
+            drop(laid.pop(link, count));
+        }
+        laid.release(&alloc, link, len as usize);
+    }
+}

@@ -1,0 +1,53 @@
+// The right to write a cell.
+ghost use Rattle.std.specs.Prelude.{◌≡◌};
+
+use crate::block::placed::Placed;
+use crate::block::spoilt::Spoilt;
+use crate::slot::steps::Claim;
+use std::marker::Model;
+
+/// The right to fill or break the cell at a place, which is busy meanwhile. It must be spent by one of the two.
+pub struct Pen<'a, T> {
+    pub(crate) place: u64,
+    pub(crate) claim: Claim<'a, T>,
+}
+
+impl<'a, T> Model for Pen<'a, T> {
+    ghost use Rattle.std.specs.Prelude.{◌≡◌};
+    ghost use Rattle.cell_core.specs.Block.{PenView, pen_coded};
+
+    ghost Value = { PenView };
+
+    ghost coded = { pen_coded };
+
+    ghost view = { λ p. record { place = p.place; cell = p.claim.of } };
+
+    ghost invariant = { λ p. p.claim.found ≡ 0 };
+}
+
+impl<'a, T> Pen<'a, T> {
+    /// Writes the value, and then the state, which shows it to all.
+    pub fn fill(self, value: T) -> Placed<T>
+        ensures place { result.place ≡ self.entry.place }
+        ensures value { result.value ≡ value }
+        ensures name { result.name ≡ self.entry.cell.value }
+    {
+        let Pen { place, claim } = self;
+        Placed {
+            place,
+            written: claim.fill(value),
+        }
+    }
+
+    /// Breaks the cell: it never holds a value.
+    pub fn spoil(self) -> Spoilt
+        ensures place { result.place ≡ self.entry.place }
+        ensures name { result.name ≡ self.entry.cell.breach }
+    {
+        let Pen { place, claim } = self;
+        Spoilt {
+            place,
+            crack: claim.spoil(),
+        }
+    }
+}

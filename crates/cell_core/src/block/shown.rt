@@ -1,0 +1,27 @@
+// What the calls of a block answer of a cell.
+use crate::block::placed::Placed;
+use crate::block::spoilt::Spoilt;
+
+/// What stood in a cell that another call began.
+#[derive(Debug, Drop)]
+pub enum Found<T> {
+    /// Nothing yet: a pen is out.
+    Busy,
+    /// A value.
+    Filled(Placed<T>),
+    /// None: it is broken.
+    Broken(Spoilt),
+}
+
+/// What a cell shows.
+#[derive(Debug, Drop)]
+pub enum Look<'a, T> {
+    /// Nothing: nobody began it.
+    Empty,
+    /// Nothing yet: a pen is out.
+    Busy,
+    /// A value.
+    Filled(&'a T, Placed<T>),
+    /// None: it is broken.
+    Broken(Spoilt),
+}

@@ -1,2 +1,0 @@
-// A block: one row of cells, laid raw.
-mod steps;

@@ -1,9 +1,10 @@
 -- The parts of a row of raw cells: a cell more, a cell less, and what a `&` to the row shows. Assumes `Logic`.
-use Rattle.std.proofs.Common.{◌≡◌, ℕ, zero, suc, ◌+◌, ◌*◌, ◌^◌, ◌<◌, ◌≤◌, mul-le-mul_right, length-append, List, [], ◌∷◌, ◌++◌, length, sym, refl, ap, ◌∙◌, subst, arith, suc-mul, zero-mul, w64}
+use Rattle.std.proofs.Common.{◌≡◌, ℕ, zero, suc, ◌+◌, ◌*◌, ◌^◌, ◌<◌, ◌≤◌, mul-le-mul_right, length-append, List, [], ◌∷◌, ◌++◌, length, set, length-set, sym, refl, ap, ◌∙◌, subst, arith, suc-mul, zero-mul, w64}
 use seplogic.Ra.Ura.{Ura}
 use mir.Syntax.{Ty, ty_int, ty_array}
 use mir.Raw.{raw as bare}
-use base.Logic.{SProp, ent, sep, wand, all, guard, apply∗}
+use types.Kit as Kit
+use base.Logic.{SProp, ent, sep, wand, all, all_e, guard, apply∗}
 use base.Fml.{Lft, Incl, Fml, ftrue, fsep, froom}
 use prog.Memory.{size, up}
 use prog.RawLaws.{size-raw, align-raw}
@@ -115,6 +116,35 @@ module _ {M : Type 1} {𝓤 : Ura M} (𝓛 : Logic 𝓤) (R : RattleType) (token
       move ! (2 ∷ []) $ fsplit ! $ rewrite ! 0 (λ (i : ℕ). ‵ (froom (ty_array τ left) b i)) next refl $ rewrite ! 1 (λ (z : ℕ). ‵ (token (row_ty R z) p)) same refl $ move ! (2 ∷ 0 ∷ []) $
       use2 𝓛 (‵ (froom (ty_array τ (suc left)) b e)) (𝓛.laws.room_cons τ left b e) $ rewrite ! 0 (λ (i : ℕ). ‵ (froom (ty_array τ (suc left)) b i)) is refl $ move ! (2 ∷ 0 ∷ 1 ∷ []) $ fjoin3 ! $
       nothing ! $ fpack ! (InBlock p × Fits R (k + suc left)) (λ _. ftrue) (so.0, subst (Fits R) same so.1) $ done !)
+
+  abbrev Renamed : (Names → ℕ → Fml) → List Names → ℕ → ℕ → ℕ → Names → Pr
+  Renamed G cs i e e' c = ⟦ G c e' ⟧ -∗ ⟦ along R G (set cs i c) e ⟧
+
+  along_at : (G : Names → ℕ → Fml) (cs : List Names) (i e e' : ℕ) → e' ≡ i * s + e → i < length cs
+      → ⟦ along R G cs e ⟧ ⊢ ⟦ G (cell_in cs i) e' ⟧ ∗ all 𝓤 (Renamed G cs i e e')
+  along_at G [] i e e' is near = absurd (omega arith)
+  along_at G (γ ∷ γs) zero e e' is near = let z = zero-mul s in let same : e ≡ e' = omega arith in
+      qed 𝓛 (‵ (G γ e) ∷ ‵ (along R G γs (e + s)) ∷ []) ∵ rewrite ! 0 (λ (j : ℕ). ‵ (G γ j)) same refl $ frame ! $ each ! (Renamed G (γ ∷ γs) zero e e') (λ c.
+      assume ! (‵ (G c e')) $ rewrite ! 0 (λ (j : ℕ). ‵ (G c j)) (sym same) refl $ done !)
+  along_at G (γ ∷ γs) (suc i) e e' is near = let z = suc-mul i s in let Back : Names → Pr = Renamed G γs i (e + s) e' in
+      qed 𝓛 (‵ (G γ e) ∷ ‵ (along R G γs (e + s)) ∷ []) ∵ move ! (1 ∷ []) $ use1 𝓛 (‵ (G (cell_in γs i) e') ⊛ Kit.raw (all 𝓤 Back)) (along_at G γs i (e + s) e' (omega arith) (omega arith)) $ split ! $ frame ! $
+      each ! (Renamed G (γ ∷ γs) (suc i) e e') (λ c. assume ! (‵ (G c e')) $ move ! (1 ∷ []) $ use1 𝓛 (Kit.raw (Back c)) (all_e 𝓤 Back c) $ move ! (1 ∷ 0 ∷ []) $
+      use2 𝓛 (‵ (along R G (set γs i c) (e + s))) (apply∗ 𝓤 ⟦ G c e' ⟧ ⟦ along R G (set γs i c) (e + s) ⟧) $ move ! (1 ∷ 0 ∷ []) $ done !)
+
+  abbrev pub Emptied : Ptr → List Names → ℕ → ℕ → ℕ → Names → Pr
+  Emptied p cs left i e c = ⟦ still R (block_of p) c e ⟧ -∗ ⟦ laid R token p (set cs i c) left ⟧
+
+  -- the cell at an index, which comes back under any names
+  pub cell_at : (p : Ptr) (cs : List Names) (left i e : ℕ) → e ≡ i * s + count_of p → i < length cs → ⟦ laid R token p cs left ⟧
+      ⊢ guard 𝓤 (i * s < 2 ^ 63) (⟦ still R (block_of p) (cell_in cs i) e ⟧ ∗ all 𝓤 (Emptied p cs left i e))
+  cell_at p cs left i e is near = let b : ℕ = block_of p in let o : ℕ = count_of p in let k : ℕ = length cs in let Back : Names → Pr = Renamed (owned R b) cs i o e in
+      let Rest : ℕ → Fml = λ m. fsep (froom (ty_array τ left) b (m * s + o)) (token (row_ty R (m + left)) p) in
+      qed 𝓛 (‵ (laid R token p cs left) ∷ []) ∵ fsplit ! $ fpick ! (λ so. drop ! $ check ! (within i (k + left) (omega arith) so.1) $ fsplit ! $
+      use1 𝓛 (‵ (owned R b (cell_in cs i) e) ⊛ Kit.raw (all 𝓤 Back)) (along_at (owned R b) cs i o e is near) $ split ! $ fsplit ! $ frame ! $
+      each ! (Emptied p cs left i e) (λ c. let m : ℕ = length (set cs i c) in let same : k ≡ m = sym (length-set cs i c) in
+      assume ! (‵ (still R b c e)) $ move ! (0 ∷ 1 ∷ []) $ fjoin ! $ move ! (1 ∷ []) $ use1 𝓛 (Kit.raw (Back c)) (all_e 𝓤 Back c) $ move ! (1 ∷ 0 ∷ []) $
+      use2 𝓛 (‵ (along R (owned R b) (set cs i c) o)) (apply∗ 𝓤 ⟦ owned R b c e ⟧ ⟦ along R (owned R b) (set cs i c) o ⟧) $
+      rewrite ! 1 (λ (j : ℕ). ‵ (Rest j)) same refl $ fjoin ! $ nothing ! $ fpack ! (InBlock p × Fits R (m + left)) (λ _. ftrue) (so.0, subst (λ (j : ℕ). Fits R (j + left)) same so.1) $ done !))
 
   lends_along : (L : Laws R) (l : Lft) → Incl l R.lives → (b : ℕ) (γs : List Names) (e : ℕ) → Lends 𝓛 (along R (owned R b) γs e) (along_lent R b γs e) l
   lends_along L l inc b [] e = Lends-nothing 𝓛 ftrue l

@@ -1,5 +1,5 @@
 -- A block of cells as callers see it, and what is seen of its pens and tokens.
-use Rattle.std.specs.Prelude.{◌≡◌, ℕ, ◌<◌, List, length}
+use Rattle.std.specs.Prelude.{◌≡◌, ◌≢◌, ℕ, ◌<◌, List, length}
 use base.Stored.{Coded, coded×, coded_ℕ, coded_list, coded_via}
 use Rattle.cell_core.specs.Slot.{Names, names_coded}
 use Rattle.cell_core.specs.Laid.{cell_in}
@@ -67,3 +67,7 @@ pub record IsPlacedAt {T : Type 0} (block : BlockView) (place : ℕ) (placed : P
 pub record IsSpoiltAt (block : BlockView) (place : ℕ) (spoilt : SpoiltView) : Type 0 where
   pub of : IsSpoiltIn block spoilt
   pub at : spoilt.place ≡ place
+
+-- each cell but the one at the place keeps its names
+abbrev pub KeepsOthers : BlockView → BlockView → ℕ → Type 0
+KeepsOthers old new place = (q : ℕ) → q ≢ place → cell_at new q ≡ cell_at old q

@@ -1,5 +1,5 @@
 -- What a row of raw cells owns and lends.
-use Rattle.std.specs.Prelude.{◌≡◌, ℕ, ◌+◌, ◌*◌, ◌^◌, ◌<◌, List, [], ◌∷◌, ◌++◌, length, get_or}
+use Rattle.std.specs.Prelude.{◌≡◌, ℕ, ◌+◌, ◌*◌, ◌^◌, ◌<◌, List, [], ◌∷◌, ◌++◌, length, get_or, slice_set}
 use base.Fml.{Lft, Fml, ftrue, fsep, fex, fwand, froom}
 use mir.Syntax.{Ty, w64, ty_int, ty_array, ty_struct, tcons, tnil}
 use mir.Raw.{raw}
@@ -17,6 +17,10 @@ IsLinked at link = (at ≡ link) × (link ≡ block_ptr (block_of link) (count_o
 -- the new cells are the old ones, and one more
 abbrev pub HasOneMore : List Names → List Names → Type 0
 HasOneMore old new = (n : Names) × (new ≡ old ++ n ∷ [])
+
+-- the cell at the index has new names, and each other cell keeps its own
+abbrev pub HasOneRenamed : List Names → ℕ → List Names → Type 0
+HasOneRenamed old i new = (n : Names) × (new ≡ slice_set old i n)
 
 module _ (R : RattleType) where
   abbrev pub cell_ty : Ty

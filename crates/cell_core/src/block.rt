@@ -1,6 +1,6 @@
 //! A block of cells, laid raw in one row: each is a state word and room for one value.
 ghost use Rattle.std.specs.Prelude.{◌≡◌, ◌≢◌, ◌<◌, IfOk, IfErr};
-ghost use Rattle.cell_core.specs.Block.{block_len, cell_at, IsPenAt, IsPlacedIn, IsSpoiltIn};
+ghost use Rattle.cell_core.specs.Block.{block_len, cell_at, IsPenAt, IsPlacedIn, IsSpoiltIn, KeepsOthers};
 ghost use Rattle.cell_core.specs.Shown.{IsFoundAt, IsLookAt};
 
 mod pen;
@@ -150,6 +150,15 @@ impl<T, A: Allocator> Block<T, A> {
             let cell = self.cell(placed.place);
             cell.never_both(&placed.written, &spoilt.crack);
         }
+    }
+
+    /// The value of the cell, if it holds one. After it the cell is empty, and is another one: older tokens are not of it.
+    pub fn take(&mut self, place: u64) -> Option<T>
+        requires { place < block_len self.old }
+        ensures len { block_len self.new ≡ block_len self.old }
+        ensures others { KeepsOthers self.old self.new place }
+    {
+        self.laid.take(self.link, place as usize)
     }
 }
 

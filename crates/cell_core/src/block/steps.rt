@@ -4,7 +4,7 @@ ghost use base.Stored.{coded_list};
 ghost use prog.Memory.{capped};
 ghost use denote.RawPtr.{Ptr, coded_ptr};
 ghost use Rattle.cell_core.specs.Slot.{Names, names_coded};
-ghost use Rattle.cell_core.specs.Laid.{laid, laid_lent, stride, Fits, IsLinked, HasOneMore, cell_in};
+ghost use Rattle.cell_core.specs.Laid.{laid, laid_lent, stride, Fits, IsLinked, HasOneMore, HasOneRenamed, cell_in};
 
 use crate::slot::steps::Slot;
 use std::alloc::{AllocError, Allocator};
@@ -121,6 +121,24 @@ impl<T, A: Allocator> Laid<T, A> {
         unsafe {
             let place = link.ptr.add(index);
             let word = (&raw const (*place).state).read();
+            if word == 2 {
+                Some((&raw const (*place).room).read())
+            } else {
+                None
+            }
+        }
+    }
+
+    // The value of the cell at an index, if it holds one. The cell is empty then, and has new names.
+    pub(crate) fn take(&mut self, link: Link<T>, index: usize) -> Option<T>
+        requires { IsLinked self.old.at link.ptr × (index < length self.old.cells) }
+        ensures { (self.new.heap ≡ self.old.heap) × (self.new.at ≡ self.old.at)
+            × HasOneRenamed self.old.cells index self.new.cells × (self.new.left ≡ self.old.left) }
+    {
+        unsafe {
+            let place = link.ptr.add(index);
+            let word = (&raw const (*place).state).read();
+            (&raw mut (*place).state).write(0);
             if word == 2 {
                 Some((&raw const (*place).room).read())
             } else {

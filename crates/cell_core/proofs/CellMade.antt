@@ -1,5 +1,5 @@
 -- What the raw steps on a cell hand out, as values. Assumes `Logic`.
-use Rattle.std.proofs.Common.{◌≡◌, ℕ, suc, T, List, [], ◌∷◌, ◌++◌, refl, ap, ◌∙◌}
+use Rattle.std.proofs.Common.{arith, ◌≡◌, ℕ, suc, T, List, [], ◌∷◌, ◌++◌, refl, ap, ◌∙◌}
 use Rattle.std.specs.Prelude.{Option, Some, None}
 use seplogic.Ra.Ura.{Ura}
 use mir.Syntax.{ty_ptr, ty_struct, tcons, tnil}
@@ -26,22 +26,23 @@ use Rattle.cell_core.specs.contracts.slot.steps.Crack as Crack
 abbrev pub token_val : Val
 token_val = vstruct (vcons (vstruct vnil) vnil)
 
-abbrev pub claim_val : Ptr → Val
-claim_val p = vstruct (vcons (ptr_val p) (vcons (vstruct vnil) vnil))
+-- a pointer beside a field that has no bytes
+abbrev pub pointer_val : Ptr → Val
+pointer_val p = vstruct (vcons (ptr_val p) (vcons (vstruct vnil) vnil))
 
-pub claim_typed : (p : Ptr) → InBlock p → T (has_ty (ty_struct [] (tcons ty_ptr (tcons (ty_struct [] tnil) tnil))) (claim_val p)) × WT (claim_val p)
-claim_typed (block_ptr b o) i = (tt, (tt, (tt, tt)))
-claim_typed null_ptr i = absurd i
+pub pointer_good : (p : Ptr) → T (has_ty (ty_struct [] (tcons ty_ptr (tcons (ty_struct [] tnil) tnil))) (pointer_val p)) × WT (pointer_val p)
+pointer_good (block_ptr b o) = (tt, (tt, (tt, tt)))
+pointer_good null_ptr = (tt, (record { fits = omega arith }, (tt, tt)))
 
 module _ (a : NamedLft) (R : RattleType) where
   abbrev pub Words : RattleType
   Words = Struct (shape (Claim.the_type a R))
 
-  pub claim_told : (p : Ptr) (vs : List Val) → Is Words (p, (tt, tt)) vs → vs ≡ claim_val p ∷ []
+  pub claim_told : (p : Ptr) (vs : List Val) → Is Words (p, (tt, tt)) vs → vs ≡ pointer_val p ∷ []
   claim_told p vs is = is.1.0 ∙ ap (λ (ws : List Val). vstruct (of_list (ws ++ (is.0.1.0 ++ []))) ∷ []) is.1.1.0 ∙ ap (λ (ws : List Val). vstruct (of_list (ptr_val p ∷ (ws ++ []))) ∷ []) is.1.1.1.0.1.0
 
-  pub claim_made : {M : Type 1} {𝓤 : Ura M} (𝓛 : Logic 𝓤) (p : Ptr) → ent 𝓤 (emp 𝓤) (sem 𝓛 (Words.own_val (p, (tt, tt)) (claim_val p ∷ [])))
-  claim_made 𝓛 p = makes_shadow 𝓛 (Words.own_val (p, (tt, tt)) (claim_val p ∷ [])) (λ vss. (tt, (tt, ((λ uss. (tt, tt)), tt)))) ((ptr_val p ∷ [], (vstruct vnil ∷ [], tt)), (refl, (refl, ((tt, (refl, tt)), tt))))
+  pub claim_made : {M : Type 1} {𝓤 : Ura M} (𝓛 : Logic 𝓤) (p : Ptr) → ent 𝓤 (emp 𝓤) (sem 𝓛 (Words.own_val (p, (tt, tt)) (pointer_val p ∷ [])))
+  claim_made 𝓛 p = makes_shadow 𝓛 (Words.own_val (p, (tt, tt)) (pointer_val p ∷ [])) (λ vss. (tt, (tt, ((λ uss. (tt, tt)), tt)))) ((ptr_val p ∷ [], (vstruct vnil ∷ [], tt)), (refl, (refl, ((tt, (refl, tt)), tt))))
 
 pub sight_told : (R : RattleType) (vs : List Val) → Is (Struct (shape (Sight.the_type R))) (tt, tt) vs → vs ≡ token_val ∷ []
 sight_told R vs is = is.1.0 ∙ ap (λ (ws : List Val). vstruct (of_list (ws ++ [])) ∷ []) is.1.1.0.1.0

@@ -1,39 +1,29 @@
 -- The machine value of a link to a row, and the size of a row. Assumes `Logic`.
-use Rattle.std.proofs.Common.{zero, suc, sym, suc-mul, zero-mul, ◌≡◌, ℕ, ◌*◌, ◌^◌, ◌<◌, T, ◌≤◌, mul-le-mul, List, [], ◌∷◌, ◌++◌, refl, ap, ◌∙◌, arith}
+use Rattle.std.proofs.Common.{zero, suc, sym, suc-mul, zero-mul, ◌≡◌, ℕ, ◌*◌, ◌^◌, ◌<◌, ◌≤◌, mul-le-mul, List, [], ◌∷◌, ◌++◌, refl, ap, ◌∙◌, arith}
 use seplogic.Ra.Ura.{Ura}
-use mir.Val.{Val, vstruct, vcons, vnil, of_list, has_ty, WT}
+use mir.Val.{Val, vstruct, vnil, of_list}
 use base.Logic.{ent, emp}
-use mir.Syntax.{ty_array, ty_ptr, ty_struct, tcons, tnil}
-use mir.Syntax.{Body, seq, skip, assign, block, loop, cond, switch, exit, return, unreachable, lend_static, call, call_v}
+use mir.Syntax.{ty_array}
 use prog.Memory.{capped, size, align}
 use prog.RawLaws.{size-raw, align-raw}
 use prog.Capped.{capped_is}
 use types.Logic.{Logic, sem}
 use denote.RattleType.{RattleType}
 use denote.Laws.{Is}
-use denote.RawPtr.{Ptr, block_ptr, null_ptr, ptr_val}
+use denote.RawPtr.{Ptr, ptr_val}
 use denote.Shadow.{makes_shadow}
 use denote.Struct.Struct.{Struct}
 use Rattle.core.specs.contracts.marker.PhantomData as marker
 use Rattle.cell_core.specs.Laid.{cell_ty, row_ty, stride}
 use Rattle.cell_core.specs.contracts.block.steps.Link as link
-
-abbrev pub token_val : Val
-token_val = vstruct (vcons (vstruct vnil) vnil)
-
-abbrev pub link_val : Ptr → Val
-link_val p = vstruct (vcons (ptr_val p) (vcons (vstruct vnil) vnil))
-
-pub link_good : (p : Ptr) → T (has_ty (ty_struct [] (tcons ty_ptr (tcons (ty_struct [] tnil) tnil))) (link_val p)) × WT (link_val p)
-link_good (block_ptr b o) = (tt, (tt, (tt, tt)))
-link_good null_ptr = (tt, (record { fits = omega arith }, (tt, tt)))
+use Rattle.cell_core.proofs.CellMade.{token_val, pointer_val}
 
 module _ (X : RattleType) where
-  pub link_told : (x : (link.the_row X).Denot) (vs : List Val) → Is (link.the_row X) x vs → vs ≡ link_val x.ptr ∷ []
+  pub link_told : (x : (link.the_row X).Denot) (vs : List Val) → Is (link.the_row X) x vs → vs ≡ pointer_val x.ptr ∷ []
   link_told x vs is = is.1.0 ∙ ap (λ (ws : List Val). vstruct (of_list (ws ++ (is.0.1.0 ++ []))) ∷ []) is.1.1.0 ∙ ap (λ (ws : List Val). vstruct (of_list (ptr_val x.ptr ∷ (ws ++ []))) ∷ []) is.1.1.1.0.1.0
 
-  pub link_made : {M : Type 1} {𝓤 : Ura M} (𝓛 : Logic 𝓤) (p : Ptr) → ent 𝓤 (emp 𝓤) (sem 𝓛 ((link.the_row X).own_val (record { ptr = p; marker = record {} }) (link_val p ∷ [])))
-  link_made 𝓛 p = makes_shadow 𝓛 ((link.the_row X).own_val (record { ptr = p; marker = record {} }) (link_val p ∷ [])) (λ vss. (tt, (tt, ((λ uss. (tt, tt)), tt))))
+  pub link_made : {M : Type 1} {𝓤 : Ura M} (𝓛 : Logic 𝓤) (p : Ptr) → ent 𝓤 (emp 𝓤) (sem 𝓛 ((link.the_row X).own_val (record { ptr = p; marker = record {} }) (pointer_val p ∷ [])))
+  link_made 𝓛 p = makes_shadow 𝓛 ((link.the_row X).own_val (record { ptr = p; marker = record {} }) (pointer_val p ∷ [])) (λ vss. (tt, (tt, ((λ uss. (tt, tt)), tt))))
       ((ptr_val p ∷ [], (vstruct vnil ∷ [], tt)), (refl, (refl, ((tt, (refl, tt)), tt))))
 
 pub reach : (i s : ℕ) → i < 2 ^ 40 → s < 2 ^ 23 → i * s < 2 ^ 64
@@ -58,34 +48,3 @@ module _ (X : RattleType) where
 pub uncapped : (i k : ℕ) → i * k < 2 ^ 64 → i * capped k ≡ i * k
 uncapped zero k h = zero-mul (capped k) ∙ sym (zero-mul k)
 uncapped (suc i) k h = let more = suc-mul i k in ap (λ (j : ℕ). suc i * j) (capped_is k (omega arith))
-
-abbrev opened : Body → Body
-opened (block a) = a
-opened (seq a b) = skip
-opened skip = skip
-opened (assign p r) = skip
-opened (loop a) = skip
-opened (cond c a b) = skip
-opened (switch c x) = skip
-opened (exit k) = skip
-opened return = skip
-opened unreachable = skip
-opened (lend_static p τ c) = skip
-opened (call f xs d) = skip
-opened (call_v c ς xs d) = skip
-
--- the inside of the block that begins a body
-abbrev pub first_block : Body → Body
-first_block (seq a b) = opened a
-first_block (block a) = skip
-first_block skip = skip
-first_block (assign p r) = skip
-first_block (loop a) = skip
-first_block (cond c a b) = skip
-first_block (switch c x) = skip
-first_block (exit k) = skip
-first_block return = skip
-first_block unreachable = skip
-first_block (lend_static p τ c) = skip
-first_block (call f xs d) = skip
-first_block (call_v c ς xs d) = skip

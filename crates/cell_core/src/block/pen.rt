@@ -33,10 +33,8 @@ impl<'a, T> Pen<'a, T> {
         ensures name { result.name ≡ self.entry.cell.value }
     {
         let Pen { place, claim } = self;
-        Placed {
-            place,
-            written: claim.fill(value),
-        }
+        let written = claim.fill(value);
+        Placed { place, written }
     }
 
     /// Breaks the cell: it never holds a value.
@@ -45,9 +43,7 @@ impl<'a, T> Pen<'a, T> {
         ensures name { result.name ≡ self.entry.cell.breach }
     {
         let Pen { place, claim } = self;
-        Spoilt {
-            place,
-            crack: claim.spoil(),
-        }
+        let crack = claim.spoil();
+        Spoilt { place, crack }
     }
 }

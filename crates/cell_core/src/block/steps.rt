@@ -137,9 +137,10 @@ impl<T, A: Allocator> Laid<T, A> {
     {
         unsafe {
             let place = link.ptr.add(index);
-            let word = (&raw const (*place).state).read();
-            (&raw mut (*place).state).write(0);
-            if word == 2 {
+            let state = &raw mut (*place).state;
+            let found = state.read();
+            state.write(0);
+            if found == 2 {
                 Some((&raw const (*place).room).read())
             } else {
                 None

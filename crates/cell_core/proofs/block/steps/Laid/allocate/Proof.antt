@@ -28,7 +28,8 @@ use denote.RawPtr.{RawPtr}
 use Rattle.cell_core.specs.Laid.{laid, cell_ty, row_ty, stride, Fits, IsLinked}
 use Rattle.cell_core.specs.contracts.block.steps.Link as link
 use Rattle.cell_core.specs.contracts.block.steps.Laid as loose
-use Rattle.cell_core.proofs.LaidMade.{token_val, link_val, Token, token_made, link_made, link_good, uncapped, row_size, row_align}
+use Rattle.cell_core.proofs.CellMade.{token_val, pointer_val, pointer_good}
+use Rattle.cell_core.proofs.LaidMade.{Token, token_made, link_made, uncapped, row_size, row_align}
 use Rattle.cell_core.proofs.LaidParts as parts
 use mir.Syntax.{Body}
 use base.Fml.{Incl-trans}
@@ -80,16 +81,16 @@ allocate_spec 𝓤 𝓛 𝓜 𝓡 wired T Al L LA ga da dd met _ =
     use1 𝓛 (later (raw (Answered Hd 𝓛 𝓜.mem 𝓡.returns heap τ u) ⊛ ‵ (flft κ q))) (Takes-gives Hd 𝓛 𝓜.mem 𝓡.returns κ q hp heap s al τ u) $ await ! tt $ split ! $ move ! (1 ∷ 2 ∷ []) $ join ! $ move ! (1 ∷ []) $
     answers Hd ! 𝓜.mem 𝓡.returns heap τ u
     (λ b o e. let p : Ptr = block_ptr b o in let r : Lo.Denot = record { marker = record {}; heap = heap; at = p; cells = []; left = n } in
-    let pair : Val = vstruct (vcons (link_val p) (vcons token_val vnil)) in let val : Val = live 0 (vcons pair vnil) in let good : mir.Val.WT val = (record { fits = lit< tt }, (((tt, (tt, tt)), ((tt, tt), tt)), tt)) in
+    let pair : Val = vstruct (vcons (pointer_val p) (vcons token_val vnil)) in let val : Val = live 0 (vcons pair vnil) in let good : mir.Val.WT val = (record { fits = lit< tt }, (((tt, (tt, tt)), ((tt, tt), tt)), tt)) in
     let Told : Type 0 = (heap ≡ heap) × IsLinked p p × (r.cells ≡ r.cells) × (n ≡ n) in use2 𝓛 (‵ (laid R token p [] n)) (parts.fresh 𝓛 R token b o n fits) $
     lands_as ! e refl (Answer-typed true b o) $ first ! $ switches_on ! (get_tag ! (vrt ! refl (fld ! refl (stop !))) (all_of_it !)) $ exec ! 𝓣.C 𝓣.Λ Ev (arm_body 0 both) Then $
     sets ! (of_opd ! (get_in ! (vrt ! refl (fld ! refl (stop !))) (in_variant ! 0 0 refl refl (all_of_it !)))) refl (tt, tt) $ sets ! (of_opd ! (get ! refl)) refl (tt, tt) $
-    sets ! (agg ! (no_more !)) refl (tt, tt) $ sets ! (agg ! (no_more !)) refl (tt, tt) $ sets ! (agg ! (and_then ! (get ! refl) (and_then ! (get ! refl) (no_more !)))) refl (link_good p) $ sets ! (agg ! (and_then ! (get ! refl) (no_more !))) refl (tt, (tt, tt)) $
+    sets ! (agg ! (no_more !)) refl (tt, tt) $ sets ! (agg ! (no_more !)) refl (tt, tt) $ sets ! (agg ! (and_then ! (get ! refl) (and_then ! (get ! refl) (no_more !)))) refl (pointer_good p) $ sets ! (agg ! (and_then ! (get ! refl) (no_more !))) refl (tt, (tt, tt)) $
     sets ! (agg ! (and_then ! (get ! refl) (and_then ! (get ! refl) (no_more !)))) refl (tt, ((tt, (tt, tt)), ((tt, tt), tt))) $
     sets_last ! (agg ! (and_then ! (lit ! tt) (and_then ! (get ! refl) (no_more !)))) refl (tt, good) $ exec ! 𝓣.C 𝓣.Λ Ev (after 3 fn.body) (at_ret Ev Post) $ sets ! (of_opd ! (get ! refl)) refl (tt, good) $
     use0 𝓛 (‵ ((Token RawPtr).own_val (record {}, tt) (token_val ∷ []))) (token_made RawPtr 𝓛) $ fjoin ! $ nothing ! $ move ! (1 ∷ 0 ∷ []) $ fjoin ! $
-    use0 𝓛 (‵ (Lk.own_val (record { ptr = p; marker = record {} }) (link_val p ∷ []))) (link_made R 𝓛 p) $ fjoin ! $ feq_i ! (List Val) (pair ∷ []) (pair ∷ []) refl $ fjoin ! $
-    fpack ! (Valss (Lk ∷ Lo ∷ [])) (within (declared.shape (tuple_type (Lk ∷ Lo ∷ []))) (record { ptr = p; marker = record {} }, (r, tt)) (pair ∷ [])) (link_val p ∷ [], (token_val ∷ [], tt)) $
+    use0 𝓛 (‵ (Lk.own_val (record { ptr = p; marker = record {} }) (pointer_val p ∷ []))) (link_made R 𝓛 p) $ fjoin ! $ feq_i ! (List Val) (pair ∷ []) (pair ∷ []) refl $ fjoin ! $
+    fpack ! (Valss (Lk ∷ Lo ∷ [])) (within (declared.shape (tuple_type (Lk ∷ Lo ∷ []))) (record { ptr = p; marker = record {} }, (r, tt)) (pair ∷ [])) (pointer_val p ∷ [], (token_val ∷ [], tt)) $
     use1 𝓛 (‵ (Out.own_val (Ok (record { ptr = p; marker = record {} }, r)) (val ∷ []))) (ok_of 𝓛 Two refusal.the_row (record { ptr = p; marker = record {} }, r) pair) $
     use0 𝓛 (raw (fact 𝓤 Told)) (fact_i 𝓤 Told (emp 𝓤) (refl, (refl, refl), refl, refl)) $ nothing ! $ nothing ! $ fjoin ! $ nothing ! $ fjoin ! $
     returns ! (look_at ! 0 refl) $ free_all ! refl $ keep ! (3 ∷ 0 ∷ 2 ∷ 1 ∷ []) $ by ! (leaves 𝓛 En hs c y val (Ok (record { ptr = p; marker = record {} }, r)) (tt, (tt, tt)) (tt, (tt, tt))))

@@ -28,7 +28,8 @@ use Rattle.cell_core.specs.Slot.{Names, shared_at}
 use Rattle.cell_core.specs.Laid.{stride, along_lent, cell_in}
 use Rattle.cell_core.specs.contracts.block.steps.Link as link
 use Rattle.cell_core.specs.contracts.block.steps.Laid as loose
-use Rattle.cell_core.proofs.LaidMade.{link_val, link_told, link_good, uncapped}
+use Rattle.cell_core.proofs.CellMade.{pointer_val, pointer_good}
+use Rattle.cell_core.proofs.LaidMade.{link_told, uncapped}
 use Rattle.cell_core.proofs.LaidParts as parts
 use denote.Opens.{hide, unhide}
 use denote.Memory.{shared_of}
@@ -45,8 +46,8 @@ cell_spec 𝓤 𝓛 𝓜 𝓡 wired T Al L _ ga da dd _ _ =
     let self = RefOf (0 ∷ []) tt (plain (λ _. Lo)) (λ _. tt) in let Row : RattleType = cell.the_row R in
     let hs : Stays En.signature.params En.kept = (stay_dropped self yes, (stay_dropped (plain (λ _. Lk)) no, (stay_dropped (plain (λ _. usize)) yes, tt))) in
     proved 𝓛 En hs c 𝓜 𝓡 (Goes-dropped 𝓛 3 self yes (λ κs x f. refl), (Goes-dropped 𝓛 3 (plain (λ _. Lk)) no (λ κs x f. refl), (Goes-dropped 𝓛 3 (plain (λ _. usize)) yes (λ κs x f. refl), tt))) (#self inst) fn (code.unfolded 𝓤 H 𝓜 𝓡 wired (T, (Al, tt)) da dd)
-    (λ κs. (shr_vals, ((λ x. link_val x.ptr ∷ []), (uint_vals w64, tt)))) (λ κs. (shr_Tells (named 0) κs.0 Lo, (link_told R, (uint_Tells w64, tt)))) (λ κs qs bounds a gh are.
-    let y : (walk_of 𝓛 En hs c).Ghost = ((κs, qs, bounds, a, (vptr a.0.ref_ptr.0 a.0.ref_ptr.1 ∷ [], (link_val a.1.0.ptr ∷ [], (vint w64 a.1.1.0 ∷ [], tt)))), gh) in let Post : Val → SProp 𝓤 = (walk_of 𝓛 En hs c).post y in
+    (λ κs. (shr_vals, ((λ x. pointer_val x.ptr ∷ []), (uint_vals w64, tt)))) (λ κs. (shr_Tells (named 0) κs.0 Lo, (link_told R, (uint_Tells w64, tt)))) (λ κs qs bounds a gh are.
+    let y : (walk_of 𝓛 En hs c).Ghost = ((κs, qs, bounds, a, (vptr a.0.ref_ptr.0 a.0.ref_ptr.1 ∷ [], (pointer_val a.1.0.ptr ∷ [], (vint w64 a.1.1.0 ∷ [], tt)))), gh) in let Post : Val → SProp 𝓤 = (walk_of 𝓛 En hs c).post y in
     let h : Lo.Denot = a.0.now in let token : Ty → Ptr → Fml = ga.dealloc_token h.heap in let p : Ptr = a.1.0.ptr in let j : ℕ = a.1.1.0 in let κ : Lft = κs.0 in let q : Share = qs.0 in
     let b : ℕ = block_of p in let o : ℕ = count_of p in let e : ℕ = j * stride R + o in let γ : Names = cell_in h.cells j in let n : ℕ = length h.cells + h.left in
     let Asked : Type 0 = (h.at ≡ p) × (j < length h.cells) in let others : Fml = fsep (flft κs.1.0 qs.1.0) (fsep (flft κs.1.1.0 qs.1.1.0) (ftrue)) in
@@ -55,9 +56,9 @@ cell_spec 𝓤 𝓛 𝓜 𝓡 wired T Al L _ ga da dd _ _ =
     let inb : InBlock p = subst InBlock asked.0 so.0 in let near : j < length h.cells = asked.1 in
     let small : j * stride R < 2 ^ 64 = (let x : j * stride R < 2 ^ 63 = parts.within 𝓛 R token j n (omega arith) so.1 in omega arith) in
     rewrite ! 0 (λ (u : Ptr). ‵ (along_lent R (block_of u) h.cells (count_of u) κ)) asked.0 refl $ use1 𝓛 (‵ (shared_at R γ b e κ)) (parts.cell_shown 𝓛 R token b κ h.cells j o e refl near) $
-    let us : Ptr → List Val = λ u. vptr a.0.ref_ptr.0 a.0.ref_ptr.1 ∷ link_val u ∷ vint w64 a.1.1.0 ∷ [] in let Run : List Val → SProp 𝓤 = λ ws. WpFn 𝓤 H 𝓣.C 𝓣.Λ fn ws Post in let p' : Ptr = block_ptr b o in
+    let us : Ptr → List Val = λ u. vptr a.0.ref_ptr.0 a.0.ref_ptr.1 ∷ pointer_val u ∷ vint w64 a.1.1.0 ∷ [] in let Run : List Val → SProp 𝓤 = λ ws. WpFn 𝓤 H 𝓣.C 𝓣.Λ fn ws Post in let p' : Ptr = block_ptr b o in
     suffices ! (Run (us p')) (subst (λ (u : Ptr). ent 𝓤 (Run (us p')) (Run (us u))) (sym (at_block p inb)) (id⊢ 𝓤 (Run (us p')))) $
-    enter ! 𝓣.C 𝓣.Λ fn (us p') Post $ alloc_all ! (λ l. pass_all ! refl ((tt, tt), (link_good p', ((tt, record { fits = are.1.1.0.1 }), tt))) $ let Ev = env fn.locals l in first ! $ blocks ! $
+    enter ! 𝓣.C 𝓣.Λ fn (us p') Post $ alloc_all ! (λ l. pass_all ! refl ((tt, tt), (pointer_good p', ((tt, record { fits = are.1.1.0.1 }), tt))) $ let Ev = env fn.locals l in first ! $ blocks ! $
     sets ! (is ! (bin ! (get ! refl) (size_word !) (record { fits = subst (λ (j : ℕ). j < 2 ^ 64) (sym (uncapped j (stride R) small)) small })) (ap (vint w64) (uncapped j (stride R) small))) refl (tt, record { fits = small }) $
     sets ! (bin ! (get_in ! (fld ! refl (stop !)) (sub ! 0 refl (all_of_it !))) (get ! refl) tt) refl (tt, tt) $
     use1 𝓛 (‵ (shared_of Row γ b e κ)) (id⊢ 𝓤 _) $ hide ! $ feq_i ! (List Val) (vptr b e ∷ []) (vptr b e ∷ []) refl $ fjoin ! $

@@ -25,12 +25,14 @@ use denote.Ref.{mut_vals, mut_Tells}
 use denote.Plain.{uint_vals, uint_Tells}
 use denote.Triple.Walked.{Stays, stay_dropped, stay_ref, walk_of, Goes-dropped, Goes-ref}
 use Rattle.core.proofs.atomic.Steps.{tail}
+use Rattle.core.proofs.slots.Bodies.{after, head}
 use Rattle.atomic_table.proofs.Walks.{proved, leaves}
 use Rattle.cell_core.specs.Slot.{Names, word, at}
 use Rattle.cell_core.specs.Laid.{laid, stride, rooms, still, IsLinked, HasOneMore}
 use Rattle.cell_core.specs.contracts.block.steps.Link as link
 use Rattle.cell_core.specs.contracts.block.steps.Laid as loose
-use Rattle.cell_core.proofs.LaidMade.{link_val, link_told, link_good, uncapped, first_block}
+use Rattle.cell_core.proofs.CellMade.{pointer_val, pointer_good}
+use Rattle.cell_core.proofs.LaidMade.{link_told, uncapped}
 use Rattle.cell_core.proofs.LaidParts as parts
 use mir.Raw.{raw as bare}
 use denote.Param.Laws.{param_laws}
@@ -55,16 +57,16 @@ pop_spec 𝓤 𝓛 𝓜 𝓡 wired T Al L _ ga da dd _ _ =
     let O : RattleType = OptionOf R in let LO = option_laws R (param_laws 0 T L) in
     let hs : Stays En.signature.params En.kept = (stay_ref (0 ∷ []) tt (plain (λ _. Lo)), (stay_dropped (plain (λ _. Lk)) no, (stay_dropped (plain (λ _. usize)) yes, tt))) in
     proved 𝓛 En hs c 𝓜 𝓡 (Goes-ref 𝓛 3 0 tt (plain (λ _. Lo)), (Goes-dropped 𝓛 3 (plain (λ _. Lk)) no (λ κs x f. refl), (Goes-dropped 𝓛 3 (plain (λ _. usize)) yes (λ κs x f. refl), tt))) (#self inst) fn (code.unfolded 𝓤 H 𝓜 𝓡 wired (T, (Al, tt)) da dd)
-    (λ κs. (mut_vals, ((λ x. link_val x.ptr ∷ []), (uint_vals w64, tt)))) (λ κs. (mut_Tells (named 0) κs.0 (Lo), (link_told R, (uint_Tells w64, tt)))) (λ κs qs bounds a gh are.
-    let y : (walk_of 𝓛 En hs c).Ghost = ((κs, qs, bounds, a, (vptr a.0.ref_ptr.0 a.0.ref_ptr.1 ∷ [], (link_val a.1.0.ptr ∷ [], (vint w64 a.1.1.0 ∷ [], tt)))), gh) in let Post : Val → SProp 𝓤 = (walk_of 𝓛 En hs c).post y in
+    (λ κs. (mut_vals, ((λ x. pointer_val x.ptr ∷ []), (uint_vals w64, tt)))) (λ κs. (mut_Tells (named 0) κs.0 (Lo), (link_told R, (uint_Tells w64, tt)))) (λ κs qs bounds a gh are.
+    let y : (walk_of 𝓛 En hs c).Ghost = ((κs, qs, bounds, a, (vptr a.0.ref_ptr.0 a.0.ref_ptr.1 ∷ [], (pointer_val a.1.0.ptr ∷ [], (vint w64 a.1.1.0 ∷ [], tt)))), gh) in let Post : Val → SProp 𝓤 = (walk_of 𝓛 En hs c).post y in
     let b' : ℕ = a.0.ref_ptr.0 in let o' : ℕ = a.0.ref_ptr.1 in let h : Lo.Denot = a.0.now in let token : Ty → Ptr → Fml = ga.dealloc_token h.heap in let p : Ptr = a.1.0.ptr in let j : ℕ = a.1.1.0 in
     let b : ℕ = block_of p in let e : ℕ = j * stride R + count_of p in let i : ℕ = at R e in let LR = (param_laws 0 T L).lawful 𝓛 in let m : Member = record { row = R; ty = layout T } in
     let Asked : Type 0 = IsLinked h.at p × (length h.cells ≡ j + 1) in let others : Fml = fsep (flft κs.1.0 qs.1.0) (fsep (flft κs.1.1.0 qs.1.1.0) (ftrue)) in
     qed 𝓛 (((‵ (flft κs.0 qs.0) ⊛ ‵ others) ⊛ ‵ (owns (types_at En.signature.params κs) a y.0.4)) ∷ raw (fact 𝓤 _) ∷ raw (fact 𝓤 _) ∷ raw (fact 𝓤 Asked) ∷ []) ∵
     keep ! (3 ∷ 0 ∷ []) $ heard ! Asked (λ asked. let end = parts.last_of h.cells j asked.1 in let cs = end.0 in let γ : Names = end.1 in let long : j ≡ length cs = end.3 in split ! $ split ! $ move ! (2 ∷ []) $ fsplit ! $ fsplit3 ! $ keep ! (1 ∷ 2 ∷ 4 ∷ 5 ∷ []) $
-    let us : Ptr → List Val = λ u. vptr a.0.ref_ptr.0 a.0.ref_ptr.1 ∷ link_val u ∷ vint w64 a.1.1.0 ∷ [] in let Run : List Val → SProp 𝓤 = λ ws. WpFn 𝓤 H 𝓣.C 𝓣.Λ fn ws Post in let p' : Ptr = block_ptr (block_of p) (count_of p) in
+    let us : Ptr → List Val = λ u. vptr a.0.ref_ptr.0 a.0.ref_ptr.1 ∷ pointer_val u ∷ vint w64 a.1.1.0 ∷ [] in let Run : List Val → SProp 𝓤 = λ ws. WpFn 𝓤 H 𝓣.C 𝓣.Λ fn ws Post in let p' : Ptr = block_ptr (block_of p) (count_of p) in
     suffices ! (Run (us p')) (subst (λ (u : Ptr). ent 𝓤 (Run (us p')) (Run (us u))) (sym asked.0.1) (id⊢ 𝓤 (Run (us p')))) $
-    enter ! 𝓣.C 𝓣.Λ fn (us p') Post $ alloc_all ! (λ l. pass_all ! refl ((tt, tt), (link_good p', ((tt, record { fits = are.1.1.0.1 }), tt))) $ let Ev = env fn.locals l in
+    enter ! 𝓣.C 𝓣.Λ fn (us p') Post $ alloc_all ! (λ l. pass_all ! refl ((tt, tt), (pointer_good p', ((tt, record { fits = are.1.1.0.1 }), tt))) $ let Ev = env fn.locals l in
     opens ! tt Lo b' o' (λ ts. move ! (1 ∷ []) $ fsplit ! $
     rewrite ! 1 (λ (u : Ptr × List Names). ‵ (laid R token u.0 u.1 h.left)) (λ k. (asked.0.0 k, end.2 k)) refl $ move ! (1 ∷ []) $ let Rooms : Fml = rooms R b e in let Less : Fml = laid R token p cs (suc h.left) in
     use1 𝓛 (given (length cs * stride R < 2 ^ 63) (‵ (still R b γ e) ⊛ raw (base.Logic.wand 𝓤 (sem 𝓛 Rooms) (sem 𝓛 Less)))) (parts.last_cell 𝓛 R token p cs γ h.left e (ap (λ (z : ℕ). z * stride R + count_of p) long)) $ learn ! (λ low.
@@ -73,7 +75,7 @@ pop_spec 𝓤 𝓛 𝓜 𝓡 wired T Al L _ ga da dd _ _ =
     sets ! (bin ! (get_in ! (fld ! refl (stop !)) (sub ! 0 refl (all_of_it !))) (get ! refl) tt) refl (tt, tt) $ let n : ℕ = r.0 in
     use1 𝓛 (given (lib.Dec.T (has_ty (ty_int w64) (vint w64 n)) × WT (vint w64 n)) (‵ (word b (e + 0) n))) (𝓛.laws.at_wt full_share (ty_int w64) b (e + 0) (vint w64 n)) $ learn ! (λ g.
     sets ! (addr ! (through ! refl (fld ! refl (stop !)))) refl (tt, tt) $ sets ! (of_opd ! (load ! (through ! refl (stop !)) (look_raw ! 0 refl))) refl g $
-    let End = post 𝓤 H (at_ret Ev Post) in let Q = any_q (after_block 𝓤 H (after_seq 𝓤 H (Wp 𝓤 H 𝓣.C 𝓣.Λ Ev (tail fn.body) End) End)) in let last = tail (tail (tail (tail (tail (tail (first_block fn.body)))))) in
+    let End = post 𝓤 H (at_ret Ev Post) in let Q = any_q (after_block 𝓤 H (after_seq 𝓤 H (Wp 𝓤 H 𝓣.C 𝓣.Λ Ev (tail fn.body) End) End)) in let last = after 6 (head (head fn.body)) in
     let h' : Lo.Denot = record { marker = h.marker; heap = h.heap; at = p; cells = cs; left = suc h.left } in let Kept : Type 0 = (h.heap ≡ h.heap) × (p ≡ h.at) × HasOneMore cs h.cells × (suc h.left ≡ h.left + 1) in
     -- [the word; the room; the names; the way back; ..]
     sets ! (bin ! (get ! refl) (lit ! tt) tt) refl (tt, tt) $ first ! $ branches ! (get ! refl)

@@ -30,7 +30,8 @@ use Rattle.cell_core.specs.Slot.{Names, Rest, free, Lies}
 use Rattle.cell_core.specs.Laid.{laid, stride, rooms, still, rests, IsLinked, HasOneMore}
 use Rattle.cell_core.specs.contracts.block.steps.Link as link
 use Rattle.cell_core.specs.contracts.block.steps.Laid as loose
-use Rattle.cell_core.proofs.LaidMade.{link_val, link_told, link_good, uncapped}
+use Rattle.cell_core.proofs.CellMade.{pointer_val, pointer_good}
+use Rattle.cell_core.proofs.LaidMade.{link_told, uncapped}
 use Rattle.cell_core.proofs.LaidParts as parts
 use base.Stored.{gnil}
 use types.Tokens.{name_new}
@@ -45,16 +46,16 @@ push_spec 𝓤 𝓛 𝓜 𝓡 wired T Al L _ ga da dd _ _ =
     let inst = bounded (a_type ∷ a_type ∷ []) (T, (Al, tt)) (dcons da (dcons dd dnil)) in let fn = inst_fn inst code.function in
     let hs : Stays En.signature.params En.kept = (stay_ref (0 ∷ []) tt (plain (λ _. Lo)), (stay_dropped (plain (λ _. Lk)) no, (stay_dropped (plain (λ _. usize)) yes, tt))) in
     proved 𝓛 En hs c 𝓜 𝓡 (Goes-ref 𝓛 3 0 tt (plain (λ _. Lo)), (Goes-dropped 𝓛 3 (plain (λ _. Lk)) no (λ κs x f. refl), (Goes-dropped 𝓛 3 (plain (λ _. usize)) yes (λ κs x f. refl), tt))) (#self inst) fn (code.unfolded 𝓤 H 𝓜 𝓡 wired (T, (Al, tt)) da dd)
-    (λ κs. (mut_vals, ((λ x. link_val x.ptr ∷ []), (uint_vals w64, tt)))) (λ κs. (mut_Tells (named 0) κs.0 (Lo), (link_told R, (uint_Tells w64, tt)))) (λ κs qs bounds a gh are.
-    let y : (walk_of 𝓛 En hs c).Ghost = ((κs, qs, bounds, a, (vptr a.0.ref_ptr.0 a.0.ref_ptr.1 ∷ [], (link_val a.1.0.ptr ∷ [], (vint w64 a.1.1.0 ∷ [], tt)))), gh) in let Post : Val → SProp 𝓤 = (walk_of 𝓛 En hs c).post y in
+    (λ κs. (mut_vals, ((λ x. pointer_val x.ptr ∷ []), (uint_vals w64, tt)))) (λ κs. (mut_Tells (named 0) κs.0 (Lo), (link_told R, (uint_Tells w64, tt)))) (λ κs qs bounds a gh are.
+    let y : (walk_of 𝓛 En hs c).Ghost = ((κs, qs, bounds, a, (vptr a.0.ref_ptr.0 a.0.ref_ptr.1 ∷ [], (pointer_val a.1.0.ptr ∷ [], (vint w64 a.1.1.0 ∷ [], tt)))), gh) in let Post : Val → SProp 𝓤 = (walk_of 𝓛 En hs c).post y in
     let b' : ℕ = a.0.ref_ptr.0 in let o' : ℕ = a.0.ref_ptr.1 in let h : Lo.Denot = a.0.now in let token : Ty → Ptr → Fml = ga.dealloc_token h.heap in let p : Ptr = a.1.0.ptr in let j : ℕ = a.1.1.0 in
     let b : ℕ = block_of p in let e : ℕ = j * stride R + count_of p in let left : ℕ = h.left - 1 in
     let Asked : Type 0 = IsLinked h.at p × (j ≡ length h.cells) × (0 < h.left) in let others : Fml = fsep (flft κs.1.0 qs.1.0) (fsep (flft κs.1.1.0 qs.1.1.0) (ftrue)) in
     qed 𝓛 (((‵ (flft κs.0 qs.0) ⊛ ‵ others) ⊛ ‵ (owns (types_at En.signature.params κs) a y.0.4)) ∷ raw (fact 𝓤 _) ∷ raw (fact 𝓤 _) ∷ raw (fact 𝓤 Asked) ∷ []) ∵
     keep ! (3 ∷ 0 ∷ []) $ heard ! Asked (λ asked. split ! $ split ! $ move ! (2 ∷ []) $ fsplit ! $ fsplit3 ! $ keep ! (1 ∷ 2 ∷ 4 ∷ 5 ∷ []) $
-    let us : Ptr → List Val = λ u. vptr a.0.ref_ptr.0 a.0.ref_ptr.1 ∷ link_val u ∷ vint w64 a.1.1.0 ∷ [] in let Run : List Val → SProp 𝓤 = λ ws. WpFn 𝓤 H 𝓣.C 𝓣.Λ fn ws Post in let p' : Ptr = block_ptr (block_of p) (count_of p) in
+    let us : Ptr → List Val = λ u. vptr a.0.ref_ptr.0 a.0.ref_ptr.1 ∷ pointer_val u ∷ vint w64 a.1.1.0 ∷ [] in let Run : List Val → SProp 𝓤 = λ ws. WpFn 𝓤 H 𝓣.C 𝓣.Λ fn ws Post in let p' : Ptr = block_ptr (block_of p) (count_of p) in
     suffices ! (Run (us p')) (subst (λ (u : Ptr). ent 𝓤 (Run (us p')) (Run (us u))) (sym asked.0.1) (id⊢ 𝓤 (Run (us p')))) $
-    enter ! 𝓣.C 𝓣.Λ fn (us p') Post $ alloc_all ! (λ l. pass_all ! refl ((tt, tt), (link_good p', ((tt, record { fits = are.1.1.0.1 }), tt))) $ let Ev = env fn.locals l in
+    enter ! 𝓣.C 𝓣.Λ fn (us p') Post $ alloc_all ! (λ l. pass_all ! refl ((tt, tt), (pointer_good p', ((tt, record { fits = are.1.1.0.1 }), tt))) $ let Ev = env fn.locals l in
     opens ! tt Lo b' o' (λ ts. move ! (1 ∷ []) $ fsplit ! $ let pos : 0 < h.left = asked.2 in let long : j ≡ length h.cells = asked.1 in
     rewrite ! 1 (λ (u : Ptr × ℕ). ‵ (laid R token u.0 h.cells u.1)) (λ i. (asked.0.0 i, (let r : h.left ≡ suc left = omega arith in r) i)) refl $ move ! (1 ∷ []) $ let Again = parts.Filled 𝓛 R token p h.cells left e in
     use1 𝓛 (given (length h.cells * stride R < 2 ^ 63) (‵ (rooms R b e) ⊛ raw (all 𝓤 Again))) (parts.next_room 𝓛 R token p h.cells left e (ap (λ (z : ℕ). z * stride R + count_of p) long)) $ learn ! (λ low.

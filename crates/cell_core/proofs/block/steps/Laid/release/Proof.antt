@@ -30,7 +30,8 @@ use denote.RawPtr.{RawPtr}
 use Rattle.cell_core.specs.Laid.{laid, cell_ty, row_ty, stride, Fits}
 use Rattle.cell_core.specs.contracts.block.steps.Link as link
 use Rattle.cell_core.specs.contracts.block.steps.Laid as loose
-use Rattle.cell_core.proofs.LaidMade.{token_val, link_val, token_told, link_told, link_good, uncapped, row_size, row_align}
+use Rattle.cell_core.proofs.CellMade.{token_val, pointer_val, pointer_good}
+use Rattle.cell_core.proofs.LaidMade.{token_told, link_told, uncapped, row_size, row_align}
 use Rattle.cell_core.proofs.LaidParts as parts
 use base.Fml.{froom, Incl-trans}
 use prog.Memory.{align, capped}
@@ -52,18 +53,18 @@ release_spec 𝓤 𝓛 𝓜 𝓡 wired T Al L LA ga da dd met _ =
     let al : ℕ = capped (align (cell_ty R)) in let handle = RefOf (0 ∷ []) tt (plain (λ _. Z)) (λ _. tt) in
     let hs : Stays En.signature.params En.kept = (stay_dropped (plain (λ _. Lo)) no, (stay_dropped handle yes, (stay_dropped (plain (λ _. Lk)) no, (stay_dropped (plain (λ _. usize)) yes, tt)))) in
     proved 𝓛 En hs c 𝓜 𝓡 (Goes-dropped 𝓛 3 (plain (λ _. Lo)) no (λ κs x f. refl), (Goes-dropped 𝓛 3 handle yes (λ κs x f. refl), (Goes-dropped 𝓛 3 (plain (λ _. Lk)) no (λ κs x f. refl), (Goes-dropped 𝓛 3 (plain (λ _. usize)) yes (λ κs x f. refl), tt)))) (#self inst) fn (code.unfolded 𝓤 H 𝓜 𝓡 wired (T, (Al, tt)) da dd)
-    (λ κs. ((λ _. token_val ∷ []), (shr_vals, ((λ x. link_val x.ptr ∷ []), (uint_vals w64, tt))))) (λ κs. ((λ x vs so. token_told RawPtr vs so.0), (shr_Tells (named 0) κs.0 Z, (link_told R, (uint_Tells w64, tt))))) (λ κs qs bounds a gh are.
+    (λ κs. ((λ _. token_val ∷ []), (shr_vals, ((λ x. pointer_val x.ptr ∷ []), (uint_vals w64, tt))))) (λ κs. ((λ x vs so. token_told RawPtr vs so.0), (shr_Tells (named 0) κs.0 Z, (link_told R, (uint_Tells w64, tt))))) (λ κs qs bounds a gh are.
     let h : Lo.Denot = a.0 in let hp : ℕ × ℕ = a.1.0.ref_ptr in let heap : Al.Denot = a.1.0.now in let p : Ptr = a.1.1.0.ptr in let n : ℕ = a.1.1.1.0 in let τ : Ty = row_ty R n in let s : ℕ = n * stride R in let κ : Lft = κs.0 in let q : Share = qs.0 in let token : Ty → Ptr → Fml = ga.dealloc_token heap in
-    let y : (walk_of 𝓛 En hs c).Ghost = ((κs, qs, bounds, a, (token_val ∷ [], (vptr hp.0 hp.1 ∷ [], (link_val p ∷ [], (vint w64 n ∷ [], tt))))), gh) in let Post : Val → SProp 𝓤 = (walk_of 𝓛 En hs c).post y in
+    let y : (walk_of 𝓛 En hs c).Ghost = ((κs, qs, bounds, a, (token_val ∷ [], (vptr hp.0 hp.1 ∷ [], (pointer_val p ∷ [], (vint w64 n ∷ [], tt))))), gh) in let Post : Val → SProp 𝓤 = (walk_of 𝓛 En hs c).post y in
     let others : Fml = fsep (flft κs.1.0 qs.1.0) (fsep (flft κs.1.1.0 qs.1.1.0) ftrue) in let Asked : Type 0 = (h.heap ≡ heap) × (h.at ≡ p) × (h.cells ≡ []) × (h.left ≡ n) in let b : ℕ = block_of p in let o : ℕ = count_of p in let p' : Ptr = block_ptr b o in
-    let us : Ptr → List Val = λ u. token_val ∷ vptr hp.0 hp.1 ∷ link_val u ∷ vint w64 n ∷ [] in let Run : List Val → SProp 𝓤 = λ ws. WpFn 𝓤 H 𝓣.C 𝓣.Λ fn ws Post in
+    let us : Ptr → List Val = λ u. token_val ∷ vptr hp.0 hp.1 ∷ pointer_val u ∷ vint w64 n ∷ [] in let Run : List Val → SProp 𝓤 = λ ws. WpFn 𝓤 H 𝓣.C 𝓣.Λ fn ws Post in
     qed 𝓛 (((‵ (flft κ q) ⊛ ‵ others) ⊛ ‵ (owns (types_at En.signature.params κs) a y.0.4)) ∷ raw (fact 𝓤 _) ∷ raw (fact 𝓤 (κs.1.1.0 ⊑ Al.lives)) ∷ raw (fact 𝓤 Asked) ∷ []) ∵
     keep ! (2 ∷ 3 ∷ 0 ∷ []) $ heard ! (κs.1.1.0 ⊑ Al.lives) (λ inside. heard ! Asked (λ asked. split ! $ split ! $ move ! (2 ∷ []) $ fsplit3 ! $ fsplit ! $ move ! (2 ∷ []) $ fsplit ! $ keep ! (3 ∷ 1 ∷ 5 ∷ 6 ∷ []) $
     rewrite ! 0 (λ (u : Al.Denot × Ptr × List Names × ℕ). ‵ (laid R (ga.dealloc_token u.0) u.1 u.2 u.3)) (λ i. (asked.0 i, asked.1 i, asked.2 i, asked.3 i)) refl $ fsplit ! $ fpick ! (λ so. fpack ! (InBlock p × Fits R (0 + n)) (λ _. ftrue) so $ fjoin ! $
     rewrite ! 0 (λ (u : Ptr). ‵ (laid R token u [] n)) (at_block p so.0) refl $
     use1 𝓛 (given (Fits R n) (‵ (froom τ b o) ⊛ ‵ (token τ p'))) (parts.gathers 𝓛 R token b o n) $ learn ! (λ fits. let small : s < 2 ^ 64 = (let x = fits.1 in omega arith) in split ! $
     suffices ! (Run (us p')) (subst (λ (u : Ptr). ent 𝓤 (Run (us p')) (Run (us u))) (sym (at_block p so.0)) (id⊢ 𝓤 (Run (us p')))) $
-    enter ! 𝓣.C 𝓣.Λ fn (us p') Post $ alloc_all ! (λ l. pass_all ! refl ((tt, (tt, tt)), ((tt, tt), (link_good p', ((tt, record { fits = are.1.1.1.0.1 }), tt)))) $ let Ev = env fn.locals l in first ! $ blocks ! $
+    enter ! 𝓣.C 𝓣.Λ fn (us p') Post $ alloc_all ! (λ l. pass_all ! refl ((tt, (tt, tt)), ((tt, tt), (pointer_good p', ((tt, record { fits = are.1.1.1.0.1 }), tt)))) $ let Ev = env fn.locals l in first ! $ blocks ! $
     sets ! (of_opd ! (get_in ! (fld ! refl (stop !)) (sub ! 0 refl (all_of_it !)))) refl (tt, tt) $
     sets ! (is ! (bin ! (get ! refl) (size_word !) (record { fits = subst (λ (j : ℕ). j < 2 ^ 64) (sym (uncapped n (stride R) small)) small })) (ap (vint w64) (uncapped n (stride R) small))) refl (tt, record { fits = small }) $
     move ! (2 ∷ 3 ∷ []) $ join ! $ move ! (1 ∷ 2 ∷ 0 ∷ []) $ let Asks = Gives Hd 𝓛 𝓜.mem 𝓡.returns in let w : Asks.Ghost = at_gives Hd 𝓛 𝓜.mem 𝓡.returns κ q hp heap b o s al τ in

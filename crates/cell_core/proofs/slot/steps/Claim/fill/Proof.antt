@@ -36,7 +36,7 @@ use Rattle.std.specs.Prelude.{None}
 use Rattle.cell_core.specs.Slot.{Names, content, written, place, at, inside, Room, claimed}
 use Rattle.cell_core.specs.contracts.slot.steps.Claim as Claim
 use Rattle.cell_core.specs.contracts.slot.steps.Written as Written
-use Rattle.cell_core.proofs.CellMade.{token_val, claim_val, claim_typed, claim_told, claim_placed, written_made}
+use Rattle.cell_core.proofs.CellMade.{token_val, pointer_val, pointer_good, claim_told, claim_placed, written_made}
 use Rattle.cell_core.proofs.CellSteps as steps
 use Rattle.cell_core.specs.contracts.slot.steps.Claim.fill.{ended, clauses}
 use Rattle.cell_core.specs.contracts.slot.steps.Claim.fill.Key.{name as #self}
@@ -54,14 +54,14 @@ fill_spec 𝓤 𝓛 𝓜 𝓡 wired T L =
     let γ : Names = h.of in let x : T.Denot = a.1.0 in let τ : Lft = κs.1.0 in let r : Share = qs.1.0 in let e : ℕ = at R o in
     let got = one (layout T) z.0.4.1.0 (LR.typed x z.0.4.1.0 are.1.0) in let vy : Val = got.0 in let fy : Good (layout T) vy = got.2 in
     let At : List Val × (List Val × Unit {0}) → (walk_of 𝓛 En hs c).Ghost = λ vss. ((κs, qs, z.0.2, a, vss), z.1) in
-    let y : (walk_of 𝓛 En hs c).Ghost = At (claim_val p ∷ [], (vy ∷ [], tt)) in let Post : Val → SProp 𝓤 = (walk_of 𝓛 En hs c).post y in let S : RattleType = Written.the_row R in
+    let y : (walk_of 𝓛 En hs c).Ghost = At (pointer_val p ∷ [], (vy ∷ [], tt)) in let Post : Val → SProp 𝓤 = (walk_of 𝓛 En hs c).post y in let S : RattleType = Written.the_row R in
     subst (λ (vss : List Val × (List Val × Unit {0})). ent 𝓤 ((walk_of 𝓛 En hs c).pre (At vss)) (WpFn 𝓤 H 𝓣.C 𝓣.Λ fn ((walk_of 𝓛 En hs c).args (At vss)) ((walk_of 𝓛 En hs c).post (At vss))))
     (λ i. (sym (claim_told ℓ R p z.0.4.0 are.0.0) i, (sym got.1 i, tt))) (
     qed 𝓛 (((‵ (flft β q) ⊛ ‵ (flft τ r) ⊛ ‵ ftrue) ⊛ ‵ (owns (types_at En.signature.params κs) a y.0.4)) ∷ raw (fact 𝓤 (τ ⊑ T.lives)) ∷ raw (fact 𝓤 (h.found ≡ 0)) ∷ []) ∵
     move ! (1 ∷ 2 ∷ []) $ heard ! (τ ⊑ T.lives) (λ le. heard ! (h.found ≡ 0) (λ asked. split ! $ split3 ! $ move ! (3 ∷ []) $ fsplit3 ! $ fsplit ! $ keep ! (1 ∷ 2 ∷ 4 ∷ 5 ∷ 6 ∷ []) $
     use1 𝓛 (given (InBlock p) (‵ (claimed R γ β p h.found))) (fact_use 𝓤 _ (claim_placed 𝓛 R γ β p h.found) (guard_i 𝓤 (InBlock p) (sem 𝓛 (claimed R γ β p h.found)))) $ learn ! (λ inb. let is_at : p ≡ block_ptr b o = at_block p inb in
     rewrite ! 0 (λ (u : Ptr × ℕ). ‵ (claimed R γ β u.0 u.1)) (λ i. (is_at i, asked i)) refl $
-    enter ! 𝓣.C 𝓣.Λ fn (claim_val p ∷ vy ∷ []) Post $ alloc_all ! (λ l. pass_all ! refl (claim_typed p inb, (fy, tt)) $ let Ev = env fn.locals l in
+    enter ! 𝓣.C 𝓣.Λ fn (pointer_val p ∷ vy ∷ []) Post $ alloc_all ! (λ l. pass_all ! refl (pointer_good p, (fy, tt)) $ let Ev = env fn.locals l in
     fpick ! (λ t. let α : Lft = t.0 in let V : Fml = Room R γ t b o in fsplit ! $ fsplit ! $ move ! (2 ∷ []) $ fsplit ! $ move ! (1 ∷ []) $ fsplit ! $
     -- [empty; the room's borrow; unset; before; the invariant; the value; the token; T's token; the rest]
     move ! (3 ∷ 6 ∷ []) $ use2 𝓛 (later (some (λ (s : Share). ‵ (flft α s) ⊛ raw (wand 𝓤 (A.lft α s) (H.⇛ (A.lft β q)))))) (Lends-one 𝓛 𝓜 𝓡 β α q) $ await ! tt $ pick ! (λ s. split ! $

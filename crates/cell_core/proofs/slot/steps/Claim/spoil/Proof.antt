@@ -26,7 +26,7 @@ use Rattle.core.proofs.atomic.Steps.{tail}
 use Rattle.cell_core.specs.Slot.{Names, spoilt, claimed}
 use Rattle.cell_core.specs.contracts.slot.steps.Claim as Claim
 use Rattle.cell_core.specs.contracts.slot.steps.Crack as Crack
-use Rattle.cell_core.proofs.CellMade.{token_val, claim_val, claim_typed, claim_told, claim_placed, crack_made}
+use Rattle.cell_core.proofs.CellMade.{token_val, pointer_val, pointer_good, claim_told, claim_placed, crack_made}
 use Rattle.cell_core.proofs.CellSteps as steps
 use Rattle.cell_core.specs.contracts.slot.steps.Claim.spoil.{ended, clauses}
 use Rattle.cell_core.specs.contracts.slot.steps.Claim.spoil.Key.{name as #self}
@@ -39,15 +39,15 @@ spoil_spec 𝓤 𝓛 𝓜 𝓡 wired T L =
     let inst = layouts (a_type ∷ []) (T, tt) in let fn = inst_fn inst code.function in
     let self = plain (λ κs. Claim.the_row (named_lft 2 0 tt κs) R) in let hs : Stays En.signature.params En.kept = (stay_dropped self no, tt) in
     proved 𝓛 En hs c 𝓜 𝓡 (Goes-dropped 𝓛 2 self no (λ κs x f. refl), tt) (#self inst) fn (code.unfolded 𝓤 H 𝓜 𝓡 wired (T, tt))
-    (λ κs. ((λ h. claim_val h.slot ∷ []), tt)) (λ κs. ((λ h vs so. claim_told (named_lft 2 0 tt κs) R h.slot vs so.0), tt)) (λ κs qs bounds a gh are.
+    (λ κs. ((λ h. pointer_val h.slot ∷ []), tt)) (λ κs. ((λ h vs so. claim_told (named_lft 2 0 tt κs) R h.slot vs so.0), tt)) (λ κs qs bounds a gh are.
     let ℓ = named_lft 2 0 tt κs in let Hr : RattleType = Claim.the_row ℓ R in let h : Hr.Denot = a.0 in let p : Ptr = h.slot in let b : ℕ = block_of p in let o : ℕ = count_of p in let β : Lft = κs.0 in let q : Share = qs.0 in
     let γ : Names = h.of in let others : Fml = fsep (flft κs.1.0 qs.1.0) ftrue in let S : RattleType = Crack.the_row in
-    let y : (walk_of 𝓛 En hs c).Ghost = ((κs, qs, bounds, a, (claim_val p ∷ [], tt)), gh) in let Post : Val → SProp 𝓤 = (walk_of 𝓛 En hs c).post y in
+    let y : (walk_of 𝓛 En hs c).Ghost = ((κs, qs, bounds, a, (pointer_val p ∷ [], tt)), gh) in let Post : Val → SProp 𝓤 = (walk_of 𝓛 En hs c).post y in
     qed 𝓛 (((‵ (flft β q) ⊛ ‵ others) ⊛ ‵ (owns (types_at En.signature.params κs) a y.0.4)) ∷ raw (fact 𝓤 _) ∷ raw (fact 𝓤 (h.found ≡ 0)) ∷ []) ∵
     keep ! (2 ∷ 0 ∷ []) $ heard ! (h.found ≡ 0) (λ asked. split ! $ split ! $ move ! (2 ∷ []) $ fsplit ! $ fsplit ! $ keep ! (1 ∷ 3 ∷ 4 ∷ []) $
     use1 𝓛 (given (InBlock p) (‵ (claimed R γ β p h.found))) (fact_use 𝓤 _ (claim_placed 𝓛 R γ β p h.found) (guard_i 𝓤 (InBlock p) (sem 𝓛 (claimed R γ β p h.found)))) $ learn ! (λ inb. let is_at : p ≡ block_ptr b o = at_block p inb in
     rewrite ! 0 (λ (u : Ptr × ℕ). ‵ (claimed R γ β u.0 u.1)) (λ i. (is_at i, asked i)) refl $
-    enter ! 𝓣.C 𝓣.Λ fn (claim_val p ∷ []) Post $ alloc_all ! (λ l. pass_all ! refl (claim_typed p inb, tt) $ let Ev = env fn.locals l in
+    enter ! 𝓣.C 𝓣.Λ fn (pointer_val p ∷ []) Post $ alloc_all ! (λ l. pass_all ! refl (pointer_good p, tt) $ let Ev = env fn.locals l in
     fpick ! (λ t. let α : Lft = t.0 in fsplit ! $ fsplit ! $
     -- [before; the invariant; the right to write; the token; the others]
     move ! (0 ∷ 3 ∷ []) $ use2 𝓛 (later (some (λ (s : Share). ‵ (flft α s) ⊛ raw (wand 𝓤 (A.lft α s) (H.⇛ (A.lft β q)))))) (Lends-one 𝓛 𝓜 𝓡 β α q) $ await ! tt $ pick ! (λ s. split ! $

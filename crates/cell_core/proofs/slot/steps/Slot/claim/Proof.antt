@@ -30,7 +30,7 @@ use types.Na.{before_dup}
 use Rattle.cell_core.specs.Slot.{Names, Turn, Cell, kept, won}
 use Rattle.cell_core.specs.contracts.slot.steps.Slot as cell
 use Rattle.cell_core.specs.contracts.slot.steps.Claim as Claim
-use Rattle.cell_core.proofs.CellMade.{claim_val, Words, claim_made}
+use Rattle.cell_core.proofs.CellMade.{pointer_val, Words, claim_made}
 use Rattle.cell_core.proofs.CellSteps as steps
 use Rattle.cell_core.specs.contracts.slot.steps.Slot.claim.{ended, clauses}
 use Rattle.cell_core.specs.contracts.slot.steps.Slot.claim.Key.{name as #self}
@@ -62,9 +62,9 @@ claim_spec 𝓤 𝓛 𝓜 𝓡 wired T L =
     sets ! (of_opd ! (get ! refl)) refl (tt, (tt, (tt, tt))) $ sets ! (agg ! (and_then ! (get ! refl) (and_then ! (get ! refl) (no_more !)))) refl (tt, (record { fits = fits }, ((tt, (tt, tt)), tt))) $
     fsplit ! $ move ! (0 ∷ 2 ∷ []) $ use2 𝓛 (later (‵ (flft κ q))) (apply∗ 𝓤 (𝓛.A.lft t.0 s) (H.⇛ (𝓛.A.lft κ q))) $ await ! tt $ move ! (0 ∷ 3 ∷ []) $ join ! $ move ! (2 ∷ 1 ∷ []) $
     fjoin ! $ fpack ! Turn (λ z. fsep (kept R γ z b o κ) (won R γ z b o n)) t $
-    let h : Hr.Denot = record { slot = p; marker = record {}; of = γ; found = n } in let r : Val = vstruct (vcons (vint w64 n) (vcons (claim_val p) vnil)) in let Told : Type 0 = (γ ≡ γ) × (n ≡ n) in
-    use0 𝓛 (‵ ((Words ℓ R).own_val (p, (tt, tt)) (claim_val p ∷ []))) (claim_made ℓ R 𝓛 p) $ fjoin ! $ nothing ! $ flt_i ! n (2 ^ 64) fits $ feq_i ! (List Val) (vint w64 n ∷ []) (vint w64 n ∷ []) refl $ fjoin ! $
+    let h : Hr.Denot = record { slot = p; marker = record {}; of = γ; found = n } in let r : Val = vstruct (vcons (vint w64 n) (vcons (pointer_val p) vnil)) in let Told : Type 0 = (γ ≡ γ) × (n ≡ n) in
+    use0 𝓛 (‵ ((Words ℓ R).own_val (p, (tt, tt)) (pointer_val p ∷ []))) (claim_made ℓ R 𝓛 p) $ fjoin ! $ nothing ! $ flt_i ! n (2 ^ 64) fits $ feq_i ! (List Val) (vint w64 n ∷ []) (vint w64 n ∷ []) refl $ fjoin ! $
     move ! (0 ∷ 2 ∷ 1 ∷ []) $ fjoin3 ! $ feq_i ! (List Val) (r ∷ []) (r ∷ []) refl $ fjoin ! $
-    fpack ! (Valss (u64 ∷ Hr ∷ [])) (λ uss. fsep (feq (List Val) (r ∷ []) (vstruct (of_list (uss.0 ++ (uss.1.0 ++ []))) ∷ [])) (owns (u64 ∷ Hr ∷ []) (n, (h, tt)) uss)) (vint w64 n ∷ [], (claim_val p ∷ [], tt)) $
+    fpack ! (Valss (u64 ∷ Hr ∷ [])) (λ uss. fsep (feq (List Val) (r ∷ []) (vstruct (of_list (uss.0 ++ (uss.1.0 ++ []))) ∷ [])) (owns (u64 ∷ Hr ∷ []) (n, (h, tt)) uss)) (vint w64 n ∷ [], (pointer_val p ∷ [], tt)) $
     use0 𝓛 (raw (fact 𝓤 Told)) (fact_i 𝓤 Told (emp 𝓤) (refl, refl)) $ nothing ! $ nothing ! $ fjoin ! $
     returns ! (look_at ! 0 refl) $ free_all ! refl $ keep ! (3 ∷ 0 ∷ 2 ∷ 1 ∷ []) $ by ! (leaves 𝓛 En hs c y r (n, h) (tt, tt) (tt, tt))))))))

@@ -33,10 +33,12 @@ use Rattle.cell_core.proofs.CellLends.{lends_cell}
 use Rattle.cell_core.proofs.CellSteps.{shared_laws}
 
 module _ (R : RattleType) where
+  -- what a `&` to each cell holds can be had twice
   along_laws : (b : ℕ) (γs : List Names) (e : ℕ) → ShrLaws (along_lent R b γs e)
   along_laws b [] e = nothing_shr_laws
   along_laws b (γ ∷ γs) e = beside_shr_laws (shared_at R γ b e) (along_lent R b γs (e + stride R)) (shared_laws R γ b e) (along_laws b γs (e + stride R))
 
+  -- what a `&` to a row holds can be had twice
   pub laid_laws : (p : Ptr) (γs : List Names) (left : ℕ) → ShrLaws (laid_lent R p γs left)
   laid_laws p γs left = beside_shr_laws (said (lies R p (length γs + left))) (along_lent R (block_of p) γs (count_of p)) (said_shr_laws (lies R p (length γs + left)) (λ _. tt)) (along_laws (block_of p) γs (count_of p))
 
@@ -64,30 +66,36 @@ module _ {M : Type 1} {𝓤 : Ura M} (𝓛 : Logic 𝓤) (R : RattleType) (token
   abbrev s : ℕ
   s = stride R
 
+  -- a cell put after the others
   along_more : (G : Names → ℕ → Fml) (cs : List Names) (c : Names) (e e' : ℕ) → e' ≡ length cs * s + e → ⟦ along R G cs e ⟧ ∗ ⟦ G c e' ⟧ ⊢ ⟦ along R G (cs ++ c ∷ []) e ⟧
   along_more G [] c e e' is = let z = zero-mul s in let same : e' ≡ e = omega arith in qed 𝓛 (‵ ftrue ∷ ‵ (G c e') ∷ []) ∵ rewrite ! 1 (λ (i : ℕ). ‵ (G c i)) same refl $ move ! (1 ∷ 0 ∷ []) $ done !
   along_more G (h ∷ cs) c e e' is = let z = suc-mul (length cs) s in qed 𝓛 (‵ (along R G (h ∷ cs) e) ∷ ‵ (G c e') ∷ []) ∵ fsplit ! $ frame ! $ by ! (along_more G cs c (e + s) e' (omega arith))
 
+  -- the last cell, and the others
   along_less : (G : Names → ℕ → Fml) (cs : List Names) (c : Names) (e e' : ℕ) → e' ≡ length cs * s + e → ⟦ along R G (cs ++ c ∷ []) e ⟧ ⊢ ⟦ G c e' ⟧ ∗ ⟦ along R G cs e ⟧
   along_less G [] c e e' is = let z = zero-mul s in let same : e ≡ e' = omega arith in qed 𝓛 (‵ (G c e) ∷ ‵ ftrue ∷ []) ∵ rewrite ! 0 (λ (i : ℕ). ‵ (G c i)) same refl $ done !
   along_less G (h ∷ cs) c e e' is = let z = suc-mul (length cs) s in qed 𝓛 (‵ (G h e) ∷ ‵ (along R G (cs ++ c ∷ []) (e + s)) ∷ []) ∵ move ! (1 ∷ []) $
       use1 𝓛 (‵ (G c e') ⊛ ‵ (along R G cs (e + s))) (along_less G cs c (e + s) e' (omega arith)) $ split ! $ frame ! $ move ! (1 ∷ 0 ∷ []) $ done !
 
+  -- a cell of the row lies within the block
   pub within : (i n : ℕ) → i ≤ n → Fits R n → i * s < 2 ^ 63
   within i n le fits = let a : i * s ≤ n * s = mul-le-mul_right s le in let b : n * s < 2 ^ 63 = fits.1 in omega arith
 
   abbrev τ : Ty
   τ = bare (cell_ty R)
 
+  -- the room of a cell has two parts, which make it again
   spreads : (b e : ℕ) → H.room τ b e ⊢ ⟦ rooms R b e ⟧ ∗ ⟦ rim R b e ⟧
   spreads b e = let at : ℕ → Fml = λ a. fsep (froom (ty_int w64) b (e + 0)) (fsep (froom (bare (lone R.mir)) b (e + up a 8)) ftrue) in let X : Pr = H.room τ b e in
       subst (λ (a : ℕ). X ⊢ ⟦ at a ⟧ ∗ (⟦ at a ⟧ -∗ X)) (align-raw (lone R.mir)) (𝓛.laws.room_fields [] (mir.Syntax.tcons (ty_int w64) (mir.Syntax.tcons (bare (lone R.mir)) mir.Syntax.tnil)) b e)
 
+  -- memory of n cells is a row without a cell
   pub fresh : (b o n : ℕ) → Fits R n → H.room (row_ty R n) b o ∗ ⟦ token (row_ty R n) (block_ptr b o) ⟧ ⊢ ⟦ laid R token (block_ptr b o) [] n ⟧
   fresh b o n fits = let p : Ptr = block_ptr b o in let z = zero-mul s in let same : n ≡ 0 + n = omega arith in
       qed 𝓛 (‵ (froom (ty_array τ n) b o) ∷ ‵ (token (row_ty R n) p) ∷ []) ∵ rewrite ! 0 (λ (i : ℕ). ‵ (froom (ty_array τ n) b i)) (let r : o ≡ 0 * s + o = omega arith in r) refl $
       rewrite ! 1 (λ (m : ℕ). ‵ (token (row_ty R m) p)) same refl $ nothing ! $ fjoin3 ! $ nothing ! $ fpack ! (InBlock p × Fits R (0 + n)) (λ _. ftrue) (tt, subst (Fits R) same fits) $ done !
 
+  -- a row without a cell is memory again
   pub gathers : (b o n : ℕ) → ⟦ laid R token (block_ptr b o) [] n ⟧ ⊢ guard 𝓤 (Fits R n) (H.room (row_ty R n) b o ∗ ⟦ token (row_ty R n) (block_ptr b o) ⟧)
   gathers b o n = let p : Ptr = block_ptr b o in let z = zero-mul s in let same : 0 + n ≡ n = omega arith in
       qed 𝓛 (‵ (laid R token p [] n) ∷ []) ∵ fsplit3 ! $ fpick ! (λ so. drop ! $ drop ! $ check ! (subst (Fits R) same so.1) $ fsplit ! $
@@ -96,6 +104,7 @@ module _ {M : Type 1} {𝓤 : Ura M} (𝓛 : Logic 𝓤) (R : RattleType) (token
   abbrev pub Filled : Ptr → List Names → ℕ → ℕ → Names → Pr
   Filled p cs left e c = ⟦ still R (block_of p) c e ⟧ -∗ ⟦ laid R token p (cs ++ c ∷ []) left ⟧
 
+  -- room for one cell more, which makes the row longer
   pub next_room : (p : Ptr) (cs : List Names) (left e : ℕ) → e ≡ length cs * s + count_of p → ⟦ laid R token p cs (suc left) ⟧ ⊢ guard 𝓤 (length cs * s < 2 ^ 63) (⟦ rooms R (block_of p) e ⟧ ∗ all 𝓤 (Filled p cs left e))
   next_room p cs left e is = let b : ℕ = block_of p in let o : ℕ = count_of p in let k : ℕ = length cs in let n : ℕ = k + suc left in
       qed 𝓛 (‵ (laid R token p cs (suc left)) ∷ []) ∵ fsplit3 ! $ fpick ! (λ so. drop ! $ check ! (within k n (omega arith) so.1) $ move ! (1 ∷ []) $ fsplit ! $ rewrite ! 0 (λ (i : ℕ). ‵ (froom (ty_array τ (suc left)) b i)) (sym is) refl $
@@ -106,6 +115,7 @@ module _ {M : Type 1} {𝓤 : Ura M} (𝓛 : Logic 𝓤) (R : RattleType) (token
       use2 𝓛 (‵ (along R (owned R b) (cs ++ c ∷ []) o)) (along_more (owned R b) cs c o e is) $ rewrite ! 1 (λ (i : ℕ). ‵ (froom (ty_array τ left) b i)) next refl $ rewrite ! 2 (λ (z : ℕ). ‵ (token (row_ty R z) p)) same refl $
       fjoin3 ! $ nothing ! $ fpack ! (InBlock p × Fits R (m + left)) (λ _. ftrue) (so.0, subst (Fits R) same so.1) $ done !))
 
+  -- the last cell, which leaves room where it is given back empty
   pub last_cell : (p : Ptr) (cs : List Names) (c : Names) (left e : ℕ) → e ≡ length cs * s + count_of p → ⟦ laid R token p (cs ++ c ∷ []) left ⟧
       ⊢ guard 𝓤 (length cs * s < 2 ^ 63) (⟦ still R (block_of p) c e ⟧ ∗ (⟦ rooms R (block_of p) e ⟧ -∗ ⟦ laid R token p cs (suc left) ⟧))
   last_cell p cs c left e is = let b : ℕ = block_of p in let o : ℕ = count_of p in let k : ℕ = length cs in let long : length (cs ++ c ∷ []) ≡ k + 1 = length-append cs (c ∷ []) in let m : ℕ = length (cs ++ c ∷ []) in
@@ -120,6 +130,7 @@ module _ {M : Type 1} {𝓤 : Ura M} (𝓛 : Logic 𝓤) (R : RattleType) (token
   abbrev Renamed : (Names → ℕ → Fml) → List Names → ℕ → ℕ → ℕ → Names → Pr
   Renamed G cs i e e' c = ⟦ G c e' ⟧ -∗ ⟦ along R G (set cs i c) e ⟧
 
+  -- the cell at an index, and the way back under new names
   along_at : (G : Names → ℕ → Fml) (cs : List Names) (i e e' : ℕ) → e' ≡ i * s + e → i < length cs
       → ⟦ along R G cs e ⟧ ⊢ ⟦ G (cell_in cs i) e' ⟧ ∗ all 𝓤 (Renamed G cs i e e')
   along_at G [] i e e' is near = absurd (omega arith)
@@ -146,11 +157,13 @@ module _ {M : Type 1} {𝓤 : Ura M} (𝓛 : Logic 𝓤) (R : RattleType) (token
       use2 𝓛 (‵ (along R (owned R b) (set cs i c) o)) (apply∗ 𝓤 ⟦ owned R b c e ⟧ ⟦ along R (owned R b) (set cs i c) o ⟧) $
       rewrite ! 1 (λ (j : ℕ). ‵ (Rest j)) same refl $ fjoin ! $ nothing ! $ fpack ! (InBlock p × Fits R (m + left)) (λ _. ftrue) (so.0, subst (λ (j : ℕ). Fits R (j + left)) same so.1) $ done !))
 
+  -- a borrow of each cell makes a `&` to each
   lends_along : (L : Laws R) (l : Lft) → Incl l R.lives → (b : ℕ) (γs : List Names) (e : ℕ) → Lends 𝓛 (along R (owned R b) γs e) (along_lent R b γs e) l
   lends_along L l inc b [] e = Lends-nothing 𝓛 ftrue l
   lends_along L l inc b (γ ∷ γs) e = Lends-both 𝓛 (owned R b γ e) (along R (owned R b) γs (e + s)) (shared_at R γ b e) (along_lent R b γs (e + s)) l
       (Lends-first 𝓛 (still R b γ e) (rim R b e) (shared_at R γ b e) l (lends_cell R L γ 𝓛 b e l inc)) (lends_along L l inc b γs (e + s))
 
+  -- a borrow of the row makes a `&` to it
   pub lends_laid : (L : Laws R) (l : Lft) → Incl l R.lives → (p : Ptr) (γs : List Names) (left : ℕ) → Lends 𝓛 (laid R token p γs left) (laid_lent R p γs left) l
   lends_laid L l inc p γs left = let b : ℕ = block_of p in let o : ℕ = count_of p in let n : ℕ = length γs + left in let Row : Fml = along R (owned R b) γs o in let Rest : Fml = fsep (froom (ty_array τ left) b (length γs * s + o)) (token (row_ty R n) p) in
       Lends-both 𝓛 (lies R p n) (fsep Row Rest) (said (lies R p n)) (along_lent R b γs o) l (Lends-said 𝓛 (lies R p n) (λ _. tt) l) (Lends-first 𝓛 Row Rest (along_lent R b γs o) l (lends_along L l inc b γs o))

@@ -8,6 +8,7 @@ use Rattle.cell_core.specs.Laid.{cell_in}
 pub record BlockView : Type 0 where
   pub cells : List Names
 
+-- how a block is stored
 abbrev pub block_coded : Coded BlockView
 block_coded = coded_via (coded_list names_coded) (λ (b : BlockView). b.cells) (λ x y e i. record { cells = e i })
 
@@ -16,8 +17,10 @@ pub record PenView : Type 0 where
   pub place : ℕ
   pub cell : Names
 
+-- how a pen is stored
 abbrev pub pen_coded : Coded PenView
-pen_coded = coded_via (coded× coded_ℕ names_coded) (λ (p : PenView). (p.place, p.cell)) (λ x y e i. record { place = (e i).0; cell = (e i).1 })
+pen_coded = coded_via (coded× coded_ℕ names_coded) (λ (p : PenView). (p.place, p.cell))
+    (λ x y e i. record { place = (e i).0; cell = (e i).1 })
 
 -- the token of a filled cell: its place, its value, and the name that the value has
 pub record PlacedView (T : Type 0) : Type 0 where
@@ -25,6 +28,7 @@ pub record PlacedView (T : Type 0) : Type 0 where
   pub value : T
   pub name : ℕ
 
+-- how a token is stored
 abbrev pub placed_coded : {T : Type 0} → Coded T → Coded (PlacedView T)
 placed_coded {T} c =
     coded_via (coded× coded_ℕ (coded× c coded_ℕ)) (λ (p : PlacedView T). (p.place, (p.value, p.name)))

@@ -1,5 +1,6 @@
 -- What a raw cell owns and lends.
--- Each time the cell is lent it takes a turn: a lifetime, and a name that tracks what its room holds. One invariant holds the word, with the right to write or the shared value.
+-- Each time the cell is lent it takes a turn: a lifetime, and a name that tracks what its room holds. One invariant
+-- holds the word, with the right to write or the shared value.
 use Rattle.std.specs.Prelude.{◌≡◌, ℕ, zero, suc, ◌+◌, Option, Some, None}
 use Rattle.std.specs.Coded.{coded_option}
 use mir.Syntax.{w64, ty_int}
@@ -19,9 +20,12 @@ pub record Names : Type 0 where
   pub value : GName
   pub breach : GName
 
+-- how the names are stored
 abbrev pub names_coded : Coded Names
-names_coded = coded_via (coded× coded_ℕ coded_ℕ) (λ (n : Names). (n.value, n.breach)) (λ x y e i. record { value = (e i).0; breach = (e i).1 })
+names_coded = coded_via (coded× coded_ℕ coded_ℕ) (λ (n : Names). (n.value, n.breach))
+    (λ x y e i. record { value = (e i).0; breach = (e i).1 })
 
+-- a cell is free, busy with one writer, full, or broken
 pub data Phase (X : Type 0) : Type 0 where
   free : Phase X
   busy : Phase X
@@ -32,15 +36,19 @@ pub data Phase (X : Type 0) : Type 0 where
 abbrev pub Rest : Type 0 → Type 0
 Rest X = ℕ × Option X × Phase X
 
+-- a turn: the lifetime of the lending, and the name that tracks what the room holds
 abbrev pub Turn : Type 0
 Turn = Lft × GName
 
+-- a fact, as a formula
 abbrev pub fact : Type 0 → Fml
 fact φ = fex φ (λ _. ftrue)
 
+-- the word at a place of memory
 abbrev pub word : ℕ → ℕ → ℕ → Fml
 word b o n = fat full_share (ty_int w64) b o (vint w64 n)
 
+-- what the second name has once the cell is broken
 abbrev pub cross : Gv
 cross = gcons gnil gnil
 
@@ -49,15 +57,18 @@ abbrev pub spoilt : GName → Fml
 spoilt δ = fres δ cross
 
 module _ (R : RattleType) where
+  -- how what the room holds is stored
   abbrev pub content : Coded (Option R.Denot)
   content = coded_option R.coded
 
+  -- what the first name has in each phase
   abbrev pub mark : Phase R.Denot → Gv
   mark free = gnil
   mark busy = gnil
   mark (full x) = gcons (R.coded.code x) gnil
   mark broken = gnil
 
+  -- what the second name has in each phase
   abbrev pub crossed : Phase R.Denot → Gv
   crossed free = gnil
   crossed busy = gnil
@@ -73,16 +84,19 @@ module _ (R : RattleType) where
   place None b e = froom (raw (lone R.mir)) b e
   place (Some x) b e = part_at R full_share x b e
 
+  -- what the room holds in each phase
   abbrev pub Lies : Option R.Denot → Phase R.Denot → Type 0
   Lies v free = v ≡ None
   Lies v busy = Unit {0}
   Lies v (full x) = v ≡ Some x
   Lies v broken = v ≡ None
 
+  -- where the room begins, after the word
   abbrev pub at : ℕ → ℕ
   at o = o + up (align (lone R.mir)) 8
 
   module _ (γ : Names) where
+    -- both names, as the phase has them
     abbrev pub auths : Phase R.Denot → Fml
     auths s = fsep (fauth γ.value (mark s)) (fauth γ.breach (crossed s))
 
@@ -90,15 +104,18 @@ module _ (R : RattleType) where
     abbrev pub unset : Fml
     unset = fsep (fobs γ.value gnil) (fobs γ.breach gnil)
 
+    -- the word of each phase, with what goes with it
     abbrev pub told : ℕ → Phase R.Denot → Fml
     told n free = fsep (feq ℕ n 0) unset
     told n busy = feq ℕ n 1
     told n (full x) = fsep (feq ℕ n 2) (written γ.value x)
     told n broken = fsep (feq ℕ n 3) (fsep (spoilt γ.breach) (fobs γ.value gnil))
 
+    -- the names and the word
     abbrev pub named : ℕ → Phase R.Denot → Fml
     named n s = fsep (auths s) (told n s)
 
+    -- a cell that is not lent: its names, its word, and what its room holds
     abbrev pub resting : Rest R.Denot → Fml
     resting s = fsep (named s.0 s.2) (fact (Lies s.1 s.2))
 
@@ -115,13 +132,16 @@ module _ (R : RattleType) where
     sighted (suc (suc (suc zero))) v = spoilt γ.breach
     sighted (suc (suc (suc (suc n)))) v = ftrue
 
+    -- the same, for some value
     abbrev pub sights : ℕ → Fml
     sights n = fex (Option R.Denot) (sighted n)
 
     module _ (t : Turn) (b o : ℕ) where
+      -- the room, with what it holds told to the turn
       abbrev pub inside : Option R.Denot → Fml
       inside v = fsep (place v b (at o)) (fauth t.1 (content.code v))
 
+      -- the room, whatever it holds
       abbrev pub Room : Fml
       Room = fex (Option R.Denot) inside
 
@@ -129,27 +149,33 @@ module _ (R : RattleType) where
       abbrev pub empty : Fml
       empty = fobs t.1 (content.code None)
 
+      -- what the invariant knows of the room in each phase
       abbrev pub tie : Phase R.Denot → Fml
       tie free = empty
       tie busy = ftrue
       tie (full x) = fres t.1 (content.code (Some x))
       tie broken = empty
 
+      -- what the invariant has of the room in each phase
       abbrev pub lent : Phase R.Denot → Fml
       lent free = fbor t.0 Room
       lent busy = ftrue
       lent (full x) = shared_of R x b (at o) t.0
       lent broken = fbor t.0 Room
 
+      -- the word, the names, and what is known of the room
       abbrev pub tied : ℕ × Phase R.Denot → Fml
       tied s = fsep (word b (o + 0) s.0) (fsep (named s.0 s.1) (tie s.1))
 
+      -- the same, with what the invariant has of the room
       abbrev pub standing : ℕ × Phase R.Denot → Fml
       standing s = fsep (tied s) (lent s.1)
 
+      -- the whole invariant
       abbrev pub Cell : Fml
       Cell = fex (ℕ × Phase R.Denot) standing
 
+      -- a lending of the cell that is valid for a while
       abbrev pub kept : Lft → Fml
       kept κ = fsep (before κ t.0) (finv (fbor t.0 Cell))
 
@@ -162,9 +188,11 @@ module _ (R : RattleType) where
       won zero = Right
       won (suc n) = sights (suc n)
 
+    -- what a `&` to the cell holds
     abbrev pub shared_at : ℕ → ℕ → Lft → Fml
     shared_at b o κ = fex Turn (λ t. kept t b o κ)
 
+    -- the same, at a pointer
     abbrev pub shared : Ptr → Lft → Fml
     shared (block_ptr b o) κ = shared_at b o κ
     shared null_ptr κ = ffalse

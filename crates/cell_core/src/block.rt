@@ -80,14 +80,14 @@ impl<T, A: Allocator> Block<T, A> {
     {
         match self.cell(place).claim() {
             (0, claim) => Ok(Pen { place, claim }),
-            (2, claim) => Err(Found::Filled(Placed {
-                place,
-                written: claim.written(),
-            })),
-            (3, claim) => Err(Found::Broken(Spoilt {
-                place,
-                crack: claim.crack(),
-            })),
+            (2, claim) => {
+                let written = claim.written();
+                Err(Found::Filled(Placed { place, written }))
+            }
+            (3, claim) => {
+                let crack = claim.crack();
+                Err(Found::Broken(Spoilt { place, crack }))
+            }
             (_, claim) => {
                 claim.done();
                 Err(Found::Busy)
@@ -110,10 +110,10 @@ impl<T, A: Allocator> Block<T, A> {
                 let written = sight.written();
                 Look::Filled(cell.value(&written), Placed { place, written })
             }
-            (3, sight) => Look::Broken(Spoilt {
-                place,
-                crack: sight.crack(),
-            }),
+            (3, sight) => {
+                let crack = sight.crack();
+                Look::Broken(Spoilt { place, crack })
+            }
             (_, sight) => {
                 sight.unused();
                 Look::Busy
@@ -152,7 +152,7 @@ impl<T, A: Allocator> Block<T, A> {
         }
     }
 
-    /// The value of the cell, if it holds one. After it the cell is empty, and is another one: older tokens are not of it.
+    /// The value of the cell, if it holds one. The cell is empty then, and is another one: older tokens are not of it.
     pub fn take(&mut self, place: u64) -> Option<T>
         requires { place < block_len self.old }
         ensures len { block_len self.new ≡ block_len self.old }

@@ -1,15 +1,18 @@
 -- The parts of a row of raw cells: a cell more, a cell less, and what a `&` to the row shows. Assumes `Logic`.
-use Rattle.std.proofs.Common.{◌≡◌, ℕ, zero, suc, ◌+◌, ◌*◌, ◌^◌, ◌<◌, ◌≤◌, mul-le-mul_right, length-append, List, [], ◌∷◌, ◌++◌, length, set, length-set, sym, refl, ap, ◌∙◌, subst, arith, suc-mul, zero-mul, w64}
+use Rattle.std.proofs.Common.{◌≡◌, ℕ, zero, suc, ◌+◌, ◌*◌, ◌^◌, ◌<◌, ◌≤◌, ◌≢◌, mul-le-mul_right, length-append, List, [], ◌∷◌, ◌++◌, length, set, length-set, sym, refl, ap, ◌∙◌, subst, arith, suc-mul, zero-mul, w64}
 use seplogic.Ra.Ura.{Ura}
 use mir.Syntax.{Ty, ty_int, ty_array}
+use base.Stored.{Gv, gnil, gcons, gnum}
+use mathlib.Core.Logic.{dite}
+use native.Mathlib.Decide.{ℕ_discrete}
 use mir.Raw.{raw as bare}
 use types.Kit as Kit
 use base.Logic.{SProp, ent, sep, wand, all, all_e, guard, apply∗}
-use base.Fml.{Lft, Incl, Fml, ftrue, fsep, froom}
+use base.Fml.{GName, fobs, fauth, Lft, Incl, Fml, ftrue, fsep, froom}
 use prog.Memory.{size, up}
 use prog.RawLaws.{size-raw, align-raw}
 use types.Logic.{Logic, sem}
-use types.Kit.{‵, ◌⊛◌, ◌$◌, ◌∵◌, !, qed, by, move, keep, drop, use1, use2, split, fsplit, fsplit3, fjoin, fjoin3, fpick, fpack, check, frame, each, assume, rewrite, done}
+use types.Kit.{later, given, learn, await, updating, now, ‵, ◌⊛◌, ◌$◌, ◌∵◌, !, qed, by, move, keep, drop, use1, use2, split, fsplit, fsplit3, fjoin, fjoin3, fpick, fpack, check, frame, each, assume, rewrite, done}
 use Rattle.std.specs.Prelude.{Option, Some, None}
 use base.Fraction.{full_share}
 use types.Kit.{feq_l}
@@ -27,7 +30,7 @@ use denote.Param.Laws.{Laws, param_laws}
 use denote.Struct.Members.{Member}
 use Rattle.core.proofs.cell.Inside.{spread}
 use denote.Struct.Lending.{Lends, Lends-both, Lends-nothing, Lends-said, Lends-first}
-use Rattle.cell_core.specs.Slot.{Names, shared_at, Rest, place, resting, free, busy, full, broken}
+use Rattle.cell_core.specs.Slot.{Names, shared_at, Rest, place, resting, free, busy, full, broken, auths}
 use Rattle.cell_core.specs.Laid.{cell_ty, stride, row_ty, Fits, rooms, rim, still, owned, along, along_lent, lies, laid, laid_lent, cell_in}
 use Rattle.cell_core.proofs.CellLends.{lends_cell}
 use Rattle.cell_core.proofs.CellSteps.{shared_laws}
@@ -175,12 +178,37 @@ module _ {M : Type 1} {𝓤 : Ura M} (𝓛 : Logic 𝓤) (R : RattleType) (token
   cell_shown b κ (γ ∷ γs) (suc i) e e' is near = let z = suc-mul i s in qed 𝓛 (‵ (shared_at R γ b e κ) ∷ ‵ (along_lent R b γs (e + s) κ) ∷ []) ∵ keep ! (1 ∷ []) $ by ! (cell_shown b κ γs i (e + s) e' (omega arith) (omega arith))
 
   -- a cell whose word is 2 holds a value
-  pub filled_at : (γ : Names) (b e : ℕ) (r : Rest R.Denot) → r.0 ≡ 2 → ⟦ place R r.1 b e ⟧ ∗ ⟦ resting R γ r ⟧ ⊢ ⟦ fex R.Denot (λ x. part_at R full_share x b e) ⟧
+  pub filled_at : (γ : Names) (b e : ℕ) (r : Rest R.Denot) → r.0 ≡ 2 → ⟦ place R r.1 b e ⟧ ∗ ⟦ resting R γ r ⟧ ⊢ ⟦ fex R.Denot (λ x. part_at R full_share x b e) ⟧ ∗ ⟦ auths R γ r.2 ⟧
   filled_at γ b e (n, v, free) two = qed 𝓛 (‵ (place R v b e) ∷ ‵ (resting R γ (n, v, free)) ∷ []) ∵ move ! (1 ∷ []) $ fsplit ! $ fsplit ! $ move ! (1 ∷ []) $ fsplit ! $ feq_l ! (λ z. absurd (omega arith))
   filled_at γ b e (n, v, busy) two = qed 𝓛 (‵ (place R v b e) ∷ ‵ (resting R γ (n, v, busy)) ∷ []) ∵ move ! (1 ∷ []) $ fsplit ! $ fsplit ! $ move ! (1 ∷ []) $ feq_l ! (λ z. absurd (omega arith))
   filled_at γ b e (n, v, broken) two = qed 𝓛 (‵ (place R v b e) ∷ ‵ (resting R γ (n, v, broken)) ∷ []) ∵ move ! (1 ∷ []) $ fsplit ! $ fsplit ! $ move ! (1 ∷ []) $ fsplit ! $ feq_l ! (λ z. absurd (omega arith))
-  filled_at γ b e (n, v, full x) two = qed 𝓛 (‵ (place R v b e) ∷ ‵ (resting R γ (n, v, full x)) ∷ []) ∵ move ! (1 ∷ []) $ fsplit ! $ drop ! $ fpick ! (λ so. drop ! $
-      rewrite ! 0 (λ (u : Option R.Denot). ‵ (place R u b e)) so refl $ fpack ! R.Denot (λ y. part_at R full_share y b e) x $ done !)
+  filled_at γ b e (n, v, full x) two = qed 𝓛 (‵ (place R v b e) ∷ ‵ (resting R γ (n, v, full x)) ∷ []) ∵ move ! (1 ∷ []) $ fsplit ! $ fsplit ! $ move ! (2 ∷ []) $ fpick ! (λ so.
+      -- [true; the names; the word; the room]
+      keep ! (3 ∷ 1 ∷ []) $ rewrite ! 0 (λ (u : Option R.Denot). ‵ (place R u b e)) so refl $ fpack ! R.Denot (λ y. part_at R full_share y b e) x $ done !)
+
+  -- a value that is not this one
+  abbrev other_than : Gv → Gv
+  other_than gnil = gnum 0
+  other_than (gcons x y) = gnum 0
+  other_than (gnum n) = gnil
+
+  abbrev numbered : Gv → ℕ
+  numbered gnil = 0
+  numbered (gcons x y) = 0
+  numbered (gnum n) = 1
+
+  other_differs : (d : Gv) → other_than d ≢ d
+  other_differs gnil e = absurd (let z : 1 ≡ 0 = ap numbered e in omega arith)
+  other_differs (gcons x y) e = absurd (let z : 1 ≡ 0 = ap numbered e in omega arith)
+  other_differs (gnum n) e = absurd (let z : 0 ≡ 1 = ap numbered e in omega arith)
+
+  -- a name that can be set is not one that is in use
+  pub is_new : (γ δ : GName) (d : Gv) → A.obs δ gnil ∗ A.auth δ gnil ∗ A.auth γ d ⊢ H.⇛ (guard 𝓤 (δ ≢ γ) (A.obs δ gnil ∗ A.auth δ gnil))
+  is_new γ δ d = let c : Gv = other_than d in dite (ℕ_discrete δ γ)
+      (λ same. qed 𝓛 (‵ (fobs δ gnil) ∷ ‵ (fauth δ gnil) ∷ ‵ (fauth γ d) ∷ []) ∵ updating ! $ rewrite ! 2 (λ (k : ℕ). ‵ (fauth k d)) (sym same) refl $
+      use2 𝓛 (later (‵ (fobs δ c) ⊛ ‵ (fauth δ c))) (𝓛.names.name_set δ gnil gnil c) $ await ! tt $ split ! $ move ! (0 ∷ 2 ∷ []) $
+      use2 𝓛 (given (c ≡ d) (‵ (fobs δ c) ⊛ ‵ (fauth δ d))) (𝓛.names.name_agree δ c d) $ learn ! (λ e. absurd (other_differs d e)))
+      (λ other. qed 𝓛 (‵ (fobs δ gnil) ∷ ‵ (fauth δ gnil) ∷ ‵ (fauth γ d) ∷ []) ∵ updating ! $ now ! $ check ! other $ keep ! (0 ∷ 1 ∷ []) $ done !)
 
 -- a list that is not empty has a last member
 pub last_of : (cs : List Names) (j : ℕ) → length cs ≡ j + 1 → (front : List Names) × (c : Names) × (cs ≡ front ++ c ∷ []) × (j ≡ length front)

@@ -2,7 +2,7 @@
 use Rattle.std.specs.Prelude.{◌≡◌, ◌≢◌, ℕ, ◌<◌, List, length}
 use base.Stored.{Coded, coded×, coded_ℕ, coded_list, coded_via}
 use Rattle.cell_core.specs.Slot.{Names, names_coded}
-use Rattle.cell_core.specs.Laid.{cell_in}
+use Rattle.cell_core.specs.Laid.{IsAnother, cell_in}
 
 -- a block: the names of each cell
 pub record BlockView : Type 0 where
@@ -71,6 +71,10 @@ pub record IsPlacedAt {T : Type 0} (block : BlockView) (place : ℕ) (placed : P
 pub record IsSpoiltAt (block : BlockView) (place : ℕ) (spoilt : SpoiltView) : Type 0 where
   pub of : IsSpoiltIn block spoilt
   pub at : spoilt.place ≡ place
+
+-- the cell at the place is another one: no token of the old cell is of it
+abbrev pub RenewsCell : BlockView → BlockView → ℕ → Type 0
+RenewsCell old new place = IsAnother (cell_at old place) (cell_at new place)
 
 -- each cell but the one at the place keeps its names
 abbrev pub KeepsOthers : BlockView → BlockView → ℕ → Type 0

@@ -1,5 +1,5 @@
 -- What a row of raw cells owns and lends.
-use Rattle.std.specs.Prelude.{◌≡◌, ℕ, ◌+◌, ◌*◌, ◌^◌, ◌<◌, List, [], ◌∷◌, ◌++◌, length, get_or, slice_set}
+use Rattle.std.specs.Prelude.{◌≡◌, ◌≢◌, ℕ, ◌+◌, ◌*◌, ◌^◌, ◌<◌, List, [], ◌∷◌, ◌++◌, length, get_or, slice_set}
 use base.Fml.{Lft, Fml, ftrue, fsep, fex, fwand, froom}
 use mir.Syntax.{Ty, w64, ty_int, ty_array, ty_struct, tcons, tnil}
 use mir.Raw.{raw}
@@ -18,9 +18,17 @@ IsLinked at link = (at ≡ link) × (link ≡ block_ptr (block_of link) (count_o
 abbrev pub HasOneMore : List Names → List Names → Type 0
 HasOneMore old new = (n : Names) × (new ≡ old ++ n ∷ [])
 
--- the cell at the index has new names, and each other cell keeps its own
+-- the names of the cell at an index
+abbrev pub cell_in : List Names → ℕ → Names
+cell_in γs i = get_or γs i (record { value = 0; breach = 0 })
+
+-- a cell that has none of the names of the other
+abbrev pub IsAnother : Names → Names → Type 0
+IsAnother old new = (new.value ≢ old.value) × (new.breach ≢ old.breach)
+
+-- the cell at the index is another one, and each other cell keeps its names
 abbrev pub HasOneRenamed : List Names → ℕ → List Names → Type 0
-HasOneRenamed old i new = (n : Names) × (new ≡ slice_set old i n)
+HasOneRenamed old i new = (n : Names) × IsAnother (cell_in old i) n × (new ≡ slice_set old i n)
 
 module _ (R : RattleType) where
   -- the type of a cell: its word and its room
@@ -86,7 +94,3 @@ module _ (R : RattleType) where
   -- what a `&` to the row holds
   abbrev pub laid_lent : Ptr → List Names → ℕ → Lft → Fml
   laid_lent p γs left = beside (said (lies p (length γs + left))) (along_lent (block_of p) γs (count_of p))
-
--- the names of the cell at an index
-abbrev pub cell_in : List Names → ℕ → Names
-cell_in γs i = get_or γs i (record { value = 0; breach = 0 })

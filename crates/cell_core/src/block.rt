@@ -1,6 +1,6 @@
 //! A block of cells, laid raw in one row: each is a state word and room for one value.
 ghost use Rattle.std.specs.Prelude.{◌≡◌, ◌≢◌, ◌<◌, IfOk, IfErr};
-ghost use Rattle.cell_core.specs.Block.{block_len, cell_at, IsPenAt, IsPlacedIn, IsSpoiltIn, KeepsOthers};
+ghost use Rattle.cell_core.specs.Block.{block_len, cell_at, IsPenAt, IsPlacedIn, IsSpoiltIn, KeepsOthers, RenewsCell};
 ghost use Rattle.cell_core.specs.Shown.{IsFoundAt, IsLookAt};
 
 mod pen;
@@ -156,6 +156,7 @@ impl<T, A: Allocator> Block<T, A> {
     pub fn take(&mut self, place: u64) -> Option<T>
         requires { place < block_len self.old }
         ensures len { block_len self.new ≡ block_len self.old }
+        ensures another { RenewsCell self.old self.new place }
         ensures others { KeepsOthers self.old self.new place }
     {
         self.laid.take(self.link, place as usize)

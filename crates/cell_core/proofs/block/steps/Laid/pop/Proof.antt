@@ -8,7 +8,7 @@ use base.Logic.{SProp, ent, emp, id⊢, apply∗, all, all_e}
 use base.Fml.{Fml, ftrue, fsep, flft, froom, fex}
 use prog.Wp.{WpFn, Wp, after_seq, after_block}
 use types.Logic.{sem}
-use types.Kit.{◌∵◌, ‵, raw, ◌⊛◌, given, at_ret, ◌$◌, !, qed, by, move, keep, use0, use1, use2, split, join, fsplit, fsplit3, fjoin, fjoin3, learn, suffices, rewrite, feq_i, fpick, post, any_q}
+use types.Kit.{drop, ◌∵◌, ‵, raw, ◌⊛◌, given, at_ret, ◌$◌, !, qed, by, move, keep, use0, use1, use2, split, join, fsplit, fsplit3, fjoin, fjoin3, learn, suffices, rewrite, feq_i, fpick, post, any_q}
 use types.Run.{stop, fld, load, addr, size_word, of_opd, bin, first, blocks, exec, returns, enter, look_raw, lit, branches, no_more, and_then}
 use types.ByLocal.{alloc_all, pass_all, free_all, look_at, get, get_in, through, sets, sets_last, is, env}
 use types.Part.{sub, whole as all_of_it, agg}
@@ -27,7 +27,7 @@ use denote.Triple.Walked.{Stays, stay_dropped, stay_ref, walk_of, Goes-dropped, 
 use Rattle.core.proofs.atomic.Steps.{tail}
 use Rattle.core.proofs.slots.Bodies.{after, head}
 use Rattle.atomic_table.proofs.Walks.{proved, leaves}
-use Rattle.cell_core.specs.Slot.{Names, word, at}
+use Rattle.cell_core.specs.Slot.{Names, word, at, auths}
 use Rattle.cell_core.specs.Laid.{laid, stride, rooms, still, IsLinked, HasOneMore}
 use Rattle.cell_core.specs.contracts.block.steps.Link as link
 use Rattle.cell_core.specs.contracts.block.steps.Laid as loose
@@ -79,7 +79,7 @@ pop_spec 𝓤 𝓛 𝓜 𝓡 wired T Al L _ ga da dd _ _ =
     let h' : Lo.Denot = record { marker = h.marker; heap = h.heap; at = p; cells = cs; left = suc h.left } in let Kept : Type 0 = (h.heap ≡ h.heap) × (p ≡ h.at) × HasOneMore cs h.cells × (suc h.left ≡ h.left + 1) in
     -- [the word; the room; the names; the way back; ..]
     sets ! (bin ! (get ! refl) (lit ! tt) tt) refl (tt, tt) $ first ! $ branches ! (get ! refl)
-    (λ hit. move ! (1 ∷ 2 ∷ []) $ use2 𝓛 (‵ (fex R.Denot (λ x. part_at R full_share x b i))) (parts.filled_at 𝓛 R token γ b i r (eqb→eq n 2 hit)) $ fpick ! (λ x. spread m ! LR x b i (λ v good. let val : Val = live 1 (vcons v vnil) in
+    (λ hit. move ! (1 ∷ 2 ∷ []) $ use2 𝓛 (‵ (fex R.Denot (λ x. part_at R full_share x b i)) ⊛ ‵ (auths R γ r.2)) (parts.filled_at 𝓛 R token γ b i r (eqb→eq n 2 hit)) $ split ! $ move ! (1 ∷ []) $ drop ! $ fpick ! (λ x. spread m ! LR x b i (λ v good. let val : Val = live 1 (vcons v vnil) in
     sets ! (addr ! (through ! refl (fld ! refl (stop !)))) refl (tt, tt) $ sets ! (of_opd ! (load ! (through ! refl (stop !)) (look_raw ! 0 refl))) refl good $ move ! (1 ∷ []) $
     use1 𝓛 (‵ (O.own_val (Some x) (val ∷ []))) (Some-of 𝓛 R x v) $ peeks ! O (Is O) (shows 𝓛 O) (Some x) (val ∷ []) (λ is-v. let fine = ((LO.lawful 𝓛).typed (Some x) (val ∷ []) is-v).0 in
     sets_last ! (agg ! (and_then ! (lit ! tt) (and_then ! (get ! refl) (no_more !)))) refl fine $ exec ! 𝓣.C 𝓣.Λ Ev last Q $ sets_last ! (of_opd ! (get ! refl)) refl fine $ exec ! 𝓣.C 𝓣.Λ Ev (tail fn.body) (at_ret Ev Post) $ sets ! (of_opd ! (get ! refl)) refl fine $

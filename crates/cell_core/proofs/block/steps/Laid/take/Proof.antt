@@ -1,14 +1,14 @@
 -- `take` reads the value of a cell, if its word is 2, and leaves an empty cell with new names.
-use Rattle.std.proofs.Common.{◌≡◌, ℕ, set, ◌+◌, length, ◌*◌, ◌^◌, ◌<◌, List, [], ◌∷◌, sym, refl, ap, subst, arith, w64, lit<, eqb→eq}
+use Rattle.std.proofs.Common.{◌≡◌, ◌≢◌, ℕ, set, ◌+◌, length, ◌*◌, ◌^◌, ◌<◌, List, [], ◌∷◌, sym, refl, ap, subst, arith, w64, lit<, eqb→eq}
 use Rattle.std.specs.Prelude.{Some, None}
 use mir.Syntax.{Ty, a_type, dcons, dnil, named, ty_int}
 use mir.Val.{Val, vint, vptr, vcons, vnil, has_ty, WT}
 use mir.MapTy.{inst_fn}
 use base.Logic.{SProp, ent, emp, id⊢, apply∗, all, all_e}
-use base.Fml.{Fml, ftrue, fsep, flft, froom, fex}
+use base.Fml.{fobs, fauth, Fml, ftrue, fsep, flft, froom, fex}
 use prog.Wp.{WpFn, Wp, after_seq, after_block}
 use types.Logic.{sem}
-use types.Kit.{◌∵◌, ‵, raw, ◌⊛◌, given, at_ret, ◌$◌, !, qed, by, move, keep, use0, use1, use2, split, join, fsplit, fsplit3, fjoin, fjoin3, learn, suffices, rewrite, feq_i, fpick, fpack, post, any_q}
+use types.Kit.{later, await, use3, drop, ◌∵◌, ‵, raw, ◌⊛◌, given, at_ret, ◌$◌, !, qed, by, move, keep, use0, use1, use2, split, join, fsplit, fsplit3, fjoin, fjoin3, learn, suffices, rewrite, feq_i, fpick, fpack, post, any_q}
 use types.Run.{stop, fld, load, addr, size_word, of_opd, bin, first, blocks, exec, returns, enter, look_raw, lit, branches, no_more, and_then, assigns, store}
 use types.ByLocal.{alloc_all, pass_all, free_all, look_at, get, get_in, through, sets, sets_last, is, env}
 use types.Part.{sub, whole as all_of_it, agg}
@@ -27,7 +27,7 @@ use denote.Triple.Walked.{Stays, stay_dropped, stay_ref, walk_of, Goes-dropped, 
 use Rattle.core.proofs.atomic.Steps.{tail}
 use Rattle.core.proofs.slots.Bodies.{after, head}
 use Rattle.atomic_table.proofs.Walks.{proved, leaves}
-use Rattle.cell_core.specs.Slot.{Names, Rest, Lies, free, word, at}
+use Rattle.cell_core.specs.Slot.{Names, Rest, Lies, free, word, at, auths, mark, crossed}
 use Rattle.cell_core.specs.Laid.{laid, stride, rests, still, cell_in, IsLinked, HasOneRenamed}
 use Rattle.cell_core.specs.contracts.block.steps.Link as link
 use Rattle.cell_core.specs.contracts.block.steps.Laid as loose
@@ -82,30 +82,36 @@ take_spec 𝓤 𝓛 𝓜 𝓡 wired T Al L _ ga da dd _ _ =
     -- [the word; the room; the names; the way back; ..]
     assigns ! (of_opd ! (lit ! tt)) (through ! refl (stop !)) (store ! 0 refl (tt, record { fits = lit< tt })) $
     sets ! (bin ! (get ! refl) (lit ! tt) tt) refl (tt, tt) $ first ! $ branches ! (get ! refl)
-    (λ hit. move ! (1 ∷ 2 ∷ []) $ use2 𝓛 (‵ (fex R.Denot (λ x. part_at R full_share x b i))) (parts.filled_at 𝓛 R token γ b i r (eqb→eq n 2 hit)) $ fpick ! (λ x. spread m ! LR x b i (λ v good. let val : Val = live 1 (vcons v vnil) in
+    (λ hit. move ! (1 ∷ 2 ∷ []) $ use2 𝓛 (‵ (fex R.Denot (λ x. part_at R full_share x b i)) ⊛ ‵ (auths R γ r.2)) (parts.filled_at 𝓛 R token γ b i r (eqb→eq n 2 hit)) $ split ! $ fpick ! (λ x. spread m ! LR x b i (λ v good. let val : Val = live 1 (vcons v vnil) in
     sets ! (addr ! (through ! refl (fld ! refl (stop !)))) refl (tt, tt) $ sets ! (of_opd ! (load ! (through ! refl (stop !)) (look_raw ! 0 refl))) refl good $ move ! (1 ∷ []) $
     use1 𝓛 (‵ (O.own_val (Some x) (val ∷ []))) (Some-of 𝓛 R x v) $ peeks ! O (Is O) (shows 𝓛 O) (Some x) (val ∷ []) (λ is-v. let fine = ((LO.lawful 𝓛).typed (Some x) (val ∷ []) is-v).0 in
     sets_last ! (agg ! (and_then ! (lit ! tt) (and_then ! (get ! refl) (no_more !)))) refl fine $ exec ! 𝓣.C 𝓣.Λ Ev last Q $ sets_last ! (of_opd ! (get ! refl)) refl fine $ exec ! 𝓣.C 𝓣.Λ Ev (tail fn.body) (at_ret Ev Post) $ sets ! (of_opd ! (get ! refl)) refl fine $
     -- [the value; the room; the word; the way back; ..]
-    move ! (1 ∷ []) $ use1 𝓛 (‵ (froom (bare (layout T)) b i)) (𝓛.laws.at_room (bare (layout T)) b i v) $ move ! (2 ∷ 0 ∷ 3 ∷ 1 ∷ []) $
-    name_new ! tt gnil (λ γv. name_new ! tt gnil (λ γb. let γ' : Names = record { value = γv; breach = γb } in let h' : Lo.Denot = After γ' in
+    move ! (1 ∷ []) $ use1 𝓛 (‵ (froom (bare (layout T)) b i)) (𝓛.laws.at_room (bare (layout T)) b i v) $ move ! (2 ∷ 3 ∷ 0 ∷ 4 ∷ 1 ∷ []) $ fsplit ! $
+    -- [the old names; the word; the room; the way back; ..]
+    name_new ! tt gnil (λ γv. use3 𝓛 (later (given (γv ≢ γ.value) (‵ (fobs γv gnil) ⊛ ‵ (fauth γv gnil)))) (parts.is_new 𝓛 R token γ.value γv (mark R r.2)) $ await ! tt $ learn ! (λ nv. split ! $ move ! (2 ∷ []) $
+    name_new ! tt gnil (λ γb. use3 𝓛 (later (given (γb ≢ γ.breach) (‵ (fobs γb gnil) ⊛ ‵ (fauth γb gnil)))) (parts.is_new 𝓛 R token γ.breach γb (crossed R r.2)) $ await ! tt $ learn ! (λ nb. split ! $
+    let γ' : Names = record { value = γv; breach = γb } in let h' : Lo.Denot = After γ' in
     let Kept : Type 0 = (h.heap ≡ h.heap) × (p ≡ h.at) × HasOneRenamed cs j h'.cells × (h.left ≡ h.left) in
     -- [the right to break; its name; the right to fill; its name; the word; the room; the way back; ..]
     move ! (2 ∷ 0 ∷ []) $ fjoin ! $ feq_i ! ℕ 0 0 refl $ fjoin ! $ move ! (2 ∷ 1 ∷ []) $ fjoin ! $ fjoin ! $ nothing ! $ fpack ! (Lies R None free) (λ _. ftrue) refl $ move ! (1 ∷ 0 ∷ []) $ fjoin ! $
     move ! (1 ∷ 2 ∷ 0 ∷ []) $ fjoin3 ! $ fpack ! (Rest R.Denot) (rests R b γ' e) (0, None, free) $ move ! (1 ∷ []) $ use1 𝓛 (raw (Back γ')) (all_e 𝓤 Back γ') $ move ! (1 ∷ 0 ∷ []) $
     use2 𝓛 (‵ (laid R token p h'.cells h.left)) (apply∗ 𝓤 (sem 𝓛 (still R b γ' e)) (sem 𝓛 (laid R token p h'.cells h.left))) $
     move ! (2 ∷ 0 ∷ []) $ fjoin ! $ move ! (2 ∷ 0 ∷ 3 ∷ 4 ∷ 5 ∷ []) $ closes ! tt Lo h' ts b' o' $ feq_i ! (List Val) (vptr b' o' ∷ []) (vptr b' o' ∷ []) refl $ fjoin3 ! $ nothing ! $ nothing ! $ fjoin ! $ nothing ! $ fjoin ! $ move ! (1 ∷ 0 ∷ []) $ fjoin ! $ move ! (1 ∷ 3 ∷ []) $ join ! $
-    use0 𝓛 (raw (fact 𝓤 Kept)) (fact_i 𝓤 Kept (emp 𝓤) (refl, sym asked.0.0, (γ', refl), refl)) $
-    returns ! (look_at ! 0 refl) $ free_all ! refl $ keep ! (1 ∷ 2 ∷ 3 ∷ 0 ∷ []) $ by ! (leaves 𝓛 En hs c y val (Some x) (h', (tt, (tt, tt))) (tt, (tt, (tt, tt))))))))))
+    use0 𝓛 (raw (fact 𝓤 Kept)) (fact_i 𝓤 Kept (emp 𝓤) (refl, sym asked.0.0, (γ', (nv, nb), refl), refl)) $
+    returns ! (look_at ! 0 refl) $ free_all ! refl $ keep ! (1 ∷ 2 ∷ 3 ∷ 0 ∷ []) $ by ! (leaves 𝓛 En hs c y val (Some x) (h', (tt, (tt, tt))) (tt, (tt, (tt, tt))))))))))))
     (λ miss. let val : Val = live 0 vnil in sets_last ! (agg ! (and_then ! (lit ! tt) (no_more !))) refl (tt, (record { fits = lit< tt }, tt)) $ exec ! 𝓣.C 𝓣.Λ Ev last Q $ sets_last ! (of_opd ! (get ! refl)) refl (tt, (record { fits = lit< tt }, tt)) $
     exec ! 𝓣.C 𝓣.Λ Ev (tail fn.body) (at_ret Ev Post) $ sets ! (of_opd ! (get ! refl)) refl (tt, (record { fits = lit< tt }, tt)) $
-    move ! (1 ∷ []) $ use1 𝓛 (‵ (froom (bare (layout T)) b i)) (parts.emptied T L 𝓛 b i r.1) $ move ! (1 ∷ 0 ∷ 3 ∷ []) $
-    name_new ! tt gnil (λ γv. name_new ! tt gnil (λ γb. let γ' : Names = record { value = γv; breach = γb } in let h' : Lo.Denot = After γ' in
+    move ! (1 ∷ []) $ use1 𝓛 (‵ (froom (bare (layout T)) b i)) (parts.emptied T L 𝓛 b i r.1) $ move ! (2 ∷ []) $ fsplit ! $ fsplit ! $ fsplit ! $ move ! (3 ∷ []) $ drop ! $ move ! (0 ∷ 1 ∷ 4 ∷ 3 ∷ 5 ∷ 2 ∷ []) $
+    -- [the old names; the word; the room; the way back; ..]
+    name_new ! tt gnil (λ γv. use3 𝓛 (later (given (γv ≢ γ.value) (‵ (fobs γv gnil) ⊛ ‵ (fauth γv gnil)))) (parts.is_new 𝓛 R token γ.value γv (mark R r.2)) $ await ! tt $ learn ! (λ nv. split ! $ move ! (2 ∷ []) $
+    name_new ! tt gnil (λ γb. use3 𝓛 (later (given (γb ≢ γ.breach) (‵ (fobs γb gnil) ⊛ ‵ (fauth γb gnil)))) (parts.is_new 𝓛 R token γ.breach γb (crossed R r.2)) $ await ! tt $ learn ! (λ nb. split ! $
+    let γ' : Names = record { value = γv; breach = γb } in let h' : Lo.Denot = After γ' in
     let Kept : Type 0 = (h.heap ≡ h.heap) × (p ≡ h.at) × HasOneRenamed cs j h'.cells × (h.left ≡ h.left) in
     -- [the right to break; its name; the right to fill; its name; the word; the room; the way back; ..]
     move ! (2 ∷ 0 ∷ []) $ fjoin ! $ feq_i ! ℕ 0 0 refl $ fjoin ! $ move ! (2 ∷ 1 ∷ []) $ fjoin ! $ fjoin ! $ nothing ! $ fpack ! (Lies R None free) (λ _. ftrue) refl $ move ! (1 ∷ 0 ∷ []) $ fjoin ! $
     move ! (1 ∷ 2 ∷ 0 ∷ []) $ fjoin3 ! $ fpack ! (Rest R.Denot) (rests R b γ' e) (0, None, free) $ move ! (1 ∷ []) $ use1 𝓛 (raw (Back γ')) (all_e 𝓤 Back γ') $ move ! (1 ∷ 0 ∷ []) $
     use2 𝓛 (‵ (laid R token p h'.cells h.left)) (apply∗ 𝓤 (sem 𝓛 (still R b γ' e)) (sem 𝓛 (laid R token p h'.cells h.left))) $
     move ! (2 ∷ 0 ∷ []) $ fjoin ! $ move ! (2 ∷ 0 ∷ 3 ∷ 4 ∷ 5 ∷ []) $ closes ! tt Lo h' ts b' o' $ feq_i ! (List Val) (vptr b' o' ∷ []) (vptr b' o' ∷ []) refl $ fjoin3 ! $ nothing ! $ nothing ! $ fjoin ! $ nothing ! $ fjoin ! $ move ! (1 ∷ 0 ∷ []) $ fjoin ! $ move ! (1 ∷ 3 ∷ []) $ join ! $ use0 𝓛 (‵ (O.own_val None (val ∷ []))) (none_of 𝓛 R) $ move ! (1 ∷ 2 ∷ 0 ∷ []) $
-    use0 𝓛 (raw (fact 𝓤 Kept)) (fact_i 𝓤 Kept (emp 𝓤) (refl, sym asked.0.0, (γ', refl), refl)) $
-    returns ! (look_at ! 0 refl) $ free_all ! refl $ keep ! (1 ∷ 2 ∷ 3 ∷ 0 ∷ []) $ by ! (leaves 𝓛 En hs c y val None (h', (tt, (tt, tt))) (tt, (tt, (tt, tt))))))))))))))
+    use0 𝓛 (raw (fact 𝓤 Kept)) (fact_i 𝓤 Kept (emp 𝓤) (refl, sym asked.0.0, (γ', (nv, nb), refl), refl)) $
+    returns ! (look_at ! 0 refl) $ free_all ! refl $ keep ! (1 ∷ 2 ∷ 3 ∷ 0 ∷ []) $ by ! (leaves 𝓛 En hs c y val None (h', (tt, (tt, tt))) (tt, (tt, (tt, tt))))))))))))))))

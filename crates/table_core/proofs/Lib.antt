@@ -1,0 +1,4 @@
+mod Fits
+mod Sent
+mod Sights
+mod Values

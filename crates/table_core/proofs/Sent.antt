@@ -1,0 +1,56 @@
+-- What an entry holds, and what a sight knows, says the same to every thread.
+use Rattle.std.proofs.Common.{ℕ, ◌+◌}
+use base.Shift.{Keyless}
+use denote.RattleType.{RattleType}
+use denote.RawPtr.{null_ptr}
+use denote.Param.Send.{IsSend, IsSync, sendable, struct_send, recorded_send}
+use denote.Struct.Owning
+use denote.Struct.Struct
+use denote.Struct.Declared.{shape}
+use Rattle.core.specs.Sync.Atomic.Pointer.{atomic_ptr_holding}
+use Rattle.core.proofs.atomic.Sent.{chain-Keyless}
+use Rattle.core.proofs.atomic.ptr.AtomicPtr.TheSendSync as atomic
+use Rattle.std.proofs.alloc.Global.TheSendSync as heap
+use Rattle.std.specs.declared.option.Option.{Option}
+use Rattle.std.specs.declared.option.Option.TheVariants.{None, Some}
+use Rattle.once_cell.proofs.Sent.{kept_keyless, shown_keyless}
+use Rattle.table_core.specs.Entry.{length_of, name_of, noted, Fit}
+use Rattle.table_core.specs.declared.entry.steps.Measured.{Ghosts}
+use Rattle.table_core.specs.contracts.entry.steps.Entry as Entry
+use Rattle.table_core.specs.contracts.entry.steps.Entry.TheInside as inside
+use Rattle.table_core.specs.contracts.entry.steps.Sight as Sight
+
+-- a block of the length goes where a block goes
+fit_send : (R : RattleType) (measure : R.Denot → ℕ) (n : ℕ) → IsSend R → IsSend (Fit R measure n)
+fit_send R measure n s = record { owned = λ x vs. (s.owned x vs, λ _. tt); leaving = λ k d w. tt }
+
+fit_sync : (R : RattleType) (measure : R.Denot → ℕ) (n : ℕ) → IsSync R → IsSync (Fit R measure n)
+fit_sync R measure n y = record { shared = λ x b o κ. (y.shared x b o κ, λ _. tt) }
+
+fields_send : (R : RattleType) (g : Ghosts R.Denot) → IsSend (inside.the_row R g)
+fields_send R g = recorded_send (inside.the_field R g).row _ _ (inside.the_type R g).to_one (struct_send (shape (inside.the_type R g)) (atomic.the_field_send R, (heap.the_field_send, tt)))
+
+pub entry_send : (R : RattleType) (g : Ghosts R.Denot) → IsSend R → IsSend (Entry.the_row R g)
+entry_send R g s = record {
+  owned = λ e vs. ((λ _. tt), λ p. ((fields_send R g).owned (record { word = atomic_ptr_holding p; alloc = e.0 }) vs, kept_keyless (Fit R g.measure (length_of e)) (fit_send R g.measure (length_of e) s) e.0 (name_of e) p));
+  leaving = λ k d w. tt;
+}
+
+pub entry_sync : (R : RattleType) (g : Ghosts R.Denot) → IsSend R → IsSync R → IsSync (Entry.the_row R g)
+entry_sync R g s y = record {
+  shared = λ e b o κ. (
+    (λ α. ((λ νs. chain-Keyless νs κ α), λ p. (tt, shown_keyless (Fit R g.measure (length_of e)) (fit_send R g.measure (length_of e) s) (fit_sync R g.measure (length_of e) y) e.0 (name_of e) α p))),
+    (atomic.the_sync R).shared (atomic_ptr_holding null_ptr) b (o + 0) κ,
+  );
+}
+
+noted_keyless : (R : RattleType) (γ : ℕ) (k : Option R.Denot) → Keyless (noted R γ k)
+noted_keyless R γ None = tt
+noted_keyless R γ (Some x) = tt
+
+pub sight_send : (R : RattleType) → IsSend (Sight.the_row R)
+sight_send R = record { owned = λ d vs. ((λ vss. (tt, ((λ uss. (tt, tt)), tt))), noted_keyless R d.of d.known); leaving = λ k f vs. tt }
+
+pub sight_sync : (R : RattleType) → IsSync (Sight.the_row R)
+sight_sync R = let fields : IsSync (denote.Struct.Struct.Struct (denote.Struct.Owning.shape (Sight.the_type R))) = search sendable depth 20 in
+    record { shared = λ d b o κ. (fields.shared (tt, tt) b o κ, noted_keyless R d.of d.known) }

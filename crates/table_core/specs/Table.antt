@@ -1,0 +1,54 @@
+-- A table of entries as callers see it, and the keys of its entries.
+use Rattle.std.specs.Prelude.{◌≡◌, ℕ, ◌+◌, ◌<◌, List, [], slice_index, slice_index_or}
+use base.Stored.{Coded, coded×, coded_ℕ, coded_list, coded_via}
+use Rattle.std.specs.declared.option.Option.{Option}
+use Rattle.std.specs.declared.option.Option.TheVariants.{None, Some}
+use Rattle.seg_core.specs.Segment.{segment_start, segment_end}
+use Rattle.cell_core.specs.Row.{RowView as BlockView, row_len as block_len}
+use Rattle.table_core.specs.Entry.{EntryView, length_of}
+
+-- a table: the name of each entry
+pub record TableView : Type 0 where
+  pub names : List ℕ
+
+-- the key of an entry: the entry's number, its block, and its name
+pub record KeyView : Type 0 where
+  pub entry : ℕ
+  pub block : BlockView
+  pub name : ℕ
+
+abbrev pub block_coded : Coded BlockView
+block_coded = coded_via (coded_list coded_ℕ) (λ (b : BlockView). b.names) (λ x y e i. record { names = e i })
+
+abbrev pub key_coded : Coded KeyView
+key_coded =
+    coded_via (coded× coded_ℕ (coded× block_coded coded_ℕ)) (λ (k : KeyView). (k.entry, (k.block, k.name)))
+    (λ x y e i. record { entry = (e i).0; block = (e i).1.0; name = (e i).1.1 })
+
+-- the number of places of a segment
+abbrev pub IsLengthOf : ℕ → ℕ → Type 0
+IsLengthOf k n = segment_start k + n ≡ segment_end k
+
+-- the block has as many cells as the segment has places
+abbrev pub IsBlockOf : ℕ → BlockView → Type 0
+IsBlockOf k block = IsLengthOf k (block_len block)
+
+-- the key is of an entry of the table
+pub record IsKeyIn (table : TableView) (key : KeyView) : Type 0 where
+  pub within : key.entry < 32
+  pub named : slice_index table.names key.entry ≡ key.name
+
+-- the key is of this entry, and of this block
+pub record IsKeyOf (table : TableView) (k : ℕ) (block : BlockView) (key : KeyView) : Type 0 where
+  pub inside : IsKeyIn table key
+  pub at : key.entry ≡ k
+  pub of : key.block ≡ block
+
+-- each entry is as long as its segment
+abbrev pub AllLong : List EntryView → Type 0
+AllLong entries = (k : ℕ) (e : EntryView) → k < 32 → IsLengthOf k (length_of (slice_index_or entries k e))
+
+-- the block that is known, if any is
+abbrev pub block_of : Option BlockView → BlockView
+block_of None = record { names = [] }
+block_of (Some block) = block

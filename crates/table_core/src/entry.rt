@@ -1,0 +1,5 @@
+// An entry, and what callers carry of it.
+mod loose;
+mod steps;
+
+pub(crate) use steps::{Entry, Measured, Sight};

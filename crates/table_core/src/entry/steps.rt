@@ -1,0 +1,195 @@
+// The raw steps on one entry, each a few lines round one atomic step. The word is null, or points to a block that the
+// entry owns.
+ghost use Rattle.std.specs.Prelude.{◌≡◌, ℕ, MatchOption, IfSome};
+ghost use base.Fml.{fsep};
+ghost use denote.RawPtr.{null_ptr};
+ghost use denote.Sharing.{said};
+ghost use Rattle.std.specs.Coded.{coded_option};
+ghost use Rattle.std.specs.Sync.Atomic.Pointer.{atomic_ptr_value, atomic_ptr_holding};
+ghost use Rattle.std.specs.declared.option.Option.{Option};
+ghost use Rattle.std.specs.declared.option.Option.TheVariants.{None, Some};
+ghost use Rattle.std.specs.declared.alloc.Global.{Global as Heap};
+ghost use Rattle.table_core.specs.Entry.{owned, shared, noted, Agrees, length_of, name_of};
+
+use crate::entry::loose::Loose;
+use std::alloc::Global;
+use std::marker::{Brand, Model, Move, Owns, PhantomData};
+use std::ptr::null_mut;
+use std::sync::atomic::AtomicPtr;
+use std::sync::atomic::Ordering::SeqCst;
+
+// How long a block is.
+pub(crate) trait Measured {
+    ghost measure: { Self → ℕ };
+}
+
+// A word that is set at most once, to a block of the entry's length.
+pub(crate) struct Entry<B: Measured> {
+    word: AtomicPtr<B>,
+    alloc: Global,
+}
+
+impl<B: Measured> Owns for Entry<B> {
+    ghost Value = { Heap × ℕ × ℕ };
+
+    ghost shr_at = { λ e p κ. shared B.row B.measure e p κ };
+}
+
+impl<B: Measured> Move for Entry<B> {
+    ghost own_val = { λ e vs. owned B.row B.measure e (λ p. Fields.own_val (record { word = atomic_ptr_holding p; alloc = e.0 }) vs) };
+}
+
+// What was seen of an entry: nothing yet, or its block for good. It has no bytes.
+pub(crate) struct Sight<B> {
+    marker: PhantomData<B>,
+    pub(crate) ghost of: { ℕ },
+    pub(crate) ghost known: { Option B } by { coded_option B.code },
+}
+
+impl<B> Model for Sight<B> {
+    ghost also_owns = { λ s. noted B.row s.of s.known };
+
+    ghost also_shares = { λ s _ κ. said (noted B.row s.of s.known) κ };
+}
+
+impl<B: Measured> Entry<B> {
+    // An entry for blocks of this length, which only proofs read. Nothing is installed.
+    pub(crate) fn new(alloc: Global, length: u64) -> Entry<B>
+        ensures { length_of result ≡ length }
+    {
+        Entry::empty(AtomicPtr::new(null_mut()), alloc, length)
+    }
+
+    fn empty(word: AtomicPtr<B>, alloc: Global, length: u64) -> Entry<B>
+        requires { atomic_ptr_value word ≡ null_ptr }
+        ensures { length_of result ≡ length }
+    {
+        Entry { word, alloc }
+    }
+
+    // A sight that knows nothing yet.
+    pub(crate) fn sight(&self) -> Sight<B>
+        ensures { (result.of ≡ name_of self.now) × (result.known ≡ None) }
+    {
+        Sight {
+            marker: PhantomData,
+        }
+    }
+
+    // The look: one load. It shows nothing only where the sight knows nothing, and else the one block that is ever seen.
+    pub(crate) fn look<'a>(&'a self, sight: &mut Sight<B>) -> Option<&'a B>
+        requires { sight.old.of ≡ name_of self.now }
+        ensures same { sight.new.of ≡ sight.old.of }
+        ensures block { MatchOption result ((sight.old.known ≡ None) × (sight.new.known ≡ None)) (λ b. (sight.new.known ≡ Some b.now) × Agrees sight.old.known b.now) }
+        ensures length { IfSome result (λ b. B.measure b.now ≡ length_of self.now) }
+    {
+        let at = unsafe { self.word.load::<Brand>(SeqCst) };
+        if at.is_null() {
+            None
+        } else {
+            Some(unsafe { &*at })
+        }
+    }
+
+    // The setting once: one exchange of null. It gives the entry's block, and gives `block` back where another came first.
+    fn offer<'a>(
+        &'a self,
+        block: Loose<B, Global>,
+        sight: &mut Sight<B>,
+    ) -> (&'a B, Option<Loose<B, Global>>)
+        requires of { sight.old.of ≡ name_of self.now }
+        requires length { B.measure block.value ≡ length_of self.now }
+        ensures same { sight.new.of ≡ sight.old.of }
+        ensures block { (sight.new.known ≡ Some result.0.now) × Agrees sight.old.known result.0.now }
+        ensures back { MatchOption result.1 ((result.0.now ≡ block.value) × (sight.old.known ≡ None)) (λ l. l.value ≡ block.value) }
+        ensures length { B.measure result.0.now ≡ length_of self.now }
+    {
+        let at = block.at;
+        match unsafe {
+            self.word
+                .compare_exchange::<Brand>(null_mut(), at, SeqCst, SeqCst)
+        } {
+            Ok(_) => {
+                let Loose { at: _, alloc: _ } = block;
+                (unsafe { &*at }, None)
+            }
+            Err(first) => (unsafe { &*first }, Some(block)),
+        }
+    }
+
+    fn into_loose(self) -> Option<Loose<B, Global>>
+        ensures { IfSome result (λ l. B.measure l.value ≡ length_of self) }
+    {
+        let Entry { word, alloc } = self;
+        let at = word.into_inner();
+        if at.is_null() {
+            None
+        } else {
+            Some(Loose { at, alloc })
+        }
+    }
+}
+
+impl<B: Measured + Drop> Entry<B> {
+    // Sets the entry to the block, unless another came first; then the block is dropped. It gives the entry's block.
+    pub(crate) fn set<'a>(&'a self, block: Box<B>, sight: &mut Sight<B>) -> &'a B
+        requires of { sight.old.of ≡ name_of self.now }
+        requires length { B.measure block.value ≡ length_of self.now }
+        ensures same { sight.new.of ≡ sight.old.of }
+        ensures block { (sight.new.known ≡ Some result.now) × Agrees sight.old.known result.now }
+        ensures length { B.measure result.now ≡ length_of self.now }
+    {
+        let (first, back) = self.offer(Loose::of(block), sight);
+        if let Some(back) = back {
+            drop(back.into_box());
+        }
+        first
+    }
+
+    // The block, for whoever has the whole entry.
+    pub(crate) fn into_box(self) -> Option<Box<B>>
+        ensures { IfSome result (λ b. B.measure b.value ≡ length_of self) }
+    {
+        match self.into_loose() {
+            Some(block) => Some(block.into_box()),
+            None => None,
+        }
+    }
+}
+
+impl<B: Measured + Drop> Drop for Entry<B> {
+    fn drop(self) {
+        drop(self.into_box());
+    }
+}
+
+impl<B> Sight<B> {
+    // The same sight once more.
+    pub(crate) fn again(&self) -> Sight<B>
+        ensures { (result.of ≡ self.now.of) × (result.known ≡ self.now.known) }
+    {
+        Sight {
+            marker: PhantomData,
+        }
+    }
+
+    // Two sights of one entry that know a block know the same one.
+    pub(crate) fn agrees(&self, other: &Sight<B>)
+        requires { self.now.of ≡ other.now.of }
+        ensures { IfSome other.now.known (Agrees self.now.known) }
+    {}
+}
+
+impl<B> Drop for Sight<B> {
+    fn drop(self) {
+        let Sight { marker: _ } = self;
+    }
+}
+
+unsafe impl<B: Measured + Send> Send for Entry<B> {}
+
+unsafe impl<B: Measured + Send + Sync> Sync for Entry<B> {}
+
+unsafe impl<B> Send for Sight<B> {}
+
+unsafe impl<B> Sync for Sight<B> {}

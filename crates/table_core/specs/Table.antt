@@ -1,10 +1,10 @@
 -- A table of entries as callers see it, and the keys of its entries.
 use Rattle.std.specs.Prelude.{◌≡◌, ℕ, ◌+◌, ◌<◌, List, [], slice_index, slice_index_or}
-use base.Stored.{Coded, coded×, coded_ℕ, coded_list, coded_via}
+use base.Stored.{Coded, coded×, coded_ℕ, coded_via}
 use Rattle.std.specs.declared.option.Option.{Option}
 use Rattle.std.specs.declared.option.Option.TheVariants.{None, Some}
 use Rattle.seg_core.specs.Segment.{segment_start, segment_end}
-use Rattle.cell_core.specs.Row.{RowView as BlockView, row_len as block_len}
+use Rattle.cell_core.specs.Block.{BlockView, block_coded, block_len}
 use Rattle.table_core.specs.Entry.{EntryView, length_of}
 
 -- a table: the name of each entry
@@ -16,9 +16,6 @@ pub record KeyView : Type 0 where
   pub entry : ℕ
   pub block : BlockView
   pub name : ℕ
-
-abbrev pub block_coded : Coded BlockView
-block_coded = coded_via (coded_list coded_ℕ) (λ (b : BlockView). b.names) (λ x y e i. record { names = e i })
 
 abbrev pub key_coded : Coded KeyView
 key_coded =
@@ -50,5 +47,5 @@ AllLong entries = (k : ℕ) (e : EntryView) → k < 32 → IsLengthOf k (length_
 
 -- the block that is known, if any is
 abbrev pub block_of : Option BlockView → BlockView
-block_of None = record { names = [] }
+block_of None = record { cells = [] }
 block_of (Some block) = block

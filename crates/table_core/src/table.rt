@@ -1,17 +1,17 @@
 //! The table of segments.
-ghost use Rattle.std.specs.Prelude.{◌≡◌, ◌<◌, slice_index, IfSome, IfOk, Some};
+ghost use Rattle.std.specs.Prelude.{◌≡◌, ◌<◌, ◌≤◌, slice_index, IfSome, IfOk, Some};
 ghost use Rattle.table_core.specs.Table.{IsBlockOf, IsKeyIn, IsKeyOf, IsLengthOf};
 ghost use Rattle.table_core.specs.Entry.{length_of};
 
 use crate::entry::{Entry, Measured, Sight};
-use cell_core::row::Row as Block;
+use cell_core::block::Block;
 use seg_core::len;
 use std::alloc::{AllocError, Global};
 use std::array;
 use std::marker::Model;
 
 impl<T> Measured for Block<T> {
-    ghost use Rattle.cell_core.specs.Row.{row_len as block_len};
+    ghost use Rattle.cell_core.specs.Block.{block_len};
 
     ghost measure = { block_len };
 }
@@ -114,6 +114,19 @@ impl<T> Table<T> {
             Some(block) => Some((block, Key { entry: k, sight })),
             None => None,
         }
+    }
+
+    /// How many entries are set, each looked at once.
+    pub fn installed(&self) -> u32
+        ensures { result ≤ 32 }
+    {
+        let mut count = 0;
+        for k in 0..32 {
+            if self.scout(k).is_some() {
+                count += 1;
+            }
+        }
+        count
     }
 
     /// The key's block, always: one load.

@@ -1,4 +1,5 @@
 mod Fits
+mod Names
 mod Sent
 mod Sights
 mod Values

@@ -41,6 +41,11 @@ pub record IsKeyOf (table : TableView) (k : ℕ) (block : BlockView) (key : KeyV
   pub at : key.entry ≡ k
   pub of : key.block ≡ block
 
+-- all entries but this one are those that they were
+abbrev pub KeepsOthers : TableView → TableView → ℕ → Type 0
+KeepsOthers old new k =
+    (j : ℕ) → (j ≡ k → ⊥) → slice_index new.names j ≡ slice_index old.names j
+
 -- each entry is as long as its segment
 abbrev pub AllLong : List EntryView → Type 0
 AllLong entries = (k : ℕ) (e : EntryView) → k < 32 → IsLengthOf k (length_of (slice_index_or entries k e))

@@ -3,5 +3,7 @@
 
 mod entry;
 mod table;
+#[cfg(test)]
+mod tests;
 
 pub use table::{Key, Table};

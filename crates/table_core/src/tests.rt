@@ -1,0 +1,142 @@
+use crate::{Key, Table};
+use cell_core::block::{Block, Look};
+use std::sync::atomic::{AtomicU64, Ordering};
+use std::test::Fail;
+
+mod race;
+
+// Fills the cell at a place, unless another came first.
+fn fill<T: Drop>(block: &Block<T>, place: u64, value: T) -> bool {
+    if place >= block.len() {
+        return false;
+    }
+    match block.begin(place) {
+        Ok(pen) => {
+            let _placed = pen.fill(value);
+            true
+        }
+        Err(_found) => false,
+    }
+}
+
+// Whether the cell at a place shows the value.
+fn shows(block: &Block<u64>, place: u64, value: u64) -> bool {
+    place < block.len() && matches!(block.look(place), Look::Filled(there, _) if *there == value)
+}
+
+#[test]
+fn an_entry_is_set_once(rt: HostRuntime) -> Result<(), Fail> {
+    let table = Table::new(rt.alloc());
+    assert_eq!(rt; table.installed(), 0);
+    assert!(rt; table.scout(3).is_none());
+    let block = table.install(3)?;
+    assert_eq!(rt; block.len(), 8);
+    assert!(rt; fill(block, 7, 5));
+    assert!(rt; shows(table.install(3)?, 7, 5));
+    let Some(block) = table.scout(3) else {
+        return Err(Fail::from("the block was not seen"));
+    };
+    assert!(rt; shows(block, 7, 5));
+    assert!(rt; table.scout(2).is_none());
+    assert_eq!(rt; table.install(0)?.len(), 2);
+    assert_eq!(rt; table.install(1)?.len(), 2);
+    assert_eq!(rt; table.installed(), 3);
+    Ok(())
+}
+
+#[test]
+fn keys_of_one_entry_have_one_block(rt: HostRuntime) -> Result<(), Fail> {
+    let table = Table::new(rt.alloc());
+    assert!(rt; table.scout_key(2).is_none());
+    let (block, key) = table.install_key(2)?;
+    assert!(rt; fill(block, 0, 6));
+    let Some((again, other)) = table.scout_key(2) else {
+        return Err(Fail::from("the block was not seen"));
+    };
+    assert!(rt; shows(again, 0, 6));
+    table.agree(&key, &other.again());
+    assert_eq!(rt; (key.entry(), other.entry()), (2, 2));
+    assert!(rt; shows(table.known(&key), 0, 6));
+    assert!(rt; shows(table.known(&other), 0, 6));
+    Ok(())
+}
+
+// It passes too where any one allocation is made to fail.
+#[test]
+fn a_refused_install_sets_nothing(rt: HostRuntime) {
+    let table = Table::<u64>::new(rt.alloc());
+    if table.install(4).is_err() {
+        assert_eq!(rt; table.installed(), 0);
+        assert!(rt; table.install(4).is_ok());
+    }
+    if table.install_key(5).is_err() {
+        assert_eq!(rt; table.installed(), 1);
+        assert!(rt; table.install_key(5).is_ok());
+    }
+    assert_eq!(rt; table.installed(), 2);
+}
+
+#[test]
+fn an_exclusive_owner_has_the_blocks(rt: HostRuntime) -> Result<(), Fail> {
+    let mut table = Table::new(rt.alloc());
+    assert!(rt; table.block_mut(1).is_none());
+    assert!(rt; fill(table.install(1)?, 0, 7));
+    assert!(rt; fill(table.install(2)?, 0, 8));
+    for _twice in 0..2 {
+        let Some(block) = table.block_mut(1) else {
+            return Err(Fail::from("the block was not lent"));
+        };
+        assert!(rt; shows(block, 0, 7));
+        let Some(block) = table.block_mut(2) else {
+            return Err(Fail::from("the other block was not lent"));
+        };
+        assert!(rt; shows(block, 0, 8));
+    }
+    table.put_back();
+    assert_eq!(rt; table.installed(), 2);
+    assert!(rt; shows(table.install(2)?, 0, 8));
+    table.give_up(2);
+    assert!(rt; table.scout(2).is_none());
+    assert!(rt; shows(table.install(1)?, 0, 7));
+    Ok(())
+}
+
+#[test]
+fn a_block_of_another_length_is_not_put_back(rt: HostRuntime) -> Result<(), Fail> {
+    let mut table = Table::<u64>::new(rt.alloc());
+    table.install(1)?;
+    let other = Block::new(rt.alloc(), 3)?;
+    let Some(block) = table.block_mut(1) else {
+        return Err(Fail::from("the block was not lent"));
+    };
+    *block = other;
+    assert!(rt; table.block_mut(1).is_none());
+    assert_eq!(rt; table.installed(), 0);
+    Ok(())
+}
+
+struct Counted<'a>(&'a AtomicU64);
+
+impl Drop for Counted<'_> {
+    fn drop(self) {
+        let Counted(drops) = self;
+        drops.fetch_add(1, Ordering::SeqCst);
+    }
+}
+
+#[test]
+fn each_block_is_dropped_once(rt: HostRuntime) -> Result<(), Fail> {
+    let drops = AtomicU64::new(0);
+    let mut table = Table::new(rt.alloc());
+    for k in 0..4 {
+        assert!(rt; fill(table.install(k)?, 1, Counted(&drops)));
+    }
+    table.give_up(2);
+    assert_eq!(rt; drops.load(Ordering::SeqCst), 1);
+    table.give_up(2);
+    assert!(rt; table.block_mut(1).is_some());
+    assert_eq!(rt; drops.load(Ordering::SeqCst), 1);
+    drop(table);
+    assert_eq!(rt; drops.load(Ordering::SeqCst), 4);
+    Ok(())
+}

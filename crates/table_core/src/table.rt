@@ -179,6 +179,9 @@ impl<T> Table<T> {
 }
 
 impl<T: Drop> Table<T> {
+    ghost use Rattle.std.specs.Borrow.{sem};
+    ghost use Rattle.table_core.specs.Lending.{LendsBlock};
+
     // The entry's block: a new one, unless the entry is set.
     fn set<'a>(&'a self, k: u32, sight: &mut Sight<Block<T>>) -> Result<&'a Block<T>, AllocError>
         requires within { k < 32 }
@@ -261,7 +264,8 @@ impl<T: Drop> Table<T> {
     /// from the next exclusive call on.
     pub fn block_mut(&mut self, k: u32) -> Option<&mut Block<T>>
         requires { k < 32 }
-        ensures { IfSome result (λ block. IsBlockOf k block.now) }
+        ensures* others { sem 𝓛 (LendsBlock T.row self.entry k result) }
+        ensures long { IfSome result (λ block. IsBlockOf k block.now) }
     {
         self.lent = self.lend(k);
         match &mut self.lent {

@@ -12,7 +12,6 @@ use Rattle.core.specs.contracts.atomic.ptr.AtomicPtr.{the_row}
 use Rattle.std.specs.declared.option.Option.{Option}
 use Rattle.std.specs.declared.option.Option.TheVariants.{None, Some}
 use Rattle.std.specs.declared.alloc.Global.{Global}
-use Rattle.once_cell.specs.Once.{Held}
 use Rattle.once_cell.specs.Once as once
 
 -- an entry: the allocator's handle, how long its block is, and its name
@@ -25,11 +24,11 @@ length_of e = e.1
 abbrev pub name_of : EntryView → ℕ
 name_of e = e.2
 
--- x is what k knows, if it knows anything
+-- the block x is the one that is known, if any is
 abbrev pub Agrees : {X : Type 0} → Option X → X → Type 0
 Agrees k x = IfSome k (λ y. y ≡ x)
 
--- what a sight that knows k has of the entry of this name
+-- what a sight that knows k holds of the entry of this name
 abbrev pub noted : (R : RattleType) → ℕ → Option R.Denot → Fml
 noted R γ None = ftrue
 noted R γ (Some x) = fres γ (gcons gnil (R.coded.code x))
@@ -43,10 +42,17 @@ module _ (R : RattleType) (measure : R.Denot → ℕ) where
   abbrev pub Fit : ℕ → RattleType
   Fit n = ByFields R R.Denot R.coded (λ x. x) (fits n) (λ x b o. said (fits n x))
 
+  -- what an entry owns, beside its fields
   abbrev pub owned : EntryView → (Ptr → Fml) → Fml
   owned e fields = once.owned (Fit (length_of e)) e.0 (name_of e) fields
 
+  -- the word at a place, with what is shared of its block, borrowed for α
+  abbrev pub borrowed : EntryView → ℕ → ℕ → Lft → Fml
+  borrowed e b o α = fbor α (once.Held (Fit (length_of e)) e.0 (name_of e) α b o)
+
+  -- what a `&` to an entry holds
   abbrev pub shared : EntryView → Ptr → Lft → Fml
   shared e (block_ptr b o) κ =
-      beside (some Lft (λ α. beside (ends α) (always (fbor α (Held (Fit (length_of e)) e.0 (name_of e) α b (o + 0)))))) (shared_of (the_row R) (atomic_ptr_holding null_ptr) b (o + 0)) κ
+      beside (some Lft (λ α. beside (ends α) (always (borrowed e b (o + 0) α))))
+      (shared_of (the_row R) (atomic_ptr_holding null_ptr) b (o + 0)) κ
   shared e null_ptr κ = ffalse

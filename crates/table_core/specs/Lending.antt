@@ -11,4 +11,5 @@ use Rattle.table_core.specs.contracts.table.Table.{the_row}
 -- the table ends with all entries but this one as they were
 abbrev pub LendsBlock : RattleType → MutBor TableView → ℕ → Option (MutBor BlockView) → Fml
 LendsBlock T table k r =
-    LendsSo (the_row T) (block.the_row T heap.the_row ghosts) table r (λ n _. OnSome r (KeepsOthers table.now n k)) (λ n. KeepsOthers table.now n k)
+    LendsSo (the_row T) (block.the_row T heap.the_row ghosts) table r
+    (λ n _. OnSome r (KeepsOthers table.now n k)) (λ n. KeepsOthers table.now n k)

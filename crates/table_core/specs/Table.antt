@@ -47,8 +47,8 @@ KeepsOthers old new k =
     (j : ℕ) → (j ≡ k → ⊥) → slice_index new.names j ≡ slice_index old.names j
 
 -- each entry is as long as its segment
-abbrev pub AllLong : List EntryView → Type 0
-AllLong entries = (k : ℕ) (e : EntryView) → k < 32 → IsLengthOf k (length_of (slice_index_or entries k e))
+abbrev pub AllFit : List EntryView → Type 0
+AllFit entries = (k : ℕ) (e : EntryView) → k < 32 → IsLengthOf k (length_of (slice_index_or entries k e))
 
 -- the block that is known, if any is
 abbrev pub block_of : Option BlockView → BlockView

@@ -36,7 +36,8 @@ impl<B: Measured> Owns for Entry<B> {
 }
 
 impl<B: Measured> Move for Entry<B> {
-    ghost own_val = { λ e vs. owned B.row B.measure e (λ p. Fields.own_val (record { word = atomic_ptr_holding p; alloc = e.0 }) vs) };
+    ghost own_val = { λ e vs. owned B.row B.measure e
+        (λ p. Fields.own_val (record { word = atomic_ptr_holding p; alloc = e.0 }) vs) };
 }
 
 // What was seen of an entry: nothing yet, or its block for good. It has no bytes.
@@ -76,11 +77,12 @@ impl<B: Measured> Entry<B> {
         }
     }
 
-    // The look: one load. It shows nothing only where the sight knows nothing, and else the one block that is ever seen.
+    // The look: one load. It shows nothing only to a sight that knows nothing, and else the one block ever seen.
     pub(crate) fn look<'a>(&'a self, sight: &mut Sight<B>) -> Option<&'a B>
         requires { sight.old.of ≡ name_of self.now }
         ensures same { sight.new.of ≡ sight.old.of }
-        ensures block { MatchOption result ((sight.old.known ≡ None) × (sight.new.known ≡ None)) (λ b. (sight.new.known ≡ Some b.now) × Agrees sight.old.known b.now) }
+        ensures block { MatchOption result ((sight.old.known ≡ None) × (sight.new.known ≡ None))
+            (λ b. (sight.new.known ≡ Some b.now) × Agrees sight.old.known b.now) }
         ensures length { IfSome result (λ b. B.measure b.now ≡ length_of self.now) }
     {
         let at = unsafe { self.word.load::<Brand>(SeqCst) };
@@ -91,7 +93,7 @@ impl<B: Measured> Entry<B> {
         }
     }
 
-    // The setting once: one exchange of null. It gives the entry's block, and gives `block` back where another came first.
+    // The setting once: one exchange of null. It gives the entry's block, and `block` back where another came first.
     fn offer<'a>(
         &'a self,
         block: Loose<B, Global>,
@@ -101,7 +103,8 @@ impl<B: Measured> Entry<B> {
         requires length { B.measure block.value ≡ length_of self.now }
         ensures same { sight.new.of ≡ sight.old.of }
         ensures block { (sight.new.known ≡ Some result.0.now) × Agrees sight.old.known result.0.now }
-        ensures back { MatchOption result.1 ((result.0.now ≡ block.value) × (sight.old.known ≡ None)) (λ l. l.value ≡ block.value) }
+        ensures back { MatchOption result.1 ((result.0.now ≡ block.value) × (sight.old.known ≡ None))
+            (λ l. l.value ≡ block.value) }
         ensures length { B.measure result.0.now ≡ length_of self.now }
     {
         let at = block.at;

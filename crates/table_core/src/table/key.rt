@@ -1,0 +1,55 @@
+// The key of an entry.
+ghost use Rattle.std.specs.Prelude.{◌≡◌};
+
+use crate::entry::Sight;
+use cell_core::block::Block;
+use std::fmt;
+use std::marker::Model;
+
+/// Shows that an entry is set, for good. Beside the entry's number it has no bytes.
+#[derive(Drop)]
+pub struct Key<T> {
+    pub(crate) entry: u32,
+    pub(crate) sight: Sight<Block<T>>,
+}
+
+impl<T> Model for Key<T> {
+    ghost use Rattle.std.specs.Prelude.{◌≡◌, Some};
+    ghost use Rattle.table_core.specs.Table.{KeyView, key_coded, block_of};
+
+    ghost Value = { KeyView };
+
+    ghost coded = { key_coded };
+
+    ghost view = { λ k. record { entry = k.entry; block = block_of k.sight.known; name = k.sight.of } };
+
+    ghost invariant = { λ k. k.sight.known ≡ Some (block_of k.sight.known) };
+}
+
+impl<T> fmt::Debug for Key<T> {
+    fn fmt<W: fmt::Write>(&self, f: &mut fmt::Formatter<W>) -> fmt::Result {
+        f.debug_struct("Key")
+            .field("entry", &self.entry)
+            .finish_non_exhaustive()
+    }
+}
+
+impl<T> Key<T> {
+    /// The entry's number.
+    pub fn entry(&self) -> u32
+        ensures { result ≡ self.now.entry }
+    {
+        let Key { entry, sight: _ } = self;
+        *entry
+    }
+
+    /// The key once more.
+    pub fn again(&self) -> Key<T>
+        ensures { result ≡ self.now }
+    {
+        Key {
+            entry: self.entry,
+            sight: self.sight.again(),
+        }
+    }
+}

@@ -26,7 +26,7 @@ fn meet(mine: &AtomicU64, other: &AtomicU64, turn: u64) {
 }
 
 // Installs the first entry of each table, and answers how often it was the first to fill a cell of its block.
-fn install_all<'a>(
+fn install_each<'a>(
     tables: &[Table<Counted<'a>>],
     drops: &'a AtomicU64,
     mine: &AtomicU64,
@@ -43,6 +43,18 @@ fn install_all<'a>(
         }
     }
     Ok(won)
+}
+
+// The same; the other thread does not wait for one that has ended.
+fn install_all<'a>(
+    tables: &[Table<Counted<'a>>],
+    drops: &'a AtomicU64,
+    mine: &AtomicU64,
+    other: &AtomicU64,
+) -> Result<u64, AllocError> {
+    let won = install_each(tables, drops, mine, other);
+    mine.store(u64::MAX, Ordering::SeqCst);
+    won
 }
 
 #[test]

@@ -1,6 +1,13 @@
--- What stands at a place of a list that goes on, or that is changed at another place.
-use Rattle.std.proofs.Common.{◌≡◌, ◌≢◌, ℕ, ◌+◌, ◌<◌, ◌≤◌, List, [], ◌∷◌, ◌++◌, length, replicate, Some, slice_get, slice_set, zero, suc, refl, ap, arith}
-use Rattle.std.proofs.lemmas.Option.{none-some}
+-- What stands at a place of a list: as it is, as it goes on, and where a place is set.
+use Rattle.std.proofs.Common.{◌≡◌, ◌≢◌, ℕ, ◌+◌, ◌<◌, ◌≤◌, List, [], ◌∷◌, ◌++◌, length, replicate, All, Some, slice_get, slice_set, zero, suc, refl, ap, subst, arith}
+use Rattle.std.proofs.lemmas.List.Elements.{All-get_or}
+use Rattle.std.proofs.lemmas.Option.{none-some, slice_get_within, get_or_from_slice_get}
+
+-- what holds of each member holds of the one at a place
+pub at_place : {X : Type 0} (P : X → Type 0) (xs : List X) (place : ℕ) (x : X) → All P xs → slice_get xs place ≡ Some x
+    → P x
+at_place P xs place x all is =
+    subst P (get_or_from_slice_get xs place x x is) (All-get_or P xs place x (slice_get_within xs place x is) all)
 
 -- what stands before an end stays where a list goes on
 pub get_before : {X : Type 0} (front back : List X) (place : ℕ) (x : X) → slice_get front place ≡ Some x

@@ -1,3 +1,6 @@
+pub mod Keys
+pub mod Ranges
+pub mod Cases
 pub mod BlockViews
 pub mod Bounds
 pub mod Tiling

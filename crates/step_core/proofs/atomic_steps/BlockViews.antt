@@ -1,30 +1,23 @@
 -- What blocks show, segment by segment and place by place.
-use Rattle.std.proofs.Common.{◌≡◌, ◌≢◌, ℕ, ◌+◌, ◌-◌, ◌^◌, ◌<◌, ◌≤◌, ◌==◌, ◌||◌, Bool, true, false, cond, if◌then◌else◌, length, replicate, Option, Some, None, is_some, slice_get, slice_set, slice_index_or, refl, ap, sym, ◌∙◌, subst, arith, inl, inr, zero, suc}
+use Rattle.std.proofs.Common.{◌≡◌, ◌≢◌, ℕ, ◌+◌, ◌-◌, ◌^◌, ◌<◌, ◌≤◌, ◌||◌, Bool, true, false, cond, if◌then◌else◌, length, replicate, Option, Some, None, is_some, slice_get, slice_set, slice_index_or, refl, ap, sym, ◌∙◌, subst, arith, inl, inr, zero, suc}
 use Rattle.std.proofs.Math.Nat.{le_refl}
 use Rattle.std.proofs.Math.ListN.{length-set}
 use Rattle.std.proofs.lemmas.Bool.{cases_lt, false≢true}
-use Rattle.std.proofs.lemmas.Bool.Decides.{nat_tests, eqb_tells}
+use Rattle.std.proofs.lemmas.Bool.Decides.{eqb_tells}
 use Rattle.std.proofs.lemmas.Option.{none-some, same_Some, slice_get_past, slice_get_read, slice_get-get_or}
 use Rattle.std.specs.Option.{option_map, IfSome}
-use Rattle.std.specs.Ordering.{nat_cmp, eq_by_cmp}
-use Rattle.std.specs.Cmp.{nat_cmp_total, unsigned_tied}
+use Rattle.std.specs.Ordering.{nat_cmp}
+use Rattle.std.specs.Cmp.{nat_cmp_total}
 use Rattle.std.specs.FinMap as map
 use Rattle.std.specs.FinSet as set
 use Rattle.seg_core.specs.Segment.{HasPlace, segment_start, segment_end, segment_of}
 use Rattle.seg_core.proofs.Doubling.{segment_of_has, is_segment_of, segment_end-le}
 use Rattle.book_core.proofs.Lists.{get_other, get_set}
 use Rattle.step_core.specs.declared.machine.phase.Slot.{Slot}
+use Rattle.step_core.proofs.atomic_steps.Keys.{same_key, other_key}
 use Rattle.step_core.specs.machine.Blocks.{Shown, Block, Entries, flattened, block_of, slot_in, slot_at, with_value, map_below, set_below, shown, AreBlocks}
 
 -- ---- The map and the set below a bound
-
--- a key ties with itself
-same_key : (k : ℕ) → eq_by_cmp nat_cmp k k ≡ true
-same_key k = unsigned_tied k k ∙ (let e : (k == k) ≡ true = grind (arith, nat_tests) in e)
-
--- another key does not
-other_key : (q k : ℕ) → q ≢ k → eq_by_cmp nat_cmp q k ≡ false
-other_key q k apart = unsigned_tied q k ∙ (let e : (q == k) ≡ false = grind (arith, nat_tests) in e)
 
 -- at another key nothing changes
 given_elsewhere : (m : map.FinMap nat_cmp Slot) (key : ℕ) (o : Option Slot) (q : ℕ) → q ≢ key

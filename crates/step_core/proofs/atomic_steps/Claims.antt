@@ -1,10 +1,7 @@
 -- The size moves at claims alone, and each is the claim of its actor's own call.
-use Rattle.std.proofs.Common.{◌≡◌, ◌≢◌, ◌⊎◌, ℕ, ◌+◌, ◌-◌, nat_le, nat_lt, ◌==◌, Bool, true, false, if◌then◌else◌, List, [], ◌∷◌, ◌++◌, Option, Some, None, IfSome, slice_get, refl, ap, sym, ◌∙◌, subst, arith, inl, inr}
-use Rattle.std.proofs.lemmas.Bool.{eqb-true}
+use Rattle.std.proofs.Common.{◌≡◌, ◌≢◌, ◌⊎◌, ℕ, ◌+◌, ◌-◌, Bool, true, false, List, [], ◌∷◌, ◌++◌, Option, Some, None, slice_get, refl, ap, sym, ◌∙◌, subst, arith, inl, inr}
 use Rattle.std.specs.Option.{option_to_list}
 use Rattle.std.specs.FinMap as finite
-use Rattle.std.specs.FinSet as set
-use Rattle.seg_core.specs.Segment.{segment_of}
 use Rattle.book_core.specs.declared.events.Event.{Event}
 use Rattle.book_core.specs.declared.events.Event.TheVariants as events
 use Rattle.book_core.specs.declared.events.Reply.{Reply}
@@ -13,27 +10,26 @@ use Rattle.book_core.specs.declared.commands.Command.{Command}
 use Rattle.book_core.specs.declared.commands.Command.TheVariants as commands
 use Rattle.book_core.specs.declared.commands.Item.{Item}
 use Rattle.book_core.specs.Cells.{IsLimit}
-use Rattle.book_core.specs.declared.commands.Answer.TheVariants as answers
 use Rattle.book_core.specs.Commands.{AreSound, calls_of}
 use Rattle.book_core.specs.History.{OwnedRun, runs_of, Tile, events_of}
 use Rattle.step_core.specs.declared.machine.phase.Slot.{Slot}
 use Rattle.step_core.specs.declared.machine.phase.Slot.TheVariants.{Busy, Filled, Broken}
-use Rattle.step_core.specs.declared.machine.phase.Next.TheVariants.{Goes}
 use Rattle.step_core.specs.declared.machine.phase.Phase.{Phase}
 use Rattle.step_core.specs.declared.machine.phase.Phase.TheVariants.{Load, Scout, Put, Exchange, Raise, Begin, Fill, Spoil, Look}
 use Rattle.step_core.specs.declared.machine.phase.Actor.{Actor}
 use Rattle.step_core.specs.machine.Storage.{Storage}
-use Rattle.step_core.specs.machine.Step.{Outcome, Step, step_of, step_as, step_in, outcome_of, load, load_growth, load_at_least, load_read, put, exchange, raise, begin_at, look_at, after_segment, goes_on, ends, with_size}
+use Rattle.step_core.specs.machine.Step.{Outcome, Step, step_of, step_as, step_in, outcome_of, load, load_growth, begin_at, look_at}
 use Rattle.step_core.specs.machine.Bounds.{Exchanges, IsWithin, IsInLimit}
 use Rattle.step_core.specs.machine.Play.{empty_play, play_of}
 use Rattle.step_core.specs.machine.Claims.{claim_of, IsOwnClaim, MovesAtClaims, MovesAreOwnClaims, NothingIsClaimedAtLoad}
 use Rattle.book_core.proofs.Runs.{runs_of-append}
-use Rattle.step_core.proofs.atomic_steps.Bounds.{opening_in_limit, actor_at, step_is}
+use Rattle.step_core.proofs.atomic_steps.Cases.{IsRaise, won_growth, growth_cases, at_least_cases, read_cases, exchange_cases, raise_cases, scout_cases, step_cases}
+use Rattle.step_core.proofs.atomic_steps.Bounds.{opening_in_limit, within_at}
 use Rattle.step_core.proofs.atomic_steps.Tiling.{HoldsAt, step_holds, opening_holds, items_hold}
 use Rattle.step_core.proofs.atomic_steps.Legal.{items_in_limit}
 use Rattle.step_core.proofs.atomic_steps.Record.{AllStand, Standing, Stands, OfStage, items_stand, opening_stands}
 use Rattle.step_core.proofs.atomic_steps.Record.Settled.{Asks}
-use Rattle.step_core.proofs.atomic_steps.Record.Rows.{StageOf, IsRaise}
+use Rattle.step_core.proofs.atomic_steps.Record.Rows.{StageOf}
 
 -- what tiles from a start, behind what tiles the places before
 tile_behind : (start mid end : ℕ) (xs ys : List OwnedRun) → Tile start xs mid → Tile start (xs ++ ys) end
@@ -56,112 +52,81 @@ every_play_moves_at_claims limit programs items is_limit item =
 
 -- the step leaves the size, or it is the claim of this call, with the run from the old size to the new one
 abbrev StaysOrClaims : Storage → ℕ → Command → Outcome → Type 0
-StaysOrClaims m who command o =
+StaysOrClaims m actor command o =
     (o.storage.size ≡ m.size)
-    ⊎ ((claim : Event) × (claim_of who command ≡ Some claim) × (o.event ≡ Some (claim, replies.Run m.size (o.storage.size - m.size))))
+    ⊎ ((claim : Event) × (claim_of actor command ≡ Some claim) × (o.event ≡ Some (claim, replies.Run m.size (o.storage.size - m.size))))
 
-growth_stays : (limit : ℕ) (m : Storage) (who n : ℕ) (command : Command)
-    → StaysOrClaims m who command (load_growth limit m who n)
-growth_stays limit m who n command =
-    elim (n == 0) as (λ b. StaysOrClaims m who command (if b then ends m (events.Claim who 0) (replies.Run m.size 0) (answers.Run m.size 0) else if nat_le (m.size + n) limit then goes_on m (Scout m.size n (segment_of m.size)) else ends m (events.RefusedFull who n) (replies.Full m.size) (answers.Full m.size))) [
-      | true ↦ inl refl
-      | false ↦
-          elim (nat_le (m.size + n) limit) as (λ b. StaysOrClaims m who command (if b then goes_on m (Scout m.size n (segment_of m.size)) else ends m (events.RefusedFull who n) (replies.Full m.size) (answers.Full m.size)))
-          [ true ↦ inl refl | false ↦ inl refl ]
-    ]
+module _ (m : Storage) (actor : ℕ) (command : Command) where
+  growth_stays : (limit n : ℕ) → StaysOrClaims m actor command (load_growth limit m actor n)
+  growth_stays limit n =
+      growth_cases (StaysOrClaims m actor command) m actor limit n (λ _. inl refl) (λ _ _. inl refl) (λ _. inl refl)
 
-at_least_stays : (limit : ℕ) (m : Storage) (who to : ℕ) (command : Command)
-    → StaysOrClaims m who command (load_at_least limit m who to)
-at_least_stays limit m who to command =
-    elim (nat_le to m.size) as (λ b. StaysOrClaims m who command (if b then ends m (events.Raise who to) (replies.Enough m.size) (answers.Enough m.size) else if nat_le to limit then goes_on m (Scout m.size (to - m.size) (segment_of m.size)) else ends m (events.RefusedFull who (to - m.size)) (replies.Full m.size) (answers.Full m.size))) [
-      | true ↦ inl refl
-      | false ↦
-          elim (nat_le to limit) as (λ b. StaysOrClaims m who command (if b then goes_on m (Scout m.size (to - m.size) (segment_of m.size)) else ends m (events.RefusedFull who (to - m.size)) (replies.Full m.size) (answers.Full m.size)))
-          [ true ↦ inl refl | false ↦ inl refl ]
-    ]
+  load_stays : (limit : ℕ) (loaded : Command) → StaysOrClaims m actor command (load limit m actor loaded)
+  load_stays limit (commands.Push value) = growth_stays limit 1
+  load_stays limit (commands.Grow n value) = growth_stays limit n
+  load_stays limit (commands.AtLeast to value) =
+      at_least_cases (StaysOrClaims m actor command) m actor limit to (λ _. inl refl) (λ _ _. inl refl) (λ _ _. inl refl)
+  load_stays limit (commands.Fail n value at) = growth_stays limit n
+  load_stays limit (commands.Read place) =
+      read_cases (StaysOrClaims m actor command) m actor place (λ _. inl refl) (λ _. inl refl)
+  load_stays limit commands.Size = inl refl
 
-read_stays : (m : Storage) (who place : ℕ) (command : Command) → StaysOrClaims m who command (load_read m who place)
-read_stays m who place command =
-    elim (nat_lt place m.size) as (λ b. StaysOrClaims m who command (if b then goes_on m (Look place) else ends m (events.Look who place) (replies.OutOfRange m.size) (answers.OutOfRange m.size)))
-    [ true ↦ inl refl | false ↦ inl refl ]
+  begin_stays : (from n place : ℕ) (slot : Option Slot) → StaysOrClaims m actor command (begin_at m actor command from n place slot)
+  begin_stays from n place None = inl refl
+  begin_stays from n place (Some slot) = inl refl
 
-load_stays : (limit : ℕ) (m : Storage) (who : ℕ) (command : Command)
-    → StaysOrClaims m who command (load limit m who command)
-load_stays limit m who (commands.Push value) = growth_stays limit m who 1 (commands.Push value)
-load_stays limit m who (commands.Grow n value) = growth_stays limit m who n (commands.Grow n value)
-load_stays limit m who (commands.AtLeast to value) = at_least_stays limit m who to (commands.AtLeast to value)
-load_stays limit m who (commands.Fail n value at) = growth_stays limit m who n (commands.Fail n value at)
-load_stays limit m who (commands.Read place) = read_stays m who place (commands.Read place)
-load_stays limit m who commands.Size = inl refl
+  look_stays : (place : ℕ) (slot : Option Slot) → StaysOrClaims m actor command (look_at m actor place slot)
+  look_stays place None = inl refl
+  look_stays place (Some (Busy owner)) = inl refl
+  look_stays place (Some (Filled value)) = inl refl
+  look_stays place (Some Broken) = inl refl
+
+  -- a claim of the call's own moves the size, by the run's places
+  won_claims : (event : Event) (n : ℕ) → claim_of actor command ≡ Some event → StaysOrClaims m actor command (won_growth m event n)
+  won_claims event n own =
+      let count : n ≡ m.size + n - m.size = omega arith in
+      inr (event, own, ap (λ k. Some (event, replies.Run m.size k)) count)
 
 -- the claim of a growth that exchanges is by as many places as it asks for
-claim_by : (who : ℕ) (command : Command) (n : ℕ) → Asks command n → Exchanges command
-    → claim_of who command ≡ Some (events.Claim who n)
-claim_by who (commands.Push value) n asks exchanges = ap (λ k. Some (events.Claim who k)) (sym asks)
-claim_by who (commands.Grow m value) n asks exchanges = ap (λ k. Some (events.Claim who k)) (sym asks)
-claim_by who (commands.AtLeast to value) n asks exchanges = absurd exchanges
-claim_by who (commands.Fail m value at) n asks exchanges = ap (λ k. Some (events.Claim who k)) (sym asks)
-claim_by who (commands.Read place) n asks exchanges = absurd asks
-claim_by who commands.Size n asks exchanges = absurd asks
-
-exchange_claims : (limit : ℕ) (m : Storage) (who : ℕ) (command : Command) (from n : ℕ) → Asks command n
-    → Exchanges command → StaysOrClaims m who command (exchange limit m who from n)
-exchange_claims limit m who command from n asks exchanges =
-    elim (m.size == from) as (λ b. (m.size == from) ≡ b → StaysOrClaims m who command (if b then record { storage = with_size m (from + n); event = Some (events.Claim who n, replies.Run from n); next = Goes (Begin from n from) } else if nat_le (m.size + n) limit then goes_on m (Scout m.size n (segment_of m.size)) else ends m (events.RefusedFull who n) (replies.Full m.size) (answers.Full m.size))) [
-      | true ↦ (λ test.
-          let here : from ≡ m.size = sym (eqb-true m.size from test) in
-          let count : n ≡ from + n - m.size = omega arith in
-          inr (events.Claim who n, claim_by who command n asks exchanges, ap (λ k. Some (events.Claim who n, replies.Run k n)) here ∙ ap (λ k. Some (events.Claim who n, replies.Run m.size k)) count))
-      | false ↦ (λ _.
-          elim (nat_le (m.size + n) limit) as (λ b. StaysOrClaims m who command (if b then goes_on m (Scout m.size n (segment_of m.size)) else ends m (events.RefusedFull who n) (replies.Full m.size) (answers.Full m.size)))
-          [ true ↦ inl refl | false ↦ inl refl ])
-    ]
-    refl
-
-raise_claims : (m : Storage) (who : ℕ) (command : Command) (to : ℕ)
-    → claim_of who command ≡ Some (events.Raise who to) → StaysOrClaims m who command (raise m who to)
-raise_claims m who command to own =
-    elim (nat_le to m.size) as (λ b. StaysOrClaims m who command (if b then ends m (events.Raise who to) (replies.Enough m.size) (answers.Enough m.size) else record { storage = with_size m to; event = Some (events.Raise who to, replies.Run m.size (to - m.size)); next = Goes (Begin m.size (to - m.size) m.size) }))
-    [ true ↦ inl refl | false ↦ inr (events.Raise who to, own, refl) ]
+claim_by : (actor : ℕ) (command : Command) (n : ℕ) → Asks command n → Exchanges command
+    → claim_of actor command ≡ Some (events.Claim actor n)
+claim_by actor (commands.Push value) n asks exchanges = ap (λ k. Some (events.Claim actor k)) (sym asks)
+claim_by actor (commands.Grow m value) n asks exchanges = ap (λ k. Some (events.Claim actor k)) (sym asks)
+claim_by actor (commands.AtLeast to value) n asks exchanges = absurd exchanges
+claim_by actor (commands.Fail m value at) n asks exchanges = ap (λ k. Some (events.Claim actor k)) (sym asks)
+claim_by actor (commands.Read place) n asks exchanges = absurd asks
+claim_by actor commands.Size n asks exchanges = absurd asks
 
 -- only a growth to at least a size raises
-raise_own : (who : ℕ) (command : Command) (to : ℕ) → IsRaise command to
-    → claim_of who command ≡ Some (events.Raise who to)
-raise_own who (commands.Push value) to is = absurd is
-raise_own who (commands.Grow n value) to is = absurd is
-raise_own who (commands.AtLeast size value) to is = ap (λ k. Some (events.Raise who k)) is
-raise_own who (commands.Fail n value at) to is = absurd is
-raise_own who (commands.Read place) to is = absurd is
-raise_own who commands.Size to is = absurd is
+raise_own : (actor : ℕ) (command : Command) (to : ℕ) → IsRaise command to
+    → claim_of actor command ≡ Some (events.Raise actor to)
+raise_own actor (commands.Push value) to is = absurd is
+raise_own actor (commands.Grow n value) to is = absurd is
+raise_own actor (commands.AtLeast size value) to is = ap (λ k. Some (events.Raise actor k)) is
+raise_own actor (commands.Fail n value at) to is = absurd is
+raise_own actor (commands.Read place) to is = absurd is
+raise_own actor commands.Size to is = absurd is
 
-begin_stays : (m : Storage) (who : ℕ) (command : Command) (from n place : ℕ) (slot : Option Slot)
-    → StaysOrClaims m who command (begin_at m who command from n place slot)
-begin_stays m who command from n place None = inl refl
-begin_stays m who command from n place (Some slot) = inl refl
-
-look_stays : (m : Storage) (who place : ℕ) (command : Command) (slot : Option Slot)
-    → StaysOrClaims m who command (look_at m who place slot)
-look_stays m who place command None = inl refl
-look_stays m who place command (Some (Busy owner)) = inl refl
-look_stays m who place command (Some (Filled value)) = inl refl
-look_stays m who place command (Some Broken) = inl refl
-
-row_claims : (limit : ℕ) (m : Storage) (who : ℕ) (command : Command) (memory : Bool) (phase : Phase)
+-- each row of the step table
+row_claims : (limit : ℕ) (m : Storage) (actor : ℕ) (command : Command) (memory : Bool) (phase : Phase)
     (now : List (Event × Reply))
-    → IsWithin limit command phase → StageOf who command phase now
-    → StaysOrClaims m who command (outcome_of limit m who command memory phase)
-row_claims limit m who command memory Load now within stage = load_stays limit m who command
-row_claims limit m who command memory (Scout from n segment) now within stage =
-    elim (set.contains m.installed segment) as (λ b. StaysOrClaims m who command (if b then goes_on m (after_segment command from n segment) else goes_on m (Put from n segment)))
-    [ true ↦ inl refl | false ↦ inl refl ]
-row_claims limit m who command memory (Put from n segment) now within stage =
-    elim memory as (λ b. StaysOrClaims m who command (put m who command b from n segment)) [ true ↦ inl refl | false ↦ inl refl ]
-row_claims limit m who command memory (Exchange from n) now (some, room, exchanges) (none, asks) = exchange_claims limit m who command from n asks exchanges
-row_claims limit m who command memory (Raise to) now within (none, is) = raise_claims m who command to (raise_own who command to is)
-row_claims limit m who command memory (Begin from n place) now within stage = begin_stays m who command from n place (finite.get m.slots place)
-row_claims limit m who command memory (Fill from n place) now within stage = inl refl
-row_claims limit m who command memory (Spoil from n place) now within stage = inl refl
-row_claims limit m who command memory (Look place) now within stage = look_stays m who place command (finite.get m.slots place)
+    → IsWithin limit command phase → StageOf actor command phase now
+    → StaysOrClaims m actor command (outcome_of limit m actor command memory phase)
+row_claims limit m actor command memory Load now within stage = load_stays m actor command limit command
+row_claims limit m actor command memory (Scout from n segment) now within stage =
+    scout_cases (StaysOrClaims m actor command) m command from n segment (λ _. inl refl) (inl refl)
+row_claims limit m actor command true (Put from n segment) now within stage = inl refl
+row_claims limit m actor command false (Put from n segment) now within stage = inl refl
+row_claims limit m actor command memory (Exchange from n) now (some, room, exchanges) (none, asks) =
+    exchange_cases (StaysOrClaims m actor command) m actor limit from n
+    (λ _. won_claims m actor command (events.Claim actor n) n (claim_by actor command n asks exchanges)) (λ _. inl refl) (λ _. inl refl)
+row_claims limit m actor command memory (Raise to) now within (none, is) =
+    raise_cases (StaysOrClaims m actor command) m actor to
+    (λ _. inl refl) (λ _. won_claims m actor command (events.Raise actor to) (to - m.size) (raise_own actor command to is))
+row_claims limit m actor command memory (Begin from n place) now within stage = begin_stays m actor command from n place (finite.get m.slots place)
+row_claims limit m actor command memory (Fill from n place) now within stage = inl refl
+row_claims limit m actor command memory (Spoil from n place) now within stage = inl refl
+row_claims limit m actor command memory (Look place) now within stage = look_stays m actor command place (finite.get m.slots place)
 
 -- what is known of every actor of a play of sound programs
 stand_in : (limit : ℕ) (programs : List (List Command)) (items : List Item) → IsLimit limit → AreSound programs
@@ -170,70 +135,62 @@ stand_in limit programs items is_limit sound =
     items_stand programs (empty_play limit programs) items sound (opening_in_limit limit programs is_limit) (opening_stands limit programs)
 
 -- an actor of a play with a call under way: where it stands, and within what
-record UnderWay (limit who : ℕ) (actor : Actor) (command : Command) : Type 0 where
+record UnderWay (limit actor : ℕ) (state : Actor) (command : Command) : Type 0 where
   pub now : List (Event × Reply)
-  pub stage : StageOf who command actor.phase now
-  pub within : IsWithin limit command actor.phase
+  pub stage : StageOf actor command state.phase now
+  pub within : IsWithin limit command state.phase
 
 under_way : (limit : ℕ) (programs : List (List Command)) (items : List Item) → IsLimit limit → AreSound programs
-    → (who : ℕ) (actor : Actor) (command : Command)
-    → slice_get (play_of limit programs items).at.actors who ≡ Some actor
-    → slice_get actor.program actor.ended ≡ Some command
-    → UnderWay (play_of limit programs items).at.limit who actor command
-under_way limit programs items is_limit sound who actor command there is =
+    → (actor : ℕ) (state : Actor) (command : Command)
+    → slice_get (play_of limit programs items).at.actors actor ≡ Some state
+    → slice_get state.program state.ended ≡ Some command
+    → UnderWay (play_of limit programs items).at.limit actor state command
+under_way limit programs items is_limit sound actor state command there is =
     let p = play_of limit programs items in
     let in_limit : IsInLimit p.at = items_in_limit (empty_play limit programs) items (opening_in_limit limit programs is_limit) in
-    let s : Standing programs who actor (events_of who p.events) (calls_of who p.ended) =
-    subst (λ o. Stands programs who o (events_of who p.events) (calls_of who p.ended)) there (stand_in limit programs items is_limit sound who)
+    let s : Standing programs actor state (events_of actor p.events) (calls_of actor p.ended) =
+    subst (λ o. Stands programs actor o (events_of actor p.events) (calls_of actor p.ended)) there (stand_in limit programs items is_limit sound actor)
     in
     record {
       now = s.now;
-      stage = subst (λ o. OfStage who o actor.phase s.now) is s.stage;
-      within = subst (λ o. IfSome o (λ k. IsWithin p.at.limit k actor.phase)) is (actor_at p.at.limit p.at.actors who actor in_limit.2 there);
+      stage = subst (λ o. OfStage actor o state.phase s.now) is s.stage;
+      within = within_at p.at in_limit actor state command there is;
     }
 
 pub every_move_is_own : (limit : ℕ) (programs : List (List Command)) (items : List Item) → IsLimit limit
     → AreSound programs → MovesAreOwnClaims (play_of limit programs items)
 every_move_is_own limit programs items is_limit sound item =
     let p = play_of limit programs items in
-    let who = item.actor in
-    let memory = item.memory in
-    elim (slice_get p.at.actors who) as (λ o. slice_get p.at.actors who ≡ o → (step_as p.at who memory o).to.storage.size ≢ p.at.storage.size → IsOwnClaim p.at who (step_as p.at who memory o)) [
-      | None ↦ (λ _ moves. absurd (moves refl))
-      | Some actor ↦ (λ there.
-          elim (slice_get actor.program actor.ended) as (λ o. slice_get actor.program actor.ended ≡ o → (step_in p.at who memory actor o).to.storage.size ≢ p.at.storage.size → IsOwnClaim p.at who (step_in p.at who memory actor o)) [
-            | None ↦ (λ _ moves. absurd (moves refl))
-            | Some command ↦ (λ is moves.
-                let way = under_way limit programs items is_limit sound who actor command there is in
-                elim (row_claims p.at.limit p.at.storage who command memory actor.phase way.now way.within way.stage) [
-                  | inl stays ↦ absurd (moves stays)
-                  | inr (claim, own, event) ↦ record { state = actor; there = there; command = command; under_way = is; claim = claim; own = own; event = event }
-                ])
-          ]
-          refl)
-    ]
-    refl
+    let actor = item.actor in
+    step_cases (λ step. step.to.storage.size ≢ p.at.storage.size → IsOwnClaim p.at actor step) p.at actor item.memory
+    (λ moves. absurd (moves refl))
+    (λ state command there is moves.
+    let way = under_way limit programs items is_limit sound actor state command there is in
+    elim (row_claims p.at.limit p.at.storage actor command item.memory state.phase way.now way.within way.stage) [
+      | inl stays ↦ absurd (moves stays)
+      | inr (claim, own, event) ↦ record { state = state; there = there; command = command; under_way = is; claim = claim; own = own; event = event }
+    ])
 
 -- a growth of nothing is nowhere but at Load
-nothing_is_at_load : (limit who value : ℕ) (phase : Phase) (now : List (Event × Reply))
-    → IsWithin limit (commands.Grow 0 value) phase → StageOf who (commands.Grow 0 value) phase now → phase ≡ Load
-nothing_is_at_load limit who value Load now within stage = refl
-nothing_is_at_load limit who value (Scout from n segment) now (some, room, number, wants) (none, asks) = absurd (let zero_is : n ≡ 0 = asks in omega arith)
-nothing_is_at_load limit who value (Put from n segment) now (some, room, number, wants) (none, asks) = absurd (let zero_is : n ≡ 0 = asks in omega arith)
-nothing_is_at_load limit who value (Exchange from n) now (some, room, exchanges) (none, asks) = absurd (let zero_is : n ≡ 0 = asks in omega arith)
-nothing_is_at_load limit who value (Raise to) now within (none, is) = absurd is
-nothing_is_at_load limit who value (Begin from n place) now (low, high, room) (so_far, asks) = absurd (let zero_is : n ≡ 0 = asks in omega arith)
-nothing_is_at_load limit who value (Fill from n place) now (low, high, room) (so_far, asks, fits) = absurd (let zero_is : n ≡ 0 = asks in omega arith)
-nothing_is_at_load limit who value (Spoil from n place) now (low, high, room) (so_far, asks, refused) = absurd (let zero_is : n ≡ 0 = asks in omega arith)
-nothing_is_at_load limit who value (Look place) now within (none, is) = absurd is
+nothing_is_at_load : (limit actor value : ℕ) (phase : Phase) (now : List (Event × Reply))
+    → IsWithin limit (commands.Grow 0 value) phase → StageOf actor (commands.Grow 0 value) phase now → phase ≡ Load
+nothing_is_at_load limit actor value Load now within stage = refl
+nothing_is_at_load limit actor value (Scout from n segment) now (some, room, number, wants) (none, asks) = absurd (let zero_is : n ≡ 0 = asks in omega arith)
+nothing_is_at_load limit actor value (Put from n segment) now (some, room, number, wants) (none, asks) = absurd (let zero_is : n ≡ 0 = asks in omega arith)
+nothing_is_at_load limit actor value (Exchange from n) now (some, room, exchanges) (none, asks) = absurd (let zero_is : n ≡ 0 = asks in omega arith)
+nothing_is_at_load limit actor value (Raise to) now within (none, is) = absurd is
+nothing_is_at_load limit actor value (Begin from n place) now (low, high, room) (so_far, asks) = absurd (let zero_is : n ≡ 0 = asks in omega arith)
+nothing_is_at_load limit actor value (Fill from n place) now (low, high, room) (so_far, asks, fits) = absurd (let zero_is : n ≡ 0 = asks in omega arith)
+nothing_is_at_load limit actor value (Spoil from n place) now (low, high, room) (so_far, asks, refused) = absurd (let zero_is : n ≡ 0 = asks in omega arith)
+nothing_is_at_load limit actor value (Look place) now within (none, is) = absurd is
 
 pub every_nothing_is_at_load : (limit : ℕ) (programs : List (List Command)) (items : List Item) → IsLimit limit
     → AreSound programs → NothingIsClaimedAtLoad (play_of limit programs items)
-every_nothing_is_at_load limit programs items is_limit sound item actor value there is =
+every_nothing_is_at_load limit programs items is_limit sound item state value there is =
     let p = play_of limit programs items in
-    let way = under_way limit programs items is_limit sound item.actor actor (commands.Grow 0 value) there is in
-    let at_load : actor.phase ≡ Load = nothing_is_at_load p.at.limit item.actor value actor.phase way.now way.within way.stage in (
+    let way = under_way limit programs items is_limit sound item.actor state (commands.Grow 0 value) there is in
+    let at_load : state.phase ≡ Load = nothing_is_at_load p.at.limit item.actor value state.phase way.now way.within way.stage in (
       at_load,
-      ap (λ (s : Step). s.event) (step_is p.at item.actor item.memory actor (commands.Grow 0 value) there is)
+      ap (λ (s : Step). s.event) (ap (step_as p.at item.actor item.memory) there ∙ ap (step_in p.at item.actor item.memory state) is)
           ∙ ap (λ phase. (outcome_of p.at.limit p.at.storage item.actor (commands.Grow 0 value) item.memory phase).event) at_load,
     )

@@ -1,5 +1,4 @@
 -- The events of a play of the machine are a legal history, and what is finished stays.
-pub mod Ranges
 pub mod Table
 pub mod Replies
 use Rattle.std.proofs.Common.{◌≡◌, ◌≢◌, ℕ, ◌+◌, ◌-◌, nat_le, Bool, true, false, if◌then◌else◌, List, [], ◌∷◌, ◌++◌, length, replicate, Option, Some, None, IfSome, slice_get, slice_set, zero, suc, refl, ap, sym, ◌∙◌, subst, append_assoc, inl, inr}
@@ -17,12 +16,13 @@ use Rattle.book_core.specs.declared.commands.Command.{Command}
 use Rattle.book_core.specs.declared.commands.Item.{Item}
 use Rattle.book_core.specs.Cells.{CellList, IsLimit, empty_list, with_pending, with_cell, is_pending_for, reply_of_look, apply_event, IsFinished}
 use Rattle.book_core.specs.History.{IsHistory, OwnedRun, runs_of, Tile}
-use Rattle.step_core.specs.machine.Step.{Configuration, step_of, step_as, step_in, outcome_of}
+use Rattle.step_core.specs.machine.Step.{Configuration, step_of, outcome_of}
 use Rattle.step_core.specs.machine.Bounds.{IsWithin, IsInLimit}
 use Rattle.step_core.specs.machine.Play.{Play, empty_play, with_step, after_items, play_of}
 use Rattle.step_core.specs.machine.Legal.{list_seen, EveryPlayIsLegal}
 use Rattle.step_core.specs.machine.Kept.{EveryPlayIsKept}
-use Rattle.step_core.proofs.atomic_steps.Bounds.{opening_in_limit, step_in_limit, actor_at}
+use Rattle.step_core.proofs.atomic_steps.Cases.{step_cases}
+use Rattle.step_core.proofs.atomic_steps.Bounds.{opening_in_limit, within_at, step_in_limit}
 use Rattle.book_core.proofs.Histories.{IsHistory-append, finished_cells_stay}
 use Rattle.book_core.proofs.Runs.{runs_of-append}
 use Rattle.step_core.proofs.atomic_steps.Tiling.{HoldsAt, step_holds, opening_holds, items_hold}
@@ -33,36 +33,20 @@ abbrev StepTold : ℕ → Configuration → List (Event × Reply) → Configurat
 StepTold limit c events c' event =
     IsHistory (seen limit c.storage (runs_of events)) (option_to_list event) (seen limit c'.storage (runs_of (events ++ option_to_list event)))
 
--- a step that changes nothing
-nothing_told : (limit : ℕ) (c : Configuration) (events : List (Event × Reply)) → StepTold limit c events c None
-nothing_told limit c events = ap (λ es. seen limit c.storage (runs_of es)) (append-nil events)
-
-step_told : (c : Configuration) (events : List (Event × Reply)) (who : ℕ) (memory : Bool) → IsInLimit c
-    → HoldsAt c events → StepTold c.limit c events (step_of c who memory).to (step_of c who memory).event
-step_told c events who memory in_limit holds =
-    elim (slice_get c.actors who) as (λ o. slice_get c.actors who ≡ o → StepTold c.limit c events (step_as c who memory o).to (step_as c who memory o).event) [
-      | None ↦ (λ _. nothing_told c.limit c events)
-      | Some actor ↦ (λ there.
-          elim (slice_get actor.program actor.ended) as (λ o. slice_get actor.program actor.ended ≡ o → StepTold c.limit c events (step_in c who memory actor o).to (step_in c who memory actor o).event) [
-            | None ↦ (λ _. nothing_told c.limit c events)
-            | Some command ↦ (λ is.
-                let placed = actor_at c.limit c.actors who actor in_limit.2 there in
-                let within : IsWithin c.limit command actor.phase = subst (λ o. IfSome o (λ k. IsWithin c.limit k actor.phase)) is placed in
-                let outcome = outcome_of c.limit c.storage who command memory actor.phase in
-                subst (λ rs. IsHistory (seen c.limit c.storage (runs_of events)) (option_to_list outcome.event) (seen c.limit outcome.storage rs)) (sym (runs_of-append events (option_to_list outcome.event)))
-                (row_told c.limit c.storage (runs_of events) who (record { room = in_limit.1; tile = holds.tile; taken = holds.taken }) command memory actor.phase within (holds.knows who actor there)))
-          ]
-          refl)
-    ]
-    refl
+-- a step is legal, or adds nothing
+step_told : (c : Configuration) (events : List (Event × Reply)) (actor : ℕ) (memory : Bool) → IsInLimit c
+    → HoldsAt c events → StepTold c.limit c events (step_of c actor memory).to (step_of c actor memory).event
+step_told c events actor memory in_limit holds =
+    step_cases (λ step. StepTold c.limit c events step.to step.event) c actor memory
+    (ap (λ es. seen c.limit c.storage (runs_of es)) (append-nil events))
+    (λ state command there is.
+    let outcome = outcome_of c.limit c.storage actor command memory state.phase in
+    subst (λ rs. IsHistory (seen c.limit c.storage (runs_of events)) (option_to_list outcome.event) (seen c.limit outcome.storage rs)) (sym (runs_of-append events (option_to_list outcome.event)))
+    (row_told c.limit c.storage (runs_of events) actor (record { room = in_limit.1; tile = holds.tile; taken = holds.taken }) command memory state.phase (within_at c in_limit actor state command there is) (holds.knows actor state there)))
 
 -- a step leaves the limit
-limit_kept : (c : Configuration) (who : ℕ) (memory : Bool) → (step_of c who memory).to.limit ≡ c.limit
-limit_kept c who memory =
-    elim (slice_get c.actors who) as (λ o. (step_as c who memory o).to.limit ≡ c.limit) [
-      | None ↦ refl
-      | Some actor ↦ elim (slice_get actor.program actor.ended) as (λ o. (step_in c who memory actor o).to.limit ≡ c.limit) [ None ↦ refl | Some command ↦ refl ]
-    ]
+limit_kept : (c : Configuration) (actor : ℕ) (memory : Bool) → (step_of c actor memory).to.limit ≡ c.limit
+limit_kept c actor memory = step_cases (λ step. step.to.limit ≡ c.limit) c actor memory refl (λ state command there is. refl)
 
 -- so do items, which stay within it
 items_limit : (p : Play) (items : List Item) → (after_items p items).at.limit ≡ p.at.limit
@@ -71,7 +55,7 @@ items_limit p (item ∷ items) = items_limit (with_step p (step_of p.at item.act
 
 pub items_in_limit : (p : Play) (items : List Item) → IsInLimit p.at → IsInLimit (after_items p items).at
 items_in_limit p [] in_limit = in_limit
-items_in_limit p (item ∷ items) in_limit = items_in_limit (with_step p (step_of p.at item.actor item.memory)) items (step_in_limit p.at item.actor item.memory in_limit)
+items_in_limit p (item ∷ items) in_limit = items_in_limit (with_step p (step_of p.at item.actor item.memory)) items (step_in_limit p.at in_limit item.actor item.memory)
 
 -- the events that further items add, and what they do to the vector that is seen
 record Further (limit : ℕ) (p q : Play) : Type 0 where
@@ -85,7 +69,7 @@ items_told limit p [] is in_limit holds = record { more = []; events = sym (appe
 items_told limit p (item ∷ items) is in_limit holds =
     let step = step_of p.at item.actor item.memory in
     let next = with_step p step in
-    let others = items_told limit next items (limit_kept p.at item.actor item.memory ∙ is) (step_in_limit p.at item.actor item.memory in_limit) (step_holds p.at p.events item.actor item.memory in_limit holds) in
+    let others = items_told limit next items (limit_kept p.at item.actor item.memory ∙ is) (step_in_limit p.at in_limit item.actor item.memory) (step_holds p.at p.events item.actor item.memory in_limit holds) in
     record {
       more = option_to_list step.event ++ others.more;
       events = others.events ∙ append_assoc p.events (option_to_list step.event) others.more;

@@ -1,5 +1,5 @@
 -- Where the runs of a play follow each other, its cells are those of their owners, place by place.
-use Rattle.std.proofs.Common.{◌≡◌, ℕ, ◌+◌, ◌<◌, ◌≤◌, Bool, List, [], ◌∷◌, ◌++◌, length, map, replicate, Option, Some, None, Result, Ok, Err, IfOk, All, slice_get, zero, suc, refl, ap, sym, ◌∙◌, subst, arith}
+use Rattle.std.proofs.Common.{◌≡◌, ℕ, ◌+◌, ◌<◌, ◌≤◌, Bool, List, [], ◌∷◌, ◌++◌, length, map, replicate, Option, Some, Result, Ok, Err, IfOk, All, zero, suc, refl, ap, sym, ◌∙◌, subst, arith}
 use Rattle.std.proofs.lemmas.List.{length-append, length-replicate}
 use Rattle.std.proofs.lemmas.List.Elements.{All-append, All-nil, All-cons}
 use Rattle.std.specs.List.{range_with_len}
@@ -16,10 +16,11 @@ use Rattle.step_core.specs.declared.machine.phase.Next.{Next}
 use Rattle.step_core.specs.declared.machine.phase.Next.TheVariants.{Goes, Ends}
 use Rattle.step_core.specs.declared.machine.phase.Actor.{Actor}
 use Rattle.step_core.specs.declared.programs.Played.{Played}
-use Rattle.step_core.specs.machine.Step.{ended_by, Configuration, step_of, step_as, step_in, outcome_of}
+use Rattle.step_core.specs.machine.Step.{ended_by, Configuration, step_of, outcome_of}
 use Rattle.step_core.specs.machine.Play.{Play, empty_play, with_step, after_items, play_of, cell_of, played_of}
 use Rattle.step_core.specs.machine.Owners.{owners_of, cells_from, played_by_owners}
 use Rattle.book_core.proofs.Runs.{has_place-true, has_place-past}
+use Rattle.step_core.proofs.atomic_steps.Cases.{step_cases}
 use Rattle.step_core.proofs.atomic_steps.Tiling.{every_play_is_tiled}
 
 -- the owners of the places from one on are these, in order
@@ -41,11 +42,11 @@ same_owners owner other place [] same are = tt
 same_owners owner other place (o ∷ os) same (is, are) = (sym (same place (omega arith)) ∙ is, same_owners owner other (place + 1) os (λ p low. same p (omega arith)) are)
 
 -- one owner of n places, and then others
-one_owner : (owner : ℕ → Option ℕ) (place n who : ℕ) (owners : List ℕ)
-    → ((p : ℕ) → place ≤ p → p < place + n → owner p ≡ Some who) → AreOwners owner (place + n) owners
-    → AreOwners owner place (replicate n who ++ owners)
-one_owner owner place zero who owners ours are = subst (λ p. AreOwners owner p owners) (omega arith) are
-one_owner owner place (suc n) who owners ours are = (ours place (omega arith) (omega arith), one_owner owner (place + 1) n who owners (λ p low high. ours p (omega arith) (omega arith)) (subst (λ p. AreOwners owner p owners) (omega arith) are))
+one_owner : (owner : ℕ → Option ℕ) (place n actor : ℕ) (owners : List ℕ)
+    → ((p : ℕ) → place ≤ p → p < place + n → owner p ≡ Some actor) → AreOwners owner (place + n) owners
+    → AreOwners owner place (replicate n actor ++ owners)
+one_owner owner place zero actor owners ours are = subst (λ p. AreOwners owner p owners) (omega arith) are
+one_owner owner place (suc n) actor owners ours are = (ours place (omega arith) (omega arith), one_owner owner (place + 1) n actor owners (λ p low high. ours p (omega arith) (omega arith)) (subst (λ p. AreOwners owner p owners) (omega arith) are))
 
 -- the owners of runs that tile
 tile_owners : (start end : ℕ) (runs : List OwnedRun) → Tile start runs end
@@ -89,22 +90,16 @@ play_shown limit programs items p (Err e) is_limit plays is = tt
 -- ---- Whose calls end
 
 -- a call that ends is its actor's
-ended_is_its : (count who : ℕ) (actor : Actor) (command : Command) (next : Next) → who < count
-    → HaveActors count (option_to_list (ended_by who actor command next))
-ended_is_its count who actor command (Goes phase) has = All-nil _
-ended_is_its count who actor command (Ends answer) has = All-cons (λ (e : Ended). e.actor < count) (record { actor = who; number = actor.ended + 1; command = command; answer = answer }) [] has (All-nil _)
+ended_is_its : (count actor : ℕ) (state : Actor) (command : Command) (next : Next) → actor < count
+    → HaveActors count (option_to_list (ended_by actor state command next))
+ended_is_its count actor state command (Goes phase) has = All-nil _
+ended_is_its count actor state command (Ends answer) has = All-cons (λ (e : Ended). e.actor < count) (record { actor = actor; number = state.ended + 1; command = command; answer = answer }) [] has (All-nil _)
 
-step_actors : (count : ℕ) (c : Configuration) (who : ℕ) (memory : Bool) → who < count
-    → HaveActors count (option_to_list (step_of c who memory).ended)
-step_actors count c who memory has =
-    elim (slice_get c.actors who) as (λ o. HaveActors count (option_to_list (step_as c who memory o).ended)) [
-      | None ↦ All-nil _
-      | Some actor ↦
-          elim (slice_get actor.program actor.ended) as (λ o. HaveActors count (option_to_list (step_in c who memory actor o).ended)) [
-            | None ↦ All-nil _
-            | Some command ↦ ended_is_its count who actor command (outcome_of c.limit c.storage who command memory actor.phase).next has
-          ]
-    ]
+step_actors : (count : ℕ) (c : Configuration) (actor : ℕ) (memory : Bool) → actor < count
+    → HaveActors count (option_to_list (step_of c actor memory).ended)
+step_actors count c actor memory has =
+    step_cases (λ step. HaveActors count (option_to_list step.ended)) c actor memory (All-nil _)
+    (λ state command there is. ended_is_its count actor state command (outcome_of c.limit c.storage actor command memory state.phase).next has)
 
 items_actors : (count : ℕ) (p : Play) (items : List Item) → All (λ item. item.actor < count) items
     → HaveActors count p.ended → HaveActors count (after_items p items).ended

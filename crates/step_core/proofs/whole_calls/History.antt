@@ -1,7 +1,6 @@
 -- The events of a play of whole calls are a legal history.
 use Rattle.std.proofs.Common.{◌≡◌, ℕ, List, [], ◌∷◌, ◌++◌, All, Option, Some, None, IsSome, slice_get, slice_index, refl, ap, subst}
-use Rattle.std.proofs.lemmas.Option.{none-some, same_Some, slice_get_within, get_or_from_slice_get}
-use Rattle.std.proofs.lemmas.List.Elements.{All-get_or}
+use Rattle.std.proofs.lemmas.Option.{none-some, same_Some}
 use Rattle.std.specs.Option.{option_and_then, option_map}
 use Rattle.book_core.specs.declared.events.Event.{Event}
 use Rattle.book_core.specs.declared.events.Reply.{Reply}
@@ -12,6 +11,7 @@ use Rattle.book_core.specs.Commands.{IsSound, AreSound}
 use Rattle.book_core.specs.History.{IsHistory}
 use Rattle.step_core.specs.declared.programs.Played.{Played}
 use Rattle.book_core.proofs.Histories.{IsHistory-push, history_limit}
+use Rattle.book_core.proofs.Lists.{at_place}
 use Rattle.step_core.specs.calls.WholeCall.{call_on}
 use Rattle.step_core.specs.calls.Play.{CallPlay, empty_call_play, with_event, with_events, with_ended, with_call, with_items, next_call, played_of_calls}
 use Rattle.step_core.specs.calls.Laws.{CallsPlay, CallsAreLegal}
@@ -74,11 +74,6 @@ calls_are_legal limit programs items played is =
           subst (λ (p : Played). IsHistory (empty_list limit) p.events (record { limit = limit; cells = p.cells })) (same_Some _ played shows) (subst (IsHistory (empty_list limit) last.events) same told))
     ]
     refl is
-
--- what holds of each member of a list holds of one that is there
-pub at_place : {X : Type 0} (P : X → Type 0) (xs : List X) (i : ℕ) (x : X) → All P xs → slice_get xs i ≡ Some x → P x
-at_place P xs i x all is =
-    subst P (get_or_from_slice_get xs i x x is) (All-get_or P xs i x (slice_get_within xs i x is) all)
 
 -- each command of sound programs is sound
 next_is_sound : (programs : List (List Command)) (counts : List ℕ) (actor : ℕ) (command : Command)

@@ -1,14 +1,12 @@
 -- Each row of the step table replies as the sequential vector does, on the cells that a reader sees.
-use Rattle.std.proofs.Common.{◌≡◌, ◌≢◌, ℕ, ◌+◌, ◌-◌, ◌<◌, ◌≤◌, nat_le, nat_lt, ◌==◌, Bool, true, false, if◌then◌else◌, List, [], ◌∷◌, ◌++◌, length, map, replicate, Option, Some, None, slice_get, slice_set, refl, ap, sym, ◌∙◌, subst, arith, inl, inr}
-use Rattle.std.proofs.lemmas.Bool.{eqb-true}
-use Rattle.std.proofs.lemmas.Bool.Decides.{nat_tests, eqb_tells}
+use Rattle.std.proofs.Common.{◌≡◌, ◌≢◌, ℕ, ◌+◌, ◌-◌, ◌<◌, ◌≤◌, Bool, true, false, if◌then◌else◌, List, [], ◌∷◌, ◌++◌, length, map, replicate, Option, Some, None, slice_get, slice_set, refl, ap, sym, ◌∙◌, subst, arith, inl, inr}
+use Rattle.std.proofs.lemmas.Bool.Decides.{eqb_tells}
 use Rattle.std.proofs.lemmas.List.{append-nil}
 use Rattle.std.proofs.lemmas.List.FromFn.{length-map-range_with_len}
 use Rattle.std.proofs.lemmas.Option.{slice_get_past}
 use Rattle.std.specs.List.{range_with_len}
 use Rattle.std.specs.Option.{option_to_list}
 use Rattle.std.specs.FinMap as finite
-use Rattle.std.specs.FinSet as set
 use Rattle.seg_core.specs.Segment.{segment_of}
 use Rattle.book_core.specs.declared.cells.Cell.{Cell}
 use Rattle.book_core.specs.declared.cells.Cell.TheVariants as cells
@@ -26,14 +24,14 @@ use Rattle.step_core.specs.declared.machine.phase.Slot.{Slot}
 use Rattle.step_core.specs.declared.machine.phase.Slot.TheVariants.{Busy, Filled, Broken}
 use Rattle.step_core.specs.declared.machine.phase.Phase.{Phase}
 use Rattle.step_core.specs.declared.machine.phase.Phase.TheVariants.{Load, Scout, Put, Exchange, Raise, Begin, Fill, Spoil, Look}
-use Rattle.step_core.specs.declared.machine.phase.Next.TheVariants.{Goes}
 use Rattle.step_core.specs.machine.Storage.{Storage}
-use Rattle.step_core.specs.machine.Step.{Outcome, goes_on, ends, with_size, with_segment, with_slot, load_growth, load_at_least, load_read, load, after_segment, scout, put, exchange, raise, begin_at, is_refused, value_of, fill, spoil, look_at, outcome_of}
+use Rattle.step_core.specs.machine.Step.{Outcome, goes_on, ends, with_size, with_segment, with_slot, load_growth, load_at_least, load_read, load, after_segment, scout, put, exchange, raise, begin_at, value_of, fill, spoil, look_at, outcome_of}
 use Rattle.step_core.specs.machine.Play.{cell_of, cells_of}
 use Rattle.step_core.specs.machine.Bounds.{IsWithin}
 use Rattle.book_core.proofs.Runs.{owner_new, owner_kept, none_past, has_place-true, owned_between}
-use Rattle.step_core.proofs.atomic_steps.Tiling.Invariant.{get_set_same, get_set_other, Won, Knows}
-use Rattle.step_core.proofs.atomic_steps.Legal.Ranges.{map_same, map_more, map_all, map_get, map_set}
+use Rattle.step_core.proofs.atomic_steps.Tiling.Invariant.{get_set_same, get_set_other, empty_past, Won, Knows}
+use Rattle.step_core.proofs.atomic_steps.Cases.{growth_cases, at_least_cases, read_cases, exchange_cases, raise_cases, begin_cases, scout_cases}
+use Rattle.step_core.proofs.atomic_steps.Ranges.{map_same, map_more, map_all, map_get, map_set}
 use Rattle.step_core.proofs.atomic_steps.Legal.Table.{claim_applies, raise_applies, enough_applies, full_applies, size_applies, finish_applies, break_applies, look_applies}
 
 -- the sequential vector as a reader sees it
@@ -59,7 +57,7 @@ one_event : (old new : CellList) (event : Event) (reply : Reply) → apply_event
     → IsHistory old ((event, reply) ∷ []) new
 one_event old new event reply is = (new, is, refl)
 
-module _ (limit : ℕ) (m : Storage) (runs : List OwnedRun) (who : ℕ) (sees : Sees limit m runs) where
+module _ (limit : ℕ) (m : Storage) (runs : List OwnedRun) (actor : ℕ) (sees : Sees limit m runs) where
   seen_length : length (cells_of m runs) ≡ m.size
   seen_length = length-map-range_with_len (seen_at m runs) 0 m.size
 
@@ -81,28 +79,21 @@ module _ (limit : ℕ) (m : Storage) (runs : List OwnedRun) (who : ℕ) (sees : 
   silent : (m' : Storage) (phase : Phase) → cells_of m' runs ≡ cells_of m runs → Replies limit m runs (goes_on m' phase)
   silent m' phase is = same_seen m' [] refl is
 
-  -- no place at or past the size is taken
-  not_taken : (q : ℕ) → m.size ≤ q → finite.get m.slots q ≡ None
-  not_taken q past =
-      elim (finite.get m.slots q) as (λ o. finite.get m.slots q ≡ o → o ≡ None)
-      [ None ↦ (λ _. refl) | Some slot ↦ (λ is. absurd (let inside = sees.taken q slot is in omega arith)) ]
-      refl
-
   -- the cells where n more places are claimed
   claimed : (n : ℕ)
       → cells_of (with_size m (m.size + n))
-      (runs ++ record { owner = who; from = m.size; n = n } ∷ []) ≡ cells_of m runs ++ replicate n (cells.Pending who)
+      (runs ++ record { owner = actor; from = m.size; n = n } ∷ []) ≡ cells_of m runs ++ replicate n (cells.Pending actor)
   claimed n =
-      let run : OwnedRun = record { owner = who; from = m.size; n = n } in
+      let run : OwnedRun = record { owner = actor; from = m.size; n = n } in
       let more : List OwnedRun = runs ++ run ∷ [] in
       let before : map (seen_at m more) (range_with_len 0 m.size) ≡ map (seen_at m runs) (range_with_len 0 m.size) =
       map_same (seen_at m more) (seen_at m runs) 0 m.size (λ p low high.
       let owned = owned_between 0 m.size runs p sees.tile (omega arith) (omega arith) in
       ap (λ o. cell_of o (finite.get m.slots p)) (owner_kept runs (run ∷ []) p owned.0 owned.1 ∙ sym owned.1)) in
-      let behind : map (seen_at m more) (range_with_len m.size n) ≡ replicate n (cells.Pending who) =
-      map_all (seen_at m more) (cells.Pending who) m.size n (λ p low high.
-      let owner : owner_of more p ≡ Some who = owner_new runs (run ∷ []) p (none_past 0 m.size runs p sees.tile low) ∙ ap (λ b. if b then Some who else None) (has_place-true run p low high) in
-      ap (λ o. cell_of o (finite.get m.slots p)) owner ∙ ap (λ s. cell_of (Some who) s) (not_taken p low)) in
+      let behind : map (seen_at m more) (range_with_len m.size n) ≡ replicate n (cells.Pending actor) =
+      map_all (seen_at m more) (cells.Pending actor) m.size n (λ p low high.
+      let owner : owner_of more p ≡ Some actor = owner_new runs (run ∷ []) p (none_past 0 m.size runs p sees.tile low) ∙ ap (λ b. if b then Some actor else None) (has_place-true run p low high) in
+      ap (λ o. cell_of o (finite.get m.slots p)) owner ∙ ap (λ s. cell_of (Some actor) s) (empty_past m sees.taken p low)) in
       let start : 0 + m.size ≡ m.size = omega arith in
       map_more (seen_at m more) 0 m.size n
       ∙ ap (λ s. map (seen_at m more) (range_with_len 0 m.size) ++ map (seen_at m more) (range_with_len s n)) start
@@ -110,125 +101,90 @@ module _ (limit : ℕ) (m : Storage) (runs : List OwnedRun) (who : ℕ) (sees : 
       ∙ ap (λ cs. cells_of m runs ++ cs) behind
 
   -- a claiming event
-  claims : (n : ℕ) (event : Event) (next : Phase)
-      → runs_of ((event, replies.Run m.size n) ∷ []) ≡ record { owner = who; from = m.size; n = n } ∷ []
-      → apply_event (seen limit m runs) event ≡ Some (with_pending (seen limit m runs) who n, replies.Run m.size n)
+  claims : (n : ℕ) (event : Event)
+      → runs_of ((event, replies.Run m.size n) ∷ []) ≡ record { owner = actor; from = m.size; n = n } ∷ []
+      → apply_event (seen limit m runs) event ≡ Some (with_pending (seen limit m runs) actor n, replies.Run m.size n)
       → IsHistory (seen limit m runs) ((event, replies.Run m.size n) ∷ [])
       (seen limit (with_size m (m.size + n)) (runs ++ runs_of ((event, replies.Run m.size n) ∷ [])))
-  claims n event next run_is is =
-      let now : seen limit (with_size m (m.size + n)) (runs ++ runs_of ((event, replies.Run m.size n) ∷ [])) ≡ with_pending (seen limit m runs) who n =
+  claims n event run_is is =
+      let now : seen limit (with_size m (m.size + n)) (runs ++ runs_of ((event, replies.Run m.size n) ∷ [])) ≡ with_pending (seen limit m runs) actor n =
       ap (λ rs. seen limit (with_size m (m.size + n)) (runs ++ rs)) run_is ∙ ap (λ cs. record { limit = limit; cells = cs }) (claimed n) in
       one_event (seen limit m runs) _ event (replies.Run m.size n) (is ∙ ap (λ v. Some (v, replies.Run m.size n)) (sym now))
 
   -- ---- Load
 
   full_told : (n : ℕ) → limit < m.size + n
-      → Replies limit m runs (ends m (events.RefusedFull who n) (replies.Full m.size) (answers.Full m.size))
-  full_told n past = tells (events.RefusedFull who n) (replies.Full m.size) (answers.Full m.size) refl (full_applies (seen limit m runs) who m.size seen_length n past)
+      → Replies limit m runs (ends m (events.RefusedFull actor n) (replies.Full m.size) (answers.Full m.size))
+  full_told n past = tells (events.RefusedFull actor n) (replies.Full m.size) (answers.Full m.size) refl (full_applies (seen limit m runs) actor m.size seen_length n past)
 
   enough_told : (to : ℕ) → to ≤ m.size
-      → Replies limit m runs (ends m (events.Raise who to) (replies.Enough m.size) (answers.Enough m.size))
-  enough_told to had = tells (events.Raise who to) (replies.Enough m.size) (answers.Enough m.size) refl (enough_applies (seen limit m runs) who m.size seen_length to had)
+      → Replies limit m runs (ends m (events.Raise actor to) (replies.Enough m.size) (answers.Enough m.size))
+  enough_told to had = tells (events.Raise actor to) (replies.Enough m.size) (answers.Enough m.size) refl (enough_applies (seen limit m runs) actor m.size seen_length to had)
 
-  nothing_claimed : Replies limit m runs (ends m (events.Claim who 0) (replies.Run m.size 0) (answers.Run m.size 0))
+  nothing_claimed : Replies limit m runs (ends m (events.Claim actor 0) (replies.Run m.size 0) (answers.Run m.size 0))
   nothing_claimed =
       let all : m.size + 0 ≡ m.size = omega arith in
       let room : m.size + 0 ≤ limit = (let r = sees.room in omega arith) in
-      subst (λ size. IsHistory (seen limit m runs) ((events.Claim who 0, replies.Run m.size 0) ∷ []) (seen limit (with_size m size) (runs ++ runs_of ((events.Claim who 0, replies.Run m.size 0) ∷ [])))) all
-      (claims 0 (events.Claim who 0) Load refl (claim_applies (seen limit m runs) who m.size seen_length 0 room))
+      subst (λ size. IsHistory (seen limit m runs) ((events.Claim actor 0, replies.Run m.size 0) ∷ []) (seen limit (with_size m size) (runs ++ runs_of ((events.Claim actor 0, replies.Run m.size 0) ∷ [])))) all
+      (claims 0 (events.Claim actor 0) refl (claim_applies (seen limit m runs) actor m.size seen_length 0 room))
 
-  growth_told : (n : ℕ) → Replies limit m runs (load_growth limit m who n)
+  growth_told : (n : ℕ) → Replies limit m runs (load_growth limit m actor n)
   growth_told n =
-      elim (n == 0) as (λ b. Replies limit m runs (if b then ends m (events.Claim who 0) (replies.Run m.size 0) (answers.Run m.size 0) else if nat_le (m.size + n) limit then goes_on m (Scout m.size n (segment_of m.size)) else ends m (events.RefusedFull who n) (replies.Full m.size) (answers.Full m.size))) [
-        | true ↦ nothing_claimed
-        | false ↦
-            elim (nat_le (m.size + n) limit) as (λ b. nat_le (m.size + n) limit ≡ b → Replies limit m runs (if b then goes_on m (Scout m.size n (segment_of m.size)) else ends m (events.RefusedFull who n) (replies.Full m.size) (answers.Full m.size))) [
-              | true ↦ (λ _. silent m (Scout m.size n (segment_of m.size)) refl)
-              | false ↦ (λ test. full_told n (let past : limit < m.size + n = grind (arith, nat_tests) in past))
-            ]
-            refl
-      ]
+      growth_cases (Replies limit m runs) m actor limit n
+      (λ _. nothing_claimed) (λ _ _. silent m (Scout m.size n (segment_of m.size)) refl) (λ past. full_told n past)
 
-  at_least_told : (to : ℕ) → Replies limit m runs (load_at_least limit m who to)
+  at_least_told : (to : ℕ) → Replies limit m runs (load_at_least limit m actor to)
   at_least_told to =
-      elim (nat_le to m.size) as (λ b. nat_le to m.size ≡ b → Replies limit m runs (if b then ends m (events.Raise who to) (replies.Enough m.size) (answers.Enough m.size) else if nat_le to limit then goes_on m (Scout m.size (to - m.size) (segment_of m.size)) else ends m (events.RefusedFull who (to - m.size)) (replies.Full m.size) (answers.Full m.size))) [
-        | true ↦ (λ test. enough_told to (let had : to ≤ m.size = grind (arith, nat_tests) in had))
-        | false ↦ (λ grows.
-            elim (nat_le to limit) as (λ b. nat_le to limit ≡ b → Replies limit m runs (if b then goes_on m (Scout m.size (to - m.size) (segment_of m.size)) else ends m (events.RefusedFull who (to - m.size)) (replies.Full m.size) (answers.Full m.size))) [
-              | true ↦ (λ _. silent m (Scout m.size (to - m.size) (segment_of m.size)) refl)
-              | false ↦ (λ test.
-                  let more : m.size < to = grind (arith, nat_tests) in
-                  let past : limit < to = grind (arith, nat_tests) in
-                  full_told (to - m.size) (omega arith))
-            ]
-            refl)
-      ]
-      refl
+      at_least_cases (Replies limit m runs) m actor limit to
+      (λ had. enough_told to had)
+      (λ _ _. silent m (Scout m.size (to - m.size) (segment_of m.size)) refl)
+      (λ more past. full_told (to - m.size) (omega arith))
 
   out_of_range_told : (place : ℕ) → m.size ≤ place
-      → Replies limit m runs (ends m (events.Look who place) (replies.OutOfRange m.size) (answers.OutOfRange m.size))
+      → Replies limit m runs (ends m (events.Look actor place) (replies.OutOfRange m.size) (answers.OutOfRange m.size))
   out_of_range_told place past =
       let none : slice_get (cells_of m runs) place ≡ None = slice_get_past (cells_of m runs) place (omega (arith, seen_length)) in
-      tells (events.Look who place) (replies.OutOfRange m.size) (answers.OutOfRange m.size) refl
-      (look_applies (seen limit m runs) who place None none ∙ ap (λ k. Some (seen limit m runs, replies.OutOfRange k)) seen_length)
+      tells (events.Look actor place) (replies.OutOfRange m.size) (answers.OutOfRange m.size) refl
+      (look_applies (seen limit m runs) actor place None none ∙ ap (λ k. Some (seen limit m runs, replies.OutOfRange k)) seen_length)
 
-  read_told : (place : ℕ) → Replies limit m runs (load_read m who place)
+  read_told : (place : ℕ) → Replies limit m runs (load_read m actor place)
   read_told place =
-      elim (nat_lt place m.size) as (λ b. nat_lt place m.size ≡ b → Replies limit m runs (if b then goes_on m (Look place) else ends m (events.Look who place) (replies.OutOfRange m.size) (answers.OutOfRange m.size))) [
-        | true ↦ (λ _. silent m (Look place) refl)
-        | false ↦ (λ test. out_of_range_told place (let past : m.size ≤ place = grind (arith, nat_tests) in past))
-      ]
-      refl
+      read_cases (Replies limit m runs) m actor place (λ _. silent m (Look place) refl) (λ past. out_of_range_told place past)
 
-  load_told : (command : Command) → Replies limit m runs (load limit m who command)
+  load_told : (command : Command) → Replies limit m runs (load limit m actor command)
   load_told (commands.Push value) = growth_told 1
   load_told (commands.Grow n value) = growth_told n
   load_told (commands.AtLeast to value) = at_least_told to
   load_told (commands.Fail n value at) = growth_told n
   load_told (commands.Read place) = read_told place
-  load_told commands.Size = tells (events.Size who) (replies.Size m.size) (answers.Size m.size) refl (size_applies (seen limit m runs) who m.size seen_length)
+  load_told commands.Size = tells (events.Size actor) (replies.Size m.size) (answers.Size m.size) refl (size_applies (seen limit m runs) actor m.size seen_length)
 
   -- ---- Scout and Put
 
   scout_told : (command : Command) (from n k : ℕ) → Replies limit m runs (scout m command from n k)
   scout_told command from n k =
-      elim (set.contains m.installed k) as (λ b. Replies limit m runs (if b then goes_on m (after_segment command from n k) else goes_on m (Put from n k)))
-      [ true ↦ silent m (after_segment command from n k) refl | false ↦ silent m (Put from n k) refl ]
+      scout_cases (Replies limit m runs) m command from n k
+      (λ _. silent m (after_segment command from n k) refl) (silent m (Put from n k) refl)
 
   put_told : (command : Command) (memory : Bool) (from n k : ℕ)
-      → Replies limit m runs (put m who command memory from n k)
+      → Replies limit m runs (put m actor command memory from n k)
   put_told command true from n k = silent (with_segment m k) (after_segment command from n k) refl
-  put_told command false from n k = tells (events.RefusedMemory who) replies.NoMemory answers.NoMemory refl refl
+  put_told command false from n k = tells (events.RefusedMemory actor) replies.NoMemory answers.NoMemory refl refl
 
   -- ---- Exchange and Raise
 
-  exchange_told : (from n : ℕ) → from + n ≤ limit → Replies limit m runs (exchange limit m who from n)
+  exchange_told : (from n : ℕ) → from + n ≤ limit → Replies limit m runs (exchange limit m actor from n)
   exchange_told from n room =
-      elim (m.size == from) as (λ b. (m.size == from) ≡ b → Replies limit m runs (if b then record { storage = with_size m (from + n); event = Some (events.Claim who n, replies.Run from n); next = Goes (Begin from n from) } else if nat_le (m.size + n) limit then goes_on m (Scout m.size n (segment_of m.size)) else ends m (events.RefusedFull who n) (replies.Full m.size) (answers.Full m.size))) [
-        | true ↦ (λ won.
-            let same : m.size ≡ from = eqb-true m.size from won in
-            subst (λ f. IsHistory (seen limit m runs) ((events.Claim who n, replies.Run f n) ∷ []) (seen limit (with_size m (f + n)) (runs ++ runs_of ((events.Claim who n, replies.Run f n) ∷ [])))) same
-            (claims n (events.Claim who n) Load refl (claim_applies (seen limit m runs) who m.size seen_length n (omega arith))))
-        | false ↦ (λ _.
-            elim (nat_le (m.size + n) limit) as (λ b. nat_le (m.size + n) limit ≡ b → Replies limit m runs (if b then goes_on m (Scout m.size n (segment_of m.size)) else ends m (events.RefusedFull who n) (replies.Full m.size) (answers.Full m.size))) [
-              | true ↦ (λ _. silent m (Scout m.size n (segment_of m.size)) refl)
-              | false ↦ (λ test. full_told n (let past : limit < m.size + n = grind (arith, nat_tests) in past))
-            ]
-            refl)
-      ]
-      refl
+      exchange_cases (Replies limit m runs) m actor limit from n
+      (λ same. claims n (events.Claim actor n) refl (claim_applies (seen limit m runs) actor m.size seen_length n (omega arith)))
+      (λ _. silent m (Scout m.size n (segment_of m.size)) refl)
+      (λ past. full_told n past)
 
-  raise_told : (to : ℕ) → to ≤ limit → Replies limit m runs (raise m who to)
+  raise_told : (to : ℕ) → to ≤ limit → Replies limit m runs (raise m actor to)
   raise_told to room =
-      elim (nat_le to m.size) as (λ b. nat_le to m.size ≡ b → Replies limit m runs (if b then ends m (events.Raise who to) (replies.Enough m.size) (answers.Enough m.size) else record { storage = with_size m to; event = Some (events.Raise who to, replies.Run m.size (to - m.size)); next = Goes (Begin m.size (to - m.size) m.size) })) [
-        | true ↦ (λ test. enough_told to (let had : to ≤ m.size = grind (arith, nat_tests) in had))
-        | false ↦ (λ grows.
-            let more : m.size < to = grind (arith, nat_tests) in
-            let ends_at : m.size + (to - m.size) ≡ to = omega arith in
-            subst (λ e. IsHistory (seen limit m runs) ((events.Raise who to, replies.Run m.size (to - m.size)) ∷ []) (seen limit (with_size m e) (runs ++ runs_of ((events.Raise who to, replies.Run m.size (to - m.size)) ∷ [])))) ends_at
-            (claims (to - m.size) (events.Raise who to) Load refl (raise_applies (seen limit m runs) who m.size seen_length to more room)))
-      ]
-      refl
+      raise_cases (Replies limit m runs) m actor to
+      (λ had. enough_told to had)
+      (λ more. claims (to - m.size) (events.Raise actor to) refl (raise_applies (seen limit m runs) actor m.size seen_length to more room))
 
   -- ---- Begin, Fill and Spoil
 
@@ -242,15 +198,18 @@ module _ (limit : ℕ) (m : Storage) (runs : List OwnedRun) (who : ℕ) (sees : 
   seen_other place slot q apart = ap (λ s. cell_of (owner_of runs q) s) (sym (get_set_other m place slot q apart))
 
   begin_told : (command : Command) (from n place : ℕ) (slot : Option Slot) → finite.get m.slots place ≡ slot
-      → Replies limit m runs (begin_at m who command from n place slot)
+      → Replies limit m runs (begin_at m actor command from n place slot)
   begin_told command from n place (Some slot) is = silent m (Begin from n place) refl
   begin_told command from n place None is =
-      silent (with_slot m place (Busy who)) (if is_refused command from place then Spoil from n place else Fill from n place)
-      (map_same (seen_at (with_slot m place (Busy who)) runs) (seen_at m runs) 0 m.size (λ p low high. elim (eqb_tells p place) [
-        | inl same ↦ subst (λ q. seen_at (with_slot m place (Busy who)) runs q ≡ seen_at m runs q) (sym same.1)
-            (seen_set place (Busy who) ∙ sym (ap (λ s. cell_of (owner_of runs place) s) is))
-        | inr apart ↦ sym (seen_other place (Busy who) p apart.1)
-      ]))
+      let same : cells_of (with_slot m place (Busy actor)) runs ≡ cells_of m runs =
+      map_same (seen_at (with_slot m place (Busy actor)) runs) (seen_at m runs) 0 m.size (λ p low high. elim (eqb_tells p place) [
+        | inl same ↦ subst (λ q. seen_at (with_slot m place (Busy actor)) runs q ≡ seen_at m runs q) (sym same.1)
+            (seen_set place (Busy actor) ∙ sym (ap (λ s. cell_of (owner_of runs place) s) is))
+        | inr apart ↦ sym (seen_other place (Busy actor) p apart.1)
+      ]) in
+      begin_cases (Replies limit m runs) m actor command from n place
+      (λ _. silent (with_slot m place (Busy actor)) (Spoil from n place) same)
+      (λ _. silent (with_slot m place (Busy actor)) (Fill from n place) same)
 
   -- the cells where a slot of a place is finished
   settled : (place : ℕ) (slot : Slot) → place < m.size
@@ -269,11 +228,11 @@ module _ (limit : ℕ) (m : Storage) (runs : List OwnedRun) (who : ℕ) (sees : 
       map_get (seen_at m runs) 0 m.size place inside ∙ ap (λ p. Some (seen_at m runs p)) here ∙ ap (λ s. Some (cell_of (owner_of runs place) s)) is
 
   -- the place is pending of its owner
-  pending_there : (from n place : ℕ) → Won m runs who from n place → finite.get m.slots place ≡ Some (Busy who)
-      → slice_get (cells_of m runs) place ≡ Some (cells.Pending who)
+  pending_there : (from n place : ℕ) → Won m runs actor from n place → finite.get m.slots place ≡ Some (Busy actor)
+      → slice_get (cells_of m runs) place ≡ Some (cells.Pending actor)
   pending_there from n place won busy =
       let inside : place < m.size = (let a = won.before in let b = won.claimed in omega arith) in
-      seen_there place (Some (Busy who)) inside busy ∙ ap (λ o. Some (cell_of o (Some (Busy who)))) (won.owned place won.within won.before)
+      seen_there place (Some (Busy actor)) inside busy ∙ ap (λ o. Some (cell_of o (Some (Busy actor)))) (won.owned place won.within won.before)
 
   -- what is seen where a slot that a filled or broken cell is of is set
   finished : (place : ℕ) (slot : Slot) (cell : Cell) (event : Event) → place < m.size
@@ -284,35 +243,35 @@ module _ (limit : ℕ) (m : Storage) (runs : List OwnedRun) (who : ℕ) (sees : 
       ap (λ rs. seen limit (with_slot m place slot) rs) (ap (λ rs. runs ++ rs) none ∙ append-nil runs)
       ∙ ap (λ cs. record { limit = limit; cells = cs }) (settled place slot inside ∙ ap (λ c. slice_set (cells_of m runs) place c) is)
 
-  fill_told : (command : Command) (from n place : ℕ) → Won m runs who from n place
-      → finite.get m.slots place ≡ Some (Busy who) → Replies limit m runs (fill m who command from n place)
+  fill_told : (command : Command) (from n place : ℕ) → Won m runs actor from n place
+      → finite.get m.slots place ≡ Some (Busy actor) → Replies limit m runs (fill m actor command from n place)
   fill_told command from n place won busy =
       let inside : place < m.size = (let a = won.before in let b = won.claimed in omega arith) in
       let value = value_of command in
-      let now = finished place (Filled value) (cells.Filled value) (events.Finish who place value) inside refl refl in
-      one_event (seen limit m runs) _ (events.Finish who place value) replies.Done
-      (finish_applies (seen limit m runs) who place value (pending_there from n place won busy) ∙ ap (λ v. Some (v, replies.Done)) (sym now))
+      let now = finished place (Filled value) (cells.Filled value) (events.Finish actor place value) inside refl refl in
+      one_event (seen limit m runs) _ (events.Finish actor place value) replies.Done
+      (finish_applies (seen limit m runs) actor place value (pending_there from n place won busy) ∙ ap (λ v. Some (v, replies.Done)) (sym now))
 
-  spoil_told : (command : Command) (from n place : ℕ) → Won m runs who from n place
-      → finite.get m.slots place ≡ Some (Busy who) → Replies limit m runs (spoil m who command from n place)
+  spoil_told : (command : Command) (from n place : ℕ) → Won m runs actor from n place
+      → finite.get m.slots place ≡ Some (Busy actor) → Replies limit m runs (spoil m actor command from n place)
   spoil_told command from n place won busy =
       let inside : place < m.size = (let a = won.before in let b = won.claimed in omega arith) in
-      let now = finished place Broken cells.Broken (events.Break who place) inside refl refl in
-      one_event (seen limit m runs) _ (events.Break who place) replies.Done
-      (break_applies (seen limit m runs) who place (pending_there from n place won busy) ∙ ap (λ v. Some (v, replies.Done)) (sym now))
+      let now = finished place Broken cells.Broken (events.Break actor place) inside refl refl in
+      one_event (seen limit m runs) _ (events.Break actor place) replies.Done
+      (break_applies (seen limit m runs) actor place (pending_there from n place won busy) ∙ ap (λ v. Some (v, replies.Done)) (sym now))
 
   -- ---- Look
 
   looks : (place : ℕ) (slot : Option Slot) (reply : Reply) (answer : Answer) → place < m.size
       → finite.get m.slots place ≡ slot
       → reply_of_look (length (cells_of m runs)) (Some (cell_of (owner_of runs place) slot)) ≡ reply
-      → Replies limit m runs (ends m (events.Look who place) reply answer)
+      → Replies limit m runs (ends m (events.Look actor place) reply answer)
   looks place slot reply answer inside is told =
-      tells (events.Look who place) reply answer refl
-      (look_applies (seen limit m runs) who place (Some (cell_of (owner_of runs place) slot)) (seen_there place slot inside is) ∙ ap (λ r. Some (seen limit m runs, r)) told)
+      tells (events.Look actor place) reply answer refl
+      (look_applies (seen limit m runs) actor place (Some (cell_of (owner_of runs place) slot)) (seen_there place slot inside is) ∙ ap (λ r. Some (seen limit m runs, r)) told)
 
   look_told : (place : ℕ) (slot : Option Slot) → place < m.size → finite.get m.slots place ≡ slot
-      → Replies limit m runs (look_at m who place slot)
+      → Replies limit m runs (look_at m actor place slot)
   look_told place None inside is = looks place None replies.Pending answers.Pending inside is refl
   look_told place (Some (Busy owner)) inside is = looks place (Some (Busy owner)) replies.Pending answers.Pending inside is refl
   look_told place (Some (Filled value)) inside is = looks place (Some (Filled value)) (replies.Value value) (answers.Value value) inside is refl
@@ -321,7 +280,7 @@ module _ (limit : ℕ) (m : Storage) (runs : List OwnedRun) (who : ℕ) (sees : 
   -- ---- The table
 
   pub row_told : (command : Command) (memory : Bool) (phase : Phase) → IsWithin limit command phase
-      → Knows m runs who phase → Replies limit m runs (outcome_of limit m who command memory phase)
+      → Knows m runs actor phase → Replies limit m runs (outcome_of limit m actor command memory phase)
   row_told command memory Load within knows = load_told command
   row_told command memory (Scout from n k) within knows = scout_told command from n k
   row_told command memory (Put from n k) within knows = put_told command memory from n k

@@ -7,48 +7,48 @@ use Rattle.book_core.specs.declared.events.Event.TheVariants.{Claim, Raise, Fini
 use Rattle.book_core.specs.declared.events.Reply.TheVariants as replies
 use Rattle.book_core.specs.Cells.{CellList, with_pending, with_cell, is_pending_for, reply_of_look, apply_event}
 
-module _ (v : CellList) (who size : ℕ) (is : length v.cells ≡ size) where
+module _ (v : CellList) (actor size : ℕ) (is : length v.cells ≡ size) where
   pub claim_applies : (n : ℕ) → size + n ≤ v.limit
-      → apply_event v (Claim who n) ≡ Some (with_pending v who n, replies.Run size n)
+      → apply_event v (Claim actor n) ≡ Some (with_pending v actor n, replies.Run size n)
   claim_applies n room =
       let fits : nat_le (length v.cells + n) v.limit ≡ true = grind (arith, nat_tests) in
-      rw fits (ap (λ k. Some (with_pending v who n, replies.Run k n)) is)
+      rw fits (ap (λ k. Some (with_pending v actor n, replies.Run k n)) is)
 
   pub raise_applies : (to : ℕ) → size < to → to ≤ v.limit
-      → apply_event v (Raise who to) ≡ Some (with_pending v who (to - size), replies.Run size (to - size))
+      → apply_event v (Raise actor to) ≡ Some (with_pending v actor (to - size), replies.Run size (to - size))
   raise_applies to more room =
       let grows : nat_le to (length v.cells) ≡ false = grind (arith, nat_tests) in
       let fits : nat_le to v.limit ≡ true = grind (arith, nat_tests) in
-      rw (grows, fits) (ap (λ k. Some (with_pending v who (to - k), replies.Run k (to - k))) is)
+      rw (grows, fits) (ap (λ k. Some (with_pending v actor (to - k), replies.Run k (to - k))) is)
 
-  pub enough_applies : (to : ℕ) → to ≤ size → apply_event v (Raise who to) ≡ Some (v, replies.Enough size)
+  pub enough_applies : (to : ℕ) → to ≤ size → apply_event v (Raise actor to) ≡ Some (v, replies.Enough size)
   enough_applies to had =
       let enough : nat_le to (length v.cells) ≡ true = grind (arith, nat_tests) in
       rw enough (ap (λ k. Some (v, replies.Enough k)) is)
 
-  pub full_applies : (n : ℕ) → v.limit < size + n → apply_event v (RefusedFull who n) ≡ Some (v, replies.Full size)
+  pub full_applies : (n : ℕ) → v.limit < size + n → apply_event v (RefusedFull actor n) ≡ Some (v, replies.Full size)
   full_applies n past =
       let full : nat_le (length v.cells + n) v.limit ≡ false = grind (arith, nat_tests) in
       rw full (ap (λ k. Some (v, replies.Full k)) is)
 
-  pub size_applies : apply_event v (Size who) ≡ Some (v, replies.Size size)
+  pub size_applies : apply_event v (Size actor) ≡ Some (v, replies.Size size)
   size_applies = ap (λ k. Some (v, replies.Size k)) is
 
-is_own : (who : ℕ) → is_pending_for who (Some (Pending who)) ≡ true
-is_own who = (let same : (who == who) ≡ true = grind (arith, nat_tests) in same)
+is_own : (actor : ℕ) → is_pending_for actor (Some (Pending actor)) ≡ true
+is_own actor = (let same : (actor == actor) ≡ true = grind (arith, nat_tests) in same)
 
-pub finish_applies : (v : CellList) (who place value : ℕ) → slice_get v.cells place ≡ Some (Pending who)
-    → apply_event v (Finish who place value) ≡ Some (with_cell v place (Filled value), replies.Done)
-finish_applies v who place value pending =
-    ap (λ o. if is_pending_for who o then Some (with_cell v place (Filled value), replies.Done) else None) pending
-    ∙ ap (λ b. if b then Some (with_cell v place (Filled value), replies.Done) else None) (is_own who)
+pub finish_applies : (v : CellList) (actor place value : ℕ) → slice_get v.cells place ≡ Some (Pending actor)
+    → apply_event v (Finish actor place value) ≡ Some (with_cell v place (Filled value), replies.Done)
+finish_applies v actor place value pending =
+    ap (λ o. if is_pending_for actor o then Some (with_cell v place (Filled value), replies.Done) else None) pending
+    ∙ ap (λ b. if b then Some (with_cell v place (Filled value), replies.Done) else None) (is_own actor)
 
-pub break_applies : (v : CellList) (who place : ℕ) → slice_get v.cells place ≡ Some (Pending who)
-    → apply_event v (Break who place) ≡ Some (with_cell v place Broken, replies.Done)
-break_applies v who place pending =
-    ap (λ o. if is_pending_for who o then Some (with_cell v place Broken, replies.Done) else None) pending
-    ∙ ap (λ b. if b then Some (with_cell v place Broken, replies.Done) else None) (is_own who)
+pub break_applies : (v : CellList) (actor place : ℕ) → slice_get v.cells place ≡ Some (Pending actor)
+    → apply_event v (Break actor place) ≡ Some (with_cell v place Broken, replies.Done)
+break_applies v actor place pending =
+    ap (λ o. if is_pending_for actor o then Some (with_cell v place Broken, replies.Done) else None) pending
+    ∙ ap (λ b. if b then Some (with_cell v place Broken, replies.Done) else None) (is_own actor)
 
-pub look_applies : (v : CellList) (who place : ℕ) (cell : Option Cell) → slice_get v.cells place ≡ cell
-    → apply_event v (Look who place) ≡ Some (v, reply_of_look (length v.cells) cell)
-look_applies v who place cell is = ap (λ o. Some (v, reply_of_look (length v.cells) o)) is
+pub look_applies : (v : CellList) (actor place : ℕ) (cell : Option Cell) → slice_get v.cells place ≡ cell
+    → apply_event v (Look actor place) ≡ Some (v, reply_of_look (length v.cells) cell)
+look_applies v actor place cell is = ap (λ o. Some (v, reply_of_look (length v.cells) o)) is

@@ -1,14 +1,14 @@
 -- The rows of the step table, one after another: each keeps what holds.
-use Rattle.std.proofs.Common.{◌≡◌, ◌≢◌, ℕ, ◌+◌, ◌-◌, ◌<◌, ◌≤◌, ◌⊎◌, nat_le, nat_lt, ◌==◌, Bool, true, false, if◌then◌else◌, List, [], ◌∷◌, ◌++◌, Option, Some, None, refl, ap, sym, ◌∙◌, subst, arith, inl, inr}
+use Rattle.std.proofs.Common.{◌≡◌, ◌≢◌, ℕ, ◌+◌, ◌-◌, ◌<◌, ◌≤◌, ◌⊎◌, ◌==◌, Bool, true, false, if◌then◌else◌, List, [], ◌∷◌, ◌++◌, Option, Some, None, refl, ap, sym, ◌∙◌, subst, arith, inl, inr}
 use Rattle.std.proofs.Math.Nat.{le_refl}
-use Rattle.std.proofs.lemmas.Bool.{cases_lt, eqb-true}
+use Rattle.std.proofs.lemmas.Bool.{cases_lt}
 use Rattle.std.proofs.lemmas.Bool.Decides.{nat_tests, eqb_tells}
 use Rattle.std.proofs.lemmas.List.{append-nil}
 use Rattle.std.proofs.lemmas.Option.{none-some}
+use Rattle.std.specs.Ordering.{nat_cmp}
+use Rattle.std.specs.Option.{option_to_list}
 use Rattle.std.specs.FinMap as map
 use Rattle.std.specs.FinSet as set
-use Rattle.seg_core.specs.Segment.{segment_end, segment_of}
-use Rattle.seg_core.proofs.Doubling.{segment_start-next}
 use Rattle.book_core.specs.declared.events.Event.{Event}
 use Rattle.book_core.specs.declared.events.Event.TheVariants as events
 use Rattle.book_core.specs.declared.events.Reply.{Reply}
@@ -17,369 +17,291 @@ use Rattle.book_core.specs.declared.commands.Command.{Command}
 use Rattle.book_core.specs.declared.commands.Command.TheVariants as commands
 use Rattle.book_core.specs.declared.commands.Answer.{Answer}
 use Rattle.book_core.specs.declared.commands.Answer.TheVariants as answers
-use Rattle.book_core.specs.History.{OwnedRun, runs_of, owner_of, Tile, writers_of}
+use Rattle.book_core.specs.History.{OwnedRun, runs_of, owner_of, writers_of}
+use Rattle.book_core.proofs.Runs.{owner_new, none_past, has_place-true}
 use Rattle.step_core.specs.declared.machine.phase.Slot.{Slot}
 use Rattle.step_core.specs.declared.machine.phase.Slot.TheVariants.{Busy, Filled, Broken}
 use Rattle.step_core.specs.declared.machine.phase.Phase.{Phase}
 use Rattle.step_core.specs.declared.machine.phase.Phase.TheVariants.{Load, Scout, Put, Exchange, Raise, Begin, Fill, Spoil, Look}
+use Rattle.step_core.specs.declared.machine.phase.Next.{Next}
 use Rattle.step_core.specs.declared.machine.phase.Next.TheVariants.{Goes, Ends}
 use Rattle.step_core.specs.declared.machine.phase.Actor.{Actor}
 use Rattle.step_core.specs.machine.Storage.{Storage}
-use Rattle.step_core.specs.machine.Step.{Outcome, goes_on, ends, with_size, with_segment, with_slot, load_growth, load_at_least, load_read, load, claiming, after_segment, scout, put, exchange, raise, begin_at, is_refused, value_of, answer_of_run, after_place, look_at, outcome_of}
-use Rattle.step_core.specs.machine.Bounds.{Wants, IsWithin}
-use Rattle.step_core.specs.machine.Installed.{IsReady}
+use Rattle.step_core.specs.machine.Step.{goes_on, ends, with_size, with_segment, with_slot, load_growth, load, after_segment, put, begin_at, value_of, answer_of_run, after_place, look_at, outcome_of}
+use Rattle.step_core.specs.machine.Bounds.{IsWithin}
 use Rattle.step_core.specs.machine.Tiling.{IsUnfinished, IsOfRun}
-use Rattle.book_core.proofs.Runs.{owner_new, none_past, has_place-true, tile-append, owner_kept}
-use Rattle.step_core.proofs.atomic_steps.Tiling.Invariant.{get_set_same, get_set_other, ready_kept, ready_through, installed_now, Won, Knows, Settlement, Holds, Effect}
-use Rattle.step_core.proofs.atomic_steps.Tiling.Effects.{claim_effect, begin_effect, settle_effect, settlement_kept}
-use Rattle.step_core.proofs.atomic_steps.Tiling.Steps.{Stands, Kept, kept_by, quiet, installs, first_segment_ready, same_effect}
+use Rattle.step_core.proofs.atomic_steps.Cases.{claim_of_nothing, first_scout, refusal, enough, won_growth, growth_cases, at_least_cases, read_cases, exchange_cases, raise_cases, begin_cases, scout_cases, claiming_cases, segment_cases, place_cases}
+use Rattle.step_core.proofs.atomic_steps.Tiling.Invariant.{get_set_same, get_set_other, empty_past, Won, Knows, Effect}
+use Rattle.step_core.proofs.atomic_steps.Tiling.Effects.{next_run, with_installed, quiet_effect, claim_effect, begin_effect, settle_effect}
+use Rattle.step_core.proofs.atomic_steps.Tiling.Steps.{phase_after, Stands, Kept, kept_by, told_effect}
 
-module _ (m : Storage) (actors : List Actor) (runs : List OwnedRun) (writers : ℕ → List ℕ) (who : ℕ) (actor : Actor) where
-  abbrev Keeps : Outcome → Type 0
-  Keeps o = Kept actors runs writers who actor o
+-- before a call has claimed, nothing is known of its places
+nothing_known : (m : Storage) (runs : List OwnedRun) (actor : ℕ) (command : Command) (from n k : ℕ)
+    → Knows m runs actor (after_segment command from n k)
+nothing_known m runs actor command from n k =
+    segment_cases (Knows m runs actor) command from n k (λ _. tt)
+    (λ _. claiming_cases (Knows m runs actor) command from n (λ _. tt) (λ _ _. tt))
 
-  -- a call that ends, or goes on, without an effect, from a phase that owes nothing
-  ended : (phase : Phase) (event : Event) (reply : Reply) (answer : Answer)
-      → Stands m actors runs writers who actor phase → ((q : ℕ) → IsOfRun phase q → ⊥)
-      → runs_of ((event, reply) ∷ []) ≡ [] → ((q : ℕ) → writers_of q ((event, reply) ∷ []) ≡ [])
-      → Keeps (ends m event reply answer)
-  ended phase event reply answer s free none nobody =
-      quiet m actors runs writers who actor phase (Some (event, reply)) (Ends answer) s free none nobody tt
+-- ---- Rows of an actor that owes nothing
 
-  gone_on : (phase next : Phase) → Stands m actors runs writers who actor phase → ((q : ℕ) → IsOfRun phase q → ⊥)
-      → Knows m runs who next → Keeps (goes_on m next)
-  gone_on phase next s free knows = quiet m actors runs writers who actor phase None (Goes next) s free refl (λ q. refl) knows
+module _ {m : Storage} {actors : List Actor} {runs : List OwnedRun} {writers : ℕ → List ℕ} {actor : ℕ} {state : Actor} {phase : Phase} (s : Stands m actors runs writers actor state phase) (free : (q : ℕ) → IsOfRun phase q → ⊥) where
+  -- nothing is claimed, begun or finished
+  quiet : (segments : set.FinSet nat_cmp) (event : Option (Event × Reply)) (next : Next)
+      → runs_of (option_to_list event) ≡ [] → ((q : ℕ) → writers_of q (option_to_list event) ≡ [])
+      → Knows (with_installed m segments) runs actor (phase_after next)
+      → Kept actors runs writers actor state (record { storage = with_installed m segments; event = event; next = next })
+  quiet segments event next none nobody knows =
+      let runs_are : runs ≡ runs ++ runs_of (option_to_list event) = sym (ap (λ rs. runs ++ rs) none ∙ append-nil runs) in
+      kept_by s (record { storage = with_installed m segments; event = event; next = next })
+      (told_effect (runs_of (option_to_list event)) (λ q. writers_of q (option_to_list event)) runs_are nobody (quiet_effect s.holds actor segments))
+      (subst (λ rs. Knows (with_installed m segments) rs actor (phase_after next)) runs_are knows)
+      (λ q inside unfinished. inr (inside, unfinished, free q))
+
+  -- a call that ends
+  ended : (event : Event) (reply : Reply) (answer : Answer) → runs_of ((event, reply) ∷ []) ≡ []
+      → ((q : ℕ) → writers_of q ((event, reply) ∷ []) ≡ [])
+      → Kept actors runs writers actor state (ends m event reply answer)
+  ended event reply answer none nobody = quiet m.installed (Some (event, reply)) (Ends answer) none nobody tt
+
+  -- a call that goes on
+  gone_on : (next : Phase) → Knows m runs actor next → Kept actors runs writers actor state (goes_on m next)
+  gone_on next knows = quiet m.installed None (Goes next) refl (λ q. refl) knows
+
+  -- it goes on to the first segment of places that have room
+  first_scouted : (n : ℕ) → Kept actors runs writers actor state (first_scout m n)
+  first_scouted n = gone_on _ tt
+
+  refused : (n : ℕ) → Kept actors runs writers actor state (refusal m actor n)
+  refused n = ended (events.RefusedFull actor n) (replies.Full m.size) (answers.Full m.size) refl (λ q. refl)
+
+  had_enough : (to : ℕ) → Kept actors runs writers actor state (enough m actor to)
+  had_enough to = ended (events.Raise actor to) (replies.Enough m.size) (answers.Enough m.size) refl (λ q. refl)
 
   -- a growth of nothing has a run without places
-  nothing_claimed : Stands m actors runs writers who actor Load
-      → Keeps (ends m (events.Claim who 0) (replies.Run m.size 0) (answers.Run m.size 0))
-  nothing_claimed s =
-      let none : List OwnedRun = record { owner = who; from = m.size; n = 0 } ∷ [] in
-      kept_by m actors runs writers who actor Load (ends m (events.Claim who 0) (replies.Run m.size 0) (answers.Run m.size 0)) s
-      (record {
-        tile = tile-append 0 m.size m.size runs (record { owner = who; from = m.size; n = 0 } ∷ []) s.holds.tile (refl, omega arith);
-        ready = s.holds.ready;
-        taken = s.holds.taken;
-        settled = λ q. settlement_kept runs (record { owner = who; from = m.size; n = 0 } ∷ []) (writers q ++ []) q (map.get m.slots q) (subst (λ xs. Settlement runs xs q (map.get m.slots q)) (sym (append-nil (writers q))) (s.holds.settled q));
-        grows = le_refl m.size;
-        stays_ready = λ q r. r;
-        stays_owned = λ q owner is. owner_kept runs (record { owner = who; from = m.size; n = 0 } ∷ []) q owner is;
-        others = λ q owner is apart. refl;
-      })
+  nothing_claimed : Kept actors runs writers actor state (claim_of_nothing m actor)
+  nothing_claimed =
+      let all : m.size + 0 ≡ m.size = omega arith in
+      kept_by s (claim_of_nothing m actor)
+      (told_effect (next_run m actor 0 ∷ []) (λ q. []) refl (λ q. refl)
+      (subst (λ size. Effect actor m (with_size m size) runs (runs ++ next_run m actor 0 ∷ []) writers) all (claim_effect s.holds actor 0)))
       tt
-      (λ q inside unfinished. inr (inside, unfinished, λ x. x))
+      (λ q inside unfinished. inr (inside, unfinished, free q))
 
-  growth_loaded : (limit n : ℕ) → Stands m actors runs writers who actor Load → Keeps (load_growth limit m who n)
-  growth_loaded limit n s =
-      elim (n == 0) as (λ b. Keeps (if b then ends m (events.Claim who 0) (replies.Run m.size 0) (answers.Run m.size 0) else if nat_le (m.size + n) limit then goes_on m (Scout m.size n (segment_of m.size)) else ends m (events.RefusedFull who n) (replies.Full m.size) (answers.Full m.size))) [
-        | true ↦ nothing_claimed s
-        | false ↦
-            elim (nat_le (m.size + n) limit) as (λ b. Keeps (if b then goes_on m (Scout m.size n (segment_of m.size)) else ends m (events.RefusedFull who n) (replies.Full m.size) (answers.Full m.size))) [
-              | true ↦ gone_on Load (Scout m.size n (segment_of m.size)) s (λ q x. x) (first_segment_ready m actors runs writers who n s.holds)
-              | false ↦ ended Load (events.RefusedFull who n) (replies.Full m.size) (answers.Full m.size) s (λ q x. x) refl (λ q. refl)
-            ]
-      ]
+  growth_loaded : (limit n : ℕ) → Kept actors runs writers actor state (load_growth limit m actor n)
+  growth_loaded limit n =
+      growth_cases (Kept actors runs writers actor state) m actor limit n
+      (λ _. nothing_claimed) (λ _ _. first_scouted n) (λ _. refused n)
 
-  at_least_loaded : (limit to : ℕ) → Stands m actors runs writers who actor Load → Keeps (load_at_least limit m who to)
-  at_least_loaded limit to s =
-      elim (nat_le to m.size) as (λ b. Keeps (if b then ends m (events.Raise who to) (replies.Enough m.size) (answers.Enough m.size) else if nat_le to limit then goes_on m (Scout m.size (to - m.size) (segment_of m.size)) else ends m (events.RefusedFull who (to - m.size)) (replies.Full m.size) (answers.Full m.size))) [
-        | true ↦ ended Load (events.Raise who to) (replies.Enough m.size) (answers.Enough m.size) s (λ q x. x) refl (λ q. refl)
-        | false ↦
-            elim (nat_le to limit) as (λ b. Keeps (if b then goes_on m (Scout m.size (to - m.size) (segment_of m.size)) else ends m (events.RefusedFull who (to - m.size)) (replies.Full m.size) (answers.Full m.size))) [
-              | true ↦ gone_on Load (Scout m.size (to - m.size) (segment_of m.size)) s (λ q x. x) (first_segment_ready m actors runs writers who (to - m.size) s.holds)
-              | false ↦ ended Load (events.RefusedFull who (to - m.size)) (replies.Full m.size) (answers.Full m.size) s (λ q x. x) refl (λ q. refl)
-            ]
-      ]
+  loaded : (limit : ℕ) (command : Command) → Kept actors runs writers actor state (load limit m actor command)
+  loaded limit (commands.Push value) = growth_loaded limit 1
+  loaded limit (commands.Grow n value) = growth_loaded limit n
+  loaded limit (commands.AtLeast to value) =
+      at_least_cases (Kept actors runs writers actor state) m actor limit to
+      (λ _. had_enough to) (λ _ _. first_scouted (to - m.size)) (λ _ _. refused (to - m.size))
+  loaded limit (commands.Fail n value at) = growth_loaded limit n
+  loaded limit (commands.Read place) =
+      read_cases (Kept actors runs writers actor state) m actor place
+      (λ inside. gone_on (Look place) inside)
+      (λ _. ended (events.Look actor place) (replies.OutOfRange m.size) (answers.OutOfRange m.size) refl (λ q. refl))
+  loaded limit commands.Size = ended (events.Size actor) (replies.Size m.size) (answers.Size m.size) refl (λ q. refl)
 
-  read_loaded : (place : ℕ) → Stands m actors runs writers who actor Load → Keeps (load_read m who place)
-  read_loaded place s =
-      elim (nat_lt place m.size) as (λ b. nat_lt place m.size ≡ b → Keeps (if b then goes_on m (Look place) else ends m (events.Look who place) (replies.OutOfRange m.size) (answers.OutOfRange m.size))) [
-        | true ↦ (λ test. gone_on Load (Look place) s (λ q x. x) (let inside : place < m.size = grind (arith, nat_tests) in inside))
-        | false ↦ (λ _. ended Load (events.Look who place) (replies.OutOfRange m.size) (answers.OutOfRange m.size) s (λ q x. x) refl (λ q. refl))
-      ]
-      refl
+  put_in : (command : Command) (memory : Bool) (from n k : ℕ)
+      → Kept actors runs writers actor state (put m actor command memory from n k)
+  put_in command true from n k =
+      quiet (set.insert m.installed k) None (Goes (after_segment command from n k)) refl (λ q. refl)
+      (nothing_known (with_segment m k) runs actor command from n k)
+  put_in command false from n k = ended (events.RefusedMemory actor) replies.NoMemory answers.NoMemory refl (λ q. refl)
 
-  loaded : (limit : ℕ) (command : Command) → Stands m actors runs writers who actor Load
-      → Keeps (load limit m who command)
-  loaded limit (commands.Push value) s = growth_loaded limit 1 s
-  loaded limit (commands.Grow n value) s = growth_loaded limit n s
-  loaded limit (commands.AtLeast to value) s = at_least_loaded limit to s
-  loaded limit (commands.Fail n value at) s = growth_loaded limit n s
-  loaded limit (commands.Read place) s = read_loaded place s
-  loaded limit commands.Size s = ended Load (events.Size who) (replies.Size m.size) (answers.Size m.size) s (λ q x. x) refl (λ q. refl)
+  -- a claim of some places
+  claims : (n : ℕ) (event : Event) → 0 < n → runs_of ((event, replies.Run m.size n) ∷ []) ≡ next_run m actor n ∷ []
+      → ((q : ℕ) → writers_of q ((event, replies.Run m.size n) ∷ []) ≡ [])
+      → Kept actors runs writers actor state (won_growth m event n)
+  claims n event some run_is nobody =
+      let told : List (Event × Reply) = (event, replies.Run m.size n) ∷ [] in
+      let run = next_run m actor n in
+      let runs_are : runs ++ run ∷ [] ≡ runs ++ runs_of told = ap (λ rs. runs ++ rs) (sym run_is) in
+      let empty = empty_past m s.holds.taken in
+      kept_by s (won_growth m event n)
+      (told_effect (runs_of told) (λ q. writers_of q told) runs_are nobody (claim_effect s.holds actor n))
+      (subst (λ rs. Knows (with_size m (m.size + n)) rs actor (Begin m.size n m.size)) runs_are (
+        record {
+          within = le_refl m.size;
+          before = omega arith;
+          claimed = le_refl (m.size + n);
+          owned = λ q low high.
+              owner_new runs (run ∷ []) q (none_past 0 m.size runs q s.holds.tile low)
+              ∙ ap (λ b. if b then Some actor else None) (has_place-true run q low high);
+          done = λ q low high. absurd (omega arith);
+          ahead = λ q low high. empty q (omega arith);
+        },
+        empty m.size (le_refl m.size),
+      ))
+      (λ q inside unfinished. elim (cases_lt q m.size) [
+        | inl before ↦ inr (before, unfinished, free q)
+        | inr after ↦ inl (after, inside)
+      ])
 
-  looked : (place : ℕ) (slot : Option Slot) → Stands m actors runs writers who actor (Look place)
-      → Keeps (look_at m who place slot)
-  looked place None s = ended (Look place) (events.Look who place) replies.Pending answers.Pending s (λ q x. x) refl (λ q. refl)
-  looked place (Some (Busy owner)) s = ended (Look place) (events.Look who place) replies.Pending answers.Pending s (λ q x. x) refl (λ q. refl)
-  looked place (Some (Filled value)) s = ended (Look place) (events.Look who place) (replies.Value value) (answers.Value value) s (λ q x. x) refl (λ q. refl)
-  looked place (Some Broken) s = ended (Look place) (events.Look who place) replies.Broken answers.Broken s (λ q x. x) refl (λ q. refl)
+  looked : (place : ℕ) (slot : Option Slot) → Kept actors runs writers actor state (look_at m actor place slot)
+  looked place None = ended (events.Look actor place) replies.Pending answers.Pending refl (λ q. refl)
+  looked place (Some (Busy owner)) = ended (events.Look actor place) replies.Pending answers.Pending refl (λ q. refl)
+  looked place (Some (Filled value)) = ended (events.Look actor place) (replies.Value value) (answers.Value value) refl (λ q. refl)
+  looked place (Some Broken) = ended (events.Look actor place) replies.Broken answers.Broken refl (λ q. refl)
 
--- ---- Segments
+-- ---- Rows of an actor with a run
 
--- what claims places whose segments are there
-claiming_knows : (m : Storage) (runs : List OwnedRun) (who : ℕ) (command : Command) (from n : ℕ)
-    → Wants command from n → ((q : ℕ) → q < from + n → IsReady m q) → Knows m runs who (claiming command from n)
-claiming_knows m runs who (commands.Push value) from n wants ready = ready
-claiming_knows m runs who (commands.Grow k value) from n wants ready = ready
-claiming_knows m runs who (commands.AtLeast to value) from n wants ready = λ q below. ready q (let same : from + n ≡ to = wants in omega arith)
-claiming_knows m runs who (commands.Fail k value at) from n wants ready = ready
-claiming_knows m runs who (commands.Read place) from n wants ready = ready
-claiming_knows m runs who commands.Size from n wants ready = ready
+-- the run has the place
+abbrev InRun : ℕ → ℕ → ℕ → Type 0
+InRun from n q = (from ≤ q) × (q < from + n)
 
--- behind an installed segment
-segment_passed : (m : Storage) (runs : List OwnedRun) (who : ℕ) (command : Command) (from n k : ℕ)
-    → Wants command from n → ((q : ℕ) → q < segment_end k → q < from + n → IsReady m q)
-    → Knows m runs who (after_segment command from n k)
-segment_passed m runs who command from n k wants ready =
-    elim (nat_lt (segment_end k) (from + n)) as (λ b. nat_lt (segment_end k) (from + n) ≡ b → Knows m runs who (if b then Scout from n (k + 1) else claiming command from n)) [
-      | true ↦ (λ _. λ q before inside. ready q (subst (λ e. q < e) (segment_start-next k) before) inside)
-      | false ↦ (λ last.
-          let reaches : from + n ≤ segment_end k = grind (arith, nat_tests) in
-          claiming_knows m runs who command from n wants (λ q inside. ready q (omega arith) inside))
-    ]
-    refl
-
-pub scouted : (m : Storage) (actors : List Actor) (runs : List OwnedRun) (writers : ℕ → List ℕ) (who : ℕ)
-    (actor : Actor) (command : Command) (from n k : ℕ)
-    → Wants command from n → Knows m runs who (Scout from n k)
-    → Stands m actors runs writers who actor (Scout from n k)
-    → Kept actors runs writers who actor (scout m command from n k)
-scouted m actors runs writers who actor command from n k wants knows s =
-    elim (set.contains m.installed k) as (λ b. set.contains m.installed k ≡ b → Kept actors runs writers who actor (if b then goes_on m (after_segment command from n k) else goes_on m (Put from n k))) [
-      | true ↦ (λ there. gone_on m actors runs writers who actor (Scout from n k) (after_segment command from n k) s (λ q x. x) (segment_passed m runs who command from n k wants (ready_through m k (from + n) knows there)))
-      | false ↦ (λ _. gone_on m actors runs writers who actor (Scout from n k) (Put from n k) s (λ q x. x) knows)
-    ]
-    refl
-
-pub put_in : (m : Storage) (actors : List Actor) (runs : List OwnedRun) (writers : ℕ → List ℕ) (who : ℕ)
-    (actor : Actor) (command : Command) (memory : Bool) (from n k : ℕ)
-    → Wants command from n → Knows m runs who (Put from n k) → Stands m actors runs writers who actor (Put from n k)
-    → Kept actors runs writers who actor (put m who command memory from n k)
-put_in m actors runs writers who actor command true from n k wants knows s =
-    installs k m actors runs writers who actor (Put from n k) (after_segment command from n k) s (λ q x. x)
-    (segment_passed (with_segment m k) runs who command from n k wants (ready_through (with_segment m k) k (from + n) (λ q a b. ready_kept m k q (knows q a b)) (installed_now m k)))
-put_in m actors runs writers who actor command false from n k wants knows s =
-    ended m actors runs writers who actor (Put from n k) (events.RefusedMemory who) replies.NoMemory answers.NoMemory s (λ q x. x) refl (λ q. refl)
-
--- ---- Claims
-
--- no slot at or past the size is taken
-empty_past : (m : Storage) (actors : List Actor) (runs : List OwnedRun) (writers : ℕ → List ℕ)
-    → Holds m actors runs writers → (q : ℕ) → m.size ≤ q → map.get m.slots q ≡ None
-empty_past m actors runs writers holds q past =
-    elim (map.get m.slots q) as (λ o. map.get m.slots q ≡ o → o ≡ None)
-    [ None ↦ (λ _. refl) | Some slot ↦ (λ is. absurd (let inside = holds.taken q slot is in omega arith)) ]
-    refl
-
--- a claim of some places whose segments are there
-claims : (m : Storage) (actors : List Actor) (runs : List OwnedRun) (writers : ℕ → List ℕ) (who : ℕ) (actor : Actor)
-    (phase : Phase) (n : ℕ) (event : Event)
-    → Stands m actors runs writers who actor phase → ((q : ℕ) → IsOfRun phase q → ⊥) → 0 < n
-    → ((q : ℕ) → q < m.size + n → IsReady m q)
-    → runs_of ((event, replies.Run m.size n) ∷ []) ≡ record { owner = who; from = m.size; n = n } ∷ []
-    → ((q : ℕ) → writers_of q ((event, replies.Run m.size n) ∷ []) ≡ [])
-    → Kept actors runs writers who actor (record { storage = with_size m (m.size + n); event = Some (event, replies.Run m.size n); next = Goes (Begin m.size n m.size) })
-claims m actors runs writers who actor phase n event s free some ready run_is nobody =
-    let run : OwnedRun = record { owner = who; from = m.size; n = n } in
-    let effect = claim_effect who n m actors runs writers s.holds ready in
-    let runs_are : runs ++ run ∷ [] ≡ runs ++ runs_of ((event, replies.Run m.size n) ∷ []) = ap (λ rs. runs ++ rs) (sym run_is) in
-    kept_by m actors runs writers who actor phase (record { storage = with_size m (m.size + n); event = Some (event, replies.Run m.size n); next = Goes (Begin m.size n m.size) }) s
-    (record {
-      tile = subst (λ rs. Tile 0 rs (m.size + n)) runs_are effect.tile;
-      ready = effect.ready;
-      taken = effect.taken;
-      settled = λ q. subst (λ rs. Settlement rs (writers q ++ writers_of q ((event, replies.Run m.size n) ∷ [])) q (map.get m.slots q)) runs_are
-          (subst (λ xs. Settlement (runs ++ run ∷ []) xs q (map.get m.slots q)) (sym (ap (λ xs. writers q ++ xs) (nobody q) ∙ append-nil (writers q))) (effect.settled q));
-      grows = effect.grows;
-      stays_ready = effect.stays_ready;
-      stays_owned = λ q owner is. subst (λ rs. owner_of rs q ≡ Some owner) runs_are (effect.stays_owned q owner is);
-      others = effect.others;
-    })
-    (subst (λ rs. Knows (with_size m (m.size + n)) rs who (Begin m.size n m.size)) runs_are (
-      record {
-        within = le_refl m.size;
-        before = omega arith;
-        claimed = le_refl (m.size + n);
-        owned = λ q low high.
-            owner_new runs (run ∷ []) q (none_past 0 m.size runs q s.holds.tile low)
-            ∙ ap (λ b. if b then Some who else None) (has_place-true run q low high);
-        done = λ q low high. absurd (omega arith);
-        ahead = λ q low high. empty_past m actors runs writers s.holds q (omega arith);
-      },
-      empty_past m actors runs writers s.holds m.size (le_refl m.size),
-    ))
-    (λ q inside unfinished. elim (cases_lt q m.size) [
-      | inl before ↦ inr (before, unfinished, free q)
-      | inr after ↦ inl (after, inside)
-    ])
-
-pub exchanged : (limit : ℕ) (m : Storage) (actors : List Actor) (runs : List OwnedRun) (writers : ℕ → List ℕ)
-    (who : ℕ) (actor : Actor) (from n : ℕ)
-    → 0 < n → Knows m runs who (Exchange from n) → Stands m actors runs writers who actor (Exchange from n)
-    → Kept actors runs writers who actor (exchange limit m who from n)
-exchanged limit m actors runs writers who actor from n some knows s =
-    elim (m.size == from) as (λ b. (m.size == from) ≡ b → Kept actors runs writers who actor (if b then record { storage = with_size m (from + n); event = Some (events.Claim who n, replies.Run from n); next = Goes (Begin from n from) } else if nat_le (m.size + n) limit then goes_on m (Scout m.size n (segment_of m.size)) else ends m (events.RefusedFull who n) (replies.Full m.size) (answers.Full m.size))) [
-      | true ↦ (λ won.
-          let same : m.size ≡ from = eqb-true m.size from won in
-          subst (λ f. Kept actors runs writers who actor (record { storage = with_size m (f + n); event = Some (events.Claim who n, replies.Run f n); next = Goes (Begin f n f) })) same
-          (claims m actors runs writers who actor (Exchange from n) n (events.Claim who n) s (λ q x. x) some (λ q inside. knows q (subst (λ f. q < f + n) same inside)) refl (λ q. refl)))
-      | false ↦ (λ lost.
-          elim (nat_le (m.size + n) limit) as (λ b. Kept actors runs writers who actor (if b then goes_on m (Scout m.size n (segment_of m.size)) else ends m (events.RefusedFull who n) (replies.Full m.size) (answers.Full m.size))) [
-            | true ↦ gone_on m actors runs writers who actor (Exchange from n) (Scout m.size n (segment_of m.size)) s (λ q x. x) (first_segment_ready m actors runs writers who n s.holds)
-            | false ↦ ended m actors runs writers who actor (Exchange from n) (events.RefusedFull who n) (replies.Full m.size) (answers.Full m.size) s (λ q x. x) refl (λ q. refl)
-          ])
-    ]
-    refl
-
-pub raised : (m : Storage) (actors : List Actor) (runs : List OwnedRun) (writers : ℕ → List ℕ) (who : ℕ)
-    (actor : Actor) (to : ℕ)
-    → Knows m runs who (Raise to) → Stands m actors runs writers who actor (Raise to)
-    → Kept actors runs writers who actor (raise m who to)
-raised m actors runs writers who actor to knows s =
-    elim (nat_le to m.size) as (λ b. nat_le to m.size ≡ b → Kept actors runs writers who actor (if b then ends m (events.Raise who to) (replies.Enough m.size) (answers.Enough m.size) else record { storage = with_size m to; event = Some (events.Raise who to, replies.Run m.size (to - m.size)); next = Goes (Begin m.size (to - m.size) m.size) })) [
-      | true ↦ (λ _. ended m actors runs writers who actor (Raise to) (events.Raise who to) (replies.Enough m.size) (answers.Enough m.size) s (λ q x. x) refl (λ q. refl))
-      | false ↦ (λ grows.
-          let more : m.size < to = grind (arith, nat_tests) in
-          let ends_at : m.size + (to - m.size) ≡ to = omega arith in
-          subst (λ e. Kept actors runs writers who actor (record { storage = with_size m e; event = Some (events.Raise who to, replies.Run m.size (to - m.size)); next = Goes (Begin m.size (to - m.size) m.size) })) ends_at
-          (claims m actors runs writers who actor (Raise to) (to - m.size) (events.Raise who to) s (λ q x. x) (omega arith) (λ q inside. knows q (omega arith)) refl (λ q. refl)))
-    ]
-    refl
-
--- ---- Slots
-
--- a place of a run, or none of it
-in_run : (from n q : ℕ) → ((from ≤ q) × (q < from + n)) ⊎ ((from ≤ q) × (q < from + n) → ⊥)
+-- a run has a place, or it has it not
+in_run : (from n q : ℕ) → InRun from n q ⊎ (InRun from n q → ⊥)
 in_run from n q =
     elim (cases_lt q from) [
       | inl below ↦ inr (λ (low, high). omega arith)
       | inr low ↦ elim (cases_lt q (from + n)) [ inl high ↦ inl (low, high) | inr past ↦ inr (λ (_, high). omega arith) ]
     ]
 
--- an unfinished place outside of the run is as it was
-outside_run : (m : Storage) (place : ℕ) (slot : Slot) (from n q : ℕ) → from ≤ place → place < from + n
-    → ((from ≤ q) × (q < from + n) → ⊥) → IsUnfinished (map.get (with_slot m place slot).slots q)
-    → IsUnfinished (map.get m.slots q)
-outside_run m place slot from n q low high outside unfinished =
-    subst IsUnfinished (get_set_other m place slot q (λ same. outside (omega arith, omega arith))) unfinished
-
 -- what a taken slot leaves of a won run
-begun : (m : Storage) (runs : List OwnedRun) (who from n place : ℕ) → Won m runs who from n place
-    → Won (with_slot m place (Busy who)) runs who from n place
-begun m runs who from n place won = record {
+begun : (m : Storage) (runs : List OwnedRun) (actor from n place : ℕ) → Won m runs actor from n place
+    → Won (with_slot m place (Busy actor)) runs actor from n place
+begun m runs actor from n place won = record {
   within = won.within;
   before = won.before;
   claimed = won.claimed;
   owned = won.owned;
-  done = λ q low high unfinished. won.done q low high (subst IsUnfinished (get_set_other m place (Busy who) q (λ same. omega arith)) unfinished);
-  ahead = λ q low high. get_set_other m place (Busy who) q (λ same. omega arith) ∙ won.ahead q low high;
+  done = λ q low high unfinished. won.done q low high (subst IsUnfinished (get_set_other m place (Busy actor) q (λ same. omega arith)) unfinished);
+  ahead = λ q low high. get_set_other m place (Busy actor) q (λ same. omega arith) ∙ won.ahead q low high;
 }
 
-pub began : (m : Storage) (actors : List Actor) (runs : List OwnedRun) (writers : ℕ → List ℕ) (who : ℕ)
-    (actor : Actor) (command : Command) (from n place : ℕ) (slot : Option Slot)
-    → slot ≡ map.get m.slots place → Knows m runs who (Begin from n place)
-    → Stands m actors runs writers who actor (Begin from n place)
-    → Kept actors runs writers who actor (begin_at m who command from n place slot)
-began m actors runs writers who actor command from n place (Some slot) is knows s = absurd (none-some slot (sym knows.1 ∙ sym is))
-began m actors runs writers who actor command from n place None is (won, empty) s =
-    let m' : Storage = with_slot m place (Busy who) in
-    let ours : owner_of runs place ≡ Some who = won.owned place won.within won.before in
-    let inside : place < m.size = (let a = won.before in let b = won.claimed in omega arith) in
-    let next : Phase = if is_refused command from place then Spoil from n place else Fill from n place in
-    let runs_are : runs ≡ runs ++ [] = sym (append-nil runs) in
-    let knows_next : Knows m' runs who next =
-    elim (is_refused command from place) as (λ b. Knows m' runs who (if b then Spoil from n place else Fill from n place))
-    [ true ↦ (begun m runs who from n place won, get_set_same m place (Busy who)) | false ↦ (begun m runs who from n place won, get_set_same m place (Busy who)) ]
-    in
-    kept_by m actors runs writers who actor (Begin from n place) (goes_on m' next) s
-    (same_effect who m m' runs [] writers (λ q. []) refl (λ q. refl) (begin_effect who place m actors runs writers s.holds inside ours empty))
-    (subst (λ rs. Knows m' rs who next) runs_are knows_next)
-    (λ q below unfinished. elim (in_run from n q) [
-      | inl of_run ↦ inl (elim (is_refused command from place) as (λ b. IsOfRun (if b then Spoil from n place else Fill from n place) q) [ true ↦ of_run | false ↦ of_run ])
-      | inr outside ↦ inr (below, outside_run m place (Busy who) from n q won.within won.before outside unfinished, outside)
-    ])
+-- what a finished slot leaves of a won run that has one more place
+finished_one : (m : Storage) (runs : List OwnedRun) (actor from n place : ℕ) (slot : Slot)
+    → (IsUnfinished (Some slot) → ⊥) → Won m runs actor from n place → place + 1 < from + n
+    → Knows (with_slot m place slot) runs actor (Begin from n (place + 1))
+finished_one m runs actor from n place slot final won more = (
+  record {
+    within = (let a = won.within in omega arith);
+    before = more;
+    claimed = won.claimed;
+    owned = won.owned;
+    done = λ q low high unfinished. elim (eqb_tells q place) [
+      | inl same ↦ final (subst IsUnfinished (get_set_same m place slot) (subst (λ p. IsUnfinished (map.get (with_slot m place slot).slots p)) same.1 unfinished))
+      | inr apart ↦ won.done q low (let ne : q ≢ place = apart.1 in omega arith) (subst IsUnfinished (get_set_other m place slot q apart.1) unfinished)
+    ];
+    ahead = λ q low high. get_set_other m place slot q (λ same. omega arith) ∙ won.ahead q (omega arith) high;
+  },
+  get_set_other m place slot (place + 1) (λ same. omega arith) ∙ won.ahead (place + 1) (omega arith) more,
+)
 
--- the owner finishes its place: an event of that place by that actor
-pub finished : (m : Storage) (actors : List Actor) (runs : List OwnedRun) (writers : ℕ → List ℕ) (who : ℕ)
-    (actor : Actor) (command : Command) (phase : Phase) (from n place : ℕ) (slot : Slot) (event : Event)
-    → (IsUnfinished (Some slot) → ⊥) → ((q : ℕ) → IsOfRun phase q → (from ≤ q) × (q < from + n))
-    → Won m runs who from n place → map.get m.slots place ≡ Some (Busy who)
-    → Stands m actors runs writers who actor phase → runs_of ((event, replies.Done) ∷ []) ≡ []
-    → writers_of place ((event, replies.Done) ∷ []) ≡ who ∷ []
-    → ((q : ℕ) → q ≢ place → writers_of q ((event, replies.Done) ∷ []) ≡ [])
-    → Kept actors runs writers who actor (record { storage = with_slot m place slot; event = Some (event, replies.Done); next = after_place command from n place })
-finished m actors runs writers who actor command phase from n place slot event final of_run won busy s none gained others =
-    let m' : Storage = with_slot m place slot in
-    let added : List OwnedRun = runs_of ((event, replies.Done) ∷ []) in
-    let writers' : ℕ → List ℕ = λ q. writers q ++ writers_of q ((event, replies.Done) ∷ []) in
-    let ours : owner_of runs place ≡ Some who = won.owned place won.within won.before in
-    let inside : place < m.size = (let a = won.before in let b = won.claimed in omega arith) in
-    let runs_are : runs ≡ runs ++ added = sym (ap (λ rs. runs ++ rs) none ∙ append-nil runs) in
-    let effect = settle_effect who place slot m actors runs writers writers' s.holds inside ours busy final (ap (λ xs. writers place ++ xs) gained) (λ q apart. ap (λ xs. writers q ++ xs) (others q apart) ∙ append-nil (writers q)) in
-    let not_there : IsUnfinished (map.get m'.slots place) → ⊥ = λ unfinished. final (subst IsUnfinished (get_set_same m place slot) unfinished) in
-    let effect' : Effect who m m' runs (runs ++ added) writers' = subst (λ rs. Effect who m m' runs rs writers') runs_are effect in
-    let as_before : (q : ℕ) → q ≢ place → IsUnfinished (map.get m'.slots q) → IsUnfinished (map.get m.slots q) = λ q apart unfinished. subst IsUnfinished (get_set_other m place slot q apart) unfinished in
-    elim (nat_lt (place + 1) (from + n)) as (λ b. nat_lt (place + 1) (from + n) ≡ b → Kept actors runs writers who actor (record { storage = m'; event = Some (event, replies.Done); next = if b then Goes (Begin from n (place + 1)) else Ends (answer_of_run command from n) })) [
-      | true ↦ (λ test.
-          let more : place + 1 < from + n = grind (arith, nat_tests) in
-          let next_won : Won m' runs who from n (place + 1) = record {
-            within = (let a = won.within in omega arith);
-            before = more;
-            claimed = won.claimed;
-            owned = won.owned;
-            done = λ q low high unfinished. elim (eqb_tells q place) [
-              | inl same ↦ not_there (subst (λ p. IsUnfinished (map.get m'.slots p)) same.1 unfinished)
-              | inr apart ↦ won.done q low (let ne : q ≢ place = apart.1 in omega arith) (as_before q apart.1 unfinished)
-            ];
-            ahead = λ q low high. get_set_other m place slot q (λ same. omega arith) ∙ won.ahead q (omega arith) high;
-          } in
-          let next_empty : map.get m'.slots (place + 1) ≡ None = get_set_other m place slot (place + 1) (λ same. omega arith) ∙ won.ahead (place + 1) (omega arith) more in
-          kept_by m actors runs writers who actor phase (record { storage = m'; event = Some (event, replies.Done); next = Goes (Begin from n (place + 1)) }) s effect'
-          (subst (λ rs. Knows m' rs who (Begin from n (place + 1))) runs_are (next_won, next_empty))
-          (λ q below unfinished. elim (in_run from n q) [
-            | inl mine ↦ inl mine
-            | inr outside ↦ inr (below, outside_run m place slot from n q won.within won.before outside unfinished, λ old. outside (of_run q old))
-          ]))
-      | false ↦ (λ test.
-          let last : from + n ≤ place + 1 = grind (arith, nat_tests) in
-          kept_by m actors runs writers who actor phase (record { storage = m'; event = Some (event, replies.Done); next = Ends (answer_of_run command from n) }) s effect'
-          tt
-          (λ q below unfinished. elim (eqb_tells q place) [
-            | inl same ↦ absurd (not_there (subst (λ p. IsUnfinished (map.get m'.slots p)) same.1 unfinished))
-            | inr apart ↦ inr (
+module _ {m : Storage} {actors : List Actor} {runs : List OwnedRun} {writers : ℕ → List ℕ} {actor : ℕ} {state : Actor} {phase : Phase} (s : Stands m actors runs writers actor state phase) (command : Command) (from n place : ℕ) (of_run : (q : ℕ) → IsOfRun phase q → InRun from n q) (won : Won m runs actor from n place) where
+  -- the owner's place is claimed
+  inside : place < m.size
+  inside = (let a = won.before in let b = won.claimed in omega arith)
+
+  -- an unfinished place outside of the run is as it was
+  outside_run : (slot : Slot) (q : ℕ) → (InRun from n q → ⊥) → IsUnfinished (map.get (with_slot m place slot).slots q)
+      → IsUnfinished (map.get m.slots q) × (IsOfRun phase q → ⊥)
+  outside_run slot q outside unfinished = (
+    subst IsUnfinished (get_set_other m place slot q (λ same. outside (let a = won.within in let b = won.before in (omega arith, omega arith)))) unfinished,
+    λ old. outside (of_run q old),
+  )
+
+  -- the owner takes the empty slot of its place, and goes on in its run
+  taken : (next : Phase) → map.get m.slots place ≡ None → Knows (with_slot m place (Busy actor)) runs actor next
+      → ((q : ℕ) → InRun from n q → IsOfRun next q)
+      → Kept actors runs writers actor state (goes_on (with_slot m place (Busy actor)) next)
+  taken next empty knows stays =
+      let m' : Storage = with_slot m place (Busy actor) in
+      let ours : owner_of runs place ≡ Some actor = won.owned place won.within won.before in
+      let runs_are : runs ≡ runs ++ [] = sym (append-nil runs) in
+      kept_by s (goes_on m' next)
+      (told_effect [] (λ q. []) runs_are (λ q. refl) (begin_effect s.holds actor place inside ours empty))
+      (subst (λ rs. Knows m' rs actor next) runs_are knows)
+      (λ q below unfinished. elim (in_run from n q) [
+        | inl mine ↦ inl (stays q mine)
+        | inr outside ↦ (let was = outside_run (Busy actor) q outside unfinished in inr (below, was.0, was.1))
+      ])
+
+  began : (slot : Option Slot) → slot ≡ map.get m.slots place → map.get m.slots place ≡ None
+      → Kept actors runs writers actor state (begin_at m actor command from n place slot)
+  began (Some slot) is empty = absurd (none-some slot (sym empty ∙ sym is))
+  began None is empty =
+      let knows : Knows (with_slot m place (Busy actor)) runs actor (Fill from n place) = (begun m runs actor from n place won, get_set_same m place (Busy actor)) in
+      begin_cases (Kept actors runs writers actor state) m actor command from n place
+      (λ _. taken (Spoil from n place) empty knows (λ q mine. mine)) (λ _. taken (Fill from n place) empty knows (λ q mine. mine))
+
+  -- the owner finishes its place: an event of that place by that actor
+  finished : (slot : Slot) (event : Event) → (IsUnfinished (Some slot) → ⊥)
+      → map.get m.slots place ≡ Some (Busy actor) → runs_of ((event, replies.Done) ∷ []) ≡ []
+      → writers_of place ((event, replies.Done) ∷ []) ≡ actor ∷ []
+      → ((q : ℕ) → q ≢ place → writers_of q ((event, replies.Done) ∷ []) ≡ [])
+      → Kept actors runs writers actor state (record { storage = with_slot m place slot; event = Some (event, replies.Done); next = after_place command from n place })
+  finished slot event final busy none gained others =
+      let m' : Storage = with_slot m place slot in
+      let told : List (Event × Reply) = (event, replies.Done) ∷ [] in
+      let writers' : ℕ → List ℕ = λ q. writers q ++ writers_of q told in
+      let ours : owner_of runs place ≡ Some actor = won.owned place won.within won.before in
+      let runs_are : runs ≡ runs ++ runs_of told = sym (ap (λ rs. runs ++ rs) none ∙ append-nil runs) in
+      let effect : Effect actor m m' runs (runs ++ runs_of told) writers' =
+      subst (λ rs. Effect actor m m' runs rs writers') runs_are
+      (settle_effect s.holds actor place slot writers' inside ours busy final (ap (λ xs. writers place ++ xs) gained) (λ q apart. ap (λ xs. writers q ++ xs) (others q apart) ∙ append-nil (writers q))) in
+      place_cases (λ next. Kept actors runs writers actor state (record { storage = m'; event = Some (event, replies.Done); next = next })) command from n place
+      (λ more.
+      kept_by s (record { storage = m'; event = Some (event, replies.Done); next = Goes (Begin from n (place + 1)) }) effect
+      (subst (λ rs. Knows m' rs actor (Begin from n (place + 1))) runs_are (finished_one m runs actor from n place slot final won more))
+      (λ q below unfinished. elim (in_run from n q) [
+        | inl mine ↦ inl mine
+        | inr outside ↦ (let was = outside_run slot q outside unfinished in inr (below, was.0, was.1))
+      ]))
+      (λ last.
+      kept_by s (record { storage = m'; event = Some (event, replies.Done); next = Ends (answer_of_run command from n) }) effect
+      tt
+      (λ q below unfinished. elim (eqb_tells q place) [
+        | inl same ↦ absurd (final (subst IsUnfinished (get_set_same m place slot) (subst (λ p. IsUnfinished (map.get m'.slots p)) same.1 unfinished)))
+        | inr apart ↦ (
+            let was : IsUnfinished (map.get m.slots q) = subst IsUnfinished (get_set_other m place slot q apart.1) unfinished in
+            inr (
               below,
-              as_before q apart.1 unfinished,
+              was,
               λ old.
                   let mine = of_run q old in
                   let ne : q ≢ place = apart.1 in
-                  won.done q mine.0 (let high : q < from + n = mine.1 in omega arith) (as_before q apart.1 unfinished),
-            )
-          ]))
-    ]
-    refl
+                  won.done q mine.0 (let high : q < from + n = mine.1 in omega arith) was,
+            ))
+      ]))
 
 -- the writers of one event at its place, and at any other
-settler_here : (place who : ℕ) → (if place == place then who ∷ [] else []) ++ [] ≡ who ∷ []
-settler_here place who = ap (λ b. (if b then who ∷ [] else []) ++ []) (let e : (place == place) ≡ true = grind (arith, nat_tests) in e)
+settler_here : (place actor : ℕ) → (if place == place then actor ∷ [] else []) ++ [] ≡ actor ∷ []
+settler_here place actor = ap (λ b. (if b then actor ∷ [] else []) ++ []) (let e : (place == place) ≡ true = grind (arith, nat_tests) in e)
 
-settler_elsewhere : (place who q : ℕ) → q ≢ place → (if place == q then who ∷ [] else []) ++ [] ≡ []
-settler_elsewhere place who q apart = ap (λ b. (if b then who ∷ [] else []) ++ []) (let e : (place == q) ≡ false = grind (arith, nat_tests) in e)
+settler_elsewhere : (place actor q : ℕ) → q ≢ place → (if place == q then actor ∷ [] else []) ++ [] ≡ []
+settler_elsewhere place actor q apart = ap (λ b. (if b then actor ∷ [] else []) ++ []) (let e : (place == q) ≡ false = grind (arith, nat_tests) in e)
 
 -- ---- The table
 
-pub row_kept : (limit : ℕ) (m : Storage) (actors : List Actor) (runs : List OwnedRun) (writers : ℕ → List ℕ)
-    (who : ℕ) (actor : Actor) (command : Command) (memory : Bool) (phase : Phase)
-    → IsWithin limit command phase → Knows m runs who phase → Stands m actors runs writers who actor phase
-    → Kept actors runs writers who actor (outcome_of limit m who command memory phase)
-row_kept limit m actors runs writers who actor command memory Load within knows s = loaded m actors runs writers who actor limit command s
-row_kept limit m actors runs writers who actor command memory (Scout from n k) (some, room, number, wants) knows s = scouted m actors runs writers who actor command from n k wants knows s
-row_kept limit m actors runs writers who actor command memory (Put from n k) (some, room, number, wants) knows s = put_in m actors runs writers who actor command memory from n k wants knows s
-row_kept limit m actors runs writers who actor command memory (Exchange from n) (some, room, exchanges) knows s = exchanged limit m actors runs writers who actor from n some knows s
-row_kept limit m actors runs writers who actor command memory (Raise to) within knows s = raised m actors runs writers who actor to knows s
-row_kept limit m actors runs writers who actor command memory (Begin from n place) within knows s = began m actors runs writers who actor command from n place (map.get m.slots place) refl knows s
-row_kept limit m actors runs writers who actor command memory (Fill from n place) within (won, busy) s =
-    finished m actors runs writers who actor command (Fill from n place) from n place (Filled (value_of command)) (events.Finish who place (value_of command)) (λ x. x) (λ q x. x) won busy s refl (settler_here place who) (λ q apart. settler_elsewhere place who q apart)
-row_kept limit m actors runs writers who actor command memory (Spoil from n place) within (won, busy) s =
-    finished m actors runs writers who actor command (Spoil from n place) from n place Broken (events.Break who place) (λ x. x) (λ q x. x) won busy s refl (settler_here place who) (λ q apart. settler_elsewhere place who q apart)
-row_kept limit m actors runs writers who actor command memory (Look place) within knows s = looked m actors runs writers who actor place (map.get m.slots place) s
+module _ {m : Storage} {actors : List Actor} {runs : List OwnedRun} {writers : ℕ → List ℕ} {actor : ℕ} {state : Actor} (limit : ℕ) (command : Command) (memory : Bool) where
+  pub row_kept : (phase : Phase) → IsWithin limit command phase → Knows m runs actor phase
+      → Stands m actors runs writers actor state phase
+      → Kept actors runs writers actor state (outcome_of limit m actor command memory phase)
+  row_kept Load within knows s = loaded s (λ q x. x) limit command
+  row_kept (Scout from n k) within knows s =
+      scout_cases (Kept actors runs writers actor state) m command from n k
+      (λ _. gone_on s (λ q x. x) (after_segment command from n k) (nothing_known m runs actor command from n k))
+      (gone_on s (λ q x. x) (Put from n k) tt)
+  row_kept (Put from n k) within knows s = put_in s (λ q x. x) command memory from n k
+  row_kept (Exchange from n) (some, room, exchanges) knows s =
+      exchange_cases (Kept actors runs writers actor state) m actor limit from n
+      (λ _. claims s (λ q x. x) n (events.Claim actor n) some refl (λ q. refl))
+      (λ _. first_scouted s (λ q x. x) n) (λ _. refused s (λ q x. x) n)
+  row_kept (Raise to) within knows s =
+      raise_cases (Kept actors runs writers actor state) m actor to
+      (λ _. had_enough s (λ q x. x) to)
+      (λ more. claims s (λ q x. x) (to - m.size) (events.Raise actor to) (omega arith) refl (λ q. refl))
+  row_kept (Begin from n place) within (won, empty) s =
+      began s command from n place (λ q x. x) won (map.get m.slots place) refl empty
+  row_kept (Fill from n place) within (won, busy) s =
+      finished s command from n place (λ q x. x) won (Filled (value_of command)) (events.Finish actor place (value_of command)) (λ x. x) busy refl
+      (settler_here place actor) (λ q apart. settler_elsewhere place actor q apart)
+  row_kept (Spoil from n place) within (won, busy) s =
+      finished s command from n place (λ q x. x) won Broken (events.Break actor place) (λ x. x) busy refl
+      (settler_here place actor) (λ q apart. settler_elsewhere place actor q apart)
+  row_kept (Look place) within knows s = looked s (λ q x. x) place (map.get m.slots place)

@@ -1,5 +1,5 @@
 -- Lists that are made of a range of places, when one of their cells or their length changes.
-use Rattle.std.proofs.Common.{◌≡◌, ◌≢◌, ℕ, ◌+◌, ◌<◌, ◌≤◌, ◌∷◌, ◌++◌, map, replicate, Some, slice_get, slice_set, zero, suc, refl, ap, sym, ◌∙◌, arith}
+use Rattle.std.proofs.Common.{◌≡◌, ◌≢◌, ℕ, ◌+◌, ◌-◌, ◌<◌, ◌≤◌, ◌∷◌, ◌++◌, map, replicate, Some, slice_get, slice_set, zero, suc, refl, ap, sym, ◌∙◌, arith}
 use Rattle.std.specs.List.{range_with_len}
 
 -- two functions that are the same at each place of a range
@@ -52,3 +52,10 @@ map_set f g a (suc n) (suc k) inside others =
     ap (λ x. x ∷ map g (range_with_len (a + 1) n)) (sym (others a (λ same. omega arith)))
     ∙ ap (λ xs. f a ∷ xs) (map_set f g (a + 1) n k (omega arith) (λ p apart. others p (λ same. apart (same ∙ sym behind)))
     ∙ ap (λ p. slice_set (map f (range_with_len (a + 1) n)) k (g p)) behind)
+
+-- a range in two parts, by how long the first is
+pub map_parts : {X : Type 0} (f : ℕ → X) (a k n : ℕ) → k ≤ n
+    → map f (range_with_len a n) ≡ map f (range_with_len a k) ++ map f (range_with_len (a + k) (n - k))
+map_parts f a k n within =
+    let whole : n ≡ k + (n - k) = omega arith in
+    ap (λ j. map f (range_with_len a j)) whole ∙ map_more f a k (n - k)

@@ -48,7 +48,7 @@ owner_new (x ∷ xs) ys place is =
     is
 
 -- what tiles ends no earlier than it begins
-pub tile_grows : (start end : ℕ) (runs : List OwnedRun) → Tile start runs end → start ≤ end
+tile_grows : (start end : ℕ) (runs : List OwnedRun) → Tile start runs end → start ≤ end
 tile_grows start end [] tile = omega arith
 tile_grows start end (run ∷ runs) (begins, others) = let more = tile_grows (start + run.n) end runs others in omega arith
 

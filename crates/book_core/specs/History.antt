@@ -23,7 +23,7 @@ pub record OwnedRun : Type 0 where
   pub n : ℕ
 
 -- the run that a claiming event's reply names, if it names one
-abbrev pub run_in : ℕ → Reply → List OwnedRun
+abbrev run_in : ℕ → Reply → List OwnedRun
 run_in actor (replies.Run first count) = record { owner = actor; from = first; n = count } ∷ []
 run_in actor (replies.Enough size) = []
 run_in actor replies.Done = []

@@ -15,17 +15,17 @@ pub segment_end-le : (j k : ℕ) → j ≤ k → segment_end j ≤ segment_end k
 segment_end-le j k below = pow-le-pow_right (lit< tt) (let e : j + 1 ≤ k + 1 = omega arith in e)
 
 -- a segment begins no earlier than those before it end
-pub segment_end-le-segment_start : (j k : ℕ) → j < k → segment_end j ≤ segment_start k
+segment_end-le-segment_start : (j k : ℕ) → j < k → segment_end j ≤ segment_start k
 segment_end-le-segment_start j zero below = absurd (omega arith)
 segment_end-le-segment_start j (suc k) below = segment_end-le j k (omega arith)
 
 -- a segment begins before it ends, also counted from the first of all
-pub segment_start-lt-segment_end : (k : ℕ) → segment_start k < segment_end k
+segment_start-lt-segment_end : (k : ℕ) → segment_start k < segment_end k
 segment_start-lt-segment_end zero = lit< tt
 segment_start-lt-segment_end (suc k) = pow-lt (let e : k + 1 < suc k + 1 = omega arith in e)
 
 -- segments begin in order
-pub segment_start-le : (j k : ℕ) → j ≤ k → segment_start j ≤ segment_start k
+segment_start-le : (j k : ℕ) → j ≤ k → segment_start j ≤ segment_start k
 segment_start-le j k below =
     elim (cases_lt j k) [
       | inl before ↦ let gap : segment_end j ≤ segment_start k = segment_end-le-segment_start j k before in let a = segment_start-lt-segment_end j in omega arith
@@ -78,7 +78,7 @@ pub is_segment_of : (segment place : ℕ) → HasPlace segment place → segment
 is_segment_of segment place has = one_segment segment (segment_of place) place has (segment_of_has place)
 
 -- places in order lie in segments in order
-pub segments_in_order : (j k p q : ℕ) → HasPlace j p → HasPlace k q → p ≤ q → j ≤ k
+segments_in_order : (j k p q : ℕ) → HasPlace j p → HasPlace k q → p ≤ q → j ≤ k
 segments_in_order j k p q has_p has_q before =
     elim (cases_lt k j) [
       | inl below ↦ absurd (let gap : segment_end k ≤ segment_start j = segment_end-le-segment_start k j below in let a : segment_start j ≤ p = has_p.from in let b : q < segment_end k = has_q.before in omega arith)
@@ -94,7 +94,7 @@ exponent_below k place power below =
     ]
 
 -- a place from a power of two up to the next is in the segment of that number
-pub has_from_power : (k place : ℕ) → 0 < k → 2 ^ k ≤ place → place < 2 * 2 ^ k → HasPlace k place
+has_from_power : (k place : ℕ) → 0 < k → 2 ^ k ≤ place → place < 2 * 2 ^ k → HasPlace k place
 has_from_power zero place positive power next = absurd (omega arith)
 has_from_power (suc k) place positive power next = record {
   from = let same : 2 ^ suc k ≡ 2 ^ (k + 1) = ap (λ n. 2 ^ n) (sym (add-one k)) in omega arith;

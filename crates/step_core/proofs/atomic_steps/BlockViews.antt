@@ -15,7 +15,7 @@ use Rattle.seg_core.proofs.Doubling.{segment_of_has, is_segment_of, segment_end-
 use Rattle.book_core.proofs.Lists.{get_other, get_set}
 use Rattle.step_core.specs.declared.machine.phase.Slot.{Slot}
 use Rattle.step_core.proofs.atomic_steps.Keys.{same_key, other_key}
-use Rattle.step_core.specs.machine.Blocks.{Shown, Block, Entries, flattened, block_of, slot_in, slot_at, with_value, map_below, set_below, shown, AreBlocks}
+use Rattle.step_core.specs.machine.Blocks.{Shown, Slots, Entries, flattened, block_of, slot_in, slot_at, with_value, map_below, set_below, shown, AreBlocks}
 
 -- ---- The map and the set below a bound
 
@@ -152,7 +152,7 @@ nothing_is_blocks entries long none = record { count = long; whole = λ k block 
 
 -- ---- An entry that is set
 
-module _ (entries : Entries) (k : ℕ) (new : Block) (inside : k < length entries) where
+module _ (entries : Entries) (k : ℕ) (new : Slots) (inside : k < length entries) where
   -- the entry that is set has the new block
   block_set_here : block_of (slice_set entries k (Some new)) k ≡ Some new
   block_set_here = ap flattened (get_set entries k (slice_index_or entries k None) (Some new) (slice_get-get_or entries k None inside))
@@ -162,7 +162,7 @@ module _ (entries : Entries) (k : ℕ) (new : Block) (inside : k < length entrie
   block_set_there j apart = ap flattened (get_other entries k j (Some new) apart)
 
   -- a whole block keeps the entries whole
-  pub blocks_set : AreBlocks entries → segment_start k + length new ≡ segment_end k
+  blocks_set : AreBlocks entries → segment_start k + length new ≡ segment_end k
       → AreBlocks (slice_set entries k (Some new))
   blocks_set blocks long = record {
     count = length-set entries k (Some new) ∙ blocks.count;
@@ -185,7 +185,7 @@ empty_block (suc n) (suc o) = empty_block n o
 pub shows_block : (entries : Entries) (k n : ℕ) → length entries ≡ 32 → k < 32 → block_of entries k ≡ None
     → shown (slice_set entries k (Some (replicate n None))) ≡ record { installed = set.insert (shown entries).installed k; slots = (shown entries).slots }
 shows_block entries k n long inside none =
-    let new : Block = replicate n None in
+    let new : Slots = replicate n None in
     let entries' : Entries = slice_set entries k (Some new) in
     let within : k < length entries = omega arith in
     let here = block_set_here entries k new within in
@@ -204,7 +204,7 @@ shows_block entries k n long inside none =
     ])
 
 -- at another offset, or in another block, the slot is as it was
-slot_elsewhere : (entries entries' : Entries) (k o : ℕ) (block : Block) (slot : Slot) (q : ℕ)
+slot_elsewhere : (entries entries' : Entries) (k o : ℕ) (block : Slots) (slot : Slot) (q : ℕ)
     → (segment_of q ≢ k → block_of entries' (segment_of q) ≡ block_of entries (segment_of q))
     → block_of entries' k ≡ Some (slice_set block o (Some slot)) → block_of entries k ≡ Some block
     → (segment_of q ≡ k → q - segment_start (segment_of q) ≢ o) → slot_at entries' q ≡ slot_at entries q
@@ -218,11 +218,11 @@ slot_elsewhere entries entries' k o block slot q elsewhere new old other =
     ]
 
 -- a slot that is set in the block of a place shows one slot changed
-shows_slot : (entries : Entries) (k o place : ℕ) (block : Block) (slot : Slot) → length entries ≡ 32 → k < 32
+shows_slot : (entries : Entries) (k o place : ℕ) (block : Slots) (slot : Slot) → length entries ≡ 32 → k < 32
     → HasPlace k place → segment_start k + o ≡ place → block_of entries k ≡ Some block → o < length block
     → shown (slice_set entries k (Some (slice_set block o (Some slot)))) ≡ record { installed = (shown entries).installed; slots = map.insert (shown entries).slots place slot }
 shows_slot entries k o place block slot long inside has lies is room =
-    let new : Block = slice_set block o (Some slot) in
+    let new : Slots = slice_set block o (Some slot) in
     let entries' : Entries = slice_set entries k (Some new) in
     let within : k < length entries = omega arith in
     let here = block_set_here entries k new within in
@@ -261,7 +261,7 @@ slot_past entries seen view blocks place past =
 
 -- the slot of a place, at its offset in the entry of its segment
 pub slot_in_entry : (entries : Entries) (seen : Shown) → shown entries ≡ seen → AreBlocks entries
-    → (place k o : ℕ) (read entry : Option Block) → k ≡ segment_of place → k < 32 → segment_start k + o ≡ place
+    → (place k o : ℕ) (read entry : Option Slots) → k ≡ segment_of place → k < 32 → segment_start k + o ≡ place
     → read ≡ slice_index_or entries k read → slice_index_or entries k read ≡ entry
     → map.get seen.slots place ≡ slot_in entry o
 slot_in_entry entries seen view blocks place k o read entry number inside lies is entry_is =
@@ -273,13 +273,13 @@ slot_in_entry entries seen view blocks place k o read entry number inside lies i
     ∙ ap (λ e. slot_in e o) (is ∙ entry_is)
 
 -- an entry that is read is the block of its segment
-entry_is : (entries : Entries) → AreBlocks entries → (k : ℕ) (read : Option Block) → k < 32
+entry_is : (entries : Entries) → AreBlocks entries → (k : ℕ) (read : Option Slots) → k < 32
     → read ≡ slice_index_or entries k read → block_of entries k ≡ read
 entry_is entries blocks k read inside is = ap flattened (slice_get_read entries 32 k read (sym blocks.count) inside is)
 
 -- whether an entry that is read has a block
 pub installed_is : (entries : Entries) (seen : Shown) → shown entries ≡ seen → AreBlocks entries
-    → (k : ℕ) (read : Option Block) → k < 32 → read ≡ slice_index_or entries k read
+    → (k : ℕ) (read : Option Slots) → k < 32 → read ≡ slice_index_or entries k read
     → set.contains seen.installed k ≡ is_some read
 installed_is entries seen view blocks k read inside is =
     ap (λ (s : Shown). set.contains s.installed k) (sym view)
@@ -309,7 +309,7 @@ installed_already seen k there =
 
 -- ---- A slot that is set in the entry that was read
 
-module _ (entries : Entries) (seen : Shown) (view : shown entries ≡ seen) (blocks : AreBlocks entries) (place k o : ℕ) (has : HasPlace k place) (inside : k < 32) (lies : segment_start k + o ≡ place) (read : Option Block) (is : read ≡ slice_index_or entries k read) where
+module _ (entries : Entries) (seen : Shown) (view : shown entries ≡ seen) (blocks : AreBlocks entries) (place k o : ℕ) (has : HasPlace k place) (inside : k < 32) (lies : segment_start k + o ≡ place) (read : Option Slots) (is : read ≡ slice_index_or entries k read) where
   -- the entry has a block where the segment of its place is installed
   pub entry_there : set.contains seen.installed (segment_of place) ≡ true
       → is_some (slice_index_or entries k read) ≡ true
@@ -355,7 +355,7 @@ module _ (entries : Entries) (seen : Shown) (view : shown entries ≡ seen) (blo
 
 -- entries that are all read empty are no blocks
 pub none_read : (entries : Entries) → length entries ≡ 32
-    → ((i : ℕ) (e : Option Block) → i < 32 → slice_index_or entries i e ≡ None) → (k : ℕ)
+    → ((i : ℕ) (e : Option Slots) → i < 32 → slice_index_or entries i e ≡ None) → (k : ℕ)
     → block_of entries k ≡ None
 none_read entries long none k =
     elim (cases_lt k (length entries)) [

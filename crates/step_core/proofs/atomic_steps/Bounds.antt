@@ -39,11 +39,11 @@ starts_below : (k : ℕ) → segment_start k < 2 ^ 32 → k < 32
 starts_below zero below = lit< tt
 starts_below (suc k) below = subst (λ j. j < 32) (add-one k) (exponent_below (k + 1) (segment_end k) (le_refl (segment_end k)) below)
 
-pub segment_below : (place : ℕ) → place < 2 ^ 32 → segment_of place < 32
+segment_below : (place : ℕ) → place < 2 ^ 32 → segment_of place < 32
 segment_below place below = starts_below (segment_of place) (let has = segment_of_has place in let from : segment_start (segment_of place) ≤ place = has.from in omega arith)
 
 -- a step leaves the size within the limit, and its actor too
-pub record Stays (limit : ℕ) (command : Command) (outcome : Outcome) : Type 0 where
+record Stays (limit : ℕ) (command : Command) (outcome : Outcome) : Type 0 where
   pub size : outcome.storage.size ≤ limit
   pub next : StaysWithin limit command outcome.next
 

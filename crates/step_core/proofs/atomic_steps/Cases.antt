@@ -21,7 +21,7 @@ use Rattle.step_core.specs.machine.Step.{Configuration, Outcome, Step, goes_on, 
 use Rattle.step_core.specs.machine.Bounds.{Wants, Exchanges}
 
 -- a test passes, or it fails
-pub test_cases : (P : Bool → Type 0) (test : Bool) → (test ≡ true → P true) → (test ≡ false → P false) → P test
+test_cases : (P : Bool → Type 0) (test : Bool) → (test ≡ true → P true) → (test ≡ false → P false) → P test
 test_cases P true passes fails = passes refl
 test_cases P false passes fails = fails refl
 

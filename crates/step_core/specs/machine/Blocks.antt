@@ -35,20 +35,20 @@ abbrev pub flattened : {X : Type 0} → Option (Option X) → Option X
 flattened None = None
 flattened (Some inner) = inner
 
--- a block: the slots of one segment, in the order of its places
-abbrev pub Block : Type 0
-Block = List (Option Slot)
+-- the slots of one segment, in the order of its places: what a block is
+abbrev pub Slots : Type 0
+Slots = List (Option Slot)
 
 -- the entries of the segments, each empty or a block
 abbrev pub Entries : Type 0
-Entries = List (Option Block)
+Entries = List (Option Slots)
 
 -- the block of a segment, if it is installed
-abbrev pub block_of : Entries → ℕ → Option Block
+abbrev pub block_of : Entries → ℕ → Option Slots
 block_of entries segment = flattened (slice_get entries segment)
 
 -- what a block has at an offset
-abbrev pub slot_in : Option Block → ℕ → Option Slot
+abbrev pub slot_in : Option Slots → ℕ → Option Slot
 slot_in None offset = None
 slot_in (Some block) offset = flattened (slice_get block offset)
 
@@ -82,4 +82,4 @@ shown entries = record {
 pub record AreBlocks (entries : Entries) : Type 0 where
   pub count : length entries ≡ 32
   pub whole :
-      (segment : ℕ) (block : Block) → block_of entries segment ≡ Some block → segment_start segment + length block ≡ segment_end segment
+      (segment : ℕ) (block : Slots) → block_of entries segment ≡ Some block → segment_start segment + length block ≡ segment_end segment

@@ -19,7 +19,7 @@ use Rattle.step_core.specs.declared.machine.phase.Phase.TheVariants as phases
 use Rattle.step_core.specs.machine.Play.{Play, play_of}
 
 -- The claim won n places from one on; those before made were filled in ascending order, and then the others broken.
-abbrev pub run_record : Event → ℕ → ℕ → ℕ → ℕ → ℕ → List (Event × Reply)
+abbrev run_record : Event → ℕ → ℕ → ℕ → ℕ → ℕ → List (Event × Reply)
 run_record claim actor from n value made =
     (claim, replies.Run from n) ∷ map (λ event. (event, replies.Done)) (finishes actor from made value ++ breaks actor (from + made) (n - made))
 

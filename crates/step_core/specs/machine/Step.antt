@@ -252,7 +252,7 @@ abbrev pub no_step : Configuration → Step
 no_step c = record { to = c; event = None; ended = None }
 
 -- the actor stands so now
-abbrev pub with_actor : Configuration → Storage → ℕ → Actor → Configuration
+abbrev with_actor : Configuration → Storage → ℕ → Actor → Configuration
 with_actor c m actor state = record { limit = c.limit; storage = m; actors = slice_set c.actors actor state }
 
 -- the actor goes on, or its call ends and it comes to its next one

@@ -43,7 +43,7 @@ abbrev seen_at : Storage → List OwnedRun → ℕ → Cell
 seen_at m runs place = cell_of (owner_of runs place) (finite.get m.slots place)
 
 -- the event of a step, if it has one, happens to the vector as it is seen
-abbrev pub Replies : ℕ → Storage → List OwnedRun → Outcome → Type 0
+abbrev Replies : ℕ → Storage → List OwnedRun → Outcome → Type 0
 Replies limit m runs o =
     IsHistory (seen limit m runs) (option_to_list o.event) (seen limit o.storage (runs ++ runs_of (option_to_list o.event)))
 

@@ -19,8 +19,8 @@ fn replies(list: &mut CellVec, event: Event, reply: Reply) -> Result<bool, Alloc
     }
 }
 
-/// Whether a list of events with replies is a history of the sequential vector: each event is legal where it stands, and
-/// its reply is right.
+/// Whether a list of events with replies is a history of the sequential vector: each event is legal where it stands,
+/// and its reply is right.
 ///
 /// Its time is linear in the history and the places that it claims, its memory in those places. The error
 /// comes where that memory is refused; no event is looked at after the first that isn't legal or has another reply.

@@ -1,5 +1,6 @@
 //! What holds of every legal history, each the contract of a call without a body.
-ghost use Rattle.book_core.specs.Laws.{HistoriesSplit, HistoriesTile, FinishedCellsStay, ValuesAreTheOwners, LooksTellTheOwnersValue};
+ghost use Rattle.book_core.specs.Laws.{HistoriesSplit, HistoriesTile, FinishedCellsStay, ValuesAreTheOwners};
+ghost use Rattle.book_core.specs.Laws.{LooksTellTheOwnersValue};
 
 /// A history in two parts is two histories, one after the other.
 pub fn histories_split()

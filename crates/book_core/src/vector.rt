@@ -1,5 +1,6 @@
 //! The sequential vector of cells.
-ghost use Rattle.std.specs.Prelude.{◌≡◌, ◌≢◌, ◌↔◌, ◌+◌, ◌<◌, ◌≤◌, nat_le, false, length, slice_get, Some, IsTrue, IsOk, IsNone, IsErrOf, IfOk, IfErr, OnOk, OnErr};
+ghost use Rattle.std.specs.Prelude.{◌≡◌, ◌≢◌, ◌↔◌, ◌+◌, ◌<◌, ◌≤◌, nat_le, false, length, slice_get, Some, IsTrue};
+ghost use Rattle.std.specs.Prelude.{IsOk, IsNone, IsErrOf, IfOk, IfErr, OnOk, OnErr};
 ghost use Rattle.book_core.specs.Cells.{IsLimit};
 
 use crate::cells::Cell;

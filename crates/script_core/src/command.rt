@@ -2,7 +2,8 @@
 ghost use Rattle.std.specs.Prelude.{◌≡◌};
 ghost use Rattle.script_core.specs.Reading.{AreWords, Gives};
 ghost use Rattle.std.specs.Str.{bytes_eq};
-ghost use Rattle.script_core.specs.Grammar.{words, argument, command_alone, command_with_one, command_with_two, command_with_three, parsed_command, parsed_program};
+ghost use Rattle.script_core.specs.Grammar.{words, argument, command_alone, command_with_one, command_with_two};
+ghost use Rattle.script_core.specs.Grammar.{command_with_three, parsed_command, parsed_program};
 
 use crate::cut::cut_at;
 use crate::error::{Fault, Stop};

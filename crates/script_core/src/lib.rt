@@ -2,8 +2,8 @@
 //!
 //! - `read` reads a script: a limit, the actors with their programs, and the items of a schedule. Contracts see what it
 //!   returns as `script_of` of `specs/Grammar.antt`: the script, or the first fault with its line.
-//! - `specs/Spelling.antt` says the same in the grammar's own words: `text_of` is the spelling of a script, and a text is
-//!   read exactly where it is the spelling of a script (`IsScript`).
+//! - `specs/Spelling.antt` says the same in the grammar's own words: `text_of` is the spelling of a script, and a
+//!   text is read exactly where it is the spelling of a script (`IsScript`).
 //! - `write_reply` and `write_cells` write the answer lines and the last line, as `specs/Text.antt` has them.
 //!   `write_bytes` is the one loop that writes, and `Line` a line on the stack.
 //!

@@ -1,10 +1,12 @@
 //! Whole scripts.
-ghost use Rattle.std.specs.Prelude.{◌≡◌, ◌≢◌, ◌⊎◌, ◌+◌, ◌^◌, ◌<◌, ◌≤◌, ◌==◌, count_by, take, length, OnOk, [], IfOk, IfErr, IsErrOf, Ok, Err, Bool};
+ghost use Rattle.std.specs.Prelude.{◌≡◌, ◌≢◌, ◌⊎◌, ◌+◌, ◌^◌, ◌<◌, ◌≤◌, ◌==◌, count_by, take, length, OnOk, []};
+ghost use Rattle.std.specs.Prelude.{IfOk, IfErr, IsErrOf, Ok, Err, Bool};
 ghost use Rattle.book_core.specs.Cells.{IsLimit};
 ghost use Rattle.book_core.specs.Commands.{AreSound, HavePrograms};
 ghost use Rattle.script_core.specs.declared.script.Script.{Script};
 ghost use Rattle.script_core.specs.Reading.{GivesLines};
-ghost use Rattle.script_core.specs.Grammar.{lines, parsed_limit, parsed_actor, parsed_items, at_line, closed, body_of, script_of};
+ghost use Rattle.script_core.specs.Grammar.{lines, parsed_limit, parsed_actor, parsed_items, at_line, closed};
+ghost use Rattle.script_core.specs.Grammar.{body_of, script_of};
 ghost use Rattle.script_core.specs.Spelling.{IsScript, text_of};
 
 use crate::actor::actor;

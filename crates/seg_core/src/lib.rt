@@ -3,8 +3,8 @@
 //! The segments are the intervals [0, 2), [2, 4), [4, 8), [8, 16), .. of places, numbered from 0. `specs/Segment.antt`
 //! says so, and contracts cite nothing else: no bit of an index occurs in them.
 //!
-//! A caller can prove that each place is one segment and one offset, which segments a run touches, and how many places a
-//! number of them needs in whole segments. No call takes memory or refuses.
+//! A caller can prove that each place is one segment and one offset, which segments a run touches, and how many
+//! places a number of them needs in whole segments. No call takes memory or refuses.
 #![tactic(auto)]
 
 pub mod laws;

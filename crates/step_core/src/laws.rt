@@ -35,8 +35,8 @@ pub fn kept()
 
 /// The headline: in every play, every reply is the one that a sequential vector of cells gives in one legal history.
 ///
-/// That history holds each call that claimed once, at its claim, in its caller's order; its runs tile the claimed size; a
-/// filled cell keeps the value that its owner gave it; and a refused construction breaks its own cells alone.
+/// That history holds each call that claimed once, at its claim, in its caller's order; its runs tile the claimed
+/// size; a filled cell keeps the value that its owner gave it; and a refused construction breaks its own cells alone.
 pub fn interleavings()
     ensures { EveryInterleavingIsSequential }
 {}

@@ -16,7 +16,7 @@ use Rattle.book_core.specs.declared.commands.Command.TheVariants as commands
 use Rattle.book_core.specs.declared.commands.Answer.TheVariants as answers
 use Rattle.book_core.specs.Cells.{CellList, with_cell, with_pending, is_pending_for, apply_event}
 use Rattle.book_core.specs.Commands.{IsSound}
-use Rattle.step_core.specs.calls.WholeCall.{call_on, refused}
+use Rattle.step_core.specs.calls.WholeCall.{WholeCall, call_on, refused}
 use Rattle.step_core.specs.calls.Play.{CallPlay, with_event, with_events}
 use Rattle.book_core.specs.Events.{finishes, breaks}
 
@@ -126,94 +126,70 @@ run_legal t actor n made value front within is =
     in
     rw (with_events-append, filled.plays) breaking
 
--- the list and its events after a claiming event
-claimed : CallPlay → ℕ → Event → ℕ → CallPlay
-claimed s actor event n =
-    record {
-      list = with_pending s.list actor n;
-      counts = s.counts;
-      events = s.events ++ (event, replies.Run (length s.list.cells) n) ∷ [];
-      ended = s.ended;
-    }
+module _ (s : CallPlay) (actor : ℕ) where
+  -- the list and its events after a claiming event
+  claimed : Event → ℕ → CallPlay
+  claimed event n = record {
+    list = with_pending s.list actor n;
+    counts = s.counts;
+    events = s.events ++ (event, replies.Run (length s.list.cells) n) ∷ [];
+    ended = s.ended;
+  }
 
--- a growth whose claim succeeds is legal as a whole
-growth_legal : (s : CallPlay) (actor n made value : ℕ) (claim : Event) → made ≤ n
-    → with_event s claim ≡ Some (claimed s actor claim n)
-    → IsSome (with_events s (claim ∷ (finishes actor (length s.list.cells) made value ++ breaks actor (length s.list.cells + made) (n - made))))
-unfolding claimed
-growth_legal s actor n made value claim within happens =
-    let run = run_legal (claimed s actor claim n) actor n made value s.list.cells within refl in
-    rw happens run
+  -- a growth whose claim succeeds is legal as a whole
+  growth_legal : (n made value : ℕ) (claim : Event) → made ≤ n → with_event s claim ≡ Some (claimed claim n)
+      → IsSome (with_events s (claim ∷ (finishes actor (length s.list.cells) made value ++ breaks actor (length s.list.cells + made) (n - made))))
+  unfolding claimed
+  growth_legal n made value claim within happens =
+      let run = run_legal (claimed claim n) actor n made value s.list.cells within refl in
+      rw happens run
 
--- the same where nothing is broken
-filled_legal : (s : CallPlay) (actor n value : ℕ) (claim : Event)
-    → with_event s claim ≡ Some (claimed s actor claim n)
-    → IsSome (with_events s (claim ∷ finishes actor (length s.list.cells) n value))
-unfolding claimed
-filled_legal s actor n value claim happens =
-    let filled = leads_settled actor (λ place. Finish actor place value) (Filled value) (finish_settles actor value) n (claimed s actor claim n) s.list.cells [] (ap (λ xs. s.list.cells ++ xs) (sym (append-nil (replicate n (Pending actor))))) in
-    rw happens (leads_somewhere _ _ _ filled)
+  -- the same where nothing is broken
+  filled_legal : (n value : ℕ) (claim : Event) → with_event s claim ≡ Some (claimed claim n)
+      → IsSome (with_events s (claim ∷ finishes actor (length s.list.cells) n value))
+  unfolding claimed
+  filled_legal n value claim happens =
+      let filled = leads_settled actor (λ place. Finish actor place value) (Filled value) (finish_settles actor value) n (claimed claim n) s.list.cells [] (ap (λ xs. s.list.cells ++ xs) (sym (append-nil (replicate n (Pending actor))))) in
+      rw happens (leads_somewhere _ _ _ filled)
 
-claim_happens : (s : CallPlay) (actor n : ℕ) → nat_le (length s.list.cells + n) s.list.limit ≡ true
-    → with_event s (Claim actor n) ≡ Some (claimed s actor (Claim actor n) n)
-unfolding claimed
-claim_happens s actor n fits = rw fits refl
+  -- a growth by n is legal where it is legal if its claim succeeds: else it is refused
+  growth_or_refusal : (n : ℕ) (call : WholeCall)
+      → (with_event s (Claim actor n) ≡ Some (claimed (Claim actor n) n) → IsSome (with_events s call.events))
+      → IsSome (with_events s (if nat_le (length s.list.cells + n) s.list.limit then call else refused s.list actor n).events)
+  unfolding claimed
+  growth_or_refusal n call legal =
+      elim (nat_le (length s.list.cells + n) s.list.limit) as (λ b. nat_le (length s.list.cells + n) s.list.limit ≡ b → IsSome (with_events s (if b then call else refused s.list actor n).events)) [
+        | true ↦ (λ fits. legal (rw fits refl))
+        | false ↦ (λ full. rw full refl)
+      ]
+      refl
 
-raise_happens : (s : CallPlay) (actor to : ℕ) → nat_le to (length s.list.cells) ≡ false
-    → nat_le to s.list.limit ≡ true
-    → with_event s (Raise actor to) ≡ Some (claimed s actor (Raise actor to) (to - length s.list.cells))
-unfolding claimed
-raise_happens s actor to grows fits = rw (grows, fits) refl
+  -- a raise to a size has enough, or claims the new places, or is refused
+  raise_legal : (to value : ℕ) → IsSome (with_events s (call_on s.list actor (commands.AtLeast to value)).events)
+  unfolding claimed
+  raise_legal to value =
+      let size = length s.list.cells in
+      let more = to - size in
+      let grown = λ (b : Bool). if b then record { events = Raise actor to ∷ finishes actor size more value; answer = answers.Run size more } else refused s.list actor more in
+      elim (nat_le to size) as (λ b. nat_le to size ≡ b → IsSome (with_events s (if b then record { events = Raise actor to ∷ []; answer = answers.Enough size } else grown (nat_le to s.list.limit)).events)) [
+        | true ↦ (λ enough. rw enough refl)
+        | false ↦ (λ grows.
+            elim (nat_le to s.list.limit) as (λ b. nat_le to s.list.limit ≡ b → IsSome (with_events s (grown b).events)) [
+              | true ↦ (λ fits. filled_legal more value (Raise actor to) (rw (grows, fits) refl))
+              | false ↦ (λ full.
+                  let past : nat_le (size + more) s.list.limit ≡ false = grind (arith, nat_tests) in
+                  rw past refl)
+            ]
+            refl)
+      ]
+      refl
 
-refusal_legal : (s : CallPlay) (actor n : ℕ) → nat_le (length s.list.cells + n) s.list.limit ≡ false
-    → IsSome (with_events s (RefusedFull actor n ∷ []))
-refusal_legal s actor n full = rw full refl
-
-enough_legal : (s : CallPlay) (actor to : ℕ) → nat_le to (length s.list.cells) ≡ true
-    → IsSome (with_events s (Raise actor to ∷ []))
-enough_legal s actor to enough = rw enough refl
-
--- the refused growth of a raise: its new places are those from the length on
-past_limit : (size limit to : ℕ) → nat_le to size ≡ false → nat_le to limit ≡ false
-    → nat_le (size + (to - size)) limit ≡ false
-past_limit size limit to grows full = grind (arith, nat_tests)
-
--- every whole call is legal on the list as it is when the call begins
-pub call_legal : (s : CallPlay) (actor : ℕ) (command : Command) → IsSound command
-    → IsSome (with_events s (call_on s.list actor command).events)
-call_legal s actor (commands.Push value) sound =
-    let fits = nat_le (length s.list.cells + 1) s.list.limit in
-    elim fits as (λ b. fits ≡ b → IsSome (with_events s (if b then record { events = Claim actor 1 ∷ finishes actor (length s.list.cells) 1 value; answer = answers.At (length s.list.cells) } else refused s.list actor 1).events)) [
-      | true ↦ (λ e. filled_legal s actor 1 value (Claim actor 1) (claim_happens s actor 1 e))
-      | false ↦ (λ e. refusal_legal s actor 1 e)
-    ]
-    refl
-call_legal s actor (commands.Grow n value) sound =
-    let fits = nat_le (length s.list.cells + n) s.list.limit in
-    elim fits as (λ b. fits ≡ b → IsSome (with_events s (if b then record { events = Claim actor n ∷ finishes actor (length s.list.cells) n value; answer = answers.Run (length s.list.cells) n } else refused s.list actor n).events)) [
-      | true ↦ (λ e. filled_legal s actor n value (Claim actor n) (claim_happens s actor n e))
-      | false ↦ (λ e. refusal_legal s actor n e)
-    ]
-    refl
-call_legal s actor (commands.AtLeast to value) sound =
-    let size = length s.list.cells in
-    let grown = λ (b : Bool). if b then record { events = Raise actor to ∷ finishes actor size (to - size) value; answer = answers.Run size (to - size) } else refused s.list actor (to - size) in
-    elim (nat_le to size) as (λ b. nat_le to size ≡ b → IsSome (with_events s (if b then record { events = Raise actor to ∷ []; answer = answers.Enough size } else grown (nat_le to s.list.limit)).events)) [
-      | true ↦ (λ e. enough_legal s actor to e)
-      | false ↦ (λ grows.
-          elim (nat_le to s.list.limit) as (λ b. nat_le to s.list.limit ≡ b → IsSome (with_events s (grown b).events)) [
-            | true ↦ (λ fits. filled_legal s actor (to - size) value (Raise actor to) (raise_happens s actor to grows fits))
-            | false ↦ (λ full. refusal_legal s actor (to - size) (past_limit size s.list.limit to grows full))
-          ]
-          refl)
-    ]
-    refl
-call_legal s actor (commands.Fail n value at) sound =
-    let fits = nat_le (length s.list.cells + n) s.list.limit in
-    elim fits as (λ b. fits ≡ b → IsSome (with_events s (if b then record { events = Claim actor n ∷ (finishes actor (length s.list.cells) at value ++ breaks actor (length s.list.cells + at) (n - at)); answer = answers.BrokenRun (length s.list.cells) n at } else refused s.list actor n).events)) [
-      | true ↦ (λ e. growth_legal s actor n at value (Claim actor n) (omega arith) (claim_happens s actor n e))
-      | false ↦ (λ e. refusal_legal s actor n e)
-    ]
-    refl
-call_legal s actor (commands.Read place) sound = refl
-call_legal s actor commands.Size sound = refl
+  -- every whole call is legal on the list as it is when the call begins
+  pub call_legal : (command : Command) → IsSound command → IsSome (with_events s (call_on s.list actor command).events)
+  call_legal (commands.Push value) sound = growth_or_refusal 1 _ (filled_legal 1 value (Claim actor 1))
+  call_legal (commands.Grow n value) sound = growth_or_refusal n _ (filled_legal n value (Claim actor n))
+  call_legal (commands.AtLeast to value) sound = raise_legal to value
+  call_legal (commands.Fail n value at) sound =
+      growth_or_refusal n _ (growth_legal n at value (Claim actor n) (omega arith))
+  call_legal (commands.Read place) sound = refl
+  call_legal commands.Size sound = refl

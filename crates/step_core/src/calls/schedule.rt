@@ -1,5 +1,6 @@
 //! Plays of whole calls: each item of a schedule plays one.
-ghost use Rattle.std.specs.Prelude.{◌≡◌, ◌+◌, ◌≤◌, ◌<◌, ◌^◌, ◌↔◌, length, IfOk, OnOk, IfSome, OnSome, IsSome, Some, IsErrOf, slice_index, slice_get};
+ghost use Rattle.std.specs.Prelude.{◌≡◌, ◌+◌, ◌≤◌, ◌<◌, ◌^◌, ◌↔◌, length, IfOk, OnOk, IfSome, OnSome, IsSome, Some};
+ghost use Rattle.std.specs.Prelude.{IsErrOf, slice_index, slice_get};
 ghost use Rattle.book_core.specs.Cells.{IsLimit};
 ghost use Rattle.book_core.specs.Commands.{IsSound, AreSound, HavePrograms, HaveActors};
 ghost use Rattle.step_core.specs.calls.Play.{calls_played};
@@ -26,12 +27,18 @@ impl Model for CallPlay {
 
     ghost Value = { CallPlay };
 
-    ghost view = { λ s. record { list = s.list; counts = s.counts.items; events = s.events.items; ended = s.ended.items } };
+    ghost view = { λ s. record {
+      list = s.list;
+      counts = s.counts.items;
+      events = s.events.items;
+      ended = s.ended.items;
+    } };
 }
 
 impl CallPlay {
     ghost use Rattle.step_core.specs.calls.WholeCall.{call_on};
-    ghost use Rattle.step_core.specs.calls.Play.{empty_call_play, with_event, with_events, with_ended, next_call, with_call, with_items, played_of_calls};
+    ghost use Rattle.step_core.specs.calls.Play.{empty_call_play, with_event, with_events, with_ended};
+    ghost use Rattle.step_core.specs.calls.Play.{next_call, with_call, with_items, played_of_calls};
 
     fn new(alloc: Global, limit: u64, programs: &[Sequence<Command>]) -> Result<Self, AllocError>
         requires { IsLimit limit }
@@ -90,7 +97,8 @@ impl CallPlay {
         requires sound { IsSound command }
         ensures ok { OnOk result (with_call self.old actor (Some command) ≡ Some self.new) }
         ensures counted { OnOk result (length self.new.counts ≡ length self.old.counts) }
-        ensures actors { OnOk result (HaveActors (length self.old.counts) self.old.ended → HaveActors (length self.old.counts) self.new.ended) }
+        ensures actors { OnOk result (HaveActors (length self.old.counts) self.old.ended
+            → HaveActors (length self.old.counts) self.new.ended) }
     {
         let call = whole_call(alloc, &self.list, actor, command)?;
         self.happen_all(&call.events)?;
@@ -116,7 +124,8 @@ impl CallPlay {
         requires sound { AreSound programs.now }
         requires actors { HaveActors (length programs.now) self.old.ended }
         ensures actors { OnOk result (HaveActors (length programs.now) self.new.ended) }
-        ensures ok { OnOk result (with_call self.old actor (next_call programs.now self.old.counts actor) ≡ Some self.new) }
+        ensures ok { OnOk result
+            (with_call self.old actor (next_call programs.now self.old.counts actor) ≡ Some self.new) }
         ensures counted { OnOk result (length self.new.counts ≡ length self.old.counts) }
     {
         match self.next(programs, actor) {

@@ -1,5 +1,6 @@
 //! Whole calls on the sequential vector.
-ghost use Rattle.std.specs.Prelude.{◌≡◌, ◌+◌, ◌-◌, ◌≤◌, ◌<◌, ◌^◌, [], ◌∷◌, ◌++◌, length, IfOk, OnOk, IsSome, Some, None};
+ghost use Rattle.std.specs.Prelude.{◌≡◌, ◌+◌, ◌-◌, ◌≤◌, ◌<◌, ◌^◌, [], ◌∷◌, ◌++◌, length, IfOk, OnOk, IsSome, Some};
+ghost use Rattle.std.specs.Prelude.{None};
 ghost use Rattle.std.specs.Option.{option_map};
 ghost use Rattle.book_core.specs.Commands.{IsSound};
 ghost use Rattle.step_core.specs.calls.WholeCall.{Is, refused, answer_of_look, call_on};
@@ -89,7 +90,8 @@ fn grown(
 ) -> Result<WholeCall, AllocError>
     requires made { growth.made ≤ growth.n }
     requires fits { growth.from + growth.n < 2 ^ 64 }
-    ensures events { IfOk result (λ call. call.events.items ≡ claim ∷ (finishes growth.actor growth.from growth.made growth.value
+    ensures events { IfOk result (λ call. call.events.items
+        ≡ claim ∷ (finishes growth.actor growth.from growth.made growth.value
         ++ breaks growth.actor (growth.from + growth.made) (growth.n - growth.made))) }
     ensures answer { IfOk result (λ call. call.answer ≡ answer) }
 {
@@ -195,7 +197,8 @@ fn at_least_call(
 fn fail_call(alloc: Global, list: &CellVec, growth: Growth) -> Result<WholeCall, AllocError>
     requires from { growth.from ≡ length list.now.cells }
     requires made { growth.made ≤ growth.n }
-    ensures { IfOk result (λ call. Is (call_on list.now growth.actor (Command.Fail growth.n growth.value growth.made)) call) }
+    ensures { IfOk result (λ call.
+        Is (call_on list.now growth.actor (Command.Fail growth.n growth.value growth.made)) call) }
 {
     let Growth {
         actor,

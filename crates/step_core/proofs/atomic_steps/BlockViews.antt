@@ -251,50 +251,6 @@ shows_slot entries k o place block slot long inside has lies is room =
 
 -- ---- As the program reads it
 
--- past all segments no slot is there
-pub slot_past : (entries : Entries) (seen : Shown) → shown entries ≡ seen → AreBlocks entries → (place : ℕ)
-    → 2 ^ 32 ≤ place → map.get seen.slots place ≡ None
-slot_past entries seen view blocks place past =
-    ap (λ (s : Shown). map.get s.slots place) (sym view)
-    ∙ get_shown entries blocks.count place
-    ∙ ap (λ b. slot_in b (place - segment_start (segment_of place))) (no_block entries (segment_of place) (let far = segment_past place past in let long = blocks.count in omega arith))
-
--- the slot of a place, at its offset in the entry of its segment
-pub slot_in_entry : (entries : Entries) (seen : Shown) → shown entries ≡ seen → AreBlocks entries
-    → (place k o : ℕ) (read entry : Option Slots) → k ≡ segment_of place → k < 32 → segment_start k + o ≡ place
-    → read ≡ slice_index_or entries k read → slice_index_or entries k read ≡ entry
-    → map.get seen.slots place ≡ slot_in entry o
-slot_in_entry entries seen view blocks place k o read entry number inside lies is entry_is =
-    ap (λ (s : Shown). map.get s.slots place) (sym view)
-    ∙ get_shown entries blocks.count place
-    ∙ ap (λ i. slot_in (block_of entries i) (place - segment_start i)) (sym number)
-    ∙ ap (λ i. slot_in (block_of entries k) i) (let e : place - segment_start k ≡ o = omega arith in e)
-    ∙ ap (λ e. slot_in (flattened e) o) (slice_get_read entries 32 k read (sym blocks.count) inside is)
-    ∙ ap (λ e. slot_in e o) (is ∙ entry_is)
-
--- an entry that is read is the block of its segment
-entry_is : (entries : Entries) → AreBlocks entries → (k : ℕ) (read : Option Slots) → k < 32
-    → read ≡ slice_index_or entries k read → block_of entries k ≡ read
-entry_is entries blocks k read inside is = ap flattened (slice_get_read entries 32 k read (sym blocks.count) inside is)
-
--- whether an entry that is read has a block
-pub installed_is : (entries : Entries) (seen : Shown) → shown entries ≡ seen → AreBlocks entries
-    → (k : ℕ) (read : Option Slots) → k < 32 → read ≡ slice_index_or entries k read
-    → set.contains seen.installed k ≡ is_some read
-installed_is entries seen view blocks k read inside is =
-    ap (λ (s : Shown). set.contains s.installed k) (sym view)
-    ∙ contains_shown entries blocks.count k ∙ ap is_some (entry_is entries blocks k read inside is)
-
--- a segment that is not installed has no block
-pub no_block_there : (entries : Entries) (seen : Shown) → shown entries ≡ seen → AreBlocks entries → (k : ℕ)
-    → set.contains seen.installed k ≡ false → block_of entries k ≡ None
-no_block_there entries seen view blocks k none =
-    elim (block_of entries k) as (λ o. block_of entries k ≡ o → o ≡ None) [
-      | None ↦ (λ _. refl)
-      | Some block ↦ (λ is. absurd (false≢true (sym none ∙ ap (λ (s : Shown). set.contains s.installed k) (sym view) ∙ contains_shown entries blocks.count k ∙ ap is_some is)))
-    ]
-    refl
-
 -- to install a segment that is there changes nothing
 pub installed_already : (seen : Shown) (k : ℕ) → set.contains seen.installed k ≡ true
     → seen ≡ record { installed = set.insert seen.installed k; slots = seen.slots }
@@ -307,51 +263,91 @@ installed_already seen k there =
     ]) in
     λ i. record { installed = same i; slots = seen.slots }
 
--- ---- A slot that is set in the entry that was read
+module _ {entries : Entries} {seen : Shown} (view : shown entries ≡ seen) (blocks : AreBlocks entries) where
+  -- past all segments no slot is there
+  pub slot_past : (place : ℕ) → 2 ^ 32 ≤ place → map.get seen.slots place ≡ None
+  slot_past place past =
+      ap (λ (s : Shown). map.get s.slots place) (sym view)
+      ∙ get_shown entries blocks.count place
+      ∙ ap (λ b. slot_in b (place - segment_start (segment_of place))) (no_block entries (segment_of place) (let far = segment_past place past in let long = blocks.count in omega arith))
 
-module _ (entries : Entries) (seen : Shown) (view : shown entries ≡ seen) (blocks : AreBlocks entries) (place k o : ℕ) (has : HasPlace k place) (inside : k < 32) (lies : segment_start k + o ≡ place) (read : Option Slots) (is : read ≡ slice_index_or entries k read) where
-  -- the entry has a block where the segment of its place is installed
-  pub entry_there : set.contains seen.installed (segment_of place) ≡ true
-      → is_some (slice_index_or entries k read) ≡ true
-  entry_there there =
-      ap is_some (sym is) ∙ sym (installed_is entries seen view blocks k read inside is)
-      ∙ ap (set.contains seen.installed) (is_segment_of k place has) ∙ there
+  -- the slot of a place, at its offset in the entry of its segment
+  pub slot_in_entry : (place k o : ℕ) (read entry : Option Slots) → k ≡ segment_of place → k < 32
+      → segment_start k + o ≡ place → read ≡ slice_index_or entries k read → slice_index_or entries k read ≡ entry
+      → map.get seen.slots place ≡ slot_in entry o
+  slot_in_entry place k o read entry number inside lies is entry_is =
+      ap (λ (s : Shown). map.get s.slots place) (sym view)
+      ∙ get_shown entries blocks.count place
+      ∙ ap (λ i. slot_in (block_of entries i) (place - segment_start i)) (sym number)
+      ∙ ap (λ i. slot_in (block_of entries k) i) (let e : place - segment_start k ≡ o = omega arith in e)
+      ∙ ap (λ e. slot_in (flattened e) o) (slice_get_read entries 32 k read (sym blocks.count) inside is)
+      ∙ ap (λ e. slot_in e o) (is ∙ entry_is)
 
-  -- its block reaches past the offset of its place
-  pub entry_reaches : IfSome (slice_index_or entries k read) (λ block. o < length block)
-  entry_reaches =
-      elim (slice_index_or entries k read) as (λ r. block_of entries k ≡ r → IfSome r (λ block. o < length block)) [
-        | None ↦ (λ _. tt)
-        | Some block ↦ (λ e.
-            let ends = blocks.whole k block e in
-            let before : place < segment_end k = has.before in
-            omega arith)
+  -- an entry that is read is the block of its segment
+  entry_is : (k : ℕ) {read : Option Slots} → k < 32 → read ≡ slice_index_or entries k read → block_of entries k ≡ read
+  entry_is k {read = read} inside is = ap flattened (slice_get_read entries 32 k read (sym blocks.count) inside is)
+
+  -- whether an entry that is read has a block
+  pub installed_is : (k : ℕ) {read : Option Slots} → k < 32 → read ≡ slice_index_or entries k read
+      → set.contains seen.installed k ≡ is_some read
+  installed_is k inside is =
+      ap (λ (s : Shown). set.contains s.installed k) (sym view)
+      ∙ contains_shown entries blocks.count k ∙ ap is_some (entry_is k inside is)
+
+  -- a segment that is not installed has no block
+  pub no_block_there : (k : ℕ) → set.contains seen.installed k ≡ false → block_of entries k ≡ None
+  no_block_there k none =
+      elim (block_of entries k) as (λ o. block_of entries k ≡ o → o ≡ None) [
+        | None ↦ (λ _. refl)
+        | Some block ↦ (λ is. absurd (false≢true (sym none ∙ ap (λ (s : Shown). set.contains s.installed k) (sym view) ∙ contains_shown entries blocks.count k ∙ ap is_some is)))
       ]
-      (entry_is entries blocks k read inside is ∙ is)
+      refl
 
-  -- the entries stay whole where the slot is set
-  pub set_is_blocks : (slot : Slot) → set.contains seen.installed (segment_of place) ≡ true
-      → AreBlocks (slice_set entries k (option_map (λ block. slice_set block o (Some slot)) (slice_index_or entries k read)))
-  set_is_blocks slot there =
-      elim (slice_index_or entries k read) as (λ r. block_of entries k ≡ r → is_some r ≡ true → AreBlocks (slice_set entries k (option_map (λ block. slice_set block o (Some slot)) r))) [
-        | None ↦ (λ _ no. absurd (false≢true no))
-        | Some block ↦ (λ e _.
-            blocks_set entries k (slice_set block o (Some slot)) (let long = blocks.count in omega arith) blocks
-            (ap (λ n. segment_start k + n) (length-set block o (Some slot)) ∙ blocks.whole k block e))
-      ]
-      (entry_is entries blocks k read inside is ∙ is) (entry_there there)
+  -- ---- A slot that is set in the entry that was read
 
-  -- they show one slot changed
-  pub set_shows : (slot : Slot) → set.contains seen.installed (segment_of place) ≡ true
-      → shown (slice_set entries k (option_map (λ block. slice_set block o (Some slot)) (slice_index_or entries k read))) ≡ record { installed = seen.installed; slots = map.insert seen.slots place slot }
-  set_shows slot there =
-      elim (slice_index_or entries k read) as (λ r. block_of entries k ≡ r → is_some r ≡ true → IfSome r (λ block. o < length block) → shown (slice_set entries k (option_map (λ block. slice_set block o (Some slot)) r)) ≡ record { installed = seen.installed; slots = map.insert seen.slots place slot }) [
-        | None ↦ (λ _ no _. absurd (false≢true no))
-        | Some block ↦ (λ e _ room.
-            shows_slot entries k o place block slot blocks.count inside has lies e room
-            ∙ ap (λ (s : Shown). record { installed = s.installed; slots = map.insert s.slots place slot }) view)
-      ]
-      (entry_is entries blocks k read inside is ∙ is) (entry_there there) entry_reaches
+  module _ {place k : ℕ} (has : HasPlace k place) (inside : k < 32) (o : ℕ) (lies : segment_start k + o ≡ place) {read : Option Slots} (is : read ≡ slice_index_or entries k read) where
+    -- the entry has a block where the segment of its place is installed
+    pub entry_there : set.contains seen.installed (segment_of place) ≡ true
+        → is_some (slice_index_or entries k read) ≡ true
+    entry_there there =
+        ap is_some (sym is) ∙ sym (installed_is k inside is)
+        ∙ ap (set.contains seen.installed) (is_segment_of k place has) ∙ there
+
+    -- its block reaches past the offset of its place
+    pub entry_reaches : IfSome (slice_index_or entries k read) (λ block. o < length block)
+    entry_reaches =
+        elim (slice_index_or entries k read) as (λ r. block_of entries k ≡ r → IfSome r (λ block. o < length block)) [
+          | None ↦ (λ _. tt)
+          | Some block ↦ (λ e.
+              let ends = blocks.whole k block e in
+              let before : place < segment_end k = has.before in
+              omega arith)
+        ]
+        (entry_is k inside is ∙ is)
+
+    -- the entries stay whole where the slot is set
+    pub set_is_blocks : (slot : Slot) → set.contains seen.installed (segment_of place) ≡ true
+        → AreBlocks (slice_set entries k (option_map (λ block. slice_set block o (Some slot)) (slice_index_or entries k read)))
+    set_is_blocks slot there =
+        elim (slice_index_or entries k read) as (λ r. block_of entries k ≡ r → is_some r ≡ true → AreBlocks (slice_set entries k (option_map (λ block. slice_set block o (Some slot)) r))) [
+          | None ↦ (λ _ no. absurd (false≢true no))
+          | Some block ↦ (λ e _.
+              blocks_set entries k (slice_set block o (Some slot)) (let long = blocks.count in omega arith) blocks
+              (ap (λ n. segment_start k + n) (length-set block o (Some slot)) ∙ blocks.whole k block e))
+        ]
+        (entry_is k inside is ∙ is) (entry_there there)
+
+    -- they show one slot changed
+    pub set_shows : (slot : Slot) → set.contains seen.installed (segment_of place) ≡ true
+        → shown (slice_set entries k (option_map (λ block. slice_set block o (Some slot)) (slice_index_or entries k read))) ≡ record { installed = seen.installed; slots = map.insert seen.slots place slot }
+    set_shows slot there =
+        elim (slice_index_or entries k read) as (λ r. block_of entries k ≡ r → is_some r ≡ true → IfSome r (λ block. o < length block) → shown (slice_set entries k (option_map (λ block. slice_set block o (Some slot)) r)) ≡ record { installed = seen.installed; slots = map.insert seen.slots place slot }) [
+          | None ↦ (λ _ no _. absurd (false≢true no))
+          | Some block ↦ (λ e _ room.
+              shows_slot entries k o place block slot blocks.count inside has lies e room
+              ∙ ap (λ (s : Shown). record { installed = s.installed; slots = map.insert s.slots place slot }) view)
+        ]
+        (entry_is k inside is ∙ is) (entry_there there) entry_reaches
 
 -- entries that are all read empty are no blocks
 pub none_read : (entries : Entries) → length entries ≡ 32

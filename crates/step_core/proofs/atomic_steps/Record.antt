@@ -58,41 +58,49 @@ AllStand programs actors events ended = (actor : ℕ) → Stands programs actor 
 
 -- ---- One more event, and one more call
 
--- an event of this actor goes behind its events
-events_own : (actor : ℕ) (events : List (Event × Reply)) (event : Option (Event × Reply)) → IsOf actor event
-    → events_of actor (events ++ option_to_list event) ≡ events_of actor events ++ option_to_list event
-events_own actor events None its = filter-append (λ e. actor_of e.0 == actor) events []
-events_own actor events (Some e) its =
-    filter-append (λ e. actor_of e.0 == actor) events (e ∷ [])
-    ∙ ap (λ es. events_of actor events ++ es) (rw (eq-eqb (actor_of e.0) actor its) refl)
+module _ (actor : ℕ) (events : List (Event × Reply)) (event : Option (Event × Reply)) (its : IsOf actor event) where
+  -- an event of this actor goes behind its events
+  events_own : events_of actor (events ++ option_to_list event) ≡ events_of actor events ++ option_to_list event
+  events_own =
+      elim event as (λ o. IsOf actor o → events_of actor (events ++ option_to_list o) ≡ events_of actor events ++ option_to_list o) [
+        | None ↦ (λ _. filter-append (λ e. actor_of e.0 == actor) events [])
+        | Some e ↦ (λ is.
+            filter-append (λ e. actor_of e.0 == actor) events (e ∷ [])
+            ∙ ap (λ es. events_of actor events ++ es) (rw (eq-eqb (actor_of e.0) actor is) refl))
+      ]
+      its
 
--- to another's events it adds nothing
-events_other : (actor other : ℕ) (events : List (Event × Reply)) (event : Option (Event × Reply)) → other ≢ actor
-    → IsOf actor event → events_of other (events ++ option_to_list event) ≡ events_of other events
-events_other actor other events None apart its = ap (events_of other) (append-nil events)
-events_other actor other events (Some e) apart its =
-    let none : events_of other (e ∷ []) ≡ [] = rw (ne_eqb (actor_of e.0) other (λ same. apart (sym same ∙ its))) refl in
-    filter-append (λ e. actor_of e.0 == other) events (e ∷ [])
-    ∙ ap (λ es. events_of other events ++ es) none
-    ∙ append-nil (events_of other events)
+  -- to another's events it adds nothing
+  events_other : (other : ℕ) → other ≢ actor → events_of other (events ++ option_to_list event) ≡ events_of other events
+  events_other other apart =
+      elim event as (λ o. IsOf actor o → events_of other (events ++ option_to_list o) ≡ events_of other events) [
+        | None ↦ (λ _. ap (events_of other) (append-nil events))
+        | Some e ↦ (λ is.
+            let none : events_of other (e ∷ []) ≡ [] = rw (ne_eqb (actor_of e.0) other (λ same. apart (sym same ∙ is))) refl in
+            filter-append (λ e. actor_of e.0 == other) events (e ∷ [])
+            ∙ ap (λ es. events_of other events ++ es) none
+            ∙ append-nil (events_of other events))
+      ]
+      its
 
--- a call of this actor that ends goes behind its ended calls
-calls_own : (actor : ℕ) (state : Actor) (command : Command) (ended : List Ended) (next : Next)
-    → calls_of actor (ended ++ option_to_list (ended_by actor state command next)) ≡ calls_of actor ended ++ option_to_list (ended_by actor state command next)
-calls_own actor state command ended (Goes phase) = filter-append (λ (e : Ended). e.actor == actor) ended []
-calls_own actor state command ended (Ends answer) =
-    filter-append (λ (e : Ended). e.actor == actor) ended (option_to_list (ended_by actor state command (Ends answer)))
-    ∙ ap (λ es. calls_of actor ended ++ es) (rw (eq-eqb actor actor refl) refl)
+module _ (actor : ℕ) (state : Actor) (command : Command) (ended : List Ended) where
+  -- a call of this actor that ends goes behind its ended calls
+  calls_own : (next : Next)
+      → calls_of actor (ended ++ option_to_list (ended_by actor state command next)) ≡ calls_of actor ended ++ option_to_list (ended_by actor state command next)
+  calls_own (Goes phase) = filter-append (λ (e : Ended). e.actor == actor) ended []
+  calls_own (Ends answer) =
+      filter-append (λ (e : Ended). e.actor == actor) ended (option_to_list (ended_by actor state command (Ends answer)))
+      ∙ ap (λ es. calls_of actor ended ++ es) (rw (eq-eqb actor actor refl) refl)
 
--- to another's calls it adds nothing
-calls_other : (actor other : ℕ) (state : Actor) (command : Command) (ended : List Ended) (next : Next) → other ≢ actor
-    → calls_of other (ended ++ option_to_list (ended_by actor state command next)) ≡ calls_of other ended
-calls_other actor other state command ended (Goes phase) apart = ap (calls_of other) (append-nil ended)
-calls_other actor other state command ended (Ends answer) apart =
-    let none : calls_of other (option_to_list (ended_by actor state command (Ends answer))) ≡ [] = rw (ne_eqb actor other (λ same. apart (sym same))) refl in
-    filter-append (λ (e : Ended). e.actor == other) ended (option_to_list (ended_by actor state command (Ends answer)))
-    ∙ ap (λ es. calls_of other ended ++ es) none
-    ∙ append-nil (calls_of other ended)
+  -- to another's calls it adds nothing
+  calls_other : (other : ℕ) (next : Next) → other ≢ actor
+      → calls_of other (ended ++ option_to_list (ended_by actor state command next)) ≡ calls_of other ended
+  calls_other other (Goes phase) apart = ap (calls_of other) (append-nil ended)
+  calls_other other (Ends answer) apart =
+      let none : calls_of other (option_to_list (ended_by actor state command (Ends answer))) ≡ [] = rw (ne_eqb actor other (λ same. apart (sym same))) refl in
+      filter-append (λ (e : Ended). e.actor == other) ended (option_to_list (ended_by actor state command (Ends answer)))
+      ∙ ap (λ es. calls_of other ended ++ es) none
+      ∙ append-nil (calls_of other ended)
 
 -- the next call of the program goes behind the ended ones, with its record
 calls_more : (actor : ℕ) (program : List Command) (number last : ℕ) (calls : List Ended)
@@ -161,42 +169,39 @@ command_is_sound : (programs : List (List Command)) (program : List Command) (ac
 command_is_sound programs program actor number command sound there is =
     at_place IsSound program number command (at_place (λ p. All (λ c. IsSound c) p) programs actor program sound there) is
 
--- the actors after a step of one of them
-all_stand_after : (programs : List (List Command)) (c : Configuration) (events : List (Event × Reply))
-    (ended : List Ended) (actor : ℕ) (state : Actor) (command : Command) (outcome : Outcome)
-    → AllStand programs c.actors events ended → slice_get c.actors actor ≡ Some state
-    → slice_get state.program state.ended ≡ Some command
-    → (s : Standing programs actor state (events_of actor events) (calls_of actor ended))
-    → Tells actor command s.now outcome
-    → AllStand programs (step_to c actor state command outcome).to.actors (events ++ option_to_list outcome.event)
-    (ended ++ option_to_list (ended_by actor state command outcome.next))
-all_stand_after programs c events ended actor state command outcome stand there is s tells =
-    let new = actor_after state outcome.next in
-    let call = option_to_list (ended_by actor state command outcome.next) in
-    let stepped = standing_after programs actor state command (events_of actor events) (option_to_list outcome.event) (calls_of actor ended) outcome.next s is tells.told in
-    λ other. elim (eqb_tells other actor) [
-      | inl same ↦
-          subst (λ k. Stands programs k (slice_get (slice_set c.actors actor new) k) (events_of k (events ++ option_to_list outcome.event)) (calls_of k (ended ++ call))) (sym same.1)
-          (rw (get_set c.actors actor state new there, events_own actor events outcome.event tells.its, calls_own actor state command ended outcome.next) stepped)
-      | inr apart ↦
-          rw (get_other c.actors actor other new apart.1, events_other actor other events outcome.event apart.1 tells.its, calls_other actor other state command ended outcome.next apart.1) (stand other)
-    ]
+module _ (programs : List (List Command)) (c : Configuration) (events : List (Event × Reply)) (ended : List Ended) (stand : AllStand programs c.actors events ended) (actor : ℕ) where
+  -- the actors after a step of one of them
+  all_stand_after : (state : Actor) (command : Command) (outcome : Outcome)
+      → slice_get c.actors actor ≡ Some state → slice_get state.program state.ended ≡ Some command
+      → (s : Standing programs actor state (events_of actor events) (calls_of actor ended))
+      → Tells actor command s.now outcome
+      → AllStand programs (step_to c actor state command outcome).to.actors (events ++ option_to_list outcome.event)
+      (ended ++ option_to_list (ended_by actor state command outcome.next))
+  all_stand_after state command outcome there is s tells =
+      let new = actor_after state outcome.next in
+      let call = option_to_list (ended_by actor state command outcome.next) in
+      let stepped = standing_after programs actor state command (events_of actor events) (option_to_list outcome.event) (calls_of actor ended) outcome.next s is tells.told in
+      λ other. elim (eqb_tells other actor) [
+        | inl same ↦
+            subst (λ k. Stands programs k (slice_get (slice_set c.actors actor new) k) (events_of k (events ++ option_to_list outcome.event)) (calls_of k (ended ++ call))) (sym same.1)
+            (rw (get_set c.actors actor state new there, events_own actor events outcome.event tells.its, calls_own actor state command ended outcome.next) stepped)
+        | inr apart ↦
+            rw (get_other c.actors actor other new apart.1, events_other actor events outcome.event tells.its other apart.1, calls_other actor state command ended other outcome.next apart.1) (stand other)
+      ]
 
--- any step
-step_stands : (programs : List (List Command)) (c : Configuration) (events : List (Event × Reply))
-    (ended : List Ended) (actor : ℕ) (memory : Bool)
-    → AreSound programs → IsInLimit c → AllStand programs c.actors events ended
-    → AllStand programs (step_of c actor memory).to.actors (events ++ option_to_list (step_of c actor memory).event)
-    (ended ++ option_to_list (step_of c actor memory).ended)
-step_stands programs c events ended actor memory sound in_limit stand =
-    step_cases (λ step. AllStand programs step.to.actors (events ++ option_to_list step.event) (ended ++ option_to_list step.ended)) c actor memory
-    (subst (λ es. AllStand programs c.actors es (ended ++ [])) (sym (append-nil events)) (subst (AllStand programs c.actors events) (sym (append-nil ended)) stand))
-    (λ state command there is.
-    let s : Standing programs actor state (events_of actor events) (calls_of actor ended) = subst (λ o. Stands programs actor o (events_of actor events) (calls_of actor ended)) there (stand actor) in
-    let staged : StageOf actor command state.phase s.now = subst (λ o. OfStage actor o state.phase s.now) is s.stage in
-    let is_sound = command_is_sound programs state.program actor state.ended command sound s.program is in
-    all_stand_after programs c events ended actor state command (outcome_of c.limit c.storage actor command memory state.phase) stand there is s
-    (row_told c.limit c.storage actor command memory state.phase s.now is_sound (within_at c in_limit actor state command there is) staged))
+  -- any step
+  step_stands : (memory : Bool) → AreSound programs → IsInLimit c
+      → AllStand programs (step_of c actor memory).to.actors (events ++ option_to_list (step_of c actor memory).event)
+      (ended ++ option_to_list (step_of c actor memory).ended)
+  step_stands memory sound in_limit =
+      step_cases (λ step. AllStand programs step.to.actors (events ++ option_to_list step.event) (ended ++ option_to_list step.ended)) c actor memory
+      (subst (λ es. AllStand programs c.actors es (ended ++ [])) (sym (append-nil events)) (subst (AllStand programs c.actors events) (sym (append-nil ended)) stand))
+      (λ state command there is.
+      let s : Standing programs actor state (events_of actor events) (calls_of actor ended) = subst (λ o. Stands programs actor o (events_of actor events) (calls_of actor ended)) there (stand actor) in
+      let staged : StageOf actor command state.phase s.now = subst (λ o. OfStage actor o state.phase s.now) is s.stage in
+      let is_sound = command_is_sound programs state.program actor state.ended command sound s.program is in
+      all_stand_after state command (outcome_of c.limit c.storage actor command memory state.phase) there is s
+      (row_told c.limit c.storage actor command memory state.phase s.now is_sound (within_at c in_limit actor state command there is) staged))
 
 -- ---- A play
 
@@ -206,7 +211,7 @@ pub items_stand : (programs : List (List Command)) (p : Play) (items : List Item
     → AllStand programs (after_items p items).at.actors (after_items p items).events (after_items p items).ended
 items_stand programs p [] sound in_limit stand = stand
 items_stand programs p (item ∷ items) sound in_limit stand =
-    items_stand programs (with_step p (step_of p.at item.actor item.memory)) items sound (step_in_limit p.at in_limit item.actor item.memory) (step_stands programs p.at p.events p.ended item.actor item.memory sound in_limit stand)
+    items_stand programs (with_step p (step_of p.at item.actor item.memory)) items sound (step_in_limit p.at in_limit item.actor item.memory) (step_stands programs p.at p.events p.ended stand item.actor item.memory sound in_limit)
 
 -- before the first step
 pub opening_stands : (limit : ℕ) (programs : List (List Command))
@@ -225,13 +230,13 @@ under_way : (limit actor : ℕ) (command : Option Command) (phase : Phase) (now 
     → IfSome command (λ c. IsSound c) → IfSome command (λ c. IsWithin limit c phase) → OfStage actor command phase now
     → IsUnderWay actor command now
 under_way limit actor None phase now sound within staged = staged.0
-under_way limit actor (Some command) phase now sound within staged = stage_begun limit actor command phase now sound within staged
+under_way limit actor (Some command) phase now sound within staged = stage_begun actor command now limit phase sound within staged
 
 -- and it is as far as its phase
 so_far : (limit actor : ℕ) (command : Option Command) (phase : Phase) (now : List (Event × Reply))
     → IfSome command (λ c. IsWithin limit c phase) → OfStage actor command phase now → AreSoFar phase now
 so_far limit actor None phase now within (none, at_load) = subst (λ p. AreSoFar p now) (sym at_load) none
-so_far limit actor (Some command) phase now within staged = stage_so_far limit actor command phase now within staged
+so_far limit actor (Some command) phase now within staged = stage_so_far actor command now limit phase within staged
 
 -- a command of a sound program, if there is one
 sound_if_there : (programs : List (List Command)) (program : List Command) (actor number : ℕ) → AreSound programs

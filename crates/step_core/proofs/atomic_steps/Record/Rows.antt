@@ -21,7 +21,7 @@ use Rattle.step_core.specs.declared.machine.phase.Phase.TheVariants.{Load, Scout
 use Rattle.step_core.specs.declared.machine.phase.Next.{Next}
 use Rattle.step_core.specs.declared.machine.phase.Next.TheVariants.{Goes, Ends}
 use Rattle.step_core.specs.machine.Storage.{Storage}
-use Rattle.step_core.specs.machine.Step.{Outcome, load_growth, load_at_least, load_read, load, after_segment, scout, put, exchange, raise, begin_at, is_refused, value_of, answer_of_run, after_place, fill, spoil, look_at, outcome_of}
+use Rattle.step_core.specs.machine.Step.{Outcome, with_slot, load_growth, load_at_least, load_read, load, after_segment, put, exchange, raise, begin_at, is_refused, value_of, answer_of_run, after_place, look_at, outcome_of}
 use Rattle.step_core.specs.machine.Bounds.{Exchanges, IsWithin}
 use Rattle.step_core.specs.machine.Record.{IsRecord, IsBegun, IsClaimedUpTo, AreSoFar}
 use Rattle.book_core.specs.Events.{actor_of}
@@ -102,46 +102,6 @@ nothing_recorded actor commands.Size n size sound asks exchanges none = absurd a
 
 -- ---- Steps of a call that has no events so far
 
--- a growth by so many is loaded
-growth_told : (limit : ℕ) (m : Storage) (actor n : ℕ) (command : Command) → IsSound command → Asks command n
-    → Exchanges command → Tells actor command [] (load_growth limit m actor n)
-growth_told limit m actor n command sound asks exchanges =
-    growth_cases (Tells actor command []) m actor limit n
-    (λ none. record { its = refl; told = nothing_recorded actor command n m.size sound asks exchanges none })
-    (λ _ _. record { its = tt; told = (refl, asks) })
-    (λ _. record { its = refl; told = full_recorded actor command n m.size asks exchanges })
-
--- a growth to at least a size finds it large enough
-enough_told : (m : Storage) (actor to value : ℕ) → Tells actor (commands.AtLeast to value) [] (enough m actor to)
-enough_told m actor to value =
-    record { its = refl; told = inr (inl (record { size = m.size; events = refl; answered = refl })) }
-
--- a growth to at least a size is loaded
-at_least_told : (limit : ℕ) (m : Storage) (actor to value : ℕ)
-    → Tells actor (commands.AtLeast to value) [] (load_at_least limit m actor to)
-at_least_told limit m actor to value =
-    at_least_cases (Tells actor (commands.AtLeast to value) []) m actor limit to
-    (λ _. enough_told m actor to value)
-    (λ _ _. record { its = tt; told = (refl, tt) })
-    (λ _ _. record { its = refl; told = inr (inr (inl (record { size = m.size; events = refl; answered = refl }))) })
-
--- a read is loaded
-read_told : (m : Storage) (actor place : ℕ) → Tells actor (commands.Read place) [] (load_read m actor place)
-read_told m actor place =
-    read_cases (Tells actor (commands.Read place) []) m actor place
-    (λ _. record { its = tt; told = (refl, refl) })
-    (λ _. record { its = refl; told = record { reply = replies.OutOfRange m.size; events = refl; answered = refl } })
-
--- every call is loaded
-load_told : (limit : ℕ) (m : Storage) (actor : ℕ) (command : Command) → IsSound command
-    → Tells actor command [] (load limit m actor command)
-load_told limit m actor (commands.Push value) sound = growth_told limit m actor 1 (commands.Push value) sound refl tt
-load_told limit m actor (commands.Grow n value) sound = growth_told limit m actor n (commands.Grow n value) sound refl tt
-load_told limit m actor (commands.AtLeast to value) sound = at_least_told limit m actor to value
-load_told limit m actor (commands.Fail n value at) sound = growth_told limit m actor n (commands.Fail n value at) sound refl tt
-load_told limit m actor (commands.Read place) sound = read_told m actor place
-load_told limit m actor commands.Size sound = record { its = refl; told = record { size = m.size; events = refl; answered = refl } }
-
 -- behind a segment comes the next one, or the claim
 segment_told : (actor : ℕ) (command : Command) (from n segment : ℕ) → Asks command n
     → StageOf actor command (after_segment command from n segment) []
@@ -149,12 +109,6 @@ segment_told actor command from n segment asks =
     segment_cases (λ phase. StageOf actor command phase []) command from n segment
     (λ _. (refl, asks))
     (λ _. claiming_cases (λ phase. StageOf actor command phase []) command from n (λ _. (refl, asks)) (λ to is. (refl, is)))
-
--- a segment is put, or memory is refused
-put_told : (m : Storage) (actor : ℕ) (command : Command) (memory : Bool) (from n segment : ℕ) → Asks command n
-    → Tells actor command [] (put m actor command memory from n segment)
-put_told m actor command true from n segment asks = record { its = tt; told = segment_told actor command from n segment asks }
-put_told m actor command false from n segment asks = record { its = refl; told = memory_recorded actor command n asks }
 
 -- a growth that claims by an exchange claims by its count
 claimed_by_exchange : (actor : ℕ) (command : Command) (n : ℕ) → Exchanges command
@@ -166,61 +120,107 @@ claimed_by_exchange actor (commands.Fail m value at) n exchanges = refl
 claimed_by_exchange actor (commands.Read place) n exchanges = refl
 claimed_by_exchange actor commands.Size n exchanges = refl
 
--- a claim alone, with no place settled
-claim_alone : (actor : ℕ) (command : Command) (from n : ℕ) (event : Event) → event ≡ claiming_event actor command n
-    → (event, replies.Run from n) ∷ [] ≡ run_so_far actor command from n (from - from)
-claim_alone actor command from n event is =
-    ap (λ e. (e, replies.Run from n) ∷ []) is ∙ ap (run_so_far actor command from n) (sym (sub_self from))
+module _ (m : Storage) (actor : ℕ) where
+  -- a growth by so many is loaded
+  growth_told : (limit n : ℕ) (command : Command) → IsSound command → Asks command n → Exchanges command
+      → Tells actor command [] (load_growth limit m actor n)
+  growth_told limit n command sound asks exchanges =
+      growth_cases (Tells actor command []) m actor limit n
+      (λ none. record { its = refl; told = nothing_recorded actor command n m.size sound asks exchanges none })
+      (λ _ _. record { its = tt; told = (refl, asks) })
+      (λ _. record { its = refl; told = full_recorded actor command n m.size asks exchanges })
 
--- a claim of the call's own, by an event that wins n places for it
-won_told : (m : Storage) (actor : ℕ) (command : Command) (n : ℕ) (event : Event) → actor_of event ≡ actor
-    → event ≡ claiming_event actor command n → Asks command n → Tells actor command [] (won_growth m event n)
-won_told m actor command n event its is asks =
-    record { its = its; told = (claim_alone actor command m.size n event is, asks) }
+  -- a growth to at least a size finds it large enough
+  enough_told : (to value : ℕ) → Tells actor (commands.AtLeast to value) [] (enough m actor to)
+  enough_told to value =
+      record { its = refl; told = inr (inl (record { size = m.size; events = refl; answered = refl })) }
 
--- an exchange claims the places, or begins again, or is past the limit
-exchange_told : (limit : ℕ) (m : Storage) (actor : ℕ) (command : Command) (from n : ℕ) → Asks command n
-    → Exchanges command → Tells actor command [] (exchange limit m actor from n)
-exchange_told limit m actor command from n asks exchanges =
-    exchange_cases (Tells actor command []) m actor limit from n
-    (λ _. won_told m actor command n (events.Claim actor n) refl (claimed_by_exchange actor command n exchanges) asks)
-    (λ _. record { its = tt; told = (refl, asks) })
-    (λ _. record { its = refl; told = full_recorded actor command n m.size asks exchanges })
+  -- a growth to at least a size is loaded
+  at_least_told : (limit to value : ℕ) → Tells actor (commands.AtLeast to value) [] (load_at_least limit m actor to)
+  at_least_told limit to value =
+      at_least_cases (Tells actor (commands.AtLeast to value) []) m actor limit to
+      (λ _. enough_told to value)
+      (λ _ _. record { its = tt; told = (refl, tt) })
+      (λ _ _. record { its = refl; told = inr (inr (inl (record { size = m.size; events = refl; answered = refl }))) })
 
--- the raise of a growth to at least a size
-at_least_raised : (m : Storage) (actor to value : ℕ) → Tells actor (commands.AtLeast to value) [] (raise m actor to)
-at_least_raised m actor to value =
-    raise_cases (Tells actor (commands.AtLeast to value) []) m actor to
-    (λ _. enough_told m actor to value)
-    (λ _. won_told m actor (commands.AtLeast to value) (to - m.size) (events.Raise actor to) refl refl tt)
+  -- a read is loaded
+  read_told : (place : ℕ) → Tells actor (commands.Read place) [] (load_read m actor place)
+  read_told place =
+      read_cases (Tells actor (commands.Read place) []) m actor place
+      (λ _. record { its = tt; told = (refl, refl) })
+      (λ _. record { its = refl; told = record { reply = replies.OutOfRange m.size; events = refl; answered = refl } })
 
--- only a growth to at least a size raises
-raise_told : (m : Storage) (actor : ℕ) (command : Command) (to : ℕ) → IsRaise command to
-    → Tells actor command [] (raise m actor to)
-raise_told m actor (commands.Push value) to is = absurd is
-raise_told m actor (commands.Grow n value) to is = absurd is
-raise_told m actor (commands.AtLeast size value) to is = subst (λ k. Tells actor (commands.AtLeast size value) [] (raise m actor k)) is (at_least_raised m actor size value)
-raise_told m actor (commands.Fail n value at) to is = absurd is
-raise_told m actor (commands.Read place) to is = absurd is
-raise_told m actor commands.Size to is = absurd is
+  -- every call is loaded
+  load_told : (limit : ℕ) (command : Command) → IsSound command → Tells actor command [] (load limit m actor command)
+  load_told limit (commands.Push value) sound = growth_told limit 1 (commands.Push value) sound refl tt
+  load_told limit (commands.Grow n value) sound = growth_told limit n (commands.Grow n value) sound refl tt
+  load_told limit (commands.AtLeast to value) sound = at_least_told limit to value
+  load_told limit (commands.Fail n value at) sound = growth_told limit n (commands.Fail n value at) sound refl tt
+  load_told limit (commands.Read place) sound = read_told place
+  load_told limit commands.Size sound =
+      record { its = refl; told = record { size = m.size; events = refl; answered = refl } }
 
--- a read ends by what the slot holds
-read_looked : (m : Storage) (actor place : ℕ) (slot : Option Slot)
-    → Tells actor (commands.Read place) [] (look_at m actor place slot)
-read_looked m actor place None = record { its = refl; told = record { reply = replies.Pending; events = refl; answered = refl } }
-read_looked m actor place (Some (Busy owner)) = record { its = refl; told = record { reply = replies.Pending; events = refl; answered = refl } }
-read_looked m actor place (Some (Filled value)) = record { its = refl; told = record { reply = replies.Value value; events = refl; answered = refl } }
-read_looked m actor place (Some Broken) = record { its = refl; told = record { reply = replies.Broken; events = refl; answered = refl } }
+  -- a segment is put, or memory is refused
+  put_told : (command : Command) (memory : Bool) (from n segment : ℕ) → Asks command n
+      → Tells actor command [] (put m actor command memory from n segment)
+  put_told command true from n segment asks = record { its = tt; told = segment_told actor command from n segment asks }
+  put_told command false from n segment asks = record { its = refl; told = memory_recorded actor command n asks }
 
--- only a read looks
-look_told : (m : Storage) (actor : ℕ) (command : Command) (place : ℕ) (slot : Option Slot) → IsReadOf command place
-    → Tells actor command [] (look_at m actor place slot)
-look_told m actor (commands.Push value) place slot is = absurd is
-look_told m actor (commands.Grow n value) place slot is = absurd is
-look_told m actor (commands.AtLeast to value) place slot is = absurd is
-look_told m actor (commands.Fail n value at) place slot is = absurd is
-look_told m actor (commands.Read at) place slot is = subst (λ k. Tells actor (commands.Read at) [] (look_at m actor k slot)) is (read_looked m actor at slot)
-look_told m actor commands.Size place slot is = absurd is
+  -- a claim of the call's own, by the event that wins n places for it
+  won_told : (command : Command) (n : ℕ) (event : Event) → actor_of event ≡ actor
+      → event ≡ claiming_event actor command n → Asks command n → Tells actor command [] (won_growth m event n)
+  won_told command n event its is asks =
+      let alone : (event, replies.Run m.size n) ∷ [] ≡ run_so_far actor command m.size n (m.size - m.size) =
+      ap (λ e. (e, replies.Run m.size n) ∷ []) is ∙ ap (run_so_far actor command m.size n) (sym (sub_self m.size)) in
+      record { its = its; told = (alone, asks) }
+
+  -- an exchange claims the places, or begins again, or is past the limit
+  exchange_told : (limit : ℕ) (command : Command) (from n : ℕ) → Asks command n → Exchanges command
+      → Tells actor command [] (exchange limit m actor from n)
+  exchange_told limit command from n asks exchanges =
+      exchange_cases (Tells actor command []) m actor limit from n
+      (λ _. won_told command n (events.Claim actor n) refl (claimed_by_exchange actor command n exchanges) asks)
+      (λ _. record { its = tt; told = (refl, asks) })
+      (λ _. record { its = refl; told = full_recorded actor command n m.size asks exchanges })
+
+  -- the raise of a growth to at least a size
+  at_least_raised : (to value : ℕ) → Tells actor (commands.AtLeast to value) [] (raise m actor to)
+  at_least_raised to value =
+      raise_cases (Tells actor (commands.AtLeast to value) []) m actor to
+      (λ _. enough_told to value)
+      (λ _. won_told (commands.AtLeast to value) (to - m.size) (events.Raise actor to) refl refl tt)
+
+  -- only a growth to at least a size raises
+  raise_told : (command : Command) (to : ℕ) → IsRaise command to → Tells actor command [] (raise m actor to)
+  raise_told (commands.Push value) to is = absurd is
+  raise_told (commands.Grow n value) to is = absurd is
+  raise_told (commands.AtLeast size value) to is =
+      subst (λ k. Tells actor (commands.AtLeast size value) [] (raise m actor k)) is (at_least_raised size value)
+  raise_told (commands.Fail n value at) to is = absurd is
+  raise_told (commands.Read place) to is = absurd is
+  raise_told commands.Size to is = absurd is
+
+  -- a read ends by what the slot holds
+  read_looked : (place : ℕ) (slot : Option Slot) → Tells actor (commands.Read place) [] (look_at m actor place slot)
+  read_looked place None =
+      record { its = refl; told = record { reply = replies.Pending; events = refl; answered = refl } }
+  read_looked place (Some (Busy owner)) =
+      record { its = refl; told = record { reply = replies.Pending; events = refl; answered = refl } }
+  read_looked place (Some (Filled value)) =
+      record { its = refl; told = record { reply = replies.Value value; events = refl; answered = refl } }
+  read_looked place (Some Broken) =
+      record { its = refl; told = record { reply = replies.Broken; events = refl; answered = refl } }
+
+  -- only a read looks
+  look_told : (command : Command) (place : ℕ) (slot : Option Slot) → IsReadOf command place
+      → Tells actor command [] (look_at m actor place slot)
+  look_told (commands.Push value) place slot is = absurd is
+  look_told (commands.Grow n value) place slot is = absurd is
+  look_told (commands.AtLeast to value) place slot is = absurd is
+  look_told (commands.Fail n value at) place slot is = absurd is
+  look_told (commands.Read at) place slot is =
+      subst (λ k. Tells actor (commands.Read at) [] (look_at m actor k slot)) is (read_looked at slot)
+  look_told commands.Size place slot is = absurd is
 
 -- ---- Steps of a call that won its places
 
@@ -232,73 +232,56 @@ begin_told m actor command from n place None asks =
     begin_cases (Tells actor command now) m actor command from n place
     (λ refused. record { its = tt; told = (append-nil now, asks, refused) })
     (λ fits. record { its = tt; told = (append-nil now, asks, fits) })
-begin_told m actor command from n place (Some slot) asks = record { its = tt; told = (append-nil (run_so_far actor command from n (place - from)), asks) }
+begin_told m actor command from n place (Some slot) asks =
+    record { its = tt; told = (append-nil (run_so_far actor command from n (place - from)), asks) }
 
 -- one more place of the run is settled: the call goes on, or ends behind the last
-place_told : (actor : ℕ) (command : Command) (from n place : ℕ) → IsSound command → Asks command n → from ≤ place
-    → place < from + n
-    → Told actor command (run_so_far actor command from n (place - from) ++ (settling actor command from place, replies.Done) ∷ []) (after_place command from n place)
-place_told actor command from n place sound asks low high =
-    let more : run_so_far actor command from n (place - from) ++ (settling actor command from place, replies.Done) ∷ [] ≡ run_so_far actor command from n (place - from + 1) =
-    ap (λ es. (claiming_event actor command n, replies.Run from n) ∷ es) (settled_more actor command from (place - from) place (omega arith))
-    in
-    place_cases (Told actor command (run_so_far actor command from n (place - from) ++ (settling actor command from place, replies.Done) ∷ [])) command from n place
+settle_told : (actor : ℕ) (command : Command) (from n place : ℕ) (storage : Storage) (event : Event)
+    → IsSound command → Asks command n → from ≤ place → place < from + n → actor_of event ≡ actor
+    → settling actor command from place ≡ event
+    → Tells actor command (run_so_far actor command from n (place - from)) (record { storage = storage; event = Some (event, replies.Done); next = after_place command from n place })
+settle_told actor command from n place storage event sound asks low high its is =
+    let now = run_so_far actor command from n (place - from) ++ (event, replies.Done) ∷ [] in
+    let more : now ≡ run_so_far actor command from n (place - from + 1) =
+    ap (λ e. run_so_far actor command from n (place - from) ++ (e, replies.Done) ∷ []) (sym is)
+    ∙ ap (λ es. (claiming_event actor command n, replies.Run from n) ∷ es) (settled_more actor command from (place - from) place (omega arith)) in
+    let told : Told actor command now (after_place command from n place) =
+    place_cases (Told actor command now) command from n place
     (λ _. (more ∙ ap (run_so_far actor command from n) (omega arith), asks))
     (λ last.
     let whole : n ≡ place - from + 1 = omega arith in
-    subst (λ es. IsRecord actor command es (answer_of_run command from n)) (ap (run_so_far actor command from n) whole ∙ sym more) (run_recorded actor command from n sound asks))
-
--- a place that is not refused is filled
-fill_told : (m : Storage) (actor : ℕ) (command : Command) (from n place : ℕ) → IsSound command → Asks command n
-    → from ≤ place → place < from + n → is_refused command from place ≡ false
-    → Tells actor command (run_so_far actor command from n (place - from)) (fill m actor command from n place)
-fill_told m actor command from n place sound asks low high fits =
-    let is : settling actor command from place ≡ events.Finish actor place (value_of command) = rw fits refl in
-    record {
-      its = refl;
-      told = subst (λ e. Told actor command (run_so_far actor command from n (place - from) ++ (e, replies.Done) ∷ []) (after_place command from n place)) is (place_told actor command from n place sound asks low high);
-    }
-
--- a place that is refused is broken
-spoil_told : (m : Storage) (actor : ℕ) (command : Command) (from n place : ℕ) → IsSound command → Asks command n
-    → from ≤ place → place < from + n → is_refused command from place ≡ true
-    → Tells actor command (run_so_far actor command from n (place - from)) (spoil m actor command from n place)
-spoil_told m actor command from n place sound asks low high refused =
-    let is : settling actor command from place ≡ events.Break actor place = rw refused refl in
-    record {
-      its = refl;
-      told = subst (λ e. Told actor command (run_so_far actor command from n (place - from) ++ (e, replies.Done) ∷ []) (after_place command from n place)) is (place_told actor command from n place sound asks low high);
-    }
+    subst (λ es. IsRecord actor command es (answer_of_run command from n)) (ap (run_so_far actor command from n) whole ∙ sym more) (run_recorded actor command from n sound asks)) in
+    record { its = its; told = told }
 
 -- ---- Every row
 
 -- the same of events that are known
-after : (actor : ℕ) (command : Command) (o : Outcome) (now known : List (Event × Reply)) → now ≡ known
-    → Tells actor command known o → Tells actor command now o
-after actor command o now known is tells = subst (λ es. Tells actor command es o) (sym is) tells
+after : {actor : ℕ} {command : Command} {o : Outcome} {now known : List (Event × Reply)}
+    → now ≡ known → Tells actor command known o → Tells actor command now o
+after {actor = actor} {command = command} {o = o} is tells = subst (λ es. Tells actor command es o) (sym is) tells
 
--- every step
-pub row_told : (limit : ℕ) (m : Storage) (actor : ℕ) (command : Command) (memory : Bool) (phase : Phase)
-    (now : List (Event × Reply))
-    → IsSound command → IsWithin limit command phase → StageOf actor command phase now
-    → Tells actor command now (outcome_of limit m actor command memory phase)
-row_told limit m actor command memory Load now sound within none = after actor command (load limit m actor command) now [] none (load_told limit m actor command sound)
-row_told limit m actor command memory (Scout from n segment) now sound within (none, asks) =
-    after actor command (scout m command from n segment) now [] none
-    (scout_cases (Tells actor command []) m command from n segment
-    (λ _. record { its = tt; told = segment_told actor command from n segment asks })
-    (record { its = tt; told = (refl, asks) }))
-row_told limit m actor command memory (Put from n segment) now sound within (none, asks) = after actor command (put m actor command memory from n segment) now [] none (put_told m actor command memory from n segment asks)
-row_told limit m actor command memory (Exchange from n) now sound (some, room, exchanges) (none, asks) = after actor command (exchange limit m actor from n) now [] none (exchange_told limit m actor command from n asks exchanges)
-row_told limit m actor command memory (Raise to) now sound within (none, is) = after actor command (raise m actor to) now [] none (raise_told m actor command to is)
-row_told limit m actor command memory (Begin from n place) now sound within (so_far, asks) =
-    after actor command (begin_at m actor command from n place (finite.get m.slots place)) now (run_so_far actor command from n (place - from)) so_far (begin_told m actor command from n place (finite.get m.slots place) asks)
-row_told limit m actor command memory (Fill from n place) now sound (low, high, room) (so_far, asks, fits) =
-    after actor command (fill m actor command from n place) now (run_so_far actor command from n (place - from)) so_far (fill_told m actor command from n place sound asks low high fits)
-row_told limit m actor command memory (Spoil from n place) now sound (low, high, room) (so_far, asks, refused) =
-    after actor command (spoil m actor command from n place) now (run_so_far actor command from n (place - from)) so_far (spoil_told m actor command from n place sound asks low high refused)
-row_told limit m actor command memory (Look place) now sound within (none, is) =
-    after actor command (look_at m actor place (finite.get m.slots place)) now [] none (look_told m actor command place (finite.get m.slots place) is)
+module _ (limit : ℕ) (m : Storage) (actor : ℕ) (command : Command) (memory : Bool) where
+  -- every step
+  pub row_told : (phase : Phase) (now : List (Event × Reply)) → IsSound command → IsWithin limit command phase
+      → StageOf actor command phase now → Tells actor command now (outcome_of limit m actor command memory phase)
+  row_told Load now sound within none = after none (load_told m actor limit command sound)
+  row_told (Scout from n segment) now sound within (none, asks) =
+      after none (scout_cases (Tells actor command []) m command from n segment
+      (λ _. record { its = tt; told = segment_told actor command from n segment asks })
+      (record { its = tt; told = (refl, asks) }))
+  row_told (Put from n segment) now sound within (none, asks) =
+      after none (put_told m actor command memory from n segment asks)
+  row_told (Exchange from n) now sound (some, room, exchanges) (none, asks) =
+      after none (exchange_told m actor limit command from n asks exchanges)
+  row_told (Raise to) now sound within (none, is) = after none (raise_told m actor command to is)
+  row_told (Begin from n place) now sound within (so_far, asks) =
+      after so_far (begin_told m actor command from n place (finite.get m.slots place) asks)
+  row_told (Fill from n place) now sound (low, high, room) (so_far, asks, fits) =
+      after so_far (settle_told actor command from n place (with_slot m place (Filled (value_of command))) (events.Finish actor place (value_of command)) sound asks low high refl (rw fits refl))
+  row_told (Spoil from n place) now sound (low, high, room) (so_far, asks, refused) =
+      after so_far (settle_told actor command from n place (with_slot m place Broken) (events.Break actor place) sound asks low high refl (rw refused refl))
+  row_told (Look place) now sound within (none, is) =
+      after none (look_told m actor command place (finite.get m.slots place) is)
 
 -- ---- A call under way
 
@@ -306,68 +289,92 @@ row_told limit m actor command memory (Look place) now sound within (none, is) =
 cons_is_some : (e : Event × Reply) (es : List (Event × Reply)) → e ∷ es ≢ []
 cons_is_some e es is = absurd (let none : suc (length es) ≡ 0 = ap length is in omega arith)
 
--- every call has a record with an event
-some_begun : (actor : ℕ) (command : Command) → IsBegun actor command []
-some_begun actor (commands.Push value) = record { rest = (events.RefusedMemory actor, replies.NoMemory) ∷ []; answer = answers.NoMemory; recorded = inr (inr (record { events = refl; answered = refl })); proper = cons_is_some _ [] }
-some_begun actor (commands.Grow n value) = record { rest = (events.RefusedMemory actor, replies.NoMemory) ∷ []; answer = answers.NoMemory; recorded = inr (inr (record { events = refl; answered = refl })); proper = cons_is_some _ [] }
-some_begun actor (commands.AtLeast to value) = record { rest = (events.RefusedMemory actor, replies.NoMemory) ∷ []; answer = answers.NoMemory; recorded = inr (inr (inr (record { events = refl; answered = refl }))); proper = cons_is_some _ [] }
-some_begun actor (commands.Fail n value at) = record { rest = (events.RefusedMemory actor, replies.NoMemory) ∷ []; answer = answers.NoMemory; recorded = inr (inr (record { events = refl; answered = refl })); proper = cons_is_some _ [] }
-some_begun actor (commands.Read place) = record { rest = (events.Look actor place, replies.Pending) ∷ []; answer = answers.Pending; recorded = record { reply = replies.Pending; events = refl; answered = refl }; proper = cons_is_some _ [] }
-some_begun actor commands.Size = record { rest = (events.Size actor, replies.Size 0) ∷ []; answer = answers.Size 0; recorded = record { size = 0; events = refl; answered = refl }; proper = cons_is_some _ [] }
-
--- a call without events is begun
-none_begun : (actor : ℕ) (command : Command) (now : List (Event × Reply)) → now ≡ [] → IsBegun actor command now
-none_begun actor command now none = subst (IsBegun actor command) (sym none) (some_begun actor command)
-
 -- where places are left, their events are left
 some_left : (f : ℕ → Event) (from left : ℕ) → 0 < left
     → map {B = Event × Reply} (λ event. (event, replies.Done)) (map f (range_with_len from left)) ≢ []
 some_left f from zero some = absurd (omega arith)
-some_left f from (suc left) some = cons_is_some (f from, replies.Done) (map (λ event. (event, replies.Done)) (map f (range_with_len (from + 1) left)))
+some_left f from (suc left) some =
+    cons_is_some (f from, replies.Done) (map (λ event. (event, replies.Done)) (map f (range_with_len (from + 1) left)))
 
--- a call with some of its places settled, and some left, is begun
-run_begun : (actor : ℕ) (command : Command) (from n k : ℕ) (now : List (Event × Reply)) → IsSound command
-    → Asks command n → k < n → now ≡ run_so_far actor command from n k → IsBegun actor command now
-run_begun actor command from n k now sound asks within so_far =
-    subst (IsBegun actor command) (sym so_far) (record {
-      rest = map (λ event. (event, replies.Done)) (map (settling actor command from) (range_with_len (from + k) (n - k)));
-      answer = answer_of_run command from n;
-      recorded = subst (λ es. IsRecord actor command ((claiming_event actor command n, replies.Run from n) ∷ es) (answer_of_run command from n)) (settled_parts actor command from k n (omega arith)) (run_recorded actor command from n sound asks);
-      proper = some_left (settling actor command from) (from + k) (n - k) (omega arith);
-    })
-
--- a call under way is begun, whatever its phase
-pub stage_begun : (limit : ℕ) (actor : ℕ) (command : Command) (phase : Phase) (now : List (Event × Reply))
-    → IsSound command → IsWithin limit command phase → StageOf actor command phase now → IsBegun actor command now
-stage_begun limit actor command Load now sound within none = none_begun actor command now none
-stage_begun limit actor command (Scout from n segment) now sound within (none, asks) = none_begun actor command now none
-stage_begun limit actor command (Put from n segment) now sound within (none, asks) = none_begun actor command now none
-stage_begun limit actor command (Exchange from n) now sound within (none, asks) = none_begun actor command now none
-stage_begun limit actor command (Raise to) now sound within (none, is) = none_begun actor command now none
-stage_begun limit actor command (Begin from n place) now sound (low, high, room) (so_far, asks) = run_begun actor command from n (place - from) now sound asks (omega arith) so_far
-stage_begun limit actor command (Fill from n place) now sound (low, high, room) (so_far, asks, fits) = run_begun actor command from n (place - from) now sound asks (omega arith) so_far
-stage_begun limit actor command (Spoil from n place) now sound (low, high, room) (so_far, asks, refused) = run_begun actor command from n (place - from) now sound asks (omega arith) so_far
-stage_begun limit actor command (Look place) now sound within (none, is) = none_begun actor command now none
-
--- the claim, and the places settled before this one
-up_to : (actor : ℕ) (command : Command) (from n place : ℕ) (now : List (Event × Reply)) → from ≤ place
-    → now ≡ run_so_far actor command from n (place - from) → IsClaimedUpTo from n place now
-up_to actor command from n place now low so_far = record {
-  claim = claiming_event actor command n;
-  writes = settled actor command from (place - from);
-  events = so_far;
-  up_to = ap (λ k. from + k) (length-map (map (settling actor command from) (range_with_len from (place - from))) (λ event. (event, replies.Done)) ∙ length-map-range_with_len (settling actor command from) from (place - from)) ∙ (let whole : from + (place - from) ≡ place = omega arith in whole);
+-- a growth may be refused memory
+growth_begun : (actor : ℕ) (command : Command) (n : ℕ) → Asks command n → IsBegun actor command []
+growth_begun actor command n asks = record {
+  rest = (events.RefusedMemory actor, replies.NoMemory) ∷ [];
+  answer = answers.NoMemory;
+  recorded = memory_recorded actor command n asks;
+  proper = cons_is_some _ [];
 }
 
--- so the events so far are what the phase says
-pub stage_so_far : (limit : ℕ) (actor : ℕ) (command : Command) (phase : Phase) (now : List (Event × Reply))
-    → IsWithin limit command phase → StageOf actor command phase now → AreSoFar phase now
-stage_so_far limit actor command Load now within none = none
-stage_so_far limit actor command (Scout from n segment) now within (none, asks) = none
-stage_so_far limit actor command (Put from n segment) now within (none, asks) = none
-stage_so_far limit actor command (Exchange from n) now within (none, asks) = none
-stage_so_far limit actor command (Raise to) now within (none, is) = none
-stage_so_far limit actor command (Begin from n place) now (low, high, room) (so_far, asks) = up_to actor command from n place now low so_far
-stage_so_far limit actor command (Fill from n place) now (low, high, room) (so_far, asks, fits) = up_to actor command from n place now low so_far
-stage_so_far limit actor command (Spoil from n place) now (low, high, room) (so_far, asks, refused) = up_to actor command from n place now low so_far
-stage_so_far limit actor command (Look place) now within (none, is) = none
+-- every call has a record with an event
+some_begun : (actor : ℕ) (command : Command) → IsBegun actor command []
+some_begun actor (commands.Push value) = growth_begun actor (commands.Push value) 1 refl
+some_begun actor (commands.Grow n value) = growth_begun actor (commands.Grow n value) n refl
+some_begun actor (commands.AtLeast to value) = growth_begun actor (commands.AtLeast to value) 0 tt
+some_begun actor (commands.Fail n value at) = growth_begun actor (commands.Fail n value at) n refl
+some_begun actor (commands.Read place) = record {
+  rest = (events.Look actor place, replies.Pending) ∷ [];
+  answer = answers.Pending;
+  recorded = record { reply = replies.Pending; events = refl; answered = refl };
+  proper = cons_is_some _ [];
+}
+some_begun actor commands.Size = record {
+  rest = (events.Size actor, replies.Size 0) ∷ [];
+  answer = answers.Size 0;
+  recorded = record { size = 0; events = refl; answered = refl };
+  proper = cons_is_some _ [];
+}
+
+module _ (actor : ℕ) (command : Command) (now : List (Event × Reply)) where
+  -- a call without events is begun
+  none_begun : now ≡ [] → IsBegun actor command now
+  none_begun none = subst (IsBegun actor command) (sym none) (some_begun actor command)
+
+  -- a call with some of its places settled, and some left, is begun
+  run_begun : (from n k : ℕ) → IsSound command → Asks command n → k < n → now ≡ run_so_far actor command from n k
+      → IsBegun actor command now
+  run_begun from n k sound asks within so_far =
+      subst (IsBegun actor command) (sym so_far) (record {
+        rest = map (λ event. (event, replies.Done)) (map (settling actor command from) (range_with_len (from + k) (n - k)));
+        answer = answer_of_run command from n;
+        recorded = subst (λ es. IsRecord actor command ((claiming_event actor command n, replies.Run from n) ∷ es) (answer_of_run command from n)) (settled_parts actor command from k n (omega arith)) (run_recorded actor command from n sound asks);
+        proper = some_left (settling actor command from) (from + k) (n - k) (omega arith);
+      })
+
+  -- the claim, and the places settled before this one
+  up_to : (from n place : ℕ) → from ≤ place → now ≡ run_so_far actor command from n (place - from)
+      → IsClaimedUpTo from n place now
+  up_to from n place low so_far = record {
+    claim = claiming_event actor command n;
+    writes = settled actor command from (place - from);
+    events = so_far;
+    up_to = ap (λ k. from + k) (length-map (map (settling actor command from) (range_with_len from (place - from))) (λ event. (event, replies.Done)) ∙ length-map-range_with_len (settling actor command from) from (place - from)) ∙ (let whole : from + (place - from) ≡ place = omega arith in whole);
+  }
+
+  -- a call under way is begun, whatever its phase
+  pub stage_begun : (limit : ℕ) (phase : Phase) → IsSound command → IsWithin limit command phase
+      → StageOf actor command phase now → IsBegun actor command now
+  stage_begun limit Load sound within none = none_begun none
+  stage_begun limit (Scout from n segment) sound within (none, asks) = none_begun none
+  stage_begun limit (Put from n segment) sound within (none, asks) = none_begun none
+  stage_begun limit (Exchange from n) sound within (none, asks) = none_begun none
+  stage_begun limit (Raise to) sound within (none, is) = none_begun none
+  stage_begun limit (Begin from n place) sound (low, high, room) (so_far, asks) =
+      run_begun from n (place - from) sound asks (omega arith) so_far
+  stage_begun limit (Fill from n place) sound (low, high, room) (so_far, asks, fits) =
+      run_begun from n (place - from) sound asks (omega arith) so_far
+  stage_begun limit (Spoil from n place) sound (low, high, room) (so_far, asks, refused) =
+      run_begun from n (place - from) sound asks (omega arith) so_far
+  stage_begun limit (Look place) sound within (none, is) = none_begun none
+
+  -- so the events so far are what the phase says
+  pub stage_so_far : (limit : ℕ) (phase : Phase) → IsWithin limit command phase → StageOf actor command phase now
+      → AreSoFar phase now
+  stage_so_far limit Load within none = none
+  stage_so_far limit (Scout from n segment) within (none, asks) = none
+  stage_so_far limit (Put from n segment) within (none, asks) = none
+  stage_so_far limit (Exchange from n) within (none, asks) = none
+  stage_so_far limit (Raise to) within (none, is) = none
+  stage_so_far limit (Begin from n place) (low, high, room) (so_far, asks) = up_to from n place low so_far
+  stage_so_far limit (Fill from n place) (low, high, room) (so_far, asks, fits) = up_to from n place low so_far
+  stage_so_far limit (Spoil from n place) (low, high, room) (so_far, asks, refused) = up_to from n place low so_far
+  stage_so_far limit (Look place) within (none, is) = none

@@ -4,15 +4,15 @@ use Rattle.step_core.proofs.machine.blocks.Blocks.get.Goals as goal
 
 pub returns-then-place-ge-PLACES : goal.returns-then-place-ge-PLACES
 returns-then-place-ge-PLACES c =
-    sym (slot_past c.self.inside.entries _ c.self.view_is c.self.invariant c.args.place c.if-place-ge-PLACES.true)
+    sym (slot_past c.self.view_is c.self.invariant c.args.place c.if-place-ge-PLACES.true)
 
 pub returns-in-Some : goal.returns-in-Some
 returns-in-Some c =
     let at = c.locate-segment.ensures in
     c.get.ensures
-    ∙ sym (slot_in_entry c.self.inside.entries _ c.self.view_is c.self.invariant c.args.place c.locate-segment.result.0 c.locate-segment.result.1 _ _ at.number at.bound at.offset c.index-entries-segment.is c.in-Some.is)
+    ∙ sym (slot_in_entry c.self.view_is c.self.invariant c.args.place c.locate-segment.result.0 c.locate-segment.result.1 _ _ at.number at.bound at.offset c.index-entries-segment.is c.in-Some.is)
 
 pub returns-in-None : goal.returns-in-None
 returns-in-None c =
     let at = c.locate-segment.ensures in
-    sym (slot_in_entry c.self.inside.entries _ c.self.view_is c.self.invariant c.args.place c.locate-segment.result.0 c.locate-segment.result.1 _ _ at.number at.bound at.offset c.index-entries-segment.is c.in-None.is)
+    sym (slot_in_entry c.self.view_is c.self.invariant c.args.place c.locate-segment.result.0 c.locate-segment.result.1 _ _ at.number at.bound at.offset c.index-entries-segment.is c.in-None.is)

@@ -5,4 +5,4 @@ use Rattle.step_core.proofs.machine.blocks.Blocks.has.Goals as goal
 pub returns : goal.returns
 returns c =
     c.is_some.ensures ∙ ap is_some (sym c.index-self-segment.is)
-    ∙ sym (installed_is c.self.inside.entries _ c.self.view_is c.self.invariant c.args.segment _ c.requires c.index-self-segment.is)
+    ∙ sym (installed_is c.self.view_is c.self.invariant c.args.segment c.requires c.index-self-segment.is)

@@ -8,7 +8,7 @@ returns-then-has-clause-ok c = installed_already _ c.args.segment (sym c.has.ens
 
 pub returns-clause-ok : goal.returns-clause-ok
 returns-clause-ok c =
-    let none = no_block_there c.self.inside.entries _ c.self.view_is c.self.invariant c.args.segment (sym c.has.ensures ∙ c.if-has.false) in
+    let none = no_block_there c.self.view_is c.self.invariant c.args.segment (sym c.has.ensures ∙ c.if-has.false) in
     ap (λ entry. shown (slice_set c.self.inside.entries c.args.segment entry)) c.in_ok-make_in.ensures.ok
     ∙ shows_block c.self.inside.entries c.args.segment c.len.result c.self.invariant.count c.requires none
     ∙ ap (λ (s : Shown). with_segment s c.args.segment) c.self.view_is

@@ -95,51 +95,56 @@ split_cut c (b ∷ bs) =
       | inr miss ↦ rw (test, miss, split_cut c bs) refl
     ]
 
-pub words_last : (text : List ℕ) (r : Bor (List ℕ) × Option (Bor (List ℕ)))
-    → (r.0.now, option_copied r.1) ≡ cut (32 ∷ []) text → r.1 ≡ None → words text ≡ r.0.now ∷ []
-unfolding words
-words_last text r e none =
-    let after : (cut (32 ∷ []) text).1 ≡ None = ap (λ (p : List ℕ × Option (List ℕ)). p.1) (sym e) ∙ ap option_copied none in
-    let front : (cut (32 ∷ []) text).0 ≡ r.0.now = ap (λ (p : List ℕ × Option (List ℕ)). p.0) (sym e) in
-    rw (split_cut 32 text, after, front) refl
+module _ (by text : List ℕ) (r : Bor (List ℕ) × Option (Bor (List ℕ))) (e : (r.0.now, option_copied r.1) ≡ cut by text) where
+  -- what stands before a cut
+  cut_front : (cut by text).0 ≡ r.0.now
+  cut_front = ap (λ (p : List ℕ × Option (List ℕ)). p.0) (sym e)
 
-pub words_more : (text : List ℕ) (r : Bor (List ℕ) × Option (Bor (List ℕ))) (rest : Bor (List ℕ))
-    → (r.0.now, option_copied r.1) ≡ cut (32 ∷ []) text → r.1 ≡ Some rest → words text ≡ r.0.now ∷ words rest.now
-unfolding words
-words_more text r rest e some =
-    let after : (cut (32 ∷ []) text).1 ≡ Some rest.now = ap (λ (p : List ℕ × Option (List ℕ)). p.1) (sym e) ∙ ap option_copied some in
-    let front : (cut (32 ∷ []) text).0 ≡ r.0.now = ap (λ (p : List ℕ × Option (List ℕ)). p.0) (sym e) in
-    rw (split_cut 32 text, after, front) refl
+  -- what stands after it
+  cut_after : (rest : Option (Bor (List ℕ))) → r.1 ≡ rest → (cut by text).1 ≡ option_copied rest
+  cut_after rest is = ap (λ (p : List ℕ × Option (List ℕ)). p.1) (sym e) ∙ ap option_copied is
 
-pub words_first : (text : List ℕ) (r : Bor (List ℕ) × Option (Bor (List ℕ)))
-    → (r.0.now, option_copied r.1) ≡ cut (32 ∷ []) text → (others : List (List ℕ)) × (words text ≡ r.0.now ∷ others)
-unfolding words
-words_first text r e =
-    let front : (cut (32 ∷ []) text).0 ≡ r.0.now = ap (λ (p : List ℕ × Option (List ℕ)). p.0) (sym e) in
-    (parts_after (λ b. eqb b 32) (cut (32 ∷ []) text).1, rw (split_cut 32 text, front) refl)
+module _ (text : List ℕ) (r : Bor (List ℕ) × Option (Bor (List ℕ))) where
+  -- where no separator is left, one word is
+  pub words_last : (r.0.now, option_copied r.1) ≡ cut (32 ∷ []) text → r.1 ≡ None → words text ≡ r.0.now ∷ []
+  unfolding words
+  words_last e none = rw (split_cut 32 text, cut_after (32 ∷ []) text r e None none, cut_front (32 ∷ []) text r e) refl
+
+  -- after a separator come the words of the rest
+  pub words_more : (rest : Bor (List ℕ)) → (r.0.now, option_copied r.1) ≡ cut (32 ∷ []) text → r.1 ≡ Some rest
+      → words text ≡ r.0.now ∷ words rest.now
+  unfolding words
+  words_more rest e some =
+      rw (split_cut 32 text, cut_after (32 ∷ []) text r e (Some rest) some, cut_front (32 ∷ []) text r e) refl
+
+  -- what stands before the cut is the first word
+  pub words_first : (r.0.now, option_copied r.1) ≡ cut (32 ∷ []) text → (others : List (List ℕ)) × (words text ≡ r.0.now ∷ others)
+  unfolding words
+  words_first e = (parts_after (λ b. eqb b 32) (cut (32 ∷ []) text).1, rw (split_cut 32 text, cut_front (32 ∷ []) text r e) refl)
 
 -- the words of any bytes are one or more
 pub some_words : (text : List ℕ) → 0 < length (words text)
 unfolding words
 some_words text = rw (split_cut 32 text) (omega arith)
 
-pub line_last : (text : List ℕ) (r : Bor (List ℕ) × Option (Bor (List ℕ))) → 0 < length text
-    → (r.0.now, option_copied r.1) ≡ cut (10 ∷ []) text → r.1 ≡ None → lines text ≡ r.0.now ∷ lines []
-unfolding lines
-line_last text r some e none =
-    let after : (cut (10 ∷ []) text).1 ≡ None = ap (λ (p : List ℕ × Option (List ℕ)). p.1) (sym e) ∙ ap option_copied none in
-    let front : (cut (10 ∷ []) text).0 ≡ r.0.now = ap (λ (p : List ℕ × Option (List ℕ)). p.0) (sym e) in
-    let all : (cut (10 ∷ []) text).0 ≡ text = cut_whole (10 ∷ []) text after in
-    let long : eqb (length r.0.now) 0 ≡ false = ne_eqb _ _ (λ z. absurd (omega (arith, ap length (sym front ∙ all)))) in
-    rw (split_cut 10 text, after, front, long) refl
+module _ (text : List ℕ) (r : Bor (List ℕ) × Option (Bor (List ℕ))) where
+  -- where no end of a line is left, one line is
+  pub line_last : 0 < length text → (r.0.now, option_copied r.1) ≡ cut (10 ∷ []) text → r.1 ≡ None
+      → lines text ≡ r.0.now ∷ lines []
+  unfolding lines
+  line_last some e none =
+      let after : (cut (10 ∷ []) text).1 ≡ None = cut_after (10 ∷ []) text r e None none in
+      let front = cut_front (10 ∷ []) text r e in
+      let all : (cut (10 ∷ []) text).0 ≡ text = cut_whole (10 ∷ []) text after in
+      let long : eqb (length r.0.now) 0 ≡ false = ne_eqb _ _ (λ z. absurd (omega (arith, ap length (sym front ∙ all)))) in
+      rw (split_cut 10 text, after, front, long) refl
 
-pub line_more : (text : List ℕ) (r : Bor (List ℕ) × Option (Bor (List ℕ))) (rest : Bor (List ℕ))
-    → (r.0.now, option_copied r.1) ≡ cut (10 ∷ []) text → r.1 ≡ Some rest → lines text ≡ r.0.now ∷ lines rest.now
-unfolding lines
-line_more text r rest e some =
-    let after : (cut (10 ∷ []) text).1 ≡ Some rest.now = ap (λ (p : List ℕ × Option (List ℕ)). p.1) (sym e) ∙ ap option_copied some in
-    let front : (cut (10 ∷ []) text).0 ≡ r.0.now = ap (λ (p : List ℕ × Option (List ℕ)). p.0) (sym e) in
-    rw (split_cut 10 text, after, front, split_cut 10 rest.now) refl
+  -- after the end of a line come the lines of the rest
+  pub line_more : (rest : Bor (List ℕ)) → (r.0.now, option_copied r.1) ≡ cut (10 ∷ []) text → r.1 ≡ Some rest
+      → lines text ≡ r.0.now ∷ lines rest.now
+  unfolding lines
+  line_more rest e some =
+      rw (split_cut 10 text, cut_after (10 ∷ []) text r e (Some rest) some, cut_front (10 ∷ []) text r e, split_cut 10 rest.now) refl
 
 lines_by_cut : (text : List ℕ) → 0 < length text → (rest : Option (List ℕ)) → (cut (10 ∷ []) text).1 ≡ rest
     → (first : List ℕ) × (others : List (List ℕ)) × (lines_of_parts (slice_split (λ b. eqb b 10) text) ≡ first ∷ others)

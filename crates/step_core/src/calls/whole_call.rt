@@ -81,6 +81,21 @@ struct Growth {
     made: u64,
 }
 
+impl Growth {
+    // All its places are filled.
+    fn filled(actor: u32, from: u64, n: u64, value: u64) -> Self
+        ensures { result ≡ record { actor = actor; from = from; n = n; value = value; made = n } }
+    {
+        Growth {
+            actor,
+            from,
+            n,
+            value,
+            made: n,
+        }
+    }
+}
+
 // The claiming event, and then what the owner does at its places.
 fn grown(
     alloc: Global,
@@ -123,17 +138,10 @@ fn push_call(alloc: Global, list: &CellVec, actor: u32, value: u64) -> Result<Wh
         return refused_call(alloc, list, actor, 1);
     }
     let from = list.cells().len() as u64;
-    let growth = Growth {
-        actor,
-        from,
-        n: 1,
-        value,
-        made: 1,
-    };
     grown(
         alloc,
         Event::Claim { actor, n: 1 },
-        growth,
+        Growth::filled(actor, from, 1, value),
         Answer::At { place: from },
     )
 }
@@ -151,17 +159,10 @@ fn grow_call(
         return refused_call(alloc, list, actor, n);
     }
     let from = list.cells().len() as u64;
-    let growth = Growth {
-        actor,
-        from,
-        n,
-        value,
-        made: n,
-    };
     grown(
         alloc,
         Event::Claim { actor, n },
-        growth,
+        Growth::filled(actor, from, n, value),
         Answer::Run { from, n },
     )
 }
@@ -184,13 +185,7 @@ fn at_least_call(
     if room(list) < n {
         return refused_call(alloc, list, actor, n);
     }
-    let growth = Growth {
-        actor,
-        from,
-        n,
-        value,
-        made: n,
-    };
+    let growth = Growth::filled(actor, from, n, value);
     grown(alloc, claim, growth, Answer::Run { from, n })
 }
 

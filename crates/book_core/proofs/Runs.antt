@@ -1,5 +1,5 @@
 -- Runs that tile, and the owners of places.
-use Rattle.std.proofs.Common.{◌≡◌, ℕ, ◌+◌, ◌<◌, ◌≤◌, nat_le, nat_lt, ◌&&◌, Bool, true, false, if◌then◌else◌, List, [], ◌∷◌, ◌++◌, Option, Some, None, refl, ap, sym, ◌∙◌, subst, arith, inl, inr}
+use Rattle.std.proofs.Common.{◌≡◌, ℕ, ◌+◌, ◌<◌, ◌≤◌, nat_le, nat_lt, ◌&&◌, true, false, if◌then◌else◌, List, [], ◌∷◌, ◌++◌, Some, None, refl, ap, sym, ◌∙◌, subst, arith, inl, inr}
 use Rattle.std.proofs.lemmas.Bool.{cases_lt}
 use Rattle.std.proofs.lemmas.Bool.Decides.{nat_tests}
 use Rattle.std.proofs.lemmas.Option.{none-some}
@@ -9,25 +9,15 @@ use Rattle.book_core.specs.History.{OwnedRun, run_of, runs_of, owner_of, Tile, w
 use Rattle.book_core.specs.Events.{writer_in}
 use Rattle.std.proofs.lemmas.List.{append_assoc}
 
--- whether a run has a place
-has_place : OwnedRun → ℕ → Bool
-has_place run place = nat_le run.from place && nat_lt place (run.from + run.n)
-
+-- a run has its places
 pub has_place-true : (run : OwnedRun) (place : ℕ) → run.from ≤ place → place < run.from + run.n
     → (nat_le run.from place && nat_lt place (run.from + run.n)) ≡ true
 has_place-true run place low high = grind (arith, nat_tests)
 
-has_place-below : (run : OwnedRun) (place : ℕ) → place < run.from
-    → (nat_le run.from place && nat_lt place (run.from + run.n)) ≡ false
-has_place-below run place low = grind (arith, nat_tests)
-
+-- it has no place past its end
 pub has_place-past : (run : OwnedRun) (place : ℕ) → run.from + run.n ≤ place
     → (nat_le run.from place && nat_lt place (run.from + run.n)) ≡ false
 has_place-past run place high = grind (arith, nat_tests)
-
--- the owner in one run, or else in others
-owner_in : Bool → ℕ → Option ℕ → Option ℕ
-owner_in b owner others = if b then Some owner else others
 
 -- a place that has an owner keeps it where runs follow
 pub owner_kept : (xs ys : List OwnedRun) (place owner : ℕ) → owner_of xs place ≡ Some owner

@@ -6,19 +6,12 @@ use Rattle.book_core.specs.declared.commands.Item.{Item}
 use Rattle.script_core.specs.declared.error.ScriptError.{ScriptError}
 use Rattle.script_core.specs.declared.error.ScriptError.TheVariants.{Empty, BadLine, TooMany, NoItems}
 use Rattle.script_core.specs.declared.error.Fault.{Fault}
-use Rattle.script_core.specs.declared.error.Stop.{Stop}
-use Rattle.script_core.specs.declared.error.Stop.TheVariants as stops
 use Rattle.script_core.specs.declared.script.Script.{Script}
-use Rattle.script_core.specs.Reading.{Gives, GivesLines, script_error}
+use Rattle.script_core.specs.Reading.{GivesLines}
 use Rattle.script_core.specs.Grammar.{◌>>=◌, lines, at_line, parsed_limit, parsed_actor, parsed_items, is_actor_line, is_items_line, closed, script, body_of, script_of_lines, script_of}
 use Rattle.script_core.proofs.Cuts.{some_lines}
 
--- a stop inside a line, with the line's number
-stop_at : {X : Type 0} (line : ℕ) (stop : Stop) (given : Result X Fault) (e : ScriptError) → Gives (Err stop) given
-    → e ≡ script_error line stop → GivesLines (Err e) (at_line line given)
-stop_at line stops.Memory given e h is memory = absurd (memory is)
-stop_at line (stops.Fault fault) given e h is memory = rw (h, is) refl
-
+-- what is given without a fault needs no line
 pub found_at : {X : Type 0} (line : ℕ) (x : X) (given : Result X Fault) → given ≡ Ok x → at_line line given ≡ Ok x
 found_at line x given h = rw h refl
 

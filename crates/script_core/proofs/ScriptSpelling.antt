@@ -145,11 +145,6 @@ one_more names programs text name program so_far actor = record {
   sound = All-push IsProgram programs program so_far.sound actor.commands;
 }
 
-closed_ok : (line : ℕ) (made s : Script) (rest : List (List ℕ)) → closed line made rest ≡ Ok s
-    → (rest ≡ []) × (made ≡ s)
-closed_ok line made s [] h = (refl, whole_is made s h)
-closed_ok line made s (text ∷ rest) h = absurd cc
-
 items_end : (limit : ℕ) (names : List ℕ) (programs : List (List Command)) (text : List ℕ) (rest : List (List ℕ))
     (items : List Item) (s : Script)
     → AreActors names programs → is_items_line text ≡ true → parsed_items names (drop 5 text) ≡ Ok items → rest ≡ []

@@ -1,6 +1,6 @@
 -- Segments double: where they begin and end, and which one has a place.
-use Rattle.std.proofs.Common.{◌≡◌, ℕ, ◌+◌, ◌-◌, ◌*◌, ◌^◌, ◌<◌, ◌≤◌, nat_lt, true, false, zero, suc, refl, ap, sym, ◌∙◌, subst, arith, inl, inr, add-one, add-zero, lit<}
-use Rattle.std.proofs.Math.Nat.{pow-le-pow_right, pow-suc, le_refl}
+use Rattle.std.proofs.Common.{◌≡◌, ℕ, ◌+◌, ◌-◌, ◌^◌, ◌<◌, ◌≤◌, nat_lt, true, false, zero, suc, refl, ap, sym, subst, arith, inl, inr, add-one, add-zero, lit<}
+use Rattle.std.proofs.Math.Nat.{pow-le-pow_right, le_refl}
 use Rattle.std.proofs.Math.Pow.{pow-lt}
 use Rattle.std.proofs.lemmas.Bool.{cases_lt}
 use Rattle.std.proofs.lemmas.Bool.Decides.{nat_tests}
@@ -92,14 +92,6 @@ exponent_below k place power below =
       | inl within ↦ within
       | inr past ↦ absurd (let more : 2 ^ 32 ≤ 2 ^ k = pow-le-pow_right (lit< tt) past in omega arith)
     ]
-
--- a place from a power of two up to the next is in the segment of that number
-has_from_power : (k place : ℕ) → 0 < k → 2 ^ k ≤ place → place < 2 * 2 ^ k → HasPlace k place
-has_from_power zero place positive power next = absurd (omega arith)
-has_from_power (suc k) place positive power next = record {
-  from = let same : 2 ^ suc k ≡ 2 ^ (k + 1) = ap (λ n. 2 ^ n) (sym (add-one k)) in omega arith;
-  before = let twice : 2 ^ (suc k + 1) ≡ 2 * 2 ^ suc k = ap (λ n. 2 ^ n) (add-one (suc k)) ∙ pow-suc 2 (suc k) ∙ (let e : 2 ^ suc k * 2 ≡ 2 * 2 ^ suc k = omega arith in e) in omega arith;
-}
 
 -- each pair of a segment and an offset is one place
 pub one_place : (j k i o : ℕ) → segment_start j + i < segment_end j → segment_start k + o < segment_end k

@@ -53,8 +53,8 @@ given m outcome = record { storage = m; event = outcome.event; next = outcome.ne
 
 -- an actor with a call under way stands within the limit
 abbrev pub IsPlaced : ℕ → Actor → Type 0
-IsPlaced limit actor = IfSome (slice_get actor.program actor.ended) (λ command. IsWithin limit command actor.phase)
+IsPlaced limit state = IfSome (slice_get state.program state.ended) (λ command. IsWithin limit command state.phase)
 
 -- so do all actors, and the size
 abbrev pub IsInLimit : Configuration → Type 0
-IsInLimit c = IsLimit c.limit × (c.storage.size ≤ c.limit) × All (λ actor. IsPlaced c.limit actor) c.actors
+IsInLimit c = IsLimit c.limit × (c.storage.size ≤ c.limit) × All (λ state. IsPlaced c.limit state) c.actors

@@ -1,4 +1,6 @@
 //! What no clause says: that the calls succeed where there is memory, and what the worked rows say.
+mod uses;
+
 use crate::{Quiet, QuietAt, QuietError};
 use std::alloc::Global;
 use std::test::Fail;

@@ -1,5 +1,6 @@
 -- Facts about each item of a list.
-use Rattle.std.proofs.Common.{◌≡◌, ℕ, ◌+◌, ◌<◌, suc, List, [], ◌∷◌, ◌++◌, length, subst, sym, arith, length-append}
+use Rattle.std.proofs.Common.{◌≡◌, ℕ, ◌+◌, suc, List, [], ◌∷◌, ◌++◌, length, map, drop, get_or, subst, sym, ap, arith, length-append}
+use Rattle.std.proofs.lemmas.List.{drop_all, drop_more}
 use Rattle.span_core.specs.Each.{EachFrom}
 
 module _ {X : Type 0} (P : ℕ → X → Type 0) where
@@ -34,3 +35,13 @@ module _ {X : Type 0} where
 
       one_back : (R : ℕ → X → Type 0) (n k : ℕ) (y : X) → R (n + 1 + k) y → R (n + suc k) y
       one_back R n k y r = let same : n + 1 + k ≡ n + suc k = omega arith in let M : ℕ → Type 0 = λ m. R m y in subst M same r
+
+module _ {X Y : Type 0} (v : X → Y) (none : X) (xs : List X) where
+  -- one answer to each item from this index on, and it is what v makes of the item
+  pub EachFrom-map : (i : ℕ) (ys : List Y) → EachFrom (λ k y. y ≡ v (get_or xs k none)) i ys → i + length ys ≡ length xs → ys ≡ map v (drop i xs)
+  EachFrom-map i [] each long = let end = drop_all i xs (omega (arith, long)) in ap (map v) (sym end)
+  EachFrom-map i (y ∷ ys) each long =
+      let first = each.0 in
+      let rest = EachFrom-map (i + 1) ys each.1 (omega (arith, long)) in
+      let more = ap (map v) (drop_more xs i none (omega (arith, long))) in
+      cc

@@ -1,12 +1,11 @@
 -- Folds of parts, put together.
 use Rattle.std.proofs.Common.{◌≡◌, ℕ, ◌+◌, Option, None, Some, List, [], ◌∷◌, ◌++◌, length, fold, subst, sym, ap, ◌∙◌, refl, arith, length-append}
-use Rattle.std.specs.Option.{MatchOption}
 use Rattle.std.specs.List.{AllZip}
 use Rattle.span_core.specs.Each.{EachFrom}
 use Rattle.span_core.specs.Span.{Interval, AreLeaves}
 use Rattle.span_core.proofs.Each.{EachFrom-append}
 use Rattle.span_core.proofs.Tiles.{Tiles, leaves-tile}
-use Rattle.span_core.specs.Loops.{Joins, IsFold, Within, Sums, Merges, SumsUpTo}
+use Rattle.span_core.specs.Loops.{Joins, IsFold, Within, Merges, SumsUpTo}
 
 module _ {U : Type 0} (post : U → U → U → Type 0) (is_in : U → Type 0) (unit : U) where
   -- values of the domain go on

@@ -4,3 +4,4 @@ pub mod ShareLemmas
 pub mod MemberLemmas
 pub mod Tiles
 pub mod Folds
+pub mod Mapped

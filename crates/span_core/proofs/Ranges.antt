@@ -1,7 +1,7 @@
 -- Two halves of a range of workers.
-use Rattle.std.proofs.Common.{◌≡◌, ℕ, ◌+◌, ◌<◌, ◌≤◌, ◌⊎◌, List, [], ◌∷◌, ◌++◌, length, Result, Ok, Err, IfOk, subst, sym, arith, length-append, rules}
+use Rattle.std.proofs.Common.{◌≡◌, ℕ, ◌+◌, ◌<◌, List, [], ◌++◌, length, Result, Ok, IfOk, subst, sym, arith, length-append}
 use Rattle.std.proofs.lemmas.Result.{IfOk-weaker, IfOk-at_ok}
-use Rattle.span_core.specs.Workers.{EachGives, MayRefuseOne}
+use Rattle.span_core.specs.Workers.{EachGives, RefusesLowest}
 use Rattle.span_core.proofs.Each.{EachFrom-append}
 
 -- the answers of both halves, in order
@@ -13,12 +13,28 @@ halves-give {A} gives first low middle high xs ys all meets lower upper both =
       omega (arith, lower.1, upper.1, length-append xs ys),
     )
 
--- a worker of a half is one of the whole
-pub lower-refused : (may_refuse : ℕ → Type 0) (first low high : ℕ) → MayRefuseOne may_refuse first low → MayRefuseOne may_refuse first (low + high)
-lower-refused may_refuse first low high one = (one.0, one.1, omega (arith, one.2), one.3)
+module _ {A : Type 0} (gives : ℕ → A → Type 0) (may_refuse : ℕ → Type 0) where
+  -- the first worker of a range is its lowest
+  pub one-refused : (worker count : ℕ) → 0 < count → may_refuse worker → RefusesLowest gives may_refuse worker count
+  one-refused worker count some may =
+      let same : worker ≡ worker + 0 = omega arith in
+      ([], tt, omega (arith, some), subst may_refuse same may)
 
-pub upper-refused : (may_refuse : ℕ → Type 0) (first low middle high : ℕ) → first + low ≡ middle → MayRefuseOne may_refuse middle high → MayRefuseOne may_refuse first (low + high)
-upper-refused may_refuse first low middle high meets one = (one.0, omega (arith, meets, one.1), omega (arith, meets, one.2), one.3)
+  -- the lowest one of the lower half is the lowest of the whole
+  pub lower-refused : (first low high : ℕ) → RefusesLowest gives may_refuse first low → RefusesLowest gives may_refuse first (low + high)
+  lower-refused first low high one = (one.0, one.1, omega (arith, one.2), one.3)
+
+  -- where the lower half has answered, the lowest one of the upper half is the lowest of the whole
+  pub upper-refused : (first low middle high : ℕ) (xs : List A) → first + low ≡ middle → EachGives gives first low xs → RefusesLowest gives may_refuse middle high → RefusesLowest gives may_refuse first (low + high)
+  upper-refused first low middle high xs meets answers one =
+      let ys : List A = one.0 in
+      let longer = length-append xs ys in
+      let same : middle + length ys ≡ first + length (xs ++ ys) = omega (arith, meets, answers.1, longer) in (
+        xs ++ ys,
+        EachFrom-append gives first middle xs ys (omega (arith, meets, answers.1)) answers.0 one.1,
+        omega (arith, answers.1, one.2, longer),
+        subst may_refuse same one.3,
+      )
 
 -- what was promised of equal numbers and equal jobs
 pub given-along : {J : Type 0} (F : J → ℕ → ℕ → Type 0) (j k : J) (first middle count high : ℕ) → j ≡ k → first ≡ middle → count ≡ high → F j first count → F k middle high

@@ -1,5 +1,5 @@
 -- Leaves that are shared out, and put in order again.
-use Rattle.std.proofs.Common.{◌≡◌, ℕ, zero, suc, ◌+◌, ◌*◌, ◌<◌, ◌≤◌, List, [], ◌∷◌, ◌++◌, Some, length, subst, sym, ◌∙◌, refl, ap, arith, length-append, slice_get, zero-mul, mul_comm}
+use Rattle.std.proofs.Common.{◌≡◌, ℕ, suc, ◌+◌, ◌*◌, ◌<◌, List, [], ◌∷◌, ◌++◌, Some, length, subst, sym, ◌∙◌, ap, arith, length-append, slice_get, zero-mul, mul_comm}
 use Rattle.std.proofs.Math.Nat.{mul-suc}
 use Rattle.std.specs.List.{AllZip}
 use Rattle.span_core.specs.Each.{EachFrom}

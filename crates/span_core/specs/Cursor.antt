@@ -1,5 +1,5 @@
 -- Cursors: places of a list, its end among them.
-use Rattle.std.specs.Prelude.{◌≡◌, ℕ, refl}
+use Rattle.std.specs.Prelude.{ℕ, refl}
 use Rattle.std.specs.Coded.{Coded, code_by, coded×, coded_ℕ}
 use Rattle.quiet_core.specs.QuietList.{QuietList, quiet_code}
 

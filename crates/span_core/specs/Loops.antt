@@ -1,9 +1,9 @@
 -- What loops over a span answer.
-use Rattle.std.specs.Prelude.{◌≡◌, ℕ, ◌+◌, ◌-◌, Option, None, Some, List, [], ◌∷◌, length, fold, slice_index_or}
+use Rattle.std.specs.Prelude.{◌≡◌, ℕ, ◌+◌, Option, None, Some, List, [], ◌∷◌, length, fold, slice_index_or}
 use Rattle.std.specs.Option.{option_copied, MatchOption}
 use Rattle.std.specs.Borrow.{Bor}
 use Rattle.span_core.specs.Each.{EachFrom}
-use Rattle.span_core.specs.Span.{Interval, size_of}
+use Rattle.span_core.specs.Span.{Interval}
 
 module _ {T U : Type 0} where
   -- an answer to a place and the member there

@@ -1,5 +1,5 @@
 -- Spans of places, and what they are cut into.
-use Rattle.std.specs.Prelude.{◌≡◌, ℕ, ◌+◌, ◌-◌, ◌/◌, ◌<◌, ◌≤◌, List, [], ◌∷◌, ◌++◌}
+use Rattle.std.specs.Prelude.{ℕ, ◌+◌, ◌-◌, ◌/◌, ◌<◌, ◌≤◌, List, [], ◌∷◌, ◌++◌}
 
 -- the places from one on and before another; spans of more places than the grain are to be cut
 pub record Interval : Type 0 where

@@ -10,6 +10,11 @@ EachGives gives first count answers = EachFrom gives first answers × (length an
 abbrev pub MayRefuseOne : (ℕ → Type 0) → ℕ → ℕ → Type 0
 MayRefuseOne may_refuse first count = (worker : ℕ) × (first ≤ worker) × (worker < first + count) × may_refuse worker
 
+-- the workers of the range gave these answers up to one that the gate may refuse
+abbrev pub RefusesLowest : {A : Type 0} → (ℕ → A → Type 0) → (ℕ → Type 0) → ℕ → ℕ → Type 0
+RefusesLowest {A} gives may_refuse first count =
+    (lower : List A) × EachFrom gives first lower × (length lower < count) × may_refuse (first + length lower)
+
 -- not a number of workers from 1 to 64
 abbrev pub IsBadNumber : ℕ → Type 0
 IsBadNumber workers = (workers ≡ 0) ⊎ (64 < workers)

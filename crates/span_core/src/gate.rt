@@ -1,7 +1,8 @@
 //! What each worker passes before and after its work.
-ghost use Rattle.std.specs.Prelude.{◌≡◌, ℕ, ◌<◌, IsTrue};
+ghost use Rattle.std.specs.Prelude.{◌≡◌, ℕ, ◌<◌, ◌≤◌, ◌⊎◌, IsTrue};
 ghost use Rattle.std.specs.Bool.{OnFalse};
 
+use std::marker::Model;
 use std::sync::atomic::{AtomicBool, Ordering};
 
 /// What a worker asks before its first piece of work, and tells after its last.
@@ -41,9 +42,19 @@ pub struct PairGate {
     second: AtomicBool,
 }
 
+impl Model for PairGate {
+    ghost use Rattle.span_core.specs.Gate.{PairView};
+
+    ghost Value = { PairView };
+
+    ghost view = { λ g. record { turns = g.turns } };
+}
+
 impl PairGate {
     /// A worker of the pair looks at most `turns` times whether the other came.
-    pub fn new(turns: u64) -> PairGate {
+    pub fn new(turns: u64) -> PairGate
+        ensures { result.turns ≡ turns }
+    {
         PairGate {
             turns,
             first: AtomicBool::new(false),
@@ -52,7 +63,9 @@ impl PairGate {
     }
 
     // Whether the other one of the pair came, looked at as often as the gate says.
-    fn waits_for(&self, other: &AtomicBool) -> bool {
+    fn waits_for(&self, other: &AtomicBool) -> bool
+        ensures { IsTrue result → 0 < self.now.turns }
+    {
         for _ in 0..self.turns {
             if other.load(Ordering::SeqCst) {
                 return true;
@@ -65,7 +78,11 @@ impl PairGate {
 impl Gate for PairGate {
     ghost may_refuse = { λ _ worker. worker < 2 };
 
-    fn before(&self, worker: u32) -> bool {
+    fn before(&self, worker: u32) -> bool
+        ensures others { OnFalse result (worker < 2) }
+        // A gate that looks no times refuses both.
+        ensures looked { IsTrue result → (2 ≤ worker) ⊎ (0 < self.now.turns) }
+    {
         let (mine, other) = match worker {
             0 => (&self.first, &self.second),
             1 => (&self.second, &self.first),

@@ -4,9 +4,10 @@
 //! (`specs/Span.antt`); a `Cursor` as its list and its place (`specs/Cursor.antt`).
 //!
 //! A caller can prove that `par_map` answers what the function answers to each place, in order, and that `par_reduce`
-//! answers the fold of that (`specs/Loops.antt`), whatever the number of workers. Each worker passes a `Gate` before and
-//! after its work. `run_workers` starts any `Job` in the same way. Nothing is said of which worker took a leaf, nor that a
-//! loop returns.
+//! answers the fold of that (`specs/Loops.antt`), whatever the number of workers. Each worker passes a `Gate` before
+//! and after its work. `run_workers` starts any `Job` in the same way; where a gate stops it, the workers below the one
+//! that was refused have answered (`specs/Workers.antt`). Nothing is said of which worker took a leaf, nor that a loop
+//! returns.
 #![tactic(auto)]
 
 mod cursor;

@@ -62,8 +62,11 @@ impl<'a, T, F> MapLeaf<'a, T, F> {
     where
         F: Fn(u64, Option<&T>) -> U,
         requires { (leaves : List Interval) × AreLeaves span leaves
-            × AllZip (λ leaf part. AnswersOver (F.post self.now.f.now) self.now.list.now.members leaf part.items) leaves parts.items }
-        ensures { IfOk result (λ all. AnswersOver (F.post self.now.f.now) self.now.list.now.members span all.items) }
+            × AllZip (λ leaf part.
+            AnswersOver (F.post self.now.f.now) self.now.list.now.members leaf part.items)
+            leaves parts.items }
+        ensures { IfOk result (λ all.
+            AnswersOver (F.post self.now.f.now) self.now.list.now.members span all.items) }
     {
         let mut all = Vec::with_capacity(self.alloc, span.size() as usize)?;
         for mut part in parts {
@@ -75,9 +78,9 @@ impl<'a, T, F> MapLeaf<'a, T, F> {
 
 /// The answers of `f` to the places of a span and their members, in order of place, by a number of workers.
 ///
-/// A member is `None` where it is broken. Leaf i of the span is the work of worker i mod the number of workers. The answers
-/// are those of a single thread. Its work is linear in the places; it takes memory for the leaves and, twice, for the
-/// answers.
+/// A member is `None` where it is broken. Leaf i of the span is the work of worker i mod the number of workers. The
+/// answers are those of a single thread. Its work is linear in the places; it takes memory for the leaves and, twice,
+/// for the answers.
 pub fn par_map<
     R: Threads + Wait + Sync,
     T: Sync,

@@ -62,7 +62,9 @@ impl<'a, T, U: Domain + Drop, F: Fn(u64, Option<&T>) -> U, J: Fn(U, U) -> U> Lea
     for ReduceLeaf<'a, T, F, J> {
     ghost ready = { λ r. F.IsAlwaysCallable r.f.now × J.IsAlwaysCallable r.join.now };
 
-    ghost gives = { λ r leaf sum. SumsUpTo (J.post r.join.now) U.is_in (AnswersAt (F.post r.f.now) r.list.now.members) leaf.from leaf.to sum };
+    ghost gives = { λ r leaf sum.
+        SumsUpTo (J.post r.join.now) U.is_in (AnswersAt (F.post r.f.now) r.list.now.members)
+        leaf.from leaf.to sum };
 
     fn leaf(&self, leaf: Span) -> Result<Option<U>, AllocError> {
         let mut sum = None;
@@ -83,8 +85,11 @@ impl<'a, T, F, J> ReduceLeaf<'a, T, F, J> {
         J: Fn(U, U) -> U,
         requires callable { J.IsAlwaysCallable self.now.join.now }
         requires parts { (leaves : List Interval) × AreLeaves span leaves
-            × AllZip (λ leaf sum. SumsUpTo (J.post self.now.join.now) U.is_in (AnswersAt (F.post self.now.f.now) self.now.list.now.members) leaf.from leaf.to sum) leaves parts.items }
-        ensures { SumsUpTo (J.post self.now.join.now) U.is_in (AnswersAt (F.post self.now.f.now) self.now.list.now.members) span.from span.to result }
+            × AllZip (λ leaf sum. SumsUpTo (J.post self.now.join.now) U.is_in
+            (AnswersAt (F.post self.now.f.now) self.now.list.now.members) leaf.from leaf.to sum)
+            leaves parts.items }
+        ensures { SumsUpTo (J.post self.now.join.now) U.is_in
+            (AnswersAt (F.post self.now.f.now) self.now.list.now.members) span.from span.to result }
     {
         let mut sum = None;
         for part in parts {
@@ -94,11 +99,12 @@ impl<'a, T, F, J> ReduceLeaf<'a, T, F, J> {
     }
 }
 
-/// The fold by `join`, from `unit`, of the answers of `f` to the places of a span and their members, by a number of workers.
+/// The fold by `join`, from `unit`, of the answers of `f` to the places of a span and their members, by a number of
+/// workers.
 ///
-/// A member is `None` where it is broken. Each leaf has a sum of its own, and these are joined in order, so the answer is the
-/// one of a single thread where `join` may be grouped in any way. Its work is linear in the places, and it takes memory for
-/// the leaves.
+/// A member is `None` where it is broken. Each leaf has a sum of its own, and these are joined in order, so the answer
+/// is the one of a single thread where `join` may be grouped in any way. Its work is linear in the places, and it takes
+/// memory for the leaves.
 pub fn par_reduce<
     R: Threads + Wait + Sync,
     T: Sync,

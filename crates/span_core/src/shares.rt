@@ -41,7 +41,9 @@ struct Shares<'a, L> {
 impl<'a, A: Drop, L: LeafJob<A>> Job<VecDeque<A>> for Shares<'a, L> {
     ghost ready = { λ s. L.ready s.each.now };
 
-    ghost gives = { λ s worker share. IsShare (GivesLeaf (L.gives s.each.now) s.leaves.now) (length s.leaves.now) s.workers worker share.items };
+    ghost gives = { λ s worker share.
+        IsShare (GivesLeaf (L.gives s.each.now) s.leaves.now) (length s.leaves.now)
+        s.workers worker share.items };
 
     fn work(&self, worker: u32) -> Result<VecDeque<A>, AllocError> {
         let mut share = VecDeque::new(self.alloc);
@@ -62,7 +64,9 @@ impl<'a, L> Shares<'a, L> {
     fn gather<A: Drop>(&self, mut shares: VecDeque<VecDeque<A>>) -> Result<Vec<A>, AllocError>
     where
         L: LeafJob<A>,
-        requires shares { EachFrom (λ worker share. IsShare (GivesLeaf (L.gives self.now.each.now) self.now.leaves.now) (length self.now.leaves.now) self.now.workers worker share.items) 0 shares.items }
+        requires shares { EachFrom (λ worker share.
+            IsShare (GivesLeaf (L.gives self.now.each.now) self.now.leaves.now) (length self.now.leaves.now)
+            self.now.workers worker share.items) 0 shares.items }
         requires workers { length shares.items ≡ self.now.workers }
         ensures { IfOk result (λ all. AllZip (L.gives self.now.each.now) self.now.leaves.now all.items) }
     {

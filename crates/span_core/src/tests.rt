@@ -1,4 +1,8 @@
-//! What no clause says: that the loops answer where there is memory, that two threads really run at once, and the gate's order.
+//! What no clause says: that the loops answer where there is memory, that two threads really run at once, and the
+//! gate's order.
+mod refusals;
+mod uses;
+
 use crate::{Free, Gate, PairGate, ParError, Span, par_map, par_reduce};
 use quiet_core::Quiet;
 use std::alloc::Global;

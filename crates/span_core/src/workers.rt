@@ -2,7 +2,7 @@
 ghost use Rattle.std.specs.Prelude.{◌≡◌, ◌≢◌, ℕ, ◌+◌, ◌^◌, ◌<◌, ◌≤◌, [], ◌∷◌, ◌++◌, ◌⊎◌, ◌↔◌, Vec, Ok, IfOk, IsErrOf, Err, vec_len};
 ghost use Rattle.std.specs.Bool.{MatchBool};
 ghost use denote.Param.Send.{IsSync, IsSend};
-ghost use Rattle.span_core.specs.Workers.{EachGives, MayRefuseOne, IsBadNumber};
+ghost use Rattle.span_core.specs.Workers.{EachGives, RefusesLowest, IsBadNumber};
 
 use crate::errors::{ParError, Refusal};
 use crate::gate::Gate;
@@ -37,11 +37,11 @@ struct Upper<J, G> {
 
 impl<A, J: Job<A>, G: Gate> Promise<Result<Vec<A>, Refusal>> for Upper<J, G> {
     ghost use Rattle.std.specs.Prelude.{◌≡◌, IfOk, Err};
-    ghost use Rattle.span_core.specs.Workers.{EachGives, MayRefuseOne};
+    ghost use Rattle.span_core.specs.Workers.{EachGives, RefusesLowest};
     ghost use Rattle.span_core.specs.declared.errors.Refusal.TheVariants.{Stuck};
 
     ghost kept_by = { λ p r. IfOk r (λ answers. EachGives (J.gives p.job.value) p.first p.count answers.items)
-        × (r ≡ Err Stuck → MayRefuseOne (G.may_refuse p.gate.value) p.first p.count) };
+        × (r ≡ Err Stuck → RefusesLowest (J.gives p.job.value) (G.may_refuse p.gate.value) p.first p.count) };
 }
 
 // One worker passes the gate and works.
@@ -53,7 +53,7 @@ fn one<A: Drop, J: Job<A>, G: Gate>(
 ) -> Result<Vec<A>, Refusal>
     requires { J.ready job.now }
     ensures answers { IfOk result (λ answers. EachGives (J.gives job.now) worker 1 answers.items) }
-    ensures stuck { result ≡ Err Refusal.Stuck → MayRefuseOne (G.may_refuse gate.now) worker 1 }
+    ensures stuck { result ≡ Err Refusal.Stuck → G.may_refuse gate.now worker }
 {
     if !gate.before(worker) {
         gate.after(worker);
@@ -68,13 +68,19 @@ fn one<A: Drop, J: Job<A>, G: Gate>(
     }
 }
 
-// The answers of both halves. The refusal of the lower half comes first.
+// The answers of both halves, or why there are none.
 fn both<A: Drop>(
     lower: Result<Vec<A>, Refusal>,
     upper: Result<Vec<A>, Refusal>,
 ) -> Result<Vec<A>, Refusal>
-    ensures answers { IfOk result (λ all. (xs : Vec A Global) × (ys : Vec A Global) × (lower ≡ Ok xs) × (upper ≡ Ok ys) × (all.items ≡ xs.items ++ ys.items)) }
-    ensures stuck { result ≡ Err Refusal.Stuck → (lower ≡ Err Refusal.Stuck) ⊎ (upper ≡ Err Refusal.Stuck) }
+    ensures answers { IfOk result (λ all. (xs : Vec A Global) × (ys : Vec A Global)
+        × (lower ≡ Ok xs) × (upper ≡ Ok ys) × (all.items ≡ xs.items ++ ys.items)) }
+    // Whatever the upper half did.
+    ensures lower_first { (e : Refusal) → lower ≡ Err e → result ≡ Err e }
+    ensures upper_next { (xs : Vec A Global) (e : Refusal) → lower ≡ Ok xs → upper ≡ Err e
+        → result ≡ Err e }
+    ensures stuck { result ≡ Err Refusal.Stuck → (lower ≡ Err Refusal.Stuck)
+        ⊎ ((xs : Vec A Global) × (lower ≡ Ok xs) × (upper ≡ Err Refusal.Stuck)) }
 {
     let mut answers = lower?;
     let mut more = upper?;
@@ -95,7 +101,8 @@ fn range<R: Threads + Wait + Sync, A: Send + Drop, J: Job<A> + Sync, G: Gate + S
     requires some { 0 < count }
     requires fits { first + count < 2 ^ 32 }
     ensures answers { IfOk result (λ answers. EachGives (J.gives job.now) first count answers.items) }
-    ensures stuck { result ≡ Err Refusal.Stuck → MayRefuseOne (G.may_refuse gate.now) first count }
+    ensures stuck { result ≡ Err Refusal.Stuck
+        → RefusesLowest (J.gives job.now) (G.may_refuse gate.now) first count }
 {
     if count == 1 {
         return one(alloc, job, gate, first);
@@ -119,15 +126,19 @@ fn halves<R: Threads + Wait + Sync, A: Send + Drop, J: Job<A> + Sync, G: Gate + 
     requires some { 0 < low × 0 < high }
     requires fits { (first + low ≡ middle) × (middle + high < 2 ^ 32) }
     ensures answers { IfOk result (λ answers. EachGives (J.gives job.now) first (low + high) answers.items) }
-    ensures stuck { result ≡ Err Refusal.Stuck → MayRefuseOne (G.may_refuse gate.now) first (low + high) }
+    ensures stuck { result ≡ Err Refusal.Stuck
+        → RefusesLowest (J.gives job.now) (G.may_refuse gate.now) first (low + high) }
 {
     thread::scope(
         thread::scope_env(),
         rt,
         |scope| -> Result<Vec<A>, Refusal>
-            requires { IsSync R.row × IsSync J.row × IsSync G.row × IsSend A.row × J.ready job.now × (0 < low) × (0 < high) × (first + low ≡ middle) × (middle + high < 2 ^ 32) }
-            ensures answers { IfOk result (λ answers. EachGives (J.gives job.entry.now) first (low + high) answers.items) }
-            ensures stuck { result ≡ Err Refusal.Stuck → MayRefuseOne (G.may_refuse gate.entry.now) first (low + high) }
+            requires { IsSync R.row × IsSync J.row × IsSync G.row × IsSend A.row × J.ready job.now
+                × (0 < low) × (0 < high) × (first + low ≡ middle) × (middle + high < 2 ^ 32) }
+            ensures answers { IfOk result (λ answers.
+                EachGives (J.gives job.entry.now) first (low + high) answers.items) }
+            ensures stuck { result ≡ Err Refusal.Stuck
+                → RefusesLowest (J.gives job.entry.now) (G.may_refuse gate.entry.now) first (low + high) }
         {
             let promise = Upper {
                 job: Snapshot::of(job),
@@ -138,9 +149,12 @@ fn halves<R: Threads + Wait + Sync, A: Send + Drop, J: Job<A> + Sync, G: Gate + 
             let child = scope.spawn_with(
                 promise,
                 move || -> Result<Vec<A>, Refusal>
-                    requires { IsSync R.row × IsSync J.row × IsSync G.row × IsSend A.row × J.ready job.now × (0 < high) × (middle + high < 2 ^ 32) }
-                    ensures answers { IfOk result (λ answers. EachGives (J.gives job.entry.now) middle high answers.items) }
-                    ensures stuck { result ≡ Err Refusal.Stuck → MayRefuseOne (G.may_refuse gate.entry.now) middle high }
+                    requires { IsSync R.row × IsSync J.row × IsSync G.row × IsSend A.row × J.ready job.now
+                        × (0 < high) × (middle + high < 2 ^ 32) }
+                    ensures answers { IfOk result (λ answers.
+                        EachGives (J.gives job.entry.now) middle high answers.items) }
+                    ensures stuck { result ≡ Err Refusal.Stuck
+                        → RefusesLowest (J.gives job.entry.now) (G.may_refuse gate.entry.now) middle high }
                 { range(rt, alloc, job, gate, middle, high) },
             );
             let Ok(child) = child else {
@@ -155,9 +169,9 @@ fn halves<R: Threads + Wait + Sync, A: Send + Drop, J: Job<A> + Sync, G: Gate + 
 
 /// Runs the job of each worker in a thread of its own, but the first, and answers what each gave, in order.
 ///
-/// Workers are started by halves: a range of one is the worker; a larger one starts a thread for its upper half, does its
-/// lower half itself, and joins. Where that thread can't be started, nobody of the range works or passes the gate. The
-/// refusal of the worker with the lowest number is answered. Every thread that was started has ended then.
+/// Workers are started by halves: a range of one is the worker; a larger one starts a thread for its upper half, does
+/// its lower half itself, and joins. Where that thread can't be started, nobody of the range works or passes the gate.
+/// The refusal of the worker with the lowest number is answered. Every thread that was started has ended then.
 pub fn run_workers<R: Threads + Wait + Sync, A: Send + Drop, J: Job<A> + Sync, G: Gate + Sync>(
     rt: &R,
     alloc: Global,
@@ -169,7 +183,9 @@ pub fn run_workers<R: Threads + Wait + Sync, A: Send + Drop, J: Job<A> + Sync, G
     ensures answers { IfOk result (λ answers. EachGives (J.gives job.now) 0 workers answers.items) }
     // The number is looked at before anything is started.
     ensures bad_workers { IsErrOf result ParError.BadWorkers ↔ IsBadNumber workers }
-    ensures stuck { IsErrOf result ParError.Stuck → MayRefuseOne (G.may_refuse gate.now) 0 workers }
+    // Each worker below the one that was refused has given an answer.
+    ensures stuck { IsErrOf result ParError.Stuck
+        → RefusesLowest (J.gives job.now) (G.may_refuse gate.now) 0 workers }
 {
     if !are_workers(workers) {
         return Err(ParError::BadWorkers);

@@ -1,4 +1,4 @@
-use Rattle.std.proofs.Common.{rules, arith}
+use Rattle.std.proofs.Common.{arith}
 use Rattle.quiet_core.proofs.Whole.{max-enough}
 use Rattle.quiet_core.proofs.room.make_room.Goals as goal
 

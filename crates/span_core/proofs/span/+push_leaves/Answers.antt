@@ -1,4 +1,4 @@
-use Rattle.std.proofs.Common.{rules, [], ◌∷◌, ◌++◌, List, ◌∙◌, ap, sym, subst, append_assoc, arith, ◌≡◌}
+use Rattle.std.proofs.Common.{rules, [], ◌∷◌, ◌++◌, List, ◌∙◌, ap, subst, append_assoc, arith}
 use Rattle.span_core.specs.Span.{Interval, AreLeaves}
 use Rattle.span_core.specs.Span.AreLeaves.{itself, halves}
 use Rattle.span_core.proofs.span.+push_leaves.Goals as goal

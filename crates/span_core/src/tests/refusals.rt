@@ -1,0 +1,92 @@
+// Several workers are refused, and the lowest one's refusal is seen.
+use crate::{Gate, Job, ParError, run_workers};
+use std::alloc::AllocError;
+use std::sync::atomic::{AtomicU64, Ordering};
+
+// A digit for each worker, the lowest first, to the base 3: 0 works, 1 is refused by the gate, 2 has no memory.
+#[derive(Drop)]
+struct Fates {
+    digits: u32,
+    before: AtomicU64,
+    after: AtomicU64,
+}
+
+impl Fates {
+    fn new(digits: u32) -> Fates {
+        Fates {
+            digits,
+            before: AtomicU64::new(0),
+            after: AtomicU64::new(0),
+        }
+    }
+
+    fn of(&self, worker: u32) -> u32 {
+        let mut digits = self.digits;
+        for _ in 0..worker {
+            digits /= 3;
+        }
+        digits % 3
+    }
+
+    fn lowest(&self, workers: u32) -> Option<ParError> {
+        for worker in 0..workers {
+            match self.of(worker) {
+                1 => return Some(ParError::Stuck),
+                2 => return Some(ParError::NoMemory),
+                _ => {}
+            }
+        }
+        None
+    }
+}
+
+impl Job<u32> for Fates {
+    ghost use Rattle.std.specs.Prelude.{◌≡◌};
+
+    ghost ready = { λ _. Unit {0} };
+
+    ghost gives = { λ _ worker answer. answer ≡ worker };
+
+    fn work(&self, worker: u32) -> Result<u32, AllocError> {
+        if self.of(worker) == 2 {
+            return Err(AllocError);
+        }
+        Ok(worker)
+    }
+}
+
+impl Gate for Fates {
+    ghost may_refuse = { λ _ _. Unit {0} };
+
+    fn before(&self, worker: u32) -> bool {
+        self.before.fetch_add(1, Ordering::SeqCst);
+        self.of(worker) != 1
+    }
+
+    fn after(&self, _worker: u32) {
+        self.after.fetch_add(1, Ordering::SeqCst);
+    }
+}
+
+#[test]
+fn the_refusal_of_the_lowest_worker_is_answered(rt: HostRuntime) {
+    for digits in 0..81 {
+        let fates = Fates::new(digits);
+        let ended = run_workers(&rt, rt.alloc(), &fates, &fates, 4);
+        assert_eq!(rt; ended.err(), fates.lowest(4), "{digits}");
+        let passed = (
+            fates.before.load(Ordering::SeqCst),
+            fates.after.load(Ordering::SeqCst),
+        );
+        assert_eq!(rt; passed, (4, 4), "{digits}");
+    }
+}
+
+#[test]
+fn the_answers_are_in_order_of_worker(rt: HostRuntime) {
+    let fates = Fates::new(0);
+    match run_workers(&rt, rt.alloc(), &fates, &fates, 5) {
+        Ok(answers) => assert_eq!(rt; answers.as_slice(), [0, 1, 2, 3, 4].as_slice()),
+        Err(_) => assert!(rt; false),
+    }
+}

@@ -1,0 +1,59 @@
+// What callers prove by the public clauses alone.
+ghost use Rattle.std.specs.Prelude.{◌≡◌, map, unwrap_or, IfOk};
+ghost use Rattle.std.specs.Option.{option_copied};
+
+use crate::{Free, ParError, Span, par_map};
+use quiet_core::Quiet;
+use std::alloc::{AllocError, Global};
+use std::sync::Wait;
+use std::test::Fail;
+use std::thread::Threads;
+
+// The leaves of a span tile it: each begins where the one before ends, and the last ends where the span does.
+fn walk_leaves(alloc: Global, span: Span) -> Result<u64, AllocError>
+    ensures { IfOk result (λ end. end ≡ span.to) }
+{
+    let leaves = span.leaves(alloc)?;
+    let mut next = span.from();
+    for leaf in leaves.as_slice() {
+        let begins = leaf.from();
+        prove!(begins == next);
+        next = leaf.to();
+    }
+    Ok(next)
+}
+
+// The values in order, with 0 for each broken member, by whatever number of workers.
+fn with_zeros<R: Threads + Wait + Sync>(
+    rt: &R,
+    alloc: Global,
+    list: &Quiet<u64>,
+    workers: u32,
+) -> Result<Vec<u64>, ParError>
+    ensures { IfOk result (λ all.
+        all.items ≡ map (λ member. unwrap_or member 0) list.now.members) }
+{
+    let span = Span::new(0, list.len(), 100);
+    let value_or_zero = |_place: u64, value: Option<&u64>| -> u64
+        ensures { result ≡ unwrap_or (option_copied value.entry) 0 }
+    { value.copied().unwrap_or(0) };
+    par_map(rt, alloc, list, span, workers, &value_or_zero, &Free)
+}
+
+#[test]
+fn leaves_are_walked_to_the_end(rt: HostRuntime) -> Result<(), Fail> {
+    assert_eq!(rt; walk_leaves(rt.alloc(), Span::new(3, 40, 4))?, 40);
+    Ok(())
+}
+
+#[test]
+fn the_values_are_mapped_in_order(rt: HostRuntime) -> Result<(), Fail> {
+    let mut list = Quiet::new(rt.alloc(), 1000);
+    for value in 0..1000 {
+        assert!(rt; list.push(value).is_ok());
+    }
+    let all = with_zeros(&rt, rt.alloc(), &list, 3)?;
+    assert_eq!(rt; all.len(), 1000);
+    assert_eq!(rt; all[999], 999);
+    Ok(())
+}

@@ -1,4 +1,5 @@
 //! What no clause says: that the calls succeed where there is memory, and what the worked rows say.
+mod memory;
 mod uses;
 
 use crate::{Quiet, QuietAt, QuietError};

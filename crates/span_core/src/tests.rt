@@ -1,5 +1,6 @@
 //! What no clause says: that the loops answer where there is memory, that two threads really run at once, and the
 //! gate's order.
+mod memory;
 mod refusals;
 mod uses;
 

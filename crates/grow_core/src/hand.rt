@@ -77,8 +77,8 @@ impl<T> Hand<T> {
         self.claims.laws();
     }
 
-    /// What a whole hand keeps: it has seen all that was claimed, and owns it. The size is the base and the places of all
-    /// its runs. It does nothing.
+    /// What a whole hand keeps: it has seen all that was claimed, and owns it. The size is the base and the places of
+    /// all its runs. It does nothing.
     pub fn whole_laws(&self)
         requires whole { IsWholeHand self.now }
         ensures all { (k : ℕ) → k < length self.now.seen → Contains self.now.mine k }

@@ -4,4 +4,5 @@ mod Prefixes
 mod PushPlaces
 mod RaceHistory
 mod RaceTeams
+mod RaceRefusals
 mod ReadValues

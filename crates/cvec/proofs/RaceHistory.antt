@@ -13,7 +13,7 @@ use Rattle.book_core.specs.declared.events.Reply.TheVariants as replies
 use Rattle.book_core.specs.Cells.{CellList, empty_list, apply_event, with_pending, with_cell, is_pending_for}
 use Rattle.book_core.specs.History.{IsHistory, IsLegalFrom}
 use Rattle.book_core.specs.Laws.{HistoriesSplit}
-use Rattle.cvec.specs.declared.race.Win.{Win}
+use Rattle.cvec.specs.declared.race.team.Win.{Win}
 use Rattle.cvec.specs.Race.{IsWinOf, AreAllPlaces, AreInOrder, events_of_win}
 
 -- the slot has the win of this place

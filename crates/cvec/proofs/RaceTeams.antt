@@ -10,8 +10,8 @@ use Rattle.claim_core.specs.Word.{WordView}
 use Rattle.claim_core.specs.Hand.{HandView, GainsRun, AddsRun, SeesRun, own_places, seen_size}
 use Rattle.claim_core.specs.Laws.{PlacesStay, SeenRunsStay, AddedRunsAreLast}
 use Rattle.grow_core.specs.Growth.{single}
-use Rattle.cvec.specs.declared.race.Win.{Win}
-use Rattle.cvec.specs.declared.race.Team.{Team}
+use Rattle.cvec.specs.declared.race.team.Win.{Win}
+use Rattle.cvec.specs.declared.race.team.Team.{Team}
 use Rattle.cvec.specs.Race.{sum_below, HasWin, IsTeam, AreAllPlaces}
 
 -- the hand has seen each run that it owns

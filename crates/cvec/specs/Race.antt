@@ -1,5 +1,5 @@
 -- A race: workers append to one shared vector, and what each of them won becomes a history.
-use Rattle.std.specs.Prelude.{◌≡◌, ℕ, zero, suc, ◌+◌, ◌<◌, ◌≤◌, ◌⊎◌, Bool, true, false, List, [], ◌∷◌, ◌++◌, length, slice_index_or, Option, Some, None, codes, decimal}
+use Rattle.std.specs.Prelude.{◌≡◌, ℕ, zero, suc, ◌+◌, ◌*◌, ◌<◌, ◌≤◌, ◌⊎◌, Bool, true, false, List, [], ◌∷◌, ◌++◌, length, slice_index_or, Option, Some, None, codes, decimal}
 use Rattle.std.specs.List.{Contains, sum_by}
 use Rattle.book_core.specs.declared.events.Event.{Event}
 use Rattle.book_core.specs.declared.events.Event.TheVariants.{Claim, Finish}
@@ -7,12 +7,13 @@ use Rattle.book_core.specs.declared.events.Reply.{Reply}
 use Rattle.book_core.specs.declared.events.Reply.TheVariants as replies
 use Rattle.claim_core.specs.Word.{WordView}
 use Rattle.claim_core.specs.Hand.{HandView, SeesRun, own_places}
+use Rattle.grow_core.specs.Vector.{VectorView, IsHandOf}
 use Rattle.grow_core.specs.Growth.{single}
-use Rattle.cvec.specs.declared.race.Win.{Win}
-use Rattle.cvec.specs.declared.race.Team.{Team}
-use Rattle.cvec.specs.declared.race.RaceReport.{RaceReport}
-use Rattle.cvec.specs.declared.race.RaceError.{RaceError}
-use Rattle.cvec.specs.declared.race.RaceError.TheVariants.{NoMemory, BadSize, Stuck, Grow}
+use Rattle.cvec.specs.declared.race.team.Win.{Win}
+use Rattle.cvec.specs.declared.race.team.Team.{Team}
+use Rattle.cvec.specs.declared.race.report.RaceReport.{RaceReport}
+use Rattle.cvec.specs.declared.race.refusal.RaceError.{RaceError}
+use Rattle.cvec.specs.declared.race.refusal.RaceError.TheVariants.{NoMemory, BadSize, Stuck, Grow}
 
 -- the number of each refusal
 abbrev pub number_of : RaceError → ℕ
@@ -45,13 +46,6 @@ IsWorkers BadSize = ⊥
 IsWorkers Stuck = ⊥
 IsWorkers (Grow number) = IsGrowth number
 
--- why a range of workers was refused, where the gate may refuse these
-abbrev pub IsOfRange : (ℕ → Type 0) → ℕ → ℕ → RaceError → Type 0
-IsOfRange may_refuse first count NoMemory = Unit {0}
-IsOfRange may_refuse first count BadSize = ⊥
-IsOfRange may_refuse first count Stuck = MayRefuseOne may_refuse first count
-IsOfRange may_refuse first count (Grow number) = IsGrowth number
-
 -- the place of a win is the hand's run of this index
 abbrev pub HasWin : HandView → List Win → ℕ → Type 0
 HasWin hand wins index = (win : Win) × Contains wins win × SeesRun hand index (single win.place)
@@ -63,6 +57,32 @@ pub record IsTeam (word : WordView) (shares from to : ℕ) (team : Team) : Type 
   pub places : own_places team.hand + from ≡ to
   pub wins : (index : ℕ) → Contains team.hand.mine index → HasWin team.hand team.wins.items index
   pub sum : sum_by (λ win. win.value) team.wins.items + sum_below from ≡ sum_below to
+
+-- these teams appended the values from one number up to another, each from where the one before ended
+abbrev pub HaveWon : WordView → List Team → ℕ → ℕ → Type 0
+HaveWon word [] from to = from ≡ to
+HaveWon word (team ∷ teams) from to = (shares middle : ℕ) × IsTeam word shares from middle team × HaveWon word teams middle to
+
+-- some worker of the range was refused for this reason, and the workers below it have appended all their values
+abbrev pub RefusesLowest : WordView → ℕ → (ℕ → Type 0) → ℕ → ℕ → Type 0
+RefusesLowest word each reason first count =
+    (worker : ℕ) × (first ≤ worker) × (worker < first + count) × reason worker
+    × ((teams : List Team) × HaveWon word teams (first * each) (worker * each))
+
+-- why a range of workers was refused, where the gate may refuse these
+abbrev pub IsOfRange : WordView → ℕ → (ℕ → Type 0) → ℕ → ℕ → RaceError → Type 0
+IsOfRange word each may_refuse first count NoMemory = Unit {0}
+IsOfRange word each may_refuse first count BadSize = ⊥
+IsOfRange word each may_refuse first count Stuck = RefusesLowest word each may_refuse first count
+IsOfRange word each may_refuse first count (Grow number) = RefusesLowest word each (λ _. IsGrowth number) first count
+
+-- a hand of this vector that has won nothing yet
+abbrev pub IsUnusedHand : VectorView → HandView → Type 0
+IsUnusedHand vector hand = IsHandOf vector hand × (hand.mine ≡ [])
+
+-- there may be workers up to this number, with so many values each
+abbrev pub AreFew : ℕ → ℕ → Type 0
+AreFew workers each = (workers ≤ 64) × (each ≤ 100000)
 
 -- each place below the size was won
 abbrev pub AreAllPlaces : ℕ → List Win → Type 0

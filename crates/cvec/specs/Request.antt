@@ -18,3 +18,11 @@ IsRefused (Race workers each) = ⊥
 IsRefused (Show text) = ⊥
 IsRefused (Refuse text) = ⊤
 IsRefused NoMemory = ⊤
+
+-- a race is asked for
+abbrev pub IsRace : Request → Type 0
+IsRace (Play engine) = ⊥
+IsRace (Race workers each) = ⊤
+IsRace (Show text) = ⊥
+IsRace (Refuse text) = ⊥
+IsRace NoMemory = ⊥

@@ -3,8 +3,8 @@ use Rattle.std.specs.Prelude.{ℕ, List, ◌++◌, codes, decimal}
 use Rattle.script_core.specs.ScriptError.{fault_text}
 use Rattle.cvec.specs.declared.error.RunError.{RunError}
 use Rattle.cvec.specs.declared.error.RunError.TheVariants.{Script, NoMemory, Read, Write, Race}
-use Rattle.cvec.specs.declared.race.RaceError.{RaceError}
-use Rattle.cvec.specs.declared.race.RaceError.TheVariants as races
+use Rattle.cvec.specs.declared.race.refusal.RaceError.{RaceError}
+use Rattle.cvec.specs.declared.race.refusal.RaceError.TheVariants as races
 use Rattle.cvec.specs.Race.{number_of}
 
 -- the exit status of each

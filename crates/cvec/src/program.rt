@@ -1,10 +1,11 @@
 //! The program over any three streams: `main` hands it the system's own.
-ghost use Rattle.std.specs.Prelude.{◌≡◌, ◌≢◌, ◌*◌, ℕ, Result, Err, IfOk, String, OnOk, OnErr, string_bytes};
+ghost use Rattle.std.specs.Prelude.{◌≡◌, ◌≢◌, ◌*◌, Result, Err, IfOk, String, OnOk, OnErr, string_bytes};
 ghost use Rattle.std.specs.Global.{Global};
 ghost use Rattle.std.specs.Io.KnownBytes.{Appends, Keeps};
 ghost use Rattle.script_core.specs.Text.{AppendsPrefix};
 ghost use Rattle.cvec.specs.Program.{EndsAs, Plays, Races, Shows};
 ghost use Rattle.cvec.specs.Race.{race_text};
+ghost use Rattle.cvec.specs.Request.{IsRace};
 ghost use Rattle.cvec.specs.RunError.{error_line};
 
 use crate::command_line::Request;
@@ -100,25 +101,21 @@ fn refuse<E: Write>(errors: &mut E, text: &str) -> u8
     REFUSED
 }
 
-/// Does what a command line asks for, and returns the exit status of the program.
+/// Does what a command line asks for, but for a race, and returns the exit status of the program.
 ///
 /// The writer of errors may fail too: clauses allow any prefix of its line, and the status alone tells.
-pub fn serve<X: Threads + Wait + Sync, R: Read, W: Write, E: Write>(
-    rt: &X,
+pub fn serve<R: Read, W: Write, E: Write>(
     alloc: Global,
     request: &Request,
     reader: &mut R,
     writer: &mut W,
     errors: &mut E,
 ) -> u8
+    requires no_race { IsRace request.now → ⊥ }
     ensures plays { (engine : Engine) → request.now ≡ Request.Play engine
         → (ended : Result (Unit {0}) RunError)
         × Plays engine ended (R.remaining reader.old)
         (W.contents writer.old) (W.contents writer.new)
-        × EndsAs ended result (E.contents errors.old) (E.contents errors.new) }
-    ensures races { (workers each : ℕ) → request.now ≡ Request.Race workers each
-        → (ended : Result (Unit {0}) RunError)
-        × Races (workers * each) ended (W.contents writer.old) (W.contents writer.new)
         × EndsAs ended result (E.contents errors.old) (E.contents errors.new) }
     ensures shows { (text : String Global) → request.now ≡ Request.Show text
         → (ended : Result (Unit {0}) RunError)
@@ -134,11 +131,25 @@ pub fn serve<X: Threads + Wait + Sync, R: Read, W: Write, E: Write>(
     match request {
         Request::Play(Engine::Calls) => told(errors, run_calls(alloc, reader, writer)),
         Request::Play(Engine::Steps) => told(errors, run_steps(alloc, reader, writer)),
-        Request::Race { workers, each } => {
-            told(errors, hold_race(rt, alloc, *workers, *each, writer))
-        }
+        Request::Race { .. } => unreachable!(),
         Request::Show(text) => told(errors, show(writer, text)),
         Request::Refuse(text) => refuse(errors, text),
         Request::NoMemory => told(errors, Err(RunError::NoMemory)),
     }
+}
+
+/// Holds a race, and returns the exit status of the program. It may wait for a thread.
+pub fn serve_race<X: Threads + Wait + Sync, W: Write, E: Write>(
+    rt: &X,
+    alloc: Global,
+    workers: u32,
+    each: u32,
+    writer: &mut W,
+    errors: &mut E,
+) -> u8
+    ensures races { (ended : Result (Unit {0}) RunError)
+        × Races (workers * each) ended (W.contents writer.old) (W.contents writer.new)
+        × EndsAs ended result (E.contents errors.old) (E.contents errors.new) }
+{
+    told(errors, hold_race(rt, alloc, workers, each, writer))
 }

@@ -1,5 +1,6 @@
-//! What no clause says: which text, which fault and which history some scripts have by the rules, and that calls succeed
-//! where there is memory. The tests of `script_core` and `step_core` are here too, since a crate with tests is proved twice.
+//! What no clause says: which text, which fault and which history some scripts have by the rules, and that calls
+//! succeed where there is memory. The tests of `script_core` and `step_core` are here too, since a crate with tests is
+//! proved twice.
 
 ghost use Rattle.std.specs.Prelude.{◌≡◌, IfOk, length};
 ghost use Rattle.book_core.specs.Cells.{IsLimit};

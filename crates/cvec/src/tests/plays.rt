@@ -30,7 +30,8 @@ const ROWS: [Row; 25] = [
     (
         "every command ends in its own way",
         "limit 4\nactor a fail 3 7 1, atleast 2 0, read 3, grow 2 1\nactor b read 1, atleast 9 0\nsteps a a a a b b",
-        "a1 fail broken 0 3 1\na2 atleast enough 3\na3 read outofrange 3\na4 grow full 3\nb1 read broken\nb2 atleast full 3\nsize 3: 7 x x\n",
+        "a1 fail broken 0 3 1\na2 atleast enough 3\na3 read outofrange 3\na4 grow full 3\n\
+         b1 read broken\nb2 atleast full 3\nsize 3: 7 x x\n",
     ),
     (
         "a script without actors has no cells",

@@ -1,15 +1,15 @@
 //! The program over streams of its own: the exit status, and the line on standard error.
 
+ghost use Rattle.cvec.specs.Request.{IsRace};
+
 use super::streams::{Narrow, Slow};
 use crate::command_line::Request;
 use crate::engine::Engine;
-use crate::program::serve;
+use crate::program::{serve, serve_race};
 use std::alloc::Global;
 use std::io::{ErrorKind, Read, Write};
 use std::process::Abort;
-use std::sync::Wait;
 use std::test::Fail;
-use std::thread::Threads;
 
 const SCRIPT: &[u8] = b"limit 8\nactor a push 5\nsteps a";
 
@@ -18,16 +18,18 @@ const CALLS: Request = Request::Play(Engine::Calls);
 const STEPS: Request = Request::Play(Engine::Steps);
 
 // Serves a request, and compares the status and what standard error gets.
-fn ends<X: Threads + Wait + Abort + Sync, R: Read, W: Write>(
+fn ends<X: Abort, R: Read, W: Write>(
     rt: &X,
     alloc: Global,
     request: &Request,
     reader: &mut R,
     writer: &mut W,
     want: (u8, &str),
-) {
+)
+    requires { IsRace request.now → ⊥ }
+{
     let mut errors = Vec::new(alloc);
-    let status = serve(rt, alloc, request, reader, writer, &mut errors);
+    let status = serve(alloc, request, reader, writer, &mut errors);
     assert_eq!(rt; (status, errors.as_slice()), (want.0, want.1.as_bytes()));
 }
 
@@ -131,20 +133,17 @@ fn the_status_tells_where_standard_error_fails(rt: HostRuntime) {
     let mut reader = b"".as_slice();
     let mut writer = Vec::new(alloc);
     let mut errors = Narrow::new(alloc, 4, Some(ErrorKind::BrokenPipe));
-    let status = serve(&rt, alloc, &CALLS, &mut reader, &mut writer, &mut errors);
+    let status = serve(alloc, &CALLS, &mut reader, &mut writer, &mut errors);
     assert_eq!(rt; status, 2);
     assert_eq!(rt; errors.text.as_slice(), b"line".as_slice());
 }
 
 #[test]
 fn a_race_is_told(rt: HostRuntime) {
-    let mut reader = b"".as_slice();
     let mut writer = Vec::new(rt.alloc());
-    let request = Request::Race {
-        workers: 4,
-        each: 1000,
-    };
-    ends(&rt, rt.alloc(), &request, &mut reader, &mut writer, (0, ""));
+    let mut errors = Vec::new(rt.alloc());
+    let status = serve_race(&rt, rt.alloc(), 4, 1000, &mut writer, &mut errors);
+    assert_eq!(rt; (status, errors.as_slice()), (0, b"".as_slice()));
     let text = "size 4000\nsum 7998000\nlegal\n";
     assert_eq!(rt; writer.as_slice(), text.as_bytes());
 }

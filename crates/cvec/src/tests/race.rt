@@ -21,22 +21,22 @@ fn two_workers_run_at_once(rt: HostRuntime) {
     assert_eq!(rt; ended, Ok(report));
 }
 
-// Counts its calls, and refuses one worker.
+// Counts its calls, and refuses the workers from one number on.
 #[derive(Drop)]
 struct CountingGate {
-    refused: u32,
+    refused_from: u32,
     before: AtomicU64,
     after: AtomicU64,
 }
 
 impl Gate for CountingGate {
-    ghost use Rattle.std.specs.Prelude.{◌≡◌};
+    ghost use Rattle.std.specs.Prelude.{◌≤◌};
 
-    ghost may_refuse = { λ gate worker. worker ≡ gate.refused };
+    ghost may_refuse = { λ gate worker. gate.refused_from ≤ worker };
 
     fn before(&self, worker: u32) -> bool {
         let _calls = self.before.fetch_add(1, Ordering::SeqCst);
-        worker != self.refused
+        worker < self.refused_from
     }
 
     fn after(&self, _worker: u32) {
@@ -45,20 +45,20 @@ impl Gate for CountingGate {
 }
 
 #[test]
-fn each_worker_passes_the_gate_twice_also_where_one_is_refused(rt: HostRuntime) {
-    for (refused, stuck) in [(0, true), (2, true), (5, false)] {
+fn each_worker_passes_the_gate_twice_also_where_several_are_refused(rt: HostRuntime) {
+    for (refused_from, stuck) in [(0, true), (2, true), (4, true), (5, false)] {
         let gate = CountingGate {
-            refused,
+            refused_from,
             before: AtomicU64::new(0),
             after: AtomicU64::new(0),
         };
         let ended = race(&rt, rt.alloc(), 5, 10, &gate);
-        assert_eq!(rt; ended == Err(RaceError::Stuck), stuck, "{refused}");
+        assert_eq!(rt; ended == Err(RaceError::Stuck), stuck, "{refused_from}");
         let calls = (
             gate.before.load(Ordering::SeqCst),
             gate.after.load(Ordering::SeqCst),
         );
-        assert_eq!(rt; calls, (5, 5), "{refused}");
+        assert_eq!(rt; calls, (5, 5), "{refused_from}");
     }
 }
 

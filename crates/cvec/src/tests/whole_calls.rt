@@ -47,8 +47,10 @@ const EVENTS: [(Event, Reply); 11] = [
 
 #[test]
 fn whole_calls_have_their_events(rt: HostRuntime) -> Result<(), Fail> {
-    let script =
-        "limit 4\nactor a fail 3 7 1, atleast 2 0, read 3, grow 2 1\nactor b push 6, read 1, size\nsteps a a a b a b b a";
+    let script = "limit 4\n\
+        actor a fail 3 7 1, atleast 2 0, read 3, grow 2 1\n\
+        actor b push 6, read 1, size\n\
+        steps a a a b a b b a";
     let (_, played) = calls_played(rt.alloc(), script)?;
     assert_eq!(rt; played.events.as_slice(), EVENTS.as_slice());
     assert_eq!(rt; played.ended.len(), 7);

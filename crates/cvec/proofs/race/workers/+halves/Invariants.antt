@@ -1,5 +1,5 @@
 use Rattle.std.proofs.Common.{◌+◌, ◌-◌, ◌*◌}
-use Rattle.cvec.proofs.race.+halves.Given as goal
+use Rattle.cvec.proofs.race.workers.+halves.Given as goal
 
 abbrev pub decreases-halves-scope-spawn_with : goal.decreases-halves-scope-spawn_with
 decreases-halves-scope-spawn_with g l = 4 * l.high + 1

@@ -1,6 +1,6 @@
 use Rattle.std.proofs.Common.{◌≡◌, ℕ}
 use Rattle.cvec.specs.Race.{IsTeam}
-use Rattle.cvec.proofs.race.push_all.Given as goal
+use Rattle.cvec.proofs.race.team.push_all.Given as goal
 
 abbrev pub invariant-loop-value : goal.invariant-loop-value
 invariant-loop-value g l =

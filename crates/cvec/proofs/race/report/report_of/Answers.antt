@@ -1,10 +1,10 @@
 use Rattle.std.proofs.Common.{arith, subst, sym, ap}
 use Rattle.std.specs.List.{sum_by}
 use Rattle.claim_core.specs.Word.{WordView}
-use Rattle.cvec.specs.declared.race.Win.{Win}
+use Rattle.cvec.specs.declared.race.team.Win.{Win}
 use Rattle.cvec.specs.Race.{AreAllPlaces}
 use Rattle.cvec.proofs.RaceTeams.{all_won, sum_is_small}
-use Rattle.cvec.proofs.race.report.Goals as goal
+use Rattle.cvec.proofs.race.report.report_of.Goals as goal
 
 pub in_order-requires : goal.in_order-requires
 in_order-requires c =

@@ -1,7 +1,7 @@
 use Rattle.std.proofs.Common.{rules}
-use Rattle.cvec.specs.declared.race.Team.{Team}
+use Rattle.cvec.specs.declared.race.team.Team.{Team}
 use Rattle.cvec.proofs.RaceTeams.{team_new}
-use Rattle.cvec.proofs.race.Team.new.Goals as goal
+use Rattle.cvec.proofs.race.team.Team.new.Goals as goal
 
 pub returns-clause-team : goal.returns-clause-team
 returns-clause-team c = λ from.

@@ -1,6 +1,6 @@
 use Rattle.std.proofs.Common.{◌≡◌, arith, subst}
 use Rattle.cvec.specs.Race.{IsTeam}
-use Rattle.cvec.proofs.race.push_all.Goals as goal
+use Rattle.cvec.proofs.race.team.push_all.Goals as goal
 
 pub loop-value-preserved : goal.loop-value-preserved
 loop-value-preserved g c = (c.in_ok-push.ensures.ours, λ shares start. c.in_ok-push.ensures.team shares c.args.from (c.loop-value.invariant.1 shares start))

@@ -1,8 +1,8 @@
 use Rattle.std.proofs.Common.{rules}
-use Rattle.cvec.specs.declared.race.Win.{Win}
-use Rattle.cvec.specs.declared.race.Team.{Team}
+use Rattle.cvec.specs.declared.race.team.Win.{Win}
+use Rattle.cvec.specs.declared.race.team.Team.{Team}
 use Rattle.cvec.proofs.RaceTeams.{team_told}
-use Rattle.cvec.proofs.race.Team.push.Goals as goal
+use Rattle.cvec.proofs.race.team.Team.push.Goals as goal
 
 pub returns-in-Ok-push-clause-team : goal.returns-in-Ok-push-clause-team
 returns-in-Ok-push-clause-team g c = λ shares from team.

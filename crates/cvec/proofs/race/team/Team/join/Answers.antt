@@ -1,6 +1,6 @@
-use Rattle.cvec.specs.declared.race.Team.{Team}
+use Rattle.cvec.specs.declared.race.team.Team.{Team}
 use Rattle.cvec.proofs.RaceTeams.{teams_joined}
-use Rattle.cvec.proofs.race.Team.join.Goals as goal
+use Rattle.cvec.proofs.race.team.Team.join.Goals as goal
 
 pub returns : goal.returns
 returns c = λ some more from middle to a b.

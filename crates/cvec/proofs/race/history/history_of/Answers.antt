@@ -1,7 +1,7 @@
 use Rattle.std.proofs.Common.{◌+◌, arith, subst, sym, length}
 use Rattle.cvec.specs.Race.{IsWinOf}
 use Rattle.cvec.proofs.RaceHistory.{LeadsTo, leads_on}
-use Rattle.cvec.proofs.race.history_of.Goals as goal
+use Rattle.cvec.proofs.race.history.history_of.Goals as goal
 
 pub loop-slot-preserved : goal.loop-slot-preserved
 loop-slot-preserved c =

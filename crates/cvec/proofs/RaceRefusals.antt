@@ -5,7 +5,7 @@ use Rattle.claim_core.specs.Word.{WordView}
 use Rattle.cvec.specs.declared.race.team.Team.{Team}
 use Rattle.cvec.specs.declared.race.refusal.RaceError.{RaceError}
 use Rattle.cvec.specs.declared.race.refusal.RaceError.TheVariants.{NoMemory, BadSize, Stuck, Grow}
-use Rattle.cvec.specs.Race.{IsTeam, HaveWon, RefusesLowest, IsOfRange}
+use Rattle.cvec.specs.Race.{IsTeam, RefusesLowest, IsOfRange}
 
 module _ (word : WordView) (each : ℕ) where
   -- the lowest one of the lower half is the lowest of the whole

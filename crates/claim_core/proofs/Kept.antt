@@ -37,8 +37,8 @@ module _ (terms : Terms) (slots id : ℕ) (me : Seated) (is_limit : me.0.limit �
       let all = kept.lengths in
       let fits = kept.fits in
       let mine = fits.each id v at in
-      let w : SeatView = record { limit = v.limit; base = v.base; seen = all; mine = v.mine; shares = v.shares; one = []; other = [] } in
-      let same : SameOwn v w = record { limit = refl; base = refl; mine = refl; shares = refl } in
+      let w : SeatView = record { limit = v.limit; base = v.base; mark = v.mark; seen = all; mine = v.mine; shares = v.shares; one = []; other = [] } in
+      let same : SameOwn v w = record { limit = refl; base = refl; mark = refl; mine = refl; shares = refl } in
       let suits : Suits all w =
       record {
         seen = prefix_self all;
@@ -70,7 +70,7 @@ module _ (terms : Terms) (slots id : ℕ) (me : Seated) (is_limit : me.0.limit �
       let all = kept.lengths in
       let fits = kept.fits in
       let mine = fits.each id v at in
-      let w : SeatView = record { limit = v.limit; base = v.base; seen = all ++ n ∷ []; mine = length all ∷ v.mine; shares = v.shares; one = []; other = [] } in
+      let w : SeatView = record { limit = v.limit; base = v.base; mark = v.mark; seen = all ++ n ∷ []; mine = length all ∷ v.mine; shares = v.shares; one = []; other = [] } in
       let fits' = grows terms.limit terms.base (get_or s.words 0 0) all s.views fits id v at n w one_place room part refl refl refl refl refl in
       let ends = fits.ends in
       let size : runs_end v.base all ≡ get_or s.words 0 0 = omega arith in (
@@ -81,7 +81,7 @@ module _ (terms : Terms) (slots id : ℕ) (me : Seated) (is_limit : me.0.limit �
           size = ap (runs_end v.base) mine.seen.1 ∙ size;
           seen = ap (λ l. l ++ n ∷ []) (sym mine.seen.1);
           mine = ap (λ (l : List ℕ). length l ∷ v.mine) (sym mine.seen.1);
-          same = record { limit = refl; base = refl; mine = refl; shares = refl };
+          same = record { limit = refl; base = refl; mark = refl; mine = refl; shares = refl };
           consistent = consistent terms.limit terms.base (get_or s.words 0 0 + n) (all ++ n ∷ []) (set s.views id w) fits' id w (at_set_here s.views id v w at) is_limit is_base;
         },
       )
@@ -135,8 +135,8 @@ module _ (terms : Terms) (slots id : ℕ) (me : Seated) (is_limit : me.0.limit �
       let all = kept.lengths in
       let fits = kept.fits in
       let mine = fits.each id v at in
-      let w : SeatView = record { limit = v.limit; base = v.base; seen = v.seen; mine = v.mine; shares = v.shares; one = []; other = [] } in
-      let same : SameOwn v w = record { limit = refl; base = refl; mine = refl; shares = refl } in
+      let w : SeatView = record { limit = v.limit; base = v.base; mark = v.mark; seen = v.seen; mine = v.mine; shares = v.shares; one = []; other = [] } in
+      let same : SameOwn v w = record { limit = refl; base = refl; mark = refl; mine = refl; shares = refl } in
       let suits : Suits all w = record { seen = mine.seen; one = prefix_nil all; other = prefix_nil all; own = mine.own; spent = mine.spent } in
       let fits' = stays terms.limit terms.base (get_or s.words 0 0) all s.views fits id v at w same suits in
       let begins = longer_begins v.one v.other all mine.one mine.other in (

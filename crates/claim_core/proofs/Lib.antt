@@ -9,3 +9,4 @@ mod Belongs
 mod WholeHand
 mod KeyRows
 mod OwnCounts
+mod OwnPlaces

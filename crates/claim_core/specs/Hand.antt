@@ -3,7 +3,7 @@ use Rattle.std.specs.Prelude.{◌≡◌, ℕ, ◌+◌, ◌<◌, ◌≤◌, List,
 use Rattle.std.specs.List.{Contains}
 use mathlib.Core.List.{IsPrefix}
 use Rattle.claim_core.specs.declared.run.Run.{Run}
-use Rattle.claim_core.specs.Lengths.{run_start, runs_end, places_in}
+use Rattle.claim_core.specs.Lengths.{InRun, run_start, runs_end, places_in}
 use Rattle.claim_core.specs.Word.{WordView}
 
 -- the word that it belongs to, the lengths of all runs that it has seen, the indices of its own runs among them, and its shares
@@ -74,6 +74,14 @@ HasSeen hand run = (index : ℕ) × SeesRun hand index run
 -- the hand has seen the run, and owns it
 abbrev pub OwnsRun : HandView → Run → Type 0
 OwnsRun hand run = (index : ℕ) × Contains hand.mine index × SeesRun hand index run
+
+-- the place lies in a run that the hand owns
+abbrev pub OwnsPlace : HandView → ℕ → Type 0
+OwnsPlace hand place = (index : ℕ) × Contains hand.mine index × InRun hand.of.base hand.seen index place
+
+-- the hand has seen each run that it owns
+abbrev pub SeesOwn : HandView → Type 0
+SeesOwn hand = (index : ℕ) → Contains hand.mine index → index < length hand.seen
 
 -- the run has the last index of all that the hand has seen. That index is new to the hand, and is its own
 pub record GainsRun (old new : HandView) (index : ℕ) (run : Run) : Type 0 where

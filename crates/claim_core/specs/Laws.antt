@@ -1,10 +1,10 @@
 -- What follows from the definitions of runs and hands alone.
-use Rattle.std.specs.Prelude.{◌≡◌, ℕ, ◌+◌, ◌<◌, ◌≤◌, ◌↔◌, List, length}
+use Rattle.std.specs.Prelude.{◌≡◌, ℕ, ◌+◌, ◌<◌, ◌≤◌, ◌↔◌, ◌⊎◌, List, ◌++◌, length}
 use Rattle.std.specs.List.{Contains}
 use mathlib.Core.List.{IsPrefix}
 use Rattle.claim_core.specs.declared.run.Run.{Run}
 use Rattle.claim_core.specs.Lengths.{InRun, places_in}
-use Rattle.claim_core.specs.Hand.{HandView, AddsRun, SeesRun, OwnsRun, GainsRun, OwnApart, IsPlaceOf, AreDisjoint, seen_size}
+use Rattle.claim_core.specs.Hand.{HandView, KeepsOwn, AddsRun, SeesRun, OwnsRun, OwnsPlace, SeesOwn, GainsRun, OwnApart, IsPlaceOf, AreDisjoint, seen_size}
 
 -- a run stays where it is when the list goes on
 abbrev pub RunsStay : Type 0
@@ -72,3 +72,27 @@ JoinedOwnersAreApart =
     (a b : HandView) (lengths : List ℕ) (x y : Run)
     → b.of ≡ a.of → IsPrefix a.seen lengths → IsPrefix b.seen lengths → OwnApart a b
     → OwnsRun a x → OwnsRun b y → AreDisjoint x y
+
+-- a hand that has seen more owns no other places
+abbrev pub OwnPlacesStay : Type 0
+OwnPlacesStay =
+    (old new : HandView) (place : ℕ) → SeesOwn old → KeepsOwn old new → IsPrefix old.seen new.seen
+    → OwnsPlace new place → OwnsPlace old place
+
+-- a hand that has one more run owns the places that it owned, and those of the run
+abbrev pub AddedPlacesAreOfTheRun : Type 0
+AddedPlacesAreOfTheRun =
+    (old new : HandView) (run : Run) (place : ℕ) → SeesOwn old → AddsRun old new run
+    → OwnsPlace new place → OwnsPlace old place ⊎ IsPlaceOf run place
+
+-- a hand owns the places of a run that a step adds
+abbrev pub AddedPlacesAreOwned : Type 0
+AddedPlacesAreOwned =
+    (old new : HandView) (run : Run) (place : ℕ) → AddsRun old new run → IsPlaceOf run place → OwnsPlace new place
+
+-- a hand that two were joined into owns the places that one of them owned
+abbrev pub JoinedPlacesAreOfEither : Type 0
+JoinedPlacesAreOfEither =
+    (a b new : HandView) (place : ℕ) → SeesOwn a → SeesOwn b → new.of ≡ a.of → new.of ≡ b.of
+    → IsPrefix a.seen new.seen → IsPrefix b.seen new.seen → new.mine ≡ a.mine ++ b.mine
+    → OwnsPlace new place → OwnsPlace a place ⊎ OwnsPlace b place

@@ -15,7 +15,7 @@ ClaimSeat = Seat (Unit {0}) SeatView
 
 -- the table and its terms as callers see them
 abbrev pub word_view : TableId → Terms → WordView
-word_view table terms = record { table = table; limit = terms.limit; base = terms.base }
+word_view table terms = record { table = table; limit = terms.limit; base = terms.base; mark = terms.mark.numbers }
 
 -- the table has one word and no slot, and its rule has these terms
 pub record IsOpened (table : TableId) (key terms : Terms) : Type 0 where
@@ -28,7 +28,7 @@ pub record IsOpened (table : TableId) (key terms : Terms) : Type 0 where
 abbrev pub hand_view : ClaimSeat → HandView
 hand_view seat =
     record {
-      of = record { table = seat.table_id; limit = seat.me.0.limit; base = seat.me.0.base };
+      of = record { table = seat.table_id; limit = seat.me.0.limit; base = seat.me.0.base; mark = seat.me.0.mark };
       seen = seat.me.0.seen;
       mine = seat.me.0.mine;
       shares = seat.me.0.shares;

@@ -10,11 +10,11 @@ use Rattle.claim_core.specs.Lengths.{runs_end, times, once_below}
 -- the first seat has all shares, and has seen nothing
 abbrev pub first_view : Terms → SeatView
 first_view terms =
-    record { limit = terms.limit; base = terms.base; seen = []; mine = []; shares = 65536; one = []; other = [] }
+    record { limit = terms.limit; base = terms.base; mark = terms.mark.numbers; seen = []; mine = []; shares = 65536; one = []; other = [] }
 
 -- a seat that was joined to another has nothing left
 abbrev pub spent_view : SeatView
-spent_view = record { limit = 0; base = 0; seen = []; mine = []; shares = 0; one = []; other = [] }
+spent_view = record { limit = 0; base = 0; mark = []; seen = []; mine = []; shares = 0; one = []; other = [] }
 
 -- the longer of two lists, and the first where both have one length
 abbrev pub longer : List ℕ → List ℕ → List ℕ
@@ -26,6 +26,7 @@ joined_view v w =
     record {
       limit = v.limit;
       base = v.base;
+      mark = v.mark;
       seen = longer v.seen w.seen;
       mine = v.mine ++ w.mine;
       shares = v.shares + w.shares;
@@ -36,7 +37,7 @@ joined_view v w =
 -- a view with these runs and shares
 abbrev pub with_own : SeatView → List ℕ → ℕ → SeatView
 with_own v mine shares =
-    record { limit = v.limit; base = v.base; seen = v.seen; mine = mine; shares = shares; one = []; other = [] }
+    record { limit = v.limit; base = v.base; mark = v.mark; seen = v.seen; mine = mine; shares = shares; one = []; other = [] }
 
 -- what a seat keeps that no join has left unsettled
 pub record IsConsistent (v : SeatView) : Type 0 where
@@ -50,6 +51,7 @@ pub record IsConsistent (v : SeatView) : Type 0 where
 pub record SameOwn (v w : SeatView) : Type 0 where
   pub limit : w.limit ≡ v.limit
   pub base : w.base ≡ v.base
+  pub mark : w.mark ≡ v.mark
   pub mine : w.mine ≡ v.mine
   pub shares : w.shares ≡ v.shares
 

@@ -4,6 +4,7 @@ ghost use Rattle.claim_core.specs.Laws.{RunsStay, RunsWereThere, RunsAreApart, P
 ghost use Rattle.claim_core.specs.Laws.{AddedRunsAreOwned, AddedRunsAreLast};
 ghost use Rattle.claim_core.specs.Laws.{SeenRunsStay, SeenRunsWereThere, SeenRunsAreWithin, SeenRunsHavePlaces};
 ghost use Rattle.claim_core.specs.Laws.{OwnersAreApart, JoinedOwnersAreApart};
+ghost use Rattle.claim_core.specs.Laws.{OwnPlacesStay, AddedPlacesAreOwned, AddedPlacesAreOfTheRun, JoinedPlacesAreOfEither};
 
 /// A run stays where it is when the list goes on.
 pub fn runs_stay()
@@ -65,4 +66,24 @@ pub fn owners_are_apart()
 /// it is where the two are joined.
 pub fn joined_owners_are_apart()
     ensures { JoinedOwnersAreApart }
+{}
+
+/// A hand that has seen more owns no other places.
+pub fn own_places_stay()
+    ensures { OwnPlacesStay }
+{}
+
+/// A hand owns the places of a run that a step adds.
+pub fn added_places_are_owned()
+    ensures { AddedPlacesAreOwned }
+{}
+
+/// A hand that has one more run owns the places that it owned, and those of the run.
+pub fn added_places_are_of_the_run()
+    ensures { AddedPlacesAreOfTheRun }
+{}
+
+/// A hand that two were joined into owns the places that one of them owned.
+pub fn joined_places_are_of_either()
+    ensures { JoinedPlacesAreOfEither }
 {}

@@ -17,6 +17,7 @@
 mod claims;
 mod hand;
 pub mod laws;
+mod mark;
 mod rule;
 mod run;
 mod seat_view;
@@ -25,6 +26,7 @@ mod terms;
 mod word;
 
 pub use hand::Hand;
+pub use mark::{Mark, Marks};
 pub use run::{Enough, Moved, Run};
 pub use word::{OpenError, Word};
 

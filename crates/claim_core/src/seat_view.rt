@@ -1,11 +1,12 @@
 //! What a seat at the word knows.
 use std::collections::LinkedList;
 
-/// The terms of its word, the lengths of the runs that it has seen, the indices of its own runs, its shares, and
+/// The terms and the mark of its word, the lengths of the runs that it has seen, the indices of its own runs, its shares, and
 /// the two lists that its last join put together. No value of it is made.
 pub struct SeatView {
     pub limit: u64,
     pub base: u64,
+    pub mark: LinkedList<u64>,
     pub seen: LinkedList<u64>,
     pub mine: LinkedList<u64>,
     pub shares: u64,

@@ -1,8 +1,10 @@
 //! What is fixed when a word is opened.
+use crate::mark::Mark;
 
-/// The greatest size, and the size at the start.
-#[derive(Clone, Copy)]
+/// The greatest size, the size at the start, and the mark.
+#[derive(Drop)]
 pub struct Terms {
     pub limit: u64,
     pub base: u64,
+    pub mark: Mark,
 }

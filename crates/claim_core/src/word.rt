@@ -4,6 +4,7 @@ ghost use Rattle.claim_core.specs.Word.{AreBounds};
 ghost use Rattle.claim_core.specs.Hand.{IsHandOf, IsWholeHand, IsNewHand, SeesSize, seen_size};
 
 use crate::hand::{Hand, WHOLE};
+use crate::mark::Mark;
 use crate::rule::{Load, OneList};
 use crate::seat_view::SeatView;
 use crate::terms::Terms;
@@ -82,10 +83,25 @@ impl<A: Allocator> Word<A> {
         // The limit is looked at before memory is asked for.
         ensures bad_limit { (result ≡ Err OpenError.BadLimit) ↔ ¬ AreBounds limit base }
     {
+        Word::open_marked(alloc, limit, base, Mark::none())
+    }
+
+    /// As `open`, with a mark that its hands share.
+    pub fn open_marked(
+        alloc: A,
+        limit: u64,
+        base: u64,
+        mark: Mark,
+    ) -> Result<(Word<A>, Hand), OpenError>
+        ensures word { IfOk result (λ (word, _). (word.limit ≡ limit) × (word.base ≡ base)) }
+        ensures mark { IfOk result (λ (word, _). word.mark ≡ mark.numbers) }
+        ensures hand { IfOk result (λ (word, hand). IsNewHand word hand) }
+        ensures bad_limit { (result ≡ Err OpenError.BadLimit) ↔ ¬ AreBounds limit base }
+    {
         if limit == 0 || limit > GREATEST_LIMIT || base > limit {
             return Err(OpenError::BadLimit);
         }
-        let terms = Terms { limit, base };
+        let terms = Terms { limit, base, mark };
         let (table, seat) = Table::of_words(alloc, &[base], &terms).map_err(
             |_| OpenError::NoMemory,
         )?;

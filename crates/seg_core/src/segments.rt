@@ -46,6 +46,7 @@ pub fn segments_of(from: u64, n: u64) -> (u32, u32)
     ensures first { HasPlace result.0 from }
     ensures last { (last : ℕ) × (last + 1 ≡ result.1) × HasPlace last (from + n - 1) }
     ensures touched { (k : ℕ) → Touches k from n ↔ (result.0 ≤ k) × (k < result.1) }
+    ensures bound { result.1 ≤ 32 }
 {
     let (first, _) = locate(from);
     let (last, _) = locate(from + n - 1);

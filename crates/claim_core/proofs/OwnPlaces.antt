@@ -1,0 +1,47 @@
+-- Which places a hand owns after a step.
+use Rattle.std.proofs.Common.{◌≡◌, ℕ, zero, suc, ◌⊎◌, List, [], ◌∷◌, ◌++◌, inl, inr, ⊎_elim, ap, sym, ◌∙◌, subst, arith}
+use Rattle.std.specs.List.{Contains}
+use Rattle.std.proofs.lemmas.List.Elements.{Contains-append_cases}
+use mathlib.Core.List.{IsPrefix}
+use Rattle.claim_core.specs.declared.run.Run.{Run}
+use Rattle.claim_core.specs.Lengths.{InRun}
+use Rattle.claim_core.specs.Word.{WordView}
+use Rattle.claim_core.specs.Hand.{HandView, OwnsPlace, SeesOwn, IsPlaceOf}
+use Rattle.claim_core.specs.Laws.{OwnPlacesStay, AddedPlacesAreOwned, AddedPlacesAreOfTheRun, JoinedPlacesAreOfEither}
+use Rattle.claim_core.proofs.Tiles.{run_was_there}
+use Rattle.claim_core.proofs.RunLaws.{added_last, added_owned, seen_places}
+
+-- a place of an old run is in that run still
+stays : (old new : HandView) (index place : ℕ) → SeesOwn old → new.of ≡ old.of → IsPrefix old.seen new.seen
+    → Contains old.mine index → InRun new.of.base new.seen index place → OwnsPlace old place
+stays old new index place sees of more own in_run =
+    (index, own, run_was_there old.of.base old.seen new.seen index place more (sees index own) (subst (λ (w : WordView). InRun w.base new.seen index place) of in_run))
+
+only : (x k : ℕ) → Contains (x ∷ []) k → x ≡ k
+only x k (zero, lt, is) = is
+only x k (suc i, lt, is) = absurd (omega arith)
+
+pub own_places_stay : OwnPlacesStay
+own_places_stay old new place sees keeps more (index, own, in_run) =
+    stays old new index place sees keeps.of more (subst (λ m. Contains m index) keeps.mine own) in_run
+
+pub added_places : AddedPlacesAreOfTheRun
+added_places old new run place sees adds (index, own, in_run) =
+    let (last, gain) = added_last old new run adds in
+    ⊎_elim
+    (λ (one : Contains (last ∷ []) index).
+    inr ((seen_places new last run place gain.sees).1 (subst (λ i. InRun new.of.base new.seen i place) (sym (only last index one)) in_run)))
+    (λ (was : Contains old.mine index). inl (stays old new index place sees adds.of gain.seen was in_run))
+    (Contains-append_cases (last ∷ []) old.mine index (subst (λ m. Contains m index) gain.mine own))
+
+pub added_own : AddedPlacesAreOwned
+added_own old new run place adds is_place =
+    let (index, own, sees) = added_owned old new run adds in
+    (index, own, (seen_places new index run place sees).0 is_place)
+
+pub joined_places : JoinedPlacesAreOfEither
+joined_places a b new place sees also_sees of also_of more also_more mine (index, own, in_run) =
+    ⊎_elim
+    (λ (was : Contains a.mine index). inl (stays a new index place sees of more was in_run))
+    (λ (was : Contains b.mine index). inr (stays b new index place also_sees also_of also_more was in_run))
+    (Contains-append_cases a.mine b.mine index (subst (λ m. Contains m index) mine own))

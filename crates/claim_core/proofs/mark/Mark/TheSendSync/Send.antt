@@ -1,0 +1,7 @@
+use denote.Param.Send.{IsSend}
+use denote.Struct.Owning
+use denote.Struct.Struct
+use Rattle.claim_core.specs.contracts.mark.Mark.{the_row}
+
+pub send : IsSend the_row
+send = record { owned = λ d vs. ((λ vss. (tt, ((λ uss. (tt, tt)), tt))), tt); leaving = λ k f vs. tt }

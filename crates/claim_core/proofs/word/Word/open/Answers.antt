@@ -1,6 +1,0 @@
-use Rattle.std.proofs.Common.{arith}
-use Rattle.claim_core.proofs.Kept.{opens}
-use Rattle.claim_core.proofs.word.Word.open.Goals as goal
-
-pub of_words-requires : goal.of_words-requires
-of_words-requires g c = opens (record { limit = c.args.limit; base = c.args.base }) (omega arith)

@@ -74,7 +74,7 @@ impl<T> Table<T> {
     }
 
     /// As `scout`, with the entry's key.
-    pub fn scout_key(&self, k: u32) -> Option<(&Block<T>, Key<T>)>
+    pub fn scout_key(&self, k: u32) -> Option<(&Block<T>, Key)>
         requires { k < 32 }
         ensures length { IfSome result (λ (block, _). IsBlockOf k block.now) }
         ensures key { IfSome result (λ (block, key). IsKeyOf self.now k block.now key) }
@@ -82,7 +82,13 @@ impl<T> Table<T> {
         let entry = &self.entries[k as usize];
         let mut sight = entry.sight();
         match entry.look(&mut sight) {
-            Some(block) => Some((block, Key { entry: k, sight })),
+            Some(block) => Some((
+                block,
+                Key {
+                    entry: k,
+                    sight: sight.untyped(),
+                },
+            )),
             None => None,
         }
     }
@@ -101,12 +107,12 @@ impl<T> Table<T> {
     }
 
     /// The key's block, always: one load.
-    pub fn known<'a>(&'a self, key: &Key<T>) -> &'a Block<T>
+    pub fn known<'a>(&'a self, key: &Key) -> &'a Block<T>
         requires { IsKeyIn self.now key.now }
         ensures block { result.now ≡ key.now.block }
         ensures length { IsBlockOf key.now.entry result.now }
     {
-        let mut sight = key.sight.again();
+        let mut sight = key.sight.typed::<T>();
         match self.entries[key.entry as usize].look(&mut sight) {
             Some(block) => block,
             None => unreachable!(),
@@ -114,7 +120,7 @@ impl<T> Table<T> {
     }
 
     /// Two keys of one entry have one block. It tells a proof so.
-    pub fn agree(&self, a: &Key<T>, b: &Key<T>)
+    pub fn agree(&self, a: &Key, b: &Key)
         requires a { IsKeyIn self.now a.now }
         requires b { IsKeyIn self.now b.now }
         ensures { a.now.entry ≡ b.now.entry → a.now.block ≡ b.now.block }
@@ -154,13 +160,19 @@ impl<T: Drop> Table<T> {
     }
 
     /// As `install`, with the entry's key.
-    pub fn install_key(&self, k: u32) -> Result<(&Block<T>, Key<T>), AllocError>
+    pub fn install_key(&self, k: u32) -> Result<(&Block<T>, Key), AllocError>
         requires { k < 32 }
         ensures length { IfOk result (λ (block, _). IsBlockOf k block.now) }
         ensures key { IfOk result (λ (block, key). IsKeyOf self.now k block.now key) }
     {
         let mut sight = self.entries[k as usize].sight();
         let block = self.set(k, &mut sight)?;
-        Ok((block, Key { entry: k, sight }))
+        Ok((
+            block,
+            Key {
+                entry: k,
+                sight: sight.untyped(),
+            },
+        ))
     }
 }

@@ -12,6 +12,7 @@ ghost use Rattle.std.specs.declared.alloc.Global.{Global as Heap};
 ghost use Rattle.table_core.specs.Entry.{owned, shared, noted, Agrees, length_of, name_of};
 
 use crate::entry::loose::Loose;
+use cell_core::block::Block;
 use std::alloc::Global;
 use std::marker::{Brand, Model, Move, Owns, PhantomData};
 use std::ptr::null_mut;
@@ -181,6 +182,27 @@ impl<B> Sight<B> {
         requires { self.now.of ≡ other.now.of }
         ensures { IfSome other.now.known (Agrees self.now.known) }
     {}
+}
+
+// What is known of an entry says nothing of the type of the values.
+impl<T> Sight<Block<T>> {
+    pub(crate) fn untyped(&self) -> Sight<Block<()>>
+        ensures { (result.of ≡ self.now.of) × (result.known ≡ self.now.known) }
+    {
+        Sight {
+            marker: PhantomData,
+        }
+    }
+}
+
+impl Sight<Block<()>> {
+    pub(crate) fn typed<T>(&self) -> Sight<Block<T>>
+        ensures { (result.of ≡ self.now.of) × (result.known ≡ self.now.known) }
+    {
+        Sight {
+            marker: PhantomData,
+        }
+    }
 }
 
 impl<B> Drop for Sight<B> {

@@ -6,14 +6,15 @@ use cell_core::block::Block;
 use std::fmt;
 use std::marker::Model;
 
-/// Shows that an entry is set, for good. Beside the entry's number it has no bytes.
+/// Shows that an entry is set, for good. Beside the entry's number it has no bytes, and it says nothing of the type
+/// of the values.
 #[derive(Drop)]
-pub struct Key<T> {
+pub struct Key {
     pub(crate) entry: u32,
-    pub(crate) sight: Sight<Block<T>>,
+    pub(crate) sight: Sight<Block<()>>,
 }
 
-impl<T> Model for Key<T> {
+impl Model for Key {
     ghost use Rattle.std.specs.Prelude.{◌≡◌, Some};
     ghost use Rattle.table_core.specs.Table.{KeyView, key_coded, block_of};
 
@@ -26,7 +27,7 @@ impl<T> Model for Key<T> {
     ghost invariant = { λ k. k.sight.known ≡ Some (block_of k.sight.known) };
 }
 
-impl<T> fmt::Debug for Key<T> {
+impl fmt::Debug for Key {
     fn fmt<W: fmt::Write>(&self, f: &mut fmt::Formatter<W>) -> fmt::Result {
         f.debug_struct("Key")
             .field("entry", &self.entry)
@@ -34,7 +35,7 @@ impl<T> fmt::Debug for Key<T> {
     }
 }
 
-impl<T> Key<T> {
+impl Key {
     /// The entry's number.
     pub fn entry(&self) -> u32
         ensures { result ≡ self.now.entry }
@@ -44,7 +45,7 @@ impl<T> Key<T> {
     }
 
     /// The key once more.
-    pub fn again(&self) -> Key<T>
+    pub fn again(&self) -> Key
         ensures { result ≡ self.now }
     {
         Key {

@@ -78,7 +78,7 @@ fn two_threads_install_one_block(rt: HostRuntime) -> Result<(), Fail> {
     Ok(())
 }
 
-fn sees(table: &Table<u64>, key: &Key<u64>) -> bool
+fn sees(table: &Table<u64>, key: &Key) -> bool
     requires { IsKeyIn table.now key.now }
 {
     shows(table.known(key), 0, 9)

@@ -1,5 +1,4 @@
-pub mod Made
-pub mod Sent
+mod Twice
 mod CellSteps
 mod CellSent
 mod CellMade

@@ -10,13 +10,9 @@
 //!
 //! The block is safe code over the raw steps on one cell (`slot/steps.rt`) and on a row of cells (`block/steps.rt`),
 //! which are proved by hand. What they own is `specs/Slot.antt` and `specs/Laid.antt`.
-//!
-//! A `row::Row` is a row of once-set boxes of `once_cell`, with its own tokens (`specs/Row.antt`, `specs/Look.antt`).
-//! Of it `row/known.rt` alone has proofs by hand, and `specs/Known.antt` is what its tokens own.
 #![tactic(auto)]
 
 pub mod block;
-pub mod row;
 mod slot;
 #[cfg(test)]
 mod tests;

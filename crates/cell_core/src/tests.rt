@@ -1,3 +1,2 @@
 mod block;
 mod race;
-mod row;

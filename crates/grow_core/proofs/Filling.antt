@@ -5,7 +5,7 @@ use Rattle.std.specs.List.{All}
 use Rattle.std.proofs.lemmas.List.{map-append}
 use Rattle.std.proofs.lemmas.List.Elements.{All-append}
 use Rattle.claim_core.specs.declared.run.Run.{Run}
-use Rattle.cell_core.specs.Row.{PlacedView}
+use Rattle.grow_core.specs.Token.{PlacedView}
 use Rattle.grow_core.specs.Vector.{VectorView, IsPlacedOf}
 
 -- the run's first places have these values, and these are their tokens

@@ -1,2 +1,4 @@
 pub mod Later
 pub mod Filling
+pub mod KeyRows
+pub mod Cells

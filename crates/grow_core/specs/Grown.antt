@@ -2,7 +2,7 @@
 use Rattle.std.specs.Prelude.{◌≡◌, ℕ, ◌+◌, List, All, Some, length, map, slice_get}
 use base.Stored.{Coded, coded×, coded_ℕ, coded_list, coded_via}
 use Rattle.claim_core.specs.declared.run.Run.{Run}
-use Rattle.cell_core.specs.Row.{PlacedView, placed_coded}
+use Rattle.grow_core.specs.Token.{PlacedView, placed_coded}
 use Rattle.grow_core.specs.Vector.{VectorView, IsPlacedOf}
 
 -- the run, and the token of each of its places in order

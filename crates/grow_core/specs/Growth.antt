@@ -2,8 +2,8 @@
 use Rattle.std.specs.Prelude.{◌≡◌, ℕ, ◌+◌, ◌<◌, ◌≤◌}
 use Rattle.claim_core.specs.declared.run.Run.{Run}
 use Rattle.claim_core.specs.Hand.{HandView, AddsRun, SeesSize, IsWholeHand, seen_size}
-use Rattle.cell_core.specs.declared.row.token.Found.{Found}
-use Rattle.cell_core.specs.declared.row.token.Found.TheVariants as found
+use Rattle.grow_core.specs.declared.token.Found.{Found}
+use Rattle.grow_core.specs.declared.token.Found.TheVariants as found
 use Rattle.grow_core.specs.declared.errors.GrowError.{GrowError}
 use Rattle.grow_core.specs.declared.errors.GrowError.TheVariants.{NoMemory, Full, Moved, Refused, Taken}
 use Rattle.grow_core.specs.Vector.{VectorView, IsPlacedOf, IsSpoiltOf, SeesMore, limit_of}

@@ -1,4 +1,6 @@
+pub mod Token
 pub mod Vector
+pub mod Keys
 pub mod Grown
 pub mod Read
 pub mod Growth

@@ -4,6 +4,8 @@ use Rattle.claim_core.specs.Hand.{HandView, SeesSize, seen_size}
 use Rattle.grow_core.specs.declared.errors.AtError.{AtError}
 use Rattle.grow_core.specs.declared.errors.AtError.TheVariants.{OutOfRange, Pending, Broken}
 use Rattle.grow_core.specs.declared.reads.At.{At}
+use Rattle.grow_core.specs.declared.reads.Seen.{Seen}
+use Rattle.grow_core.specs.declared.reads.Seen.TheVariants as seen
 use Rattle.grow_core.specs.Vector.{VectorView, IsPlacedOf, IsSpoiltOf}
 
 -- the value is that of the token, which is of this place of the vector
@@ -11,6 +13,12 @@ pub record IsAt {T : Type 0} (vector : VectorView) (place : ℕ) (at : At T) : T
   pub of : IsPlacedOf vector at.placed
   pub here : at.placed.place ≡ place
   pub value : at.value.now ≡ at.placed.value
+
+-- what a place of the vector shows
+abbrev pub IsSeenAt : {T : Type 0} → VectorView → ℕ → Seen T → Type 0
+IsSeenAt vector place seen.Pending = Unit {0}
+IsSeenAt vector place (seen.Filled at) = IsAt vector place at
+IsSeenAt vector place (seen.Broken spoilt) = IsSpoiltOf vector spoilt × (spoilt.place ≡ place)
 
 -- when each refusal comes, by what the hand had seen, and sees now: a place is pending or broken below the size alone
 abbrev pub IsDueAt : VectorView → ℕ → HandView → HandView → AtError → Type 0

@@ -1,14 +1,16 @@
 -- The shared vector as callers see it, and what belongs to it.
-use Rattle.std.specs.Prelude.{◌≡◌, ℕ, ◌≤◌}
+use Rattle.std.specs.Prelude.{◌≡◌, ℕ}
 use mathlib.Core.List.{IsPrefix}
 use Rattle.claim_core.specs.Word.{WordView, AreBounds}
 use Rattle.claim_core.specs.Hand.{HandView, KeepsOwn}
-use Rattle.cell_core.specs.Row.{RowView, PlacedView, SpoiltView, IsPlacedIn, IsSpoiltIn, row_len}
+use Rattle.cell_core.specs.Block.{IsPlacedIn, IsSpoiltIn}
+use Rattle.table_core.specs.Table.{TableView, IsKeyIn, IsBlockOf}
+use Rattle.grow_core.specs.Token.{PlacedView, SpoiltView, place_in}
 
--- which vector it is: its claim word, with its limit and its base, and where its places lie
+-- which vector it is: its claim word, with its limit and its base, and its segments
 pub record VectorView : Type 0 where
   pub word : WordView
-  pub cells : RowView
+  pub segments : TableView
 
 -- the greatest size that it may have
 abbrev pub limit_of : VectorView → ℕ
@@ -18,22 +20,29 @@ limit_of vector = vector.word.limit
 abbrev pub base_of : VectorView → ℕ
 base_of vector = vector.word.base
 
--- there is a cell for each place
-pub record HasCells (word : WordView) (cells : RowView) : Type 0 where
+-- the word and its hands are marked with the names of the segments
+pub record IsMarked (word : WordView) (segments : TableView) : Type 0 where
   pub limit : AreBounds word.limit word.base
-  pub room : word.limit ≤ row_len cells
+  pub mark : word.mark ≡ segments.names
 
 -- the hand belongs to the vector
 abbrev pub IsHandOf : VectorView → HandView → Type 0
 IsHandOf vector hand = hand.of ≡ vector.word
 
--- the token belongs to the vector
-abbrev pub IsPlacedOf : {T : Type 0} → VectorView → PlacedView T → Type 0
-IsPlacedOf vector placed = IsPlacedIn vector.cells placed
+-- the token belongs to the vector: its cell is one of the segment whose key it has
+pub record IsPlacedOf {T : Type 0} (vector : VectorView) (placed : PlacedView T) : Type 0 where
+  pub key : IsKeyIn vector.segments placed.key
+  pub long : IsBlockOf placed.key.entry placed.key.block
+  pub cell : IsPlacedIn placed.key.block placed.cell
+  pub place : placed.place ≡ place_in placed.key.entry placed.cell.place
+  pub value : placed.value ≡ placed.cell.value
 
 -- the same for the token of a broken place
-abbrev pub IsSpoiltOf : VectorView → SpoiltView → Type 0
-IsSpoiltOf vector spoilt = IsSpoiltIn vector.cells spoilt
+pub record IsSpoiltOf (vector : VectorView) (spoilt : SpoiltView) : Type 0 where
+  pub key : IsKeyIn vector.segments spoilt.key
+  pub long : IsBlockOf spoilt.key.entry spoilt.key.block
+  pub cell : IsSpoiltIn spoilt.key.block spoilt.cell
+  pub place : spoilt.place ≡ place_in spoilt.key.entry spoilt.cell.place
 
 -- the hand may have seen more, and nothing else of it has changed
 pub record SeesMore (old new : HandView) : Type 0 where

@@ -1,17 +1,22 @@
 // The steps that every growth takes once it has its memory.
-ghost use Rattle.std.specs.Prelude.{◌≡◌, ◌+◌, ◌<◌, ◌≤◌, IsOk, IfOk, IfErr};
-ghost use Rattle.claim_core.specs.Hand.{AddsRun, IsWholeHand, seen_size};
+ghost use Rattle.std.specs.Prelude.{◌≡◌, ◌+◌, ◌<◌, ◌≤◌, IfOk, IfErr};
+ghost use Rattle.claim_core.specs.Hand.{AddsRun, OwnsPlace, seen_size};
 ghost use Rattle.grow_core.specs.Vector.{IsHandOf, IsPlacedOf, limit_of};
+ghost use Rattle.grow_core.specs.Keys.{OwnsPlacesOf};
 ghost use Rattle.grow_core.specs.Growth.{IsDue, Leaves, GivesBack, IsFoundAt};
 
 use crate::errors::GrowError;
 use crate::hand::Hand;
+use crate::keys::install;
+use crate::token::{Found, Placed, Spoilt};
 use crate::vector::Shared;
-use cell_core::row::{Found, Placed, Token};
-use claim_core::Moved;
+use cell_core::block;
+use claim_core::{Moved, laws};
+use seg_core::locate;
 
 impl<T: Drop> Shared<T> {
-    // One try to win `n` places from the size that the hand has seen. What was moved in is handed on.
+    // One try to win `n` places from the size that the hand has seen, whose segments it installs first. What was moved
+    // in is handed on.
     pub(crate) fn claim<V, E>(
         &self,
         hand: &mut Hand<T>,
@@ -24,11 +29,20 @@ impl<T: Drop> Shared<T> {
         requires within_limit { from + n ≤ limit_of self.now }
         requires seen { from ≡ seen_size hand.old }
         ensures run { IfOk result (λ _. AddsRun hand.old hand.new record { from = from; n = n }) }
+        ensures owned { IfOk result (λ _. OwnsPlacesOf hand.new record { from = from; n = n }) }
         ensures value { IfOk result (λ on. on ≡ value) }
         ensures refused { IfErr result (IsDue self.now n hand.old) }
         ensures left { IfErr result (Leaves self.now n hand.old hand.new) }
         ensures value_back { IfErr result (GivesBack value) }
     {
+        self.laws();
+        hand.claims.laws();
+        laws::own_places_stay();
+        laws::added_places_are_of_the_run();
+        laws::added_places_are_owned();
+        let Ok(()) = install(&self.table, &mut hand.keys, from, n) else {
+            return Err(GrowError::NoMemory { back: value });
+        };
         match self.word.exchange(&mut hand.claims, from, n) {
             Ok(_run) => Ok(value),
             Err(Moved { size }) if self.limit() - size < n => Err(GrowError::Full {
@@ -39,24 +53,27 @@ impl<T: Drop> Shared<T> {
         }
     }
 
-    // Fills a place with the value, in the room that was made for it.
-    pub(crate) fn fill(
-        &self,
-        place: u64,
-        mut room: Box<Option<T>>,
-        value: T,
-    ) -> Result<Placed<T>, Found<T>>
-        requires { place < limit_of self.now }
+    // Fills a place of the hand's own with the value.
+    pub(crate) fn fill(&self, hand: &Hand<T>, place: u64, value: T) -> Result<Placed<T>, Found<T>>
+        requires ours { IsHandOf self.now hand.now }
+        requires owned { OwnsPlace hand.now place }
+        requires within { place < limit_of self.now }
         ensures token { IfOk result (IsPlacedOf self.now) }
         ensures here { IfOk result (λ placed. placed.place ≡ place) }
         ensures value { IfOk result (λ placed. placed.value ≡ value) }
         ensures found { IfErr result (IsFoundAt self.now place) }
     {
-        *room = Some(value);
-        match self.cells.put(place, room) {
-            Ok(Token::Placed(placed)) => Ok(placed),
-            Ok(Token::Spoilt(_)) => unreachable!(),
-            Err((_, found)) => Err(found),
+        self.laws();
+        let (segment, offset) = locate(place);
+        let key = hand.key(segment, place);
+        match self.table.known(&key).begin(offset) {
+            Ok(pen) => Ok(Placed {
+                key,
+                cell: pen.fill(value),
+            }),
+            Err(block::Found::Busy) => Err(Found::Busy),
+            Err(block::Found::Filled(cell)) => Err(Found::Filled(Placed { key, cell })),
+            Err(block::Found::Broken(cell)) => Err(Found::Broken(Spoilt { key, cell })),
         }
     }
 }

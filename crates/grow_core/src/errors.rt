@@ -1,6 +1,6 @@
 //! Why a call was refused.
 use crate::grown::Grown;
-use cell_core::row::{Found, Spoilt};
+use crate::token::{Found, Spoilt};
 use claim_core::Run;
 use std::error::Error;
 use std::fmt;

@@ -3,7 +3,7 @@ ghost use Rattle.std.specs.Prelude.{◌≡◌, ◌+◌, ◌<◌, slice_get, Some
 ghost use Rattle.grow_core.specs.Vector.{VectorView, IsPlacedOf};
 ghost use Rattle.grow_core.specs.Grown.{IsGrownOf, values_of};
 
-use cell_core::row::Placed;
+use crate::token::Placed;
 use claim_core::Run;
 use std::alloc::Global;
 use std::fmt;

@@ -3,14 +3,14 @@ ghost use Rattle.std.specs.Prelude.{◌≡◌, ◌+◌, ◌<◌, ◌≤◌, [], 
 ghost use Rattle.claim_core.specs.Hand.{IsWholeHand, seen_size};
 ghost use Rattle.grow_core.specs.Vector.{IsHandOf, limit_of};
 ghost use Rattle.grow_core.specs.Grown.{IsGrownOf, values_of};
+ghost use Rattle.grow_core.specs.Keys.{OwnsPlacesOf};
 ghost use Rattle.grow_core.specs.Growth.{Grows, HasNoRoom, IsDue, Leaves, GivesBack, SaysFull, IsNotMoved, IsFoundAt};
 
 use crate::errors::{GrowError, Never};
 use crate::grown::Grown;
 use crate::hand::Hand;
-use crate::room::Room;
+use crate::token::{Found, Placed};
 use crate::vector::Shared;
-use cell_core::row::Found;
 use claim_core::Run;
 use std::sync::Wait;
 
@@ -46,11 +46,11 @@ impl<T: Drop> Shared<T> {
                 back: values,
             });
         }
-        let Ok(room) = Room::new(self.alloc, values.len()) else {
+        let Ok(tokens) = Vec::with_capacity(self.alloc, values.len()) else {
             return Err(GrowError::NoMemory { back: values });
         };
         let values = self.claim(hand, from, n, values)?;
-        match self.fill_run(Run { from, n }, room, values) {
+        match self.fill_run(hand, Run { from, n }, tokens, values) {
             Ok(grown) => Ok(grown),
             Err((place, found)) => Err(GrowError::Taken { place, found }),
         }
@@ -86,14 +86,20 @@ impl<T: Drop> Shared<T> {
         unreachable!()
     }
 
-    // Fills the places of a run with the values, in the room that was made for them. It stops at a
-    // place that was taken.
-    fn fill_run(&self, run: Run, room: Room<T>, values: Vec<T>) -> Result<Grown<T>, (u64, Found<T>)>
+    // Fills the places of a run of the hand's with the values. It stops at a place that was taken.
+    fn fill_run(
+        &self,
+        hand: &Hand<T>,
+        run: Run,
+        mut tokens: Vec<Placed<T>>,
+        values: Vec<T>,
+    ) -> Result<Grown<T>, (u64, Found<T>)>
+        requires ours { IsHandOf self.now hand.now }
+        requires owned { OwnsPlacesOf hand.now run }
         requires within { run.from + run.n ≤ limit_of self.now }
         requires values { vec_len values ≡ run.n }
-        requires boxes { vec_len room.boxes ≡ run.n }
-        requires tokens { room.tokens.items ≡ [] }
-        requires capacity { run.n ≤ vec_capacity room.tokens }
+        requires tokens { tokens.items ≡ [] }
+        requires capacity { run.n ≤ vec_capacity tokens }
         ensures run { IfOk result (λ grown. grown.run ≡ run) }
         ensures tokens { IfOk result (IsGrownOf self.now) }
         ensures values { IfOk result (λ grown. values_of grown ≡ values.items) }
@@ -102,16 +108,9 @@ impl<T: Drop> Shared<T> {
         ensures found { IfErr result (λ (place, found). IsFoundAt self.now place found) }
     {
         self.laws();
-        let Room {
-            mut boxes,
-            mut tokens,
-        } = room;
         for value in values {
             let place = run.from + tokens.len() as u64;
-            let Some(cell) = boxes.pop() else {
-                unreachable!()
-            };
-            match self.fill(place, cell, value) {
+            match self.fill(hand, place, value) {
                 Ok(placed) => tokens.push_reserved(placed),
                 Err(found) => return Err((place, found)),
             }

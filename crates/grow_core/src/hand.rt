@@ -1,27 +1,35 @@
 //! A caller's token of what it has seen.
-ghost use Rattle.std.specs.Prelude.{◌≡◌, ℕ, ◌+◌, ◌<◌, ◌≤◌, ◌↔◌, nat_eq, IsTrue, All, Contains, length};
+ghost use Rattle.std.specs.Prelude.{◌≡◌, ℕ, ◌+◌, ◌<◌, ◌≤◌, ◌↔◌, nat_eq, IsTrue, All, Contains, length, []};
 ghost use Rattle.std.specs.List.{IsDistinct};
 ghost use Rattle.claim_core.specs.Lengths.{Tiles, times};
-ghost use Rattle.claim_core.specs.Hand.{IsWholeHand, seen_size, own_places};
+ghost use Rattle.claim_core.specs.Hand.{IsWholeHand, OwnsPlace, seen_size, own_places};
+ghost use Rattle.seg_core.specs.Segment.{HasPlace};
+ghost use Rattle.grow_core.specs.Keys.{IsKeyAt};
 
+use crate::keys::{Keys, key_of, no_keys};
 use claim_core::Hand as ClaimHand;
 use std::fmt;
 use std::marker::{Model, PhantomData};
+use table_core::Key;
 
 /// What a caller has seen of the vector's size, and its part of the right to end the vector. It may be lost: the vector
 /// is then dropped, and never ended.
 #[derive(Drop)]
 pub struct Hand<T> {
     pub(crate) claims: ClaimHand,
+    pub(crate) keys: Keys,
     pub(crate) marker: PhantomData<T>,
 }
 
 impl<T> Model for Hand<T> {
     ghost use Rattle.claim_core.specs.Hand.{HandView};
+    ghost use Rattle.grow_core.specs.Keys.{IsKeyed};
 
     ghost Value = { HandView };
 
     ghost view = { λ h. h.claims };
+
+    ghost invariant = { λ h. IsKeyed h.claims h.keys };
 }
 
 impl<T> fmt::Debug for Hand<T> {
@@ -31,13 +39,29 @@ impl<T> fmt::Debug for Hand<T> {
 }
 
 impl<T> Hand<T> {
-    // The hand of a vector around that of its claim word.
+    // The hand of a vector around that of its claim word. It has no key.
     pub(crate) fn of(claims: ClaimHand) -> Hand<T>
+        requires { claims.mine ≡ [] }
         ensures { result ≡ claims }
     {
         Hand {
             claims,
+            keys: no_keys(),
             marker: PhantomData,
+        }
+    }
+
+    // The key of a segment that has a place of the hand's own.
+    pub(crate) fn key(&self, segment: u32, place: u64) -> Key
+        requires small { segment < 32 }
+        requires owned { OwnsPlace self.now place }
+        requires there { HasPlace segment place }
+        ensures { IsKeyAt self.now.of.mark segment result }
+    {
+        let _ = place;
+        match key_of(&self.keys, segment) {
+            Some(key) => key,
+            None => unreachable!(),
         }
     }
 

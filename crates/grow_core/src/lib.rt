@@ -12,9 +12,10 @@
 //! tile the size. It can't prove what a reader without a token finds, that a try wins, or anything
 //! of the order of callers that never met.
 //!
-//! The code is safe, over `claim_core` and `cell_core`: a place is won by one exchange of the claim
-//! word, and filled by setting a box that was made before. Only `push_back` and `grow_vec` may
-//! wait.
+//! The code is safe, over `claim_core`, `table_core` and `cell_core`: the segments of the wanted places
+//! are installed, the places are won by one exchange of the claim word, and each is filled by one
+//! exchange and one store of its cell's state. A hand carries the keys of its runs' segments
+//! (`specs/Keys.antt`). Only `push_back` and `grow_vec` may wait.
 #![tactic(auto)]
 
 mod claims;
@@ -22,18 +23,19 @@ mod errors;
 mod grown;
 mod grows;
 mod hand;
+mod keys;
 mod pushes;
 mod reads;
-mod room;
 mod shares;
+mod token;
 mod vector;
 
-pub use cell_core::row::{Found, Placed, Spoilt};
 pub use claim_core::{OpenError, Run, laws};
 pub use errors::{AtError, GrowError, Never};
 pub use grown::Grown;
 pub use hand::Hand;
 pub use reads::At;
+pub use token::{Found, Placed, Spoilt};
 pub use vector::Shared;
 
 #[cfg(test)]

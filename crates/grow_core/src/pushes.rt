@@ -6,8 +6,8 @@ ghost use Rattle.grow_core.specs.Growth.{single, HasNoRoom, IsDue, Leaves, Gives
 
 use crate::errors::{GrowError, Never};
 use crate::hand::Hand;
+use crate::token::Placed;
 use crate::vector::Shared;
-use cell_core::row::Placed;
 use std::sync::Wait;
 
 impl<T: Drop> Shared<T> {
@@ -36,11 +36,8 @@ impl<T: Drop> Shared<T> {
                 back: value,
             });
         }
-        let Ok(room) = Box::new(self.alloc, None) else {
-            return Err(GrowError::NoMemory { back: value });
-        };
         let value = self.claim(hand, from, 1, value)?;
-        match self.fill(from, room, value) {
+        match self.fill(hand, from, value) {
             Ok(placed) => Ok(placed),
             Err(found) => Err(GrowError::Taken { place: from, found }),
         }

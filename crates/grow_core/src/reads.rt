@@ -1,19 +1,29 @@
 //! How the vector is read.
 ghost use Rattle.std.specs.Prelude.{◌≡◌, ◌≢◌, ◌<◌, IfOk, IfErr, IfSome, IsOkAnd};
 ghost use Rattle.claim_core.specs.Hand.{seen_size};
-ghost use Rattle.grow_core.specs.Vector.{IsHandOf, IsPlacedOf, IsSpoiltOf, SeesMore};
-ghost use Rattle.grow_core.specs.Read.{IsAt, IsDueAt, IsInRange};
+ghost use Rattle.grow_core.specs.Vector.{IsHandOf, IsPlacedOf, IsSpoiltOf, SeesMore, limit_of};
+ghost use Rattle.grow_core.specs.Read.{IsAt, IsSeenAt, IsDueAt, IsInRange};
 
 use crate::errors::AtError;
 use crate::hand::Hand;
+use crate::token::{Placed, Spoilt};
 use crate::vector::Shared;
-use cell_core::row::{Look, Placed, Spoilt};
+use cell_core::block::Look;
+use seg_core::laws::places;
+use seg_core::locate;
 
 /// The value at a place, and the token that shows it.
 #[derive(Debug, Drop)]
 pub struct At<'a, T> {
     pub value: &'a T,
     pub placed: Placed<T>,
+}
+
+// What a place shows.
+enum Seen<'a, T> {
+    Pending,
+    Filled(At<'a, T>),
+    Broken(Spoilt),
 }
 
 impl<T> Shared<T> {
@@ -35,20 +45,40 @@ impl<T> Shared<T> {
         ensures in_range { place < seen_size hand.old → IfErr result IsInRange }
         ensures hand { SeesMore hand.old hand.new }
     {
-        let look = match known {
-            Some(token) => self.cells.look_as(token),
-            None => {
-                let size = self.size(hand);
-                if place >= size {
-                    return Err(AtError::OutOfRange { size });
-                }
-                self.cells.look(place)
-            }
+        if let Some(token) = known {
+            return Ok(At {
+                value: self.get(token),
+                placed: token.again(),
+            });
+        }
+        let size = self.size(hand);
+        if place >= size {
+            return Err(AtError::OutOfRange { size });
+        }
+        match self.look(place) {
+            Seen::Pending => Err(AtError::Pending),
+            Seen::Filled(at) => Ok(at),
+            Seen::Broken(spoilt) => Err(AtError::Broken(spoilt)),
+        }
+    }
+
+    // What a place shows: nothing either where its segment is not installed yet.
+    fn look(&self, place: u64) -> Seen<'_, T>
+        requires { place < limit_of self.now }
+        ensures { IsSeenAt self.now place result }
+    {
+        self.laws();
+        let (segment, offset) = locate(place);
+        let Some((block, key)) = self.table.scout_key(segment) else {
+            return Seen::Pending;
         };
-        match look {
-            Look::Empty => Err(AtError::Pending),
-            Look::Filled(value, placed) => Ok(At { value, placed }),
-            Look::Broken(spoilt) => Err(AtError::Broken(spoilt)),
+        match block.look(offset) {
+            Look::Empty | Look::Busy => Seen::Pending,
+            Look::Filled(value, cell) => Seen::Filled(At {
+                value,
+                placed: Placed { key, cell },
+            }),
+            Look::Broken(cell) => Seen::Broken(Spoilt { key, cell }),
         }
     }
 
@@ -57,7 +87,7 @@ impl<T> Shared<T> {
         requires { IsPlacedOf self.now placed.now }
         ensures { result.now ≡ placed.now.value }
     {
-        self.cells.value(placed)
+        self.table.known(&placed.key).value(&placed.cell)
     }
 
     /// Two tokens of one place have one value. It tells a proof so.
@@ -66,7 +96,11 @@ impl<T> Shared<T> {
         requires also_ours { IsPlacedOf self.now b.now }
         ensures { a.now.place ≡ b.now.place → a.now.value ≡ b.now.value }
     {
-        self.cells.agree(a, b);
+        if a.place() == b.place() {
+            places();
+            self.table.agree(&a.key, &b.key);
+            self.table.known(&a.key).agree(&a.cell, &b.cell);
+        }
     }
 
     /// A place with a value is not a broken one. It tells a proof so.
@@ -75,6 +109,12 @@ impl<T> Shared<T> {
         requires also_ours { IsSpoiltOf self.now spoilt.now }
         ensures { placed.now.place ≢ spoilt.now.place }
     {
-        self.cells.apart(placed, spoilt);
+        if placed.place() == spoilt.place() {
+            places();
+            self.table.agree(&placed.key, &spoilt.key);
+            self.table
+                .known(&placed.key)
+                .apart(&placed.cell, &spoilt.cell);
+        }
     }
 }

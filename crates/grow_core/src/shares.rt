@@ -5,7 +5,9 @@ ghost use Rattle.claim_core.specs.Hand.{KeepsOwn, OwnApart};
 ghost use Rattle.grow_core.specs.Vector.{IsHandOf};
 
 use crate::hand::Hand;
+use crate::keys::put_keys;
 use crate::vector::Shared;
+use claim_core::laws;
 
 impl<T> Shared<T> {
     /// Gives some of the shares to a new hand, which has seen the same. It tells nothing of the size.
@@ -16,6 +18,8 @@ impl<T> Shared<T> {
         ensures kept { hand.new ≡ record hand.old { shares = hand.old.shares - shares } }
         ensures given { result ≡ record hand.old { mine = []; shares = shares } }
     {
+        hand.claims.laws();
+        laws::own_places_stay();
         Hand::of(self.word.split(&mut hand.claims, shares))
     }
 
@@ -31,7 +35,16 @@ impl<T> Shared<T> {
         ensures also_begins { IsPrefix other.seen hand.new.seen }
         ensures apart { OwnApart hand.old other }
     {
-        self.word.join(&mut hand.claims, other.claims);
+        hand.claims.laws();
+        other.claims.laws();
+        laws::joined_places_are_of_either();
+        let Hand {
+            claims,
+            keys,
+            marker: _,
+        } = other;
+        self.word.join(&mut hand.claims, claims);
+        put_keys(&mut hand.keys, &keys);
     }
 
     /// Shows two hands to each other, by one load of the size: both have then seen all that was claimed.
@@ -45,6 +58,9 @@ impl<T> Shared<T> {
         ensures same { b.new.seen ≡ a.new.seen }
         ensures apart { OwnApart a.new b.new }
     {
+        a.claims.laws();
+        b.claims.laws();
+        laws::own_places_stay();
         self.word.meet(&mut a.claims, &mut b.claims);
     }
 }

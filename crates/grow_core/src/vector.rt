@@ -5,28 +5,35 @@ ghost use Rattle.claim_core.specs.Hand.{IsWholeHand, IsNewHand, SeesSize, seen_s
 ghost use Rattle.grow_core.specs.Vector.{IsHandOf, limit_of, base_of};
 
 use crate::hand::Hand;
-use cell_core::row::Row;
-use claim_core::{OpenError, Word};
+use claim_core::{Mark, Marks, OpenError, Word, laws};
 use std::alloc::Global;
 use std::fmt;
 use std::marker::Model;
+use table_core::Table;
 
 /// A vector that many callers share. Contracts see which vector it is, its limit and its base.
 #[derive(Drop)]
 pub struct Shared<T> {
     pub(crate) word: Word<Global>,
-    pub(crate) cells: Row<T>,
+    pub(crate) table: Table<T>,
     pub(crate) alloc: Global,
 }
 
 impl<T> Model for Shared<T> {
-    ghost use Rattle.grow_core.specs.Vector.{VectorView, HasCells};
+    ghost use Rattle.grow_core.specs.Vector.{VectorView, IsMarked};
 
     ghost Value = { VectorView };
 
-    ghost view = { λ v. record { word = v.word; cells = v.cells } };
+    ghost view = { λ v. record { word = v.word; segments = v.table } };
 
-    ghost invariant = { λ v. HasCells v.word v.cells };
+    ghost invariant = { λ v. IsMarked v.word v.table };
+}
+
+// A vector's word is marked with the names of its segments.
+struct Segments;
+
+impl<T> Marks<Table<T>> for Segments {
+    ghost numbers = { λ table. table.names };
 }
 
 // The size and the values are left out: only a step with a hand may look at them.
@@ -39,7 +46,7 @@ impl<T> fmt::Debug for Shared<T> {
 }
 
 impl<T: Drop> Shared<T> {
-    /// An empty vector, and the hand that has all shares. It takes time and memory linear in the limit.
+    /// An empty vector, and the hand that has all shares. It makes no cells.
     pub fn fresh(alloc: Global, limit: u64) -> Result<(Shared<T>, Hand<T>), OpenError>
         ensures limit { IfOk result (λ (vector, _). limit_of vector ≡ limit) }
         ensures base { IfOk result (λ (vector, _). base_of vector ≡ 0) }
@@ -47,13 +54,11 @@ impl<T: Drop> Shared<T> {
         // The limit is looked at before memory is asked for.
         ensures bad_limit { (result ≡ Err OpenError.BadLimit) ↔ ¬ AreBounds limit 0 }
     {
-        let (word, claims) = Word::open(alloc, limit, 0)?;
+        let table = Table::new(alloc);
+        let mark = Mark::of::<Table<T>, Segments>(&table);
+        let (word, claims) = Word::open_marked(alloc, limit, 0, mark)?;
         word.laws();
-        // As many cells as the segments of this limit have.
-        let cells = Row::new(alloc, seg_core::capacity_for(limit)).map_err(
-            |_| OpenError::NoMemory,
-        )?;
-        Ok((Shared { word, cells, alloc }, Hand::of(claims)))
+        Ok((Shared { word, table, alloc }, Hand::of(claims)))
     }
 
     /// Ends the vector, drops its values, and answers its last size.
@@ -79,7 +84,7 @@ impl<T> Shared<T> {
     pub fn laws(&self)
         ensures { AreBounds (limit_of self.now) (base_of self.now) }
     {
-        let _cells = &self.cells;
+        let _table = &self.table;
     }
 
     /// The size now, by one load.
@@ -90,6 +95,8 @@ impl<T> Shared<T> {
         // Nobody else can append beside a whole hand.
         ensures whole { IsWholeHand hand.old → result ≡ seen_size hand.old }
     {
+        hand.claims.laws();
+        laws::own_places_stay();
         self.word.size(&mut hand.claims)
     }
 }

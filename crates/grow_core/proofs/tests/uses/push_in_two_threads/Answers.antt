@@ -6,7 +6,7 @@ use mathlib.Core.List.{IsPrefix}
 use Rattle.claim_core.specs.declared.run.Run.{Run}
 use Rattle.claim_core.specs.Hand.{HandView, KeepsOwn, OwnsRun}
 use Rattle.claim_core.specs.Laws.{SeenRunsStay}
-use Rattle.cell_core.specs.Row.{PlacedView}
+use Rattle.grow_core.specs.Token.{PlacedView}
 use Rattle.grow_core.specs.Growth.{single}
 use Rattle.grow_core.proofs.tests.uses.push_in_two_threads.Goals as goal
 

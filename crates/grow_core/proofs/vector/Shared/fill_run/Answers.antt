@@ -1,4 +1,4 @@
-use Rattle.std.proofs.Common.{◌≡◌, ◌+◌, ◌∷◌, [], ◌∙◌, append_assoc, length, arith}
+use Rattle.std.proofs.Common.{◌≡◌, ◌+◌, ◌∷◌, [], ◌∙◌, ap, append_assoc, length, arith}
 use Rattle.std.specs.Vec.Iter.{into_iter_items}
 use Rattle.grow_core.proofs.Filling.{filled_more}
 use Rattle.grow_core.proofs.vector.Shared.fill_run.Goals as goal
@@ -13,6 +13,6 @@ loop-value-preserved g c =
     c.in-Ok.ensures.token here c.in-Ok.ensures.value in (
       rw c.push_reserved.ensures.items filled,
       append_assoc at.yielded (c.in-Some.value ∷ []) _ ∙ rw (← steps) at.invariant.1,
-      omega (arith, c.in-Some-pop.ensures.len, c.push_reserved.ensures.len, at.invariant.2),
+      omega (arith, ap length steps, c.push_reserved.ensures.len, at.invariant.2),
       omega (arith, c.push_reserved.ensures.capacity, at.invariant.3),
     )

@@ -1,4 +1,4 @@
-use Rattle.std.proofs.Common.{◌≡◌, ◌+◌, ◌≤◌, ◌++◌, vec_len, vec_capacity}
+use Rattle.std.proofs.Common.{◌≡◌, ◌+◌, ◌≤◌, ◌++◌, length, vec_len, vec_capacity}
 use Rattle.std.specs.Vec.Iter.{into_iter_items}
 use Rattle.grow_core.proofs.Filling.{IsFilled}
 use Rattle.grow_core.proofs.vector.Shared.fill_run.Given as goal
@@ -7,5 +7,5 @@ abbrev pub invariant-loop-value : goal.invariant-loop-value
 invariant-loop-value g l =
     IsFilled l.self l.run l.yielded l.tokens.items
     × (l.yielded ++ into_iter_items l.value-iterator ≡ into_iter_items l.initial.value-iterator)
-    × (vec_len l.boxes + vec_len l.tokens ≡ l.run.n)
+    × (vec_len l.tokens + length (into_iter_items l.value-iterator) ≡ l.run.n)
     × (l.run.n ≤ vec_capacity l.tokens)

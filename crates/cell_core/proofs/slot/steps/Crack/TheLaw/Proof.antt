@@ -9,7 +9,7 @@ use denote.Struct.Lending.{of_Lends}
 use Rattle.core.specs.contracts.marker.PhantomData as P
 use Rattle.cell_core.specs.Slot.{spoilt, cross}
 use Rattle.cell_core.specs.contracts.slot.steps.Crack as C
-use Rattle.cell_core.proofs.Made.{lends_twice}
+use Rattle.cell_core.proofs.Twice.{lends_twice}
 use Rattle.cell_core.proofs.slot.steps.Crack.TheLaw.Statement.{statement}
 
 pub shares : statement

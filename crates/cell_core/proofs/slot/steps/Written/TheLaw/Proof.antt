@@ -10,7 +10,7 @@ use denote.Struct.Lending.{of_Lends}
 use Rattle.core.specs.contracts.marker.PhantomData as P
 use Rattle.cell_core.specs.Slot.{written, mark, full}
 use Rattle.cell_core.specs.contracts.slot.steps.Written as C
-use Rattle.cell_core.proofs.Made.{lends_twice}
+use Rattle.cell_core.proofs.Twice.{lends_twice}
 use Rattle.cell_core.proofs.slot.steps.Written.TheLaw.Statement.{statement}
 
 pub shares : (T : RattleType) (L : Laws T) → statement T L

@@ -1,0 +1,91 @@
+-- That a hand has the keys of its own runs is kept by each step.
+use Rattle.std.proofs.Common.{◌≡◌, ℕ, ◌+◌, ◌<◌, List, ◌++◌, [], Option, Some, None, sym, ap, ◌∙◌, subst, ⊎_elim, arith}
+use Rattle.std.specs.Prelude.{IsSome}
+use mathlib.Core.Logic.{dite}
+use native.Mathlib.Decide.{ℕ_discrete}
+use Rattle.std.specs.List.{Contains}
+use mathlib.Core.List.{IsPrefix}
+use Rattle.seg_core.specs.Segment.{HasPlace}
+use Rattle.claim_core.specs.declared.run.Run.{Run}
+use Rattle.claim_core.specs.Word.{WordView}
+use Rattle.claim_core.specs.Hand.{HandView, KeepsOwn, AddsRun, OwnsPlace, SeesOwn, IsPlaceOf}
+use Rattle.claim_core.specs.Laws.{OwnPlacesStay, AddedPlacesAreOfTheRun, JoinedPlacesAreOfEither}
+use Rattle.table_core.specs.Table.{TableView}
+use Rattle.grow_core.specs.Vector.{VectorView, IsMarked}
+use Rattle.grow_core.specs.Keys.{KeyRow, AreKeys, KeepsKeys, HasKeysOfRun, IsKeyed, key_at}
+
+module _ (old new : HandView) (row row' : KeyRow) (sees : SeesOwn old) (keyed : IsKeyed old row) (keys : AreKeys old.of.mark row') (kept : KeepsKeys row row') where
+  -- the hand has seen more, and owns what it owned
+  pub keyed_sees : OwnPlacesStay → KeepsOwn old new → IsPrefix old.seen new.seen → IsKeyed new row'
+  keyed_sees law same more = record {
+    keys = subst (λ (w : WordView). AreKeys w.mark row') (sym same.of) keys;
+    own = λ place segment small own there. kept segment small (keyed.own place segment small (law old new place sees same more own) there);
+  }
+
+  -- the hand has one more run, and the row has the keys of its segments
+  pub keyed_adds : AddedPlacesAreOfTheRun → (run : Run) → AddsRun old new run → HasKeysOfRun row' run.from run.n → IsKeyed new row'
+  keyed_adds law run adds run_keys = record {
+    keys = subst (λ (w : WordView). AreKeys w.mark row') (sym adds.of) keys;
+    own = λ place segment small own there.
+        ⊎_elim
+        (λ (was : OwnsPlace old place). kept segment small (keyed.own place segment small was there))
+        (λ (is_place : IsPlaceOf run place). run_keys segment small (record { place = place; inside = is_place; there = there }))
+        (law old new run place sees adds own);
+  }
+
+-- the row has more keys
+pub keyed_more : (hand : HandView) (row row' : KeyRow) → IsKeyed hand row → AreKeys hand.of.mark row' → KeepsKeys row row' → IsKeyed hand row'
+keyed_more hand row row' keyed keys kept = record {
+  keys = keys;
+  own = λ place segment small own there. kept segment small (keyed.own place segment small own there);
+}
+
+-- two hands are one, and the row has the keys of both
+pub keyed_joins : JoinedPlacesAreOfEither → (a b new : HandView) (row_a row_b row : KeyRow) → SeesOwn a → SeesOwn b → new.of ≡ a.of → new.of ≡ b.of
+    → IsPrefix a.seen new.seen → IsPrefix b.seen new.seen → new.mine ≡ a.mine ++ b.mine → IsKeyed a row_a → IsKeyed b row_b
+    → ((names : List ℕ) → AreKeys names row_a → AreKeys names row_b → AreKeys names row) → KeepsKeys row_a row → KeepsKeys row_b row → IsKeyed new row
+keyed_joins law a b new row_a row_b row sees also_sees of also_of more also_more mine keyed also_keyed keys kept put = record {
+  keys = keys new.of.mark (subst (λ (w : WordView). AreKeys w.mark row_a) (sym of) keyed.keys) (subst (λ (w : WordView). AreKeys w.mark row_b) (sym also_of) also_keyed.keys);
+  own = λ place segment small own there.
+      ⊎_elim
+      (λ (was : OwnsPlace a place). kept segment small (keyed.own place segment small was there))
+      (λ (was : OwnsPlace b place). put segment small (also_keyed.own place segment small was there))
+      (law a b new place sees also_sees of also_of more also_more mine own);
+}
+
+no_member : (k : ℕ) → Contains [] k → ⊥
+no_member k (i, lt, is) = omega arith
+
+-- a hand without runs needs no key
+pub keyed_none : (hand : HandView) (row : KeyRow) → hand.mine ≡ [] → ((segment : ℕ) → segment < 32 → key_at row segment ≡ None) → IsKeyed hand row
+keyed_none hand row none empty = record {
+  keys = λ segment key small there. absurd (cc (empty segment small, there));
+  own = λ place segment small own there. absurd (no_member own.0 (subst (λ m. Contains m own.0) none own.1));
+}
+
+-- the row lost no key, and has one for each segment below n that it should have one for
+pub record Walked (P : ℕ → Type 0) (old now : KeyRow) (n : ℕ) : Type 0 where
+  pub kept : KeepsKeys old now
+  pub there : (segment : ℕ) → segment < n → P segment → IsSome (key_at now segment)
+
+-- so it is after one segment more
+pub walked_on : {P : ℕ → Type 0} {old now next : KeyRow} {n : ℕ} → Walked P old now n → n < 32 → KeepsKeys now next
+    → (P n → IsSome (key_at next n)) → Walked P old next (n + 1)
+walked_on {P} {old} {now} {next} {n} walked small kept here = record {
+  kept = λ segment lt was. kept segment lt (walked.kept segment lt was);
+  there = λ segment lt p.
+      dite (ℕ_discrete segment n)
+      (λ same. subst (λ s. IsSome (key_at next s)) (sym same) (here (subst P same p)))
+      (λ other. kept segment (omega arith) (walked.there segment (omega arith) p));
+}
+
+-- no key is some key
+pub none_is_none : {X : Type 0} (o : Option X) → o ≡ None → IsSome o → ⊥
+none_is_none None is some = absurd (cc some)
+none_is_none (Some x) is some = absurd (cc is)
+
+-- a vector's hands are marked with the names of its segments
+pub mark_is : {word : WordView} {segments : TableView} {vector : VectorView} {claims hand : HandView} → IsMarked word segments
+    → record { word = word; segments = segments } ≡ vector → claims ≡ hand → hand.of ≡ vector.word → segments.names ≡ claims.of.mark
+mark_is marked view_is hand_is ours =
+    sym marked.mark ∙ (ap (λ (v : VectorView). v.word.mark) view_is ∙ (sym (ap (λ (w : WordView). w.mark) ours) ∙ sym (ap (λ (h : HandView). h.of.mark) hand_is)))

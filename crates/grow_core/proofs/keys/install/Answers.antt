@@ -1,0 +1,11 @@
+use Rattle.std.proofs.Common.{arith}
+use Rattle.grow_core.proofs.KeyRows.{walked_on}
+use Rattle.grow_core.proofs.keys.install.Goals as goal
+
+pub loop-segment-preserved : goal.loop-segment-preserved
+loop-segment-preserved g c = (c.install_one.ensures.keys, walked_on c.loop-segment.invariant.1 (omega arith) c.install_one.ensures.kept (λ _. c.in_ok-install_one.ensures.put))
+
+pub returns-clause-run : goal.returns-clause-run
+returns-clause-run g c = λ segment small touches.
+    let within = (c.segments_of-first.ensures.touched segment).0 touches in
+    c.loop-segment.invariant.1.there segment (let lt = within.1 in omega arith) within.0

@@ -1,0 +1,10 @@
+use Rattle.std.proofs.Common.{arith}
+use Rattle.grow_core.proofs.KeyRows.{walked_on}
+use Rattle.grow_core.proofs.keys.put_keys.Goals as goal
+
+pub loop-segment-preserved : goal.loop-segment-preserved
+loop-segment-preserved c =
+    let put = c.put_other.ensures in (
+      walked_on c.loop-segment.invariant.0 (omega arith) put.kept put.put,
+      λ names old other. put.keys names (c.loop-segment.invariant.1 names old other) other,
+    )

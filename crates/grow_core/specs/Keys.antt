@@ -1,0 +1,40 @@
+-- The keys that a hand carries: a row of one optional key for each segment.
+use Rattle.std.specs.Prelude.{◌≡◌, ℕ, List, Option, Some, None, IsSome, ◌<◌, slice_index, slice_index_or}
+use Rattle.seg_core.specs.Segment.{HasPlace, Touches}
+use Rattle.claim_core.specs.declared.run.Run.{Run}
+use Rattle.claim_core.specs.Hand.{HandView, OwnsPlace, IsPlaceOf}
+use Rattle.table_core.specs.Table.{KeyView}
+
+abbrev pub KeyRow : Type 0
+KeyRow = List (Option KeyView)
+
+-- what the row has for a segment
+abbrev pub key_at : KeyRow → ℕ → Option KeyView
+key_at row segment = slice_index_or row segment None
+
+-- the key is that of the segment, among the segments with these names
+pub record IsKeyAt (names : List ℕ) (segment : ℕ) (key : KeyView) : Type 0 where
+  pub at : key.entry ≡ segment
+  pub within : segment < 32
+  pub named : slice_index names segment ≡ key.name
+
+-- each key of the row is that of its segment
+abbrev pub AreKeys : List ℕ → KeyRow → Type 0
+AreKeys names row = (segment : ℕ) (key : KeyView) → segment < 32 → key_at row segment ≡ Some key → IsKeyAt names segment key
+
+-- no key is lost
+abbrev pub KeepsKeys : KeyRow → KeyRow → Type 0
+KeepsKeys old new = (segment : ℕ) → segment < 32 → IsSome (key_at old segment) → IsSome (key_at new segment)
+
+-- the hand owns each place of the run
+abbrev pub OwnsPlacesOf : HandView → Run → Type 0
+OwnsPlacesOf hand run = (place : ℕ) → IsPlaceOf run place → OwnsPlace hand place
+
+-- the row has the key of each segment that the run of n places from a place on touches
+abbrev pub HasKeysOfRun : KeyRow → ℕ → ℕ → Type 0
+HasKeysOfRun row from n = (segment : ℕ) → segment < 32 → Touches segment from n → IsSome (key_at row segment)
+
+-- the row has the key of each segment that the hand's own runs touch
+pub record IsKeyed (hand : HandView) (row : KeyRow) : Type 0 where
+  pub keys : AreKeys hand.of.mark row
+  pub own : (place segment : ℕ) → segment < 32 → OwnsPlace hand place → HasPlace segment place → IsSome (key_at row segment)

@@ -1,0 +1,45 @@
+-- The tokens of the vector's places.
+use Rattle.std.specs.Prelude.{◌≡◌, ℕ, ◌+◌, ◌<◌, ◌^◌}
+use base.Stored.{Coded, coded×, coded_ℕ, coded_via}
+use Rattle.seg_core.specs.Segment.{segment_start}
+use Rattle.cell_core.specs.Block as block
+use Rattle.table_core.specs.Table.{KeyView, key_coded}
+
+-- the token of a filled place: the place and its value, the key of its segment, and its cell there
+pub record PlacedView (T : Type 0) : Type 0 where
+  pub place : ℕ
+  pub value : T
+  pub key : KeyView
+  pub cell : block.PlacedView T
+
+abbrev pub placed_coded : {T : Type 0} → Coded T → Coded (PlacedView T)
+placed_coded {T} c =
+    coded_via (coded× coded_ℕ (coded× c (coded× key_coded (block.placed_coded c)))) (λ (p : PlacedView T). (p.place, (p.value, (p.key, p.cell))))
+    (λ x y e i. record { place = (e i).0; value = (e i).1.0; key = (e i).1.1.0; cell = (e i).1.1.1 })
+
+-- the token of a broken place: the place, the key of its segment, and its cell there
+pub record SpoiltView : Type 0 where
+  pub place : ℕ
+  pub key : KeyView
+  pub cell : block.SpoiltView
+
+abbrev pub spoilt_coded : Coded SpoiltView
+spoilt_coded =
+    coded_via (coded× coded_ℕ (coded× key_coded (coded× coded_ℕ coded_ℕ))) (λ (s : SpoiltView). (s.place, (s.key, (s.cell.place, s.cell.name))))
+    (λ x y e i. record { place = (e i).0; key = (e i).1.0; cell = record { place = (e i).1.1.0; name = (e i).1.1.1 } })
+
+-- a cell of a segment is this place of the vector
+abbrev pub place_in : ℕ → ℕ → ℕ
+place_in segment offset = segment_start segment + offset
+
+-- the token that a key and a cell's token are together
+abbrev pub placed_view : {T : Type 0} → KeyView → block.PlacedView T → PlacedView T
+placed_view key cell = record { place = place_in key.entry cell.place; value = cell.value; key = key; cell = cell }
+
+abbrev pub spoilt_view : KeyView → block.SpoiltView → SpoiltView
+spoilt_view key cell = record { place = place_in key.entry cell.place; key = key; cell = cell }
+
+-- the numbers of a segment and of a cell there
+pub record AreSmall (segment offset : ℕ) : Type 0 where
+  pub few : segment < 32
+  pub within : offset < 2 ^ 32

@@ -1,0 +1,104 @@
+// The keys of the segments that a hand's runs touch.
+ghost use Rattle.std.specs.Prelude.{◌≡◌, ◌≤◌, ◌<◌, ◌+◌, ◌^◌, ℕ, List, IfOk, IsSome, None};
+ghost use Rattle.grow_core.specs.Keys.{IsKeyAt, AreKeys, KeepsKeys, HasKeysOfRun, key_at};
+
+use seg_core::segments_of;
+use std::alloc::AllocError;
+use std::array;
+use table_core::{Key, Table};
+
+// A key for each segment, where the hand has it.
+pub(crate) type Keys = [Option<Key>; 32];
+
+// No key.
+pub(crate) fn no_keys() -> Keys
+    ensures { (segment : ℕ) → segment < 32 → key_at result segment ≡ None }
+{
+    array::from_fn(
+        |_: usize| -> Option<Key>
+            ensures { result ≡ None }
+        { None },
+    )
+}
+
+// The key of a segment, once more, where the row has it.
+pub(crate) fn key_of(row: &Keys, segment: u32) -> Option<Key>
+    requires { segment < 32 }
+    ensures { result ≡ key_at row.now segment }
+{
+    match &row[segment as usize] {
+        Some(key) => Some(key.again()),
+        None => None,
+    }
+}
+
+// Puts the key of a segment into the row.
+fn put_key(row: &mut Keys, segment: u32, key: Key)
+    requires { segment < 32 }
+    ensures keys { (names : List ℕ) → AreKeys names row.old → IsKeyAt names segment key → AreKeys names row.new }
+    ensures kept { KeepsKeys row.old row.new }
+    ensures put { IsSome (key_at row.new segment) }
+{
+    row[segment as usize] = Some(key);
+}
+
+// Puts the other row's key of a segment into the row, where it has none.
+fn put_other(row: &mut Keys, other: &Keys, segment: u32)
+    requires { segment < 32 }
+    ensures keys { (names : List ℕ) → AreKeys names row.old → AreKeys names other.now → AreKeys names row.new }
+    ensures kept { KeepsKeys row.old row.new }
+    ensures put { IsSome (key_at other.now segment) → IsSome (key_at row.new segment) }
+{
+    if row[segment as usize].is_none() {
+        if let Some(key) = key_of(other, segment) {
+            put_key(row, segment, key);
+        }
+    }
+}
+
+// Puts the other row's keys into the row, where it has none.
+pub(crate) fn put_keys(row: &mut Keys, other: &Keys)
+    ensures keys { (names : List ℕ) → AreKeys names row.old → AreKeys names other.now → AreKeys names row.new }
+    ensures kept { KeepsKeys row.old row.new }
+    ensures put { KeepsKeys other.now row.new }
+{
+    for segment in 0..32u32 {
+        put_other(row, other, segment);
+    }
+}
+
+// Sees to it that the segment is installed, and puts its key into the row.
+fn install_one<T: Drop>(table: &Table<T>, keys: &mut Keys, segment: u32) -> Result<(), AllocError>
+    requires within { segment < 32 }
+    requires keys { AreKeys table.now.names keys.old }
+    ensures keys { AreKeys table.now.names keys.new }
+    ensures kept { KeepsKeys keys.old keys.new }
+    ensures put { IfOk result (λ _. IsSome (key_at keys.new segment)) }
+{
+    if keys[segment as usize].is_none() {
+        let (_, key) = table.install_key(segment)?;
+        put_key(keys, segment, key);
+    }
+    Ok(())
+}
+
+// Sees to it that the segments of a run are installed, and puts their keys into the row.
+pub(crate) fn install<T: Drop>(
+    table: &Table<T>,
+    keys: &mut Keys,
+    from: u64,
+    n: u64,
+) -> Result<(), AllocError>
+    requires some { 0 < n }
+    requires places { from + n ≤ 2 ^ 32 }
+    requires keys { AreKeys table.now.names keys.old }
+    ensures keys { AreKeys table.now.names keys.new }
+    ensures kept { KeepsKeys keys.old keys.new }
+    ensures run { IfOk result (λ _. HasKeysOfRun keys.new from n) }
+{
+    let (first, end) = segments_of(from, n);
+    for segment in first..end {
+        install_one(table, keys, segment)?;
+    }
+    Ok(())
+}

@@ -1,0 +1,112 @@
+//! The tokens of the vector's places.
+ghost use Rattle.std.specs.Prelude.{◌≡◌};
+ghost use Rattle.grow_core.specs.Token.{AreSmall};
+
+use cell_core::block;
+use seg_core::first;
+use std::fmt;
+use std::marker::Model;
+use table_core::Key;
+
+/// Shows that a place holds a value, for good. It crosses threads, and takes 16 bytes.
+#[derive(Drop)]
+pub struct Placed<T> {
+    pub(crate) key: Key,
+    pub(crate) cell: block::Placed<T>,
+}
+
+impl<T> Model for Placed<T> {
+    ghost use Rattle.grow_core.specs.Token.{PlacedView, placed_coded, placed_view, AreSmall};
+
+    ghost Value = { PlacedView T };
+
+    ghost coded = { placed_coded T.code };
+
+    ghost view = { λ p. placed_view p.key p.cell };
+
+    ghost invariant = { λ p. AreSmall p.key.entry p.cell.place };
+}
+
+impl<T> fmt::Debug for Placed<T> {
+    fn fmt<W: fmt::Write>(&self, f: &mut fmt::Formatter<W>) -> fmt::Result {
+        f.debug_struct("Placed")
+            .field("place", &self.place())
+            .finish_non_exhaustive()
+    }
+}
+
+impl<T> Placed<T> {
+    /// The place in the vector.
+    pub fn place(&self) -> u64
+        ensures { result ≡ self.now.place }
+    {
+        first(self.key.entry()) + self.cell.place()
+    }
+
+    /// The token once more.
+    pub fn again(&self) -> Placed<T>
+        ensures { result ≡ self.now }
+    {
+        Placed {
+            key: self.key.again(),
+            cell: self.cell.again(),
+        }
+    }
+}
+
+/// Shows that a place is broken, for good. It crosses threads, and takes 16 bytes.
+#[derive(Drop)]
+pub struct Spoilt {
+    pub(crate) key: Key,
+    pub(crate) cell: block::Spoilt,
+}
+
+impl Model for Spoilt {
+    ghost use Rattle.grow_core.specs.Token.{SpoiltView, spoilt_coded, spoilt_view, AreSmall};
+
+    ghost Value = { SpoiltView };
+
+    ghost coded = { spoilt_coded };
+
+    ghost view = { λ s. spoilt_view s.key s.cell };
+
+    ghost invariant = { λ s. AreSmall s.key.entry s.cell.place };
+}
+
+impl fmt::Debug for Spoilt {
+    fn fmt<W: fmt::Write>(&self, f: &mut fmt::Formatter<W>) -> fmt::Result {
+        f.debug_struct("Spoilt")
+            .field("place", &self.place())
+            .finish_non_exhaustive()
+    }
+}
+
+impl Spoilt {
+    /// The place in the vector.
+    pub fn place(&self) -> u64
+        ensures { result ≡ self.now.place }
+    {
+        first(self.key.entry()) + self.cell.place()
+    }
+
+    /// The token once more.
+    pub fn again(&self) -> Spoilt
+        ensures { result ≡ self.now }
+    {
+        Spoilt {
+            key: self.key.again(),
+            cell: self.cell.again(),
+        }
+    }
+}
+
+/// What stood at a place that another caller filled.
+#[derive(Debug, Drop)]
+pub enum Found<T> {
+    /// Nothing yet: it is being filled.
+    Busy,
+    /// A value.
+    Filled(Placed<T>),
+    /// None: it is broken.
+    Broken(Spoilt),
+}

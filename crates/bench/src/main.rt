@@ -12,6 +12,7 @@
 mod bare_number;
 mod claim_word;
 mod figures;
+mod loads;
 mod other_vectors;
 mod shared_vector;
 mod stress;
@@ -19,6 +20,7 @@ mod thing;
 mod trial;
 
 use crate::figures::print_figures;
+use crate::loads::{load_of, run_boxcar_load};
 use crate::stress::print_stress;
 use crate::thing::{GROUPS, Group};
 use anyhow::{Result, bail, ensure};
@@ -55,20 +57,39 @@ fn print_counts<R: Threads + Wait + Clock + Print + AllocGlobal + Sync>(rt: &R) 
 }
 
 // What the words after the program's name ask for.
-#[derive(Clone, Copy, Debug)]
 enum Task {
     Counts,
     Figures,
+    Load { name: String, threads: usize },
     Stress(u64),
 }
 
-fn task_of(words: &[String]) -> Result<Task> {
-    match words {
+fn task_of(words: Vec<String>) -> Result<Task> {
+    match words.as_slice() {
         [] => Ok(Task::Counts),
         [word] if word.as_str() == "figures" => Ok(Task::Figures),
         [word, seconds] if word.as_str() == "stress" => Ok(Task::Stress(seconds.as_str().parse()?)),
-        _ => bail!("usage: bench [figures | stress SECONDS]"),
+        [word, name, threads] if word.as_str() == "load" => Ok(Task::Load {
+            name: name.clone()?,
+            threads: threads.as_str().parse()?,
+        }),
+        _ => bail!("usage: bench [figures | load NAME THREADS | stress SECONDS]"),
     }
+}
+
+// Prints the nanoseconds that the load took.
+fn print_load<R: Threads + Wait + Clock + Print + AllocGlobal + Sync>(
+    rt: &R,
+    name: &str,
+    threads: usize,
+) -> Result<()> {
+    let took = if name == "boxcar" {
+        run_boxcar_load(rt, threads)?
+    } else {
+        load_of(name)?.run(rt, threads)?
+    };
+    println!(rt; "{}", took.as_nanos())?;
+    Ok(())
 }
 
 fn words_of<R: Env + AllocGlobal>(rt: &R) -> Result<Vec<String>> {
@@ -80,9 +101,10 @@ fn words_of<R: Env + AllocGlobal>(rt: &R) -> Result<Vec<String>> {
 }
 
 fn main(rt: HostRuntime) -> Result<()> {
-    match task_of(words_of(&rt)?.as_slice())? {
+    match task_of(words_of(&rt)?)? {
         Task::Counts => print_counts(&rt),
         Task::Figures => print_figures(&rt),
+        Task::Load { name, threads } => print_load(&rt, name.as_str(), threads),
         Task::Stress(seconds) => print_stress(&rt, seconds),
     }
 }

@@ -37,7 +37,8 @@ pub fn run_locked<R: Threads + Wait + Clock + AllocGlobal + Sync>(
     })
 }
 
-fn push_boxcar<R: Wait>(rt: &R, list: &boxcar::Vec<u64>, tries: u64) -> u64 {
+/// How many of the pushes appended a value.
+pub fn push_boxcar<R: Wait>(rt: &R, list: &boxcar::Vec<u64>, tries: u64) -> u64 {
     let mut won: u64 = 0;
     for value in 0..tries {
         if list.push(rt, value).is_ok() {

@@ -13,8 +13,8 @@ use std::thread;
 use std::thread::Threads;
 use std::time::Instant;
 
-// How many of the pushes appended a value.
-fn push<R: Wait>(rt: &R, vector: &Shared<u64>, mut hand: Hand<u64>, tries: u64) -> u64
+/// How many of the pushes appended a value.
+pub fn push<R: Wait>(rt: &R, vector: &Shared<u64>, mut hand: Hand<u64>, tries: u64) -> u64
     requires ours { IsHandOf vector.now hand }
 {
     let mut won: u64 = 0;

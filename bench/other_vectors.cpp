@@ -1,0 +1,107 @@
+// The loads of crates/bench on oneTBB's concurrent_vector and on a std::vector under a mutex.
+//
+//   other_vectors LIBRARY LOAD THREADS    prints the nanoseconds that the load took
+#include <chrono>
+#include <cstdint>
+#include <cstdio>
+#include <cstdlib>
+#include <cstring>
+#include <functional>
+#include <mutex>
+#include <oneapi/tbb/concurrent_vector.h>
+#include <thread>
+#include <vector>
+
+using Value = std::uint64_t;
+
+// As in crates/bench/src/loads.rt.
+constexpr Value fresh = 10'000'000;
+constexpr Value filled = (Value{1} << 23) + 1;
+constexpr Value more = 8'000'000;
+constexpr Value list_length = 64;
+
+struct OneTbb {
+  tbb::concurrent_vector<Value> values;
+  void push(Value value) { values.push_back(value); }
+  void grow(const std::vector<Value> &list) { values.grow_by(list.begin(), list.end()); }
+  Value look(Value place) { return values.at(place); }
+};
+
+struct Locked {
+  std::vector<Value> values;
+  std::mutex lock;
+  void push(Value value) {
+    std::lock_guard<std::mutex> guard(lock);
+    values.push_back(value);
+  }
+  void grow(const std::vector<Value> &list) {
+    std::lock_guard<std::mutex> guard(lock);
+    values.insert(values.end(), list.begin(), list.end());
+  }
+  Value look(Value place) {
+    std::lock_guard<std::mutex> guard(lock);
+    return values.at(place);
+  }
+};
+
+template <typename Vector> void push_often(Vector &vector, Value times) {
+  for (Value value = 0; value < times; ++value)
+    vector.push(value);
+}
+
+template <typename Vector> void grow_often(Vector &vector, Value times) {
+  for (Value i = 0; i < times / list_length; ++i) {
+    std::vector<Value> list;
+    list.reserve(list_length);
+    for (Value j = 0; j < list_length; ++j)
+      list.push_back(i + j);
+    vector.grow(list);
+  }
+}
+
+template <typename Vector> void look_often(Vector &vector, Value times) {
+  Value found = 0;
+  Value random = 88172645463325252;
+  for (Value i = 0; i < times; ++i) {
+    random = random * 6364136223846793005 + 1442695040888963407;
+    found += vector.look(random >> 41) & 1;
+  }
+  volatile Value kept = found;
+  (void)kept;
+}
+
+template <typename Vector> long long run(const char *load, unsigned threads) {
+  Vector vector;
+  bool installed = std::strstr(load, "-installed") || !std::strcmp(load, "look");
+  if (installed)
+    push_often(vector, filled);
+  Value times = (installed ? more : fresh) / threads;
+  std::function<void()> work = [&] { push_often(vector, times); };
+  if (!std::strncmp(load, "grow", 4))
+    work = [&] { grow_often(vector, times); };
+  if (!std::strcmp(load, "look"))
+    work = [&] { look_often(vector, times); };
+  auto start = std::chrono::steady_clock::now();
+  std::vector<std::thread> others;
+  for (unsigned i = 1; i < threads; ++i)
+    others.emplace_back(work);
+  work();
+  for (auto &other : others)
+    other.join();
+  auto took = std::chrono::steady_clock::now() - start;
+  return std::chrono::duration_cast<std::chrono::nanoseconds>(took).count();
+}
+
+int main(int count, char **words) {
+  if (count == 2 && !std::strcmp(words[1], "nothing"))
+    return 0;
+  if (count != 4)
+    return 2;
+  unsigned threads = std::strtoul(words[3], nullptr, 10);
+  if (!std::strcmp(words[1], "onetbb"))
+    std::printf("%lld\n", run<OneTbb>(words[2], threads));
+  else if (!std::strcmp(words[1], "locked"))
+    std::printf("%lld\n", run<Locked>(words[2], threads));
+  else
+    return 2;
+}

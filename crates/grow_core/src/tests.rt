@@ -47,7 +47,7 @@ fn a_run_has_its_values_in_order(rt: HostRuntime) -> Result<(), Fail> {
     let token = grown.placed(1);
     assert_eq!(rt; (token.place(), *vector.get(&token)), (1, 8));
     assert_eq!(rt; *vector.get(&token.again()), 8);
-    let at = vector.at(&mut h, 1, Some(&token))?;
+    let at = vector.at(&mut h, token.place(), Some(&token))?;
     assert_eq!(rt; *at.value, 8);
     vector.agree(&at.placed, &token);
     assert_eq!(rt; vector.limit(), 8);

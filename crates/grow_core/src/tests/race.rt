@@ -17,10 +17,10 @@ const EACH: u64 = 25_000;
 const READ: u64 = 100_000;
 
 // How many new vectors two threads begin at once.
-const VECTORS: u64 = 10_000;
+const VECTORS: u64 = 1_000;
 
 // How often a thread looks at most whether the other came.
-const LOOKS: u64 = 1_000_000;
+const LOOKS: u64 = 10_000;
 
 // Appends `n` values from `first` on, in order.
 fn push_each<R: Wait + Abort>(

@@ -67,7 +67,7 @@ impl<A: Allocator> Word<A> {
         hand.seen = hand.seen.max(seen);
     }
 
-    /// SeesAsOne two hands to each other: both have then seen all that was claimed before one load of the
+    /// Shows two hands to each other: both have then seen all that was claimed before one load of the
     /// size. It takes three more loads, which tell nothing.
     pub fn meet(&self, a: &mut Hand, b: &mut Hand)
         requires ours { IsHandOf self.now a.old }

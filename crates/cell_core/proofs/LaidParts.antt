@@ -6,6 +6,7 @@ use base.Stored.{Gv, gnil, gcons, gnum}
 use mathlib.Core.Logic.{dite}
 use native.Mathlib.Decide.{ℕ_discrete}
 use mir.Raw.{raw as bare}
+use mir.Val.{vint}
 use types.Kit as Kit
 use base.Logic.{SProp, ent, sep, wand, all, all_e, guard, apply∗}
 use base.Fml.{GName, fobs, fauth, Lft, Incl, Fml, ftrue, fsep, froom}
@@ -30,7 +31,7 @@ use denote.Param.Laws.{Laws, param_laws}
 use denote.Struct.Members.{Member}
 use Rattle.core.proofs.cell.Inside.{spread}
 use denote.Struct.Lending.{Lends, Lends-both, Lends-nothing, Lends-said, Lends-first}
-use Rattle.cell_core.specs.Slot.{Names, shared_at, Rest, place, resting, free, busy, full, broken, auths}
+use Rattle.cell_core.specs.Slot.{Names, shared_at, Rest, place, resting, free, busy, full, broken, auths, at}
 use Rattle.cell_core.specs.Laid.{cell_ty, stride, row_ty, Fits, rooms, rim, still, owned, along, along_lent, lies, laid, laid_lent, cell_in}
 use Rattle.cell_core.proofs.CellLends.{lends_cell}
 use Rattle.cell_core.proofs.CellSteps.{shared_laws}
@@ -222,3 +223,33 @@ pub emptied : (T : RattleType) (L : Laws T) {M : Type 1} {𝓤 : Ura M} (𝓛 : 
 emptied T L {𝓤 = 𝓤} 𝓛 b e None = id⊢ 𝓤 _
 emptied T L {𝓤 = 𝓤} 𝓛 b e (Some x) = let m : Member = record { row = param 0 T; ty = layout T } in
     qed 𝓛 (‵ (place (param 0 T) (Some x) b e) ∷ []) ∵ spread m ! ((param_laws 0 T L).lawful 𝓛) x b e (λ v good. move ! (1 ∷ []) $ drop ! $ by ! (𝓛.laws.at_room (bare (layout T)) b e v))
+
+module _ (T : RattleType) (L : Laws T) {M : Type 1} {𝓤 : Ura M} (𝓛 : Logic 𝓤) (token : Ty → Ptr → Fml) where
+  open 𝓛 use {H}
+
+  abbrev R : RattleType
+  R = param 0 T
+
+  -- a cell is room again, whatever it holds
+  cleared : (γ : Names) (b e : ℕ) → ent 𝓤 (sem 𝓛 (owned R b γ e)) (H.room (bare (cell_ty R)) b e)
+  cleared γ b e = let Rooms : Fml = rooms R b e in let Room : Fml = froom (bare (cell_ty R)) b e in
+      qed 𝓛 (‵ (owned R b γ e) ∷ []) ∵ fsplit ! $ fpick ! (λ r. fsplit3 ! $ use1 𝓛 (‵ (froom (ty_int w64) b (e + 0))) (𝓛.laws.at_room (ty_int w64) b (e + 0) (vint w64 r.0)) $
+      move ! (1 ∷ []) $ use1 𝓛 (‵ (froom (bare (layout T)) b (at R e))) (emptied T L 𝓛 b (at R e) r.1) $
+      nothing ! $ move ! (2 ∷ 1 ∷ 0 ∷ []) $ fjoin3 ! $ move ! (0 ∷ 2 ∷ []) $ use2 𝓛 (‵ Room) (apply∗ 𝓤 (sem 𝓛 Rooms) (sem 𝓛 Room)) $ keep ! (0 ∷ []) $ done !)
+
+  -- the same of all cells of a row, before the room that is left
+  cleared_along : (b : ℕ) (γs : List Names) (left e e' : ℕ) → e' ≡ length γs * stride R + e
+      → ent 𝓤 (sep 𝓤 (sem 𝓛 (along R (owned R b) γs e)) (H.room (ty_array (bare (cell_ty R)) left) b e')) (H.room (ty_array (bare (cell_ty R)) (length γs + left)) b e)
+  cleared_along b [] left e e' is = let z = zero-mul (stride R) in let same : e' ≡ e = omega arith in let τ = bare (cell_ty R) in
+      qed 𝓛 (‵ ftrue ∷ ‵ (froom (ty_array τ left) b e') ∷ []) ∵ rewrite ! 1 (λ (z : ℕ × ℕ). ‵ (froom (ty_array τ z.0) b z.1)) (λ i. ((let r : left ≡ 0 + left = omega arith in r) i, same i)) refl $ keep ! (1 ∷ []) $ done !
+  cleared_along b (γ ∷ γs) left e e' is = let z = suc-mul (length γs) (stride R) in let τ = bare (cell_ty R) in let n : ℕ = length γs + left in let step : e + stride R ≡ e + size τ = sym (ap (λ (z : ℕ). e + z) (size-raw (cell_ty R))) in
+      qed 𝓛 (‵ (along R (owned R b) (γ ∷ γs) e) ∷ ‵ (froom (ty_array τ left) b e') ∷ []) ∵ fsplit ! $ use1 𝓛 (‵ (froom τ b e)) (cleared γ b e) $ move ! (1 ∷ 2 ∷ []) $
+      use2 𝓛 (‵ (froom (ty_array τ n) b (e + stride R))) (cleared_along b γs left (e + stride R) e' (omega arith)) $ rewrite ! 0 (λ (i : ℕ). ‵ (froom (ty_array τ n) b i)) step refl $
+      move ! (1 ∷ 0 ∷ []) $ use2 𝓛 (‵ (froom (ty_array τ (suc n)) b e)) (𝓛.laws.room_cons τ n b e) $ rewrite ! 0 (λ (m : ℕ). ‵ (froom (ty_array τ m) b e)) (let r : suc n ≡ suc (length γs) + left = omega arith in r) refl $ done !
+
+  -- a row whose cells are given up has room for as many
+  pub forgotten : (p : Ptr) (γs : List Names) (left : ℕ) → ent 𝓤 (sem 𝓛 (laid R token p γs left)) (sem 𝓛 (laid R token p [] (length γs + left)))
+  forgotten p γs left = let b : ℕ = block_of p in let o : ℕ = count_of p in let n : ℕ = length γs + left in let τ = bare (cell_ty R) in let z = zero-mul (stride R) in let same : n ≡ 0 + n = omega arith in
+      qed 𝓛 (‵ (laid R token p γs left) ∷ []) ∵ fsplit ! $ move ! (1 ∷ []) $ fsplit3 ! $ use2 𝓛 (‵ (froom (ty_array τ n) b o)) (cleared_along b γs left o (length γs * stride R + o) refl) $
+      rewrite ! 0 (λ (i : ℕ). ‵ (froom (ty_array τ n) b i)) (let r : o ≡ 0 * stride R + o = omega arith in r) refl $
+      rewrite ! 1 (λ (m : ℕ). ‵ (token (row_ty R m) p)) same refl $ rewrite ! 2 (λ (m : ℕ). ‵ (lies R p m)) same refl $ nothing ! $ fjoin3 ! $ move ! (1 ∷ 0 ∷ []) $ done !

@@ -161,6 +161,17 @@ impl<T, A: Allocator> Block<T, A> {
     {
         self.laid.take(self.link, place as usize)
     }
+
+    /// Frees its memory at once, without a look at its cells: no value is dropped.
+    pub fn free(self) {
+        let Block {
+            alloc,
+            link,
+            laid,
+            len,
+        } = self;
+        laid.release(&alloc, link, len as usize);
+    }
 }
 
 impl<T: Drop, A: Allocator> Drop for Block<T, A> {

@@ -145,7 +145,11 @@ impl<T: Drop> Table<T> {
             Some(block) => Ok(block),
             None => {
                 let block = Block::new(self.alloc, len(k))?;
-                Ok(entry.set(Box::new(self.alloc, block)?, sight))
+                let (first, back) = entry.set(Box::new(self.alloc, block)?, sight);
+                if let Some(back) = back {
+                    Box::into_inner(back).free();
+                }
+                Ok(first)
             }
         }
     }

@@ -148,9 +148,9 @@ impl<T, A: Allocator> Laid<T, A> {
         }
     }
 
-    // Frees a row that has no cell left.
+    // Frees the row. The values of cells that are still there are not dropped.
     pub(crate) fn release(self, alloc: &A, link: Link<T>, len: usize)
-        requires { (self.heap ≡ alloc.now) × (self.at ≡ link.ptr) × (self.cells ≡ []) × (self.left ≡ len) }
+        requires { (self.heap ≡ alloc.now) × (self.at ≡ link.ptr) × (length self.cells + self.left ≡ len) }
     {
         let Laid { marker: _ } = self;
         unsafe {

@@ -135,19 +135,24 @@ impl<B: Measured> Entry<B> {
 }
 
 impl<B: Measured + Drop> Entry<B> {
-    // Sets the entry to the block, unless another came first; then the block is dropped. It gives the entry's block.
-    pub(crate) fn set<'a>(&'a self, block: Box<B>, sight: &mut Sight<B>) -> &'a B
+    // Sets the entry to the block, unless another came first. It gives the entry's block, and `block` back where another
+    // came first.
+    pub(crate) fn set<'a>(
+        &'a self,
+        block: Box<B>,
+        sight: &mut Sight<B>,
+    ) -> (&'a B, Option<Box<B>>)
         requires of { sight.old.of ≡ name_of self.now }
         requires length { B.measure block.value ≡ length_of self.now }
         ensures same { sight.new.of ≡ sight.old.of }
-        ensures block { (sight.new.known ≡ Some result.now) × Agrees sight.old.known result.now }
-        ensures length { B.measure result.now ≡ length_of self.now }
+        ensures block { (sight.new.known ≡ Some result.0.now) × Agrees sight.old.known result.0.now }
+        ensures length { B.measure result.0.now ≡ length_of self.now }
     {
         let (first, back) = self.offer(Loose::of(block), sight);
-        if let Some(back) = back {
-            drop(back.into_box());
+        match back {
+            Some(back) => (first, Some(back.into_box())),
+            None => (first, None),
         }
-        first
     }
 
     // The block, for whoever has the whole entry.

@@ -38,7 +38,7 @@ impl<T: Drop> Table<T> {
         if let Some(Lent { entry: k, block }) = self.lent.take() {
             if block.len() == len(k) {
                 let entry = &self.entries[k as usize];
-                entry.set(block, &mut entry.sight());
+                drop(entry.set(block, &mut entry.sight()));
             }
         }
     }

@@ -1,5 +1,5 @@
--- `release` puts the parts together and gives the room back.
-use Rattle.std.proofs.Common.{◌≡◌, ℕ, ◌+◌, ◌*◌, ◌^◌, ◌<◌, List, [], ◌∷◌, sym, refl, ap, subst, arith, w64}
+-- `release` gives up the cells, puts the parts together and gives the room back.
+use Rattle.std.proofs.Common.{◌≡◌, ℕ, ◌+◌, ◌*◌, ◌^◌, ◌<◌, List, [], ◌∷◌, length, sym, refl, ap, subst, arith, w64}
 use mir.Syntax.{Ty, a_type, dcons, dnil, named}
 use mir.Val.{Val, vunit, vint, vptr}
 use mir.MapTy.{inst_fn}
@@ -25,7 +25,6 @@ use denote.Triple.Walked.{Stays, stay_dropped, walk_of, Goes-dropped}
 use Rattle.core.proofs.atomic.Steps.{tail}
 use Rattle.atomic_table.proofs.Walks.{proved, leaves}
 use Rattle.atomic_table.proofs.Calls.{fm}
-use Rattle.cell_core.specs.Slot.{Names}
 use denote.RawPtr.{RawPtr}
 use Rattle.cell_core.specs.Laid.{laid, cell_ty, row_ty, stride, Fits}
 use Rattle.cell_core.specs.contracts.block.steps.Link as link
@@ -56,11 +55,12 @@ release_spec 𝓤 𝓛 𝓜 𝓡 wired T Al L LA ga da dd met _ =
     (λ κs. ((λ _. token_val ∷ []), (shr_vals, ((λ x. pointer_val x.ptr ∷ []), (uint_vals w64, tt))))) (λ κs. ((λ x vs so. token_told RawPtr vs so.0), (shr_Tells (named 0) κs.0 Z, (link_told R, (uint_Tells w64, tt))))) (λ κs qs bounds a gh are.
     let h : Lo.Denot = a.0 in let hp : ℕ × ℕ = a.1.0.ref_ptr in let heap : Al.Denot = a.1.0.now in let p : Ptr = a.1.1.0.ptr in let n : ℕ = a.1.1.1.0 in let τ : Ty = row_ty R n in let s : ℕ = n * stride R in let κ : Lft = κs.0 in let q : Share = qs.0 in let token : Ty → Ptr → Fml = ga.dealloc_token heap in
     let y : (walk_of 𝓛 En hs c).Ghost = ((κs, qs, bounds, a, (token_val ∷ [], (vptr hp.0 hp.1 ∷ [], (pointer_val p ∷ [], (vint w64 n ∷ [], tt))))), gh) in let Post : Val → SProp 𝓤 = (walk_of 𝓛 En hs c).post y in
-    let others : Fml = fsep (flft κs.1.0 qs.1.0) (fsep (flft κs.1.1.0 qs.1.1.0) ftrue) in let Asked : Type 0 = (h.heap ≡ heap) × (h.at ≡ p) × (h.cells ≡ []) × (h.left ≡ n) in let b : ℕ = block_of p in let o : ℕ = count_of p in let p' : Ptr = block_ptr b o in
+    let others : Fml = fsep (flft κs.1.0 qs.1.0) (fsep (flft κs.1.1.0 qs.1.1.0) ftrue) in let Asked : Type 0 = (h.heap ≡ heap) × (h.at ≡ p) × (length h.cells + h.left ≡ n) in let b : ℕ = block_of p in let o : ℕ = count_of p in let p' : Ptr = block_ptr b o in
     let us : Ptr → List Val = λ u. token_val ∷ vptr hp.0 hp.1 ∷ pointer_val u ∷ vint w64 n ∷ [] in let Run : List Val → SProp 𝓤 = λ ws. WpFn 𝓤 H 𝓣.C 𝓣.Λ fn ws Post in
     qed 𝓛 (((‵ (flft κ q) ⊛ ‵ others) ⊛ ‵ (owns (types_at En.signature.params κs) a y.0.4)) ∷ raw (fact 𝓤 _) ∷ raw (fact 𝓤 (κs.1.1.0 ⊑ Al.lives)) ∷ raw (fact 𝓤 Asked) ∷ []) ∵
     keep ! (2 ∷ 3 ∷ 0 ∷ []) $ heard ! (κs.1.1.0 ⊑ Al.lives) (λ inside. heard ! Asked (λ asked. split ! $ split ! $ move ! (2 ∷ []) $ fsplit3 ! $ fsplit ! $ move ! (2 ∷ []) $ fsplit ! $ keep ! (3 ∷ 1 ∷ 5 ∷ 6 ∷ []) $
-    rewrite ! 0 (λ (u : Al.Denot × Ptr × List Names × ℕ). ‵ (laid R (ga.dealloc_token u.0) u.1 u.2 u.3)) (λ i. (asked.0 i, asked.1 i, asked.2 i, asked.3 i)) refl $ fsplit ! $ fpick ! (λ so. fpack ! (InBlock p × Fits R (0 + n)) (λ _. ftrue) so $ fjoin ! $
+    rewrite ! 0 (λ (u : Al.Denot × Ptr). ‵ (laid R (ga.dealloc_token u.0) u.1 h.cells h.left)) (λ i. (asked.0 i, asked.1 i)) refl $
+    use1 𝓛 (‵ (laid R token p [] (length h.cells + h.left))) (parts.forgotten T L 𝓛 token p h.cells h.left) $ rewrite ! 0 (λ (m : ℕ). ‵ (laid R token p [] m)) asked.2 refl $ fsplit ! $ fpick ! (λ so. fpack ! (InBlock p × Fits R (0 + n)) (λ _. ftrue) so $ fjoin ! $
     rewrite ! 0 (λ (u : Ptr). ‵ (laid R token u [] n)) (at_block p so.0) refl $
     use1 𝓛 (given (Fits R n) (‵ (froom τ b o) ⊛ ‵ (token τ p'))) (parts.gathers 𝓛 R token b o n) $ learn ! (λ fits. let small : s < 2 ^ 64 = (let x = fits.1 in omega arith) in split ! $
     suffices ! (Run (us p')) (subst (λ (u : Ptr). ent 𝓤 (Run (us p')) (Run (us u))) (sym (at_block p so.0)) (id⊢ 𝓤 (Run (us p')))) $

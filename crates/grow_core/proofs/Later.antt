@@ -15,6 +15,10 @@ use Rattle.grow_core.specs.Growth.{IsDue, Leaves}
 pub more_self : (a : HandView) → SeesMore a a
 more_self a = record { seen = ([], append-nil a.seen); own = record { of = refl; mine = refl; shares = refl } }
 
+-- what a hand has seen is a size that it sees
+pub sees_self : (a : HandView) (size : ℕ) → size ≡ seen_size a → seen_size a ≤ a.of.limit → SeesSize a a size
+sees_self a size is within = record { seen = (more_self a).seen; ends = sym is; within = omega arith; own = (more_self a).own }
+
 -- a size that is told is more that is seen
 pub more_of_size : (a b : HandView) (size : ℕ) → SeesSize a b size → SeesMore a b
 more_of_size a b size s = record { seen = s.seen; own = s.own }

@@ -4,4 +4,5 @@ pub mod Keys
 pub mod Grown
 pub mod Read
 pub mod Growth
+pub mod Part
 pub mod Errors

@@ -3,6 +3,7 @@ ghost use Rattle.std.specs.Prelude.{◌≡◌, ◌+◌, ◌<◌, ◌≤◌, IfOk
 ghost use Rattle.claim_core.specs.Hand.{AddsRun, OwnsPlace, seen_size};
 ghost use Rattle.grow_core.specs.Vector.{IsHandOf, IsPlacedOf, limit_of};
 ghost use Rattle.grow_core.specs.Keys.{OwnsPlacesOf};
+ghost use Rattle.grow_core.specs.Part.{IsPartOf};
 ghost use Rattle.grow_core.specs.Growth.{IsDue, Leaves, GivesBack, IsFoundAt};
 
 use crate::errors::GrowError;
@@ -11,8 +12,19 @@ use crate::keys::install;
 use crate::token::{Found, Placed, Spoilt};
 use crate::vector::Shared;
 use cell_core::block;
+use cell_core::block::Block;
 use claim_core::{Moved, laws};
-use seg_core::locate;
+use seg_core::{first, len, locate};
+use table_core::Key;
+
+// A segment of the vector: its block with its key, its first place, and the place after its last.
+#[derive(Drop)]
+pub(crate) struct Part<'a, T> {
+    block: &'a Block<T>,
+    key: Key,
+    from: u64,
+    pub(crate) end: u64,
+}
 
 impl<T: Drop> Shared<T> {
     // One try to win `n` places from the size that the hand has seen, whose segments it installs first. What was moved
@@ -53,20 +65,68 @@ impl<T: Drop> Shared<T> {
         }
     }
 
-    // Fills a place of the hand's own with the value.
-    pub(crate) fn fill(&self, hand: &Hand<T>, place: u64, value: T) -> Result<Placed<T>, Found<T>>
+    // The segment of a place of the hand's own.
+    pub(crate) fn part(&self, hand: &Hand<T>, place: u64) -> Part<'_, T>
         requires ours { IsHandOf self.now hand.now }
         requires owned { OwnsPlace hand.now place }
         requires within { place < limit_of self.now }
+        ensures part { IsPartOf self.now result }
+        ensures from { result.from ≤ place }
+        ensures before { place < result.end }
+    {
+        self.laws();
+        let (segment, _) = locate(place);
+        let key = hand.key(segment, place);
+        let from = first(segment);
+        Part {
+            block: self.table.known(&key),
+            key,
+            from,
+            end: from + len(segment),
+        }
+    }
+
+    // The segment of a place of the hand's own: this one, unless it ends there.
+    pub(crate) fn part_on<'a>(
+        &'a self,
+        hand: &Hand<T>,
+        part: Part<'a, T>,
+        place: u64,
+    ) -> Part<'a, T>
+        requires ours { IsHandOf self.now hand.now }
+        requires owned { OwnsPlace hand.now place }
+        requires within { place < limit_of self.now }
+        requires part { IsPartOf self.now part }
+        requires from { part.from ≤ place }
+        requires not_past { place ≤ part.end }
+        ensures part { IsPartOf self.now result }
+        ensures from { result.from ≤ place }
+        ensures before { place < result.end }
+    {
+        if place < part.end {
+            part
+        } else {
+            self.part(hand, place)
+        }
+    }
+
+    // Fills a place of the segment with the value.
+    pub(crate) fn fill(
+        &self,
+        part: &Part<'_, T>,
+        place: u64,
+        value: T,
+    ) -> Result<Placed<T>, Found<T>>
+        requires part { IsPartOf self.now part.now }
+        requires from { part.now.from ≤ place }
+        requires before { place < part.now.end }
         ensures token { IfOk result (IsPlacedOf self.now) }
         ensures here { IfOk result (λ placed. placed.place ≡ place) }
         ensures value { IfOk result (λ placed. placed.value ≡ value) }
         ensures found { IfErr result (IsFoundAt self.now place) }
     {
-        self.laws();
-        let (segment, offset) = locate(place);
-        let key = hand.key(segment, place);
-        match self.table.known(&key).begin(offset) {
+        let key = part.key.again();
+        match part.block.begin(place - part.from) {
             Ok(pen) => Ok(Placed {
                 key,
                 cell: pen.fill(value),

@@ -96,6 +96,7 @@ impl<T: Drop> Shared<T> {
     ) -> Result<Grown<T>, (u64, Found<T>)>
         requires ours { IsHandOf self.now hand.now }
         requires owned { OwnsPlacesOf hand.now run }
+        requires some_places { 0 < run.n }
         requires within { run.from + run.n ≤ limit_of self.now }
         requires values { vec_len values ≡ run.n }
         requires tokens { tokens.items ≡ [] }
@@ -108,9 +109,11 @@ impl<T: Drop> Shared<T> {
         ensures found { IfErr result (λ (place, found). IsFoundAt self.now place found) }
     {
         self.laws();
+        let mut part = self.part(hand, run.from);
         for value in values {
             let place = run.from + tokens.len() as u64;
-            match self.fill(hand, place, value) {
+            part = self.part_on(hand, part, place);
+            match self.fill(&part, place, value) {
                 Ok(placed) => tokens.push_reserved(placed),
                 Err(found) => return Err((place, found)),
             }

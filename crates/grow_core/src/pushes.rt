@@ -30,6 +30,28 @@ impl<T: Drop> Shared<T> {
         ensures value_back { IfErr result (GivesBack value) }
     {
         let from = self.size(hand);
+        self.push_at(hand, from, value)
+    }
+
+    // One try to append a value at the size that the hand has seen.
+    fn push_at(
+        &self,
+        hand: &mut Hand<T>,
+        from: u64,
+        value: T,
+    ) -> Result<Placed<T>, GrowError<T, T, Never>>
+        requires ours { IsHandOf self.now hand.old }
+        requires seen { from ≡ seen_size hand.old }
+        ensures run { IfOk result (λ placed. AddsRun hand.old hand.new (single from)) }
+        ensures here { IfOk result (λ placed. placed.place ≡ from) }
+        ensures token { IfOk result (IsPlacedOf self.now) }
+        ensures value { IfOk result (λ placed. placed.value ≡ value) }
+        ensures full { HasNoRoom self.now 1 hand.old → IsErrAnd result SaysFull }
+        ensures refused { IfErr result (IsDue self.now 1 hand.old) }
+        ensures left { IfErr result (Leaves self.now 1 hand.old hand.new) }
+        ensures value_back { IfErr result (GivesBack value) }
+    {
+        hand.laws();
         if from >= self.limit() {
             return Err(GrowError::Full {
                 size: from,
@@ -37,13 +59,15 @@ impl<T: Drop> Shared<T> {
             });
         }
         let value = self.claim(hand, from, 1, value)?;
-        match self.fill(hand, from, value) {
+        let part = self.part(hand, from);
+        match self.fill(&part, from, value) {
             Ok(placed) => Ok(placed),
             Err(found) => Err(GrowError::Taken { place: from, found }),
         }
     }
 
-    /// As `try_push_back`, and it tries again where another caller was first.
+    /// As `try_push_back`, but it begins at the size that the hand has seen, and tries again where another caller was
+    /// first.
     pub fn push_back<R: Wait>(
         &self,
         rt: &R,
@@ -63,7 +87,8 @@ impl<T: Drop> Shared<T> {
         ensures value_back { IfErr result (GivesBack value) }
     {
         for _try in rt.forever() {
-            match self.try_push_back(hand, value) {
+            let from = hand.seen();
+            match self.push_at(hand, from, value) {
                 Err(GrowError::Moved { size: _, back }) => value = back,
                 done => return done,
             }

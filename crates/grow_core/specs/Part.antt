@@ -1,0 +1,14 @@
+-- A segment of the vector as a growth fills it.
+use Rattle.std.specs.Prelude.{◌≡◌}
+use Rattle.seg_core.specs.Segment.{segment_start, segment_end}
+use Rattle.table_core.specs.Table.{IsKeyIn, IsBlockOf}
+use Rattle.grow_core.specs.declared.claims.Part.{Part}
+use Rattle.grow_core.specs.Vector.{VectorView}
+
+-- it is a segment of this vector, from its first place to its end
+pub record IsPartOf {T : Type 0} (vector : VectorView) (part : Part T) : Type 0 where
+  pub key : IsKeyIn vector.segments part.key
+  pub block : part.block.now ≡ part.key.block
+  pub long : IsBlockOf part.key.entry part.key.block
+  pub first : part.from ≡ segment_start part.key.entry
+  pub last : part.end ≡ segment_end part.key.entry

@@ -170,7 +170,8 @@ impl<T, A: Allocator> Block<T, A> {
             laid,
             len,
         } = self;
-        laid.release(&alloc, link, len as usize);
+        let count = len as usize;
+        laid.release(&alloc, link, count);
     }
 }
 

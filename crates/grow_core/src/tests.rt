@@ -2,6 +2,7 @@ use super::*;
 use std::test::Fail;
 
 mod drops;
+mod first;
 mod race;
 mod refusals;
 mod uses;

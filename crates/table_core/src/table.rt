@@ -154,9 +154,9 @@ impl<T: Drop> Table<T> {
         if !self.begun[k as usize].swap(true, SeqCst) {
             return None;
         }
-        let entry = &self.entries[k as usize];
+        let awaited = &self.entries[k as usize];
         for _look in 0..len(k) / 4 {
-            if let Some(block) = entry.look(sight) {
+            if let Some(block) = awaited.look(sight) {
                 return Some(block);
             }
             spin_loop();
@@ -202,7 +202,8 @@ impl<T: Drop> Table<T> {
     }
 
     /// The entry's block. Where the entry is not set, it makes a block and sets the entry to it; if another call came
-    /// first, it drops its own and answers that call's. An entry is never set by a call that is refused.
+    /// first, it frees its own at once and answers that call's. Where another call is at work on the block, it first looks
+    /// for it about as long as making one takes. An entry is never set by a call that is refused.
     pub fn install(&self, k: u32) -> Result<&Block<T>, AllocError>
         requires { k < 32 }
         ensures { IfOk result (λ block. IsBlockOf k block.now) }

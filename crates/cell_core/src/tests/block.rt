@@ -123,6 +123,16 @@ fn each_value_is_dropped_once(rt: HostRuntime) -> Result<(), Fail> {
     Ok(())
 }
 
+#[test]
+fn a_freed_block_drops_no_value(rt: HostRuntime) -> Result<(), Fail> {
+    let drops = AtomicU64::new(0);
+    let block = Block::new(rt.alloc(), 3)?;
+    assert!(rt; fill(&block, 1, Counted(&drops)).is_some());
+    block.free();
+    assert_eq!(rt; drops.load(Ordering::SeqCst), 0);
+    Ok(())
+}
+
 // The values of the first and the last of three cells.
 fn ends<T: Copy>(block: &Block<T>, a: T, b: T) -> Option<(T, T)>
     requires { 2 < block_len block.now }

@@ -6,7 +6,6 @@ ghost use Rattle.grow_core.specs.Vector.{IsHandOf};
 use crate::{Hand, Shared};
 use std::process::Abort;
 use std::sync::Wait;
-use std::sync::atomic::{AtomicU64, Ordering};
 use std::test::Fail;
 use std::thread::{Threads, join};
 
@@ -15,12 +14,6 @@ const EACH: u64 = 25_000;
 
 // How many values one thread appends while another reads.
 const READ: u64 = 100_000;
-
-// How many new vectors two threads begin at once.
-const VECTORS: u64 = 1_000;
-
-// How often a thread looks at most whether the other came.
-const LOOKS: u64 = 10_000;
 
 // Appends `n` values from `first` on, in order.
 fn push_each<R: Wait + Abort>(
@@ -35,10 +28,28 @@ fn push_each<R: Wait + Abort>(
     ensures { result.of ≡ vector.now.word }
 {
     for j in 0..n {
-        let pushed = vector.push_back(rt, &mut hand, first + j);
-        assert!(rt; pushed.is_ok(), "{first} {j}");
+        push_and_read(rt, vector, &mut hand, first + j);
     }
     hand
+}
+
+// Appends a value, reads it by its token, and looks at a place further down.
+fn push_and_read<R: Wait + Abort>(
+    rt: &R,
+    vector: &Shared<u64>,
+    hand: &mut Hand<u64>,
+    value: u64,
+)
+    requires ours { IsHandOf vector.now hand.old }
+    ensures { hand.new.of ≡ hand.old.of }
+{
+    let Ok(placed) = vector.push_back(rt, hand, value) else {
+        panic!(rt; "{value} was refused");
+    };
+    assert_eq!(rt; *vector.get(&placed), value);
+    if let Ok(at) = vector.at(hand, placed.place() / 2, None) {
+        assert!(rt; *at.value < 4 * EACH);
+    }
 }
 
 fn push_by_two<R: Threads + Wait + Abort + Sync>(
@@ -174,79 +185,5 @@ fn a_thread_reads_what_another_appends(rt: HostRuntime) -> Result<(), Fail> {
     let hand = append_and_read(&rt, &vector, hand);
     assert!(rt; hand.is_whole());
     assert_eq!(rt; vector.end(hand), READ);
-    Ok(())
-}
-
-// Waits for the other thread, so that both go on together.
-fn meet(arrived: &AtomicU64) {
-    arrived.fetch_add(1, Ordering::SeqCst);
-    for _look in 0..LOOKS {
-        if arrived.load(Ordering::SeqCst) == 2 {
-            break;
-        }
-        std::hint::spin_loop();
-    }
-}
-
-fn first_push<R: Wait + Abort>(
-    rt: &R,
-    vector: &Shared<u64>,
-    hand: Hand<u64>,
-    arrived: &AtomicU64,
-    value: u64,
-) -> Hand<u64>
-    requires ours { IsHandOf vector.now hand }
-    requires small { value < 2 }
-    ensures { result.of ≡ vector.now.word }
-{
-    meet(arrived);
-    push_each(rt, vector, hand, value, 1)
-}
-
-// Two threads make their first pushes together: both want the first segment, and one of them installs it.
-fn first_pushes<R: Threads + Wait + Abort + Sync>(
-    rt: &R,
-    vector: &Shared<u64>,
-    mut a: Hand<u64>,
-) -> Hand<u64>
-    requires ours { IsHandOf vector.now a }
-    requires enough { 1 < a.shares }
-    ensures { result.of ≡ vector.now.word }
-{
-    let b = vector.split(&mut a, 1);
-    let arrived = AtomicU64::new(0);
-    let (mut all, other) = join(
-        rt,
-        || -> Hand<u64>
-            requires { IsSync R.row × IsHandOf vector.now a }
-            ensures { result.of ≡ vector.entry.now.word }
-        { first_push(rt, vector, a, &arrived, 0) },
-        || -> Hand<u64>
-            requires { IsSync R.row × IsHandOf vector.now b }
-            ensures { result.of ≡ vector.entry.now.word }
-        { first_push(rt, vector, b, &arrived, 1) },
-    );
-    vector.join(&mut all, other);
-    all
-}
-
-// The sum of the values at the first two places.
-fn sum_of_two(vector: &Shared<u64>, hand: &mut Hand<u64>) -> Option<u64>
-    requires ours { IsHandOf vector.now hand.old }
-    ensures { hand.new.of ≡ hand.old.of }
-{
-    let first = *vector.at(hand, 0, None).ok()?.value;
-    let second = *vector.at(hand, 1, None).ok()?.value;
-    first.checked_add(second)
-}
-
-#[test]
-fn two_first_pushes_share_one_segment(rt: HostRuntime) -> Result<(), Fail> {
-    for _vector in 0..VECTORS {
-        let (vector, hand) = Shared::fresh(rt.alloc(), 2)?;
-        let mut hand = first_pushes(&rt, &vector, hand);
-        assert_eq!(rt; vector.size(&mut hand), 2);
-        assert_eq!(rt; sum_of_two(&vector, &mut hand), Some(1));
-    }
     Ok(())
 }

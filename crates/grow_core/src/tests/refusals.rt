@@ -74,25 +74,33 @@ fn a_place_at_the_size_is_out_of_range(rt: HostRuntime) -> Result<(), Fail> {
     Ok(())
 }
 
-// It passes too where any one allocation is made to fail: the call that asked for it gives back what it was given.
+// It passes too where any one allocation is made to fail: the call that asked for it gives back what it was given, and
+// succeeds when it is called again.
 #[test]
 fn a_refused_allocation_gives_the_values_back(rt: HostRuntime) -> Result<(), Fail> {
     let Ok((vector, mut h)) = Shared::fresh(rt.alloc(), 8) else {
+        assert!(rt; Shared::<u64>::fresh(rt.alloc(), 8).is_ok());
         return Ok(());
     };
     match vector.try_push_back(&mut h, 5u64) {
         Ok(placed) => assert_eq!(rt; *vector.get(&placed), 5),
-        Err(GrowError::NoMemory { back }) => assert_eq!(rt; back, 5),
+        Err(GrowError::NoMemory { back }) => {
+            assert_eq!(rt; back, 5);
+            assert!(rt; vector.try_push_back(&mut h, back).is_ok());
+        }
         Err(_other) => return Err(Fail::from("neither placed nor given back")),
     }
     let Ok(values) = vec![in rt.alloc(); 6, 7] else {
         return Ok(());
     };
-    let seen = h.seen();
     match vector.try_grow_vec(&mut h, values) {
-        Ok(grown) => assert_eq!(rt; grown.run(), Run { from: seen, n: 2 }),
-        Err(GrowError::NoMemory { back }) => assert_eq!(rt; back.as_slice(), [6, 7].as_slice()),
+        Ok(grown) => assert_eq!(rt; grown.run(), Run { from: 1, n: 2 }),
+        Err(GrowError::NoMemory { back }) => {
+            assert_eq!(rt; back.as_slice(), [6, 7].as_slice());
+            assert!(rt; vector.try_grow_vec(&mut h, back).is_ok());
+        }
         Err(_other) => return Err(Fail::from("neither grown nor given back")),
     }
+    assert_eq!(rt; vector.size(&mut h), 3);
     Ok(())
 }

@@ -12,7 +12,7 @@ use std::rt::Clock;
 use std::sync::Wait;
 use std::thread;
 use std::thread::Threads;
-use std::time::{Duration, Instant};
+use std::time::Instant;
 
 // The values that all threads append together on a new vector.
 const FRESH: u64 = 10_000_000;
@@ -129,12 +129,13 @@ impl Work {
 }
 
 impl Load {
-    /// Runs it in this many threads, and answers the time that it took.
-    pub fn run<R: Threads + Wait + Clock + AllocGlobal + Sync>(
+    /// Runs it in this many threads, and prints the nanoseconds that it took. The vector stands until they are printed, so
+    /// that its memory can be seen from outside.
+    pub fn print_time<R: Threads + Wait + Clock + Print + AllocGlobal + Sync>(
         self,
         rt: &R,
         threads: usize,
-    ) -> Result<Duration> {
+    ) -> Result<()> {
         let (vector, mut hand) = Shared::fresh(
             rt.alloc(),
             self.filled.saturating_add(self.values),
@@ -151,18 +152,20 @@ impl Load {
                 requires { IsSync R.row × IsHandOf vector hand }
             { self.work.run(rt, &vector, hand, times) },
         )?;
-        Ok(start.elapsed(rt)?)
+        println!(rt; "{}", start.elapsed(rt)?.as_nanos())?;
+        Ok(())
     }
 }
 
-/// Pushes as many values as the load `push` on a new `boxcar::Vec`, and answers the time that it took.
-pub fn run_boxcar_load<R: Threads + Wait + Clock + AllocGlobal + Sync>(
+/// Pushes as many values as the load `push` on a new `boxcar::Vec`, and prints the nanoseconds that it took.
+pub fn print_boxcar_time<R: Threads + Wait + Clock + Print + AllocGlobal + Sync>(
     rt: &R,
     threads: usize,
-) -> Result<Duration> {
+) -> Result<()> {
     let list = boxcar::Vec::new(rt.alloc())?;
     let times = FRESH / (threads as u64).max(1);
     let start = Instant::now(rt)?;
     thread::map_indices(rt, rt.alloc(), threads, &|_| push_boxcar(rt, &list, times))?;
-    Ok(start.elapsed(rt)?)
+    println!(rt; "{}", start.elapsed(rt)?.as_nanos())?;
+    Ok(())
 }

@@ -20,7 +20,7 @@ mod thing;
 mod trial;
 
 use crate::figures::print_figures;
-use crate::loads::{load_of, run_boxcar_load};
+use crate::loads::{load_of, print_boxcar_time};
 use crate::stress::print_stress;
 use crate::thing::{GROUPS, Group};
 use anyhow::{Result, bail, ensure};
@@ -83,13 +83,11 @@ fn print_load<R: Threads + Wait + Clock + Print + AllocGlobal + Sync>(
     name: &str,
     threads: usize,
 ) -> Result<()> {
-    let took = if name == "boxcar" {
-        run_boxcar_load(rt, threads)?
+    if name == "boxcar" {
+        print_boxcar_time(rt, threads)
     } else {
-        load_of(name)?.run(rt, threads)?
-    };
-    println!(rt; "{}", took.as_nanos())?;
-    Ok(())
+        load_of(name)?.print_time(rt, threads)
+    }
 }
 
 fn words_of<R: Env + AllocGlobal>(rt: &R) -> Result<Vec<String>> {

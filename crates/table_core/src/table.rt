@@ -13,10 +13,7 @@ use owner::Lent;
 use seg_core::len;
 use std::alloc::{AllocError, Global};
 use std::array;
-use std::hint::spin_loop;
 use std::marker::Model;
-use std::sync::atomic::AtomicBool;
-use std::sync::atomic::Ordering::SeqCst;
 
 impl<T> Measured for Block<T> {
     ghost use Rattle.cell_core.specs.Block.{block_len};
@@ -28,8 +25,6 @@ impl<T> Measured for Block<T> {
 #[derive(Drop)]
 pub struct Table<T> {
     entries: [Entry<Block<T>>; 32],
-    // Whether some caller makes a block for the entry, or made one: a hint, on which no answer depends.
-    begun: [AtomicBool; 32],
     lent: Option<Lent<T>>,
     alloc: Global,
 }
@@ -53,10 +48,6 @@ fn empty_entry<T>(alloc: Global, k: u32) -> Entry<Block<T>>
     Entry::new(alloc, len(k))
 }
 
-fn none_begun() -> [AtomicBool; 32] {
-    array::from_fn(|_: usize| -> AtomicBool { AtomicBool::new(false) })
-}
-
 impl<T> Table<T> {
     /// No entry is set. It takes no memory from the allocator.
     pub fn new(alloc: Global) -> Table<T> {
@@ -68,7 +59,6 @@ impl<T> Table<T> {
         );
         Table {
             entries,
-            begun: none_begun(),
             lent: None,
             alloc,
         }
@@ -142,44 +132,6 @@ impl<T> Table<T> {
 }
 
 impl<T: Drop> Table<T> {
-    // The entry's block, where another caller has begun to make one and sets the entry within some looks. They take about
-    // as long as making a block does.
-    fn look_on<'a>(&'a self, k: u32, sight: &mut Sight<Block<T>>) -> Option<&'a Block<T>>
-        requires within { k < 32 }
-        requires of { slice_index self.now.names k ≡ sight.old.of }
-        ensures same { sight.new.of ≡ sight.old.of }
-        ensures known { IfSome result (λ block. sight.new.known ≡ Some block.now) }
-        ensures length { IfSome result (λ block. IsBlockOf k block.now) }
-    {
-        if !self.begun[k as usize].swap(true, SeqCst) {
-            return None;
-        }
-        let awaited = &self.entries[k as usize];
-        for _look in 0..len(k) / 4 {
-            if let Some(block) = awaited.look(sight) {
-                return Some(block);
-            }
-            spin_loop();
-        }
-        None
-    }
-
-    // Makes a block and sets the entry to it, unless another caller came first.
-    fn make<'a>(&'a self, k: u32, sight: &mut Sight<Block<T>>) -> Result<&'a Block<T>, AllocError>
-        requires within { k < 32 }
-        requires of { slice_index self.now.names k ≡ sight.old.of }
-        ensures same { sight.new.of ≡ sight.old.of }
-        ensures known { IfOk result (λ block. sight.new.known ≡ Some block.now) }
-        ensures length { IfOk result (λ block. IsBlockOf k block.now) }
-    {
-        let block = Block::new(self.alloc, len(k))?;
-        let (first, back) = self.entries[k as usize].set(Box::new(self.alloc, block)?, sight);
-        if let Some(back) = back {
-            Box::into_inner(back).free();
-        }
-        Ok(first)
-    }
-
     // The entry's block: a new one, unless the entry is set.
     fn set<'a>(&'a self, k: u32, sight: &mut Sight<Block<T>>) -> Result<&'a Block<T>, AllocError>
         requires within { k < 32 }
@@ -188,22 +140,22 @@ impl<T: Drop> Table<T> {
         ensures known { IfOk result (λ block. sight.new.known ≡ Some block.now) }
         ensures length { IfOk result (λ block. IsBlockOf k block.now) }
     {
-        if let Some(block) = self.entries[k as usize].look(sight) {
-            return Ok(block);
+        let entry = &self.entries[k as usize];
+        match entry.look(sight) {
+            Some(block) => Ok(block),
+            None => {
+                let block = Block::new(self.alloc, len(k))?;
+                let (first, back) = entry.set(Box::new(self.alloc, block)?, sight);
+                if let Some(back) = back {
+                    Box::into_inner(back).free();
+                }
+                Ok(first)
+            }
         }
-        if let Some(block) = self.look_on(k, sight) {
-            return Ok(block);
-        }
-        let made = self.make(k, sight);
-        if made.is_err() {
-            self.begun[k as usize].store(false, SeqCst);
-        }
-        made
     }
 
     /// The entry's block. Where the entry is not set, it makes a block and sets the entry to it; if another call came
-    /// first, it frees its own at once and answers that call's. Where another call is at work on the block, it first looks
-    /// for it about as long as making one takes. An entry is never set by a call that is refused.
+    /// first, it frees its own at once and answers that call's. An entry is never set by a call that is refused.
     pub fn install(&self, k: u32) -> Result<&Block<T>, AllocError>
         requires { k < 32 }
         ensures { IfOk result (λ block. IsBlockOf k block.now) }

@@ -6,7 +6,6 @@ use crate::table::{Table, empty_entry};
 use cell_core::block::Block;
 use seg_core::len;
 use std::mem::replace;
-use std::sync::atomic::AtomicBool;
 
 // A block that was taken out of its entry, and is not back.
 #[derive(Drop)]
@@ -52,7 +51,6 @@ impl<T: Drop> Table<T> {
         ensures length { IfSome result (λ block. IsBlockOf k block.value) }
     {
         let new = empty_entry(self.alloc, k);
-        self.begun[k as usize] = AtomicBool::new(false);
         replace(&mut self.entries[k as usize], new).into_box()
     }
 

@@ -34,12 +34,7 @@ fn push_each<R: Wait + Abort>(
 }
 
 // Appends a value, reads it by its token, and looks at a place further down.
-fn push_and_read<R: Wait + Abort>(
-    rt: &R,
-    vector: &Shared<u64>,
-    hand: &mut Hand<u64>,
-    value: u64,
-)
+fn push_and_read<R: Wait + Abort>(rt: &R, vector: &Shared<u64>, hand: &mut Hand<u64>, value: u64)
     requires ours { IsHandOf vector.now hand.old }
     ensures { hand.new.of ≡ hand.old.of }
 {

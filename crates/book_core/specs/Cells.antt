@@ -1,5 +1,5 @@
 -- The sequential vector of cells, and the table of its events.
-use Rattle.std.specs.Prelude.{◌≡◌, ℕ, ◌+◌, ◌-◌, ◌≤◌, nat_le, ◌==◌, Bool, false, if◌then◌else◌, List, [], ◌++◌, length, replicate, Option, Some, None, IfSome, slice_get, slice_set}
+use Rattle.std.specs.Prelude.{◌≡◌, ℕ, ◌+◌, ◌-◌, nat_le, ◌==◌, Bool, false, if◌then◌else◌, List, [], ◌++◌, length, replicate, Option, Some, None, IfSome, slice_get, slice_set}
 use Rattle.book_core.specs.declared.cells.Cell.{Cell}
 use Rattle.book_core.specs.declared.cells.Cell.TheVariants.{Pending, Filled, Broken}
 use Rattle.book_core.specs.declared.events.Event.{Event}
@@ -11,10 +11,6 @@ use Rattle.book_core.specs.declared.events.Reply.TheVariants as replies
 pub record CellList : Type 0 where
   pub limit : ℕ
   pub cells : List Cell
-
--- a vector may have from 1 to 2^32 places
-abbrev pub IsLimit : ℕ → Type 0
-IsLimit limit = (1 ≤ limit) × (limit ≤ 4294967296)
 
 -- the cell is filled or broken
 abbrev pub IsFinished : Cell → Type 0

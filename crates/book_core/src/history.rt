@@ -1,6 +1,7 @@
 //! Whether a list of events with replies is a history of the sequential vector.
 ghost use Rattle.std.specs.Prelude.{◌≡◌, ◌≢◌, ◌↔◌, false, Some, IsTrue, IfOk, IfSome};
-ghost use Rattle.book_core.specs.Cells.{IsLimit, empty_list, apply_event};
+ghost use Rattle.seg_core.specs.Segment.{IsLimit};
+ghost use Rattle.book_core.specs.Cells.{empty_list, apply_event};
 ghost use Rattle.book_core.specs.History.{IsLegalFrom};
 
 use crate::events::{Event, Reply};

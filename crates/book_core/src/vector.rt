@@ -1,7 +1,7 @@
 //! The sequential vector of cells.
 ghost use Rattle.std.specs.Prelude.{◌≡◌, ◌≢◌, ◌↔◌, ◌+◌, ◌<◌, ◌≤◌, nat_le, false, length, slice_get, Some, IsTrue};
 ghost use Rattle.std.specs.Prelude.{IsOk, IsNone, IsErrOf, IfOk, IfErr, OnOk, OnErr};
-ghost use Rattle.book_core.specs.Cells.{IsLimit};
+ghost use Rattle.seg_core.specs.Segment.{IsLimit};
 
 use crate::cells::Cell;
 use crate::events::{Event, Reply};
@@ -39,7 +39,8 @@ pub struct CellVec {
 
 impl Model for CellVec {
     ghost use Rattle.std.specs.Prelude.{◌≤◌, vec_len};
-    ghost use Rattle.book_core.specs.Cells.{CellList, IsLimit};
+    ghost use Rattle.seg_core.specs.Segment.{IsLimit};
+    ghost use Rattle.book_core.specs.Cells.{CellList};
 
     ghost Value = { CellList };
 

@@ -17,7 +17,7 @@ use Rattle.book_core.specs.Commands.{AreSound, calls_of}
 use Rattle.book_core.specs.Events.{actor_of, writer_in}
 use Rattle.book_core.specs.History.{events_of, writers_of}
 use Rattle.book_core.specs.declared.commands.Item.{Item}
-use Rattle.book_core.specs.Cells.{IsLimit}
+use Rattle.seg_core.specs.Segment.{IsLimit}
 use Rattle.step_core.specs.declared.errors.PlayError.{PlayError}
 use Rattle.step_core.specs.declared.programs.Played.{Played}
 use Rattle.step_core.specs.machine.Play.{Play, play_of, played_of}

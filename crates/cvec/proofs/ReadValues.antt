@@ -12,7 +12,8 @@ use Rattle.book_core.specs.declared.commands.Answer.{Answer}
 use Rattle.book_core.specs.declared.commands.Answer.TheVariants as answers
 use Rattle.book_core.specs.declared.commands.Ended.{Ended}
 use Rattle.book_core.specs.declared.commands.Item.{Item}
-use Rattle.book_core.specs.Cells.{IsLimit, empty_list}
+use Rattle.seg_core.specs.Segment.{IsLimit}
+use Rattle.book_core.specs.Cells.{empty_list}
 use Rattle.book_core.specs.Commands.{AreSound, calls_of}
 use Rattle.book_core.specs.Events.{actor_of}
 use Rattle.book_core.specs.History.{IsHistory, events_of}

@@ -1,6 +1,6 @@
 -- What reading a script gives the engine: only its own functions and proofs cite these.
 use Rattle.std.specs.Prelude.{◌≡◌, ◌≤◌, length}
-use Rattle.book_core.specs.Cells.{IsLimit}
+use Rattle.seg_core.specs.Segment.{IsLimit}
 use Rattle.book_core.specs.Commands.{AreSound, HavePrograms}
 use Rattle.script_core.specs.declared.script.Script.{Script}
 use Rattle.cvec.specs.declared.error.RunError.{RunError}

@@ -1,7 +1,7 @@
 //! From the bytes of a script to the bytes of its play: one engine with two plays.
 ghost use Rattle.std.specs.Prelude.{◌≡◌, ◌≢◌, ◌≤◌, length, Some, Err, IfOk, IfErr, OnOk, IfSome, IsErrOf};
 ghost use Rattle.std.specs.Io.KnownBytes.{Keeps};
-ghost use Rattle.book_core.specs.Cells.{IsLimit};
+ghost use Rattle.seg_core.specs.Segment.{IsLimit};
 ghost use Rattle.book_core.specs.Commands.{AreSound, HavePrograms, HaveActors};
 ghost use Rattle.script_core.specs.Grammar.{script_of};
 ghost use Rattle.cvec.specs.Output.{whole_calls, atomic_steps, items_played, play_by, AppendsText, AppendsPrefixOfText};

@@ -3,7 +3,7 @@
 //! proved twice.
 
 ghost use Rattle.std.specs.Prelude.{◌≡◌, IfOk, length};
-ghost use Rattle.book_core.specs.Cells.{IsLimit};
+ghost use Rattle.seg_core.specs.Segment.{IsLimit};
 
 mod command_line;
 mod faults;

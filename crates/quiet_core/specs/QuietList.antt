@@ -1,10 +1,10 @@
 -- The exclusive list: what one owner has when nobody else has the vector.
-use Rattle.std.specs.Prelude.{◌≡◌, ℕ, ◌^◌, ◌≤◌, ◌⊎◌, max, Bool, Option, List, length, refl}
+use Rattle.std.specs.Prelude.{◌≡◌, ℕ, ◌≤◌, ◌⊎◌, max, Bool, Option, List, length, refl}
 use Rattle.std.specs.Option.{option_eq, option_partial_cmp, option_cmp}
 use Rattle.std.specs.Cmp.Lexicographic.{pointwise, slice_partial_cmp, slice_cmp}
 use Rattle.std.specs.Coded.{Coded, code_by, coded×, coded_ℕ, coded_list, coded_option}
 use Rattle.std.specs.declared.cmp.Ordering.{Ordering}
-use Rattle.seg_core.specs.Segment.{segment_end}
+use Rattle.seg_core.specs.Segment.{segment_end, IsLimit}
 
 -- each member is a value or broken (`None`); the greatest length; the places of the segments that are there
 pub record QuietList (T : Type 0) : Type 0 where
@@ -21,10 +21,6 @@ quiet_code {T} code =
     (λ q. (q.members, (q.limit, q.capacity)))
     (λ p. record { members = p.0; limit = p.1.0; capacity = p.1.1 })
     (λ _. refl)
-
--- a limit that a list may have
-abbrev pub IsLimit : ℕ → Type 0
-IsLimit limit = (1 ≤ limit) × (limit ≤ 2 ^ 32)
 
 -- a number of places that fill whole segments: none, or all up to the end of a segment
 abbrev pub IsWhole : ℕ → Type 0

@@ -1,7 +1,8 @@
 //! The list, and what its owner does with it.
 ghost use Rattle.std.specs.Prelude.{◌≡◌, ◌↔◌, ◌+◌, ◌^◌, ◌<◌, ◌≤◌, [], ◌∷◌, ◌++◌, length, map, slice_get, vec_len, Some, None, Ok, Err, IsOk, IsErrOf, IfOk, IfErr, OnOk, OnErr};
 ghost use Rattle.quiet_core.specs.QuietAt.{IsRefusalAt};
-ghost use Rattle.quiet_core.specs.QuietList.{IsLimit, IsWhole, IsCapacityFor, GrowsFor, IsFull, IsUnchanged};
+ghost use Rattle.seg_core.specs.Segment.{IsLimit};
+ghost use Rattle.quiet_core.specs.QuietList.{IsWhole, IsCapacityFor, GrowsFor, IsFull, IsUnchanged};
 
 use crate::errors::{QuietAt, QuietError};
 use crate::room::{append, make_room, places_for, push_there};

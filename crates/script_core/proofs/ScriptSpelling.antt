@@ -12,7 +12,7 @@ use Rattle.std.proofs.lemmas.Slice.Eq.{bytes_eq-Decides}
 use Rattle.book_core.specs.declared.commands.Command.{Command}
 use Rattle.book_core.specs.declared.commands.Command.TheVariants as commands
 use Rattle.book_core.specs.declared.commands.Item.{Item}
-use Rattle.book_core.specs.Cells.{IsLimit}
+use Rattle.seg_core.specs.Segment.{IsLimit}
 use Rattle.book_core.specs.Commands.{IsSound, AreSound, HavePrograms}
 use Rattle.script_core.specs.declared.error.ScriptError.{ScriptError}
 use Rattle.script_core.specs.declared.error.ScriptError.TheVariants as errors

@@ -1,7 +1,7 @@
 //! Whole scripts.
 ghost use Rattle.std.specs.Prelude.{◌≡◌, ◌≢◌, ◌⊎◌, ◌+◌, ◌^◌, ◌<◌, ◌≤◌, ◌==◌, count_by, take, length, OnOk, []};
 ghost use Rattle.std.specs.Prelude.{IfOk, IfErr, IsErrOf, Ok, Err, Bool};
-ghost use Rattle.book_core.specs.Cells.{IsLimit};
+ghost use Rattle.seg_core.specs.Segment.{IsLimit};
 ghost use Rattle.book_core.specs.Commands.{AreSound, HavePrograms};
 ghost use Rattle.script_core.specs.declared.script.Script.{Script};
 ghost use Rattle.script_core.specs.Reading.{GivesLines};

@@ -30,3 +30,7 @@ pub record Touches (segment from n : ℕ) : Type 0 where
   pub place : ℕ
   pub inside : (from ≤ place) × (place < from + n)
   pub there : HasPlace segment place
+
+-- a limit: there may be so many places, from one to all that the 32 segments have
+abbrev pub IsLimit : ℕ → Type 0
+IsLimit limit = (1 ≤ limit) × (limit ≤ 4294967296)

@@ -2,7 +2,7 @@
 ghost use Rattle.std.specs.Prelude.{◌≡◌, ◌≤◌, ◌<◌, ◌↔◌, length, IfOk, OnOk, OnErr, IsErrOf, Some, None};
 ghost use Rattle.std.specs.Prelude.{map as list_map};
 ghost use Rattle.std.specs.FinMap as map;
-ghost use Rattle.book_core.specs.Cells.{IsLimit};
+ghost use Rattle.seg_core.specs.Segment.{IsLimit};
 ghost use Rattle.book_core.specs.Commands.{AreSound};
 ghost use Rattle.step_core.specs.machine.Step.{step_of, IsStepped};
 ghost use Rattle.step_core.specs.machine.Bounds.{IsInLimit};

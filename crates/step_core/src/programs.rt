@@ -1,6 +1,6 @@
 //! Programs and schedules, and what a play of them gives.
 ghost use Rattle.std.specs.Prelude.{◌<◌, ◌↔◌, IsTrue, OnOk, IsErrOf, All, length};
-ghost use Rattle.book_core.specs.Cells.{IsLimit};
+ghost use Rattle.seg_core.specs.Segment.{IsLimit};
 ghost use Rattle.book_core.specs.Commands.{IsSound, AreSound, HavePrograms};
 
 use crate::errors::{MakeError, PlayError};

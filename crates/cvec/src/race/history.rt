@@ -1,6 +1,7 @@
 //! What was won, as a history of the sequential vector.
 ghost use Rattle.std.specs.Prelude.{◌≡◌, ◌↔◌, ◌++◌, IsTrue, IfOk, OnOk, length};
-ghost use Rattle.book_core.specs.Cells.{IsLimit, empty_list};
+ghost use Rattle.seg_core.specs.Segment.{IsLimit};
+ghost use Rattle.book_core.specs.Cells.{empty_list};
 ghost use Rattle.book_core.specs.History.{IsLegalFrom};
 ghost use Rattle.cvec.specs.Race.{AreAllPlaces, AreInOrder, events_of_win};
 

@@ -6,7 +6,7 @@ use Rattle.std.specs.FinMap as map
 use Rattle.seg_core.specs.Segment.{segment_start, segment_end, segment_of}
 use Rattle.seg_core.proofs.Doubling.{segment_of_has, exponent_below}
 use Rattle.book_core.proofs.Lists.{at_place}
-use Rattle.book_core.specs.Cells.{IsLimit}
+use Rattle.seg_core.specs.Segment.{IsLimit}
 use Rattle.book_core.specs.declared.commands.Command.{Command}
 use Rattle.book_core.specs.declared.commands.Command.TheVariants as commands
 use Rattle.book_core.specs.declared.events.Event.{Event}

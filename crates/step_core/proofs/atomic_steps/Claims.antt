@@ -9,7 +9,7 @@ use Rattle.book_core.specs.declared.events.Reply.TheVariants as replies
 use Rattle.book_core.specs.declared.commands.Command.{Command}
 use Rattle.book_core.specs.declared.commands.Command.TheVariants as commands
 use Rattle.book_core.specs.declared.commands.Item.{Item}
-use Rattle.book_core.specs.Cells.{IsLimit}
+use Rattle.seg_core.specs.Segment.{IsLimit}
 use Rattle.book_core.specs.Commands.{AreSound, calls_of}
 use Rattle.book_core.specs.History.{OwnedRun, runs_of, Tile, events_of}
 use Rattle.step_core.specs.declared.machine.phase.Slot.{Slot}

@@ -14,7 +14,8 @@ use Rattle.book_core.specs.declared.events.Reply.{Reply}
 use Rattle.book_core.specs.declared.events.Reply.TheVariants as replies
 use Rattle.book_core.specs.declared.commands.Command.{Command}
 use Rattle.book_core.specs.declared.commands.Item.{Item}
-use Rattle.book_core.specs.Cells.{CellList, IsLimit, empty_list, with_pending, with_cell, is_pending_for, reply_of_look, apply_event, IsFinished}
+use Rattle.seg_core.specs.Segment.{IsLimit}
+use Rattle.book_core.specs.Cells.{CellList, empty_list, with_pending, with_cell, is_pending_for, reply_of_look, apply_event, IsFinished}
 use Rattle.book_core.specs.History.{IsHistory, OwnedRun, runs_of, Tile}
 use Rattle.step_core.specs.machine.Step.{Configuration, step_of, outcome_of}
 use Rattle.step_core.specs.machine.Bounds.{IsWithin, IsInLimit}

@@ -8,7 +8,7 @@ use Rattle.std.specs.FinMap.{get}
 use Rattle.book_core.specs.declared.commands.Command.{Command}
 use Rattle.book_core.specs.declared.commands.Item.{Item}
 use Rattle.book_core.specs.declared.commands.Ended.{Ended}
-use Rattle.book_core.specs.Cells.{IsLimit}
+use Rattle.seg_core.specs.Segment.{IsLimit}
 use Rattle.book_core.specs.Commands.{HavePrograms, HaveActors}
 use Rattle.book_core.specs.History.{OwnedRun, runs_of, owner_of, Tile}
 use Rattle.step_core.specs.declared.machine.phase.Slot.{Slot}

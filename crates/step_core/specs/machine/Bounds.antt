@@ -9,7 +9,7 @@ use Rattle.step_core.specs.declared.machine.phase.Next.TheVariants.{Goes, Ends}
 use Rattle.step_core.specs.declared.machine.storage.Outcome.{Outcome as Given}
 use Rattle.step_core.specs.machine.Storage.{Storage}
 use Rattle.step_core.specs.declared.machine.phase.Actor.{Actor}
-use Rattle.book_core.specs.Cells.{IsLimit}
+use Rattle.seg_core.specs.Segment.{IsLimit}
 use Rattle.step_core.specs.machine.Step.{Outcome, Configuration}
 
 -- a growth to at least a size wants the places up to it

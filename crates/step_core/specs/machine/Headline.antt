@@ -2,7 +2,7 @@
 use Rattle.std.specs.Prelude.{ℕ, List}
 use Rattle.book_core.specs.declared.commands.Command.{Command}
 use Rattle.book_core.specs.declared.commands.Item.{Item}
-use Rattle.book_core.specs.Cells.{IsLimit}
+use Rattle.seg_core.specs.Segment.{IsLimit}
 use Rattle.book_core.specs.Commands.{AreSound}
 use Rattle.step_core.specs.machine.Claims.{MovesAtClaims, MovesAreOwnClaims, NothingIsClaimedAtLoad}
 use Rattle.step_core.specs.machine.Play.{Play, play_of}

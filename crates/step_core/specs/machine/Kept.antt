@@ -3,7 +3,8 @@ use Rattle.std.specs.Prelude.{◌≡◌, ℕ, List, Some, slice_get}
 use Rattle.book_core.specs.declared.cells.Cell.{Cell}
 use Rattle.book_core.specs.declared.commands.Command.{Command}
 use Rattle.book_core.specs.declared.commands.Item.{Item}
-use Rattle.book_core.specs.Cells.{IsLimit, IsFinished}
+use Rattle.seg_core.specs.Segment.{IsLimit}
+use Rattle.book_core.specs.Cells.{IsFinished}
 use Rattle.step_core.specs.machine.Play.{Play, after_items, play_of, played_of}
 
 -- a finished cell of one play is the same in another

@@ -2,7 +2,8 @@
 use Rattle.std.specs.Prelude.{ℕ, List}
 use Rattle.book_core.specs.declared.commands.Command.{Command}
 use Rattle.book_core.specs.declared.commands.Item.{Item}
-use Rattle.book_core.specs.Cells.{CellList, IsLimit, empty_list}
+use Rattle.seg_core.specs.Segment.{IsLimit}
+use Rattle.book_core.specs.Cells.{CellList, empty_list}
 use Rattle.book_core.specs.History.{IsHistory}
 use Rattle.step_core.specs.machine.Play.{Play, play_of, played_of}
 

@@ -6,7 +6,7 @@ use Rattle.std.specs.FinSet as set
 use Rattle.seg_core.specs.Segment.{segment_of}
 use Rattle.book_core.specs.declared.commands.Command.{Command}
 use Rattle.book_core.specs.declared.commands.Item.{Item}
-use Rattle.book_core.specs.Cells.{IsLimit}
+use Rattle.seg_core.specs.Segment.{IsLimit}
 use Rattle.book_core.specs.History.{runs_of, owner_of, writers_of, Tile}
 use Rattle.step_core.specs.declared.machine.phase.Slot.{Slot}
 use Rattle.step_core.specs.declared.machine.phase.Slot.TheVariants.{Busy, Filled, Broken}

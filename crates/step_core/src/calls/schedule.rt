@@ -1,7 +1,7 @@
 //! Plays of whole calls: each item of a schedule plays one.
 ghost use Rattle.std.specs.Prelude.{◌≡◌, ◌+◌, ◌≤◌, ◌<◌, ◌^◌, ◌↔◌, length, IfOk, OnOk, IfSome, OnSome, IsSome, Some};
 ghost use Rattle.std.specs.Prelude.{IsErrOf, slice_index, slice_get};
-ghost use Rattle.book_core.specs.Cells.{IsLimit};
+ghost use Rattle.seg_core.specs.Segment.{IsLimit};
 ghost use Rattle.book_core.specs.Commands.{IsSound, AreSound, HavePrograms, HaveActors};
 ghost use Rattle.step_core.specs.calls.Play.{calls_played};
 

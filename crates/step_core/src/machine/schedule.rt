@@ -1,7 +1,7 @@
 //! Plays of the machine: each item of a schedule is one atomic step.
 ghost use Rattle.std.specs.Prelude.{◌≡◌, ◌≤◌, ◌↔◌, ◌++◌, length, replicate, IfOk, OnOk, Some, IsErrOf};
 ghost use Rattle.std.specs.FinMap as map;
-ghost use Rattle.book_core.specs.Cells.{IsLimit};
+ghost use Rattle.seg_core.specs.Segment.{IsLimit};
 ghost use Rattle.book_core.specs.Commands.{AreSound, HavePrograms, HaveActors};
 ghost use Rattle.book_core.specs.History.{run_of};
 ghost use Rattle.step_core.specs.machine.Owners.{owners_of};

@@ -129,8 +129,8 @@ impl Work {
 }
 
 impl Load {
-    /// Runs it in this many threads, and prints the nanoseconds that it took. The vector stands until they are printed, so
-    /// that its memory can be seen from outside.
+    /// Runs it in this many threads, and prints the nanoseconds that it took. The vector stands until they are
+    /// printed, so that its memory can be seen from outside.
     pub fn print_time<R: Threads + Wait + Clock + Print + AllocGlobal + Sync>(
         self,
         rt: &R,

@@ -135,8 +135,8 @@ impl<B: Measured> Entry<B> {
 }
 
 impl<B: Measured + Drop> Entry<B> {
-    // Sets the entry to the block, unless another came first. It gives the entry's block, and `block` back where another
-    // came first.
+    // Sets the entry to the block, unless another came first. It gives the entry's block, and back the one that came too
+    // late.
     pub(crate) fn set<'a>(&'a self, block: Box<B>, sight: &mut Sight<B>) -> (&'a B, Option<Box<B>>)
         requires of { sight.old.of ≡ name_of self.now }
         requires length { B.measure block.value ≡ length_of self.now }

@@ -171,7 +171,7 @@ impl<T, A: Allocator> Block<T, A> {
             len,
         } = self;
         let count = len as usize;
-        laid.release(&alloc, link, count);
+        laid.free(&alloc, link, count);
     }
 }
 

@@ -148,8 +148,8 @@ impl<T, A: Allocator> Laid<T, A> {
         }
     }
 
-    // Frees the row. The values of cells that are still there are not dropped.
-    pub(crate) fn release(self, alloc: &A, link: Link<T>, len: usize)
+    // Frees a row, whatever is in its cells. Values that are still there are not dropped.
+    pub(crate) fn free(self, alloc: &A, link: Link<T>, len: usize)
         requires { (self.heap ≡ alloc.now) × (self.at ≡ link.ptr) × (length self.cells + self.left ≡ len) }
     {
         let Laid { marker: _ } = self;
@@ -160,6 +160,13 @@ impl<T, A: Allocator> Laid<T, A> {
                 align_of::<Slot<T>>(),
             );
         }
+    }
+
+    // Frees a row without cells: each was popped.
+    pub(crate) fn release(self, alloc: &A, link: Link<T>, len: usize)
+        requires { (self.heap ≡ alloc.now) × (self.at ≡ link.ptr) × (self.cells ≡ []) × (self.left ≡ len) }
+    {
+        self.free(alloc, link, len);
     }
 }
 

@@ -1,6 +1,4 @@
 use denote.Param.Send.{IsSend}
-use denote.Struct.Owning
-use denote.Struct.Struct
 use Rattle.claim_core.specs.contracts.mark.Mark.{the_row}
 
 pub send : IsSend the_row

@@ -1,4 +1,4 @@
--- `release` gives up the cells, puts the parts together and gives the room back.
+-- `free` gives up the cells, puts the parts together and gives the room back.
 use Rattle.std.proofs.Common.{◌≡◌, ℕ, ◌+◌, ◌*◌, ◌^◌, ◌<◌, List, [], ◌∷◌, length, sym, refl, ap, subst, arith, w64}
 use mir.Syntax.{Ty, a_type, dcons, dnil, named}
 use mir.Val.{Val, vunit, vint, vptr}
@@ -39,13 +39,13 @@ use contract.BorrowLft.{◌⊑◌}
 use types.Run.{align_word}
 use denote.Triple.Call.{calls_at_last}
 use Rattle.core.proofs.alloc.Calls.{Al as Handle, Gives, at_gives, Gives-goes, Gives-Gives}
-use Rattle.cell_core.specs.contracts.block.steps.Laid.release.{ended, clauses}
-use Rattle.cell_core.specs.contracts.block.steps.Laid.release.Key.{name as #self}
-use Rattle.cell_core.proofs.block.steps.Laid.release.Statement.{statement}
-use Rattle.cell_core.proofs.block.steps.Laid.release.Code as code
+use Rattle.cell_core.specs.contracts.block.steps.Laid.free.{ended, clauses}
+use Rattle.cell_core.specs.contracts.block.steps.Laid.free.Key.{name as #self}
+use Rattle.cell_core.proofs.block.steps.Laid.free.Statement.{statement}
+use Rattle.cell_core.proofs.block.steps.Laid.free.Code as code
 
-pub release_spec : {M : Type 1} → statement M
-release_spec 𝓤 𝓛 𝓜 𝓡 wired T Al L LA ga da dd met _ =
+pub free_spec : {M : Type 1} → statement M
+free_spec 𝓤 𝓛 𝓜 𝓡 wired T Al L LA ga da dd met _ =
     let H = 𝓛.H in let 𝓣 = tables 𝓤 H 𝓜 𝓡 𝓡.env in let R : RattleType = param 0 T in let Z : RattleType = param 1 Al in let Lk : RattleType = link.the_row R in let Lo : RattleType = loose.the_row R Z ga in
     let En = ended T Al ga da dd in let c = clauses T Al ga da dd 𝓛 𝓜.mem 𝓡.returns in let inst = bounded (a_type ∷ a_type ∷ []) (T, (Al, tt)) (dcons da (dcons dd dnil)) in let fn = inst_fn inst code.function in
     let Hd : Handle = record { row = Al; laws = LA; g = ga; d = da; drops = dd } in

@@ -4,7 +4,7 @@ use Rattle.std.specs.Prelude.{Option, Some, None}
 use seplogic.Ra.Ura.{Ura}
 use base.Fraction.{full_share}
 use base.Share
-use base.Logic.{SProp, ent, sep, wand, emp, all, all_e, upd, upd_i, apply∗, id⊢, wand_i, snd∗}
+use base.Logic.{SProp, ent, sep, wand, emp, upd_i, apply∗, id⊢, wand_i, snd∗}
 use base.Fml.{Lft, GName, Share, Incl, Fml, ftrue, fsep, fseps, fex, fwand, fupd, fdead, fauth, fobs, fres, fbor, flft, finv, Incl-refl, Incl-trans}
 use base.Before.{before}
 use ghost.Rules.{Toks, span}

@@ -1,5 +1,5 @@
 -- The machine value of a link to a row, and the size of a row. Assumes `Logic`.
-use Rattle.std.proofs.Common.{zero, suc, sym, suc-mul, zero-mul, ◌≡◌, ℕ, ◌*◌, ◌^◌, ◌<◌, ◌≤◌, mul-le-mul, List, [], ◌∷◌, ◌++◌, refl, ap, ◌∙◌, arith}
+use Rattle.std.proofs.Common.{zero, suc, sym, suc-mul, zero-mul, ◌≡◌, ℕ, ◌*◌, ◌^◌, ◌<◌, List, [], ◌∷◌, ◌++◌, refl, ap, ◌∙◌, arith}
 use seplogic.Ra.Ura.{Ura}
 use mir.Val.{Val, vstruct, vnil, of_list}
 use base.Logic.{ent, emp}
@@ -25,9 +25,6 @@ module _ (X : RattleType) where
   pub link_made : {M : Type 1} {𝓤 : Ura M} (𝓛 : Logic 𝓤) (p : Ptr) → ent 𝓤 (emp 𝓤) (sem 𝓛 ((link.the_row X).own_val (record { ptr = p; marker = record {} }) (pointer_val p ∷ [])))
   link_made 𝓛 p = makes_shadow 𝓛 ((link.the_row X).own_val (record { ptr = p; marker = record {} }) (pointer_val p ∷ [])) (λ vss. (tt, (tt, ((λ uss. (tt, tt)), tt))))
       ((ptr_val p ∷ [], (vstruct vnil ∷ [], tt)), (refl, (refl, ((tt, (refl, tt)), tt))))
-
-pub reach : (i s : ℕ) → i < 2 ^ 40 → s < 2 ^ 23 → i * s < 2 ^ 64
-reach i s near small = let a : i * s ≤ 2 ^ 40 * 2 ^ 23 = mul-le-mul (let x : i ≤ 2 ^ 40 = omega arith in x) (let y : s ≤ 2 ^ 23 = omega arith in y) in omega arith
 
 pub row_size : (R : RattleType) (n : ℕ) → n * stride R < 2 ^ 64 → capped (size (row_ty R n)) ≡ n * stride R
 row_size R n small = ap capped (size-raw (ty_array (cell_ty R) n)) ∙ capped_is (n * stride R) small

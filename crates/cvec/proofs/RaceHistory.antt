@@ -1,9 +1,7 @@
 -- Wins put in order of place, and the history that they make.
-use Rattle.std.proofs.Common.{◌≡◌, ℕ, ◌+◌, ◌<◌, ◌≤◌, nat_le, ◌==◌, true, if◌then◌else◌, List, [], ◌∷◌, ◌++◌, length, get_or, set, Option, Some, None, refl, sym, ap, ◌∙◌, subst, arith, slice_get}
-use Rattle.std.proofs.lemmas.List.{get_or-set_same, get_or-set_other, length-append, length-set}
+use Rattle.std.proofs.Common.{◌≡◌, ℕ, ◌+◌, ◌<◌, ◌≤◌, nat_le, ◌==◌, true, if◌then◌else◌, List, [], ◌∷◌, ◌++◌, length, get_or, Option, Some, None, refl, sym, ap, ◌∙◌, subst, arith, slice_get}
+use Rattle.std.proofs.lemmas.List.{length-append, length-set}
 use Rattle.std.proofs.lemmas.Bool.Decides.{nat_tests}
-use mathlib.Core.Logic.{dite}
-use native.Mathlib.Decide.{ℕ_discrete}
 use Rattle.book_core.specs.declared.cells.Cell.{Cell}
 use Rattle.book_core.specs.declared.cells.Cell.TheVariants.{Pending, Filled}
 use Rattle.book_core.specs.declared.events.Event.{Event}
@@ -11,7 +9,7 @@ use Rattle.book_core.specs.declared.events.Event.TheVariants.{Claim, Finish}
 use Rattle.book_core.specs.declared.events.Reply.{Reply}
 use Rattle.book_core.specs.declared.events.Reply.TheVariants as replies
 use Rattle.book_core.specs.Cells.{CellList, empty_list, apply_event, with_pending, with_cell, is_pending_for}
-use Rattle.book_core.specs.History.{IsHistory, IsLegalFrom}
+use Rattle.book_core.specs.History.{IsHistory}
 use Rattle.book_core.specs.Laws.{HistoriesSplit}
 use Rattle.cvec.specs.declared.race.team.Win.{Win}
 use Rattle.cvec.specs.Race.{IsWinOf, AreAllPlaces, AreInOrder, events_of_win}
@@ -19,17 +17,6 @@ use Rattle.cvec.specs.Race.{IsWinOf, AreAllPlaces, AreInOrder, events_of_win}
 -- the slot has the win of this place
 abbrev pub HasPlace : List (Option Win) → ℕ → Type 0
 HasPlace slots place = IsWinOf place (get_or slots place None)
-
--- a win is put at its place, and the others stay
-pub put_here : (slots : List (Option Win)) (win : Win) → win.place < length slots → HasPlace (set slots win.place (Some win)) win.place
-put_here slots win lt = subst (IsWinOf win.place) (sym (get_or-set_same slots win.place (Some win) None lt)) refl
-
-pub put_keeps : (slots : List (Option Win)) (win : Win) (place : ℕ) → win.place < length slots → HasPlace slots place
-    → HasPlace (set slots win.place (Some win)) place
-put_keeps slots win place lt has =
-    dite (ℕ_discrete place win.place)
-    (λ same. subst (HasPlace (set slots win.place (Some win))) (sym same) (put_here slots win lt))
-    (λ other. subst (IsWinOf place) (sym (get_or-set_other slots win.place place (Some win) None other)) has)
 
 -- the wins before this index are at their places
 pub record ArePut (size : ℕ) (wins : List Win) (i : ℕ) (slots : List (Option Win)) : Type 0 where
@@ -52,10 +39,6 @@ pub record LeadsTo (limit : ℕ) (history : List (Event × Reply)) (n : ℕ) : T
   pub cells : List Cell
   pub long : length cells ≡ n
   pub legal : IsHistory (empty_list limit) history (record { limit = limit; cells = cells })
-
--- the empty history
-pub leads_nowhere : (limit : ℕ) → LeadsTo limit [] 0
-leads_nowhere limit = record { cells = []; long = refl; legal = refl }
 
 -- the last place is pending for its claimer
 last_pending : (cells : List Cell) (actor : ℕ) → slice_get (cells ++ Pending actor ∷ []) (length cells) ≡ Some (Pending actor)
@@ -100,6 +83,3 @@ leads_on split limit n history win leads here room =
       long = size;
       legal = (split (empty_list limit) u history (events_of_win win)).1 (v, leads.legal, both);
     }
-
-pub legal_at_last : (limit n : ℕ) (history : List (Event × Reply)) → LeadsTo limit history n → IsLegalFrom (empty_list limit) history
-legal_at_last limit n history leads = (record { limit = limit; cells = leads.cells }, leads.legal)

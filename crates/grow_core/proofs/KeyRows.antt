@@ -1,11 +1,9 @@
 -- That a hand has the keys of its own runs is kept by each step.
-use Rattle.std.proofs.Common.{◌≡◌, ℕ, ◌+◌, ◌<◌, List, ◌++◌, [], Option, Some, None, sym, ap, ◌∙◌, subst, ⊎_elim, arith}
+use Rattle.std.proofs.Common.{◌≡◌, ℕ, ◌+◌, ◌<◌, List, ◌++◌, Option, Some, None, sym, ap, ◌∙◌, subst, ⊎_elim, arith}
 use Rattle.std.specs.Prelude.{IsSome}
 use mathlib.Core.Logic.{dite}
 use native.Mathlib.Decide.{ℕ_discrete}
-use Rattle.std.specs.List.{Contains}
 use mathlib.Core.List.{IsPrefix}
-use Rattle.seg_core.specs.Segment.{HasPlace}
 use Rattle.claim_core.specs.declared.run.Run.{Run}
 use Rattle.claim_core.specs.Word.{WordView}
 use Rattle.claim_core.specs.Hand.{HandView, KeepsOwn, AddsRun, OwnsPlace, SeesOwn, IsPlaceOf}
@@ -51,16 +49,6 @@ keyed_joins law a b new row_a row_b row sees also_sees of also_of more also_more
       (λ (was : OwnsPlace a place). kept segment small (keyed.own place segment small was there))
       (λ (was : OwnsPlace b place). put segment small (also_keyed.own place segment small was there))
       (law a b new place sees also_sees of also_of more also_more mine own);
-}
-
-no_member : (k : ℕ) → Contains [] k → ⊥
-no_member k (i, lt, is) = omega arith
-
--- a hand without runs needs no key
-pub keyed_none : (hand : HandView) (row : KeyRow) → hand.mine ≡ [] → ((segment : ℕ) → segment < 32 → key_at row segment ≡ None) → IsKeyed hand row
-keyed_none hand row none empty = record {
-  keys = λ segment key small there. absurd (cc (empty segment small, there));
-  own = λ place segment small own there. absurd (no_member own.0 (subst (λ m. Contains m own.0) none own.1));
 }
 
 -- the row lost no key, and has one for each segment below n that it should have one for

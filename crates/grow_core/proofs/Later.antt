@@ -2,14 +2,13 @@
 use Rattle.std.proofs.Common.{◌≡◌, ℕ, ◌+◌, ◌≤◌, List, [], ◌∷◌, ◌++◌, length, refl, sym, ap, ◌∙◌, subst, arith, append_assoc}
 use Rattle.std.specs.List.{sum}
 use Rattle.std.proofs.lemmas.List.{append-nil}
-use Rattle.std.proofs.lemmas.List.Sums.{sum_by-append}
 use mathlib.Core.List.{IsPrefix}
 use Rattle.claim_core.specs.declared.run.Run.{Run}
-use Rattle.claim_core.specs.Hand.{HandView, KeepsOwn, AddsRun, SeesSize, IsWholeHand, seen_size}
+use Rattle.claim_core.specs.Hand.{HandView, KeepsOwn, AddsRun, SeesSize, seen_size}
 use Rattle.grow_core.specs.declared.errors.GrowError.{GrowError}
 use Rattle.grow_core.specs.declared.errors.GrowError.TheVariants.{NoMemory, Full, Moved, Refused, Taken}
 use Rattle.grow_core.specs.Vector.{VectorView, SeesMore}
-use Rattle.grow_core.specs.Growth.{IsDue, Leaves}
+use Rattle.grow_core.specs.Growth.{Leaves}
 
 -- a hand sees what it sees
 pub more_self : (a : HandView) → SeesMore a a
@@ -53,16 +52,7 @@ adds_after a b c run p q =
       of = q.of ∙ p.own.of;
     }
 
--- what is seen never becomes less
-pub seen_grows : (a b : HandView) → SeesMore a b → seen_size a ≤ seen_size b
-seen_grows a b p =
-    let more : sum b.seen ≡ sum a.seen + sum p.seen.0 = ap sum (sym p.seen.1) ∙ sum_by-append (λ x. x) a.seen p.seen.0 in
-    let base : b.of.base ≡ a.of.base = ap (λ w. w.base) p.own.of in
-    omega arith
-
-pub whole_after : (a b : HandView) → SeesMore a b → IsWholeHand a → IsWholeHand b
-whole_after a b p whole = p.own.shares ∙ whole
-
+-- what a refusal leaves of a hand, it leaves of one that had seen less
 pub leaves_after : {T V E : Type 0} (vector : VectorView) (n : ℕ) (a b c : HandView) (e : GrowError T V E)
     → SeesMore a b → Leaves vector n b c e → Leaves vector n a c e
 leaves_after vector n a b c (NoMemory back) p l = more_after a b c p l
@@ -71,12 +61,3 @@ leaves_after vector n a b c (Moved size back) p l = size_after a b c size p l
 leaves_after vector n a b c (Refused run made cause) p l = record { claimed = adds_after a b c run p l.claimed; all = l.all; first = l.first; fewer = l.fewer; tokens = l.tokens }
 leaves_after vector n a b c (Taken place found) p l =
     record { run = l.run; claimed = adds_after a b c l.run p l.claimed; all = l.all; after = l.after; before = l.before; there = l.there }
-
-pub due_after : {T V E : Type 0} (vector : VectorView) (n : ℕ) (a b : HandView) (e : GrowError T V E) → SeesMore a b
-    → IsDue vector n b e → IsDue vector n a e
-due_after vector n a b (NoMemory back) p d = let grows = seen_grows a b p in record { some_places = d.some_places; room = omega arith }
-due_after vector n a b (Full size back) p d = d
-due_after vector n a b (Moved size back) p d =
-    let grows = seen_grows a b p in record { some_places = d.some_places; further = omega arith; room = d.room; others = λ whole. d.others (whole_after a b p whole) }
-due_after vector n a b (Refused run made cause) p d = d
-due_after vector n a b (Taken place found) p d = d

@@ -1,5 +1,5 @@
 -- The tokens of the vector's places.
-use Rattle.std.specs.Prelude.{◌≡◌, ℕ, ◌+◌, ◌<◌, ◌^◌}
+use Rattle.std.specs.Prelude.{ℕ, ◌+◌, ◌<◌, ◌^◌}
 use base.Stored.{Coded, coded×, coded_ℕ, coded_via}
 use Rattle.seg_core.specs.Segment.{segment_start}
 use Rattle.cell_core.specs.Block as block

@@ -1,5 +1,5 @@
 //! The members of a list, one by one, from both ends.
-ghost use Rattle.std.specs.Prelude.{◌≡◌, length, option_map, ⊤};
+ghost use Rattle.std.specs.Prelude.{◌≡◌, ⊤};
 ghost use Rattle.std.specs.Option.{option_copied};
 ghost use Rattle.std.specs.Iterator.{YieldsFirstBy, YieldsLastBy, item_count};
 

@@ -1,5 +1,5 @@
 //! Bytes, split at a separator.
-ghost use Rattle.std.specs.Prelude.{◌≡◌, ◌<◌, length, [], IfSome};
+ghost use Rattle.std.specs.Prelude.{◌≡◌, ◌<◌, length, IfSome};
 ghost use Rattle.std.specs.Option.{option_copied};
 ghost use Rattle.script_core.specs.Grammar.{cut};
 

@@ -1,5 +1,5 @@
 //! Answer lines and cells as text.
-ghost use Rattle.std.specs.Prelude.{◌≡◌, ◌++◌, codes, decimal, length, OnOk, OnErr};
+ghost use Rattle.std.specs.Prelude.{◌≡◌, ◌++◌, codes, decimal, OnOk, OnErr};
 ghost use Rattle.std.specs.Io.KnownBytes.{Appends};
 ghost use Rattle.script_core.specs.Text.{word_of, answer_text, answer_line, cell_text, cells_line, AppendsPrefix};
 

@@ -1,5 +1,5 @@
 -- Leaves that are shared out, and put in order again.
-use Rattle.std.proofs.Common.{◌≡◌, ℕ, suc, ◌+◌, ◌*◌, ◌<◌, List, [], ◌∷◌, ◌++◌, Some, length, subst, sym, ◌∙◌, ap, arith, length-append, slice_get, zero-mul, mul_comm}
+use Rattle.std.proofs.Common.{◌≡◌, ℕ, suc, ◌+◌, ◌*◌, List, [], ◌∷◌, ◌++◌, Some, length, subst, sym, ◌∙◌, ap, arith, length-append, slice_get, zero-mul, mul_comm}
 use Rattle.std.proofs.Math.Nat.{mul-suc}
 use Rattle.std.specs.List.{AllZip}
 use Rattle.span_core.specs.Each.{EachFrom}
@@ -15,10 +15,6 @@ rounds k workers = omega (arith, mul_comm (1 + k) workers, mul_comm k workers, m
     more k workers = let same : 1 + k ≡ suc k = omega arith in ap (λ n. workers * n) same
 
 module _ {A : Type 0} (P : ℕ → A → Type 0) (count workers : ℕ) where
-  -- a share that is not at its end has a next item
-  pub share-first : (next : ℕ) → IsShare P count workers next [] → next < count → ⊥
-  share-first next share before = omega (arith, share.1, zero-mul workers, before)
-
   -- it is one of the number that is next
   pub share-gives : (next : ℕ) (x : A) (xs : List A) → IsShare P count workers next (x ∷ xs) → P next x
   share-gives next x xs share = let same : next + 0 * workers ≡ next = omega (arith, zero-mul workers) in let M : ℕ → Type 0 = λ n. P n x in subst M same share.0.0

@@ -1,6 +1,5 @@
 -- Leaves tile their span, and so do what is answered to them.
-use Rattle.std.proofs.Common.{◌≡◌, ℕ, ◌+◌, ◌<◌, ◌≤◌, List, [], ◌∷◌, ◌++◌, length, drop, get_or, subst, sym, refl, arith, length-append}
-use Rattle.std.proofs.lemmas.List.{drop_all, drop_more}
+use Rattle.std.proofs.Common.{◌≡◌, ℕ, ◌+◌, List, [], ◌∷◌, ◌++◌, length, subst, sym, refl, arith, length-append}
 use Rattle.std.specs.List.{AllZip}
 use Rattle.span_core.specs.Each.{EachFrom}
 use Rattle.span_core.specs.Span.{Interval, AreLeaves, middle_of, lower_half, upper_half}
@@ -20,14 +19,6 @@ pub leaves-tile : (span : Interval) (leaves : List Interval) → AreLeaves span 
 leaves-tile s xs (itself span small) = (refl, refl)
 leaves-tile s xs (halves span lower upper cut p q) =
     tiles-append span.from (middle_of span) span.to lower upper (leaves-tile (lower_half span) lower p) (leaves-tile (upper_half span) upper q)
-
--- the next leaf begins here, and the ones after it begin where it ends
-pub tiles-next : (from to i : ℕ) (leaves : List Interval) (other : Interval) → i < length leaves → Tiles from to (drop i leaves) → ((get_or leaves i other).from ≡ from) × Tiles (get_or leaves i other).to to (drop (i + 1) leaves)
-tiles-next from to i leaves other before tiles = let M : List Interval → Type 0 = λ xs. Tiles from to xs in subst M (drop_more leaves i other before) tiles
-
--- the last leaf ends where the span does
-pub tiles-end : (from to i : ℕ) (leaves : List Interval) → length leaves ≤ i → Tiles from to (drop i leaves) → from ≡ to
-tiles-end from to i leaves past tiles = let M : List Interval → Type 0 = λ xs. Tiles from to xs in subst M (drop_all i leaves past) tiles
 
 module _ {U V : Type 0} (items : V → List U) (P : ℕ → U → Type 0) where
   -- one answer for each place of the leaf

@@ -1,5 +1,5 @@
 //! The fold of the answers of a function to each member of a span, by several workers.
-ghost use Rattle.std.specs.Prelude.{◌≡◌, ℕ, ◌≤◌, ◌+◌, ◌<◌, ◌^◌, ◌↔◌, Some, List, length, IfOk, IsErrOf};
+ghost use Rattle.std.specs.Prelude.{◌≤◌, ◌+◌, ◌<◌, ◌^◌, ◌↔◌, Some, List, length, IfOk, IsErrOf};
 ghost use Rattle.std.specs.List.{AllZip};
 ghost use Rattle.span_core.specs.Loops.{AnswersAt, FoldsOver, Merges, SumsUpTo};
 ghost use Rattle.span_core.specs.Span.{Interval, AreLeaves};

@@ -1,10 +1,10 @@
 //! The leaves of a span, shared out among workers, and their answers put in order again.
-ghost use Rattle.std.specs.Prelude.{◌≡◌, ℕ, ◌<◌, ◌↔◌, List, IfOk, IsErrOf, length};
+ghost use Rattle.std.specs.Prelude.{◌≡◌, ◌<◌, ◌↔◌, List, IfOk, IsErrOf, length};
 ghost use Rattle.std.specs.List.{AllZip};
 ghost use Rattle.span_core.specs.Each.{EachFrom};
 ghost use Rattle.span_core.specs.Shares.{GivesLeaf, IsShare};
 ghost use Rattle.span_core.specs.Span.{Interval, AreLeaves};
-ghost use Rattle.span_core.specs.Workers.{EachGives, MayRefuseOne, IsBadNumber};
+ghost use Rattle.span_core.specs.Workers.{MayRefuseOne, IsBadNumber};
 
 use crate::errors::ParError;
 use crate::gate::Gate;

@@ -1,5 +1,5 @@
 //! Workers in threads of their own, started by halves.
-ghost use Rattle.std.specs.Prelude.{◌≡◌, ◌≢◌, ℕ, ◌+◌, ◌^◌, ◌<◌, ◌≤◌, [], ◌∷◌, ◌++◌, ◌⊎◌, ◌↔◌, Vec, Ok, IfOk, IsErrOf, Err, vec_len};
+ghost use Rattle.std.specs.Prelude.{◌≡◌, ◌≢◌, ℕ, ◌+◌, ◌^◌, ◌<◌, ◌≤◌, ◌++◌, ◌⊎◌, ◌↔◌, Vec, Ok, IfOk, IsErrOf, Err};
 ghost use Rattle.std.specs.Bool.{MatchBool};
 ghost use denote.Param.Send.{IsSync, IsSend};
 ghost use Rattle.span_core.specs.Workers.{EachGives, RefusesLowest, IsBadNumber};

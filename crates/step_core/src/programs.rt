@@ -1,5 +1,5 @@
 //! Programs and schedules, and what a play of them gives.
-ghost use Rattle.std.specs.Prelude.{◌<◌, ◌↔◌, IsTrue, OnOk, IsErrOf, All, length};
+ghost use Rattle.std.specs.Prelude.{◌<◌, ◌↔◌, IsTrue, OnOk, IsErrOf, All};
 ghost use Rattle.seg_core.specs.Segment.{IsLimit};
 ghost use Rattle.book_core.specs.Commands.{IsSound, AreSound, HavePrograms};
 

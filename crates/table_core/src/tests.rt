@@ -1,4 +1,4 @@
-use crate::{Key, Table};
+use crate::Table;
 use cell_core::block::{Block, Look};
 use std::sync::atomic::{AtomicU64, Ordering};
 use std::test::Fail;

@@ -1,5 +1,4 @@
 // The first pushes of two threads on new vectors.
-ghost use Rattle.std.specs.Prelude.{◌≡◌};
 ghost use Rattle.grow_core.specs.Vector.{IsHandOf};
 
 use crate::{Hand, Shared};

@@ -1,7 +1,7 @@
 // What callers prove by the public clauses alone.
-ghost use Rattle.std.specs.Prelude.{◌≡◌, ◌≢◌, ◌+◌, ◌<◌, ◌++◌, ℕ, List, IfSome};
+ghost use Rattle.std.specs.Prelude.{◌≡◌, ◌+◌, ◌<◌, ◌++◌, ℕ, List, IfSome};
 ghost use Rattle.claim_core.specs.Lengths.{Tiles, runs_end};
-ghost use Rattle.claim_core.specs.Hand.{OwnsRun, AreDisjoint, IsWholeHand};
+ghost use Rattle.claim_core.specs.Hand.{OwnsRun, AreDisjoint};
 ghost use Rattle.grow_core.specs.Vector.{IsHandOf, IsPlacedOf, base_of};
 ghost use Rattle.grow_core.specs.Growth.{single};
 

@@ -1,24 +1,16 @@
 -- The events of a play of the machine are a legal history, and what is finished stays.
 pub mod Table
 pub mod Replies
-use Rattle.std.proofs.Common.{◌≡◌, ◌≢◌, ℕ, ◌+◌, ◌-◌, nat_le, Bool, true, false, if◌then◌else◌, List, [], ◌∷◌, ◌++◌, length, replicate, Option, Some, None, IfSome, slice_get, slice_set, zero, suc, refl, ap, sym, ◌∙◌, subst, append_assoc, inl, inr}
-use Rattle.std.proofs.lemmas.Bool.Decides.{eqb_tells}
+use Rattle.std.proofs.Common.{◌≡◌, ℕ, ◌+◌, ◌-◌, Bool, List, [], ◌∷◌, ◌++◌, Option, refl, ap, sym, ◌∙◌, subst, append_assoc}
 use Rattle.std.proofs.lemmas.List.{append-nil}
-use Rattle.std.proofs.lemmas.Option.{none-some, same_Some}
 use Rattle.std.specs.Option.{option_to_list}
-use Rattle.book_core.specs.declared.cells.Cell.{Cell}
-use Rattle.book_core.specs.declared.cells.Cell.TheVariants as cells
 use Rattle.book_core.specs.declared.events.Event.{Event}
-use Rattle.book_core.specs.declared.events.Event.TheVariants.{Claim, Raise, Finish, Break, Look, Size, RefusedFull, RefusedMemory}
 use Rattle.book_core.specs.declared.events.Reply.{Reply}
-use Rattle.book_core.specs.declared.events.Reply.TheVariants as replies
-use Rattle.book_core.specs.declared.commands.Command.{Command}
 use Rattle.book_core.specs.declared.commands.Item.{Item}
-use Rattle.seg_core.specs.Segment.{IsLimit}
-use Rattle.book_core.specs.Cells.{CellList, empty_list, with_pending, with_cell, is_pending_for, reply_of_look, apply_event, IsFinished}
-use Rattle.book_core.specs.History.{IsHistory, OwnedRun, runs_of, Tile}
+use Rattle.book_core.specs.Cells.{empty_list}
+use Rattle.book_core.specs.History.{IsHistory, runs_of}
 use Rattle.step_core.specs.machine.Step.{Configuration, step_of, outcome_of}
-use Rattle.step_core.specs.machine.Bounds.{IsWithin, IsInLimit}
+use Rattle.step_core.specs.machine.Bounds.{IsInLimit}
 use Rattle.step_core.specs.machine.Play.{Play, empty_play, with_step, after_items, play_of}
 use Rattle.step_core.specs.machine.Legal.{list_seen, EveryPlayIsLegal}
 use Rattle.step_core.specs.machine.Kept.{EveryPlayIsKept}

@@ -20,7 +20,7 @@ use Rattle.step_core.specs.declared.machine.phase.Phase.TheVariants.{Load}
 use Rattle.step_core.specs.declared.machine.phase.Next.{Next}
 use Rattle.step_core.specs.declared.machine.phase.Next.TheVariants.{Goes, Ends}
 use Rattle.step_core.specs.declared.machine.phase.Actor.{Actor}
-use Rattle.step_core.specs.machine.Step.{actor_after, ended_by, Configuration, Outcome, first_configuration, outcome_of, step_to, step_in, step_as, step_of}
+use Rattle.step_core.specs.machine.Step.{actor_after, ended_by, Configuration, Outcome, first_configuration, outcome_of, step_to, step_of}
 use Rattle.step_core.specs.machine.Bounds.{IsWithin, IsInLimit}
 use Rattle.step_core.specs.machine.Play.{Play, empty_play, with_step, after_items, play_of}
 use Rattle.step_core.specs.machine.Record.{IsRecord, AreCalls, IsUnderWay, AreSoFar, IsRecorded, EveryPlayIsRecorded, program_of}

@@ -3,7 +3,7 @@ pub mod Invariant
 pub mod Effects
 pub mod Steps
 pub mod Rows
-use Rattle.std.proofs.Common.{◌≡◌, ℕ, ◌<◌, ◌⊎◌, Bool, List, [], ◌∷◌, ◌++◌, Option, Some, None, IfSome, slice_get, refl, ap, sym, ◌∙◌, subst, arith, inl, inr}
+use Rattle.std.proofs.Common.{◌≡◌, ℕ, ◌<◌, ◌⊎◌, Bool, List, [], ◌∷◌, ◌++◌, Option, Some, None, slice_get, refl, ap, sym, ◌∙◌, subst, arith, inl, inr}
 use Rattle.std.proofs.lemmas.List.{append-nil}
 use Rattle.std.proofs.lemmas.Option.{none-some, same_Some, slice_get-map}
 use Rattle.std.proofs.lemmas.Bool.{cases_lt}
@@ -22,7 +22,7 @@ use Rattle.step_core.specs.declared.machine.phase.Phase.{Phase}
 use Rattle.step_core.specs.declared.machine.phase.Phase.TheVariants.{Load, Scout, Put, Exchange, Raise, Begin, Fill, Spoil, Look}
 use Rattle.step_core.specs.declared.machine.phase.Actor.{Actor}
 use Rattle.step_core.specs.machine.Storage.{Storage}
-use Rattle.step_core.specs.machine.Step.{Configuration, first_configuration, outcome_of, step_to, step_in, step_as, step_of}
+use Rattle.step_core.specs.machine.Step.{Configuration, first_configuration, outcome_of, step_to, step_of}
 use Rattle.step_core.specs.machine.Bounds.{IsInLimit}
 use Rattle.step_core.specs.machine.Installed.{HasSegments}
 use Rattle.step_core.specs.machine.Play.{Play, empty_play, with_step, after_items, play_of}

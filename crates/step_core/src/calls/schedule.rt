@@ -1,6 +1,6 @@
 //! Plays of whole calls: each item of a schedule plays one.
 ghost use Rattle.std.specs.Prelude.{◌≡◌, ◌+◌, ◌≤◌, ◌<◌, ◌^◌, ◌↔◌, length, IfOk, OnOk, IfSome, OnSome, IsSome, Some};
-ghost use Rattle.std.specs.Prelude.{IsErrOf, slice_index, slice_get};
+ghost use Rattle.std.specs.Prelude.{IsErrOf, slice_index};
 ghost use Rattle.seg_core.specs.Segment.{IsLimit};
 ghost use Rattle.book_core.specs.Commands.{IsSound, AreSound, HavePrograms, HaveActors};
 ghost use Rattle.step_core.specs.calls.Play.{calls_played};
@@ -36,8 +36,7 @@ impl Model for CallPlay {
 }
 
 impl CallPlay {
-    ghost use Rattle.step_core.specs.calls.WholeCall.{call_on};
-    ghost use Rattle.step_core.specs.calls.Play.{empty_call_play, with_event, with_events, with_ended};
+    ghost use Rattle.step_core.specs.calls.Play.{empty_call_play, with_event, with_events};
     ghost use Rattle.step_core.specs.calls.Play.{next_call, with_call, with_items, played_of_calls};
 
     fn new(alloc: Global, limit: u64, programs: &[Sequence<Command>]) -> Result<Self, AllocError>

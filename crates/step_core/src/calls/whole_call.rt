@@ -1,15 +1,12 @@
 //! Whole calls on the sequential vector.
-ghost use Rattle.std.specs.Prelude.{◌≡◌, ◌+◌, ◌-◌, ◌≤◌, ◌<◌, ◌^◌, [], ◌∷◌, ◌++◌, length, IfOk, OnOk, IsSome, Some};
+ghost use Rattle.std.specs.Prelude.{◌≡◌, ◌+◌, ◌-◌, ◌≤◌, ◌<◌, ◌^◌, [], ◌∷◌, ◌++◌, length, IfOk, OnOk, Some};
 ghost use Rattle.std.specs.Prelude.{None};
-ghost use Rattle.std.specs.Option.{option_map};
 ghost use Rattle.book_core.specs.Commands.{IsSound};
-ghost use Rattle.step_core.specs.calls.WholeCall.{Is, refused, answer_of_look, call_on};
-ghost use Rattle.step_core.specs.calls.Play.{with_event, with_events, with_ended, next_call, with_call, with_items};
+ghost use Rattle.step_core.specs.calls.WholeCall.{Is, refused, call_on};
 ghost use Rattle.book_core.specs.Events.{finishes, breaks};
 
-use book_core::{Answer, BookError, Cell, CellVec, Command, Ended, Event, Item, Reply, Sequence};
+use book_core::{Answer, Cell, CellVec, Command, Event};
 use std::alloc::{AllocError, Global};
-use std::marker::Model;
 
 /// What a call does where nothing comes between: its events in order, and how it ends.
 #[derive(Drop)]

@@ -1,7 +1,6 @@
 // The raw steps on one entry, each a few lines round one atomic step. The word is null, or points to a block that the
 // entry owns.
 ghost use Rattle.std.specs.Prelude.{◌≡◌, ℕ, MatchOption, IfSome};
-ghost use base.Fml.{fsep};
 ghost use denote.RawPtr.{null_ptr};
 ghost use denote.Sharing.{said};
 ghost use Rattle.std.specs.Coded.{coded_option};

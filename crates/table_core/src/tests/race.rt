@@ -1,5 +1,4 @@
 // Two threads at one table.
-ghost use Rattle.std.specs.Prelude.{◌≡◌};
 ghost use Rattle.table_core.specs.Table.{IsKeyIn};
 
 use crate::tests::{Counted, fill, shows};

@@ -1,5 +1,4 @@
 use Rattle.std.proofs.Common.{rules, subst, sym, arith}
-use Rattle.grow_core.specs.Token.{PlacedView}
 use Rattle.grow_core.specs.Vector.{IsPlacedOf}
 use Rattle.grow_core.proofs.tests.a_run_has_its_values_in_order.Goals as goal
 

@@ -1,4 +1,4 @@
-use Rattle.std.proofs.Common.{ap, sym, subst, ◌≡◌, ℕ}
+use Rattle.std.proofs.Common.{sym, subst}
 use Rattle.claim_core.specs.declared.run.Run.{Run}
 use Rattle.claim_core.specs.Hand.{AddsRun}
 use Rattle.grow_core.specs.Keys.{AreKeys, HasKeysOfRun}

@@ -4,7 +4,7 @@ use Rattle.std.specs.Prelude.{Some, None}
 use mir.Syntax.{Ty, a_type, dcons, dnil, named, ty_int}
 use mir.Val.{Val, vint, vptr, vcons, vnil, has_ty, WT}
 use mir.MapTy.{inst_fn}
-use base.Logic.{SProp, ent, emp, id⊢, apply∗, all, all_e}
+use base.Logic.{SProp, ent, emp, id⊢, apply∗}
 use base.Fml.{Fml, ftrue, fsep, flft, froom, fex}
 use prog.Wp.{WpFn, Wp, after_seq, after_block}
 use types.Logic.{sem}

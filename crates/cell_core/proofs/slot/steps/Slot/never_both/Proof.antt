@@ -3,8 +3,8 @@ use Rattle.std.proofs.Common.{◌≡◌, ℕ, ◌+◌, [], ◌∷◌, refl, lit<
 use mir.Syntax.{a_type, named}
 use mir.Val.{Val, vptr}
 use mir.MapTy.{inst_fn}
-use base.Logic.{SProp, ent, sep, wand, emp, via, id⊢, apply∗, all_e, guard_i, all}
-use base.Fml.{Lft, Share, Fml, Incl-trans, ftrue, fsep, fex, flft, finv, fbor, fobs, feq, fhide, Incl-refl, froom, fat}
+use base.Logic.{SProp, wand, via}
+use base.Fml.{Lft, Share, Fml, ftrue, fsep, flft}
 use types.Kit.{mean, ‵, raw, ◌⊛◌, some, later, ◌$◌, ◌∵◌, !, qed, move, keep, drop, use1, use2, use3, split, join, fsplit, fsplit3, fpick, pick, await, rewrite}
 use types.Run.{stop, fld, addr, lit, no_more, and_then, first, blocks, Calls-last, enter}
 use types.ByLocal.{alloc_all, pass_all, get, through, sets, env}

@@ -52,7 +52,7 @@ use Rattle.std.proofs.raw_atomic.Calls.{seq_cst}
 use Rattle.std.proofs.raw_atomic.PtrCalls.{seq_cst_good}
 use Rattle.once_cell.proofs.Moves as moves
 use Rattle.table_core.proofs.Sights as sights
-use Rattle.table_core.proofs.Sights.{Sight, token}
+use Rattle.table_core.proofs.Sights.{Sight}
 use Rattle.core.specs.Sync.RawAtomic.Pointer.{asks_ptr}
 use Rattle.table_core.specs.contracts.entry.steps.Entry.look.{ended, clauses}
 use Rattle.table_core.specs.contracts.entry.steps.Entry.look.Key.{name as #self}

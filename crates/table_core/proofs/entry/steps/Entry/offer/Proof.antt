@@ -59,7 +59,7 @@ use Rattle.std.proofs.raw_atomic.PtrCalls.{seq_cst_good}
 use Rattle.once_cell.proofs.Moves as moves
 use Rattle.table_core.proofs.Values.{both, Loose, loose_good, loose_out, loose_in, pair_in}
 use Rattle.table_core.proofs.Sights as sights
-use Rattle.table_core.proofs.Sights.{Sight, token}
+use Rattle.table_core.proofs.Sights.{Sight}
 use Rattle.core.specs.Sync.RawAtomic.Pointer.{compares}
 use Rattle.table_core.specs.contracts.entry.steps.Entry.offer.{ended, clauses}
 use Rattle.table_core.specs.contracts.entry.steps.Entry.offer.Key.{name as #self}

@@ -1,5 +1,5 @@
 -- The keys that a hand carries: a row of one optional key for each segment.
-use Rattle.std.specs.Prelude.{◌≡◌, ℕ, List, Option, Some, None, IsSome, ◌<◌, slice_index, slice_index_or}
+use Rattle.std.specs.Prelude.{◌≡◌, ℕ, List, Option, Some, None, IsSome, ◌<◌, ◌≤◌, slice_index, slice_index_or}
 use Rattle.seg_core.specs.Segment.{HasPlace, Touches}
 use Rattle.claim_core.specs.declared.run.Run.{Run}
 use Rattle.claim_core.specs.Hand.{HandView, OwnsPlace, IsPlaceOf}
@@ -33,6 +33,10 @@ OwnsPlacesOf hand run = (place : ℕ) → IsPlaceOf run place → OwnsPlace hand
 -- the row has the key of each segment that the run of n places from a place on touches
 abbrev pub HasKeysOfRun : KeyRow → ℕ → ℕ → Type 0
 HasKeysOfRun row from n = (segment : ℕ) → segment < 32 → Touches segment from n → IsSome (key_at row segment)
+
+-- the row has the key of the segment of each place from one place up to another
+abbrev pub HasKeysOfPlaces : KeyRow → ℕ → ℕ → Type 0
+HasKeysOfPlaces row from to = (place segment : ℕ) → from ≤ place → place < to → segment < 32 → HasPlace segment place → IsSome (key_at row segment)
 
 -- the row has the key of each segment that the hand's own runs touch
 pub record IsKeyed (hand : HandView) (row : KeyRow) : Type 0 where

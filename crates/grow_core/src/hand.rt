@@ -4,7 +4,7 @@ ghost use Rattle.std.specs.List.{IsDistinct};
 ghost use Rattle.claim_core.specs.Lengths.{Tiles, times};
 ghost use Rattle.claim_core.specs.Hand.{IsWholeHand, OwnsPlace, seen_size, own_places};
 ghost use Rattle.seg_core.specs.Segment.{HasPlace};
-ghost use Rattle.grow_core.specs.Keys.{IsKeyAt};
+ghost use Rattle.grow_core.specs.Keys.{IsKeyed, IsKeyAt, AreKeys, HasKeysOfPlaces};
 
 use crate::keys::{Keys, key_of, no_keys};
 use claim_core::Hand as ClaimHand;
@@ -49,6 +49,24 @@ impl<T> Hand<T> {
             keys: no_keys(),
             marker: PhantomData,
         }
+    }
+
+    // What every hand keeps: it has the key of each segment that its own runs touch. It does nothing but show the row.
+    pub(crate) fn keys(&self) -> &Keys
+        ensures { IsKeyed self.now result.now }
+    {
+        &self.keys
+    }
+
+    // What a whole hand keeps: it has the key of the segment of each place that was claimed. It does nothing but show
+    // the row.
+    pub(crate) fn whole_keys(&self) -> &Keys
+        requires whole { IsWholeHand self.now }
+        ensures keys { AreKeys self.now.of.mark result.now }
+        ensures all { HasKeysOfPlaces result.now self.now.of.base (seen_size self.now) }
+    {
+        self.whole_laws();
+        self.keys()
     }
 
     // The key of a segment that has a place of the hand's own.

@@ -3,6 +3,7 @@ use std::test::Fail;
 
 mod drops;
 mod first;
+mod keys;
 mod race;
 mod refusals;
 mod uses;

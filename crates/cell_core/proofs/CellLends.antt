@@ -106,7 +106,8 @@ module _ (T : RattleType) (L : Laws T) (γ : Names) {M : Type 1} {𝓤 : Ura M} 
     cell_back = qed 𝓛 [] ∵ assume ! (‵ (fsep (fdead κ) (fsep I ftrue))) $ suffices ! ⟦ Tied ⟧ (upd_i 𝓤 ⟦ Tied ⟧) $ fsplit3 ! $ keep ! (1 ∷ []) $ fpick ! (λ s. fsplit ! $ keep ! (0 ∷ []) $ fpack ! W (tied T γ t b o) s $ done !)
 
     -- one part of the token opens the word, and the other shares the value
-    guarded : (μ : Lft) (q : Share) → Incl μ T.lives → Incl μ κ → (A.bor κ Tied ∗ A.bor κ V) ∗ A.lft μ q ⊢ H.⇛ (⟦ kept T γ t b o κ ⟧ ∗ A.lft μ q)
+    guarded : (μ : Lft) (q : Share) → Incl μ T.lives → Incl μ κ
+        → (A.bor κ Tied ∗ A.bor κ V) ∗ A.lft μ q ⊢ H.⇛ (⟦ kept T γ t b o κ ⟧ ∗ A.lft μ q)
     unfolding fseps
     guarded μ q inc sp = let l : Share = Share.left q in let r : Share = Share.right q in let Way : Fml = fwand (fsep (fdead κ) (fseps (I ∷ []))) (fupd Tied) in
         let Shut : Pr = H.⇛ ((A.bor κ I ∗ emp 𝓤) ∗ A.lft μ l ∗ (A.dead κ -∗ A.bor κ Tied)) in let Asks : Pr = ⟦ fseps (I ∷ []) ⟧ ∗ ⟦ Way ⟧ ∗ (A.dead κ -∗ A.dead κ) in
@@ -138,5 +139,6 @@ module _ (T : RattleType) (L : Laws T) (γ : Names) {M : Type 1} {𝓤 : Ura M} 
       use2 𝓛 (later (‵ (kept T γ (t η) b o κ) ⊛ ‵ (flft μ q))) (guarded η μ q inc sp) $ await ! tt $ split ! $ fpack ! Turn (λ u. kept T γ u b o κ) (t η) $ move ! (1 ∷ 2 ∷ []) $
       use2 𝓛 (raw (lfts 𝓛 ts)) (apply∗ 𝓤 (A.lft μ q) (lfts 𝓛 ts)) $ now ! $ move ! (1 ∷ 0 ∷ []) $ done !))
 
-pub lends_cell : (T : RattleType) (L : Laws T) (γ : Names) {M : Type 1} {𝓤 : Ura M} (𝓛 : Logic 𝓤) (b o : ℕ) (l : Lft) → Incl l T.lives → Lends 𝓛 (still T b γ o) (shared_at T γ b o) l
+pub lends_cell : (T : RattleType) (L : Laws T) (γ : Names) {M : Type 1} {𝓤 : Ura M} (𝓛 : Logic 𝓤) (b o : ℕ) (l : Lft)
+    → Incl l T.lives → Lends 𝓛 (still T b γ o) (shared_at T γ b o) l
 lends_cell T L γ 𝓛 b o l le κ ts inc sp = made T L γ 𝓛 b o κ ts (Incl-trans inc le) sp

@@ -30,7 +30,8 @@ token_val = vstruct (vcons (vstruct vnil) vnil)
 abbrev pub pointer_val : Ptr → Val
 pointer_val p = vstruct (vcons (ptr_val p) (vcons (vstruct vnil) vnil))
 
-pub pointer_good : (p : Ptr) → T (has_ty (ty_struct [] (tcons ty_ptr (tcons (ty_struct [] tnil) tnil))) (pointer_val p)) × WT (pointer_val p)
+pub pointer_good : (p : Ptr)
+    → T (has_ty (ty_struct [] (tcons ty_ptr (tcons (ty_struct [] tnil) tnil))) (pointer_val p)) × WT (pointer_val p)
 pointer_good (block_ptr b o) = (tt, (tt, (tt, tt)))
 pointer_good null_ptr = (tt, (record { fits = omega arith }, (tt, tt)))
 
@@ -41,7 +42,8 @@ module _ (a : NamedLft) (R : RattleType) where
   pub claim_told : (p : Ptr) (vs : List Val) → Is Words (p, (tt, tt)) vs → vs ≡ pointer_val p ∷ []
   claim_told p vs is = is.1.0 ∙ ap (λ (ws : List Val). vstruct (of_list (ws ++ (is.0.1.0 ++ []))) ∷ []) is.1.1.0 ∙ ap (λ (ws : List Val). vstruct (of_list (ptr_val p ∷ (ws ++ []))) ∷ []) is.1.1.1.0.1.0
 
-  pub claim_made : {M : Type 1} {𝓤 : Ura M} (𝓛 : Logic 𝓤) (p : Ptr) → ent 𝓤 (emp 𝓤) (sem 𝓛 (Words.own_val (p, (tt, tt)) (pointer_val p ∷ [])))
+  pub claim_made : {M : Type 1} {𝓤 : Ura M} (𝓛 : Logic 𝓤) (p : Ptr)
+      → ent 𝓤 (emp 𝓤) (sem 𝓛 (Words.own_val (p, (tt, tt)) (pointer_val p ∷ [])))
   claim_made 𝓛 p = makes_shadow 𝓛 (Words.own_val (p, (tt, tt)) (pointer_val p ∷ [])) (λ vss. (tt, (tt, ((λ uss. (tt, tt)), tt)))) ((ptr_val p ∷ [], (vstruct vnil ∷ [], tt)), (refl, (refl, ((tt, (refl, tt)), tt))))
 
 pub sight_told : (R : RattleType) (vs : List Val) → Is (Struct (shape (Sight.the_type R))) (tt, tt) vs → vs ≡ token_val ∷ []
@@ -58,11 +60,13 @@ module _ {M : Type 1} {𝓤 : Ura M} (𝓛 : Logic 𝓤) (R : RattleType) where
   claim_shows γ β (block_ptr b o) n = qed 𝓛 (‵ (claimed R γ β (block_ptr b o) (suc n)) ∷ []) ∵ fpick ! (λ t. fsplit ! $ keep ! (1 ∷ []) $ done !)
   claim_shows γ β null_ptr n = never_e 𝓤 _
 
-  pub sight_made : (γ : Names) (n : ℕ) (v : Option R.Denot) → ent 𝓤 (sem 𝓛 (sighted R γ n v)) (sem 𝓛 ((Sight.the_row R).own_val (record { marker = record {}; of = γ; found = n; value = v }) (token_val ∷ [])))
+  pub sight_made : (γ : Names) (n : ℕ) (v : Option R.Denot)
+      → ent 𝓤 (sem 𝓛 (sighted R γ n v)) (sem 𝓛 ((Sight.the_row R).own_val (record { marker = record {}; of = γ; found = n; value = v }) (token_val ∷ [])))
   sight_made γ n v = let F = (Struct (shape (Sight.the_type R))).own_val (tt, tt) (token_val ∷ []) in
       qed 𝓛 (‵ (sighted R γ n v) ∷ []) ∵ use0 𝓛 (‵ F) (makes_shadow 𝓛 F (λ vss. (tt, ((λ uss. (tt, tt)), tt))) ((vstruct vnil ∷ [], tt), (refl, ((tt, (refl, tt)), tt)))) $ done !
 
-  pub written_made : (γ : ℕ) (x : R.Denot) → ent 𝓤 (sem 𝓛 (written R γ x)) (sem 𝓛 ((Written.the_row R).own_val (record { marker = record {}; of = γ; value = x }) (token_val ∷ [])))
+  pub written_made : (γ : ℕ) (x : R.Denot)
+      → ent 𝓤 (sem 𝓛 (written R γ x)) (sem 𝓛 ((Written.the_row R).own_val (record { marker = record {}; of = γ; value = x }) (token_val ∷ [])))
   written_made γ x = let F = (Struct (shape (Written.the_type R))).own_val (tt, tt) (token_val ∷ []) in
       qed 𝓛 (‵ (written R γ x) ∷ []) ∵ use0 𝓛 (‵ F) (makes_shadow 𝓛 F (λ vss. (tt, ((λ uss. (tt, tt)), tt))) ((vstruct vnil ∷ [], tt), (refl, ((tt, (refl, tt)), tt)))) $ done !
 
@@ -70,6 +74,7 @@ module _ {M : Type 1} {𝓤 : Ura M} (𝓛 : Logic 𝓤) (R : RattleType) where
   known_some γ (Some x) = qed 𝓛 (‵ (written R γ.value x) ∷ []) ∵ fpack ! R.Denot (written R γ.value) x $ done !
   known_some γ None = never_e 𝓤 _
 
-pub crack_made : {M : Type 1} {𝓤 : Ura M} (𝓛 : Logic 𝓤) (δ : ℕ) → ent 𝓤 (sem 𝓛 (spoilt δ)) (sem 𝓛 (Crack.the_row.own_val (record { marker = record {}; of = δ }) (token_val ∷ [])))
+pub crack_made : {M : Type 1} {𝓤 : Ura M} (𝓛 : Logic 𝓤) (δ : ℕ)
+    → ent 𝓤 (sem 𝓛 (spoilt δ)) (sem 𝓛 (Crack.the_row.own_val (record { marker = record {}; of = δ }) (token_val ∷ [])))
 crack_made 𝓛 δ = let F = (Struct (shape Crack.the_type)).own_val (tt, tt) (token_val ∷ []) in
     qed 𝓛 (‵ (spoilt δ) ∷ []) ∵ use0 𝓛 (‵ F) (makes_shadow 𝓛 F (λ vss. (tt, ((λ uss. (tt, tt)), tt))) ((vstruct vnil ∷ [], tt), (refl, ((tt, (refl, tt)), tt)))) $ done !

@@ -97,7 +97,8 @@ module _ (R : RattleType) (s : IsSend R) (y : IsSync R) where
   along_keyless b [] e = tt
   along_keyless b (γ ∷ γs) e = (((λ u. (tt, (place_keyless R γ s y u.1 b (at R e), resting_keyless γ u))), ((tt, (tt, tt)), tt)), along_keyless b γs _)
 
-  pub laid_keyless : (token : Ty → Ptr → Fml) → ((τ : Ty) (p : Ptr) → Keyless (token τ p)) → (p : Ptr) (γs : List Names) (left : ℕ) → Keyless (laid R token p γs left)
+  pub laid_keyless : (token : Ty → Ptr → Fml) → ((τ : Ty) (p : Ptr) → Keyless (token τ p))
+      → (p : Ptr) (γs : List Names) (left : ℕ) → Keyless (laid R token p γs left)
   laid_keyless token frees p γs left = ((λ _. tt), (along_keyless _ γs _, (tt, frees _ p)))
 
   lent_along_keyless : (b : ℕ) (γs : List Names) (e : ℕ) (κ : Lft) → Keyless (along_lent R b γs e κ)

@@ -132,19 +132,22 @@ module _ {M : Type 1} {𝓤 : Ura M} (𝓛 : Logic 𝓤) (R : RattleType) (γ : 
       by ! (subst (λ (m : ℕ). ⟦ auths R γ broken ⟧ ∗ ⟦ K ⟧ ∗ ⟦ rest broken ⟧ ⊢ ex 𝓤 (Next claim Won m)) (sym e) (qed 𝓛 (‵ (auths R γ broken) ∷ ‵ K ∷ ‵ (rest broken) ∷ []) ∵ show ! (Next claim Won 3) broken $
       feq_i ! ℕ 3 3 refl $ move ! (0 ∷ 2 ∷ []) $ fjoin ! $ move ! (1 ∷ 0 ∷ []) $ fjoin3 ! $ by ! (looked 3 broken))))
 
-  pub claims : (q : Share) → A.inv (fbor α I) ∗ (A.lft α q ∗ emp 𝓤) ⊢ asks 𝓛 (block_ptr b (o + 0)) claim always (λ n. fsep (flft α q) (Won n))
+  pub claims : (q : Share)
+      → A.inv (fbor α I) ∗ (A.lft α q ∗ emp 𝓤) ⊢ asks 𝓛 (block_ptr b (o + 0)) claim always (λ n. fsep (flft α q) (Won n))
   claims q = stepped q claim Won (emp 𝓤) claims_at
 
   -- a value that is there is lent for good
   abbrev pub frozen : R.Denot → Fml
   frozen x = rest (full x)
 
-  value_back : (x : R.Denot) → A.auth t.1 ((content R).code (Some x)) ⊢ ⟦ fwand (fsep (fdead α) (fseps (part_at R full_share x b c₀ ∷ []))) (fupd (Room R γ t b o)) ⟧
+  value_back : (x : R.Denot)
+      → A.auth t.1 ((content R).code (Some x)) ⊢ ⟦ fwand (fsep (fdead α) (fseps (part_at R full_share x b c₀ ∷ []))) (fupd (Room R γ t b o)) ⟧
   unfolding fseps
   value_back x = qed 𝓛 (‵ (fauth t.1 ((content R).code (Some x))) ∷ []) ∵ assume ! (‵ (fsep (fdead α) (fsep (part_at R full_share x b c₀) ftrue))) $ suffices ! ⟦ Room R γ t b o ⟧ (upd_i 𝓤 ⟦ Room R γ t b o ⟧) $ fsplit3 ! $ keep ! (1 ∷ 3 ∷ []) $ fjoin ! $
       fpack ! (Option R.Denot) (inside R γ t b o) (Some x) $ done !
 
-  pub pins : (x : R.Denot) (q : Share) → (A.res t.1 ((content R).code (Some x)) ∗ A.bor α (Room R γ t b o)) ∗ A.lft α q ⊢ H.⇛ (A.bor α (part_at R full_share x b c₀) ∗ A.lft α q)
+  pub pins : (x : R.Denot) (q : Share)
+      → (A.res t.1 ((content R).code (Some x)) ∗ A.bor α (Room R γ t b o)) ∗ A.lft α q ⊢ H.⇛ (A.bor α (part_at R full_share x b c₀) ∗ A.lft α q)
   unfolding fseps
   pins x q = let Q : Fml = part_at R full_share x b c₀ in
       qed 𝓛 ((‵ (fres t.1 ((content R).code (Some x))) ⊛ ‵ (fbor α (Room R γ t b o))) ∷ ‵ (flft α q) ∷ []) ∵ updating ! $ split ! $ move ! (1 ∷ 2 ∷ []) $ bor_open ! tt $ move ! (1 ∷ []) $ fpick ! (λ v. fsplit ! $ move ! (3 ∷ 1 ∷ []) $ res_agree ! (content R) {x = Some x} {y = v} (λ z. drop ! $
@@ -159,7 +162,8 @@ module _ {M : Type 1} {𝓤 : Ura M} (𝓛 : Logic 𝓤) (R : RattleType) (γ : 
       use2 𝓛 (later (‵ (fbor α Q) ⊛ raw (lfts 𝓛 ts))) (by_one 𝓛 α ts sp (A.res t.1 c ∗ A.bor α V) (A.bor α Q) (pins x)) $ await ! tt $
       use1 𝓛 (later (‵ (shared_of R x b c₀ α) ⊛ raw (lfts 𝓛 ts))) (shares x α ts b c₀ inc sp) $ await ! tt $ split ! $ move ! (2 ∷ 0 ∷ []) $ fjoin ! $ now ! $ done !
 
-  pub publishes : (q : Share) (x : R.Denot) → A.inv (fbor α I) ∗ (A.lft α q ∗ (⟦ unset R γ ⟧ ∗ ⟦ frozen x ⟧)) ⊢ asks 𝓛 (block_ptr b (o + 0)) (λ _. 2) always (λ _. fsep (flft α q) (written R γ.value x))
+  pub publishes : (q : Share) (x : R.Denot)
+      → A.inv (fbor α I) ∗ (A.lft α q ∗ (⟦ unset R γ ⟧ ∗ ⟦ frozen x ⟧)) ⊢ asks 𝓛 (block_ptr b (o + 0)) (λ _. 2) always (λ _. fsep (flft α q) (written R γ.value x))
   publishes q x = let c : Gv = mark R (full x) in let N = Next (λ _. 2) (λ _. written R γ.value x) in stepped q (λ _. 2) (λ _. written R γ.value x) (⟦ unset R γ ⟧ ∗ ⟦ frozen x ⟧) (λ n s. let Z : Pr = ex 𝓤 (N n) in
       qed 𝓛 (‵ (beside n s) ∷ ‵ (unset R γ) ∷ ‵ (frozen x) ∷ []) ∵ fsplit ! $ fsplit ! $ move ! (3 ∷ []) $ fsplit ! $ keep ! (0 ∷ 2 ∷ 1 ∷ 3 ∷ 5 ∷ []) $
       use2 𝓛 (raw (upd 𝓤 (A.obs γ.value c ∗ A.auth γ.value c))) (𝓛.names.name_set_upd γ.value gnil (mark R s) c) $ settle 𝓛 Z (‵ (fobs γ.value c) ⊛ ‵ (fauth γ.value c)) $ split ! $ move ! (2 ∷ 3 ∷ []) $
@@ -167,7 +171,8 @@ module _ {M : Type 1} {𝓤 : Ura M} (𝓛 : Logic 𝓤) (R : RattleType) (γ : 
       suffices ! _ (upd_i 𝓤 Z) $ move ! (2 ∷ []) $ use1 𝓛 (‵ (fres γ.value c)) (𝓛.names.obs-res γ.value c) $ res_dup ! $ show ! (N n) (full x) $
       move ! (4 ∷ 3 ∷ []) $ fjoin ! $ move ! (1 ∷ []) $ feq_i ! ℕ 2 2 refl $ fjoin ! $ move ! (1 ∷ 0 ∷ 4 ∷ []) $ fjoin3 ! $ keep ! (0 ∷ 1 ∷ []) $ done !)
 
-  pub breaks : (q : Share) → A.inv (fbor α I) ∗ (A.lft α q ∗ ⟦ Right R γ t b o ⟧) ⊢ asks 𝓛 (block_ptr b (o + 0)) (λ _. 3) always (λ _. fsep (flft α q) (spoilt γ.breach))
+  pub breaks : (q : Share)
+      → A.inv (fbor α I) ∗ (A.lft α q ∗ ⟦ Right R γ t b o ⟧) ⊢ asks 𝓛 (block_ptr b (o + 0)) (λ _. 3) always (λ _. fsep (flft α q) (spoilt γ.breach))
   breaks q = let N = Next (λ _. 3) (λ _. spoilt γ.breach) in stepped q (λ _. 3) (λ _. spoilt γ.breach) ⟦ Right R γ t b o ⟧ (λ n s. let Z : Pr = ex 𝓤 (N n) in
       qed 𝓛 (‵ (beside n s) ∷ ‵ (Right R γ t b o) ∷ []) ∵ fsplit ! $ fsplit ! $ move ! (3 ∷ []) $ fsplit ! $ fsplit ! $ keep ! (0 ∷ 3 ∷ 1 ∷ 4 ∷ 2 ∷ []) $
       use2 𝓛 (raw (upd 𝓤 (A.obs γ.value gnil ∗ A.auth γ.value gnil))) (𝓛.names.name_set_upd γ.value gnil (mark R s) gnil) $ settle 𝓛 Z (‵ (fobs γ.value gnil) ⊛ ‵ (fauth γ.value gnil)) $ split ! $ move ! (2 ∷ 3 ∷ []) $
@@ -176,7 +181,8 @@ module _ {M : Type 1} {𝓤 : Ura M} (𝓛 : Logic 𝓤) (R : RattleType) (γ : 
       -- [broken, twice; the breach's name; the right to the value's name; the value's name; the room]
       move ! (4 ∷ 2 ∷ []) $ fjoin ! $ move ! (1 ∷ 3 ∷ []) $ fjoin ! $ feq_i ! ℕ 3 3 refl $ fjoin ! $ move ! (1 ∷ 0 ∷ 3 ∷ []) $ fjoin3 ! $ done !)
 
-  pub looks : (q : Share) → A.inv (fbor α I) ∗ (A.lft α q ∗ emp 𝓤) ⊢ asks 𝓛 (block_ptr b (o + 0)) (λ n. n) always (λ n. fsep (flft α q) (Sights n))
+  pub looks : (q : Share)
+      → A.inv (fbor α I) ∗ (A.lft α q ∗ emp 𝓤) ⊢ asks 𝓛 (block_ptr b (o + 0)) (λ n. n) always (λ n. fsep (flft α q) (Sights n))
   looks q = stepped q (λ n. n) Sights (emp 𝓤) (λ n s. let N : S → Pr = Next (λ m. m) Sights n in
       qed 𝓛 (‵ (beside n s) ∷ raw (emp 𝓤) ∷ []) ∵ suffices ! _ (upd_i 𝓤 (ex 𝓤 N)) $ keep ! (0 ∷ []) $ show ! N s $ by ! (looked n s))
 
@@ -194,7 +200,8 @@ module _ {M : Type 1} {𝓤 : Ura M} (𝓛 : Logic 𝓤) (R : RattleType) (γ : 
     there_at x n broken e = absurd (let z : 1 ≡ 0 = ap paired e in omega arith)
     there_at x n (full y) e = subst (λ (u : R.Denot). ⟦ beside n (full y) ⟧ ⊢ ⟦ beside n (full y) ⟧ ∗ ⟦ there u ⟧) (sym (R.coded.inj x y (ap head e))) (shows n y)
 
-    pub finds_written : (q : Share) (x : R.Denot) → A.inv (fbor α I) ∗ (A.lft α q ∗ ⟦ written R γ.value x ⟧) ⊢ asks 𝓛 (block_ptr b (o + 0)) (λ n. n) always (λ n. fsep (flft α q) (there x))
+    pub finds_written : (q : Share) (x : R.Denot)
+        → A.inv (fbor α I) ∗ (A.lft α q ∗ ⟦ written R γ.value x ⟧) ⊢ asks 𝓛 (block_ptr b (o + 0)) (λ n. n) always (λ n. fsep (flft α q) (there x))
     finds_written q x = stepped q (λ n. n) (λ _. there x) ⟦ written R γ.value x ⟧ (λ n s. let N : S → Pr = Next (λ m. m) (λ _. there x) n in
         qed 𝓛 (‵ (beside n s) ∷ ‵ (written R γ.value x) ∷ []) ∵ suffices ! _ (upd_i 𝓤 (ex 𝓤 N)) $ fsplit ! $ fsplit ! $ move ! (3 ∷ 0 ∷ []) $
         use2 𝓛 (given (mark R (full x) ≡ mark R s) (‵ (written R γ.value x) ⊛ ‵ (fauth γ.value (mark R s)))) (𝓛.names.res_agree γ.value (mark R (full x)) (mark R s)) $ learn ! (λ e. split ! $ drop ! $ move ! (0 ∷ 1 ∷ []) $ fjoin ! $ fjoin ! $ show ! N s $ by ! (there_at x n s e)))
@@ -206,13 +213,15 @@ module _ {M : Type 1} {𝓤 : Ura M} (𝓛 : Logic 𝓤) (R : RattleType) (γ : 
   both x (full y) e d = absurd (let z : 1 ≡ 0 = ap paired d in omega arith)
   both x broken e d = absurd (let z : 1 ≡ 0 = ap paired e in omega arith)
 
-  pub never_both : (q : Share) (x : R.Denot) → A.inv (fbor α I) ∗ (A.lft α q ∗ (⟦ written R γ.value x ⟧ ∗ ⟦ spoilt γ.breach ⟧)) ⊢ asks 𝓛 (block_ptr b (o + 0)) (λ n. n) always (λ n. fsep (flft α q) ffalse)
+  pub never_both : (q : Share) (x : R.Denot)
+      → A.inv (fbor α I) ∗ (A.lft α q ∗ (⟦ written R γ.value x ⟧ ∗ ⟦ spoilt γ.breach ⟧)) ⊢ asks 𝓛 (block_ptr b (o + 0)) (λ n. n) always (λ n. fsep (flft α q) ffalse)
   never_both q x = stepped q (λ n. n) (λ _. ffalse) (⟦ written R γ.value x ⟧ ∗ ⟦ spoilt γ.breach ⟧) (λ n s.
       qed 𝓛 (‵ (beside n s) ∷ ‵ (written R γ.value x) ∷ ‵ (spoilt γ.breach) ∷ []) ∵ fsplit ! $ fsplit ! $ move ! (3 ∷ 0 ∷ []) $
       use2 𝓛 (given (mark R (full x) ≡ mark R s) (‵ (written R γ.value x) ⊛ ‵ (fauth γ.value (mark R s)))) (𝓛.names.res_agree γ.value (mark R (full x)) (mark R s)) $ learn ! (λ e. split ! $ move ! (4 ∷ 2 ∷ []) $
       use2 𝓛 (given (cross ≡ crossed R s) (‵ (spoilt γ.breach) ⊛ ‵ (fauth γ.breach (crossed R s)))) (𝓛.names.res_agree γ.breach cross (crossed R s)) $ learn ! (λ d. absurd (both x s e d))))
 
-pub one_written : {M : Type 1} {𝓤 : Ura M} (𝓛 : Logic 𝓤) (R : RattleType) (γ : GName) (x y : R.Denot) → ent 𝓤 (sep 𝓤 (sem 𝓛 (written R γ x)) (sem 𝓛 (written R γ y))) (monad.fact 𝓤 (x ≡ y))
+pub one_written : {M : Type 1} {𝓤 : Ura M} (𝓛 : Logic 𝓤) (R : RattleType) (γ : GName) (x y : R.Denot)
+    → ent 𝓤 (sep 𝓤 (sem 𝓛 (written R γ x)) (sem 𝓛 (written R γ y))) (monad.fact 𝓤 (x ≡ y))
 one_written 𝓛 R γ x y = one_value 𝓛 record { code = λ (z : R.Denot). mark R (full z); inj = λ u v e. R.coded.inj u v (ap head e) } γ x y
 
 -- what a `&` to a cell holds can be had twice

@@ -22,7 +22,8 @@ module _ (X : RattleType) where
   pub link_told : (x : (link.the_row X).Denot) (vs : List Val) → Is (link.the_row X) x vs → vs ≡ pointer_val x.ptr ∷ []
   link_told x vs is = is.1.0 ∙ ap (λ (ws : List Val). vstruct (of_list (ws ++ (is.0.1.0 ++ []))) ∷ []) is.1.1.0 ∙ ap (λ (ws : List Val). vstruct (of_list (ptr_val x.ptr ∷ (ws ++ []))) ∷ []) is.1.1.1.0.1.0
 
-  pub link_made : {M : Type 1} {𝓤 : Ura M} (𝓛 : Logic 𝓤) (p : Ptr) → ent 𝓤 (emp 𝓤) (sem 𝓛 ((link.the_row X).own_val (record { ptr = p; marker = record {} }) (pointer_val p ∷ [])))
+  pub link_made : {M : Type 1} {𝓤 : Ura M} (𝓛 : Logic 𝓤) (p : Ptr)
+      → ent 𝓤 (emp 𝓤) (sem 𝓛 ((link.the_row X).own_val (record { ptr = p; marker = record {} }) (pointer_val p ∷ [])))
   link_made 𝓛 p = makes_shadow 𝓛 ((link.the_row X).own_val (record { ptr = p; marker = record {} }) (pointer_val p ∷ [])) (λ vss. (tt, (tt, ((λ uss. (tt, tt)), tt))))
       ((ptr_val p ∷ [], (vstruct vnil ∷ [], tt)), (refl, (refl, ((tt, (refl, tt)), tt))))
 

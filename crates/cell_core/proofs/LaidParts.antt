@@ -71,12 +71,14 @@ module _ {M : Type 1} {𝓤 : Ura M} (𝓛 : Logic 𝓤) (R : RattleType) (token
   s = stride R
 
   -- a cell put after the others
-  along_more : (G : Names → ℕ → Fml) (cs : List Names) (c : Names) (e e' : ℕ) → e' ≡ length cs * s + e → ⟦ along R G cs e ⟧ ∗ ⟦ G c e' ⟧ ⊢ ⟦ along R G (cs ++ c ∷ []) e ⟧
+  along_more : (G : Names → ℕ → Fml) (cs : List Names) (c : Names) (e e' : ℕ) → e' ≡ length cs * s + e
+      → ⟦ along R G cs e ⟧ ∗ ⟦ G c e' ⟧ ⊢ ⟦ along R G (cs ++ c ∷ []) e ⟧
   along_more G [] c e e' is = let z = zero-mul s in let same : e' ≡ e = omega arith in qed 𝓛 (‵ ftrue ∷ ‵ (G c e') ∷ []) ∵ rewrite ! 1 (λ (i : ℕ). ‵ (G c i)) same refl $ move ! (1 ∷ 0 ∷ []) $ done !
   along_more G (h ∷ cs) c e e' is = let z = suc-mul (length cs) s in qed 𝓛 (‵ (along R G (h ∷ cs) e) ∷ ‵ (G c e') ∷ []) ∵ fsplit ! $ frame ! $ by ! (along_more G cs c (e + s) e' (omega arith))
 
   -- the last cell, and the others
-  along_less : (G : Names → ℕ → Fml) (cs : List Names) (c : Names) (e e' : ℕ) → e' ≡ length cs * s + e → ⟦ along R G (cs ++ c ∷ []) e ⟧ ⊢ ⟦ G c e' ⟧ ∗ ⟦ along R G cs e ⟧
+  along_less : (G : Names → ℕ → Fml) (cs : List Names) (c : Names) (e e' : ℕ) → e' ≡ length cs * s + e
+      → ⟦ along R G (cs ++ c ∷ []) e ⟧ ⊢ ⟦ G c e' ⟧ ∗ ⟦ along R G cs e ⟧
   along_less G [] c e e' is = let z = zero-mul s in let same : e ≡ e' = omega arith in qed 𝓛 (‵ (G c e) ∷ ‵ ftrue ∷ []) ∵ rewrite ! 0 (λ (i : ℕ). ‵ (G c i)) same refl $ done !
   along_less G (h ∷ cs) c e e' is = let z = suc-mul (length cs) s in qed 𝓛 (‵ (G h e) ∷ ‵ (along R G (cs ++ c ∷ []) (e + s)) ∷ []) ∵ move ! (1 ∷ []) $
       use1 𝓛 (‵ (G c e') ⊛ ‵ (along R G cs (e + s))) (along_less G cs c (e + s) e' (omega arith)) $ split ! $ frame ! $ move ! (1 ∷ 0 ∷ []) $ done !
@@ -94,13 +96,15 @@ module _ {M : Type 1} {𝓤 : Ura M} (𝓛 : Logic 𝓤) (R : RattleType) (token
       subst (λ (a : ℕ). X ⊢ ⟦ at a ⟧ ∗ (⟦ at a ⟧ -∗ X)) (align-raw (lone R.mir)) (𝓛.laws.room_fields [] (mir.Syntax.tcons (ty_int w64) (mir.Syntax.tcons (bare (lone R.mir)) mir.Syntax.tnil)) b e)
 
   -- memory of n cells is a row without a cell
-  pub fresh : (b o n : ℕ) → Fits R n → H.room (row_ty R n) b o ∗ ⟦ token (row_ty R n) (block_ptr b o) ⟧ ⊢ ⟦ laid R token (block_ptr b o) [] n ⟧
+  pub fresh : (b o n : ℕ) → Fits R n
+      → H.room (row_ty R n) b o ∗ ⟦ token (row_ty R n) (block_ptr b o) ⟧ ⊢ ⟦ laid R token (block_ptr b o) [] n ⟧
   fresh b o n fits = let p : Ptr = block_ptr b o in let z = zero-mul s in let same : n ≡ 0 + n = omega arith in
       qed 𝓛 (‵ (froom (ty_array τ n) b o) ∷ ‵ (token (row_ty R n) p) ∷ []) ∵ rewrite ! 0 (λ (i : ℕ). ‵ (froom (ty_array τ n) b i)) (let r : o ≡ 0 * s + o = omega arith in r) refl $
       rewrite ! 1 (λ (m : ℕ). ‵ (token (row_ty R m) p)) same refl $ nothing ! $ fjoin3 ! $ nothing ! $ fpack ! (InBlock p × Fits R (0 + n)) (λ _. ftrue) (tt, subst (Fits R) same fits) $ done !
 
   -- a row without a cell is memory again
-  pub gathers : (b o n : ℕ) → ⟦ laid R token (block_ptr b o) [] n ⟧ ⊢ guard 𝓤 (Fits R n) (H.room (row_ty R n) b o ∗ ⟦ token (row_ty R n) (block_ptr b o) ⟧)
+  pub gathers : (b o n : ℕ)
+      → ⟦ laid R token (block_ptr b o) [] n ⟧ ⊢ guard 𝓤 (Fits R n) (H.room (row_ty R n) b o ∗ ⟦ token (row_ty R n) (block_ptr b o) ⟧)
   gathers b o n = let p : Ptr = block_ptr b o in let z = zero-mul s in let same : 0 + n ≡ n = omega arith in
       qed 𝓛 (‵ (laid R token p [] n) ∷ []) ∵ fsplit3 ! $ fpick ! (λ so. drop ! $ drop ! $ check ! (subst (Fits R) same so.1) $ fsplit ! $
       rewrite ! 0 (λ (i : ℕ). ‵ (froom (ty_array τ n) b i)) (let r : 0 * s + o ≡ o = omega arith in r) refl $ rewrite ! 1 (λ (m : ℕ). ‵ (token (row_ty R m) p)) same refl $ done !)
@@ -109,7 +113,8 @@ module _ {M : Type 1} {𝓤 : Ura M} (𝓛 : Logic 𝓤) (R : RattleType) (token
   Filled p cs left e c = ⟦ still R (block_of p) c e ⟧ -∗ ⟦ laid R token p (cs ++ c ∷ []) left ⟧
 
   -- room for one cell more, which makes the row longer
-  pub next_room : (p : Ptr) (cs : List Names) (left e : ℕ) → e ≡ length cs * s + count_of p → ⟦ laid R token p cs (suc left) ⟧ ⊢ guard 𝓤 (length cs * s < 2 ^ 63) (⟦ rooms R (block_of p) e ⟧ ∗ all 𝓤 (Filled p cs left e))
+  pub next_room : (p : Ptr) (cs : List Names) (left e : ℕ) → e ≡ length cs * s + count_of p
+      → ⟦ laid R token p cs (suc left) ⟧ ⊢ guard 𝓤 (length cs * s < 2 ^ 63) (⟦ rooms R (block_of p) e ⟧ ∗ all 𝓤 (Filled p cs left e))
   next_room p cs left e is = let b : ℕ = block_of p in let o : ℕ = count_of p in let k : ℕ = length cs in let n : ℕ = k + suc left in
       qed 𝓛 (‵ (laid R token p cs (suc left)) ∷ []) ∵ fsplit3 ! $ fpick ! (λ so. drop ! $ check ! (within k n (omega arith) so.1) $ move ! (1 ∷ []) $ fsplit ! $ rewrite ! 0 (λ (i : ℕ). ‵ (froom (ty_array τ (suc left)) b i)) (sym is) refl $
       use1 𝓛 (‵ (froom τ b e) ⊛ ‵ (froom (ty_array τ left) b (e + size τ))) (𝓛.laws.room_uncons τ left b e) $ split ! $ use1 𝓛 (‵ (rooms R b e) ⊛ ‵ (rim R b e)) (spreads b e) $ split ! $ frame ! $
@@ -120,7 +125,8 @@ module _ {M : Type 1} {𝓤 : Ura M} (𝓛 : Logic 𝓤) (R : RattleType) (token
       fjoin3 ! $ nothing ! $ fpack ! (InBlock p × Fits R (m + left)) (λ _. ftrue) (so.0, subst (Fits R) same so.1) $ done !))
 
   -- the last cell, which leaves room where it is given back empty
-  pub last_cell : (p : Ptr) (cs : List Names) (c : Names) (left e : ℕ) → e ≡ length cs * s + count_of p → ⟦ laid R token p (cs ++ c ∷ []) left ⟧
+  pub last_cell : (p : Ptr) (cs : List Names) (c : Names) (left e : ℕ) → e ≡ length cs * s + count_of p
+      → ⟦ laid R token p (cs ++ c ∷ []) left ⟧
       ⊢ guard 𝓤 (length cs * s < 2 ^ 63) (⟦ still R (block_of p) c e ⟧ ∗ (⟦ rooms R (block_of p) e ⟧ -∗ ⟦ laid R token p cs (suc left) ⟧))
   last_cell p cs c left e is = let b : ℕ = block_of p in let o : ℕ = count_of p in let k : ℕ = length cs in let long : length (cs ++ c ∷ []) ≡ k + 1 = length-append cs (c ∷ []) in let m : ℕ = length (cs ++ c ∷ []) in
       let same : m + left ≡ k + suc left = omega arith in let next : m * s + o ≡ e + size τ = sym (ap (λ (z : ℕ). e + z) (size-raw (cell_ty R)) ∙ (omega (arith, suc-mul k s, ap (λ (z : ℕ). z * s) (let r : m ≡ suc k = omega arith in r)))) in
@@ -162,24 +168,28 @@ module _ {M : Type 1} {𝓤 : Ura M} (𝓛 : Logic 𝓤) (R : RattleType) (token
       rewrite ! 1 (λ (j : ℕ). ‵ (Rest j)) same refl $ fjoin ! $ nothing ! $ fpack ! (InBlock p × Fits R (m + left)) (λ _. ftrue) (so.0, subst (λ (j : ℕ). Fits R (j + left)) same so.1) $ done !))
 
   -- a borrow of each cell makes a `&` to each
-  lends_along : (L : Laws R) (l : Lft) → Incl l R.lives → (b : ℕ) (γs : List Names) (e : ℕ) → Lends 𝓛 (along R (owned R b) γs e) (along_lent R b γs e) l
+  lends_along : (L : Laws R) (l : Lft) → Incl l R.lives → (b : ℕ) (γs : List Names) (e : ℕ)
+      → Lends 𝓛 (along R (owned R b) γs e) (along_lent R b γs e) l
   lends_along L l inc b [] e = Lends-nothing 𝓛 ftrue l
   lends_along L l inc b (γ ∷ γs) e = Lends-both 𝓛 (owned R b γ e) (along R (owned R b) γs (e + s)) (shared_at R γ b e) (along_lent R b γs (e + s)) l
       (Lends-first 𝓛 (still R b γ e) (rim R b e) (shared_at R γ b e) l (lends_cell R L γ 𝓛 b e l inc)) (lends_along L l inc b γs (e + s))
 
   -- a borrow of the row makes a `&` to it
-  pub lends_laid : (L : Laws R) (l : Lft) → Incl l R.lives → (p : Ptr) (γs : List Names) (left : ℕ) → Lends 𝓛 (laid R token p γs left) (laid_lent R p γs left) l
+  pub lends_laid : (L : Laws R) (l : Lft) → Incl l R.lives → (p : Ptr) (γs : List Names) (left : ℕ)
+      → Lends 𝓛 (laid R token p γs left) (laid_lent R p γs left) l
   lends_laid L l inc p γs left = let b : ℕ = block_of p in let o : ℕ = count_of p in let n : ℕ = length γs + left in let Row : Fml = along R (owned R b) γs o in let Rest : Fml = fsep (froom (ty_array τ left) b (length γs * s + o)) (token (row_ty R n) p) in
       Lends-both 𝓛 (lies R p n) (fsep Row Rest) (said (lies R p n)) (along_lent R b γs o) l (Lends-said 𝓛 (lies R p n) (λ _. tt) l) (Lends-first 𝓛 Row Rest (along_lent R b γs o) l (lends_along L l inc b γs o))
 
   -- what a `&` to the row shows of the cell at an index
-  pub cell_shown : (b : ℕ) (κ : Lft) (γs : List Names) (i e e' : ℕ) → e' ≡ i * s + e → i < length γs → ⟦ along_lent R b γs e κ ⟧ ⊢ ⟦ shared_at R (cell_in γs i) b e' κ ⟧
+  pub cell_shown : (b : ℕ) (κ : Lft) (γs : List Names) (i e e' : ℕ) → e' ≡ i * s + e → i < length γs
+      → ⟦ along_lent R b γs e κ ⟧ ⊢ ⟦ shared_at R (cell_in γs i) b e' κ ⟧
   cell_shown b κ [] i e e' is near = absurd (omega arith)
   cell_shown b κ (γ ∷ γs) zero e e' is near = let z = zero-mul s in let same : e ≡ e' = omega arith in qed 𝓛 (‵ (shared_at R γ b e κ) ∷ ‵ (along_lent R b γs (e + s) κ) ∷ []) ∵ rewrite ! 0 (λ (j : ℕ). ‵ (shared_at R γ b j κ)) same refl $ keep ! (0 ∷ []) $ done !
   cell_shown b κ (γ ∷ γs) (suc i) e e' is near = let z = suc-mul i s in qed 𝓛 (‵ (shared_at R γ b e κ) ∷ ‵ (along_lent R b γs (e + s) κ) ∷ []) ∵ keep ! (1 ∷ []) $ by ! (cell_shown b κ γs i (e + s) e' (omega arith) (omega arith))
 
   -- a cell whose word is 2 holds a value
-  pub filled_at : (γ : Names) (b e : ℕ) (r : Rest R.Denot) → r.0 ≡ 2 → ⟦ place R r.1 b e ⟧ ∗ ⟦ resting R γ r ⟧ ⊢ ⟦ fex R.Denot (λ x. part_at R full_share x b e) ⟧ ∗ ⟦ auths R γ r.2 ⟧
+  pub filled_at : (γ : Names) (b e : ℕ) (r : Rest R.Denot) → r.0 ≡ 2
+      → ⟦ place R r.1 b e ⟧ ∗ ⟦ resting R γ r ⟧ ⊢ ⟦ fex R.Denot (λ x. part_at R full_share x b e) ⟧ ∗ ⟦ auths R γ r.2 ⟧
   filled_at γ b e (n, v, free) two = qed 𝓛 (‵ (place R v b e) ∷ ‵ (resting R γ (n, v, free)) ∷ []) ∵ move ! (1 ∷ []) $ fsplit ! $ fsplit ! $ move ! (1 ∷ []) $ fsplit ! $ feq_l ! (λ z. absurd (omega arith))
   filled_at γ b e (n, v, busy) two = qed 𝓛 (‵ (place R v b e) ∷ ‵ (resting R γ (n, v, busy)) ∷ []) ∵ move ! (1 ∷ []) $ fsplit ! $ fsplit ! $ move ! (1 ∷ []) $ feq_l ! (λ z. absurd (omega arith))
   filled_at γ b e (n, v, broken) two = qed 𝓛 (‵ (place R v b e) ∷ ‵ (resting R γ (n, v, broken)) ∷ []) ∵ move ! (1 ∷ []) $ fsplit ! $ fsplit ! $ move ! (1 ∷ []) $ fsplit ! $ feq_l ! (λ z. absurd (omega arith))
@@ -212,14 +222,16 @@ module _ {M : Type 1} {𝓤 : Ura M} (𝓛 : Logic 𝓤) (R : RattleType) (token
       (λ other. qed 𝓛 (‵ (fobs δ gnil) ∷ ‵ (fauth δ gnil) ∷ ‵ (fauth γ d) ∷ []) ∵ updating ! $ now ! $ check ! other $ keep ! (0 ∷ 1 ∷ []) $ done !)
 
 -- a list that is not empty has a last member
-pub last_of : (cs : List Names) (j : ℕ) → length cs ≡ j + 1 → (front : List Names) × (c : Names) × (cs ≡ front ++ c ∷ []) × (j ≡ length front)
+pub last_of : (cs : List Names) (j : ℕ) → length cs ≡ j + 1
+    → (front : List Names) × (c : Names) × (cs ≡ front ++ c ∷ []) × (j ≡ length front)
 last_of [] j long = absurd (omega arith)
 last_of (c ∷ []) j long = ([], c, refl, omega arith)
 last_of (c ∷ d ∷ cs) zero long = absurd (omega arith)
 last_of (c ∷ d ∷ cs) (suc j) long = let end = last_of (d ∷ cs) j (omega arith) in (c ∷ end.0, end.1, ap (λ (xs : List Names). c ∷ xs) end.2, omega (arith, end.3))
 
 -- what the room of a cell holds is given up
-pub emptied : (T : RattleType) (L : Laws T) {M : Type 1} {𝓤 : Ura M} (𝓛 : Logic 𝓤) (b e : ℕ) (v : Option T.Denot) → ent 𝓤 (sem 𝓛 (place (param 0 T) v b e)) (𝓛.H.room (bare (layout T)) b e)
+pub emptied : (T : RattleType) (L : Laws T) {M : Type 1} {𝓤 : Ura M} (𝓛 : Logic 𝓤) (b e : ℕ) (v : Option T.Denot)
+    → ent 𝓤 (sem 𝓛 (place (param 0 T) v b e)) (𝓛.H.room (bare (layout T)) b e)
 emptied T L {𝓤 = 𝓤} 𝓛 b e None = id⊢ 𝓤 _
 emptied T L {𝓤 = 𝓤} 𝓛 b e (Some x) = let m : Member = record { row = param 0 T; ty = layout T } in
     qed 𝓛 (‵ (place (param 0 T) (Some x) b e) ∷ []) ∵ spread m ! ((param_laws 0 T L).lawful 𝓛) x b e (λ v good. move ! (1 ∷ []) $ drop ! $ by ! (𝓛.laws.at_room (bare (layout T)) b e v))
@@ -248,7 +260,8 @@ module _ (T : RattleType) (L : Laws T) {M : Type 1} {𝓤 : Ura M} (𝓛 : Logic
       move ! (1 ∷ 0 ∷ []) $ use2 𝓛 (‵ (froom (ty_array τ (suc n)) b e)) (𝓛.laws.room_cons τ n b e) $ rewrite ! 0 (λ (m : ℕ). ‵ (froom (ty_array τ m) b e)) (let r : suc n ≡ suc (length γs) + left = omega arith in r) refl $ done !
 
   -- a row whose cells are given up has room for as many
-  pub forgotten : (p : Ptr) (γs : List Names) (left : ℕ) → ent 𝓤 (sem 𝓛 (laid R token p γs left)) (sem 𝓛 (laid R token p [] (length γs + left)))
+  pub forgotten : (p : Ptr) (γs : List Names) (left : ℕ)
+      → ent 𝓤 (sem 𝓛 (laid R token p γs left)) (sem 𝓛 (laid R token p [] (length γs + left)))
   forgotten p γs left = let b : ℕ = block_of p in let o : ℕ = count_of p in let n : ℕ = length γs + left in let τ = bare (cell_ty R) in let z = zero-mul (stride R) in let same : n ≡ 0 + n = omega arith in
       qed 𝓛 (‵ (laid R token p γs left) ∷ []) ∵ fsplit ! $ move ! (1 ∷ []) $ fsplit3 ! $ use2 𝓛 (‵ (froom (ty_array τ n) b o)) (cleared_along b γs left o (length γs * stride R + o) refl) $
       rewrite ! 0 (λ (i : ℕ). ‵ (froom (ty_array τ n) b i)) (let r : o ≡ 0 * stride R + o = omega arith in r) refl $

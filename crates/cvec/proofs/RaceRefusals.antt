@@ -9,24 +9,30 @@ use Rattle.cvec.specs.Race.{IsTeam, RefusesLowest, IsOfRange}
 
 module _ (word : WordView) (each : ℕ) where
   -- the lowest one of the lower half is the lowest of the whole
-  lower_refused : (reason : ℕ → Type 0) (first low high : ℕ) → RefusesLowest word each reason first low → RefusesLowest word each reason first (low + high)
+  lower_refused : (reason : ℕ → Type 0) (first low high : ℕ) → RefusesLowest word each reason first low
+      → RefusesLowest word each reason first (low + high)
   lower_refused reason first low high one = (one.0, one.1, omega (arith, one.2), one.3, one.4)
 
   -- where the lower half has appended its values, the lowest one of the upper half is the lowest of the whole
-  upper_refused : (reason : ℕ → Type 0) (first low middle high shares : ℕ) (team : Team) → first + low ≡ middle → IsTeam word shares (first * each) (middle * each) team → RefusesLowest word each reason middle high → RefusesLowest word each reason first (low + high)
+  upper_refused : (reason : ℕ → Type 0) (first low middle high shares : ℕ) (team : Team) → first + low ≡ middle
+      → IsTeam word shares (first * each) (middle * each) team → RefusesLowest word each reason middle high
+      → RefusesLowest word each reason first (low + high)
   upper_refused reason first low middle high shares team meets won one =
       (one.0, omega (arith, meets, one.1), omega (arith, meets, one.2), one.3, (team ∷ one.4.0, (shares, middle * each, won, one.4.1)))
 
 module _ (word : WordView) (each : ℕ) (may_refuse : ℕ → Type 0) where
   -- why the lower half was refused is why the whole was
-  lower_of_range : (first low high : ℕ) (e : RaceError) → IsOfRange word each may_refuse first low e → IsOfRange word each may_refuse first (low + high) e
+  lower_of_range : (first low high : ℕ) (e : RaceError) → IsOfRange word each may_refuse first low e
+      → IsOfRange word each may_refuse first (low + high) e
   lower_of_range first low high NoMemory is = is
   lower_of_range first low high BadSize is = is
   lower_of_range first low high Stuck is = lower_refused word each _ first low high is
   lower_of_range first low high (Grow number) is = lower_refused word each _ first low high is
 
   -- the same of the upper half, where the lower one has appended its values
-  upper_of_range : (first low middle high shares : ℕ) (team : Team) (e : RaceError) → first + low ≡ middle → IsTeam word shares (first * each) (middle * each) team → IsOfRange word each may_refuse middle high e → IsOfRange word each may_refuse first (low + high) e
+  upper_of_range : (first low middle high shares : ℕ) (team : Team) (e : RaceError) → first + low ≡ middle
+      → IsTeam word shares (first * each) (middle * each) team → IsOfRange word each may_refuse middle high e
+      → IsOfRange word each may_refuse first (low + high) e
   upper_of_range first low middle high shares team NoMemory meets won is = is
   upper_of_range first low middle high shares team BadSize meets won is = is
   upper_of_range first low middle high shares team Stuck meets won is = upper_refused word each _ first low middle high shares team meets won is

@@ -21,7 +21,8 @@ EndsAs (Err e) status old new = (status ≡ status_of e) × AppendsPrefix old ne
 -- a script is read and played by the engine: what the writer gets, and how it ends
 pub record Plays (engine : Engine) (ended : Result (Unit {0}) RunError) (input old new : Option (List ℕ)) : Type 0 where
   pub written : OnOk ended (IfSome input (λ bytes. AppendsText (play_by engine) bytes old new))
-  pub script : (fault : ScriptError) → ended ≡ Err (Script fault) → (fault ≢ faults.NoMemory) × IfSome input (λ bytes. script_of bytes ≡ Err fault)
+  pub script : (fault : ScriptError) → ended ≡ Err (Script fault)
+      → (fault ≢ faults.NoMemory) × IfSome input (λ bytes. script_of bytes ≡ Err fault)
   pub prefix : IsErrOf ended Write → IfSome input (λ bytes. AppendsPrefixOfText (play_by engine) bytes old new)
   pub unwritten : IfErr ended (λ e. e ≢ Write → Keeps old new)
 

@@ -32,14 +32,16 @@ module _ (old new : HandView) (row row' : KeyRow) (sees : SeesOwn old) (keyed : 
   }
 
 -- the row has more keys
-pub keyed_more : (hand : HandView) (row row' : KeyRow) → IsKeyed hand row → AreKeys hand.of.mark row' → KeepsKeys row row' → IsKeyed hand row'
+pub keyed_more : (hand : HandView) (row row' : KeyRow) → IsKeyed hand row → AreKeys hand.of.mark row'
+    → KeepsKeys row row' → IsKeyed hand row'
 keyed_more hand row row' keyed keys kept = record {
   keys = keys;
   own = λ place segment small own there. kept segment small (keyed.own place segment small own there);
 }
 
 -- two hands are one, and the row has the keys of both
-pub keyed_joins : JoinedPlacesAreOfEither → (a b new : HandView) (row_a row_b row : KeyRow) → SeesOwn a → SeesOwn b → new.of ≡ a.of → new.of ≡ b.of
+pub keyed_joins : JoinedPlacesAreOfEither → (a b new : HandView) (row_a row_b row : KeyRow) → SeesOwn a → SeesOwn b
+    → new.of ≡ a.of → new.of ≡ b.of
     → IsPrefix a.seen new.seen → IsPrefix b.seen new.seen → new.mine ≡ a.mine ++ b.mine → IsKeyed a row_a → IsKeyed b row_b
     → ((names : List ℕ) → AreKeys names row_a → AreKeys names row_b → AreKeys names row) → KeepsKeys row_a row → KeepsKeys row_b row → IsKeyed new row
 keyed_joins law a b new row_a row_b row sees also_sees of also_of more also_more mine keyed also_keyed keys kept put = record {

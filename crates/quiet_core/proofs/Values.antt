@@ -15,7 +15,8 @@ module _ {X : Type 0} where
   whole_of (Some y) is = cc
 
   -- a list of values has each at its place
-  pub value_there : (values : List X) (place : ℕ) (x : X) → slice_get (map Some values) place ≡ Some (Some x) → slice_get values place ≡ Some x
+  pub value_there : (values : List X) (place : ℕ) (x : X) → slice_get (map Some values) place ≡ Some (Some x)
+      → slice_get values place ≡ Some x
   value_there values place x is = some_of (slice_get values place) x (sym (slice_get-map Some values place) ∙ is)
 
   -- and none of them is broken

@@ -5,19 +5,22 @@ use Rattle.span_core.specs.Each.{EachFrom}
 
 module _ {X : Type 0} (P : ℕ → X → Type 0) where
   -- what follows goes on with the index
-  pub EachFrom-append : (first next : ℕ) (xs ys : List X) → first + length xs ≡ next → EachFrom P first xs → EachFrom P next ys → EachFrom P first (xs ++ ys)
+  pub EachFrom-append : (first next : ℕ) (xs ys : List X) → first + length xs ≡ next → EachFrom P first xs
+      → EachFrom P next ys → EachFrom P first (xs ++ ys)
   EachFrom-append first next [] ys meets p q = let same : next ≡ first = omega (arith, meets) in let M : ℕ → Type 0 = λ n. EachFrom P n ys in subst M same q
   EachFrom-append first next (x ∷ xs) ys meets p q = (p.0, EachFrom-append (first + 1) next xs ys (omega (arith, meets)) p.1 q)
 
   -- one item more
-  pub EachFrom-push : (first next : ℕ) (xs ys : List X) (x : X) → ys ≡ xs ++ x ∷ [] → P next x → EachFrom P first xs × (first + length xs ≡ next) → EachFrom P first ys × (first + length ys ≡ next + 1)
+  pub EachFrom-push : (first next : ℕ) (xs ys : List X) (x : X) → ys ≡ xs ++ x ∷ [] → P next x
+      → EachFrom P first xs × (first + length xs ≡ next) → EachFrom P first ys × (first + length ys ≡ next + 1)
   EachFrom-push first next xs ys x more p each =
       let Q : List X → Type 0 = λ zs. EachFrom P first zs × (first + length zs ≡ next + 1) in
       subst Q (sym more) (EachFrom-append first next xs (x ∷ []) each.1 each.0 (p, tt), omega (arith, each.1, length-append xs (x ∷ [])))
 
 module _ {X : Type 0} where
   -- another fact, at the indices from another one on
-  pub EachFrom-weaker : (P Q : ℕ → X → Type 0) (i j : ℕ) (xs : List X) → ((k : ℕ) (x : X) → P (i + k) x → Q (j + k) x) → EachFrom P i xs → EachFrom Q j xs
+  pub EachFrom-weaker : (P Q : ℕ → X → Type 0) (i j : ℕ) (xs : List X) → ((k : ℕ) (x : X) → P (i + k) x → Q (j + k) x)
+      → EachFrom P i xs → EachFrom Q j xs
   EachFrom-weaker P Q i j [] weaker p = tt
   EachFrom-weaker P Q i j (x ∷ xs) weaker p = (
     at_zero Q j x (weaker 0 x (from_zero P i x p.0)),
@@ -38,7 +41,8 @@ module _ {X : Type 0} where
 
 module _ {X Y : Type 0} (v : X → Y) (none : X) (xs : List X) where
   -- one answer to each item from this index on, and it is what v makes of the item
-  pub EachFrom-map : (i : ℕ) (ys : List Y) → EachFrom (λ k y. y ≡ v (get_or xs k none)) i ys → i + length ys ≡ length xs → ys ≡ map v (drop i xs)
+  pub EachFrom-map : (i : ℕ) (ys : List Y) → EachFrom (λ k y. y ≡ v (get_or xs k none)) i ys → i + length ys ≡ length xs
+      → ys ≡ map v (drop i xs)
   EachFrom-map i [] each long = let end = drop_all i xs (omega (arith, long)) in ap (map v) (sym end)
   EachFrom-map i (y ∷ ys) each long =
       let first = each.0 in

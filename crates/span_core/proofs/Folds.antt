@@ -13,12 +13,14 @@ module _ {U : Type 0} (post : U → U → U → Type 0) (is_in : U → Type 0) (
   within-append [] ys p q = q
   within-append (x ∷ xs) ys p q = (p.0, within-append xs ys p.1 q)
 
-  fold-stays : (op : U → U → U) → Joins post is_in unit op → (acc : U) (xs : List U) → is_in acc → Within post is_in xs → is_in (fold op acc xs)
+  fold-stays : (op : U → U → U) → Joins post is_in unit op → (acc : U) (xs : List U) → is_in acc → Within post is_in xs
+      → is_in (fold op acc xs)
   fold-stays op joins acc [] a within = a
   fold-stays op joins acc (x ∷ xs) a within = fold-stays op joins (op acc x) xs (joins.stays acc x a within.0) within.1
 
   -- what is joined to the fold of a list is the fold from there
-  fold-from : (op : U → U → U) → Joins post is_in unit op → (acc : U) (xs : List U) → is_in unit → is_in acc → Within post is_in xs → fold op acc xs ≡ op acc (fold op unit xs)
+  fold-from : (op : U → U → U) → Joins post is_in unit op → (acc : U) (xs : List U) → is_in unit → is_in acc
+      → Within post is_in xs → fold op acc xs ≡ op acc (fold op unit xs)
   fold-from op joins acc [] u a within = sym (joins.from_right acc a)
   fold-from op joins acc (x ∷ xs) u a within =
       let rest = fold op unit xs in
@@ -32,7 +34,8 @@ module _ {U : Type 0} (post : U → U → U → Type 0) (is_in : U → Type 0) (
   fold-append op acc (x ∷ xs) ys = fold-append op (op acc x) xs ys
 
   -- two folds that are joined are the fold of both lists
-  pub folds-join : (xs ys : List U) (a b r : U) → is_in a → is_in b → Within post is_in xs → Within post is_in ys → IsFold post is_in unit xs a → IsFold post is_in unit ys b → post a b r → IsFold post is_in unit (xs ++ ys) r
+  pub folds-join : (xs ys : List U) (a b r : U) → is_in a → is_in b → Within post is_in xs → Within post is_in ys
+      → IsFold post is_in unit xs a → IsFold post is_in unit ys b → post a b r → IsFold post is_in unit (xs ++ ys) r
   folds-join xs ys a b r a-in b-in xs-in ys-in left right made op joins =
       joins.computes a b r a-in b-in made
       ∙ ap (λ y. op y b) (left op joins)
@@ -49,7 +52,9 @@ module _ {U : Type 0} (post : U → U → U → Type 0) (is_in : U → Type 0) (
   sums-one place x p inside = (x ∷ [], (p, tt), omega arith, (inside, tt), (inside, λ unit. folds-one post is_in unit x inside))
 
   -- two sums of neighbours, merged
-  pub sums-merge : (from middle to : ℕ) (sum part result : Option U) → Merges post is_in sum part result → SumsUpTo post is_in P from middle sum → SumsUpTo post is_in P middle to part → SumsUpTo post is_in P from to result
+  pub sums-merge : (from middle to : ℕ) (sum part result : Option U) → Merges post is_in sum part result
+      → SumsUpTo post is_in P from middle sum → SumsUpTo post is_in P middle to part
+      → SumsUpTo post is_in P from to result
   sums-merge from middle to None part result merged (xs, each, long, within, none) (ys, each', long', within', sum') =
       let Q : Option U → Type 0 = λ s. SumsUpTo post is_in P from to s in
       let M : ℕ → Type 0 = λ n. EachFrom P n ys in
@@ -78,18 +83,22 @@ module _ {U : Type 0} (post : U → U → U → Type 0) (is_in : U → Type 0) (
       × Tiles place to leaves
       × SumsUpTo post is_in P from place sum
 
-  pub sum-begins : (span : Interval) (olds parts : List (Option U)) → olds ≡ parts → (leaves : List Interval) × AreLeaves span leaves × AllZip (λ leaf part. SumsUpTo post is_in P leaf.from leaf.to part) leaves olds → SumReaches span.from span.to None parts
+  pub sum-begins : (span : Interval) (olds parts : List (Option U)) → olds ≡ parts
+      → (leaves : List Interval) × AreLeaves span leaves × AllZip (λ leaf part. SumsUpTo post is_in P leaf.from leaf.to part) leaves olds
+      → SumReaches span.from span.to None parts
   sum-begins span olds parts same (leaves, cut, zip) =
       let Q : List (Option U) → Type 0 = λ vs. AllZip (λ leaf part. SumsUpTo post is_in P leaf.from leaf.to part) leaves vs in
       (leaves, span.from, subst Q same zip, leaves-tile span leaves cut, ([], tt, omega arith, tt, refl))
 
-  sum-on : (from to : ℕ) (sum part result : Option U) (parts : List (Option U)) → Merges post is_in sum part result → SumReaches from to sum (part ∷ parts) → SumReaches from to result parts
+  sum-on : (from to : ℕ) (sum part result : Option U) (parts : List (Option U)) → Merges post is_in sum part result
+      → SumReaches from to sum (part ∷ parts) → SumReaches from to result parts
   sum-on from to sum part result parts merged ([], place, zip, tiles, sums) = absurd zip
   sum-on from to sum part result parts merged (leaf ∷ leaves, place, zip, tiles, sums) =
       let M : ℕ → Type 0 = λ n. SumsUpTo post is_in P n leaf.to part in
       (leaves, leaf.to, zip.1, tiles.1, sums-merge from place leaf.to sum part result merged sums (subst M tiles.0 zip.0))
 
-  pub sum-step : (from to : ℕ) (sum part result : Option U) (olds parts : List (Option U)) → olds ≡ part ∷ parts → Merges post is_in sum part result → SumReaches from to sum olds → SumReaches from to result parts
+  pub sum-step : (from to : ℕ) (sum part result : Option U) (olds parts : List (Option U)) → olds ≡ part ∷ parts
+      → Merges post is_in sum part result → SumReaches from to sum olds → SumReaches from to result parts
   sum-step from to sum part result olds parts first merged reached =
       let Q : List (Option U) → Type 0 = λ vs. SumReaches from to sum vs in
       sum-on from to sum part result parts merged (subst Q first reached)
@@ -98,5 +107,6 @@ module _ {U : Type 0} (post : U → U → U → Type 0) (is_in : U → Type 0) (
   sum-end from to sum ([], place, zip, tiles, sums) = let M : ℕ → Type 0 = λ n. SumsUpTo post is_in P from n sum in subst M tiles sums
   sum-end from to sum (leaf ∷ leaves, place, zip, tiles, sums) = absurd zip
 
-  pub sum-all : (from to : ℕ) (sum : Option U) (olds : List (Option U)) → olds ≡ [] → SumReaches from to sum olds → SumsUpTo post is_in P from to sum
+  pub sum-all : (from to : ℕ) (sum : Option U) (olds : List (Option U)) → olds ≡ [] → SumReaches from to sum olds
+      → SumsUpTo post is_in P from to sum
   sum-all from to sum olds none reached = let Q : List (Option U) → Type 0 = λ vs. SumReaches from to sum vs in sum-end from to sum (subst Q none reached)

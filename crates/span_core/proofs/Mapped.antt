@@ -9,7 +9,9 @@ use Rattle.span_core.proofs.Each.{EachFrom-weaker, EachFrom-map}
 
 module _ {T U : Type 0} (post : ℕ → Option (Bor T) → U → Type 0) (v : Option T → U) where
   -- a function that answers v of a member answers v of all members in order
-  pub answers-mapped : ((place : ℕ) (item : Option (Bor T)) (answer : U) → post place item answer → answer ≡ v (option_copied item)) → (members : List (Option T)) (span : Interval) (all : List U) → span.from ≡ 0 → span.to ≡ length members → AnswersOver post members span all → all ≡ map v members
+  pub answers-mapped : ((place : ℕ) (item : Option (Bor T)) (answer : U) → post place item answer → answer ≡ v (option_copied item))
+      → (members : List (Option T)) (span : Interval) (all : List U) → span.from ≡ 0 → span.to ≡ length members
+      → AnswersOver post members span all → all ≡ map v members
   answers-mapped does members span all first last answers =
       let P : ℕ → U → Type 0 = AnswersAt post members in
       let Q : ℕ → U → Type 0 = λ place answer. answer ≡ v (get_or members place None) in

@@ -5,7 +5,9 @@ use Rattle.span_core.specs.Workers.{EachGives, RefusesLowest}
 use Rattle.span_core.proofs.Each.{EachFrom-append}
 
 -- the answers of both halves, in order
-pub halves-give : {A : Type 0} (gives : ℕ → A → Type 0) (first low middle high : ℕ) (xs ys all : List A) → first + low ≡ middle → EachGives gives first low xs → EachGives gives middle high ys → all ≡ xs ++ ys → EachGives gives first (low + high) all
+pub halves-give : {A : Type 0} (gives : ℕ → A → Type 0) (first low middle high : ℕ) (xs ys all : List A)
+    → first + low ≡ middle → EachGives gives first low xs → EachGives gives middle high ys → all ≡ xs ++ ys
+    → EachGives gives first (low + high) all
 halves-give {A} gives first low middle high xs ys all meets lower upper both =
     let Q : List A → Type 0 = λ zs. EachGives gives first (low + high) zs in
     subst Q (sym both) (
@@ -25,7 +27,8 @@ module _ {A : Type 0} (gives : ℕ → A → Type 0) (may_refuse : ℕ → Type 
   lower-refused first low high one = (one.0, one.1, omega (arith, one.2), one.3)
 
   -- where the lower half has answered, the lowest one of the upper half is the lowest of the whole
-  pub upper-refused : (first low middle high : ℕ) (xs : List A) → first + low ≡ middle → EachGives gives first low xs → RefusesLowest gives may_refuse middle high → RefusesLowest gives may_refuse first (low + high)
+  pub upper-refused : (first low middle high : ℕ) (xs : List A) → first + low ≡ middle → EachGives gives first low xs
+      → RefusesLowest gives may_refuse middle high → RefusesLowest gives may_refuse first (low + high)
   upper-refused first low middle high xs meets answers one =
       let ys : List A = one.0 in
       let longer = length-append xs ys in
@@ -37,7 +40,8 @@ module _ {A : Type 0} (gives : ℕ → A → Type 0) (may_refuse : ℕ → Type 
       )
 
 -- what was promised of equal numbers and equal jobs
-pub given-along : {J : Type 0} (F : J → ℕ → ℕ → Type 0) (j k : J) (first middle count high : ℕ) → j ≡ k → first ≡ middle → count ≡ high → F j first count → F k middle high
+pub given-along : {J : Type 0} (F : J → ℕ → ℕ → Type 0) (j k : J) (first middle count high : ℕ) → j ≡ k → first ≡ middle
+    → count ≡ high → F j first count → F k middle high
 given-along {J} F j k first middle count high jobs firsts counts given =
     let A : J → Type 0 = λ x. F x middle high in
     let B : ℕ → Type 0 = λ x. F j x high in
@@ -46,7 +50,11 @@ given-along {J} F j k first middle count high jobs firsts counts given =
 
 module _ {A V E : Type 0} (items : V → List A) where
   -- the same of two results, put together
-  pub both-give : (gives : ℕ → A → Type 0) (first low middle high : ℕ) (lower upper all : Result V E) → first + low ≡ middle → IfOk lower (λ v. EachGives gives first low (items v)) → IfOk upper (λ v. EachGives gives middle high (items v)) → IfOk all (λ v. (xs : V) × (ys : V) × (lower ≡ Ok xs) × (upper ≡ Ok ys) × (items v ≡ items xs ++ items ys)) → IfOk all (λ v. EachGives gives first (low + high) (items v))
+  pub both-give : (gives : ℕ → A → Type 0) (first low middle high : ℕ) (lower upper all : Result V E)
+      → first + low ≡ middle → IfOk lower (λ v. EachGives gives first low (items v))
+      → IfOk upper (λ v. EachGives gives middle high (items v))
+      → IfOk all (λ v. (xs : V) × (ys : V) × (lower ≡ Ok xs) × (upper ≡ Ok ys) × (items v ≡ items xs ++ items ys))
+      → IfOk all (λ v. EachGives gives first (low + high) (items v))
   both-give gives first low middle high lower upper all meets p q both =
       IfOk-weaker all _ (λ v. EachGives gives first (low + high) (items v))
       (λ v made.

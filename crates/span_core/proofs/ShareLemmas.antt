@@ -38,21 +38,27 @@ module _ {A : Type 0} (P : ℕ → A → Type 0) (count workers : ℕ) where
 
 module _ {A V : Type 0} (items : V → List A) (P : ℕ → A → Type 0) (count workers : ℕ) where
   -- the first share gives its next item and goes to the end of the row
-  pub shares-turn : (next : ℕ) (share left : V) (shares : List V) (x : A) → length (share ∷ shares) ≡ workers → items share ≡ x ∷ items left → EachFrom (λ worker s. IsShare P count workers worker (items s)) next (share ∷ shares) → EachFrom (λ worker s. IsShare P count workers worker (items s)) (next + 1) (shares ++ left ∷ [])
+  pub shares-turn : (next : ℕ) (share left : V) (shares : List V) (x : A) → length (share ∷ shares) ≡ workers
+      → items share ≡ x ∷ items left
+      → EachFrom (λ worker s. IsShare P count workers worker (items s)) next (share ∷ shares)
+      → EachFrom (λ worker s. IsShare P count workers worker (items s)) (next + 1) (shares ++ left ∷ [])
   shares-turn next share left shares x all taken row =
       let Q : List A → Type 0 = λ xs. IsShare P count workers next xs in
       let moved = share-next P count workers next x (items left) (subst Q taken row.0) in
       EachFrom-append (λ worker s. IsShare P count workers worker (items s)) (next + 1) (next + workers) shares (left ∷ []) (omega (arith, all)) row.1 (moved, tt)
 
   -- and the item is the one of the number that is next
-  pub shares-give : (next : ℕ) (share left : V) (shares : List V) (x : A) → items share ≡ x ∷ items left → EachFrom (λ worker s. IsShare P count workers worker (items s)) next (share ∷ shares) → P next x
+  pub shares-give : (next : ℕ) (share left : V) (shares : List V) (x : A) → items share ≡ x ∷ items left
+      → EachFrom (λ worker s. IsShare P count workers worker (items s)) next (share ∷ shares) → P next x
   shares-give next share left shares x taken row =
       let Q : List A → Type 0 = λ xs. IsShare P count workers next xs in
       share-gives P count workers next x (items left) (subst Q taken row.0)
 
 module _ {A : Type 0} (gives : Interval → A → Type 0) (leaves : List Interval) where
   -- one answer of each number of the leaves is one answer to each leaf
-  pub zip-given : (i : ℕ) (rest : List Interval) (answers : List A) → ((k : ℕ) → slice_get leaves (i + k) ≡ slice_get rest k) → length answers ≡ length rest → EachFrom (GivesLeaf gives leaves) i answers → AllZip gives rest answers
+  pub zip-given : (i : ℕ) (rest : List Interval) (answers : List A)
+      → ((k : ℕ) → slice_get leaves (i + k) ≡ slice_get rest k) → length answers ≡ length rest
+      → EachFrom (GivesLeaf gives leaves) i answers → AllZip gives rest answers
   zip-given i [] [] same long each = tt
   zip-given i [] (x ∷ xs) same long each = absurd (omega (arith, long))
   zip-given i (leaf ∷ rest) [] same long each = absurd (omega (arith, long))
@@ -73,7 +79,10 @@ module _ {A : Type 0} (gives : Interval → A → Type 0) (leaves : List Interva
       further k = let e : i + 1 + k ≡ i + suc k = omega arith in ap (λ n. slice_get leaves n) e
 
 -- a share with one answer more
-pub share-grown : {A : Type 0} (P : ℕ → A → Type 0) (workers first next : ℕ) (xs ys : List A) (x : A) → ys ≡ xs ++ x ∷ [] → P next x → (next ≡ first + length xs * workers) × EachFrom (λ turn. P (first + turn * workers)) 0 xs → (next + workers ≡ first + length ys * workers) × EachFrom (λ turn. P (first + turn * workers)) 0 ys
+pub share-grown : {A : Type 0} (P : ℕ → A → Type 0) (workers first next : ℕ) (xs ys : List A) (x : A)
+    → ys ≡ xs ++ x ∷ [] → P next x
+    → (next ≡ first + length xs * workers) × EachFrom (λ turn. P (first + turn * workers)) 0 xs
+    → (next + workers ≡ first + length ys * workers) × EachFrom (λ turn. P (first + turn * workers)) 0 ys
 share-grown {A} P workers first next xs ys x grown gives share =
     let Q : List A → Type 0 = λ zs. (next + workers ≡ first + length zs * workers) × EachFrom (λ turn. P (first + turn * workers)) 0 zs in
     let M : ℕ → Type 0 = λ n. P n x in
@@ -86,7 +95,10 @@ share-grown {A} P workers first next xs ys x grown gives share =
     longer = let same : length (xs ++ x ∷ []) ≡ 1 + length xs = omega (arith, length-append xs (x ∷ [])) in ap (λ n. n * workers) same
 
 -- one step of putting the answers in order
-pub gather-step : {A V : Type 0} (items : V → List A) (P : ℕ → A → Type 0) (count workers next : ℕ) (olds rest news : List V) (share left : V) (x : A) (all more : List A) → olds ≡ share ∷ rest → items share ≡ x ∷ items left → news ≡ rest ++ left ∷ [] → more ≡ all ++ x ∷ [] → EachFrom (λ worker s. IsShare P count workers worker (items s)) next olds × (length olds ≡ workers) × EachFrom P 0 all × (length all ≡ next) → EachFrom (λ worker s. IsShare P count workers worker (items s)) (next + 1) news × (length news ≡ workers) × EachFrom P 0 more × (length more ≡ next + 1)
+pub gather-step : {A V : Type 0} (items : V → List A) (P : ℕ → A → Type 0) (count workers next : ℕ) (olds rest news : List V) (share left : V) (x : A) (all more : List A)
+    → olds ≡ share ∷ rest → items share ≡ x ∷ items left → news ≡ rest ++ left ∷ [] → more ≡ all ++ x ∷ []
+    → EachFrom (λ worker s. IsShare P count workers worker (items s)) next olds × (length olds ≡ workers) × EachFrom P 0 all × (length all ≡ next)
+    → EachFrom (λ worker s. IsShare P count workers worker (items s)) (next + 1) news × (length news ≡ workers) × EachFrom P 0 more × (length more ≡ next + 1)
 gather-step {A} {V} items P count workers next olds rest news share left x all more front taken back longer kept =
     let R : List V → Type 0 = λ ss. EachFrom (λ worker s. IsShare P count workers worker (items s)) next ss in
     let S : List V → Type 0 = λ ss. EachFrom (λ worker s. IsShare P count workers worker (items s)) (next + 1) ss × (length ss ≡ workers) in

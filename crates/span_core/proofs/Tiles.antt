@@ -30,7 +30,8 @@ module _ {U V : Type 0} (items : V → List U) (P : ℕ → U → Type 0) where
   Reaches from to all parts =
       (leaves : List Interval) × AllZip Covers leaves parts × Tiles (from + length all) to leaves × EachFrom P from all
 
-  pub reaches-on : (from to : ℕ) (all more : List U) (part : V) (parts : List V) → more ≡ all ++ items part → Reaches from to all (part ∷ parts) → Reaches from to more parts
+  pub reaches-on : (from to : ℕ) (all more : List U) (part : V) (parts : List V) → more ≡ all ++ items part
+      → Reaches from to all (part ∷ parts) → Reaches from to more parts
   reaches-on from to all more part parts longer ([], zip, tiles, each) = absurd zip
   reaches-on from to all more part parts longer (leaf ∷ leaves, zip, tiles, each) =
       let Q : List U → Type 0 = λ xs. Reaches from to xs parts in
@@ -44,16 +45,20 @@ module _ {U V : Type 0} (items : V → List U) (P : ℕ → U → Type 0) where
   reaches-end from to all (leaf ∷ leaves, zip, tiles, each) = absurd zip
 
   -- the same, of what is left before and after
-  pub reaches-step : (from to : ℕ) (all more : List U) (part : V) (olds parts : List V) → olds ≡ part ∷ parts → more ≡ all ++ items part → Reaches from to all olds → Reaches from to more parts
+  pub reaches-step : (from to : ℕ) (all more : List U) (part : V) (olds parts : List V) → olds ≡ part ∷ parts
+      → more ≡ all ++ items part → Reaches from to all olds → Reaches from to more parts
   reaches-step from to all more part olds parts first longer reached =
       let Q : List V → Type 0 = λ vs. Reaches from to all vs in
       reaches-on from to all more part parts longer (subst Q first reached)
 
-  pub reaches-all : (from to : ℕ) (all : List U) (olds : List V) → olds ≡ [] → Reaches from to all olds → EachFrom P from all × (from + length all ≡ to)
+  pub reaches-all : (from to : ℕ) (all : List U) (olds : List V) → olds ≡ [] → Reaches from to all olds
+      → EachFrom P from all × (from + length all ≡ to)
   reaches-all from to all olds none reached = let Q : List V → Type 0 = λ vs. Reaches from to all vs in reaches-end from to all (subst Q none reached)
 
   -- before anything is answered
-  pub reaches-none : (span : Interval) (all : List U) (olds parts : List V) → all ≡ [] → olds ≡ parts → (leaves : List Interval) × AreLeaves span leaves × AllZip Covers leaves olds → Reaches span.from span.to all parts
+  pub reaches-none : (span : Interval) (all : List U) (olds parts : List V) → all ≡ [] → olds ≡ parts
+      → (leaves : List Interval) × AreLeaves span leaves × AllZip Covers leaves olds
+      → Reaches span.from span.to all parts
   reaches-none span all olds parts none same (leaves, cut, zip) =
       let Q : List U → Type 0 = λ xs. Reaches span.from span.to xs parts in
       let R : List V → Type 0 = λ vs. AllZip Covers leaves vs in

@@ -31,7 +31,8 @@ IsFold {U} post is_in unit answers result = (op : U → U → U) → Joins post 
 
 module _ {T U : Type 0} where
   -- the fold of one answer to each place of the span, in order
-  abbrev pub FoldsOver : (ℕ → Option (Bor T) → U → Type 0) → (U → U → U → Type 0) → (U → Type 0) → List (Option T) → Interval → U → U → Type 0
+  abbrev pub FoldsOver : (ℕ → Option (Bor T) → U → Type 0) → (U → U → U → Type 0) → (U → Type 0) → List (Option T)
+      → Interval → U → U → Type 0
   FoldsOver f_post join_post is_in members span unit result =
       (answers : List U) × AnswersOver f_post members span answers × IsFold join_post is_in unit answers result
 

@@ -35,4 +35,5 @@ upper_half span = record span { from = middle_of span }
 -- the leaves of a span: itself where it is not divisible, else the leaves of its two halves in order
 pub data AreLeaves : Interval → List Interval → Type 0 where
   itself : (span : Interval) → size_of span ≤ span.grain → AreLeaves span (span ∷ [])
-  halves : (span : Interval) (lower upper : List Interval) → IsDivisible span → AreLeaves (lower_half span) lower → AreLeaves (upper_half span) upper → AreLeaves span (lower ++ upper)
+  halves : (span : Interval) (lower upper : List Interval) → IsDivisible span → AreLeaves (lower_half span) lower
+      → AreLeaves (upper_half span) upper → AreLeaves span (lower ++ upper)

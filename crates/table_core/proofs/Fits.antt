@@ -30,7 +30,8 @@ module _ (R : RattleType) (measure : R.Denot → ℕ) (n : ℕ) where
       (λ M 𝓤 𝓛 x b o. Lends-said 𝓛 (fits R measure n x) (λ _. tt) R.lives) (λ x b o. said_shr_laws (fits R measure n x) (λ _. tt))
 
   -- what is known of an entry is known of a cell of such blocks
-  pub fit_noted : {M : Type 1} {𝓤 : Ura M} (𝓛 : Logic 𝓤) (γ : ℕ) (k : Option R.Denot) → ent 𝓤 (sem 𝓛 (noted R γ k)) (sem 𝓛 (once.noted (Fit R measure n) γ k))
+  pub fit_noted : {M : Type 1} {𝓤 : Ura M} (𝓛 : Logic 𝓤) (γ : ℕ) (k : Option R.Denot)
+      → ent 𝓤 (sem 𝓛 (noted R γ k)) (sem 𝓛 (once.noted (Fit R measure n) γ k))
   fit_noted 𝓛 γ None = qed 𝓛 (‵ ftrue ∷ []) ∵ done !
   fit_noted 𝓛 γ (Some x) = qed 𝓛 (‵ (noted R γ (Some x)) ∷ []) ∵ done !
 
@@ -52,5 +53,6 @@ module _ (R : RattleType) (measure : R.Denot → ℕ) (n : ℕ) where
         fpack ! (List Val) (λ us. fsep (cell_raw full_share (raw_all R.mir) us b o) (R.own_val x us)) vs $ fjoin ! $ done !))
 
     -- a `&` to such a block is a `&` to a block, and tells its length
-    pub fit_lent : (b o : ℕ) (x : R.Denot) (κ : Lft) → ent 𝓤 (sem 𝓛 (lent_at (Fit R measure n) (block_ptr b o) x κ)) (guard 𝓤 (measure x ≡ n) (sem 𝓛 (shared_of R x b o κ)))
+    pub fit_lent : (b o : ℕ) (x : R.Denot) (κ : Lft)
+        → ent 𝓤 (sem 𝓛 (lent_at (Fit R measure n) (block_ptr b o) x κ)) (guard 𝓤 (measure x ≡ n) (sem 𝓛 (shared_of R x b o κ)))
     fit_lent b o x κ = qed 𝓛 (‵ (lent_at (Fit R measure n) (block_ptr b o) x κ) ∷ []) ∵ fsplit ! $ drop ! $ fsplit ! $ move ! (1 ∷ []) $ fpick ! (λ so. drop ! $ check ! so $ done !)

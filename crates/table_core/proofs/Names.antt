@@ -3,7 +3,8 @@ use Rattle.std.proofs.Common.{◌≡◌, ℕ, zero, suc, List, [], ◌∷◌, ma
 use Rattle.table_core.specs.Entry.{EntryView, name_of}
 
 -- every other entry has the name that it had
-pub names_kept : (entries : List EntryView) (k : ℕ) (e : EntryView) (j : ℕ) → (j ≡ k → ⊥) → slice_index (map name_of (slice_set entries k e)) j ≡ slice_index (map name_of entries) j
+pub names_kept : (entries : List EntryView) (k : ℕ) (e : EntryView) (j : ℕ) → (j ≡ k → ⊥)
+    → slice_index (map name_of (slice_set entries k e)) j ≡ slice_index (map name_of entries) j
 names_kept [] k e j other = refl
 names_kept (x ∷ xs) zero e zero other = absurd (other refl)
 names_kept (x ∷ xs) zero e (suc j) other = refl

@@ -34,7 +34,8 @@ module _ {M : Type 1} {𝓤 : Ura M} (𝓛 : Logic 𝓤) (R : RattleType) where
   Data = (Struct (shape (sight.the_type R))).own_val (tt, tt) (token ∷ [])
 
   -- a sight is made of what it knows
-  pub sight_made : (γ : ℕ) (k : Option R.Denot) → ent 𝓤 (sem 𝓛 (noted R γ k)) (sem 𝓛 (Sight.own_val (record { marker = record {}; of = γ; known = k }) (token ∷ [])))
+  pub sight_made : (γ : ℕ) (k : Option R.Denot)
+      → ent 𝓤 (sem 𝓛 (noted R γ k)) (sem 𝓛 (Sight.own_val (record { marker = record {}; of = γ; known = k }) (token ∷ [])))
   sight_made γ k = qed 𝓛 (‵ (noted R γ k) ∷ []) ∵ use0 𝓛 (‵ Data) (makes_shadow 𝓛 Data (λ vss. (tt, ((λ uss. (tt, tt)), tt))) ((vstruct vnil ∷ [], tt), (refl, ((tt, (refl, tt)), tt)))) $ fjoin ! $ done !
 
   -- what is known is known twice
@@ -43,7 +44,8 @@ module _ {M : Type 1} {𝓤 : Ura M} (𝓛 : Logic 𝓤) (R : RattleType) where
   noted_twice γ (Some x) = 𝓛.names.res_dup γ (gcons gnil (R.coded.code x))
 
   -- an entry has one block
-  pub noted_agree : (γ : ℕ) (k j : Option R.Denot) → ent 𝓤 (sep 𝓤 (sem 𝓛 (noted R γ k)) (sem 𝓛 (noted R γ j))) (fact 𝓤 (IfSome j (Agrees k)))
+  pub noted_agree : (γ : ℕ) (k j : Option R.Denot)
+      → ent 𝓤 (sep 𝓤 (sem 𝓛 (noted R γ k)) (sem 𝓛 (noted R γ j))) (fact 𝓤 (IfSome j (Agrees k)))
   noted_agree γ k None = fact_i 𝓤 _ _ tt
   noted_agree γ None (Some y) = fact_i 𝓤 _ _ tt
   noted_agree γ (Some x) (Some y) = let m = gcons gnil (R.coded.code x) in let n = gcons gnil (R.coded.code y) in let P : SProp 𝓤 = 𝓛.A.res γ m in let Q : SProp 𝓤 = 𝓛.A.res γ n in
@@ -63,6 +65,7 @@ module _ {M : Type 1} {𝓤 : Ura M} (𝓛 : Logic 𝓤) (R : RattleType) where
     Shuts n = wand 𝓤 (sem 𝓛 (noted R n.of n.known)) (𝓛.H.⇛ (sep 𝓤 (sem 𝓛 (lent n)) (𝓛.A.lft κ q)))
 
     -- a `&mut` to a sight opens to what it knows, and shuts on what it then knows
-    pub sight_opens : (n : Sight.Denot) → ent 𝓤 (sep 𝓤 (sem 𝓛 (lent n)) (𝓛.A.lft κ q)) (𝓛.H.⇛ (sep 𝓤 (sem 𝓛 (noted R n.of n.known)) (all 𝓤 Shuts)))
+    pub sight_opens : (n : Sight.Denot)
+        → ent 𝓤 (sep 𝓤 (sem 𝓛 (lent n)) (𝓛.A.lft κ q)) (𝓛.H.⇛ (sep 𝓤 (sem 𝓛 (noted R n.of n.known)) (all 𝓤 Shuts)))
     sight_opens n = qed 𝓛 (‵ (lent n) ∷ ‵ (flft κ q) ∷ []) ∵ updating ! $ fsplit ! $ opens ! tt Sight b o (λ vs. move ! (1 ∷ []) $ fsplit ! $ now ! $ move ! (1 ∷ []) $ frame ! $
         each ! Shuts (λ m. assume ! (‵ (noted R m.of m.known)) $ updating ! $ move ! (1 ∷ 0 ∷ []) $ fjoin ! $ move ! (1 ∷ 0 ∷ []) $ closes ! tt Sight m vs b o $ fjoin ! $ now ! $ done !))

@@ -32,7 +32,7 @@ use denote.Struct.Members.{Member}
 use Rattle.core.proofs.cell.Inside.{spread}
 use denote.Struct.Lending.{Lends, Lends-both, Lends-nothing, Lends-said, Lends-first}
 use Rattle.cell_core.specs.Slot.{Names, shared_at, Rest, place, resting, free, busy, full, broken, auths, at}
-use Rattle.cell_core.specs.Laid.{cell_ty, stride, row_ty, Fits, rooms, rim, still, owned, along, along_lent, lies, laid, laid_lent, cell_in}
+use Rattle.cell_core.specs.Laid.{cell_ty, stride, row_ty, FitsMemory, rooms, rim, still, owned, along, along_lent, lies, laid, laid_lent, cell_in}
 use Rattle.cell_core.proofs.CellLends.{lends_cell}
 use Rattle.cell_core.proofs.CellSteps.{shared_laws}
 
@@ -84,7 +84,7 @@ module _ {M : Type 1} {𝓤 : Ura M} (𝓛 : Logic 𝓤) (R : RattleType) (token
       use1 𝓛 (‵ (G c e') ⊛ ‵ (along R G cs (e + s))) (along_less G cs c (e + s) e' (omega arith)) $ split ! $ frame ! $ move ! (1 ∷ 0 ∷ []) $ done !
 
   -- a cell of the row lies within the block
-  pub within : (i n : ℕ) → i ≤ n → Fits R n → i * s < 2 ^ 63
+  pub within : (i n : ℕ) → i ≤ n → FitsMemory R n → i * s < 2 ^ 63
   within i n le fits = let a : i * s ≤ n * s = mul-le-mul_right s le in let b : n * s < 2 ^ 63 = fits.1 in omega arith
 
   abbrev τ : Ty
@@ -96,17 +96,17 @@ module _ {M : Type 1} {𝓤 : Ura M} (𝓛 : Logic 𝓤) (R : RattleType) (token
       subst (λ (a : ℕ). X ⊢ ⟦ at a ⟧ ∗ (⟦ at a ⟧ -∗ X)) (align-raw (lone R.mir)) (𝓛.laws.room_fields [] (mir.Syntax.tcons (ty_int w64) (mir.Syntax.tcons (bare (lone R.mir)) mir.Syntax.tnil)) b e)
 
   -- memory of n cells is a row without a cell
-  pub fresh : (b o n : ℕ) → Fits R n
+  pub fresh : (b o n : ℕ) → FitsMemory R n
       → H.room (row_ty R n) b o ∗ ⟦ token (row_ty R n) (block_ptr b o) ⟧ ⊢ ⟦ laid R token (block_ptr b o) [] n ⟧
   fresh b o n fits = let p : Ptr = block_ptr b o in let z = zero-mul s in let same : n ≡ 0 + n = omega arith in
       qed 𝓛 (‵ (froom (ty_array τ n) b o) ∷ ‵ (token (row_ty R n) p) ∷ []) ∵ rewrite ! 0 (λ (i : ℕ). ‵ (froom (ty_array τ n) b i)) (let r : o ≡ 0 * s + o = omega arith in r) refl $
-      rewrite ! 1 (λ (m : ℕ). ‵ (token (row_ty R m) p)) same refl $ nothing ! $ fjoin3 ! $ nothing ! $ fpack ! (InBlock p × Fits R (0 + n)) (λ _. ftrue) (tt, subst (Fits R) same fits) $ done !
+      rewrite ! 1 (λ (m : ℕ). ‵ (token (row_ty R m) p)) same refl $ nothing ! $ fjoin3 ! $ nothing ! $ fpack ! (InBlock p × FitsMemory R (0 + n)) (λ _. ftrue) (tt, subst (FitsMemory R) same fits) $ done !
 
   -- a row without a cell is memory again
   pub gathers : (b o n : ℕ)
-      → ⟦ laid R token (block_ptr b o) [] n ⟧ ⊢ guard 𝓤 (Fits R n) (H.room (row_ty R n) b o ∗ ⟦ token (row_ty R n) (block_ptr b o) ⟧)
+      → ⟦ laid R token (block_ptr b o) [] n ⟧ ⊢ guard 𝓤 (FitsMemory R n) (H.room (row_ty R n) b o ∗ ⟦ token (row_ty R n) (block_ptr b o) ⟧)
   gathers b o n = let p : Ptr = block_ptr b o in let z = zero-mul s in let same : 0 + n ≡ n = omega arith in
-      qed 𝓛 (‵ (laid R token p [] n) ∷ []) ∵ fsplit3 ! $ fpick ! (λ so. drop ! $ drop ! $ check ! (subst (Fits R) same so.1) $ fsplit ! $
+      qed 𝓛 (‵ (laid R token p [] n) ∷ []) ∵ fsplit3 ! $ fpick ! (λ so. drop ! $ drop ! $ check ! (subst (FitsMemory R) same so.1) $ fsplit ! $
       rewrite ! 0 (λ (i : ℕ). ‵ (froom (ty_array τ n) b i)) (let r : 0 * s + o ≡ o = omega arith in r) refl $ rewrite ! 1 (λ (m : ℕ). ‵ (token (row_ty R m) p)) same refl $ done !)
 
   abbrev pub Filled : Ptr → List Names → ℕ → ℕ → Names → Pr
@@ -122,7 +122,7 @@ module _ {M : Type 1} {𝓤 : Ura M} (𝓛 : Logic 𝓤) (R : RattleType) (token
       let next : e + size τ ≡ m * s + o = ap (λ (z : ℕ). e + z) (size-raw (cell_ty R)) ∙ (omega (arith, suc-mul k s, ap (λ (z : ℕ). z * s) (let r : m ≡ suc k = omega arith in r))) in
       assume ! (‵ (still R b c e)) $ fjoin ! $ move ! (3 ∷ 0 ∷ []) $
       use2 𝓛 (‵ (along R (owned R b) (cs ++ c ∷ []) o)) (along_more (owned R b) cs c o e is) $ rewrite ! 1 (λ (i : ℕ). ‵ (froom (ty_array τ left) b i)) next refl $ rewrite ! 2 (λ (z : ℕ). ‵ (token (row_ty R z) p)) same refl $
-      fjoin3 ! $ nothing ! $ fpack ! (InBlock p × Fits R (m + left)) (λ _. ftrue) (so.0, subst (Fits R) same so.1) $ done !))
+      fjoin3 ! $ nothing ! $ fpack ! (InBlock p × FitsMemory R (m + left)) (λ _. ftrue) (so.0, subst (FitsMemory R) same so.1) $ done !))
 
   -- the last cell, which leaves room where it is given back empty
   pub last_cell : (p : Ptr) (cs : List Names) (c : Names) (left e : ℕ) → e ≡ length cs * s + count_of p
@@ -135,7 +135,7 @@ module _ {M : Type 1} {𝓤 : Ura M} (𝓛 : Logic 𝓤) (R : RattleType) (token
       use2 𝓛 (‵ (froom τ b e)) (apply∗ 𝓤 ⟦ rooms R b e ⟧ (H.room τ b e)) $
       move ! (2 ∷ []) $ fsplit ! $ rewrite ! 0 (λ (i : ℕ). ‵ (froom (ty_array τ left) b i)) next refl $ rewrite ! 1 (λ (z : ℕ). ‵ (token (row_ty R z) p)) same refl $ move ! (2 ∷ 0 ∷ []) $
       use2 𝓛 (‵ (froom (ty_array τ (suc left)) b e)) (𝓛.laws.room_cons τ left b e) $ rewrite ! 0 (λ (i : ℕ). ‵ (froom (ty_array τ (suc left)) b i)) is refl $ move ! (2 ∷ 0 ∷ 1 ∷ []) $ fjoin3 ! $
-      nothing ! $ fpack ! (InBlock p × Fits R (k + suc left)) (λ _. ftrue) (so.0, subst (Fits R) same so.1) $ done !)
+      nothing ! $ fpack ! (InBlock p × FitsMemory R (k + suc left)) (λ _. ftrue) (so.0, subst (FitsMemory R) same so.1) $ done !)
 
   abbrev Renamed : (Names → ℕ → Fml) → List Names → ℕ → ℕ → ℕ → Names → Pr
   Renamed G cs i e e' c = ⟦ G c e' ⟧ -∗ ⟦ along R G (set cs i c) e ⟧
@@ -165,7 +165,7 @@ module _ {M : Type 1} {𝓤 : Ura M} (𝓛 : Logic 𝓤) (R : RattleType) (token
       each ! (Emptied p cs left i e) (λ c. let m : ℕ = length (set cs i c) in let same : k ≡ m = sym (length-set cs i c) in
       assume ! (‵ (still R b c e)) $ move ! (0 ∷ 1 ∷ []) $ fjoin ! $ move ! (1 ∷ []) $ use1 𝓛 (Kit.raw (Back c)) (all_e 𝓤 Back c) $ move ! (1 ∷ 0 ∷ []) $
       use2 𝓛 (‵ (along R (owned R b) (set cs i c) o)) (apply∗ 𝓤 ⟦ owned R b c e ⟧ ⟦ along R (owned R b) (set cs i c) o ⟧) $
-      rewrite ! 1 (λ (j : ℕ). ‵ (Rest j)) same refl $ fjoin ! $ nothing ! $ fpack ! (InBlock p × Fits R (m + left)) (λ _. ftrue) (so.0, subst (λ (j : ℕ). Fits R (j + left)) same so.1) $ done !))
+      rewrite ! 1 (λ (j : ℕ). ‵ (Rest j)) same refl $ fjoin ! $ nothing ! $ fpack ! (InBlock p × FitsMemory R (m + left)) (λ _. ftrue) (so.0, subst (λ (j : ℕ). FitsMemory R (j + left)) same so.1) $ done !))
 
   -- a borrow of each cell makes a `&` to each
   lends_along : (L : Laws R) (l : Lft) → Incl l R.lives → (b : ℕ) (γs : List Names) (e : ℕ)

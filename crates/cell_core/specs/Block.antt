@@ -77,5 +77,5 @@ abbrev pub RenewsCell : BlockView → BlockView → ℕ → Type 0
 RenewsCell old new place = IsAnother (cell_at old place) (cell_at new place)
 
 -- each cell but the one at the place keeps its names
-abbrev pub KeepsOthers : BlockView → BlockView → ℕ → Type 0
-KeepsOthers old new place = (q : ℕ) → q ≢ place → cell_at new q ≡ cell_at old q
+abbrev pub KeepsOtherCells : BlockView → BlockView → ℕ → Type 0
+KeepsOtherCells old new place = (q : ℕ) → q ≢ place → cell_at new q ≡ cell_at old q

@@ -48,8 +48,8 @@ module _ (R : RattleType) where
   Small = stride < 2 ^ 23
 
   -- n cells fit in a block
-  abbrev pub Fits : ℕ → Type 0
-  Fits n = Small × (n * stride < 2 ^ 63)
+  abbrev pub FitsMemory : ℕ → Type 0
+  FitsMemory n = Small × (n * stride < 2 ^ 63)
 
   -- the two parts of an empty cell
   abbrev pub rooms : ℕ → ℕ → Fml
@@ -83,7 +83,7 @@ module _ (R : RattleType) where
 
   -- the pointer is into memory, and n cells fit there
   abbrev pub lies : Ptr → ℕ → Fml
-  lies p n = fact (InBlock p × Fits n)
+  lies p n = fact (InBlock p × FitsMemory n)
 
   -- a row of cells with room for more, and the right to free it
   abbrev pub laid : (Ty → Ptr → Fml) → Ptr → List Names → ℕ → Fml

@@ -7,10 +7,10 @@ use Rattle.cell_core.specs.declared.block.shown.Look.TheVariants as look
 use Rattle.cell_core.specs.Block.{BlockView, IsPlacedAt, IsSpoiltAt}
 
 -- what stood in the cell at the place, where it was not empty
-abbrev pub IsFoundAt : {T : Type 0} → BlockView → ℕ → Found T → Type 0
-IsFoundAt block place found.Busy = Unit {0}
-IsFoundAt block place (found.Filled placed) = IsPlacedAt block place placed
-IsFoundAt block place (found.Broken spoilt) = IsSpoiltAt block place spoilt
+abbrev pub IsFoundIn : {T : Type 0} → BlockView → ℕ → Found T → Type 0
+IsFoundIn block place found.Busy = Unit {0}
+IsFoundIn block place (found.Filled placed) = IsPlacedAt block place placed
+IsFoundIn block place (found.Broken spoilt) = IsSpoiltAt block place spoilt
 
 -- what the cell at the place may show: a value with a token of that value
 abbrev pub IsLookAt : {T : Type 0} → BlockView → ℕ → Look T → Type 0

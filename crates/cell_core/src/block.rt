@@ -1,7 +1,7 @@
 //! A block of cells, laid raw in one row: each is a state word and room for one value.
 ghost use Rattle.std.specs.Prelude.{◌≡◌, ◌≢◌, ◌<◌, IfOk, IfErr};
-ghost use Rattle.cell_core.specs.Block.{block_len, cell_at, IsPenAt, IsPlacedIn, IsSpoiltIn, KeepsOthers, RenewsCell};
-ghost use Rattle.cell_core.specs.Shown.{IsFoundAt, IsLookAt};
+ghost use Rattle.cell_core.specs.Block.{block_len, cell_at, IsPenAt, IsPlacedIn, IsSpoiltIn, KeepsOtherCells, RenewsCell};
+ghost use Rattle.cell_core.specs.Shown.{IsFoundIn, IsLookAt};
 
 mod pen;
 mod placed;
@@ -76,7 +76,7 @@ impl<T, A: Allocator> Block<T, A> {
     pub fn begin(&self, place: u64) -> Result<Pen<'_, T>, Found<T>>
         requires { place < block_len self.now }
         ensures pen { IfOk result (IsPenAt self.now place) }
-        ensures found { IfErr result (IsFoundAt self.now place) }
+        ensures found { IfErr result (IsFoundIn self.now place) }
     {
         match self.cell(place).claim() {
             (0, claim) => Ok(Pen { place, claim }),
@@ -157,7 +157,7 @@ impl<T, A: Allocator> Block<T, A> {
         requires { place < block_len self.old }
         ensures len { block_len self.new ≡ block_len self.old }
         ensures another { RenewsCell self.old self.new place }
-        ensures others { KeepsOthers self.old self.new place }
+        ensures others { KeepsOtherCells self.old self.new place }
     {
         self.laid.take(self.link, place as usize)
     }

@@ -1,5 +1,5 @@
 -- That a row has the keys of a hand's own runs, for the small layer of the tests. The premises are public laws and clauses.
-use Rattle.std.proofs.Common.{◌≡◌, ℕ, zero, suc, ◌/◌, ◌<◌, List, ◌∷◌, ◌++◌, length, get_or, set, Option, Some, None, sym, subst, ⊎_elim, refl, [], arith}
+use Rattle.std.proofs.Common.{◌≡◌, ℕ, ◌/◌, ◌<◌, List, ◌∷◌, ◌++◌, length, get_or, set, Option, Some, None, sym, subst, ⊎_elim, refl, [], arith}
 use Rattle.std.specs.Prelude.{IsSome}
 use Rattle.std.specs.List.{Contains}
 use Rattle.std.proofs.lemmas.List.{get_or-set_same, get_or-set_other}
@@ -10,8 +10,9 @@ use native.Mathlib.Decide.{ℕ_discrete}
 use Rattle.claim_core.specs.declared.run.Run.{Run}
 use Rattle.claim_core.specs.Lengths.{InRun}
 use Rattle.claim_core.specs.Word.{WordView}
-use Rattle.claim_core.specs.Hand.{HandView, GainsRun, IsPlaceOf}
+use Rattle.claim_core.specs.Hand.{HandView, GainsRun, SeesOwn, IsPlaceOf}
 use Rattle.claim_core.specs.Laws.{RunsWereThere, SeenRunsHavePlaces}
+use Rattle.claim_core.proofs.OwnPlaces.{only}
 
 -- the row has a key in this entry
 abbrev pub HasKey : {K : Type 0} → List (Option K) → ℕ → Type 0
@@ -20,10 +21,6 @@ HasKey row b = IsSome (get_or row b None)
 -- each block that has a place of an own run has its key in the row
 abbrev pub HasKeys : {K : Type 0} → HandView → List (Option K) → Type 0
 HasKeys hand row = (k place : ℕ) → Contains hand.mine k → InRun hand.of.base hand.seen k place → HasKey row (place / 134217728)
-
--- the hand has seen each run that it owns
-abbrev OwnIsSeen : HandView → Type 0
-OwnIsSeen hand = (k : ℕ) → Contains hand.mine k → k < length hand.seen
 
 -- an entry that is set has a key, and the others keep theirs
 pub set_here : {K : Type 0} (row : List (Option K)) (b : ℕ) (key : K) → b < length row → HasKey (set row b (Some key)) b
@@ -39,24 +36,20 @@ set_keeps row b c key lt has =
 -- a run that was owned before has its keys still
 stays : {K : Type 0} → RunsWereThere → (old new : HandView) (row : List (Option K)) → new.of ≡ old.of
     → IsPrefix old.seen new.seen
-    → OwnIsSeen old → HasKeys old row → (k place : ℕ) → Contains old.mine k → InRun new.of.base new.seen k place → HasKey row (place / 134217728)
+    → SeesOwn old → HasKeys old row → (k place : ℕ) → Contains old.mine k → InRun new.of.base new.seen k place → HasKey row (place / 134217728)
 stays law old new row of seen below has k place own run =
     has k place own (law old.of.base old.seen new.seen k place seen (below k own) (subst (λ (w : WordView). InRun w.base new.seen k place) of run))
 
 -- the hand has seen more, and owns what it owned
 pub keeps : {K : Type 0} → RunsWereThere → (old new : HandView) (row : List (Option K)) → new.of ≡ old.of
     → IsPrefix old.seen new.seen
-    → new.mine ≡ old.mine → OwnIsSeen old → HasKeys old row → HasKeys new row
+    → new.mine ≡ old.mine → SeesOwn old → HasKeys old row → HasKeys new row
 keeps law old new row of seen mine below has k place own = stays law old new row of seen below has k place (subst (λ m. Contains m k) mine own)
-
-only : (x k : ℕ) → Contains (x ∷ []) k → x ≡ k
-only x k (zero, lt, is) = is
-only x k (suc i, lt, is) = absurd (omega arith)
 
 -- the hand has one more run, and the row has its keys
 pub gains : {K : Type 0} → RunsWereThere → SeenRunsHavePlaces
     → (old new : HandView) (index : ℕ) (run : Run) (row row' : List (Option K)) → new.of ≡ old.of
-    → GainsRun old new index run → OwnIsSeen old → HasKeys old row
+    → GainsRun old new index run → SeesOwn old → HasKeys old row
     → ((b : ℕ) → HasKey row b → HasKey row' b)
     → ((place : ℕ) → IsPlaceOf run place → HasKey row' (place / 134217728))
     → HasKeys new row'
@@ -74,7 +67,7 @@ gains law places old new index run row row' of gain below has more keys k place 
 pub joins : {K : Type 0} → RunsWereThere → (a b new : HandView) (row_a row_b row' : List (Option K)) → new.of ≡ a.of
     → new.of ≡ b.of
     → IsPrefix a.seen new.seen → IsPrefix b.seen new.seen → new.mine ≡ a.mine ++ b.mine
-    → OwnIsSeen a → OwnIsSeen b → HasKeys a row_a → HasKeys b row_b
+    → SeesOwn a → SeesOwn b → HasKeys a row_a → HasKeys b row_b
     → ((c : ℕ) → HasKey row_a c → HasKey row' c) → ((c : ℕ) → HasKey row_b c → HasKey row' c) → HasKeys new row'
 joins law a b new row_a row_b row' of_a of_b seen_a seen_b mine below_a below_b has_a has_b more_a more_b k place own run =
     ⊎_elim

@@ -16,7 +16,7 @@ stays : (old new : HandView) (index place : ℕ) → SeesOwn old → new.of ≡ 
 stays old new index place sees of more own in_run =
     (index, own, run_was_there old.of.base old.seen new.seen index place more (sees index own) (subst (λ (w : WordView). InRun w.base new.seen index place) of in_run))
 
-only : (x k : ℕ) → Contains (x ∷ []) k → x ≡ k
+pub only : (x k : ℕ) → Contains (x ∷ []) k → x ≡ k
 only x k (zero, lt, is) = is
 only x k (suc i, lt, is) = absurd (omega arith)
 

@@ -18,6 +18,7 @@ use Rattle.book_core.specs.Events.{actor_of, writer_in}
 use Rattle.book_core.specs.History.{events_of, writers_of}
 use Rattle.book_core.specs.declared.commands.Item.{Item}
 use Rattle.seg_core.specs.Segment.{IsLimit}
+use Rattle.claim_core.specs.Lengths.{times}
 use Rattle.step_core.specs.declared.errors.PlayError.{PlayError}
 use Rattle.step_core.specs.declared.programs.Played.{Played}
 use Rattle.step_core.specs.machine.Play.{Play, play_of, played_of}
@@ -104,11 +105,6 @@ is_at k place ended = (ended.actor == k) && same_place place (place_in ended.ans
 pushed : ℕ → ℕ → List Ended → ℕ
 pushed k place [] = 0
 pushed k place (ended ∷ calls) = (if is_at k place ended then 1 else 0) + pushed k place calls
-
--- how often an actor is in a list
-times : ℕ → List ℕ → ℕ
-times k [] = 0
-times k (x ∷ xs) = (if x == k then 1 else 0) + times k xs
 
 here : (k place : ℕ) (ended : Ended) → ended.actor ≡ k → ended.answer ≡ answers.At place → is_at k place ended ≡ true
 unfolding same_place place_in
@@ -201,14 +197,12 @@ calls_write k place program number (x ∷ calls) es (first, rest, parts, is_call
 -- ---- The writes of an actor, and those of all
 
 times-append : (k : ℕ) (xs ys : List ℕ) → times k (xs ++ ys) ≡ times k xs + times k ys
-unfolding times
 times-append k [] ys = (let all : times k ys ≡ 0 + times k ys = omega arith in all)
 times-append k (x ∷ xs) ys = (let others = times-append k xs ys in let n : ℕ = (if x == k then 1 else 0) in omega arith)
 
 -- an event of an actor has no other writer
 written_by : (k place at : ℕ) (actor : ℕ) → actor ≡ k
     → length (if at == place then actor ∷ [] else []) ≤ times k (if at == place then actor ∷ [] else [])
-unfolding times
 written_by k place at actor its =
     let itself : (actor == k) ≡ true = grind (arith, nat_tests) in
     elim (at == place) as (λ b. length (if b then actor ∷ [] else []) ≤ times k (if b then actor ∷ [] else []))
@@ -216,7 +210,6 @@ written_by k place at actor its =
 
 writer_own : (k place : ℕ) (event : Event) → actor_of event ≡ k
     → length (writer_in place event) ≤ times k (writer_in place event)
-unfolding times
 writer_own k place (Claim actor n) its = omega arith
 writer_own k place (Raise actor to) its = omega arith
 writer_own k place (Finish actor at value) its = written_by k place at actor its
@@ -229,7 +222,6 @@ writer_own k place (RefusedMemory actor) its = omega arith
 -- the writer of an event, as often as it is this actor's
 writes_own : (k place : ℕ) (es : List (Event × Reply))
     → length (writers_of place (events_of k es)) ≤ times k (writers_of place es)
-unfolding times
 writes_own k place [] = omega arith
 writes_own k place (e ∷ es) =
     let others = writes_own k place es in
@@ -245,7 +237,6 @@ writes_own k place (e ∷ es) =
 
 -- who is no writer but one is that one
 only_writer : (k owner : ℕ) → 1 ≤ times k (owner ∷ []) → k ≡ owner
-unfolding times
 only_writer k owner one =
     elim (eqb_tells owner k) [
       | inl same ↦ sym same.1
@@ -253,14 +244,12 @@ only_writer k owner one =
     ]
 
 once_writer : (k owner : ℕ) → times k (owner ∷ []) ≤ 1
-unfolding times
 once_writer k owner =
     elim (owner == k) as (λ b. (if b then 1 else 0) + 0 ≤ 1) [ true ↦ omega arith | false ↦ omega arith ]
 
 -- calls of a sequential play that ended at one place are one call
 pub pushes_are_apart : (limit : ℕ) (programs : List (List Command)) (p : Play) → IsSequential limit programs p
     → PushesAreApart p.ended
-unfolding times
 pushes_are_apart limit programs p is i j place a b is_a is_b at_a at_b =
     let counted : (k : ℕ) → pushed k place p.ended ≤ times k (writers_of place p.events) = λ k.
     let r = is.recorded k in

@@ -5,18 +5,18 @@ use Rattle.claim_core.specs.Word.{WordView}
 use Rattle.cvec.specs.declared.race.team.Team.{Team}
 use Rattle.cvec.specs.declared.race.refusal.RaceError.{RaceError}
 use Rattle.cvec.specs.declared.race.refusal.RaceError.TheVariants.{NoMemory, BadSize, Stuck, Grow}
-use Rattle.cvec.specs.Race.{IsTeam, RefusesLowest, IsOfRange}
+use Rattle.cvec.specs.Race.{IsTeam, RefusesAfterTeams, IsOfRange}
 
 module _ (word : WordView) (each : ℕ) where
   -- the lowest one of the lower half is the lowest of the whole
-  lower_refused : (reason : ℕ → Type 0) (first low high : ℕ) → RefusesLowest word each reason first low
-      → RefusesLowest word each reason first (low + high)
+  lower_refused : (reason : ℕ → Type 0) (first low high : ℕ) → RefusesAfterTeams word each reason first low
+      → RefusesAfterTeams word each reason first (low + high)
   lower_refused reason first low high one = (one.0, one.1, omega (arith, one.2), one.3, one.4)
 
   -- where the lower half has appended its values, the lowest one of the upper half is the lowest of the whole
   upper_refused : (reason : ℕ → Type 0) (first low middle high shares : ℕ) (team : Team) → first + low ≡ middle
-      → IsTeam word shares (first * each) (middle * each) team → RefusesLowest word each reason middle high
-      → RefusesLowest word each reason first (low + high)
+      → IsTeam word shares (first * each) (middle * each) team → RefusesAfterTeams word each reason middle high
+      → RefusesAfterTeams word each reason first (low + high)
   upper_refused reason first low middle high shares team meets won one =
       (one.0, omega (arith, meets, one.1), omega (arith, meets, one.2), one.3, (team ∷ one.4.0, (shares, middle * each, won, one.4.1)))
 

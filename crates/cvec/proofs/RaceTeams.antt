@@ -1,5 +1,5 @@
 -- What a team has after one more value, and what two teams have together. The premises are public laws and clauses.
-use Rattle.std.proofs.Common.{◌≡◌, ℕ, zero, suc, ◌+◌, ◌*◌, ◌<◌, ◌≤◌, List, [], ◌∷◌, ◌++◌, length, refl, sym, ap, ◌∙◌, subst, ⊎_elim, arith, add-one}
+use Rattle.std.proofs.Common.{◌≡◌, ℕ, zero, suc, ◌+◌, ◌*◌, ◌≤◌, List, [], ◌∷◌, ◌++◌, refl, sym, ap, ◌∙◌, subst, ⊎_elim, arith, add-one}
 use Rattle.std.specs.Prelude.{slice_index}
 use Rattle.std.specs.List.{Contains, sum_by}
 use Rattle.std.proofs.lemmas.List.Elements.{Contains-append_left, Contains-append_right, Contains-append_cases}
@@ -7,16 +7,12 @@ use Rattle.std.proofs.lemmas.List.Sums.{sum_by-append}
 use mathlib.Core.List.{IsPrefix}
 use Rattle.claim_core.specs.Lengths.{Tiles, places_in}
 use Rattle.claim_core.specs.Word.{WordView}
-use Rattle.claim_core.specs.Hand.{HandView, GainsRun, AddsRun, SeesRun, own_places, seen_size}
+use Rattle.claim_core.specs.Hand.{HandView, GainsRun, AddsRun, SeesRun, SeesOwn, own_places, seen_size}
 use Rattle.claim_core.specs.Laws.{PlacesStay, SeenRunsStay, AddedRunsAreLast}
 use Rattle.grow_core.specs.Growth.{single}
 use Rattle.cvec.specs.declared.race.team.Win.{Win}
 use Rattle.cvec.specs.declared.race.team.Team.{Team}
 use Rattle.cvec.specs.Race.{sum_below, HasWin, IsTeam, AreAllPlaces}
-
--- the hand has seen each run that it owns
-abbrev pub OwnIsSeen : HandView → Type 0
-OwnIsSeen hand = (k : ℕ) → Contains hand.mine k → k < length hand.seen
 
 value_of : Win → ℕ
 value_of win = win.value
@@ -42,7 +38,7 @@ wins_more stay old new index wins win of gain had k own =
     (Contains-append_cases (index ∷ []) old.mine k (subst (λ m. Contains m k) gain.mine own))
 
 -- so it owns one place more
-places_more : PlacesStay → (old new : HandView) (index place : ℕ) → GainsRun old new index (single place) → OwnIsSeen old
+places_more : PlacesStay → (old new : HandView) (index place : ℕ) → GainsRun old new index (single place) → SeesOwn old
     → own_places new ≡ own_places old + 1
 places_more law old new index place gain below =
     let all = ap (places_in new.seen) gain.mine in
@@ -57,7 +53,7 @@ sum_below_more n = ap sum_below (add-one n)
 -- a team has one more value
 team_more : AddedRunsAreLast → PlacesStay → SeenRunsStay
     → (word : WordView) (shares from : ℕ) (old new : Team) (win : Win)
-    → IsTeam word shares from win.value old → OwnIsSeen old.hand → AddsRun old.hand new.hand (single win.place)
+    → IsTeam word shares from win.value old → SeesOwn old.hand → AddsRun old.hand new.hand (single win.place)
     → new.wins.items ≡ old.wins.items ++ win ∷ [] → IsTeam word shares from (win.value + 1) new
 team_more last places stay word shares from old new win team below adds more =
     let gain = last old.hand new.hand (single win.place) adds in
@@ -75,7 +71,7 @@ team_more last places stay word shares from old new win team below adds more =
 -- the same of the place and the value that were told
 pub team_told : AddedRunsAreLast → PlacesStay → SeenRunsStay
     → (word : WordView) (shares from value place : ℕ) (old new : Team) (win : Win) → win.place ≡ place → win.value ≡ value
-    → IsTeam word shares from value old → OwnIsSeen old.hand → AddsRun old.hand new.hand (single place)
+    → IsTeam word shares from value old → SeesOwn old.hand → AddsRun old.hand new.hand (single place)
     → new.wins.items ≡ old.wins.items ++ win ∷ [] → IsTeam word shares from (value + 1) new
 team_told last places stay word shares from value place old new win here holds team below adds more =
     subst (λ v. IsTeam word shares from (v + 1) new) holds
@@ -91,7 +87,7 @@ wins_stay stay old new wins all of seen more k has = (has.0, more has.0 has.1, s
 -- two teams are one
 pub teams_joined : PlacesStay → SeenRunsStay
     → (word : WordView) (some more from middle to : ℕ) (a b new : Team)
-    → IsTeam word some from middle a → IsTeam word more middle to b → OwnIsSeen a.hand → OwnIsSeen b.hand
+    → IsTeam word some from middle a → IsTeam word more middle to b → SeesOwn a.hand → SeesOwn b.hand
     → new.hand.of ≡ a.hand.of → new.hand.mine ≡ a.hand.mine ++ b.hand.mine → new.hand.shares ≡ a.hand.shares + b.hand.shares
     → IsPrefix a.hand.seen new.hand.seen → IsPrefix b.hand.seen new.hand.seen
     → new.wins.items ≡ a.wins.items ++ b.wins.items → IsTeam word (some + more) from to new

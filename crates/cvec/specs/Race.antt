@@ -9,6 +9,7 @@ use Rattle.claim_core.specs.Word.{WordView}
 use Rattle.claim_core.specs.Hand.{HandView, SeesRun, own_places}
 use Rattle.grow_core.specs.Vector.{VectorView, IsHandOf}
 use Rattle.grow_core.specs.Growth.{single}
+use Rattle.span_core.specs.Workers.{IsBadNumber}
 use Rattle.cvec.specs.declared.race.team.Win.{Win}
 use Rattle.cvec.specs.declared.race.team.Team.{Team}
 use Rattle.cvec.specs.declared.race.report.RaceReport.{RaceReport}
@@ -16,11 +17,11 @@ use Rattle.cvec.specs.declared.race.refusal.RaceError.{RaceError}
 use Rattle.cvec.specs.declared.race.refusal.RaceError.TheVariants.{NoMemory, BadSize, Stuck, Grow}
 
 -- the number of each refusal
-abbrev pub number_of : RaceError → ℕ
-number_of NoMemory = 1
-number_of BadSize = 2
-number_of Stuck = 3
-number_of (Grow number) = 4
+abbrev pub race_number : RaceError → ℕ
+race_number NoMemory = 1
+race_number BadSize = 2
+race_number Stuck = 3
+race_number (Grow number) = 4
 
 -- the sum of the numbers below n
 abbrev pub sum_below : ℕ → ℕ
@@ -29,11 +30,7 @@ sum_below (suc n) = sum_below n + n
 
 -- not from 1 to 64 workers, or not from 1 to 100000 values of each
 abbrev pub IsBadSize : ℕ → ℕ → Type 0
-IsBadSize workers each = ((workers ≡ 0) ⊎ (64 < workers)) ⊎ ((each ≡ 0) ⊎ (100000 < each))
-
--- the gate may refuse some worker of the range
-abbrev pub MayRefuseOne : (ℕ → Type 0) → ℕ → ℕ → Type 0
-MayRefuseOne may_refuse first count = (worker : ℕ) × (first ≤ worker) × (worker < first + count) × may_refuse worker
+IsBadSize workers each = IsBadNumber workers ⊎ ((each ≡ 0) ⊎ (100000 < each))
 
 -- a growth that was refused since the vector was full, or since a place was taken
 abbrev pub IsGrowth : ℕ → Type 0
@@ -64,8 +61,8 @@ HaveWon word [] from to = from ≡ to
 HaveWon word (team ∷ teams) from to = (shares middle : ℕ) × IsTeam word shares from middle team × HaveWon word teams middle to
 
 -- some worker of the range was refused for this reason, and the workers below it have appended all their values
-abbrev pub RefusesLowest : WordView → ℕ → (ℕ → Type 0) → ℕ → ℕ → Type 0
-RefusesLowest word each reason first count =
+abbrev pub RefusesAfterTeams : WordView → ℕ → (ℕ → Type 0) → ℕ → ℕ → Type 0
+RefusesAfterTeams word each reason first count =
     (worker : ℕ) × (first ≤ worker) × (worker < first + count) × reason worker
     × ((teams : List Team) × HaveWon word teams (first * each) (worker * each))
 
@@ -73,8 +70,8 @@ RefusesLowest word each reason first count =
 abbrev pub IsOfRange : WordView → ℕ → (ℕ → Type 0) → ℕ → ℕ → RaceError → Type 0
 IsOfRange word each may_refuse first count NoMemory = Unit {0}
 IsOfRange word each may_refuse first count BadSize = ⊥
-IsOfRange word each may_refuse first count Stuck = RefusesLowest word each may_refuse first count
-IsOfRange word each may_refuse first count (Grow number) = RefusesLowest word each (λ _. IsGrowth number) first count
+IsOfRange word each may_refuse first count Stuck = RefusesAfterTeams word each may_refuse first count
+IsOfRange word each may_refuse first count (Grow number) = RefusesAfterTeams word each (λ _. IsGrowth number) first count
 
 -- a hand of this vector that has won nothing yet
 abbrev pub IsUnusedHand : VectorView → HandView → Type 0

@@ -5,7 +5,7 @@ use Rattle.cvec.specs.declared.error.RunError.{RunError}
 use Rattle.cvec.specs.declared.error.RunError.TheVariants.{Script, NoMemory, Read, Write, Race}
 use Rattle.cvec.specs.declared.race.refusal.RaceError.{RaceError}
 use Rattle.cvec.specs.declared.race.refusal.RaceError.TheVariants as races
-use Rattle.cvec.specs.Race.{number_of}
+use Rattle.cvec.specs.Race.{race_number}
 
 -- the exit status of each
 abbrev pub status_of : RunError → ℕ
@@ -21,7 +21,7 @@ error_text (Script fault) = fault_text fault
 error_text NoMemory = codes "memory"
 error_text Read = codes "read fault"
 error_text Write = codes "write fault"
-error_text (Race error) = codes "race: fault " ++ decimal (number_of error)
+error_text (Race error) = codes "race: fault " ++ decimal (race_number error)
 
 -- its line on standard error
 abbrev pub error_line : RunError → List ℕ

@@ -1,6 +1,7 @@
 //! Workers that append to one shared vector beside each other, and whether what they won is a history.
 ghost use Rattle.std.specs.Prelude.{◌≡◌, ℕ, ◌*◌, ◌↔◌, true, Err, IfOk, IsErrOf};
-ghost use Rattle.cvec.specs.Race.{sum_below, IsBadSize, MayRefuseOne, IsGrowth};
+ghost use Rattle.span_core.specs.Workers.{MayRefuseOne};
+ghost use Rattle.cvec.specs.Race.{sum_below, IsBadSize, IsGrowth};
 
 mod history;
 mod refusal;

@@ -33,7 +33,7 @@ pub record IsCapacityFor (n capacity : ℕ) : Type 0 where
   pub least : (other : ℕ) → IsWhole other → n ≤ other → capacity ≤ other
 
 -- what holds of a list's numbers at all times, with the members that its memory has room for
-pub record IsSound (limit len capacity memory : ℕ) : Type 0 where
+pub record IsWellFormed (limit len capacity memory : ℕ) : Type 0 where
   pub limited : IsLimit limit
   pub within : len ≤ limit
   pub whole : IsWhole capacity
@@ -46,8 +46,8 @@ GrowsFor n old new = (needed : ℕ) × IsCapacityFor n needed × (new ≡ max ol
 
 module _ {T : Type 0} where
   -- no more member fits below the limit
-  abbrev pub IsFull : QuietList T → Type 0
-  IsFull list = length list.members ≡ list.limit
+  abbrev pub IsAtLimit : QuietList T → Type 0
+  IsAtLimit list = length list.members ≡ list.limit
 
   -- the members and the limit are the same, and no segment is given up
   pub record IsUnchanged (old new : QuietList T) : Type 0 where

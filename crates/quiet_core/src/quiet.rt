@@ -2,7 +2,7 @@
 ghost use Rattle.std.specs.Prelude.{◌≡◌, ◌↔◌, ◌+◌, ◌^◌, ◌<◌, ◌≤◌, [], ◌∷◌, ◌++◌, length, map, slice_get, vec_len, Some, None, Ok, Err, IsOk, IsErrOf, IfOk, IfErr, OnOk, OnErr};
 ghost use Rattle.quiet_core.specs.QuietAt.{IsRefusalAt};
 ghost use Rattle.seg_core.specs.Segment.{IsLimit};
-ghost use Rattle.quiet_core.specs.QuietList.{IsWhole, IsCapacityFor, GrowsFor, IsFull, IsUnchanged};
+ghost use Rattle.quiet_core.specs.QuietList.{IsWhole, IsCapacityFor, GrowsFor, IsAtLimit, IsUnchanged};
 
 use crate::errors::{QuietAt, QuietError};
 use crate::room::{append, make_room, places_for, push_there};
@@ -20,7 +20,7 @@ pub struct Quiet<T> {
 
 impl<T> Model for Quiet<T> {
     ghost use Rattle.std.specs.Prelude.{vec_len, vec_capacity};
-    ghost use Rattle.quiet_core.specs.QuietList.{QuietList, quiet_code, IsSound};
+    ghost use Rattle.quiet_core.specs.QuietList.{QuietList, quiet_code, IsWellFormed};
 
     ghost Value = { QuietList T };
 
@@ -28,7 +28,7 @@ impl<T> Model for Quiet<T> {
 
     ghost view = { λ q. record { members = q.members.items; limit = q.limit; capacity = q.capacity } };
 
-    ghost invariant = { λ q. IsSound q.limit (vec_len q.members) q.capacity (vec_capacity q.members) };
+    ghost invariant = { λ q. IsWellFormed q.limit (vec_len q.members) q.capacity (vec_capacity q.members) };
 }
 
 impl<T> Quiet<T> {
@@ -142,7 +142,7 @@ impl<T: Drop> Quiet<T> {
         ensures capacity { OnOk result
             (GrowsFor (length self.new.members) self.old.capacity self.new.capacity) }
         // The limit is looked at before memory is asked for.
-        ensures too_long { (result ≡ Err (QuietError.TooLong, value)) ↔ IsFull self.old }
+        ensures too_long { (result ≡ Err (QuietError.TooLong, value)) ↔ IsAtLimit self.old }
         ensures value_back { IfErr result (λ (_, back). back ≡ value) }
         ensures unchanged { OnErr result (IsUnchanged self.old self.new) }
         ensures spare { length self.old.members < self.old.limit

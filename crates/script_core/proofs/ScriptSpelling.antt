@@ -23,7 +23,7 @@ use Rattle.script_core.specs.Grammar.{lines, lines_of_parts, at_line, parsed_lim
 use Rattle.script_core.specs.Spelling.{limit_line, actor_line, actors_text, items_line, item_text, program_text, text_of, IsName, IsCommand, IsProgram, IsScript}
 use Rattle.script_core.proofs.LineByLine.{actor_found, items_found, first_found, found_at}
 use Rattle.script_core.proofs.NumberSpelling.{bind_ok, refusal_ok, lacks, decimal_lacks, split_front, split_whole}
-use Rattle.script_core.proofs.CommandSpelling.{program_lacks_lf}
+use Rattle.script_core.proofs.CommandSpelling.{chosen, program_lacks_lf}
 use Rattle.script_core.proofs.ItemSpelling.{IsAfterWord, items_takes, items_again, items_lack_lf}
 use Rattle.script_core.proofs.ActorSpelling.{begins, limit_takes, limit_again, IsActor, actor_takes, actor_again, fresh_name, name_fresh}
 
@@ -89,10 +89,6 @@ whole_is x y e = cc
 at_line_ok : {X : Type 0} (line : ℕ) (r : Result X Fault) (x : X) → at_line line r ≡ Ok x → r ≡ Ok x
 at_line_ok line (Ok y) x h = let e : whole y ≡ whole x = h in ap (λ (z : _). Ok z) (whole_is y x e)
 at_line_ok line (Err f) x h = absurd cc
-
-which : {A : Type 0} (b : Bool) (x y z : A) → cond b x y ≡ z → ((b ≡ true) × (x ≡ z)) ⊎ ((b ≡ false) × (y ≡ z))
-which true x y z e = inl (refl, e)
-which false x y z e = inr (refl, e)
 
 actor_line_is : (text : List ℕ) → is_actor_line text ≡ true → text ≡ codes "actor " ++ drop 6 text
 unfolding is_actor_line
@@ -199,13 +195,13 @@ body_takes : (limit line : ℕ) (names : List ℕ) (programs : List (List Comman
 unfolding body_of
 body_takes limit line names programs [] s actors h = absurd cc
 body_takes limit line names programs (text ∷ []) s actors h =
-    elim (which (is_actor_line text) _ _ (Ok s) h) [
+    elim (chosen (is_actor_line text) _ _ (Ok s) h) [
       | inl p ↦
           let q = bind_ok (at_line line (parsed_actor names (drop 6 text))) (λ actor. body_of limit (line + 1) (names ++ actor.0 ∷ []) (programs ++ actor.1 ∷ []) []) s p.1 in
           let no : Err (errors.NoItems (line + 1)) ≡ whole s = q.2 in
           absurd cc
       | inr p ↦
-          elim (which (is_items_line text) _ _ (Ok s) p.1) [
+          elim (chosen (is_items_line text) _ _ (Ok s) p.1) [
             | inl t ↦
                 let q = bind_ok (at_line line (parsed_items names (drop 5 text))) (λ items. closed (line + 1) (script limit names programs items) []) s t.1 in
                 items_end limit names programs text [] q.0 s actors t.0 (at_line_ok line _ q.0 q.1) refl (whole_is _ s q.2)
@@ -213,14 +209,14 @@ body_takes limit line names programs (text ∷ []) s actors h =
           ]
     ]
 body_takes limit line names programs (text ∷ next ∷ rest) s actors h =
-    elim (which (is_actor_line text) _ _ (Ok s) h) [
+    elim (chosen (is_actor_line text) _ _ (Ok s) h) [
       | inl p ↦
           let q = bind_ok (at_line line (parsed_actor names (drop 6 text))) (λ actor. body_of limit (line + 1) (names ++ actor.0 ∷ []) (programs ++ actor.1 ∷ []) (next ∷ rest)) s p.1 in
           let actor = actor_takes names (drop 6 text) q.0 (at_line_ok line _ q.0 q.1) in
           actor_then limit names programs text next rest q.0.0 q.0.1 s p.0 actor
           (body_takes limit (line + 1) (names ++ q.0.0 ∷ []) (programs ++ q.0.1 ∷ []) (next ∷ rest) s (one_more names programs (drop 6 text) q.0.0 q.0.1 actors actor) q.2)
       | inr p ↦
-          elim (which (is_items_line text) _ _ (Ok s) p.1) [
+          elim (chosen (is_items_line text) _ _ (Ok s) p.1) [
             | inl t ↦
                 let q = bind_ok (at_line line (parsed_items names (drop 5 text))) (λ items. closed (line + 1) (script limit names programs items) (next ∷ rest)) s t.1 in
                 let no : Err (errors.BadLine (line + 1)) ≡ whole s = q.2 in

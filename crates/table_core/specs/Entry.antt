@@ -43,16 +43,16 @@ module _ (R : RattleType) (measure : R.Denot → ℕ) where
   Fit n = ByFields R R.Denot R.coded (λ x. x) (fits n) (λ x b o. said (fits n x))
 
   -- what an entry owns, beside its fields
-  abbrev pub owned : EntryView → (Ptr → Fml) → Fml
-  owned e fields = once.owned (Fit (length_of e)) e.0 (name_of e) fields
+  abbrev pub entry_owned : EntryView → (Ptr → Fml) → Fml
+  entry_owned e fields = once.owned (Fit (length_of e)) e.0 (name_of e) fields
 
   -- the word at a place, with what is shared of its block, borrowed for α
   abbrev pub borrowed : EntryView → ℕ → ℕ → Lft → Fml
   borrowed e b o α = fbor α (once.Held (Fit (length_of e)) e.0 (name_of e) α b o)
 
   -- what a `&` to an entry holds
-  abbrev pub shared : EntryView → Ptr → Lft → Fml
-  shared e (block_ptr b o) κ =
+  abbrev pub entry_shared : EntryView → Ptr → Lft → Fml
+  entry_shared e (block_ptr b o) κ =
       beside (some Lft (λ α. beside (ends α) (always (borrowed e b (o + 0) α))))
       (shared_of (the_row R) (atomic_ptr_holding null_ptr) b (o + 0)) κ
-  shared e null_ptr κ = ffalse
+  entry_shared e null_ptr κ = ffalse

@@ -5,11 +5,11 @@ use Rattle.std.specs.contracts.alloc.Global as heap
 use Rattle.std.specs.contracts.impls.GlobalAllocator.TheImpl.{ghosts}
 use Rattle.cell_core.specs.Block.{BlockView}
 use Rattle.cell_core.specs.contracts.block.Block as block
-use Rattle.table_core.specs.Table.{TableView, KeepsOthers}
+use Rattle.table_core.specs.Table.{TableView, KeepsOtherEntries}
 use Rattle.table_core.specs.contracts.table.Table.{the_row}
 
 -- the table ends with all entries but this one as they were
 abbrev pub LendsBlock : RattleType → MutBor TableView → ℕ → Option (MutBor BlockView) → Fml
 LendsBlock T table k r =
     LendsSo (the_row T) (block.the_row T heap.the_row ghosts) table r
-    (λ n _. OnSome r (KeepsOthers table.now n k)) (λ n. KeepsOthers table.now n k)
+    (λ n _. OnSome r (KeepsOtherEntries table.now n k)) (λ n. KeepsOtherEntries table.now n k)

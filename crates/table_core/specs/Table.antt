@@ -42,8 +42,8 @@ pub record IsKeyOf (table : TableView) (k : ℕ) (block : BlockView) (key : KeyV
   pub of : key.block ≡ block
 
 -- all entries but this one are those that they were
-abbrev pub KeepsOthers : TableView → TableView → ℕ → Type 0
-KeepsOthers old new k =
+abbrev pub KeepsOtherEntries : TableView → TableView → ℕ → Type 0
+KeepsOtherEntries old new k =
     (j : ℕ) → (j ≡ k → ⊥) → slice_index new.names j ≡ slice_index old.names j
 
 -- each entry is as long as its segment
@@ -51,6 +51,6 @@ abbrev pub AllFit : List EntryView → Type 0
 AllFit entries = (k : ℕ) (e : EntryView) → k < 32 → IsLengthOf k (length_of (slice_index_or entries k e))
 
 -- the block that is known, if any is
-abbrev pub block_of : Option BlockView → BlockView
-block_of None = record { cells = [] }
-block_of (Some block) = block
+abbrev pub block_or_empty : Option BlockView → BlockView
+block_or_empty None = record { cells = [] }
+block_or_empty (Some block) = block

@@ -4,7 +4,7 @@ ghost use base.Stored.{coded_list};
 ghost use prog.Memory.{capped};
 ghost use denote.RawPtr.{Ptr, coded_ptr};
 ghost use Rattle.cell_core.specs.Slot.{Names, names_coded};
-ghost use Rattle.cell_core.specs.Laid.{laid, laid_lent, stride, Fits, IsLinked, HasOneMore, HasOneRenamed, cell_in};
+ghost use Rattle.cell_core.specs.Laid.{laid, laid_lent, stride, FitsMemory, IsLinked, HasOneMore, HasOneRenamed, cell_in};
 
 use crate::slot::steps::Slot;
 use std::alloc::{AllocError, Allocator};
@@ -56,14 +56,14 @@ fn cell_size<T>() -> usize
 }
 
 fn fits<T>(len: usize) -> bool
-    ensures { result ≡ true → Fits T.row len }
+    ensures { result ≡ true → FitsMemory T.row len }
 {
     cell_size::<T>() < 1 << 23 && len < 1 << 40
 }
 
 impl<T, A: Allocator> Laid<T, A> {
     fn allocate(alloc: &A, len: usize) -> Result<(Link<T>, Laid<T, A>), AllocError>
-        requires { Fits T.row len }
+        requires { FitsMemory T.row len }
         ensures { IfOk result (λ l. (l.1.heap ≡ alloc.now) × IsLinked l.1.at l.0.ptr
             × (l.1.cells ≡ []) × (l.1.left ≡ len)) }
     {

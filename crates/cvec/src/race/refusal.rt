@@ -1,7 +1,7 @@
 //! Why a race is refused.
 ghost use Rattle.std.specs.Prelude.{◌≡◌};
 ghost use Rattle.grow_core.specs.Growth.{IsNotMoved};
-ghost use Rattle.cvec.specs.Race.{IsWorkers, number_of};
+ghost use Rattle.cvec.specs.Race.{IsWorkers, race_number};
 
 use grow_core::{GrowError, Never};
 use std::alloc::AllocError;
@@ -27,7 +27,7 @@ pub enum RaceError {
 impl RaceError {
     /// The number that the program tells.
     pub fn number(&self) -> u8
-        ensures { result ≡ number_of self.now }
+        ensures { result ≡ race_number self.now }
     {
         match self {
             RaceError::NoMemory => 1,

@@ -23,12 +23,12 @@ shown_code =
     (λ _. refl)
 
 -- the segment is installed now
-abbrev pub with_segment : Shown → ℕ → Shown
-with_segment seen segment = record { installed = set.insert seen.installed segment; slots = seen.slots }
+abbrev pub shown_with_segment : Shown → ℕ → Shown
+shown_with_segment seen segment = record { installed = set.insert seen.installed segment; slots = seen.slots }
 
 -- the slot of the place holds this now
-abbrev pub with_slot : Shown → ℕ → Slot → Shown
-with_slot seen place slot = record { installed = seen.installed; slots = map.insert seen.slots place slot }
+abbrev pub shown_with_slot : Shown → ℕ → Slot → Shown
+shown_with_slot seen place slot = record { installed = seen.installed; slots = map.insert seen.slots place slot }
 
 -- what is inside, if both are there
 abbrev pub flattened : {X : Type 0} → Option (Option X) → Option X

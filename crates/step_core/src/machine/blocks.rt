@@ -75,7 +75,7 @@ impl Model for Blocks {
 }
 
 impl Blocks {
-    ghost use Rattle.step_core.specs.machine.Blocks.{with_segment, with_slot};
+    ghost use Rattle.step_core.specs.machine.Blocks.{shown_with_segment, shown_with_slot};
 
     pub(crate) fn new(alloc: Global) -> Self
         ensures { result ≡ record { installed = set.empty; slots = map.empty } }
@@ -113,7 +113,7 @@ impl Blocks {
     pub(crate) fn set(&mut self, place: u64, slot: Slot)
         requires place { place < 2 ^ 32 }
         requires there { set.contains self.old.installed (segment_of place) ≡ true }
-        ensures { self.new ≡ with_slot self.old place slot }
+        ensures { self.new ≡ shown_with_slot self.old place slot }
     {
         let (segment, offset) = locate(place);
         set_in(&mut self.entries[segment as usize], offset, slot);
@@ -122,7 +122,7 @@ impl Blocks {
     /// Makes the block of a segment, where it has none, in one pass over it. It takes memory there alone.
     pub(crate) fn install(&mut self, segment: u32) -> Result<(), AllocError>
         requires { segment < 32 }
-        ensures ok { OnOk result (self.new ≡ with_segment self.old segment) }
+        ensures ok { OnOk result (self.new ≡ shown_with_segment self.old segment) }
         ensures err { OnErr result (self.new ≡ self.old) }
         ensures there { set.contains self.old.installed segment ≡ true → IsOk result }
     {

@@ -8,7 +8,7 @@ ghost use Rattle.std.specs.Sync.Atomic.Pointer.{atomic_ptr_value, atomic_ptr_hol
 ghost use Rattle.std.specs.declared.option.Option.{Option};
 ghost use Rattle.std.specs.declared.option.Option.TheVariants.{None, Some};
 ghost use Rattle.std.specs.declared.alloc.Global.{Global as Heap};
-ghost use Rattle.table_core.specs.Entry.{owned, shared, noted, Agrees, length_of, name_of};
+ghost use Rattle.table_core.specs.Entry.{entry_owned, entry_shared, noted, Agrees, length_of, name_of};
 
 use crate::entry::loose::Loose;
 use cell_core::block::Block;
@@ -32,11 +32,11 @@ pub(crate) struct Entry<B: Measured> {
 impl<B: Measured> Owns for Entry<B> {
     ghost Value = { Heap × ℕ × ℕ };
 
-    ghost shr_at = { λ e p κ. shared B.row B.measure e p κ };
+    ghost shr_at = { λ e p κ. entry_shared B.row B.measure e p κ };
 }
 
 impl<B: Measured> Move for Entry<B> {
-    ghost own_val = { λ e vs. owned B.row B.measure e
+    ghost own_val = { λ e vs. entry_owned B.row B.measure e
         (λ p. Fields.own_val (record { word = atomic_ptr_holding p; alloc = e.0 }) vs) };
 }
 

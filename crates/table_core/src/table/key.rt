@@ -16,15 +16,15 @@ pub struct Key {
 
 impl Model for Key {
     ghost use Rattle.std.specs.Prelude.{◌≡◌, Some};
-    ghost use Rattle.table_core.specs.Table.{KeyView, key_coded, block_of};
+    ghost use Rattle.table_core.specs.Table.{KeyView, key_coded, block_or_empty};
 
     ghost Value = { KeyView };
 
     ghost coded = { key_coded };
 
-    ghost view = { λ k. record { entry = k.entry; block = block_of k.sight.known; name = k.sight.of } };
+    ghost view = { λ k. record { entry = k.entry; block = block_or_empty k.sight.known; name = k.sight.of } };
 
-    ghost invariant = { λ k. k.sight.known ≡ Some (block_of k.sight.known) };
+    ghost invariant = { λ k. k.sight.known ≡ Some (block_or_empty k.sight.known) };
 }
 
 impl fmt::Debug for Key {

@@ -1,6 +1,6 @@
 // What an exclusive owner does with the blocks.
 ghost use Rattle.std.specs.Prelude.{◌≡◌, ◌<◌, IfSome, IsTrue};
-ghost use Rattle.table_core.specs.Table.{IsBlockOf, KeepsOthers};
+ghost use Rattle.table_core.specs.Table.{IsBlockOf, KeepsOtherEntries};
 
 use crate::table::{Table, empty_entry};
 use cell_core::block::Block;
@@ -47,7 +47,7 @@ impl<T: Drop> Table<T> {
     #[tactic(auto, using(crate::proofs::Names::names_kept))]
     fn take_out(&mut self, k: u32) -> Option<Box<Block<T>>>
         requires { k < 32 }
-        ensures others { KeepsOthers self.old self.new k }
+        ensures others { KeepsOtherEntries self.old self.new k }
         ensures length { IfSome result (λ block. IsBlockOf k block.value) }
     {
         let new = empty_entry(self.alloc, k);
@@ -57,7 +57,7 @@ impl<T: Drop> Table<T> {
     // The block of the entry, taken out of it or out before.
     fn lend(&mut self, k: u32) -> Option<Lent<T>>
         requires { k < 32 }
-        ensures others { KeepsOthers self.old self.new k }
+        ensures others { KeepsOtherEntries self.old self.new k }
         ensures length { IfSome result (λ l. IsBlockOf k l.block.value) }
     {
         if is_out(&self.lent, k) {
@@ -87,7 +87,7 @@ impl<T: Drop> Table<T> {
     /// The entry is a new one after it, and not set; its block is dropped.
     pub fn give_up(&mut self, k: u32)
         requires { k < 32 }
-        ensures { KeepsOthers self.old self.new k }
+        ensures { KeepsOtherEntries self.old self.new k }
     {
         self.put_back();
         drop(self.take_out(k));

@@ -33,7 +33,7 @@ use Rattle.std.specs.declared.alloc.Global.{Global}
 use Rattle.std.specs.contracts.alloc.Global as heap
 use Rattle.std.proofs.alloc.Global.TheLaws as heap_laws
 use Rattle.once_cell.specs.Once.{kept, shown, Held}
-use Rattle.table_core.specs.Entry.{EntryView, length_of, name_of, Fit, shared}
+use Rattle.table_core.specs.Entry.{EntryView, length_of, name_of, Fit, entry_shared}
 use Rattle.table_core.specs.declared.entry.steps.Measured.{Ghosts}
 use Rattle.table_core.specs.contracts.entry.steps.Entry as C
 use Rattle.table_core.proofs.Fits.{fit_laws}
@@ -97,7 +97,7 @@ module _ (R : RattleType) (g : Ghosts R.Denot) (L : Laws R) {M : Type 1} {𝓤 :
       use1 𝓛 (raw (wand 𝓤 ⟦ parts_at full_share ms 0 x b o ⟧ ⟦ Fields p ⟧)) (all_e 𝓤 (λ (y : Denots (rows_of ms)). wand 𝓤 ⟦ parts_at full_share ms 0 y b o ⟧ ⟦ part_at Data full_share y b o ⟧) x) $ move ! (1 ∷ 0 ∷ []) $
       use2 𝓛 (‵ (Fields p)) (apply∗ 𝓤 ⟦ parts_at full_share ms 0 x b o ⟧ ⟦ Fields p ⟧) $ by ! (back p))
 
-  lends : (q : Share) (μ : Lft) (r : Share) → μ ⊑ R.lives → ent 𝓤 (sep 𝓤 (A.bor κ P) (sep 𝓤 (A.lft κ q) (A.lft μ r))) (H.⇛ (sep 𝓤 ⟦ shared R g.measure e (block_ptr b o) κ ⟧ (sep 𝓤 (A.lft κ q) (A.lft μ r))))
+  lends : (q : Share) (μ : Lft) (r : Share) → μ ⊑ R.lives → ent 𝓤 (sep 𝓤 (A.bor κ P) (sep 𝓤 (A.lft κ q) (A.lft μ r))) (H.⇛ (sep 𝓤 ⟦ entry_shared R g.measure e (block_ptr b o) κ ⟧ (sep 𝓤 (A.lft κ q) (A.lft μ r))))
   unfolding fseps
   lends q μ r within = let h = base.Fraction.left q in let h' = base.Fraction.right q in qed 𝓛 (‵ (fbor κ P) ∷ ‵ (flft κ q) ∷ ‵ (flft μ r) ∷ []) ∵ updating ! $ move ! (1 ∷ []) $
       use1 𝓛 (‵ (flft κ h) ⊛ ‵ (flft κ h')) (𝓛.lfts.lft_split κ q) $ split ! $ move ! (2 ∷ 0 ∷ []) $ bor_open ! tt $ move ! (1 ∷ []) $ use1 𝓛 (some (λ (p : Ptr). ‵ (Fields p) ⊛ ‵ (kept F a γ p))) out $ pick ! (λ p. split ! $
@@ -111,16 +111,16 @@ module _ (R : RattleType) (g : Ghosts R.Denot) (L : Laws R) {M : Type 1} {𝓤 :
       use2 𝓛 (later (‵ (shared_of (atomic.the_row R) (atomic_ptr_holding null_ptr) b (o + 0) κ) ⊛ ‵ (flft κ h))) (pointer.rest_shared 𝓛 R b (o + 0) null_ptr κ ((κ, h) ∷ []) (Incl-refl κ)) $ await ! tt $ split ! $
       move ! (2 ∷ 0 ∷ []) $ fjoin ! $ move ! (1 ∷ 3 ∷ []) $ use2 𝓛 (‵ (flft κ q)) (𝓛.lfts.lft_join κ q) $ now ! $ keep ! (1 ∷ 0 ∷ 3 ∷ []) $ done !)
 
-  lends_by : (μ : Lft) → μ ⊑ R.lives → μ ⊑ κ → (q : Share) → ent 𝓤 (sep 𝓤 (A.bor κ P) (A.lft μ q)) (H.⇛ (sep 𝓤 ⟦ shared R g.measure e (block_ptr b o) κ ⟧ (A.lft μ q)))
+  lends_by : (μ : Lft) → μ ⊑ R.lives → μ ⊑ κ → (q : Share) → ent 𝓤 (sep 𝓤 (A.bor κ P) (A.lft μ q)) (H.⇛ (sep 𝓤 ⟦ entry_shared R g.measure e (block_ptr b o) κ ⟧ (A.lft μ q)))
   lends_by μ within sp q = let h = base.Fraction.left q in let h' = base.Fraction.right q in let s = thinned κ h in qed 𝓛 (‵ (fbor κ P) ∷ ‵ (flft μ q) ∷ []) ∵ updating ! $ move ! (1 ∷ []) $
       use1 𝓛 (‵ (flft μ h) ⊛ ‵ (flft μ h')) (𝓛.lfts.lft_split μ q) $ split ! $ use1 𝓛 (‵ (flft κ s) ⊛ raw (wand 𝓤 (A.lft κ s) (A.lft μ h))) (𝓛.lfts.lft-incl μ κ h sp) $ split ! $ move ! (3 ∷ 0 ∷ 2 ∷ []) $
-      use3 𝓛 (later (‵ (shared R g.measure e (block_ptr b o) κ) ⊛ ‵ (flft κ s) ⊛ ‵ (flft μ h'))) (lends s μ h' within) $ await ! tt $ split3 ! $ move ! (1 ∷ 3 ∷ []) $
+      use3 𝓛 (later (‵ (entry_shared R g.measure e (block_ptr b o) κ) ⊛ ‵ (flft κ s) ⊛ ‵ (flft μ h'))) (lends s μ h' within) $ await ! tt $ split3 ! $ move ! (1 ∷ 3 ∷ []) $
       use2 𝓛 (‵ (flft μ h)) (apply∗ 𝓤 (A.lft κ s) (A.lft μ h)) $ move ! (0 ∷ 2 ∷ []) $ use2 𝓛 (‵ (flft μ q)) (𝓛.lfts.lft_join μ q) $ now ! $ move ! (1 ∷ []) $ done !
 
 pub shares : (T : RattleType) (g : Ghosts T.Denot) (L : Laws T) → statement T g L
 shares T g L = record {
   shr_laws = λ e b o. let I : Lft → Lft → Fml = λ α. lent.beside (lent.ends α) (lent.always (fbor α (Held (Fit T g.measure (length_of e)) e.0 (name_of e) α b (o + 0)))) in
       beside_shr_laws (lent.some Lft I) _ (some_shr_laws Lft I (λ α. beside_shr_laws _ _ (ends_shr_laws α) (always_shr_laws (fbor α (Held (Fit T g.measure (length_of e)) e.0 (name_of e) α b (o + 0)))))) ((atomic_laws.the_row_laws T L).shr_laws (atomic_ptr_holding null_ptr) b (o + 0));
-  shares = λ M 𝓤 𝓛 e κ ts b o inc sp. by_one 𝓛 (span ts) ts (Incl-refl (span ts)) (𝓛.A.bor κ (part_at (C.the_written T g) full_share e b o)) (sem 𝓛 (shared T g.measure e (block_ptr b o) κ))
+  shares = λ M 𝓤 𝓛 e κ ts b o inc sp. by_one 𝓛 (span ts) ts (Incl-refl (span ts)) (𝓛.A.bor κ (part_at (C.the_written T g) full_share e b o)) (sem 𝓛 (entry_shared T g.measure e (block_ptr b o) κ))
       (lends_by T g L 𝓛 e b o κ (span ts) (Incl-trans inc (Incl-trans (meet_⊑_left (T.lives ++ []) _) (meet_⊑_left T.lives []))) sp);
 }

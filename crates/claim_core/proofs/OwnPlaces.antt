@@ -1,7 +1,9 @@
 -- Which places a hand owns after a step.
-use Rattle.std.proofs.Common.{◌≡◌, ℕ, zero, suc, [], ◌∷◌, inl, inr, ⊎_elim, sym, subst, arith}
+use Rattle.std.proofs.Common.{◌≡◌, ◌≢◌, ℕ, inl, inr, ⊎_elim, sym, subst}
 use Rattle.std.specs.List.{Contains}
+use Rattle.std.proofs.lemmas.Bool.{cases_eq}
 use Rattle.std.proofs.lemmas.List.Elements.{Contains-append_cases}
+use Rattle.std.proofs.lemmas.Map.Made.{Contains-tail}
 use mathlib.Core.List.{IsPrefix}
 use Rattle.claim_core.specs.Lengths.{InRun}
 use Rattle.claim_core.specs.Word.{WordView}
@@ -16,10 +18,6 @@ stays : (old new : HandView) (index place : ℕ) → SeesOwn old → new.of ≡ 
 stays old new index place sees of more own in_run =
     (index, own, run_was_there old.of.base old.seen new.seen index place more (sees index own) (subst (λ (w : WordView). InRun w.base new.seen index place) of in_run))
 
-pub only : (x k : ℕ) → Contains (x ∷ []) k → x ≡ k
-only x k (zero, lt, is) = is
-only x k (suc i, lt, is) = absurd (omega arith)
-
 pub own_places_stay : OwnPlacesStay
 own_places_stay old new place sees keeps more (index, own, in_run) =
     stays old new index place sees keeps.of more (subst (λ m. Contains m index) keeps.mine own) in_run
@@ -28,10 +26,11 @@ pub added_places : AddedPlacesAreOfTheRun
 added_places old new run place sees adds (index, own, in_run) =
     let (last, gain) = added_last old new run adds in
     ⊎_elim
-    (λ (one : Contains (last ∷ []) index).
-    inr ((seen_places new last run place gain.sees).1 (subst (λ i. InRun new.of.base new.seen i place) (sym (only last index one)) in_run)))
-    (λ (was : Contains old.mine index). inl (stays old new index place sees adds.of gain.seen was in_run))
-    (Contains-append_cases (last ∷ []) old.mine index (subst (λ m. Contains m index) gain.mine own))
+    (λ (same : last ≡ index).
+    inr ((seen_places new last run place gain.sees).1 (subst (λ i. InRun new.of.base new.seen i place) (sym same) in_run)))
+    (λ (other : last ≢ index).
+    inl (stays old new index place sees adds.of gain.seen (Contains-tail last old.mine index other (subst (λ m. Contains m index) gain.mine own)) in_run))
+    (cases_eq last index)
 
 pub added_own : AddedPlacesAreOwned
 added_own old new run place adds is_place =

@@ -8,7 +8,7 @@ use Rattle.claim_core.specs.declared.run.Run.{Run}
 use Rattle.claim_core.specs.Lengths.{InRun}
 use Rattle.claim_core.specs.Word.{WordView}
 use Rattle.claim_core.specs.Hand.{HandView, SeesRun, IsPlaceOf}
-use Rattle.claim_core.specs.Laws.{AddedRunsAreLast, AddedRunsAreOwned, SeenRunsStay, SeenRunsWereThere, SeenRunsAreWithin, SeenRunsHavePlaces, OwnersAreApart, JoinedOwnersAreApart}
+use Rattle.claim_core.specs.Laws.{AddedRunsAreLast, AddedRunsAreOwned, OwnRunsStay, SeenRunsStay, SeenRunsWereThere, SeenRunsAreWithin, SeenRunsHavePlaces, OwnersAreApart, JoinedOwnersAreApart}
 use Rattle.claim_core.proofs.Prefixes.{prefix_self, prefix_length}
 use Rattle.claim_core.proofs.Tiles.{run_within, run_apart, run_stays, starts_there, reads_there}
 
@@ -53,6 +53,10 @@ seen_stay old new k run word more sees =
     let front = starts_there old.seen new.seen k more (omega arith) in
     let here = reads_there old.seen new.seen k more there in
     record { there = omega arith; from = omega arith; n = omega arith }
+
+pub own_stay : OwnRunsStay
+own_stay old new run own more owns =
+    (owns.0, subst (λ m. Contains m owns.0) (sym own.mine) owns.1, seen_stay old new owns.0 run own.of more owns.2)
 
 pub seen_were_there : SeenRunsWereThere
 seen_were_there old new k run word more there sees =

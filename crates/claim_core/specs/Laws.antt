@@ -73,6 +73,11 @@ JoinedOwnersAreApart =
     → b.of ≡ a.of → IsPrefix a.seen lengths → IsPrefix b.seen lengths → OwnApart a b
     → OwnsRun a x → OwnsRun b y → AreDisjoint x y
 
+-- a hand that has seen more owns the runs that it owned
+abbrev pub OwnRunsStay : Type 0
+OwnRunsStay =
+    (old new : HandView) (run : Run) → KeepsOwn old new → IsPrefix old.seen new.seen → OwnsRun old run → OwnsRun new run
+
 -- a hand that has seen more owns no other places
 abbrev pub OwnPlacesStay : Type 0
 OwnPlacesStay =

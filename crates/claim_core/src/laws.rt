@@ -3,7 +3,7 @@
 ghost use Rattle.claim_core.specs.Laws.{RunsStay, RunsWereThere, RunsAreApart, PlacesStay};
 ghost use Rattle.claim_core.specs.Laws.{AddedRunsAreOwned, AddedRunsAreLast};
 ghost use Rattle.claim_core.specs.Laws.{SeenRunsStay, SeenRunsWereThere, SeenRunsAreWithin, SeenRunsHavePlaces};
-ghost use Rattle.claim_core.specs.Laws.{OwnersAreApart, JoinedOwnersAreApart};
+ghost use Rattle.claim_core.specs.Laws.{OwnRunsStay, OwnersAreApart, JoinedOwnersAreApart};
 ghost use Rattle.claim_core.specs.Laws.{OwnPlacesStay, AddedPlacesAreOwned, AddedPlacesAreOfTheRun, JoinedPlacesAreOfEither};
 
 /// A run stays where it is when the list goes on.
@@ -54,6 +54,11 @@ pub fn seen_runs_are_within()
 /// A place is one of a run that was seen exactly where it lies in the run of that index.
 pub fn seen_runs_have_places()
     ensures { SeenRunsHavePlaces }
+{}
+
+/// A hand that has seen more owns the runs that it owned.
+pub fn own_runs_stay()
+    ensures { OwnRunsStay }
 {}
 
 /// Two hands that own no run in common, and have seen the same, have disjoint runs. So it is after

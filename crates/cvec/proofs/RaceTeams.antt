@@ -1,8 +1,10 @@
 -- What a team has after one more value, and what two teams have together. The premises are public laws and clauses.
-use Rattle.std.proofs.Common.{◌≡◌, ℕ, zero, suc, ◌+◌, ◌*◌, ◌≤◌, List, [], ◌∷◌, ◌++◌, refl, sym, ap, ◌∙◌, subst, ⊎_elim, arith, add-one}
+use Rattle.std.proofs.Common.{◌≡◌, ◌≢◌, ℕ, zero, suc, ◌+◌, ◌*◌, ◌≤◌, List, [], ◌∷◌, ◌++◌, refl, sym, ap, ◌∙◌, subst, ⊎_elim, arith, add-one}
 use Rattle.std.specs.Prelude.{slice_index}
 use Rattle.std.specs.List.{Contains, sum_by}
-use Rattle.std.proofs.lemmas.List.Elements.{Contains-append_left, Contains-append_right, Contains-append_cases}
+use Rattle.std.proofs.lemmas.Bool.{cases_eq}
+use Rattle.std.proofs.lemmas.List.Elements.{Contains-append_left, Contains-append_right, Contains-append_cases, Contains-push}
+use Rattle.std.proofs.lemmas.Map.Made.{Contains-tail}
 use Rattle.std.proofs.lemmas.List.Sums.{sum_by-append}
 use mathlib.Core.List.{IsPrefix}
 use Rattle.claim_core.specs.Lengths.{Tiles, places_in}
@@ -17,13 +19,6 @@ use Rattle.cvec.specs.Race.{sum_below, HasWin, IsTeam, AreAllPlaces}
 value_of : Win → ℕ
 value_of win = win.value
 
-only : (x k : ℕ) → Contains (x ∷ []) k → x ≡ k
-only x k (zero, lt, is) = is
-only x k (suc i, lt, is) = absurd (omega arith)
-
-last_win : (wins : List Win) (win : Win) → Contains (wins ++ win ∷ []) win
-last_win wins win = Contains-append_right wins (win ∷ []) win (0, omega arith, refl)
-
 -- the hand has one more run, and the wins have its place
 wins_more : SeenRunsStay → (old new : HandView) (index : ℕ) (wins : List Win) (win : Win) → new.of ≡ old.of
     → GainsRun old new index (single win.place)
@@ -31,11 +26,11 @@ wins_more : SeenRunsStay → (old new : HandView) (index : ℕ) (wins : List Win
     → (k : ℕ) → Contains new.mine k → HasWin new (wins ++ win ∷ []) k
 wins_more stay old new index wins win of gain had k own =
     ⊎_elim
-    (λ (one : Contains (index ∷ []) k). (win, last_win wins win, subst (λ i. SeesRun new i (single win.place)) (only index k one) gain.sees))
-    (λ (was : Contains old.mine k).
-    let has = had k was in
+    (λ (same : index ≡ k). (win, Contains-push wins win, subst (λ i. SeesRun new i (single win.place)) same gain.sees))
+    (λ (other : index ≢ k).
+    let has = had k (Contains-tail index old.mine k other (subst (λ m. Contains m k) gain.mine own)) in
     (has.0, Contains-append_left wins (win ∷ []) has.0 has.1, stay old new k (single has.0.place) of gain.seen has.2))
-    (Contains-append_cases (index ∷ []) old.mine k (subst (λ m. Contains m k) gain.mine own))
+    (cases_eq index k)
 
 -- so it owns one place more
 places_more : PlacesStay → (old new : HandView) (index place : ℕ) → GainsRun old new index (single place) → SeesOwn old

@@ -86,7 +86,7 @@ impl<T> Table<T> {
                 block,
                 Key {
                     entry: k,
-                    sight: sight.untyped(),
+                    sight: sight.again(),
                 },
             )),
             None => None,
@@ -112,7 +112,7 @@ impl<T> Table<T> {
         ensures block { result.now ≡ key.now.block }
         ensures length { IsBlockOf key.now.entry result.now }
     {
-        let mut sight = key.sight.typed::<T>();
+        let mut sight = key.sight.again::<T>();
         match self.entries[key.entry as usize].look(&mut sight) {
             Some(block) => block,
             None => unreachable!(),
@@ -175,7 +175,7 @@ impl<T: Drop> Table<T> {
             block,
             Key {
                 entry: k,
-                sight: sight.untyped(),
+                sight: sight.again(),
             },
         ))
     }

@@ -24,16 +24,15 @@ struct KeyedHand {
 }
 
 impl Model for KeyedHand {
-    ghost use Rattle.std.specs.Prelude.{ℕ, ◌/◌, Contains, IsSome, slice_index_or, None};
-    ghost use Rattle.claim_core.specs.Hand.{HandView};
-    ghost use Rattle.claim_core.specs.Lengths.{InRun};
+    ghost use Rattle.std.specs.Prelude.{ℕ, ◌/◌, IsSome, slice_index_or, None};
+    ghost use Rattle.claim_core.specs.Hand.{HandView, OwnsPlace};
 
     ghost Value = { HandView };
 
     ghost view = { λ h. h.hand };
 
-    // Each block that has a place of an own run has its key in the row.
-    ghost invariant = { λ h. (k place : ℕ) → Contains h.hand.mine k → InRun h.hand.of.base h.hand.seen k place
+    // Each block that has an own place has its key in the row.
+    ghost invariant = { λ h. (place : ℕ) → OwnsPlace h.hand place
         → IsSome (slice_index_or h.row (place / 134217728) None) };
 }
 
@@ -73,10 +72,9 @@ impl KeyedHand {
     {
         word.laws();
         self.hand.laws();
-        laws::runs_were_there();
-        laws::added_runs_are_last();
+        laws::own_places_stay();
         laws::added_runs_are_owned();
-        laws::seen_runs_have_places();
+        laws::added_places_are_of_the_run();
         let from = self.hand.seen();
         if n > word.limit() - from {
             return None;
@@ -108,7 +106,7 @@ impl KeyedHand {
     {
         self.hand.laws();
         other.hand.laws();
-        laws::runs_were_there();
+        laws::joined_places_are_of_either();
         let KeyedHand { hand, row } = other;
         word.join(&mut self.hand, hand);
         put_keys(&mut self.row, &row);
@@ -122,7 +120,7 @@ impl KeyedHand {
     {
         self.hand.laws();
         other.hand.laws();
-        laws::runs_were_there();
+        laws::own_places_stay();
         word.meet(&mut self.hand, &mut other.hand);
     }
 

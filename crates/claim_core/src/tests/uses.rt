@@ -36,6 +36,7 @@ fn claim_two<A: Allocator>(word: &Word<A>, a: &mut Hand, b: &mut Hand) -> Option
     let second = claim_one(word, b)?;
     word.meet(a, b);
     laws::seen_runs_stay();
+    laws::own_runs_stay();
     laws::owners_are_apart();
     Some((first, second))
 }

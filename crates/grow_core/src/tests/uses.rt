@@ -57,7 +57,7 @@ fn push_in_two_threads<R: Threads + Sync>(
     let x = x?;
     let y = y?;
     vector.meet(&mut a, &mut b);
-    laws::seen_runs_stay();
+    laws::own_runs_stay();
     laws::owners_are_apart();
     Some((x, y))
 }

@@ -168,15 +168,6 @@ impl<B: Measured + Drop> Drop for Entry<B> {
 }
 
 impl<B> Sight<B> {
-    // The same sight once more.
-    pub(crate) fn again(&self) -> Sight<B>
-        ensures { (result.of ≡ self.now.of) × (result.known ≡ self.now.known) }
-    {
-        Sight {
-            marker: PhantomData,
-        }
-    }
-
     // Two sights of one entry that know a block know the same one.
     pub(crate) fn agrees(&self, other: &Sight<B>)
         requires { self.now.of ≡ other.now.of }
@@ -184,19 +175,9 @@ impl<B> Sight<B> {
     {}
 }
 
-// What is known of an entry says nothing of the type of the values.
 impl<T> Sight<Block<T>> {
-    pub(crate) fn untyped(&self) -> Sight<Block<()>>
-        ensures { (result.of ≡ self.now.of) × (result.known ≡ self.now.known) }
-    {
-        Sight {
-            marker: PhantomData,
-        }
-    }
-}
-
-impl Sight<Block<()>> {
-    pub(crate) fn typed<T>(&self) -> Sight<Block<T>>
+    // The same sight once more. What is known of an entry says nothing of the type of the values.
+    pub(crate) fn again<U>(&self) -> Sight<Block<U>>
         ensures { (result.of ≡ self.now.of) × (result.known ≡ self.now.known) }
     {
         Sight {

@@ -1,16 +1,10 @@
 -- By the public clauses of `exchange` and `meet`, and the public laws.
 use Rattle.std.proofs.Common.{◌≡◌, sym, subst}
-use Rattle.std.specs.List.{Contains}
 use mathlib.Core.List.{IsPrefix}
 use Rattle.claim_core.specs.declared.run.Run.{Run}
-use Rattle.claim_core.specs.Hand.{HandView, KeepsOwn, HasSeen, OwnsRun}
+use Rattle.claim_core.specs.Hand.{HandView, HasSeen, OwnsRun}
 use Rattle.claim_core.specs.Laws.{SeenRunsStay}
 use Rattle.claim_core.proofs.tests.uses.claim_two.Goals as goal
-
--- a hand that sees more still owns its run
-still_owns : SeenRunsStay → (old new : HandView) (run : Run) → KeepsOwn old new → IsPrefix old.seen new.seen
-    → OwnsRun old run → OwnsRun new run
-still_owns stay old new run own more owns = (owns.0, subst (λ m. Contains m owns.0) (sym own.mine) owns.1, stay old new owns.0 run own.of more owns.2)
 
 -- another hand has seen the run too
 has_seen : SeenRunsStay → (old new : HandView) (run : Run) → new.of ≡ old.of → IsPrefix old.seen new.seen
@@ -24,8 +18,8 @@ returns-clause-disjoint g c =
     let b = c.claim_one-2.new.hand in
     let same_word : c.meet.new.b.of ≡ c.meet.new.a.of = cc (met.own.of, met.also_own.of, c.in_ok-first.ensures.of, c.in_ok-second.ensures.of) in
     c.owners_are_apart.ensures c.meet.new.a c.meet.new.b c.in_ok-first.first c.in_ok-second.second same_word met.same met.apart
-    (still_owns c.seen_runs_stay.ensures a c.meet.new.a c.in_ok-first.first met.own met.begins c.in_ok-first.ensures.owned)
-    (still_owns c.seen_runs_stay.ensures b c.meet.new.b c.in_ok-second.second met.also_own (subst (λ s. IsPrefix b.seen s) (sym met.same) met.also_begins) c.in_ok-second.ensures.owned)
+    (c.own_runs_stay.ensures a c.meet.new.a c.in_ok-first.first met.own met.begins c.in_ok-first.ensures.owned)
+    (c.own_runs_stay.ensures b c.meet.new.b c.in_ok-second.second met.also_own (subst (λ s. IsPrefix b.seen s) (sym met.same) met.also_begins) c.in_ok-second.ensures.owned)
 
 pub returns-clause-seen : goal.returns-clause-seen
 returns-clause-seen g c =

@@ -1,19 +1,11 @@
 -- By the public clauses of `meet`, and the public laws.
 use Rattle.std.proofs.Common.{◌≡◌, ℕ, IfSome, ◌∙◌, sym, subst}
-use Rattle.std.specs.List.{Contains}
 use Rattle.std.specs.declared.option.Option.{Option}
 use mathlib.Core.List.{IsPrefix}
-use Rattle.claim_core.specs.declared.run.Run.{Run}
-use Rattle.claim_core.specs.Hand.{HandView, KeepsOwn, OwnsRun}
-use Rattle.claim_core.specs.Laws.{SeenRunsStay}
+use Rattle.claim_core.specs.Hand.{HandView, OwnsRun}
 use Rattle.grow_core.specs.Token.{PlacedView}
 use Rattle.grow_core.specs.Growth.{single}
 use Rattle.grow_core.proofs.tests.uses.push_in_two_threads.Goals as goal
-
--- a hand that sees more still owns its run
-still_owns : SeenRunsStay → (old new : HandView) (run : Run) → KeepsOwn old new → IsPrefix old.seen new.seen
-    → OwnsRun old run → OwnsRun new run
-still_owns stay old new run own more owns = (owns.0, subst (λ m. Contains m owns.0) (sym own.mine) owns.1, stay old new owns.0 run own.of more owns.2)
 
 pub returns-clause-disjoint : goal.returns-clause-disjoint
 returns-clause-disjoint g c =
@@ -25,5 +17,5 @@ returns-clause-disjoint g c =
     let y_owned : OwnsRun b (single c.in_ok-y.y.place) = subst (Owned b) c.in_ok-y.was c.join-a.ensures.second.1.0 in
     let same_word : c.meet.new.b.of ≡ c.meet.new.a.of = met.also_own.of ∙ (c.join-a.ensures.second.0 ∙ sym (met.own.of ∙ c.join-a.ensures.first.0)) in
     c.owners_are_apart.ensures c.meet.new.a c.meet.new.b (single c.in_ok-x.x.place) (single c.in_ok-y.y.place) same_word met.same met.apart
-    (still_owns c.seen_runs_stay.ensures a c.meet.new.a (single c.in_ok-x.x.place) met.own met.begins x_owned)
-    (still_owns c.seen_runs_stay.ensures b c.meet.new.b (single c.in_ok-y.y.place) met.also_own (subst (λ s. IsPrefix b.seen s) (sym met.same) met.also_begins) y_owned)
+    (c.own_runs_stay.ensures a c.meet.new.a (single c.in_ok-x.x.place) met.own met.begins x_owned)
+    (c.own_runs_stay.ensures b c.meet.new.b (single c.in_ok-y.y.place) met.also_own (subst (λ s. IsPrefix b.seen s) (sym met.same) met.also_begins) y_owned)

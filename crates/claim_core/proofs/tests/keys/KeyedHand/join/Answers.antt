@@ -1,9 +1,14 @@
-use Rattle.claim_core.proofs.KeyRows.{joins}
+use Rattle.std.proofs.Common.{◌≡◌, ◌/◌, ⊎_elim}
+use Rattle.claim_core.specs.Hand.{OwnsPlace}
 use Rattle.claim_core.proofs.tests.keys.KeyedHand.join.Goals as goal
 
 pub invariant_of-self : goal.invariant_of-self
-invariant_of-self g c =
+invariant_of-self g c place own =
     let joined = c.join.ensures in
-    joins c.runs_were_there.ensures c.self.inside.hand c.other.inside.hand c.join.new.hand c.self.inside.row c.other.inside.row c.put_keys.new.row
-    joined.of (cc (joined.of, c.requires.ours, c.requires.also_ours, c.self.view_is, c.other.view_is)) joined.begins joined.also_begins joined.mine
-    c.laws.ensures.below c.laws-2.ensures.below c.self.invariant c.other.invariant c.put_keys.ensures.kept c.put_keys.ensures.put
+    let a = c.self.inside.hand in
+    let b = c.other.inside.hand in
+    let also_of : c.join.new.hand.of ≡ b.of = cc (joined.of, c.requires.ours, c.requires.also_ours, c.self.view_is, c.other.view_is) in
+    ⊎_elim
+    (λ (was : OwnsPlace a place). c.put_keys.ensures.kept (place / 134217728) (c.self.invariant place was))
+    (λ (was : OwnsPlace b place). c.put_keys.ensures.put (place / 134217728) (c.other.invariant place was))
+    (c.joined_places_are_of_either.ensures a b c.join.new.hand place c.laws.ensures.below c.laws-2.ensures.below joined.of also_of joined.begins joined.also_begins joined.mine own)

@@ -22,4 +22,4 @@ unwrap-requires g c =
     let owned = c.requires.owned in
     let in_run = (c.seen_runs_have_places.ensures c.args.self.now owned.0 c.args.run c.args.place owned.2).0 (c.requires.from, c.requires.before) in
     let has = subst (λ (h : HandView). HasKeys h c.self.inside.row) c.self.view_is c.self.invariant in
-    has owned.0 c.args.place owned.1 in_run
+    has c.args.place (owned.0, owned.1, in_run)

@@ -1,13 +1,13 @@
 -- What holds of every legal history, by the table of events alone.
-use Rattle.std.specs.Prelude.{◌≡◌, ◌↔◌, ℕ, List, [], ◌∷◌, ◌++◌, length, Some, slice_get}
+use Rattle.std.specs.Prelude.{◌≡◌, ◌≤◌, ◌+◌, ◌↔◌, ℕ, List, [], ◌∷◌, ◌++◌, length, Some, slice_get}
 use Rattle.std.specs.List.{Contains}
 use Rattle.book_core.specs.declared.cells.Cell.{Cell}
-use Rattle.book_core.specs.declared.cells.Cell.TheVariants.{Filled}
+use Rattle.book_core.specs.declared.cells.Cell.TheVariants.{Pending, Filled, Broken}
 use Rattle.book_core.specs.declared.events.Event.{Event}
-use Rattle.book_core.specs.declared.events.Event.TheVariants.{Finish, Look}
+use Rattle.book_core.specs.declared.events.Event.TheVariants.{Claim, Finish, Break, Look}
 use Rattle.book_core.specs.declared.events.Reply.{Reply}
 use Rattle.book_core.specs.declared.events.Reply.TheVariants as replies
-use Rattle.book_core.specs.Cells.{CellList, IsFinished, empty_list}
+use Rattle.book_core.specs.Cells.{CellList, IsFinished, apply_event, with_cell, with_pending, empty_list}
 use Rattle.book_core.specs.History.{IsHistory, runs_of, Tile, owner_of, writers_of}
 
 -- a history in two parts is two histories, one after the other
@@ -15,6 +15,29 @@ abbrev pub HistoriesSplit : Type 0
 HistoriesSplit =
     (old new : CellList) (es fs : List (Event × Reply)) → IsHistory old (es ++ fs) new
     ↔ ((mid : CellList) × IsHistory old es mid × IsHistory mid fs new)
+
+-- the writers of a place in a history in two parts are those in the first, and then those in the second
+abbrev pub WritersSplit : Type 0
+WritersSplit =
+    (place : ℕ) (es fs : List (Event × Reply)) → writers_of place (es ++ fs) ≡ writers_of place es ++ writers_of place fs
+
+-- a claim up to the limit is legal, and appends its places as pending ones
+abbrev pub ClaimsAppend : Type 0
+ClaimsAppend =
+    (old : CellList) (actor n : ℕ) → length old.cells + n ≤ old.limit
+    → apply_event old (Claim actor n) ≡ Some (with_pending old actor n, replies.Run (length old.cells) n)
+
+-- the owner of a pending cell may fill it
+abbrev pub OwnersFill : Type 0
+OwnersFill =
+    (old : CellList) (actor place value : ℕ) → slice_get old.cells place ≡ Some (Pending actor)
+    → apply_event old (Finish actor place value) ≡ Some (with_cell old place (Filled value), replies.Done)
+
+-- or break it
+abbrev pub OwnersBreak : Type 0
+OwnersBreak =
+    (old : CellList) (actor place : ℕ) → slice_get old.cells place ≡ Some (Pending actor)
+    → apply_event old (Break actor place) ≡ Some (with_cell old place Broken, replies.Done)
 
 -- the runs of a history tile the places that it appends
 abbrev pub HistoriesTile : Type 0

@@ -1,10 +1,27 @@
-//! What holds of every legal history, each the contract of a call without a body.
-ghost use Rattle.book_core.specs.Laws.{HistoriesSplit, HistoriesTile, FinishedCellsStay, ValuesAreTheOwners};
+//! What holds of the table of events and of every legal history, each the contract of a call without a body.
+ghost use Rattle.book_core.specs.Laws.{ClaimsAppend, OwnersFill, OwnersBreak};
+ghost use Rattle.book_core.specs.Laws.{HistoriesSplit, WritersSplit, HistoriesTile, FinishedCellsStay, ValuesAreTheOwners};
 ghost use Rattle.book_core.specs.Laws.{LooksTellTheOwnersValue};
+
+/// A claim up to the limit is legal, and appends its places as pending ones.
+pub fn claims_append()
+    ensures { ClaimsAppend }
+{}
+
+/// The owner of a pending cell may fill it, or break it.
+pub fn owners_write()
+    ensures fill { OwnersFill }
+    ensures spoil { OwnersBreak }
+{}
 
 /// A history in two parts is two histories, one after the other.
 pub fn histories_split()
     ensures { HistoriesSplit }
+{}
+
+/// The writers of a place in a history in two parts are those in the first, and then those in the second.
+pub fn writers_split()
+    ensures { WritersSplit }
 {}
 
 /// The runs of a history tile the places that it appends.

@@ -1,8 +1,10 @@
 -- Two calls that ended at one place are one: each has a write of that place in the history, and the history has one at most.
-use Rattle.std.proofs.Common.{◌≡◌, ◌⊎◌, ℕ, ◌+◌, ◌<◌, ◌≤◌, ◌==◌, ◌&&◌, Bool, true, false, if◌then◌else◌, List, [], ◌∷◌, ◌++◌, length, Option, Some, None, Result, Ok, Err, IfOk, OnOk, slice_get, zero, suc, refl, ap, sym, ◌∙◌, subst, append_assoc, arith, inl, inr}
+use Rattle.std.proofs.Common.{◌≡◌, ◌⊎◌, ℕ, ◌+◌, ◌<◌, ◌≤◌, ◌==◌, ◌&&◌, Bool, true, false, if◌then◌else◌, List, [], ◌∷◌, ◌++◌, length, Option, Some, None, Result, Ok, Err, IfOk, OnOk, slice_get, zero, suc, refl, ap, sym, ◌∙◌, subst, arith, inl, inr}
+use Rattle.std.specs.List.{sum_by}
 use Rattle.std.proofs.lemmas.Bool.{eqb-true, false≢true, and_parts}
 use Rattle.std.proofs.lemmas.Bool.Decides.{nat_tests, eqb_tells}
 use Rattle.std.proofs.lemmas.List.{length-append}
+use Rattle.std.proofs.lemmas.List.Sums.{sum_by-append}
 use Rattle.std.proofs.lemmas.Option.{none-some, same_Some}
 use Rattle.book_core.specs.declared.events.Event.{Event}
 use Rattle.book_core.specs.declared.events.Event.TheVariants.{Claim, Raise, Finish, Break, Look, Size, RefusedFull, RefusedMemory}
@@ -16,9 +18,9 @@ use Rattle.book_core.specs.declared.commands.Ended.{Ended}
 use Rattle.book_core.specs.Commands.{AreSound, calls_of}
 use Rattle.book_core.specs.Events.{actor_of, writer_in}
 use Rattle.book_core.specs.History.{events_of, writers_of}
+use Rattle.book_core.specs.Laws.{WritersSplit}
 use Rattle.book_core.specs.declared.commands.Item.{Item}
 use Rattle.seg_core.specs.Segment.{IsLimit}
-use Rattle.claim_core.specs.Lengths.{times}
 use Rattle.step_core.specs.declared.errors.PlayError.{PlayError}
 use Rattle.step_core.specs.declared.programs.Played.{Played}
 use Rattle.step_core.specs.machine.Play.{Play, play_of, played_of}
@@ -156,11 +158,6 @@ pushed_own k place (x ∷ calls) =
     ]
     refl
 
-writers_of-append : (place : ℕ) (es fs : List (Event × Reply))
-    → writers_of place (es ++ fs) ≡ writers_of place es ++ writers_of place fs
-writers_of-append place [] fs = refl
-writers_of-append place (e ∷ es) fs = ap (λ ws. writer_in place e.0 ++ ws) (writers_of-append place es fs) ∙ sym (append_assoc (writer_in place e.0) (writers_of place es) (writers_of place fs))
-
 -- an answer that has the place is that of a push
 answer_at : (place : ℕ) (answer : Answer) → same_place place (place_in answer) ≡ true → answer ≡ answers.At place
 unfolding same_place place_in
@@ -177,14 +174,14 @@ answer_at place (answers.OutOfRange size) is = absurd (false≢true is)
 answer_at place (answers.Size size) is = absurd (false≢true is)
 
 -- each call that ended at a place has a write of it
-calls_write : (k place : ℕ) (program : List Command) (number : ℕ) (calls : List Ended) (es : List (Event × Reply))
+calls_write : WritersSplit → (k place : ℕ) (program : List Command) (number : ℕ) (calls : List Ended) (es : List (Event × Reply))
     → AreCalls k program number calls es → pushed k place calls ≤ length (writers_of place es)
 unfolding pushed same_place place_in
-calls_write k place program number [] es are = (let n = length (writers_of place es) in omega arith)
-calls_write k place program number (x ∷ calls) es (first, rest, parts, is_call, others) =
-    let more = calls_write k place program (number + 1) calls rest others in
+calls_write split k place program number [] es are = (let n = length (writers_of place es) in omega arith)
+calls_write split k place program number (x ∷ calls) es (first, rest, parts, is_call, others) =
+    let more = calls_write split k place program (number + 1) calls rest others in
     let whole : length (writers_of place es) ≡ length (writers_of place first) + length (writers_of place rest) =
-    ap (λ xs. length (writers_of place xs)) parts ∙ ap length (writers_of-append place first rest) ∙ length-append (writers_of place first) (writers_of place rest)
+    ap (λ xs. length (writers_of place xs)) parts ∙ ap length (split place first rest) ∙ length-append (writers_of place first) (writers_of place rest)
     in
     elim (is_at k place x) as (λ b. is_at k place x ≡ b → (if b then 1 else 0) + pushed k place calls ≤ length (writers_of place es)) [
       | true ↦ (λ at.
@@ -196,20 +193,20 @@ calls_write k place program number (x ∷ calls) es (first, rest, parts, is_call
 
 -- ---- The writes of an actor, and those of all
 
-times-append : (k : ℕ) (xs ys : List ℕ) → times k (xs ++ ys) ≡ times k xs + times k ys
-times-append k [] ys = (let all : times k ys ≡ 0 + times k ys = omega arith in all)
-times-append k (x ∷ xs) ys = (let others = times-append k xs ys in let n : ℕ = (if x == k then 1 else 0) in omega arith)
+-- how often an actor is among writers
+abbrev how_often : ℕ → List ℕ → ℕ
+how_often k writers = sum_by (λ writer. if writer == k then 1 else 0) writers
 
 -- an event of an actor has no other writer
 written_by : (k place at : ℕ) (actor : ℕ) → actor ≡ k
-    → length (if at == place then actor ∷ [] else []) ≤ times k (if at == place then actor ∷ [] else [])
+    → length (if at == place then actor ∷ [] else []) ≤ how_often k (if at == place then actor ∷ [] else [])
 written_by k place at actor its =
     let itself : (actor == k) ≡ true = grind (arith, nat_tests) in
-    elim (at == place) as (λ b. length (if b then actor ∷ [] else []) ≤ times k (if b then actor ∷ [] else []))
+    elim (at == place) as (λ b. length (if b then actor ∷ [] else []) ≤ how_often k (if b then actor ∷ [] else []))
     [ true ↦ rw itself (omega arith) | false ↦ omega arith ]
 
 writer_own : (k place : ℕ) (event : Event) → actor_of event ≡ k
-    → length (writer_in place event) ≤ times k (writer_in place event)
+    → length (writer_in place event) ≤ how_often k (writer_in place event)
 writer_own k place (Claim actor n) its = omega arith
 writer_own k place (Raise actor to) its = omega arith
 writer_own k place (Finish actor at value) its = written_by k place at actor its
@@ -221,12 +218,12 @@ writer_own k place (RefusedMemory actor) its = omega arith
 
 -- the writer of an event, as often as it is this actor's
 writes_own : (k place : ℕ) (es : List (Event × Reply))
-    → length (writers_of place (events_of k es)) ≤ times k (writers_of place es)
+    → length (writers_of place (events_of k es)) ≤ how_often k (writers_of place es)
 writes_own k place [] = omega arith
 writes_own k place (e ∷ es) =
     let others = writes_own k place es in
-    let whole : times k (writer_in place e.0 ++ writers_of place es) ≡ times k (writer_in place e.0) + times k (writers_of place es) = times-append k (writer_in place e.0) (writers_of place es) in
-    elim (actor_of e.0 == k) as (λ b. (actor_of e.0 == k) ≡ b → length (writers_of place (if b then e ∷ events_of k es else events_of k es)) ≤ times k (writer_in place e.0 ++ writers_of place es)) [
+    let whole : how_often k (writer_in place e.0 ++ writers_of place es) ≡ how_often k (writer_in place e.0) + how_often k (writers_of place es) = sum_by-append (λ writer. if writer == k then 1 else 0) (writer_in place e.0) (writers_of place es) in
+    elim (actor_of e.0 == k) as (λ b. (actor_of e.0 == k) ≡ b → length (writers_of place (if b then e ∷ events_of k es else events_of k es)) ≤ how_often k (writer_in place e.0 ++ writers_of place es)) [
       | true ↦ (λ own.
           let count : length (writer_in place e.0 ++ writers_of place (events_of k es)) ≡ length (writer_in place e.0) + length (writers_of place (events_of k es)) = length-append (writer_in place e.0) (writers_of place (events_of k es)) in
           let first = writer_own k place e.0 (eqb-true (actor_of e.0) k own) in
@@ -236,27 +233,27 @@ writes_own k place (e ∷ es) =
     refl
 
 -- who is no writer but one is that one
-only_writer : (k owner : ℕ) → 1 ≤ times k (owner ∷ []) → k ≡ owner
+only_writer : (k owner : ℕ) → 1 ≤ how_often k (owner ∷ []) → k ≡ owner
 only_writer k owner one =
     elim (eqb_tells owner k) [
       | inl same ↦ sym same.1
-      | inr apart ↦ absurd (let none : times k (owner ∷ []) ≡ 0 = rw apart.0 refl in omega arith)
+      | inr apart ↦ absurd (let none : how_often k (owner ∷ []) ≡ 0 = rw apart.0 refl in omega arith)
     ]
 
-once_writer : (k owner : ℕ) → times k (owner ∷ []) ≤ 1
+once_writer : (k owner : ℕ) → how_often k (owner ∷ []) ≤ 1
 once_writer k owner =
     elim (owner == k) as (λ b. (if b then 1 else 0) + 0 ≤ 1) [ true ↦ omega arith | false ↦ omega arith ]
 
 -- calls of a sequential play that ended at one place are one call
-pub pushes_are_apart : (limit : ℕ) (programs : List (List Command)) (p : Play) → IsSequential limit programs p
+pub pushes_are_apart : WritersSplit → (limit : ℕ) (programs : List (List Command)) (p : Play) → IsSequential limit programs p
     → PushesAreApart p.ended
-pushes_are_apart limit programs p is i j place a b is_a is_b at_a at_b =
-    let counted : (k : ℕ) → pushed k place p.ended ≤ times k (writers_of place p.events) = λ k.
+pushes_are_apart split limit programs p is i j place a b is_a is_b at_a at_b =
+    let counted : (k : ℕ) → pushed k place p.ended ≤ how_often k (writers_of place p.events) = λ k.
     let r = is.recorded k in
-    let done = calls_write k place (program_of programs k) 0 (calls_of k p.ended) r.done r.calls in
+    let done = calls_write split k place (program_of programs k) 0 (calls_of k p.ended) r.done r.calls in
     let own = writes_own k place p.events in
     let parts : length (writers_of place (events_of k p.events)) ≡ length (writers_of place r.done) + length (writers_of place r.begun) =
-    ap (λ xs. length (writers_of place xs)) r.whole ∙ ap length (writers_of-append place r.done r.begun) ∙ length-append (writers_of place r.done) (writers_of place r.begun)
+    ap (λ xs. length (writers_of place xs)) r.whole ∙ ap length (split place r.done r.begun) ∙ length-append (writers_of place r.done) (writers_of place r.begun)
     in
     let calls = pushed_own k place p.ended in
     omega arith
@@ -266,13 +263,13 @@ pushes_are_apart limit programs p is i j place a b is_a is_b at_a at_b =
     elim (is.tiled.written_once place) [
       | inl none ↦ absurd (
           let most = counted a.actor in
-          let nothing : times a.actor (writers_of place p.events) ≡ 0 = ap (times a.actor) none in
+          let nothing : how_often a.actor (writers_of place p.events) ≡ 0 = ap (how_often a.actor) none in
           omega arith)
       | inr (owner, owns, once) ↦ (
           let most_a = counted a.actor in
           let most_b = counted b.actor in
-          let all_a : times a.actor (writers_of place p.events) ≡ times a.actor (owner ∷ []) = ap (times a.actor) once in
-          let all_b : times b.actor (writers_of place p.events) ≡ times b.actor (owner ∷ []) = ap (times b.actor) once in
+          let all_a : how_often a.actor (writers_of place p.events) ≡ how_often a.actor (owner ∷ []) = ap (how_often a.actor) once in
+          let all_b : how_often b.actor (writers_of place p.events) ≡ how_often b.actor (owner ∷ []) = ap (how_often b.actor) once in
           let a_is : a.actor ≡ owner = only_writer a.actor owner (omega arith) in
           let b_is : b.actor ≡ owner = only_writer b.actor owner (omega arith) in
           elim (pushed_twice a.actor place p.ended i j a b is_a is_b refl (b_is ∙ sym a_is) at_a at_b) [
@@ -283,8 +280,8 @@ pushes_are_apart limit programs p is i j place a b is_a is_b at_a at_b =
 
 -- so it is of what a play answers
 pub pushes_of : (r : Result Played PlayError) (limit : ℕ) (programs : List (List Command)) (items : List Item)
-    → EveryInterleavingIsSequential → IfOk r (λ played. played ≡ played_of (play_of limit programs items))
+    → WritersSplit → EveryInterleavingIsSequential → IfOk r (λ played. played ≡ played_of (play_of limit programs items))
     → OnOk r (IsLimit limit) → OnOk r (AreSound programs) → IfOk r (λ played. PushesAreApart played.ended)
-pushes_of (Ok played) limit programs items law is is_limit sound =
-    subst (λ (x : Played). PushesAreApart x.ended) (sym is) (pushes_are_apart limit programs (play_of limit programs items) (law limit programs items is_limit sound))
-pushes_of (Err e) limit programs items law is is_limit sound = tt
+pushes_of (Ok played) limit programs items split law is is_limit sound =
+    subst (λ (x : Played). PushesAreApart x.ended) (sym is) (pushes_are_apart split limit programs (play_of limit programs items) (law limit programs items is_limit sound))
+pushes_of (Err e) limit programs items split law is is_limit sound = tt

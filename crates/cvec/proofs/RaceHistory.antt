@@ -1,16 +1,15 @@
 -- Wins put in order of place, and the history that they make.
-use Rattle.std.proofs.Common.{◌≡◌, ℕ, ◌+◌, ◌<◌, ◌≤◌, nat_le, ◌==◌, true, if◌then◌else◌, List, [], ◌∷◌, ◌++◌, length, get_or, Option, Some, None, refl, sym, ap, ◌∙◌, subst, arith, slice_get}
+use Rattle.std.proofs.Common.{◌≡◌, ℕ, ◌+◌, ◌<◌, ◌≤◌, List, [], ◌∷◌, ◌++◌, length, get_or, Option, Some, None, refl, sym, ap, ◌∙◌, subst, arith, slice_get}
 use Rattle.std.proofs.lemmas.List.{length-append, length-set}
-use Rattle.std.proofs.lemmas.Bool.Decides.{nat_tests}
 use Rattle.book_core.specs.declared.cells.Cell.{Cell}
 use Rattle.book_core.specs.declared.cells.Cell.TheVariants.{Pending, Filled}
 use Rattle.book_core.specs.declared.events.Event.{Event}
 use Rattle.book_core.specs.declared.events.Event.TheVariants.{Claim, Finish}
 use Rattle.book_core.specs.declared.events.Reply.{Reply}
 use Rattle.book_core.specs.declared.events.Reply.TheVariants as replies
-use Rattle.book_core.specs.Cells.{CellList, empty_list, apply_event, with_pending, with_cell, is_pending_for}
+use Rattle.book_core.specs.Cells.{CellList, empty_list, apply_event, with_pending, with_cell}
 use Rattle.book_core.specs.History.{IsHistory}
-use Rattle.book_core.specs.Laws.{HistoriesSplit}
+use Rattle.book_core.specs.Laws.{HistoriesSplit, ClaimsAppend, OwnersFill}
 use Rattle.cvec.specs.declared.race.team.Win.{Win}
 use Rattle.cvec.specs.Race.{IsWinOf, AreAllPlaces, AreInOrder, events_of_win}
 
@@ -45,28 +44,11 @@ last_pending : (cells : List Cell) (actor : ℕ) → slice_get (cells ++ Pending
 last_pending [] actor = refl
 last_pending (c ∷ cells) actor = last_pending cells actor
 
--- the claim of the next place is legal
-claims : (v : CellList) (who size : ℕ) → length v.cells ≡ size → size + 1 ≤ v.limit
-    → apply_event v (Claim who 1) ≡ Some (with_pending v who 1, replies.Run size 1)
-claims v who size is room =
-    let fits : nat_le (length v.cells + 1) v.limit ≡ true = grind (arith, nat_tests) in
-    rw fits (ap (λ k. Some (with_pending v who 1, replies.Run k 1)) is)
-
-is_own : (who : ℕ) → is_pending_for who (Some (Pending who)) ≡ true
-is_own who = (let same : (who == who) ≡ true = grind (arith, nat_tests) in same)
-
--- and so is the filling of it
-finishes : (v : CellList) (who place value : ℕ) → slice_get v.cells place ≡ Some (Pending who)
-    → apply_event v (Finish who place value) ≡ Some (with_cell v place (Filled value), replies.Done)
-finishes v who place value pending =
-    ap (λ o. if is_pending_for who o then Some (with_cell v place (Filled value), replies.Done) else None) pending
-    ∙ ap (λ b. if b then Some (with_cell v place (Filled value), replies.Done) else None) (is_own who)
-
 -- the history goes on by the win of the next place
-pub leads_on : HistoriesSplit → (limit n : ℕ) (history : List (Event × Reply)) (win : Win)
+pub leads_on : HistoriesSplit → ClaimsAppend → OwnersFill → (limit n : ℕ) (history : List (Event × Reply)) (win : Win)
     → LeadsTo limit history n → win.place ≡ n → n + 1 ≤ limit
     → LeadsTo limit (history ++ events_of_win win) (n + 1)
-leads_on split limit n history win leads here room =
+leads_on split append fill limit n history win leads here room =
     let v : CellList = record { limit = limit; cells = leads.cells } in
     let long : length leads.cells ≡ win.place = leads.long ∙ sym here in
     let w : CellList = with_pending v win.worker 1 in
@@ -74,8 +56,10 @@ leads_on split limit n history win leads here room =
     subst (λ p. slice_get w.cells p ≡ Some (Pending win.worker)) long (last_pending leads.cells win.worker)
     in
     let u : CellList = with_cell w win.place (Filled win.value) in
-    let claimed = claims v win.worker win.place long (omega arith) in
-    let filled = finishes w win.worker win.place win.value pending in
+    let claimed : apply_event v (Claim win.worker 1) ≡ Some (w, replies.Run win.place 1) =
+    append v win.worker 1 (omega arith) ∙ ap (λ k. Some (w, replies.Run k 1)) long
+    in
+    let filled = fill w win.worker win.place win.value pending in
     let both : IsHistory v (events_of_win win) u = (w, claimed, (u, filled, refl)) in
     let size : length u.cells ≡ n + 1 = omega (arith, length-set w.cells win.place (Filled win.value), length-append leads.cells (Pending win.worker ∷ []), leads.long) in
     record {

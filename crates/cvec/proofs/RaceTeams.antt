@@ -110,9 +110,6 @@ teams_joined places stay word some more from middle to a b new team_a team_b bel
           omega arith;
     }
 
-nowhere : (k : ℕ) → Contains [] k → ⊥
-nowhere k at = let lt = at.1 in omega arith
-
 -- nothing is won yet
 pub team_new : (from : ℕ) (team : Team) → team.hand.mine ≡ [] → team.wins.items ≡ [] → IsTeam team.hand.of team.hand.shares from from team
 team_new from team mine wins =
@@ -121,7 +118,7 @@ team_new from team mine wins =
       of = refl;
       part = refl;
       places = omega arith;
-      wins = λ k own. absurd (nowhere k (subst (λ m. Contains m k) mine own));
+      wins = λ k own. absurd (let lt = (subst (λ m. Contains m k) mine own).1 in omega arith);
       sum = omega arith;
     }
 

@@ -6,8 +6,7 @@ ghost use Rattle.book_core.specs.History.{IsLegalFrom};
 ghost use Rattle.cvec.specs.Race.{AreAllPlaces, AreInOrder, events_of_win};
 
 use super::team::Win;
-use book_core::laws::histories_split;
-use book_core::{Event, Reply, check};
+use book_core::{Event, Reply, check, laws};
 use std::alloc::{AllocError, Global};
 
 // The wins in order of place.
@@ -38,7 +37,9 @@ pub(crate) fn history_of(
     requires places { AreInOrder (length slots.now) slots.now }
     ensures { IfOk result (λ h. IsLegalFrom (empty_list (length slots.now)) h.items) }
 {
-    histories_split();
+    laws::histories_split();
+    laws::claims_append();
+    laws::owners_write();
     let mut history = Vec::with_capacity(alloc, 2 * slots.len())?;
     for slot in slots {
         let Some(win) = slot else { unreachable!() };

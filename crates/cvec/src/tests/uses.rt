@@ -19,6 +19,7 @@ fn play_pushes(
     ensures apart { IfOk result (λ played. PushesAreApart played.ended) }
 {
     laws::interleavings();
+    book_core::laws::writers_split();
     play(alloc, limit, programs, items)
 }
 

@@ -1,5 +1,4 @@
 -- The events of a play of the machine are a legal history, and what is finished stays.
-pub mod Table
 pub mod Replies
 use Rattle.std.proofs.Common.{◌≡◌, ℕ, ◌+◌, ◌-◌, Bool, List, [], ◌∷◌, ◌++◌, Option, refl, ap, sym, ◌∙◌, subst, append_assoc}
 use Rattle.std.proofs.lemmas.List.{append-nil}

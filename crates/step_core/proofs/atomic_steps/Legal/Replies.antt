@@ -32,7 +32,7 @@ use Rattle.book_core.proofs.Runs.{owner_new, owner_kept, none_past, has_place-tr
 use Rattle.step_core.proofs.atomic_steps.Tiling.Invariant.{get_set_same, get_set_other, empty_past, Won, Knows}
 use Rattle.step_core.proofs.atomic_steps.Cases.{growth_cases, at_least_cases, read_cases, exchange_cases, raise_cases, begin_cases, scout_cases}
 use Rattle.step_core.proofs.atomic_steps.Ranges.{map_same, map_more, map_all, map_get, map_set}
-use Rattle.step_core.proofs.atomic_steps.Legal.Table.{claim_applies, raise_applies, enough_applies, full_applies, size_applies, finish_applies, break_applies, look_applies}
+use Rattle.book_core.proofs.EventRows.{claim_applies, raise_applies, enough_applies, full_applies, size_applies, finish_applies, break_applies, look_applies}
 
 -- the sequential vector as a reader sees it
 abbrev pub seen : ℕ → Storage → List OwnedRun → CellList

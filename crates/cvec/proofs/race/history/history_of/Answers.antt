@@ -9,4 +9,4 @@ loop-slot-preserved c =
     let n = length c.args.slots.now in
     let here = subst (IsWinOf i) c.in-Some.is (c.requires.places.1 i c.loop-slot-test.true) in
     subst (λ h. LeadsTo n h (i + 1)) (sym c.in_ok-push_events.ensures)
-    (leads_on c.histories_split.ensures n i c.loop-slot.history.items c.in-Some.win c.loop-slot.invariant here (omega (arith, c.loop-slot-test.true)))
+    (leads_on c.histories_split.ensures c.claims_append.ensures c.owners_write.ensures.fill n i c.loop-slot.history.items c.in-Some.win c.loop-slot.invariant here (omega (arith, c.loop-slot-test.true)))

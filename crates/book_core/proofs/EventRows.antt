@@ -1,11 +1,12 @@
 -- The rows of the table of events, for a list whose length is known.
-use Rattle.std.proofs.Common.{◌≡◌, ℕ, ◌+◌, ◌-◌, ◌<◌, ◌≤◌, nat_le, ◌==◌, true, false, if◌then◌else◌, length, Option, Some, None, slice_get, ap, ◌∙◌, arith}
+use Rattle.std.proofs.Common.{◌≡◌, ℕ, ◌+◌, ◌-◌, ◌<◌, ◌≤◌, nat_le, ◌==◌, true, false, if◌then◌else◌, length, Option, Some, None, slice_get, ap, refl, ◌∙◌, arith}
 use Rattle.std.proofs.lemmas.Bool.Decides.{nat_tests}
 use Rattle.book_core.specs.declared.cells.Cell.{Cell}
 use Rattle.book_core.specs.declared.cells.Cell.TheVariants.{Pending, Filled, Broken}
 use Rattle.book_core.specs.declared.events.Event.TheVariants.{Claim, Raise, Finish, Break, Look, Size, RefusedFull}
 use Rattle.book_core.specs.declared.events.Reply.TheVariants as replies
 use Rattle.book_core.specs.Cells.{CellList, with_pending, with_cell, is_pending_for, reply_of_look, apply_event}
+use Rattle.book_core.specs.Laws.{ClaimsAppend, OwnersFill, OwnersBreak}
 
 module _ (v : CellList) (actor size : ℕ) (is : length v.cells ≡ size) where
   pub claim_applies : (n : ℕ) → size + n ≤ v.limit
@@ -34,17 +35,18 @@ module _ (v : CellList) (actor size : ℕ) (is : length v.cells ≡ size) where
   pub size_applies : apply_event v (Size actor) ≡ Some (v, replies.Size size)
   size_applies = ap (λ k. Some (v, replies.Size k)) is
 
+pub claims_append : ClaimsAppend
+claims_append v actor n room = claim_applies v actor (length v.cells) refl n room
+
 is_own : (actor : ℕ) → is_pending_for actor (Some (Pending actor)) ≡ true
 is_own actor = (let same : (actor == actor) ≡ true = grind (arith, nat_tests) in same)
 
-pub finish_applies : (v : CellList) (actor place value : ℕ) → slice_get v.cells place ≡ Some (Pending actor)
-    → apply_event v (Finish actor place value) ≡ Some (with_cell v place (Filled value), replies.Done)
+pub finish_applies : OwnersFill
 finish_applies v actor place value pending =
     ap (λ o. if is_pending_for actor o then Some (with_cell v place (Filled value), replies.Done) else None) pending
     ∙ ap (λ b. if b then Some (with_cell v place (Filled value), replies.Done) else None) (is_own actor)
 
-pub break_applies : (v : CellList) (actor place : ℕ) → slice_get v.cells place ≡ Some (Pending actor)
-    → apply_event v (Break actor place) ≡ Some (with_cell v place Broken, replies.Done)
+pub break_applies : OwnersBreak
 break_applies v actor place pending =
     ap (λ o. if is_pending_for actor o then Some (with_cell v place Broken, replies.Done) else None) pending
     ∙ ap (λ b. if b then Some (with_cell v place Broken, replies.Done) else None) (is_own actor)

@@ -242,7 +242,7 @@ only_writer k owner one =
 
 once_writer : (k owner : ℕ) → how_often k (owner ∷ []) ≤ 1
 once_writer k owner =
-    elim (owner == k) as (λ b. (if b then 1 else 0) + 0 ≤ 1) [ true ↦ omega arith | false ↦ omega arith ]
+    elim (owner == k) as (λ b. 0 + (if b then 1 else 0) ≤ 1) [ true ↦ omega arith | false ↦ omega arith ]
 
 -- calls of a sequential play that ended at one place are one call
 pub pushes_are_apart : WritersSplit → (limit : ℕ) (programs : List (List Command)) (p : Play) → IsSequential limit programs p

@@ -13,7 +13,7 @@ use base.Fml.{GName, fobs, fauth, Lft, Incl, Fml, ftrue, fsep, froom}
 use prog.Memory.{size, up}
 use prog.RawLaws.{size-raw, align-raw}
 use types.Logic.{Logic, sem}
-use types.Kit.{later, given, learn, await, updating, now, ‵, ◌⊛◌, ◌$◌, ◌∵◌, !, qed, by, move, keep, drop, use1, use2, split, fsplit, fsplit3, fjoin, fjoin3, fpick, fpack, check, frame, each, assume, rewrite, done}
+use types.Kit.{later, given, learn, await, updating, now, feq_i, use3, ‵, ◌⊛◌, ◌$◌, ◌∵◌, !, qed, by, move, keep, drop, use1, use2, split, fsplit, fsplit3, fjoin, fjoin3, fpick, fpack, check, frame, each, assume, rewrite, done}
 use Rattle.std.specs.Prelude.{Option, Some, None}
 use base.Fraction.{full_share}
 use types.Kit.{feq_l}
@@ -31,8 +31,9 @@ use denote.Param.Laws.{Laws, param_laws}
 use denote.Struct.Members.{Member}
 use Rattle.core.proofs.cell.Inside.{spread}
 use denote.Struct.Lending.{Lends, Lends-both, Lends-nothing, Lends-said, Lends-first}
-use Rattle.cell_core.specs.Slot.{Names, shared_at, Rest, place, resting, free, busy, full, broken, auths, at}
-use Rattle.cell_core.specs.Laid.{cell_ty, stride, row_ty, FitsMemory, rooms, rim, still, owned, along, along_lent, lies, laid, laid_lent, cell_in}
+use Rattle.cell_core.specs.Slot.{Names, Phase, Lies, shared_at, Rest, fact, word, place, resting, free, busy, full, broken, mark, crossed, auths, at}
+use Rattle.cell_core.specs.Laid.{cell_ty, stride, row_ty, FitsMemory, IsAnother, rooms, rim, rests, still, owned, along, along_lent, lies, laid, laid_lent, cell_in}
+use types.Tokens.{name_new}
 use Rattle.cell_core.proofs.CellLends.{lends_cell}
 use Rattle.cell_core.proofs.CellSteps.{shared_laws}
 
@@ -220,6 +221,21 @@ module _ {M : Type 1} {𝓤 : Ura M} (𝓛 : Logic 𝓤) (R : RattleType) (token
       use2 𝓛 (later (‵ (fobs δ c) ⊛ ‵ (fauth δ c))) (𝓛.names.name_set δ gnil gnil c) $ await ! tt $ split ! $ move ! (0 ∷ 2 ∷ []) $
       use2 𝓛 (given (c ≡ d) (‵ (fobs δ c) ⊛ ‵ (fauth δ d))) (𝓛.names.name_agree δ c d) $ learn ! (λ e. absurd (other_differs d e)))
       (λ other. qed 𝓛 (‵ (fobs δ gnil) ∷ ‵ (fauth δ gnil) ∷ ‵ (fauth γ d) ∷ []) ∵ updating ! $ now ! $ check ! other $ keep ! (0 ∷ 1 ∷ []) $ done !)
+
+  -- a cell whose word is 0, and whose room is empty, is another one under new names
+  abbrev pub Renewed : Names → ℕ → ℕ → Fml
+  Renewed γ b e = fex Names (λ γ'. fsep (fact (IsAnother γ γ')) (still R b γ' e))
+
+  pub renewed : (γ : Names) (b e : ℕ) (s : Phase R.Denot)
+      → ⟦ auths R γ s ⟧ ∗ ⟦ word b (e + 0) 0 ⟧ ∗ ⟦ place R None b (at R e) ⟧ ⊢ H.⇛ ⟦ Renewed γ b e ⟧
+  renewed γ b e s = qed 𝓛 (‵ (auths R γ s) ∷ ‵ (word b (e + 0) 0) ∷ ‵ (place R None b (at R e)) ∷ []) ∵ updating ! $ fsplit ! $
+      name_new ! tt gnil (λ γv. use3 𝓛 (later (given (γv ≢ γ.value) (‵ (fobs γv gnil) ⊛ ‵ (fauth γv gnil)))) (is_new γ.value γv (mark R s)) $ await ! tt $ learn ! (λ nv. split ! $ move ! (2 ∷ []) $
+      name_new ! tt gnil (λ γb. use3 𝓛 (later (given (γb ≢ γ.breach) (‵ (fobs γb gnil) ⊛ ‵ (fauth γb gnil)))) (is_new γ.breach γb (crossed R s)) $ await ! tt $ learn ! (λ nb. split ! $
+      let γ' : Names = record { value = γv; breach = γb } in now ! $
+      -- [the right to break; its name; the right to fill; its name; the word; the room]
+      move ! (2 ∷ 0 ∷ []) $ fjoin ! $ feq_i ! ℕ 0 0 refl $ fjoin ! $ move ! (2 ∷ 1 ∷ []) $ fjoin ! $ fjoin ! $ nothing ! $ fpack ! (Lies R None free) (λ _. ftrue) refl $ move ! (1 ∷ 0 ∷ []) $ fjoin ! $
+      move ! (1 ∷ 2 ∷ 0 ∷ []) $ fjoin3 ! $ fpack ! (Rest R.Denot) (rests R b γ' e) (0, None, free) $ nothing ! $ fpack ! (IsAnother γ γ') (λ _. ftrue) (nv, nb) $ fjoin ! $
+      fpack ! Names (λ c. fsep (fact (IsAnother γ c)) (still R b c e)) γ' $ done !))))
 
 -- a list that is not empty has a last member
 pub last_of : (cs : List Names) (j : ℕ) → length cs ≡ j + 1

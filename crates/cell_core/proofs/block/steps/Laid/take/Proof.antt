@@ -87,31 +87,23 @@ take_spec 𝓤 𝓛 𝓜 𝓡 wired T Al L _ ga da dd _ _ =
     use1 𝓛 (‵ (O.own_val (Some x) (val ∷ []))) (Some-of 𝓛 R x v) $ peeks ! O (Is O) (shows 𝓛 O) (Some x) (val ∷ []) (λ is-v. let fine = ((LO.lawful 𝓛).typed (Some x) (val ∷ []) is-v).0 in
     sets_last ! (agg ! (and_then ! (lit ! tt) (and_then ! (get ! refl) (no_more !)))) refl fine $ exec ! 𝓣.C 𝓣.Λ Ev last Q $ sets_last ! (of_opd ! (get ! refl)) refl fine $ exec ! 𝓣.C 𝓣.Λ Ev (tail fn.body) (at_ret Ev Post) $ sets ! (of_opd ! (get ! refl)) refl fine $
     -- [the value; the room; the word; the way back; ..]
-    move ! (1 ∷ []) $ use1 𝓛 (‵ (froom (bare (layout T)) b i)) (𝓛.laws.at_room (bare (layout T)) b i v) $ move ! (2 ∷ 3 ∷ 0 ∷ 4 ∷ 1 ∷ []) $ fsplit ! $
-    -- [the old names; the word; the room; the way back; ..]
-    name_new ! tt gnil (λ γv. use3 𝓛 (later (given (γv ≢ γ.value) (‵ (fobs γv gnil) ⊛ ‵ (fauth γv gnil)))) (parts.is_new 𝓛 R token γ.value γv (mark R r.2)) $ await ! tt $ learn ! (λ nv. split ! $ move ! (2 ∷ []) $
-    name_new ! tt gnil (λ γb. use3 𝓛 (later (given (γb ≢ γ.breach) (‵ (fobs γb gnil) ⊛ ‵ (fauth γb gnil)))) (parts.is_new 𝓛 R token γ.breach γb (crossed R r.2)) $ await ! tt $ learn ! (λ nb. split ! $
-    let γ' : Names = record { value = γv; breach = γb } in let h' : Lo.Denot = After γ' in
+    move ! (1 ∷ []) $ use1 𝓛 (‵ (froom (bare (layout T)) b i)) (𝓛.laws.at_room (bare (layout T)) b i v) $ move ! (2 ∷ 3 ∷ 0 ∷ 4 ∷ 1 ∷ []) $
+    use3 𝓛 (later (‵ (parts.Renewed 𝓛 R token γ b e))) (parts.renewed 𝓛 R token γ b e r.2) $ await ! tt $ fpick ! (λ γ'. fsplit ! $ fpick ! (λ apart. drop ! $ let h' : Lo.Denot = After γ' in
     let Kept : Type 0 = (h.heap ≡ h.heap) × (p ≡ h.at) × HasOneRenamed cs j h'.cells × (h.left ≡ h.left) in
-    -- [the right to break; its name; the right to fill; its name; the word; the room; the way back; ..]
-    move ! (2 ∷ 0 ∷ []) $ fjoin ! $ feq_i ! ℕ 0 0 refl $ fjoin ! $ move ! (2 ∷ 1 ∷ []) $ fjoin ! $ fjoin ! $ nothing ! $ fpack ! (Lies R None free) (λ _. ftrue) refl $ move ! (1 ∷ 0 ∷ []) $ fjoin ! $
-    move ! (1 ∷ 2 ∷ 0 ∷ []) $ fjoin3 ! $ fpack ! (Rest R.Denot) (rests R b γ' e) (0, None, free) $ move ! (1 ∷ []) $ use1 𝓛 (raw (Back γ')) (all_e 𝓤 Back γ') $ move ! (1 ∷ 0 ∷ []) $
+    -- [the new cell; the way back; ..]
+    move ! (1 ∷ []) $ use1 𝓛 (raw (Back γ')) (all_e 𝓤 Back γ') $ move ! (1 ∷ 0 ∷ []) $
     use2 𝓛 (‵ (laid R token p h'.cells h.left)) (apply∗ 𝓤 (sem 𝓛 (still R b γ' e)) (sem 𝓛 (laid R token p h'.cells h.left))) $
     move ! (2 ∷ 0 ∷ []) $ fjoin ! $ move ! (2 ∷ 0 ∷ 3 ∷ 4 ∷ 5 ∷ []) $ closes ! tt Lo h' ts b' o' $ feq_i ! (List Val) (vptr b' o' ∷ []) (vptr b' o' ∷ []) refl $ fjoin3 ! $ nothing ! $ nothing ! $ fjoin ! $ nothing ! $ fjoin ! $ move ! (1 ∷ 0 ∷ []) $ fjoin ! $ move ! (1 ∷ 3 ∷ []) $ join ! $
-    use0 𝓛 (raw (fact 𝓤 Kept)) (fact_i 𝓤 Kept (emp 𝓤) (refl, sym asked.0.0, (γ', (nv, nb), refl), refl)) $
-    returns ! (look_at ! 0 refl) $ free_all ! refl $ keep ! (1 ∷ 2 ∷ 3 ∷ 0 ∷ []) $ by ! (leaves 𝓛 En hs c y val (Some x) (h', (tt, (tt, tt))) (tt, (tt, (tt, tt))))))))))))
+    use0 𝓛 (raw (fact 𝓤 Kept)) (fact_i 𝓤 Kept (emp 𝓤) (refl, sym asked.0.0, (γ', apart, refl), refl)) $
+    returns ! (look_at ! 0 refl) $ free_all ! refl $ keep ! (1 ∷ 2 ∷ 3 ∷ 0 ∷ []) $ by ! (leaves 𝓛 En hs c y val (Some x) (h', (tt, (tt, tt))) (tt, (tt, (tt, tt))))))))))
     (λ miss. let val : Val = live 0 vnil in sets_last ! (agg ! (and_then ! (lit ! tt) (no_more !))) refl (tt, (record { fits = lit< tt }, tt)) $ exec ! 𝓣.C 𝓣.Λ Ev last Q $ sets_last ! (of_opd ! (get ! refl)) refl (tt, (record { fits = lit< tt }, tt)) $
     exec ! 𝓣.C 𝓣.Λ Ev (tail fn.body) (at_ret Ev Post) $ sets ! (of_opd ! (get ! refl)) refl (tt, (record { fits = lit< tt }, tt)) $
-    move ! (1 ∷ []) $ use1 𝓛 (‵ (froom (bare (layout T)) b i)) (parts.emptied T L 𝓛 b i r.1) $ move ! (2 ∷ []) $ fsplit ! $ fsplit ! $ fsplit ! $ move ! (3 ∷ []) $ drop ! $ move ! (0 ∷ 1 ∷ 4 ∷ 3 ∷ 5 ∷ 2 ∷ []) $
-    -- [the old names; the word; the room; the way back; ..]
-    name_new ! tt gnil (λ γv. use3 𝓛 (later (given (γv ≢ γ.value) (‵ (fobs γv gnil) ⊛ ‵ (fauth γv gnil)))) (parts.is_new 𝓛 R token γ.value γv (mark R r.2)) $ await ! tt $ learn ! (λ nv. split ! $ move ! (2 ∷ []) $
-    name_new ! tt gnil (λ γb. use3 𝓛 (later (given (γb ≢ γ.breach) (‵ (fobs γb gnil) ⊛ ‵ (fauth γb gnil)))) (parts.is_new 𝓛 R token γ.breach γb (crossed R r.2)) $ await ! tt $ learn ! (λ nb. split ! $
-    let γ' : Names = record { value = γv; breach = γb } in let h' : Lo.Denot = After γ' in
+    move ! (1 ∷ []) $ use1 𝓛 (‵ (froom (bare (layout T)) b i)) (parts.emptied T L 𝓛 b i r.1) $ move ! (2 ∷ []) $ fsplit ! $ fsplit ! $ move ! (2 ∷ []) $ drop ! $ move ! (0 ∷ 3 ∷ 2 ∷ 4 ∷ 1 ∷ []) $
+    use3 𝓛 (later (‵ (parts.Renewed 𝓛 R token γ b e))) (parts.renewed 𝓛 R token γ b e r.2) $ await ! tt $ fpick ! (λ γ'. fsplit ! $ fpick ! (λ apart. drop ! $ let h' : Lo.Denot = After γ' in
     let Kept : Type 0 = (h.heap ≡ h.heap) × (p ≡ h.at) × HasOneRenamed cs j h'.cells × (h.left ≡ h.left) in
-    -- [the right to break; its name; the right to fill; its name; the word; the room; the way back; ..]
-    move ! (2 ∷ 0 ∷ []) $ fjoin ! $ feq_i ! ℕ 0 0 refl $ fjoin ! $ move ! (2 ∷ 1 ∷ []) $ fjoin ! $ fjoin ! $ nothing ! $ fpack ! (Lies R None free) (λ _. ftrue) refl $ move ! (1 ∷ 0 ∷ []) $ fjoin ! $
-    move ! (1 ∷ 2 ∷ 0 ∷ []) $ fjoin3 ! $ fpack ! (Rest R.Denot) (rests R b γ' e) (0, None, free) $ move ! (1 ∷ []) $ use1 𝓛 (raw (Back γ')) (all_e 𝓤 Back γ') $ move ! (1 ∷ 0 ∷ []) $
+    -- [the new cell; the way back; ..]
+    move ! (1 ∷ []) $ use1 𝓛 (raw (Back γ')) (all_e 𝓤 Back γ') $ move ! (1 ∷ 0 ∷ []) $
     use2 𝓛 (‵ (laid R token p h'.cells h.left)) (apply∗ 𝓤 (sem 𝓛 (still R b γ' e)) (sem 𝓛 (laid R token p h'.cells h.left))) $
     move ! (2 ∷ 0 ∷ []) $ fjoin ! $ move ! (2 ∷ 0 ∷ 3 ∷ 4 ∷ 5 ∷ []) $ closes ! tt Lo h' ts b' o' $ feq_i ! (List Val) (vptr b' o' ∷ []) (vptr b' o' ∷ []) refl $ fjoin3 ! $ nothing ! $ nothing ! $ fjoin ! $ nothing ! $ fjoin ! $ move ! (1 ∷ 0 ∷ []) $ fjoin ! $ move ! (1 ∷ 3 ∷ []) $ join ! $ use0 𝓛 (‵ (O.own_val None (val ∷ []))) (none_of 𝓛 R) $ move ! (1 ∷ 2 ∷ 0 ∷ []) $
-    use0 𝓛 (raw (fact 𝓤 Kept)) (fact_i 𝓤 Kept (emp 𝓤) (refl, sym asked.0.0, (γ', (nv, nb), refl), refl)) $
-    returns ! (look_at ! 0 refl) $ free_all ! refl $ keep ! (1 ∷ 2 ∷ 3 ∷ 0 ∷ []) $ by ! (leaves 𝓛 En hs c y val None (h', (tt, (tt, tt))) (tt, (tt, (tt, tt))))))))))))))))
+    use0 𝓛 (raw (fact 𝓤 Kept)) (fact_i 𝓤 Kept (emp 𝓤) (refl, sym asked.0.0, (γ', apart, refl), refl)) $
+    returns ! (look_at ! 0 refl) $ free_all ! refl $ keep ! (1 ∷ 2 ∷ 3 ∷ 0 ∷ []) $ by ! (leaves 𝓛 En hs c y val None (h', (tt, (tt, tt))) (tt, (tt, (tt, tt))))))))))))))

@@ -80,7 +80,7 @@ impl Hand {
         ensures tiles { Tiles self.now.of.base self.now.seen self.now.mine }
         ensures size { seen_size self.now ≡ self.now.of.base + own_places self.now }
     {
-        let _seen = self.seen;
+        let _shares = self.shares;
     }
 
     /// The size that it has seen.

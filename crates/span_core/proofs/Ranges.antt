@@ -1,7 +1,9 @@
 -- Two halves of a range of workers.
-use Rattle.std.proofs.Common.{◌≡◌, ℕ, ◌+◌, ◌<◌, List, [], ◌++◌, length, Result, Ok, IfOk, subst, sym, arith, length-append}
-use Rattle.std.proofs.lemmas.Result.{IfOk-weaker, IfOk-at_ok}
+use Rattle.std.proofs.Common.{◌≡◌, ℕ, ◌+◌, ◌<◌, ◌⊎◌, List, [], ◌++◌, length, Result, Ok, Err, IfOk, IfErr, refl, ap, inl, inr, subst, sym, arith, length-append}
+use Rattle.std.proofs.lemmas.Result.{IfOk-weaker, IfOk-at_ok, IfErr-at_err}
 use Rattle.span_core.specs.Workers.{EachGives, RefusesLowest}
+use Rattle.span_core.specs.declared.errors.Refusal.{Refusal}
+use Rattle.span_core.specs.declared.errors.Refusal.TheVariants.{Stuck}
 use Rattle.span_core.proofs.Each.{EachFrom-append}
 
 -- the answers of both halves, in order
@@ -39,15 +41,6 @@ module _ {A : Type 0} (gives : ℕ → A → Type 0) (may_refuse : ℕ → Type 
         subst may_refuse same one.3,
       )
 
--- what was promised of equal numbers and equal jobs
-pub given-along : {J : Type 0} (F : J → ℕ → ℕ → Type 0) (j k : J) (first middle count high : ℕ) → j ≡ k → first ≡ middle
-    → count ≡ high → F j first count → F k middle high
-given-along {J} F j k first middle count high jobs firsts counts given =
-    let A : J → Type 0 = λ x. F x middle high in
-    let B : ℕ → Type 0 = λ x. F j x high in
-    let C : ℕ → Type 0 = λ x. F j first x in
-    subst A jobs (subst B firsts (subst C counts given))
-
 module _ {A V E : Type 0} (items : V → List A) where
   -- the same of two results, put together
   pub both-give : (gives : ℕ → A → Type 0) (first low middle high : ℕ) (lower upper all : Result V E)
@@ -63,3 +56,21 @@ module _ {A V E : Type 0} (items : V → List A) where
       (IfOk-at_ok (λ v. EachGives gives middle high (items v)) made.3 q)
       made.4)
       both
+
+module _ {A V : Type 0} (items : V → List A) (gives : ℕ → A → Type 0) (may_refuse : ℕ → Type 0) where
+  -- why both halves together were stuck
+  pub both-refused : (first low high : ℕ) (lower upper all : Result V Refusal)
+      → IfOk lower (λ v. EachGives gives first low (items v))
+      → IfErr lower (λ e. e ≡ Stuck → RefusesLowest gives may_refuse first low)
+      → IfErr upper (λ e. e ≡ Stuck → RefusesLowest gives may_refuse (first + low) high)
+      → (all ≡ Err Stuck → (lower ≡ Err Stuck) ⊎ ((xs : V) × (lower ≡ Ok xs) × (upper ≡ Err Stuck)))
+      → IfErr all (λ e. e ≡ Stuck → RefusesLowest gives may_refuse first (low + high))
+  both-refused first low high lower upper (Ok v) answered below above ends = tt
+  both-refused first low high lower upper (Err e) answered below above ends = λ stuck.
+      elim (ends (ap Err stuck)) [
+        | inl lowest ↦ lower-refused gives may_refuse first low high (IfErr-at_err (λ e. e ≡ Stuck → RefusesLowest gives may_refuse first low) lowest below refl)
+        | inr next ↦
+            upper-refused gives may_refuse first low (first + low) high (items next.0) refl
+            (IfOk-at_ok (λ v. EachGives gives first low (items v)) next.1 answered)
+            (IfErr-at_err (λ e. e ≡ Stuck → RefusesLowest gives may_refuse (first + low) high) next.2 above refl)
+      ]

@@ -10,6 +10,7 @@
 //! returns.
 #![tactic(auto)]
 
+mod by_halves;
 mod cursor;
 mod errors;
 mod gate;
@@ -21,6 +22,7 @@ mod span;
 mod tests;
 mod workers;
 
+pub use by_halves::{ForkJoin, fork_join};
 pub use cursor::Cursor;
 pub use errors::ParError;
 pub use gate::{Free, Gate, PairGate};

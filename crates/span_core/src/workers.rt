@@ -1,16 +1,14 @@
-//! Workers in threads of their own, started by halves.
-ghost use Rattle.std.specs.Prelude.{◌≡◌, ◌≢◌, ℕ, ◌+◌, ◌^◌, ◌<◌, ◌≤◌, ◌++◌, ◌⊎◌, ◌↔◌, Vec, Ok, IfOk, IsErrOf, Err};
+//! Workers that each pass a gate before and after their work, and give one answer each.
+ghost use Rattle.std.specs.Prelude.{◌≡◌, ◌≢◌, ℕ, ◌≤◌, ◌++◌, ◌⊎◌, ◌↔◌, Vec, Ok, IfOk, IsErrOf, Err};
 ghost use Rattle.std.specs.Bool.{MatchBool};
-ghost use denote.Param.Send.{IsSync, IsSend};
 ghost use Rattle.span_core.specs.Workers.{EachGives, RefusesLowest, IsBadNumber};
 
+use crate::by_halves::{ForkJoin, fork_join};
 use crate::errors::{ParError, Refusal};
 use crate::gate::Gate;
 use std::alloc::{AllocError, Global};
-use std::snapshot::Snapshot;
 use std::sync::Wait;
-use std::thread;
-use std::thread::{Promise, Threads};
+use std::thread::Threads;
 
 /// What each worker of a team does.
 pub trait Job<A> {
@@ -24,48 +22,6 @@ pub trait Job<A> {
     fn work(&self, worker: u32) -> Result<A, AllocError>
         requires { ready self.now }
         ensures { IfOk result (gives self.now worker) };
-}
-
-// What the upper half of a range is to answer.
-#[derive(Drop)]
-struct Upper<J, G> {
-    job: Snapshot<J>,
-    gate: Snapshot<G>,
-    first: u32,
-    count: u32,
-}
-
-impl<A, J: Job<A>, G: Gate> Promise<Result<Vec<A>, Refusal>> for Upper<J, G> {
-    ghost use Rattle.std.specs.Prelude.{◌≡◌, IfOk, Err};
-    ghost use Rattle.span_core.specs.Workers.{EachGives, RefusesLowest};
-    ghost use Rattle.span_core.specs.declared.errors.Refusal.TheVariants.{Stuck};
-
-    ghost kept_by = { λ p r. IfOk r (λ answers. EachGives (J.gives p.job.value) p.first p.count answers.items)
-        × (r ≡ Err Stuck → RefusesLowest (J.gives p.job.value) (G.may_refuse p.gate.value) p.first p.count) };
-}
-
-// One worker passes the gate and works.
-fn one<A: Drop, J: Job<A>, G: Gate>(
-    alloc: Global,
-    job: &J,
-    gate: &G,
-    worker: u32,
-) -> Result<Vec<A>, Refusal>
-    requires { J.ready job.now }
-    ensures answers { IfOk result (λ answers. EachGives (J.gives job.now) worker 1 answers.items) }
-    ensures stuck { result ≡ Err Refusal.Stuck → G.may_refuse gate.now worker }
-{
-    if !gate.before(worker) {
-        gate.after(worker);
-        return Err(Refusal::Stuck);
-    }
-    let answer = job.work(worker);
-    gate.after(worker);
-    let mut answers = Vec::new(alloc);
-    match answers.push(answer?) {
-        Ok(()) => Ok(answers),
-        Err(_) => Err(Refusal::NoMemory),
-    }
 }
 
 // The answers of both halves, or why there are none.
@@ -88,83 +44,78 @@ fn both<A: Drop>(
     Ok(answers)
 }
 
-#[cycle(halves)]
-fn range<R: Threads + Wait + Sync, A: Send + Drop, J: Job<A> + Sync, G: Gate + Sync>(
-    rt: &R,
+// A job, and the gate that its workers pass.
+#[derive(Drop)]
+struct Crew<'a, J, G> {
     alloc: Global,
-    job: &J,
-    gate: &G,
-    first: u32,
-    count: u32,
-) -> Result<Vec<A>, Refusal>
-    requires ready { J.ready job.now }
-    requires some { 0 < count }
-    requires fits { first + count < 2 ^ 32 }
-    ensures answers { IfOk result (λ answers. EachGives (J.gives job.now) first count answers.items) }
-    ensures stuck { result ≡ Err Refusal.Stuck
-        → RefusesLowest (J.gives job.now) (G.may_refuse gate.now) first count }
-{
-    if count == 1 {
-        return one(alloc, job, gate, first);
-    }
-    let low = count / 2;
-    halves(rt, alloc, job, gate, first, low, first + low, count - low)
+    job: &'a J,
+    gate: &'a G,
 }
 
-#[cycle(halves)]
-fn halves<R: Threads + Wait + Sync, A: Send + Drop, J: Job<A> + Sync, G: Gate + Sync>(
-    rt: &R,
-    alloc: Global,
-    job: &J,
-    gate: &G,
-    first: u32,
-    low: u32,
-    middle: u32,
-    high: u32,
-) -> Result<Vec<A>, Refusal>
-    requires ready { J.ready job.now }
-    requires some { 0 < low × 0 < high }
-    requires fits { (first + low ≡ middle) × (middle + high < 2 ^ 32) }
-    ensures answers { IfOk result (λ answers. EachGives (J.gives job.now) first (low + high) answers.items) }
-    ensures stuck { result ≡ Err Refusal.Stuck
-        → RefusesLowest (J.gives job.now) (G.may_refuse gate.now) first (low + high) }
-{
-    thread::scope(
-        thread::scope_env(),
-        rt,
-        |scope| -> Result<Vec<A>, Refusal>
-            requires { IsSync R.row × IsSync J.row × IsSync G.row × IsSend A.row × J.ready job.now
-                × (0 < low) × (0 < high) × (first + low ≡ middle) × (middle + high < 2 ^ 32) }
-            ensures answers { IfOk result (λ answers.
-                EachGives (J.gives job.entry.now) first (low + high) answers.items) }
-            ensures stuck { result ≡ Err Refusal.Stuck
-                → RefusesLowest (J.gives job.entry.now) (G.may_refuse gate.entry.now) first (low + high) }
-        {
-            let promise = Upper {
-                job: Snapshot::of(job),
-                gate: Snapshot::of(gate),
-                first: middle,
-                count: high,
-            };
-            let child = scope.spawn_with(
-                promise,
-                move || -> Result<Vec<A>, Refusal>
-                    requires { IsSync R.row × IsSync J.row × IsSync G.row × IsSend A.row × J.ready job.now
-                        × (0 < high) × (middle + high < 2 ^ 32) }
-                    ensures answers { IfOk result (λ answers.
-                        EachGives (J.gives job.entry.now) middle high answers.items) }
-                    ensures stuck { result ≡ Err Refusal.Stuck
-                        → RefusesLowest (J.gives job.entry.now) (G.may_refuse gate.entry.now) middle high }
-                { range(rt, alloc, job, gate, middle, high) },
-            );
-            let Ok(child) = child else {
-                return Err(Refusal::NoMemory);
-            };
-            let lower = range(rt, alloc, job, gate, first, low);
-            let upper = child.join(rt);
-            both(lower, upper)
-        },
-    )
+impl<'a, A: Drop, J: Job<A>, G: Gate> ForkJoin<(), Vec<A>, Refusal> for Crew<'a, J, G> {
+    ghost use Rattle.std.specs.Prelude.{◌≡◌, ℕ, ◌+◌, ◌<◌, IfOk, IfErr, Result};
+    ghost use Rattle.span_core.specs.Workers.{EachGives, RefusesLowest};
+    ghost use Rattle.span_core.specs.declared.errors.Refusal.TheVariants.{Stuck};
+
+    ghost shares = { λ c _ _ _. J.ready c.job.now };
+
+    ghost gives = { λ c first count answers. EachGives (J.gives c.job.now) first count answers.items };
+
+    ghost refuses = { λ c first count e. e ≡ Stuck
+        → RefusesLowest (J.gives c.job.now) (G.may_refuse c.gate.now) first count };
+
+    // One worker passes the gate and works.
+    fn work(&self, worker: u32, share: ()) -> Result<Vec<A>, Refusal>
+        requires { J.ready self.now.job.now }
+        ensures answer { IfOk result (λ answers. EachGives (J.gives self.now.job.now) worker 1 answers.items) }
+        ensures refused { IfErr result (λ e. e ≡ Stuck
+            → RefusesLowest (J.gives self.now.job.now) (G.may_refuse self.now.gate.now) worker 1) }
+    {
+        if !self.gate.before(worker) {
+            self.gate.after(worker);
+            return Err(Refusal::Stuck);
+        }
+        let answer = self.job.work(worker);
+        self.gate.after(worker);
+        let mut answers = Vec::new(self.alloc);
+        match answers.push(answer?) {
+            Ok(()) => Ok(answers),
+            Err(_) => Err(Refusal::NoMemory),
+        }
+    }
+
+    fn cut(&self, share: (), first: u32, low: u32, high: u32) -> ((), ())
+        requires { J.ready self.now.job.now × (0 < low) × (0 < high) }
+        ensures lower { J.ready self.now.job.now }
+        ensures upper { J.ready self.now.job.now }
+    {
+        (share, share)
+    }
+
+    fn both(
+        &self,
+        first: u32,
+        low: u32,
+        high: u32,
+        lower: Result<Vec<A>, Refusal>,
+        upper: Result<Vec<A>, Refusal>,
+    ) -> Result<Vec<A>, Refusal>
+        requires lower { IfOk lower (λ xs. EachGives (J.gives self.now.job.now) first low xs.items)
+            × IfErr lower (λ e. e ≡ Stuck
+            → RefusesLowest (J.gives self.now.job.now) (G.may_refuse self.now.gate.now) first low) }
+        requires upper { IfOk upper (λ ys. EachGives (J.gives self.now.job.now) (first + low) high ys.items)
+            × IfErr upper (λ e. e ≡ Stuck
+            → RefusesLowest (J.gives self.now.job.now) (G.may_refuse self.now.gate.now) (first + low) high) }
+        ensures answer { IfOk result (λ all. EachGives (J.gives self.now.job.now) first (low + high) all.items) }
+        ensures refused { IfErr result (λ e. e ≡ Stuck
+            → RefusesLowest (J.gives self.now.job.now) (G.may_refuse self.now.gate.now) first (low + high)) }
+    {
+        both(lower, upper)
+    }
+
+    fn unstarted(&self, first: u32, count: u32) -> Refusal {
+        Refusal::NoMemory
+    }
 }
 
 /// Runs the job of each worker in a thread of its own, but the first, and answers what each gave, in order.
@@ -190,7 +141,8 @@ pub fn run_workers<R: Threads + Wait + Sync, A: Send + Drop, J: Job<A> + Sync, G
     if !are_workers(workers) {
         return Err(ParError::BadWorkers);
     }
-    match range(rt, alloc, job, gate, 0, workers) {
+    let crew = Crew { alloc, job, gate };
+    match fork_join(rt, &crew, (), 0, workers) {
         Ok(answers) => Ok(answers),
         Err(Refusal::NoMemory) => Err(ParError::NoMemory),
         Err(Refusal::Stuck) => Err(ParError::Stuck),

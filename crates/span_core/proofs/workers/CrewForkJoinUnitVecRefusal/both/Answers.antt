@@ -1,0 +1,14 @@
+use Rattle.std.proofs.Common.{◌≡◌, ◌+◌, ◌⊎◌, Ok, Err, IfOk, IfErr, refl, inl, inr}
+use Rattle.std.proofs.lemmas.Result.{IfOk-at_ok, IfErr-at_err}
+use Rattle.span_core.specs.Workers.{EachGives, RefusesLowest}
+use Rattle.span_core.specs.declared.errors.Refusal.TheVariants.{Stuck}
+use Rattle.span_core.proofs.Ranges.{both-give, both-refused}
+use Rattle.span_core.proofs.workers.CrewForkJoinUnitVecRefusal.both.Goals as goal
+
+pub returns-clause-answer : goal.returns-clause-answer
+returns-clause-answer g c =
+    both-give (λ v. v.items) (g.J.Job.gives c.args.self.now.job.now) c.args.first c.args.low (c.args.first + c.args.low) c.args.high c.args.lower c.args.upper c.both.result refl c.requires.lower.0 c.requires.upper.0 c.both.ensures.answers
+
+pub returns-clause-refused : goal.returns-clause-refused
+returns-clause-refused g c =
+    both-refused (λ v. v.items) (g.J.Job.gives c.args.self.now.job.now) (g.G.Gate.may_refuse c.args.self.now.gate.now) c.args.first c.args.low c.args.high c.args.lower c.args.upper c.both.result c.requires.lower.0 c.requires.lower.1 c.requires.upper.1 c.both.ensures.stuck

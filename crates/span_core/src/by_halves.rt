@@ -1,0 +1,144 @@
+//! Work of a range of workers, each in a thread of its own, started by halves.
+ghost use Rattle.std.specs.Prelude.{◌≡◌, ℕ, ◌+◌, ◌^◌, ◌<◌, IfOk, IfErr};
+ghost use denote.Param.Send.{IsSync, IsSend};
+
+use std::marker::PhantomData;
+use std::snapshot::Snapshot;
+use std::sync::Wait;
+use std::thread;
+use std::thread::{Promise, Threads};
+
+/// What workers do together: one alone, and a range by its halves. A range of workers has a share `S`, and gives an
+/// answer `A`, or `E` where it has none.
+pub trait ForkJoin<S, A, E> {
+    /// What the share of a range, of so many workers from the first on, may be.
+    ghost shares: { Self → ℕ → ℕ → S → Type 0 };
+
+    /// What a range may answer.
+    ghost gives: { Self → ℕ → ℕ → A → Type 0 };
+
+    /// Why a range may have no answer.
+    ghost refuses: { Self → ℕ → ℕ → E → Type 0 };
+
+    /// Does the work of one worker.
+    fn work(&self, worker: u32, share: S) -> Result<A, E>
+        requires { shares self.now worker 1 share }
+        ensures answer { IfOk result (gives self.now worker 1) }
+        ensures refused { IfErr result (refuses self.now worker 1) };
+
+    /// Cuts the share of a range in two, for its `low` lowest workers and for the `high` others.
+    fn cut(&self, share: S, first: u32, low: u32, high: u32) -> (S, S)
+        requires { shares self.now first (low + high) share × (0 < low) × (0 < high) }
+        ensures lower { shares self.now first low result.0 }
+        ensures upper { shares self.now (first + low) high result.1 };
+
+    /// Puts together what the two halves of a range answered.
+    fn both(
+        &self,
+        first: u32,
+        low: u32,
+        high: u32,
+        lower: Result<A, E>,
+        upper: Result<A, E>,
+    ) -> Result<A, E>
+        requires lower { IfOk lower (gives self.now first low) × IfErr lower (refuses self.now first low) }
+        requires upper { IfOk upper (gives self.now (first + low) high)
+            × IfErr upper (refuses self.now (first + low) high) }
+        ensures answer { IfOk result (gives self.now first (low + high)) }
+        ensures refused { IfErr result (refuses self.now first (low + high)) };
+
+    /// Why a range has no answer whose upper half has no thread.
+    fn unstarted(&self, first: u32, count: u32) -> E
+        ensures { refuses self.now first count result };
+}
+
+// What the upper half of a range is to answer.
+#[derive(Drop)]
+struct Upper<S, J> {
+    share: PhantomData<S>,
+    job: Snapshot<J>,
+    first: u32,
+    count: u32,
+}
+
+impl<S, A, E, J: ForkJoin<S, A, E>> Promise<Result<A, E>> for Upper<S, J> {
+    ghost use Rattle.std.specs.Prelude.{IfOk, IfErr};
+
+    ghost kept_by = { λ p r. IfOk r (J.gives p.job.value p.first p.count)
+        × IfErr r (J.refuses p.job.value p.first p.count) };
+}
+
+/// Does the work of a range of workers.
+///
+/// A range of one is the worker; a larger one starts a thread for its upper half, does its lower half itself, and
+/// joins. Where that thread can't be started, nobody of the range works. Every thread that was started has ended then.
+#[cycle(halves)]
+pub fn fork_join<
+    R: Threads + Wait + Sync,
+    S: Send + Drop,
+    A: Send + Drop,
+    E: Send + Drop,
+    J: ForkJoin<S, A, E> + Sync,
+>(rt: &R, job: &J, share: S, first: u32, count: u32) -> Result<A, E>
+    requires share { J.shares job.now first count share }
+    requires some { 0 < count }
+    requires fits { first + count < 2 ^ 32 }
+    ensures answer { IfOk result (J.gives job.now first count) }
+    ensures refused { IfErr result (J.refuses job.now first count) }
+{
+    if count == 1 {
+        return job.work(first, share);
+    }
+    let low = count / 2;
+    halves(rt, job, share, first, low, first + low, count - low)
+}
+
+#[cycle(halves)]
+fn halves<
+    R: Threads + Wait + Sync,
+    S: Send + Drop,
+    A: Send + Drop,
+    E: Send + Drop,
+    J: ForkJoin<S, A, E> + Sync,
+>(rt: &R, job: &J, share: S, first: u32, low: u32, middle: u32, high: u32) -> Result<A, E>
+    requires share { J.shares job.now first (low + high) share }
+    requires some { 0 < low × 0 < high }
+    requires fits { (first + low ≡ middle) × (middle + high < 2 ^ 32) }
+    ensures answer { IfOk result (J.gives job.now first (low + high)) }
+    ensures refused { IfErr result (J.refuses job.now first (low + high)) }
+{
+    let (lower_share, upper_share) = job.cut(share, first, low, high);
+    thread::scope(
+        thread::scope_env(),
+        rt,
+        |scope| -> Result<A, E>
+            requires { IsSync R.row × IsSync J.row × IsSend S.row × IsSend A.row × IsSend E.row
+                × J.shares job.now first low lower_share × J.shares job.now middle high upper_share
+                × (0 < low) × (0 < high) × (first + low ≡ middle) × (middle + high < 2 ^ 32) }
+            ensures answer { IfOk result (J.gives job.entry.now first (low + high)) }
+            ensures refused { IfErr result (J.refuses job.entry.now first (low + high)) }
+        {
+            let promise: Upper<S, J> = Upper {
+                share: PhantomData,
+                job: Snapshot::of(job),
+                first: middle,
+                count: high,
+            };
+            let child = scope.spawn_with(
+                promise,
+                move || -> Result<A, E>
+                    requires { IsSync R.row × IsSync J.row × IsSend S.row × IsSend A.row × IsSend E.row
+                        × J.shares job.now middle high upper_share × (0 < high) × (middle + high < 2 ^ 32) }
+                    ensures answer { IfOk result (J.gives job.entry.now middle high) }
+                    ensures refused { IfErr result (J.refuses job.entry.now middle high) }
+                { fork_join(rt, job, upper_share, middle, high) },
+            );
+            let Ok(child) = child else {
+                return Err(job.unstarted(first, low + high));
+            };
+            let lower = fork_join(rt, job, lower_share, first, low);
+            let upper = child.join(rt);
+            job.both(first, low, high, lower, upper)
+        },
+    )
+}

@@ -57,9 +57,3 @@ module _ (word : WordView) (each : ℕ) (may_refuse : ℕ → Type 0) where
       why e (inr (inr (team, was, next))) =
           upper_of_range first low middle high shares team e meets (IfOk-at_ok (IsTeam word shares (first * each) (middle * each)) was won)
           (IfErr-at_err (IsOfRange word each may_refuse middle high) next above)
-
--- what was promised of equal values
-pub kept_along : {V G : Type 0} (F : V → G → ℕ → ℕ → ℕ → Type 0) (v w : V) (a b : G) (each e first f count n : ℕ)
-    → v ≡ w → a ≡ b → each ≡ e → first ≡ f → count ≡ n → F v a each first count → F w b e f n
-kept_along {V} {G} F v w a b each e first f count n vs gates eaches firsts counts kept =
-    subst (λ x. F x b e f n) vs (subst (λ x. F v x e f n) gates (subst (λ x. F v a x f n) eaches (subst (λ x. F v a each x n) firsts (subst (λ x. F v a each first x) counts kept))))

@@ -13,19 +13,18 @@ use grow_core::{OpenError, Shared};
 pub use refusal::RaceError;
 pub use report::RaceReport;
 use report::report_of;
-use span_core::Gate;
+use span_core::{Gate, fork_join};
 use std::alloc::Global;
 use std::sync::Wait;
 use std::thread::Threads;
-use workers::range;
+use team::Team;
+use workers::Workers;
 
 /// Workers append to one shared vector beside each other, and what they won is checked.
 ///
 /// Worker w appends w * each + j for j from 0 to each - 1. It passes the gate before its first value and after its
-/// last. Workers are started by halves: a range of one is the worker; a larger one starts a thread for its upper half,
-/// does its lower half itself, and joins. Where that thread can't be started, nobody of the range works or passes the
-/// gate. The refusal of the worker with the lowest number is answered. Time and memory are linear in the number of
-/// values.
+/// last. They are started by `fork_join`; where a range's thread can't be started, nobody of it passes the gate. The
+/// refusal of the worker with the lowest number is answered. Time and memory are linear in the number of values.
 pub fn race<R: Threads + Wait + Sync, G: Gate + Sync>(
     rt: &R,
     alloc: Global,
@@ -47,11 +46,20 @@ pub fn race<R: Threads + Wait + Sync, G: Gate + Sync>(
     }
     let each = u64::from(each);
     let size = u64::from(workers) * each;
-    let (vector, hand) = match Shared::fresh(alloc, size) {
+    let (vector, mut hand) = match Shared::fresh(alloc, size) {
         Ok(made) => made,
         Err(OpenError::NoMemory) => return Err(RaceError::NoMemory),
         Err(OpenError::BadLimit) => unreachable!(),
     };
-    let team = range(rt, alloc, &vector, gate, each, hand, 0, workers)?;
+    let share = vector.split(&mut hand, workers);
+    let crew = Workers {
+        rt,
+        alloc,
+        vector: &vector,
+        gate,
+        each,
+    };
+    let mut team = fork_join(rt, &crew, share, 0, workers)?;
+    team.join(&vector, Team::new(alloc, hand))?;
     Ok(report_of(alloc, vector, team, size)?)
 }

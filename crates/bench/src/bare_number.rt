@@ -1,12 +1,10 @@
 //! The yardsticks: bare steps on one atomic number.
-use crate::trial::{Trial, sum_of};
+use crate::trial::{Trial, time_threads};
 use anyhow::Result;
 use std::alloc::AllocGlobal;
 use std::rt::Clock;
 use std::sync::atomic::{AtomicU64, Ordering};
-use std::thread;
 use std::thread::Threads;
-use std::time::Instant;
 
 /// The kinds of step.
 #[derive(Clone, Copy, Debug)]
@@ -55,12 +53,10 @@ pub fn run_steps<R: Threads + Clock + AllocGlobal + Sync>(
     tries: u64,
 ) -> Result<Trial> {
     let number = AtomicU64::new(0);
-    let start = Instant::now(rt)?;
-    let wins = thread::map_indices(rt, rt.alloc(), threads, &|_| tries_of(step, &number, tries))?;
-    let took = start.elapsed(rt)?;
+    let (took, wins) = time_threads(rt, threads, &|_| tries_of(step, &number, tries))?;
     Ok(Trial {
         took,
-        wins: sum_of(wins.as_slice()),
+        wins,
         size: number.load(Ordering::SeqCst),
     })
 }

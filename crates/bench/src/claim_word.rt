@@ -2,14 +2,12 @@
 ghost use Rattle.std.specs.Prelude.{◌≡◌, All, IfOk};
 ghost use Rattle.claim_core.specs.Hand.{IsHandOf};
 
-use crate::trial::{Trial, sum_of};
+use crate::trial::{Trial, time_hands};
 use anyhow::Result;
 use claim_core::{Hand, Word};
 use std::alloc::{AllocError, AllocGlobal, Global};
 use std::rt::Clock;
-use std::thread;
 use std::thread::Threads;
-use std::time::Instant;
 
 // One exchange a try, from what the hand has seen.
 fn claim(word: &Word<Global>, mut hand: Hand, tries: u64) -> u64
@@ -56,18 +54,16 @@ pub fn run_claims<R: Threads + Clock + AllocGlobal + Sync>(
 ) -> Result<Trial> {
     let (word, mut hand) = Word::open(rt.alloc(), 1 << 32, 0)?;
     let hands = hands_for(rt.alloc(), &word, &mut hand, threads)?;
-    let start = Instant::now(rt)?;
-    let wins = thread::map_vec(
+    let (took, wins) = time_hands(
         rt,
         hands,
         &|hand: Hand| -> u64
             requires { IsHandOf word hand }
         { claim(&word, hand, tries) },
     )?;
-    let took = start.elapsed(rt)?;
     Ok(Trial {
         took,
-        wins: sum_of(wins.as_slice()),
+        wins,
         size: word.size(&mut hand),
     })
 }

@@ -5,14 +5,13 @@ ghost use Rattle.grow_core.specs.Vector.{IsHandOf};
 
 use crate::other_vectors::push_boxcar;
 use crate::shared_vector::{hands_for, push};
+use crate::trial::{time_hands, time_threads};
 use anyhow::{Result, bail};
 use grow_core::{Hand, Shared};
 use std::alloc::{AllocError, AllocGlobal};
 use std::rt::Clock;
 use std::sync::Wait;
-use std::thread;
 use std::thread::Threads;
-use std::time::Instant;
 
 // The values that all threads append together on a new vector.
 const FRESH: u64 = 10_000_000;
@@ -144,15 +143,14 @@ impl Load {
         push(rt, &vector, first, self.filled);
         let hands = hands_for(rt.alloc(), &vector, &mut hand, threads, 1)?;
         let times = self.values / (threads as u64).max(1);
-        let start = Instant::now(rt)?;
-        thread::map_vec(
+        let (took, _wins) = time_hands(
             rt,
             hands,
             &|hand: Hand<u64>| -> u64
                 requires { IsSync R.row × IsHandOf vector hand }
             { self.work.run(rt, &vector, hand, times) },
         )?;
-        println!(rt; "{}", start.elapsed(rt)?.as_nanos())?;
+        println!(rt; "{}", took.as_nanos())?;
         Ok(())
     }
 }
@@ -164,8 +162,7 @@ pub fn print_boxcar_time<R: Threads + Wait + Clock + Print + AllocGlobal + Sync>
 ) -> Result<()> {
     let list = boxcar::Vec::new(rt.alloc())?;
     let times = FRESH / (threads as u64).max(1);
-    let start = Instant::now(rt)?;
-    thread::map_indices(rt, rt.alloc(), threads, &|_| push_boxcar(rt, &list, times))?;
-    println!(rt; "{}", start.elapsed(rt)?.as_nanos())?;
+    let (took, _wins) = time_threads(rt, threads, &|_| push_boxcar(rt, &list, times))?;
+    println!(rt; "{}", took.as_nanos())?;
     Ok(())
 }

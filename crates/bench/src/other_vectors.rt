@@ -1,22 +1,27 @@
 //! The yardsticks of a push: a `Vec` under a lock, and `boxcar`, the kit's vector that threads push on without one.
 //! Each has room for all values before the time starts.
-use crate::trial::{Trial, sum_of};
+use crate::trial::{Trial, time_threads};
 use anyhow::Result;
 use std::alloc::AllocGlobal;
 use std::rt::Clock;
 use std::sync::{Mutex, Wait};
-use std::thread;
 use std::thread::Threads;
-use std::time::Instant;
 
-fn push_locked<R: Wait>(rt: &R, list: &Mutex<Vec<u64>>, tries: u64) -> u64 {
+// How many of the pushes appended a value.
+fn count_pushes<F: Fn(u64) -> bool>(tries: u64, push: &F) -> u64
+    requires callable { F.IsAlwaysCallable push.now }
+{
     let mut won: u64 = 0;
     for value in 0..tries {
-        if list.lock(rt).push(value).is_ok() {
+        if push(value) {
             won = won.wrapping_add(1);
         }
     }
     won
+}
+
+fn push_locked<R: Wait>(rt: &R, list: &Mutex<Vec<u64>>, tries: u64) -> u64 {
+    count_pushes(tries, &|value| list.lock(rt).push(value).is_ok())
 }
 
 /// Pushes into a `Vec` under a `Mutex`.
@@ -27,25 +32,17 @@ pub fn run_locked<R: Threads + Wait + Clock + AllocGlobal + Sync>(
 ) -> Result<Trial> {
     let room = threads.saturating_mul(tries as usize);
     let list = Mutex::new(Vec::with_capacity(rt.alloc(), room)?);
-    let start = Instant::now(rt)?;
-    let wins = thread::map_indices(rt, rt.alloc(), threads, &|_| push_locked(rt, &list, tries))?;
-    let took = start.elapsed(rt)?;
+    let (took, wins) = time_threads(rt, threads, &|_| push_locked(rt, &list, tries))?;
     Ok(Trial {
         took,
-        wins: sum_of(wins.as_slice()),
+        wins,
         size: list.into_inner().len() as u64,
     })
 }
 
 /// How many of the pushes appended a value.
 pub fn push_boxcar<R: Wait>(rt: &R, list: &boxcar::Vec<u64>, tries: u64) -> u64 {
-    let mut won: u64 = 0;
-    for value in 0..tries {
-        if list.push(rt, value).is_ok() {
-            won = won.wrapping_add(1);
-        }
-    }
-    won
+    count_pushes(tries, &|value| list.push(rt, value).is_ok())
 }
 
 /// Pushes on a `boxcar::Vec`.
@@ -56,12 +53,10 @@ pub fn run_boxcar<R: Threads + Wait + Clock + AllocGlobal + Sync>(
 ) -> Result<Trial> {
     let room = threads.saturating_mul(tries as usize);
     let list = boxcar::Vec::with_capacity(rt.alloc(), room)?;
-    let start = Instant::now(rt)?;
-    let wins = thread::map_indices(rt, rt.alloc(), threads, &|_| push_boxcar(rt, &list, tries))?;
-    let took = start.elapsed(rt)?;
+    let (took, wins) = time_threads(rt, threads, &|_| push_boxcar(rt, &list, tries))?;
     Ok(Trial {
         took,
-        wins: sum_of(wins.as_slice()),
+        wins,
         size: list.count() as u64,
     })
 }

@@ -3,15 +3,13 @@ ghost use Rattle.std.specs.Prelude.{◌≡◌, ◌<◌, All, IfOk};
 ghost use Rattle.std.specs.Thread.{IsSync};
 ghost use Rattle.grow_core.specs.Vector.{IsHandOf};
 
-use crate::trial::{Trial, sum_of};
+use crate::trial::{Trial, time_hands};
 use anyhow::Result;
 use grow_core::{Hand, Shared};
 use std::alloc::{AllocError, AllocGlobal, Global};
 use std::rt::Clock;
 use std::sync::Wait;
-use std::thread;
 use std::thread::Threads;
-use std::time::Instant;
 
 /// How many of the pushes appended a value.
 pub fn push<R: Wait>(rt: &R, vector: &Shared<u64>, mut hand: Hand<u64>, tries: u64) -> u64
@@ -57,18 +55,16 @@ pub fn run_pushes<R: Threads + Wait + Clock + AllocGlobal + Sync>(
     let limit = (threads as u64).saturating_mul(tries);
     let (vector, mut hand) = Shared::fresh(rt.alloc(), limit)?;
     let hands = hands_for(rt.alloc(), &vector, &mut hand, threads, 1)?;
-    let start = Instant::now(rt)?;
-    let wins = thread::map_vec(
+    let (took, wins) = time_hands(
         rt,
         hands,
         &|hand: Hand<u64>| -> u64
             requires { IsSync R.row × IsHandOf vector hand }
         { push(rt, &vector, hand, tries) },
     )?;
-    let took = start.elapsed(rt)?;
     Ok(Trial {
         took,
-        wins: sum_of(wins.as_slice()),
+        wins,
         size: vector.size(&mut hand),
     })
 }

@@ -1,5 +1,12 @@
-//! What one run of a measured thing gives.
-use std::time::Duration;
+//! What one run of a measured thing gives, and the time that its threads take.
+ghost use Rattle.std.specs.Fork.{AcceptsJobs};
+
+use anyhow::Result;
+use std::alloc::AllocGlobal;
+use std::rt::Clock;
+use std::thread;
+use std::thread::Threads;
+use std::time::{Duration, Instant};
 
 /// How long the tries took, how many of them won, and the size that they left: the two are the same where no win is lost.
 #[derive(Clone, Copy, Debug)]
@@ -9,7 +16,35 @@ pub struct Trial {
     pub size: u64,
 }
 
-/// All wins of the threads.
-pub fn sum_of(wins: &[u64]) -> u64 {
+// All wins of the threads.
+fn sum_of(wins: &[u64]) -> u64 {
     wins.iter().fold(0u64, |sum, won| sum.wrapping_add(*won))
+}
+
+/// Runs the tries in this many threads: how long they took, and how many of them won.
+pub fn time_threads<R: Threads + Clock + AllocGlobal + Sync, F: Fn(usize) -> u64 + Sync>(
+    rt: &R,
+    threads: usize,
+    tries_of: &F,
+) -> Result<(Duration, u64)>
+    requires callable { F.IsAlwaysCallable tries_of.now }
+{
+    let start = Instant::now(rt)?;
+    let wins = thread::map_indices(rt, rt.alloc(), threads, tries_of)?;
+    let took = start.elapsed(rt)?;
+    Ok((took, sum_of(wins.as_slice())))
+}
+
+/// The same in a thread for each hand, which it uses.
+pub fn time_hands<R: Threads + Clock + Sync, H: Send + Drop, F: Fn(H) -> u64 + Sync>(
+    rt: &R,
+    hands: Vec<H>,
+    tries_of: &F,
+) -> Result<(Duration, u64)>
+    requires callable { AcceptsJobs F.Fn tries_of.now hands.items }
+{
+    let start = Instant::now(rt)?;
+    let wins = thread::map_vec(rt, hands, tries_of)?;
+    let took = start.elapsed(rt)?;
+    Ok((took, sum_of(wins.as_slice())))
 }

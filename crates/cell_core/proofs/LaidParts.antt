@@ -258,12 +258,16 @@ module _ (T : RattleType) (L : Laws T) {M : Type 1} {𝓤 : Ura M} (𝓛 : Logic
   abbrev R : RattleType
   R = param 0 T
 
-  -- a cell is room again, whatever it holds
+  -- the parts of a cell are room, whatever it holds
+  pub vacated : (γ : Names) (b e : ℕ) → ent 𝓤 (sem 𝓛 (still R b γ e)) (sem 𝓛 (rooms R b e))
+  vacated γ b e = qed 𝓛 (‵ (still R b γ e) ∷ []) ∵ fpick ! (λ r. fsplit3 ! $ use1 𝓛 (‵ (froom (ty_int w64) b (e + 0))) (𝓛.laws.at_room (ty_int w64) b (e + 0) (vint w64 r.0)) $
+      move ! (1 ∷ []) $ use1 𝓛 (‵ (froom (bare (layout T)) b (at R e))) (emptied T L 𝓛 b (at R e) r.1) $
+      nothing ! $ move ! (2 ∷ 1 ∷ 0 ∷ []) $ fjoin3 ! $ keep ! (0 ∷ []) $ done !)
+
+  -- so the cell is room again
   cleared : (γ : Names) (b e : ℕ) → ent 𝓤 (sem 𝓛 (owned R b γ e)) (H.room (bare (cell_ty R)) b e)
   cleared γ b e = let Rooms : Fml = rooms R b e in let Room : Fml = froom (bare (cell_ty R)) b e in
-      qed 𝓛 (‵ (owned R b γ e) ∷ []) ∵ fsplit ! $ fpick ! (λ r. fsplit3 ! $ use1 𝓛 (‵ (froom (ty_int w64) b (e + 0))) (𝓛.laws.at_room (ty_int w64) b (e + 0) (vint w64 r.0)) $
-      move ! (1 ∷ []) $ use1 𝓛 (‵ (froom (bare (layout T)) b (at R e))) (emptied T L 𝓛 b (at R e) r.1) $
-      nothing ! $ move ! (2 ∷ 1 ∷ 0 ∷ []) $ fjoin3 ! $ move ! (0 ∷ 2 ∷ []) $ use2 𝓛 (‵ Room) (apply∗ 𝓤 (sem 𝓛 Rooms) (sem 𝓛 Room)) $ keep ! (0 ∷ []) $ done !)
+      qed 𝓛 (‵ (owned R b γ e) ∷ []) ∵ fsplit ! $ use1 𝓛 (‵ Rooms) (vacated γ b e) $ use2 𝓛 (‵ Room) (apply∗ 𝓤 (sem 𝓛 Rooms) (sem 𝓛 Room)) $ keep ! (0 ∷ []) $ done !
 
   -- the same of all cells of a row, before the room that is left
   cleared_along : (b : ℕ) (γs : List Names) (left e e' : ℕ) → e' ≡ length γs * stride R + e

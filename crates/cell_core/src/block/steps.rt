@@ -112,23 +112,6 @@ impl<T, A: Allocator> Laid<T, A> {
         unsafe { &*link.ptr.add(index) }
     }
 
-    // The value of the last cell, if it holds one. The cell becomes room.
-    pub(crate) fn pop(&mut self, link: Link<T>, index: usize) -> Option<T>
-        requires { IsLinked self.old.at link.ptr × (length self.old.cells ≡ index + 1) }
-        ensures { (self.new.heap ≡ self.old.heap) × (self.new.at ≡ self.old.at)
-            × HasOneMore self.new.cells self.old.cells × (self.new.left ≡ self.old.left + 1) }
-    {
-        unsafe {
-            let place = link.ptr.add(index);
-            let word = (&raw const (*place).state).read();
-            if word == 2 {
-                Some((&raw const (*place).room).read())
-            } else {
-                None
-            }
-        }
-    }
-
     // The value of the cell at an index, if it holds one. The cell is empty then, and has new names.
     pub(crate) fn take(&mut self, link: Link<T>, index: usize) -> Option<T>
         requires { IsLinked self.old.at link.ptr × (index < length self.old.cells) }
@@ -146,6 +129,24 @@ impl<T, A: Allocator> Laid<T, A> {
                 None
             }
         }
+    }
+
+    // The last cell becomes room, whatever it holds: a value that is still there is not dropped.
+    fn shrink(&mut self)
+        requires { 0 < length self.old.cells }
+        ensures { (self.new.heap ≡ self.old.heap) × (self.new.at ≡ self.old.at)
+            × HasOneMore self.new.cells self.old.cells × (self.new.left ≡ self.old.left + 1) }
+    {}
+
+    // The value of the last cell, if it holds one. The cell becomes room.
+    pub(crate) fn pop(&mut self, link: Link<T>, index: usize) -> Option<T>
+        requires { IsLinked self.old.at link.ptr × (length self.old.cells ≡ index + 1) }
+        ensures { (self.new.heap ≡ self.old.heap) × (self.new.at ≡ self.old.at)
+            × (length self.new.cells ≡ index) × (self.new.left ≡ self.old.left + 1) }
+    {
+        let value = self.take(link, index);
+        self.shrink();
+        value
     }
 
     // Frees a row, whatever is in its cells. Values that are still there are not dropped.

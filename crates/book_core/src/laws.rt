@@ -1,7 +1,7 @@
 //! What holds of the table of events and of every legal history, each the contract of a call without a body.
 ghost use Rattle.book_core.specs.Laws.{ClaimsAppend, OwnersFill, OwnersBreak};
-ghost use Rattle.book_core.specs.Laws.{HistoriesSplit, WritersSplit, HistoriesTile, FinishedCellsStay, ValuesAreTheOwners};
-ghost use Rattle.book_core.specs.Laws.{LooksTellTheOwnersValue};
+ghost use Rattle.book_core.specs.Laws.{HistoriesSplit, WritersSplit, HistoriesTile, FinishedCellsStay};
+ghost use Rattle.book_core.specs.Laws.{ValuesAreTheOwners, LooksTellTheOwnersValue};
 
 /// A claim up to the limit is legal, and appends its places as pending ones.
 pub fn claims_append()

@@ -51,7 +51,7 @@ pub fn race<R: Threads + Wait + Sync, G: Gate + Sync>(
         Err(OpenError::NoMemory) => return Err(RaceError::NoMemory),
         Err(OpenError::BadLimit) => unreachable!(),
     };
-    let share = vector.split(&mut hand, workers);
+    let theirs = vector.split(&mut hand, workers);
     let crew = Workers {
         rt,
         alloc,
@@ -59,7 +59,7 @@ pub fn race<R: Threads + Wait + Sync, G: Gate + Sync>(
         gate,
         each,
     };
-    let mut team = fork_join(rt, &crew, share, 0, workers)?;
+    let mut team = fork_join(rt, &crew, theirs, 0, workers)?;
     team.join(&vector, Team::new(alloc, hand))?;
     Ok(report_of(alloc, vector, team, size)?)
 }

@@ -8,11 +8,11 @@ use std::sync::Wait;
 use std::thread;
 use std::thread::{Promise, Threads};
 
-/// What workers do together: one alone, and a range by its halves. A range of workers has a share `S`, and gives an
+/// What workers do together: one alone, and a range by its halves. A range of workers brings an `S`, and gives an
 /// answer `A`, or `E` where it has none.
 pub trait ForkJoin<S, A, E> {
-    /// What the share of a range, of so many workers from the first on, may be.
-    ghost shares: { Self → ℕ → ℕ → S → Type 0 };
+    /// What a range, of so many workers from the first on, may bring.
+    ghost brings: { Self → ℕ → ℕ → S → Type 0 };
 
     /// What a range may answer.
     ghost gives: { Self → ℕ → ℕ → A → Type 0 };
@@ -21,16 +21,16 @@ pub trait ForkJoin<S, A, E> {
     ghost refuses: { Self → ℕ → ℕ → E → Type 0 };
 
     /// Does the work of one worker.
-    fn work(&self, worker: u32, share: S) -> Result<A, E>
-        requires { shares self.now worker 1 share }
+    fn work(&self, worker: u32, brought: S) -> Result<A, E>
+        requires { brings self.now worker 1 brought }
         ensures answer { IfOk result (gives self.now worker 1) }
         ensures refused { IfErr result (refuses self.now worker 1) };
 
-    /// Cuts the share of a range in two, for its `low` lowest workers and for the `high` others.
-    fn cut(&self, share: S, first: u32, low: u32, high: u32) -> (S, S)
-        requires { shares self.now first (low + high) share × (0 < low) × (0 < high) }
-        ensures lower { shares self.now first low result.0 }
-        ensures upper { shares self.now (first + low) high result.1 };
+    /// Cuts what a range brings in two, for its `low` lowest workers and for the `high` others.
+    fn cut(&self, brought: S, first: u32, low: u32, high: u32) -> (S, S)
+        requires { brings self.now first (low + high) brought × (0 < low) × (0 < high) }
+        ensures lower { brings self.now first low result.0 }
+        ensures upper { brings self.now (first + low) high result.1 };
 
     /// Puts together what the two halves of a range answered.
     fn both(
@@ -41,7 +41,8 @@ pub trait ForkJoin<S, A, E> {
         lower: Result<A, E>,
         upper: Result<A, E>,
     ) -> Result<A, E>
-        requires lower { IfOk lower (gives self.now first low) × IfErr lower (refuses self.now first low) }
+        requires lower { IfOk lower (gives self.now first low)
+            × IfErr lower (refuses self.now first low) }
         requires upper { IfOk upper (gives self.now (first + low) high)
             × IfErr upper (refuses self.now (first + low) high) }
         ensures answer { IfOk result (gives self.now first (low + high)) }
@@ -55,7 +56,7 @@ pub trait ForkJoin<S, A, E> {
 // What the upper half of a range is to answer.
 #[derive(Drop)]
 struct Upper<S, J> {
-    share: PhantomData<S>,
+    brought: PhantomData<S>,
     job: Snapshot<J>,
     first: u32,
     count: u32,
@@ -79,18 +80,18 @@ pub fn fork_join<
     A: Send + Drop,
     E: Send + Drop,
     J: ForkJoin<S, A, E> + Sync,
->(rt: &R, job: &J, share: S, first: u32, count: u32) -> Result<A, E>
-    requires share { J.shares job.now first count share }
+>(rt: &R, job: &J, brought: S, first: u32, count: u32) -> Result<A, E>
+    requires brought { J.brings job.now first count brought }
     requires some { 0 < count }
     requires fits { first + count < 2 ^ 32 }
     ensures answer { IfOk result (J.gives job.now first count) }
     ensures refused { IfErr result (J.refuses job.now first count) }
 {
     if count == 1 {
-        return job.work(first, share);
+        return job.work(first, brought);
     }
     let low = count / 2;
-    halves(rt, job, share, first, low, first + low, count - low)
+    halves(rt, job, brought, first, low, first + low, count - low)
 }
 
 #[cycle(halves)]
@@ -100,26 +101,26 @@ fn halves<
     A: Send + Drop,
     E: Send + Drop,
     J: ForkJoin<S, A, E> + Sync,
->(rt: &R, job: &J, share: S, first: u32, low: u32, middle: u32, high: u32) -> Result<A, E>
-    requires share { J.shares job.now first (low + high) share }
+>(rt: &R, job: &J, brought: S, first: u32, low: u32, middle: u32, high: u32) -> Result<A, E>
+    requires brought { J.brings job.now first (low + high) brought }
     requires some { 0 < low × 0 < high }
     requires fits { (first + low ≡ middle) × (middle + high < 2 ^ 32) }
     ensures answer { IfOk result (J.gives job.now first (low + high)) }
     ensures refused { IfErr result (J.refuses job.now first (low + high)) }
 {
-    let (lower_share, upper_share) = job.cut(share, first, low, high);
+    let (for_lower, for_upper) = job.cut(brought, first, low, high);
     thread::scope(
         thread::scope_env(),
         rt,
         |scope| -> Result<A, E>
             requires { IsSync R.row × IsSync J.row × IsSend S.row × IsSend A.row × IsSend E.row
-                × J.shares job.now first low lower_share × J.shares job.now middle high upper_share
+                × J.brings job.now first low for_lower × J.brings job.now middle high for_upper
                 × (0 < low) × (0 < high) × (first + low ≡ middle) × (middle + high < 2 ^ 32) }
             ensures answer { IfOk result (J.gives job.entry.now first (low + high)) }
             ensures refused { IfErr result (J.refuses job.entry.now first (low + high)) }
         {
             let promise: Upper<S, J> = Upper {
-                share: PhantomData,
+                brought: PhantomData,
                 job: Snapshot::of(job),
                 first: middle,
                 count: high,
@@ -128,15 +129,15 @@ fn halves<
                 promise,
                 move || -> Result<A, E>
                     requires { IsSync R.row × IsSync J.row × IsSend S.row × IsSend A.row × IsSend E.row
-                        × J.shares job.now middle high upper_share × (0 < high) × (middle + high < 2 ^ 32) }
+                        × J.brings job.now middle high for_upper × (0 < high) × (middle + high < 2 ^ 32) }
                     ensures answer { IfOk result (J.gives job.entry.now middle high) }
                     ensures refused { IfErr result (J.refuses job.entry.now middle high) }
-                { fork_join(rt, job, upper_share, middle, high) },
+                { fork_join(rt, job, for_upper, middle, high) },
             );
             let Ok(child) = child else {
                 return Err(job.unstarted(first, low + high));
             };
-            let lower = fork_join(rt, job, lower_share, first, low);
+            let lower = fork_join(rt, job, for_lower, first, low);
             let upper = child.join(rt);
             job.both(first, low, high, lower, upper)
         },

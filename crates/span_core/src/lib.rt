@@ -6,8 +6,8 @@
 //! A caller can prove that `par_map` answers what the function answers to each place, in order, and that `par_reduce`
 //! answers the fold of that (`specs/Loops.antt`), whatever the number of workers. Each worker passes a `Gate` before
 //! and after its work. `run_workers` starts any `Job` in the same way; where a gate stops it, the workers below the one
-//! that was refused have answered (`specs/Workers.antt`). Under both is `fork_join`, which starts any range of workers by
-//! halves. Nothing is said of which worker took a leaf, nor that a loop returns.
+//! that was refused have answered (`specs/Workers.antt`). Under both is `fork_join`, which starts any range of workers
+//! by halves. Nothing is said of which worker took a leaf, nor that a loop returns.
 #![tactic(auto)]
 
 mod by_halves;

@@ -57,7 +57,7 @@ impl<'a, A: Drop, J: Job<A>, G: Gate> ForkJoin<(), Vec<A>, Refusal> for Crew<'a,
     ghost use Rattle.span_core.specs.Workers.{EachGives, RefusesLowest};
     ghost use Rattle.span_core.specs.declared.errors.Refusal.TheVariants.{Stuck};
 
-    ghost shares = { λ c _ _ _. J.ready c.job.now };
+    ghost brings = { λ c _ _ _. J.ready c.job.now };
 
     ghost gives = { λ c first count answers. EachGives (J.gives c.job.now) first count answers.items };
 
@@ -65,7 +65,7 @@ impl<'a, A: Drop, J: Job<A>, G: Gate> ForkJoin<(), Vec<A>, Refusal> for Crew<'a,
         → RefusesLowest (J.gives c.job.now) (G.may_refuse c.gate.now) first count };
 
     // One worker passes the gate and works.
-    fn work(&self, worker: u32, _share: ()) -> Result<Vec<A>, Refusal>
+    fn work(&self, worker: u32, _brought: ()) -> Result<Vec<A>, Refusal>
         requires { J.ready self.now.job.now }
         ensures answer { IfOk result (λ answers. EachGives (J.gives self.now.job.now) worker 1 answers.items) }
         ensures refused { IfErr result (λ e. e ≡ Stuck
@@ -84,12 +84,12 @@ impl<'a, A: Drop, J: Job<A>, G: Gate> ForkJoin<(), Vec<A>, Refusal> for Crew<'a,
         }
     }
 
-    fn cut(&self, share: (), _first: u32, low: u32, high: u32) -> ((), ())
+    fn cut(&self, brought: (), _first: u32, low: u32, high: u32) -> ((), ())
         requires { J.ready self.now.job.now × (0 < low) × (0 < high) }
         ensures lower { J.ready self.now.job.now }
         ensures upper { J.ready self.now.job.now }
     {
-        (share, share)
+        (brought, brought)
     }
 
     fn both(
@@ -120,8 +120,8 @@ impl<'a, A: Drop, J: Job<A>, G: Gate> ForkJoin<(), Vec<A>, Refusal> for Crew<'a,
 
 /// Runs the job of each worker in a thread of its own, but the first, and answers what each gave, in order.
 ///
-/// They are started by `fork_join`; where a range's thread can't be started, nobody of it passes the gate. The refusal of
-/// the worker with the lowest number is answered. Every thread that was started has ended then.
+/// They are started by `fork_join`; where a range's thread can't be started, nobody of it passes the gate. The refusal
+/// of the worker with the lowest number is answered. Every thread that was started has ended then.
 pub fn run_workers<R: Threads + Wait + Sync, A: Send + Drop, J: Job<A> + Sync, G: Gate + Sync>(
     rt: &R,
     alloc: Global,

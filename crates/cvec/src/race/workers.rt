@@ -50,7 +50,7 @@ impl<'a, R: Wait, G: Gate> ForkJoin<Hand<u64>, Team, RaceError> for Workers<'a, 
     ghost use Rattle.cvec.specs.Race.{IsOfRange, IsTeam, IsUnusedHand, AreFew};
 
     // The hand has a share for each worker.
-    ghost shares = { λ w first count hand. IsUnusedHand w.vector.now hand × (hand.shares ≡ count)
+    ghost brings = { λ w first count hand. IsUnusedHand w.vector.now hand × (hand.shares ≡ count)
         × AreFew (first + count) w.each };
 
     ghost gives = { λ w first count.
@@ -60,8 +60,8 @@ impl<'a, R: Wait, G: Gate> ForkJoin<Hand<u64>, Team, RaceError> for Workers<'a, 
         IsOfRange w.vector.now.word w.each (G.may_refuse w.gate.now) first count };
 
     // One worker passes the gate and appends its values.
-    fn work(&self, worker: u32, share: Hand<u64>) -> Result<Team, RaceError>
-        requires { IsUnusedHand self.now.vector.now share × (share.shares ≡ 1)
+    fn work(&self, worker: u32, brought: Hand<u64>) -> Result<Team, RaceError>
+        requires { IsUnusedHand self.now.vector.now brought × (brought.shares ≡ 1)
             × AreFew (worker + 1) self.now.each }
         ensures answer { IfOk result (IsTeam self.now.vector.now.word 1 (worker * self.now.each)
             ((worker + 1) * self.now.each)) }
@@ -74,21 +74,21 @@ impl<'a, R: Wait, G: Gate> ForkJoin<Hand<u64>, Team, RaceError> for Workers<'a, 
         }
         let from = u64::from(worker) * self.each;
         let to = (u64::from(worker) + 1) * self.each;
-        let team = Team::new(self.alloc, share);
+        let team = Team::new(self.alloc, brought);
         let ended = push_all(self.rt, self.vector, worker, team, from, to);
         self.gate.after(worker);
         ended
     }
 
-    fn cut(&self, share: Hand<u64>, first: u32, low: u32, high: u32) -> (Hand<u64>, Hand<u64>)
-        requires { (IsUnusedHand self.now.vector.now share × (share.shares ≡ low + high)
+    fn cut(&self, brought: Hand<u64>, first: u32, low: u32, high: u32) -> (Hand<u64>, Hand<u64>)
+        requires { (IsUnusedHand self.now.vector.now brought × (brought.shares ≡ low + high)
             × AreFew (first + (low + high)) self.now.each) × (0 < low) × (0 < high) }
         ensures lower { IsUnusedHand self.now.vector.now result.0 × (result.0.shares ≡ low)
             × AreFew (first + low) self.now.each }
         ensures upper { IsUnusedHand self.now.vector.now result.1 × (result.1.shares ≡ high)
             × AreFew ((first + low) + high) self.now.each }
     {
-        let mut lower = share;
+        let mut lower = brought;
         let upper = self.vector.split(&mut lower, high);
         (lower, upper)
     }

@@ -8,8 +8,9 @@ use native.Mathlib.Decide.{ℕ_discrete}
 use mir.Raw.{raw as bare}
 use mir.Val.{vint}
 use types.Kit as Kit
+use contract.Monad as monad
 use base.Logic.{SProp, ent, sep, wand, all, all_e, guard, apply∗}
-use base.Fml.{GName, fobs, fauth, Lft, Incl, Fml, ftrue, fsep, froom}
+use base.Fml.{GName, fobs, fauth, fres, Lft, Incl, Fml, ftrue, fsep, froom}
 use prog.Memory.{size, up}
 use prog.RawLaws.{size-raw, align-raw}
 use types.Logic.{Logic, sem}
@@ -23,7 +24,7 @@ use base.Logic.{id⊢}
 use denote.RattleType.{RattleType}
 use denote.Memory.{lone}
 use denote.RawPtr.{Ptr, block_ptr, block_of, count_of, InBlock}
-use denote.Steps.{nothing}
+use denote.Steps.{nothing, heard}
 use denote.Sharing.{ShrLaws, said}
 use denote.SharingLaws.{beside_shr_laws, nothing_shr_laws, said_shr_laws}
 use denote.Param.{param, layout}
@@ -31,11 +32,11 @@ use denote.Param.Laws.{Laws, param_laws}
 use denote.Struct.Members.{Member}
 use Rattle.core.proofs.cell.Inside.{spread}
 use denote.Struct.Lending.{Lends, Lends-both, Lends-nothing, Lends-said, Lends-first}
-use Rattle.cell_core.specs.Slot.{Names, Phase, Lies, shared_at, Rest, fact, word, place, resting, free, busy, full, broken, mark, crossed, auths, at}
+use Rattle.cell_core.specs.Slot.{Names, Phase, Lies, shared_at, Rest, fact, word, place, resting, free, busy, full, broken, mark, crossed, auths, written, at}
 use Rattle.cell_core.specs.Laid.{cell_ty, stride, row_ty, FitsMemory, IsAnother, rooms, rim, rests, still, owned, along, along_lent, lies, laid, laid_lent, cell_in}
 use types.Tokens.{name_new}
 use Rattle.cell_core.proofs.CellLends.{lends_cell}
-use Rattle.cell_core.proofs.CellSteps.{shared_laws}
+use Rattle.cell_core.proofs.CellSteps.{shared_laws, one_written}
 
 module _ (R : RattleType) where
   -- what a `&` to each cell holds can be had twice
@@ -197,6 +198,23 @@ module _ {M : Type 1} {𝓤 : Ura M} (𝓛 : Logic 𝓤) (R : RattleType) (token
   filled_at γ b e (n, v, full x) two = qed 𝓛 (‵ (place R v b e) ∷ ‵ (resting R γ (n, v, full x)) ∷ []) ∵ move ! (1 ∷ []) $ fsplit ! $ fsplit ! $ move ! (2 ∷ []) $ fpick ! (λ so.
       -- [true; the names; the word; the room]
       keep ! (3 ∷ 1 ∷ []) $ rewrite ! 0 (λ (u : Option R.Denot). ‵ (place R u b e)) so refl $ fpack ! R.Denot (λ y. part_at R full_share y b e) x $ done !)
+
+  full_is_not_nil : (x y : Gv) → gcons x y ≡ gnil → ⊥
+  full_is_not_nil x y e = cc
+
+  -- a cell of which a token shows a value holds that value
+  pub held_at : (γ : Names) (b e : ℕ) (r : Rest R.Denot) (x : R.Denot)
+      → ⟦ place R r.1 b e ⟧ ∗ ⟦ resting R γ r ⟧ ∗ ⟦ written R γ.value x ⟧ ⊢ ⟦ part_at R full_share x b e ⟧ ∗ ⟦ auths R γ r.2 ⟧
+  held_at γ b e (n, v, free) x = let w : Gv = mark R (full x) in qed 𝓛 (‵ (place R v b e) ∷ ‵ (resting R γ (n, v, free)) ∷ ‵ (written R γ.value x) ∷ []) ∵ move ! (1 ∷ []) $ fsplit ! $ fsplit ! $ fsplit ! $ move ! (5 ∷ 0 ∷ []) $
+      use2 𝓛 (given (w ≡ gnil) (‵ (fres γ.value w) ⊛ ‵ (fauth γ.value gnil))) (𝓛.names.res_agree γ.value w gnil) $ learn ! (λ z. absurd (full_is_not_nil (R.coded.code x) gnil z))
+  held_at γ b e (n, v, busy) x = let w : Gv = mark R (full x) in qed 𝓛 (‵ (place R v b e) ∷ ‵ (resting R γ (n, v, busy)) ∷ ‵ (written R γ.value x) ∷ []) ∵ move ! (1 ∷ []) $ fsplit ! $ fsplit ! $ fsplit ! $ move ! (5 ∷ 0 ∷ []) $
+      use2 𝓛 (given (w ≡ gnil) (‵ (fres γ.value w) ⊛ ‵ (fauth γ.value gnil))) (𝓛.names.res_agree γ.value w gnil) $ learn ! (λ z. absurd (full_is_not_nil (R.coded.code x) gnil z))
+  held_at γ b e (n, v, broken) x = let w : Gv = mark R (full x) in qed 𝓛 (‵ (place R v b e) ∷ ‵ (resting R γ (n, v, broken)) ∷ ‵ (written R γ.value x) ∷ []) ∵ move ! (1 ∷ []) $ fsplit ! $ fsplit ! $ fsplit ! $ move ! (5 ∷ 0 ∷ []) $
+      use2 𝓛 (given (w ≡ gnil) (‵ (fres γ.value w) ⊛ ‵ (fauth γ.value gnil))) (𝓛.names.res_agree γ.value w gnil) $ learn ! (λ z. absurd (full_is_not_nil (R.coded.code x) gnil z))
+  held_at γ b e (n, v, full y) x = qed 𝓛 (‵ (place R v b e) ∷ ‵ (resting R γ (n, v, full y)) ∷ ‵ (written R γ.value x) ∷ []) ∵ move ! (1 ∷ []) $ fsplit ! $ fsplit ! $ move ! (1 ∷ []) $ fsplit ! $ move ! (5 ∷ 1 ∷ []) $
+      use2 𝓛 (Kit.raw (monad.fact 𝓤 (x ≡ y))) (one_written 𝓛 R γ.value x y) $ heard ! (x ≡ y) (λ same. move ! (2 ∷ []) $ fpick ! (λ so.
+      -- [true; the word; the names; the room]
+      keep ! (3 ∷ 2 ∷ []) $ rewrite ! 0 (λ (u : Option R.Denot). ‵ (place R u b e)) so refl $ rewrite ! 0 (λ (z : R.Denot). ‵ (part_at R full_share z b e)) (sym same) refl $ done !))
 
   -- a value that is not this one
   abbrev other_than : Gv → Gv

@@ -162,6 +162,18 @@ impl<T, A: Allocator> Block<T, A> {
         self.laid.take(self.link, place as usize)
     }
 
+    /// The token's value, moved out. The cell is empty then, and is another one: older tokens are not of it.
+    pub fn take_value(&mut self, placed: &Placed<T>) -> T
+        requires { IsPlacedIn self.old placed.now }
+        ensures value { result ≡ placed.now.value }
+        ensures len { block_len self.new ≡ block_len self.old }
+        ensures another { RenewsCell self.old self.new placed.now.place }
+        ensures others { KeepsOtherCells self.old self.new placed.now.place }
+    {
+        self.laid
+            .take_written(self.link, placed.place as usize, &placed.written)
+    }
+
     /// Frees its memory at once, without a look at its cells: no value is dropped.
     pub fn free(self) {
         let Block {

@@ -1,2 +1,3 @@
 pub mod QuietList
 pub mod QuietAt
+pub mod Errors

@@ -12,6 +12,11 @@ pub enum QuietError {
 }
 
 impl fmt::Display for QuietError {
+    ghost use Rattle.std.specs.Prelude.{Some};
+    ghost use Rattle.quiet_core.specs.Errors.{quiet_error_text};
+
+    ghost output = { λ error. Some (quiet_error_text error) };
+
     fn fmt<W: fmt::Write>(&self, f: &mut fmt::Formatter<W>) -> fmt::Result {
         match self {
             QuietError::NoMemory => write!(f, "out of memory"),
@@ -32,6 +37,11 @@ pub enum QuietAt {
 }
 
 impl fmt::Display for QuietAt {
+    ghost use Rattle.std.specs.Prelude.{Some};
+    ghost use Rattle.quiet_core.specs.Errors.{quiet_at_text};
+
+    ghost output = { λ error. Some (quiet_at_text error) };
+
     fn fmt<W: fmt::Write>(&self, f: &mut fmt::Formatter<W>) -> fmt::Result {
         match self {
             QuietAt::OutOfRange { size } => write!(f, "out of the {size} places"),

@@ -93,6 +93,7 @@ impl<T> Quiet<T> {
         // The limit is looked at before memory is asked for.
         ensures too_long { IsErrOf result QuietError.TooLong ↔ (self.old.limit < n) }
         ensures unchanged { OnErr result (IsUnchanged self.old self.new) }
+        ensures untouched { self.old.limit < n → self.new ≡ self.old }
         ensures spare { n ≤ self.old.limit → n ≤ self.old.capacity → IsOk result }
     {
         if self.limit < n {
@@ -145,6 +146,7 @@ impl<T: Drop> Quiet<T> {
         ensures too_long { (result ≡ Err (QuietError.TooLong, value)) ↔ IsAtLimit self.old }
         ensures value_back { IfErr result (λ (_, back). back ≡ value) }
         ensures unchanged { OnErr result (IsUnchanged self.old self.new) }
+        ensures untouched { IsAtLimit self.old → self.new ≡ self.old }
         ensures spare { length self.old.members < self.old.limit
             → length self.old.members < self.old.capacity → IsOk result }
     {
@@ -171,6 +173,7 @@ impl<T: Drop> Quiet<T> {
             ↔ (self.old.limit < vec_len values) }
         ensures values_back { IfErr result (λ (_, back). back ≡ values) }
         ensures unchanged { OnErr result (IsUnchanged self.old self.new) }
+        ensures untouched { self.old.limit < vec_len values → self.new ≡ self.old }
         ensures spare { vec_len values ≤ self.old.limit
             → vec_len values ≤ self.old.capacity → IsOk result }
     {

@@ -1,4 +1,6 @@
 //! What no clause says: that the calls succeed where there is memory, and what the worked rows say.
+ghost use Rattle.seg_core.specs.Segment.{IsLimit};
+
 mod memory;
 mod uses;
 
@@ -6,12 +8,17 @@ use crate::{Quiet, QuietAt, QuietError};
 use std::alloc::Global;
 use std::test::Fail;
 
-fn three(alloc: Global) -> Result<Quiet<u64>, Fail> {
-    let values = vec![in alloc; 1u64, 2, 3]?;
-    match Quiet::from_vec(alloc, 16, values) {
+fn listed(alloc: Global, limit: u64, values: Vec<u64>) -> Result<Quiet<u64>, Fail>
+    requires { IsLimit limit }
+{
+    match Quiet::from_vec(alloc, limit, values) {
         Ok(list) => Ok(list),
         Err((error, _)) => Err(Fail::from(error)),
     }
+}
+
+fn three(alloc: Global) -> Result<Quiet<u64>, Fail> {
+    listed(alloc, 16, vec![in alloc; 1u64, 2, 3]?)
 }
 
 // A value and then a broken member. No public call makes such a list yet.
@@ -24,11 +31,7 @@ fn broken_after(alloc: Global, value: u64) -> Result<Quiet<u64>, Fail> {
 }
 
 fn two(alloc: Global, first: u64, second: u64) -> Result<Quiet<u64>, Fail> {
-    let values = vec![in alloc; first, second]?;
-    match Quiet::from_vec(alloc, 16, values) {
-        Ok(list) => Ok(list),
-        Err((error, _)) => Err(Fail::from(error)),
-    }
+    listed(alloc, 16, vec![in alloc; first, second]?)
 }
 
 #[test]
@@ -96,5 +99,19 @@ fn lists_are_exchanged_and_replaced(rt: HostRuntime) -> Result<(), Fail> {
     assert!(rt; matches!(refused, Err((QuietError::TooLong, _))));
     assert!(rt; list.assign(vec![in rt.alloc(); 9u64; 5]?).is_ok());
     assert_eq!(rt; (list.len(), list.capacity()), (5, 8));
+    Ok(())
+}
+
+#[test]
+fn a_million_values_are_moved_in_and_pushed_on(rt: HostRuntime) -> Result<(), Fail> {
+    let values = vec![in rt.alloc(); 7u64; 1_000_000]?;
+    let mut list = listed(rt.alloc(), 1 << 32, values)?;
+    for place in 1_000_000..1_048_577u64 {
+        assert_eq!(rt; list.push(place), Ok(place));
+    }
+    assert_eq!(rt; (list.len(), list.capacity()), (1_048_577, 1 << 21));
+    list.reserve(3_000_000)?;
+    assert!(rt; list.assign(vec![in rt.alloc(); 9u64; 3_000_000]?).is_ok());
+    assert_eq!(rt; (list.len(), list.get(2_999_999)), (3_000_000, Ok(&9)));
     Ok(())
 }

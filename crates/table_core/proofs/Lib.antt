@@ -1,5 +1,6 @@
 mod Fits
 mod Names
+mod Renamed
 mod Sent
 mod Sights
 mod Values

@@ -1,5 +1,5 @@
 -- A table of entries as callers see it, and the keys of its entries.
-use Rattle.std.specs.Prelude.{◌≡◌, ℕ, ◌+◌, ◌<◌, List, [], slice_index, slice_index_or}
+use Rattle.std.specs.Prelude.{◌≡◌, ◌≢◌, ℕ, ◌+◌, ◌<◌, List, [], slice_index, slice_index_or}
 use base.Stored.{Coded, coded×, coded_ℕ, coded_via}
 use Rattle.std.specs.declared.option.Option.{Option}
 use Rattle.std.specs.declared.option.Option.TheVariants.{None, Some}
@@ -7,9 +7,10 @@ use Rattle.seg_core.specs.Segment.{segment_start, segment_end}
 use Rattle.cell_core.specs.Block.{BlockView, block_coded, block_len}
 use Rattle.table_core.specs.Entry.{EntryView, length_of}
 
--- a table: the name of each entry
+-- a table: the name of each entry, and the entry whose block is lent, if one is
 pub record TableView : Type 0 where
   pub names : List ℕ
+  pub lent : Option ℕ
 
 -- the key of an entry: the entry's number, its block, and its name
 pub record KeyView : Type 0 where
@@ -45,6 +46,10 @@ pub record IsKeyOf (table : TableView) (k : ℕ) (block : BlockView) (key : KeyV
 abbrev pub KeepsOtherEntries : TableView → TableView → ℕ → Type 0
 KeepsOtherEntries old new k =
     (j : ℕ) → (j ≡ k → ⊥) → slice_index new.names j ≡ slice_index old.names j
+
+-- the entry is another one: no key of the old entry is of it
+abbrev pub RenewsEntry : TableView → TableView → ℕ → Type 0
+RenewsEntry old new k = slice_index new.names k ≢ slice_index old.names k
 
 -- each entry is as long as its segment
 abbrev pub AllFit : List EntryView → Type 0

@@ -30,13 +30,13 @@ pub struct Table<T> {
 }
 
 impl<T> Model for Table<T> {
-    ghost use Rattle.std.specs.Prelude.{map};
+    ghost use Rattle.std.specs.Prelude.{map, option_map};
     ghost use Rattle.table_core.specs.Entry.{name_of};
     ghost use Rattle.table_core.specs.Table.{TableView, AllFit};
 
     ghost Value = { TableView };
 
-    ghost view = { λ t. record { names = map name_of t.entries } };
+    ghost view = { λ t. record { names = map name_of t.entries; lent = option_map (λ l. l.entry) t.lent } };
 
     ghost invariant = { λ t. AllFit t.entries };
 }

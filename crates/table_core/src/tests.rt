@@ -115,6 +115,39 @@ fn a_block_of_another_length_is_not_put_back(rt: HostRuntime) -> Result<(), Fail
     Ok(())
 }
 
+#[test]
+fn a_block_that_was_lent_is_given_up(rt: HostRuntime) -> Result<(), Fail> {
+    let mut table = Table::<u64>::new(rt.alloc());
+    table.install(1)?;
+    assert!(rt; table.block_mut(1).is_some());
+    table.give_up(1);
+    table.put_back();
+    assert!(rt; table.scout(1).is_none());
+    assert!(rt; table.block_mut(1).is_none());
+    Ok(())
+}
+
+// Each is counted once, and a block of four million cells among them.
+#[test]
+fn large_entries_are_counted_and_given_up(rt: HostRuntime) -> Result<(), Fail> {
+    let mut table = Table::new(rt.alloc());
+    for k in 0..23u32 {
+        let block = table.install(k)?;
+        assert!(rt; fill(block, block.len().wrapping_sub(1), u64::from(k)));
+        assert_eq!(rt; table.installed(), k.wrapping_add(1));
+    }
+    // It would take hours if a block were made each time.
+    for _again in 0..1_000_000u32 {
+        let (block, _key) = table.install_key(22)?;
+        assert!(rt; shows(block, (1 << 22) - 1, 22));
+    }
+    assert!(rt; table.scout(31).is_none());
+    table.give_up(31);
+    table.give_up(22);
+    assert_eq!(rt; table.installed(), 22);
+    Ok(())
+}
+
 struct Counted<'a>(&'a AtomicU64);
 
 impl Drop for Counted<'_> {

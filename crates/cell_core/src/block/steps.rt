@@ -6,7 +6,7 @@ ghost use denote.RawPtr.{Ptr, coded_ptr};
 ghost use Rattle.cell_core.specs.Slot.{Names, names_coded};
 ghost use Rattle.cell_core.specs.Laid.{laid, laid_lent, stride, FitsMemory, IsLinked, HasOneMore, HasOneRenamed, cell_in};
 
-use crate::slot::steps::Slot;
+use crate::slot::steps::{Slot, Written};
 use std::alloc::{AllocError, Allocator};
 use std::marker::{Model, PhantomData};
 use std::mem::{align_of, size_of};
@@ -128,6 +128,21 @@ impl<T, A: Allocator> Laid<T, A> {
             } else {
                 None
             }
+        }
+    }
+
+    // The value of the cell at an index, for whoever shows that there is one. The cell is empty then, and has new names.
+    pub(crate) fn take_written(&mut self, link: Link<T>, index: usize, written: &Written<T>) -> T
+        requires { IsLinked self.old.at link.ptr × (index < length self.old.cells)
+            × (written.now.of ≡ (cell_in self.old.cells index).value) }
+        ensures { (self.new.heap ≡ self.old.heap) × (self.new.at ≡ self.old.at)
+            × HasOneRenamed self.old.cells index self.new.cells × (self.new.left ≡ self.old.left)
+            × (result ≡ written.now.value) }
+    {
+        unsafe {
+            let cell = link.ptr.add(index);
+            (&raw mut (*cell).state).write(0);
+            (&raw const (*cell).room).read()
         }
     }
 

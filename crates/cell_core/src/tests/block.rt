@@ -95,6 +95,42 @@ fn a_taken_cell_is_empty(rt: HostRuntime) -> Result<(), Fail> {
     Ok(())
 }
 
+#[test]
+fn the_value_of_a_token_is_taken(rt: HostRuntime) -> Result<(), Fail> {
+    let mut block = Block::new(rt.alloc(), 3)?;
+    let other = fill(&block, 2, 9u64).ok_or("the cell was empty")?;
+    let placed = fill(&block, 1, 5).ok_or("the cell was empty")?;
+    assert_eq!(rt; block.take_value(&placed), 5);
+    assert!(rt; matches!(block.look(1), Look::Empty));
+    assert_eq!(rt; *block.value(&other), 9);
+    Ok(())
+}
+
+// How many cells show that nobody began them.
+fn empty_cells<T>(block: &Block<T>) -> u64 {
+    let mut count: u64 = 0;
+    for place in 0..block.len() {
+        if matches!(block.look(place), Look::Empty) {
+            count = count.wrapping_add(1);
+        }
+    }
+    count
+}
+
+#[test]
+fn a_million_cells_are_empty_and_filled(rt: HostRuntime) -> Result<(), Fail> {
+    let block = Block::new(rt.alloc(), 1 << 20)?;
+    assert_eq!(rt; empty_cells(&block), 1 << 20);
+    for place in 0..block.len() {
+        assert!(rt; fill(&block, place, place).is_some());
+    }
+    assert_eq!(rt; empty_cells(&block), 0);
+    assert!(rt;
+        matches!(block.look((1 << 20) - 1), Look::Filled(value, _) if *value == (1 << 20) - 1)
+    );
+    Ok(())
+}
+
 struct Counted<'a>(&'a AtomicU64);
 
 impl Drop for Counted<'_> {
@@ -153,8 +189,8 @@ fn values_of_each_size_lie_apart(rt: HostRuntime) -> Result<(), Fail> {
         Some(([1; 3], [2; 3]))
     );
     assert_eq!(rt;
-        ends(&Block::new(alloc, 3)?, [1u64; 8], [2; 8]),
-        Some(([1; 8], [2; 8]))
+        ends(&Block::new(alloc, 3)?, [1u64; 32], [2; 32]),
+        Some(([1; 32], [2; 32]))
     );
     Ok(())
 }

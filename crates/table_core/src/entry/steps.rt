@@ -1,6 +1,6 @@
 // The raw steps on one entry, each a few lines round one atomic step. The word is null, or points to a block that the
 // entry owns.
-ghost use Rattle.std.specs.Prelude.{◌≡◌, ℕ, MatchOption, IfSome};
+ghost use Rattle.std.specs.Prelude.{◌≡◌, ◌≢◌, ℕ, MatchOption, IfSome};
 ghost use denote.RawPtr.{null_ptr};
 ghost use denote.Sharing.{said};
 ghost use Rattle.std.specs.Coded.{coded_option};
@@ -120,6 +120,12 @@ impl<B: Measured> Entry<B> {
         }
     }
 
+    // Gives an entry that is owned a name that the other has not.
+    pub(crate) fn rename(&mut self, other: &mut Entry<B>)
+        ensures { (name_of self.new ≢ name_of other.old) × (length_of self.new ≡ length_of self.old)
+            × (other.new ≡ other.old) }
+    {}
+
     fn into_loose(self) -> Option<Loose<B, Global>>
         ensures { IfSome result (λ l. B.measure l.value ≡ length_of self) }
     {
@@ -141,6 +147,8 @@ impl<B: Measured + Drop> Entry<B> {
         requires length { B.measure block.value ≡ length_of self.now }
         ensures same { sight.new.of ≡ sight.old.of }
         ensures block { (sight.new.known ≡ Some result.0.now) × Agrees sight.old.known result.0.now }
+        ensures back { MatchOption result.1 ((result.0.now ≡ block.value) × (sight.old.known ≡ None))
+            (λ b. b.value ≡ block.value) }
         ensures length { B.measure result.0.now ≡ length_of self.now }
     {
         let (first, back) = self.offer(Loose::of(block), sight);

@@ -1,6 +1,6 @@
 // What an exclusive owner does with the blocks.
-ghost use Rattle.std.specs.Prelude.{◌≡◌, ◌<◌, IfSome, IsTrue};
-ghost use Rattle.table_core.specs.Table.{IsBlockOf, KeepsOtherEntries};
+ghost use Rattle.std.specs.Prelude.{◌≡◌, ◌<◌, None, IfSome, IsTrue};
+ghost use Rattle.table_core.specs.Table.{IsBlockOf, KeepsOtherEntries, RenewsEntry};
 
 use crate::table::{Table, empty_entry};
 use cell_core::block::Block;
@@ -33,7 +33,8 @@ impl<T: Drop> Table<T> {
     /// Puts the block that `block_mut` lent back into its entry, if it is still as long as the segment, and drops it if
     /// it is not. The other exclusive calls do so too.
     pub fn put_back(&mut self)
-        ensures { self.new ≡ self.old }
+        ensures names { self.new.names ≡ self.old.names }
+        ensures back { self.new.lent ≡ None }
     {
         if let Some(Lent { entry: k, block }) = self.lent.take() {
             if block.len() == len(k) {
@@ -43,14 +44,18 @@ impl<T: Drop> Table<T> {
         }
     }
 
-    // Makes the entry a new one, and gives the block that it had.
-    #[tactic(auto, using(crate::proofs::Names::names_kept))]
+    // Makes the entry a new one, and gives the block that it had, or that was lent of it.
+    #[tactic(auto, using(crate::proofs::Names::names_kept, crate::proofs::Names::renamed_there))]
     fn take_out(&mut self, k: u32) -> Option<Box<Block<T>>>
         requires { k < 32 }
         ensures others { KeepsOtherEntries self.old self.new k }
+        ensures another { RenewsEntry self.old self.new k }
+        ensures none_lent { self.new.lent ≡ None }
         ensures length { IfSome result (λ block. IsBlockOf k block.value) }
     {
-        let new = empty_entry(self.alloc, k);
+        self.put_back();
+        let mut new = empty_entry(self.alloc, k);
+        new.rename(&mut self.entries[k as usize]);
         replace(&mut self.entries[k as usize], new).into_box()
     }
 
@@ -63,7 +68,6 @@ impl<T: Drop> Table<T> {
         if is_out(&self.lent, k) {
             return self.lent.take();
         }
-        self.put_back();
         match self.take_out(k) {
             Some(block) => Some(Lent { entry: k, block }),
             None => None,
@@ -87,9 +91,10 @@ impl<T: Drop> Table<T> {
     /// The entry is a new one after it, and not set; its block is dropped.
     pub fn give_up(&mut self, k: u32)
         requires { k < 32 }
-        ensures { KeepsOtherEntries self.old self.new k }
+        ensures others { KeepsOtherEntries self.old self.new k }
+        ensures another { RenewsEntry self.old self.new k }
+        ensures none_lent { self.new.lent ≡ None }
     {
-        self.put_back();
         drop(self.take_out(k));
     }
 }

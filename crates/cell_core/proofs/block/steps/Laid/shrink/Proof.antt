@@ -19,7 +19,7 @@ use denote.Param.{param, bounded}
 use denote.Ref.{mut_vals, mut_Tells}
 use denote.Triple.Walked.{Stays, stay_ref, walk_of, Goes-ref}
 use Rattle.atomic_table.proofs.Walks.{proved, leaves}
-use Rattle.cell_core.specs.Slot.{Names, at}
+use Rattle.cell_core.specs.Slot.{Names}
 use Rattle.cell_core.specs.Laid.{laid, stride, rooms, still, HasOneMore}
 use Rattle.cell_core.specs.contracts.block.steps.Laid as loose
 use Rattle.cell_core.proofs.LaidParts as parts

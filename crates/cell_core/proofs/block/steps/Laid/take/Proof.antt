@@ -1,14 +1,14 @@
 -- `take` reads the value of a cell, if its word is 2, and leaves an empty cell with new names.
-use Rattle.std.proofs.Common.{◌≡◌, ◌≢◌, ℕ, set, ◌+◌, length, ◌*◌, ◌^◌, ◌<◌, List, [], ◌∷◌, sym, refl, ap, subst, arith, w64, lit<, eqb→eq}
+use Rattle.std.proofs.Common.{◌≡◌, ℕ, set, ◌+◌, length, ◌*◌, ◌^◌, ◌<◌, List, [], ◌∷◌, sym, refl, ap, subst, arith, w64, lit<, eqb→eq}
 use Rattle.std.specs.Prelude.{Some, None}
 use mir.Syntax.{Ty, a_type, dcons, dnil, named, ty_int}
 use mir.Val.{Val, vint, vptr, vcons, vnil, has_ty, WT}
 use mir.MapTy.{inst_fn}
 use base.Logic.{SProp, ent, emp, id⊢, apply∗, all, all_e}
-use base.Fml.{fobs, fauth, Fml, ftrue, fsep, flft, froom, fex}
+use base.Fml.{Fml, ftrue, fsep, flft, froom, fex}
 use prog.Wp.{WpFn, Wp, after_seq, after_block}
 use types.Logic.{sem}
-use types.Kit.{later, await, use3, drop, ◌∵◌, ‵, raw, ◌⊛◌, given, at_ret, ◌$◌, !, qed, by, move, keep, use0, use1, use2, split, join, fsplit, fsplit3, fjoin, fjoin3, learn, suffices, rewrite, feq_i, fpick, fpack, post, any_q}
+use types.Kit.{later, await, use3, drop, ◌∵◌, ‵, raw, ◌⊛◌, given, at_ret, ◌$◌, !, qed, by, move, keep, use0, use1, use2, split, join, fsplit, fsplit3, fjoin, fjoin3, learn, suffices, rewrite, feq_i, fpick, post, any_q}
 use types.Run.{stop, fld, load, addr, size_word, of_opd, bin, first, blocks, exec, returns, enter, look_raw, lit, branches, no_more, and_then, assigns, store}
 use types.ByLocal.{alloc_all, pass_all, free_all, look_at, get, get_in, through, sets, sets_last, is, env}
 use types.Part.{sub, whole as all_of_it, agg}
@@ -27,8 +27,8 @@ use denote.Triple.Walked.{Stays, stay_dropped, stay_ref, walk_of, Goes-dropped, 
 use Rattle.core.proofs.atomic.Steps.{tail}
 use Rattle.core.proofs.slots.Bodies.{after, head}
 use Rattle.atomic_table.proofs.Walks.{proved, leaves}
-use Rattle.cell_core.specs.Slot.{Names, Rest, Lies, free, word, at, auths, mark, crossed}
-use Rattle.cell_core.specs.Laid.{laid, stride, rests, still, cell_in, IsLinked, HasOneRenamed}
+use Rattle.cell_core.specs.Slot.{Names, word, at, auths}
+use Rattle.cell_core.specs.Laid.{laid, stride, still, cell_in, IsLinked, HasOneRenamed}
 use Rattle.cell_core.specs.contracts.block.steps.Link as link
 use Rattle.cell_core.specs.contracts.block.steps.Laid as loose
 use Rattle.cell_core.proofs.CellMade.{pointer_val, pointer_good}
@@ -39,8 +39,6 @@ use denote.Param.Laws.{param_laws}
 use denote.Struct.Members.{Member}
 use Rattle.core.proofs.cell.Inside.{spread}
 use base.Fraction.{full_share}
-use base.Stored.{gnil}
-use types.Tokens.{name_new}
 use denote.Memory.{part_at}
 use denote.Laws.{Is, shows}
 use types.Match.{live}

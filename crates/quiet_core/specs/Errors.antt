@@ -1,0 +1,16 @@
+-- How refusals are shown.
+use Rattle.std.specs.Prelude.{ℕ, List, ◌++◌, codes, decimal}
+use Rattle.quiet_core.specs.declared.errors.QuietError.{QuietError}
+use Rattle.quiet_core.specs.declared.errors.QuietError.TheVariants.{NoMemory, TooLong}
+use Rattle.quiet_core.specs.declared.errors.QuietAt.{QuietAt}
+use Rattle.quiet_core.specs.declared.errors.QuietAt.TheVariants.{OutOfRange, Broken}
+
+-- why the list did not grow
+abbrev pub quiet_error_text : QuietError → List ℕ
+quiet_error_text NoMemory = codes "out of memory"
+quiet_error_text TooLong = codes "longer than the limit"
+
+-- why a place has no value to lend
+abbrev pub quiet_at_text : QuietAt → List ℕ
+quiet_at_text (OutOfRange size) = codes "out of the " ++ decimal size ++ codes " places"
+quiet_at_text Broken = codes "broken"

@@ -5,3 +5,4 @@ pub mod MemberLemmas
 pub mod Tiles
 pub mod Folds
 pub mod Mapped
+pub mod Wrapping

@@ -5,3 +5,4 @@ pub mod Gate
 pub mod Workers
 pub mod Shares
 pub mod Loops
+pub mod Errors

@@ -1,5 +1,5 @@
 -- What loops over a span answer.
-use Rattle.std.specs.Prelude.{◌≡◌, ℕ, ◌+◌, Option, None, Some, List, [], ◌∷◌, length, fold, slice_index_or}
+use Rattle.std.specs.Prelude.{◌≡◌, ℕ, ◌+◌, ◌%◌, ◌^◌, ◌<◌, Option, None, Some, List, [], ◌∷◌, length, map, fold, slice_index_or}
 use Rattle.std.specs.Option.{option_copied, MatchOption}
 use Rattle.std.specs.Borrow.{Bor}
 use Rattle.span_core.specs.Each.{EachFrom}
@@ -16,6 +16,20 @@ module _ {T U : Type 0} where
   AnswersOver post members span answers =
       EachFrom (AnswersAt post members) span.from answers × (span.from + length answers ≡ span.to)
 
+-- the function answers v of each member
+abbrev pub Computes : {T U : Type 0} → (ℕ → Option (Bor T) → U → Type 0) → (Option T → U) → Type 0
+Computes {T} {U} post v = (place : ℕ) (item : Option (Bor T)) (answer : U) → post place item answer → answer ≡ v (option_copied item)
+
+-- where the span is the whole list, one answer to each place is the map of the members
+abbrev pub AnswersAreMap : {T U : Type 0} → (ℕ → Option (Bor T) → U → Type 0) → Type 0
+AnswersAreMap {T} {U} post =
+    (v : Option T → U) (members : List (Option T)) (span : Interval) (all : List U) → Computes post v
+    → span.from ≡ 0 → span.to ≡ length members → AnswersOver post members span all → all ≡ map v members
+
+-- the sum of two numbers of 64 bits, without what does not fit
+abbrev pub wrapping_sum : ℕ → ℕ → ℕ
+wrapping_sum a b = (a + b) % 2 ^ 64
+
 -- over the values of a domain, op is what join does; it may be grouped in any way, and the unit changes nothing
 pub record Joins {U : Type 0} (post : U → U → U → Type 0) (is_in : U → Type 0) (unit : U) (op : U → U → U) : Type 0 where
   pub inside : is_in unit
@@ -24,6 +38,10 @@ pub record Joins {U : Type 0} (post : U → U → U → Type 0) (is_in : U → T
   pub associative : (a b c : U) → is_in a → is_in b → is_in c → op (op a b) c ≡ op a (op b c)
   pub from_left : (a : U) → is_in a → op unit a ≡ a
   pub from_right : (a : U) → is_in a → op a unit ≡ a
+
+-- a function that answers that sum joins numbers by it, from 0
+abbrev pub SumsWrap : (ℕ → ℕ → ℕ → Type 0) → Type 0
+SumsWrap post = ((a b r : ℕ) → post a b r → r ≡ wrapping_sum a b) → Joins post (λ n. n < 2 ^ 64) 0 wrapping_sum
 
 -- the fold of these answers, for every operation that join computes
 abbrev pub IsFold : {U : Type 0} → (U → U → U → Type 0) → (U → Type 0) → U → List U → U → Type 0

@@ -18,6 +18,11 @@ pub enum ParError {
 }
 
 impl fmt::Display for ParError {
+    ghost use Rattle.std.specs.Prelude.{Some};
+    ghost use Rattle.span_core.specs.Errors.{par_error_text};
+
+    ghost output = { λ error. Some (par_error_text error) };
+
     fn fmt<W: fmt::Write>(&self, f: &mut fmt::Formatter<W>) -> fmt::Result {
         match self {
             ParError::NoMemory => write!(f, "out of memory"),

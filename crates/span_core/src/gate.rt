@@ -1,6 +1,6 @@
 //! What each worker passes before and after its work.
-ghost use Rattle.std.specs.Prelude.{◌≡◌, ℕ, ◌<◌, ◌≤◌, ◌⊎◌, IsTrue};
-ghost use Rattle.std.specs.Bool.{OnFalse};
+ghost use Rattle.std.specs.Prelude.{◌≡◌, ℕ, ◌<◌, ◌≤◌, ◌⊎◌, ⊤, IsTrue};
+ghost use Rattle.std.specs.Bool.{OnTrue, OnFalse};
 
 use std::marker::Model;
 use std::sync::atomic::{AtomicBool, Ordering};
@@ -10,9 +10,13 @@ pub trait Gate {
     /// Whether this gate may refuse this worker.
     ghost may_refuse: { Self → ℕ → Type 0 };
 
+    /// What is known of a worker that this gate let through. Work asks for it, so that none is done without the gate.
+    ghost lets_through: { Self → ℕ → Type 0 } = { λ _ _. ⊤ };
+
     /// Whether the worker may work.
     fn before(&self, worker: u32) -> bool
-        ensures { OnFalse result (may_refuse self.now worker) };
+        ensures refused { OnFalse result (may_refuse self.now worker) }
+        ensures through { OnTrue result (lets_through self.now worker) };
 
     /// The worker has ended its work, or was refused.
     fn after(&self, worker: u32);
@@ -77,6 +81,8 @@ impl PairGate {
 
 impl Gate for PairGate {
     ghost may_refuse = { λ _ worker. worker < 2 };
+
+    ghost lets_through = { λ gate worker. (2 ≤ worker) ⊎ (0 < gate.turns) };
 
     fn before(&self, worker: u32) -> bool
         ensures others { OnFalse result (worker < 2) }

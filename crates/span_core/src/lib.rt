@@ -4,8 +4,9 @@
 //! (`specs/Span.antt`); a `Cursor` as its list and its place (`specs/Cursor.antt`).
 //!
 //! A caller can prove that `par_map` answers what the function answers to each place, in order, and that `par_reduce`
-//! answers the fold of that (`specs/Loops.antt`), whatever the number of workers. Each worker passes a `Gate` before
-//! and after its work. `run_workers` starts any `Job` in the same way; where a gate stops it, the workers below the one
+//! answers the fold of that (`specs/Loops.antt`), whatever the number of workers; `laws` has what it needs to know of
+//! the functions that it passes in. Each worker passes a `Gate` before and after its work, and none works that the gate
+//! did not let through. `run_workers` starts any `Job` in the same way; where a gate stops it, the workers below the one
 //! that was refused have answered (`specs/Workers.antt`). Under both is `fork_join`, which starts any range of workers
 //! by halves. Nothing is said of which worker took a leaf, nor that a loop returns.
 #![tactic(auto)]
@@ -14,6 +15,7 @@ mod by_halves;
 mod cursor;
 mod errors;
 mod gate;
+pub mod laws;
 mod map;
 mod reduce;
 mod shares;

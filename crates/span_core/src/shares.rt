@@ -30,16 +30,17 @@ pub(crate) trait LeafJob<A> {
 
 // Leaf i is the work of worker i mod the number of workers.
 #[derive(Drop)]
-struct Shares<'a, L> {
+struct Shares<'a, L, G> {
     alloc: Global,
     each: &'a L,
+    gate: &'a G,
     leaves: &'a [Span],
     workers: u32,
     ghost some: { 0 < workers },
 }
 
-impl<'a, A: Drop, L: LeafJob<A>> Job<VecDeque<A>> for Shares<'a, L> {
-    ghost ready = { λ s. L.ready s.each.now };
+impl<'a, A: Drop, L: LeafJob<A>, G: Gate> Job<VecDeque<A>> for Shares<'a, L, G> {
+    ghost ready = { λ s worker. L.ready s.each.now × G.lets_through s.gate.now worker };
 
     ghost gives = { λ s worker share.
         IsShare (GivesLeaf (L.gives s.each.now) s.leaves.now) (length s.leaves.now)
@@ -59,7 +60,7 @@ impl<'a, A: Drop, L: LeafJob<A>> Job<VecDeque<A>> for Shares<'a, L> {
     }
 }
 
-impl<'a, L> Shares<'a, L> {
+impl<'a, L, G> Shares<'a, L, G> {
     // The answers in order of their leaves: each share in turn gives its next.
     fn gather<A: Drop>(&self, mut shares: VecDeque<VecDeque<A>>) -> Result<Vec<A>, AllocError>
     where
@@ -107,6 +108,7 @@ pub(crate) fn each_leaf<
     let job = Shares {
         alloc,
         each,
+        gate,
         leaves: leaves.as_slice(),
         workers,
     };

@@ -3,6 +3,7 @@
 mod memory;
 mod refusals;
 mod uses;
+mod watch;
 
 use crate::{Free, Gate, PairGate, ParError, Span, par_map, par_reduce};
 use quiet_core::Quiet;
@@ -24,6 +25,17 @@ fn squares(alloc: Global) -> Result<Quiet<u64>, Fail> {
         Ok(list) => Ok(list),
         Err((error, _)) => Err(Fail::from(error)),
     }
+}
+
+// A list of the numbers below n.
+fn numbered(alloc: Global, n: u64) -> Result<Quiet<u64>, Fail> {
+    let mut list = Quiet::new(alloc, 1 << 32);
+    for value in 0..n {
+        if let Err((error, _)) = list.push(value) {
+            return Err(Fail::from(error));
+        }
+    }
+    Ok(list)
 }
 
 // Counts what passes it: each `before` as 1, each `after` as 100. It refuses the workers from `refuses` on.
@@ -106,7 +118,26 @@ fn two_workers_run_at_once(rt: HostRuntime) -> Result<(), Fail> {
         &PairGate::new(0),
     );
     assert!(rt; matches!(unmet, Err(ParError::Stuck)));
+    let alone = par_map(
+        &rt,
+        rt.alloc(),
+        &list,
+        Span::new(0, 10, 3),
+        1,
+        &f,
+        &PairGate::new(1000),
+    );
+    assert!(rt; matches!(alone, Err(ParError::Stuck)));
     Ok(())
+}
+
+#[test]
+fn one_of_a_pair_waits_in_vain_until_the_other_came(rt: HostRuntime) {
+    let gate = PairGate::new(5);
+    assert!(rt; !gate.before(0));
+    assert!(rt; gate.before(1));
+    assert!(rt; gate.before(0));
+    assert!(rt; gate.before(2));
 }
 
 #[test]
@@ -128,8 +159,6 @@ fn each_worker_passes_the_gate_twice(rt: HostRuntime) -> Result<(), Fail> {
     let refused = par_map(&rt, rt.alloc(), &list, Span::new(0, 10, 5), 5, &f, &shut);
     assert!(rt; matches!(refused, Err(ParError::Stuck)));
     assert_eq!(rt; shut.passed.load(Ordering::SeqCst), 505);
-    let many = par_map(&rt, rt.alloc(), &list, Span::new(0, 10, 5), 65, &f, &Free);
-    assert!(rt; matches!(many, Err(ParError::BadWorkers)));
     Ok(())
 }
 

@@ -1,7 +1,7 @@
 //! Workers that each pass a gate before and after their work, and give one answer each.
 ghost use Rattle.std.specs.Prelude.{◌≡◌, ◌≢◌, ℕ, ◌≤◌, ◌++◌, ◌⊎◌, ◌↔◌, Vec, Ok, IfOk, IsErrOf, Err};
 ghost use Rattle.std.specs.Bool.{MatchBool};
-ghost use Rattle.span_core.specs.Workers.{EachGives, RefusesLowest, IsBadNumber};
+ghost use Rattle.span_core.specs.Workers.{AreReadyBy, EachGives, RefusesLowest, IsBadNumber};
 
 use crate::by_halves::{ForkJoin, fork_join};
 use crate::errors::{ParError, Refusal};
@@ -12,15 +12,15 @@ use std::thread::Threads;
 
 /// What each worker of a team does.
 pub trait Job<A> {
-    /// When the workers may begin.
-    ghost ready: { Self → Type 0 };
+    /// When this worker may begin: mostly once a gate let it through.
+    ghost ready: { Self → ℕ → Type 0 };
 
     /// What this worker may answer.
     ghost gives: { Self → ℕ → A → Type 0 };
 
     /// Does the work of one worker.
     fn work(&self, worker: u32) -> Result<A, AllocError>
-        requires { ready self.now }
+        requires { ready self.now worker }
         ensures { IfOk result (gives self.now worker) };
 }
 
@@ -54,10 +54,10 @@ struct Crew<'a, J, G> {
 
 impl<'a, A: Drop, J: Job<A>, G: Gate> ForkJoin<(), Vec<A>, Refusal> for Crew<'a, J, G> {
     ghost use Rattle.std.specs.Prelude.{◌≡◌, ℕ, ◌+◌, ◌<◌, IfOk, IfErr, Result};
-    ghost use Rattle.span_core.specs.Workers.{EachGives, RefusesLowest};
+    ghost use Rattle.span_core.specs.Workers.{AreReadyBy, EachGives, RefusesLowest};
     ghost use Rattle.span_core.specs.declared.errors.Refusal.TheVariants.{Stuck};
 
-    ghost brings = { λ c _ _ _. J.ready c.job.now };
+    ghost brings = { λ c _ _ _. AreReadyBy (G.lets_through c.gate.now) (J.ready c.job.now) };
 
     ghost gives = { λ c first count answers. EachGives (J.gives c.job.now) first count answers.items };
 
@@ -66,7 +66,7 @@ impl<'a, A: Drop, J: Job<A>, G: Gate> ForkJoin<(), Vec<A>, Refusal> for Crew<'a,
 
     // One worker passes the gate and works.
     fn work(&self, worker: u32, _brought: ()) -> Result<Vec<A>, Refusal>
-        requires { J.ready self.now.job.now }
+        requires { AreReadyBy (G.lets_through self.now.gate.now) (J.ready self.now.job.now) }
         ensures answer { IfOk result (λ answers. EachGives (J.gives self.now.job.now) worker 1 answers.items) }
         ensures refused { IfErr result (λ e. e ≡ Stuck
             → RefusesLowest (J.gives self.now.job.now) (G.may_refuse self.now.gate.now) worker 1) }
@@ -85,9 +85,10 @@ impl<'a, A: Drop, J: Job<A>, G: Gate> ForkJoin<(), Vec<A>, Refusal> for Crew<'a,
     }
 
     fn cut(&self, brought: (), _first: u32, low: u32, high: u32) -> ((), ())
-        requires { J.ready self.now.job.now × (0 < low) × (0 < high) }
-        ensures lower { J.ready self.now.job.now }
-        ensures upper { J.ready self.now.job.now }
+        requires { AreReadyBy (G.lets_through self.now.gate.now) (J.ready self.now.job.now)
+            × (0 < low) × (0 < high) }
+        ensures lower { AreReadyBy (G.lets_through self.now.gate.now) (J.ready self.now.job.now) }
+        ensures upper { AreReadyBy (G.lets_through self.now.gate.now) (J.ready self.now.job.now) }
     {
         (brought, brought)
     }
@@ -129,7 +130,7 @@ pub fn run_workers<R: Threads + Wait + Sync, A: Send + Drop, J: Job<A> + Sync, G
     gate: &G,
     workers: u32,
 ) -> Result<Vec<A>, ParError>
-    requires { J.ready job.now }
+    requires { AreReadyBy (G.lets_through gate.now) (J.ready job.now) }
     ensures answers { IfOk result (λ answers. EachGives (J.gives job.now) 0 workers answers.items) }
     // The number is looked at before anything is started.
     ensures bad_workers { IsErrOf result ParError.BadWorkers ↔ IsBadNumber workers }

@@ -43,7 +43,7 @@ impl Fates {
 impl Job<u32> for Fates {
     ghost use Rattle.std.specs.Prelude.{◌≡◌};
 
-    ghost ready = { λ _. Unit {0} };
+    ghost ready = { λ _ _. Unit {0} };
 
     ghost gives = { λ _ worker answer. answer ≡ worker };
 

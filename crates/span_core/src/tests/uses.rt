@@ -1,8 +1,10 @@
 // What callers prove by the public clauses alone.
-ghost use Rattle.std.specs.Prelude.{◌≡◌, map, unwrap_or, IfOk};
+ghost use Rattle.std.specs.Prelude.{◌≡◌, fold, map, unwrap_or, IfOk};
 ghost use Rattle.std.specs.Option.{option_copied};
+ghost use Rattle.span_core.specs.Loops.{wrapping_sum};
 
-use crate::{Free, ParError, Span, par_map};
+use crate::tests::numbered;
+use crate::{Free, ParError, Span, laws, par_map, par_reduce};
 use quiet_core::Quiet;
 use std::alloc::{AllocError, Global};
 use std::sync::Wait;
@@ -37,7 +39,40 @@ fn with_zeros<R: Threads + Wait + Sync>(
     let value_or_zero = |_place: u64, value: Option<&u64>| -> u64
         ensures { result ≡ unwrap_or (option_copied value.entry) 0 }
     { value.copied().unwrap_or(0) };
+    laws::answers_are_the_map(&value_or_zero);
     par_map(rt, alloc, list, span, workers, &value_or_zero, &Free)
+}
+
+// The sum of the values, without what does not fit, by whatever number of workers.
+fn wrapped_sum<R: Threads + Wait + Sync>(
+    rt: &R,
+    alloc: Global,
+    list: &Quiet<u64>,
+    workers: u32,
+) -> Result<u64, ParError>
+    ensures { IfOk result (λ sum.
+        sum ≡ fold wrapping_sum 0 (map (λ member. unwrap_or member 0) list.now.members)) }
+{
+    let span = Span::new(0, list.len(), 100);
+    let value_or_zero = |_place: u64, value: Option<&u64>| -> u64
+        ensures { result ≡ unwrap_or (option_copied value.entry) 0 }
+    { value.copied().unwrap_or(0) };
+    let join = |a: u64, b: u64| -> u64
+        ensures { result ≡ wrapping_sum a b }
+    { a.wrapping_add(b) };
+    laws::answers_are_the_map(&value_or_zero);
+    laws::sums_wrap(&join);
+    par_reduce(
+        rt,
+        alloc,
+        list,
+        span,
+        workers,
+        &value_or_zero,
+        0,
+        &join,
+        &Free,
+    )
 }
 
 #[test]
@@ -47,13 +82,11 @@ fn leaves_are_walked_to_the_end(rt: HostRuntime) -> Result<(), Fail> {
 }
 
 #[test]
-fn the_values_are_mapped_in_order(rt: HostRuntime) -> Result<(), Fail> {
-    let mut list = Quiet::new(rt.alloc(), 1000);
-    for value in 0..1000 {
-        assert!(rt; list.push(value).is_ok());
-    }
+fn the_values_are_mapped_in_order_and_summed(rt: HostRuntime) -> Result<(), Fail> {
+    let list = numbered(rt.alloc(), 1000)?;
     let all = with_zeros(&rt, rt.alloc(), &list, 3)?;
     assert_eq!(rt; all.len(), 1000);
     assert_eq!(rt; all[999], 999);
+    assert_eq!(rt; wrapped_sum(&rt, rt.alloc(), &list, 3)?, 499_500);
     Ok(())
 }

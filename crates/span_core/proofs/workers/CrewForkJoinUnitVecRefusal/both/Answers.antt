@@ -1,7 +1,4 @@
-use Rattle.std.proofs.Common.{◌≡◌, ◌+◌, ◌⊎◌, Ok, Err, IfOk, IfErr, refl, inl, inr}
-use Rattle.std.proofs.lemmas.Result.{IfOk-at_ok, IfErr-at_err}
-use Rattle.span_core.specs.Workers.{EachGives, RefusesLowest}
-use Rattle.span_core.specs.declared.errors.Refusal.TheVariants.{Stuck}
+use Rattle.std.proofs.Common.{◌+◌, refl}
 use Rattle.span_core.proofs.Ranges.{both-give, both-refused}
 use Rattle.span_core.proofs.workers.CrewForkJoinUnitVecRefusal.both.Goals as goal
 

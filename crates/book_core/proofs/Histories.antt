@@ -1,18 +1,18 @@
 -- Histories in parts; and what every history keeps, since each event does: the limit, tiling runs, finished cells.
-use Rattle.std.proofs.Common.{◌≡◌, ◌↔◌, ℕ, ◌+◌, ◌<◌, List, [], ◌∷◌, ◌++◌, length, replicate, drop, get_or, drop-cons, add-one, slice_get, ap, refl, sym, ◌∙◌, subst, Option, Some, inl, inr}
+use Rattle.std.proofs.Common.{arith, ◌≡◌, ◌↔◌, ℕ, ◌+◌, ◌<◌, List, [], ◌∷◌, ◌++◌, length, replicate, drop, get_or, drop-cons, add-one, slice_get, ap, refl, sym, ◌∙◌, subst, Option, Some, inl, inr}
 use Rattle.std.proofs.lemmas.Bool.Decides.{eqb_tells}
 use Rattle.std.proofs.lemmas.List.{length-append, length-replicate, length-set}
 use Rattle.std.proofs.lemmas.Option.{same_Some}
 use Rattle.book_core.specs.declared.cells.Cell.{Cell}
-use Rattle.book_core.specs.declared.cells.Cell.TheVariants.{Pending}
+use Rattle.book_core.specs.declared.cells.Cell.TheVariants.{Pending, Filled, Broken}
 use Rattle.book_core.specs.declared.events.Event.{Event}
 use Rattle.book_core.specs.declared.events.Reply.{Reply}
-use Rattle.book_core.specs.Cells.{CellList, IsFinished, apply_event}
+use Rattle.book_core.specs.Cells.{CellList, apply_event}
 use Rattle.book_core.specs.History.{IsHistory, IsLegalFrom, run_of, runs_of, Tile}
-use Rattle.book_core.specs.Laws.{HistoriesSplit, HistoriesTile, FinishedCellsStay}
+use Rattle.book_core.specs.Laws.{HistoriesSplit, RunsAreApart, HistoriesTile, FilledCellsStay, BrokenCellsStay}
 use Rattle.book_core.proofs.EventEffects.{Does, event_does}
 use Rattle.book_core.proofs.Lists.{get_before, get_other}
-use Rattle.book_core.proofs.Runs.{tile-append}
+use Rattle.book_core.proofs.Runs.{tile-append, runs_within}
 
 -- the entry at an index, and those after it
 first_left : (es : List (Event × Reply)) (i : ℕ) (d : Event × Reply) → i < length es
@@ -97,7 +97,19 @@ runs_tile old new (e ∷ es) (mid, first, others) =
     tile-append (length old.cells) (length mid.cells) (length new.cells) (run_of e.0 e.1) (runs_of es)
     (run_tiles old e.0 mid e.1 (event_does old e.0 mid e.1 first)) (runs_tile mid new es others)
 
+pub runs_are_apart : RunsAreApart
+runs_are_apart old mid new es fs run later first second is_first is_later =
+    let ends = runs_within (length old.cells) (length mid.cells) (runs_of es) run (runs_tile old mid es first) is_first in
+    let begins = runs_within (length mid.cells) (length new.cells) (runs_of fs) later (runs_tile mid new fs second) is_later in
+    omega arith
+
 -- ---- Finished cells
+
+-- the cell is filled or broken
+abbrev IsFinished : Cell → Type 0
+IsFinished (Pending owner) = ⊥
+IsFinished (Filled value) = Unit {0}
+IsFinished Broken = Unit {0}
 
 -- a cell that is not pending
 not_pending : (actor : ℕ) (cell : Cell) → IsFinished cell → Some cell ≡ Some (Pending actor) → ⊥
@@ -119,7 +131,15 @@ finished_stays v event w reply place cell does here finished = elim does [
       ]
 ]
 
-pub finished_cells_stay : FinishedCellsStay
+-- a finished cell stays as it is
+finished_cells_stay : (old new : CellList) (es : List (Event × Reply)) (place : ℕ) (cell : Cell) → IsHistory old es new
+    → slice_get old.cells place ≡ Some cell → IsFinished cell → slice_get new.cells place ≡ Some cell
 finished_cells_stay old new [] place cell is here finished = ap (λ (v : CellList). slice_get v.cells place) is ∙ here
 finished_cells_stay old new (e ∷ es) place cell (mid, first, others) here finished =
     finished_cells_stay mid new es place cell others (finished_stays old e.0 mid e.1 place cell (event_does old e.0 mid e.1 first) here finished) finished
+
+pub filled_cells_stay : FilledCellsStay
+filled_cells_stay old new es place value told here = finished_cells_stay old new es place (Filled value) told here tt
+
+pub broken_cells_stay : BrokenCellsStay
+broken_cells_stay old new es place told here = finished_cells_stay old new es place Broken told here tt

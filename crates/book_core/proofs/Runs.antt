@@ -1,5 +1,5 @@
 -- Runs that tile, and the owners of places.
-use Rattle.std.proofs.Common.{◌≡◌, ℕ, ◌+◌, ◌<◌, ◌≤◌, nat_le, nat_lt, ◌&&◌, true, false, if◌then◌else◌, List, [], ◌∷◌, ◌++◌, Some, None, refl, ap, sym, ◌∙◌, subst, arith, inl, inr}
+use Rattle.std.proofs.Common.{zero, suc, ◌≡◌, ℕ, ◌+◌, ◌<◌, ◌≤◌, nat_le, nat_lt, ◌&&◌, true, false, if◌then◌else◌, List, [], ◌∷◌, ◌++◌, Some, None, refl, ap, sym, ◌∙◌, subst, arith, inl, inr}
 use Rattle.std.proofs.lemmas.Bool.{cases_lt}
 use Rattle.std.proofs.lemmas.Bool.Decides.{nat_tests}
 use Rattle.std.proofs.lemmas.Option.{none-some}
@@ -8,6 +8,7 @@ use Rattle.book_core.specs.declared.events.Reply.{Reply}
 use Rattle.book_core.specs.History.{OwnedRun, run_of, runs_of, owner_of, Tile, writers_of}
 use Rattle.book_core.specs.Events.{writer_in}
 use Rattle.std.proofs.lemmas.List.{append_assoc}
+use Rattle.std.specs.List.{Contains}
 
 -- a run has its places
 pub has_place-true : (run : OwnedRun) (place : ℕ) → run.from ≤ place → place < run.from + run.n
@@ -68,6 +69,17 @@ owned_between start end (run ∷ runs) place (begins, others) low high =
           let outside = has_place-past run place (omega arith) in
           (rest.0, rw outside rest.1)
     ]
+
+-- a run lies between the start and the end of what it helps to tile
+pub runs_within : (start end : ℕ) (runs : List OwnedRun) (run : OwnedRun) → Tile start runs end → Contains runs run
+    → (start ≤ run.from) × (run.from + run.n ≤ end)
+runs_within start end [] run tile (i, inside, is) = absurd (omega arith)
+runs_within start end (first ∷ runs) run (begins, others) (zero, inside, same) =
+    let grows = tile_grows (start + first.n) end runs others in
+    subst (λ (r : OwnedRun). (start ≤ r.from) × (r.from + r.n ≤ end)) same (omega arith, omega arith)
+runs_within start end (first ∷ runs) run (begins, others) (suc i, inside, is) =
+    let rest = runs_within (start + first.n) end runs run others (i, omega arith, is) in
+    (omega arith, rest.1)
 
 -- the runs and the writers of a history, in two parts
 pub runs_of-append : (es fs : List (Event × Reply)) → runs_of (es ++ fs) ≡ runs_of es ++ runs_of fs

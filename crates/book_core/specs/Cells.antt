@@ -12,12 +12,6 @@ pub record CellList : Type 0 where
   pub limit : ℕ
   pub cells : List Cell
 
--- the cell is filled or broken
-abbrev pub IsFinished : Cell → Type 0
-IsFinished (Pending owner) = ⊥
-IsFinished (Filled value) = Unit {0}
-IsFinished Broken = Unit {0}
-
 -- no place is claimed yet
 abbrev pub empty_list : ℕ → CellList
 empty_list limit = record { limit = limit; cells = [] }

@@ -7,14 +7,24 @@ use Rattle.book_core.specs.declared.events.Event.{Event}
 use Rattle.book_core.specs.declared.events.Event.TheVariants.{Claim, Finish, Break, Look}
 use Rattle.book_core.specs.declared.events.Reply.{Reply}
 use Rattle.book_core.specs.declared.events.Reply.TheVariants as replies
-use Rattle.book_core.specs.Cells.{CellList, IsFinished, apply_event, with_cell, with_pending, empty_list}
-use Rattle.book_core.specs.History.{IsHistory, runs_of, Tile, owner_of, writers_of}
+use Rattle.book_core.specs.Cells.{CellList, apply_event, with_cell, with_pending, empty_list}
+use Rattle.book_core.specs.History.{IsHistory, OwnedRun, runs_of, Tile, owner_of, writers_of}
 
 -- a history in two parts is two histories, one after the other
 abbrev pub HistoriesSplit : Type 0
 HistoriesSplit =
     (old new : CellList) (es fs : List (Event × Reply)) → IsHistory old (es ++ fs) new
     ↔ ((mid : CellList) × IsHistory old es mid × IsHistory mid fs new)
+
+-- the runs of a history in two parts are those of the first, and then those of the second
+abbrev pub RunsSplit : Type 0
+RunsSplit = (es fs : List (Event × Reply)) → runs_of (es ++ fs) ≡ runs_of es ++ runs_of fs
+
+-- a run ends before any run that is claimed later begins
+abbrev pub RunsAreApart : Type 0
+RunsAreApart =
+    (old mid new : CellList) (es fs : List (Event × Reply)) (run later : OwnedRun) → IsHistory old es mid → IsHistory mid fs new
+    → Contains (runs_of es) run → Contains (runs_of fs) later → run.from + run.n ≤ later.from
 
 -- the writers of a place in a history in two parts are those in the first, and then those in the second
 abbrev pub WritersSplit : Type 0
@@ -43,11 +53,17 @@ OwnersBreak =
 abbrev pub HistoriesTile : Type 0
 HistoriesTile = (old new : CellList) (es : List (Event × Reply)) → IsHistory old es new → Tile (length old.cells) (runs_of es) (length new.cells)
 
--- a cell that is filled or broken stays as it is
-abbrev pub FinishedCellsStay : Type 0
-FinishedCellsStay =
-    (old new : CellList) (es : List (Event × Reply)) (place : ℕ) (cell : Cell) → IsHistory old es new
-    → slice_get old.cells place ≡ Some cell → IsFinished cell → slice_get new.cells place ≡ Some cell
+-- a filled cell stays filled with its value
+abbrev pub FilledCellsStay : Type 0
+FilledCellsStay =
+    (old new : CellList) (es : List (Event × Reply)) (place value : ℕ) → IsHistory old es new
+    → slice_get old.cells place ≡ Some (Filled value) → slice_get new.cells place ≡ Some (Filled value)
+
+-- a broken cell stays broken
+abbrev pub BrokenCellsStay : Type 0
+BrokenCellsStay =
+    (old new : CellList) (es : List (Event × Reply)) (place : ℕ) → IsHistory old es new
+    → slice_get old.cells place ≡ Some Broken → slice_get new.cells place ≡ Some Broken
 
 -- the owner of the place filled it with this value, and nobody else wrote it
 pub record IsFilledByOwner (es : List (Event × Reply)) (place value : ℕ) : Type 0 where

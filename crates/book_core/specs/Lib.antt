@@ -1,5 +1,6 @@
 pub mod Cells
 pub mod Commands
+pub mod Errors
 pub mod Events
 pub mod History
 pub mod Laws

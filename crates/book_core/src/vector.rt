@@ -20,6 +20,11 @@ pub enum BookError {
 }
 
 impl fmt::Display for BookError {
+    ghost use Rattle.std.specs.Prelude.{Some};
+    ghost use Rattle.book_core.specs.Errors.{book_error_text};
+
+    ghost output = { λ error. Some (book_error_text error) };
+
     fn fmt<W: fmt::Write>(&self, f: &mut fmt::Formatter<W>) -> fmt::Result {
         match self {
             BookError::NoMemory => write!(f, "no memory for the appended places"),

@@ -15,6 +15,11 @@ pub enum PlayError {
 }
 
 impl fmt::Display for PlayError {
+    ghost use Rattle.std.specs.Prelude.{Some};
+    ghost use Rattle.step_core.specs.Errors.{play_error_text};
+
+    ghost output = { λ error. Some (play_error_text error) };
+
     fn fmt<W: fmt::Write>(&self, f: &mut fmt::Formatter<W>) -> fmt::Result {
         match self {
             PlayError::NoMemory => write!(f, "out of memory"),
@@ -41,6 +46,11 @@ pub enum MakeError {
 }
 
 impl fmt::Display for MakeError {
+    ghost use Rattle.std.specs.Prelude.{Some};
+    ghost use Rattle.step_core.specs.Errors.{make_error_text};
+
+    ghost output = { λ error. Some (make_error_text error) };
+
     fn fmt<W: fmt::Write>(&self, f: &mut fmt::Formatter<W>) -> fmt::Result {
         match self {
             MakeError::NoMemory => write!(f, "out of memory"),

@@ -2,7 +2,7 @@
 ghost use Rattle.step_core.specs.calls.Laws.{CallsPlay, CallsAreLegal};
 ghost use Rattle.step_core.specs.machine.Headline.{EveryInterleavingIsSequential};
 ghost use Rattle.step_core.specs.machine.Legal.{EveryPlayIsLegal};
-ghost use Rattle.step_core.specs.machine.Kept.{EveryPlayIsKept};
+ghost use Rattle.step_core.specs.machine.Kept.{EveryPlayKeepsFilledCells, EveryPlayKeepsBrokenCells};
 ghost use Rattle.step_core.specs.machine.Play.{PlaysBeginAtTheFirst, PlaysGoOnByAStep};
 ghost use Rattle.step_core.specs.machine.Record.{EveryPlayIsRecorded};
 ghost use Rattle.step_core.specs.machine.Tiling.{EveryPlayIsTiled};
@@ -30,7 +30,8 @@ pub fn records()
 
 /// What a reader finds filled or broken in a play, it finds so after every further item.
 pub fn kept()
-    ensures { EveryPlayIsKept }
+    ensures filled { EveryPlayKeepsFilledCells }
+    ensures broken { EveryPlayKeepsBrokenCells }
 {}
 
 /// The headline: in every play, every reply is the one that a sequential vector of cells gives in one legal history.

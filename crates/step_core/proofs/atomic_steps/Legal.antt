@@ -5,17 +5,19 @@ use Rattle.std.proofs.lemmas.List.{append-nil}
 use Rattle.std.specs.Option.{option_to_list}
 use Rattle.book_core.specs.declared.events.Event.{Event}
 use Rattle.book_core.specs.declared.events.Reply.{Reply}
+use Rattle.book_core.specs.declared.commands.Command.{Command}
 use Rattle.book_core.specs.declared.commands.Item.{Item}
+use Rattle.seg_core.specs.Segment.{IsLimit}
 use Rattle.book_core.specs.Cells.{empty_list}
 use Rattle.book_core.specs.History.{IsHistory, runs_of}
 use Rattle.step_core.specs.machine.Step.{Configuration, step_of, outcome_of}
 use Rattle.step_core.specs.machine.Bounds.{IsInLimit}
 use Rattle.step_core.specs.machine.Play.{Play, empty_play, with_step, after_items, play_of}
 use Rattle.step_core.specs.machine.Legal.{list_seen, EveryPlayIsLegal}
-use Rattle.step_core.specs.machine.Kept.{EveryPlayIsKept}
+use Rattle.step_core.specs.machine.Kept.{EveryPlayKeepsFilledCells, EveryPlayKeepsBrokenCells}
 use Rattle.step_core.proofs.atomic_steps.Cases.{step_cases}
 use Rattle.step_core.proofs.atomic_steps.Bounds.{opening_in_limit, within_at, step_in_limit}
-use Rattle.book_core.proofs.Histories.{IsHistory-append, finished_cells_stay}
+use Rattle.book_core.proofs.Histories.{IsHistory-append, filled_cells_stay, broken_cells_stay}
 use Rattle.book_core.proofs.Runs.{runs_of-append}
 use Rattle.step_core.proofs.atomic_steps.Tiling.{HoldsAt, step_holds, opening_holds, items_hold}
 use Rattle.step_core.proofs.atomic_steps.Legal.Replies.{seen, row_told}
@@ -77,11 +79,25 @@ every_play_is_legal limit programs items is_limit =
 
 -- ---- What is finished stays
 
-pub every_play_is_kept : EveryPlayIsKept
-every_play_is_kept limit programs items is_limit more place cell here finished =
+-- the cells that are seen later come from those that are seen now, by a history
+goes_on : (limit : ℕ) (programs : List (List Command)) (items more : List Item) → IsLimit limit
+    → (es : List (Event × Reply)) × IsHistory (list_seen limit (play_of limit programs items)) es (list_seen limit (after_items (play_of limit programs items) more))
+goes_on limit programs items more is_limit =
     let opens = opening_in_limit limit programs is_limit in
     let p = play_of limit programs items in
     let in_limit : IsInLimit p.at = items_in_limit (empty_play limit programs) items opens in
     let holds : HoldsAt p.at p.events = items_hold (empty_play limit programs) items opens (opening_holds limit programs) in
     let further = items_told limit p more (items_limit (empty_play limit programs) items) in_limit holds in
-    finished_cells_stay (list_seen limit p) (list_seen limit (after_items p more)) further.more place cell further.told here finished
+    (further.more, further.told)
+
+pub every_play_keeps_filled_cells : EveryPlayKeepsFilledCells
+every_play_keeps_filled_cells limit programs items is_limit more place value here =
+    let p = play_of limit programs items in
+    let on = goes_on limit programs items more is_limit in
+    filled_cells_stay (list_seen limit p) (list_seen limit (after_items p more)) on.0 place value on.1 here
+
+pub every_play_keeps_broken_cells : EveryPlayKeepsBrokenCells
+every_play_keeps_broken_cells limit programs items is_limit more place here =
+    let p = play_of limit programs items in
+    let on = goes_on limit programs items more is_limit in
+    broken_cells_stay (list_seen limit p) (list_seen limit (after_items p more)) on.0 place on.1 here

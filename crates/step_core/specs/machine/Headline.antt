@@ -9,7 +9,7 @@ use Rattle.step_core.specs.machine.Play.{Play, play_of}
 use Rattle.step_core.specs.machine.Legal.{IsLegal}
 use Rattle.step_core.specs.machine.Record.{AreRecorded}
 use Rattle.step_core.specs.machine.Tiling.{IsTiled}
-use Rattle.step_core.specs.machine.Kept.{IsKept}
+use Rattle.step_core.specs.machine.Kept.{FilledCellsAreKept, BrokenCellsAreKept}
 
 -- what holds of a play of these programs
 pub record IsSequential (limit : ℕ) (programs : List (List Command)) (p : Play) : Type 0 where
@@ -25,8 +25,10 @@ pub record IsSequential (limit : ℕ) (programs : List (List Command)) (p : Play
   pub nothing_at_load : NothingIsClaimedAtLoad p
   -- runs tile the claimed size; each place is its owner's, who fills or breaks it once; a refusal breaks its own cells alone
   pub tiled : IsTiled p
-  -- a published cell keeps its value, and a broken one stays broken
-  pub kept : IsKept p
+  -- a published cell keeps its value
+  pub kept : FilledCellsAreKept p
+  -- and a broken one stays broken
+  pub stays_broken : BrokenCellsAreKept p
 
 -- Over every limit, every sound programs, every schedule with any marks of memory.
 abbrev pub EveryInterleavingIsSequential : Type 0

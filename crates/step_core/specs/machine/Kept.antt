@@ -1,22 +1,29 @@
--- What a reader finds at a finished place, it finds there ever after.
+-- What a reader finds at a filled or a broken place, it finds there ever after.
 use Rattle.std.specs.Prelude.{◌≡◌, ℕ, List, Some, slice_get}
-use Rattle.book_core.specs.declared.cells.Cell.{Cell}
+use Rattle.book_core.specs.declared.cells.Cell.TheVariants.{Filled, Broken}
 use Rattle.book_core.specs.declared.commands.Command.{Command}
 use Rattle.book_core.specs.declared.commands.Item.{Item}
 use Rattle.seg_core.specs.Segment.{IsLimit}
-use Rattle.book_core.specs.Cells.{IsFinished}
 use Rattle.step_core.specs.machine.Play.{Play, after_items, play_of, played_of}
 
--- a finished cell of one play is the same in another
-abbrev pub KeepsFinished : Play → Play → Type 0
-KeepsFinished p q =
-    (place : ℕ) (cell : Cell) → slice_get (played_of p).cells place ≡ Some cell → IsFinished cell → slice_get (played_of q).cells place ≡ Some cell
+-- a place that is filled has its value after every further item
+abbrev pub FilledCellsAreKept : Play → Type 0
+FilledCellsAreKept p =
+    (more : List Item) (place value : ℕ)
+    → slice_get (played_of p).cells place ≡ Some (Filled value) → slice_get (played_of (after_items p more)).cells place ≡ Some (Filled value)
 
--- every further item leaves the finished cells of a play as they are
-abbrev pub IsKept : Play → Type 0
-IsKept p = (more : List Item) → KeepsFinished p (after_items p more)
+-- a place that is broken is broken after every further item
+abbrev pub BrokenCellsAreKept : Play → Type 0
+BrokenCellsAreKept p =
+    (more : List Item) (place : ℕ)
+    → slice_get (played_of p).cells place ≡ Some Broken → slice_get (played_of (after_items p more)).cells place ≡ Some Broken
 
--- so it is in every play
-abbrev pub EveryPlayIsKept : Type 0
-EveryPlayIsKept =
-    (limit : ℕ) (programs : List (List Command)) (items : List Item) → IsLimit limit → IsKept (play_of limit programs items)
+-- so it is with the filled places of every play
+abbrev pub EveryPlayKeepsFilledCells : Type 0
+EveryPlayKeepsFilledCells =
+    (limit : ℕ) (programs : List (List Command)) (items : List Item) → IsLimit limit → FilledCellsAreKept (play_of limit programs items)
+
+-- and with its broken places
+abbrev pub EveryPlayKeepsBrokenCells : Type 0
+EveryPlayKeepsBrokenCells =
+    (limit : ℕ) (programs : List (List Command)) (items : List Item) → IsLimit limit → BrokenCellsAreKept (play_of limit programs items)

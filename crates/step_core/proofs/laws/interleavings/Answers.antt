@@ -1,5 +1,5 @@
 use Rattle.step_core.proofs.atomic_steps.Claims.{every_play_moves_at_claims, every_move_is_own, every_nothing_is_at_load}
-use Rattle.step_core.proofs.atomic_steps.Legal.{every_play_is_legal, every_play_is_kept}
+use Rattle.step_core.proofs.atomic_steps.Legal.{every_play_is_legal, every_play_keeps_filled_cells, every_play_keeps_broken_cells}
 use Rattle.step_core.proofs.atomic_steps.Record.{every_play_is_recorded}
 use Rattle.step_core.proofs.atomic_steps.Tiling.{every_play_is_tiled}
 use Rattle.step_core.proofs.laws.interleavings.Goals as goal
@@ -12,5 +12,6 @@ returns c = λ limit programs items is_limit sound. record {
   own_claims = every_move_is_own limit programs items is_limit sound;
   nothing_at_load = every_nothing_is_at_load limit programs items is_limit sound;
   tiled = every_play_is_tiled limit programs items is_limit;
-  kept = every_play_is_kept limit programs items is_limit;
+  kept = every_play_keeps_filled_cells limit programs items is_limit;
+  stays_broken = every_play_keeps_broken_cells limit programs items is_limit;
 }

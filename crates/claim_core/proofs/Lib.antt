@@ -10,3 +10,4 @@ mod WholeHand
 mod KeyRows
 mod OwnCounts
 mod OwnPlaces
+mod OwnFacts

@@ -1,12 +1,14 @@
--- How many places a hand's own runs have after a call, for the small layer of the tests that counts them. The premise is a public law.
+-- How many places a hand's own runs have after a call.
 use Rattle.std.proofs.Common.{◌≡◌, ℕ, ◌+◌, ◌<◌, ◌++◌, length, ap, ◌∙◌, arith}
 use Rattle.std.specs.List.{Contains}
-use Rattle.std.proofs.lemmas.List.Sums.{sum_by-append}
+use Rattle.std.proofs.lemmas.List.Sums.{sum_by-append, sum_by-cons}
 use Rattle.std.specs.Prelude.{slice_index}
 use mathlib.Core.List.{IsPrefix}
 use Rattle.claim_core.specs.Lengths.{places_in}
 use Rattle.claim_core.specs.Hand.{HandView, own_places}
-use Rattle.claim_core.specs.Laws.{PlacesStay}
+use Rattle.claim_core.specs.Laws.{PlacesStay, AddedPlacesAddUp, JoinedPlacesAddUp}
+use Rattle.claim_core.proofs.Places.{places_stay}
+use Rattle.claim_core.proofs.RunLaws.{added_last}
 
 -- a hand that has seen more, and owns what it owned
 pub own_places-same : PlacesStay → (old new : HandView) → IsPrefix old.seen new.seen → new.mine ≡ old.mine
@@ -23,4 +25,17 @@ own_places-joined law a b new seen_a seen_b mine below_a below_b =
     let both = sum_by-append (λ k. slice_index new.seen k) a.mine b.mine in
     let of_a = law a.seen new.seen a.mine seen_a below_a in
     let of_b = law b.seen new.seen b.mine seen_b below_b in
+    omega arith
+
+pub joined_places_add : JoinedPlacesAddUp
+joined_places_add a b new sees also_sees more also_more mine = own_places-joined places_stay a b new more also_more mine sees also_sees
+
+pub added_places_add : AddedPlacesAddUp
+added_places_add old new run sees adds =
+    let gain = (added_last old new run adds).1 in
+    let last = (added_last old new run adds).0 in
+    let all = ap (places_in new.seen) gain.mine in
+    let more = sum_by-cons (λ k. slice_index new.seen k) last old.mine in
+    let stay = places_stay old.seen new.seen old.mine gain.seen sees in
+    let n = gain.sees.n in
     omega arith

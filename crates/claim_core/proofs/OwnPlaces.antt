@@ -2,15 +2,16 @@
 use Rattle.std.proofs.Common.{◌≡◌, ◌≢◌, ℕ, inl, inr, ⊎_elim, sym, subst}
 use Rattle.std.specs.List.{Contains}
 use Rattle.std.proofs.lemmas.Bool.{cases_eq}
-use Rattle.std.proofs.lemmas.List.Elements.{Contains-append_cases}
+use Rattle.std.proofs.lemmas.List.Elements.{Contains-append_cases, Contains-append_left, Contains-append_right}
 use Rattle.std.proofs.lemmas.Map.Made.{Contains-tail}
 use mathlib.Core.List.{IsPrefix}
 use Rattle.claim_core.specs.Lengths.{InRun}
 use Rattle.claim_core.specs.Word.{WordView}
-use Rattle.claim_core.specs.Hand.{HandView, OwnsPlace, SeesOwn}
-use Rattle.claim_core.specs.Laws.{OwnPlacesStay, AddedPlacesAreOwned, AddedPlacesAreOfTheRun, JoinedPlacesAreOfEither}
+use Rattle.claim_core.specs.declared.run.Run.{Run}
+use Rattle.claim_core.specs.Hand.{HandView, OwnsRun, OwnsPlace, SeesOwn}
+use Rattle.claim_core.specs.Laws.{OwnPlacesStay, AddedPlacesAreOwned, AddedPlacesAreOfTheRun, JoinedPlacesAreOfEither, JoinedHandsOwnRuns}
 use Rattle.claim_core.proofs.Tiles.{run_was_there}
-use Rattle.claim_core.proofs.RunLaws.{added_last, added_owned, seen_places}
+use Rattle.claim_core.proofs.RunLaws.{added_last, added_owned, seen_places, seen_stay}
 
 -- a place of an old run is in that run still
 stays : (old new : HandView) (index place : ℕ) → SeesOwn old → new.of ≡ old.of → IsPrefix old.seen new.seen
@@ -43,3 +44,15 @@ joined_places a b new place sees also_sees of also_of more also_more mine (index
     (λ (was : Contains a.mine index). inl (stays a new index place sees of more was in_run))
     (λ (was : Contains b.mine index). inr (stays b new index place also_sees also_of also_more was in_run))
     (Contains-append_cases a.mine b.mine index (subst (λ m. Contains m index) mine own))
+
+-- a run of a hand is one of a hand that owns at least as much
+takes_over : (old new : HandView) (run : Run) → new.of ≡ old.of → IsPrefix old.seen new.seen
+    → ((k : ℕ) → Contains old.mine k → Contains new.mine k) → OwnsRun old run → OwnsRun new run
+takes_over old new run of more own owns = (owns.0, own owns.0 owns.1, seen_stay old new owns.0 run of more owns.2)
+
+pub joined_own : JoinedHandsOwnRuns
+joined_own a b new run of also_of more also_more mine owns =
+    ⊎_elim
+    (λ (was : OwnsRun a run). takes_over a new run of more (λ k there. subst (λ m. Contains m k) (sym mine) (Contains-append_left a.mine b.mine k there)) was)
+    (λ (was : OwnsRun b run). takes_over b new run also_of also_more (λ k there. subst (λ m. Contains m k) (sym mine) (Contains-append_right a.mine b.mine k there)) was)
+    owns

@@ -7,8 +7,8 @@ use mathlib.Core.List.{IsPrefix}
 use Rattle.claim_core.specs.declared.run.Run.{Run}
 use Rattle.claim_core.specs.Lengths.{InRun}
 use Rattle.claim_core.specs.Word.{WordView}
-use Rattle.claim_core.specs.Hand.{HandView, SeesRun, IsPlaceOf}
-use Rattle.claim_core.specs.Laws.{AddedRunsAreLast, AddedRunsAreOwned, OwnRunsStay, SeenRunsStay, SeenRunsWereThere, SeenRunsAreWithin, SeenRunsHavePlaces, OwnersAreApart, JoinedOwnersAreApart}
+use Rattle.claim_core.specs.Hand.{HandView, SeesRun, IsPlaceOf, single}
+use Rattle.claim_core.specs.Laws.{AddedRunsAreLast, AddedRunsAreOwned, OwnRunsStay, SeenRunsStay, SeenRunsWereThere, SeenRunsAreWithin, SeenRunsHavePlaces, OwnersAreApart, JoinedOwnersAreApart, SinglePlacesDiffer}
 use Rattle.claim_core.proofs.Prefixes.{prefix_self, prefix_length}
 use Rattle.claim_core.proofs.Tiles.{run_within, run_apart, run_stays, starts_there, reads_there}
 
@@ -99,3 +99,7 @@ joined_owners_apart a b lengths x y word more_a more_b apart own_x own_y place f
 
 pub owners_apart : OwnersAreApart
 owners_apart a b x y word seen = joined_owners_apart a b a.seen x y word (prefix_self a.seen) (subst (λ l. IsPrefix b.seen l) seen (prefix_self b.seen))
+
+pub singles_differ : SinglePlacesDiffer
+singles_differ a b x y word seen apart own_x own_y same =
+    owners_apart a b (single x) (single y) word seen apart own_x own_y x (omega arith) (omega arith) (omega arith) (omega arith)

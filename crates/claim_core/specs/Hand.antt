@@ -1,6 +1,6 @@
 -- A hand as callers see it, and what one call does to it.
-use Rattle.std.specs.Prelude.{◌≡◌, ℕ, ◌+◌, ◌<◌, ◌≤◌, List, [], ◌∷◌, ◌++◌, length, slice_index}
-use Rattle.std.specs.List.{Contains}
+use Rattle.std.specs.Prelude.{◌≡◌, ℕ, ◌+◌, ◌<◌, ◌≤◌, ◌==◌, ◌&&◌, nat_lt, Bool, IsTrue, List, [], ◌∷◌, ◌++◌, length, slice_index}
+use Rattle.std.specs.List.{Contains, list_any}
 use mathlib.Core.List.{IsPrefix}
 use Rattle.claim_core.specs.declared.run.Run.{Run}
 use Rattle.claim_core.specs.Lengths.{InRun, run_start, runs_end, places_in}
@@ -39,13 +39,14 @@ pub record KeepsOwn (old new : HandView) : Type 0 where
   pub mine : new.mine ≡ old.mine
   pub shares : new.shares ≡ old.shares
 
--- the hand has one more run. It begins where the runs before it end, and all that the hand had seen is a prefix of them
+-- the hand has one more run. It begins where the runs before it end, all that the hand had seen is a prefix of them, and the size that the hand has seen is then where the run ends
 pub record AddsRun (old new : HandView) (run : Run) : Type 0 where
   pub between : List ℕ
   pub begins : run.from ≡ runs_end old.of.base (old.seen ++ between)
   pub positive : 0 < run.n
   pub within : run.from + run.n ≤ old.of.limit
   pub seen : new.seen ≡ (old.seen ++ between) ++ run.n ∷ []
+  pub ends : seen_size new ≡ run.from + run.n
   pub mine : new.mine ≡ length (old.seen ++ between) ∷ old.mine
   pub shares : new.shares ≡ old.shares
   pub of : new.of ≡ old.of
@@ -74,6 +75,19 @@ HasSeen hand run = (index : ℕ) × SeesRun hand index run
 -- the hand has seen the run, and owns it
 abbrev pub OwnsRun : HandView → Run → Type 0
 OwnsRun hand run = (index : ℕ) × Contains hand.mine index × SeesRun hand index run
+
+-- whether the run is the one of this index among those that the hand has seen
+abbrev pub is_run_at : HandView → Run → ℕ → Bool
+is_run_at hand run index =
+    nat_lt index (length hand.seen) && ((run.from == run_start hand.of.base hand.seen index) && (run.n == slice_index hand.seen index))
+
+-- the hand owns the run, said without its index, so that a ghost field can hold it
+abbrev pub IsOwnRun : HandView → Run → Type 0
+IsOwnRun hand run = IsTrue (list_any (λ index. is_run_at hand run index) hand.mine)
+
+-- the run of one place
+abbrev pub single : ℕ → Run
+single place = record { from = place; n = 1 }
 
 -- the place lies in a run that the hand owns
 abbrev pub OwnsPlace : HandView → ℕ → Type 0

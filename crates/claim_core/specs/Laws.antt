@@ -1,10 +1,10 @@
 -- What follows from the definitions of runs and hands alone.
-use Rattle.std.specs.Prelude.{◌≡◌, ℕ, ◌+◌, ◌<◌, ◌≤◌, ◌↔◌, ◌⊎◌, List, ◌++◌, length}
+use Rattle.std.specs.Prelude.{◌≡◌, ℕ, ◌+◌, ◌<◌, ◌≤◌, ◌≢◌, ◌↔◌, ◌⊎◌, List, ◌++◌, length}
 use Rattle.std.specs.List.{Contains}
 use mathlib.Core.List.{IsPrefix}
 use Rattle.claim_core.specs.declared.run.Run.{Run}
 use Rattle.claim_core.specs.Lengths.{InRun, places_in}
-use Rattle.claim_core.specs.Hand.{HandView, KeepsOwn, AddsRun, SeesRun, OwnsRun, OwnsPlace, SeesOwn, GainsRun, OwnApart, IsPlaceOf, AreDisjoint, seen_size}
+use Rattle.claim_core.specs.Hand.{HandView, KeepsOwn, AddsRun, SeesRun, OwnsRun, OwnsPlace, SeesOwn, GainsRun, OwnApart, IsOwnRun, IsPlaceOf, AreDisjoint, single, seen_size, own_places}
 
 -- a run stays where it is when the list goes on
 abbrev pub RunsStay : Type 0
@@ -101,3 +101,30 @@ JoinedPlacesAreOfEither =
     (a b new : HandView) (place : ℕ) → SeesOwn a → SeesOwn b → new.of ≡ a.of → new.of ≡ b.of
     → IsPrefix a.seen new.seen → IsPrefix b.seen new.seen → new.mine ≡ a.mine ++ b.mine
     → OwnsPlace new place → OwnsPlace a place ⊎ OwnsPlace b place
+
+-- a hand that has one more run owns as many places more as the run has
+abbrev pub AddedPlacesAddUp : Type 0
+AddedPlacesAddUp =
+    (old new : HandView) (run : Run) → SeesOwn old → AddsRun old new run → own_places new ≡ own_places old + run.n
+
+-- a hand that two were joined into owns as many places as the two together
+abbrev pub JoinedPlacesAddUp : Type 0
+JoinedPlacesAddUp =
+    (a b new : HandView) → SeesOwn a → SeesOwn b → IsPrefix a.seen new.seen → IsPrefix b.seen new.seen
+    → new.mine ≡ a.mine ++ b.mine → own_places new ≡ own_places a + own_places b
+
+-- a hand that two were joined into owns the runs that one of them owned
+abbrev pub JoinedHandsOwnRuns : Type 0
+JoinedHandsOwnRuns =
+    (a b new : HandView) (run : Run) → new.of ≡ a.of → new.of ≡ b.of → IsPrefix a.seen new.seen → IsPrefix b.seen new.seen
+    → new.mine ≡ a.mine ++ b.mine → OwnsRun a run ⊎ OwnsRun b run → OwnsRun new run
+
+-- single places of two hands that own no run in common, and have seen the same, differ
+abbrev pub SinglePlacesDiffer : Type 0
+SinglePlacesDiffer =
+    (a b : HandView) (x y : ℕ) → b.of ≡ a.of → b.seen ≡ a.seen → OwnApart a b
+    → OwnsRun a (single x) → OwnsRun b (single y) → x ≢ y
+
+-- that a hand owns a run can be said without its index
+abbrev pub OwnRunsAreFacts : Type 0
+OwnRunsAreFacts = (hand : HandView) (run : Run) → (OwnsRun hand run ↔ IsOwnRun hand run)

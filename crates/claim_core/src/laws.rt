@@ -4,6 +4,7 @@ ghost use Rattle.claim_core.specs.Laws.{RunsStay, RunsWereThere, RunsAreApart, P
 ghost use Rattle.claim_core.specs.Laws.{AddedRunsAreOwned, AddedRunsAreLast};
 ghost use Rattle.claim_core.specs.Laws.{SeenRunsStay, SeenRunsWereThere, SeenRunsAreWithin, SeenRunsHavePlaces};
 ghost use Rattle.claim_core.specs.Laws.{OwnRunsStay, OwnersAreApart, JoinedOwnersAreApart};
+ghost use Rattle.claim_core.specs.Laws.{AddedPlacesAddUp, JoinedPlacesAddUp, JoinedHandsOwnRuns, SinglePlacesDiffer, OwnRunsAreFacts};
 ghost use Rattle.claim_core.specs.Laws.{OwnPlacesStay, AddedPlacesAreOwned, AddedPlacesAreOfTheRun, JoinedPlacesAreOfEither};
 
 /// A run stays where it is when the list goes on.
@@ -91,4 +92,30 @@ pub fn added_places_are_of_the_run()
 /// A hand that two were joined into owns the places that one of them owned.
 pub fn joined_places_are_of_either()
     ensures { JoinedPlacesAreOfEither }
+{}
+
+/// A hand that has one more run owns as many places more as the run has.
+pub fn added_places_add_up()
+    ensures { AddedPlacesAddUp }
+{}
+
+/// A hand that two were joined into owns as many places as the two together.
+pub fn joined_places_add_up()
+    ensures { JoinedPlacesAddUp }
+{}
+
+/// A hand that two were joined into owns the runs that one of them owned.
+pub fn joined_hands_own_runs()
+    ensures { JoinedHandsOwnRuns }
+{}
+
+/// Single places of two hands that own no run in common, and have seen the same, differ. So it is
+/// after a meeting.
+pub fn single_places_differ()
+    ensures { SinglePlacesDiffer }
+{}
+
+/// That a hand owns a run can be said without its index, so that a ghost field can hold it.
+pub fn own_runs_are_facts()
+    ensures { OwnRunsAreFacts }
 {}

@@ -2,30 +2,35 @@ use super::*;
 use std::test::Fail;
 
 mod counts;
+mod hands;
 mod keys;
 mod looks;
+mod owners;
 mod race;
 mod uses;
 
+use hands::Hands;
+
 #[test]
-fn two_hands_claim_in_turn(rt: HostRuntime) -> Result<(), Fail> {
-    let (word, mut h) = Word::open(rt.alloc(), 8, 0)?;
-    assert_eq!(rt; h.seen(), 0);
-    assert_eq!(rt; word.exchange(&mut h, 0, 2), Ok(Run { from: 0, n: 2 }));
-    assert!(rt; h.is_whole());
-    let mut g = word.split(&mut h, 1);
-    assert_eq!(rt; h.share(), 65_535);
-    assert_eq!(rt; g.seen(), 2);
-    assert_eq!(rt; word.exchange(&mut g, 2, 1), Ok(Run { from: 2, n: 1 }));
-    assert_eq!(rt; h.seen(), 2);
-    assert_eq!(rt; word.exchange(&mut h, 2, 1), Err(Moved { size: 3 }));
-    assert_eq!(rt; word.raise(&mut h, 5), Ok(Run { from: 3, n: 2 }));
-    assert_eq!(rt; word.size(&mut g), 5);
-    assert_eq!(rt; word.raise(&mut g, 4), Err(Enough { size: 5 }));
-    word.join(&mut h, g);
-    assert!(rt; h.is_whole());
-    assert_eq!(rt; word.close(h), 5);
+fn a_whole_hand_claims_and_stays_whole(rt: HostRuntime) -> Result<(), Fail> {
+    let (word, mut hand) = Word::open(rt.alloc(), 8, 0)?;
+    assert_eq!(rt; hand.seen(), 0);
+    assert_eq!(rt; word.exchange(&mut hand, 0, 2), Ok(Run { from: 0, n: 2 }));
+    assert!(rt; hand.is_whole());
     Ok(())
+}
+
+#[test]
+fn two_hands_claim_in_turn(rt: HostRuntime) {
+    let mut two = Hands::new(&rt, 8, 2);
+    assert_eq!(rt; (two.a.share(), two.b.seen()), (65_535, 2));
+    assert_eq!(rt; two.exchange_b(2, 1), Some(Ok(Run { from: 2, n: 1 })));
+    assert_eq!(rt; two.a.seen(), 2);
+    assert_eq!(rt; two.exchange_a(2, 1), Some(Err(Moved { size: 3 })));
+    assert_eq!(rt; two.raise_a(5), Some(Ok(Run { from: 3, n: 2 })));
+    assert_eq!(rt; two.size_b(), 5);
+    assert_eq!(rt; two.raise_b(4), Some(Err(Enough { size: 5 })));
+    assert_eq!(rt; two.close(), Some(5));
 }
 
 #[test]

@@ -47,6 +47,7 @@ adds_after a b c run p q =
       positive = q.positive;
       within = subst (λ w. run.from + run.n ≤ w.limit) p.own.of q.within;
       seen = q.seen ∙ ap (λ xs. xs ++ run.n ∷ []) same;
+      ends = q.ends;
       mine = q.mine ∙ (ap (λ xs. length xs ∷ b.mine) same ∙ ap (λ m. length (a.seen ++ (p.seen.0 ++ q.between)) ∷ m) p.own.mine);
       shares = q.shares ∙ p.own.shares;
       of = q.of ∙ p.own.of;
@@ -55,7 +56,7 @@ adds_after a b c run p q =
 -- what a refusal leaves of a hand, it leaves of one that had seen less
 pub leaves_after : {T V E : Type 0} (vector : VectorView) (n : ℕ) (a b c : HandView) (e : GrowError T V E)
     → SeesMore a b → Leaves vector n b c e → Leaves vector n a c e
-leaves_after vector n a b c (NoMemory back) p l = more_after a b c p l
+leaves_after vector n a b c (NoMemory back) p l = record { more = more_after a b c p l.more; room = l.room }
 leaves_after vector n a b c (Full size back) p l = size_after a b c size p l
 leaves_after vector n a b c (Moved size back) p l = size_after a b c size p l
 leaves_after vector n a b c (Refused run made cause) p l = record { claimed = adds_after a b c run p l.claimed; all = l.all; first = l.first; fewer = l.fewer; tokens = l.tokens }

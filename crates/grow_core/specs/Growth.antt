@@ -2,16 +2,13 @@
 use Rattle.std.specs.Prelude.{◌≡◌, ℕ, ◌+◌, ◌<◌, ◌≤◌}
 use Rattle.claim_core.specs.declared.run.Run.{Run}
 use Rattle.claim_core.specs.Hand.{HandView, AddsRun, SeesSize, IsWholeHand, seen_size}
+pub use Rattle.claim_core.specs.Hand.{single}
 use Rattle.grow_core.specs.declared.token.Found.{Found}
 use Rattle.grow_core.specs.declared.token.Found.TheVariants as found
 use Rattle.grow_core.specs.declared.errors.GrowError.{GrowError}
 use Rattle.grow_core.specs.declared.errors.GrowError.TheVariants.{NoMemory, Full, Moved, Refused, Taken}
 use Rattle.grow_core.specs.Vector.{VectorView, IsPlacedOf, IsSpoiltOf, SeesMore, limit_of}
 use Rattle.grow_core.specs.Grown.{GrownView, IsGrownOf}
-
--- the run of one place
-abbrev pub single : ℕ → Run
-single place = record { from = place; n = 1 }
 
 -- the growth won the run: it is the hand's own, or it is empty, and begins at the size that the hand has seen
 pub record Grows (old new : HandView) (run : Run) : Type 0 where
@@ -57,6 +54,11 @@ pub record NeedsMemory (vector : VectorView) (n : ℕ) (old : HandView) : Type 0
   pub some_places : 0 < n
   pub room : seen_size old + n ≤ limit_of vector
 
+-- nothing of the hand has changed but what it has seen, and that leaves room still
+pub record LacksMemory (vector : VectorView) (n : ℕ) (old new : HandView) : Type 0 where
+  pub more : SeesMore old new
+  pub room : seen_size new + n ≤ limit_of vector
+
 -- when each refusal comes, by what the hand had seen before the call
 abbrev pub IsDue : {T V E : Type 0} → VectorView → ℕ → HandView → GrowError T V E → Type 0
 IsDue vector n old (NoMemory back) = NeedsMemory vector n old
@@ -67,7 +69,7 @@ IsDue vector n old (Taken place found) = 0 < n
 
 -- what each refusal leaves of the hand, and tells of the vector
 abbrev pub Leaves : {T V E : Type 0} → VectorView → ℕ → HandView → HandView → GrowError T V E → Type 0
-Leaves vector n old new (NoMemory back) = SeesMore old new
+Leaves vector n old new (NoMemory back) = LacksMemory vector n old new
 Leaves vector n old new (Full size back) = SeesSize old new size
 Leaves vector n old new (Moved size back) = SeesSize old new size
 Leaves vector n old new (Refused run made cause) = KeepsMade vector n old new run made

@@ -1,5 +1,5 @@
 //! How the vector is read.
-ghost use Rattle.std.specs.Prelude.{◌≡◌, ◌≢◌, ◌<◌, IfOk, IfErr, IfSome, IsOkAnd};
+ghost use Rattle.std.specs.Prelude.{◌≡◌, ◌≢◌, ◌<◌, IfOk, IfErr, IfSome, IsOkAnd, None};
 ghost use Rattle.claim_core.specs.Hand.{seen_size};
 ghost use Rattle.grow_core.specs.Vector.{IsHandOf, IsPlacedOf, IsSpoiltOf, SeesMore, limit_of};
 ghost use Rattle.grow_core.specs.Read.{IsAt, IsSeenAt, IsDueAt, IsInRange};
@@ -38,6 +38,8 @@ impl<T> Shared<T> {
         requires ours { IsHandOf self.now hand.old }
         requires known { IfSome known (λ p. IsPlacedOf self.now p.now × (p.now.place ≡ place)) }
         ensures at { IfOk result (IsAt self.now place) }
+        // Without a token it is a place that the hand has then seen.
+        ensures below { known.entry ≡ None → IfOk result (λ _. place < seen_size hand.new) }
         ensures refused { IfErr result (IsDueAt self.now place hand.old hand.new) }
         // A caller with a token reads the token's value.
         ensures known { IfSome known.entry (λ p. IsOkAnd result (λ a. a.value.now ≡ p.now.value)) }

@@ -87,6 +87,11 @@ impl KeyedHand {
         Some(run)
     }
 
+    // Whether it has the keys of the first three blocks alone.
+    fn has_first_keys(&self) -> bool {
+        self.row[..3] == [Some(Key); 3] && self.row[3].is_none()
+    }
+
     fn split<A: Allocator>(&mut self, word: &Word<A>, shares: u32) -> KeyedHand
         requires ours { IsHandOf word.now self.old }
         requires some_shares { 0 < shares }
@@ -140,27 +145,60 @@ impl KeyedHand {
     }
 }
 
+// The run of n places that a hand claims, and the keys of its first and its last place.
+fn claim_and_look<A: Allocator>(
+    word: &Word<A>,
+    hand: &mut KeyedHand,
+    n: u64,
+) -> Option<(Run, Key, Key)>
+    requires ours { IsHandOf word.now hand.old }
+    requires some_places { 0 < n }
+    requires at_most_a_block { n ≤ 134217728 }
+    ensures of { hand.new.of ≡ hand.old.of }
+    ensures shares { hand.new.shares ≡ hand.old.shares }
+{
+    let run = hand.claim(word, n)?;
+    if run.n == 0 || run.from > BLOCK * 32 || run.n > BLOCK {
+        return None;
+    }
+    let first = hand.key(word, run, run.from);
+    Some((run, first, hand.key(word, run, run.from + (run.n - 1))))
+}
+
+// The runs of two hands, where the row of keys has those of both once they are one.
+fn claim_by_two<A: Allocator>(word: &Word<A>, mut a: KeyedHand) -> Option<(Run, Run)>
+    requires ours { IsHandOf word.now a }
+    requires some_shares { 1 < a.shares }
+{
+    let (first, _, _) = claim_and_look(word, &mut a, 2)?;
+    let mut b = a.split(word, 1);
+    let (second, _, _) = claim_and_look(word, &mut b, BLOCK)?;
+    a.meet(word, &mut b);
+    a.join(word, b);
+    if a.has_first_keys() && a.hand.is_whole() {
+        Some((first, second))
+    } else {
+        None
+    }
+}
+
 #[test]
 fn keys_stay_with_their_runs(rt: HostRuntime) -> Result<(), Fail> {
     let (word, hand) = Word::open(rt.alloc(), 1 << 32, BLOCK - 1)?;
-    let mut a = KeyedHand::new(hand);
-    let Some(first) = a.claim(&word, 2) else {
-        return Ok(());
-    };
-    assert!(rt; first.from == BLOCK - 1 && first.n == 2);
+    let (first, second) = claim_by_two(&word, KeyedHand::new(hand)).ok_or("a key is missing")?;
     assert_eq!(rt;
-        (a.key(&word, first, BLOCK - 1), a.key(&word, first, BLOCK)),
-        (Key, Key)
+        first,
+        Run {
+            from: BLOCK - 1,
+            n: 2
+        }
     );
-    let mut b = a.split(&word, 1);
-    let Some(second) = b.claim(&word, BLOCK) else {
-        return Ok(());
-    };
-    assert!(rt; second.from == BLOCK + 1 && second.n == BLOCK);
-    assert_eq!(rt; b.key(&word, second, 2 * BLOCK), Key);
-    a.meet(&word, &mut b);
-    a.join(&word, b);
-    assert!(rt; a.hand.is_whole());
-    assert!(rt; a.row[..3] == [Some(Key); 3] && a.row[3].is_none());
+    assert_eq!(rt;
+        second,
+        Run {
+            from: BLOCK + 1,
+            n: BLOCK
+        }
+    );
     Ok(())
 }

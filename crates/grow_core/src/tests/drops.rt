@@ -1,7 +1,8 @@
 // Values that count their drops.
-use crate::{GrowError, Shared};
+use super::callers::Callers;
+use crate::Hand;
+use std::alloc::Global;
 use std::sync::atomic::{AtomicU64, Ordering};
-use std::test::Fail;
 
 struct Counted<'a>(&'a AtomicU64);
 
@@ -12,45 +13,50 @@ impl Drop for Counted<'_> {
     }
 }
 
+// Appends three values.
+fn push_three<'a>(two: &mut Callers<Counted<'a>>, drops: &'a AtomicU64, alloc: Global) -> bool {
+    let Ok(others) = vec![in alloc; Counted(drops), Counted(drops)] else {
+        return false;
+    };
+    two.push_a(Counted(drops)).is_some() && two.grow_b(others).is_some()
+}
+
 #[test]
-fn an_ended_vector_drops_each_value_once(rt: HostRuntime) -> Result<(), Fail> {
+fn an_ended_vector_drops_each_value_once(rt: HostRuntime) {
     let drops = AtomicU64::new(0);
-    let (vector, mut h) = Shared::fresh(rt.alloc(), 4)?;
-    let _first = vector.try_push_back(&mut h, Counted(&drops));
-    let _others = vector.try_grow_vec(
-        &mut h,
-        vec![in rt.alloc(); Counted(&drops), Counted(&drops)]?,
-    );
+    let mut two = Callers::new(&rt, 4);
+    assert!(rt; push_three(&mut two, &drops, rt.alloc()));
     assert_eq!(rt; drops.load(Ordering::SeqCst), 0);
-    assert_eq!(rt; vector.end(h), 3);
+    assert_eq!(rt; two.end(), Some(3));
     assert_eq!(rt; drops.load(Ordering::SeqCst), 3);
-    Ok(())
+}
+
+// Drops a hand and the vector, and leaves the other hand.
+fn drop_vector<T: Drop>(two: Callers<T>) -> Hand<T> {
+    let Callers { a, .. } = two;
+    a
 }
 
 #[test]
-fn a_vector_with_a_lost_hand_drops_each_value_once(rt: HostRuntime) -> Result<(), Fail> {
+fn a_vector_with_a_lost_hand_drops_each_value_once(rt: HostRuntime) {
     let drops = AtomicU64::new(0);
-    let (vector, mut h) = Shared::fresh(rt.alloc(), 4)?;
-    let mut g = vector.split(&mut h, 1);
-    let _first = vector.try_push_back(&mut h, Counted(&drops));
-    let _second = vector.try_push_back(&mut g, Counted(&drops));
-    drop(g);
-    drop(vector);
+    let mut two = Callers::new(&rt, 4);
+    let _first = two.push_a(Counted(&drops));
+    let _second = two.push_b(Counted(&drops));
+    let hand = drop_vector(two);
     assert_eq!(rt; drops.load(Ordering::SeqCst), 2);
-    drop(h);
+    drop(hand);
     assert_eq!(rt; drops.load(Ordering::SeqCst), 2);
-    Ok(())
 }
 
 #[test]
-fn a_value_that_comes_back_is_not_dropped(rt: HostRuntime) -> Result<(), Fail> {
+fn a_value_that_comes_back_is_not_dropped(rt: HostRuntime) {
     let drops = AtomicU64::new(0);
-    let (vector, mut h) = Shared::fresh(rt.alloc(), 1)?;
-    let _first = vector.try_push_back(&mut h, Counted(&drops));
-    let refused = vector.try_push_back(&mut h, Counted(&drops));
+    let mut two = Callers::new(&rt, 1);
+    let _first = two.push_a(Counted(&drops));
+    let refused = two.refused_push(Counted(&drops));
     assert_eq!(rt; drops.load(Ordering::SeqCst), 0);
-    assert!(rt; matches!(refused, Err(GrowError::Full { .. })));
+    assert!(rt; refused.is_some());
     drop(refused);
     assert_eq!(rt; drops.load(Ordering::SeqCst), 1);
-    Ok(())
 }

@@ -1,9 +1,11 @@
 // Threads that append and read beside each other.
 ghost use Rattle.std.specs.Prelude.{◌≡◌, ◌+◌, ◌*◌, ◌^◌, ◌<◌};
 ghost use Rattle.std.specs.Thread.{IsSync};
-ghost use Rattle.grow_core.specs.Vector.{IsHandOf};
+ghost use Rattle.grow_core.specs.Vector.{IsHandOf, IsPlacedOf};
 
-use crate::{Hand, Shared};
+use super::callers::Callers;
+use crate::{Hand, Placed, Shared};
+use std::alloc::AllocGlobal;
 use std::process::Abort;
 use std::sync::Wait;
 use std::test::Fail;
@@ -38,13 +40,46 @@ fn push_and_read<R: Wait + Abort>(rt: &R, vector: &Shared<u64>, hand: &mut Hand<
     requires ours { IsHandOf vector.now hand.old }
     ensures { hand.new.of ≡ hand.old.of }
 {
-    let Ok(placed) = vector.push_back(rt, hand, value) else {
-        panic!(rt; "{value} was refused");
-    };
+    let placed = append(rt, vector, hand, value);
     assert_eq!(rt; *vector.get(&placed), value);
-    if let Ok(at) = vector.at(hand, placed.place() / 2, None) {
-        assert!(rt; *at.value < 4 * EACH);
+    if let Some(read) = look(vector, hand, placed.place() / 2) {
+        assert!(rt; read < 4 * EACH);
     }
+}
+
+// Appends a value, where it is not refused.
+fn append<R: Wait + Abort>(
+    rt: &R,
+    vector: &Shared<u64>,
+    hand: &mut Hand<u64>,
+    value: u64,
+) -> Placed<u64>
+    requires ours { IsHandOf vector.now hand.old }
+    ensures of { hand.new.of ≡ hand.old.of }
+    ensures token { IsPlacedOf vector.now result }
+{
+    match vector.push_back(rt, hand, value) {
+        Ok(placed) => placed,
+        Err(_refused) => panic!(rt; "{value} was refused"),
+    }
+}
+
+// The value at a place, where there is one.
+fn look(vector: &Shared<u64>, hand: &mut Hand<u64>, place: u64) -> Option<u64>
+    requires ours { IsHandOf vector.now hand.old }
+    ensures { hand.new.of ≡ hand.old.of }
+{
+    let at = vector.at(hand, place, None).ok()?;
+    Some(*at.value)
+}
+
+// The value at a place, as the look and its token show it.
+fn look_twice(vector: &Shared<u64>, hand: &mut Hand<u64>, place: u64) -> Option<(u64, u64)>
+    requires ours { IsHandOf vector.now hand.old }
+    ensures { hand.new.of ≡ hand.old.of }
+{
+    let at = vector.at(hand, place, None).ok()?;
+    Some((*at.value, *vector.get(&at.placed)))
 }
 
 fn push_by_two<R: Threads + Wait + Abort + Sync>(
@@ -108,10 +143,10 @@ fn count_in_order(vector: &Shared<u64>, hand: &mut Hand<u64>) -> [u64; 4]
 {
     let mut next = [0; 4];
     for place in 0..4 * EACH {
-        let Ok(at) = vector.at(hand, place, None) else {
+        let Some(value) = look(vector, hand, place) else {
             break
         };
-        let (thread, j) = ((*at.value / EACH) as usize, *at.value % EACH);
+        let (thread, j) = ((value / EACH) as usize, value % EACH);
         match next.get_mut(thread) {
             Some(count) if *count == j => *count = j + 1,
             _ => break,
@@ -141,8 +176,8 @@ fn read_each<R: Wait + Abort>(rt: &R, vector: &Shared<u64>, mut hand: Hand<u64>)
         if place == READ {
             break;
         }
-        if let Ok(at) = vector.at(&mut hand, place, None) {
-            assert_eq!(rt; (*at.value, *vector.get(&at.placed)), (place, place));
+        if let Some(values) = look_twice(vector, &mut hand, place) {
+            assert_eq!(rt; values, (place, place));
             place += 1;
         }
     }
@@ -181,4 +216,94 @@ fn a_thread_reads_what_another_appends(rt: HostRuntime) -> Result<(), Fail> {
     assert!(rt; hand.is_whole());
     assert_eq!(rt; vector.end(hand), READ);
     Ok(())
+}
+
+// How many runs of three values each of two threads appends.
+const RUNS: u64 = 10_000;
+
+// Appends three equal values, where they are not refused.
+fn grow_three<R: AllocGlobal + Wait + Abort>(
+    rt: &R,
+    vector: &Shared<u64>,
+    hand: &mut Hand<u64>,
+    value: u64,
+)
+    requires ours { IsHandOf vector.now hand.old }
+    ensures of { hand.new.of ≡ hand.old.of }
+{
+    let Ok(values) = Vec::from_slice(rt.alloc(), &[value; 3]) else {
+        panic!(rt; "no memory");
+    };
+    match vector.grow_vec(rt, hand, values) {
+        Ok(_grown) => {}
+        Err(_refused) => panic!(rt; "{value} was refused"),
+    }
+}
+
+// Appends runs of three, of the same values in each thread.
+fn grow_each<R: AllocGlobal + Wait + Abort>(
+    rt: &R,
+    vector: &Shared<u64>,
+    mut hand: Hand<u64>,
+) -> Hand<u64>
+    requires ours { IsHandOf vector.now hand }
+    ensures { result.of ≡ vector.now.word }
+{
+    for j in 0..RUNS {
+        grow_three(rt, vector, &mut hand, j);
+    }
+    hand
+}
+
+fn grow_by_two<R: AllocGlobal + Threads + Wait + Abort + Sync>(
+    rt: &R,
+    vector: &Shared<u64>,
+    a: Hand<u64>,
+    b: Hand<u64>,
+) -> Hand<u64>
+    requires ours { IsHandOf vector.now a }
+    requires also_ours { IsHandOf vector.now b }
+    ensures { result.of ≡ vector.now.word }
+{
+    let (mut all, other) = join(
+        rt,
+        || -> Hand<u64>
+            requires { IsSync R.row × IsHandOf vector.now a }
+            ensures { result.of ≡ vector.entry.now.word }
+        { grow_each(rt, vector, a) },
+        || -> Hand<u64>
+            requires { IsSync R.row × IsHandOf vector.now b }
+            ensures { result.of ≡ vector.entry.now.word }
+        { grow_each(rt, vector, b) },
+    );
+    vector.join(&mut all, other);
+    all
+}
+
+// How many runs of three equal values there are, one after the other.
+fn count_runs(vector: &Shared<u64>, hand: &mut Hand<u64>) -> u64
+    requires ours { IsHandOf vector.now hand.old }
+    ensures { hand.new.of ≡ hand.old.of }
+{
+    let mut runs: u64 = 0;
+    for k in 0..2 * RUNS {
+        let first = look(vector, hand, 3 * k);
+        if first.is_some()
+            && first == look(vector, hand, 3 * k + 1)
+            && first == look(vector, hand, 3 * k + 2)
+        {
+            runs = runs.wrapping_add(1);
+        }
+    }
+    runs
+}
+
+// Two threads append runs to a vector that has just room for them, and none is refused.
+#[test]
+fn two_threads_append_runs_that_stay_whole(rt: HostRuntime) {
+    let Callers { vector, a, b, .. } = Callers::new(&rt, 6 * RUNS);
+    let mut hand = grow_by_two(&rt, &vector, a, b);
+    assert_eq!(rt; count_runs(&vector, &mut hand), 2 * RUNS);
+    assert!(rt; hand.is_whole());
+    assert_eq!(rt; vector.end(hand), 6 * RUNS);
 }

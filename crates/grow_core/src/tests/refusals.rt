@@ -1,106 +1,115 @@
 // What a refusal gives back.
-use crate::{AtError, GrowError, OpenError, Run, Shared};
-use std::test::Fail;
+use super::callers::{Callers, list};
+use crate::{GrowError, OpenError, Run, Shared};
+use std::alloc::{AllocGlobal, Global};
+use std::process::Abort;
 
 #[test]
-fn a_full_vector_gives_the_value_back(rt: HostRuntime) -> Result<(), Fail> {
-    let (vector, mut h) = Shared::fresh(rt.alloc(), 2)?;
-    let _both = vector.try_grow_vec(&mut h, vec![in rt.alloc(); 5u64, 6]?);
-    assert!(rt;
-        matches!(
-            vector.try_push_back(&mut h, 7),
-            Err(GrowError::Full { size: 2, back: 7 })
-        )
-    );
-    assert!(rt;
-        matches!(
-            vector.push_back(&rt, &mut h, 7),
-            Err(GrowError::Full { size: 2, back: 7 })
-        )
-    );
-    assert_eq!(rt; vector.size(&mut h), 2);
-    Ok(())
+fn a_full_vector_gives_the_value_back(rt: HostRuntime) {
+    let mut two = Callers::new(&rt, 2);
+    let _both = two.grow_b(list(&rt, &[5, 6]));
+    assert_eq!(rt; two.refused_push(7), Some((2, 7)));
+    assert_eq!(rt; two.refused_waiting(&rt, 7), Some((2, 7)));
+    assert_eq!(rt; two.size_b(), 2);
 }
 
-#[test]
-fn a_whole_vec_comes_back(rt: HostRuntime) -> Result<(), Fail> {
-    let (vector, mut h) = Shared::fresh(rt.alloc(), 4)?;
-    let _first = vector.try_push_back(&mut h, 5u64);
-    match vector.try_grow_vec(&mut h, vec![in rt.alloc(); 6, 7, 8, 9]?) {
-        Err(GrowError::Full { size, back }) => {
-            assert_eq!(rt; size, 1);
-            assert_eq!(rt; back.as_slice(), [6, 7, 8, 9].as_slice());
-        }
-        _ => return Err(Fail::from("it was not full")),
+// Whether the values are refused at the size, and come back.
+fn is_refused(two: &mut Callers<u64>, values: Vec<u64>, size: u64, same: &[u64]) -> bool {
+    match two.refused_growth(values) {
+        Some((at, back)) => at == size && back.as_slice() == same,
+        None => false,
     }
-    assert_eq!(rt; vector.size(&mut h), 1);
-    Ok(())
 }
 
 #[test]
-fn an_empty_growth_answers_an_empty_run(rt: HostRuntime) -> Result<(), Fail> {
-    let (vector, mut h) = Shared::fresh(rt.alloc(), 1)?;
-    let _only = vector.try_push_back(&mut h, 5u64);
-    let grown = vector.try_grow_vec(&mut h, Vec::new(rt.alloc()))?;
-    assert_eq!(rt; grown.run(), Run { from: 1, n: 0 });
-    let again = vector.grow_vec(&rt, &mut h, Vec::new(rt.alloc()))?;
-    assert_eq!(rt; again.run(), Run { from: 1, n: 0 });
-    Ok(())
+fn a_whole_vec_comes_back(rt: HostRuntime) {
+    let mut two = Callers::new(&rt, 4);
+    let _first = two.push_a(5);
+    let values = [6, 7, 8, 9].as_slice();
+    assert!(rt; is_refused(&mut two, list(&rt, values), 1, values));
+    assert_eq!(rt; two.size_b(), 1);
+}
+
+#[test]
+fn an_empty_growth_answers_an_empty_run(rt: HostRuntime) {
+    let mut two = Callers::new(&rt, 1);
+    let _only = two.push_a(5);
+    assert_eq!(rt;
+        two.grow_a(Vec::new(rt.alloc())),
+        Some(Run { from: 1, n: 0 })
+    );
+    assert_eq!(rt;
+        two.grow_waiting(&rt, Vec::new(rt.alloc())),
+        Some(Run { from: 1, n: 0 })
+    );
 }
 
 #[test]
 fn a_bad_limit_is_refused(rt: HostRuntime) {
     for limit in [0, (1 << 32) + 1] {
-        let made = Shared::<u64>::fresh(rt.alloc(), limit);
-        assert!(rt; matches!(made, Err(OpenError::BadLimit)), "{limit}");
+        let made = Shared::<u64>::fresh(rt.alloc(), limit).err();
+        assert!(rt; made == Some(OpenError::BadLimit), "{limit}");
     }
 }
 
 #[test]
-fn a_place_at_the_size_is_out_of_range(rt: HostRuntime) -> Result<(), Fail> {
-    let (vector, mut h) = Shared::<u64>::fresh(rt.alloc(), 4)?;
-    assert!(rt;
-        matches!(
-            vector.at(&mut h, 0, None),
-            Err(AtError::OutOfRange { size: 0 })
-        )
-    );
-    assert!(rt;
-        matches!(
-            vector.at(&mut h, u64::MAX, None),
-            Err(AtError::OutOfRange { size: 0 })
-        )
-    );
-    Ok(())
+fn a_place_at_the_size_is_out_of_range(rt: HostRuntime) {
+    let mut two = Callers::<u64>::new(&rt, 4);
+    assert_eq!(rt; two.out_of_range(0), Some(0));
+    assert_eq!(rt; two.out_of_range(u64::MAX), Some(0));
+}
+
+// A new vector, by a second call where memory was refused to the first.
+fn fresh_again<R: AllocGlobal + Abort>(rt: &R) -> Callers<u64> {
+    match Callers::try_new(rt.alloc(), 8) {
+        Ok(two) => two,
+        Err(_refused) => Callers::new(rt, 8),
+    }
+}
+
+// Whether a value is appended, by a second call where memory was refused to the first.
+fn push_again(two: &mut Callers<u64>, value: u64) -> bool {
+    match two.vector.try_push_back(&mut two.a, value) {
+        Ok(placed) => *two.vector.get(&placed) == value,
+        Err(GrowError::NoMemory { back }) => back == value && two.push_a(back).is_some(),
+        Err(_other) => false,
+    }
+}
+
+// The run of values, by a second call where memory was refused to the first.
+fn grow_again(two: &mut Callers<u64>, values: Vec<u64>, same: &[u64]) -> Option<Run> {
+    match two.vector.try_grow_vec(&mut two.a, values) {
+        Ok(grown) => Some(grown.run()),
+        Err(GrowError::NoMemory { back }) => grow_same(two, back, same),
+        Err(_other) => None,
+    }
+}
+
+// The run of the values, which are these.
+fn grow_same(two: &mut Callers<u64>, values: Vec<u64>, same: &[u64]) -> Option<Run> {
+    let is_same = values.as_slice() == same;
+    let run = two.grow_a(values)?;
+    if is_same { Some(run) } else { None }
+}
+
+// Values in a `Vec`, by a second call where memory was refused to the first.
+fn list_again(alloc: Global, values: &[u64]) -> Option<Vec<u64>> {
+    match Vec::from_slice(alloc, values) {
+        Ok(made) => Some(made),
+        Err(_refused) => Vec::from_slice(alloc, values).ok(),
+    }
 }
 
 // It passes too where any one allocation is made to fail: the call that asked for it gives back what it was given, and
 // succeeds when it is called again.
 #[test]
-fn a_refused_allocation_gives_the_values_back(rt: HostRuntime) -> Result<(), Fail> {
-    let Ok((vector, mut h)) = Shared::fresh(rt.alloc(), 8) else {
-        assert!(rt; Shared::<u64>::fresh(rt.alloc(), 8).is_ok());
-        return Ok(());
-    };
-    match vector.try_push_back(&mut h, 5u64) {
-        Ok(placed) => assert_eq!(rt; *vector.get(&placed), 5),
-        Err(GrowError::NoMemory { back }) => {
-            assert_eq!(rt; back, 5);
-            assert!(rt; vector.try_push_back(&mut h, back).is_ok());
-        }
-        Err(_other) => return Err(Fail::from("neither placed nor given back")),
-    }
-    let Ok(values) = vec![in rt.alloc(); 6, 7] else {
-        return Ok(());
-    };
-    match vector.try_grow_vec(&mut h, values) {
-        Ok(grown) => assert_eq!(rt; grown.run(), Run { from: 1, n: 2 }),
-        Err(GrowError::NoMemory { back }) => {
-            assert_eq!(rt; back.as_slice(), [6, 7].as_slice());
-            assert!(rt; vector.try_grow_vec(&mut h, back).is_ok());
-        }
-        Err(_other) => return Err(Fail::from("neither grown nor given back")),
-    }
-    assert_eq!(rt; vector.size(&mut h), 3);
-    Ok(())
+fn a_refused_allocation_gives_the_values_back(rt: HostRuntime) {
+    let mut two = fresh_again(&rt);
+    assert!(rt; push_again(&mut two, 5));
+    let values = list_again(rt.alloc(), &[6, 7]).unwrap_or(Vec::new(rt.alloc()));
+    assert_eq!(rt;
+        grow_again(&mut two, values, &[6, 7]),
+        Some(Run { from: 1, n: 2 })
+    );
+    assert_eq!(rt; two.size_b(), 3);
 }

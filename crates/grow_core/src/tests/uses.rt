@@ -5,8 +5,8 @@ ghost use Rattle.claim_core.specs.Hand.{OwnsRun, AreDisjoint};
 ghost use Rattle.grow_core.specs.Vector.{IsHandOf, IsPlacedOf, base_of};
 ghost use Rattle.grow_core.specs.Growth.{single};
 
+use super::callers::Callers;
 use crate::{Hand, Placed, Shared, laws};
-use std::test::Fail;
 use std::thread::{Threads, join};
 
 // Appends a value, in whatever thread it is called.
@@ -99,25 +99,53 @@ fn end_of_both(vector: Shared<u64>, mut a: Hand<u64>, b: Hand<u64>) -> u64
     vector.end(a)
 }
 
-#[test]
-fn two_threads_append_and_join(rt: HostRuntime) -> Result<(), Fail> {
-    let (vector, mut a) = Shared::fresh(rt.alloc(), 8)?;
-    let b = vector.split(&mut a, 1);
-    let c = vector.split(&mut a, 1);
-    let (x, y) = push_in_two_threads(&rt, &vector, a, b).ok_or("both appended")?;
-    assert_eq!(rt; (*vector.get(&x), *vector.get(&y)), (5, 6));
-    assert_eq!(rt; x.place() + y.place(), 1);
-    assert_eq!(rt; push_here_read_there(&rt, &vector, c, 7), Some(7));
-    Ok(())
+// The values and the sum of the places of a value that each of two threads appends.
+fn read_of_two<R: Threads + Sync>(rt: &R, two: Callers<u64>) -> Option<(u64, u64, u64)> {
+    let Callers { vector, a, b } = two;
+    match push_in_two_threads(rt, &vector, a, b) {
+        Some((x, y)) => Some(read_both(&vector, &x, &y)),
+        None => None,
+    }
+}
+
+// The values and the sum of the places of two tokens.
+fn read_both(vector: &Shared<u64>, x: &Placed<u64>, y: &Placed<u64>) -> (u64, u64, u64)
+    requires ours { IsPlacedOf vector.now x.now }
+    requires also_ours { IsPlacedOf vector.now y.now }
+{
+    (
+        *vector.get(x),
+        *vector.get(y),
+        x.place().wrapping_add(y.place()),
+    )
 }
 
 #[test]
-fn hands_that_were_joined_end_the_vector(rt: HostRuntime) -> Result<(), Fail> {
-    let (vector, mut a) = Shared::fresh(rt.alloc(), 8)?;
-    let mut b = vector.split(&mut a, 1);
-    let _first = vector.try_push_back(&mut a, 5);
-    let _second = vector.try_push_back(&mut b, 6);
-    assert!(rt; a.share() + b.share() == 65_536);
-    assert_eq!(rt; end_of_both(vector, a, b), 2);
-    Ok(())
+fn two_threads_append_and_join(rt: HostRuntime) {
+    let two = Callers::new(&rt, 8);
+    assert_eq!(rt; read_of_two(&rt, two), Some((5, 6, 1)));
+}
+
+#[test]
+fn a_value_is_read_in_another_thread(rt: HostRuntime) {
+    let Callers { vector, a, .. } = Callers::new(&rt, 8);
+    assert_eq!(rt; push_here_read_there(&rt, &vector, a, 7), Some(7));
+}
+
+// The size at which both hands end the vector.
+fn end_by_both(two: Callers<u64>) -> Option<u64> {
+    let Callers { vector, a, b } = two;
+    if u64::from(a.share()) + u64::from(b.share()) == 65_536 {
+        Some(end_of_both(vector, a, b))
+    } else {
+        None
+    }
+}
+
+#[test]
+fn hands_that_were_joined_end_the_vector(rt: HostRuntime) {
+    let mut two = Callers::new(&rt, 8);
+    let _first = two.push_a(5);
+    let _second = two.push_b(6);
+    assert_eq!(rt; end_by_both(two), Some(2));
 }

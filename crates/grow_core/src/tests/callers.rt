@@ -1,0 +1,142 @@
+// A vector and two callers of it. Each call keeps both hands the vector's own and answers plain values, so that a test
+// has nothing to prove of them and few values to drop.
+ghost use Rattle.std.specs.Prelude.{◌≡◌};
+ghost use Rattle.grow_core.specs.Vector.{IsHandOf, base_of};
+
+use crate::{AtError, GrowError, Hand, OpenError, Placed, Run, Shared};
+use std::alloc::{AllocGlobal, Global};
+use std::process::Abort;
+use std::sync::Wait;
+
+#[derive(Drop)]
+pub(super) struct Callers<T> {
+    pub(super) vector: Shared<T>,
+    pub(super) a: Hand<T>,
+    pub(super) b: Hand<T>,
+    ghost ours: { IsHandOf vector a },
+    ghost also_ours: { IsHandOf vector b },
+    ghost base: { base_of vector ≡ 0 },
+}
+
+impl<T: Drop> Callers<T> {
+    // A new vector. Its second hand has 100 shares.
+    pub(super) fn try_new(alloc: Global, limit: u64) -> Result<Callers<T>, OpenError> {
+        let (vector, mut a) = Shared::fresh(alloc, limit)?;
+        let b = vector.split(&mut a, 100);
+        Ok(Callers { vector, a, b })
+    }
+
+    pub(super) fn new<R: AllocGlobal + Abort>(rt: &R, limit: u64) -> Callers<T> {
+        match Callers::try_new(rt.alloc(), limit) {
+            Ok(made) => made,
+            Err(error) => panic!(rt; "{error}"),
+        }
+    }
+
+    // The place of a value that a try appends.
+    pub(super) fn push_a(&mut self, value: T) -> Option<u64> {
+        place_of(self.vector.try_push_back(&mut self.a, value))
+    }
+
+    pub(super) fn push_b(&mut self, value: T) -> Option<u64> {
+        place_of(self.vector.try_push_back(&mut self.b, value))
+    }
+
+    // The same by a push that tries again.
+    pub(super) fn push_waiting<R: Wait>(&mut self, rt: &R, value: T) -> Option<u64> {
+        place_of(self.vector.push_back(rt, &mut self.a, value))
+    }
+
+    // The run of values that a try appends.
+    pub(super) fn grow_a(&mut self, values: Vec<T>) -> Option<Run> {
+        let grown = self.vector.try_grow_vec(&mut self.a, values).ok()?;
+        Some(grown.run())
+    }
+
+    pub(super) fn grow_b(&mut self, values: Vec<T>) -> Option<Run> {
+        let grown = self.vector.try_grow_vec(&mut self.b, values).ok()?;
+        Some(grown.run())
+    }
+
+    // The same by a growth that tries again.
+    pub(super) fn grow_waiting<R: Wait>(&mut self, rt: &R, values: Vec<T>) -> Option<Run> {
+        let grown = self.vector.grow_vec(rt, &mut self.a, values).ok()?;
+        Some(grown.run())
+    }
+
+    // The size, by one look.
+    pub(super) fn size_b(&mut self) -> u64 {
+        self.vector.size(&mut self.b)
+    }
+
+    // Both hands have then seen the same.
+    pub(super) fn meet(&mut self) {
+        self.vector.meet(&mut self.a, &mut self.b);
+    }
+
+    // Ends the vector by one hand with all shares.
+    pub(super) fn end(self) -> Option<u64> {
+        let Callers { vector, mut a, b } = self;
+        vector.join(&mut a, b);
+        if a.is_whole() {
+            Some(vector.end(a))
+        } else {
+            None
+        }
+    }
+
+    // The size at which a full vector refuses a value, and the value.
+    pub(super) fn refused_push(&mut self, value: T) -> Option<(u64, T)> {
+        full(self.vector.try_push_back(&mut self.a, value))
+    }
+
+    pub(super) fn refused_waiting<R: Wait>(&mut self, rt: &R, value: T) -> Option<(u64, T)> {
+        full(self.vector.push_back(rt, &mut self.a, value))
+    }
+
+    // The size at which a full vector refuses values, and the values.
+    pub(super) fn refused_growth(&mut self, values: Vec<T>) -> Option<(u64, Vec<T>)> {
+        full(self.vector.try_grow_vec(&mut self.a, values))
+    }
+}
+
+fn place_of<T: Drop, V: Drop, E: Drop>(
+    pushed: Result<Placed<T>, GrowError<T, V, E>>,
+) -> Option<u64> {
+    let placed = pushed.ok()?;
+    Some(placed.place())
+}
+
+// What a full vector tells and gives back.
+fn full<P: Drop, T: Drop, V: Drop, E: Drop>(
+    answer: Result<P, GrowError<T, V, E>>,
+) -> Option<(u64, V)> {
+    match answer {
+        Err(GrowError::Full { size, back }) => Some((size, back)),
+        _ => None,
+    }
+}
+
+impl Callers<u64> {
+    // The value at a place, by a look without a token.
+    pub(super) fn at_b(&mut self, place: u64) -> Option<u64> {
+        let at = self.vector.at(&mut self.b, place, None).ok()?;
+        Some(*at.value)
+    }
+
+    // The size that a place is not below.
+    pub(super) fn out_of_range(&mut self, place: u64) -> Option<u64> {
+        match self.vector.at(&mut self.b, place, None) {
+            Err(AtError::OutOfRange { size }) => Some(size),
+            _ => None,
+        }
+    }
+}
+
+// The values in a `Vec`.
+pub(super) fn list<R: AllocGlobal + Abort>(rt: &R, values: &[u64]) -> Vec<u64> {
+    match Vec::from_slice(rt.alloc(), values) {
+        Ok(made) => made,
+        Err(error) => panic!(rt; "{error}"),
+    }
+}

@@ -4,7 +4,7 @@ use Rattle.std.proofs.lemmas.List.{length-append, length-set}
 use Rattle.book_core.specs.declared.cells.Cell.{Cell}
 use Rattle.book_core.specs.declared.cells.Cell.TheVariants.{Pending, Filled}
 use Rattle.book_core.specs.declared.events.Event.{Event}
-use Rattle.book_core.specs.declared.events.Event.TheVariants.{Claim, Finish}
+use Rattle.book_core.specs.declared.events.Event.TheVariants.{Claim}
 use Rattle.book_core.specs.declared.events.Reply.{Reply}
 use Rattle.book_core.specs.declared.events.Reply.TheVariants as replies
 use Rattle.book_core.specs.Cells.{CellList, empty_list, apply_event, with_pending, with_cell}

@@ -4,4 +4,3 @@ pub mod Reading
 pub mod Race
 pub mod Request
 pub mod RunError
-pub mod Uses

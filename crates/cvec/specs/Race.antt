@@ -8,7 +8,10 @@ use Rattle.book_core.specs.declared.events.Reply.TheVariants as replies
 use Rattle.claim_core.specs.Word.{WordView}
 use Rattle.claim_core.specs.Hand.{HandView, SeesRun, own_places}
 use Rattle.grow_core.specs.Vector.{VectorView, IsHandOf}
-use Rattle.grow_core.specs.Growth.{single}
+use Rattle.grow_core.specs.Growth.{single, IsDue}
+use Rattle.grow_core.specs.declared.errors.GrowError.{GrowError}
+use Rattle.grow_core.specs.declared.errors.GrowError.TheVariants as grows
+use Rattle.grow_core.specs.declared.errors.Never.{Never}
 use Rattle.span_core.specs.Workers.{IsBadNumber}
 use Rattle.cvec.specs.declared.race.team.Win.{Win}
 use Rattle.cvec.specs.declared.race.team.Team.{Team}
@@ -36,12 +39,32 @@ IsBadSize workers each = IsBadNumber workers ⊎ ((each ≡ 0) ⊎ (100000 < eac
 abbrev pub IsGrowth : ℕ → Type 0
 IsGrowth number = (number ≡ 2) ⊎ (number ≡ 5)
 
+-- what is told of each refusal of a growth that tries until it wins
+abbrev pub IsToldAs : {T V E : Type 0} → GrowError T V E → RaceError → Type 0
+IsToldAs (grows.NoMemory back) told = told ≡ NoMemory
+IsToldAs (grows.Full size back) told = told ≡ Grow 2
+IsToldAs (grows.Moved size back) told = ⊥
+IsToldAs (grows.Refused run made cause) told = ⊥
+IsToldAs (grows.Taken place found) told = told ≡ Grow 5
+
 -- why a worker that passed the gate was refused
 abbrev pub IsWorkers : RaceError → Type 0
 IsWorkers NoMemory = Unit {0}
 IsWorkers BadSize = ⊥
 IsWorkers Stuck = ⊥
 IsWorkers (Grow number) = IsGrowth number
+
+-- why a value was not appended: its growth was refused when that was due, or there was no memory for the win
+abbrev pub IsPushRefusal : VectorView → HandView → RaceError → Type 0
+IsPushRefusal vector hand told =
+    (told ≡ NoMemory) ⊎ ((error : GrowError ℕ ℕ Never) × IsDue vector 1 hand error × IsToldAs error told)
+
+-- why a race is refused whose gate refuses nobody
+abbrev pub IsFreeRefusal : ℕ → ℕ → RaceError → Type 0
+IsFreeRefusal workers each NoMemory = Unit {0}
+IsFreeRefusal workers each BadSize = IsBadSize workers each
+IsFreeRefusal workers each Stuck = ⊥
+IsFreeRefusal workers each (Grow number) = IsGrowth number
 
 -- the place of a win is the hand's run of this index
 abbrev pub HasWin : HandView → List Win → ℕ → Type 0

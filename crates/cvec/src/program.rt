@@ -1,18 +1,18 @@
 //! The program over any three streams: `main` hands it the system's own.
-ghost use Rattle.std.specs.Prelude.{◌≡◌, ◌≢◌, ◌*◌, Result, Err, IfOk, String, OnOk, OnErr, string_bytes};
+ghost use Rattle.std.specs.Prelude.{◌≡◌, ◌≢◌, ◌*◌, Result, Err, IfOk, IfErr, String, OnOk, OnErr, string_bytes};
 ghost use Rattle.std.specs.Global.{Global};
 ghost use Rattle.std.specs.Io.KnownBytes.{Appends, Keeps};
 ghost use Rattle.script_core.specs.Text.{AppendsPrefix};
 ghost use Rattle.cvec.specs.Program.{EndsAs, Plays, Races, Shows};
-ghost use Rattle.cvec.specs.Race.{race_text};
+ghost use Rattle.cvec.specs.Race.{race_text, IsBadSize};
 ghost use Rattle.cvec.specs.Request.{IsRace};
-ghost use Rattle.cvec.specs.RunError.{error_line};
+ghost use Rattle.cvec.specs.RunError.{error_line, IsRaceEnd};
 
 use crate::command_line::Request;
 use crate::engine::{Engine, run_calls, run_steps};
 use crate::error::{RunError, unraced};
 use crate::output::write_output;
-use crate::race::race;
+use crate::race::{RaceError, race};
 use script_core::{Line, WriteFault, write_bytes};
 use span_core::Free;
 use std::alloc::Global;
@@ -36,7 +36,7 @@ fn tell<E: Write>(errors: &mut E, error: RunError) -> Result<(), WriteFault>
 }
 
 // Standard error may be closed or full. Then the status alone tells.
-fn told<E: Write>(errors: &mut E, ended: Result<(), RunError>) -> u8
+pub(crate) fn told<E: Write>(errors: &mut E, ended: Result<(), RunError>) -> u8
     ensures { EndsAs ended result (E.contents errors.old) (E.contents errors.new) }
 {
     match ended {
@@ -56,7 +56,9 @@ fn raced<X: Threads + Wait + Sync>(
     each: u32,
 ) -> Result<String, RunError>
     ensures text { IfOk result (λ text. string_bytes text ≡ race_text (workers * each)) }
-    ensures refused { result ≢ Err RunError.Write }
+    ensures no_write { result ≢ Err RunError.Write }
+    ensures refused { IfErr result (IsRaceEnd workers each) }
+    ensures bad_size { IsBadSize workers each → result ≡ Err (RunError.Race RaceError.BadSize) }
 {
     let report = match race(rt, alloc, workers, each, &Free) {
         Ok(report) => report,
@@ -76,7 +78,7 @@ fn hold_race<X: Threads + Wait + Sync, W: Write>(
     each: u32,
     writer: &mut W,
 ) -> Result<(), RunError>
-    ensures { Races (workers * each) result (W.contents writer.old) (W.contents writer.new) }
+    ensures { Races workers each result (W.contents writer.old) (W.contents writer.new) }
 {
     let text = match raced(rt, alloc, workers, each) {
         Ok(text) => text,
@@ -148,7 +150,7 @@ pub fn serve_race<X: Threads + Wait + Sync, W: Write, E: Write>(
     errors: &mut E,
 ) -> u8
     ensures races { (ended : Result (Unit {0}) RunError)
-        × Races (workers * each) ended (W.contents writer.old) (W.contents writer.new)
+        × Races workers each ended (W.contents writer.old) (W.contents writer.new)
         × EndsAs ended result (E.contents errors.old) (E.contents errors.new) }
 {
     told(errors, hold_race(rt, alloc, workers, each, writer))

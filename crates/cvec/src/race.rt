@@ -4,7 +4,7 @@ ghost use Rattle.span_core.specs.Workers.{MayRefuseOne};
 ghost use Rattle.cvec.specs.Race.{sum_below, IsBadSize, IsGrowth};
 
 mod history;
-mod refusal;
+pub(crate) mod refusal;
 mod report;
 mod team;
 mod workers;

@@ -1,7 +1,7 @@
 //! Why a race is refused.
 ghost use Rattle.std.specs.Prelude.{◌≡◌};
 ghost use Rattle.grow_core.specs.Growth.{IsNotMoved};
-ghost use Rattle.cvec.specs.Race.{IsWorkers, race_number};
+ghost use Rattle.cvec.specs.Race.{IsToldAs, IsWorkers, race_number};
 
 use grow_core::{GrowError, Never};
 use std::alloc::AllocError;
@@ -51,7 +51,8 @@ impl From<AllocError> for RaceError {
 // Why a growth of a race was refused.
 pub(crate) fn refused(error: GrowError<u64, u64, Never>) -> RaceError
     requires { IsNotMoved error }
-    ensures { IsWorkers result }
+    ensures told { IsToldAs error result }
+    ensures workers { IsWorkers result }
 {
     match error {
         GrowError::NoMemory { back: _ } => RaceError::NoMemory,

@@ -1,10 +1,11 @@
 //! What workers have won together.
 ghost use Rattle.std.specs.Prelude.{◌≡◌, ℕ, ◌+◌, ◌≤◌, [], IfOk, IfErr, OnOk};
 ghost use Rattle.grow_core.specs.Vector.{IsHandOf};
-ghost use Rattle.cvec.specs.Race.{IsWorkers, IsTeam};
+ghost use Rattle.cvec.specs.Race.{IsWorkers, IsPushRefusal, IsTeam};
 
 use super::refusal::{RaceError, refused};
 use grow_core::{Hand, Shared, laws};
+use span_core::Gate;
 use std::alloc::{AllocError, Global};
 use std::sync::Wait;
 
@@ -46,6 +47,7 @@ impl Team {
     ) -> Result<(), RaceError>
         requires { IsHandOf vector.now self.old.hand }
         ensures refused { IfErr result IsWorkers }
+        ensures due { IfErr result (IsPushRefusal vector.now self.old.hand) }
         ensures ours { OnOk result (IsHandOf vector.now self.new.hand) }
         ensures team { (shares from : ℕ) → IsTeam vector.now.word shares from value self.old
             → OnOk result (IsTeam vector.now.word shares from (value + 1) self.new) }
@@ -89,21 +91,24 @@ impl Team {
     }
 }
 
-// One worker appends the values from one number up to another, in order.
-pub(crate) fn push_all<R: Wait>(
+// One worker appends the values from one number up to another, in order. It came through the gate.
+pub(crate) fn push_all<R: Wait, G: Gate>(
     rt: &R,
+    gate: &G,
     vector: &Shared<u64>,
     worker: u32,
     mut team: Team,
     from: u64,
     to: u64,
 ) -> Result<Team, RaceError>
+    requires through { G.lets_through gate.now worker }
     requires ours { IsHandOf vector.now team.hand }
     requires order { from ≤ to }
     ensures refused { IfErr result IsWorkers }
     ensures team { (shares : ℕ) → IsTeam vector.now.word shares from from team
         → IfOk result (IsTeam vector.now.word shares from to) }
 {
+    let _gate = gate;
     for value in from..to {
         team.push(rt, vector, worker, value)?;
     }

@@ -75,7 +75,7 @@ impl<'a, R: Wait, G: Gate> ForkJoin<Hand<u64>, Team, RaceError> for Workers<'a, 
         let from = u64::from(worker) * self.each;
         let to = (u64::from(worker) + 1) * self.each;
         let team = Team::new(self.alloc, brought);
-        let ended = push_all(self.rt, self.vector, worker, team, from, to);
+        let ended = push_all(self.rt, self.gate, self.vector, worker, team, from, to);
         self.gate.after(worker);
         ended
     }

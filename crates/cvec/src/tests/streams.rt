@@ -238,15 +238,6 @@ fn a_writer_that_fails_has_a_prefix(rt: HostRuntime) {
 }
 
 #[test]
-fn a_writer_that_fails_after_nine_bytes_has_them(rt: HostRuntime) {
-    let alloc = rt.alloc();
-    let mut script = SCRIPT;
-    let mut writer = Narrow::new(alloc, 9, Some(ErrorKind::StorageFull));
-    ends(&rt, alloc, &mut script, &mut writer, Err(RunError::Write));
-    assert!(rt; writer.text.as_slice() == b"a1 push a".as_slice());
-}
-
-#[test]
 fn a_writer_that_takes_no_byte_fails(rt: HostRuntime) {
     let alloc = rt.alloc();
     let mut script = SCRIPT;

@@ -26,7 +26,7 @@ use Rattle.step_core.specs.declared.programs.Played.{Played}
 use Rattle.step_core.specs.machine.Play.{Play, play_of, played_of}
 use Rattle.step_core.specs.machine.Record.{answer_to_look, IsRecord, AreCalls, program_of}
 use Rattle.step_core.specs.machine.Headline.{IsSequential, EveryInterleavingIsSequential}
-use Rattle.cvec.specs.Uses.{PushesAreApart}
+use Rattle.callers.specs.Uses.{PushesAreApart}
 
 -- the place of an answer that has one
 place_in : Answer → Option ℕ

@@ -1,5 +1,6 @@
 -- What users of plays want to know.
-use Rattle.std.specs.Prelude.{◌≡◌, ℕ, List, ◌∷◌, ◌++◌, Some, slice_get}
+use Rattle.std.specs.Prelude.{◌≡◌, ℕ, ◌+◌, ◌≤◌, List, ◌∷◌, ◌++◌, Some, slice_get}
+use Rattle.std.specs.List.{Contains}
 use Rattle.book_core.specs.declared.events.Event.{Event}
 use Rattle.book_core.specs.declared.events.Event.TheVariants.{Look}
 use Rattle.book_core.specs.declared.events.Reply.{Reply}
@@ -7,6 +8,7 @@ use Rattle.book_core.specs.declared.events.Reply.TheVariants as replies
 use Rattle.book_core.specs.declared.commands.Command.TheVariants.{Read}
 use Rattle.book_core.specs.declared.commands.Answer.TheVariants.{At, Value}
 use Rattle.book_core.specs.declared.commands.Ended.{Ended}
+use Rattle.book_core.specs.History.{OwnedRun, runs_of}
 use Rattle.book_core.specs.Laws.{IsFilledByOwner}
 
 -- calls that ended at one place are one call
@@ -27,3 +29,9 @@ abbrev pub ReadsTellTheOwners : List Ended → List (Event × Reply) → Type 0
 ReadsTellTheOwners calls events =
     (i place value : ℕ) (ended : Ended) → slice_get calls i ≡ Some ended → ended.command ≡ Read place
     → ended.answer ≡ Value value → IsReadOfOwners events ended.actor place value
+
+-- wherever a history is cut, what is claimed after the cut lies past all that was claimed before it
+abbrev pub LaterRunsLiePast : List (Event × Reply) → Type 0
+LaterRunsLiePast events =
+    (before after : List (Event × Reply)) (run later : OwnedRun) → events ≡ before ++ after
+    → Contains (runs_of before) run → Contains (runs_of after) later → run.from + run.n ≤ later.from

@@ -24,7 +24,7 @@ use Rattle.step_core.specs.machine.Play.{Play, play_of, played_of}
 use Rattle.step_core.specs.machine.Legal.{list_seen}
 use Rattle.step_core.specs.machine.Record.{answer_to_look, IsLook, IsRecord, AreCalls, program_of}
 use Rattle.step_core.specs.machine.Headline.{IsSequential, EveryInterleavingIsSequential}
-use Rattle.cvec.specs.Uses.{ReadsTellTheOwners}
+use Rattle.callers.specs.Uses.{ReadsTellTheOwners}
 
 -- an event stands in a history, between what came before and after it
 record Stands (es : List (Event × Reply)) (e : Event × Reply) : Type 0 where

@@ -1,6 +1,6 @@
 //! What callers prove of plays by the public clauses alone.
 ghost use Rattle.std.specs.Prelude.{◌≤◌, length, IfOk};
-ghost use Rattle.cvec.specs.Uses.{PushesAreApart, ReadsTellTheOwners};
+ghost use Rattle.callers.specs.Uses.{PushesAreApart, ReadsTellTheOwners, LaterRunsLiePast};
 
 use book_core::{Command, Item, Sequence};
 use script_core::{Script, read};
@@ -38,6 +38,22 @@ fn play_reads(
     play(alloc, limit, programs, items)
 }
 
+// Wherever the history is cut, what is claimed later lies past what was claimed before.
+fn play_in_parts(
+    alloc: Global,
+    limit: u64,
+    programs: Sequence<Sequence<Command>>,
+    items: &[Item],
+) -> Result<Played, PlayError>
+    requires { length programs ≤ 65536 }
+    ensures past { IfOk result (λ played. LaterRunsLiePast played.events) }
+{
+    laws::interleavings();
+    book_core::laws::histories_split();
+    book_core::laws::runs_split();
+    play(alloc, limit, programs, items)
+}
+
 #[test]
 fn callers_know_whose_each_place_and_value_is(rt: HostRuntime) -> Result<(), Fail> {
     let text = b"limit 8\nactor a push 5\nactor b push 6, read 0\nsteps a a a a a a b b b b b b b";
@@ -57,5 +73,21 @@ fn callers_know_whose_each_place_and_value_is(rt: HostRuntime) -> Result<(), Fai
         again.items.as_slice(),
     )?;
     assert_eq!(rt; read_back.events.len(), 5);
+    Ok(())
+}
+
+#[test]
+fn callers_know_that_later_runs_lie_past_earlier_ones(rt: HostRuntime) -> Result<(), Fail> {
+    let script = read(
+        rt.alloc(),
+        b"limit 8\nactor a push 5, grow 3 6\nsteps a a a a a a",
+    )?;
+    let played = play_in_parts(
+        rt.alloc(),
+        script.limit,
+        script.programs,
+        script.items.as_slice(),
+    )?;
+    assert_eq!(rt; played.ended.len(), 1);
     Ok(())
 }

@@ -2,6 +2,7 @@
 
 use book_core::{Command, Item};
 use script_core::{ScriptError, read};
+use std::alloc::Global;
 use std::test::Fail;
 
 const A: Item = Item {
@@ -39,17 +40,22 @@ const ROWS: [Row; 4] = [
     ),
 ];
 
+// Whether a text is read as these values.
+fn is_read(alloc: Global, row: &Row) -> Result<bool, Fail> {
+    let (text, limit, names, items) = row;
+    let script = read(alloc, text.as_bytes())?;
+    Ok(
+        script.limit == *limit
+            && script.names.as_slice() == *names
+            && script.items.as_slice() == *items
+            && script.programs.len() == names.len(),
+    )
+}
+
 #[test]
 fn scripts_are_read(rt: HostRuntime) -> Result<(), Fail> {
-    for (text, limit, names, items) in ROWS.as_slice() {
-        let script = read(rt.alloc(), text.as_bytes())?;
-        let got = (
-            script.limit,
-            script.names.as_slice(),
-            script.items.as_slice(),
-        );
-        assert_eq!(rt; got, (*limit, *names, *items), "{text}");
-        assert_eq!(rt; script.programs.len(), names.len(), "{text}");
+    for row in ROWS.as_slice() {
+        assert!(rt; is_read(rt.alloc(), row)?, "{}", row.0);
     }
     Ok(())
 }
@@ -67,24 +73,23 @@ const PROGRAM: [Command; 6] = [
     Command::Size,
 ];
 
+const COMMANDS: &str =
+    "limit 2\nactor z push 18446744073709551615, grow 0 7, atleast 9 2, fail 3 7 2, read 1, size\nsteps";
+
 #[test]
 fn each_command_is_read(rt: HostRuntime) -> Result<(), Fail> {
-    let text =
-        "limit 2\nactor z push 18446744073709551615, grow 0 7, atleast 9 2, fail 3 7 2, read 1, size\nsteps";
-    let script = read(rt.alloc(), text.as_bytes())?;
-    for program in script.programs.as_slice() {
-        assert_eq!(rt; program.as_slice(), PROGRAM.as_slice());
-    }
-    assert_eq!(rt; script.programs.len(), 1);
+    let programs = read(rt.alloc(), COMMANDS.as_bytes())?.programs;
+    assert!(rt; programs.len() == 1);
+    assert!(rt; programs.as_slice()[0].as_slice() == PROGRAM.as_slice());
     Ok(())
 }
 
 #[test]
 fn an_error_is_shown_in_one_line(rt: HostRuntime) -> Result<(), Fail> {
-    let error = ScriptError::BadCommand { line: 2 };
-    assert_eq!(rt; error.to_string(rt.alloc())?.as_str(), "line 2: fault 7");
-    let error = ScriptError::NoMemory;
-    assert_eq!(rt; error.to_string(rt.alloc())?.as_str(), "memory");
-    assert_eq!(rt; (error.number(), error.line()), (1, None));
+    let fault = ScriptError::BadCommand { line: 2 }.to_string(rt.alloc())?;
+    assert!(rt; fault.as_str() == "line 2: fault 7");
+    let memory = ScriptError::NoMemory.to_string(rt.alloc())?;
+    assert!(rt; memory.as_str() == "memory");
+    assert!(rt; ScriptError::NoMemory.number() == 1 && ScriptError::NoMemory.line().is_none());
     Ok(())
 }

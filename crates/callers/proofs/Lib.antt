@@ -1,0 +1,3 @@
+mod LaterRuns
+mod PushPlaces
+mod ReadValues

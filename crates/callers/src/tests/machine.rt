@@ -1,0 +1,163 @@
+//! The machine, one step after another.
+
+use super::{UNSOUND, one_call};
+use book_core::{Answer, Command, Event, Reply, Sequence};
+use script_core::read;
+use std::alloc::{AllocError, Global};
+use std::test::Fail;
+use step_core::{Machine, MakeError, Slot, Stepped};
+
+// An actor's step with memory, the size after it, and whether it is an event.
+type Row = (u32, u64, bool);
+
+// Two pushes, of which the second loses its first exchange.
+#[rattlefmt::skip]
+const LOST: [Row; 13] = [
+    (0, 0, false), (1, 0, false), (0, 0, false), (0, 0, false), (1, 0, false), (0, 1, true),
+    (1, 1, false), (1, 1, false), (1, 2, true), (1, 2, false), (1, 2, true), (0, 2, false),
+    (0, 2, true),
+];
+
+// Two growths to a size, of which the first finds enough.
+#[rattlefmt::skip]
+const RAISED: [Row; 22] = [
+    (0, 0, false), (0, 0, false), (0, 0, false), (0, 0, false), (0, 0, false), (1, 0, false),
+    (1, 0, false), (1, 0, false), (1, 0, false), (1, 0, false), (1, 5, true), (1, 5, false),
+    (1, 5, true), (1, 5, false), (1, 5, true), (1, 5, false), (1, 5, true), (1, 5, false),
+    (1, 5, true), (1, 5, false), (1, 5, true), (0, 5, true),
+];
+
+// A growth whose construction is refused at its second place.
+#[rattlefmt::skip]
+const BROKEN: [Row; 12] = [
+    (0, 0, false), (0, 0, false), (0, 0, false), (0, 0, false), (0, 0, false), (0, 3, true),
+    (0, 3, false), (0, 3, true), (0, 3, false), (0, 3, true), (0, 3, false), (0, 3, true),
+];
+
+#[rattlefmt::skip]
+const PLAYS: [(&'static str, &'static [Row]); 3] = [
+    ("limit 8\nactor a push 5\nactor b push 5\nsteps", &LOST),
+    ("limit 8\nactor a atleast 4 0\nactor b atleast 5 1\nsteps", &RAISED),
+    ("limit 8\nactor a fail 3 7 1\nsteps", &BROKEN),
+];
+
+// A machine at the programs of a script.
+fn machine(alloc: Global, script: &str) -> Result<Machine, Fail> {
+    let script = read(alloc, script.as_bytes())?;
+    Ok(Machine::new(alloc, script.limit, script.programs)?)
+}
+
+// Whether the size and the events after each step of a machine are those of these rows.
+fn takes(mut machine: Machine, rows: &[Row]) -> Result<bool, Fail> {
+    for (actor, size, is_event) in rows {
+        let stepped = machine.step(*actor, true)?;
+        if machine.size() != *size || stepped.event.is_some() != *is_event {
+            return Ok(false);
+        }
+    }
+    Ok(true)
+}
+
+#[test]
+fn the_size_moves_at_the_claiming_steps(rt: HostRuntime) -> Result<(), Fail> {
+    for (script, rows) in PLAYS.as_slice() {
+        assert!(rt; takes(machine(rt.alloc(), script)?, rows)?, "{script}");
+    }
+    Ok(())
+}
+
+// A step whose mark refuses memory takes none: a caller's proof, by the clauses of `step` alone.
+fn refused_step(machine: &mut Machine, actor: u32) -> Stepped {
+    match machine.step(actor, false) {
+        Ok(stepped) => stepped,
+        Err(_) => unreachable!(),
+    }
+}
+
+const PUSHES: &str = "limit 8\nactor a push 5\nactor b push 6\nsteps";
+
+const SLOTS: [Option<Slot>; 6] = [
+    None,
+    None,
+    None,
+    None,
+    Some(Slot::Busy(1)),
+    Some(Slot::Filled(6)),
+];
+
+#[test]
+fn a_slot_is_busy_for_the_actor_that_began_it(rt: HostRuntime) -> Result<(), Fail> {
+    let mut machine = machine(rt.alloc(), PUSHES)?;
+    for slot in SLOTS.as_slice() {
+        machine.step(1, true)?;
+        assert!(rt; machine.slot(0) == *slot);
+    }
+    assert!(rt; machine.slot(1).is_none());
+    Ok(())
+}
+
+#[test]
+fn a_refused_segment_ends_the_call_though_it_is_there(rt: HostRuntime) -> Result<(), Fail> {
+    let mut machine = machine(rt.alloc(), PUSHES)?;
+    for actor in [0, 0, 1, 1, 1].as_slice() {
+        assert!(rt; machine.step(*actor, true)?.event.is_none(), "{actor}");
+    }
+    assert!(rt; machine.actors() == 2 && machine.size() == 0 && machine.slot(0).is_none());
+    let stepped = refused_step(&mut machine, 0);
+    let event = (Event::RefusedMemory { actor: 0 }, Reply::NoMemory);
+    assert!(rt; stepped.event == Some(event));
+    let answer = stepped.ended.map(|ended| ended.answer);
+    assert!(rt; answer == Some(Answer::NoMemory));
+    Ok(())
+}
+
+// An actor for each number below a bound, each with one call.
+fn one_call_each(
+    alloc: Global,
+    actors: u32,
+    call: Command,
+) -> Result<Sequence<Sequence<Command>>, AllocError> {
+    let mut programs = Vec::new(alloc);
+    for _actor in 0..actors {
+        programs.push(Sequence::from_vec(vec![in alloc; call]?))?;
+    }
+    Ok(Sequence::from_vec(programs))
+}
+
+#[test]
+fn the_most_programs_are_played(rt: HostRuntime) -> Result<(), Fail> {
+    let programs = one_call_each(rt.alloc(), 65_536, Command::Push { value: 9 })?;
+    assert!(rt; programs.len() == 65_536);
+    let mut machine = Machine::new(rt.alloc(), 4_294_967_296, programs)?;
+    for actor in 0..65_536 {
+        for _step in 0..6 {
+            machine.step(actor, true)?;
+        }
+    }
+    assert!(rt; machine.actors() == 65_536 && machine.size() == 65_536);
+    assert!(rt; machine.slot(65_535) == Some(Slot::Filled(9)));
+    Ok(())
+}
+
+#[test]
+fn a_growth_fills_all_segments_of_65_536_places(rt: HostRuntime) -> Result<(), Fail> {
+    let mut machine = machine(rt.alloc(), "limit 65536\nactor a grow 65536 7\nsteps")?;
+    // One load, two steps for each of sixteen segments, one exchange, and two steps for each place.
+    for _step in 0..131_106 {
+        machine.step(0, true)?;
+    }
+    assert!(rt; machine.size() == 65_536 && machine.slot(65_536).is_none());
+    assert!(rt; machine.slot(65_535) == Some(Slot::Filled(7)));
+    Ok(())
+}
+
+const REFUSED: [(u64, MakeError); 2] = [(0, MakeError::BadLimit), (1, MakeError::BadCommand)];
+
+#[test]
+fn a_machine_that_cannot_be_is_refused(rt: HostRuntime) -> Result<(), Fail> {
+    for (limit, want) in REFUSED.as_slice() {
+        let made = Machine::new(rt.alloc(), *limit, one_call(rt.alloc(), UNSOUND)?);
+        assert!(rt; made.err() == Some(*want), "{limit}");
+    }
+    Ok(())
+}

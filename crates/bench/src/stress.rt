@@ -29,7 +29,7 @@ const THREADS: u64 = 4;
 const SHARES: u32 = 10_000;
 
 // The limits of the vectors are not above it.
-const MOST: u64 = 16_384;
+const MOST: u64 = 65_536;
 
 // A hand for each thread.
 fn jobs_for(

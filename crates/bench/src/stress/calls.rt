@@ -1,5 +1,5 @@
 //! Random calls of one thread.
-ghost use Rattle.std.specs.Prelude.{◌≡◌, ◌<◌, IfOk, IfSome};
+ghost use Rattle.std.specs.Prelude.{◌≡◌, ◌<◌, ◌^◌, IfOk, IfSome};
 ghost use Rattle.grow_core.specs.Vector.{IsHandOf, IsPlacedOf};
 
 use crate::stress::random::Random;
@@ -9,8 +9,11 @@ use grow_core::{AtError, GrowError, Grown, Hand, Never, Placed, Shared};
 use std::alloc::{AllocError, Global};
 use std::sync::Wait;
 
-// The greatest number of values that are appended at once, and how far above the size a look goes.
-const MOST: u64 = 5;
+// The greatest number of values that most growths append, and how far above the size a look goes.
+const FEW: u64 = 5;
+
+// The greatest number of values that some growths append: they cross several segments.
+const MOST: u64 = 1_000;
 
 // The kinds of call.
 #[derive(Clone, Copy, Debug)]
@@ -18,6 +21,7 @@ enum Kind {
     TryPush,
     Push,
     Grow,
+    GrowFar,
     Size,
     Look,
     LookByToken,
@@ -25,10 +29,11 @@ enum Kind {
     Share,
 }
 
-const KINDS: [Kind; 8] = [
+const KINDS: [Kind; 9] = [
     Kind::TryPush,
     Kind::Push,
     Kind::Grow,
+    Kind::GrowFar,
     Kind::Size,
     Kind::Look,
     Kind::LookByToken,
@@ -138,16 +143,19 @@ fn note_run(caller: &mut Caller, first: u64, grown: &Grown<u64>) -> Result<()> {
     Ok(())
 }
 
+// A growth by at most so many values.
 fn grow(
     alloc: Global,
     vector: &Shared<u64>,
     hand: &mut Hand<u64>,
     caller: &mut Caller,
+    most: u64,
 ) -> Result<()>
     requires ours { IsHandOf vector.now hand.old }
+    requires bounded { most < 2 ^ 32 }
     ensures of { hand.new.of ≡ hand.old.of }
 {
-    let n = caller.random.below(MOST + 1);
+    let n = caller.random.below(most + 1);
     let first = caller.take_values(n);
     match vector.try_grow_vec(hand, values_from(alloc, first, n)?) {
         Ok(grown) => note_run(caller, first, &grown),
@@ -224,12 +232,13 @@ pub fn make_call<R: Wait>(
     match KINDS[caller.below(KINDS.len())] {
         Kind::TryPush => return try_push(vector, hand, caller),
         Kind::Push => return push(rt, vector, hand, caller),
-        Kind::Grow => grow(alloc, vector, hand, caller)?,
+        Kind::Grow => grow(alloc, vector, hand, caller, FEW)?,
+        Kind::GrowFar => grow(alloc, vector, hand, caller, MOST)?,
         Kind::Size => {
             vector.size(hand);
         }
         Kind::Look => {
-            let place = caller.random.below(hand.seen().saturating_add(MOST));
+            let place = caller.random.below(hand.seen().saturating_add(FEW));
             look(vector, hand, caller, place, None)?;
         }
         Kind::LookByToken => look_by_token(vector, hand, caller, &token)?,

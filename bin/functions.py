@@ -75,17 +75,19 @@ class Function:
 
     def is_proved_in(self, module, file):
         """Whether the function's proof is this module of proofs/. `file` is where the function stands."""
-        if module[-1:] != [self.name]:
+        # A function that calls itself has a plus before its name.
+        if module[-1:] not in ([self.name], [f"+{self.name}"]):
             return False
         if self.holder:
-            return module[-2] in self.owners()
+            return len(module) > 1 and self.is_owned_by(module[-2])
         return module[:-1] == re.sub(r"^src/|/?(lib|main)?\.rt$", "", file).split("/")
 
-    def owners(self):
-        """The names that proofs have for the type, or the type and the trait, whose function this is."""
+    def is_owned_by(self, name):
+        """Whether proofs have this name for the type whose function this is: that of the type, and then those of the trait
+        and of its arguments, if there is a trait."""
         words = without_types(self.holder.partition("where")[0])
-        names = [re.split(r"::", it.strip())[-1].strip("&' ") for it in re.split(r"\bimpl\b|\bfor\b", words) if it.strip()]
-        return names if len(names) == 1 else [names[-1] + names[0], names[-1]]
+        names = [it.strip().split("::")[-1].strip("&' ") for it in re.split(r"\bimpl\b|\bfor\b", words) if it.strip()]
+        return name == names[-1] or len(names) > 1 and name.startswith(names[-1] + names[0])
 
 
 def without_types(text):

@@ -8,8 +8,10 @@ use std::alloc::Global;
 use std::test::Fail;
 use step_core::{PlayError, Played, laws, play};
 
-// Two pushes that ended in one play are at different places.
-fn play_pushes(
+// What a caller knows of a play. Two pushes that ended in it are at different places. A value that a read answered was
+// filled in by the owner of its place, before that read. Wherever the history is cut, what is claimed later lies past what
+// was claimed before.
+fn play_known(
     alloc: Global,
     limit: u64,
     programs: Sequence<Sequence<Command>>,
@@ -17,40 +19,14 @@ fn play_pushes(
 ) -> Result<Played, PlayError>
     requires { length programs ≤ 65536 }
     ensures apart { IfOk result (λ played. PushesAreApart played.ended) }
-{
-    laws::interleavings();
-    book_core::laws::writers_split();
-    play(alloc, limit, programs, items)
-}
-
-// A value that a read answered was filled in by the owner of its place, before that read.
-fn play_reads(
-    alloc: Global,
-    limit: u64,
-    programs: Sequence<Sequence<Command>>,
-    items: &[Item],
-) -> Result<Played, PlayError>
-    requires { length programs ≤ 65536 }
     ensures owners { IfOk result (λ played. ReadsTellTheOwners played.ended played.events) }
-{
-    laws::interleavings();
-    book_core::laws::values_are_the_owners();
-    play(alloc, limit, programs, items)
-}
-
-// Wherever the history is cut, what is claimed later lies past what was claimed before.
-fn play_in_parts(
-    alloc: Global,
-    limit: u64,
-    programs: Sequence<Sequence<Command>>,
-    items: &[Item],
-) -> Result<Played, PlayError>
-    requires { length programs ≤ 65536 }
     ensures past { IfOk result (λ played. LaterRunsLiePast played.events) }
 {
     laws::interleavings();
     book_core::laws::histories_split();
     book_core::laws::runs_split();
+    book_core::laws::writers_split();
+    book_core::laws::values_are_the_owners();
     play(alloc, limit, programs, items)
 }
 
@@ -63,31 +39,7 @@ fn callers_know_whose_each_place_and_value_is(rt: HostRuntime) -> Result<(), Fai
         items,
         ..
     } = read(rt.alloc(), text)?;
-    let played = play_pushes(rt.alloc(), limit, programs, items.as_slice())?;
-    assert_eq!(rt; played.ended.len(), 3);
-    let again = read(rt.alloc(), text)?;
-    let read_back = play_reads(
-        rt.alloc(),
-        again.limit,
-        again.programs,
-        again.items.as_slice(),
-    )?;
-    assert_eq!(rt; read_back.events.len(), 5);
-    Ok(())
-}
-
-#[test]
-fn callers_know_that_later_runs_lie_past_earlier_ones(rt: HostRuntime) -> Result<(), Fail> {
-    let script = read(
-        rt.alloc(),
-        b"limit 8\nactor a push 5, grow 3 6\nsteps a a a a a a",
-    )?;
-    let played = play_in_parts(
-        rt.alloc(),
-        script.limit,
-        script.programs,
-        script.items.as_slice(),
-    )?;
-    assert_eq!(rt; played.ended.len(), 1);
+    let played = play_known(rt.alloc(), limit, programs, items.as_slice())?;
+    assert_eq!(rt; (played.ended.len(), played.events.len()), (3, 5));
     Ok(())
 }

@@ -9,7 +9,6 @@ mod machine;
 mod scripts;
 mod uses;
 mod whole_calls;
-mod writers;
 
 use book_core::{Command, Sequence};
 use script_core::{Script, read};

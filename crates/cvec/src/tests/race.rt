@@ -11,6 +11,12 @@ fn a_pair_that_looks_no_times_is_stuck(rt: HostRuntime) {
 }
 
 #[test]
+fn one_worker_waits_for_another_in_vain(rt: HostRuntime) {
+    let ended = race(&rt, rt.alloc(), 1, 10, &PairGate::new(1000));
+    assert!(rt; ended == Err(RaceError::Stuck));
+}
+
+#[test]
 fn two_workers_run_at_once(rt: HostRuntime) {
     let ended = race(&rt, rt.alloc(), 2, 10, &PairGate::new(1_000_000_000));
     let report = RaceReport {

@@ -134,6 +134,16 @@ def lanes():
     return max(1, min(len(os.sched_getaffinity(0)), free // MEMORY_OF_A_CHECK))
 
 
+def is_alone():
+    """Whether the process whose number RT_BESIDE has, if it has one, has ended."""
+    beside = os.environ.get("RT_BESIDE", "")
+    try:
+        with open(f"/proc/{beside}/stat", encoding="utf-8", errors="replace") as file:
+            return not beside or file.read().rpartition(")")[2].split()[0] == "Z"
+    except OSError:
+        return True
+
+
 class Task:
     """Work that starts once the tasks before it are done, with the processors that no other task waits for."""
 
@@ -145,7 +155,8 @@ class Task:
 
 
 def run(tasks):
-    """Runs tasks side by side, those with the longest chains first. Each comes after those that it waits for."""
+    """Runs tasks side by side, those with the longest chains first. Each comes after those that it waits for. They take half of
+    the lanes as long as the process RT_BESIDE is at work."""
     for task in reversed(tasks):
         for it in task.before:
             it.chain = max(it.chain, it.weight + task.chain)
@@ -153,8 +164,9 @@ def run(tasks):
     with ThreadPoolExecutor(most) as pool:
         while left or running:
             ready = [it for it in left if done.issuperset(it.before)]
+            open_lanes = most if is_alone() else max(1, most // 2)
             for at, task in enumerate(ready):
-                idle = most - sum(jobs for _, jobs in running.values())
+                idle = open_lanes - sum(jobs for _, jobs in running.values())
                 if idle > 0:
                     jobs = max(1, idle // (len(ready) - at))
                     running[pool.submit(task.work, jobs)] = task, jobs

@@ -46,6 +46,31 @@ fn hands_for(
     Ok(hands)
 }
 
+// Exchanges by hands that are cut from this one.
+fn claim_on<R: Threads + Clock + AllocGlobal + Sync>(
+    rt: &R,
+    word: &Word<Global>,
+    hand: &mut Hand,
+    threads: usize,
+    tries: u64,
+) -> Result<Trial>
+    requires ours { IsHandOf word.now hand.old }
+{
+    let hands = hands_for(rt.alloc(), word, hand, threads)?;
+    let (took, wins) = time_hands(
+        rt,
+        hands,
+        &|hand: Hand| -> u64
+            requires { IsHandOf word.now hand }
+        { claim(word, hand, tries) },
+    )?;
+    Ok(Trial {
+        took,
+        wins,
+        size: word.size(hand),
+    })
+}
+
 /// Exchanges on one claim word.
 pub fn run_claims<R: Threads + Clock + AllocGlobal + Sync>(
     rt: &R,
@@ -53,17 +78,5 @@ pub fn run_claims<R: Threads + Clock + AllocGlobal + Sync>(
     tries: u64,
 ) -> Result<Trial> {
     let (word, mut hand) = Word::open(rt.alloc(), 1 << 32, 0)?;
-    let hands = hands_for(rt.alloc(), &word, &mut hand, threads)?;
-    let (took, wins) = time_hands(
-        rt,
-        hands,
-        &|hand: Hand| -> u64
-            requires { IsHandOf word hand }
-        { claim(&word, hand, tries) },
-    )?;
-    Ok(Trial {
-        took,
-        wins,
-        size: word.size(&mut hand),
-    })
+    claim_on(rt, &word, &mut hand, threads, tries)
 }

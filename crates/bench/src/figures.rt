@@ -9,6 +9,9 @@ use std::thread::Threads;
 // How often each thing is measured.
 const ROUNDS: usize = 7;
 
+// How many threads there are.
+const THREADS: [usize; 3] = [1, 2, 4];
+
 // The least, the middle and the greatest time of the rounds.
 #[derive(Clone, Copy, Debug)]
 struct Spread {
@@ -28,20 +31,29 @@ fn time_of<R: Threads + Wait + Clock + AllocGlobal + Sync>(
     Ok(u64::try_from(took.saturating_mul(1000) / u128::from(tries.max(1))).unwrap_or(u64::MAX))
 }
 
+// The times of a group's things.
+fn round_of<R: Threads + Wait + Clock + AllocGlobal + Sync>(
+    rt: &R,
+    group: Group,
+    threads: usize,
+) -> Result<[u64; 3]> {
+    let [first, second, third] = group.things;
+    Ok([
+        time_of(rt, first, threads, group.tries)?,
+        time_of(rt, second, threads, group.tries)?,
+        time_of(rt, third, threads, group.tries)?,
+    ])
+}
+
 // The times of a group's things, in each round. The things take turns, so that other work on the machine meets all.
 fn rounds_of<R: Threads + Wait + Clock + AllocGlobal + Sync>(
     rt: &R,
     group: Group,
     threads: usize,
 ) -> Result<Vec<[u64; 3]>> {
-    let [first, second, third] = group.things;
     let mut rounds = Vec::new(rt.alloc());
     for _round in 0..ROUNDS {
-        rounds.push([
-            time_of(rt, first, threads, group.tries)?,
-            time_of(rt, second, threads, group.tries)?,
-            time_of(rt, third, threads, group.tries)?,
-        ])?;
+        rounds.push(round_of(rt, group, threads)?)?;
     }
     Ok(rounds)
 }
@@ -99,8 +111,17 @@ fn print_group<R: Threads + Wait + Clock + Print + AllocGlobal + Sync>(
     Ok(())
 }
 
-/// The nanoseconds that a try takes a thread, for one thread, two and four.
-pub fn print_figures<R: Threads + Wait + Clock + Print + AllocGlobal + Sync>(rt: &R) -> Result<()> {
+fn print_things<R: Threads + Wait + Clock + Print + AllocGlobal + Sync>(
+    rt: &R,
+    group: Group,
+) -> Result<()> {
+    for threads in THREADS.as_slice() {
+        print_group(rt, group, *threads)?;
+    }
+    Ok(())
+}
+
+fn print_head<R: Print>(rt: &R) -> Result<()> {
     println!(rt;
         "nanoseconds a try, of {ROUNDS} rounds; the ratio of a group's first thing to each"
     )?;
@@ -108,10 +129,14 @@ pub fn print_figures<R: Threads + Wait + Clock + Print + AllocGlobal + Sync>(rt:
         "{:<8} {:<15} {:>8} {:>8} {:>8} {:>8}",
         "threads", "what", "least", "middle", "most", "ratio"
     )?;
-    for group in GROUPS {
-        for threads in [1, 2, 4] {
-            print_group(rt, group, threads)?;
-        }
+    Ok(())
+}
+
+/// The nanoseconds that a try takes a thread, for one thread, two and four.
+pub fn print_figures<R: Threads + Wait + Clock + Print + AllocGlobal + Sync>(rt: &R) -> Result<()> {
+    print_head(rt)?;
+    for group in GROUPS.as_slice() {
+        print_things(rt, *group)?;
     }
     Ok(())
 }

@@ -1,17 +1,19 @@
 //! Loads of millions of calls, one in each run of the program. `bench/compare` runs them in turns with the same loads
 //! on other libraries.
+ghost use Rattle.std.specs.Prelude.{◌≡◌, ◌<◌};
 ghost use Rattle.std.specs.Thread.{IsSync};
 ghost use Rattle.grow_core.specs.Vector.{IsHandOf};
 
 use crate::other_vectors::push_boxcar;
-use crate::shared_vector::{hands_for, push};
+use crate::shared_vector::{hands_for, push, push_by_calls};
 use crate::trial::{time_hands, time_threads};
 use anyhow::{Result, bail};
 use grow_core::{Hand, Shared};
 use std::alloc::{AllocError, AllocGlobal};
 use std::rt::Clock;
-use std::sync::Wait;
+use std::sync::{Arc, Wait};
 use std::thread::Threads;
+use std::time::Duration;
 
 // The values that all threads append together on a new vector.
 const FRESH: u64 = 10_000_000;
@@ -30,6 +32,8 @@ const LIST: u64 = 64;
 pub enum Work {
     /// Appends a value.
     Push,
+    /// Appends a value by a call that is not laid into the loop.
+    CallPush,
     /// Makes a list of 64 values, and appends it.
     Grow,
     /// Looks without a token at a place that is picked at random.
@@ -42,13 +46,16 @@ pub struct Load {
     pub work: Work,
     pub filled: u64,
     pub values: u64,
+    /// Whether the vector lies in an `Arc`.
+    pub is_in_arc: bool,
 }
 
 /// The load of this name.
 pub fn load_of(name: &str) -> Result<Load> {
     let (work, filled, values) = match name {
         "push" => (Work::Push, 0, FRESH),
-        "push-installed" => (Work::Push, FILLED, MORE),
+        "push-installed" | "push-arc" => (Work::Push, FILLED, MORE),
+        "push-call" => (Work::CallPush, FILLED, MORE),
         "grow" => (Work::Grow, 0, FRESH),
         "grow-installed" => (Work::Grow, FILLED, MORE),
         "look" => (Work::Look, FILLED, MORE),
@@ -58,6 +65,7 @@ pub fn load_of(name: &str) -> Result<Load> {
         work,
         filled,
         values,
+        is_in_arc: name == "push-arc",
     })
 }
 
@@ -68,6 +76,22 @@ fn list_from<R: AllocGlobal>(rt: &R, from: u64) -> Result<Vec<u64>, AllocError> 
         list.push(from.wrapping_add(i))?;
     }
     Ok(list)
+}
+
+// Appends a list of values: whether that was done, or nothing where there is no memory for the list.
+fn grow_once<R: Wait + AllocGlobal>(
+    rt: &R,
+    vector: &Shared<u64>,
+    hand: &mut Hand<u64>,
+    from: u64,
+) -> Option<bool>
+    requires ours { IsHandOf vector.now hand.old }
+    ensures of { hand.new.of ≡ hand.old.of }
+{
+    match list_from(rt, from) {
+        Ok(list) => Some(vector.grow_vec(rt, hand, list).is_ok()),
+        Err(AllocError) => None,
+    }
 }
 
 // How many of the values were appended, a list at a time.
@@ -81,14 +105,25 @@ fn grow<R: Wait + AllocGlobal>(
 {
     let mut won: u64 = 0;
     for i in 0..values / LIST {
-        let Ok(list) = list_from(rt, i) else {
-            return won;
+        let Some(is_done) = grow_once(rt, vector, &mut hand, i) else {
+            break;
         };
-        if vector.grow_vec(rt, &mut hand, list).is_ok() {
+        if is_done {
             won = won.wrapping_add(LIST);
         }
     }
     won
+}
+
+// What is added for a look: the last bit of the value, if there is one.
+fn look_once(vector: &Shared<u64>, hand: &mut Hand<u64>, place: u64) -> u64
+    requires ours { IsHandOf vector.now hand.old }
+    ensures of { hand.new.of ≡ hand.old.of }
+{
+    match vector.at(hand, place, None) {
+        Ok(at) => *at.value & 1,
+        Err(_) => 0,
+    }
 }
 
 // How many of the looks found a value.
@@ -101,9 +136,7 @@ fn look(vector: &Shared<u64>, mut hand: Hand<u64>, looks: u64) -> u64
         random = random
             .wrapping_mul(6_364_136_223_846_793_005)
             .wrapping_add(1_442_695_040_888_963_407);
-        if let Ok(at) = vector.at(&mut hand, random >> 41, None) {
-            found = found.wrapping_add(*at.value & 1);
-        }
+        found = found.wrapping_add(look_once(vector, &mut hand, random >> 41));
     }
     found
 }
@@ -121,6 +154,7 @@ impl Work {
     {
         match self {
             Work::Push => push(rt, vector, hand, times),
+            Work::CallPush => push_by_calls(rt, vector, hand, times),
             Work::Grow => grow(rt, vector, hand, times),
             Work::Look => look(vector, hand, times),
         }
@@ -128,6 +162,45 @@ impl Work {
 }
 
 impl Load {
+    // Runs it by hands that are cut from this one.
+    fn time<R: Threads + Wait + Clock + AllocGlobal + Sync>(
+        self,
+        rt: &R,
+        vector: &Shared<u64>,
+        hand: &mut Hand<u64>,
+        threads: usize,
+    ) -> Result<Duration>
+        requires ours { IsHandOf vector.now hand.old }
+    {
+        let hands = hands_for(rt.alloc(), vector, hand, threads, 1)?;
+        let times = self.values / (threads as u64).max(1);
+        let (took, _wins) = time_hands(
+            rt,
+            hands,
+            &|hand: Hand<u64>| -> u64
+                requires { IsSync R.row × IsHandOf vector.now hand }
+            { self.work.run(rt, vector, hand, times) },
+        )?;
+        Ok(took)
+    }
+
+    // Fills the vector, runs the load on it, and prints the nanoseconds that it took.
+    fn print_time_on<R: Threads + Wait + Clock + Print + AllocGlobal + Sync>(
+        self,
+        rt: &R,
+        vector: &Shared<u64>,
+        hand: &mut Hand<u64>,
+        threads: usize,
+    ) -> Result<()>
+        requires ours { IsHandOf vector.now hand.old }
+        requires more_than_one { 1 < hand.old.shares }
+    {
+        push(rt, vector, vector.split(hand, 1), self.filled);
+        let took = self.time(rt, vector, hand, threads)?;
+        println!(rt; "{}", took.as_nanos())?;
+        Ok(())
+    }
+
     /// Runs it in this many threads, and prints the nanoseconds that it took. The vector stands until they are
     /// printed, so that its memory can be seen from outside.
     pub fn print_time<R: Threads + Wait + Clock + Print + AllocGlobal + Sync>(
@@ -139,20 +212,25 @@ impl Load {
             rt.alloc(),
             self.filled.saturating_add(self.values),
         )?;
-        let first = vector.split(&mut hand, 1);
-        push(rt, &vector, first, self.filled);
-        let hands = hands_for(rt.alloc(), &vector, &mut hand, threads, 1)?;
-        let times = self.values / (threads as u64).max(1);
-        let (took, _wins) = time_hands(
-            rt,
-            hands,
-            &|hand: Hand<u64>| -> u64
-                requires { IsSync R.row × IsHandOf vector hand }
-            { self.work.run(rt, &vector, hand, times) },
-        )?;
-        println!(rt; "{}", took.as_nanos())?;
-        Ok(())
+        if self.is_in_arc {
+            let vector = Arc::new(rt.alloc(), vector)?;
+            self.print_time_on(rt, &vector, &mut hand, threads)
+        } else {
+            self.print_time_on(rt, &vector, &mut hand, threads)
+        }
     }
+}
+
+// Pushes the load's values on this one, and prints the nanoseconds that it took.
+fn print_boxcar_time_on<R: Threads + Wait + Clock + Print + AllocGlobal + Sync>(
+    rt: &R,
+    list: &boxcar::Vec<u64>,
+    threads: usize,
+) -> Result<()> {
+    let times = FRESH / (threads as u64).max(1);
+    let (took, _wins) = time_threads(rt, threads, &|_| push_boxcar(rt, list, times))?;
+    println!(rt; "{}", took.as_nanos())?;
+    Ok(())
 }
 
 /// Pushes as many values as the load `push` on a new `boxcar::Vec`, and prints the nanoseconds that it took.
@@ -161,8 +239,5 @@ pub fn print_boxcar_time<R: Threads + Wait + Clock + Print + AllocGlobal + Sync>
     threads: usize,
 ) -> Result<()> {
     let list = boxcar::Vec::new(rt.alloc())?;
-    let times = FRESH / (threads as u64).max(1);
-    let (took, _wins) = time_threads(rt, threads, &|_| push_boxcar(rt, &list, times))?;
-    println!(rt; "{}", took.as_nanos())?;
-    Ok(())
+    print_boxcar_time_on(rt, &list, threads)
 }

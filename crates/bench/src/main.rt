@@ -40,7 +40,7 @@ fn print_counts_of<R: Threads + Wait + Clock + Print + AllocGlobal + Sync>(
     rt: &R,
     group: Group,
 ) -> Result<()> {
-    for thing in group.things {
+    for thing in group.things.as_slice() {
         let trial = thing.run(rt, THREADS, TRIES)?;
         let name = thing.name();
         ensure!(trial.wins == trial.size, "{name} lost a win");
@@ -50,27 +50,27 @@ fn print_counts_of<R: Threads + Wait + Clock + Print + AllocGlobal + Sync>(
 }
 
 fn print_counts<R: Threads + Wait + Clock + Print + AllocGlobal + Sync>(rt: &R) -> Result<()> {
-    for group in GROUPS {
-        print_counts_of(rt, group)?;
+    for group in GROUPS.as_slice() {
+        print_counts_of(rt, *group)?;
     }
     Ok(())
 }
 
 // What the words after the program's name ask for.
-enum Task {
+enum Task<'a> {
     Counts,
     Figures,
-    Load { name: String, threads: usize },
+    Load { name: &'a str, threads: usize },
     Stress(u64),
 }
 
-fn task_of(words: Vec<String>) -> Result<Task> {
-    match words.as_slice() {
+fn task_of(words: &[String]) -> Result<Task<'_>> {
+    match words {
         [] => Ok(Task::Counts),
         [word] if word.as_str() == "figures" => Ok(Task::Figures),
         [word, seconds] if word.as_str() == "stress" => Ok(Task::Stress(seconds.as_str().parse()?)),
         [word, name, threads] if word.as_str() == "load" => Ok(Task::Load {
-            name: name.clone()?,
+            name: name.as_str(),
             threads: threads.as_str().parse()?,
         }),
         _ => bail!("usage: bench [figures | load NAME THREADS | stress SECONDS]"),
@@ -98,11 +98,19 @@ fn words_of<R: Env + AllocGlobal>(rt: &R) -> Result<Vec<String>> {
     Ok(words)
 }
 
-fn main(rt: HostRuntime) -> Result<()> {
-    match task_of(words_of(&rt)?)? {
-        Task::Counts => print_counts(&rt),
-        Task::Figures => print_figures(&rt),
-        Task::Load { name, threads } => print_load(&rt, name.as_str(), threads),
-        Task::Stress(seconds) => print_stress(&rt, seconds),
+fn run_task<R: Threads + Wait + Clock + Print + AllocGlobal + Sync>(
+    rt: &R,
+    task: Task<'_>,
+) -> Result<()> {
+    match task {
+        Task::Counts => print_counts(rt),
+        Task::Figures => print_figures(rt),
+        Task::Load { name, threads } => print_load(rt, name, threads),
+        Task::Stress(seconds) => print_stress(rt, seconds),
     }
+}
+
+fn main(rt: HostRuntime) -> Result<()> {
+    let words = words_of(&rt)?;
+    run_task(&rt, task_of(words.as_slice())?)
 }

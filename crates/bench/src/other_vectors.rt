@@ -32,17 +32,29 @@ pub fn run_locked<R: Threads + Wait + Clock + AllocGlobal + Sync>(
 ) -> Result<Trial> {
     let room = threads.saturating_mul(tries as usize);
     let list = Mutex::new(Vec::with_capacity(rt.alloc(), room)?);
-    let (took, wins) = time_threads(rt, threads, &|_| push_locked(rt, &list, tries))?;
-    Ok(Trial {
-        took,
-        wins,
-        size: list.into_inner().len() as u64,
-    })
+    let timed = time_threads(rt, threads, &|_| push_locked(rt, &list, tries));
+    let size = list.into_inner().len() as u64;
+    let (took, wins) = timed?;
+    Ok(Trial { took, wins, size })
 }
 
 /// How many of the pushes appended a value.
 pub fn push_boxcar<R: Wait>(rt: &R, list: &boxcar::Vec<u64>, tries: u64) -> u64 {
     count_pushes(tries, &|value| list.push(rt, value).is_ok())
+}
+
+fn push_on_boxcar<R: Threads + Wait + Clock + AllocGlobal + Sync>(
+    rt: &R,
+    list: &boxcar::Vec<u64>,
+    threads: usize,
+    tries: u64,
+) -> Result<Trial> {
+    let (took, wins) = time_threads(rt, threads, &|_| push_boxcar(rt, list, tries))?;
+    Ok(Trial {
+        took,
+        wins,
+        size: list.count() as u64,
+    })
 }
 
 /// Pushes on a `boxcar::Vec`.
@@ -53,10 +65,5 @@ pub fn run_boxcar<R: Threads + Wait + Clock + AllocGlobal + Sync>(
 ) -> Result<Trial> {
     let room = threads.saturating_mul(tries as usize);
     let list = boxcar::Vec::with_capacity(rt.alloc(), room)?;
-    let (took, wins) = time_threads(rt, threads, &|_| push_boxcar(rt, &list, tries))?;
-    Ok(Trial {
-        took,
-        wins,
-        size: list.count() as u64,
-    })
+    push_on_boxcar(rt, &list, threads, tries)
 }

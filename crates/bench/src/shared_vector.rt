@@ -11,13 +11,43 @@ use std::rt::Clock;
 use std::sync::Wait;
 use std::thread::Threads;
 
+#[inline(always)]
+fn push_once<R: Wait>(rt: &R, vector: &Shared<u64>, hand: &mut Hand<u64>, value: u64) -> bool
+    requires ours { IsHandOf vector.now hand.old }
+    ensures of { hand.new.of ≡ hand.old.of }
+{
+    vector.push_back(rt, hand, value).is_ok()
+}
+
+// The same as a call that the compiler does not lay into the loop.
+#[inline(never)]
+fn call_push<R: Wait>(rt: &R, vector: &Shared<u64>, hand: &mut Hand<u64>, value: u64) -> bool
+    requires ours { IsHandOf vector.now hand.old }
+    ensures of { hand.new.of ≡ hand.old.of }
+{
+    push_once(rt, vector, hand, value)
+}
+
+/// As `push`, with a call for each value.
+pub fn push_by_calls<R: Wait>(rt: &R, vector: &Shared<u64>, mut hand: Hand<u64>, tries: u64) -> u64
+    requires ours { IsHandOf vector.now hand }
+{
+    let mut won: u64 = 0;
+    for value in 0..tries {
+        if call_push(rt, vector, &mut hand, value) {
+            won = won.wrapping_add(1);
+        }
+    }
+    won
+}
+
 /// How many of the pushes appended a value.
 pub fn push<R: Wait>(rt: &R, vector: &Shared<u64>, mut hand: Hand<u64>, tries: u64) -> u64
     requires ours { IsHandOf vector.now hand }
 {
     let mut won: u64 = 0;
     for value in 0..tries {
-        if vector.push_back(rt, &mut hand, value).is_ok() {
+        if push_once(rt, vector, &mut hand, value) {
             won = won.wrapping_add(1);
         }
     }
@@ -46,6 +76,31 @@ pub fn hands_for(
     Ok(hands)
 }
 
+// Pushes by hands that are cut from this one.
+fn push_on<R: Threads + Wait + Clock + AllocGlobal + Sync>(
+    rt: &R,
+    vector: &Shared<u64>,
+    hand: &mut Hand<u64>,
+    threads: usize,
+    tries: u64,
+) -> Result<Trial>
+    requires ours { IsHandOf vector.now hand.old }
+{
+    let hands = hands_for(rt.alloc(), vector, hand, threads, 1)?;
+    let (took, wins) = time_hands(
+        rt,
+        hands,
+        &|hand: Hand<u64>| -> u64
+            requires { IsSync R.row × IsHandOf vector.now hand }
+        { push(rt, vector, hand, tries) },
+    )?;
+    Ok(Trial {
+        took,
+        wins,
+        size: vector.size(hand),
+    })
+}
+
 /// Pushes on one shared vector, which has room for all of them and is made before the time starts.
 pub fn run_pushes<R: Threads + Wait + Clock + AllocGlobal + Sync>(
     rt: &R,
@@ -54,17 +109,5 @@ pub fn run_pushes<R: Threads + Wait + Clock + AllocGlobal + Sync>(
 ) -> Result<Trial> {
     let limit = (threads as u64).saturating_mul(tries);
     let (vector, mut hand) = Shared::fresh(rt.alloc(), limit)?;
-    let hands = hands_for(rt.alloc(), &vector, &mut hand, threads, 1)?;
-    let (took, wins) = time_hands(
-        rt,
-        hands,
-        &|hand: Hand<u64>| -> u64
-            requires { IsSync R.row × IsHandOf vector hand }
-        { push(rt, &vector, hand, tries) },
-    )?;
-    Ok(Trial {
-        took,
-        wins,
-        size: vector.size(&mut hand),
-    })
+    push_on(rt, &vector, &mut hand, threads, tries)
 }

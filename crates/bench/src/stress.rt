@@ -78,24 +78,72 @@ fn join_outcomes(
     Ok(records)
 }
 
-// The vector of this number: all threads' calls, the comparison, and its end.
-fn stress_one<R: Threads + Wait + AllocGlobal + Sync>(rt: &R, number: u64) -> Result<Vec<Record>> {
-    let limit = 1 + Random::new(number, THREADS).below(MOST);
-    let (vector, mut hand) = Shared::fresh(rt.alloc(), limit)?;
-    let jobs = jobs_for(rt.alloc(), number, &vector, &mut hand)?;
+// All threads' calls by hands that are cut from this one, and what they were answered.
+fn records_of<R: Threads + Wait + AllocGlobal + Sync>(
+    rt: &R,
+    number: u64,
+    vector: &Shared<u64>,
+    hand: &mut Hand<u64>,
+) -> Result<Vec<Record>>
+    requires ours { IsHandOf vector.now hand.old }
+    ensures of { hand.new.of ≡ hand.old.of }
+{
+    let jobs = jobs_for(rt.alloc(), number, vector, hand)?;
     let outcomes = thread::map_vec(
         rt,
         jobs,
         &|job: Job| -> Result<Outcome>
-            requires { IsSync R.row × IsHandOf vector job.hand }
-            ensures { IfOk result (λ outcome. IsHandOf vector outcome.hand) }
-        { run_job(rt, &vector, job) },
+            requires { IsSync R.row × IsHandOf vector.now job.hand }
+            ensures { IfOk result (λ outcome. IsHandOf vector.entry.now outcome.hand) }
+        { run_job(rt, vector, job) },
     )?;
-    let records = join_outcomes(rt.alloc(), &vector, &mut hand, outcomes)?;
-    compare_all(rt, &vector, &mut hand, records.as_slice())?;
-    ensure!(hand.is_whole(), "shares were lost");
+    join_outcomes(rt.alloc(), vector, hand, outcomes)
+}
+
+// All threads' calls and the comparison.
+fn stress_on<R: Threads + Wait + AllocGlobal + Sync>(
+    rt: &R,
+    number: u64,
+    vector: &Shared<u64>,
+    hand: &mut Hand<u64>,
+    counts: &mut Counts,
+) -> Result<()>
+    requires ours { IsHandOf vector.now hand.old }
+    ensures of { hand.new.of ≡ hand.old.of }
+{
+    let records = records_of(rt, number, vector, hand)?;
+    counts.add(records.as_slice());
+    compare_all(rt, vector, hand, records.as_slice())
+}
+
+// Ends the vector by a hand, if that has all shares.
+fn end(vector: Shared<u64>, hand: Hand<u64>) -> bool
+    requires ours { IsHandOf vector hand }
+{
+    if !hand.is_whole() {
+        return false;
+    }
     vector.end(hand);
-    Ok(records)
+    true
+}
+
+// The limit of the vector of this number.
+fn limit_of(number: u64) -> u64 {
+    1 + Random::new(number, THREADS).below(MOST)
+}
+
+// The vector of this number: all threads' calls, the comparison, and its end.
+fn stress_one<R: Threads + Wait + AllocGlobal + Sync>(
+    rt: &R,
+    number: u64,
+    counts: &mut Counts,
+) -> Result<()> {
+    let (vector, mut hand) = Shared::fresh(rt.alloc(), limit_of(number))?;
+    let compared = stress_on(rt, number, &vector, &mut hand, counts);
+    let is_ended = end(vector, hand);
+    compared?;
+    ensure!(is_ended, "shares were lost");
+    Ok(())
 }
 
 /// One vector after another, for as long as it is said.
@@ -109,7 +157,7 @@ pub fn print_stress<R: Threads + Wait + Clock + Print + AllocGlobal + Sync>(
         if start.elapsed(rt)? >= Duration::from_secs(seconds) {
             break;
         }
-        counts.add(stress_one(rt, number)?.as_slice());
+        stress_one(rt, number, &mut counts)?;
     }
     println!(rt; "{counts}")?;
     Ok(())

@@ -39,6 +39,16 @@ pub record SpoiltView : Type 0 where
   pub place : ℕ
   pub name : ℕ
 
+-- the token of a cell that another call began: its place, and the names of the cell
+pub record BegunView : Type 0 where
+  pub place : ℕ
+  pub cell : Names
+
+-- how it is stored
+abbrev pub begun_coded : Coded BegunView
+begun_coded = coded_via (coded× coded_ℕ names_coded) (λ (b : BegunView). (b.place, b.cell))
+    (λ x y e i. record { place = (e i).0; cell = (e i).1 })
+
 -- how many cells the block has
 abbrev pub block_len : BlockView → ℕ
 block_len block = length block.cells
@@ -62,6 +72,11 @@ pub record IsSpoiltIn (block : BlockView) (spoilt : SpoiltView) : Type 0 where
   pub within : spoilt.place < block_len block
   pub named : spoilt.name ≡ (cell_at block spoilt.place).breach
 
+-- the same for a cell that another call began
+pub record IsBegunIn (block : BlockView) (begun : BegunView) : Type 0 where
+  pub within : begun.place < block_len block
+  pub named : begun.cell ≡ cell_at block begun.place
+
 -- the token is of the cell at the place
 pub record IsPlacedAt {T : Type 0} (block : BlockView) (place : ℕ) (placed : PlacedView T) : Type 0 where
   pub of : IsPlacedIn block placed
@@ -71,6 +86,11 @@ pub record IsPlacedAt {T : Type 0} (block : BlockView) (place : ℕ) (placed : P
 pub record IsSpoiltAt (block : BlockView) (place : ℕ) (spoilt : SpoiltView) : Type 0 where
   pub of : IsSpoiltIn block spoilt
   pub at : spoilt.place ≡ place
+
+-- the same for a cell that another call began
+pub record IsBegunAt (block : BlockView) (place : ℕ) (begun : BegunView) : Type 0 where
+  pub of : IsBegunIn block begun
+  pub at : begun.place ≡ place
 
 -- the cell at the place is another one: no token of the old cell is of it
 abbrev pub RenewsCell : BlockView → BlockView → ℕ → Type 0

@@ -4,11 +4,11 @@ use Rattle.cell_core.specs.declared.block.shown.Found.{Found}
 use Rattle.cell_core.specs.declared.block.shown.Found.TheVariants as found
 use Rattle.cell_core.specs.declared.block.shown.Look.{Look}
 use Rattle.cell_core.specs.declared.block.shown.Look.TheVariants as look
-use Rattle.cell_core.specs.Block.{BlockView, IsPlacedAt, IsSpoiltAt}
+use Rattle.cell_core.specs.Block.{BlockView, IsPlacedAt, IsSpoiltAt, IsBegunAt}
 
 -- what stood in the cell at the place, where it was not empty
 abbrev pub IsFoundIn : {T : Type 0} → BlockView → ℕ → Found T → Type 0
-IsFoundIn block place found.Busy = Unit {0}
+IsFoundIn block place (found.Busy begun) = IsBegunAt block place begun
 IsFoundIn block place (found.Filled placed) = IsPlacedAt block place placed
 IsFoundIn block place (found.Broken spoilt) = IsSpoiltAt block place spoilt
 

@@ -3,6 +3,7 @@ ghost use Rattle.std.specs.Prelude.{◌≡◌, ◌≢◌, ◌<◌, IfOk, IfErr};
 ghost use Rattle.cell_core.specs.Block.{block_len, cell_at, IsPenAt, IsPlacedIn, IsSpoiltIn, KeepsOtherCells, RenewsCell};
 ghost use Rattle.cell_core.specs.Shown.{IsFoundIn, IsLookAt};
 
+mod begun;
 mod pen;
 mod placed;
 mod shown;
@@ -10,6 +11,7 @@ mod spoilt;
 mod steps;
 
 use crate::slot::steps::Slot;
+pub use begun::Begun;
 pub use pen::Pen;
 pub use placed::Placed;
 pub use shown::{Found, Look};
@@ -89,8 +91,8 @@ impl<T, A: Allocator> Block<T, A> {
                 Err(Found::Broken(Spoilt { place, crack }))
             }
             (_, claim) => {
-                claim.done();
-                Err(Found::Busy)
+                let begun = claim.begun();
+                Err(Found::Busy(Begun { place, begun }))
             }
         }
     }

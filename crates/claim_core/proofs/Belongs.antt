@@ -10,6 +10,7 @@ use Rattle.claim_core.specs.Lengths.{times}
 use Rattle.claim_core.specs.Word.{WordView}
 use Rattle.claim_core.specs.Hand.{HandView, seen_size, own_places}
 use Rattle.claim_core.specs.Seat.{ClaimSeat, word_view, IsOpened, hand_view, IsHeld}
+use Rattle.claim_core.specs.Rule.{size_at}
 use Rattle.claim_core.specs.SeatView.{IsConsistent}
 use Rattle.claim_core.proofs.Places.{places_in-le}
 use Rattle.claim_core.proofs.Counts.{times-from_Contains, times-append, IsDistinct-from_times}
@@ -17,11 +18,15 @@ use Rattle.claim_core.proofs.Counts.{times-from_Contains, times-append, IsDistin
 -- the seat is one of the word's table, and its view has the table's terms
 pub record Belongs (seat : ClaimSeat) (table : TableId) (key : Terms) (word : WordView) : Type 0 where
   pub same : seat.table_id ≡ table
-  pub words : 0 < table.words
+  pub words : size_at < table.words
   pub limit : seat.me.0.limit ≡ key.limit
   pub base : seat.me.0.base ≡ key.base
   pub part : 0 < seat.me.0.shares
   pub room : word.limit ≡ key.limit
+
+-- the table has a word
+pub some_words : {n : ℕ} → size_at < n → 0 < n
+some_words here = omega (arith, here)
 
 pub belongs : {seat : ClaimSeat} {share size : ℕ} {table : TableId} {key terms : Terms} {word : WordView} {hand : HandView}
     → IsHeld seat share size → IsOpened table key terms → hand_view seat ≡ hand → word_view table terms ≡ word → hand.of ≡ word → Belongs seat table key word

@@ -1,5 +1,5 @@
 -- A whole hand has seen all that was claimed, and owns it.
-use Rattle.std.proofs.Common.{◌≡◌, ℕ, ◌+◌, ◌<◌, List, [], ◌∷◌, ◌++◌, length, get_or, refl, ap, sym, ◌∙◌, subst, arith, length-append}
+use Rattle.std.proofs.Common.{◌≡◌, ℕ, zero, suc, ◌+◌, ◌<◌, List, [], ◌∷◌, ◌++◌, length, get_or, refl, ap, sym, ◌∙◌, subst, arith, length-append}
 use Rattle.std.specs.List.{Contains}
 use mathlib.Core.Option.{some, some-injective, some-ne-none}
 use lib.ListN.{get_elem?}
@@ -11,7 +11,7 @@ use Rattle.claim_core.specs.Lengths.{runs_end, times, once_below}
 use Rattle.claim_core.specs.Word.{WordView}
 use Rattle.claim_core.specs.Hand.{HandView, IsWholeHand, seen_size, own_places}
 use Rattle.claim_core.specs.Seat.{ClaimSeat, hand_view, IsHeld}
-use Rattle.claim_core.specs.Rule.{Kept}
+use Rattle.claim_core.specs.Rule.{Kept, size_at}
 use Rattle.claim_core.specs.SeatView.{IsConsistent, Looks, Claims}
 use Rattle.claim_core.proofs.Prefixes.{prefix_whole}
 use Rattle.claim_core.proofs.Counts.{Contains-from_times, once_more}
@@ -72,18 +72,19 @@ owns_places {seat} {share} {size} {hand} held hand_is =
     subst (λ (h : HandView). IsWholeHand h → seen_size h ≡ h.of.base + own_places h) hand_is
     (λ all. let p = places_in-all seat.me.0.seen seat.me.0.mine (held.consistent.whole all) in omega arith)
 
-first_of_list : (xs : List ℕ) (x : ℕ) → get_elem? xs 0 ≡ some x → get_or xs 0 0 ≡ x
-first_of_list [] x at = absurd (some-ne-none x (sym at))
-first_of_list (y ∷ ys) x at = some-injective y x at
+get_or_is : (xs : List ℕ) (i x : ℕ) → get_elem? xs i ≡ some x → get_or xs i 0 ≡ x
+get_or_is [] i x at = absurd (some-ne-none x (sym at))
+get_or_is (y ∷ ys) zero x at = some-injective y x at
+get_or_is (y ∷ ys) (suc i) x at = get_or_is ys i x at
 
 -- the last size is the one that a whole hand has seen
 pub closes : {seat : ClaimSeat} {table : TableId} {key : Terms} {word : WordView} {hand : HandView} (words : List ℕ) (slots : List (Unit {0})) (last : ℕ)
-    → Belongs seat table key word → hand_view seat ≡ hand → Final (Seen (Kept key) seat.id seat.me.0) words slots → get_elem? words 0 ≡ some last
+    → Belongs seat table key word → hand_view seat ≡ hand → Final (Seen (Kept key) seat.id seat.me.0) words slots → get_elem? words size_at ≡ some last
     → hand.shares ≡ 65536 → last ≡ seen_size hand
 closes {seat} {table} {key} {word} {hand} words slots last belong hand_is final at all =
     let s = final.0 in
     let kept = final.1.0 in
     let v = seat.me.0 in
-    let found : get_or s.words 0 0 ≡ last = ap (λ (ws : List ℕ). get_or ws 0 0) final.2 ∙ first_of_list words last at in
-    let saw : v.seen ≡ kept.lengths = whole_saw key.limit key.base (get_or s.words 0 0) kept.lengths s.views kept.fits seat.id v final.1.1 (ap (λ (h : HandView). h.shares) hand_is ∙ all) in
+    let found : get_or s.words size_at 0 ≡ last = ap (λ (ws : List ℕ). get_or ws size_at 0) final.2 ∙ get_or_is words size_at last at in
+    let saw : v.seen ≡ kept.lengths = whole_saw key.limit key.base (get_or s.words size_at 0) kept.lengths s.views kept.fits seat.id v final.1.1 (ap (λ (h : HandView). h.shares) hand_is ∙ all) in
     sym found ∙ (kept.fits.ends ∙ (ap (λ b. runs_end b kept.lengths) (sym belong.base) ∙ (ap (runs_end v.base) (sym saw) ∙ ap seen_size hand_is)))

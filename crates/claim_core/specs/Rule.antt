@@ -31,8 +31,15 @@ pub record Fits (limit base size : ℕ) (lengths : List ℕ) (views : List SeatV
   pub owned : (k : ℕ) → total (λ v. times k v.mine) views ≡ once_below k (length lengths)
   pub shares : total (λ v. v.shares) views ≡ 65536
 
--- there is a list of lengths that fits the word and all seats
+-- the size is the middle one of 33 words, so that nothing else lies near it
+abbrev pub word_count : ℕ
+word_count = 33
+
+abbrev pub size_at : ℕ
+size_at = 16
+
+-- there is a list of lengths that fits the size and all seats
 pub record Kept (terms : Terms) (s : State (Unit {0}) SeatView) : Type 0 where
-  pub one_word : length s.words ≡ 1
+  pub words : length s.words ≡ word_count
   pub lengths : List ℕ
-  pub fits : Fits terms.limit terms.base (slice_index s.words 0) lengths s.views
+  pub fits : Fits terms.limit terms.base (slice_index s.words size_at) lengths s.views

@@ -5,6 +5,7 @@ use Rattle.atomic_table.specs.declared.shared.Seat.{Seat}
 use Rattle.claim_core.specs.declared.seat_view.SeatView.{SeatView}
 use Rattle.claim_core.specs.declared.terms.Terms.{Terms}
 use Rattle.claim_core.specs.Lengths.{runs_end}
+use Rattle.claim_core.specs.Rule.{word_count, size_at}
 use Rattle.claim_core.specs.Word.{WordView, AreBounds}
 use Rattle.claim_core.specs.Hand.{HandView}
 use Rattle.claim_core.specs.SeatView.{IsConsistent, Looks, joined_view, with_own}
@@ -17,9 +18,9 @@ ClaimSeat = Seat (Unit {0}) SeatView
 abbrev pub word_view : TableId → Terms → WordView
 word_view table terms = record { table = table; limit = terms.limit; base = terms.base; mark = terms.mark.numbers }
 
--- the table has one word and no slot, and its rule has these terms
+-- the table has its words and no slot, and its rule has these terms
 pub record IsOpened (table : TableId) (key terms : Terms) : Type 0 where
-  pub words : table.words ≡ 1
+  pub words : table.words ≡ word_count
   pub slots : table.slots ≡ 0
   pub key_is : key ≡ terms
   pub limit : AreBounds terms.limit terms.base
@@ -44,7 +45,7 @@ pub record IsHeld (seat : ClaimSeat) (share size : ℕ) : Type 0 where
 
 -- two seats of one table, with its terms, which both have shares
 pub record IsPair (table : TableId) (key : Terms) (seat other : ClaimSeat) : Type 0 where
-  pub words : 0 < table.words
+  pub words : size_at < table.words
   pub same : seat.table_id ≡ table
   pub other_same : other.table_id ≡ table
   pub no_slot : other.me.1 ≡ []

@@ -5,7 +5,7 @@ ghost use Rattle.claim_core.specs.Hand.{IsHandOf, IsWholeHand, AddsRun, SeesSize
 use crate::hand::Hand;
 use crate::rule::{Exchange, Raise};
 use crate::run::{Enough, Moved, Run};
-use crate::word::Word;
+use crate::word::{SIZE_AT, Word};
 use std::alloc::Allocator;
 
 impl<A: Allocator> Word<A> {
@@ -26,7 +26,7 @@ impl<A: Allocator> Word<A> {
         ensures whole { IsWholeHand hand.old → from ≡ seen_size hand.old → IsOk result }
     {
         let shared = &self.table.shared;
-        let found = shared.compare_exchange::<Exchange>(&mut hand.seat, 0, from, from + n);
+        let found = shared.compare_exchange::<Exchange>(&mut hand.seat, SIZE_AT, from, from + n);
         if found == from {
             hand.seen = from + n;
             Ok(Run { from, n })
@@ -53,7 +53,7 @@ impl<A: Allocator> Word<A> {
             → IfErr result (λ enough. enough.size ≡ seen_size hand.old) }
     {
         let shared = &self.table.shared;
-        let found = shared.fetch_max::<Raise>(&mut hand.seat, 0, to);
+        let found = shared.fetch_max::<Raise>(&mut hand.seat, SIZE_AT, to);
         if found < to {
             hand.seen = to;
             Ok(Run {

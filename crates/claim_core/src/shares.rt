@@ -6,7 +6,7 @@ ghost use Rattle.claim_core.specs.Seat.{IsPair, SeesAsOne};
 
 use crate::hand::Hand;
 use crate::rule::{Blank, Both, ClaimSeat, ClaimTable, Cut, Load, Parts, Settle};
-use crate::word::Word;
+use crate::word::{SIZE_AT, Word};
 use std::alloc::Allocator;
 use std::marker::Brand;
 use std::mem;
@@ -62,7 +62,7 @@ impl<A: Allocator> Word<A> {
         let Hand { seat, shares, seen } = other;
         let shared = &self.table.shared;
         shared.join_seat::<Both>(&mut hand.seat, seat);
-        shared.load::<Settle>(&mut hand.seat, 0);
+        shared.load::<Settle>(&mut hand.seat, SIZE_AT);
         hand.shares += shares;
         hand.seen = hand.seen.max(seen);
     }
@@ -99,6 +99,6 @@ fn show<P: Parts>(shared: &ClaimTable, seat: &mut ClaimSeat, other: ClaimSeat) -
     ensures { SeesAsOne seat.old other result.0 seat.new result.1 }
 {
     shared.join_seat::<Both>(seat, other);
-    let size = shared.load::<Load>(seat, 0);
+    let size = shared.load::<Load>(seat, SIZE_AT);
     (size, shared.split_seat::<Cut<P>>(seat))
 }

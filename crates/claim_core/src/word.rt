@@ -1,5 +1,6 @@
 //! The word: how it is opened, looked at and closed.
-ghost use Rattle.std.specs.Prelude.{◌≡◌, ◌≤◌, ◌↔◌, IfOk, Err};
+ghost use Rattle.std.specs.Prelude.{◌≡◌, ◌≤◌, ◌↔◌, IfOk, Err, length, slice_index};
+ghost use Rattle.claim_core.specs.Rule.{word_count, size_at};
 ghost use Rattle.claim_core.specs.Word.{AreBounds};
 ghost use Rattle.claim_core.specs.Hand.{IsHandOf, IsWholeHand, IsNewHand, SeesSize, seen_size};
 
@@ -16,6 +17,22 @@ use std::marker::Model;
 
 // The greatest limit.
 const GREATEST_LIMIT: u64 = 1 << 32;
+
+// The size is the middle one of so many words: 128 bytes on either side keep what changes with it off its cache line.
+const WORDS: usize = 33;
+
+// Which of them it is.
+pub(crate) const SIZE_AT: usize = 16;
+
+// The words of a new table. Nobody uses those around the size.
+fn words_around(size: u64) -> [u64; WORDS]
+    ensures count { length result ≡ word_count }
+    ensures size { slice_index result size_at ≡ size }
+{
+    let mut words = [0; WORDS];
+    words[SIZE_AT] = size;
+    words
+}
 
 /// Why a word was not opened.
 #[derive(Clone, Copy, Debug, PartialEq, Eq)]
@@ -76,7 +93,8 @@ impl<A: Allocator> fmt::Debug for Word<A> {
 }
 
 impl<A: Allocator> Word<A> {
-    /// A new word, and the hand that has all shares. It takes two allocations.
+    /// A new word, and the hand that has all shares. It takes two allocations; the word has 264 bytes, so that nothing
+    /// else lies on its cache line.
     pub fn open(alloc: A, limit: u64, base: u64) -> Result<(Word<A>, Hand), OpenError>
         ensures word { IfOk result (λ (word, _). (word.limit ≡ limit) × (word.base ≡ base)) }
         ensures hand { IfOk result (λ (word, hand). IsNewHand word hand) }
@@ -102,7 +120,7 @@ impl<A: Allocator> Word<A> {
             return Err(OpenError::BadLimit);
         }
         let terms = Terms { limit, base, mark };
-        let (table, seat) = Table::of_words(alloc, &[base], &terms).map_err(
+        let (table, seat) = Table::of_words(alloc, &words_around(base), &terms).map_err(
             |_| OpenError::NoMemory,
         )?;
         let hand = Hand {
@@ -143,7 +161,7 @@ impl<A: Allocator> Word<A> {
         ensures whole { IsWholeHand hand.old → result ≡ seen_size hand.old }
     {
         let shared = &self.table.shared;
-        let found = shared.load::<Load>(&mut hand.seat, 0);
+        let found = shared.load::<Load>(&mut hand.seat, SIZE_AT);
         hand.seen = found;
         found
     }
@@ -157,7 +175,7 @@ impl<A: Allocator> Word<A> {
         let Word { table, terms: _ } = self;
         let Hand { seat, .. } = hand;
         let closed = table.close_with(seat);
-        let size = closed.word(0);
+        let size = closed.word(SIZE_AT);
         closed.free();
         size
     }

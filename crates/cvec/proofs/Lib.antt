@@ -1,6 +1,1 @@
-mod Errors
-mod LongInput
 mod Prefixes
-mod RaceHistory
-mod RaceTeams
-mod RaceRefusals

@@ -4,12 +4,8 @@ use Rattle.std.proofs.Math.Seq.{take-length}
 use Rattle.std.specs.Io.KnownBytes.{Appends}
 use Rattle.script_core.specs.Text.{AppendsPrefix}
 
--- the whole is a prefix
-pub whole_prefix : (a b : Option (List ℕ)) (text : List ℕ) → Appends a b text → AppendsPrefix a b text
-whole_prefix a b text h = (length text, subst (Appends a b) (sym (take-length text)) h)
-
--- whatever a write returns, a prefix was written
+-- whatever a write returns, a prefix was written: the whole is one, too
 pub some_prefix : {T E : Type 0} (r : Result T E) (a b : Option (List ℕ)) (text : List ℕ)
     → OnOk r (Appends a b text) → OnErr r (AppendsPrefix a b text) → AppendsPrefix a b text
-some_prefix (Ok x) a b text all part = whole_prefix a b text all
+some_prefix (Ok x) a b text all part = (length text, subst (Appends a b) (sym (take-length text)) all)
 some_prefix (Err e) a b text all part = part

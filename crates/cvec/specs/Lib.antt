@@ -1,6 +1,3 @@
-pub mod Output
 pub mod Program
-pub mod Reading
-pub mod Race
+pub mod ProgramError
 pub mod Request
-pub mod RunError

@@ -5,19 +5,13 @@ ghost use Rattle.std.specs.declared.io.ErrorKind.TheVariants as io_kinds;
 ghost use Rattle.clap.specs.Values.{kind_of};
 ghost use Rattle.cvec.specs.Request.{IsShown, IsRefused};
 
-use crate::engine::Engine;
 use clap::error::ErrorKind;
 use clap::{Arg, ArgAction, ArgMatches, Command, Error};
+use engine_core::Engine;
+use race_core::{MOST_EACH, MOST_WORKERS};
 use std::alloc::{AllocError, Global};
 use std::env::{self, Env};
 use std::io;
-
-/// What a command names.
-#[derive(Clone, Copy, Debug, PartialEq, Eq)]
-pub(crate) enum Task {
-    Play(Engine),
-    Race { workers: u32, each: u32 },
-}
 
 /// What a command line asks for.
 #[derive(Debug, Drop)]
@@ -75,14 +69,14 @@ fn cvec<'a>(alloc: Global) -> Result<Command<'a>, AllocError> {
         .help("How many threads append, from 1 to 64")
         .required(true)
         .action(ArgAction::Set)
-        .value_parser(clap::value_parser!(u32).range(1..=64));
+        .value_parser(clap::value_parser!(u32).range(1..=i64::from(MOST_WORKERS)));
     let each = Arg::new(alloc, "each")
         .long("each")
         .value_name("E")
         .help("How many values each appends, from 1 to 100000")
         .required(true)
         .action(ArgAction::Set)
-        .value_parser(clap::value_parser!(u32).range(1..=100_000));
+        .value_parser(clap::value_parser!(u32).range(1..=i64::from(MOST_EACH)));
     let race = Command::new(alloc, "race")
         .about(RACE)
         .arg(workers)?
@@ -114,12 +108,12 @@ fn mistake(alloc: Global, kind: ErrorKind, message: &str) -> Error
 }
 
 // The numbers of a race.
-fn race_of(alloc: Global, matches: &ArgMatches<'_>) -> Result<Task, Error> {
+fn race_of(alloc: Global, matches: &ArgMatches<'_>) -> Result<Request, Error> {
     match (
         matches.get_one::<u32>("workers"),
         matches.get_one::<u32>("each"),
     ) {
-        (Some(workers), Some(each)) => Ok(Task::Race { workers, each }),
+        (Some(workers), Some(each)) => Ok(Request::Race { workers, each }),
         _ => Err(mistake(
             alloc,
             ErrorKind::MissingRequiredArgument,
@@ -128,25 +122,25 @@ fn race_of(alloc: Global, matches: &ArgMatches<'_>) -> Result<Task, Error> {
     }
 }
 
-/// What the words name. Help and the version are errors, too.
-pub(crate) fn task_of(alloc: Global, words: &[String]) -> Result<Task, Error> {
+// What the words name. Help and the version are errors, too.
+pub(crate) fn named(alloc: Global, words: &[String]) -> Result<Request, Error> {
     let matches = cvec(alloc)?.try_get_matches_from(words)?;
     match matches.subcommand() {
-        Some(("calls", _)) => Ok(Task::Play(Engine::Calls)),
-        Some(("steps", _)) => Ok(Task::Play(Engine::Steps)),
+        Some(("calls", _)) => Ok(Request::Play(Engine::Calls)),
+        Some(("steps", _)) => Ok(Request::Play(Engine::Steps)),
         Some(("race", matches)) => race_of(alloc, matches),
         _ => Err(mistake(alloc, ErrorKind::MissingSubcommand, "a command is required")),
     }
 }
 
-/// Whether the parser was out of memory.
+// Whether the parser was out of memory.
 pub(crate) fn is_memory(error: &Error) -> bool
     ensures { IsTrue result ↔ (kind_of error.now ≡ ErrorKind.OutOfMemory) }
 {
     matches!(error.kind(), ErrorKind::OutOfMemory)
 }
 
-/// What becomes of a command line at which the parser stopped.
+// What becomes of a command line at which the parser stopped.
 pub(crate) fn stopped(alloc: Global, error: &Error) -> Request
     ensures memory { kind_of error.now ≡ ErrorKind.OutOfMemory → result ≡ Request.NoMemory }
     ensures shown { (kind_of error.now ≡ ErrorKind.DisplayHelp)
@@ -164,16 +158,15 @@ pub(crate) fn stopped(alloc: Global, error: &Error) -> Request
     }
 }
 
-/// What the words ask for.
+// What the words ask for.
 pub(crate) fn asked(alloc: Global, words: &[String]) -> Request {
-    match task_of(alloc, words) {
-        Ok(Task::Play(engine)) => Request::Play(engine),
-        Ok(Task::Race { workers, each }) => Request::Race { workers, each },
+    match named(alloc, words) {
+        Ok(request) => request,
         Err(error) => stopped(alloc, &error),
     }
 }
 
-/// What becomes of a command line that the system did not give, as it does where a word is not UTF-8.
+// What becomes of a command line that the system did not give, as it does where a word is not UTF-8.
 pub(crate) fn not_given(alloc: Global, error: &io::Error) -> Request
     ensures memory { error_kind error.now ≡ io_kinds.OutOfMemory → result ≡ Request.NoMemory }
     ensures refused { IsRefused result }

@@ -1,100 +1,68 @@
-//! Why a run ends without its whole text.
+//! Why the program has not done what it was asked for.
 ghost use Rattle.std.specs.Prelude.{◌≡◌};
-ghost use Rattle.cvec.specs.RunError.{status_of, race_ends};
+ghost use Rattle.cvec.specs.ProgramError.{status_of};
 
-use crate::input::InputError;
-use crate::race::RaceError;
-use script_core::{ScriptError, WriteFault};
-use std::alloc::AllocError;
+use engine_core::RunError;
+use race_core::RaceError;
 use std::error::Error;
 use std::fmt;
 
-/// Why a run ended without its whole text. `NoMemory` and `Read` may come for any input.
+/// Why the program has not done what it was asked for.
 #[derive(Clone, Copy, Debug, PartialEq, Eq)]
-pub enum RunError {
-    /// The input is not a script. The fault is never `NoMemory`.
-    Script(ScriptError),
-    NoMemory,
-    /// The reader failed, or was interrupted too often.
-    Read,
-    /// The writer failed, took no byte, or was interrupted too often.
-    Write,
-    /// A race was refused. The refusal is never `NoMemory`.
+pub enum ProgramError {
+    /// A script was not run, or a text was not written.
+    Run(RunError),
+    /// A race was refused.
     Race(RaceError),
 }
 
-impl RunError {
+impl ProgramError {
     /// The program's exit status.
     pub fn status(&self) -> u8
         ensures { result ≡ status_of self.now }
     {
         match self {
-            RunError::Script(_) => 2,
-            RunError::NoMemory => 3,
-            RunError::Read | RunError::Write => 4,
-            RunError::Race(_) => 6,
+            ProgramError::Run(RunError::Script(_)) => 2,
+            ProgramError::Run(RunError::NoMemory) | ProgramError::Race(RaceError::NoMemory) => 3,
+            ProgramError::Run(RunError::Read | RunError::Write) => 4,
+            ProgramError::Race(_) => 6,
         }
     }
 }
 
-impl fmt::Display for RunError {
+impl fmt::Display for ProgramError {
     ghost use Rattle.std.specs.Prelude.{Some};
-    ghost use Rattle.cvec.specs.RunError.{error_text};
+    ghost use Rattle.cvec.specs.ProgramError.{program_error_text};
 
-    ghost output = { λ e. Some (error_text e) };
+    ghost output = { λ e. Some (program_error_text e) };
 
     fn fmt<W: fmt::Write>(&self, f: &mut fmt::Formatter<W>) -> fmt::Result {
         match self {
-            RunError::Script(fault) => write!(f, "{fault}"),
-            RunError::NoMemory => write!(f, "memory"),
-            RunError::Read => write!(f, "read fault"),
-            RunError::Write => write!(f, "write fault"),
-            RunError::Race(error) => write!(f, "race: fault {}", error.number()),
+            ProgramError::Run(error) => write!(f, "{error}"),
+            ProgramError::Race(RaceError::NoMemory) => write!(f, "memory"),
+            ProgramError::Race(error) => write!(f, "race: fault {}", error.number()),
         }
     }
 }
 
-impl Error for RunError {}
+impl Error for ProgramError {}
 
-impl From<AllocError> for RunError {
-    ghost use Rattle.cvec.specs.declared.error.RunError.TheVariants.{NoMemory};
+impl From<RunError> for ProgramError {
+    ghost use Rattle.cvec.specs.declared.error.ProgramError.TheVariants.{Run};
 
-    ghost from_gives = { λ _ e. e ≡ NoMemory };
+    ghost from_gives = { λ run e. e ≡ Run run };
 
-    fn from(_: AllocError) -> Self {
-        RunError::NoMemory
+    fn from(error: RunError) -> Self {
+        ProgramError::Run(error)
     }
 }
 
-impl From<InputError> for RunError {
-    ghost use Rattle.cvec.specs.Reading.{unread};
+impl From<RaceError> for ProgramError {
+    ghost use Rattle.cvec.specs.declared.error.ProgramError.TheVariants.{Race};
 
-    ghost from_gives = { λ input e. e ≡ unread input };
+    ghost from_gives = { λ race e. e ≡ Race race };
 
-    fn from(error: InputError) -> Self {
-        match error {
-            InputError::NoMemory => RunError::NoMemory,
-            InputError::Read => RunError::Read,
-        }
-    }
-}
-
-impl From<WriteFault> for RunError {
-    ghost use Rattle.cvec.specs.declared.error.RunError.TheVariants.{Write};
-
-    ghost from_gives = { λ _ e. e ≡ Write };
-
-    fn from(_: WriteFault) -> Self {
-        RunError::Write
-    }
-}
-
-/// How a run ends whose race was refused.
-pub(crate) fn unraced(error: RaceError) -> RunError
-    ensures { result ≡ race_ends error }
-{
-    match error {
-        RaceError::NoMemory => RunError::NoMemory,
-        refusal => RunError::Race(refusal),
+    fn from(error: RaceError) -> Self {
+        ProgramError::Race(error)
     }
 }

@@ -3,18 +3,17 @@ ghost use Rattle.std.specs.Prelude.{◌≡◌, ◌≢◌, ◌*◌, Result, Err, 
 ghost use Rattle.std.specs.Global.{Global};
 ghost use Rattle.std.specs.Io.KnownBytes.{Appends, Keeps};
 ghost use Rattle.script_core.specs.Text.{AppendsPrefix};
-ghost use Rattle.cvec.specs.Program.{EndsAs, Plays, Races, Shows};
-ghost use Rattle.cvec.specs.Race.{race_text, IsBadSize};
+ghost use Rattle.engine_core.specs.Output.{Plays};
+ghost use Rattle.race_core.specs.Race.{race_text, IsBadSize};
+ghost use Rattle.cvec.specs.Program.{EndsAs, Races, Shows};
+ghost use Rattle.cvec.specs.ProgramError.{by_run, error_line, IsRaceEnd};
 ghost use Rattle.cvec.specs.Request.{IsRace};
-ghost use Rattle.cvec.specs.RunError.{error_line, IsRaceEnd};
 
 use crate::command_line::Request;
-use crate::engine::{Engine, run_calls, run_steps};
-use crate::error::{RunError, unraced};
-use crate::output::write_output;
-use crate::race::{RaceError, race};
+use crate::error::ProgramError;
+use engine_core::{Engine, RunError, run_calls, run_steps, write_output};
+use race_core::{Free, RaceError, race};
 use script_core::{Line, WriteFault, write_bytes};
-use span_core::Free;
 use std::alloc::Global;
 use std::io::{Read, Write};
 use std::sync::Wait;
@@ -24,7 +23,7 @@ use std::thread::Threads;
 const REFUSED: u8 = 5;
 
 // The line is made before it is written, so that one write can take it.
-fn tell<E: Write>(errors: &mut E, error: RunError) -> Result<(), WriteFault>
+fn tell<E: Write>(errors: &mut E, error: ProgramError) -> Result<(), WriteFault>
     ensures ok { OnOk result
         (Appends (E.contents errors.old) (E.contents errors.new) (error_line error)) }
     ensures fault { OnErr result
@@ -36,7 +35,7 @@ fn tell<E: Write>(errors: &mut E, error: RunError) -> Result<(), WriteFault>
 }
 
 // Standard error may be closed or full. Then the status alone tells.
-pub(crate) fn told<E: Write>(errors: &mut E, ended: Result<(), RunError>) -> u8
+pub(crate) fn told<E: Write>(errors: &mut E, ended: Result<(), ProgramError>) -> u8
     ensures { EndsAs ended result (E.contents errors.old) (E.contents errors.new) }
 {
     match ended {
@@ -48,25 +47,32 @@ pub(crate) fn told<E: Write>(errors: &mut E, ended: Result<(), RunError>) -> u8
     }
 }
 
+// The same of a run, or of a text that is shown.
+fn run_told<E: Write>(errors: &mut E, ended: Result<(), RunError>) -> u8
+    ensures { EndsAs (by_run ended) result (E.contents errors.old) (E.contents errors.new) }
+{
+    match ended {
+        Ok(()) => told(errors, Ok(())),
+        Err(error) => told(errors, Err(ProgramError::Run(error))),
+    }
+}
+
 // The text of a race that goes through the free gate.
 fn raced<X: Threads + Wait + Sync>(
     rt: &X,
     alloc: Global,
     workers: u32,
     each: u32,
-) -> Result<String, RunError>
+) -> Result<String, ProgramError>
     ensures text { IfOk result (λ text. string_bytes text ≡ race_text (workers * each)) }
-    ensures no_write { result ≢ Err RunError.Write }
+    ensures no_write { result ≢ Err (ProgramError.Run RunError.Write) }
     ensures refused { IfErr result (IsRaceEnd workers each) }
-    ensures bad_size { IsBadSize workers each → result ≡ Err (RunError.Race RaceError.BadSize) }
+    ensures bad_size { IsBadSize workers each → result ≡ Err (ProgramError.Race RaceError.BadSize) }
 {
-    let report = match race(rt, alloc, workers, each, &Free) {
-        Ok(report) => report,
-        Err(error) => return Err(unraced(error)),
-    };
+    let report = race(rt, alloc, workers, each, &Free)?;
     match report.to_string(alloc) {
         Ok(text) => Ok(text),
-        Err(_) => Err(RunError::NoMemory),
+        Err(_) => Err(ProgramError::Run(RunError::NoMemory)),
     }
 }
 
@@ -77,14 +83,12 @@ fn hold_race<X: Threads + Wait + Sync, W: Write>(
     workers: u32,
     each: u32,
     writer: &mut W,
-) -> Result<(), RunError>
+) -> Result<(), ProgramError>
     ensures { Races workers each result (W.contents writer.old) (W.contents writer.new) }
 {
-    let text = match raced(rt, alloc, workers, each) {
-        Ok(text) => text,
-        Err(error) => return Err(error),
-    };
-    show(writer, text.as_str())
+    let text = raced(rt, alloc, workers, each)?;
+    show(writer, text.as_str())?;
+    Ok(())
 }
 
 // Help may fail to be written, as any text may.
@@ -118,25 +122,25 @@ pub fn serve<R: Read, W: Write, E: Write>(
         → (ended : Result (Unit {0}) RunError)
         × Plays engine ended (R.remaining reader.old)
         (W.contents writer.old) (W.contents writer.new)
-        × EndsAs ended result (E.contents errors.old) (E.contents errors.new) }
+        × EndsAs (by_run ended) result (E.contents errors.old) (E.contents errors.new) }
     ensures shows { (text : String Global) → request.now ≡ Request.Show text
         → (ended : Result (Unit {0}) RunError)
         × Shows (string_bytes text) ended (W.contents writer.old) (W.contents writer.new)
-        × EndsAs ended result (E.contents errors.old) (E.contents errors.new) }
+        × EndsAs (by_run ended) result (E.contents errors.old) (E.contents errors.new) }
     ensures refuses { (text : String Global) → request.now ≡ Request.Refuse text → (result ≡ 5)
         × Keeps (W.contents writer.old) (W.contents writer.new)
         × AppendsPrefix (E.contents errors.old) (E.contents errors.new) (string_bytes text) }
     ensures memory { request.now ≡ Request.NoMemory
-        → EndsAs (Err RunError.NoMemory) result (E.contents errors.old) (E.contents errors.new)
+        → EndsAs (by_run (Err RunError.NoMemory)) result (E.contents errors.old) (E.contents errors.new)
         × Keeps (W.contents writer.old) (W.contents writer.new) }
 {
     match request {
-        Request::Play(Engine::Calls) => told(errors, run_calls(alloc, reader, writer)),
-        Request::Play(Engine::Steps) => told(errors, run_steps(alloc, reader, writer)),
+        Request::Play(Engine::Calls) => run_told(errors, run_calls(alloc, reader, writer)),
+        Request::Play(Engine::Steps) => run_told(errors, run_steps(alloc, reader, writer)),
         Request::Race { .. } => unreachable!(),
-        Request::Show(text) => told(errors, show(writer, text)),
+        Request::Show(text) => run_told(errors, show(writer, text)),
         Request::Refuse(text) => refuse(errors, text),
-        Request::NoMemory => told(errors, Err(RunError::NoMemory)),
+        Request::NoMemory => run_told(errors, Err(RunError::NoMemory)),
     }
 }
 
@@ -149,7 +153,7 @@ pub fn serve_race<X: Threads + Wait + Sync, W: Write, E: Write>(
     writer: &mut W,
     errors: &mut E,
 ) -> u8
-    ensures races { (ended : Result (Unit {0}) RunError)
+    ensures races { (ended : Result (Unit {0}) ProgramError)
         × Races workers each ended (W.contents writer.old) (W.contents writer.new)
         × EndsAs ended result (E.contents errors.old) (E.contents errors.new) }
 {

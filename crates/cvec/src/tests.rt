@@ -1,7 +1,5 @@
-//! What no row of the program shows: readers and writers that fail, the status of each error, races under each gate.
+//! What no row of the program shows: readers and writers that fail, and the status of each error.
 
-mod lines;
 mod program;
-mod race;
 mod statuses;
 mod streams;

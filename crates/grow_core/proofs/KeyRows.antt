@@ -4,6 +4,8 @@ use Rattle.std.specs.Prelude.{IsSome}
 use mathlib.Core.Logic.{dite}
 use native.Mathlib.Decide.{ℕ_discrete}
 use mathlib.Core.List.{IsPrefix}
+use Rattle.seg_core.specs.Segment.{HasPlace}
+use Rattle.seg_core.specs.Laws.{OneSegment}
 use Rattle.claim_core.specs.declared.run.Run.{Run}
 use Rattle.claim_core.specs.Word.{WordView}
 use Rattle.claim_core.specs.Hand.{HandView, KeepsOwn, AddsRun, OwnsPlace, SeesOwn, IsPlaceOf}
@@ -68,6 +70,13 @@ walked_on {P} {old} {now} {next} {n} walked small kept here = record {
       (λ same. subst (λ s. IsSome (key_at next s)) (sym same) (here (subst P same p)))
       (λ other. kept segment (omega arith) (walked.there segment (omega arith) p));
 }
+
+-- a run of one place touches the place's segment alone
+pub keys_of_one : OneSegment → (row : KeyRow) (segment place : ℕ) → HasPlace segment place → IsSome (key_at row segment) → HasKeysOfRun row place 1
+keys_of_one law row segment place here key = λ j small touches.
+    let same : touches.place ≡ place = omega (arith, touches.inside) in
+    let also_here : HasPlace j place = subst (λ p. HasPlace j p) same touches.there in
+    subst (λ k. IsSome (key_at row k)) (law segment j place here also_here) key
 
 -- no key is some key
 pub none_is_none : {X : Type 0} (o : Option X) → o ≡ None → IsSome o → ⊥

@@ -1,14 +1,18 @@
 -- What a hand is told holds of it as it was before, when it had seen less.
-use Rattle.std.proofs.Common.{◌≡◌, ℕ, ◌+◌, ◌≤◌, List, [], ◌∷◌, ◌++◌, length, refl, sym, ap, ◌∙◌, subst, arith, append_assoc}
+use Rattle.std.proofs.Common.{◌≡◌, ℕ, ◌+◌, ◌<◌, ◌≤◌, List, [], ◌∷◌, ◌++◌, length, refl, sym, ap, ◌∙◌, subst, arith, append_assoc}
 use Rattle.std.specs.List.{sum}
 use Rattle.std.proofs.lemmas.List.{append-nil}
+use Rattle.std.proofs.lemmas.List.Sums.{sum_by-append}
 use mathlib.Core.List.{IsPrefix}
 use Rattle.claim_core.specs.declared.run.Run.{Run}
-use Rattle.claim_core.specs.Hand.{HandView, KeepsOwn, AddsRun, SeesSize, seen_size}
+use Rattle.claim_core.specs.Word.{WordView}
+use Rattle.claim_core.specs.Hand.{HandView, KeepsOwn, AddsRun, OwnsRun, SeesSize, IsWholeHand, seen_size, single}
 use Rattle.grow_core.specs.declared.errors.GrowError.{GrowError}
 use Rattle.grow_core.specs.declared.errors.GrowError.TheVariants.{NoMemory, Full, Moved, Refused, Taken}
 use Rattle.grow_core.specs.Vector.{VectorView, SeesMore}
-use Rattle.grow_core.specs.Growth.{Leaves}
+use Rattle.grow_core.specs.Token.{PlacedView}
+use Rattle.grow_core.specs.Grown.{GrownView, IsGrownOf, values_of}
+use Rattle.grow_core.specs.Growth.{WonPlace, WonRun, Refuses, IsDue, Leaves}
 
 -- a hand sees what it sees
 pub more_self : (a : HandView) → SeesMore a a
@@ -53,6 +57,23 @@ adds_after a b c run p q =
       of = q.of ∙ p.own.of;
     }
 
+-- a hand that has seen more has seen no smaller size
+pub size_grows : (a b : HandView) → SeesMore a b → seen_size a ≤ seen_size b
+size_grows a b p =
+    let longer : sum b.seen ≡ sum a.seen + sum p.seen.0 = ap sum (sym p.seen.1) ∙ sum_by-append (λ x. x) a.seen p.seen.0 in
+    let base : b.of.base ≡ a.of.base = ap (λ (w : WordView). w.base) p.own.of in
+    omega (arith, longer, base)
+
+-- a refusal that is due by what a hand has seen is due by less
+due_after : {T V E : Type 0} (vector : VectorView) (n : ℕ) (a b : HandView) (e : GrowError T V E)
+    → SeesMore a b → (IsWholeHand a → seen_size b ≡ seen_size a) → IsDue vector n b e → IsDue vector n a e
+due_after vector n a b (NoMemory back) p still due = let below = size_grows a b p in omega (arith, below, due)
+due_after vector n a b (Full size back) p still due = due
+due_after vector n a b (Moved size back) p still due = let below = size_grows a b p in
+    record { further = omega (arith, below, due.further); room = due.room; others = λ whole. due.others (p.own.shares ∙ whole) }
+due_after vector n a b (Refused run made cause) p still due = tt
+due_after vector n a b (Taken place found) p still due = tt
+
 -- what a refusal leaves of a hand, it leaves of one that had seen less
 pub leaves_after : {T V E : Type 0} (vector : VectorView) (n : ℕ) (a b c : HandView) (e : GrowError T V E)
     → SeesMore a b → Leaves vector n b c e → Leaves vector n a c e
@@ -62,3 +83,65 @@ leaves_after vector n a b c (Moved size back) p l = size_after a b c size p l
 leaves_after vector n a b c (Refused run made cause) p l = record { claimed = adds_after a b c run p l.claimed; all = l.all; first = l.first; fewer = l.fewer; tokens = l.tokens }
 leaves_after vector n a b c (Taken place found) p l =
     record { run = l.run; claimed = adds_after a b c l.run p l.claimed; all = l.all; after = l.after; before = l.before; there = l.there }
+
+-- what a refused growth leaves of a hand, it leaves of one that had seen less, where its refusal was due then
+pub refuses_after : {T V E : Type 0} (vector : VectorView) (n : ℕ) (given : V) (a b c : HandView) (e : GrowError T V E)
+    → SeesMore a b → (IsWholeHand a → seen_size b ≡ seen_size a) → Refuses vector n given b c e → Refuses vector n given a c e
+refuses_after vector n given a b c e more still r = record {
+  some_places = r.some_places;
+  due = due_after vector n a b e more still r.due;
+  left = leaves_after vector n a b c e more r.left;
+  back = r.back;
+}
+
+-- what a hand with all shares has seen is all that there is
+alone_after : (a b : HandView) → SeesMore a b → (IsWholeHand a → seen_size b ≡ seen_size a) → (place : ℕ)
+    → (IsWholeHand b → place ≡ seen_size b) → IsWholeHand a → place ≡ seen_size a
+alone_after a b more still place alone whole = alone (more.own.shares ∙ whole) ∙ still whole
+
+module _ {T : Type 0} (vector : VectorView) (a b c : HandView) (more : SeesMore a b) (still : IsWholeHand a → seen_size b ≡ seen_size a) where
+  -- a push won, and so it did by the hand as it was
+  pub won_place_after : (given : T) (placed : PlacedView T) → WonPlace vector given b c placed → WonPlace vector given a c placed
+  won_place_after given placed won = let below = size_grows a b more in record {
+    run = adds_after a b c (single placed.place) more won.run;
+    owned = won.owned;
+    not_below = omega (arith, below, won.not_below);
+    alone = alone_after a b more still placed.place won.alone;
+    token = won.token;
+    value = won.value;
+  }
+
+  -- so of a growth
+  pub won_run_after : (given : List T) (grown : GrownView T) → WonRun vector given b c grown → WonRun vector given a c grown
+  won_run_after given grown won = let below = size_grows a b more in record {
+    n = won.n;
+    run = record {
+      claimed = λ some. adds_after a b c grown.run more (won.run.claimed some);
+      empty = λ none. size_after a b c grown.run.from more (won.run.empty none);
+    };
+    owned = won.owned;
+    not_below = omega (arith, below, won.not_below);
+    alone = alone_after a b more still grown.run.from won.alone;
+    tokens = won.tokens;
+    values = won.values;
+  }
+
+-- a run that was claimed after a look at the size, and then filled, is a growth that won
+pub won_run_of : {T : Type 0} (vector : VectorView) (given : List T) (a b c : HandView) (run : Run) (grown : GrownView T)
+    → SeesSize a b run.from → seen_size a ≤ run.from → (IsWholeHand a → run.from ≡ seen_size a)
+    → run.n ≡ length given → 0 < run.n → AddsRun b c run → OwnsRun c run
+    → grown.run ≡ run → IsGrownOf vector grown → values_of grown ≡ given → WonRun vector given a c grown
+won_run_of vector given a b c run grown sees below alone n some adds owned is tokens values =
+    let same_n : grown.run.n ≡ run.n = ap (λ (r : Run). r.n) is in
+    let same_from : grown.run.from ≡ run.from = ap (λ (r : Run). r.from) is in record {
+      n = same_n ∙ n;
+      run = record {
+        claimed = λ _. subst (λ r. AddsRun a c r) (sym is) (adds_after a b c run (more_of_size a b run.from sees) adds);
+        empty = λ none. absurd (omega (arith, same_n, some));
+      };
+      owned = λ _. subst (λ r. OwnsRun c r) (sym is) owned;
+      not_below = omega (arith, same_from, below);
+      alone = λ whole. same_from ∙ alone whole;
+      tokens = tokens;
+      values = values;
+    }

@@ -1,23 +1,43 @@
 -- What a growth of n places leaves, won or refused.
-use Rattle.std.specs.Prelude.{◌≡◌, ℕ, ◌+◌, ◌<◌, ◌≤◌}
+use Rattle.std.specs.Prelude.{◌≡◌, ℕ, ◌+◌, ◌<◌, ◌≤◌, List, length}
 use Rattle.claim_core.specs.declared.run.Run.{Run}
-use Rattle.claim_core.specs.Hand.{HandView, AddsRun, SeesSize, IsWholeHand, seen_size}
+use Rattle.claim_core.specs.Hand.{HandView, AddsRun, OwnsRun, SeesSize, IsWholeHand, seen_size}
 pub use Rattle.claim_core.specs.Hand.{single}
 use Rattle.grow_core.specs.declared.token.Found.{Found}
 use Rattle.grow_core.specs.declared.token.Found.TheVariants as found
 use Rattle.grow_core.specs.declared.errors.GrowError.{GrowError}
 use Rattle.grow_core.specs.declared.errors.GrowError.TheVariants.{NoMemory, Full, Moved, Refused, Taken}
-use Rattle.grow_core.specs.Vector.{VectorView, IsPlacedOf, IsSpoiltOf, SeesMore, limit_of}
-use Rattle.grow_core.specs.Grown.{GrownView, IsGrownOf}
+use Rattle.grow_core.specs.Vector.{VectorView, IsPlacedOf, IsSpoiltOf, IsBegunOf, SeesMore, limit_of}
+use Rattle.grow_core.specs.Token.{PlacedView}
+use Rattle.grow_core.specs.Grown.{GrownView, IsGrownOf, values_of}
 
 -- the growth won the run: it is the hand's own, or it is empty, and begins at the size that the hand has seen
 pub record Grows (old new : HandView) (run : Run) : Type 0 where
   pub claimed : 0 < run.n → AddsRun old new run
   pub empty : run.n ≡ 0 → SeesSize old new run.from
 
+-- a push won: the place is the hand's own, and its token has the value
+pub record WonPlace {T : Type 0} (vector : VectorView) (given : T) (old new : HandView) (placed : PlacedView T) : Type 0 where
+  pub run : AddsRun old new (single placed.place)
+  pub owned : OwnsRun new (single placed.place)
+  pub not_below : seen_size old ≤ placed.place
+  pub alone : IsWholeHand old → placed.place ≡ seen_size old
+  pub token : IsPlacedOf vector placed
+  pub value : placed.value ≡ given
+
+-- a growth won: the run is the hand's own, and the tokens of its places have the values, in order
+pub record WonRun {T : Type 0} (vector : VectorView) (given : List T) (old new : HandView) (grown : GrownView T) : Type 0 where
+  pub n : grown.run.n ≡ length given
+  pub run : Grows old new grown.run
+  pub owned : 0 < grown.run.n → OwnsRun new grown.run
+  pub not_below : seen_size old ≤ grown.run.from
+  pub alone : IsWholeHand old → grown.run.from ≡ seen_size old
+  pub tokens : IsGrownOf vector grown
+  pub values : values_of grown ≡ given
+
 -- what stood at the place
 abbrev pub IsFoundAt : {T : Type 0} → VectorView → ℕ → Found T → Type 0
-IsFoundAt vector place found.Busy = Unit {0}
+IsFoundAt vector place (found.Busy begun) = IsBegunOf vector begun × (begun.place ≡ place)
 IsFoundAt vector place (found.Filled placed) = IsPlacedOf vector placed × (placed.place ≡ place)
 IsFoundAt vector place (found.Broken spoilt) = IsSpoiltOf vector spoilt × (spoilt.place ≡ place)
 
@@ -44,28 +64,26 @@ HasNoRoom vector n hand = limit_of vector < seen_size hand + n
 
 -- another caller claimed first: the size is above what the hand had seen, and there is still room. A whole hand is alone
 pub record IsOvertaken (vector : VectorView) (n : ℕ) (old : HandView) (size : ℕ) : Type 0 where
-  pub some_places : 0 < n
   pub further : seen_size old < size
   pub room : size + n ≤ limit_of vector
   pub others : ¬ IsWholeHand old
 
--- memory is asked for where there are new places, and where what the hand has seen leaves room for them
-pub record NeedsMemory (vector : VectorView) (n : ℕ) (old : HandView) : Type 0 where
-  pub some_places : 0 < n
-  pub room : seen_size old + n ≤ limit_of vector
+-- what the hand has seen leaves room for n more places
+abbrev pub HasRoom : VectorView → ℕ → HandView → Type 0
+HasRoom vector n hand = seen_size hand + n ≤ limit_of vector
 
 -- nothing of the hand has changed but what it has seen, and that leaves room still
 pub record LacksMemory (vector : VectorView) (n : ℕ) (old new : HandView) : Type 0 where
   pub more : SeesMore old new
-  pub room : seen_size new + n ≤ limit_of vector
+  pub room : HasRoom vector n new
 
 -- when each refusal comes, by what the hand had seen before the call
 abbrev pub IsDue : {T V E : Type 0} → VectorView → ℕ → HandView → GrowError T V E → Type 0
-IsDue vector n old (NoMemory back) = NeedsMemory vector n old
+IsDue vector n old (NoMemory back) = HasRoom vector n old
 IsDue vector n old (Full size back) = limit_of vector < size + n
 IsDue vector n old (Moved size back) = IsOvertaken vector n old size
-IsDue vector n old (Refused run made cause) = 0 < n
-IsDue vector n old (Taken place found) = 0 < n
+IsDue vector n old (Refused run made cause) = Unit {0}
+IsDue vector n old (Taken place found) = Unit {0}
 
 -- what each refusal leaves of the hand, and tells of the vector
 abbrev pub Leaves : {T V E : Type 0} → VectorView → ℕ → HandView → HandView → GrowError T V E → Type 0
@@ -82,6 +100,13 @@ GivesBack value (Full size back) = back ≡ value
 GivesBack value (Moved size back) = back ≡ value
 GivesBack value (Refused run made cause) = Unit {0}
 GivesBack value (Taken place found) = Unit {0}
+
+-- a growth of n places was refused: when this refusal comes, what it leaves of the hand, and what comes back
+pub record Refuses {T V E : Type 0} (vector : VectorView) (n : ℕ) (given : V) (old new : HandView) (refusal : GrowError T V E) : Type 0 where
+  pub some_places : 0 < n
+  pub due : IsDue vector n old refusal
+  pub left : Leaves vector n old new refusal
+  pub back : GivesBack given refusal
 
 -- the refusal is that there is no room
 abbrev pub SaysFull : {T V E : Type 0} → GrowError T V E → Type 0

@@ -6,3 +6,7 @@ pub mod Read
 pub mod Growth
 pub mod Part
 pub mod Errors
+pub use Rattle.claim_core.specs.Hand
+pub use Rattle.claim_core.specs.Lengths
+pub use Rattle.claim_core.specs.Laws
+pub use Rattle.claim_core.specs.Word

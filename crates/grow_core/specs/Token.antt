@@ -28,6 +28,16 @@ spoilt_coded =
     coded_via (coded× coded_ℕ (coded× key_coded (coded× coded_ℕ coded_ℕ))) (λ (s : SpoiltView). (s.place, (s.key, (s.cell.place, s.cell.name))))
     (λ x y e i. record { place = (e i).0; key = (e i).1.0; cell = record { place = (e i).1.1.0; name = (e i).1.1.1 } })
 
+-- the token of a place that another caller began: the place, the key of its segment, and its cell there
+pub record BegunView : Type 0 where
+  pub place : ℕ
+  pub key : KeyView
+  pub cell : block.BegunView
+
+abbrev pub begun_coded : Coded BegunView
+begun_coded = coded_via (coded× coded_ℕ (coded× key_coded block.begun_coded)) (λ (b : BegunView). (b.place, (b.key, b.cell)))
+    (λ x y e i. record { place = (e i).0; key = (e i).1.0; cell = (e i).1.1 })
+
 -- a cell of a segment is this place of the vector
 abbrev pub place_in : ℕ → ℕ → ℕ
 place_in segment offset = segment_start segment + offset
@@ -38,6 +48,9 @@ placed_view key cell = record { place = place_in key.entry cell.place; value = c
 
 abbrev pub spoilt_view : KeyView → block.SpoiltView → SpoiltView
 spoilt_view key cell = record { place = place_in key.entry cell.place; key = key; cell = cell }
+
+abbrev pub begun_view : KeyView → block.BegunView → BegunView
+begun_view key cell = record { place = place_in key.entry cell.place; key = key; cell = cell }
 
 -- the numbers of a segment and of a cell there
 pub record AreSmall (segment offset : ℕ) : Type 0 where

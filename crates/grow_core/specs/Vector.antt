@@ -3,9 +3,9 @@ use Rattle.std.specs.Prelude.{◌≡◌, ℕ}
 use mathlib.Core.List.{IsPrefix}
 use Rattle.claim_core.specs.Word.{WordView, AreBounds}
 use Rattle.claim_core.specs.Hand.{HandView, KeepsOwn}
-use Rattle.cell_core.specs.Block.{IsPlacedIn, IsSpoiltIn}
+use Rattle.cell_core.specs.Block.{IsPlacedIn, IsSpoiltIn, IsBegunIn}
 use Rattle.table_core.specs.Table.{TableView, IsKeyIn, IsBlockOf}
-use Rattle.grow_core.specs.Token.{PlacedView, SpoiltView, place_in}
+use Rattle.grow_core.specs.Token.{PlacedView, SpoiltView, BegunView, place_in}
 
 -- which vector it is: its claim word, with its limit and its base, and its segments
 pub record VectorView : Type 0 where
@@ -43,6 +43,13 @@ pub record IsSpoiltOf (vector : VectorView) (spoilt : SpoiltView) : Type 0 where
   pub long : IsBlockOf spoilt.key.entry spoilt.key.block
   pub cell : IsSpoiltIn spoilt.key.block spoilt.cell
   pub place : spoilt.place ≡ place_in spoilt.key.entry spoilt.cell.place
+
+-- the same for the token of a place that another caller began
+pub record IsBegunOf (vector : VectorView) (begun : BegunView) : Type 0 where
+  pub key : IsKeyIn vector.segments begun.key
+  pub long : IsBlockOf begun.key.entry begun.key.block
+  pub cell : IsBegunIn begun.key.block begun.cell
+  pub place : begun.place ≡ place_in begun.key.entry begun.cell.place
 
 -- the hand may have seen more, and nothing else of it has changed
 pub record SeesMore (old new : HandView) : Type 0 where

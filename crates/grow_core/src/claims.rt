@@ -1,15 +1,18 @@
 // The steps that every growth takes once it has its memory.
 ghost use Rattle.std.specs.Prelude.{◌≡◌, ◌+◌, ◌<◌, ◌≤◌, IfOk, IfErr};
 ghost use Rattle.claim_core.specs.Hand.{AddsRun, OwnsPlace, seen_size};
+ghost use Rattle.cell_core.specs.Block.{block_len};
+ghost use Rattle.table_core.specs.Table.{IsKeyIn, IsBlockOf};
+ghost use Rattle.grow_core.specs.Token.{place_in};
 ghost use Rattle.grow_core.specs.Vector.{IsHandOf, IsPlacedOf, limit_of};
 ghost use Rattle.grow_core.specs.Keys.{OwnsPlacesOf};
 ghost use Rattle.grow_core.specs.Part.{IsPartOf};
-ghost use Rattle.grow_core.specs.Growth.{IsDue, Leaves, GivesBack, IsFoundAt};
+ghost use Rattle.grow_core.specs.Growth.{Refuses, IsFoundAt};
 
 use crate::errors::GrowError;
 use crate::hand::Hand;
 use crate::keys::install;
-use crate::token::{Found, Placed, Spoilt};
+use crate::token::{Begun, Found, Placed, Spoilt};
 use crate::vector::Shared;
 use cell_core::block;
 use cell_core::block::Block;
@@ -43,9 +46,7 @@ impl<T: Drop> Shared<T> {
         ensures run { IfOk result (λ _. AddsRun hand.old hand.new record { from = from; n = n }) }
         ensures owned { IfOk result (λ _. OwnsPlacesOf hand.new record { from = from; n = n }) }
         ensures value { IfOk result (λ on. on ≡ value) }
-        ensures refused { IfErr result (IsDue self.now n hand.old) }
-        ensures left { IfErr result (Leaves self.now n hand.old hand.new) }
-        ensures value_back { IfErr result (GivesBack value) }
+        ensures refused { IfErr result (Refuses self.now n value hand.old hand.new) }
     {
         self.laws();
         hand.claims.laws();
@@ -125,13 +126,33 @@ impl<T: Drop> Shared<T> {
         ensures value { IfOk result (λ placed. placed.value ≡ value) }
         ensures found { IfErr result (IsFoundAt self.now place) }
     {
-        let key = part.key.again();
-        match part.block.begin(place - part.from) {
+        self.fill_cell(part.block, part.key.again(), place - part.from, value)
+    }
+
+    // Fills a cell of the segment that has this key with the value.
+    #[inline(always)]
+    pub(crate) fn fill_cell(
+        &self,
+        block: &Block<T>,
+        key: Key,
+        offset: u64,
+        value: T,
+    ) -> Result<Placed<T>, Found<T>>
+        requires key { IsKeyIn self.now.segments key }
+        requires block { block.now ≡ key.block }
+        requires long { IsBlockOf key.entry key.block }
+        requires within { offset < block_len block.now }
+        ensures token { IfOk result (IsPlacedOf self.now) }
+        ensures here { IfOk result (λ placed. placed.place ≡ place_in key.entry offset) }
+        ensures value { IfOk result (λ placed. placed.value ≡ value) }
+        ensures found { IfErr result (IsFoundAt self.now (place_in key.entry offset)) }
+    {
+        match block.begin(offset) {
             Ok(pen) => Ok(Placed {
                 key,
                 cell: pen.fill(value),
             }),
-            Err(block::Found::Busy) => Err(Found::Busy),
+            Err(block::Found::Busy(cell)) => Err(Found::Busy(Begun { key, cell })),
             Err(block::Found::Filled(cell)) => Err(Found::Filled(Placed { key, cell })),
             Err(block::Found::Broken(cell)) => Err(Found::Broken(Spoilt { key, cell })),
         }

@@ -1,17 +1,16 @@
 //! How many values are appended at once.
-ghost use Rattle.std.specs.Prelude.{◌≡◌, ◌+◌, ◌<◌, ◌≤◌, [], IsOk, IfOk, IfErr, IsErrAnd, vec_len, vec_capacity};
-ghost use Rattle.claim_core.specs.Hand.{IsWholeHand, seen_size};
+ghost use Rattle.std.specs.Prelude.{◌≡◌, ◌+◌, ◌<◌, ◌≤◌, [], IfOk, IfErr, IsErrAnd, vec_len, vec_capacity};
 ghost use Rattle.grow_core.specs.Vector.{IsHandOf, limit_of};
 ghost use Rattle.grow_core.specs.Grown.{IsGrownOf, values_of};
 ghost use Rattle.grow_core.specs.Keys.{OwnsPlacesOf};
-ghost use Rattle.grow_core.specs.Growth.{Grows, HasNoRoom, IsDue, Leaves, GivesBack, SaysFull, IsNotMoved, IsFoundAt};
+ghost use Rattle.grow_core.specs.Growth.{WonRun, Refuses, HasNoRoom, SaysFull, IsNotMoved, IsFoundAt};
 
 use crate::errors::{GrowError, Never};
 use crate::grown::Grown;
 use crate::hand::Hand;
 use crate::token::{Found, Placed};
 use crate::vector::Shared;
-use claim_core::Run;
+use claim_core::{Run, laws};
 use std::sync::Wait;
 
 impl<T: Drop> Shared<T> {
@@ -23,18 +22,12 @@ impl<T: Drop> Shared<T> {
         values: Vec<T>,
     ) -> Result<Grown<T>, GrowError<T, Vec<T>, Never>>
         requires ours { IsHandOf self.now hand.old }
-        ensures n { IfOk result (λ grown. grown.run.n ≡ vec_len values) }
-        ensures run { IfOk result (λ grown. Grows hand.old hand.new grown.run) }
-        ensures not_below { IfOk result (λ grown. seen_size hand.old ≤ grown.run.from) }
-        ensures tokens { IfOk result (IsGrownOf self.now) }
-        ensures values { IfOk result (λ grown. values_of grown ≡ values.items) }
-        ensures alone { IsWholeHand hand.old → IfOk result (λ g. g.run.from ≡ seen_size hand.old) }
-        ensures empty { vec_len values ≡ 0 → IsOk result }
+        ensures won { IfOk result (WonRun self.now values.items hand.old hand.new) }
+        ensures refused { IfErr result (Refuses self.now (vec_len values) values hand.old hand.new) }
+        // No room is told by what the hand has seen, before memory is asked for.
         ensures full { HasNoRoom self.now (vec_len values) hand.old → IsErrAnd result SaysFull }
-        ensures refused { IfErr result (IsDue self.now (vec_len values) hand.old) }
-        ensures left { IfErr result (Leaves self.now (vec_len values) hand.old hand.new) }
-        ensures value_back { IfErr result (GivesBack values) }
     {
+        laws::added_runs_are_owned();
         let n = values.len() as u64;
         let from = self.size(hand);
         if n == 0 {
@@ -64,23 +57,17 @@ impl<T: Drop> Shared<T> {
         mut values: Vec<T>,
     ) -> Result<Grown<T>, GrowError<T, Vec<T>, Never>>
         requires ours { IsHandOf self.now hand.old }
-        ensures n { IfOk result (λ grown. grown.run.n ≡ vec_len values) }
-        ensures run { IfOk result (λ grown. Grows hand.old hand.new grown.run) }
-        ensures not_below { IfOk result (λ grown. seen_size hand.old ≤ grown.run.from) }
-        ensures tokens { IfOk result (IsGrownOf self.now) }
-        ensures values { IfOk result (λ grown. values_of grown ≡ values.items) }
-        ensures alone { IsWholeHand hand.old → IfOk result (λ g. g.run.from ≡ seen_size hand.old) }
-        ensures empty { vec_len values ≡ 0 → IsOk result }
+        ensures won { IfOk result (WonRun self.now values.items hand.old hand.new) }
+        ensures refused { IfErr result (Refuses self.now (vec_len values) values hand.old hand.new) }
+        // No room is told by what the hand has seen, before memory is asked for.
         ensures full { HasNoRoom self.now (vec_len values) hand.old → IsErrAnd result SaysFull }
-        ensures refused { IfErr result (IsDue self.now (vec_len values) hand.old) }
         ensures not_moved { IfErr result IsNotMoved }
-        ensures left { IfErr result (Leaves self.now (vec_len values) hand.old hand.new) }
-        ensures value_back { IfErr result (GivesBack values) }
     {
         for _try in rt.forever() {
             match self.try_grow_vec(hand, values) {
+                Ok(grown) => return Ok(grown),
                 Err(GrowError::Moved { size: _, back }) => values = back,
-                done => return done,
+                Err(refused) => return Err(refused),
             }
         }
         unreachable!()

@@ -67,19 +67,39 @@ pub(crate) fn put_keys(row: &mut Keys, other: &Keys)
     }
 }
 
-// Sees to it that the segment is installed, and puts its key into the row.
-fn install_one<T: Drop>(table: &Table<T>, keys: &mut Keys, segment: u32) -> Result<(), AllocError>
+// The key of the segment, which is then in the row. Where it is not there yet, the segment is installed first.
+#[inline(always)]
+pub(crate) fn key_for<T: Drop>(
+    table: &Table<T>,
+    keys: &mut Keys,
+    segment: u32,
+) -> Result<Key, AllocError>
     requires within { segment < 32 }
     requires keys { AreKeys table.now.names keys.old }
     ensures keys { AreKeys table.now.names keys.new }
     ensures kept { KeepsKeys keys.old keys.new }
     ensures put { IfOk result (λ _. IsSome (key_at keys.new segment)) }
+    ensures key { IfOk result (IsKeyAt table.now.names segment) }
 {
-    if keys[segment as usize].is_none() {
-        let (_, key) = table.install_key(segment)?;
-        put_key(keys, segment, key);
+    match key_of(keys, segment) {
+        Some(key) => Ok(key),
+        None => install_one(table, keys, segment),
     }
-    Ok(())
+}
+
+// Sees to it that the segment is installed, and puts its key into the row.
+#[cold]
+fn install_one<T: Drop>(table: &Table<T>, keys: &mut Keys, segment: u32) -> Result<Key, AllocError>
+    requires within { segment < 32 }
+    requires keys { AreKeys table.now.names keys.old }
+    ensures keys { AreKeys table.now.names keys.new }
+    ensures kept { KeepsKeys keys.old keys.new }
+    ensures put { IfOk result (λ _. IsSome (key_at keys.new segment)) }
+    ensures key { IfOk result (IsKeyAt table.now.names segment) }
+{
+    let (_, key) = table.install_key(segment)?;
+    put_key(keys, segment, key.again());
+    Ok(key)
 }
 
 // Sees to it that the segments of a run are installed, and puts their keys into the row.
@@ -98,7 +118,7 @@ pub(crate) fn install<T: Drop>(
 {
     let (first, end) = segments_of(from, n);
     for segment in first..end {
-        install_one(table, keys, segment)?;
+        key_for(table, keys, segment)?;
     }
     Ok(())
 }

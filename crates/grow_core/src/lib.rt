@@ -35,7 +35,7 @@ pub use errors::{AtError, GrowError, Never};
 pub use grown::Grown;
 pub use hand::Hand;
 pub use reads::At;
-pub use token::{Found, Placed, Spoilt};
+pub use token::{Begun, Found, Placed, Spoilt};
 pub use vector::Shared;
 
 #[cfg(test)]

@@ -1,39 +1,41 @@
 //! How one value is appended.
 ghost use Rattle.std.specs.Prelude.{◌≡◌, ◌≤◌, IfOk, IfErr, IsErrAnd};
-ghost use Rattle.claim_core.specs.Hand.{AddsRun, IsWholeHand, seen_size};
-ghost use Rattle.grow_core.specs.Vector.{IsHandOf, IsPlacedOf};
-ghost use Rattle.grow_core.specs.Growth.{single, HasNoRoom, IsDue, Leaves, GivesBack, SaysFull, IsNotMoved};
+ghost use Rattle.claim_core.specs.Hand.{seen_size};
+ghost use Rattle.grow_core.specs.Vector.{IsHandOf};
+ghost use Rattle.grow_core.specs.Growth.{WonPlace, Refuses, HasNoRoom, SaysFull, IsNotMoved};
 
 use crate::errors::{GrowError, Never};
 use crate::hand::Hand;
+use crate::keys::key_for;
 use crate::token::Placed;
 use crate::vector::Shared;
+use claim_core::{Moved, laws};
+use seg_core::laws::places;
+use seg_core::locate;
 use std::sync::Wait;
 
 impl<T: Drop> Shared<T> {
     /// Appends a value. It tries once, and waits for nobody. The exchange that wins the place is its
     /// linearization point.
+    #[inline(always)]
     pub fn try_push_back(
         &self,
         hand: &mut Hand<T>,
         value: T,
     ) -> Result<Placed<T>, GrowError<T, T, Never>>
         requires ours { IsHandOf self.now hand.old }
-        ensures run { IfOk result (λ placed. AddsRun hand.old hand.new (single placed.place)) }
-        ensures not_below { IfOk result (λ placed. seen_size hand.old ≤ placed.place) }
-        ensures token { IfOk result (IsPlacedOf self.now) }
-        ensures value { IfOk result (λ placed. placed.value ≡ value) }
-        ensures alone { IsWholeHand hand.old → IfOk result (λ p. p.place ≡ seen_size hand.old) }
+        ensures won { IfOk result (WonPlace self.now value hand.old hand.new) }
+        ensures refused { IfErr result (Refuses self.now 1 value hand.old hand.new) }
+        // No room is told by what the hand has seen, before memory is asked for.
         ensures full { HasNoRoom self.now 1 hand.old → IsErrAnd result SaysFull }
-        ensures refused { IfErr result (IsDue self.now 1 hand.old) }
-        ensures left { IfErr result (Leaves self.now 1 hand.old hand.new) }
-        ensures value_back { IfErr result (GivesBack value) }
     {
         let from = self.size(hand);
         self.push_at(hand, from, value)
     }
 
-    // One try to append a value at the size that the hand has seen.
+    // One try to append a value at the size that the hand has seen. All that it reads of the segment it reads before the
+    // exchange: what comes after a locked step waits for it.
+    #[inline(always)]
     fn push_at(
         &self,
         hand: &mut Hand<T>,
@@ -42,32 +44,42 @@ impl<T: Drop> Shared<T> {
     ) -> Result<Placed<T>, GrowError<T, T, Never>>
         requires ours { IsHandOf self.now hand.old }
         requires seen { from ≡ seen_size hand.old }
-        ensures run { IfOk result (λ placed. AddsRun hand.old hand.new (single from)) }
+        ensures won { IfOk result (WonPlace self.now value hand.old hand.new) }
         ensures here { IfOk result (λ placed. placed.place ≡ from) }
-        ensures token { IfOk result (IsPlacedOf self.now) }
-        ensures value { IfOk result (λ placed. placed.value ≡ value) }
+        ensures refused { IfErr result (Refuses self.now 1 value hand.old hand.new) }
         ensures full { HasNoRoom self.now 1 hand.old → IsErrAnd result SaysFull }
-        ensures refused { IfErr result (IsDue self.now 1 hand.old) }
-        ensures left { IfErr result (Leaves self.now 1 hand.old hand.new) }
-        ensures value_back { IfErr result (GivesBack value) }
     {
-        hand.laws();
-        if from >= self.limit() {
+        self.laws();
+        hand.claims.laws();
+        places();
+        laws::own_places_stay();
+        laws::added_places_are_of_the_run();
+        laws::added_runs_are_owned();
+        let limit = self.limit();
+        if from >= limit {
             return Err(GrowError::Full {
                 size: from,
                 back: value,
             });
         }
-        let value = self.claim(hand, from, 1, value)?;
-        let part = self.part(hand, from);
-        match self.fill(&part, from, value) {
-            Ok(placed) => Ok(placed),
-            Err(found) => Err(GrowError::Taken { place: from, found }),
+        let (segment, offset) = locate(from);
+        let Ok(key) = key_for(&self.table, &mut hand.keys, segment) else {
+            return Err(GrowError::NoMemory { back: value });
+        };
+        let block = self.table.known(&key);
+        match self.word.exchange(&mut hand.claims, from, 1) {
+            Ok(_run) => match self.fill_cell(block, key, offset, value) {
+                Ok(placed) => Ok(placed),
+                Err(found) => Err(GrowError::Taken { place: from, found }),
+            },
+            Err(Moved { size }) if size >= limit => Err(GrowError::Full { size, back: value }),
+            Err(Moved { size }) => Err(GrowError::Moved { size, back: value }),
         }
     }
 
     /// As `try_push_back`, but it begins at the size that the hand has seen, and tries again where another caller was
     /// first.
+    #[inline(always)]
     pub fn push_back<R: Wait>(
         &self,
         rt: &R,
@@ -75,22 +87,17 @@ impl<T: Drop> Shared<T> {
         mut value: T,
     ) -> Result<Placed<T>, GrowError<T, T, Never>>
         requires ours { IsHandOf self.now hand.old }
-        ensures run { IfOk result (λ placed. AddsRun hand.old hand.new (single placed.place)) }
-        ensures not_below { IfOk result (λ placed. seen_size hand.old ≤ placed.place) }
-        ensures token { IfOk result (IsPlacedOf self.now) }
-        ensures value { IfOk result (λ placed. placed.value ≡ value) }
-        ensures alone { IsWholeHand hand.old → IfOk result (λ p. p.place ≡ seen_size hand.old) }
+        ensures won { IfOk result (WonPlace self.now value hand.old hand.new) }
+        ensures refused { IfErr result (Refuses self.now 1 value hand.old hand.new) }
         ensures full { HasNoRoom self.now 1 hand.old → IsErrAnd result SaysFull }
-        ensures refused { IfErr result (IsDue self.now 1 hand.old) }
         ensures not_moved { IfErr result IsNotMoved }
-        ensures left { IfErr result (Leaves self.now 1 hand.old hand.new) }
-        ensures value_back { IfErr result (GivesBack value) }
     {
         for _try in rt.forever() {
             let from = hand.seen();
             match self.push_at(hand, from, value) {
+                Ok(placed) => return Ok(placed),
                 Err(GrowError::Moved { size: _, back }) => value = back,
-                done => return done,
+                Err(refused) => return Err(refused),
             }
         }
         unreachable!()

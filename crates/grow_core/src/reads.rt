@@ -29,6 +29,7 @@ enum Seen<'a, T> {
 impl<T> Shared<T> {
     /// The value at the place. With a token it is one look at the place, and without one a load of the
     /// size comes first.
+    #[inline(always)]
     pub fn at<'a>(
         &'a self,
         hand: &mut Hand<T>,
@@ -85,6 +86,7 @@ impl<T> Shared<T> {
     }
 
     /// The token's value, by one look at its place.
+    #[inline(always)]
     pub fn get<'a>(&'a self, placed: &Placed<T>) -> &'a T
         requires { IsPlacedOf self.now placed.now }
         ensures { result.now ≡ placed.now.value }

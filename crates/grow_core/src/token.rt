@@ -1,12 +1,20 @@
 //! The tokens of the vector's places.
 ghost use Rattle.std.specs.Prelude.{◌≡◌};
-ghost use Rattle.grow_core.specs.Token.{AreSmall};
+ghost use Rattle.grow_core.specs.Token.{AreSmall, place_in};
 
 use cell_core::block;
 use seg_core::first;
 use std::fmt;
 use std::marker::Model;
 use table_core::Key;
+
+// The place of a cell in the segment of a key.
+fn place_of(key: &Key, offset: u64) -> u64
+    requires { AreSmall key.now.entry offset }
+    ensures { result ≡ place_in key.now.entry offset }
+{
+    first(key.entry()) + offset
+}
 
 /// Shows that a place holds a value, for good. It crosses threads, and takes 16 bytes.
 #[derive(Drop)]
@@ -40,7 +48,7 @@ impl<T> Placed<T> {
     pub fn place(&self) -> u64
         ensures { result ≡ self.now.place }
     {
-        first(self.key.entry()) + self.cell.place()
+        place_of(&self.key, self.cell.place())
     }
 
     /// The token once more.
@@ -86,7 +94,7 @@ impl Spoilt {
     pub fn place(&self) -> u64
         ensures { result ≡ self.now.place }
     {
-        first(self.key.entry()) + self.cell.place()
+        place_of(&self.key, self.cell.place())
     }
 
     /// The token once more.
@@ -100,11 +108,47 @@ impl Spoilt {
     }
 }
 
-/// What stood at a place that another caller filled.
+/// Shows that another caller began a place. It takes 16 bytes.
+#[derive(Drop)]
+pub struct Begun {
+    pub(crate) key: Key,
+    pub(crate) cell: block::Begun,
+}
+
+impl Model for Begun {
+    ghost use Rattle.grow_core.specs.Token.{BegunView, begun_coded, begun_view, AreSmall};
+
+    ghost Value = { BegunView };
+
+    ghost coded = { begun_coded };
+
+    ghost view = { λ b. begun_view b.key b.cell };
+
+    ghost invariant = { λ b. AreSmall b.key.entry b.cell.place };
+}
+
+impl fmt::Debug for Begun {
+    fn fmt<W: fmt::Write>(&self, f: &mut fmt::Formatter<W>) -> fmt::Result {
+        f.debug_struct("Begun")
+            .field("place", &self.place())
+            .finish_non_exhaustive()
+    }
+}
+
+impl Begun {
+    /// The place in the vector.
+    pub fn place(&self) -> u64
+        ensures { result ≡ self.now.place }
+    {
+        place_of(&self.key, self.cell.place())
+    }
+}
+
+/// What stood at a place that another caller began.
 #[derive(Debug, Drop)]
 pub enum Found<T> {
     /// Nothing yet: it is being filled.
-    Busy,
+    Busy(Begun),
     /// A value.
     Filled(Placed<T>),
     /// None: it is broken.

@@ -9,7 +9,7 @@ use crate::error::{Fault, Stop};
 use book_core::{Command, Sequence};
 use std::alloc::Global;
 
-/// The most actors of a script.
+// The most actors of a script.
 const MOST_ACTORS: usize = 16;
 
 #[tactic(auto, unfolding(crate::specs::Grammar::parsed_name))]
@@ -22,7 +22,7 @@ fn name(word: &[u8]) -> Result<u8, Fault>
     }
 }
 
-/// The name and the program of an actor line, read after its word. `names` are those of the lines before it.
+// The name and the program of an actor line, read after its word. `names` are those of the lines before it.
 #[tactic(auto, unfolding(crate::specs::Grammar::parsed_actor))]
 pub(crate) fn actor(
     alloc: Global,

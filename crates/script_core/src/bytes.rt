@@ -27,7 +27,7 @@ impl From<io::Error> for WriteFault {
     }
 }
 
-/// The number of interruptions at which a call gives up.
+// The number of interruptions at which a call gives up.
 const MOST_INTERRUPTIONS: usize = 1_048_576;
 
 /// Writes all the bytes; it does not flush.

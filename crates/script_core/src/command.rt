@@ -11,10 +11,10 @@ use crate::number::number;
 use book_core::{Command, Sequence};
 use std::alloc::Global;
 
-/// The most commands of a program.
+// The most commands of a program.
 const MOST_COMMANDS: usize = 1_000;
 
-/// The words of a piece, up to the most that a command may have.
+// The words of a piece, up to the most that a command may have.
 pub(crate) enum Words<'a> {
     One(&'a [u8]),
     Two(&'a [u8], &'a [u8]),
@@ -130,7 +130,7 @@ fn command(piece: &[u8]) -> Result<Command, Fault>
     }
 }
 
-/// A command for each piece of the text.
+// A command for each piece of the text.
 pub(crate) fn program(alloc: Global, text: &[u8]) -> Result<Sequence<Command>, Stop>
     ensures { Gives result (parsed_program text.now) }
 {

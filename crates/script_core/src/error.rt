@@ -105,7 +105,7 @@ impl<T: Drop> From<AllocFailed<T>> for ScriptError {
     }
 }
 
-/// What may be wrong inside a line.
+// What may be wrong inside a line.
 #[derive(Clone, Copy, Debug, PartialEq, Eq)]
 pub(crate) enum Fault {
     BadLimit,
@@ -117,7 +117,7 @@ pub(crate) enum Fault {
     TooMany,
 }
 
-/// Why a line was not read to its end.
+// Why a line was not read to its end.
 #[derive(Clone, Copy, Debug, PartialEq, Eq)]
 pub(crate) enum Stop {
     Memory,
@@ -125,7 +125,7 @@ pub(crate) enum Stop {
 }
 
 impl Stop {
-    /// The same, with the number of the line.
+    // The same, with the number of the line.
     pub(crate) fn at(self, line: u64) -> ScriptError
         ensures { result ≡ script_error line self }
     {

@@ -8,7 +8,7 @@ use crate::error::{Fault, Stop};
 use book_core::{Item, Sequence};
 use std::alloc::Global;
 
-/// The most items of a script.
+// The most items of a script.
 const MOST_ITEMS: usize = 100_000;
 
 fn place_of(names: &[u8], name: u8) -> Option<usize>
@@ -43,7 +43,7 @@ fn item(names: &[u8], word: &[u8]) -> Result<Item, Fault>
     }
 }
 
-/// An item for each word of the text.
+// An item for each word of the text.
 fn some_items(alloc: Global, names: &[u8], text: &[u8]) -> Result<Sequence<Item>, Stop>
     requires { length names.now ≤ 16 }
     ensures { Gives result (try_each (parsed_item names.now) 100000 [] (words text.now)) }
@@ -63,7 +63,7 @@ fn some_items(alloc: Global, names: &[u8], text: &[u8]) -> Result<Sequence<Item>
     }
 }
 
-/// The items of an items line, read after its word.
+// The items of an items line, read after its word.
 #[tactic(auto, unfolding(crate::specs::Grammar::parsed_items))]
 pub(crate) fn items(alloc: Global, names: &[u8], text: &[u8]) -> Result<Sequence<Item>, Stop>
     requires { length names.now ≤ 16 }

@@ -4,7 +4,7 @@ ghost use Rattle.std.specs.Prelude.{◌≡◌, []};
 use std::io::{self, Write};
 use std::marker::Model;
 
-/// No answer line, no cell and no fault's line is longer.
+// No answer line, no cell and no fault's line is longer.
 const MOST: usize = 128;
 
 /// A line of at most 128 bytes, which takes no memory. Contracts see it as the list of its bytes.

@@ -7,14 +7,14 @@ use crate::cut::cut_at;
 use crate::error::Fault;
 use crate::number::number;
 
-/// What a line after the first is, and what stands after its word.
+// What a line after the first is, and what stands after its word.
 pub(crate) enum LineKind<'a> {
     Actor(&'a [u8]),
     Items(&'a [u8]),
     Other,
 }
 
-/// The first line, and the bytes after it.
+// The first line, and the bytes after it.
 pub(crate) fn first_line(text: &[u8]) -> (&[u8], &[u8])
     requires { 0 < length text.now }
     ensures lines { lines text.now ≡ result.0.now ∷ lines result.1.now }
@@ -48,7 +48,7 @@ pub(crate) fn kind(line: &[u8]) -> LineKind<'_>
     }
 }
 
-/// The limit of a first line.
+// The limit of a first line.
 #[tactic(auto, unfolding(crate::specs::Grammar::parsed_limit, crate::specs::Grammar::limit_in))]
 pub(crate) fn limit(line: &[u8]) -> Result<u64, Fault>
     ensures { result ≡ parsed_limit line.now }

@@ -17,7 +17,7 @@ use crate::script::Script;
 use book_core::{Command, Item, Sequence};
 use std::alloc::Global;
 
-/// The most bytes of a script.
+// The most bytes of a script.
 const MOST_BYTES: usize = 1_048_576;
 
 /// Reads a script: its first fault comes with its line, and `NoMemory` may come in place of any answer.
@@ -57,7 +57,7 @@ fn whole(alloc: Global, text: &[u8]) -> Result<Script, ScriptError>
     body(alloc, limit, rest)
 }
 
-/// The line of the last byte that a script may have.
+// The line of the last byte that a script may have.
 fn line_of_last_byte(text: &[u8]) -> u64
     requires { 1048576 < length text.now }
     ensures { result ≡ 1 + count_by (λ b. b == 10) (take 1048576 text.now) }
@@ -109,7 +109,7 @@ fn items_at(
     }
 }
 
-/// The script, if nothing is left after its items line.
+// The script, if nothing is left after its items line.
 fn closed(line: u64, script: Script, rest: &[u8]) -> Result<Script, ScriptError>
     ensures { result ≡ closed line script (lines rest.now) }
 {
@@ -120,7 +120,7 @@ fn closed(line: u64, script: Script, rest: &[u8]) -> Result<Script, ScriptError>
     }
 }
 
-/// The lines after the first.
+// The lines after the first.
 fn body(alloc: Global, limit: u64, text: &[u8]) -> Result<Script, ScriptError>
     requires { length text.now ≤ 1048576 }
     ensures { GivesLines result (body_of limit 2 [] [] (lines text.now)) }

@@ -1,9 +1,9 @@
 -- Two halves of a range of workers.
-use Rattle.std.proofs.Common.{◌≡◌, ℕ, ◌+◌, ◌<◌, ◌⊎◌, List, [], ◌++◌, length, Result, Ok, Err, IfOk, IfErr, refl, ap, inl, inr, subst, sym, arith, length-append}
-use Rattle.std.proofs.lemmas.Result.{IfOk-weaker, IfOk-at_ok, IfErr-at_err}
-use Rattle.span_core.specs.Workers.{EachGives, RefusesLowest}
+use Rattle.std.proofs.Common.{◌≡◌, ℕ, ◌+◌, ◌<◌, ◌⊎◌, List, [], ◌++◌, length, Result, Ok, Err, IfOk, IfErr, inl, inr, subst, sym, arith, length-append}
+use Rattle.std.proofs.lemmas.Result.{IfOk-weaker, IfOk-at_ok, IfErr-at_err, IfErr-weaker}
+use Rattle.span_core.specs.Workers.{EachGives, RefusesLowest, IsOfRange}
 use Rattle.span_core.specs.declared.errors.Refusal.{Refusal}
-use Rattle.span_core.specs.declared.errors.Refusal.TheVariants.{Stuck}
+use Rattle.span_core.specs.declared.errors.Refusal.TheVariants.{NoMemory, Stuck, Worker}
 use Rattle.span_core.proofs.Each.{EachFrom-append}
 
 -- the answers of both halves, in order
@@ -57,20 +57,38 @@ module _ {A V E : Type 0} (items : V → List A) where
       made.4)
       both
 
-module _ {A V : Type 0} (items : V → List A) (gives : ℕ → A → Type 0) (may_refuse : ℕ → Type 0) where
-  -- why both halves together were stuck
-  pub both-refused : (first low high : ℕ) (lower upper all : Result V Refusal)
+module _ {A V E : Type 0} (items : V → List A) (gives : ℕ → A → Type 0) (refuses : ℕ → E → Type 0) (may_refuse : ℕ → Type 0) where
+  -- why the lower half has no answer is why the whole has none
+  lower-of-range : (first low high : ℕ) (e : Refusal E) → IsOfRange gives refuses may_refuse first low e
+      → IsOfRange gives refuses may_refuse first (low + high) e
+  lower-of-range first low high NoMemory is = is
+  lower-of-range first low high Stuck is = lower-refused gives may_refuse first low high is
+  lower-of-range first low high (Worker e) is = lower-refused gives (λ worker. refuses worker e) first low high is
+
+  -- the same of the upper half, where the lower one has answered
+  upper-of-range : (first low middle high : ℕ) (xs : List A) (e : Refusal E) → first + low ≡ middle → EachGives gives first low xs
+      → IsOfRange gives refuses may_refuse middle high e → IsOfRange gives refuses may_refuse first (low + high) e
+  upper-of-range first low middle high xs NoMemory meets answers is = is
+  upper-of-range first low middle high xs Stuck meets answers is = upper-refused gives may_refuse first low middle high xs meets answers is
+  upper-of-range first low middle high xs (Worker e) meets answers is =
+      upper-refused gives (λ worker. refuses worker e) first low middle high xs meets answers is
+
+  -- why both halves together have no answer
+  pub both-refused : (first low middle high : ℕ) (lower upper all : Result V (Refusal E)) → first + low ≡ middle
       → IfOk lower (λ v. EachGives gives first low (items v))
-      → IfErr lower (λ e. e ≡ Stuck → RefusesLowest gives may_refuse first low)
-      → IfErr upper (λ e. e ≡ Stuck → RefusesLowest gives may_refuse (first + low) high)
-      → (all ≡ Err Stuck → (lower ≡ Err Stuck) ⊎ ((xs : V) × (lower ≡ Ok xs) × (upper ≡ Err Stuck)))
-      → IfErr all (λ e. e ≡ Stuck → RefusesLowest gives may_refuse first (low + high))
-  both-refused first low high lower upper (Ok v) answered below above ends = tt
-  both-refused first low high lower upper (Err e) answered below above ends = λ stuck.
-      elim (ends (ap Err stuck)) [
-        | inl lowest ↦ lower-refused gives may_refuse first low high (IfErr-at_err (λ e. e ≡ Stuck → RefusesLowest gives may_refuse first low) lowest below refl)
-        | inr next ↦
-            upper-refused gives may_refuse first low (first + low) high (items next.0) refl
-            (IfOk-at_ok (λ v. EachGives gives first low (items v)) next.1 answered)
-            (IfErr-at_err (λ e. e ≡ Stuck → RefusesLowest gives may_refuse (first + low) high) next.2 above refl)
-      ]
+      → IfErr lower (IsOfRange gives refuses may_refuse first low)
+      → IfErr upper (IsOfRange gives refuses may_refuse middle high)
+      → IfErr all (λ e. (e ≡ NoMemory) ⊎ ((lower ≡ Err e) ⊎ ((xs : V) × (lower ≡ Ok xs) × (upper ≡ Err e))))
+      → IfErr all (IsOfRange gives refuses may_refuse first (low + high))
+  both-refused first low middle high lower upper all meets answered below above ends =
+      IfErr-weaker all _ (IsOfRange gives refuses may_refuse first (low + high)) why ends
+    where
+      Ends : Refusal E → Type 0
+      Ends e = IsOfRange gives refuses may_refuse first (low + high) e
+
+      why : (e : Refusal E) → (e ≡ NoMemory) ⊎ ((lower ≡ Err e) ⊎ ((xs : V) × (lower ≡ Ok xs) × (upper ≡ Err e))) → Ends e
+      why e (inl none) = subst Ends (sym none) tt
+      why e (inr (inl lowest)) = lower-of-range first low high e (IfErr-at_err (IsOfRange gives refuses may_refuse first low) lowest below)
+      why e (inr (inr (xs, was, next))) =
+          upper-of-range first low middle high (items xs) e meets (IfOk-at_ok (λ v. EachGives gives first low (items v)) was answered)
+          (IfErr-at_err (IsOfRange gives refuses may_refuse middle high) next above)

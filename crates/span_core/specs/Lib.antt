@@ -6,3 +6,5 @@ pub mod Workers
 pub mod Shares
 pub mod Loops
 pub mod Errors
+pub use Rattle.quiet_core.specs.QuietList
+pub use Rattle.quiet_core.specs.QuietAt

@@ -1,5 +1,7 @@
 -- What a range of workers answers.
 use Rattle.std.specs.Prelude.{◌≡◌, ℕ, ◌+◌, ◌<◌, ◌≤◌, ◌⊎◌, List, length}
+use Rattle.span_core.specs.declared.errors.Refusal.{Refusal}
+use Rattle.span_core.specs.declared.errors.Refusal.TheVariants.{NoMemory, Stuck, Worker}
 use Rattle.span_core.specs.Each.{EachFrom}
 
 -- each worker that was let through is ready to work
@@ -18,6 +20,12 @@ MayRefuseOne may_refuse first count = (worker : ℕ) × (first ≤ worker) × (w
 abbrev pub RefusesLowest : {A : Type 0} → (ℕ → A → Type 0) → (ℕ → Type 0) → ℕ → ℕ → Type 0
 RefusesLowest {A} gives may_refuse first count =
     (lower : List A) × EachFrom gives first lower × (length lower < count) × may_refuse (first + length lower)
+
+-- why a range of workers has no answer, where each may refuse so, and the gate may refuse these
+abbrev pub IsOfRange : {A E : Type 0} → (ℕ → A → Type 0) → (ℕ → E → Type 0) → (ℕ → Type 0) → ℕ → ℕ → Refusal E → Type 0
+IsOfRange gives refuses may_refuse first count NoMemory = Unit {0}
+IsOfRange gives refuses may_refuse first count Stuck = RefusesLowest gives may_refuse first count
+IsOfRange gives refuses may_refuse first count (Worker e) = RefusesLowest gives (λ worker. refuses worker e) first count
 
 -- not a number of workers from 1 to 64
 abbrev pub IsBadNumber : ℕ → Type 0

@@ -34,17 +34,21 @@ impl fmt::Display for ParError {
 
 impl Error for ParError {}
 
-// Why a worker, or a range of workers, has no answer.
+/// Why a range of workers has no answer. All workers that were started have ended.
 #[derive(Clone, Copy, Debug, PartialEq, Eq)]
-pub(crate) enum Refusal {
+pub enum Refusal<E> {
+    /// There was no memory, or a thread couldn't be started.
     NoMemory,
+    /// The gate refused a worker.
     Stuck,
+    /// A worker refused.
+    Worker(E),
 }
 
-impl From<AllocError> for Refusal {
+impl<E> From<AllocError> for Refusal<E> {
     ghost from_gives = { λ _ e. e ≡ NoMemory };
 
-    fn from(_error: AllocError) -> Refusal {
+    fn from(_error: AllocError) -> Self {
         Refusal::NoMemory
     }
 }

@@ -6,9 +6,10 @@
 //! A caller can prove that `par_map` answers what the function answers to each place, in order, and that `par_reduce`
 //! answers the fold of that (`specs/Loops.antt`), whatever the number of workers; `laws` has what it needs to know of
 //! the functions that it passes in. Each worker passes a `Gate` before and after its work, and none works that the gate
-//! did not let through. `run_workers` starts any `Job` in the same way; where a gate stops it, the workers below the one
-//! that was refused have answered (`specs/Workers.antt`). Under both is `fork_join`, which starts any range of workers
-//! by halves. Nothing is said of which worker took a leaf, nor that a loop returns.
+//! did not let through. `run_workers` starts any `Job` in the same way, and `run_gated` any `Work`, whose workers bring
+//! something and may refuse; where one is refused, those below it have answered (`specs/Workers.antt`). Under them is
+//! `fork_join`, which starts any range of workers by halves. Nothing is said of which worker took a leaf, nor that a loop
+//! returns.
 #![tactic(auto)]
 
 mod by_halves;
@@ -26,9 +27,9 @@ mod workers;
 
 pub use by_halves::{ForkJoin, fork_join};
 pub use cursor::Cursor;
-pub use errors::ParError;
+pub use errors::{ParError, Refusal};
 pub use gate::{Free, Gate, PairGate};
 pub use map::par_map;
 pub use reduce::{Domain, par_reduce};
 pub use span::Span;
-pub use workers::{Job, run_workers};
+pub use workers::{Job, Work, run_gated, run_workers};

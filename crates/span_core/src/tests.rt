@@ -1,5 +1,7 @@
 //! What no clause says: that the loops answer where there is memory, that two threads really run at once, and the
 //! gate's order.
+ghost use Rattle.std.specs.Prelude.{◌<◌};
+
 mod memory;
 mod refusals;
 mod uses;
@@ -8,8 +10,10 @@ mod watch;
 use crate::{Free, Gate, PairGate, ParError, Span, par_map, par_reduce};
 use quiet_core::Quiet;
 use std::alloc::Global;
+use std::sync::Wait;
 use std::sync::atomic::{AtomicU64, Ordering};
 use std::test::Fail;
+use std::thread::Threads;
 
 fn bounds_of(alloc: Global, span: Span) -> Result<Vec<(u64, u64)>, Fail> {
     let mut bounds = Vec::new(alloc);
@@ -17,6 +21,12 @@ fn bounds_of(alloc: Global, span: Span) -> Result<Vec<(u64, u64)>, Fail> {
         bounds.push((leaf.from(), leaf.to()))?;
     }
     Ok(bounds)
+}
+
+// Whether a span is cut into leaves with these bounds.
+fn is_cut(alloc: Global, span: Span, bounds: &[(u64, u64)]) -> Result<bool, Fail> {
+    let cut = bounds_of(alloc, span)?;
+    Ok(cut.as_slice() == bounds)
 }
 
 fn squares(alloc: Global) -> Result<Quiet<u64>, Fail> {
@@ -58,130 +68,132 @@ impl Gate for Counting {
     }
 }
 
+const TEN: [(u64, u64); 4] = [(0, 2), (2, 5), (5, 7), (7, 10)];
+
+const NONE: [(u64, u64); 1] = [(4, 4)];
+
 #[test]
 fn leaves_are_cut_in_the_middle(rt: HostRuntime) -> Result<(), Fail> {
-    let cut = bounds_of(rt.alloc(), Span::new(0, 10, 3))?;
-    assert_eq!(rt;
-        cut.as_slice(),
-        [(0, 2), (2, 5), (5, 7), (7, 10)].as_slice()
-    );
-    let none = bounds_of(rt.alloc(), Span::new(4, 4, 1))?;
-    assert_eq!(rt; none.as_slice(), [(4, 4)].as_slice());
+    assert!(rt; is_cut(rt.alloc(), Span::new(0, 10, 3), TEN.as_slice())?);
+    assert!(rt; is_cut(rt.alloc(), Span::new(4, 4, 1), NONE.as_slice())?);
     Ok(())
 }
 
-#[test]
-fn every_number_of_workers_answers_the_same(rt: HostRuntime) -> Result<(), Fail> {
-    let list = squares(rt.alloc())?;
-    assert!(rt; list.len() == 10);
-    for workers in 1..7 {
-        let f = |place: u64, value: Option<&u64>| (place, value.copied());
-        let all = par_map(
-            &rt,
-            rt.alloc(),
-            &list,
-            Span::new(2, 5, 1),
-            workers,
-            &f,
-            &Free,
-        )?;
-        assert_eq!(rt;
-            all.as_slice(),
-            [(2, Some(4)), (3, Some(9)), (4, Some(16))].as_slice()
-        );
+const THREE: [(u64, Option<u64>); 3] = [(2, Some(4)), (3, Some(9)), (4, Some(16))];
+
+// Whether so many workers answer with the squares of 2, 3 and 4 and their places.
+fn maps_three<R: Threads + Wait + Sync>(
+    rt: &R,
+    alloc: Global,
+    list: &Quiet<u64>,
+    workers: u32,
+) -> Result<bool, ParError> {
+    if list.len() != 10 {
+        return Ok(false);
     }
-    Ok(())
+    let f = |place: u64, value: Option<&u64>| (place, value.copied());
+    let all = par_map(rt, alloc, list, Span::new(2, 5, 1), workers, &f, &Free)?;
+    Ok(all.as_slice() == THREE.as_slice())
+}
+
+// The sum of the values by so many workers.
+fn sum_of<R: Threads + Wait + Sync>(
+    rt: &R,
+    alloc: Global,
+    list: &Quiet<u64>,
+    workers: u32,
+) -> Result<u64, ParError> {
+    let f = |_place: u64, value: Option<&u64>| value.copied().unwrap_or(0);
+    let join = |a: u64, b: u64| a.wrapping_add(b);
+    let span = Span::new(0, list.len(), 3);
+    par_reduce(rt, alloc, list, span, workers, &f, 0u64, &join, &Free)
+}
+
+fn every_number_of_workers_answers_the_same<R: Threads + Wait + Sync>(
+    rt: &R,
+    alloc: Global,
+    list: &Quiet<u64>,
+) -> Result<bool, ParError> {
+    for workers in 1..7 {
+        if !maps_three(rt, alloc, list, workers)? || sum_of(rt, alloc, list, workers)? != 285 {
+            return Ok(false);
+        }
+    }
+    Ok(true)
+}
+
+// What refuses a map of the whole list.
+fn refusal_of<R: Threads + Wait + Sync, G: Gate + Sync>(
+    rt: &R,
+    alloc: Global,
+    list: &Quiet<u64>,
+    grain: u64,
+    workers: u32,
+    gate: &G,
+) -> Option<ParError>
+    requires { 0 < grain }
+{
+    let f = |place: u64, _value: Option<&u64>| place;
+    let span = Span::new(0, list.len(), grain);
+    par_map(rt, alloc, list, span, workers, &f, gate).err()
+}
+
+// What refuses a map in four leaves by so many workers, where two of them wait for each other.
+fn pair_refusal_of<R: Threads + Wait + Sync>(
+    rt: &R,
+    alloc: Global,
+    list: &Quiet<u64>,
+    workers: u32,
+    turns: u64,
+) -> Option<ParError> {
+    refusal_of(rt, alloc, list, 3, workers, &PairGate::new(turns))
+}
+
+fn two_workers_run_at_once<R: Threads + Wait + Sync>(
+    rt: &R,
+    alloc: Global,
+    list: &Quiet<u64>,
+) -> bool {
+    pair_refusal_of(rt, alloc, list, 2, 1_000_000_000) == None
+        && pair_refusal_of(rt, alloc, list, 2, 0) == Some(ParError::Stuck)
+        && pair_refusal_of(rt, alloc, list, 1, 1000) == Some(ParError::Stuck)
+}
+
+// What refuses a map in two leaves by five workers, so that three of them have no work; and what the gate counted.
+fn counted<R: Threads + Wait + Sync>(
+    rt: &R,
+    alloc: Global,
+    list: &Quiet<u64>,
+    refuses: u32,
+) -> (Option<ParError>, u64) {
+    let gate = Counting {
+        refuses,
+        passed: AtomicU64::new(0),
+    };
+    let refused = refusal_of(rt, alloc, list, 5, 5, &gate);
+    (refused, gate.passed.load(Ordering::SeqCst))
 }
 
 #[test]
-fn two_workers_run_at_once(rt: HostRuntime) -> Result<(), Fail> {
+fn loops_over_ten_squares_answer_and_pass_the_gate(rt: HostRuntime) -> Result<(), Fail> {
     let list = squares(rt.alloc())?;
     assert!(rt; list.len() == 10);
-    let f = |place: u64, _value: Option<&u64>| place;
-    let met = par_map(
-        &rt,
-        rt.alloc(),
-        &list,
-        Span::new(0, 10, 3),
-        2,
-        &f,
-        &PairGate::new(1_000_000_000),
-    );
-    assert!(rt; met.is_ok());
-    let unmet = par_map(
-        &rt,
-        rt.alloc(),
-        &list,
-        Span::new(0, 10, 3),
-        2,
-        &f,
-        &PairGate::new(0),
-    );
-    assert!(rt; matches!(unmet, Err(ParError::Stuck)));
-    let alone = par_map(
-        &rt,
-        rt.alloc(),
-        &list,
-        Span::new(0, 10, 3),
-        1,
-        &f,
-        &PairGate::new(1000),
-    );
-    assert!(rt; matches!(alone, Err(ParError::Stuck)));
+    assert!(rt; every_number_of_workers_answers_the_same(&rt, rt.alloc(), &list) == Ok(true));
+    assert!(rt; two_workers_run_at_once(&rt, rt.alloc(), &list));
+    // Each worker passes the gate twice.
+    assert!(rt; counted(&rt, rt.alloc(), &list, 5) == (None, 505));
+    assert!(rt; counted(&rt, rt.alloc(), &list, 2) == (Some(ParError::Stuck), 505));
     Ok(())
 }
 
 #[test]
 fn one_of_a_pair_waits_in_vain_until_the_other_came(rt: HostRuntime) {
     let gate = PairGate::new(5);
-    assert!(rt; !gate.before(0));
-    assert!(rt; gate.before(1));
-    assert!(rt; gate.before(0));
-    assert!(rt; gate.before(2));
-}
-
-#[test]
-fn each_worker_passes_the_gate_twice(rt: HostRuntime) -> Result<(), Fail> {
-    let list = squares(rt.alloc())?;
-    assert!(rt; list.len() == 10);
-    let f = |place: u64, _value: Option<&u64>| place;
-    // Two leaves, so three of the five workers have no work.
-    let open = Counting {
-        refuses: 5,
-        passed: AtomicU64::new(0),
-    };
-    assert!(rt; par_map(&rt, rt.alloc(), &list, Span::new(0, 10, 5), 5, &f, &open).is_ok());
-    assert_eq!(rt; open.passed.load(Ordering::SeqCst), 505);
-    let shut = Counting {
-        refuses: 2,
-        passed: AtomicU64::new(0),
-    };
-    let refused = par_map(&rt, rt.alloc(), &list, Span::new(0, 10, 5), 5, &f, &shut);
-    assert!(rt; matches!(refused, Err(ParError::Stuck)));
-    assert_eq!(rt; shut.passed.load(Ordering::SeqCst), 505);
-    Ok(())
-}
-
-#[test]
-fn every_number_of_workers_folds_the_same(rt: HostRuntime) -> Result<(), Fail> {
-    let list = squares(rt.alloc())?;
-    assert!(rt; list.len() == 10);
-    let f = |_place: u64, value: Option<&u64>| value.copied().unwrap_or(0);
-    let join = |a: u64, b: u64| a.wrapping_add(b);
-    for workers in 1..7 {
-        let span = Span::new(0, 10, 3);
-        let sum = par_reduce(
-            &rt,
-            rt.alloc(),
-            &list,
-            span,
-            workers,
-            &f,
-            0u64,
-            &join,
-            &Free,
-        )?;
-        assert_eq!(rt; sum, 285);
-    }
-    Ok(())
+    let through = [
+        gate.before(0),
+        gate.before(1),
+        gate.before(0),
+        gate.before(2),
+    ];
+    assert!(rt; through == [false, true, true, true]);
 }

@@ -1,7 +1,8 @@
 //! Workers that each pass a gate before and after their work, and give one answer each.
-ghost use Rattle.std.specs.Prelude.{◌≡◌, ◌≢◌, ℕ, ◌≤◌, ◌++◌, ◌⊎◌, ◌↔◌, Vec, Ok, IfOk, IsErrOf, Err};
+ghost use Rattle.std.specs.Prelude.{◌≡◌, ◌≢◌, ℕ, ◌+◌, ◌<◌, ◌≤◌, [], ◌∷◌, ◌++◌, ◌⊎◌, ◌↔◌};
+ghost use Rattle.std.specs.Prelude.{Vec, Ok, IfOk, IfErr, IsErrOf, Err};
 ghost use Rattle.std.specs.Bool.{MatchBool};
-ghost use Rattle.span_core.specs.Workers.{AreReadyBy, EachGives, RefusesLowest, IsBadNumber};
+ghost use Rattle.span_core.specs.Workers.{AreReadyBy, EachGives, RefusesLowest, IsOfRange, IsBadNumber};
 
 use crate::by_halves::{ForkJoin, fork_join};
 use crate::errors::{ParError, Refusal};
@@ -24,19 +25,47 @@ pub trait Job<A> {
         ensures { IfOk result (gives self.now worker) };
 }
 
+/// What each worker of a range does with what it brings.
+pub trait Work<S, A, E> {
+    /// When this worker may begin: mostly once a gate let it through.
+    ghost ready: { Self → ℕ → Type 0 };
+
+    /// What a range, of so many workers from the first on, may bring.
+    ghost brings: { Self → ℕ → ℕ → S → Type 0 };
+
+    /// What this worker may answer.
+    ghost gives: { Self → ℕ → A → Type 0 };
+
+    /// Why this worker may have no answer.
+    ghost refuses: { Self → ℕ → E → Type 0 };
+
+    /// Does the work of one worker.
+    fn work(&self, worker: u32, brought: S) -> Result<A, E>
+        requires ready { ready self.now worker }
+        requires brought { brings self.now worker 1 brought }
+        ensures answer { IfOk result (gives self.now worker) }
+        ensures refused { IfErr result (refuses self.now worker) };
+
+    /// Cuts what a range brings in two, for its `low` lowest workers and for the `high` others.
+    fn cut(&self, brought: S, first: u32, low: u32, high: u32) -> (S, S)
+        requires { brings self.now first (low + high) brought × (0 < low) × (0 < high) }
+        ensures lower { brings self.now first low result.0 }
+        ensures upper { brings self.now (first + low) high result.1 };
+}
+
 // The answers of both halves, or why there are none.
-fn both<A: Drop>(
-    lower: Result<Vec<A>, Refusal>,
-    upper: Result<Vec<A>, Refusal>,
-) -> Result<Vec<A>, Refusal>
+fn both<A: Drop, E: Drop>(
+    lower: Result<Vec<A>, Refusal<E>>,
+    upper: Result<Vec<A>, Refusal<E>>,
+) -> Result<Vec<A>, Refusal<E>>
     ensures answers { IfOk result (λ all. (xs : Vec A Global) × (ys : Vec A Global)
         × (lower ≡ Ok xs) × (upper ≡ Ok ys) × (all.items ≡ xs.items ++ ys.items)) }
     // Whatever the upper half did.
-    ensures lower_first { (e : Refusal) → lower ≡ Err e → result ≡ Err e }
-    ensures upper_next { (xs : Vec A Global) (e : Refusal) → lower ≡ Ok xs → upper ≡ Err e
+    ensures lower_first { (e : Refusal E) → lower ≡ Err e → result ≡ Err e }
+    ensures upper_next { (xs : Vec A Global) (e : Refusal E) → lower ≡ Ok xs → upper ≡ Err e
         → result ≡ Err e }
-    ensures stuck { result ≡ Err Refusal.Stuck → (lower ≡ Err Refusal.Stuck)
-        ⊎ ((xs : Vec A Global) × (lower ≡ Ok xs) × (upper ≡ Err Refusal.Stuck)) }
+    ensures refused { IfErr result (λ e. (e ≡ Refusal.NoMemory) ⊎ ((lower ≡ Err e)
+        ⊎ ((xs : Vec A Global) × (lower ≡ Ok xs) × (upper ≡ Err e)))) }
 {
     let mut answers = lower?;
     let mut more = upper?;
@@ -44,53 +73,57 @@ fn both<A: Drop>(
     Ok(answers)
 }
 
-// A job, and the gate that its workers pass.
+// What workers do, and the gate that they pass.
 #[derive(Drop)]
-struct Crew<'a, J, G> {
+struct Crew<'a, W, G> {
     alloc: Global,
-    job: &'a J,
+    work: &'a W,
     gate: &'a G,
 }
 
-impl<'a, A: Drop, J: Job<A>, G: Gate> ForkJoin<(), Vec<A>, Refusal> for Crew<'a, J, G> {
-    ghost use Rattle.std.specs.Prelude.{◌≡◌, ℕ, ◌+◌, ◌<◌, IfOk, IfErr, Result};
-    ghost use Rattle.span_core.specs.Workers.{AreReadyBy, EachGives, RefusesLowest};
-    ghost use Rattle.span_core.specs.declared.errors.Refusal.TheVariants.{Stuck};
+impl<'a, S: Drop, A: Drop, E: Drop, W: Work<S, A, E>, G: Gate> ForkJoin<S, Vec<A>, Refusal<E>>
+    for Crew<'a, W, G> {
+    ghost use Rattle.std.specs.Prelude.{ℕ, ◌+◌, ◌<◌, IfOk, IfErr, Result};
+    ghost use Rattle.span_core.specs.Workers.{AreReadyBy, EachGives, IsOfRange};
 
-    ghost brings = { λ c _ _ _. AreReadyBy (G.lets_through c.gate.now) (J.ready c.job.now) };
+    ghost brings = { λ c first count brought. W.brings c.work.now first count brought
+        × AreReadyBy (G.lets_through c.gate.now) (W.ready c.work.now) };
 
-    ghost gives = { λ c first count answers. EachGives (J.gives c.job.now) first count answers.items };
+    ghost gives = { λ c first count answers. EachGives (W.gives c.work.now) first count answers.items };
 
-    ghost refuses = { λ c first count e. e ≡ Stuck
-        → RefusesLowest (J.gives c.job.now) (G.may_refuse c.gate.now) first count };
+    ghost refuses = { λ c first count.
+        IsOfRange (W.gives c.work.now) (W.refuses c.work.now) (G.may_refuse c.gate.now) first count };
 
     // One worker passes the gate and works.
-    fn work(&self, worker: u32, _brought: ()) -> Result<Vec<A>, Refusal>
-        requires { AreReadyBy (G.lets_through self.now.gate.now) (J.ready self.now.job.now) }
-        ensures answer { IfOk result (λ answers. EachGives (J.gives self.now.job.now) worker 1 answers.items) }
-        ensures refused { IfErr result (λ e. e ≡ Stuck
-            → RefusesLowest (J.gives self.now.job.now) (G.may_refuse self.now.gate.now) worker 1) }
+    fn work(&self, worker: u32, brought: S) -> Result<Vec<A>, Refusal<E>>
+        requires { W.brings self.now.work.now worker 1 brought
+            × AreReadyBy (G.lets_through self.now.gate.now) (W.ready self.now.work.now) }
+        ensures answer { IfOk result (λ answers. EachGives (W.gives self.now.work.now) worker 1 answers.items) }
+        ensures refused { IfErr result (IsOfRange (W.gives self.now.work.now)
+            (W.refuses self.now.work.now) (G.may_refuse self.now.gate.now) worker 1) }
     {
         if !self.gate.before(worker) {
             self.gate.after(worker);
             return Err(Refusal::Stuck);
         }
-        let answer = self.job.work(worker);
+        let answer = self.work.work(worker, brought);
         self.gate.after(worker);
-        let mut answers = Vec::new(self.alloc);
-        match answers.push(answer?) {
-            Ok(()) => Ok(answers),
-            Err(_) => Err(Refusal::NoMemory),
+        match answer {
+            Ok(answer) => alone(self.alloc, answer),
+            Err(error) => Err(Refusal::Worker(error)),
         }
     }
 
-    fn cut(&self, brought: (), _first: u32, low: u32, high: u32) -> ((), ())
-        requires { AreReadyBy (G.lets_through self.now.gate.now) (J.ready self.now.job.now)
+    fn cut(&self, brought: S, first: u32, low: u32, high: u32) -> (S, S)
+        requires { (W.brings self.now.work.now first (low + high) brought
+            × AreReadyBy (G.lets_through self.now.gate.now) (W.ready self.now.work.now))
             × (0 < low) × (0 < high) }
-        ensures lower { AreReadyBy (G.lets_through self.now.gate.now) (J.ready self.now.job.now) }
-        ensures upper { AreReadyBy (G.lets_through self.now.gate.now) (J.ready self.now.job.now) }
+        ensures lower { W.brings self.now.work.now first low result.0
+            × AreReadyBy (G.lets_through self.now.gate.now) (W.ready self.now.work.now) }
+        ensures upper { W.brings self.now.work.now (first + low) high result.1
+            × AreReadyBy (G.lets_through self.now.gate.now) (W.ready self.now.work.now) }
     {
-        (brought, brought)
+        self.work.cut(brought, first, low, high)
     }
 
     fn both(
@@ -98,31 +131,97 @@ impl<'a, A: Drop, J: Job<A>, G: Gate> ForkJoin<(), Vec<A>, Refusal> for Crew<'a,
         first: u32,
         low: u32,
         high: u32,
-        lower: Result<Vec<A>, Refusal>,
-        upper: Result<Vec<A>, Refusal>,
-    ) -> Result<Vec<A>, Refusal>
-        requires lower { IfOk lower (λ xs. EachGives (J.gives self.now.job.now) first low xs.items)
-            × IfErr lower (λ e. e ≡ Stuck
-            → RefusesLowest (J.gives self.now.job.now) (G.may_refuse self.now.gate.now) first low) }
-        requires upper { IfOk upper (λ ys. EachGives (J.gives self.now.job.now) (first + low) high ys.items)
-            × IfErr upper (λ e. e ≡ Stuck
-            → RefusesLowest (J.gives self.now.job.now) (G.may_refuse self.now.gate.now) (first + low) high) }
-        ensures answer { IfOk result (λ all. EachGives (J.gives self.now.job.now) first (low + high) all.items) }
-        ensures refused { IfErr result (λ e. e ≡ Stuck
-            → RefusesLowest (J.gives self.now.job.now) (G.may_refuse self.now.gate.now) first (low + high)) }
+        lower: Result<Vec<A>, Refusal<E>>,
+        upper: Result<Vec<A>, Refusal<E>>,
+    ) -> Result<Vec<A>, Refusal<E>>
+        requires lower { IfOk lower (λ xs. EachGives (W.gives self.now.work.now) first low xs.items)
+            × IfErr lower (IsOfRange (W.gives self.now.work.now) (W.refuses self.now.work.now)
+            (G.may_refuse self.now.gate.now) first low) }
+        requires upper { IfOk upper (λ ys. EachGives (W.gives self.now.work.now) (first + low) high ys.items)
+            × IfErr upper (IsOfRange (W.gives self.now.work.now) (W.refuses self.now.work.now)
+            (G.may_refuse self.now.gate.now) (first + low) high) }
+        ensures answer { IfOk result (λ all. EachGives (W.gives self.now.work.now) first (low + high) all.items) }
+        ensures refused { IfErr result (IsOfRange (W.gives self.now.work.now)
+            (W.refuses self.now.work.now) (G.may_refuse self.now.gate.now) first (low + high)) }
     {
         both(lower, upper)
     }
 
-    fn unstarted(&self, _first: u32, _count: u32) -> Refusal {
+    fn unstarted(&self, _first: u32, _count: u32) -> Refusal<E> {
         Refusal::NoMemory
+    }
+}
+
+// The answer of one worker.
+fn alone<A: Drop, E>(alloc: Global, answer: A) -> Result<Vec<A>, Refusal<E>>
+    ensures answer { IfOk result (λ answers. answers.items ≡ answer ∷ []) }
+    ensures memory { IfErr result (λ e. e ≡ Refusal.NoMemory) }
+{
+    let mut answers = Vec::new(alloc);
+    match answers.push(answer) {
+        Ok(()) => Ok(answers),
+        Err(_) => Err(Refusal::NoMemory),
+    }
+}
+
+/// Runs the work of each worker in a thread of its own, but the first, and answers what each gave, in order.
+///
+/// Each passes the gate before its work and after it. They are started by `fork_join`; where a range's thread can't be
+/// started, none of it passes the gate. The refusal of the worker with the lowest number is answered. Every thread
+/// that was started has ended then.
+pub fn run_gated<
+    R: Threads + Wait + Sync,
+    S: Send + Drop,
+    A: Send + Drop,
+    E: Send + Drop,
+    W: Work<S, A, E> + Sync,
+    G: Gate + Sync,
+>(rt: &R, alloc: Global, work: &W, gate: &G, brought: S, workers: u32) -> Result<Vec<A>, Refusal<E>>
+    requires ready { AreReadyBy (G.lets_through gate.now) (W.ready work.now) }
+    requires brought { W.brings work.now 0 workers brought }
+    requires some { 0 < workers }
+    ensures answers { IfOk result (λ answers. EachGives (W.gives work.now) 0 workers answers.items) }
+    // Each worker below the one that was refused has given an answer.
+    ensures refused { IfErr result (IsOfRange (W.gives work.now) (W.refuses work.now)
+        (G.may_refuse gate.now) 0 workers) }
+{
+    let crew = Crew { alloc, work, gate };
+    fork_join(rt, &crew, brought, 0, workers)
+}
+
+// A job as work for which nothing is brought.
+#[derive(Drop)]
+struct Plain<'a, J> {
+    job: &'a J,
+}
+
+impl<'a, A, J: Job<A>> Work<(), A, AllocError> for Plain<'a, J> {
+    ghost use Rattle.std.specs.Prelude.{IfOk, IfErr, ⊤};
+
+    ghost ready = { λ p. J.ready p.job.now };
+
+    ghost brings = { λ _ _ _ _. ⊤ };
+
+    ghost gives = { λ p. J.gives p.job.now };
+
+    ghost refuses = { λ _ _ _. ⊤ };
+
+    fn work(&self, worker: u32, _brought: ()) -> Result<A, AllocError>
+        requires ready { J.ready self.now.job.now worker }
+        ensures answer { IfOk result (J.gives self.now.job.now worker) }
+        ensures refused { IfErr result (λ _. ⊤) }
+    {
+        self.job.work(worker)
+    }
+
+    fn cut(&self, brought: (), _first: u32, _low: u32, _high: u32) -> ((), ()) {
+        (brought, brought)
     }
 }
 
 /// Runs the job of each worker in a thread of its own, but the first, and answers what each gave, in order.
 ///
-/// They are started by `fork_join`; where a range's thread can't be started, nobody of it passes the gate. The refusal
-/// of the worker with the lowest number is answered. Every thread that was started has ended then.
+/// They are started by `run_gated`.
 pub fn run_workers<R: Threads + Wait + Sync, A: Send + Drop, J: Job<A> + Sync, G: Gate + Sync>(
     rt: &R,
     alloc: Global,
@@ -141,10 +240,9 @@ pub fn run_workers<R: Threads + Wait + Sync, A: Send + Drop, J: Job<A> + Sync, G
     if !are_workers(workers) {
         return Err(ParError::BadWorkers);
     }
-    let crew = Crew { alloc, job, gate };
-    match fork_join(rt, &crew, (), 0, workers) {
+    match run_gated(rt, alloc, &Plain { job }, gate, (), workers) {
         Ok(answers) => Ok(answers),
-        Err(Refusal::NoMemory) => Err(ParError::NoMemory),
+        Err(Refusal::NoMemory | Refusal::Worker(AllocError)) => Err(ParError::NoMemory),
         Err(Refusal::Stuck) => Err(ParError::Stuck),
     }
 }

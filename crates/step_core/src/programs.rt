@@ -42,7 +42,7 @@ fn have_programs(programs: &[Sequence<Command>], items: &[Item]) -> bool
     items.iter().all(|item| (item.actor as usize) < count)
 }
 
-/// Whether the programs can be run: the limit is looked at first, then the commands.
+// Whether the programs can be run: the limit is looked at first, then the commands.
 pub(crate) fn check_programs(limit: u64, programs: &[Sequence<Command>]) -> Result<(), MakeError>
     ensures limit { OnOk result (IsLimit limit) }
     ensures sound { OnOk result (AreSound programs.now) }
@@ -60,7 +60,7 @@ pub(crate) fn check_programs(limit: u64, programs: &[Sequence<Command>]) -> Resu
     Ok(())
 }
 
-/// Whether the schedule can be played: the programs are looked at first, and then whether each item has one.
+// Whether the schedule can be played: the programs are looked at first, and then whether each item has one.
 pub(crate) fn check_schedule(
     limit: u64,
     programs: &[Sequence<Command>],

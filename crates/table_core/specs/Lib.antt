@@ -1,3 +1,5 @@
 pub mod Entry
 pub mod Table
 pub mod Lending
+pub use Rattle.cell_core.specs.Block
+pub use Rattle.seg_core.specs.Segment

@@ -91,7 +91,7 @@ fn note_push(
             Ok(Some(placed))
         }
         Err(error) => {
-            caller.record.note_refused(error)?;
+            caller.record.note_refused(&error)?;
             Ok(None)
         }
     }
@@ -159,7 +159,7 @@ fn grow(
     let first = caller.take_values(n);
     match vector.try_grow_vec(hand, values_from(alloc, first, n)?) {
         Ok(grown) => note_run(caller, first, &grown),
-        Err(error) => caller.record.note_refused(error),
+        Err(error) => caller.record.note_refused(&error),
     }
 }
 
@@ -212,6 +212,40 @@ fn share(vector: &Shared<u64>, hand: &mut Hand<u64>, other: &mut Hand<u64>)
     }
 }
 
+// A call of a kind that gives no token; no other kind is asked for.
+fn make_plain_call(
+    kind: Kind,
+    alloc: Global,
+    vector: &Shared<u64>,
+    hand: &mut Hand<u64>,
+    other: &mut Hand<u64>,
+    token: &Option<Placed<u64>>,
+    caller: &mut Caller,
+) -> Result<()>
+    requires ours { IsHandOf vector.now hand.old }
+    requires also_ours { IsHandOf vector.now other.old }
+    requires token_ours { IfSome token.now (IsPlacedOf vector.now) }
+    ensures of { hand.new.of ≡ hand.old.of }
+    ensures also_of { other.new.of ≡ other.old.of }
+{
+    match kind {
+        Kind::TryPush | Kind::Push => {}
+        Kind::Grow => return grow(alloc, vector, hand, caller, FEW),
+        Kind::GrowFar => return grow(alloc, vector, hand, caller, MOST),
+        Kind::Size => {
+            vector.size(hand);
+        }
+        Kind::Look => {
+            let place = caller.random.below(hand.seen().saturating_add(FEW));
+            return look(vector, hand, caller, place, None);
+        }
+        Kind::LookByToken => return look_by_token(vector, hand, caller, token),
+        Kind::Meet => vector.meet(hand, other),
+        Kind::Share => share(vector, hand, other),
+    }
+    Ok(())
+}
+
 /// One random call by the hand, in some kinds with the other one. The token is that of the thread's last push.
 pub fn make_call<R: Wait>(
     rt: &R,
@@ -230,20 +264,11 @@ pub fn make_call<R: Wait>(
     ensures token { IfOk result (λ token. IfSome token (IsPlacedOf vector.now)) }
 {
     match KINDS[caller.below(KINDS.len())] {
-        Kind::TryPush => return try_push(vector, hand, caller),
-        Kind::Push => return push(rt, vector, hand, caller),
-        Kind::Grow => grow(alloc, vector, hand, caller, FEW)?,
-        Kind::GrowFar => grow(alloc, vector, hand, caller, MOST)?,
-        Kind::Size => {
-            vector.size(hand);
+        Kind::TryPush => try_push(vector, hand, caller),
+        Kind::Push => push(rt, vector, hand, caller),
+        kind => {
+            make_plain_call(kind, alloc, vector, hand, other, &token, caller)?;
+            Ok(token)
         }
-        Kind::Look => {
-            let place = caller.random.below(hand.seen().saturating_add(FEW));
-            look(vector, hand, caller, place, None)?;
-        }
-        Kind::LookByToken => look_by_token(vector, hand, caller, &token)?,
-        Kind::Meet => vector.meet(hand, other),
-        Kind::Share => share(vector, hand, other),
     }
-    Ok(token)
 }

@@ -28,6 +28,17 @@ fn places_of<R: AllocGlobal>(rt: &R, size: u64, records: &[Record]) -> Result<Ve
     Ok(places)
 }
 
+// The value at a place, which must be readable.
+fn value_at(vector: &Shared<u64>, hand: &mut Hand<u64>, place: u64) -> Result<u64>
+    requires ours { IsHandOf vector.now hand.old }
+    ensures of { hand.new.of ≡ hand.old.of }
+{
+    match vector.at(hand, place, None) {
+        Ok(at) => Ok(*at.value),
+        Err(error) => bail!("place {place}: {error}"),
+    }
+}
+
 // Each place has the value that an answer said.
 fn compare_places(vector: &Shared<u64>, hand: &mut Hand<u64>, places: &[Option<u64>]) -> Result<()>
     requires ours { IsHandOf vector.now hand.old }
@@ -37,10 +48,7 @@ fn compare_places(vector: &Shared<u64>, hand: &mut Hand<u64>, places: &[Option<u
         let Some(said) = said else {
             bail!("place {place} is below the size, and was not answered")
         };
-        let value = match vector.at(hand, place as u64, None) {
-            Ok(at) => *at.value,
-            Err(error) => bail!("place {place}: {error}"),
-        };
+        let value = value_at(vector, hand, place as u64)?;
         ensure!(
             value == *said,
             "place {place} has {value}, and {said} was pushed"
@@ -58,6 +66,23 @@ fn compare_read(places: &[Option<u64>], read: &[Filled]) -> Result<()> {
     Ok(())
 }
 
+// Each place has the value that an answer said, and what was read is there.
+fn compare_with(
+    vector: &Shared<u64>,
+    hand: &mut Hand<u64>,
+    places: &[Option<u64>],
+    records: &[Record],
+) -> Result<()>
+    requires ours { IsHandOf vector.now hand.old }
+    ensures of { hand.new.of ≡ hand.old.of }
+{
+    compare_places(vector, hand, places)?;
+    for record in records {
+        compare_read(places, record.read.as_slice())?;
+    }
+    Ok(())
+}
+
 /// Compares each place with what the answers said, by a hand that all other hands were joined to.
 pub fn compare_all<R: AllocGlobal>(
     rt: &R,
@@ -70,9 +95,5 @@ pub fn compare_all<R: AllocGlobal>(
 {
     let size = vector.size(hand);
     let places = places_of(rt, size, records)?;
-    compare_places(vector, hand, places.as_slice())?;
-    for record in records {
-        compare_read(places.as_slice(), record.read.as_slice())?;
-    }
-    Ok(())
+    compare_with(vector, hand, places.as_slice(), records)
 }

@@ -93,6 +93,23 @@ pub fn join_all(vector: &Shared<u64>, hand: &mut Hand<u64>, others: Vec<Hand<u64
     }
 }
 
+// All calls by the hand and others that are cut from it, and joined to one at the end.
+fn call_by_many<R: Wait>(
+    rt: &R,
+    alloc: Global,
+    vector: &Shared<u64>,
+    hand: &mut Hand<u64>,
+    caller: &mut Caller,
+) -> Result<()>
+    requires ours { IsHandOf vector.now hand.old }
+    ensures ours { IsHandOf vector.now hand.new }
+{
+    let mut others = hands_for(alloc, vector, hand, HANDS - 1, SHARES)?;
+    let called = call_often(rt, alloc, vector, hand, others.as_mut_slice(), caller);
+    join_all(vector, hand, others);
+    called
+}
+
 /// The calls of one thread.
 pub fn run_job<R: Wait + AllocGlobal>(rt: &R, vector: &Shared<u64>, job: Job) -> Result<Outcome>
     requires ours { IsHandOf vector.now job.hand }
@@ -101,16 +118,7 @@ pub fn run_job<R: Wait + AllocGlobal>(rt: &R, vector: &Shared<u64>, job: Job) ->
     let mut hand = job.hand;
     let alloc = rt.alloc();
     let mut caller = Caller::new(alloc, job.vector, job.thread);
-    let mut others = hands_for(alloc, vector, &mut hand, HANDS - 1, SHARES)?;
-    call_often(
-        rt,
-        alloc,
-        vector,
-        &mut hand,
-        others.as_mut_slice(),
-        &mut caller,
-    )?;
-    join_all(vector, &mut hand, others);
+    call_by_many(rt, alloc, vector, &mut hand, &mut caller)?;
     let Caller { record, .. } = caller;
     Ok(Outcome { hand, record })
 }

@@ -48,7 +48,7 @@ impl Record {
     }
 
     /// A growth was refused, for a reason that may come.
-    pub fn note_refused<V: Drop>(&mut self, error: GrowError<u64, V, Never>) -> Result<()> {
+    pub fn note_refused<V: Drop>(&mut self, error: &GrowError<u64, V, Never>) -> Result<()> {
         match error {
             GrowError::Moved { .. } => self.lost = self.lost.wrapping_add(1),
             GrowError::Full { .. } => self.full = self.full.wrapping_add(1),

@@ -1,4 +1,5 @@
 // What the calls of a block answer of a cell.
+use crate::block::begun::Begun;
 use crate::block::placed::Placed;
 use crate::block::spoilt::Spoilt;
 
@@ -6,7 +7,7 @@ use crate::block::spoilt::Spoilt;
 #[derive(Debug, Drop)]
 pub enum Found<T> {
     /// Nothing yet: a pen is out.
-    Busy,
+    Busy(Begun),
     /// A value.
     Filled(Placed<T>),
     /// None: it is broken.

@@ -1,7 +1,7 @@
 // The raw steps on one cell, each a few lines round one atomic step.
 // The word is 0 where the cell is empty, 1 while one thread has it, 2 where it is filled and 3 where it is broken.
-ghost use Rattle.std.specs.Prelude.{◌≡◌, ℕ, ◌<◌, Option};
-ghost use base.Fml.{ffalse};
+ghost use Rattle.std.specs.Prelude.{◌≡◌, ◌≢◌, ℕ, ◌<◌, Option};
+ghost use base.Fml.{ftrue, ffalse};
 ghost use denote.Sharing.{said};
 ghost use Rattle.std.specs.Coded.{coded_option};
 ghost use Rattle.cell_core.specs.Slot.{Names, names_coded, shared, claimed, sighted, written, spoilt};
@@ -76,6 +76,16 @@ impl Model for Crack {
     ghost also_owns = { λ c. spoilt c.of };
 
     ghost also_shares = { λ c _ κ. said (spoilt c.of) κ };
+}
+
+// What shows that another call began a cell. It has no bytes, and a lost exchange alone makes one.
+pub(crate) struct Begun {
+    marker: PhantomData<()>,
+    pub(crate) ghost of: { Names } by { names_coded },
+}
+
+impl Model for Begun {
+    ghost also_owns = { λ _. ftrue };
 }
 
 impl<T> Slot<T> {
@@ -172,11 +182,15 @@ impl<'a, T> Claim<'a, T> {
         }
     }
 
-    // Ends a claim that gained nothing.
-    pub(crate) fn done(self)
-        requires { 0 < self.found }
+    // What a lost exchange shows of a cell that is neither filled nor broken.
+    pub(crate) fn begun(self) -> Begun
+        requires { (0 < self.found) × (self.found ≢ 2) × (self.found ≢ 3) }
+        ensures { result.of ≡ self.entry.of }
     {
         let Claim { slot: _, marker: _ } = self;
+        Begun {
+            marker: PhantomData,
+        }
     }
 }
 
@@ -244,6 +258,12 @@ impl Drop for Crack {
     }
 }
 
+impl Drop for Begun {
+    fn drop(self) {
+        let Self { marker: _ } = self;
+    }
+}
+
 unsafe impl<T: Send> Send for Slot<T> {}
 
 unsafe impl<T: Send + Sync> Sync for Slot<T> {}
@@ -257,3 +277,7 @@ unsafe impl<T> Sync for Written<T> {}
 unsafe impl Send for Crack {}
 
 unsafe impl Sync for Crack {}
+
+unsafe impl Send for Begun {}
+
+unsafe impl Sync for Begun {}

@@ -182,23 +182,20 @@ fn claim_by_two<A: Allocator>(word: &Word<A>, mut a: KeyedHand) -> Option<(Run, 
     }
 }
 
+const FIRST: Run = Run {
+    from: BLOCK - 1,
+    n: 2,
+};
+
+const SECOND: Run = Run {
+    from: BLOCK + 1,
+    n: BLOCK,
+};
+
 #[test]
 fn keys_stay_with_their_runs(rt: HostRuntime) -> Result<(), Fail> {
     let (word, hand) = Word::open(rt.alloc(), 1 << 32, BLOCK - 1)?;
-    let (first, second) = claim_by_two(&word, KeyedHand::new(hand)).ok_or("a key is missing")?;
-    assert_eq!(rt;
-        first,
-        Run {
-            from: BLOCK - 1,
-            n: 2
-        }
-    );
-    assert_eq!(rt;
-        second,
-        Run {
-            from: BLOCK + 1,
-            n: BLOCK
-        }
-    );
+    let claimed = claim_by_two(&word, KeyedHand::new(hand));
+    assert!(rt; claimed == Some((FIRST, SECOND)));
     Ok(())
 }

@@ -1,72 +1,166 @@
-// What no clause says: that a call looks at the word. In each test a third hand has claimed since, so that a body which
-// answers what its hand had seen is found out.
-use super::hands::Hands;
-use crate::{Enough, Moved, OpenError};
+// Tables of steps: the answers of each call, and that a call looks at the word. For the latter a third hand has claimed
+// since, so that a body which answers what its hand had seen is found out.
+use super::hands::{Answer, Call, Hands, Step};
+use crate::{Enough, Moved, Run};
 use std::alloc::AllocGlobal;
 use std::process::Abort;
-use std::test::Fail;
 
-// A word of size 5, and two hands that have seen the size 2.
-fn word_of_five<R: AllocGlobal + Abort>(rt: &R) -> Hands {
-    let mut two = Hands::new(rt, 8, 2);
-    two.raise_third(5);
-    assert!(rt; two.a.seen() == 2 && two.b.seen() == 2);
-    two
+// A limit, a base, steps with their answers, and the size at the end, where one hand then has all shares.
+struct Story {
+    name: &'static str,
+    limit: u64,
+    base: u64,
+    steps: &'static [(Step, Answer)],
+    size: Option<u64>,
+}
+
+#[rattlefmt::skip]
+const STORIES: [Story; 9] = [
+    Story {
+        name: "a whole hand claims and stays whole",
+        limit: 8, base: 0,
+        steps: &[
+            (Step::A(Call::Seen), Answer::Is(0)),
+            (Step::A(Call::Exchange(0, 2)), Answer::Claims(Run { from: 0, n: 2 })),
+            (Step::A(Call::IsWhole), Answer::Holds(true)),
+        ],
+        size: Some(2),
+    },
+    Story {
+        name: "two hands claim in turn",
+        limit: 8, base: 0,
+        steps: &[
+            (Step::A(Call::Raise(2)), Answer::Claims(Run { from: 0, n: 2 })),
+            (Step::Split(1), Answer::Done),
+            (Step::A(Call::Share), Answer::Is(65_535)),
+            (Step::B(Call::Seen), Answer::Is(2)),
+            (Step::B(Call::Exchange(2, 1)), Answer::Claims(Run { from: 2, n: 1 })),
+            (Step::A(Call::Seen), Answer::Is(2)),
+            (Step::A(Call::Exchange(2, 1)), Answer::Moves(Moved { size: 3 })),
+            (Step::A(Call::Raise(5)), Answer::Claims(Run { from: 3, n: 2 })),
+            (Step::B(Call::Size), Answer::Is(5)),
+            (Step::B(Call::Raise(4)), Answer::Finds(Enough { size: 5 })),
+        ],
+        size: Some(5),
+    },
+    Story {
+        name: "a hand is lost while others go on",
+        limit: 8, base: 0,
+        steps: &[
+            (Step::A(Call::IsWhole), Answer::Holds(true)),
+            (Step::Split(100), Answer::Done),
+            (Step::B(Call::Raise(3)), Answer::Claims(Run { from: 0, n: 3 })),
+            (Step::Lose, Answer::Done),
+            (Step::A(Call::Size), Answer::Is(3)),
+            (Step::A(Call::Exchange(3, 5)), Answer::Claims(Run { from: 3, n: 5 })),
+            (Step::A(Call::IsWhole), Answer::Holds(false)),
+        ],
+        size: None,
+    },
+    Story {
+        name: "a word may begin at its greatest limit",
+        limit: 1 << 32, base: 1 << 32,
+        steps: &[
+            (Step::Limit, Answer::Is(1 << 32)),
+            (Step::Base, Answer::Is(1 << 32)),
+            (Step::A(Call::Seen), Answer::Is(1 << 32)),
+        ],
+        size: Some(1 << 32),
+    },
+    Story {
+        name: "one exchange claims all places of the greatest limit",
+        limit: 1 << 32, base: 0,
+        steps: &[
+            (
+                Step::A(Call::Exchange(0, 1 << 32)),
+                Answer::Claims(Run { from: 0, n: 1 << 32 }),
+            ),
+            (Step::A(Call::Size), Answer::Is(1 << 32)),
+        ],
+        size: Some(1 << 32),
+    },
+    Story {
+        name: "a load shows what a third hand claimed",
+        limit: 8, base: 0,
+        steps: &[
+            (Step::A(Call::Raise(2)), Answer::Claims(Run { from: 0, n: 2 })),
+            (Step::Third(5), Answer::Claims(Run { from: 2, n: 3 })),
+            (Step::A(Call::Seen), Answer::Is(2)),
+            (Step::A(Call::Size), Answer::Is(5)),
+            (Step::A(Call::Seen), Answer::Is(5)),
+        ],
+        size: None,
+    },
+    Story {
+        name: "a meeting shows what a third hand claimed",
+        limit: 8, base: 0,
+        steps: &[
+            (Step::A(Call::Raise(2)), Answer::Claims(Run { from: 0, n: 2 })),
+            (Step::Split(1), Answer::Done),
+            (Step::Third(5), Answer::Claims(Run { from: 2, n: 3 })),
+            (Step::A(Call::Seen), Answer::Is(2)),
+            (Step::B(Call::Seen), Answer::Is(2)),
+            (Step::Meet, Answer::Done),
+            (Step::A(Call::Seen), Answer::Is(5)),
+            (Step::B(Call::Seen), Answer::Is(5)),
+        ],
+        size: None,
+    },
+    Story {
+        name: "an exchange from below what was seen shows the new size",
+        limit: 8, base: 0,
+        steps: &[
+            (Step::A(Call::Raise(2)), Answer::Claims(Run { from: 0, n: 2 })),
+            (Step::Split(1), Answer::Done),
+            (Step::Third(5), Answer::Claims(Run { from: 2, n: 3 })),
+            (Step::A(Call::Seen), Answer::Is(2)),
+            (Step::B(Call::Seen), Answer::Is(2)),
+            (Step::A(Call::Exchange(1, 1)), Answer::Moves(Moved { size: 5 })),
+            (Step::B(Call::Exchange(0, 2)), Answer::Moves(Moved { size: 5 })),
+            (Step::A(Call::Seen), Answer::Is(5)),
+            (Step::B(Call::Seen), Answer::Is(5)),
+        ],
+        size: None,
+    },
+    Story {
+        name: "a raise to what was seen or less shows the new size",
+        limit: 8, base: 0,
+        steps: &[
+            (Step::A(Call::Raise(2)), Answer::Claims(Run { from: 0, n: 2 })),
+            (Step::Split(1), Answer::Done),
+            (Step::Third(5), Answer::Claims(Run { from: 2, n: 3 })),
+            (Step::A(Call::Seen), Answer::Is(2)),
+            (Step::B(Call::Seen), Answer::Is(2)),
+            (Step::A(Call::Raise(2)), Answer::Finds(Enough { size: 5 })),
+            (Step::B(Call::Raise(1)), Answer::Finds(Enough { size: 5 })),
+            (Step::A(Call::Seen), Answer::Is(5)),
+            (Step::B(Call::Seen), Answer::Is(5)),
+        ],
+        size: None,
+    },
+];
+
+// The steps of a story answer as it says.
+fn follow<R: Abort>(rt: &R, hands: &mut Hands, story: &Story) {
+    for (step, answer) in story.steps {
+        assert_eq!(rt; hands.make(*step), *answer, "{}", story.name);
+    }
+}
+
+// The word is new at the story's begin, and is closed at its end.
+fn tell<R: AllocGlobal + Abort>(rt: &R, story: &Story) {
+    match Hands::new(rt.alloc(), story.limit, story.base) {
+        Ok(mut hands) => {
+            follow(rt, &mut hands, story);
+            assert!(rt; hands.close() == story.size, "{}", story.name);
+        }
+        Err(error) => panic!(rt; "{error}"),
+    }
 }
 
 #[test]
-fn a_load_shows_what_a_third_hand_claimed(rt: HostRuntime) {
-    let mut two = word_of_five(&rt);
-    assert_eq!(rt; two.size_a(), 5);
-    assert_eq!(rt; two.a.seen(), 5);
-}
-
-#[test]
-fn a_meeting_shows_what_a_third_hand_claimed(rt: HostRuntime) {
-    let mut two = word_of_five(&rt);
-    two.meet();
-    assert_eq!(rt; (two.a.seen(), two.b.seen()), (5, 5));
-}
-
-#[test]
-fn an_exchange_from_below_what_was_seen_shows_the_new_size(rt: HostRuntime) {
-    let mut two = word_of_five(&rt);
-    assert_eq!(rt; two.exchange_a(1, 1), Some(Err(Moved { size: 5 })));
-    assert_eq!(rt; two.exchange_b(0, 2), Some(Err(Moved { size: 5 })));
-    assert_eq!(rt; (two.a.seen(), two.b.seen()), (5, 5));
-}
-
-#[test]
-fn a_raise_to_what_was_seen_or_less_shows_the_new_size(rt: HostRuntime) {
-    let mut two = word_of_five(&rt);
-    assert_eq!(rt; two.raise_a(2), Some(Err(Enough { size: 5 })));
-    assert_eq!(rt; two.raise_b(1), Some(Err(Enough { size: 5 })));
-    assert_eq!(rt; (two.a.seen(), two.b.seen()), (5, 5));
-}
-
-#[test]
-fn words_and_hands_are_shown(rt: HostRuntime) -> Result<(), Fail> {
-    let two = word_of_five(&rt);
-    let shown = format!(in rt.alloc(); "{:?}, {:?}", two.word, two.a)?;
-    assert_eq!(rt;
-        shown.as_str(),
-        "Word { limit: 8, base: 0, .. }, Hand { seen: 2, shares: 65534, .. }"
-    );
-    Ok(())
-}
-
-#[test]
-fn refusals_are_shown(rt: HostRuntime) -> Result<(), Fail> {
-    let (moved, enough) = (Moved { size: 5 }, Enough { size: 7 });
-    let shown = format!(in rt.alloc(); "{moved}, {enough}, {}", OpenError::NoMemory)?;
-    assert_eq!(rt;
-        shown.as_str(),
-        "the size has moved to 5, the size is already 7, out of memory"
-    );
-    let shown = format!(in rt.alloc(); "{}", OpenError::BadLimit)?;
-    assert_eq!(rt;
-        shown.as_str(),
-        "the limit is not from 1 to 4294967296, or the base is above it"
-    );
-    Ok(())
+fn each_step_of_a_story_answers_as_it_says(rt: HostRuntime) {
+    for story in STORIES.as_slice() {
+        tell(&rt, story);
+    }
 }

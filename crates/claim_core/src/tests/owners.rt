@@ -1,5 +1,5 @@
 // What callers prove of runs and places that hands own, by the public clauses and laws alone.
-ghost use Rattle.std.specs.Prelude.{◌≡◌, ◌≢◌, ◌+◌, IfSome};
+ghost use Rattle.std.specs.Prelude.{◌≡◌, ◌≢◌, ◌+◌, ◌<◌, IfSome};
 ghost use Rattle.claim_core.specs.Hand.{IsHandOf, OwnsRun, IsOwnRun, single, seen_size, own_places};
 
 use crate::{Hand, Run, Word, laws};
@@ -98,27 +98,19 @@ fn place_of(owner: &Owner) -> Run
     }
 }
 
-#[test]
-fn a_hand_owns_what_two_claimed(rt: HostRuntime) -> Result<(), Fail> {
-    let (word, mut a) = Word::open(rt.alloc(), 8, 3)?;
+// An owner's place, and what its hand has seen.
+fn owned_by_two<A: Allocator>(word: &Word<A>, mut a: Hand) -> Option<(Run, u64)>
+    requires ours { IsHandOf word.now a }
+    requires some_shares { 1 < a.shares }
+{
     let b = word.split(&mut a, 1);
-    let owner = claim_by_two(&word, a, b).ok_or("a place was not claimed")?;
-    assert_eq!(rt; place_of(&owner), Run { from: 3, n: 1 });
-    assert_eq!(rt; owner.hand.seen(), 5);
-    Ok(())
+    let owner = claim_by_two(word, a, b)?;
+    Some((place_of(&owner), owner.hand.seen()))
 }
 
-// One exchange claims all places of the greatest limit.
 #[test]
-fn a_word_is_claimed_up_to_its_greatest_limit(rt: HostRuntime) -> Result<(), Fail> {
-    let (word, mut hand) = Word::open(rt.alloc(), 1 << 32, 0)?;
-    assert_eq!(rt;
-        word.exchange(&mut hand, 0, 1 << 32),
-        Ok(Run {
-            from: 0,
-            n: 1 << 32
-        })
-    );
-    assert_eq!(rt; word.size(&mut hand), 1 << 32);
+fn a_hand_owns_what_two_claimed(rt: HostRuntime) -> Result<(), Fail> {
+    let (word, a) = Word::open(rt.alloc(), 8, 3)?;
+    assert!(rt; owned_by_two(&word, a) == Some((Run { from: 3, n: 1 }, 5)));
     Ok(())
 }

@@ -1,5 +1,5 @@
 // What callers prove by the public clauses alone.
-ghost use Rattle.std.specs.Prelude.{◌≡◌, IfSome};
+ghost use Rattle.std.specs.Prelude.{◌≡◌, ◌<◌, IfSome};
 ghost use Rattle.claim_core.specs.Lengths.{Tiles};
 ghost use Rattle.claim_core.specs.Hand.{IsHandOf, IsWholeHand, HasSeen, OwnsRun, AreDisjoint, seen_size};
 
@@ -71,23 +71,46 @@ fn claim_all<A: Allocator>(word: Word<A>, mut hand: Hand) -> (u64, Hand)
     (size, hand)
 }
 
-#[test]
-fn two_hands_claim_meet_and_join(rt: HostRuntime) -> Result<(), Fail> {
-    let (word, mut a) = Word::open(rt.alloc(), 8, 0)?;
-    let mut b = word.split(&mut a, 1);
+type Two = Option<(Run, Run)>;
+
+// What two hands claim and have then seen, and what they claim before they become one.
+fn claim_by_two<A: Allocator>(word: &Word<A>, a: &mut Hand) -> (Two, (u64, u64), Two)
+    requires ours { IsHandOf word.now a.old }
+    requires some_shares { 1 < a.old.shares }
+    ensures of { a.new.of ≡ a.old.of }
+{
     word.laws();
     a.laws();
     laws::runs_stay();
     laws::runs_are_apart();
-    let won = claim_two(&word, &mut a, &mut b);
-    assert_eq!(rt; won, Some((Run { from: 0, n: 1 }, Run { from: 1, n: 1 })));
-    assert_eq!(rt; (a.seen(), b.seen()), (2, 2));
-    let joined = claim_joined(&word, &mut a, b);
-    assert_eq!(rt;
-        joined,
-        Some((Run { from: 2, n: 1 }, Run { from: 3, n: 1 }))
-    );
-    assert!(rt; a.is_whole());
-    assert_eq!(rt; claim_all(word, a).0, 6);
+    let mut b = word.split(a, 1);
+    let won = claim_two(word, a, &mut b);
+    let seen = (a.seen(), b.seen());
+    (won, seen, claim_joined(word, a, b))
+}
+
+// The size that a whole hand leaves.
+fn size_after<A: Allocator>(word: Word<A>, hand: Hand) -> Option<u64>
+    requires ours { IsHandOf word hand }
+{
+    if hand.is_whole() {
+        Some(claim_all(word, hand).0)
+    } else {
+        None
+    }
+}
+
+// Two runs of a place each, from here on.
+fn two_from(from: u64) -> Two {
+    let second = from.wrapping_add(1);
+    Some((Run { from, n: 1 }, Run { from: second, n: 1 }))
+}
+
+#[test]
+fn two_hands_claim_meet_and_join(rt: HostRuntime) -> Result<(), Fail> {
+    let (word, mut a) = Word::open(rt.alloc(), 8, 0)?;
+    let (won, seen, joined) = claim_by_two(&word, &mut a);
+    assert!(rt; won == two_from(0) && seen == (2, 2) && joined == two_from(2));
+    assert!(rt; size_after(word, a) == Some(6));
     Ok(())
 }

@@ -2,10 +2,10 @@
 
 ghost use Rattle.cvec.specs.Request.{IsRace};
 
-use super::streams::{Narrow, Slow};
+use super::streams::{Broken, Narrow};
 use crate::command_line::Request;
-use crate::engine::Engine;
 use crate::program::serve;
+use engine_core::Engine;
 use std::alloc::{AllocError, Global};
 use std::io::{ErrorKind, Read, Write};
 use std::process::Abort;
@@ -38,11 +38,7 @@ fn ends<X: Abort, R: Read, W: Write>(
 
 #[test]
 fn a_reader_that_fails_is_a_read_fault(rt: HostRuntime) {
-    let mut reader = Slow {
-        rest: SCRIPT,
-        interrupted: false,
-        fails: true,
-    };
+    let mut reader = Broken { rest: SCRIPT };
     let mut text = Vec::new(rt.alloc());
     ends(
         &rt,

@@ -1,6 +1,6 @@
 // What a whole hand's keys are for: each place that was claimed is looked at by its segment's key.
 ghost use Rattle.std.specs.Prelude.{◌<◌, ◌≤◌, ◌^◌};
-ghost use Rattle.claim_core.specs.Hand.{IsWholeHand, seen_size};
+ghost use Rattle.grow_core.specs.Hand.{IsWholeHand, seen_size};
 ghost use Rattle.grow_core.specs.Vector.{IsHandOf};
 
 use super::callers::{Callers, list};

@@ -1,10 +1,10 @@
 // What each refusal says, in plain numbers: each function stands on one definition of the contracts.
 ghost use Rattle.std.specs.Prelude.{◌≡◌, ◌+◌, ◌<◌, ◌≤◌, IfSome, vec_len};
-ghost use Rattle.claim_core.specs.Hand.{seen_size};
+ghost use Rattle.grow_core.specs.Hand.{seen_size};
 ghost use Rattle.grow_core.specs.Vector.{IsHandOf, limit_of};
 
 use super::callers::{Callers, list};
-use crate::{GrowError, Hand, Shared};
+use crate::{Found, GrowError, Hand, Shared};
 
 // Values for which what the hand has seen leaves no room come back, and the size is told.
 fn refused(vector: &Shared<u64>, hand: &mut Hand<u64>, values: Vec<u64>) -> (u64, Vec<u64>)
@@ -58,6 +58,23 @@ fn taken(vector: &Shared<u64>, hand: &mut Hand<u64>, values: Vec<u64>) -> Option
     }
 }
 
+// A place that was taken and holds nothing yet is the place that is told.
+fn busy(vector: &Shared<u64>, hand: &mut Hand<u64>, value: u64) -> Option<(u64, u64)>
+    requires ours { IsHandOf vector.now hand.old }
+    ensures of { hand.new.of ≡ hand.old.of }
+    ensures same { IfSome result (λ (told, found). told ≡ found) }
+{
+    match vector.try_push_back(hand, value) {
+        Err(
+            GrowError::Taken {
+                place,
+                found: Found::Busy(begun),
+            },
+        ) => Some((place, begun.place())),
+        _ => None,
+    }
+}
+
 // A growth of nothing claims nothing, and answers the size that the hand has then seen.
 fn nothing(vector: &Shared<u64>, hand: &mut Hand<u64>, values: Vec<u64>) -> u64
     requires ours { IsHandOf vector.now hand.old }
@@ -84,12 +101,13 @@ fn seen_value(vector: &Shared<u64>, hand: &mut Hand<u64>, place: u64) -> Option<
     }
 }
 
-// Whether no refusal comes, where one caller is at work and there is room for three values.
+// Whether no refusal comes, where one caller is at work and there is room for four values.
 fn is_not_refused(two: &mut Callers<u64>, five: Vec<u64>, six: Vec<u64>) -> bool {
     overtaken(&two.vector, &mut two.a, five).is_none()
         && taken(&two.vector, &mut two.a, six).is_none()
         && kept(&two.vector, &mut two.a, 7).is_none()
-        && seen_value(&two.vector, &mut two.a, 2) == Some(7)
+        && busy(&two.vector, &mut two.a, 8).is_none()
+        && seen_value(&two.vector, &mut two.a, 3) == Some(8)
 }
 
 // The size that a growth of nothing answers.
@@ -105,7 +123,7 @@ fn size_by_nothing(two: &mut Callers<u64>, none: Vec<u64>) -> Option<u64> {
 fn a_caller_alone_is_not_refused(rt: HostRuntime) {
     let mut two = Callers::new(&rt, 8);
     assert!(rt; is_not_refused(&mut two, list(&rt, &[5]), list(&rt, &[6])));
-    assert_eq!(rt; size_by_nothing(&mut two, Vec::new(rt.alloc())), Some(3));
+    assert_eq!(rt; size_by_nothing(&mut two, Vec::new(rt.alloc())), Some(4));
 }
 
 // The size at which values are refused, where they are more than the limit.

@@ -1,7 +1,7 @@
 // What callers prove by the public clauses alone.
 ghost use Rattle.std.specs.Prelude.{◌≡◌, ◌+◌, ◌<◌, ◌++◌, ℕ, List, IfSome};
-ghost use Rattle.claim_core.specs.Lengths.{Tiles, runs_end};
-ghost use Rattle.claim_core.specs.Hand.{OwnsRun, AreDisjoint};
+ghost use Rattle.grow_core.specs.Lengths.{Tiles, runs_end};
+ghost use Rattle.grow_core.specs.Hand.{OwnsRun, AreDisjoint};
 ghost use Rattle.grow_core.specs.Vector.{IsHandOf, IsPlacedOf, base_of};
 ghost use Rattle.grow_core.specs.Growth.{single};
 
@@ -22,7 +22,6 @@ fn push_one(
     ensures token { IfSome result.1 (IsPlacedOf vector.now) }
     ensures value { IfSome result.1 (λ p. p.value ≡ value) }
 {
-    laws::added_runs_are_owned();
     let placed = vector.try_push_back(&mut hand, value).ok();
     (hand, placed)
 }

@@ -2,45 +2,65 @@
 // `rt try --test --fail-alloc N`, these tests pass for each N.
 use crate::{Free, ParError, Span, par_map, par_reduce};
 use quiet_core::Quiet;
+use std::alloc::Global;
+use std::process::Abort;
+use std::sync::Wait;
+use std::thread::Threads;
 
-#[test]
-fn a_map_is_tried_again(rt: HostRuntime) {
-    let Ok(values) = vec![in rt.alloc(); 0u64, 1, 4, 9, 16, 25] else {
-        return
-    };
-    let Ok(list) = Quiet::from_vec(rt.alloc(), 16, values) else {
-        return
-    };
-    assert!(rt; list.len() == 6);
-    let span = Span::new(0, 6, 2);
-    let f = |_place: u64, value: Option<&u64>| value.copied();
-    let mut ended = par_map(&rt, rt.alloc(), &list, span, 3, &f, &Free);
-    if let Err(refused) = &ended {
-        assert_eq!(rt; *refused, ParError::NoMemory);
-        ended = par_map(&rt, rt.alloc(), &list, span, 3, &f, &Free);
-    }
-    let all = [Some(0), Some(1), Some(4), Some(9), Some(16), Some(25)];
-    match ended {
-        Ok(answers) => assert_eq!(rt; answers.as_slice(), all.as_slice()),
-        Err(_) => assert!(rt; false),
+// A list of six values, if there is memory for it.
+fn six(alloc: Global) -> Option<Quiet<u64>> {
+    let values = vec![in alloc; 0u64, 1, 4, 9, 16, 25].ok()?;
+    match Quiet::from_vec(alloc, 16, values) {
+        Ok(list) => Some(list),
+        Err(_refused) => None,
     }
 }
 
-#[test]
-fn a_reduction_is_tried_again(rt: HostRuntime) {
-    let Ok(values) = vec![in rt.alloc(); 0u64, 1, 4, 9, 16, 25] else {
-        return
-    };
-    let Ok(list) = Quiet::from_vec(rt.alloc(), 16, values) else {
-        return
-    };
-    assert!(rt; list.len() == 6);
-    let span = Span::new(0, 6, 2);
+const SIX: [Option<u64>; 6] = [Some(0), Some(1), Some(4), Some(9), Some(16), Some(25)];
+
+// Whether a map answers with the six values.
+fn maps<R: Threads + Wait + Sync>(
+    rt: &R,
+    alloc: Global,
+    list: &Quiet<u64>,
+) -> Result<bool, ParError> {
+    let span = Span::new(0, list.len(), 2);
+    let f = |_place: u64, value: Option<&u64>| value.copied();
+    let all = par_map(rt, alloc, list, span, 3, &f, &Free)?;
+    Ok(all.as_slice() == SIX.as_slice())
+}
+
+// Whether a reduction answers with their sum.
+fn reduces<R: Threads + Wait + Sync>(
+    rt: &R,
+    alloc: Global,
+    list: &Quiet<u64>,
+) -> Result<bool, ParError> {
+    let span = Span::new(0, list.len(), 2);
     let f = |_place: u64, value: Option<&u64>| value.copied().unwrap_or(0);
     let join = |a: u64, b: u64| a.wrapping_add(b);
-    let mut ended = par_reduce(&rt, rt.alloc(), &list, span, 3, &f, 0u64, &join, &Free);
-    if ended == Err(ParError::NoMemory) {
-        ended = par_reduce(&rt, rt.alloc(), &list, span, 3, &f, 0u64, &join, &Free);
+    let sum = par_reduce(rt, alloc, list, span, 3, &f, 0u64, &join, &Free)?;
+    Ok(sum == 55)
+}
+
+// The loops are tried again where they had no memory, and answer.
+fn try_again<R: Threads + Wait + Sync + Abort>(rt: &R, alloc: Global, list: &Quiet<u64>) {
+    let mut mapped = maps(rt, alloc, list);
+    if mapped == Err(ParError::NoMemory) {
+        mapped = maps(rt, alloc, list);
     }
-    assert_eq!(rt; ended, Ok(55));
+    assert!(rt; mapped == Ok(true));
+    let mut reduced = reduces(rt, alloc, list);
+    if reduced == Err(ParError::NoMemory) {
+        reduced = reduces(rt, alloc, list);
+    }
+    assert!(rt; reduced == Ok(true));
+}
+
+#[test]
+fn a_map_and_a_reduction_are_tried_again(rt: HostRuntime) {
+    if let Some(list) = six(rt.alloc()) {
+        assert!(rt; list.len() == 6);
+        try_again(&rt, rt.alloc(), &list);
+    }
 }

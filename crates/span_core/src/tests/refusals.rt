@@ -1,7 +1,9 @@
 // Several workers are refused, and the lowest one's refusal is seen.
 use crate::{Gate, Job, ParError, run_workers};
-use std::alloc::AllocError;
+use std::alloc::{AllocError, Global};
+use std::sync::Wait;
 use std::sync::atomic::{AtomicU64, Ordering};
+use std::thread::Threads;
 
 // A digit for each worker, the lowest first, to the base 3: 0 works, 1 is refused by the gate, 2 has no memory.
 #[derive(Drop)]
@@ -68,25 +70,25 @@ impl Gate for Fates {
     }
 }
 
-#[test]
-fn the_refusal_of_the_lowest_worker_is_answered(rt: HostRuntime) {
-    for digits in 0..81 {
-        let fates = Fates::new(digits);
-        let ended = run_workers(&rt, rt.alloc(), &fates, &fates, 4);
-        assert_eq!(rt; ended.err(), fates.lowest(4), "{digits}");
-        let passed = (
-            fates.before.load(Ordering::SeqCst),
-            fates.after.load(Ordering::SeqCst),
-        );
-        assert_eq!(rt; passed, (4, 4), "{digits}");
-    }
+// Whether the refusal of the lowest of four workers is answered, and all of them pass the gate twice.
+fn answers_lowest<R: Threads + Wait + Sync>(rt: &R, alloc: Global, digits: u32) -> bool {
+    let fates = Fates::new(digits);
+    run_workers(rt, alloc, &fates, &fates, 4).err() == fates.lowest(4)
+        && fates.before.load(Ordering::SeqCst) == 4
+        && fates.after.load(Ordering::SeqCst) == 4
+}
+
+// The numbers of five workers, each of which answers with its own.
+fn numbers<R: Threads + Wait + Sync>(rt: &R, alloc: Global) -> Result<bool, ParError> {
+    let fates = Fates::new(0);
+    let answers = run_workers(rt, alloc, &fates, &fates, 5)?;
+    Ok(answers.as_slice() == [0, 1, 2, 3, 4].as_slice())
 }
 
 #[test]
-fn the_answers_are_in_order_of_worker(rt: HostRuntime) {
-    let fates = Fates::new(0);
-    match run_workers(&rt, rt.alloc(), &fates, &fates, 5) {
-        Ok(answers) => assert_eq!(rt; answers.as_slice(), [0, 1, 2, 3, 4].as_slice()),
-        Err(_) => assert!(rt; false),
+fn the_refusal_of_the_lowest_worker_and_the_answers_in_order_come(rt: HostRuntime) {
+    for digits in 0..81 {
+        assert!(rt; answers_lowest(&rt, rt.alloc(), digits), "{digits}");
     }
+    assert!(rt; numbers(&rt, rt.alloc()) == Ok(true));
 }

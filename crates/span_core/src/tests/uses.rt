@@ -81,12 +81,21 @@ fn leaves_are_walked_to_the_end(rt: HostRuntime) -> Result<(), Fail> {
     Ok(())
 }
 
+// The number of the answers and the last of them, and the sum.
+fn mapped_and_summed<R: Threads + Wait + Sync>(
+    rt: &R,
+    alloc: Global,
+    list: &Quiet<u64>,
+) -> Result<(usize, Option<u64>, u64), ParError> {
+    let sum = wrapped_sum(rt, alloc, list, 3)?;
+    let all = with_zeros(rt, alloc, list, 3)?;
+    Ok((all.len(), all.get(999).copied(), sum))
+}
+
 #[test]
 fn the_values_are_mapped_in_order_and_summed(rt: HostRuntime) -> Result<(), Fail> {
     let list = numbered(rt.alloc(), 1000)?;
-    let all = with_zeros(&rt, rt.alloc(), &list, 3)?;
-    assert_eq!(rt; all.len(), 1000);
-    assert_eq!(rt; all[999], 999);
-    assert_eq!(rt; wrapped_sum(&rt, rt.alloc(), &list, 3)?, 499_500);
+    let ended = mapped_and_summed(&rt, rt.alloc(), &list);
+    assert!(rt; ended == Ok((1000, Some(999), 499_500)));
     Ok(())
 }

@@ -3,8 +3,8 @@ ghost use Rattle.std.specs.Prelude.{◌<◌};
 
 use crate::tests::numbered;
 use crate::{Gate, Job, ParError, Span, par_map, par_reduce, run_workers};
+use quiet_core::Quiet;
 use std::alloc::{AllocError, Global};
-use std::process::Abort;
 use std::sync::Wait;
 use std::sync::atomic::{AtomicU64, Ordering};
 use std::test::Fail;
@@ -65,17 +65,14 @@ impl Watch {
         place
     }
 
-    // All workers have ended, after so many calls and no wrong step.
-    fn ended(&self, rt: &impl Abort, calls: u64) {
-        let mut ended: usize = 0;
+    // Whether all workers have ended, after so many calls and no wrong step.
+    fn has_ended(&self, calls: u64) -> bool {
         for state in &self.states {
-            if state.load(Ordering::SeqCst) == ENDED {
-                ended = ended.wrapping_add(1);
+            if state.load(Ordering::SeqCst) != ENDED {
+                return false;
             }
         }
-        assert_eq!(rt; ended, self.states.len());
-        assert_eq!(rt; self.wrong.load(Ordering::SeqCst), 0);
-        assert_eq!(rt; self.calls.load(Ordering::SeqCst), calls);
+        self.wrong.load(Ordering::SeqCst) == 0 && self.calls.load(Ordering::SeqCst) == calls
     }
 }
 
@@ -111,71 +108,147 @@ impl Gate for Watch {
     }
 }
 
-fn all_pass<R: Threads + Wait + Sync + Abort>(
+// The number of answers by so many workers.
+fn pass<R: Threads + Wait + Sync>(
+    rt: &R,
+    alloc: Global,
+    watch: &Watch,
+    workers: u32,
+) -> Result<usize, ParError> {
+    let answers = run_workers(rt, alloc, watch, watch, workers)?;
+    Ok(answers.len())
+}
+
+fn all_pass<R: Threads + Wait + Sync>(
     rt: &R,
     alloc: Global,
     workers: u32,
-) -> Result<(), AllocError> {
+) -> Result<bool, AllocError> {
     let watch = Watch::new(alloc, workers, workers, false)?;
-    let ended = run_workers(rt, alloc, &watch, &watch, workers);
-    match ended {
-        Ok(answers) => assert_eq!(rt; answers.len(), workers as usize),
-        Err(_refused) => assert!(rt; false),
-    }
-    watch.ended(rt, u64::from(workers));
-    Ok(())
+    Ok(
+        pass(rt, alloc, &watch, workers) == Ok(workers as usize)
+            && watch.has_ended(u64::from(workers)),
+    )
+}
+
+fn three_of_five_pass<R: Threads + Wait + Sync>(rt: &R, alloc: Global) -> Result<bool, AllocError> {
+    let watch = Watch::new(alloc, 5, 3, false)?;
+    Ok(
+        pass(rt, alloc, &watch, 5) == Err(ParError::Stuck)
+            && watch.has_ended(3)
+            && pass(rt, alloc, &watch, 0) == Err(ParError::BadWorkers)
+            && pass(rt, alloc, &watch, 65) == Err(ParError::BadWorkers)
+            && watch.has_ended(3),
+    )
 }
 
 #[test]
 fn each_worker_asks_works_and_ends_in_turn(rt: HostRuntime) -> Result<(), Fail> {
-    for workers in [1, 2, 7, 64] {
-        all_pass(&rt, rt.alloc(), workers)?;
+    for workers in [1, 2, 7, 64].as_slice() {
+        assert!(rt; all_pass(&rt, rt.alloc(), *workers)?, "{workers}");
     }
-    let watch = Watch::new(rt.alloc(), 5, 3, false)?;
-    let refused = run_workers(&rt, rt.alloc(), &watch, &watch, 5);
-    assert!(rt; matches!(refused, Err(ParError::Stuck)));
-    watch.ended(&rt, 3);
-    for workers in [0, 65] {
-        let many = run_workers(&rt, rt.alloc(), &watch, &watch, workers);
-        assert!(rt; matches!(many, Err(ParError::BadWorkers)));
-    }
-    watch.ended(&rt, 3);
+    assert!(rt; three_of_five_pass(&rt, rt.alloc())?);
     Ok(())
 }
 
-// Maps and folds the first places, in leaves of two, by some workers: each is asked for once in each.
-fn loops_pass<R: Threads + Wait + Sync + Abort>(
+// Maps the places, in leaves of two, by some workers: each is asked for once.
+fn map_by<R: Threads + Wait + Sync>(
     rt: &R,
     alloc: Global,
+    list: &Quiet<u64>,
     workers: u32,
-    places: u64,
-) -> Result<(), Fail> {
-    let list = numbered(alloc, places)?;
-    let span = Span::new(0, list.len(), 2);
-    let watch = Watch::new(alloc, workers, workers, true)?;
+    watch: &Watch,
+) -> Result<bool, ParError> {
+    let places = list.len();
     let visit = |place: u64, _value: Option<&u64>| watch.visit(place, u64::from(workers));
-    let all = par_map(rt, alloc, &list, span, workers, &visit, &watch)?;
-    assert_eq!(rt; all.last().copied(), places.checked_sub(1));
-    assert_eq!(rt; all.len() as u64, places);
-    watch.ended(rt, places);
-    let watch = Watch::new(alloc, workers, workers, true)?;
+    let all = par_map(
+        rt,
+        alloc,
+        list,
+        Span::new(0, places, 2),
+        workers,
+        &visit,
+        watch,
+    )?;
+    Ok(
+        all.last().copied() == places.checked_sub(1)
+            && all.len() as u64 == places
+            && watch.has_ended(places),
+    )
+}
+
+// Folds them: each is asked for once, and joined once.
+fn fold_by<R: Threads + Wait + Sync>(
+    rt: &R,
+    alloc: Global,
+    list: &Quiet<u64>,
+    workers: u32,
+    watch: &Watch,
+) -> Result<bool, ParError> {
+    let places = list.len();
     let visit = |place: u64, _value: Option<&u64>| watch.visit(place, u64::from(workers));
     let joins = AtomicU64::new(1);
     let join = |a: u64, b: u64| {
         joins.fetch_add(1, Ordering::SeqCst);
         a.wrapping_add(b)
     };
-    let sum = par_reduce(rt, alloc, &list, span, workers, &visit, 0, &join, &watch)?;
-    assert_eq!(rt; sum, places.wrapping_mul(places.wrapping_sub(1)) / 2);
-    assert_eq!(rt; joins.load(Ordering::SeqCst), places);
-    watch.ended(rt, places);
-    Ok(())
+    let span = Span::new(0, places, 2);
+    let sum = par_reduce(rt, alloc, list, span, workers, &visit, 0, &join, watch)?;
+    Ok(
+        sum == places.wrapping_mul(places.wrapping_sub(1)) / 2
+            && joins.load(Ordering::SeqCst) == places
+            && watch.has_ended(places),
+    )
 }
+
+fn map_passes<R: Threads + Wait + Sync>(
+    rt: &R,
+    alloc: Global,
+    list: &Quiet<u64>,
+    workers: u32,
+) -> bool {
+    match Watch::new(alloc, workers, workers, true) {
+        Ok(watch) => map_by(rt, alloc, list, workers, &watch) == Ok(true),
+        Err(_) => false,
+    }
+}
+
+fn fold_passes<R: Threads + Wait + Sync>(
+    rt: &R,
+    alloc: Global,
+    list: &Quiet<u64>,
+    workers: u32,
+) -> bool {
+    match Watch::new(alloc, workers, workers, true) {
+        Ok(watch) => fold_by(rt, alloc, list, workers, &watch) == Ok(true),
+        Err(_) => false,
+    }
+}
+
+// Maps and folds the first places.
+fn loops_pass<R: Threads + Wait + Sync>(
+    rt: &R,
+    alloc: Global,
+    workers: u32,
+    places: u64,
+) -> Result<bool, Fail> {
+    let list = numbered(alloc, places)?;
+    Ok(
+        list.len() == places
+            && map_passes(rt, alloc, &list, workers)
+            && fold_passes(rt, alloc, &list, workers),
+    )
+}
+
+const LOOPS: [(u32, u64); 5] = [(1, 2), (1, 8), (3, 2), (3, 16), (64, 131_072)];
 
 #[test]
 fn each_place_is_asked_for_once_between_the_gates(rt: HostRuntime) -> Result<(), Fail> {
-    for (workers, places) in [(1, 2), (1, 8), (3, 2), (3, 16), (64, 131_072)] {
-        loops_pass(&rt, rt.alloc(), workers, places)?;
+    for (workers, places) in LOOPS.as_slice() {
+        assert!(rt;
+            loops_pass(&rt, rt.alloc(), *workers, *places)?,
+            "{workers} {places}"
+        );
     }
     Ok(())
 }

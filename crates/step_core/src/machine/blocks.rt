@@ -55,7 +55,7 @@ impl Block {
     }
 }
 
-/// The entries of the segments.
+// The entries of the segments.
 #[derive(Drop)]
 pub(crate) struct Blocks {
     alloc: Global,
@@ -86,7 +86,7 @@ impl Blocks {
         }
     }
 
-    /// Whether a segment is installed.
+    // Whether a segment is installed.
     pub(crate) fn has(&self, segment: u32) -> bool
         requires { segment < 32 }
         ensures { result ≡ set.contains self.now.installed segment }
@@ -94,7 +94,7 @@ impl Blocks {
         self.entries[segment as usize].is_some()
     }
 
-    /// What the slot of a place holds; nothing past all segments.
+    // What the slot of a place holds; nothing past all segments.
     pub(crate) fn get(&self, place: u64) -> Option<Slot>
         ensures { result ≡ map.get self.now.slots place }
     {
@@ -109,7 +109,7 @@ impl Blocks {
         }
     }
 
-    /// Sets the slot of a place whose segment is installed. It takes no memory.
+    // Sets the slot of a place whose segment is installed. It takes no memory.
     pub(crate) fn set(&mut self, place: u64, slot: Slot)
         requires place { place < 2 ^ 32 }
         requires there { set.contains self.old.installed (segment_of place) ≡ true }
@@ -119,7 +119,7 @@ impl Blocks {
         set_in(&mut self.entries[segment as usize], offset, slot);
     }
 
-    /// Makes the block of a segment, where it has none, in one pass over it. It takes memory there alone.
+    // Makes the block of a segment, where it has none, in one pass over it. It takes memory there alone.
     pub(crate) fn install(&mut self, segment: u32) -> Result<(), AllocError>
         requires { segment < 32 }
         ensures ok { OnOk result (self.new ≡ shown_with_segment self.old segment) }

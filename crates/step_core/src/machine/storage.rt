@@ -14,7 +14,7 @@ use book_core::{Answer, Command, Event, Reply};
 use std::alloc::{AllocError, Global};
 use std::marker::Model;
 
-/// The size, and the blocks of the installed segments.
+// The size, and the blocks of the installed segments.
 #[derive(Drop)]
 pub(crate) struct Storage {
     size: u64,
@@ -31,7 +31,7 @@ impl Model for Storage {
     ghost view = { λ s. record { size = s.size; installed = s.blocks.installed; slots = s.blocks.slots } };
 }
 
-/// What a step gives beside what it leaves: at most one event with its reply, and what follows.
+// What a step gives beside what it leaves: at most one event with its reply, and what follows.
 #[derive(Clone, Copy)]
 pub(crate) struct Outcome {
     pub(crate) event: Option<(Event, Reply)>,
@@ -70,21 +70,21 @@ impl Storage {
         }
     }
 
-    /// How many places are claimed.
+    // How many places are claimed.
     pub(crate) fn size(&self) -> u64
         ensures { result ≡ self.now.size }
     {
         self.size
     }
 
-    /// What the slot of a place holds.
+    // What the slot of a place holds.
     pub(crate) fn slot(&self, place: u64) -> Option<Slot>
         ensures { result ≡ map.get self.now.slots place }
     {
         self.blocks.get(place)
     }
 
-    /// One step of an actor in this phase of this call.
+    // One step of an actor in this phase of this call.
     pub(crate) fn step(
         &mut self,
         limit: u64,

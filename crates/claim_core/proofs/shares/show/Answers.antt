@@ -2,13 +2,14 @@ use Rattle.std.proofs.Common.{◌≡◌, ◌+◌, ◌<◌, ◌∙◌, ap, arith,
 use Rattle.claim_core.specs.Lengths.{times}
 use Rattle.claim_core.specs.SeatView.{Seated}
 use Rattle.claim_core.proofs.Counts.{times-append}
+use Rattle.claim_core.proofs.Belongs.{some_words}
 use Rattle.claim_core.proofs.Kept.{loads, cuts, merges}
 use Rattle.claim_core.proofs.shares.show.Goals as goal
 
 pub join_seat-requires : goal.join_seat-requires
 join_seat-requires g c =
     let p = c.requires.pair in
-    (p.same, p.other_same, p.no_slot, p.words, merges _ _ _ _ _ p.part)
+    (p.same, p.other_same, p.no_slot, some_words p.words, merges _ _ _ _ _ p.part)
 
 pub load-size-requires : goal.load-size-requires
 load-size-requires g c =
@@ -34,4 +35,4 @@ split_seat-requires g c =
     let z = ap (times k) (l.2.0.same.mine ∙ ap {A = Seated} (λ m. m.0.mine) e.2) in
     let t = times-append k c.args.seat.now.me.0.mine c.args.other.me.0.mine in
     omega arith in
-    (l.0 ∙ (e.0 ∙ p.same), p.words, cuts _ _ _ _ _ _ _ (omega arith) (omega arith) (omega arith) runs)
+    (l.0 ∙ (e.0 ∙ p.same), some_words p.words, cuts _ _ _ _ _ _ _ (omega arith) (omega arith) (omega arith) runs)

@@ -3,7 +3,7 @@ use Rattle.grow_core.proofs.KeyRows.{walked_on}
 use Rattle.grow_core.proofs.keys.install.Goals as goal
 
 pub loop-segment-preserved : goal.loop-segment-preserved
-loop-segment-preserved g c = (c.install_one.ensures.keys, walked_on c.loop-segment.invariant.1 (omega arith) c.install_one.ensures.kept (λ _. c.in_ok-install_one.ensures.put))
+loop-segment-preserved g c = (c.key_for.ensures.keys, walked_on c.loop-segment.invariant.1 (omega arith) c.key_for.ensures.kept (λ _. c.in_ok-key_for.ensures.put))
 
 pub returns-clause-run : goal.returns-clause-run
 returns-clause-run g c = λ segment small touches.

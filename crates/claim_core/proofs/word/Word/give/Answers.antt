@@ -1,7 +1,7 @@
 use Rattle.std.proofs.Common.{◌≡◌, ◌+◌, ap, arith, ℕ}
 use Rattle.claim_core.specs.Lengths.{times}
 use Rattle.claim_core.proofs.Kept.{cuts}
-use Rattle.claim_core.proofs.Belongs.{belongs}
+use Rattle.claim_core.proofs.Belongs.{some_words, belongs}
 use Rattle.claim_core.proofs.word.Word.give.Goals as goal
 
 pub split_seat-seat-requires : goal.split_seat-seat-requires
@@ -13,4 +13,4 @@ split_seat-seat-requires g c =
     let y = ap (times k) c.requires.given_runs in
     let z = ap (λ h. times k h.mine) c.hand.view_is in
     omega arith in
-    (b.same, b.words, cuts _ _ _ _ _ _ _ (omega arith) (omega arith) (omega arith) runs)
+    (b.same, some_words b.words, cuts _ _ _ _ _ _ _ (omega arith) (omega arith) (omega arith) runs)

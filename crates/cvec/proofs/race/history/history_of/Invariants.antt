@@ -1,6 +1,0 @@
-use Rattle.std.proofs.Common.{length}
-use Rattle.cvec.proofs.RaceHistory.{LeadsTo}
-use Rattle.cvec.proofs.race.history.history_of.Given as goal
-
-abbrev pub invariant-loop-slot : goal.invariant-loop-slot
-invariant-loop-slot l = LeadsTo (length l.slots) l.history.items l.slot-index

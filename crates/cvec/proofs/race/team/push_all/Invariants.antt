@@ -1,8 +1,0 @@
-use Rattle.std.proofs.Common.{◌≡◌, ℕ}
-use Rattle.cvec.specs.Race.{IsTeam}
-use Rattle.cvec.proofs.race.team.push_all.Given as goal
-
-abbrev pub invariant-loop-value : goal.invariant-loop-value
-invariant-loop-value g l =
-    (l.team.hand.of ≡ l.vector.word)
-    × ((shares : ℕ) → IsTeam l.vector.word shares l.from l.from l.initial.team → IsTeam l.vector.word shares l.from l.value l.team)

@@ -1,0 +1,3 @@
+mod Errors
+mod LongInput
+mod Prefixes

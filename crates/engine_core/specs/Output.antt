@@ -1,0 +1,54 @@
+-- What the bytes of a script give: the text of its play.
+use Rattle.std.specs.Prelude.{◌≡◌, ◌≢◌, ℕ, List, ◌++◌, Option, Some, Result, Ok, Err, OnOk, IfErr, IfSome, IsErrOf, slice_index}
+use Rattle.std.specs.List.{flat_map}
+use Rattle.std.specs.Io.KnownBytes.{Appends, Keeps}
+use Rattle.book_core.specs.declared.commands.Ended.{Ended}
+use Rattle.script_core.specs.declared.error.ScriptError.{ScriptError}
+use Rattle.script_core.specs.declared.error.ScriptError.TheVariants as faults
+use Rattle.script_core.specs.declared.script.Script.{Script}
+use Rattle.script_core.specs.Grammar.{script_of}
+use Rattle.script_core.specs.Text.{answer_line, cells_line, AppendsPrefix}
+use Rattle.step_core.specs.declared.programs.Played.{Played}
+use Rattle.step_core.specs.calls.Play.{calls_played}
+use Rattle.step_core.specs.machine.Play.{play_of, played_of}
+use Rattle.engine_core.specs.declared.engine.Engine.{Engine}
+use Rattle.engine_core.specs.declared.engine.Engine.TheVariants.{Calls, Steps}
+use Rattle.engine_core.specs.declared.error.RunError.{RunError}
+use Rattle.engine_core.specs.declared.error.RunError.TheVariants as errors
+
+-- the answer line of a call that ended, with its actor's letter
+abbrev pub ended_line : List ℕ → Ended → List ℕ
+ended_line names ended = answer_line (slice_index names ended.actor) ended
+
+-- the text of a play: a line for each call that ended, in order, and then the cells
+abbrev pub played_text : List ℕ → Played → List ℕ
+played_text names played = flat_map (ended_line names) played.ended ++ cells_line played.cells
+
+-- the play of a script: each item is one whole call, or one atomic step
+abbrev pub play_by : Engine → Script → Option Played
+play_by Calls s = calls_played s.limit s.programs s.items
+play_by Steps s = Some (played_of (play_of s.limit s.programs s.items))
+
+-- the input is a script, and the text is that of its play
+pub record IsTextOf (engine : Engine) (input text : List ℕ) : Type 0 where
+  pub script : Script
+  pub played : Played
+  pub read : script_of input ≡ Ok script
+  pub play_of : play_by engine script ≡ Some played
+  pub whole : text ≡ played_text script.names played
+
+-- known bytes grow by the text of the script that the input is
+abbrev pub AppendsText : Engine → List ℕ → Option (List ℕ) → Option (List ℕ) → Type 0
+AppendsText engine input old new = (text : List ℕ) × IsTextOf engine input text × Appends old new text
+
+-- known bytes grow by a prefix of the text of the script that the input is
+abbrev pub AppendsPrefixOfText : Engine → List ℕ → Option (List ℕ) → Option (List ℕ) → Type 0
+AppendsPrefixOfText engine input old new = (text : List ℕ) × IsTextOf engine input text × AppendsPrefix old new text
+
+-- a script is read and played: what the writer gets, and how the run ends
+pub record Plays (engine : Engine) (ended : Result (Unit {0}) RunError) (input old new : Option (List ℕ)) : Type 0 where
+  pub written : OnOk ended (IfSome input (λ bytes. AppendsText engine bytes old new))
+  pub script : (fault : ScriptError) → ended ≡ Err (errors.Script fault)
+      → (fault ≢ faults.NoMemory) × IfSome input (λ bytes. script_of bytes ≡ Err fault)
+  pub prefix : IsErrOf ended errors.Write → IfSome input (λ bytes. AppendsPrefixOfText engine bytes old new)
+  pub unwritten : IfErr ended (λ e. e ≢ errors.Write → Keeps old new)

@@ -1,0 +1,12 @@
+-- How it is shown why a run ends without its text.
+use Rattle.std.specs.Prelude.{ℕ, List, codes}
+use Rattle.script_core.specs.ScriptError.{fault_text}
+use Rattle.engine_core.specs.declared.error.RunError.{RunError}
+use Rattle.engine_core.specs.declared.error.RunError.TheVariants.{Script, NoMemory, Read, Write}
+
+-- how each is shown
+abbrev pub error_text : RunError → List ℕ
+error_text (Script fault) = fault_text fault
+error_text NoMemory = codes "memory"
+error_text Read = codes "read fault"
+error_text Write = codes "write fault"

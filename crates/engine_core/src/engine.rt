@@ -1,0 +1,92 @@
+//! From the bytes of a script to the bytes of its play: one engine with two plays.
+ghost use Rattle.std.specs.Prelude.{◌≡◌, length, Some, IfOk};
+ghost use Rattle.book_core.specs.Commands.{HaveActors};
+ghost use Rattle.engine_core.specs.Output.{play_by, Plays};
+ghost use Rattle.engine_core.specs.Reading.{IsPlayable};
+
+use crate::error::RunError;
+use crate::script::read_script;
+use crate::text::write_play;
+use book_core::Sequence;
+use script_core::Script;
+use std::alloc::{AllocError, Global};
+use std::io::{Read, Write};
+use step_core::{PlayError, Played, play, play_calls};
+
+/// What the items of a script are.
+#[derive(Clone, Copy, Debug, PartialEq, Eq)]
+pub enum Engine {
+    /// Each item is one whole call.
+    Calls,
+    /// Each item is one atomic step.
+    Steps,
+}
+
+// The letters of a script's actors, and its play. It was read, so only memory can be refused.
+fn play_script(
+    alloc: Global,
+    engine: Engine,
+    script: Script,
+) -> Result<(Sequence<u8>, Played), AllocError>
+    requires { IsPlayable script }
+    ensures names { IfOk result (λ (names, _). names ≡ script.names) }
+    ensures played { IfOk result (λ (_, played). play_by engine script ≡ Some played) }
+    ensures actors { IfOk result (λ (_, played). HaveActors (length script.names) played.ended) }
+{
+    let Script {
+        limit,
+        names,
+        programs,
+        items,
+    } = script;
+    let played = match engine {
+        Engine::Calls => play_calls(alloc, limit, programs, items.as_slice()),
+        Engine::Steps => play(alloc, limit, programs, items.as_slice()),
+    };
+    match played {
+        Ok(played) => Ok((names, played)),
+        Err(PlayError::NoMemory) => Err(AllocError),
+        Err(PlayError::BadLimit | PlayError::BadCommand | PlayError::BadActor) => unreachable!(),
+    }
+}
+
+// Reads a script, plays its items by the engine, and writes the text of the play.
+fn run<R: Read, W: Write>(
+    alloc: Global,
+    engine: Engine,
+    reader: &mut R,
+    writer: &mut W,
+) -> Result<(), RunError>
+    ensures { Plays engine result (R.remaining reader.old)
+        (W.contents writer.old) (W.contents writer.new) }
+{
+    let script = read_script(alloc, reader)?;
+    let (names, played) = play_script(alloc, engine, script)?;
+    write_play(alloc, writer, names.as_slice(), &played)
+}
+
+/// Runs a script whose items are whole calls.
+///
+/// `NoMemory` and `Read` may come for any input. Nothing is written before the whole text is made.
+pub fn run_calls<R: Read, W: Write>(
+    alloc: Global,
+    reader: &mut R,
+    writer: &mut W,
+) -> Result<(), RunError>
+    ensures plays { Plays Engine.Calls result (R.remaining reader.old)
+        (W.contents writer.old) (W.contents writer.new) }
+{
+    run(alloc, Engine::Calls, reader, writer)
+}
+
+/// Runs a script whose items are atomic steps. It is `run_calls` but for what an item plays.
+pub fn run_steps<R: Read, W: Write>(
+    alloc: Global,
+    reader: &mut R,
+    writer: &mut W,
+) -> Result<(), RunError>
+    ensures plays { Plays Engine.Steps result (R.remaining reader.old)
+        (W.contents writer.old) (W.contents writer.new) }
+{
+    run(alloc, Engine::Steps, reader, writer)
+}

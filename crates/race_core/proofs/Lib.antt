@@ -1,0 +1,3 @@
+mod Wins
+mod Teams
+mod AllTeams

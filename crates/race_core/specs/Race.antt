@@ -1,0 +1,130 @@
+-- A race: workers append to one shared vector, and what each of them won becomes a history.
+use Rattle.std.specs.Prelude.{◌≡◌, ℕ, zero, suc, ◌+◌, ◌*◌, ◌<◌, ◌≤◌, ◌⊎◌, Bool, true, false, List, [], ◌∷◌, ◌++◌, length, slice_index_or, Option, Some, None, codes, decimal}
+use Rattle.std.specs.List.{Contains, sum_by}
+use Rattle.book_core.specs.declared.events.Event.{Event}
+use Rattle.book_core.specs.declared.events.Event.TheVariants.{Claim, Finish}
+use Rattle.book_core.specs.declared.events.Reply.{Reply}
+use Rattle.book_core.specs.declared.events.Reply.TheVariants as replies
+use Rattle.claim_core.specs.Word.{WordView}
+use Rattle.claim_core.specs.Hand.{HandView, SeesRun, own_places}
+use Rattle.grow_core.specs.Vector.{VectorView, IsHandOf}
+use Rattle.grow_core.specs.Growth.{single, IsDue}
+use Rattle.grow_core.specs.declared.errors.GrowError.{GrowError}
+use Rattle.grow_core.specs.declared.errors.GrowError.TheVariants as grows
+use Rattle.grow_core.specs.declared.errors.Never.{Never}
+use Rattle.span_core.specs.declared.errors.Refusal.{Refusal}
+use Rattle.span_core.specs.declared.errors.Refusal.TheVariants as refusals
+use Rattle.span_core.specs.Workers.{IsBadNumber}
+use Rattle.race_core.specs.declared.team.Win.{Win}
+use Rattle.race_core.specs.declared.team.Team.{Team}
+use Rattle.race_core.specs.declared.report.RaceReport.{RaceReport}
+use Rattle.race_core.specs.declared.refusal.RaceError.{RaceError}
+use Rattle.race_core.specs.declared.refusal.RaceError.TheVariants.{NoMemory, BadSize, Stuck, Grow}
+
+-- the number of each refusal
+abbrev pub race_number : RaceError → ℕ
+race_number NoMemory = 1
+race_number BadSize = 2
+race_number Stuck = 3
+race_number (Grow number) = 4
+
+-- the sum of the numbers below n
+abbrev pub sum_below : ℕ → ℕ
+sum_below zero = 0
+sum_below (suc n) = sum_below n + n
+
+-- not from 1 to 64 workers, or not from 1 to 100000 values of each
+abbrev pub IsBadSize : ℕ → ℕ → Type 0
+IsBadSize workers each = IsBadNumber workers ⊎ ((each ≡ 0) ⊎ (100000 < each))
+
+-- a growth that was refused since the vector was full, or since a place was taken
+abbrev pub IsGrowth : ℕ → Type 0
+IsGrowth number = (number ≡ 2) ⊎ (number ≡ 5)
+
+-- what is told of each refusal of a growth that tries until it wins
+abbrev pub IsToldAs : {T V E : Type 0} → GrowError T V E → RaceError → Type 0
+IsToldAs (grows.NoMemory back) told = told ≡ NoMemory
+IsToldAs (grows.Full size back) told = told ≡ Grow 2
+IsToldAs (grows.Moved size back) told = ⊥
+IsToldAs (grows.Refused run made cause) told = ⊥
+IsToldAs (grows.Taken place found) told = told ≡ Grow 5
+
+-- why a worker that passed the gate was refused
+abbrev pub IsWorkers : RaceError → Type 0
+IsWorkers NoMemory = Unit {0}
+IsWorkers BadSize = ⊥
+IsWorkers Stuck = ⊥
+IsWorkers (Grow number) = IsGrowth number
+
+-- why a value was not appended: its growth was refused when that was due, or there was no memory for the win
+abbrev pub IsPushRefusal : VectorView → HandView → RaceError → Type 0
+IsPushRefusal vector hand told =
+    (told ≡ NoMemory) ⊎ ((error : GrowError ℕ ℕ Never) × IsDue vector 1 hand error × IsToldAs error told)
+
+-- why a race is refused whose gate refuses nobody
+abbrev pub IsFreeRefusal : ℕ → ℕ → RaceError → Type 0
+IsFreeRefusal workers each NoMemory = Unit {0}
+IsFreeRefusal workers each BadSize = IsBadSize workers each
+IsFreeRefusal workers each Stuck = ⊥
+IsFreeRefusal workers each (Grow number) = IsGrowth number
+
+-- the place of a win is the hand's run of this index
+abbrev pub HasWin : HandView → List Win → ℕ → Type 0
+HasWin hand wins index = (win : Win) × Contains wins win × SeesRun hand index (single win.place)
+
+-- the values from one number up to another were appended, one in each run that the hand owns
+pub record IsTeam (word : WordView) (shares from to : ℕ) (team : Team) : Type 0 where
+  pub of : team.hand.of ≡ word
+  pub part : team.hand.shares ≡ shares
+  pub places : own_places team.hand + from ≡ to
+  pub wins : (index : ℕ) → Contains team.hand.mine index → HasWin team.hand team.wins.items index
+  pub sum : sum_by (λ win. win.value) team.wins.items + sum_below from ≡ sum_below to
+
+-- the values of this worker were appended, by a hand with one share
+abbrev pub IsTeamOf : WordView → ℕ → ℕ → Team → Type 0
+IsTeamOf word each worker = IsTeam word 1 (worker * each) ((worker + 1) * each)
+
+-- what is told of a range of workers that has no answer
+abbrev pub race_refusal : Refusal RaceError → RaceError
+race_refusal refusals.NoMemory = NoMemory
+race_refusal refusals.Stuck = Stuck
+race_refusal (refusals.Worker e) = e
+
+-- a hand of this vector that has won nothing yet
+abbrev pub IsUnusedHand : VectorView → HandView → Type 0
+IsUnusedHand vector hand = IsHandOf vector hand × (hand.mine ≡ [])
+
+-- there may be workers up to this number, with so many values each
+abbrev pub AreFew : ℕ → ℕ → Type 0
+AreFew workers each = (workers ≤ 64) × (each ≤ 100000)
+
+-- each place below the size was won
+abbrev pub AreAllPlaces : ℕ → List Win → Type 0
+AreAllPlaces size wins = (place : ℕ) → place < size → (win : Win) × Contains wins win × (win.place ≡ place)
+
+-- there is a win, and it is of this place
+abbrev pub IsWinOf : ℕ → Option Win → Type 0
+IsWinOf place (Some win) = win.place ≡ place
+IsWinOf place None = ⊥
+
+-- the wins of all places, in order of place
+abbrev pub AreInOrder : ℕ → List (Option Win) → Type 0
+AreInOrder size slots = (length slots ≡ size) × ((place : ℕ) → place < size → IsWinOf place (slice_index_or slots place None))
+
+-- the place was claimed by the worker that won it, and filled with its value
+abbrev pub events_of_win : Win → List (Event × Reply)
+events_of_win win = (Claim win.worker 1, replies.Run win.place 1) ∷ (Finish win.worker win.place win.value, replies.Done) ∷ []
+
+-- how it is told whether a history is legal
+abbrev pub verdict_of : Bool → List ℕ
+verdict_of true = codes "legal"
+verdict_of false = codes "not legal"
+
+-- how a report is shown
+abbrev pub report_text : RaceReport → List ℕ
+report_text report =
+    codes "size " ++ decimal report.size ++ codes "\nsum " ++ decimal report.sum ++ codes "\n" ++ verdict_of report.legal ++ codes "\n"
+
+-- the text of a race of this many values
+abbrev pub race_text : ℕ → List ℕ
+race_text size = report_text (record { size = size; sum = sum_below size; legal = true })

@@ -1,0 +1,84 @@
+//! What a race found.
+ghost use Rattle.std.specs.Prelude.{◌≡◌, ◌^◌, ◌<◌, ◌≤◌, true, IfOk, sum_by};
+ghost use Rattle.grow_core.specs.Vector.{IsHandOf, base_of};
+ghost use Rattle.race_core.specs.Race.{sum_below, IsTeam, verdict_of};
+
+use crate::history::{history_of, in_order, is_legal};
+use crate::team::{Team, Win};
+use grow_core::Shared;
+use std::alloc::{AllocError, Global};
+use std::fmt;
+
+/// What a race found.
+#[derive(Clone, Copy, Debug, PartialEq, Eq)]
+pub struct RaceReport {
+    /// The size at which the vector ended.
+    pub size: u64,
+    /// The sum of the values that were appended.
+    pub sum: u64,
+    /// Whether what the workers won is a history of the sequential vector.
+    pub legal: bool,
+}
+
+fn verdict(legal: bool) -> &'static str
+    ensures { result.now ≡ verdict_of legal }
+{
+    if legal { "legal" } else { "not legal" }
+}
+
+impl fmt::Display for RaceReport {
+    ghost use Rattle.std.specs.Prelude.{Some};
+    ghost use Rattle.race_core.specs.Race.{report_text};
+
+    ghost output = { λ report. Some (report_text report) };
+
+    fn fmt<W: fmt::Write>(&self, f: &mut fmt::Formatter<W>) -> fmt::Result {
+        write!(
+            f,
+            "size {}\nsum {}\n{}\n",
+            self.size,
+            self.sum,
+            verdict(self.legal)
+        )
+    }
+}
+
+// The sum of the values that were won.
+#[tactic(auto, using(std::proofs::lemmas::List::Sums::sum_by_more_le))]
+fn sum_of(wins: &[Win]) -> u64
+    requires { sum_by (λ win. win.value) wins.now < 2 ^ 64 }
+    ensures { result ≡ sum_by (λ win. win.value) wins.now }
+{
+    let mut sum = 0;
+    for win in wins {
+        sum += win.value;
+    }
+    sum
+}
+
+// The report of a team that has all values, and a hand with all shares.
+pub(crate) fn report_of(
+    alloc: Global,
+    vector: Shared<u64>,
+    team: Team,
+    size: u64,
+) -> Result<RaceReport, AllocError>
+    requires ours { IsHandOf vector team.hand }
+    requires base { base_of vector ≡ 0 }
+    requires limits { 0 < size × size ≤ 6400000 }
+    requires team { IsTeam vector.word 65536 0 size team }
+    ensures size { IfOk result (λ report. report.size ≡ size) }
+    ensures sum { IfOk result (λ report. report.sum ≡ sum_below size) }
+    ensures legal { IfOk result (λ report. report.legal ≡ true) }
+{
+    let Team { hand, wins } = team;
+    hand.whole_laws();
+    let size = vector.end(hand);
+    let slots = in_order(alloc, size, &wins)?;
+    let history = history_of(alloc, &slots)?;
+    Ok(RaceReport {
+        size,
+        sum: sum_of(&wins),
+        legal: is_legal(alloc, size, &history)?,
+    })
+}

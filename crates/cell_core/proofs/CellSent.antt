@@ -15,6 +15,9 @@ use Rattle.core.proofs.atomic.Sent.{chain-Keyless}
 use Rattle.cell_core.specs.Slot.{Names, Phase, free, busy, full, broken, Turn, at, place, told, tie, lent, kept, known, sighted, won, claimed}
 use Rattle.cell_core.specs.Slot.{Rest, resting}
 use Rattle.cell_core.specs.Laid.{owned, along, along_lent, laid, laid_lent}
+use Rattle.cell_core.specs.Member.{MemberView, known_as, members}
+use Rattle.cell_core.specs.contracts.slot.member.Member as Member
+use Rattle.cell_core.specs.contracts.slot.member.Row as Row
 use Rattle.cell_core.specs.contracts.slot.steps.Slot as Slot
 use Rattle.cell_core.specs.contracts.slot.steps.Claim as Claim
 use Rattle.cell_core.specs.contracts.slot.steps.Written as Written
@@ -88,6 +91,28 @@ crack_send = record { owned = λ d vs. ((λ vss. (tt, ((λ uss. (tt, tt)), tt)))
 pub crack_sync : IsSync Crack.the_row
 crack_sync = let fields : IsSync (denote.Struct.Struct.Struct (denote.Struct.Owning.shape Crack.the_type)) = search sendable depth 20 in
     record { shared = λ d b o κ. (fields.shared (tt, tt) b o κ, tt) }
+
+known_as_keyless : (R : RattleType) (v : Option R.Denot) (γ δ : ℕ) → Keyless (known_as R v γ δ)
+known_as_keyless R (Some x) γ δ = tt
+known_as_keyless R None γ δ = (tt, tt)
+
+members_keyless : (R : RattleType) (ms : List (MemberView R.Denot)) → Keyless (members R ms)
+members_keyless R [] = tt
+members_keyless R (m ∷ ms) = (known_as_keyless R m.value m.name m.breach, members_keyless R ms)
+
+pub member_send : (R : RattleType) → IsSend (Member.the_row R)
+member_send R = record { owned = λ d vs. ((λ vss. (tt, ((λ uss. (tt, tt)), tt))), known_as_keyless R d.of.value d.of.name d.of.breach); leaving = λ k f vs. tt }
+
+pub member_sync : (R : RattleType) → IsSync (Member.the_row R)
+member_sync R = let fields : IsSync (denote.Struct.Struct.Struct (denote.Struct.Owning.shape (Member.the_type R))) = search sendable depth 20 in
+    record { shared = λ d b o κ. (fields.shared (tt, tt) b o κ, known_as_keyless R d.of.value d.of.name d.of.breach) }
+
+pub row_send : (R : RattleType) → IsSend (Row.the_row R)
+row_send R = record { owned = λ d vs. ((λ vss. (tt, ((λ uss. (tt, tt)), tt))), members_keyless R d.of); leaving = λ k f vs. tt }
+
+pub row_sync : (R : RattleType) → IsSync (Row.the_row R)
+row_sync R = let fields : IsSync (denote.Struct.Struct.Struct (denote.Struct.Owning.shape (Row.the_type R))) = search sendable depth 20 in
+    record { shared = λ d b o κ. (fields.shared (tt, tt) b o κ, members_keyless R d.of) }
 
 module _ (R : RattleType) (s : IsSend R) (y : IsSync R) where
   resting_keyless : (γ : Names) (u : Rest R.Denot) → Keyless (resting R γ u)

@@ -25,7 +25,8 @@ use Rattle.core.proofs.once.Turns.{one_value}
 use Rattle.core.proofs.cell.Borrows.{by_one}
 use Rattle.core.specs.Sync.RawAtomic.{asks, always}
 use Rattle.core.proofs.raw_atomic.Asked.{borrowed, Lies, Again}
-use Rattle.cell_core.specs.Slot.{Names, Phase, free, busy, full, broken, Turn, word, cross, spoilt, content, mark, crossed, written, place, at, auths, unset, told, inside, Room, tie, lent, standing, Cell, kept, Right, won, sighted, sights, shared_at}
+use Rattle.cell_core.specs.Member.{HasNames, IsWordOf, unfilled, known_as}
+use Rattle.cell_core.specs.Slot.{Names, Phase, fact, free, busy, full, broken, Turn, word, cross, spoilt, content, mark, crossed, written, place, at, auths, unset, told, inside, Room, tie, lent, standing, Cell, kept, Right, won, sighted, sights, shared_at}
 
 abbrev head : Gv → Gv
 head (gcons a b) = a
@@ -185,6 +186,33 @@ module _ {M : Type 1} {𝓤 : Ura M} (𝓛 : Logic 𝓤) (R : RattleType) (γ : 
       → A.inv (fbor α I) ∗ (A.lft α q ∗ emp 𝓤) ⊢ asks 𝓛 (block_ptr b (o + 0)) (λ n. n) always (λ n. fsep (flft α q) (Sights n))
   looks q = stepped q (λ n. n) Sights (emp 𝓤) (λ n s. let N : S → Pr = Next (λ m. m) Sights n in
       qed 𝓛 (‵ (beside n s) ∷ raw (emp 𝓤) ∷ []) ∵ suffices ! _ (upd_i 𝓤 (ex 𝓤 N)) $ keep ! (0 ∷ []) $ show ! N s $ by ! (looked n s))
+
+  -- what is known of a cell for good tells its word
+  told_two : (x : R.Denot) (n : ℕ) (s : S) → mark R (full x) ≡ mark R s → ⟦ beside n s ⟧ ⊢ ⟦ beside n s ⟧ ∗ ⟦ fact (n ≡ 2) ⟧
+  told_two x n free e = absurd (let z : 1 ≡ 0 = ap paired e in omega arith)
+  told_two x n busy e = absurd (let z : 1 ≡ 0 = ap paired e in omega arith)
+  told_two x n broken e = absurd (let z : 1 ≡ 0 = ap paired e in omega arith)
+  told_two x n (full y) e = qed 𝓛 (‵ (beside n (full y)) ∷ []) ∵ fsplit3 ! $ move ! (1 ∷ []) $ fsplit ! $ feq_l ! (λ two. feq_i ! ℕ n 2 two $ fjoin ! $ move ! (1 ∷ 0 ∷ 2 ∷ []) $ fjoin3 ! $ frame ! $
+      nothing ! $ fpack ! (n ≡ 2) (λ _. ftrue) two $ done !)
+
+  told_three : (n : ℕ) (s : S) → cross ≡ crossed R s → ⟦ beside n s ⟧ ⊢ ⟦ beside n s ⟧ ∗ ⟦ fact (n ≡ 3) ⟧
+  told_three n free e = absurd (let z : 1 ≡ 0 = ap paired e in omega arith)
+  told_three n busy e = absurd (let z : 1 ≡ 0 = ap paired e in omega arith)
+  told_three n (full y) e = absurd (let z : 1 ≡ 0 = ap paired e in omega arith)
+  told_three n broken e = qed 𝓛 (‵ (beside n broken) ∷ []) ∵ fsplit3 ! $ move ! (1 ∷ []) $ fsplit ! $ feq_l ! (λ three. feq_i ! ℕ n 3 three $ fjoin ! $ move ! (1 ∷ 0 ∷ 2 ∷ []) $ fjoin3 ! $ frame ! $
+      nothing ! $ fpack ! (n ≡ 3) (λ _. ftrue) three $ done !)
+
+  word_at : (v : Option R.Denot) (name breach : ℕ) → HasNames γ v name breach → (n : ℕ) (s : S)
+      → ⟦ beside n s ⟧ ∗ ⟦ known_as R v name breach ⟧ ⊢ ⟦ beside n s ⟧ ∗ ⟦ fact (IsWordOf v n) ⟧
+  word_at (Some x) name breach same n s = qed 𝓛 (‵ (beside n s) ∷ ‵ (written R name x) ∷ []) ∵ rewrite ! 1 (λ (k : ℕ). ‵ (written R k x)) same refl $ fsplit ! $ fsplit ! $ move ! (3 ∷ 0 ∷ []) $
+      use2 𝓛 (given (mark R (full x) ≡ mark R s) (‵ (written R γ.value x) ⊛ ‵ (fauth γ.value (mark R s)))) (𝓛.names.res_agree γ.value (mark R (full x)) (mark R s)) $ learn ! (λ e. split ! $ drop ! $ move ! (0 ∷ 1 ∷ []) $ fjoin ! $ fjoin ! $ by ! (told_two x n s e))
+  word_at None name breach same n s = qed 𝓛 (‵ (beside n s) ∷ ‵ (fsep (unfilled name) (spoilt breach)) ∷ []) ∵ move ! (1 ∷ []) $ fsplit ! $ drop ! $ rewrite ! 0 (λ (k : ℕ). ‵ (spoilt k)) same refl $ move ! (1 ∷ []) $ fsplit ! $ fsplit ! $ move ! (3 ∷ 1 ∷ []) $
+      use2 𝓛 (given (cross ≡ crossed R s) (‵ (spoilt γ.breach) ⊛ ‵ (fauth γ.breach (crossed R s)))) (𝓛.names.res_agree γ.breach cross (crossed R s)) $ learn ! (λ e. split ! $ drop ! $ move ! (1 ∷ 0 ∷ []) $ fjoin ! $ fjoin ! $ by ! (told_three n s e))
+
+  pub finds_member : (q : Share) (v : Option R.Denot) (name breach : ℕ) → HasNames γ v name breach
+      → A.inv (fbor α I) ∗ (A.lft α q ∗ ⟦ known_as R v name breach ⟧) ⊢ asks 𝓛 (block_ptr b (o + 0)) (λ n. n) always (λ n. fsep (flft α q) (fact (IsWordOf v n)))
+  finds_member q v name breach same = stepped q (λ n. n) (λ n. fact (IsWordOf v n)) ⟦ known_as R v name breach ⟧ (λ n s. let N : S → Pr = Next (λ m. m) (λ m. fact (IsWordOf v m)) n in
+      qed 𝓛 (‵ (beside n s) ∷ ‵ (known_as R v name breach) ∷ []) ∵ suffices ! _ (upd_i 𝓤 (ex 𝓤 N)) $ show ! N s $ by ! (word_at v name breach same n s))
 
   abbrev pub there : R.Denot → Fml
   there x = shared_of R x b c₀ α

@@ -1,5 +1,5 @@
 -- The parts of a row of raw cells: a cell more, a cell less, and what a `&` to the row shows. Assumes `Logic`.
-use Rattle.std.proofs.Common.{◌≡◌, ℕ, zero, suc, ◌+◌, ◌*◌, ◌^◌, ◌<◌, ◌≤◌, ◌≢◌, mul-le-mul_right, length-append, List, [], ◌∷◌, ◌++◌, length, set, length-set, sym, refl, ap, ◌∙◌, subst, arith, suc-mul, zero-mul, w64}
+use Rattle.std.proofs.Common.{Bool, true, false, not, T, eqb, eqb→eq, ◌≡◌, ℕ, zero, suc, ◌+◌, ◌*◌, ◌^◌, ◌<◌, ◌≤◌, ◌≢◌, mul-le-mul_right, length-append, List, [], ◌∷◌, ◌++◌, length, set, length-set, sym, refl, ap, ◌∙◌, subst, arith, suc-mul, zero-mul, w64}
 use seplogic.Ra.Ura.{Ura}
 use mir.Syntax.{Ty, ty_int, ty_array}
 use base.Stored.{Gv, gnil, gcons, gnum}
@@ -14,7 +14,7 @@ use base.Fml.{GName, fobs, fauth, fres, Lft, Incl, Fml, ftrue, fsep, froom}
 use prog.Memory.{size, up}
 use prog.RawLaws.{size-raw, align-raw}
 use types.Logic.{Logic, sem}
-use types.Kit.{later, given, learn, await, updating, now, feq_i, use3, ‵, ◌⊛◌, ◌$◌, ◌∵◌, !, qed, by, move, keep, drop, use1, use2, split, fsplit, fsplit3, fjoin, fjoin3, fpick, fpack, check, frame, each, assume, rewrite, done}
+use types.Kit.{later, given, learn, await, updating, now, feq_i, use3, ‵, ◌⊛◌, ◌$◌, ◌∵◌, !, qed, by, move, keep, drop, use1, use2, split, split3, fsplit, fsplit3, fjoin, fjoin3, fpick, fpack, check, frame, each, assume, rewrite, done}
 use Rattle.std.specs.Prelude.{Option, Some, None}
 use base.Fraction.{full_share}
 use types.Kit.{feq_l}
@@ -32,9 +32,9 @@ use denote.Param.Laws.{Laws, param_laws}
 use denote.Struct.Members.{Member}
 use Rattle.core.proofs.cell.Inside.{spread}
 use denote.Struct.Lending.{Lends, Lends-both, Lends-nothing, Lends-said, Lends-first}
-use Rattle.cell_core.specs.Slot.{Names, Phase, Lies, shared_at, Rest, fact, word, place, resting, free, busy, full, broken, mark, crossed, auths, written, at}
+use Rattle.cell_core.specs.Slot.{Names, Phase, Lies, shared_at, Rest, fact, word, place, resting, free, busy, full, broken, mark, cross, crossed, auths, unset, written, spoilt, at}
 use Rattle.cell_core.specs.Laid.{cell_ty, stride, row_ty, FitsMemory, IsAnother, rooms, rim, rests, still, owned, along, along_lent, lies, laid, laid_lent, cell_in}
-use types.Tokens.{name_new}
+use types.Tokens.{name_new, res_dup}
 use Rattle.cell_core.proofs.CellLends.{lends_cell}
 use Rattle.cell_core.proofs.CellSteps.{shared_laws, one_written}
 
@@ -233,12 +233,25 @@ module _ {M : Type 1} {𝓤 : Ura M} (𝓛 : Logic 𝓤) (R : RattleType) (token
   other_differs (gnum n) e = absurd (let z : 0 ≡ 1 = ap numbered e in omega arith)
 
   -- a name that can be set is not one that is in use
-  pub is_new : (γ δ : GName) (d : Gv) → A.obs δ gnil ∗ A.auth δ gnil ∗ A.auth γ d ⊢ H.⇛ (guard 𝓤 (δ ≢ γ) (A.obs δ gnil ∗ A.auth δ gnil))
+  pub is_new : (γ δ : GName) (d : Gv) → A.obs δ gnil ∗ A.auth δ gnil ∗ A.auth γ d ⊢ H.⇛ (guard 𝓤 (δ ≢ γ) (A.obs δ gnil ∗ A.auth δ gnil ∗ A.auth γ d))
   is_new γ δ d = let c : Gv = other_than d in dite (ℕ_discrete δ γ)
       (λ same. qed 𝓛 (‵ (fobs δ gnil) ∷ ‵ (fauth δ gnil) ∷ ‵ (fauth γ d) ∷ []) ∵ updating ! $ rewrite ! 2 (λ (k : ℕ). ‵ (fauth k d)) (sym same) refl $
       use2 𝓛 (later (‵ (fobs δ c) ⊛ ‵ (fauth δ c))) (𝓛.names.name_set δ gnil gnil c) $ await ! tt $ split ! $ move ! (0 ∷ 2 ∷ []) $
       use2 𝓛 (given (c ≡ d) (‵ (fobs δ c) ⊛ ‵ (fauth δ d))) (𝓛.names.name_agree δ c d) $ learn ! (λ e. absurd (other_differs d e)))
-      (λ other. qed 𝓛 (‵ (fobs δ gnil) ∷ ‵ (fauth δ gnil) ∷ ‵ (fauth γ d) ∷ []) ∵ updating ! $ now ! $ check ! other $ keep ! (0 ∷ 1 ∷ []) $ done !)
+      (λ other. qed 𝓛 (‵ (fobs δ gnil) ∷ ‵ (fauth δ gnil) ∷ ‵ (fauth γ d) ∷ []) ∵ updating ! $ now ! $ check ! other $ done !)
+
+  -- two names that can be set, and are none of the cell's
+  abbrev pub NewNames : Names → Phase R.Denot → Fml
+  NewNames γ s = fex Names (λ c. fsep (fact (IsAnother γ c)) (fsep (unset R c) (fsep (auths R c free) (auths R γ s))))
+
+  pub new_names : (γ : Names) (s : Phase R.Denot) → ⟦ auths R γ s ⟧ ⊢ H.⇛ ⟦ NewNames γ s ⟧
+  new_names γ s = qed 𝓛 (‵ (auths R γ s) ∷ []) ∵ updating ! $ fsplit ! $
+      name_new ! tt gnil (λ γv. use3 𝓛 (later (given (γv ≢ γ.value) (‵ (fobs γv gnil) ⊛ ‵ (fauth γv gnil) ⊛ ‵ (fauth γ.value (mark R s))))) (is_new γ.value γv (mark R s)) $ await ! tt $ learn ! (λ nv. split3 ! $ move ! (3 ∷ []) $
+      name_new ! tt gnil (λ γb. use3 𝓛 (later (given (γb ≢ γ.breach) (‵ (fobs γb gnil) ⊛ ‵ (fauth γb gnil) ⊛ ‵ (fauth γ.breach (crossed R s))))) (is_new γ.breach γb (crossed R s)) $ await ! tt $ learn ! (λ nb. split3 ! $
+      let γ' : Names = record { value = γv; breach = γb } in now ! $
+      -- [the right to break; its name; the old one; the right to fill; its name; the old one]
+      move ! (5 ∷ 2 ∷ []) $ fjoin ! $ move ! (4 ∷ 2 ∷ []) $ fjoin ! $ move ! (3 ∷ 2 ∷ []) $ fjoin ! $ fjoin3 ! $ nothing ! $ fpack ! (IsAnother γ γ') (λ _. ftrue) (nv, nb) $ fjoin ! $
+      fpack ! Names (λ c. fsep (fact (IsAnother γ c)) (fsep (unset R c) (fsep (auths R c free) (auths R γ s)))) γ' $ done !))))
 
   -- a cell whose word is 0, and whose room is empty, is another one under new names
   abbrev pub Renewed : Names → ℕ → ℕ → Fml
@@ -246,14 +259,75 @@ module _ {M : Type 1} {𝓤 : Ura M} (𝓛 : Logic 𝓤) (R : RattleType) (token
 
   pub renewed : (γ : Names) (b e : ℕ) (s : Phase R.Denot)
       → ⟦ auths R γ s ⟧ ∗ ⟦ word b (e + 0) 0 ⟧ ∗ ⟦ place R None b (at R e) ⟧ ⊢ H.⇛ ⟦ Renewed γ b e ⟧
-  renewed γ b e s = qed 𝓛 (‵ (auths R γ s) ∷ ‵ (word b (e + 0) 0) ∷ ‵ (place R None b (at R e)) ∷ []) ∵ updating ! $ fsplit ! $
-      name_new ! tt gnil (λ γv. use3 𝓛 (later (given (γv ≢ γ.value) (‵ (fobs γv gnil) ⊛ ‵ (fauth γv gnil)))) (is_new γ.value γv (mark R s)) $ await ! tt $ learn ! (λ nv. split ! $ move ! (2 ∷ []) $
-      name_new ! tt gnil (λ γb. use3 𝓛 (later (given (γb ≢ γ.breach) (‵ (fobs γb gnil) ⊛ ‵ (fauth γb gnil)))) (is_new γ.breach γb (crossed R s)) $ await ! tt $ learn ! (λ nb. split ! $
-      let γ' : Names = record { value = γv; breach = γb } in now ! $
-      -- [the right to break; its name; the right to fill; its name; the word; the room]
-      move ! (2 ∷ 0 ∷ []) $ fjoin ! $ feq_i ! ℕ 0 0 refl $ fjoin ! $ move ! (2 ∷ 1 ∷ []) $ fjoin ! $ fjoin ! $ nothing ! $ fpack ! (Lies R None free) (λ _. ftrue) refl $ move ! (1 ∷ 0 ∷ []) $ fjoin ! $
-      move ! (1 ∷ 2 ∷ 0 ∷ []) $ fjoin3 ! $ fpack ! (Rest R.Denot) (rests R b γ' e) (0, None, free) $ nothing ! $ fpack ! (IsAnother γ γ') (λ _. ftrue) (nv, nb) $ fjoin ! $
-      fpack ! Names (λ c. fsep (fact (IsAnother γ c)) (still R b c e)) γ' $ done !))))
+  renewed γ b e s = qed 𝓛 (‵ (auths R γ s) ∷ ‵ (word b (e + 0) 0) ∷ ‵ (place R None b (at R e)) ∷ []) ∵ updating ! $
+      use1 𝓛 (later (‵ (NewNames γ s))) (new_names γ s) $ await ! tt $ fpick ! (λ γ'. fsplit ! $ fpick ! (λ apart. drop ! $ fsplit3 ! $ now ! $
+      -- [the rights; the names; the old ones; the word; the room]
+      feq_i ! ℕ 0 0 refl $ fjoin ! $ move ! (1 ∷ 0 ∷ []) $ fjoin ! $ nothing ! $ fpack ! (Lies R None free) (λ _. ftrue) refl $ move ! (1 ∷ 0 ∷ []) $ fjoin ! $
+      move ! (2 ∷ 3 ∷ 0 ∷ []) $ fjoin3 ! $ fpack ! (Rest R.Denot) (rests R b γ' e) (0, None, free) $ keep ! (0 ∷ []) $ nothing ! $ fpack ! (IsAnother γ γ') (λ _. ftrue) apart $ fjoin ! $
+      fpack ! Names (λ c. fsep (fact (IsAnother γ c)) (still R b c e)) γ' $ done !))
+
+  -- one whose word is 2, and whose room holds a value, is filled under new names
+  abbrev pub Refilled : Names → R.Denot → ℕ → ℕ → Fml
+  Refilled γ x b e = fex Names (λ γ'. fsep (fact (IsAnother γ γ')) (fsep (still R b γ' e) (written R γ'.value x)))
+
+  pub refilled : (γ : Names) (x : R.Denot) (b e : ℕ) (s : Phase R.Denot)
+      → ⟦ auths R γ s ⟧ ∗ ⟦ word b (e + 0) 2 ⟧ ∗ ⟦ place R (Some x) b (at R e) ⟧ ⊢ H.⇛ ⟦ Refilled γ x b e ⟧
+  refilled γ x b e s = let c : Gv = mark R (full x) in qed 𝓛 (‵ (auths R γ s) ∷ ‵ (word b (e + 0) 2) ∷ ‵ (place R (Some x) b (at R e)) ∷ []) ∵ updating ! $
+      use1 𝓛 (later (‵ (NewNames γ s))) (new_names γ s) $ await ! tt $ fpick ! (λ γ'. fsplit ! $ fpick ! (λ apart. drop ! $ fsplit3 ! $ keep ! (0 ∷ 1 ∷ 3 ∷ 4 ∷ []) $
+      -- [the rights; the names; the word; the room]
+      fsplit ! $ move ! (2 ∷ []) $ fsplit ! $ move ! (2 ∷ 0 ∷ []) $ use2 𝓛 (later (‵ (fobs γ'.value c) ⊛ ‵ (fauth γ'.value c))) (𝓛.names.name_set γ'.value gnil gnil c) $ await ! tt $ split ! $ now ! $
+      use1 𝓛 (‵ (fres γ'.value c)) (𝓛.names.obs-res γ'.value c) $ res_dup ! $
+      -- [written, twice; the value's name; the breach's name; the right to break; the word; the room]
+      move ! (2 ∷ 3 ∷ []) $ fjoin ! $ move ! (1 ∷ []) $ feq_i ! ℕ 2 2 refl $ fjoin ! $ move ! (1 ∷ 0 ∷ []) $ fjoin ! $ nothing ! $ fpack ! (Lies R (Some x) (full x)) (λ _. ftrue) refl $ move ! (1 ∷ 0 ∷ []) $ fjoin ! $
+      move ! (3 ∷ 4 ∷ 0 ∷ []) $ fjoin3 ! $ fpack ! (Rest R.Denot) (rests R b γ' e) (2, Some x, full x) $ keep ! (0 ∷ 1 ∷ []) $ fjoin ! $ nothing ! $ fpack ! (IsAnother γ γ') (λ _. ftrue) apart $ fjoin ! $
+      fpack ! Names (λ n. fsep (fact (IsAnother γ n)) (fsep (still R b n e) (written R n.value x))) γ' $ done !))
+
+  -- one whose word is 3, and whose room is empty, is broken under new names; its old ones stay as they are
+  abbrev pub Respoilt : Names → Phase R.Denot → ℕ → ℕ → Fml
+  Respoilt γ s b e = fex Names (λ γ'. fsep (fact (IsAnother γ γ')) (fsep (still R b γ' e) (fsep (spoilt γ'.breach) (auths R γ s))))
+
+  pub respoilt : (γ : Names) (b e : ℕ) (s : Phase R.Denot)
+      → ⟦ auths R γ s ⟧ ∗ ⟦ word b (e + 0) 3 ⟧ ∗ ⟦ place R None b (at R e) ⟧ ⊢ H.⇛ ⟦ Respoilt γ s b e ⟧
+  respoilt γ b e s = qed 𝓛 (‵ (auths R γ s) ∷ ‵ (word b (e + 0) 3) ∷ ‵ (place R None b (at R e)) ∷ []) ∵ updating ! $
+      use1 𝓛 (later (‵ (NewNames γ s))) (new_names γ s) $ await ! tt $ fpick ! (λ γ'. fsplit ! $ fpick ! (λ apart. drop ! $ fsplit3 ! $
+      -- [the rights; the names; the old ones; the word; the room]
+      fsplit ! $ move ! (2 ∷ []) $ fsplit ! $ move ! (3 ∷ 1 ∷ []) $ use2 𝓛 (later (‵ (fobs γ'.breach cross) ⊛ ‵ (fauth γ'.breach cross))) (𝓛.names.name_set γ'.breach gnil gnil cross) $ await ! tt $ split ! $ now ! $
+      use1 𝓛 (‵ (spoilt γ'.breach)) (𝓛.names.obs-res γ'.breach cross) $ res_dup ! $
+      -- [broken, twice; the breach's name; the value's name; the right to fill; the old ones; the word; the room]
+      move ! (3 ∷ 2 ∷ []) $ fjoin ! $ move ! (1 ∷ 3 ∷ []) $ fjoin ! $ feq_i ! ℕ 3 3 refl $ fjoin ! $ move ! (1 ∷ 0 ∷ []) $ fjoin ! $ nothing ! $ fpack ! (Lies R None broken) (λ _. ftrue) refl $ move ! (1 ∷ 0 ∷ []) $ fjoin ! $
+      -- [what rests; broken; the old ones; the word; the room]
+      move ! (3 ∷ 4 ∷ 0 ∷ []) $ fjoin3 ! $ fpack ! (Rest R.Denot) (rests R b γ' e) (3, None, broken) $ fjoin3 ! $ nothing ! $ fpack ! (IsAnother γ γ') (λ _. ftrue) apart $ fjoin ! $
+      fpack ! Names (λ n. fsep (fact (IsAnother γ n)) (fsep (still R b n e) (fsep (spoilt n.breach) (auths R γ s)))) γ' $ done !))
+
+  -- a cell whose word is 2 shows its value
+  pub full_shown : (γ : Names) (r : Rest R.Denot) → r.0 ≡ 2 → ⟦ resting R γ r ⟧ ⊢ ⟦ resting R γ r ⟧ ∗ ⟦ fex R.Denot (written R γ.value) ⟧
+  full_shown γ (n, v, free) two = qed 𝓛 (‵ (resting R γ (n, v, free)) ∷ []) ∵ fsplit ! $ fsplit ! $ move ! (1 ∷ []) $ fsplit ! $ feq_l ! (λ z. absurd (omega arith))
+  full_shown γ (n, v, busy) two = qed 𝓛 (‵ (resting R γ (n, v, busy)) ∷ []) ∵ fsplit ! $ fsplit ! $ move ! (1 ∷ []) $ feq_l ! (λ z. absurd (omega arith))
+  full_shown γ (n, v, broken) two = qed 𝓛 (‵ (resting R γ (n, v, broken)) ∷ []) ∵ fsplit ! $ fsplit ! $ move ! (1 ∷ []) $ fsplit ! $ feq_l ! (λ z. absurd (omega arith))
+  full_shown γ (n, v, full x) two = qed 𝓛 (‵ (resting R γ (n, v, full x)) ∷ []) ∵ fsplit ! $ fsplit ! $ move ! (1 ∷ []) $ fsplit ! $ move ! (1 ∷ []) $ res_dup ! $
+      -- [written, twice; the word; the names; the room]
+      move ! (2 ∷ 0 ∷ []) $ fjoin ! $ move ! (2 ∷ 0 ∷ []) $ fjoin ! $ move ! (0 ∷ 2 ∷ []) $ fjoin ! $ frame ! $ fpack ! R.Denot (written R γ.value) x $ done !
+
+  -- of one with another word the first name has no value
+  abbrev pub Blank : Names → Phase R.Denot → Fml
+  Blank γ s = fsep (auths R γ s) (fact (mark R s ≡ gnil))
+
+  pub blank_at : (γ : Names) (r : Rest R.Denot) → r.0 ≢ 2 → ⟦ resting R γ r ⟧ ⊢ ⟦ Blank γ r.2 ⟧
+  blank_at γ (n, v, free) other = qed 𝓛 (‵ (resting R γ (n, v, free)) ∷ []) ∵ fsplit ! $ fsplit ! $ keep ! (0 ∷ []) $ nothing ! $ fpack ! (mark R free ≡ gnil) (λ _. ftrue) refl $ move ! (1 ∷ 0 ∷ []) $ fjoin ! $ done !
+  blank_at γ (n, v, busy) other = qed 𝓛 (‵ (resting R γ (n, v, busy)) ∷ []) ∵ fsplit ! $ fsplit ! $ keep ! (0 ∷ []) $ nothing ! $ fpack ! (mark R busy ≡ gnil) (λ _. ftrue) refl $ move ! (1 ∷ 0 ∷ []) $ fjoin ! $ done !
+  blank_at γ (n, v, broken) other = qed 𝓛 (‵ (resting R γ (n, v, broken)) ∷ []) ∵ fsplit ! $ fsplit ! $ keep ! (0 ∷ []) $ nothing ! $ fpack ! (mark R broken ≡ gnil) (λ _. ftrue) refl $ move ! (1 ∷ 0 ∷ []) $ fjoin ! $ done !
+  blank_at γ (n, v, full x) other = qed 𝓛 (‵ (resting R γ (n, v, full x)) ∷ []) ∵ fsplit ! $ fsplit ! $ move ! (1 ∷ []) $ fsplit ! $ feq_l ! (λ z. absurd (other z))
+
+not_twice : (b : Bool) → T (not (not b)) → T b
+not_twice true h = h
+not_twice false h = h
+
+-- what a test of a word says
+pub is_not_two : (n : ℕ) → T (not (eqb n 2)) → n ≢ 2
+is_not_two n h same = subst (λ (m : ℕ). T (not (eqb m 2))) same h
+
+pub is_two : (n : ℕ) → T (not (not (eqb n 2))) → n ≡ 2
+is_two n h = eqb→eq n 2 (not_twice (eqb n 2) h)
 
 -- a list that is not empty has a last member
 pub last_of : (cs : List Names) (j : ℕ) → length cs ≡ j + 1

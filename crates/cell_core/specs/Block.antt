@@ -3,6 +3,7 @@ use Rattle.std.specs.Prelude.{◌≡◌, ◌≢◌, ℕ, ◌<◌, List, length}
 use base.Stored.{Coded, coded×, coded_ℕ, coded_list, coded_via}
 use Rattle.cell_core.specs.Slot.{Names, names_coded}
 use Rattle.cell_core.specs.Laid.{IsAnother, cell_in}
+use Rattle.cell_core.specs.Member.{MemberView, HasNames}
 
 -- a block: the names of each cell
 pub record BlockView : Type 0 where
@@ -91,6 +92,11 @@ pub record IsSpoiltAt (block : BlockView) (place : ℕ) (spoilt : SpoiltView) : 
 pub record IsBegunAt (block : BlockView) (place : ℕ) (begun : BegunView) : Type 0 where
   pub of : IsBegunIn block begun
   pub at : begun.place ≡ place
+
+-- so much is known of the cell at the place, for good
+pub record IsMemberAt {T : Type 0} (block : BlockView) (place : ℕ) (m : MemberView T) : Type 0 where
+  pub within : place < block_len block
+  pub known : HasNames (cell_at block place) m.value m.name m.breach
 
 -- the cell at the place is another one: no token of the old cell is of it
 abbrev pub RenewsCell : BlockView → BlockView → ℕ → Type 0

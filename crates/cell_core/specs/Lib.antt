@@ -1,4 +1,5 @@
 pub mod Slot
 pub mod Laid
+pub mod Member
 pub mod Block
 pub mod Shown

@@ -1,9 +1,10 @@
 //! A block of cells, laid raw in one row: each is a state word and room for one value.
-ghost use Rattle.std.specs.Prelude.{◌≡◌, ◌≢◌, ◌<◌, IfOk, IfErr};
-ghost use Rattle.cell_core.specs.Block.{block_len, cell_at, IsPenAt, IsPlacedIn, IsSpoiltIn, KeepsOtherCells, RenewsCell};
+ghost use Rattle.std.specs.Prelude.{◌≡◌, ◌≢◌, ◌<◌, Some, None, MatchOption, IfOk, IfErr};
+ghost use Rattle.cell_core.specs.Block.{block_len, cell_at, IsPenAt, IsPlacedIn, IsPlacedAt, IsSpoiltIn, IsMemberAt, KeepsOtherCells, RenewsCell};
 ghost use Rattle.cell_core.specs.Shown.{IsFoundIn, IsLookAt};
 
 mod begun;
+mod member;
 mod pen;
 mod placed;
 mod shown;
@@ -12,6 +13,7 @@ mod steps;
 
 use crate::slot::steps::Slot;
 pub use begun::Begun;
+pub use member::{Member, Row};
 pub use pen::Pen;
 pub use placed::Placed;
 pub use shown::{Found, Look};
@@ -176,6 +178,60 @@ impl<T, A: Allocator> Block<T, A> {
             .take_written(self.link, placed.place as usize, &placed.written)
     }
 
+    /// What is known of the cell for good. One that holds no value is broken after it, and is another one: older tokens are
+    /// not of it, and there is none of a value.
+    pub fn settle_now(&mut self, place: u64) -> Member<T>
+        requires { place < block_len self.old }
+        ensures member { IsMemberAt self.new place result }
+        ensures name { result.name ≡ (cell_at self.old place).value }
+        ensures filled { result.value ≢ None → self.new ≡ self.old }
+        ensures another { result.value ≡ None → RenewsCell self.old self.new place }
+        ensures len { block_len self.new ≡ block_len self.old }
+        ensures others { KeepsOtherCells self.old self.new place }
+    {
+        Member {
+            member: self.laid.settle(self.link, place as usize),
+        }
+    }
+
+    /// The cell holds the value after it. Beside its token this answers the value that it held, if it held one.
+    pub fn put_now(&mut self, place: u64, value: T) -> (Placed<T>, Option<T>)
+        requires { place < block_len self.old }
+        ensures placed { IsPlacedAt self.new place result.0 }
+        ensures value { result.0.value ≡ value }
+        ensures len { block_len self.new ≡ block_len self.old }
+        ensures others { KeepsOtherCells self.old self.new place }
+    {
+        let held = self.take(place);
+        let written = self.laid.fill(self.link, place as usize, value);
+        (Placed { place, written }, held)
+    }
+
+    /// The cell is broken after it. This answers the value that it held, if it held one.
+    pub fn spoil_now(&mut self, place: u64) -> (Member<T>, Option<T>)
+        requires { place < block_len self.old }
+        ensures member { IsMemberAt self.new place result.0 }
+        ensures broken { result.0.value ≡ None }
+        ensures len { block_len self.new ≡ block_len self.old }
+        ensures others { KeepsOtherCells self.old self.new place }
+    {
+        let held = self.take(place);
+        let member = self.laid.spoil(self.link, place as usize);
+        (Member { member }, held)
+    }
+
+    /// The value of a cell of which so much is known, or nothing where it is broken: one load.
+    pub fn member<'a>(&'a self, place: u64, member: &Member<T>) -> Option<&'a T>
+        requires { IsMemberAt self.now place member.now }
+        ensures { MatchOption result (member.now.value ≡ None) (λ value. member.now.value ≡ Some value.now) }
+    {
+        let cell = self.cell(place);
+        match cell.word(&member.member) {
+            2 => Some(cell.value(&member.member.written())),
+            _ => None,
+        }
+    }
+
     /// Frees its memory at once, without a look at its cells: no value is dropped.
     pub fn free(self) {
         let Block {
@@ -186,6 +242,29 @@ impl<T, A: Allocator> Block<T, A> {
         } = self;
         let count = len as usize;
         laid.free(&alloc, link, count);
+    }
+}
+
+impl<T: Drop, A: Allocator> Block<T, A> {
+    /// The value of a cell of which so much is known, moved out, or nothing where it is broken. The cell is empty then, and is
+    /// another one: older tokens are not of it.
+    pub fn take_member(&mut self, place: u64, member: &Member<T>) -> Option<T>
+        requires { IsMemberAt self.old place member.now }
+        ensures value { result ≡ member.now.value }
+        ensures another { RenewsCell self.old self.new place }
+        ensures len { block_len self.new ≡ block_len self.old }
+        ensures others { KeepsOtherCells self.old self.new place }
+    {
+        match self.cell(place).word(&member.member) {
+            2 => {
+                let written = member.member.written();
+                Some(self.laid.take_written(self.link, place as usize, &written))
+            }
+            _ => {
+                drop(self.take(place));
+                None
+            }
+        }
     }
 }
 

@@ -1,2 +1,3 @@
 // One cell: a state word and room for one value.
+pub(crate) mod member;
 pub(crate) mod steps;

@@ -1,2 +1,3 @@
 mod block;
+mod owner;
 mod race;

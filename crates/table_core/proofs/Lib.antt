@@ -1,4 +1,5 @@
 mod Fits
+mod Known
 mod Names
 mod Renamed
 mod Sent

@@ -18,3 +18,10 @@ pub renamed_there : (entries : List EntryView) (k : ℕ) (x old new : EntryView)
 renamed_there [] k x old new is near apart same = absurd (omega (arith, near))
 renamed_there (y ∷ ys) zero x old new is near apart same = apart (same ∙ ap name_of (sym is))
 renamed_there (y ∷ ys) (suc k) x old new is near apart same = renamed_there ys k x old new is (omega (arith, near)) apart same
+
+-- an entry that was put at a place is there by its name
+pub name_there : (entries : List EntryView) (k : ℕ) (e : EntryView) → k < length entries
+    → slice_index (map name_of (slice_set entries k e)) k ≡ name_of e
+name_there [] k e near = absurd (omega (arith, near))
+name_there (x ∷ xs) zero e near = refl
+name_there (x ∷ xs) (suc k) e near = name_there xs k e (omega (arith, near))

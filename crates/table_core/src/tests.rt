@@ -1,3 +1,6 @@
+ghost use Rattle.std.specs.Prelude.{◌≡◌};
+ghost use Rattle.cell_core.specs.Block.{block_len};
+
 use crate::Table;
 use cell_core::block::{Block, Look};
 use std::sync::atomic::{AtomicU64, Ordering};
@@ -148,6 +151,40 @@ fn large_entries_are_counted_and_given_up(rt: HostRuntime) -> Result<(), Fail> {
     Ok(())
 }
 
+// Puts a value into a cell of a block that is owned, if there is such a cell.
+fn put(block: &mut Block<u64>, place: u64, value: u64)
+    ensures { block_len block.new ≡ block_len block.old }
+{
+    if place < block.len() {
+        drop(block.put_now(place, value));
+    }
+}
+
+#[test]
+fn a_detached_block_is_attached_again(rt: HostRuntime) -> Result<(), Fail> {
+    let mut table = Table::new(rt.alloc());
+    let (block, key) = table.install_key(2)?;
+    assert!(rt; fill(block, 1, 7));
+    let (block, other) = table.install_key(0)?;
+    assert!(rt; fill(block, 1, 6));
+    let mut block = table.detach(&key);
+    assert!(rt; table.scout(2).is_none());
+    assert_eq!(rt; table.installed(), 1);
+    put(&mut block, 3, 9);
+    let key = table.attach(2, block);
+    assert_eq!(rt; key.entry(), 2);
+    assert!(rt; shows(table.known(&key), 1, 7));
+    assert!(rt; shows(table.known(&key), 3, 9));
+    assert!(rt; shows(table.known(&other), 1, 6));
+    assert!(rt; shows(table.install(2)?, 3, 9));
+    let block = table.detach(&key);
+    assert!(rt; table.install(2)?.len() == 4);
+    let key = table.attach(2, block);
+    assert!(rt; shows(table.known(&key), 3, 9));
+    assert_eq!(rt; table.installed(), 2);
+    Ok(())
+}
+
 struct Counted<'a>(&'a AtomicU64);
 
 impl Drop for Counted<'_> {
@@ -168,6 +205,11 @@ fn each_block_is_dropped_once(rt: HostRuntime) -> Result<(), Fail> {
     assert_eq!(rt; drops.load(Ordering::SeqCst), 1);
     table.give_up(2);
     assert!(rt; table.block_mut(1).is_some());
+    assert_eq!(rt; drops.load(Ordering::SeqCst), 1);
+    let (_block, key) = table.install_key(3)?;
+    let block = table.detach(&key);
+    assert_eq!(rt; drops.load(Ordering::SeqCst), 1);
+    table.attach(3, block);
     assert_eq!(rt; drops.load(Ordering::SeqCst), 1);
     drop(table);
     assert_eq!(rt; drops.load(Ordering::SeqCst), 4);

@@ -5,7 +5,9 @@ ghost use base.Fml.{ftrue, ffalse};
 ghost use denote.Sharing.{said};
 ghost use Rattle.std.specs.Coded.{coded_option};
 ghost use Rattle.cell_core.specs.Slot.{Names, names_coded, shared, claimed, sighted, written, spoilt};
+ghost use Rattle.cell_core.specs.Member.{HasNames, IsWordOf};
 
+use crate::slot::member::Member;
 use atomic_table::exchange;
 use std::marker::{Brand, Model, Move, Owns, PhantomData};
 use std::sync::atomic::Ordering::SeqCst;
@@ -55,7 +57,7 @@ impl<T> Model for Sight<T> {
 
 // What shows that a cell holds a value, for good. It has no bytes.
 pub(crate) struct Written<T> {
-    marker: PhantomData<T>,
+    pub(crate) marker: PhantomData<T>,
     pub(crate) ghost of: { ℕ },
     pub(crate) ghost value: { T },
 }
@@ -123,6 +125,14 @@ impl<T> Slot<T> {
             raw::load::<Brand>(&raw const (*slot).state, SeqCst);
             &(*slot).room
         }
+    }
+
+    // The word, for whoever knows of the cell for good.
+    pub(crate) fn word(&self, member: &Member<T>) -> u64
+        requires { HasNames self.now member.now.of.value member.now.of.name member.now.of.breach }
+        ensures { IsWordOf member.now.of.value result }
+    {
+        unsafe { raw::load::<Brand>(&raw const self.state, SeqCst) }
     }
 
     // No cell is filled and broken. It tells a proof so.

@@ -141,7 +141,7 @@ fn a_million_cells_are_empty_and_filled(rt: HostRuntime) -> Result<(), Fail> {
     Ok(())
 }
 
-struct Counted<'a>(&'a AtomicU64);
+pub(crate) struct Counted<'a>(pub(crate) &'a AtomicU64);
 
 impl Drop for Counted<'_> {
     fn drop(self) {

@@ -126,8 +126,33 @@ impl<B: Measured> Entry<B> {
             × (other.new ≡ other.old) }
     {}
 
-    fn into_loose(self) -> Option<Loose<B, Global>>
-        ensures { IfSome result (λ l. B.measure l.value ≡ length_of self) }
+    // The pointer of a box, beside it.
+    fn pointer(block: Loose<B, Global>) -> (*mut B, Loose<B, Global>)
+        ensures { (result.0 ≡ block.at) × (result.1.at ≡ block.at) × (result.1.value ≡ block.value) }
+    {
+        let Loose { at, alloc } = block;
+        (at, Loose { at, alloc })
+    }
+
+    // An entry that is set to the block, which the sight knows.
+    fn full(word: AtomicPtr<B>, block: Loose<B, Global>) -> (Entry<B>, Sight<B>)
+        requires { atomic_ptr_value word ≡ block.at }
+        ensures length { length_of result.0 ≡ B.measure block.value }
+        ensures of { result.1.of ≡ name_of result.0 }
+        ensures known { result.1.known ≡ Some block.value }
+    {
+        let Loose { at: _, alloc } = block;
+        let sight = Sight {
+            marker: PhantomData,
+        };
+        (Entry { word, alloc }, sight)
+    }
+
+    // The block of an entry that is owned whole, if it is set: for a sight that knows a block, that one.
+    fn into_loose(self, sight: &Sight<B>) -> Option<Loose<B, Global>>
+        requires { sight.now.of ≡ name_of self }
+        ensures length { IfSome result (λ l. B.measure l.value ≡ length_of self) }
+        ensures block { MatchOption result (sight.now.known ≡ None) (λ l. Agrees sight.now.known l.value) }
     {
         let Entry { word, alloc } = self;
         let at = word.into_inner();
@@ -158,11 +183,23 @@ impl<B: Measured + Drop> Entry<B> {
         }
     }
 
-    // The block, for whoever has the whole entry.
-    pub(crate) fn into_box(self) -> Option<Box<B>>
-        ensures { IfSome result (λ b. B.measure b.value ≡ length_of self) }
+    // An entry that is set to the block, which the sight knows.
+    pub(crate) fn filled(block: Box<B>) -> (Entry<B>, Sight<B>)
+        ensures length { length_of result.0 ≡ B.measure block.value }
+        ensures of { result.1.of ≡ name_of result.0 }
+        ensures known { result.1.known ≡ Some block.value }
     {
-        match self.into_loose() {
+        let (at, block) = Entry::pointer(Loose::of(block));
+        Entry::full(AtomicPtr::new(at), block)
+    }
+
+    // The block, for whoever has the whole entry: for a sight that knows a block, that one.
+    pub(crate) fn into_box(self, sight: &Sight<B>) -> Option<Box<B>>
+        requires { sight.now.of ≡ name_of self }
+        ensures length { IfSome result (λ b. B.measure b.value ≡ length_of self) }
+        ensures block { MatchOption result (sight.now.known ≡ None) (λ b. Agrees sight.now.known b.value) }
+    {
+        match self.into_loose(sight) {
             Some(block) => Some(block.into_box()),
             None => None,
         }
@@ -171,7 +208,8 @@ impl<B: Measured + Drop> Entry<B> {
 
 impl<B: Measured + Drop> Drop for Entry<B> {
     fn drop(self) {
-        drop(self.into_box());
+        let sight = self.sight();
+        drop(self.into_box(&sight));
     }
 }
 

@@ -1,8 +1,10 @@
 // What an exclusive owner does with the blocks.
-ghost use Rattle.std.specs.Prelude.{◌≡◌, ◌<◌, None, IfSome, IsTrue};
-ghost use Rattle.table_core.specs.Table.{IsBlockOf, KeepsOtherEntries, RenewsEntry};
+ghost use Rattle.std.specs.Prelude.{◌≡◌, ◌<◌, None, slice_index, MatchOption, IfSome, IsTrue};
+ghost use Rattle.table_core.specs.Entry.{Agrees};
+ghost use Rattle.table_core.specs.Table.{IsBlockOf, IsKeyIn, IsKeyOf, KeepsOtherEntries, RenewsEntry};
 
-use crate::table::{Table, empty_entry};
+use crate::entry::{Entry, Sight};
+use crate::table::{Key, Table, empty_entry};
 use cell_core::block::Block;
 use seg_core::len;
 use std::mem::replace;
@@ -44,19 +46,22 @@ impl<T: Drop> Table<T> {
         }
     }
 
-    // Makes the entry a new one, and gives the block that it had, or that was lent of it.
+    // Makes the entry a new one, and gives the block that it had, or that was lent of it: for a sight of it that knows a block,
+    // that one.
     #[tactic(auto, using(crate::proofs::Names::names_kept, crate::proofs::Names::renamed_there))]
-    fn take_out(&mut self, k: u32) -> Option<Box<Block<T>>>
-        requires { k < 32 }
+    fn take_out(&mut self, k: u32, sight: &Sight<Block<T>>) -> Option<Box<Block<T>>>
+        requires within { k < 32 }
+        requires of { slice_index self.old.names k ≡ sight.now.of }
         ensures others { KeepsOtherEntries self.old self.new k }
         ensures another { RenewsEntry self.old self.new k }
         ensures none_lent { self.new.lent ≡ None }
         ensures length { IfSome result (λ block. IsBlockOf k block.value) }
+        ensures block { MatchOption result (sight.now.known ≡ None) (λ block. Agrees sight.now.known block.value) }
     {
         self.put_back();
         let mut new = empty_entry(self.alloc, k);
         new.rename(&mut self.entries[k as usize]);
-        replace(&mut self.entries[k as usize], new).into_box()
+        replace(&mut self.entries[k as usize], new).into_box(sight)
     }
 
     // The block of the entry, taken out of it or out before.
@@ -68,7 +73,8 @@ impl<T: Drop> Table<T> {
         if is_out(&self.lent, k) {
             return self.lent.take();
         }
-        match self.take_out(k) {
+        let sight = self.entries[k as usize].sight();
+        match self.take_out(k, &sight) {
             Some(block) => Some(Lent { entry: k, block }),
             None => None,
         }
@@ -88,6 +94,39 @@ impl<T: Drop> Table<T> {
         }
     }
 
+    /// The key's block, taken out of its entry, which is a new one after it, and not set. It takes no memory.
+    pub fn detach(&mut self, key: &Key) -> Box<Block<T>>
+        requires { IsKeyIn self.old key.now }
+        ensures block { result.value ≡ key.now.block }
+        ensures length { IsBlockOf key.now.entry result.value }
+        ensures others { KeepsOtherEntries self.old self.new key.now.entry }
+        ensures another { RenewsEntry self.old self.new key.now.entry }
+        ensures none_lent { self.new.lent ≡ None }
+    {
+        let sight = key.sight.again();
+        match self.take_out(key.entry, &sight) {
+            Some(block) => block,
+            None => unreachable!(),
+        }
+    }
+
+    /// The entry is set to the block, and this is its key. A block that it was set to before is dropped. It takes no memory.
+    #[tactic(auto, using(crate::proofs::Names::names_kept, crate::proofs::Names::name_there))]
+    pub fn attach(&mut self, k: u32, block: Box<Block<T>>) -> Key
+        requires within { k < 32 }
+        requires length { IsBlockOf k block.value }
+        ensures key { IsKeyOf self.new k block.value result }
+        ensures others { KeepsOtherEntries self.old self.new k }
+        ensures lent { self.new.lent ≡ self.old.lent }
+    {
+        let (entry, sight) = Entry::filled(block);
+        self.entries[k as usize] = entry;
+        Key {
+            entry: k,
+            sight: sight.again(),
+        }
+    }
+
     /// The entry is a new one after it, and not set; its block is dropped.
     pub fn give_up(&mut self, k: u32)
         requires { k < 32 }
@@ -95,6 +134,7 @@ impl<T: Drop> Table<T> {
         ensures another { RenewsEntry self.old self.new k }
         ensures none_lent { self.new.lent ≡ None }
     {
-        drop(self.take_out(k));
+        let sight = self.entries[k as usize].sight();
+        drop(self.take_out(k, &sight));
     }
 }

@@ -1,0 +1,119 @@
+-- What is known of a cell for good, and of each cell of a row. Assumes `Logic`.
+use Rattle.std.proofs.Common.{◌≡◌, ℕ, zero, suc, ◌<◌, ◌≢◌, List, [], ◌∷◌, ◌++◌, length, refl, sym, ap, ◌∙◌, subst, arith}
+use Rattle.std.specs.Prelude.{Option, Some, None, slice_get}
+use seplogic.Ra.Ura.{Ura}
+use base.Stored.{Gv, gnil, gcons}
+use base.Logic.{SProp, ent, sep, guard, wand, emp, upd, upd_i, via}
+use base.Fml.{GName, Fml, ftrue, fsep, fauth, fres, finv}
+use mir.Val.{Val, vstruct, vcons, vnil, of_list}
+use denote.Laws.{Is}
+use types.Logic.{Logic, sem}
+use types.Kit.{‵, raw, ◌⊛◌, given, later, await, updating, now, fpack, ◌$◌, ◌∵◌, !, qed, by, move, keep, drop, frame, assume, suffices, use0, use1, use2, split, learn, fsplit, fjoin, done}
+use types.Tokens.{res_dup}
+use denote.RattleType.{RattleType}
+use denote.Shadow.{makes_shadow}
+use denote.Struct.Struct.{Struct}
+use denote.Struct.Owning.{shape}
+use denote.Steps.{nothing, heard}
+use contract.Monad as monad
+use base.Fml.{fex}
+use Rattle.cell_core.specs.Slot.{fact, written, spoilt, mark, full}
+use Rattle.cell_core.specs.Member.{MemberView, unfilled, known_as, member, members}
+use Rattle.cell_core.specs.contracts.slot.member.Member as Member
+use Rattle.cell_core.specs.contracts.slot.member.Row as Row
+use Rattle.cell_core.proofs.CellMade.{token_val}
+use Rattle.cell_core.proofs.CellSteps.{one_written}
+
+pub row_told : (R : RattleType) (vs : List Val) → Is (Struct (shape (Row.the_type R))) (tt, tt) vs → vs ≡ token_val ∷ []
+row_told R vs is = is.1.0 ∙ ap (λ (ws : List Val). vstruct (of_list (ws ++ [])) ∷ []) is.1.1.0.1.0
+
+-- a list that is not empty has a last member
+pub last_in : {X : Type 0} (xs : List X) → 0 < length xs → (front : List X) × (x : X) × (xs ≡ front ++ x ∷ [])
+last_in [] some = absurd (omega arith)
+last_in (x ∷ []) some = ([], x, refl)
+last_in {X} (x ∷ y ∷ xs) some = let end = last_in (y ∷ xs) (omega arith) in (x ∷ end.0, end.1, ap (λ (zs : List X). x ∷ zs) end.2)
+
+-- a place within a list has a member
+pub member_in : {X : Type 0} (xs : List X) (i : ℕ) → i < length xs → (x : X) × (slice_get xs i ≡ Some x)
+member_in [] i near = absurd (omega arith)
+member_in (x ∷ xs) zero near = (x, refl)
+member_in (x ∷ xs) (suc i) near = member_in xs i (omega arith)
+
+module _ {M : Type 1} {𝓤 : Ura M} (𝓛 : Logic 𝓤) (R : RattleType) where
+  open 𝓛 use {H, A}
+
+  abbrev Pr : Type 2
+  Pr = SProp 𝓤
+
+  abbrev ◌⊢◌ : Pr → Pr → Type 1
+  P ⊢ Q = ent 𝓤 P Q
+
+  abbrev ◌∗◌ : Pr → Pr → Pr
+  P ∗ Q = sep 𝓤 P Q
+
+  abbrev ⟦◌⟧ : Fml → Pr
+  ⟦ P ⟧ = sem 𝓛 P
+
+  infix 26 ◌⊢◌
+  infixr 35 ◌∗◌
+  abbrev View : Type 0
+  View = MemberView R.Denot
+
+  pub known_twice : (v : Option R.Denot) (γ δ : ℕ) → ⟦ known_as R v γ δ ⟧ ⊢ ⟦ known_as R v γ δ ⟧ ∗ ⟦ known_as R v γ δ ⟧
+  known_twice (Some x) γ δ = 𝓛.names.res_dup γ (mark R (full x))
+  known_twice None γ δ = qed 𝓛 (‵ (fsep (unfilled γ) (spoilt δ)) ∷ []) ∵ fsplit ! $ use1 𝓛 (‵ (unfilled γ) ⊛ ‵ (unfilled γ)) (𝓛.invs.inv_dup (fauth γ gnil)) $ split ! $ move ! (2 ∷ []) $ res_dup ! $
+      -- [broken, twice; unfilled, twice]
+      move ! (2 ∷ 0 ∷ []) $ fjoin ! $ move ! (2 ∷ 1 ∷ []) $ fjoin ! $ done !
+
+  pub members_twice : (ms : List View) → ⟦ members R ms ⟧ ⊢ ⟦ members R ms ⟧ ∗ ⟦ members R ms ⟧
+  members_twice [] = qed 𝓛 (‵ ftrue ∷ []) ∵ nothing ! $ done !
+  members_twice (m ∷ ms) = qed 𝓛 (‵ (members R (m ∷ ms)) ∷ []) ∵ fsplit ! $ use1 𝓛 (‵ (member R m) ⊛ ‵ (member R m)) (known_twice m.value m.name m.breach) $ split ! $ move ! (2 ∷ []) $
+      use1 𝓛 (‵ (members R ms) ⊛ ‵ (members R ms)) (members_twice ms) $ split ! $ move ! (2 ∷ 0 ∷ []) $ fjoin ! $ move ! (2 ∷ 1 ∷ []) $ fjoin ! $ done !
+
+  -- one more at the end
+  pub members_more : (ms : List View) (m : View) → ⟦ members R ms ⟧ ∗ ⟦ member R m ⟧ ⊢ ⟦ members R (ms ++ m ∷ []) ⟧
+  members_more [] m = qed 𝓛 (‵ ftrue ∷ ‵ (member R m) ∷ []) ∵ move ! (1 ∷ 0 ∷ []) $ fjoin ! $ done !
+  members_more (h ∷ ms) m = qed 𝓛 (‵ (members R (h ∷ ms)) ∷ ‵ (member R m) ∷ []) ∵ fsplit ! $ move ! (1 ∷ 2 ∷ []) $ use2 𝓛 (‵ (members R (ms ++ m ∷ []))) (members_more ms m) $ move ! (1 ∷ 0 ∷ []) $ fjoin ! $ done !
+
+  -- the last one given up
+  pub members_less : (ms : List View) (m : View) → ⟦ members R (ms ++ m ∷ []) ⟧ ⊢ ⟦ members R ms ⟧
+  members_less [] m = qed 𝓛 (‵ (members R (m ∷ [])) ∷ []) ∵ drop ! $ nothing ! $ done !
+  members_less (h ∷ ms) m = qed 𝓛 (‵ (members R (h ∷ (ms ++ m ∷ []))) ∷ []) ∵ fsplit ! $ move ! (1 ∷ []) $ use1 𝓛 (‵ (members R ms)) (members_less ms m) $ move ! (1 ∷ 0 ∷ []) $ fjoin ! $ done !
+
+  -- the one at an index
+  pub members_at : (ms : List View) (i : ℕ) (m : View) → slice_get ms i ≡ Some m → ⟦ members R ms ⟧ ⊢ ⟦ member R m ⟧
+  members_at [] i m is = absurd (let z = is in cc)
+  members_at (h ∷ ms) zero m is = qed 𝓛 (‵ (members R (h ∷ ms)) ∷ []) ∵ fsplit ! $ keep ! (0 ∷ []) $ by ! (subst (λ (u : View). ⟦ member R h ⟧ ⊢ ⟦ member R u ⟧) (let z = is in cc) (base.Logic.id⊢ 𝓤 ⟦ member R h ⟧))
+  members_at (h ∷ ms) (suc i) m is = qed 𝓛 (‵ (members R (h ∷ ms)) ∷ []) ∵ fsplit ! $ keep ! (1 ∷ []) $ by ! (members_at ms i m is)
+
+  nil_is_not_full : (x y : Gv) → gcons x y ≡ gnil → ⊥
+  nil_is_not_full x y e = cc
+
+  -- a name that never gets a value has none
+  pub never_filled : (γ : ℕ) (x : R.Denot) → ⟦ unfilled γ ⟧ ∗ ⟦ written R γ x ⟧ ⊢ H.⇛ (guard 𝓤 ⊥ (emp 𝓤))
+  never_filled γ x = let P : Fml = fauth γ gnil in let Q : Pr = guard 𝓤 ⊥ (emp 𝓤) in let w : Gv = mark R (full x) in let G : Pr = ⟦ P ⟧ ∗ Q in
+      via 𝓤 (A.inv P ∗ wand 𝓤 ⟦ P ⟧ (upd 𝓤 G)) (qed 𝓛 (‵ (finv P) ∷ ‵ (written R γ x) ∷ []) ∵ frame ! $ assume ! (‵ P) $ suffices ! _ (upd_i 𝓤 G) $ move ! (1 ∷ 0 ∷ []) $
+      use2 𝓛 (given (w ≡ gnil) (‵ (fres γ w) ⊛ ‵ (fauth γ gnil))) (𝓛.names.res_agree γ w gnil) $ learn ! (λ z. absurd (nil_is_not_full (R.coded.code x) gnil z)))
+      (𝓛.invs.inv_acc P Q)
+
+  -- what is known of a cell with a value is that value
+  abbrev pub Valued : Option R.Denot → ℕ → R.Denot → Fml
+  Valued v γ x = fsep (fact (Some x ≡ v)) (written R γ x)
+
+  pub valued : (v : Option R.Denot) (γ δ : ℕ) → v ≢ None → ⟦ known_as R v γ δ ⟧ ⊢ ⟦ fex R.Denot (Valued v γ) ⟧
+  valued (Some x) γ δ some = qed 𝓛 (‵ (written R γ x) ∷ []) ∵ nothing ! $ fpack ! (Some x ≡ Some x) (λ _. ftrue) refl $ fjoin ! $ fpack ! R.Denot (Valued (Some x) γ) x $ done !
+  valued None γ δ some = absurd (some refl)
+
+  -- what is known by a name is what its token says
+  pub value_agrees : (v : Option R.Denot) (γ δ : ℕ) (x : R.Denot) → ⟦ known_as R v γ δ ⟧ ∗ ⟦ written R γ x ⟧ ⊢ H.⇛ (monad.fact 𝓤 (v ≡ Some x))
+  value_agrees (Some z) γ δ x = qed 𝓛 (‵ (written R γ z) ∷ ‵ (written R γ x) ∷ []) ∵ updating ! $ use2 𝓛 (raw (monad.fact 𝓤 (z ≡ x))) (one_written 𝓛 R γ z x) $ heard ! (z ≡ x) (λ same. now ! $
+      by ! (monad.fact_i 𝓤 (Some z ≡ Some x) (emp 𝓤) (ap Some same)))
+  value_agrees None γ δ x = qed 𝓛 (‵ (fsep (unfilled γ) (spoilt δ)) ∷ ‵ (written R γ x) ∷ []) ∵ updating ! $ fsplit ! $ move ! (0 ∷ 2 ∷ []) $ use2 𝓛 (later (given ⊥ (raw (emp 𝓤)))) (never_filled γ x) $ await ! tt $ learn ! (λ z. absurd z)
+
+  pub member_made : (m : View) → ⟦ member R m ⟧ ⊢ ⟦ (Member.the_row R).own_val (record { marker = record {}; of = m }) (token_val ∷ []) ⟧
+  member_made m = let F = (Struct (shape (Member.the_type R))).own_val (tt, tt) (token_val ∷ []) in
+      qed 𝓛 (‵ (member R m) ∷ []) ∵ use0 𝓛 (‵ F) (makes_shadow 𝓛 F (λ vss. (tt, ((λ uss. (tt, tt)), tt))) ((vstruct vnil ∷ [], tt), (refl, ((tt, (refl, tt)), tt)))) $ done !
+
+  pub row_made : (ms : List View) → ⟦ members R ms ⟧ ⊢ ⟦ (Row.the_row R).own_val (record { marker = record {}; of = ms }) (token_val ∷ []) ⟧
+  row_made ms = let F = (Struct (shape (Row.the_type R))).own_val (tt, tt) (token_val ∷ []) in
+      qed 𝓛 (‵ (members R ms) ∷ []) ∵ use0 𝓛 (‵ F) (makes_shadow 𝓛 F (λ vss. (tt, ((λ uss. (tt, tt)), tt))) ((vstruct vnil ∷ [], tt), (refl, ((tt, (refl, tt)), tt)))) $ done !

@@ -1,0 +1,129 @@
+// What is known of a cell for good, and of each cell of a row. It has no bytes.
+ghost use Rattle.std.specs.Prelude.{◌≡◌, ◌≢◌, ◌<◌, ◌++◌, ◌∷◌, [], List, Some, None, length, slice_get};
+ghost use base.Stored.{coded_list};
+ghost use denote.Sharing.{said};
+ghost use Rattle.cell_core.specs.Member.{MemberView, member_coded, member, members, HasOneLess};
+
+use crate::slot::steps::Written;
+use std::marker::{Model, PhantomData};
+
+// That a cell has its value, or that it is broken, and that its former name never gets one.
+pub(crate) struct Member<T> {
+    pub(crate) marker: PhantomData<T>,
+    pub(crate) ghost of: { MemberView T } by { member_coded T.code },
+}
+
+impl<T> Model for Member<T> {
+    ghost also_owns = { λ m. member T.row m.of };
+
+    ghost also_shares = { λ m _ κ. said (member T.row m.of) κ };
+}
+
+impl<T> Member<T> {
+    // Of a cell with a value, by its token.
+    pub(crate) fn filled(written: &Written<T>) -> Member<T>
+        ensures { (result.of.value ≡ Some written.now.value) × (result.of.name ≡ written.now.of) }
+    {
+        Member {
+            marker: PhantomData,
+        }
+    }
+
+    pub(crate) fn again(&self) -> Member<T>
+        ensures { result.of ≡ self.now.of }
+    {
+        Member {
+            marker: PhantomData,
+        }
+    }
+
+    // The token of a cell with a value.
+    pub(crate) fn written(&self) -> Written<T>
+        requires { self.now.of.value ≢ None }
+        ensures { (Some result.value ≡ self.now.of.value) × (result.of ≡ self.now.of.name) }
+    {
+        Written {
+            marker: PhantomData,
+        }
+    }
+
+    // What is known by a name is what its token says. It tells a proof so.
+    pub(crate) fn agrees(&self, written: &Written<T>)
+        requires { self.now.of.name ≡ written.now.of }
+        ensures { self.now.of.value ≡ Some written.now.value }
+    {}
+}
+
+// What is known of each cell of a row.
+pub(crate) struct Row<T> {
+    marker: PhantomData<T>,
+    pub(crate) ghost of: { List (MemberView T) } by { coded_list (member_coded T.code) },
+}
+
+impl<T> Model for Row<T> {
+    ghost also_owns = { λ r. members T.row r.of };
+
+    ghost also_shares = { λ r _ κ. said (members T.row r.of) κ };
+}
+
+impl<T> Row<T> {
+    // Of no cell.
+    pub(crate) fn empty() -> Row<T>
+        ensures { result.of ≡ [] }
+    {
+        Row {
+            marker: PhantomData,
+        }
+    }
+
+    // One cell more.
+    pub(crate) fn longer(self, member: &Member<T>) -> Row<T>
+        ensures { result.of ≡ self.of ++ member.now.of ∷ [] }
+    {
+        let Row { marker: _ } = self;
+        Row {
+            marker: PhantomData,
+        }
+    }
+
+    // The last cell given up.
+    pub(crate) fn shorter(self) -> Row<T>
+        requires { 0 < length self.of }
+        ensures { HasOneLess self.of result.of }
+    {
+        let Row { marker: _ } = self;
+        Row {
+            marker: PhantomData,
+        }
+    }
+
+    // What is known of the cell at an index.
+    pub(crate) fn at(&self, index: u64) -> Member<T>
+        requires { index < length self.now.of }
+        ensures { slice_get self.now.of index ≡ Some result.of }
+    {
+        Member {
+            marker: PhantomData,
+        }
+    }
+}
+
+impl<T> Drop for Member<T> {
+    fn drop(self) {
+        let Self { marker: _ } = self;
+    }
+}
+
+impl<T> Drop for Row<T> {
+    fn drop(self) {
+        let Self { marker: _ } = self;
+    }
+}
+
+unsafe impl<T> Send for Member<T> {}
+
+unsafe impl<T> Sync for Member<T> {}
+
+unsafe impl<T> Send for Row<T> {}
+
+unsafe impl<T> Sync for Row<T> {}

@@ -1,4 +1,5 @@
 pub mod Later
+pub mod Places
 pub mod Filling
 pub mod KeyRows
 pub mod Cells

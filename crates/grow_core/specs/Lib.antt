@@ -1,6 +1,7 @@
 pub mod Token
 pub mod Vector
 pub mod Keys
+pub mod Parts
 pub mod Grown
 pub mod Read
 pub mod Growth

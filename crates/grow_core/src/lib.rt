@@ -16,6 +16,9 @@
 //! are installed, the places are won by one exchange of the claim word, and each is filled by one
 //! exchange and one store of its cell's state. A hand carries the keys of its runs' segments
 //! (`specs/Keys.antt`). Only `push_back` and `grow_vec` may wait.
+//!
+//! A `Parts` is what an exclusive owner holds of a vector. Contracts see it as a list of values and broken members
+//! (`specs/Parts.antt`): exactly what was appended is read, and moved out.
 #![tactic(auto)]
 
 mod claims;
@@ -24,6 +27,7 @@ mod grown;
 mod grows;
 mod hand;
 mod keys;
+mod parts;
 mod pushes;
 mod reads;
 mod shares;
@@ -34,6 +38,7 @@ pub use claim_core::{OpenError, Run, laws};
 pub use errors::{AtError, GrowError, Never};
 pub use grown::Grown;
 pub use hand::Hand;
+pub use parts::Parts;
 pub use reads::At;
 pub use token::{Begun, Found, Placed, Spoilt};
 pub use vector::Shared;

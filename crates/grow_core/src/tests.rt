@@ -6,6 +6,7 @@ mod drops;
 mod first;
 mod keys;
 mod large;
+mod parts;
 mod race;
 mod refusals;
 mod says;

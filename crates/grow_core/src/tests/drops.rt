@@ -4,7 +4,7 @@ use crate::Hand;
 use std::alloc::Global;
 use std::sync::atomic::{AtomicU64, Ordering};
 
-struct Counted<'a>(&'a AtomicU64);
+pub(crate) struct Counted<'a>(pub(crate) &'a AtomicU64);
 
 impl Drop for Counted<'_> {
     fn drop(self) {

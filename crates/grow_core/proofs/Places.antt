@@ -1,0 +1,196 @@
+-- The parts of a vector: where a place lies, and what is kept where one cell is written.
+use Rattle.std.proofs.Common.{◌≡◌, ◌≢◌, ℕ, zero, suc, ◌+◌, ◌-◌, ◌<◌, ◌≤◌, List, [], ◌∷◌, ◌++◌, length, length-set, refl, sym, ap, ◌∙◌, subst, ⊎_elim, arith}
+use Rattle.std.proofs.lemmas.Bool.{cases_lt}
+use Rattle.std.proofs.Math.Arith.{lt_of_le-ne}
+use Rattle.std.specs.Prelude.{Some, None, slice_get, slice_set, slice_index, IsSome}
+use lib.Seq.{get_or-set_same, get_or-set_other}
+use mathlib.Core.Logic.{dite}
+use native.Mathlib.Decide.{ℕ_discrete}
+use Rattle.seg_core.specs.Segment.{segment_start, segment_end, HasPlace}
+use Rattle.seg_core.proofs.Doubling.{segment_end-le, one_segment}
+use Rattle.cell_core.specs.Block.{BlockView, IsMemberAt, KeepsOtherCells, block_len, cell_at}
+use Rattle.cell_core.specs.Member.{MemberView, HasNames}
+use Rattle.cell_core.specs.Slot.{Names}
+use Rattle.table_core.specs.Table.{TableView, KeyView, IsKeyOf, IsBlockOf}
+use Rattle.grow_core.specs.Keys.{KeyRow, IsKeyAt, key_at}
+use Rattle.grow_core.specs.Token.{place_in}
+use Rattle.grow_core.specs.Parts.{AreMembers, AreWhole, values_in}
+
+-- a segment that does not come later begins no later
+starts_le : (j k : ℕ) → j ≤ k → segment_start j ≤ segment_start k
+starts_le zero k le = omega arith
+starts_le (suc j) zero le = absurd (omega arith)
+starts_le (suc j) (suc k) le = segment_end-le j k (omega arith)
+
+-- a place below where a segment begins is in one before it
+pub segment_below : (segment place count : ℕ) → HasPlace segment place → place < segment_start count → segment < count
+segment_below segment place count has below = ⊎_elim (λ lt. lt) (λ ge. let le = starts_le count segment ge in let from = has.from in absurd (omega arith)) (cases_lt segment count)
+
+-- the value at a place, of what is known there
+pub value_at : {T : Type 0} (known : List (MemberView T)) (i : ℕ) (m : MemberView T) → slice_get known i ≡ Some m → slice_get (values_in known) i ≡ Some m.value
+value_at [] i m is = absurd (let z = is in cc)
+value_at (h ∷ known) zero m is = let same : h ≡ m = (let z = is in cc) in ap (λ (u : MemberView _). Some u.value) same
+value_at (h ∷ known) (suc i) m is = value_at known i m is
+
+-- what is put at the end is there, and all else as it was
+pub pushed_there : {X : Type 0} (xs : List X) (x : X) → slice_get (xs ++ x ∷ []) (length xs) ≡ Some x
+pushed_there [] x = refl
+pushed_there (h ∷ xs) x = pushed_there xs x
+
+pub pushed_elsewhere : {X : Type 0} (xs : List X) (x : X) (i : ℕ) → i ≢ length xs → slice_get (xs ++ x ∷ []) i ≡ slice_get xs i
+pushed_elsewhere [] x zero other = absurd (other refl)
+pushed_elsewhere [] x (suc i) other = refl
+pushed_elsewhere (h ∷ xs) x zero other = refl
+pushed_elsewhere (h ∷ xs) x (suc i) other = pushed_elsewhere xs x i (λ same. other (ap suc same))
+
+pub none_past : {X : Type 0} (xs : List X) → slice_get xs (length xs) ≡ None
+none_past [] = refl
+none_past (h ∷ xs) = none_past xs
+
+-- a place with a member is one of the list
+within_length : {X : Type 0} (xs : List X) (i : ℕ) (x : X) → slice_get xs i ≡ Some x → i < length xs
+within_length [] i x is = absurd (let z = is in cc)
+within_length (h ∷ xs) zero x is = omega arith
+within_length (h ∷ xs) (suc i) x is = let z = within_length xs i x is in omega (arith, z)
+
+-- what is known of a cell that keeps its names stays known
+kept_at : {T : Type 0} (old new : BlockView) (offset : ℕ) (m : MemberView T) → block_len new ≡ block_len old → cell_at new offset ≡ cell_at old offset
+    → IsMemberAt old offset m → IsMemberAt new offset m
+kept_at old new offset m len same was = record {
+  within = subst (λ (n : ℕ). offset < n) (sym len) was.within;
+  known = subst (λ (c : Names). HasNames c m.value m.name m.breach) (sym same) was.known;
+}
+
+module _ {T : Type 0} (row row' : KeyRow) (known known' : List (MemberView T)) (segment offset : ℕ) (key key' : KeyView) where
+  abbrev place : ℕ
+  place = place_in segment offset
+
+  -- one cell was written, by another key of its segment: what was known elsewhere stays known
+  pub members_changed : AreMembers row known → segment < 32 → key_at row segment ≡ Some key → key_at row' segment ≡ Some key'
+      → ((s : ℕ) → s ≢ segment → key_at row' s ≡ key_at row s)
+      → block_len key'.block ≡ block_len key.block → KeepsOtherCells key.block key'.block offset
+      → ((q : ℕ) → q ≢ place → slice_get known' q ≡ slice_get known q)
+      → ((m : MemberView T) → slice_get known' place ≡ Some m → IsMemberAt key'.block offset m)
+      → place < segment_end segment → AreMembers row' known'
+  members_changed are small has has' others len cells elsewhere there within s o k m low at inside is =
+      dite (ℕ_discrete s segment)
+      (λ same. let same_key : Some key' ≡ Some k = sym has' ∙ ap (key_at row') (sym same) ∙ at in let is_key : key' ≡ k = (let z = same_key in cc) in
+      dite (ℕ_discrete o offset)
+      (λ here. let at_place : place_in s o ≡ place = (λ i. place_in (same i) (here i)) in
+      subst (λ (u : KeyView × ℕ). IsMemberAt u.0.block u.1 m) (λ i. (is_key i, sym here i)) (there m (ap (slice_get known') (sym at_place) ∙ is)))
+      (λ other. let apart : place_in s o ≢ place = (λ e. other (omega (arith, e, ap segment_start same))) in
+      let was : IsMemberAt key.block o m = are segment o key m small has (subst (λ (x : ℕ). place_in x o < segment_end x) same inside) (ap (λ (x : ℕ). slice_get known (place_in x o)) (sym same) ∙ sym (elsewhere (place_in s o) apart) ∙ is) in
+      subst (λ (u : KeyView). IsMemberAt u.block o m) is_key (kept_at key.block key'.block o m len (cells o other) was)))
+      (λ other. let apart : place_in s o ≢ place = (λ e. other (one_segment s segment place (record { from = omega (arith, e); before = subst (λ (x : ℕ). x < segment_end s) e inside }) (record { from = omega arith; before = within }))) in
+      are s o k m low (sym (others s other) ∙ at) inside (sym (elsewhere (place_in s o) apart) ∙ is))
+
+-- the key of an entry is the key of that segment
+pub key_here : (table : TableView) (segment : ℕ) (block : BlockView) (key : KeyView) → segment < 32 → IsKeyOf table segment block key → IsKeyAt table.names segment key
+key_here table segment block key small of = record {
+  at = of.at;
+  within = small;
+  named = subst (λ (k : ℕ). slice_index table.names k ≡ key.name) of.at of.inside.named;
+}
+
+some_is : (key : KeyView) → IsSome (Some key)
+some_is key = refl
+
+module _ {T : Type 0} (names : List ℕ) (table' : TableView) (row : KeyRow) (known known' : List (MemberView T)) (segment offset len len' limit count : ℕ) (key key' : KeyView) (block : BlockView) where
+  abbrev row' : KeyRow
+  row' = slice_set row segment (Some key')
+
+  -- one cell was written, and its block has another key
+  pub written_whole : AreWhole names row known len limit count → segment < 32 → place_in segment offset < segment_end segment
+      → key_at row segment ≡ Some key → ((j : ℕ) → j ≢ segment → slice_index table'.names j ≡ slice_index names j) → IsKeyOf table' segment block key'
+      → block_len block ≡ block_len key.block → KeepsOtherCells key.block block offset
+      → ((q : ℕ) → q ≢ place_in segment offset → slice_get known' q ≡ slice_get known q)
+      → ((m : MemberView T) → slice_get known' (place_in segment offset) ≡ Some m → IsMemberAt block offset m)
+      → length known' ≡ len' → len' ≤ limit → len' ≤ segment_start count → AreWhole table'.names row' known' len' limit count
+  written_whole whole small inside has others of same_len cells elsewhere there all within below =
+      let here : key_at row' segment ≡ Some key' = get_or-set_same row segment (Some key') None (omega (arith, small, whole.rows)) in
+      let away : (s : ℕ) → s ≢ segment → key_at row' s ≡ key_at row s = (λ s other. get_or-set_other row segment s (Some key') None other) in
+      let is_block : block ≡ key'.block = sym of.of in
+      let picks : (s : ℕ) (k : KeyView) → key_at row' s ≡ Some k → s ≡ segment → k ≡ key' = (λ s k at same. let e : Some k ≡ Some key' = sym at ∙ ap (key_at row') same ∙ here in let z : k ≡ key' = (let w = e in cc) in z) in
+      record {
+        limited = whole.limited;
+        within = within;
+        all = all;
+        rows = length-set row segment (Some key') ∙ whole.rows;
+        few = whole.few;
+        inside = below;
+        named = λ s k low at. dite (ℕ_discrete s segment)
+            (λ same. subst (λ (u : ℕ × KeyView). IsKeyAt table'.names u.0 u.1) (λ i. (sym same i, sym (picks s k at same) i)) (key_here table' segment block key' small of))
+            (λ other. let was = whole.named s k low (sym (away s other) ∙ at) in record { at = was.at; within = was.within; named = others s other ∙ was.named });
+        long = λ s k low at. dite (ℕ_discrete s segment)
+            (λ same. subst (λ (u : ℕ × KeyView). IsBlockOf u.0 u.1.block) (λ i. (sym same i, sym (picks s k at same) i))
+            (subst (λ (n : ℕ). segment_start segment + n ≡ segment_end segment) (sym (ap block_len (sym is_block) ∙ same_len)) (whole.long segment key small has)))
+            (λ other. whole.long s k low (sym (away s other) ∙ at));
+        there = λ s low. dite (ℕ_discrete s segment)
+            (λ same. subst IsSome (sym (ap (key_at row') same ∙ here)) (some_is key'))
+            (λ other. subst IsSome (sym (away s other)) (whole.there s low));
+        of = members_changed row row' known known' segment offset key key' whole.of small has here away (ap block_len (sym is_block) ∙ same_len)
+            (λ q other. subst (λ (b : BlockView). cell_at b q ≡ cell_at key.block q) is_block (cells q other)) elsewhere
+            (λ m is. subst (λ (b : BlockView). IsMemberAt b offset m) is_block (there m is)) inside;
+      }
+
+-- a segment after the members was installed
+pub grown_whole : {T : Type 0} (names : List ℕ) (row : KeyRow) (known : List (MemberView T)) (len limit count : ℕ) (key : KeyView)
+    → AreWhole names row known len limit count → count < 32 → IsKeyAt names count key → IsBlockOf count key.block
+    → AreWhole names (slice_set row count (Some key)) known len limit (count + 1)
+grown_whole names row known len limit count key whole small is long =
+    let row' : KeyRow = slice_set row count (Some key) in
+    let here : key_at row' count ≡ Some key = get_or-set_same row count (Some key) None (omega (arith, small, whole.rows)) in
+    let away : (s : ℕ) → s ≢ count → key_at row' s ≡ key_at row s = (λ s other. get_or-set_other row count s (Some key) None other) in
+    let picks : (s : ℕ) (k : KeyView) → key_at row' s ≡ Some k → s ≡ count → k ≡ key = (λ s k at same. let e : Some k ≡ Some key = sym at ∙ ap (key_at row') same ∙ here in let z : k ≡ key = (let w = e in cc) in z) in
+    let up = starts_le count (count + 1) (omega arith) in let inner = whole.inside in
+    record {
+      limited = whole.limited;
+      within = whole.within;
+      all = whole.all;
+      rows = length-set row count (Some key) ∙ whole.rows;
+      few = omega (arith, small);
+      inside = omega (arith, up, inner);
+      named = λ s k low at. dite (ℕ_discrete s count)
+          (λ same. subst (λ (u : ℕ × KeyView). IsKeyAt names u.0 u.1) (λ i. (sym same i, sym (picks s k at same) i)) is)
+          (λ other. whole.named s k low (sym (away s other) ∙ at));
+      long = λ s k low at. dite (ℕ_discrete s count)
+          (λ same. subst (λ (u : ℕ × KeyView). IsBlockOf u.0 u.1.block) (λ i. (sym same i, sym (picks s k at same) i)) long)
+          (λ other. whole.long s k low (sym (away s other) ∙ at));
+      there = λ s low. dite (ℕ_discrete s count)
+          (λ same. subst IsSome (sym (ap (key_at row') same ∙ here)) (some_is key))
+          (λ other. subst IsSome (sym (away s other)) (whole.there s (lt_of_le-ne (omega (arith, low)) other)));
+      of = λ s o k m low at inside got. dite (ℕ_discrete s count)
+          (λ same. let past = within_length known (place_in s o) m got in let all = whole.all in let e = ap segment_start same in absurd (omega (arith, past, all, inner, e)))
+          (λ other. whole.of s o k m low (sym (away s other) ∙ at) inside got);
+    }
+
+-- the last segment was given up, which had no member
+pub cut_whole : {T : Type 0} (names names' : List ℕ) (row : KeyRow) (known : List (MemberView T)) (len limit count : ℕ)
+    → AreWhole names row known len limit (count + 1) → len ≤ segment_start count → ((j : ℕ) → (j ≡ count → ⊥) → slice_index names' j ≡ slice_index names j)
+    → AreWhole names' (slice_set row count None) known len limit count
+cut_whole names names' row known len limit count whole low_len others =
+    let few = whole.few in
+    let row' : KeyRow = slice_set row count None in
+    let here : key_at row' count ≡ None = get_or-set_same row count None None (omega (arith, few, whole.rows)) in
+    let away : (s : ℕ) → s ≢ count → key_at row' s ≡ key_at row s = (λ s other. get_or-set_other row count s None None other) in
+    let gone : (s : ℕ) (k : KeyView) → key_at row' s ≡ Some k → s ≡ count → ⊥ = (λ s k at same. let e : None ≡ Some k = sym here ∙ ap (key_at row') (sym same) ∙ at in let z = e in cc) in
+    record {
+      limited = whole.limited;
+      within = whole.within;
+      all = whole.all;
+      rows = length-set row count None ∙ whole.rows;
+      few = omega (arith, few);
+      inside = low_len;
+      named = λ s k low at. let other : s ≢ count = gone s k at in let was = whole.named s k low (sym (away s other) ∙ at) in record { at = was.at; within = was.within; named = others s other ∙ was.named };
+      long = λ s k low at. whole.long s k low (sym (away s (gone s k at)) ∙ at);
+      there = λ s low. let other : s ≢ count = (λ e. omega (arith, e, low)) in subst IsSome (sym (away s other)) (whole.there s (omega (arith, low)));
+      of = λ s o k m low at inside got. whole.of s o k m low (sym (away s (gone s k at)) ∙ at) inside got;
+    }
+
+-- a segment that begins below 2^32 is one of 32
+pub few_below : (s n : ℕ) → n ≤ 4294967296 → segment_start s < n → s < 32
+few_below s n small below = ⊎_elim (λ lt. lt) (λ ge. let le = starts_le 32 s ge in absurd (omega (arith, le))) (cases_lt s 32)
+
+-- where the last segment has a member, each one before it has
+pub none_spare : (s k len : ℕ) → ((0 < s) × (len ≤ segment_start (s - 1)) → ⊥) → k < s → segment_start k < len
+none_spare s k len full below = ⊎_elim (λ lt. lt) (λ ge. absurd (full (omega (arith, below), (let le = starts_le k (s - 1) (omega (arith, below)) in omega (arith, le, ge))))) (cases_lt (segment_start k) len)

@@ -1,0 +1,238 @@
+//! What an exclusive owner holds of a vector: a list of values and broken members.
+ghost use Rattle.std.specs.Prelude.{◌≡◌, ℕ, ◌+◌, ◌-◌, ◌<◌, ◌≤◌, ◌++◌, ◌∷◌, [], Some, None, MatchOption, IfOk, IfErr, IsTrue, IsFalse, length, slice_get};
+ghost use Rattle.seg_core.specs.Segment.{IsLimit, segment_start, segment_end};
+ghost use Rattle.cell_core.specs.Block.{block_len, IsMemberAt, KeepsOtherCells};
+ghost use Rattle.grow_core.specs.Keys.{key_at};
+ghost use Rattle.grow_core.specs.Token.{place_in};
+ghost use Rattle.grow_core.specs.Parts.{HasFirstKeys, IsSpare, capacity_of};
+
+use crate::keys::{Keys, key_of, no_keys};
+use cell_core::block::{Block, Member, Row};
+use seg_core::{first, len, locate};
+use std::alloc::{AllocError, Global};
+use std::marker::Model;
+use table_core::{Key, Table};
+
+/// What an exclusive owner holds of a vector. It lends no cell, so nothing of it changes beside a `&`. Contracts see it as a
+/// list of values and broken members (`None`), with its limit and how many segments are there.
+#[derive(Drop)]
+pub struct Parts<T> {
+    table: Table<T>,
+    keys: Keys,
+    row: Row<T>,
+    len: u64,
+    limit: u64,
+    count: u32,
+    alloc: Global,
+}
+
+impl<T> Model for Parts<T> {
+    ghost use Rattle.grow_core.specs.Parts.{PartsView, parts_coded, values_in, AreWhole};
+
+    ghost Value = { PartsView T };
+
+    ghost coded = { parts_coded T.code };
+
+    ghost view = { λ p. record { members = values_in p.row; limit = p.limit; segments = p.count } };
+
+    ghost invariant = { λ p. AreWhole p.table.names p.keys p.row p.len p.limit p.count };
+}
+
+// Where a place of the segments that are there lies: its segment, the cell there, and the segment's key.
+fn cell_of(keys: &Keys, count: u32, place: u64) -> (u32, u64, Key)
+    requires few { count ≤ 32 }
+    requires there { HasFirstKeys keys.now count }
+    requires inside { place < segment_start count }
+    ensures small { result.0 < 32 }
+    ensures place { place_in result.0 result.1 ≡ place }
+    ensures within { place < segment_end result.0 }
+    ensures key { key_at keys.now result.0 ≡ Some result.2 }
+{
+    let (segment, offset) = locate(place);
+    match key_of(keys, segment) {
+        Some(key) => (segment, offset, key),
+        None => unreachable!(),
+    }
+}
+
+// Puts a value into the cell, or breaks it. It answers what is then known of the cell, and the value that it held.
+fn write<T>(block: &mut Block<T>, offset: u64, value: Option<T>) -> (Member<T>, Option<T>)
+    requires { offset < block_len block.old }
+    ensures member { IsMemberAt block.new offset result.0 }
+    ensures value { result.0.value ≡ value }
+    ensures len { block_len block.new ≡ block_len block.old }
+    ensures others { KeepsOtherCells block.old block.new offset }
+{
+    match value {
+        Some(value) => {
+            let (placed, held) = block.put_now(offset, value);
+            (Member::of(&placed), held)
+        }
+        None => block.spoil_now(offset),
+    }
+}
+
+impl<T> Parts<T> {
+    /// The empty list. It takes no memory yet.
+    pub fn new(alloc: Global, limit: u64) -> Parts<T>
+        requires { IsLimit limit }
+        ensures members { result.members ≡ [] }
+        ensures limit { result.limit ≡ limit }
+        ensures capacity { capacity_of result ≡ 0 }
+    {
+        Parts {
+            table: Table::new(alloc),
+            keys: no_keys(),
+            row: Row::new(),
+            len: 0,
+            limit,
+            count: 0,
+            alloc,
+        }
+    }
+
+    /// How many members there are.
+    pub fn len(&self) -> u64
+        ensures value { result ≡ length self.now.members }
+        ensures within { result ≤ self.now.limit }
+    {
+        self.len
+    }
+
+    /// The greatest length that the list may reach.
+    pub fn limit(&self) -> u64
+        ensures { result ≡ self.now.limit }
+    {
+        self.limit
+    }
+
+    /// The places of the segments that are there, which is how many members it can have without more memory.
+    pub fn capacity(&self) -> u64
+        ensures value { result ≡ capacity_of self.now }
+        ensures room { length self.now.members ≤ result }
+    {
+        if self.count == 0 {
+            return 0;
+        }
+        let last = self.count - 1;
+        first(last) + len(last)
+    }
+
+    /// The member at the place, or nothing where it is broken.
+    pub fn get(&self, place: u64) -> Option<&T>
+        requires { place < length self.now.members }
+        ensures { MatchOption result (slice_get self.now.members place ≡ Some None)
+            (λ value. slice_get self.now.members place ≡ Some (Some value.now)) }
+    {
+        let (_, offset, key) = cell_of(&self.keys, self.count, place);
+        self.table.known(&key).member(offset, &self.row.at(place))
+    }
+}
+
+impl<T: Drop> Parts<T> {
+    // Whether there is no room for n members.
+    #[tactic(auto, using(crate::proofs::Places::few_below))]
+    fn lacks_room(&self, n: u64) -> bool
+        requires { n ≤ self.now.limit }
+        ensures lacks { IsTrue result → (capacity_of self.now < n) × (self.now.segments < 32) }
+        ensures has { IsFalse result → n ≤ capacity_of self.now }
+    {
+        let _ = &self.table;
+        self.capacity() < n
+    }
+
+    // Whether the last segment lies wholly above the members.
+    fn has_spare(&self) -> bool
+        ensures spare { IsTrue result → IsSpare self.now }
+        ensures none { IsFalse result → ¬ IsSpare self.now }
+    {
+        self.count > 0 && first(self.count - 1) >= self.len
+    }
+
+    // One segment more.
+    fn add_segment(&mut self) -> Result<(), AllocError>
+        requires { self.old.segments < 32 }
+        ensures members { self.new.members ≡ self.old.members }
+        ensures limit { self.new.limit ≡ self.old.limit }
+        ensures more { IfOk result (λ _. self.new.segments ≡ self.old.segments + 1) }
+        ensures same { IfErr result (λ _. self.new.segments ≡ self.old.segments) }
+    {
+        let (_, key) = self.table.install_key(self.count)?;
+        self.keys[self.count as usize] = Some(key);
+        self.count += 1;
+        Ok(())
+    }
+
+    /// Makes room for n members in all: the capacity is then that of the fewest segments that have it, or what it was. After a
+    /// refusal nothing else has changed, and it may be larger.
+    pub fn room(&mut self, n: u64) -> Result<(), AllocError>
+        requires { n ≤ self.old.limit }
+        ensures members { self.new.members ≡ self.old.members }
+        ensures limit { self.new.limit ≡ self.old.limit }
+        ensures room { IfOk result (λ _. n ≤ capacity_of self.new) }
+        ensures kept { self.old.segments ≤ self.new.segments }
+        ensures least { (k : ℕ) → self.old.segments ≤ k → k < self.new.segments → segment_start k < n }
+    {
+        while self.lacks_room(n) {
+            self.add_segment()?;
+        }
+        Ok(())
+    }
+
+    // The last segment given up: it has no member.
+    fn drop_segment(&mut self)
+        requires { IsSpare self.old }
+        ensures members { self.new.members ≡ self.old.members }
+        ensures limit { self.new.limit ≡ self.old.limit }
+        ensures fewer { self.new.segments + 1 ≡ self.old.segments }
+    {
+        self.count -= 1;
+        self.table.give_up(self.count);
+        self.keys[self.count as usize] = None;
+    }
+
+    /// Gives up each segment that lies wholly above the members. It takes no memory.
+    pub fn cut(&mut self)
+        ensures members { self.new.members ≡ self.old.members }
+        ensures limit { self.new.limit ≡ self.old.limit }
+        ensures fewer { self.new.segments ≤ self.old.segments }
+        ensures least { (k : ℕ) → k < self.new.segments → segment_start k < length self.new.members }
+    {
+        while self.has_spare() {
+            self.drop_segment();
+        }
+    }
+
+    /// Appends a value or, with `None`, a broken member. It takes no memory.
+    pub fn append(&mut self, value: Option<T>)
+        requires below { length self.old.members < self.old.limit }
+        requires room { length self.old.members < capacity_of self.old }
+        ensures members { self.new.members ≡ self.old.members ++ value ∷ [] }
+        ensures limit { self.new.limit ≡ self.old.limit }
+        ensures segments { self.new.segments ≡ self.old.segments }
+    {
+        let (segment, offset, key) = cell_of(&self.keys, self.count, self.len);
+        let mut block = self.table.detach(&key);
+        let (member, held) = write(&mut block, offset, value);
+        drop(held);
+        self.keys[segment as usize] = Some(self.table.attach(segment, block));
+        self.row.push(&member);
+        self.len += 1;
+    }
+
+    /// The last member, moved out, or nothing where it is broken. It takes no memory.
+    pub fn pop(&mut self) -> Option<T>
+        requires { 0 < length self.old.members }
+        ensures member { self.old.members ≡ self.new.members ++ result ∷ [] }
+        ensures limit { self.new.limit ≡ self.old.limit }
+        ensures segments { self.new.segments ≡ self.old.segments }
+    {
+        self.len -= 1;
+        let (segment, offset, key) = cell_of(&self.keys, self.count, self.len);
+        let mut block = self.table.detach(&key);
+        let value = block.take_member(offset, &self.row.at(self.len));
+        self.keys[segment as usize] = Some(self.table.attach(segment, block));
+        self.row.pop();
+        value
+    }
+}

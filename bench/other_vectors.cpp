@@ -7,6 +7,7 @@
 #include <cstdlib>
 #include <cstring>
 #include <functional>
+#include <iterator>
 #include <mutex>
 #include <oneapi/tbb/concurrent_vector.h>
 #include <thread>
@@ -92,13 +93,31 @@ template <typename Vector> long long run(const char *load, unsigned threads) {
   return std::chrono::duration_cast<std::chrono::nanoseconds>(took).count();
 }
 
+// A std::vector of values moved into a concurrent_vector, or copied out of one.
+long long run_turn(bool closes) {
+  std::vector<Value> list;
+  for (Value value = 0; value < fresh; ++value)
+    list.push_back(value);
+  auto start = std::chrono::steady_clock::now();
+  tbb::concurrent_vector<Value> vector(std::make_move_iterator(list.begin()), std::make_move_iterator(list.end()));
+  auto opened = std::chrono::steady_clock::now();
+  std::vector<Value> copy(vector.begin(), vector.end());
+  auto closed = std::chrono::steady_clock::now();
+  if (copy.size() != fresh)
+    return -1;
+  return std::chrono::duration_cast<std::chrono::nanoseconds>(closes ? closed - opened : opened - start).count();
+}
+
 int main(int count, char **words) {
   if (count == 2 && !std::strcmp(words[1], "nothing"))
     return 0;
   if (count != 4)
     return 2;
   unsigned threads = std::strtoul(words[3], nullptr, 10);
-  if (!std::strcmp(words[1], "onetbb"))
+  bool closes = !std::strcmp(words[2], "close");
+  if (!std::strcmp(words[1], "onetbb") && (closes || !std::strcmp(words[2], "open")))
+    std::printf("%lld\n", run_turn(closes));
+  else if (!std::strcmp(words[1], "onetbb"))
     std::printf("%lld\n", run<OneTbb>(words[2], threads));
   else if (!std::strcmp(words[1], "locked"))
     std::printf("%lld\n", run<Locked>(words[2], threads));

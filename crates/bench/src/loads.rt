@@ -5,7 +5,7 @@ ghost use Rattle.std.specs.Thread.{IsSync};
 ghost use Rattle.grow_core.specs.Vector.{IsHandOf};
 
 use crate::other_vectors::push_boxcar;
-use crate::shared_vector::{hands_for, push, push_by_calls};
+use crate::shared_vector::{empty, hands_for, push, push_by_calls};
 use crate::trial::{time_hands, time_threads};
 use anyhow::{Result, bail};
 use grow_core::{Hand, Shared};
@@ -208,10 +208,7 @@ impl Load {
         rt: &R,
         threads: usize,
     ) -> Result<()> {
-        let (vector, mut hand) = Shared::fresh(
-            rt.alloc(),
-            self.filled.saturating_add(self.values),
-        )?;
+        let (vector, mut hand) = empty(rt.alloc(), self.filled.saturating_add(self.values))?;
         if self.is_in_arc {
             let vector = Arc::new(rt.alloc(), vector)?;
             self.print_time_on(rt, &vector, &mut hand, threads)

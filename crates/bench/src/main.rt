@@ -12,6 +12,7 @@
 mod bare_number;
 mod claim_word;
 mod figures;
+mod lives;
 mod loads;
 mod other_vectors;
 mod shared_vector;
@@ -20,6 +21,7 @@ mod thing;
 mod trial;
 
 use crate::figures::print_figures;
+use crate::lives::{Turn, print_turn};
 use crate::loads::{load_of, print_boxcar_time};
 use crate::stress::print_stress;
 use crate::thing::{GROUPS, Group};
@@ -83,10 +85,11 @@ fn print_load<R: Threads + Wait + Clock + Print + AllocGlobal + Sync>(
     name: &str,
     threads: usize,
 ) -> Result<()> {
-    if name == "boxcar" {
-        print_boxcar_time(rt, threads)
-    } else {
-        load_of(name)?.print_time(rt, threads)
+    match name {
+        "boxcar" => print_boxcar_time(rt, threads),
+        "open" => print_turn(rt, Turn::Open),
+        "close" => print_turn(rt, Turn::Close),
+        _ => load_of(name)?.print_time(rt, threads),
     }
 }
 

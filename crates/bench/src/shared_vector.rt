@@ -1,15 +1,29 @@
 //! The shared vector: each thread has a hand, and appends one value after another.
 ghost use Rattle.std.specs.Prelude.{◌≡◌, ◌<◌, All, IfOk};
 ghost use Rattle.std.specs.Thread.{IsSync};
+ghost use Rattle.claim_core.specs.Hand.{IsWholeHand};
 ghost use Rattle.grow_core.specs.Vector.{IsHandOf};
 
 use crate::trial::{Trial, time_hands};
 use anyhow::Result;
-use grow_core::{Hand, Shared};
+use grow_core::{Hand, OpenError, Parts, Shared};
 use std::alloc::{AllocError, AllocGlobal, Global};
 use std::rt::Clock;
 use std::sync::Wait;
 use std::thread::Threads;
+
+/// An empty vector that may have so many values, and the hand that has all shares.
+pub fn empty<T: Drop>(alloc: Global, limit: u64) -> Result<(Shared<T>, Hand<T>), OpenError>
+    ensures hand { IfOk result (λ (vector, hand). IsHandOf vector hand × IsWholeHand hand) }
+{
+    if limit == 0 || limit > 1 << 32 {
+        return Err(OpenError::BadLimit);
+    }
+    match Shared::of_parts(Parts::new(alloc, limit)) {
+        Ok(opened) => Ok(opened),
+        Err((_, error)) => Err(error),
+    }
+}
 
 #[inline(always)]
 fn push_once<R: Wait>(rt: &R, vector: &Shared<u64>, hand: &mut Hand<u64>, value: u64) -> bool
@@ -108,6 +122,6 @@ pub fn run_pushes<R: Threads + Wait + Clock + AllocGlobal + Sync>(
     tries: u64,
 ) -> Result<Trial> {
     let limit = (threads as u64).saturating_mul(tries);
-    let (vector, mut hand) = Shared::fresh(rt.alloc(), limit)?;
+    let (vector, mut hand) = empty(rt.alloc(), limit)?;
     push_on(rt, &vector, &mut hand, threads, tries)
 }

@@ -10,6 +10,7 @@ mod job;
 mod random;
 mod record;
 
+use crate::shared_vector::empty;
 use crate::stress::compare::compare_all;
 use crate::stress::job::{Job, Outcome, run_job};
 use crate::stress::random::Random;
@@ -123,7 +124,7 @@ fn end(vector: Shared<u64>, hand: Hand<u64>) -> bool
     if !hand.is_whole() {
         return false;
     }
-    vector.end(hand);
+    drop(vector.into_parts(hand));
     true
 }
 
@@ -138,7 +139,7 @@ fn stress_one<R: Threads + Wait + AllocGlobal + Sync>(
     number: u64,
     counts: &mut Counts,
 ) -> Result<()> {
-    let (vector, mut hand) = Shared::fresh(rt.alloc(), limit_of(number))?;
+    let (vector, mut hand) = empty(rt.alloc(), limit_of(number))?;
     let compared = stress_on(rt, number, &vector, &mut hand, counts);
     let is_ended = end(vector, hand);
     compared?;

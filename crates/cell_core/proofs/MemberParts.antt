@@ -1,11 +1,13 @@
 -- What is known of a cell for good, and of each cell of a row. Assumes `Logic`.
-use Rattle.std.proofs.Common.{◌≡◌, ℕ, zero, suc, ◌<◌, ◌≢◌, List, [], ◌∷◌, ◌++◌, length, refl, sym, ap, ◌∙◌, subst, arith}
-use Rattle.std.specs.Prelude.{Option, Some, None, slice_get}
+use Rattle.std.proofs.Common.{◌≡◌, ℕ, zero, suc, ◌<◌, ◌≢◌, List, [], ◌∷◌, ◌++◌, length, refl, ap, ◌∙◌, subst, arith}
+use Rattle.std.specs.Prelude.{Option, Some, None, slice_get, slice_set}
+use mathlib.Core.Logic.{dite}
+use native.Mathlib.Decide.{ℕ_discrete}
 use seplogic.Ra.Ura.{Ura}
 use base.Stored.{Gv, gnil, gcons}
 use base.Logic.{SProp, ent, sep, guard, wand, emp, upd, upd_i, via}
-use base.Fml.{GName, Fml, ftrue, fsep, fauth, fres, finv}
-use mir.Val.{Val, vstruct, vcons, vnil, of_list}
+use base.Fml.{Fml, ftrue, fsep, fauth, fres, finv}
+use mir.Val.{Val, vstruct, vnil, of_list}
 use denote.Laws.{Is}
 use types.Logic.{Logic, sem}
 use types.Kit.{‵, raw, ◌⊛◌, given, later, await, updating, now, fpack, ◌$◌, ◌∵◌, !, qed, by, move, keep, drop, frame, assume, suffices, use0, use1, use2, split, learn, fsplit, fjoin, done}
@@ -109,6 +111,20 @@ module _ {M : Type 1} {𝓤 : Ura M} (𝓛 : Logic 𝓤) (R : RattleType) where
   value_agrees (Some z) γ δ x = qed 𝓛 (‵ (written R γ z) ∷ ‵ (written R γ x) ∷ []) ∵ updating ! $ use2 𝓛 (raw (monad.fact 𝓤 (z ≡ x))) (one_written 𝓛 R γ z x) $ heard ! (z ≡ x) (λ same. now ! $
       by ! (monad.fact_i 𝓤 (Some z ≡ Some x) (emp 𝓤) (ap Some same)))
   value_agrees None γ δ x = qed 𝓛 (‵ (fsep (unfilled γ) (spoilt δ)) ∷ ‵ (written R γ x) ∷ []) ∵ updating ! $ fsplit ! $ move ! (0 ∷ 2 ∷ []) $ use2 𝓛 (later (given ⊥ (raw (emp 𝓤)))) (never_filled γ x) $ await ! tt $ learn ! (λ z. absurd z)
+
+  -- the same, of any token: it says something where the names are one
+  pub value_agrees_if : (v : Option R.Denot) (γ δ γ' : ℕ) (x : R.Denot) → ⟦ known_as R v γ δ ⟧ ∗ ⟦ written R γ' x ⟧ ⊢ H.⇛ (monad.fact 𝓤 (γ ≡ γ' → v ≡ Some x))
+  value_agrees_if v γ δ γ' x = dite (ℕ_discrete γ γ')
+      (λ same. subst (λ (k : ℕ). ⟦ known_as R v γ δ ⟧ ∗ ⟦ written R k x ⟧ ⊢ H.⇛ (monad.fact 𝓤 (γ ≡ k → v ≡ Some x))) same
+      (qed 𝓛 (‵ (known_as R v γ δ) ∷ ‵ (written R γ x) ∷ []) ∵ updating ! $ use2 𝓛 (later (raw (monad.fact 𝓤 (v ≡ Some x)))) (value_agrees v γ δ x) $ await ! tt $ heard ! (v ≡ Some x) (λ is. now ! $
+      by ! (monad.fact_i 𝓤 (γ ≡ γ → v ≡ Some x) (emp 𝓤) (λ _. is)))))
+      (λ other. qed 𝓛 (‵ (known_as R v γ δ) ∷ ‵ (written R γ' x) ∷ []) ∵ updating ! $ keep ! [] $ now ! $ by ! (monad.fact_i 𝓤 (γ ≡ γ' → v ≡ Some x) (emp 𝓤) (λ same. absurd (other same))))
+
+  -- what is known of one cell is another
+  pub members_set : (ms : List View) (i : ℕ) (m : View) → ⟦ members R ms ⟧ ∗ ⟦ member R m ⟧ ⊢ ⟦ members R (slice_set ms i m) ⟧
+  members_set [] i m = qed 𝓛 (‵ ftrue ∷ ‵ (member R m) ∷ []) ∵ keep ! (0 ∷ []) $ done !
+  members_set (h ∷ ms) zero m = qed 𝓛 (‵ (members R (h ∷ ms)) ∷ ‵ (member R m) ∷ []) ∵ fsplit ! $ keep ! (2 ∷ 1 ∷ []) $ fjoin ! $ done !
+  members_set (h ∷ ms) (suc i) m = qed 𝓛 (‵ (members R (h ∷ ms)) ∷ ‵ (member R m) ∷ []) ∵ fsplit ! $ move ! (1 ∷ 2 ∷ []) $ use2 𝓛 (‵ (members R (slice_set ms i m))) (members_set ms i m) $ move ! (1 ∷ 0 ∷ []) $ fjoin ! $ done !
 
   pub member_made : (m : View) → ⟦ member R m ⟧ ⊢ ⟦ (Member.the_row R).own_val (record { marker = record {}; of = m }) (token_val ∷ []) ⟧
   member_made m = let F = (Struct (shape (Member.the_type R))).own_val (tt, tt) (token_val ∷ []) in

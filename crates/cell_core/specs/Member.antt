@@ -1,5 +1,5 @@
 -- What is known of a cell for good, and of each cell of a row.
-use Rattle.std.specs.Prelude.{◌≡◌, ◌≢◌, ℕ, Option, Some, None, List, [], ◌∷◌, ◌++◌, slice_set}
+use Rattle.std.specs.Prelude.{◌≡◌, ℕ, Option, Some, None, List, [], ◌∷◌, ◌++◌, slice_set}
 use Rattle.std.specs.Coded.{coded_option}
 use base.Stored.{Coded, gnil, coded×, coded_ℕ, coded_via}
 use base.Fml.{GName, Fml, ftrue, fsep, fauth, finv}

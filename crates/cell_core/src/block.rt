@@ -1,5 +1,5 @@
 //! A block of cells, laid raw in one row: each is a state word and room for one value.
-ghost use Rattle.std.specs.Prelude.{◌≡◌, ◌≢◌, ◌<◌, Some, None, MatchOption, IfOk, IfErr};
+ghost use Rattle.std.specs.Prelude.{◌≡◌, ◌≢◌, ◌<◌, Some, None, MatchOption, IfSome, IfOk, IfErr};
 ghost use Rattle.cell_core.specs.Block.{block_len, cell_at, IsPenAt, IsPlacedIn, IsPlacedAt, IsSpoiltIn, IsMemberAt, KeepsOtherCells, RenewsCell};
 ghost use Rattle.cell_core.specs.Shown.{IsFoundIn, IsLookAt};
 
@@ -194,6 +194,21 @@ impl<T, A: Allocator> Block<T, A> {
         }
     }
 
+    /// As `settle_now`, of a cell of which something is known: a value that it is known to have is its value still.
+    pub fn settle_known(&mut self, place: u64, known: &Member<T>) -> Member<T>
+        requires { IsMemberAt self.old place known.now }
+        ensures member { IsMemberAt self.new place result }
+        ensures name { result.name ≡ (cell_at self.old place).value }
+        ensures kept { known.now.value ≢ None → result.value ≡ known.now.value }
+        ensures len { block_len self.new ≡ block_len self.old }
+        ensures others { KeepsOtherCells self.old self.new place }
+    {
+        match self.cell(place).word(&known.member) {
+            2 => known.again(),
+            _ => self.settle_now(place),
+        }
+    }
+
     /// The cell holds the value after it. Beside its token this answers the value that it held, if it held one.
     pub fn put_now(&mut self, place: u64, value: T) -> (Placed<T>, Option<T>)
         requires { place < block_len self.old }
@@ -220,14 +235,20 @@ impl<T, A: Allocator> Block<T, A> {
         (Member { member }, held)
     }
 
-    /// The value of a cell of which so much is known, or nothing where it is broken: one load.
-    pub fn member<'a>(&'a self, place: u64, member: &Member<T>) -> Option<&'a T>
+    /// The value of a cell of which so much is known, with its token, or nothing where it is broken: one load.
+    pub fn member<'a>(&'a self, place: u64, member: &Member<T>) -> Option<(&'a T, Placed<T>)>
         requires { IsMemberAt self.now place member.now }
-        ensures { MatchOption result (member.now.value ≡ None) (λ value. member.now.value ≡ Some value.now) }
+        ensures value { MatchOption result (member.now.value ≡ None)
+            (λ (value, _). member.now.value ≡ Some value.now) }
+        ensures placed { IfSome result (λ (value, placed).
+            IsPlacedAt self.now place placed × (placed.value ≡ value.now)) }
     {
         let cell = self.cell(place);
         match cell.word(&member.member) {
-            2 => Some(cell.value(&member.member.written())),
+            2 => {
+                let written = member.member.written();
+                Some((cell.value(&written), Placed { place, written }))
+            }
             _ => None,
         }
     }

@@ -10,7 +10,7 @@ one_cell : OnePlace → (j k i o : ℕ) (a b : BlockView) → IsBlockOf j a → 
     → place_in j i ≡ place_in k o → (j ≡ k) × (i ≡ o)
 one_cell law j k i o a b long also_long within also_within same = law j k i o (omega arith) (omega arith) same
 
-module _ {T : Type 0} (law : OnePlace) (vector : VectorView) (a : PlacedView T) (is : IsPlacedOf vector a) where
+module _ {T : Type 0} (law : OnePlace) (vector : VectorView T) (a : PlacedView T) (is : IsPlacedOf vector a) where
   module _ (b : PlacedView T) (also_is : IsPlacedOf vector b) (same : a.place ≡ b.place) where
     -- two tokens of one place are of one cell
     pub same_cell : (a.key.entry ≡ b.key.entry) × (a.cell.place ≡ b.cell.place)

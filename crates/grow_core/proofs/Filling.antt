@@ -9,7 +9,7 @@ use Rattle.grow_core.specs.Token.{PlacedView}
 use Rattle.grow_core.specs.Vector.{VectorView, IsPlacedOf}
 
 -- the run's first places have these values, and these are their tokens
-pub record IsFilled {T : Type 0} (vector : VectorView) (run : Run) (values : List T) (tokens : List (PlacedView T)) : Type 0 where
+pub record IsFilled {T : Type 0} (vector : VectorView T) (run : Run) (values : List T) (tokens : List (PlacedView T)) : Type 0 where
   pub tokens_of : All (IsPlacedOf vector) tokens
   pub values_are : map (λ token. token.value) tokens ≡ values
   pub places : (i : ℕ) (token : PlacedView T) → slice_get tokens i ≡ Some token → token.place ≡ run.from + i
@@ -28,7 +28,7 @@ all_one P x p zero d lt = p
 all_one P x p (suc k) d lt = absurd (omega arith)
 
 -- the next place is filled
-pub filled_more : {T : Type 0} (vector : VectorView) (run : Run) (values : List T) (tokens : List (PlacedView T)) (value : T) (token : PlacedView T)
+pub filled_more : {T : Type 0} (vector : VectorView T) (run : Run) (values : List T) (tokens : List (PlacedView T)) (value : T) (token : PlacedView T)
     → IsFilled vector run values tokens → IsPlacedOf vector token → token.place ≡ run.from + length tokens → token.value ≡ value
     → IsFilled vector run (values ++ value ∷ []) (tokens ++ token ∷ [])
 filled_more {T} vector run values tokens value token filled of here holds =

@@ -10,8 +10,10 @@ use Rattle.claim_core.specs.declared.run.Run.{Run}
 use Rattle.claim_core.specs.Word.{WordView}
 use Rattle.claim_core.specs.Hand.{HandView, KeepsOwn, AddsRun, OwnsPlace, SeesOwn, IsPlaceOf}
 use Rattle.claim_core.specs.Laws.{OwnPlacesStay, AddedPlacesAreOfTheRun, JoinedPlacesAreOfEither}
+use Rattle.cell_core.specs.Member.{MemberView}
 use Rattle.table_core.specs.Table.{TableView}
-use Rattle.grow_core.specs.Vector.{VectorView, IsMarked}
+use Rattle.grow_core.specs.Vector.{VectorView, IsShared}
+use Rattle.grow_core.specs.Parts.{values_in}
 use Rattle.grow_core.specs.Keys.{KeyRow, AreKeys, KeepsKeys, HasKeysOfRun, IsKeyed, key_at}
 
 module _ (old new : HandView) (row row' : KeyRow) (sees : SeesOwn old) (keyed : IsKeyed old row) (keys : AreKeys old.of.mark row') (kept : KeepsKeys row row') where
@@ -84,7 +86,8 @@ none_is_none None is some = absurd (cc some)
 none_is_none (Some x) is some = absurd (cc is)
 
 -- a vector's hands are marked with the names of its segments
-pub mark_is : {word : WordView} {segments : TableView} {vector : VectorView} {claims hand : HandView} → IsMarked word segments
-    → record { word = word; segments = segments } ≡ vector → claims ≡ hand → hand.of ≡ vector.word → segments.names ≡ claims.of.mark
-mark_is marked view_is hand_is ours =
-    sym marked.mark ∙ (ap (λ (v : VectorView). v.word.mark) view_is ∙ (sym (ap (λ (w : WordView). w.mark) ours) ∙ sym (ap (λ (h : HandView). h.of.mark) hand_is)))
+pub mark_is : {T : Type 0} {word : WordView} {segments : TableView} {keys : KeyRow} {known : List (MemberView T)} {count : ℕ} {vector : VectorView T} {claims hand : HandView}
+    → IsShared word segments keys known count → record { word = word; segments = segments; opened = values_in known } ≡ vector
+    → claims ≡ hand → hand.of ≡ vector.word → segments.names ≡ claims.of.mark
+mark_is shared view_is hand_is ours =
+    sym shared.mark ∙ (ap (λ (v : VectorView _). v.word.mark) view_is ∙ (sym (ap (λ (w : WordView). w.mark) ours) ∙ sym (ap (λ (h : HandView). h.of.mark) hand_is)))

@@ -65,7 +65,7 @@ size_grows a b p =
     omega (arith, longer, base)
 
 -- a refusal that is due by what a hand has seen is due by less
-due_after : {T V E : Type 0} (vector : VectorView) (n : ℕ) (a b : HandView) (e : GrowError T V E)
+due_after : {T V E : Type 0} (vector : VectorView T) (n : ℕ) (a b : HandView) (e : GrowError T V E)
     → SeesMore a b → (IsWholeHand a → seen_size b ≡ seen_size a) → IsDue vector n b e → IsDue vector n a e
 due_after vector n a b (NoMemory back) p still due = let below = size_grows a b p in omega (arith, below, due)
 due_after vector n a b (Full size back) p still due = due
@@ -75,7 +75,7 @@ due_after vector n a b (Refused run made cause) p still due = tt
 due_after vector n a b (Taken place found) p still due = tt
 
 -- what a refusal leaves of a hand, it leaves of one that had seen less
-pub leaves_after : {T V E : Type 0} (vector : VectorView) (n : ℕ) (a b c : HandView) (e : GrowError T V E)
+pub leaves_after : {T V E : Type 0} (vector : VectorView T) (n : ℕ) (a b c : HandView) (e : GrowError T V E)
     → SeesMore a b → Leaves vector n b c e → Leaves vector n a c e
 leaves_after vector n a b c (NoMemory back) p l = record { more = more_after a b c p l.more; room = l.room }
 leaves_after vector n a b c (Full size back) p l = size_after a b c size p l
@@ -85,7 +85,7 @@ leaves_after vector n a b c (Taken place found) p l =
     record { run = l.run; claimed = adds_after a b c l.run p l.claimed; all = l.all; after = l.after; before = l.before; there = l.there }
 
 -- what a refused growth leaves of a hand, it leaves of one that had seen less, where its refusal was due then
-pub refuses_after : {T V E : Type 0} (vector : VectorView) (n : ℕ) (given : V) (a b c : HandView) (e : GrowError T V E)
+pub refuses_after : {T V E : Type 0} (vector : VectorView T) (n : ℕ) (given : V) (a b c : HandView) (e : GrowError T V E)
     → SeesMore a b → (IsWholeHand a → seen_size b ≡ seen_size a) → Refuses vector n given b c e → Refuses vector n given a c e
 refuses_after vector n given a b c e more still r = record {
   some_places = r.some_places;
@@ -99,7 +99,7 @@ alone_after : (a b : HandView) → SeesMore a b → (IsWholeHand a → seen_size
     → (IsWholeHand b → place ≡ seen_size b) → IsWholeHand a → place ≡ seen_size a
 alone_after a b more still place alone whole = alone (more.own.shares ∙ whole) ∙ still whole
 
-module _ {T : Type 0} (vector : VectorView) (a b c : HandView) (more : SeesMore a b) (still : IsWholeHand a → seen_size b ≡ seen_size a) where
+module _ {T : Type 0} (vector : VectorView T) (a b c : HandView) (more : SeesMore a b) (still : IsWholeHand a → seen_size b ≡ seen_size a) where
   -- a push won, and so it did by the hand as it was
   pub won_place_after : (given : T) (placed : PlacedView T) → WonPlace vector given b c placed → WonPlace vector given a c placed
   won_place_after given placed won = let below = size_grows a b more in record {
@@ -127,7 +127,7 @@ module _ {T : Type 0} (vector : VectorView) (a b c : HandView) (more : SeesMore 
   }
 
 -- a run that was claimed after a look at the size, and then filled, is a growth that won
-pub won_run_of : {T : Type 0} (vector : VectorView) (given : List T) (a b c : HandView) (run : Run) (grown : GrownView T)
+pub won_run_of : {T : Type 0} (vector : VectorView T) (given : List T) (a b c : HandView) (run : Run) (grown : GrownView T)
     → SeesSize a b run.from → seen_size a ≤ run.from → (IsWholeHand a → run.from ≡ seen_size a)
     → run.n ≡ length given → 0 < run.n → AddsRun b c run → OwnsRun c run
     → grown.run ≡ run → IsGrownOf vector grown → values_of grown ≡ given → WonRun vector given a c grown

@@ -3,3 +3,4 @@ pub mod Places
 pub mod Filling
 pub mod KeyRows
 pub mod Cells
+pub mod Settled

@@ -17,7 +17,7 @@ use Rattle.grow_core.specs.Token.{place_in}
 use Rattle.grow_core.specs.Parts.{AreMembers, AreWhole, values_in}
 
 -- a segment that does not come later begins no later
-starts_le : (j k : ℕ) → j ≤ k → segment_start j ≤ segment_start k
+pub starts_le : (j k : ℕ) → j ≤ k → segment_start j ≤ segment_start k
 starts_le zero k le = omega arith
 starts_le (suc j) zero le = absurd (omega arith)
 starts_le (suc j) (suc k) le = segment_end-le j k (omega arith)
@@ -47,14 +47,32 @@ pub none_past : {X : Type 0} (xs : List X) → slice_get xs (length xs) ≡ None
 none_past [] = refl
 none_past (h ∷ xs) = none_past xs
 
+-- what is put at a place is there, and all else as it was
+pub set_there : {X : Type 0} (xs : List X) (x : X) (i : ℕ) → i < length xs → slice_get (slice_set xs i x) i ≡ Some x
+set_there [] x i near = absurd (omega arith)
+set_there (h ∷ xs) x zero near = refl
+set_there (h ∷ xs) x (suc i) near = set_there xs x i (omega (arith, near))
+
+pub set_elsewhere : {X : Type 0} (xs : List X) (x : X) (i j : ℕ) → j ≢ i → slice_get (slice_set xs i x) j ≡ slice_get xs j
+set_elsewhere [] x i j other = refl
+set_elsewhere (h ∷ xs) x zero zero other = absurd (other refl)
+set_elsewhere (h ∷ xs) x zero (suc j) other = refl
+set_elsewhere (h ∷ xs) x (suc i) zero other = refl
+set_elsewhere (h ∷ xs) x (suc i) (suc j) other = set_elsewhere xs x i j (λ same. other (ap suc same))
+
+pub values_set : {T : Type 0} (known : List (MemberView T)) (i : ℕ) (m : MemberView T) → values_in (slice_set known i m) ≡ slice_set (values_in known) i m.value
+values_set [] i m = refl
+values_set (h ∷ known) zero m = refl
+values_set (h ∷ known) (suc i) m = ap (λ xs. h.value ∷ xs) (values_set known i m)
+
 -- a place with a member is one of the list
-within_length : {X : Type 0} (xs : List X) (i : ℕ) (x : X) → slice_get xs i ≡ Some x → i < length xs
+pub within_length : {X : Type 0} (xs : List X) (i : ℕ) (x : X) → slice_get xs i ≡ Some x → i < length xs
 within_length [] i x is = absurd (let z = is in cc)
 within_length (h ∷ xs) zero x is = omega arith
 within_length (h ∷ xs) (suc i) x is = let z = within_length xs i x is in omega (arith, z)
 
 -- what is known of a cell that keeps its names stays known
-kept_at : {T : Type 0} (old new : BlockView) (offset : ℕ) (m : MemberView T) → block_len new ≡ block_len old → cell_at new offset ≡ cell_at old offset
+pub kept_at : {T : Type 0} (old new : BlockView) (offset : ℕ) (m : MemberView T) → block_len new ≡ block_len old → cell_at new offset ≡ cell_at old offset
     → IsMemberAt old offset m → IsMemberAt new offset m
 kept_at old new offset m len same was = record {
   within = subst (λ (n : ℕ). offset < n) (sym len) was.within;

@@ -22,7 +22,7 @@ pub record IsInOrder {T : Type 0} (run : Run) (tokens : List (PlacedView T)) : T
   pub places : (i : ℕ) (token : PlacedView T) → slice_get tokens i ≡ Some token → token.place ≡ run.from + i
 
 -- the run is one of the vector's
-abbrev pub IsGrownOf : {T : Type 0} → VectorView → GrownView T → Type 0
+abbrev pub IsGrownOf : {T : Type 0} → VectorView T → GrownView T → Type 0
 IsGrownOf vector grown = All (IsPlacedOf vector) grown.tokens
 
 -- the values of the run's places, in order

@@ -17,7 +17,7 @@ pub record Grows (old new : HandView) (run : Run) : Type 0 where
   pub empty : run.n ≡ 0 → SeesSize old new run.from
 
 -- a push won: the place is the hand's own, and its token has the value
-pub record WonPlace {T : Type 0} (vector : VectorView) (given : T) (old new : HandView) (placed : PlacedView T) : Type 0 where
+pub record WonPlace {T : Type 0} (vector : VectorView T) (given : T) (old new : HandView) (placed : PlacedView T) : Type 0 where
   pub run : AddsRun old new (single placed.place)
   pub owned : OwnsRun new (single placed.place)
   pub not_below : seen_size old ≤ placed.place
@@ -26,7 +26,7 @@ pub record WonPlace {T : Type 0} (vector : VectorView) (given : T) (old new : Ha
   pub value : placed.value ≡ given
 
 -- a growth won: the run is the hand's own, and the tokens of its places have the values, in order
-pub record WonRun {T : Type 0} (vector : VectorView) (given : List T) (old new : HandView) (grown : GrownView T) : Type 0 where
+pub record WonRun {T : Type 0} (vector : VectorView T) (given : List T) (old new : HandView) (grown : GrownView T) : Type 0 where
   pub n : grown.run.n ≡ length given
   pub run : Grows old new grown.run
   pub owned : 0 < grown.run.n → OwnsRun new grown.run
@@ -36,13 +36,13 @@ pub record WonRun {T : Type 0} (vector : VectorView) (given : List T) (old new :
   pub values : values_of grown ≡ given
 
 -- what stood at the place
-abbrev pub IsFoundAt : {T : Type 0} → VectorView → ℕ → Found T → Type 0
+abbrev pub IsFoundAt : {T : Type 0} → VectorView T → ℕ → Found T → Type 0
 IsFoundAt vector place (found.Busy begun) = IsBegunOf vector begun × (begun.place ≡ place)
 IsFoundAt vector place (found.Filled placed) = IsPlacedOf vector placed × (placed.place ≡ place)
 IsFoundAt vector place (found.Broken spoilt) = IsSpoiltOf vector spoilt × (spoilt.place ≡ place)
 
 -- the hand owns one more run, of n places, and one of them was taken
-pub record LosesPlace {T : Type 0} (vector : VectorView) (n : ℕ) (old new : HandView) (place : ℕ) (found : Found T) : Type 0 where
+pub record LosesPlace {T : Type 0} (vector : VectorView T) (n : ℕ) (old new : HandView) (place : ℕ) (found : Found T) : Type 0 where
   pub run : Run
   pub claimed : AddsRun old new run
   pub all : run.n ≡ n
@@ -51,7 +51,7 @@ pub record LosesPlace {T : Type 0} (vector : VectorView) (n : ℕ) (old new : Ha
   pub there : IsFoundAt vector place found
 
 -- the hand owns one more run, of n places, and the first of them have the values that were made
-pub record KeepsMade {T : Type 0} (vector : VectorView) (n : ℕ) (old new : HandView) (run : Run) (made : GrownView T) : Type 0 where
+pub record KeepsMade {T : Type 0} (vector : VectorView T) (n : ℕ) (old new : HandView) (run : Run) (made : GrownView T) : Type 0 where
   pub claimed : AddsRun old new run
   pub all : run.n ≡ n
   pub first : made.run.from ≡ run.from
@@ -59,26 +59,26 @@ pub record KeepsMade {T : Type 0} (vector : VectorView) (n : ℕ) (old new : Han
   pub tokens : IsGrownOf vector made
 
 -- what the hand has seen leaves no room for n more places
-abbrev pub HasNoRoom : VectorView → ℕ → HandView → Type 0
+abbrev pub HasNoRoom : {T : Type 0} → VectorView T → ℕ → HandView → Type 0
 HasNoRoom vector n hand = limit_of vector < seen_size hand + n
 
 -- another caller claimed first: the size is above what the hand had seen, and there is still room. A whole hand is alone
-pub record IsOvertaken (vector : VectorView) (n : ℕ) (old : HandView) (size : ℕ) : Type 0 where
+pub record IsOvertaken {T : Type 0} (vector : VectorView T) (n : ℕ) (old : HandView) (size : ℕ) : Type 0 where
   pub further : seen_size old < size
   pub room : size + n ≤ limit_of vector
   pub others : ¬ IsWholeHand old
 
 -- what the hand has seen leaves room for n more places
-abbrev pub HasRoom : VectorView → ℕ → HandView → Type 0
+abbrev pub HasRoom : {T : Type 0} → VectorView T → ℕ → HandView → Type 0
 HasRoom vector n hand = seen_size hand + n ≤ limit_of vector
 
 -- nothing of the hand has changed but what it has seen, and that leaves room still
-pub record LacksMemory (vector : VectorView) (n : ℕ) (old new : HandView) : Type 0 where
+pub record LacksMemory {T : Type 0} (vector : VectorView T) (n : ℕ) (old new : HandView) : Type 0 where
   pub more : SeesMore old new
   pub room : HasRoom vector n new
 
 -- when each refusal comes, by what the hand had seen before the call
-abbrev pub IsDue : {T V E : Type 0} → VectorView → ℕ → HandView → GrowError T V E → Type 0
+abbrev pub IsDue : {T V E : Type 0} → VectorView T → ℕ → HandView → GrowError T V E → Type 0
 IsDue vector n old (NoMemory back) = HasRoom vector n old
 IsDue vector n old (Full size back) = limit_of vector < size + n
 IsDue vector n old (Moved size back) = IsOvertaken vector n old size
@@ -86,7 +86,7 @@ IsDue vector n old (Refused run made cause) = Unit {0}
 IsDue vector n old (Taken place found) = Unit {0}
 
 -- what each refusal leaves of the hand, and tells of the vector
-abbrev pub Leaves : {T V E : Type 0} → VectorView → ℕ → HandView → HandView → GrowError T V E → Type 0
+abbrev pub Leaves : {T V E : Type 0} → VectorView T → ℕ → HandView → HandView → GrowError T V E → Type 0
 Leaves vector n old new (NoMemory back) = LacksMemory vector n old new
 Leaves vector n old new (Full size back) = SeesSize old new size
 Leaves vector n old new (Moved size back) = SeesSize old new size
@@ -102,7 +102,7 @@ GivesBack value (Refused run made cause) = Unit {0}
 GivesBack value (Taken place found) = Unit {0}
 
 -- a growth of n places was refused: when this refusal comes, what it leaves of the hand, and what comes back
-pub record Refuses {T V E : Type 0} (vector : VectorView) (n : ℕ) (given : V) (old new : HandView) (refusal : GrowError T V E) : Type 0 where
+pub record Refuses {T V E : Type 0} (vector : VectorView T) (n : ℕ) (given : V) (old new : HandView) (refusal : GrowError T V E) : Type 0 where
   pub some_places : 0 < n
   pub due : IsDue vector n old refusal
   pub left : Leaves vector n old new refusal

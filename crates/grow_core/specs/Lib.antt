@@ -1,5 +1,6 @@
 pub mod Token
 pub mod Vector
+pub mod Closing
 pub mod Keys
 pub mod Parts
 pub mod Grown

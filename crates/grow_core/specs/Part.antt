@@ -6,7 +6,7 @@ use Rattle.grow_core.specs.declared.claims.Part.{Part}
 use Rattle.grow_core.specs.Vector.{VectorView}
 
 -- it is a segment of this vector, from its first place to its end
-pub record IsPartOf {T : Type 0} (vector : VectorView) (part : Part T) : Type 0 where
+pub record IsPartOf {T : Type 0} (vector : VectorView T) (part : Part T) : Type 0 where
   pub key : IsKeyIn vector.segments part.key
   pub block : part.block.now ≡ part.key.block
   pub long : IsBlockOf part.key.entry part.key.block

@@ -9,17 +9,20 @@ use Rattle.table_core.specs.Table.{KeyView, IsBlockOf}
 use Rattle.grow_core.specs.Keys.{KeyRow, AreKeys, key_at}
 use Rattle.grow_core.specs.Token.{place_in}
 
--- each member is a value or broken (`None`); the greatest length; how many segments are there, from the first on
+-- each member is a value or broken (`None`); the greatest length; how many segments are there, from the first on; and, where it was
+-- closed from a vector and is as it was then, the names of that vector's segments
 pub record PartsView (T : Type 0) : Type 0 where
   pub members : List (Option T)
   pub limit : ℕ
   pub segments : ℕ
+  pub closed : Option (List ℕ)
 
 -- how that is stored
 abbrev pub parts_coded : {T : Type 0} → Coded T → Coded (PartsView T)
 parts_coded {T} c =
-    coded_via (coded× (coded_list (coded_option c)) (coded× coded_ℕ coded_ℕ)) (λ (p : PartsView T). (p.members, (p.limit, p.segments)))
-    (λ x y e i. record { members = (e i).0; limit = (e i).1.0; segments = (e i).1.1 })
+    coded_via (coded× (coded_list (coded_option c)) (coded× coded_ℕ (coded× coded_ℕ (coded_option (coded_list coded_ℕ)))))
+    (λ (p : PartsView T). (p.members, (p.limit, (p.segments, p.closed))))
+    (λ x y e i. record { members = (e i).0; limit = (e i).1.0; segments = (e i).1.1.0; closed = (e i).1.1.1 })
 
 -- the places of the segments that are there
 abbrev pub capacity_of : {T : Type 0} → PartsView T → ℕ

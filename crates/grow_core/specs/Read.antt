@@ -9,19 +9,19 @@ use Rattle.grow_core.specs.declared.reads.Seen.TheVariants as seen
 use Rattle.grow_core.specs.Vector.{VectorView, IsPlacedOf, IsSpoiltOf}
 
 -- the value is that of the token, which is of this place of the vector
-pub record IsAt {T : Type 0} (vector : VectorView) (place : ℕ) (at : At T) : Type 0 where
+pub record IsAt {T : Type 0} (vector : VectorView T) (place : ℕ) (at : At T) : Type 0 where
   pub of : IsPlacedOf vector at.placed
   pub here : at.placed.place ≡ place
   pub value : at.value.now ≡ at.placed.value
 
 -- what a place of the vector shows
-abbrev pub IsSeenAt : {T : Type 0} → VectorView → ℕ → Seen T → Type 0
+abbrev pub IsSeenAt : {T : Type 0} → VectorView T → ℕ → Seen T → Type 0
 IsSeenAt vector place seen.Pending = Unit {0}
 IsSeenAt vector place (seen.Filled at) = IsAt vector place at
 IsSeenAt vector place (seen.Broken spoilt) = IsSpoiltOf vector spoilt × (spoilt.place ≡ place)
 
 -- when each refusal comes, by what the hand had seen, and sees now: a place is pending or broken below the size alone
-abbrev pub IsDueAt : VectorView → ℕ → HandView → HandView → AtError → Type 0
+abbrev pub IsDueAt : {T : Type 0} → VectorView T → ℕ → HandView → HandView → AtError → Type 0
 IsDueAt vector place old new (OutOfRange size) = (size ≤ place) × SeesSize old new size
 IsDueAt vector place old new Pending = place < seen_size new
 IsDueAt vector place old new (Broken spoilt) = (place < seen_size new) × IsSpoiltOf vector spoilt × (spoilt.place ≡ place)

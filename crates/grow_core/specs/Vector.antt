@@ -1,36 +1,54 @@
 -- The shared vector as callers see it, and what belongs to it.
-use Rattle.std.specs.Prelude.{◌≡◌, ℕ}
+use Rattle.std.specs.Prelude.{◌≡◌, ℕ, List, Option, Some, slice_get}
+use Rattle.std.specs.Coded.{coded_option}
+use base.Stored.{Coded, coded×, coded_list, coded_via}
 use mathlib.Core.List.{IsPrefix}
-use Rattle.claim_core.specs.Word.{WordView, AreBounds}
+use Rattle.claim_core.specs.Word.{WordView, word_coded}
 use Rattle.claim_core.specs.Hand.{HandView, KeepsOwn}
 use Rattle.cell_core.specs.Block.{IsPlacedIn, IsSpoiltIn, IsBegunIn}
-use Rattle.table_core.specs.Table.{TableView, IsKeyIn, IsBlockOf}
+use Rattle.cell_core.specs.Member.{MemberView}
+use Rattle.table_core.specs.Table.{TableView, table_coded, IsKeyIn, IsBlockOf}
+use Rattle.grow_core.specs.Keys.{KeyRow}
+use Rattle.grow_core.specs.Parts.{AreWhole}
 use Rattle.grow_core.specs.Token.{PlacedView, SpoiltView, BegunView, place_in}
 
--- which vector it is: its claim word, with its limit and its base, and its segments
-pub record VectorView : Type 0 where
+-- which vector it is: its claim word, with its limit and its base, and its segments; and the list that it was opened from, each
+-- member a value or broken (`None`)
+pub record VectorView (T : Type 0) : Type 0 where
   pub word : WordView
   pub segments : TableView
+  pub opened : List (Option T)
+
+-- how that is stored
+abbrev pub vector_coded : {T : Type 0} → Coded T → Coded (VectorView T)
+vector_coded {T} c =
+    coded_via (coded× word_coded (coded× table_coded (coded_list (coded_option c)))) (λ (v : VectorView T). (v.word, (v.segments, v.opened)))
+    (λ x y e i. record { word = (e i).0; segments = (e i).1.0; opened = (e i).1.1 })
 
 -- the greatest size that it may have
-abbrev pub limit_of : VectorView → ℕ
+abbrev pub limit_of : {T : Type 0} → VectorView T → ℕ
 limit_of vector = vector.word.limit
 
 -- the size that it began with
-abbrev pub base_of : VectorView → ℕ
+abbrev pub base_of : {T : Type 0} → VectorView T → ℕ
 base_of vector = vector.word.base
 
+-- the list that it was opened from has this value at the place
+abbrev pub IsOpenedAt : {T : Type 0} → VectorView T → ℕ → T → Type 0
+IsOpenedAt vector place x = slice_get vector.opened place ≡ Some (Some x)
+
+-- what holds of a vector at all times: what is known of the list that it was opened from, by the keys of its first segments; and
 -- the word and its hands are marked with the names of the segments
-pub record IsMarked (word : WordView) (segments : TableView) : Type 0 where
-  pub limit : AreBounds word.limit word.base
+pub record IsShared {T : Type 0} (word : WordView) (segments : TableView) (keys : KeyRow) (known : List (MemberView T)) (count : ℕ) : Type 0 where
+  pub whole : AreWhole segments.names keys known word.base word.limit count
   pub mark : word.mark ≡ segments.names
 
 -- the hand belongs to the vector
-abbrev pub IsHandOf : VectorView → HandView → Type 0
+abbrev pub IsHandOf : {T : Type 0} → VectorView T → HandView → Type 0
 IsHandOf vector hand = hand.of ≡ vector.word
 
 -- the token belongs to the vector: its cell is one of the segment whose key it has
-pub record IsPlacedOf {T : Type 0} (vector : VectorView) (placed : PlacedView T) : Type 0 where
+pub record IsPlacedOf {T : Type 0} (vector : VectorView T) (placed : PlacedView T) : Type 0 where
   pub key : IsKeyIn vector.segments placed.key
   pub long : IsBlockOf placed.key.entry placed.key.block
   pub cell : IsPlacedIn placed.key.block placed.cell
@@ -38,14 +56,14 @@ pub record IsPlacedOf {T : Type 0} (vector : VectorView) (placed : PlacedView T)
   pub value : placed.value ≡ placed.cell.value
 
 -- the same for the token of a broken place
-pub record IsSpoiltOf (vector : VectorView) (spoilt : SpoiltView) : Type 0 where
+pub record IsSpoiltOf {T : Type 0} (vector : VectorView T) (spoilt : SpoiltView) : Type 0 where
   pub key : IsKeyIn vector.segments spoilt.key
   pub long : IsBlockOf spoilt.key.entry spoilt.key.block
   pub cell : IsSpoiltIn spoilt.key.block spoilt.cell
   pub place : spoilt.place ≡ place_in spoilt.key.entry spoilt.cell.place
 
 -- the same for the token of a place that another caller began
-pub record IsBegunOf (vector : VectorView) (begun : BegunView) : Type 0 where
+pub record IsBegunOf {T : Type 0} (vector : VectorView T) (begun : BegunView) : Type 0 where
   pub key : IsKeyIn vector.segments begun.key
   pub long : IsBlockOf begun.key.entry begun.key.block
   pub cell : IsBegunIn begun.key.block begun.cell

@@ -60,7 +60,7 @@ impl<T> Grown<T> {
         requires { i < self.now.run.n }
         ensures place { result.place ≡ self.now.run.from + i }
         ensures value { slice_get (values_of self.now) i ≡ Some result.value }
-        ensures of { (v : VectorView) → IsGrownOf v self.now → IsPlacedOf v result }
+        ensures of { (v : VectorView T) → IsGrownOf v self.now → IsPlacedOf v result }
     {
         self.tokens[i as usize].again()
     }

@@ -32,6 +32,18 @@ pub(crate) fn key_of(row: &Keys, segment: u32) -> Option<Key>
     }
 }
 
+// The same keys once more.
+pub(crate) fn keys_again(row: &Keys) -> Keys
+    ensures { (segment : ℕ) → segment < 32 → key_at result segment ≡ key_at row.now segment }
+{
+    array::from_fn(
+        |segment: usize| -> Option<Key>
+            requires { segment < 32 }
+            ensures { result ≡ key_at row.entry.now segment }
+        { key_of(row, segment as u32) },
+    )
+}
+
 // Puts the key of a segment into the row.
 fn put_key(row: &mut Keys, segment: u32, key: Key)
     requires { segment < 32 }

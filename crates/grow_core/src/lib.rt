@@ -22,14 +22,17 @@
 #![tactic(auto)]
 
 mod claims;
+mod close;
 mod errors;
 mod grown;
 mod grows;
 mod hand;
 mod keys;
+mod open;
 mod parts;
 mod pushes;
 mod reads;
+mod recall;
 mod shares;
 mod token;
 mod vector;

@@ -1,5 +1,5 @@
 //! What an exclusive owner holds of a vector: a list of values and broken members.
-ghost use Rattle.std.specs.Prelude.{◌≡◌, ℕ, ◌+◌, ◌-◌, ◌<◌, ◌≤◌, ◌++◌, ◌∷◌, [], Some, None, MatchOption, IfOk, IfErr, IsTrue, IsFalse, length, slice_get};
+ghost use Rattle.std.specs.Prelude.{◌≡◌, ℕ, ◌+◌, ◌-◌, ◌<◌, ◌≤◌, ◌++◌, ◌∷◌, [], Some, None, MatchOption, IsOk, IfOk, IfErr, IsTrue, IsFalse, length, slice_get, slice_set};
 ghost use Rattle.seg_core.specs.Segment.{IsLimit, segment_start, segment_end};
 ghost use Rattle.cell_core.specs.Block.{block_len, IsMemberAt, KeepsOtherCells};
 ghost use Rattle.grow_core.specs.Keys.{key_at};
@@ -8,6 +8,7 @@ ghost use Rattle.grow_core.specs.Parts.{HasFirstKeys, IsSpare, capacity_of};
 
 use crate::keys::{Keys, key_of, no_keys};
 use cell_core::block::{Block, Member, Row};
+use claim_core::Mark;
 use seg_core::{first, len, locate};
 use std::alloc::{AllocError, Global};
 use std::marker::Model;
@@ -17,29 +18,40 @@ use table_core::{Key, Table};
 /// list of values and broken members (`None`), with its limit and how many segments are there.
 #[derive(Drop)]
 pub struct Parts<T> {
-    table: Table<T>,
-    keys: Keys,
-    row: Row<T>,
-    len: u64,
-    limit: u64,
-    count: u32,
-    alloc: Global,
+    pub(crate) table: Table<T>,
+    pub(crate) keys: Keys,
+    pub(crate) row: Row<T>,
+    pub(crate) len: u64,
+    pub(crate) limit: u64,
+    pub(crate) count: u32,
+    pub(crate) alloc: Global,
+    // Of the vector that the list was closed from: the keys of its first segments as they were before, and its segments' names.
+    pub(crate) before: Keys,
+    pub(crate) closed: Option<Mark>,
 }
 
 impl<T> Model for Parts<T> {
+    ghost use Rattle.std.specs.Prelude.{option_map};
     ghost use Rattle.grow_core.specs.Parts.{PartsView, parts_coded, values_in, AreWhole};
+    ghost use Rattle.grow_core.specs.Closing.{IsKept};
 
     ghost Value = { PartsView T };
 
     ghost coded = { parts_coded T.code };
 
-    ghost view = { λ p. record { members = values_in p.row; limit = p.limit; segments = p.count } };
+    ghost view = { λ p. record {
+      members = values_in p.row;
+      limit = p.limit;
+      segments = p.count;
+      closed = option_map (λ m. m.numbers) p.closed;
+    } };
 
-    ghost invariant = { λ p. AreWhole p.table.names p.keys p.row p.len p.limit p.count };
+    ghost invariant = { λ p. AreWhole p.table.names p.keys p.row p.len p.limit p.count
+        × IsKept (option_map (λ m. m.numbers) p.closed) p.before p.table.names p.keys p.row p.count };
 }
 
 // Where a place of the segments that are there lies: its segment, the cell there, and the segment's key.
-fn cell_of(keys: &Keys, count: u32, place: u64) -> (u32, u64, Key)
+pub(crate) fn cell_of(keys: &Keys, count: u32, place: u64) -> (u32, u64, Key)
     requires few { count ≤ 32 }
     requires there { HasFirstKeys keys.now count }
     requires inside { place < segment_start count }
@@ -88,6 +100,8 @@ impl<T> Parts<T> {
             limit,
             count: 0,
             alloc,
+            before: no_keys(),
+            closed: None,
         }
     }
 
@@ -101,7 +115,8 @@ impl<T> Parts<T> {
 
     /// The greatest length that the list may reach.
     pub fn limit(&self) -> u64
-        ensures { result ≡ self.now.limit }
+        ensures value { result ≡ self.now.limit }
+        ensures range { IsLimit result }
     {
         self.limit
     }
@@ -125,7 +140,8 @@ impl<T> Parts<T> {
             (λ value. slice_get self.now.members place ≡ Some (Some value.now)) }
     {
         let (_, offset, key) = cell_of(&self.keys, self.count, place);
-        self.table.known(&key).member(offset, &self.row.at(place))
+        let (value, _) = self.table.known(&key).member(offset, &self.row.at(place))?;
+        Some(value)
     }
 }
 
@@ -157,6 +173,7 @@ impl<T: Drop> Parts<T> {
         ensures more { IfOk result (λ _. self.new.segments ≡ self.old.segments + 1) }
         ensures same { IfErr result (λ _. self.new.segments ≡ self.old.segments) }
     {
+        self.closed = None;
         let (_, key) = self.table.install_key(self.count)?;
         self.keys[self.count as usize] = Some(key);
         self.count += 1;
@@ -170,6 +187,8 @@ impl<T: Drop> Parts<T> {
         ensures members { self.new.members ≡ self.old.members }
         ensures limit { self.new.limit ≡ self.old.limit }
         ensures room { IfOk result (λ _. n ≤ capacity_of self.new) }
+        // Where there is room, no memory is asked for.
+        ensures spare { n ≤ capacity_of self.old → IsOk result }
         ensures kept { self.old.segments ≤ self.new.segments }
         ensures least { (k : ℕ) → self.old.segments ≤ k → k < self.new.segments → segment_start k < n }
     {
@@ -186,6 +205,7 @@ impl<T: Drop> Parts<T> {
         ensures limit { self.new.limit ≡ self.old.limit }
         ensures fewer { self.new.segments + 1 ≡ self.old.segments }
     {
+        self.closed = None;
         self.count -= 1;
         self.table.give_up(self.count);
         self.keys[self.count as usize] = None;
@@ -211,6 +231,7 @@ impl<T: Drop> Parts<T> {
         ensures limit { self.new.limit ≡ self.old.limit }
         ensures segments { self.new.segments ≡ self.old.segments }
     {
+        self.closed = None;
         let (segment, offset, key) = cell_of(&self.keys, self.count, self.len);
         let mut block = self.table.detach(&key);
         let (member, held) = write(&mut block, offset, value);
@@ -227,6 +248,7 @@ impl<T: Drop> Parts<T> {
         ensures limit { self.new.limit ≡ self.old.limit }
         ensures segments { self.new.segments ≡ self.old.segments }
     {
+        self.closed = None;
         self.len -= 1;
         let (segment, offset, key) = cell_of(&self.keys, self.count, self.len);
         let mut block = self.table.detach(&key);
@@ -234,5 +256,25 @@ impl<T: Drop> Parts<T> {
         self.keys[segment as usize] = Some(self.table.attach(segment, block));
         self.row.pop();
         value
+    }
+
+    /// The member at the place is another one from now on: a value or, with `None`, broken. It answers the value that was there, or
+    /// nothing where it was broken. It takes no memory.
+    pub fn replace(&mut self, place: u64, value: Option<T>) -> Option<T>
+        requires { place < length self.old.members }
+        ensures members { self.new.members ≡ slice_set self.old.members place value }
+        ensures member { slice_get self.old.members place ≡ Some result }
+        ensures limit { self.new.limit ≡ self.old.limit }
+        ensures segments { self.new.segments ≡ self.old.segments }
+    {
+        self.closed = None;
+        let (segment, offset, key) = cell_of(&self.keys, self.count, place);
+        let mut block = self.table.detach(&key);
+        let held = block.take_member(offset, &self.row.at(place));
+        let (member, none) = write(&mut block, offset, value);
+        drop(none);
+        self.keys[segment as usize] = Some(self.table.attach(segment, block));
+        self.row.set(place, &member);
+        held
     }
 }

@@ -1,11 +1,12 @@
 //! How the vector is read.
-ghost use Rattle.std.specs.Prelude.{◌≡◌, ◌≢◌, ◌<◌, IfOk, IfErr, IfSome, IsOkAnd, None};
+ghost use Rattle.std.specs.Prelude.{◌≡◌, ◌≢◌, ◌<◌, IfOk, IfErr, IfSome, IsOkAnd, IsSomeAnd, None};
 ghost use Rattle.claim_core.specs.Hand.{seen_size};
-ghost use Rattle.grow_core.specs.Vector.{IsHandOf, IsPlacedOf, IsSpoiltOf, SeesMore, limit_of};
+ghost use Rattle.grow_core.specs.Vector.{IsHandOf, IsPlacedOf, IsSpoiltOf, IsOpenedAt, SeesMore, limit_of};
 ghost use Rattle.grow_core.specs.Read.{IsAt, IsSeenAt, IsDueAt, IsInRange};
 
 use crate::errors::AtError;
 use crate::hand::Hand;
+use crate::parts::cell_of;
 use crate::token::{Placed, Spoilt};
 use crate::vector::Shared;
 use cell_core::block::Look;
@@ -44,11 +45,14 @@ impl<T> Shared<T> {
         ensures refused { IfErr result (IsDueAt self.now place hand.old hand.new) }
         // A caller with a token reads the token's value.
         ensures known { IfSome known.entry (λ p. IsOkAnd result (λ a. a.value.now ≡ p.now.value)) }
+        // A value of the opened list is read by everybody, token or not.
+        ensures opened { (x : T) → IsOpenedAt self.now place x → IsOkAnd result (λ a. a.value.now ≡ x) }
         // A place that was claimed stays claimed.
         ensures in_range { place < seen_size hand.old → IfErr result IsInRange }
         ensures hand { SeesMore hand.old hand.new }
     {
         if let Some(token) = known {
+            self.opened_agrees(token);
             return Ok(At {
                 value: self.get(token),
                 placed: token.again(),
@@ -58,10 +62,44 @@ impl<T> Shared<T> {
         if place >= size {
             return Err(AtError::OutOfRange { size });
         }
+        if let Some(at) = self.opened_at(place) {
+            return Ok(at);
+        }
         match self.look(place) {
             Seen::Pending => Err(AtError::Pending),
             Seen::Filled(at) => Ok(at),
             Seen::Broken(spoilt) => Err(AtError::Broken(spoilt)),
+        }
+    }
+
+    // The value that the opened list has at the place, if it has one there.
+    fn opened_at(&self, place: u64) -> Option<At<'_, T>>
+        requires { place < limit_of self.now }
+        ensures at { IfSome result (IsAt self.now place) }
+        ensures opened { (x : T) → IsOpenedAt self.now place x → IsSomeAnd result (λ a. a.value.now ≡ x) }
+    {
+        if place >= self.word.base() {
+            return None;
+        }
+        let (_, offset, key) = cell_of(&self.keys, self.count, place);
+        let (value, cell) = self.table.known(&key).member(offset, &self.row.at(place))?;
+        Some(At {
+            value,
+            placed: Placed { key, cell },
+        })
+    }
+
+    // A token of a place where the opened list has a value has that value. It tells a proof so.
+    fn opened_agrees(&self, placed: &Placed<T>)
+        requires { IsPlacedOf self.now placed.now }
+        ensures { (x : T) → IsOpenedAt self.now placed.now.place x → placed.now.value ≡ x }
+    {
+        let place = placed.place();
+        if place < self.word.base() {
+            places();
+            let (_, _, key) = cell_of(&self.keys, self.count, place);
+            self.table.agree(&key, &placed.key);
+            self.row.at(place).agree(&placed.cell);
         }
     }
 

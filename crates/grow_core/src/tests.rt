@@ -1,11 +1,11 @@
 use super::*;
-use std::test::Fail;
 
 mod callers;
 mod drops;
 mod first;
 mod keys;
 mod large;
+mod lives;
 mod parts;
 mod race;
 mod refusals;

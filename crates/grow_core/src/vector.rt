@@ -1,39 +1,42 @@
-//! The vector: how it is made, looked at and ended.
-ghost use Rattle.std.specs.Prelude.{◌≡◌, ◌≤◌, ◌↔◌, IfOk, Err};
+//! The vector, and how its size is looked at.
+ghost use Rattle.std.specs.Prelude.{◌≡◌, ◌≤◌, length};
 ghost use Rattle.claim_core.specs.Word.{AreBounds};
-ghost use Rattle.claim_core.specs.Hand.{IsWholeHand, IsNewHand, SeesSize, seen_size};
+ghost use Rattle.claim_core.specs.Hand.{IsWholeHand, SeesSize, seen_size};
 ghost use Rattle.grow_core.specs.Vector.{IsHandOf, limit_of, base_of};
 
 use crate::hand::Hand;
-use claim_core::{Mark, Marks, OpenError, Word, laws};
+use crate::keys::Keys;
+use cell_core::block::Row;
+use claim_core::{Word, laws};
 use std::alloc::Global;
 use std::fmt;
 use std::marker::Model;
 use table_core::Table;
 
-/// A vector that many callers share. Contracts see which vector it is, its limit and its base.
+/// A vector that many callers share. Contracts see which vector it is, its limit and its base, and the list that it was opened
+/// from.
 #[derive(Drop)]
 pub struct Shared<T> {
     pub(crate) word: Word<Global>,
     pub(crate) table: Table<T>,
+    // What is known of the opened list: the keys of its first `count` segments, and its members.
+    pub(crate) keys: Keys,
+    pub(crate) count: u32,
+    pub(crate) row: Row<T>,
     pub(crate) alloc: Global,
 }
 
 impl<T> Model for Shared<T> {
-    ghost use Rattle.grow_core.specs.Vector.{VectorView, IsMarked};
+    ghost use Rattle.grow_core.specs.Parts.{values_in};
+    ghost use Rattle.grow_core.specs.Vector.{VectorView, vector_coded, IsShared};
 
-    ghost Value = { VectorView };
+    ghost Value = { VectorView T };
 
-    ghost view = { λ v. record { word = v.word; segments = v.table } };
+    ghost coded = { vector_coded T.code };
 
-    ghost invariant = { λ v. IsMarked v.word v.table };
-}
+    ghost view = { λ v. record { word = v.word; segments = v.table; opened = values_in v.row } };
 
-// A vector's word is marked with the names of its segments.
-struct Segments;
-
-impl<T> Marks<Table<T>> for Segments {
-    ghost numbers = { λ table. table.names };
+    ghost invariant = { λ v. IsShared v.word v.table v.keys v.row v.count };
 }
 
 // The size and the values are left out: only a step with a hand may look at them.
@@ -45,33 +48,6 @@ impl<T> fmt::Debug for Shared<T> {
     }
 }
 
-impl<T: Drop> Shared<T> {
-    /// An empty vector, and the hand that has all shares. It makes no cells.
-    pub fn fresh(alloc: Global, limit: u64) -> Result<(Shared<T>, Hand<T>), OpenError>
-        ensures limit { IfOk result (λ (vector, _). limit_of vector ≡ limit) }
-        ensures base { IfOk result (λ (vector, _). base_of vector ≡ 0) }
-        ensures hand { IfOk result (λ (vector, hand). IsNewHand vector.word hand) }
-        // The limit is looked at before memory is asked for.
-        ensures bad_limit { (result ≡ Err OpenError.BadLimit) ↔ ¬ AreBounds limit 0 }
-    {
-        let table = Table::new(alloc);
-        let mark = Mark::of::<Table<T>, Segments>(&table);
-        let (word, claims) = Word::open_marked(alloc, limit, 0, mark)?;
-        word.laws();
-        Ok((Shared { word, table, alloc }, Hand::of(claims)))
-    }
-
-    /// Ends the vector, drops its values, and answers its last size.
-    pub fn end(self, hand: Hand<T>) -> u64
-        requires ours { IsHandOf self hand }
-        requires whole { IsWholeHand hand }
-        ensures { result ≡ seen_size hand }
-    {
-        let Shared { word, .. } = self;
-        word.close(hand.claims)
-    }
-}
-
 impl<T> Shared<T> {
     /// The greatest size that it may have.
     pub fn limit(&self) -> u64
@@ -80,9 +56,10 @@ impl<T> Shared<T> {
         self.word.limit()
     }
 
-    /// What every vector keeps. It does nothing.
+    /// What every vector keeps: it began with the list that it was opened from. It does nothing.
     pub fn laws(&self)
-        ensures { AreBounds (limit_of self.now) (base_of self.now) }
+        ensures bounds { AreBounds (limit_of self.now) (base_of self.now) }
+        ensures opened { length self.now.opened ≡ base_of self.now }
     {
         let _table = &self.table;
     }
@@ -92,9 +69,11 @@ impl<T> Shared<T> {
         requires ours { IsHandOf self.now hand.old }
         ensures seen { SeesSize hand.old hand.new result }
         ensures grows { seen_size hand.old ≤ result }
+        ensures opened { length self.now.opened ≤ result }
         // Nobody else can append beside a whole hand.
         ensures whole { IsWholeHand hand.old → result ≡ seen_size hand.old }
     {
+        self.laws();
         hand.claims.laws();
         laws::own_places_stay();
         self.word.size(&mut hand.claims)

@@ -1,3 +1,4 @@
 pub mod QuietList
+pub mod Between
 pub mod QuietAt
 pub mod Errors

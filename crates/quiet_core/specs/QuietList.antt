@@ -4,23 +4,30 @@ use Rattle.std.specs.Option.{option_eq, option_partial_cmp, option_cmp}
 use Rattle.std.specs.Cmp.Lexicographic.{pointwise, slice_partial_cmp, slice_cmp}
 use Rattle.std.specs.Coded.{Coded, code_by, coded×, coded_ℕ, coded_list, coded_option}
 use Rattle.std.specs.declared.cmp.Ordering.{Ordering}
-use Rattle.seg_core.specs.Segment.{segment_end, IsLimit}
+use Rattle.seg_core.specs.Segment.{segment_end}
+use Rattle.grow_core.specs.Parts.{PartsView, capacity_of}
 
--- each member is a value or broken (`None`); the greatest length; the places of the segments that are there
+-- each member is a value or broken (`None`); the greatest length; the places of the segments that are there; and, where it was
+-- closed from a vector and is as it was then, the names of that vector's segments
 pub record QuietList (T : Type 0) : Type 0 where
   pub members : List (Option T)
   pub limit : ℕ
   pub capacity : ℕ
+  pub closed : Option (List ℕ)
 
 -- a list is stored as the tuple of its fields
 abbrev pub quiet_code : {T : Type 0} → Coded T → Coded (QuietList T)
 quiet_code {T} code =
     code_by
-    (List (Option T) × (ℕ × ℕ))
-    (coded× (coded_list (coded_option code)) (coded× coded_ℕ coded_ℕ))
-    (λ q. (q.members, (q.limit, q.capacity)))
-    (λ p. record { members = p.0; limit = p.1.0; capacity = p.1.1 })
+    (List (Option T) × (ℕ × (ℕ × Option (List ℕ))))
+    (coded× (coded_list (coded_option code)) (coded× coded_ℕ (coded× coded_ℕ (coded_option (coded_list coded_ℕ)))))
+    (λ q. (q.members, (q.limit, (q.capacity, q.closed))))
+    (λ p. record { members = p.0; limit = p.1.0; capacity = p.1.1.0; closed = p.1.1.1 })
     (λ _. refl)
+
+-- what an owner holds of a vector, as a list
+abbrev pub list_of : {T : Type 0} → PartsView T → QuietList T
+list_of parts = record { members = parts.members; limit = parts.limit; capacity = capacity_of parts; closed = parts.closed }
 
 -- a number of places that fill whole segments: none, or all up to the end of a segment
 abbrev pub IsWhole : ℕ → Type 0
@@ -31,14 +38,6 @@ pub record IsCapacityFor (n capacity : ℕ) : Type 0 where
   pub whole : IsWhole capacity
   pub room : n ≤ capacity
   pub least : (other : ℕ) → IsWhole other → n ≤ other → capacity ≤ other
-
--- what holds of a list's numbers at all times, with the members that its memory has room for
-pub record IsWellFormed (limit len capacity memory : ℕ) : Type 0 where
-  pub limited : IsLimit limit
-  pub within : len ≤ limit
-  pub whole : IsWhole capacity
-  pub inside : len ≤ capacity
-  pub there : capacity ≤ memory
 
 -- the new capacity is the greater of the old one and the one for n members
 abbrev pub GrowsFor : ℕ → ℕ → ℕ → Type 0

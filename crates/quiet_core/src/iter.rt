@@ -5,6 +5,7 @@ ghost use Rattle.std.specs.Iterator.{YieldsFirstBy, YieldsLastBy, UpTo, at_most,
 ghost use Rattle.std.specs.Iterator.SizeHint.{IsWithinCount};
 
 use crate::quiet::Quiet;
+use grow_core::Parts;
 use std::alloc::AllocError;
 use std::iter::FusedIterator;
 use std::marker::Model;
@@ -12,15 +13,24 @@ use std::marker::Model;
 /// The members that are left, in order. An item is `None` for a broken member.
 #[derive(Drop)]
 pub struct Members<'a, T> {
-    rest: &'a [Option<T>],
+    parts: &'a Parts<T>,
+    from: u64,
+    to: u64,
 }
 
 impl<'a, T> Model for Members<'a, T> {
-    ghost use Rattle.std.specs.Prelude.{List, Option};
+    ghost use Rattle.std.specs.Prelude.{◌≤◌, List, Option, length};
+    ghost use Rattle.std.specs.Coded.{coded_option};
+    ghost use base.Stored.{coded_list};
+    ghost use Rattle.quiet_core.specs.Between.{between};
 
     ghost Value = { List (Option T) };
 
-    ghost view = { λ m. m.rest.now };
+    ghost coded = { coded_list (coded_option T.code) };
+
+    ghost view = { λ m. between m.parts.now.members m.from m.to };
+
+    ghost invariant = { λ m. (m.from ≤ m.to) × (m.to ≤ length m.parts.now.members) };
 }
 
 impl<T> Quiet<T> {
@@ -29,7 +39,9 @@ impl<T> Quiet<T> {
         ensures { result ≡ self.now.members }
     {
         Members {
-            rest: self.members.as_slice(),
+            parts: &self.parts,
+            from: 0,
+            to: self.parts.len(),
         }
     }
 }
@@ -54,9 +66,12 @@ impl<'a, T> Iterator for Members<'a, T> {
     ghost remaining = { item_count (λ rest. rest) };
 
     fn next(&mut self) -> Option<Option<&'a T>> {
-        let (first, rest) = self.rest.split_first()?;
-        self.rest = rest;
-        Some(first.as_ref())
+        if self.from == self.to {
+            return None;
+        }
+        let first = self.parts.get(self.from);
+        self.from += 1;
+        Some(first)
     }
 
     fn size_hint(&self) -> (usize, Option<usize>)
@@ -64,7 +79,7 @@ impl<'a, T> Iterator for Members<'a, T> {
         ensures upper { IfSome result.1 (UpTo (at_most (length self.now))) }
         ensures exact { (result.0 ≡ length self.now) × (result.1 ≡ Some (length self.now)) }
     {
-        let left = self.rest.len();
+        let left = self.len();
         (left, Some(left))
     }
 }
@@ -73,15 +88,17 @@ impl<'a, T> DoubleEndedIterator for Members<'a, T> {
     ghost next_back_gives = { YieldsLastBy option_copied (λ rest. rest) };
 
     fn next_back(&mut self) -> Option<Option<&'a T>> {
-        let (last, rest) = self.rest.split_last()?;
-        self.rest = rest;
-        Some(last.as_ref())
+        if self.from == self.to {
+            return None;
+        }
+        self.to -= 1;
+        Some(self.parts.get(self.to))
     }
 }
 
 impl<'a, T> ExactSizeIterator for Members<'a, T> {
     fn len(&self) -> usize {
-        self.rest.len()
+        (self.to - self.from) as usize
     }
 }
 
@@ -93,6 +110,10 @@ impl<'a, T> Clone for Members<'a, T> {
     ghost is_infallible = { λ _. ⊤ };
 
     fn clone(&self) -> Result<Self, AllocError> {
-        Ok(Members { rest: self.rest })
+        Ok(Members {
+            parts: self.parts,
+            from: self.from,
+            to: self.to,
+        })
     }
 }

@@ -7,17 +7,22 @@
 //! refusal gives back what was moved in. Up to the capacity no call asks for memory. Equality and order look at the
 //! members alone, and a broken member is less than every value.
 //!
-//! No call of this crate breaks a member yet: a broken one comes from a vector that was shared.
+//! A list opens into a vector that many threads share, and a vector closes into a list: `Quiet::open`, `close`, `recall`. A broken
+//! member comes from a vector: a place that was claimed and never filled.
 #![tactic(auto)]
 
 mod compare;
 mod errors;
+mod into_iter;
 mod iter;
+mod open;
 mod quiet;
 mod room;
 #[cfg(test)]
 mod tests;
 
 pub use errors::{QuietAt, QuietError};
+pub use grow_core::{Hand, OpenError, Placed, Shared};
+pub use into_iter::IntoMembers;
 pub use iter::Members;
 pub use quiet::Quiet;

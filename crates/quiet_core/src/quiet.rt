@@ -1,34 +1,36 @@
 //! The list, and what its owner does with it.
-ghost use Rattle.std.specs.Prelude.{◌≡◌, ◌↔◌, ◌+◌, ◌^◌, ◌<◌, ◌≤◌, [], ◌∷◌, ◌++◌, length, map, slice_get, vec_len, Some, None, Ok, Err, IsOk, IsErrOf, IfOk, IfErr, OnOk, OnErr};
+ghost use Rattle.std.specs.Prelude.{◌≡◌, ◌↔◌, ◌+◌, ◌^◌, ◌<◌, ◌≤◌, [], ◌∷◌, ◌++◌, length, map, slice_get, slice_set, vec_len, Some, None, Ok, Err, IsOk, IsErrOf, IfOk, IfErr, OnOk, OnErr};
 ghost use Rattle.quiet_core.specs.QuietAt.{IsRefusalAt};
 ghost use Rattle.seg_core.specs.Segment.{IsLimit};
 ghost use Rattle.quiet_core.specs.QuietList.{IsWhole, IsCapacityFor, GrowsFor, IsAtLimit, IsUnchanged};
 
 use crate::errors::{QuietAt, QuietError};
-use crate::room::{append, make_room, places_for, push_there};
+use crate::room::{append, drop_all, places_for};
+use grow_core::Parts;
 use std::alloc::Global;
 use std::marker::Model;
-use std::mem;
+use std::{fmt, mem};
 
 /// A list of values and broken members, with a limit and a capacity of whole segments.
-#[derive(Debug, Drop)]
+#[derive(Drop)]
 pub struct Quiet<T> {
-    pub(crate) members: Vec<Option<T>>,
-    limit: u64,
-    capacity: u64,
+    pub(crate) parts: Parts<T>,
 }
 
 impl<T> Model for Quiet<T> {
-    ghost use Rattle.std.specs.Prelude.{vec_len, vec_capacity};
-    ghost use Rattle.quiet_core.specs.QuietList.{QuietList, quiet_code, IsWellFormed};
+    ghost use Rattle.quiet_core.specs.QuietList.{QuietList, quiet_code, list_of};
 
     ghost Value = { QuietList T };
 
     ghost coded = { quiet_code T.code };
 
-    ghost view = { λ q. record { members = q.members.items; limit = q.limit; capacity = q.capacity } };
+    ghost view = { λ q. list_of q.parts };
+}
 
-    ghost invariant = { λ q. IsWellFormed q.limit (vec_len q.members) q.capacity (vec_capacity q.members) };
+impl<T: fmt::Debug> fmt::Debug for Quiet<T> {
+    fn fmt<W: fmt::Write>(&self, f: &mut fmt::Formatter<W>) -> fmt::Result {
+        f.debug_list().entries(self).finish()
+    }
 }
 
 impl<T> Quiet<T> {
@@ -40,9 +42,7 @@ impl<T> Quiet<T> {
         ensures capacity { result.capacity ≡ 0 }
     {
         Quiet {
-            members: Vec::new(alloc),
-            limit,
-            capacity: 0,
+            parts: Parts::new(alloc, limit),
         }
     }
 
@@ -52,7 +52,8 @@ impl<T> Quiet<T> {
         ensures within { result ≤ self.now.limit }
         ensures small { result ≤ 2 ^ 32 }
     {
-        self.members.len() as u64
+        let _limit = self.parts.limit();
+        self.parts.len()
     }
 
     /// The greatest length that the list may reach.
@@ -61,7 +62,8 @@ impl<T> Quiet<T> {
         ensures range { IsLimit result }
         ensures bound { length self.now.members ≤ result }
     {
-        self.limit
+        let _len = self.parts.len();
+        self.parts.limit()
     }
 
     /// The length that can be reached without asking for memory, or the limit if that is less.
@@ -70,7 +72,7 @@ impl<T> Quiet<T> {
         ensures whole { IsWhole result }
         ensures bound { length self.now.members ≤ result }
     {
-        self.capacity
+        self.parts.capacity()
     }
 
     /// The value at a place. A refusal says that the place is not below the length, or that its member is broken.
@@ -78,13 +80,15 @@ impl<T> Quiet<T> {
         ensures value { IfOk result (λ x. slice_get self.now.members place ≡ Some (Some x.now)) }
         ensures refused { IfErr result (IsRefusalAt self.now.members place) }
     {
-        match self.members.get(place as usize) {
-            Some(Some(value)) => Ok(value),
-            Some(None) => Err(QuietAt::Broken),
-            None => Err(QuietAt::OutOfRange { size: self.len() }),
+        let size = self.len();
+        if place >= size {
+            return Err(QuietAt::OutOfRange { size });
         }
+        self.parts.get(place).ok_or(QuietAt::Broken)
     }
+}
 
+impl<T: Drop> Quiet<T> {
     /// Makes room for n members in all. Nothing else changes.
     pub fn reserve(&mut self, n: u64) -> Result<(), QuietError>
         ensures members { self.new.members ≡ self.old.members }
@@ -96,20 +100,18 @@ impl<T> Quiet<T> {
         ensures untouched { self.old.limit < n → self.new ≡ self.old }
         ensures spare { n ≤ self.old.limit → n ≤ self.old.capacity → IsOk result }
     {
-        if self.limit < n {
+        if self.limit() < n {
             return Err(QuietError::TooLong);
         }
-        match make_room(&mut self.members, self.capacity, n) {
-            Ok(capacity) => {
-                self.capacity = capacity;
-                Ok(())
-            }
+        if places_for(n) <= self.capacity() {
+            return Ok(());
+        }
+        match self.parts.room(n) {
+            Ok(()) => Ok(()),
             Err(_) => Err(QuietError::NoMemory),
         }
     }
-}
 
-impl<T: Drop> Quiet<T> {
     /// The list of these values.
     ///
     /// Its time and memory are linear in the values. It takes memory of its own for them.
@@ -153,7 +155,7 @@ impl<T: Drop> Quiet<T> {
         let place = self.len();
         match self.reserve(place + 1) {
             Ok(()) => {
-                push_there(&mut self.members, value);
+                self.parts.append(Some(value));
                 Ok(place)
             }
             Err(error) => Err((error, value)),
@@ -180,7 +182,7 @@ impl<T: Drop> Quiet<T> {
         match self.reserve(values.len() as u64) {
             Ok(()) => {
                 self.clear();
-                append(&mut self.members, values);
+                append(&mut self.parts, values);
                 Ok(())
             }
             Err(error) => Err((error, values)),
@@ -193,20 +195,37 @@ impl<T: Drop> Quiet<T> {
         ensures limit { self.new.limit ≡ self.old.limit }
         ensures capacity { self.new.capacity ≡ self.old.capacity }
     {
-        self.members.clear();
+        drop_all(&mut self.parts);
     }
-}
 
-impl<T> Quiet<T> {
     /// Gives up every segment that lies wholly above the length.
     pub fn shrink_to_fit(&mut self)
         ensures members { self.new.members ≡ self.old.members }
         ensures limit { self.new.limit ≡ self.old.limit }
         ensures capacity { IsCapacityFor (length self.old.members) self.new.capacity }
     {
-        let capacity = places_for(self.len());
-        self.members.shrink_to(capacity as usize);
-        self.capacity = capacity;
+        self.parts.cut();
+        let _room = self.parts.capacity();
+    }
+
+    /// The value is the member at the place from now on. It answers the value that was there. A refusal says, as `get` does, that
+    /// the place is not below the length, or that its member is broken, and gives the value back.
+    pub fn replace(&mut self, place: u64, value: T) -> Result<T, (QuietAt, T)>
+        ensures value { IfOk result (λ x. slice_get self.old.members place ≡ Some (Some x)) }
+        ensures replaced { OnOk result (self.new.members ≡ slice_set self.old.members place (Some value)) }
+        ensures refused { IfErr result (λ (why, _). IsRefusalAt self.old.members place why) }
+        ensures value_back { IfErr result (λ (_, back). back ≡ value) }
+        ensures unchanged { OnErr result (self.new ≡ self.old) }
+        ensures limit { self.new.limit ≡ self.old.limit }
+        ensures capacity { self.new.capacity ≡ self.old.capacity }
+    {
+        if let Err(error) = self.get(place) {
+            return Err((error, value));
+        }
+        match self.parts.replace(place, Some(value)) {
+            Some(held) => Ok(held),
+            None => unreachable!(),
+        }
     }
 
     /// Exchanges the two lists with all that they have, limits too.

@@ -57,7 +57,7 @@ IsWorkers Stuck = ⊥
 IsWorkers (Grow number) = IsGrowth number
 
 -- why a value was not appended: its growth was refused when that was due, or there was no memory for the win
-abbrev pub IsPushRefusal : VectorView → HandView → RaceError → Type 0
+abbrev pub IsPushRefusal : VectorView ℕ → HandView → RaceError → Type 0
 IsPushRefusal vector hand told =
     (told ≡ NoMemory) ⊎ ((error : GrowError ℕ ℕ Never) × IsDue vector 1 hand error × IsToldAs error told)
 
@@ -91,7 +91,7 @@ race_refusal refusals.Stuck = Stuck
 race_refusal (refusals.Worker e) = e
 
 -- a hand of this vector that has won nothing yet
-abbrev pub IsUnusedHand : VectorView → HandView → Type 0
+abbrev pub IsUnusedHand : VectorView ℕ → HandView → Type 0
 IsUnusedHand vector hand = IsHandOf vector hand × (hand.mine ≡ [])
 
 -- there may be workers up to this number, with so many values each

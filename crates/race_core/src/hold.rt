@@ -7,7 +7,7 @@ use crate::refusal::RaceError;
 use crate::report::{RaceReport, report_of};
 use crate::team::Team;
 use crate::workers::{Workers, joined};
-use grow_core::{OpenError, Shared};
+use quiet_core::Quiet;
 use span_core::{Gate, run_gated};
 use std::alloc::Global;
 use std::sync::Wait;
@@ -44,10 +44,8 @@ pub fn race<R: Threads + Wait + Sync, G: Gate + Sync>(
     }
     let each = u64::from(each);
     let size = u64::from(workers) * each;
-    let (vector, mut hand) = match Shared::fresh(alloc, size) {
-        Ok(made) => made,
-        Err(OpenError::NoMemory) => return Err(RaceError::NoMemory),
-        Err(OpenError::BadLimit) => unreachable!(),
+    let Ok((vector, mut hand)) = Quiet::new(alloc, size).open() else {
+        return Err(RaceError::NoMemory)
     };
     let theirs = vector.split(&mut hand, workers);
     let crew = Workers {

@@ -6,6 +6,7 @@ ghost use Rattle.race_core.specs.Race.{sum_below, IsTeam, verdict_of};
 use crate::history::{history_of, in_order, is_legal};
 use crate::team::{Team, Win};
 use grow_core::Shared;
+use quiet_core::Quiet;
 use std::alloc::{AllocError, Global};
 use std::fmt;
 
@@ -73,7 +74,7 @@ pub(crate) fn report_of(
 {
     let Team { hand, wins } = team;
     hand.whole_laws();
-    let size = vector.end(hand);
+    let size = Quiet::close(vector, hand).len();
     let slots = in_order(alloc, size, &wins)?;
     let history = history_of(alloc, &slots)?;
     Ok(RaceReport {

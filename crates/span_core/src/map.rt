@@ -83,7 +83,7 @@ impl<'a, T, F> MapLeaf<'a, T, F> {
 /// for the answers.
 pub fn par_map<
     R: Threads + Wait + Sync,
-    T: Sync,
+    T: Send + Sync,
     U: Send + Drop,
     F: Fn(u64, Option<&T>) -> U + Sync,
     G: Gate + Sync,

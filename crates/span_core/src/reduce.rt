@@ -107,7 +107,7 @@ impl<'a, T, F, J> ReduceLeaf<'a, T, F, J> {
 /// memory for the leaves.
 pub fn par_reduce<
     R: Threads + Wait + Sync,
-    T: Sync,
+    T: Send + Sync,
     U: Domain + Send + Drop,
     F: Fn(u64, Option<&T>) -> U + Sync,
     J: Fn(U, U) -> U + Sync,

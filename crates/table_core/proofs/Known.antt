@@ -1,9 +1,9 @@
 -- What is known of an entry that is owned whole, and one that is set from the start. Assumes `Logic`.
-use Rattle.std.proofs.Common.{◌≡◌, ℕ, List, [], ◌∷◌, refl, sym, ap}
+use Rattle.std.proofs.Common.{◌≡◌, ℕ, List, [], ◌∷◌, refl, ap}
 use seplogic.Ra.Ura.{Ura}
 use base.Stored.{Gv, gnil, gcons}
 use base.Logic.{ent}
-use base.Fml.{Lft, Fml, ftrue, fsep, fex, fauth, fres}
+use base.Fml.{Lft, ftrue, fsep, fauth, fres}
 use types.Logic.{Logic, sem}
 use types.Kit.{Item, Goal, Soaks, Seq, ‵, ◌⊛◌, given, ◌$◌, ◌∵◌, !, qed, move, drop, learn, updating, now, split, fsplit, fjoin, fpick, fpack, use1, use2, done}
 use types.Tokens.{lft_new, lft_end, bor_new, lent_back}

@@ -1,6 +1,7 @@
 -- A table of entries as callers see it, and the keys of its entries.
 use Rattle.std.specs.Prelude.{◌≡◌, ◌≢◌, ℕ, ◌+◌, ◌<◌, List, [], slice_index, slice_index_or}
-use base.Stored.{Coded, coded×, coded_ℕ, coded_via}
+use Rattle.std.specs.Coded.{coded_option}
+use base.Stored.{Coded, coded×, coded_ℕ, coded_list, coded_via}
 use Rattle.std.specs.declared.option.Option.{Option}
 use Rattle.std.specs.declared.option.Option.TheVariants.{None, Some}
 use Rattle.seg_core.specs.Segment.{segment_start, segment_end}
@@ -11,6 +12,11 @@ use Rattle.table_core.specs.Entry.{EntryView, length_of}
 pub record TableView : Type 0 where
   pub names : List ℕ
   pub lent : Option ℕ
+
+-- how that is stored
+abbrev pub table_coded : Coded TableView
+table_coded =
+    coded_via (coded× (coded_list coded_ℕ) (coded_option coded_ℕ)) (λ (t : TableView). (t.names, t.lent)) (λ x y e i. record { names = (e i).0; lent = (e i).1 })
 
 -- the key of an entry: the entry's number, its block, and its name
 pub record KeyView : Type 0 where

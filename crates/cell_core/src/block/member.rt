@@ -1,5 +1,5 @@
 // What is known of a cell for good, and of each cell of a row.
-ghost use Rattle.std.specs.Prelude.{◌≡◌, ◌<◌, ◌++◌, ◌∷◌, [], Some, length, slice_get};
+ghost use Rattle.std.specs.Prelude.{◌≡◌, ◌<◌, ◌++◌, ◌∷◌, [], Some, length, slice_get, slice_set};
 ghost use Rattle.cell_core.specs.Member.{HasOneLess};
 
 use crate::block::placed::Placed;
@@ -45,8 +45,7 @@ impl<T> Member<T> {
 
     /// What is known by a token's name is the token's value. It tells a proof so.
     pub fn agree(&self, placed: &Placed<T>)
-        requires { self.now.name ≡ placed.now.name }
-        ensures { self.now.value ≡ Some placed.now.value }
+        ensures { self.now.name ≡ placed.now.name → self.now.value ≡ Some placed.now.value }
     {
         self.member.agrees(&placed.written);
     }
@@ -93,6 +92,14 @@ impl<T> Row<T> {
         ensures { HasOneLess self.old self.new }
     {
         self.row = replace(&mut self.row, member::Row::empty()).shorter();
+    }
+
+    /// The cell at a place of the row is another one, of which so much is known.
+    pub fn set(&mut self, place: u64, member: &Member<T>)
+        requires { place < length self.old }
+        ensures { self.new ≡ slice_set self.old place member.now }
+    {
+        self.row = replace(&mut self.row, member::Row::empty()).with(place, &member.member);
     }
 
     /// What is known of the cell at a place of the row.

@@ -1,5 +1,5 @@
 // What is known of a cell for good, and of each cell of a row. It has no bytes.
-ghost use Rattle.std.specs.Prelude.{◌≡◌, ◌≢◌, ◌<◌, ◌++◌, ◌∷◌, [], List, Some, None, length, slice_get};
+ghost use Rattle.std.specs.Prelude.{◌≡◌, ◌≢◌, ◌<◌, ◌++◌, ◌∷◌, [], List, Some, None, length, slice_get, slice_set};
 ghost use base.Stored.{coded_list};
 ghost use denote.Sharing.{said};
 ghost use Rattle.cell_core.specs.Member.{MemberView, member_coded, member, members, HasOneLess};
@@ -49,8 +49,7 @@ impl<T> Member<T> {
 
     // What is known by a name is what its token says. It tells a proof so.
     pub(crate) fn agrees(&self, written: &Written<T>)
-        requires { self.now.of.name ≡ written.now.of }
-        ensures { self.now.of.value ≡ Some written.now.value }
+        ensures { self.now.of.name ≡ written.now.of → self.now.of.value ≡ Some written.now.value }
     {}
 }
 
@@ -90,6 +89,16 @@ impl<T> Row<T> {
     pub(crate) fn shorter(self) -> Row<T>
         requires { 0 < length self.of }
         ensures { HasOneLess self.of result.of }
+    {
+        let Row { marker: _ } = self;
+        Row {
+            marker: PhantomData,
+        }
+    }
+
+    // What is known of the cell at an index is this, from now on.
+    pub(crate) fn with(self, index: u64, member: &Member<T>) -> Row<T>
+        ensures { result.of ≡ slice_set self.of index member.now.of }
     {
         let Row { marker: _ } = self;
         Row {

@@ -9,16 +9,30 @@ fn a_settled_cell_is_filled_or_broken(rt: HostRuntime) -> Result<(), Fail> {
     let placed = fill(&block, 1, 5u64).ok_or("the cell was empty")?;
     let filled = block.settle_now(1);
     filled.agree(&placed);
-    assert!(rt; matches!(block.member(1, &filled), Some(5)));
+    assert!(rt; matches!(block.member(1, &filled), Some((5, _))));
     let broken = block.settle_now(0);
     assert!(rt; block.member(0, &broken).is_none());
     assert!(rt; matches!(block.look(0), Look::Broken(_)));
     assert!(rt; fill(&block, 0, 6).is_none());
     let again = block.settle_now(0);
     assert!(rt; block.member(0, &again).is_none());
-    assert!(rt; matches!(block.member(1, &filled.again()), Some(5)));
+    assert!(rt; matches!(block.member(1, &filled.again()), Some((5, _))));
     assert!(rt; matches!(block.look(2), Look::Empty));
     assert!(rt; matches!(block.look(3), Look::Empty));
+    Ok(())
+}
+
+#[test]
+fn a_value_that_is_known_stays_when_its_cell_is_settled(rt: HostRuntime) -> Result<(), Fail> {
+    let mut block = Block::new(rt.alloc(), 2)?;
+    let (placed, _held) = block.put_now(1, 5u64);
+    let filled = block.settle_known(1, &Member::of(&placed));
+    assert!(rt; matches!(block.member(1, &filled), Some((5, _))));
+    assert_eq!(rt; block.value(&placed), &5);
+    let (broken, _held) = block.spoil_now(0);
+    let again = block.settle_known(0, &broken);
+    assert!(rt; block.member(0, &again).is_none());
+    assert!(rt; matches!(block.look(0), Look::Broken(_)));
     Ok(())
 }
 
@@ -68,11 +82,15 @@ fn a_row_has_its_members_in_order(rt: HostRuntime) -> Result<(), Fail> {
     row.push(&Member::of(&first));
     row.push(&broken);
     row.push(&Member::of(&last));
-    assert!(rt; matches!(block.member(0, &row.at(0)), Some(5)));
+    assert!(rt; matches!(block.member(0, &row.at(0)), Some((5, _))));
     assert!(rt; block.member(1, &row.at(1)).is_none());
-    assert!(rt; matches!(block.member(2, &row.at(2)), Some(6)));
+    assert!(rt; matches!(block.member(2, &row.at(2)), Some((6, _))));
     row.pop();
     assert!(rt; block.member(1, &row.at(1)).is_none());
+    let (second, _held) = block.put_now(1, 7);
+    row.set(1, &Member::of(&second));
+    assert!(rt; matches!(block.member(1, &row.at(1)), Some((7, _))));
+    assert!(rt; matches!(block.member(0, &row.at(0)), Some((5, _))));
     Ok(())
 }
 

@@ -1,12 +1,27 @@
 // A vector and two callers of it. Each call keeps both hands the vector's own and answers plain values, so that a test
 // has nothing to prove of them and few values to drop.
-ghost use Rattle.std.specs.Prelude.{◌≡◌};
-ghost use Rattle.grow_core.specs.Vector.{IsHandOf, base_of};
+ghost use Rattle.std.specs.Prelude.{◌≡◌, IfOk};
+ghost use Rattle.seg_core.specs.Segment.{IsLimit};
+ghost use Rattle.claim_core.specs.Hand.{IsNewHand};
+ghost use Rattle.grow_core.specs.Vector.{IsHandOf, limit_of, base_of};
 
-use crate::{AtError, GrowError, Hand, OpenError, Placed, Run, Shared};
+use crate::{AtError, GrowError, Hand, OpenError, Parts, Placed, Run, Shared};
 use std::alloc::{AllocGlobal, Global};
 use std::process::Abort;
 use std::sync::Wait;
+
+// A vector that begins empty.
+pub(super) fn empty<T: Drop>(alloc: Global, limit: u64) -> Result<(Shared<T>, Hand<T>), OpenError>
+    requires { IsLimit limit }
+    ensures limit { IfOk result (λ (vector, _). limit_of vector ≡ limit) }
+    ensures base { IfOk result (λ (vector, _). base_of vector ≡ 0) }
+    ensures hand { IfOk result (λ (vector, hand). IsNewHand vector.word hand) }
+{
+    match Shared::of_parts(Parts::new(alloc, limit)) {
+        Ok(opened) => Ok(opened),
+        Err((_back, error)) => Err(error),
+    }
+}
 
 #[derive(Drop)]
 pub(super) struct Callers<T> {
@@ -20,13 +35,17 @@ pub(super) struct Callers<T> {
 
 impl<T: Drop> Callers<T> {
     // A new vector. Its second hand has 100 shares.
-    pub(super) fn try_new(alloc: Global, limit: u64) -> Result<Callers<T>, OpenError> {
-        let (vector, mut a) = Shared::fresh(alloc, limit)?;
+    pub(super) fn try_new(alloc: Global, limit: u64) -> Result<Callers<T>, OpenError>
+        requires { IsLimit limit }
+    {
+        let (vector, mut a) = empty(alloc, limit)?;
         let b = vector.split(&mut a, 100);
         Ok(Callers { vector, a, b })
     }
 
-    pub(super) fn new<R: AllocGlobal + Abort>(rt: &R, limit: u64) -> Callers<T> {
+    pub(super) fn new<R: AllocGlobal + Abort>(rt: &R, limit: u64) -> Callers<T>
+        requires { IsLimit limit }
+    {
         match Callers::try_new(rt.alloc(), limit) {
             Ok(made) => made,
             Err(error) => panic!(rt; "{error}"),
@@ -74,12 +93,12 @@ impl<T: Drop> Callers<T> {
         self.vector.meet(&mut self.a, &mut self.b);
     }
 
-    // Ends the vector by one hand with all shares.
+    // Closes the vector by one hand with all shares, and answers the list's length.
     pub(super) fn end(self) -> Option<u64> {
         let Callers { vector, mut a, b } = self;
         vector.join(&mut a, b);
         if a.is_whole() {
-            Some(vector.end(a))
+            Some(vector.into_parts(a).len())
         } else {
             None
         }

@@ -1,6 +1,7 @@
 // The first pushes of two threads on new vectors.
 ghost use Rattle.grow_core.specs.Vector.{IsHandOf};
 
+use super::callers::empty;
 use crate::{Hand, Shared};
 use std::alloc::AllocGlobal;
 use std::process::Abort;
@@ -25,7 +26,7 @@ struct Seat {
 
 // The seats of both threads at a new vector.
 fn seats<R: AllocGlobal>(rt: &R) -> Option<(Seat, Seat)> {
-    let (vector, mut hand) = Shared::fresh(rt.alloc(), 2).ok()?;
+    let (vector, mut hand) = empty(rt.alloc(), 2).ok()?;
     let other = vector.split(&mut hand, 1);
     let vector = Arc::new(rt.alloc(), vector).ok()?;
     let also = Arc::try_clone(&vector).ok()?;

@@ -5,7 +5,7 @@ use std::sync::atomic::{AtomicU64, Ordering};
 use std::test::Fail;
 
 // Appends a member, if there is room for it.
-fn append<T: Drop>(parts: &mut Parts<T>, member: Option<T>) -> bool {
+pub(super) fn append<T: Drop>(parts: &mut Parts<T>, member: Option<T>) -> bool {
     if parts.len() < parts.limit() && parts.len() < parts.capacity() {
         parts.append(member);
         return true;
@@ -14,7 +14,7 @@ fn append<T: Drop>(parts: &mut Parts<T>, member: Option<T>) -> bool {
 }
 
 // The last member, if there is one.
-fn pop<T: Drop>(parts: &mut Parts<T>) -> Option<Option<T>> {
+pub(super) fn pop<T: Drop>(parts: &mut Parts<T>) -> Option<Option<T>> {
     if parts.len() == 0 {
         return None;
     }
@@ -22,7 +22,7 @@ fn pop<T: Drop>(parts: &mut Parts<T>) -> Option<Option<T>> {
 }
 
 // The member at a place, if there is one.
-fn member(parts: &Parts<u64>, place: u64) -> Option<Option<u64>> {
+pub(super) fn member(parts: &Parts<u64>, place: u64) -> Option<Option<u64>> {
     if place >= parts.len() {
         return None;
     }
@@ -30,7 +30,7 @@ fn member(parts: &Parts<u64>, place: u64) -> Option<Option<u64>> {
 }
 
 // Makes room, below the limit.
-fn room<T: Drop>(parts: &mut Parts<T>, n: u64) -> Result<bool, AllocError> {
+pub(super) fn room<T: Drop>(parts: &mut Parts<T>, n: u64) -> Result<bool, AllocError> {
     if n > parts.limit() {
         return Ok(false);
     }

@@ -3,7 +3,7 @@ ghost use Rattle.std.specs.Prelude.{◌≡◌, ◌+◌, ◌*◌, ◌^◌, ◌<�
 ghost use Rattle.std.specs.Thread.{IsSync};
 ghost use Rattle.grow_core.specs.Vector.{IsHandOf, IsPlacedOf};
 
-use super::callers::Callers;
+use super::callers::{Callers, empty};
 use crate::{Hand, Placed, Shared};
 use std::alloc::AllocGlobal;
 use std::process::Abort;
@@ -12,7 +12,7 @@ use std::test::Fail;
 use std::thread::{Threads, join};
 
 // How many values each thread appends.
-const EACH: u64 = 25_000;
+pub(super) const EACH: u64 = 25_000;
 
 // How many values one thread appends while another reads.
 const READ: u64 = 100_000;
@@ -82,7 +82,7 @@ fn look_twice(vector: &Shared<u64>, hand: &mut Hand<u64>, place: u64) -> Option<
     Some((*at.value, *vector.get(&at.placed)))
 }
 
-fn push_by_two<R: Threads + Wait + Abort + Sync>(
+pub(super) fn push_by_two<R: Threads + Wait + Abort + Sync>(
     rt: &R,
     vector: &Shared<u64>,
     a: Hand<u64>,
@@ -157,12 +157,12 @@ fn count_in_order(vector: &Shared<u64>, hand: &mut Hand<u64>) -> [u64; 4]
 
 #[test]
 fn four_threads_lose_nothing_and_keep_their_orders(rt: HostRuntime) -> Result<(), Fail> {
-    let (vector, hand) = Shared::fresh(rt.alloc(), 4 * EACH)?;
+    let (vector, hand) = empty(rt.alloc(), 4 * EACH)?;
     let mut hand = push_by_four(&rt, &vector, hand);
     assert_eq!(rt; vector.size(&mut hand), 4 * EACH);
     assert_eq!(rt; count_in_order(&vector, &mut hand), [EACH; 4]);
     assert!(rt; hand.is_whole());
-    assert_eq!(rt; vector.end(hand), 4 * EACH);
+    assert_eq!(rt; vector.into_parts(hand).len(), 4 * EACH);
     Ok(())
 }
 
@@ -211,10 +211,10 @@ fn append_and_read<R: Threads + Wait + Abort + Sync>(
 
 #[test]
 fn a_thread_reads_what_another_appends(rt: HostRuntime) -> Result<(), Fail> {
-    let (vector, hand) = Shared::fresh(rt.alloc(), READ)?;
+    let (vector, hand) = empty(rt.alloc(), READ)?;
     let hand = append_and_read(&rt, &vector, hand);
     assert!(rt; hand.is_whole());
-    assert_eq!(rt; vector.end(hand), READ);
+    assert_eq!(rt; vector.into_parts(hand).len(), READ);
     Ok(())
 }
 
@@ -305,5 +305,5 @@ fn two_threads_append_runs_that_stay_whole(rt: HostRuntime) {
     let mut hand = grow_by_two(&rt, &vector, a, b);
     assert_eq!(rt; count_runs(&vector, &mut hand), 2 * RUNS);
     assert!(rt; hand.is_whole());
-    assert_eq!(rt; vector.end(hand), 6 * RUNS);
+    assert_eq!(rt; vector.into_parts(hand).len(), 6 * RUNS);
 }

@@ -1,6 +1,6 @@
 // What a refusal gives back.
 use super::callers::{Callers, list};
-use crate::{GrowError, OpenError, Run, Shared};
+use crate::{GrowError, Run};
 use std::alloc::{AllocGlobal, Global};
 use std::process::Abort;
 
@@ -42,14 +42,6 @@ fn an_empty_growth_answers_an_empty_run(rt: HostRuntime) {
         two.grow_waiting(&rt, Vec::new(rt.alloc())),
         Some(Run { from: 1, n: 0 })
     );
-}
-
-#[test]
-fn a_bad_limit_is_refused(rt: HostRuntime) {
-    for limit in [0, (1 << 32) + 1] {
-        let made = Shared::<u64>::fresh(rt.alloc(), limit).err();
-        assert!(rt; made == Some(OpenError::BadLimit), "{limit}");
-    }
 }
 
 #[test]

@@ -1,12 +1,16 @@
 // What callers prove by the public clauses alone.
-ghost use Rattle.std.specs.Prelude.{◌≡◌, ◌+◌, ◌<◌, ◌++◌, ℕ, List, IfSome};
+ghost use Rattle.std.specs.Prelude.{◌≡◌, ◌+◌, ◌<◌, ◌++◌, ℕ, List, Some, IfSome, slice_get};
 ghost use Rattle.grow_core.specs.Lengths.{Tiles, runs_end};
-ghost use Rattle.grow_core.specs.Hand.{OwnsRun, AreDisjoint};
-ghost use Rattle.grow_core.specs.Vector.{IsHandOf, IsPlacedOf, base_of};
+ghost use Rattle.grow_core.specs.Hand.{OwnsRun, AreDisjoint, IsWholeHand};
+ghost use Rattle.grow_core.specs.Vector.{IsHandOf, IsPlacedOf, IsOpenedAt, base_of};
+ghost use Rattle.grow_core.specs.Closing.{KeepsValues};
 ghost use Rattle.grow_core.specs.Growth.{single};
 
-use super::callers::Callers;
-use crate::{Hand, Placed, Shared, laws};
+use super::callers::{Callers, empty};
+use super::parts::member;
+use crate::{Hand, Parts, Placed, Shared, laws};
+use std::alloc::Global;
+use std::test::Fail;
 use std::thread::{Threads, join};
 
 // Appends a value, in whatever thread it is called.
@@ -84,7 +88,7 @@ fn push_here_read_there<R: Threads + Sync>(
     Some(read)
 }
 
-// Once two hands that have all shares are joined, their runs tile the size at which the vector ends.
+// Once two hands that have all shares are joined, their runs tile the length of the list that the vector is closed into.
 fn end_of_both(vector: Shared<u64>, mut a: Hand<u64>, b: Hand<u64>) -> u64
     requires ours { IsHandOf vector a }
     requires also_ours { IsHandOf vector b }
@@ -95,7 +99,65 @@ fn end_of_both(vector: Shared<u64>, mut a: Hand<u64>, b: Hand<u64>) -> u64
 {
     vector.join(&mut a, b);
     a.whole_laws();
-    vector.end(a)
+    vector.into_parts(a).len()
+}
+
+// A value of the opened list is what anybody reads at its place, with a token of the place or without.
+fn read_opened(
+    vector: &Shared<u64>,
+    hand: &mut Hand<u64>,
+    place: u64,
+    known: Option<&Placed<u64>>,
+) -> Option<u64>
+    requires ours { IsHandOf vector.now hand.old }
+    requires known { IfSome known (λ p. IsPlacedOf vector.now p.now × (p.now.place ≡ place)) }
+    ensures { (x : ℕ) → IsOpenedAt vector.now place x → result ≡ Some x }
+{
+    match vector.at(hand, place, known) {
+        Ok(at) => Some(*at.value),
+        Err(_refused) => None,
+    }
+}
+
+// A value of a list is read at its place, once the list is opened.
+fn open_and_read(parts: Parts<u64>, place: u64) -> Option<Option<u64>>
+    ensures { (x : ℕ) → slice_get parts.members place ≡ Some (Some x) → IfSome result (λ read. read ≡ Some x) }
+{
+    let (vector, mut hand) = Shared::of_parts(parts).ok()?;
+    Some(read_opened(&vector, &mut hand, place, None))
+}
+
+// The value of a push is recalled by its token, once the vector is closed.
+fn push_and_recall(vector: Shared<u64>, mut hand: Hand<u64>, value: u64) -> Option<u64>
+    requires ours { IsHandOf vector hand }
+    requires whole { IsWholeHand hand }
+    ensures { IfSome result (λ read. read ≡ value) }
+{
+    let placed = vector.try_push_back(&mut hand, value).ok()?;
+    let parts = vector.into_parts(hand);
+    Some(*parts.recall(&placed))
+}
+
+// The value of a push is the closed list's member at its place.
+fn push_and_close(vector: Shared<u64>, mut hand: Hand<u64>, value: u64) -> Option<(Parts<u64>, u64)>
+    requires ours { IsHandOf vector hand }
+    requires whole { IsWholeHand hand }
+    ensures { IfSome result (λ (parts, place). slice_get parts.members place ≡ Some (Some value)) }
+{
+    let placed = vector.try_push_back(&mut hand, value).ok()?;
+    let parts = vector.into_parts(hand);
+    let _value = parts.recall(&placed);
+    let place = placed.place();
+    Some((parts, place))
+}
+
+// A value of a list is its member still after a life in which another value is appended.
+fn live_once(parts: Parts<u64>, value: u64) -> Option<Parts<u64>>
+    ensures { IfSome result (λ after. KeepsValues parts.members after.members) }
+{
+    let (vector, mut hand) = Shared::of_parts(parts).ok()?;
+    let _placed = vector.try_push_back(&mut hand, value).ok()?;
+    Some(vector.into_parts(hand))
 }
 
 // The values and the sum of the places of a value that each of two threads appends.
@@ -147,4 +209,32 @@ fn hands_that_were_joined_end_the_vector(rt: HostRuntime) {
     let _first = two.push_a(5);
     let _second = two.push_b(6);
     assert_eq!(rt; end_by_both(two), Some(2));
+}
+
+#[test]
+fn a_member_lives_on_from_list_to_list(rt: HostRuntime) -> Result<(), Fail> {
+    let parts = live_once(Parts::new(rt.alloc(), 8), 5).ok_or("refused")?;
+    let parts = live_once(parts, 6).ok_or("refused")?;
+    assert_eq!(rt; parts.len(), 2);
+    assert_eq!(rt; open_and_read(parts, 0), Some(Some(5)));
+    Ok(())
+}
+
+// The value of a push to a new vector, recalled by its token.
+fn recall_pushed(alloc: Global, value: u64) -> Option<u64> {
+    let (vector, hand) = empty(alloc, 8).ok()?;
+    push_and_recall(vector, hand, value)
+}
+
+// The value of a push to a new vector, as the closed list's member.
+fn close_pushed(alloc: Global, value: u64) -> Option<u64> {
+    let (vector, hand) = empty(alloc, 8).ok()?;
+    let (parts, place) = push_and_close(vector, hand, value)?;
+    member(&parts, place)?
+}
+
+#[test]
+fn a_pushed_value_is_a_member_of_the_closed_list(rt: HostRuntime) {
+    assert_eq!(rt; recall_pushed(rt.alloc(), 7), Some(7));
+    assert_eq!(rt; close_pushed(rt.alloc(), 7), Some(7));
 }

@@ -1,6 +1,6 @@
 // Any one allocation may be refused: then the call gives back what it took, and the next one goes on. Run as
 // `rt try --test --fail-alloc N`, these tests pass for each N.
-use crate::{Quiet, QuietError};
+use crate::{OpenError, Quiet, QuietError};
 use std::alloc::Global;
 use std::process::Abort;
 
@@ -59,4 +59,21 @@ fn values_are_moved_in_again(rt: HostRuntime) {
     }
     assert_eq!(rt; (list.len(), list.capacity()), (5, 8));
     assert_eq!(rt; list.get(4), Ok(&8));
+}
+
+// The vector that a list was opened into, at the second try if need be.
+fn is_opened(list: Quiet<u64>) -> bool {
+    match list.open() {
+        Ok(_opened) => true,
+        Err((back, error)) => error == OpenError::NoMemory
+            && back.len() == 1
+            && back.open().is_ok(),
+    }
+}
+
+#[test]
+fn a_list_is_opened_again(rt: HostRuntime) {
+    let mut list = Quiet::new(rt.alloc(), 16);
+    pushed(&rt, &mut list, 5);
+    assert!(rt; is_opened(list));
 }

@@ -44,6 +44,14 @@ impl Key {
         *entry
     }
 
+    /// Two keys with one name are of one block, whatever became of its entry since. It tells a proof so.
+    pub fn agree(&self, other: &Key)
+        requires { self.now.name ≡ other.now.name }
+        ensures { self.now.block ≡ other.now.block }
+    {
+        self.sight.agrees(&other.sight);
+    }
+
     /// The key once more.
     pub fn again(&self) -> Key
         ensures { result ≡ self.now }

@@ -1,4 +1,4 @@
-use Rattle.std.proofs.Common.{arith, subst, sym, ap}
+use Rattle.std.proofs.Common.{arith, subst, sym, ap, ◌∙◌}
 use Rattle.std.specs.List.{sum_by}
 use Rattle.claim_core.specs.Word.{WordView}
 use Rattle.race_core.specs.declared.team.Win.{Win}
@@ -10,8 +10,8 @@ pub in_order-requires : goal.in_order-requires
 in_order-requires c =
     let team = c.requires.team in
     let base = ap (λ (w : WordView). w.base) team.of in
-    subst (λ ws. AreAllPlaces c.end-size.result ws) (sym c.deref.ensures.value)
-    (subst (λ n. AreAllPlaces n c.args.team.wins.items) (sym c.end-size.ensures)
+    subst (λ ws. AreAllPlaces c.len-size.result ws) (sym c.deref.ensures.value)
+    (subst (λ n. AreAllPlaces n c.args.team.wins.items) (sym (c.len-size.ensures.value ∙ c.close.ensures.length))
     (all_won c.args.team.hand c.args.team.wins.items (omega (arith, base, c.requires.base)) c.whole_laws.ensures.tiles team.wins))
 
 pub sum_of-requires : goal.sum_of-requires

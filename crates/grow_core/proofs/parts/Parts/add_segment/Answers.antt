@@ -5,10 +5,12 @@ use Rattle.grow_core.specs.Parts.{PartsView}
 use Rattle.grow_core.proofs.Places.{grown_whole, key_here}
 use Rattle.grow_core.proofs.parts.Parts.add_segment.Goals as goal
 
-pub invariant_of-self : goal.invariant_of-self
-invariant_of-self g c =
+pub invariant_of-self-2 : goal.invariant_of-self-2
+invariant_of-self-2 g c =
     let inside = c.self.inside in let block : BlockView = c.in_ok-key.field-0-0.now in let key = c.in_ok-key.key in
     let small : inside.count < 32 = subst (λ (v : PartsView _). v.segments < 32) (sym c.self.view_is) c.requires in
-    let of : IsKeyOf inside.table inside.count block key = c.in_ok-key.ensures.key in
-    grown_whole inside.table.names inside.keys inside.row inside.len inside.limit inside.count key c.self.invariant small (key_here inside.table inside.count block key small of)
-    (subst (λ (b : BlockView). IsBlockOf inside.count b) (sym of.of) c.in_ok-key.ensures.length)
+    let of : IsKeyOf inside.table inside.count block key = c.in_ok-key.ensures.key in (
+      grown_whole inside.table.names inside.keys inside.row inside.len inside.limit inside.count key c.self.invariant.0 small (key_here inside.table inside.count block key small of)
+          (subst (λ (b : BlockView). IsBlockOf inside.count b) (sym of.of) c.in_ok-key.ensures.length),
+      tt,
+    )

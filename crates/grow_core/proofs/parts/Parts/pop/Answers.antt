@@ -17,7 +17,7 @@ invariant_of-self g c =
     let segment : ℕ = c.cell_of-segment.result.0 in let offset : ℕ = c.cell_of-segment.result.1 in let key : KeyView = c.cell_of-segment.result.2 in
     let small : segment < 32 = c.cell_of-segment.ensures.small in let at_last : place_in segment offset ≡ len - 1 = c.cell_of-segment.ensures.place in
     let inside : place_in segment offset < segment_end segment = subst (λ (p : ℕ). p < segment_end segment) (sym at_last) c.cell_of-segment.ensures.within in
-    let whole = c.self.invariant in let at = (whole.named segment key small c.cell_of-segment.ensures.key).at in
+    let whole = c.self.invariant.0 in let at = (whole.named segment key small c.cell_of-segment.ensures.key).at in
     let block : BlockView = c.take_member-value.new.self in let key' : KeyView = c.attach.result in let known' = c.pop.new.self in
     let start : c.deref_mut.result.now ≡ key.block = c.deref_mut.ensures.value ∙ c.detach-block.ensures.block in
     let of : IsKeyOf c.attach.new.self segment block key' = c.attach.ensures.key in
@@ -25,18 +25,20 @@ invariant_of-self g c =
     let last = c.pop.ensures.0 in let popped : known ≡ known' ++ last ∷ [] = c.pop.ensures.1 in
     let fewer : length known' + 1 ≡ len = sym (length-append known' (last ∷ [])) ∙ ap length (sym popped) ∙ whole.all in
     let here : length known' ≡ place_in segment offset = omega (arith, fewer, at_last) in
-    let within = whole.within in let inner = whole.inside in
-    written_whole names c.attach.new.self row known known' segment offset len (len - 1) c.self.inside.limit c.self.inside.count key key' block whole small inside c.cell_of-segment.ensures.key others of
-    (c.take_member-value.ensures.len ∙ ap block_len start) (subst (λ (b : BlockView). KeepsOtherCells b block offset) start c.take_member-value.ensures.others)
-    (λ q other. sym (pushed_elsewhere known' last q (λ e. other (e ∙ here))) ∙ ap (λ (xs : List (MemberView _)). slice_get xs q) (sym popped))
-    (λ n is. let none = sym (none_past known') ∙ ap (slice_get known') here ∙ is in absurd (let z = none in cc))
-    (omega (arith, fewer)) (omega (arith, fewer, within)) (omega (arith, fewer, inner))
+    let within = whole.within in let inner = whole.inside in (
+      written_whole names c.attach.new.self row known known' segment offset len (len - 1) c.self.inside.limit c.self.inside.count key key' block whole small inside c.cell_of-segment.ensures.key others of
+          (c.take_member-value.ensures.len ∙ ap block_len start) (subst (λ (b : BlockView). KeepsOtherCells b block offset) start c.take_member-value.ensures.others)
+          (λ q other. sym (pushed_elsewhere known' last q (λ e. other (e ∙ here))) ∙ ap (λ (xs : List (MemberView _)). slice_get xs q) (sym popped))
+          (λ n is. let none = sym (none_past known') ∙ ap (slice_get known') here ∙ is in absurd (let z = none in cc))
+          (omega (arith, fewer)) (omega (arith, fewer, within)) (omega (arith, fewer, inner)),
+      tt,
+    )
 
 pub returns-clause-member : goal.returns-clause-member
 returns-clause-member g c =
     let known = c.self.inside.row in let known' = c.pop.new.self in let len : ℕ = c.self.inside.len in let value = λ (u : MemberView _). u.value in
     let last = c.pop.ensures.0 in let popped : known ≡ known' ++ last ∷ [] = c.pop.ensures.1 in
-    let fewer : length known' + 1 ≡ len = sym (length-append known' (last ∷ [])) ∙ ap length (sym popped) ∙ c.self.invariant.all in
+    let fewer : length known' + 1 ≡ len = sym (length-append known' (last ∷ [])) ∙ ap length (sym popped) ∙ c.self.invariant.0.all in
     let there : slice_get (known' ++ last ∷ []) (len - 1) ≡ Some last = ap (slice_get (known' ++ last ∷ [])) (let e : len - 1 ≡ length known' = omega (arith, fewer) in e) ∙ pushed_there known' last in
     let both : Some last ≡ Some c.at.result = sym there ∙ ap (λ (xs : List (MemberView _)). slice_get xs (len - 1)) (sym popped) ∙ c.at.ensures in
     let same : last ≡ c.at.result = (let z = both in cc) in

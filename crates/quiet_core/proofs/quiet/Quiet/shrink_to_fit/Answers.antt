@@ -1,16 +1,12 @@
-use Rattle.std.proofs.Common.{rules, arith}
+use Rattle.std.proofs.Common.{◌≡◌, ◌≤◌, ℕ, length, ap, ◌∙◌, subst}
+use Rattle.seg_core.specs.Segment.{segment_start}
+use Rattle.quiet_core.specs.QuietList.{QuietList, IsCapacityFor}
+use Rattle.quiet_core.proofs.Whole.{fewest_left}
 use Rattle.quiet_core.proofs.quiet.Quiet.shrink_to_fit.Goals as goal
 
-pub invariant_of-self : goal.invariant_of-self
-invariant_of-self g c =
-    let sound = c.self.invariant in
-    let fewest = c.places_for-capacity.ensures in
-    let least = fewest.least c.self.inside.capacity sound.whole in
-    let there = c.shrink_to.ensures.lower_bound in
-    record {
-      limited = sound.limited;
-      within = search rules;
-      whole = fewest.whole;
-      inside = search rules;
-      there = omega (arith, least (search rules), there, sound.there);
-    }
+pub returns-clause-capacity : goal.returns-clause-capacity
+returns-clause-capacity g c =
+    let after = c.cut.new.self in
+    let same : length after.members ≡ length c.args.self.now.members = ap length (c.cut.ensures.members ∙ ap (λ (q : QuietList g.row.T.Denot). q.members) c.self.view_is) in
+    let room : length after.members ≤ segment_start after.segments = subst (λ (n : ℕ). length after.members ≤ n) c.capacity-room.ensures.value c.capacity-room.ensures.room in
+    subst (λ (n : ℕ). IsCapacityFor n (segment_start after.segments)) same (fewest_left (length after.members) after.segments room c.cut.ensures.least)

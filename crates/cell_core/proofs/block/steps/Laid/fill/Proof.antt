@@ -1,6 +1,5 @@
 -- `fill` leaves a filled cell with new names.
 use Rattle.std.proofs.Common.{◌≡◌, ℕ, set, ◌+◌, length, ◌*◌, ◌^◌, ◌<◌, List, [], ◌∷◌, sym, refl, ap, subst, arith, w64, lit<}
-use Rattle.std.specs.Prelude.{Some}
 use lib.Seq.{get_or-set_same}
 use mir.Syntax.{Ty, a_type, dcons, dnil, named}
 use mir.Val.{Val, vint, vptr}
@@ -23,8 +22,8 @@ use denote.RawPtr.{Ptr, block_ptr, block_of, count_of}
 use denote.Steps.{nothing, heard, opens, closes}
 use denote.Param.{param, bounded, layout}
 use denote.Builtin.{usize}
-use denote.Ref.{mut_vals, mut_Tells}
-use denote.Plain.{uint_vals, uint_Tells}
+use denote.Ref.{mut_Tells}
+use denote.Plain.{uint_Tells}
 use denote.Triple.Walked.{Stays, stay_dropped, stay_ref, walk_of, Goes-dropped, Goes-ref}
 use Rattle.core.proofs.atomic.Steps.{tail}
 use Rattle.atomic_table.proofs.Walks.{proved_at, leaves}

@@ -1,6 +1,6 @@
 -- `settle` leaves a cell with a value as it is, and breaks any other under new names.
-use Rattle.std.proofs.Common.{◌≡◌, ℕ, set, ◌+◌, length, ◌*◌, ◌^◌, ◌<◌, List, [], ◌∷◌, sym, refl, ap, subst, arith, w64, lit<, eqb→eq}
-use Rattle.std.specs.Prelude.{Option, Some, None}
+use Rattle.std.proofs.Common.{◌≡◌, ℕ, set, ◌+◌, length, ◌*◌, ◌^◌, ◌<◌, List, [], ◌∷◌, sym, refl, ap, subst, arith, w64, lit<}
+use Rattle.std.specs.Prelude.{Some, None}
 use lib.Seq.{set-get_or}
 use base.Stored.{Gv, gnil}
 use mir.Syntax.{Ty, a_type, dcons, dnil, named, ty_int}
@@ -9,11 +9,11 @@ use mir.MapTy.{inst_fn}
 use base.Logic.{SProp, ent, emp, id⊢, apply∗, all, all_e}
 use base.Fraction.{full_share}
 use base.Fml.{Fml, ftrue, fsep, flft, froom, fauth, fex}
-use prog.Wp.{WpFn, Wp, after_seq, after_block}
+use prog.Wp.{WpFn}
 use types.Logic.{sem}
 use types.Kit.{later, await, use3, drop, ◌∵◌, ‵, raw, ◌⊛◌, given, at_ret, ◌$◌, !, qed, by, move, keep, use0, use1, use2, split, join, fsplit, fsplit3, fjoin, fjoin3, learn, suffices, rewrite, feq_i, fpick, fpack}
-use types.Run.{stop, fld, load, addr, size_word, of_opd, bin, first, blocks, exec, returns, enter, look_raw, lit, branches, skips, no_more, and_then, unit_lit, assigns_last, store}
-use types.ByLocal.{alloc_all, pass_all, free_all, look_at, get, get_in, through, sets, sets_last, is, env}
+use types.Run.{stop, fld, load, addr, size_word, of_opd, bin, first, blocks, exec, returns, enter, look_raw, lit, branches, skips, no_more, and_then, assigns_last, store}
+use types.ByLocal.{alloc_all, pass_all, free_all, look_at, get, get_in, through, sets, is, env}
 use types.Part.{sub, whole as all_of_it, agg}
 use contract.Running.{tables}
 use contract.Monad.{fact, fact_i}
@@ -33,7 +33,7 @@ use Rattle.cell_core.specs.Slot.{Names, word, written, resting, at}
 use Rattle.cell_core.specs.Member.{MemberView, Settles, unfilled}
 use Rattle.cell_core.specs.contracts.slot.member.Member as member
 use Rattle.cell_core.specs.Slot.{Rest}
-use Rattle.cell_core.specs.Laid.{laid, stride, rests, still, cell_in, IsLinked, HasOneRenamed}
+use Rattle.cell_core.specs.Laid.{laid, stride, rests, still, cell_in, IsLinked}
 use Rattle.cell_core.specs.contracts.block.steps.Link as link
 use Rattle.cell_core.specs.contracts.block.steps.Laid as loose
 use Rattle.cell_core.proofs.CellMade.{token_val, pointer_val, pointer_good}

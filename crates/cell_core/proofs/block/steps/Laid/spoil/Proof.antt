@@ -1,6 +1,6 @@
 -- `spoil` leaves a broken cell with new names.
 use Rattle.std.proofs.Common.{◌≡◌, ℕ, set, ◌+◌, length, ◌*◌, ◌^◌, ◌<◌, List, [], ◌∷◌, sym, refl, ap, subst, arith, w64, lit<}
-use Rattle.std.specs.Prelude.{Option, None}
+use Rattle.std.specs.Prelude.{None}
 use lib.Seq.{get_or-set_same}
 use base.Stored.{gnil}
 use types.Tokens.{name_new}

@@ -1,5 +1,5 @@
 -- `again` copies what is known.
-use Rattle.std.proofs.Common.{◌≡◌, ℕ, [], ◌∷◌, refl}
+use Rattle.std.proofs.Common.{◌≡◌, [], ◌∷◌, refl}
 use mir.Syntax.{a_type, named}
 use mir.Val.{Val, vptr}
 use mir.MapTy.{inst_fn}

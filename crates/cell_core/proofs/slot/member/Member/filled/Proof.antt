@@ -1,5 +1,5 @@
 -- `filled` copies what a token of a value knows.
-use Rattle.std.proofs.Common.{◌≡◌, ℕ, [], ◌∷◌, refl, Option, Some}
+use Rattle.std.proofs.Common.{◌≡◌, ℕ, [], ◌∷◌, refl, Some}
 use mir.Syntax.{a_type, named}
 use mir.Val.{Val, vptr}
 use mir.MapTy.{inst_fn}

@@ -6,7 +6,7 @@ use mir.Syntax.{a_type, named}
 use mir.Val.{Val, vptr}
 use mir.MapTy.{inst_fn}
 use base.Logic.{SProp, emp}
-use types.Kit.{‵, raw, ◌⊛◌, ◌$◌, ◌∵◌, !, qed, by, move, keep, drop, use0, use1, split, fsplit, fsplit3, fjoin}
+use types.Kit.{‵, raw, ◌⊛◌, ◌$◌, ◌∵◌, !, qed, by, keep, drop, use0, use1, split, fsplit, fsplit3, fjoin}
 use types.Run.{no_more, and_then, returns, enter}
 use types.ByLocal.{alloc_all, pass_all, free_all, look_at, get, sets}
 use types.Part.{agg}
@@ -24,7 +24,7 @@ use denote.Plain.{uint_vals, uint_Tells}
 use denote.Triple.Walked.{Stays, stay_dropped, walk_of, Goes-dropped}
 use Rattle.atomic_table.proofs.Walks.{proved, leaves}
 use denote.Triple.Entry.{alive}
-use Rattle.cell_core.specs.Member.{MemberView, member, members}
+use Rattle.cell_core.specs.Member.{MemberView, member}
 use Rattle.cell_core.specs.contracts.slot.member.Member as Member
 use Rattle.cell_core.specs.contracts.slot.member.Row as Row
 use Rattle.cell_core.proofs.CellMade.{token_val}

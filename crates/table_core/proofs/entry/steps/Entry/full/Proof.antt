@@ -31,9 +31,9 @@ use Rattle.core.proofs.alloc.Calls.{Goes-blank}
 use Rattle.core.proofs.cell.Inside.{Good, one}
 use Rattle.std.specs.contracts.alloc.Global as heap
 use Rattle.std.proofs.alloc.Global.TheLaws as heap_laws
-use Rattle.once_cell.specs.Once.{boxed, kept, settled, mark}
+use Rattle.once_cell.specs.Once.{kept}
 use denote.Triple.Entry.{alive}
-use Rattle.table_core.specs.Entry.{EntryView, Fit, noted}
+use Rattle.table_core.specs.Entry.{EntryView, Fit}
 use Rattle.table_core.specs.contracts.entry.steps.Entry.TheInside as inside
 use Rattle.table_core.proofs.Values.{both_tt}
 use Rattle.std.proofs.raw_atomic.Walks.{proved_at, leaves}

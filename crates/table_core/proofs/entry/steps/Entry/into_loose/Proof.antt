@@ -48,7 +48,7 @@ use Rattle.core.specs.contracts.atomic.ptr.AtomicPtr.into_inner as callee
 use Rattle.core.proofs.atomic.ptr.AtomicPtr.into_inner.Met.{met}
 use Rattle.once_cell.specs.Once.{boxed}
 use Rattle.table_core.proofs.Known.{either_known}
-use Rattle.table_core.specs.Entry.{EntryView, Agrees, Fit, noted, name_of}
+use Rattle.table_core.specs.Entry.{Agrees, Fit, noted}
 use Rattle.table_core.proofs.Fits.{fit_out}
 use Rattle.table_core.specs.contracts.entry.steps.Entry.into_loose.{ended, clauses}
 use Rattle.table_core.specs.contracts.entry.steps.Entry.into_loose.Key.{name as #self}

@@ -1,39 +1,34 @@
 -- `pointer` copies the pointer of a box.
-use Rattle.std.proofs.Common.{◌≡◌, ℕ, List, [], ◌∷◌, ◌++◌, refl, sym, subst}
+use Rattle.std.proofs.Common.{◌≡◌, List, [], ◌∷◌, ◌++◌, refl, sym, subst}
 use mir.Syntax.{dcons, dnil, a_type}
 use mir.Val.{Val, vptr, has_ty}
 use mir.MapTy.{inst_fn}
 use base.Logic.{SProp, ent, emp, id⊢}
-use base.Fml.{ftrue, fsep}
 use prog.Wp.{WpFn}
-use types.Kit.{feq_i, ‵, raw, ◌⊛◌, ◌$◌, ◌∵◌, !, qed, by, move, keep, split, fsplit, fjoin, fpack, suffices, rewrite, later, await, use0, use1, use2}
+use types.Kit.{feq_i, ‵, raw, ◌⊛◌, ◌$◌, ◌∵◌, !, qed, by, move, keep, split, fsplit, fjoin, suffices, use0}
 use types.Run.{stop, fld, of_opd, no_more, and_then, returns, enter}
 use types.ByLocal.{alloc_all, pass_all, free_all, look_at, get, get_in, sets}
 use types.Part.{agg, sub, whole}
 use contract.Monad.{fact, fact_i}
-use contract.BorrowLft.{◌⊑◌}
 use contract.Running.{tables}
 use denote.Exit.{no}
 use denote.Builtin.{RawPtr}
 use mathlib.Core.Bool.{true}
 use denote.RattleType.{RattleType, owns}
-use denote.Laws.{Typed}
 use denote.Signature.{types_at, type_at, plain}
 use denote.RawPtr.{Ptr, block_ptr}
-use denote.Steps.{nothing, heard}
+use denote.Steps.{nothing}
 use denote.Param.{param, layout, bounded}
 use denote.Param.Laws.{param_laws}
 use denote.Triple.Walked.{Stays, stay_dropped, walk_of, Goes-dropped}
-use Rattle.core.proofs.cell.Inside.{Good, one}
+use Rattle.core.proofs.cell.Inside.{Good}
 use Rattle.std.specs.contracts.alloc.Global as heap
 use Rattle.std.proofs.alloc.Global.TheLaws as heap_laws
 use denote.Triple.Entry.{alive}
-use Rattle.table_core.specs.Entry.{EntryView, Fit, noted}
 use Rattle.table_core.proofs.Values.{both_tt}
 use Rattle.std.proofs.raw_atomic.Walks.{proved_at, leaves}
 use Rattle.table_core.proofs.Values.{both, Loose, loose_good, loose_in, loose_out, pair_in}
 use Rattle.std.specs.contracts.impls.GlobalAllocator.TheImpl.{ghosts}
-use Rattle.std.specs.declared.option.Option.TheVariants.{Some}
 use Rattle.table_core.specs.contracts.entry.steps.Entry.pointer.{ended, clauses}
 use Rattle.table_core.specs.contracts.entry.steps.Entry.pointer.Key.{name as #self}
 use Rattle.table_core.proofs.entry.steps.Entry.pointer.Statement.{statement}

@@ -1,0 +1,54 @@
+//! How long it takes to open a list of ten million values as a shared vector, and to close it into a list again.
+use anyhow::{Result, bail, ensure};
+use grow_core::{Parts, Shared};
+use std::alloc::{AllocError, AllocGlobal, Global};
+use std::rt::Clock;
+use std::time::{Duration, Instant};
+
+const VALUES: u64 = 10_000_000;
+
+/// Which of the two is timed.
+#[derive(Clone, Copy, Debug)]
+pub enum Turn {
+    /// The list is opened.
+    Open,
+    /// The vector is closed.
+    Close,
+}
+
+// A list of all values.
+fn filled(alloc: Global) -> Result<Parts<u64>, AllocError> {
+    let mut parts = Parts::new(alloc, VALUES);
+    parts.room(VALUES)?;
+    for value in 0..VALUES {
+        if parts.len() < parts.limit() && parts.len() < parts.capacity() {
+            parts.append(Some(value));
+        }
+    }
+    Ok(parts)
+}
+
+// How long the two took: opening the list, and closing the vector.
+fn time_both<R: Clock>(rt: &R, parts: Parts<u64>) -> Result<(Duration, Duration)> {
+    let start = Instant::now(rt)?;
+    let Ok((vector, hand)) = Shared::of_parts(parts) else {
+        bail!("no memory")
+    };
+    let opened = start.elapsed(rt)?;
+    let start = Instant::now(rt)?;
+    let parts = vector.into_parts(hand);
+    let closed = start.elapsed(rt)?;
+    ensure!(parts.len() == VALUES, "values were lost");
+    Ok((opened, closed))
+}
+
+/// Opens a list and closes it, and prints the nanoseconds that one of the two took.
+pub fn print_turn<R: Clock + Print + AllocGlobal>(rt: &R, turn: Turn) -> Result<()> {
+    let (opened, closed) = time_both(rt, filled(rt.alloc())?)?;
+    let took = match turn {
+        Turn::Open => opened,
+        Turn::Close => closed,
+    };
+    println!(rt; "{}", took.as_nanos())?;
+    Ok(())
+}

@@ -1,0 +1,48 @@
+use Rattle.std.proofs.Common.{◌≡◌, ◌≢◌, ℕ, ◌<◌, List, length, length-set, sym, ap, ◌∙◌, subst}
+use Rattle.std.proofs.lemmas.List.{length-map}
+use Rattle.std.specs.Prelude.{Some, slice_get, slice_set, slice_index}
+use Rattle.seg_core.specs.Segment.{segment_end}
+use Rattle.cell_core.specs.Block.{BlockView, IsMemberAt, KeepsOtherCells, block_len}
+use Rattle.cell_core.specs.Member.{MemberView}
+use Rattle.table_core.specs.Table.{KeyView, IsKeyOf}
+use Rattle.grow_core.specs.Keys.{KeyRow}
+use Rattle.grow_core.specs.Token.{place_in}
+use Rattle.grow_core.specs.Parts.{PartsView, values_in}
+use Rattle.grow_core.proofs.Places.{written_whole, set_there, set_elsewhere, value_at, values_set}
+use Rattle.grow_core.proofs.parts.Parts.replace.Goals as goal
+
+pub invariant_of-self : goal.invariant_of-self
+invariant_of-self g c =
+    let names : List ℕ = c.self.inside.table.names in let row : KeyRow = c.self.inside.keys in let known = c.self.inside.row in let len : ℕ = c.self.inside.len in
+    let segment : ℕ = c.cell_of-segment.result.0 in let offset : ℕ = c.cell_of-segment.result.1 in let key : KeyView = c.cell_of-segment.result.2 in let place : ℕ = c.args.place in
+    let small : segment < 32 = c.cell_of-segment.ensures.small in let at_place : place_in segment offset ≡ place = c.cell_of-segment.ensures.place in
+    let inside : place_in segment offset < segment_end segment = subst (λ (p : ℕ). p < segment_end segment) (sym at_place) c.cell_of-segment.ensures.within in
+    let whole = c.self.invariant.0 in let at = (whole.named segment key small c.cell_of-segment.ensures.key).at in
+    let block : BlockView = c.write-member.new.block in let m = c.write-member.result.0 in let key' : KeyView = c.attach.result in
+    let start : c.deref_mut.result.now ≡ key.block = c.deref_mut.ensures.value ∙ c.detach-block.ensures.block in
+    let between : c.deref_mut-2.result.now ≡ c.take_member-held.new.self = c.deref_mut-2.ensures.value in
+    let of : IsKeyOf c.attach.new.self segment block key' = c.attach.ensures.key in
+    let others : (j : ℕ) → j ≢ segment → slice_index c.attach.new.self.names j ≡ slice_index names j = (λ j other. c.attach.ensures.others j other ∙ c.detach-block.ensures.others j (λ e. other (e ∙ at))) in
+    let changed : c.set.new.self ≡ slice_set known place m = c.set.ensures in
+    let counted : length (values_in known) ≡ len = length-map known (λ (u : MemberView _). u.value) ∙ whole.all in
+    let below : place < len = subst (λ (n : ℕ). place < n) counted (subst (λ (v : PartsView _). place < length v.members) (sym c.self.view_is) c.requires) in
+    let near : place < length known = subst (λ (n : ℕ). place < n) (sym whole.all) below in
+    let lens : block_len block ≡ block_len key.block = c.write-member.ensures.len ∙ ap block_len between ∙ c.take_member-held.ensures.len ∙ ap block_len start in
+    let cells : KeepsOtherCells key.block block offset = (λ q other. c.write-member.ensures.others q other ∙ ap (λ (b : BlockView). Rattle.cell_core.specs.Block.cell_at b q) between ∙ c.take_member-held.ensures.others q other ∙ ap (λ (b : BlockView). Rattle.cell_core.specs.Block.cell_at b q) start) in (
+      written_whole names c.attach.new.self row known c.set.new.self segment offset len len c.self.inside.limit c.self.inside.count key key' block whole small inside c.cell_of-segment.ensures.key others of lens cells
+          (λ q other. ap (λ (xs : List (MemberView _)). slice_get xs q) changed ∙ set_elsewhere known m place q (λ e. other (e ∙ sym at_place)))
+          (λ n is. let here : slice_get (slice_set known place m) (place_in segment offset) ≡ Some m = ap (slice_get (slice_set known place m)) at_place ∙ set_there known m place near in
+          let both : Some m ≡ Some n = sym here ∙ ap (λ (xs : List (MemberView _)). slice_get xs (place_in segment offset)) (sym changed) ∙ is in
+          subst (λ (u : MemberView _). IsMemberAt block offset u) (let z = both in cc) c.write-member.ensures.member)
+          (ap length changed ∙ length-set known place m ∙ whole.all) whole.within whole.inside,
+      tt,
+    )
+
+pub returns-clause-members : goal.returns-clause-members
+returns-clause-members g c =
+    ap (λ (xs : List (MemberView _)). values_in xs) c.set.ensures ∙ values_set c.self.inside.row c.args.place c.write-member.result.0
+    ∙ (λ i. slice_set ((c.self.view_is i).members) c.args.place (c.write-member.ensures.value i))
+
+pub returns-clause-member : goal.returns-clause-member
+returns-clause-member g c =
+    ap (λ (v : PartsView _). slice_get v.members c.args.place) (sym c.self.view_is) ∙ value_at c.self.inside.row c.args.place c.at.result c.at.ensures ∙ ap Some (sym c.take_member-held.ensures.value)

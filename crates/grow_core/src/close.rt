@@ -1,0 +1,251 @@
+//! How a vector is closed: it becomes an owner's list.
+ghost use Rattle.std.specs.Prelude.{◌≡◌, ◌≢◌, ◌+◌, ◌<◌, ◌≤◌, ℕ, Some, None, MatchOption, IfSome, IsSome, IsTrue, IsFalse, length, slice_get};
+ghost use Rattle.claim_core.specs.Hand.{IsWholeHand, seen_size};
+ghost use Rattle.cell_core.specs.Block.{block_len, cell_at, IsMemberAt, KeepsOtherCells};
+ghost use Rattle.table_core.specs.Table.{IsBlockOf};
+ghost use Rattle.grow_core.specs.Keys.{IsKeyAt, AreKeys, key_at};
+ghost use Rattle.grow_core.specs.Parts.{AreLong, HasFirstKeys};
+ghost use Rattle.grow_core.specs.Vector.{IsHandOf, limit_of};
+ghost use Rattle.grow_core.specs.Closing.{IsClosedFrom, KeepsValues};
+
+use crate::hand::Hand;
+use crate::keys::{Keys, key_of, keys_again, no_keys};
+use crate::open::Segments;
+use crate::parts::{Parts, cell_of};
+use crate::vector::Shared;
+use cell_core::block::{Block, Member, Row};
+use claim_core::Mark;
+use std::alloc::Global;
+use std::marker::Model;
+use table_core::{Key, Table};
+
+// The key of a segment: that of the opened list, or the hand's, or else one of a look at the table.
+fn key_now<T>(table: &Table<T>, opened: &Keys, own: &Keys, segment: u32) -> Option<Key>
+    requires within { segment < 32 }
+    requires opened { AreKeys table.now.names opened.now }
+    requires own { AreKeys table.now.names own.now }
+    ensures key { IfSome result (IsKeyAt table.now.names segment) }
+    ensures long { IfSome result (λ key. IsBlockOf segment key.block) }
+    ensures first { IsSome (key_at opened.now segment) → result ≡ key_at opened.now segment }
+    ensures there { IsSome (key_at own.now segment) → IsSome result }
+{
+    let known = match key_of(opened, segment) {
+        Some(key) => Some(key),
+        None => key_of(own, segment),
+    };
+    if let Some(key) = known {
+        table.known(&key);
+        return Some(key);
+    }
+    let (_, key) = table.scout_key(segment)?;
+    Some(key)
+}
+
+// The keys of the first segments, and how many there are.
+fn first_keys<T>(table: &Table<T>, opened: &Keys, own: &Keys) -> (Keys, u32)
+    requires opened { AreKeys table.now.names opened.now }
+    requires own { AreKeys table.now.names own.now }
+    ensures named { AreKeys table.now.names result.0 }
+    ensures long { AreLong result.0 }
+    ensures there { HasFirstKeys result.0 result.1 }
+    ensures few { result.1 ≤ 32 }
+    ensures first { (s : ℕ) → s < result.1 → IsSome (key_at opened.now s) → key_at result.0 s ≡ key_at opened.now s }
+    ensures none { (s : ℕ) → s < 32 → result.1 ≤ s → key_at result.0 s ≡ None }
+    ensures end { result.1 < 32 → (key_at opened.now result.1 ≡ None) × (key_at own.now result.1 ≡ None) }
+{
+    let mut keys = no_keys();
+    for segment in 0..32u32 {
+        let Some(key) = key_now(table, opened, own, segment) else {
+            return (keys, segment)
+        };
+        keys[segment as usize] = Some(key);
+    }
+    (keys, 32)
+}
+
+// What is known of the cell for good: one without a value is broken. A value that it is known to have is its value still.
+fn settle<T>(block: &mut Block<T>, offset: u64, known: &Option<Member<T>>) -> Member<T>
+    requires within { offset < block_len block.old }
+    requires known { IfSome known.now (IsMemberAt block.old offset) }
+    ensures member { IsMemberAt block.new offset result }
+    ensures name { result.name ≡ (cell_at block.old offset).value }
+    ensures kept { IfSome known.now (λ k. k.value ≢ None → result.value ≡ k.value) }
+    ensures len { block_len block.new ≡ block_len block.old }
+    ensures others { KeepsOtherCells block.old block.new offset }
+{
+    match known {
+        Some(known) => block.settle_known(offset, known),
+        None => block.settle_now(offset),
+    }
+}
+
+// What is known of a place, where the opened list has a member there.
+fn known_at<T>(opened: &Row<T>, base: u64, place: u64) -> Option<Member<T>>
+    requires { length opened.now ≡ base }
+    ensures { MatchOption result (base ≤ place) (λ m. slice_get opened.now place ≡ Some m) }
+{
+    if place < base {
+        Some(opened.at(place))
+    } else {
+        None
+    }
+}
+
+// A vector of which the first `len` places are members of a list already.
+#[derive(Drop)]
+struct Closing<T> {
+    table: Table<T>,
+    before: Keys,
+    keys: Keys,
+    opened: Row<T>,
+    row: Row<T>,
+    base: u64,
+    len: u64,
+    limit: u64,
+    count: u32,
+    size: u64,
+    mark: Mark,
+    alloc: Global,
+}
+
+impl<T> Model for Closing<T> {
+    ghost use Rattle.grow_core.specs.Parts.{values_in};
+    ghost use Rattle.grow_core.specs.Closing.{ClosingView, closing_coded, IsClosing};
+
+    ghost Value = { ClosingView T };
+
+    ghost coded = { closing_coded T.code };
+
+    ghost view = { λ c. record {
+      opened = values_in c.opened;
+      members = values_in c.row;
+      limit = c.limit;
+      size = c.size;
+      mark = c.mark.numbers;
+    } };
+
+    ghost invariant = { λ c. IsClosing c.mark.numbers c.before c.table.names c.keys c.opened c.row c.base c.len c.limit
+        c.count c.size };
+}
+
+impl<T: Drop> Closing<T> {
+    // No place is a member yet.
+    fn of(vector: Shared<T>, hand: Hand<T>) -> Closing<T>
+        requires ours { IsHandOf vector hand }
+        requires whole { IsWholeHand hand }
+        ensures opened { result.opened ≡ vector.opened }
+        ensures members { length result.members ≡ 0 }
+        ensures limit { result.limit ≡ limit_of vector }
+        ensures size { result.size ≡ seen_size hand }
+        ensures mark { result.mark ≡ vector.segments.names }
+    {
+        vector.laws();
+        hand.laws();
+        let mark = Mark::of::<Table<T>, Segments>(&vector.table);
+        let (before, count) = first_keys(&vector.table, &vector.keys, hand.whole_keys());
+        let limit = vector.limit();
+        let base = vector.word.base();
+        let Shared {
+            word,
+            table,
+            row: opened,
+            alloc,
+            ..
+        } = vector;
+        let size = word.close(hand.claims);
+        Closing {
+            table,
+            keys: keys_again(&before),
+            before,
+            opened,
+            row: Row::new(),
+            base,
+            len: 0,
+            limit,
+            count,
+            size,
+            mark,
+            alloc,
+        }
+    }
+
+    // Whether there are places that are no members yet.
+    fn is_open(&self) -> bool
+        ensures open_still { IsTrue result → length self.now.members < self.now.size }
+        ensures done { IsFalse result → length self.now.members ≡ self.now.size }
+    {
+        self.len < self.size
+    }
+
+    // The next place is a member.
+    fn settle_next(&mut self)
+        requires { length self.old.members < self.old.size }
+        ensures opened { self.new.opened ≡ self.old.opened }
+        ensures more { length self.new.members ≡ length self.old.members + 1 }
+        ensures limit { self.new.limit ≡ self.old.limit }
+        ensures size { self.new.size ≡ self.old.size }
+        ensures mark { self.new.mark ≡ self.old.mark }
+    {
+        let (segment, offset, key) = cell_of(&self.keys, self.count, self.len);
+        let (_, _, before) = cell_of(&self.before, self.count, self.len);
+        let known = known_at(&self.opened, self.base, self.len);
+        let mut block = self.table.detach(&key);
+        let member = settle(&mut block, offset, &known);
+        self.keys[segment as usize] = Some(self.table.attach(segment, block));
+        self.row.push(&member);
+        self.len += 1;
+    }
+
+    // The list.
+    fn end(self) -> Parts<T>
+        requires { length self.members ≡ self.size }
+        ensures length { length result.members ≡ self.size }
+        ensures limit { result.limit ≡ self.limit }
+        ensures opened { KeepsValues self.opened result.members }
+        ensures closed { result.closed ≡ Some self.mark }
+    {
+        let Closing {
+            table,
+            before,
+            keys,
+            row,
+            len,
+            limit,
+            count,
+            mark,
+            alloc,
+            ..
+        } = self;
+        Parts {
+            table,
+            keys,
+            row,
+            len,
+            limit,
+            count,
+            alloc,
+            before,
+            closed: Some(mark),
+        }
+    }
+}
+
+impl<T: Drop> Shared<T> {
+    /// The list that the vector is once nobody else has it: as long as its size, with what each place holds. A place that was claimed
+    /// and never filled is broken. No value is moved, and it takes no memory; its time is linear in the size. The capacity is
+    /// that of the segments that are there.
+    pub fn into_parts(self, hand: Hand<T>) -> Parts<T>
+        requires ours { IsHandOf self hand }
+        requires whole { IsWholeHand hand }
+        ensures length { length result.members ≡ seen_size hand }
+        ensures limit { result.limit ≡ limit_of self }
+        ensures opened { KeepsValues self.opened result.members }
+        ensures closed { IsClosedFrom self result.closed }
+    {
+        let mut closing = Closing::of(self, hand);
+        while closing.is_open() {
+            closing.settle_next();
+        }
+        closing.end()
+    }
+}

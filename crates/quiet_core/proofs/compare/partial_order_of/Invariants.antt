@@ -1,0 +1,10 @@
+use Rattle.std.proofs.Common.{◌≡◌, length}
+use Rattle.std.specs.Cmp.Lexicographic.{slice_partial_cmp}
+use Rattle.std.specs.Option.{option_partial_cmp}
+use Rattle.quiet_core.proofs.compare.partial_order_of.Given as goal
+
+abbrev pub invariant-loop-a : goal.invariant-loop-a
+invariant-loop-a g l = slice_partial_cmp (option_partial_cmp g.T.PartialOrd.partial_cmp) l.initial.mine l.initial.theirs ≡ slice_partial_cmp (option_partial_cmp g.T.PartialOrd.partial_cmp) l.mine l.theirs
+
+abbrev pub decreases-loop-a : goal.decreases-loop-a
+decreases-loop-a g l = length l.mine

@@ -1,0 +1,12 @@
+use Rattle.std.proofs.Common.{◌<◌, sym, ◌∙◌, arith}
+use Rattle.std.specs.Option.{option_copied}
+use Rattle.std.proofs.lemmas.Bool.Decides.{nat_tests}
+use Rattle.quiet_core.proofs.Betweens.{between_first, got}
+use Rattle.quiet_core.proofs.iter.MembersIterator.next.Goals as goal
+
+pub returns-clause-steps : goal.returns-clause-steps
+returns-clause-steps g c =
+    let inside = c.self.inside in let order = c.self.invariant.0 in
+    let some : inside.from < inside.to = grind (arith, nat_tests) in
+    sym c.self.view_is ∙ between_first inside.parts.now.members inside.from inside.to (option_copied c.get-first.result) some
+    (got inside.parts.now.members inside.from c.get-first.result c.get-first.ensures)

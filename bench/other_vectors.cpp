@@ -25,6 +25,10 @@ struct OneTbb {
   tbb::concurrent_vector<Value> values;
   void push(Value value) { values.push_back(value); }
   void grow(const std::vector<Value> &list) { values.grow_by(list.begin(), list.end()); }
+  // oneTBB has no growth by a maker: this one copies a value.
+  void make(Value value) { values.grow_by(list_length, value); }
+  void grow_up_to(Value size, Value value) { values.grow_to_at_least(size, value); }
+  Value size() { return values.size(); }
   Value look(Value place) { return values.at(place); }
 };
 
@@ -38,6 +42,19 @@ struct Locked {
   void grow(const std::vector<Value> &list) {
     std::lock_guard<std::mutex> guard(lock);
     values.insert(values.end(), list.begin(), list.end());
+  }
+  void make(Value value) {
+    std::lock_guard<std::mutex> guard(lock);
+    values.insert(values.end(), list_length, value);
+  }
+  void grow_up_to(Value size, Value value) {
+    std::lock_guard<std::mutex> guard(lock);
+    if (values.size() < size)
+      values.resize(size, value);
+  }
+  Value size() {
+    std::lock_guard<std::mutex> guard(lock);
+    return values.size();
   }
   Value look(Value place) {
     std::lock_guard<std::mutex> guard(lock);
@@ -60,6 +77,16 @@ template <typename Vector> void grow_often(Vector &vector, Value times) {
   }
 }
 
+template <typename Vector> void make_often(Vector &vector, Value times) {
+  for (Value i = 0; i < times / list_length; ++i)
+    vector.make(i);
+}
+
+template <typename Vector> void raise_often(Vector &vector, Value times) {
+  for (Value i = 0; i < times / list_length; ++i)
+    vector.grow_up_to(vector.size() + list_length, i);
+}
+
 template <typename Vector> void look_often(Vector &vector, Value times) {
   Value found = 0;
   Value random = 88172645463325252;
@@ -80,6 +107,10 @@ template <typename Vector> long long run(const char *load, unsigned threads) {
   std::function<void()> work = [&] { push_often(vector, times); };
   if (!std::strncmp(load, "grow", 4))
     work = [&] { grow_often(vector, times); };
+  if (!std::strncmp(load, "make", 4))
+    work = [&] { make_often(vector, times); };
+  if (!std::strncmp(load, "at-least", 8))
+    work = [&] { raise_often(vector, times); };
   if (!std::strcmp(load, "look"))
     work = [&] { look_often(vector, times); };
   auto start = std::chrono::steady_clock::now();

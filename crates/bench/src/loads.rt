@@ -8,7 +8,7 @@ use crate::other_vectors::push_boxcar;
 use crate::shared_vector::{empty, hands_for, push, push_by_calls};
 use crate::trial::{time_hands, time_threads};
 use anyhow::{Result, bail};
-use grow_core::{Hand, Shared};
+use grow_core::{Hand, Never, Shared};
 use std::alloc::{AllocError, AllocGlobal};
 use std::rt::Clock;
 use std::sync::{Arc, Wait};
@@ -36,6 +36,10 @@ pub enum Work {
     CallPush,
     /// Makes a list of 64 values, and appends it.
     Grow,
+    /// Appends 64 values that are made in place.
+    Make,
+    /// Grows the vector up to 64 places above the size that the hand has seen.
+    AtLeast,
     /// Looks without a token at a place that is picked at random.
     Look,
 }
@@ -58,6 +62,10 @@ pub fn load_of(name: &str) -> Result<Load> {
         "push-call" => (Work::CallPush, FILLED, MORE),
         "grow" => (Work::Grow, 0, FRESH),
         "grow-installed" => (Work::Grow, FILLED, MORE),
+        "make" => (Work::Make, 0, FRESH),
+        "make-installed" => (Work::Make, FILLED, MORE),
+        "at-least" => (Work::AtLeast, 0, FRESH),
+        "at-least-installed" => (Work::AtLeast, FILLED, MORE),
         "look" => (Work::Look, FILLED, MORE),
         _ => bail!("no load has the name {name}"),
     };
@@ -115,6 +123,49 @@ fn grow<R: Wait + AllocGlobal>(
     won
 }
 
+// Appends values that are made in place: whether that was done.
+fn make_once<R: Wait>(rt: &R, vector: &Shared<u64>, hand: &mut Hand<u64>, from: u64) -> bool
+    requires ours { IsHandOf vector.now hand.old }
+    ensures of { hand.new.of ≡ hand.old.of }
+{
+    let make = |i: u64| -> Result<u64, Never> { Ok(from.wrapping_add(i)) };
+    vector.grow_with(rt, hand, LIST, make).is_ok()
+}
+
+// Grows the vector up to so many places above what the hand has seen: whether that was done.
+fn raise_once(vector: &Shared<u64>, hand: &mut Hand<u64>, from: u64) -> bool
+    requires ours { IsHandOf vector.now hand.old }
+    ensures of { hand.new.of ≡ hand.old.of }
+{
+    let make = |i: u64| -> Result<u64, Never> { Ok(from.wrapping_add(i)) };
+    let size = hand.seen().saturating_add(LIST);
+    vector.grow_to_at_least(hand, size, make).is_ok()
+}
+
+// How many values were appended by so many calls, each with a maker for 64.
+fn make<R: Wait>(
+    rt: &R,
+    vector: &Shared<u64>,
+    mut hand: Hand<u64>,
+    values: u64,
+    is_up_to: bool,
+) -> u64
+    requires ours { IsHandOf vector.now hand }
+{
+    let mut won: u64 = 0;
+    for i in 0..values / LIST {
+        let is_done = if is_up_to {
+            raise_once(vector, &mut hand, i)
+        } else {
+            make_once(rt, vector, &mut hand, i)
+        };
+        if is_done {
+            won = won.wrapping_add(LIST);
+        }
+    }
+    won
+}
+
 // What is added for a look: the last bit of the value, if there is one.
 fn look_once(vector: &Shared<u64>, hand: &mut Hand<u64>, place: u64) -> u64
     requires ours { IsHandOf vector.now hand.old }
@@ -156,6 +207,8 @@ impl Work {
             Work::Push => push(rt, vector, hand, times),
             Work::CallPush => push_by_calls(rt, vector, hand, times),
             Work::Grow => grow(rt, vector, hand, times),
+            Work::Make => make(rt, vector, hand, times, false),
+            Work::AtLeast => make(rt, vector, hand, times, true),
             Work::Look => look(vector, hand, times),
         }
     }

@@ -6,6 +6,7 @@ ghost use Rattle.grow_core.specs.Vector.{IsHandOf};
 
 mod calls;
 mod compare;
+mod growths;
 mod job;
 mod random;
 mod record;

@@ -40,3 +40,8 @@ filled_more {T} vector run values tokens value token filled of here holds =
           (λ (last : (i ≡ length tokens) × (token ≡ t)). sym (ap (λ (u : PlacedView T). u.place) last.1) ∙ (here ∙ ap (λ (n : ℕ). run.from + n) (sym last.0)))
           (slice_get-push tokens token i t h);
     }
+
+-- the values are those of the tokens
+pub filled_self : {T : Type 0} (vector : VectorView T) (run : Run) (values : List T) (tokens : List (PlacedView T))
+    → IsFilled vector run values tokens → IsFilled vector run (map (λ token. token.value) tokens) tokens
+filled_self vector run values tokens filled = record { tokens_of = filled.tokens_of; values_are = refl; places = filled.places }

@@ -1,5 +1,5 @@
 -- That a hand has the keys of its own runs is kept by each step.
-use Rattle.std.proofs.Common.{◌≡◌, ℕ, ◌+◌, ◌<◌, List, ◌++◌, Option, Some, None, sym, ap, ◌∙◌, subst, ⊎_elim, arith}
+use Rattle.std.proofs.Common.{◌≡◌, ℕ, ◌+◌, ◌<◌, ◌≤◌, List, ◌++◌, Option, Some, None, sym, ap, ◌∙◌, subst, ⊎_elim, arith}
 use Rattle.std.specs.Prelude.{IsSome}
 use mathlib.Core.Logic.{dite}
 use native.Mathlib.Decide.{ℕ_discrete}
@@ -79,6 +79,13 @@ keys_of_one law row segment place here key = λ j small touches.
     let same : touches.place ≡ place = omega (arith, touches.inside) in
     let also_here : HasPlace j place = subst (λ p. HasPlace j p) same touches.there in
     subst (λ k. IsSome (key_at row k)) (law segment j place here also_here) key
+
+-- a row that has the keys of a run has those of its later places
+pub keys_of_later : (row : KeyRow) (from n later m : ℕ) → from ≤ later → later + m ≤ from + n → HasKeysOfRun row from n → HasKeysOfRun row later m
+keys_of_later row from n later m above within has = λ segment small touches.
+    let first = touches.inside.0 in
+    let last = touches.inside.1 in
+    has segment small (record { place = touches.place; inside = (omega (arith, above, first), omega (arith, within, last)); there = touches.there })
 
 -- no key is some key
 pub none_is_none : {X : Type 0} (o : Option X) → o ≡ None → IsSome o → ⊥

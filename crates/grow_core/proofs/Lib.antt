@@ -4,3 +4,5 @@ pub mod Filling
 pub mod KeyRows
 pub mod Cells
 pub mod Settled
+pub mod Stopped
+pub mod Made

@@ -16,10 +16,14 @@ grown_coded {T} c =
     (λ (g : GrownView T). (g.run.from, (g.run.n, g.tokens)))
     (λ x y e i. record { run = record { from = (e i).0; n = (e i).1.0 }; tokens = (e i).1.1 })
 
+-- the tokens are of the places from this one on, in order
+abbrev pub AreInOrder : {T : Type 0} → ℕ → List (PlacedView T) → Type 0
+AreInOrder {T} from tokens = (i : ℕ) (token : PlacedView T) → slice_get tokens i ≡ Some token → token.place ≡ from + i
+
 -- there is a token for each place of the run, in order
 pub record IsInOrder {T : Type 0} (run : Run) (tokens : List (PlacedView T)) : Type 0 where
   pub n : length tokens ≡ run.n
-  pub places : (i : ℕ) (token : PlacedView T) → slice_get tokens i ≡ Some token → token.place ≡ run.from + i
+  pub places : AreInOrder run.from tokens
 
 -- the run is one of the vector's
 abbrev pub IsGrownOf : {T : Type 0} → VectorView T → GrownView T → Type 0

@@ -113,6 +113,12 @@ abbrev pub SaysFull : {T V E : Type 0} → GrowError T V E → Type 0
 SaysFull (Full size back) = Unit {0}
 SaysFull refusal = ⊥
 
+-- nothing was claimed
+abbrev pub ClaimsNothing : {T V E : Type 0} → GrowError T V E → Type 0
+ClaimsNothing (Refused run made cause) = ⊥
+ClaimsNothing (Taken place found) = ⊥
+ClaimsNothing refusal = Unit {0}
+
 -- the call does not stop at a lost exchange
 abbrev pub IsNotMoved : {T V E : Type 0} → GrowError T V E → Type 0
 IsNotMoved (Moved size back) = ⊥

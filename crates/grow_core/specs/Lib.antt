@@ -6,6 +6,8 @@ pub mod Parts
 pub mod Grown
 pub mod Read
 pub mod Growth
+pub mod Making
+pub mod AtLeast
 pub mod Part
 pub mod Errors
 pub use Rattle.claim_core.specs.Hand

@@ -1,13 +1,15 @@
 // The steps that every growth takes once it has its memory.
-ghost use Rattle.std.specs.Prelude.{◌≡◌, ◌+◌, ◌<◌, ◌≤◌, IfOk, IfErr};
+ghost use Rattle.std.specs.Prelude.{◌≡◌, ◌+◌, ◌<◌, ◌≤◌, IfOk, IfErr, IsErrAnd};
 ghost use Rattle.claim_core.specs.Hand.{AddsRun, OwnsPlace, seen_size};
 ghost use Rattle.cell_core.specs.Block.{block_len};
+ghost use Rattle.cell_core.specs.Shown.{IsFoundIn};
 ghost use Rattle.table_core.specs.Table.{IsKeyIn, IsBlockOf};
 ghost use Rattle.grow_core.specs.Token.{place_in};
-ghost use Rattle.grow_core.specs.Vector.{IsHandOf, IsPlacedOf, limit_of};
+ghost use Rattle.grow_core.specs.Vector.{IsHandOf, IsPlacedOf, IsSpoiltOf, limit_of};
 ghost use Rattle.grow_core.specs.Keys.{OwnsPlacesOf};
 ghost use Rattle.grow_core.specs.Part.{IsPartOf};
-ghost use Rattle.grow_core.specs.Growth.{Refuses, IsFoundAt};
+ghost use Rattle.grow_core.specs.Growth.{Refuses, IsFoundAt, HasNoRoom, SaysFull, IsNotMoved, ClaimsNothing};
+ghost use Rattle.grow_core.specs.Making.{IsClaimed};
 
 use crate::errors::GrowError;
 use crate::hand::Hand;
@@ -16,8 +18,9 @@ use crate::token::{Begun, Found, Placed, Spoilt};
 use crate::vector::Shared;
 use cell_core::block;
 use cell_core::block::Block;
-use claim_core::{Moved, laws};
+use claim_core::{Moved, Run, laws};
 use seg_core::{first, len, locate};
+use std::sync::Wait;
 use table_core::Key;
 
 // A segment of the vector: its block with its key, its first place, and the place after its last.
@@ -29,7 +32,75 @@ pub(crate) struct Part<'a, T> {
     pub(crate) end: u64,
 }
 
+// A run that a hand has claimed, and room for the tokens of its places.
+#[derive(Drop)]
+pub(crate) struct Claimed<T> {
+    pub(crate) run: Run,
+    pub(crate) tokens: Vec<Placed<T>>,
+}
+
 impl<T: Drop> Shared<T> {
+    // One try to win `n` places at the size now, with room for their tokens, which is asked for before the claim. What was
+    // moved in is handed on. Of no places there is an empty run at that size.
+    pub(crate) fn claim_run<V, E>(
+        &self,
+        hand: &mut Hand<T>,
+        n: u64,
+        value: V,
+    ) -> Result<(Claimed<T>, V), GrowError<T, V, E>>
+        requires ours { IsHandOf self.now hand.old }
+        ensures claimed { IfOk result (λ (claimed, _). IsClaimed self.now n hand.old hand.new claimed) }
+        ensures value { IfOk result (λ (_, on). on ≡ value) }
+        ensures refused { IfErr result (Refuses self.now n value hand.old hand.new) }
+        ensures unclaimed { IfErr result ClaimsNothing }
+        ensures full { HasNoRoom self.now n hand.old → IsErrAnd result SaysFull }
+    {
+        laws::added_runs_are_owned();
+        let from = self.size(hand);
+        let run = Run { from, n };
+        if n == 0 {
+            let tokens = Vec::new(self.alloc);
+            return Ok((Claimed { run, tokens }, value));
+        }
+        if self.limit() - from < n {
+            return Err(GrowError::Full {
+                size: from,
+                back: value,
+            });
+        }
+        let Ok(tokens) = Vec::with_capacity(self.alloc, n as usize) else {
+            return Err(GrowError::NoMemory { back: value });
+        };
+        let value = self.claim(hand, from, n, value)?;
+        Ok((Claimed { run, tokens }, value))
+    }
+
+    // As `claim_run`, and it tries again where another caller was first.
+    pub(crate) fn claim_again<R: Wait, V, E>(
+        &self,
+        rt: &R,
+        hand: &mut Hand<T>,
+        n: u64,
+        mut value: V,
+    ) -> Result<(Claimed<T>, V), GrowError<T, V, E>>
+        requires ours { IsHandOf self.now hand.old }
+        ensures claimed { IfOk result (λ (claimed, _). IsClaimed self.now n hand.old hand.new claimed) }
+        ensures value { IfOk result (λ (_, on). on ≡ value) }
+        ensures refused { IfErr result (Refuses self.now n value hand.old hand.new) }
+        ensures unclaimed { IfErr result ClaimsNothing }
+        ensures full { HasNoRoom self.now n hand.old → IsErrAnd result SaysFull }
+        ensures not_moved { IfErr result IsNotMoved }
+    {
+        for _try in rt.forever() {
+            match self.claim_run(hand, n, value) {
+                Ok(claimed) => return Ok(claimed),
+                Err(GrowError::Moved { size: _, back }) => value = back,
+                Err(refused) => return Err(refused),
+            }
+        }
+        unreachable!()
+    }
+
     // One try to win `n` places from the size that the hand has seen, whose segments it installs first. What was moved
     // in is handed on.
     pub(crate) fn claim<V, E>(
@@ -47,6 +118,7 @@ impl<T: Drop> Shared<T> {
         ensures owned { IfOk result (λ _. OwnsPlacesOf hand.new record { from = from; n = n }) }
         ensures value { IfOk result (λ on. on ≡ value) }
         ensures refused { IfErr result (Refuses self.now n value hand.old hand.new) }
+        ensures unclaimed { IfErr result ClaimsNothing }
     {
         self.laws();
         hand.claims.laws();
@@ -129,6 +201,26 @@ impl<T: Drop> Shared<T> {
         self.fill_cell(part.block, part.key.again(), place - part.from, value)
     }
 
+    // Breaks a place of the segment.
+    pub(crate) fn spoil(&self, part: &Part<'_, T>, place: u64) -> Result<Spoilt, Found<T>>
+        requires part { IsPartOf self.now part.now }
+        requires from { part.now.from ≤ place }
+        requires before { place < part.now.end }
+        ensures token { IfOk result (IsSpoiltOf self.now) }
+        ensures here { IfOk result (λ spoilt. spoilt.place ≡ place) }
+        ensures found { IfErr result (IsFoundAt self.now place) }
+    {
+        let key = part.key.again();
+        let offset = place - part.from;
+        match part.block.begin(offset) {
+            Ok(pen) => Ok(Spoilt {
+                key,
+                cell: pen.spoil(),
+            }),
+            Err(found) => Err(self.found(key, offset, found)),
+        }
+    }
+
     // Fills a cell of the segment that has this key with the value.
     #[inline(always)]
     pub(crate) fn fill_cell(
@@ -152,9 +244,24 @@ impl<T: Drop> Shared<T> {
                 key,
                 cell: pen.fill(value),
             }),
-            Err(block::Found::Busy(cell)) => Err(Found::Busy(Begun { key, cell })),
-            Err(block::Found::Filled(cell)) => Err(Found::Filled(Placed { key, cell })),
-            Err(block::Found::Broken(cell)) => Err(Found::Broken(Spoilt { key, cell })),
+            Err(found) => Err(self.found(key, offset, found)),
+        }
+    }
+
+    // What stood in a cell of the segment that has this key.
+    #[cold]
+    fn found(&self, key: Key, offset: u64, found: block::Found<T>) -> Found<T>
+        requires key { IsKeyIn self.now.segments key }
+        requires long { IsBlockOf key.entry key.block }
+        requires within { offset < block_len key.block }
+        requires found { IsFoundIn key.block offset found }
+        ensures { IsFoundAt self.now (place_in key.entry offset) result }
+    {
+        let _ = offset;
+        match found {
+            block::Found::Busy(cell) => Found::Busy(Begun { key, cell }),
+            block::Found::Filled(cell) => Found::Filled(Placed { key, cell }),
+            block::Found::Broken(cell) => Found::Broken(Spoilt { key, cell }),
         }
     }
 }

@@ -1,11 +1,10 @@
 //! The token of a run.
-ghost use Rattle.std.specs.Prelude.{◌≡◌, ◌+◌, ◌<◌, slice_get, Some, []};
+ghost use Rattle.std.specs.Prelude.{◌≡◌, ◌+◌, ◌<◌, slice_get, Some};
 ghost use Rattle.grow_core.specs.Vector.{VectorView, IsPlacedOf};
 ghost use Rattle.grow_core.specs.Grown.{IsGrownOf, values_of};
 
 use crate::token::Placed;
 use claim_core::Run;
-use std::alloc::Global;
 use std::fmt;
 use std::marker::Model;
 
@@ -37,17 +36,6 @@ impl<T> fmt::Debug for Grown<T> {
 }
 
 impl<T> Grown<T> {
-    // The token of no place.
-    pub(crate) fn empty(alloc: Global, from: u64) -> Grown<T>
-        ensures run { result.run ≡ record { from = from; n = 0 } }
-        ensures tokens { result.tokens ≡ [] }
-    {
-        Grown {
-            run: Run { from, n: 0 },
-            tokens: Vec::new(alloc),
-        }
-    }
-
     /// The places of the run.
     pub fn run(&self) -> Run
         ensures { result ≡ self.now.run }

@@ -1,16 +1,16 @@
 //! How many values are appended at once.
-ghost use Rattle.std.specs.Prelude.{◌≡◌, ◌+◌, ◌<◌, ◌≤◌, [], IfOk, IfErr, IsErrAnd, vec_len, vec_capacity};
+ghost use Rattle.std.specs.Prelude.{◌≡◌, ◌+◌, ◌≤◌, [], IfOk, IfErr, IsErrAnd, vec_len, vec_capacity};
 ghost use Rattle.grow_core.specs.Vector.{IsHandOf, limit_of};
 ghost use Rattle.grow_core.specs.Grown.{IsGrownOf, values_of};
 ghost use Rattle.grow_core.specs.Keys.{OwnsPlacesOf};
-ghost use Rattle.grow_core.specs.Growth.{WonRun, Refuses, HasNoRoom, SaysFull, IsNotMoved, IsFoundAt};
+ghost use Rattle.grow_core.specs.Growth.{WonRun, Refuses, HasNoRoom, SaysFull, IsNotMoved};
+ghost use Rattle.grow_core.specs.Making.{StopsIn};
 
+use crate::claims::Claimed;
 use crate::errors::{GrowError, Never};
 use crate::grown::Grown;
 use crate::hand::Hand;
-use crate::token::{Found, Placed};
 use crate::vector::Shared;
-use claim_core::{Run, laws};
 use std::sync::Wait;
 
 impl<T: Drop> Shared<T> {
@@ -27,26 +27,9 @@ impl<T: Drop> Shared<T> {
         // No room is told by what the hand has seen, before memory is asked for.
         ensures full { HasNoRoom self.now (vec_len values) hand.old → IsErrAnd result SaysFull }
     {
-        laws::added_runs_are_owned();
         let n = values.len() as u64;
-        let from = self.size(hand);
-        if n == 0 {
-            return Ok(Grown::empty(self.alloc, from));
-        }
-        if self.limit() - from < n {
-            return Err(GrowError::Full {
-                size: from,
-                back: values,
-            });
-        }
-        let Ok(tokens) = Vec::with_capacity(self.alloc, values.len()) else {
-            return Err(GrowError::NoMemory { back: values });
-        };
-        let values = self.claim(hand, from, n, values)?;
-        match self.fill_run(hand, Run { from, n }, tokens, values) {
-            Ok(grown) => Ok(grown),
-            Err((place, found)) => Err(GrowError::Taken { place, found }),
-        }
+        let (claimed, values) = self.claim_run(hand, n, values)?;
+        self.fill_run(hand, claimed, values)
     }
 
     /// As `try_grow_vec`, and it tries again where another caller was first.
@@ -54,7 +37,7 @@ impl<T: Drop> Shared<T> {
         &self,
         rt: &R,
         hand: &mut Hand<T>,
-        mut values: Vec<T>,
+        values: Vec<T>,
     ) -> Result<Grown<T>, GrowError<T, Vec<T>, Never>>
         requires ours { IsHandOf self.now hand.old }
         ensures won { IfOk result (WonRun self.now values.items hand.old hand.new) }
@@ -63,46 +46,41 @@ impl<T: Drop> Shared<T> {
         ensures full { HasNoRoom self.now (vec_len values) hand.old → IsErrAnd result SaysFull }
         ensures not_moved { IfErr result IsNotMoved }
     {
-        for _try in rt.forever() {
-            match self.try_grow_vec(hand, values) {
-                Ok(grown) => return Ok(grown),
-                Err(GrowError::Moved { size: _, back }) => values = back,
-                Err(refused) => return Err(refused),
-            }
-        }
-        unreachable!()
+        let n = values.len() as u64;
+        let (claimed, values) = self.claim_again(rt, hand, n, values)?;
+        self.fill_run(hand, claimed, values)
     }
 
     // Fills the places of a run of the hand's with the values. It stops at a place that was taken.
     fn fill_run(
         &self,
         hand: &Hand<T>,
-        run: Run,
-        mut tokens: Vec<Placed<T>>,
+        claimed: Claimed<T>,
         values: Vec<T>,
-    ) -> Result<Grown<T>, (u64, Found<T>)>
+    ) -> Result<Grown<T>, GrowError<T, Vec<T>, Never>>
         requires ours { IsHandOf self.now hand.now }
-        requires owned { OwnsPlacesOf hand.now run }
-        requires some_places { 0 < run.n }
-        requires within { run.from + run.n ≤ limit_of self.now }
-        requires values { vec_len values ≡ run.n }
-        requires tokens { tokens.items ≡ [] }
-        requires capacity { run.n ≤ vec_capacity tokens }
-        ensures run { IfOk result (λ grown. grown.run ≡ run) }
+        requires owned { OwnsPlacesOf hand.now claimed.run }
+        requires within { claimed.run.from + claimed.run.n ≤ limit_of self.now }
+        requires values { vec_len values ≡ claimed.run.n }
+        requires tokens { claimed.tokens.items ≡ [] }
+        requires capacity { claimed.run.n ≤ vec_capacity claimed.tokens }
+        ensures run { IfOk result (λ grown. grown.run ≡ claimed.run) }
         ensures tokens { IfOk result (IsGrownOf self.now) }
         ensures values { IfOk result (λ grown. values_of grown ≡ values.items) }
-        ensures after { IfErr result (λ (place, _). run.from ≤ place) }
-        ensures before { IfErr result (λ (place, _). place < run.from + run.n) }
-        ensures found { IfErr result (λ (place, found). IsFoundAt self.now place found) }
+        ensures stopped { IfErr result (StopsIn self.now claimed.run) }
     {
         self.laws();
+        let Claimed { run, mut tokens } = claimed;
+        if run.n == 0 {
+            return Ok(Grown { run, tokens });
+        }
         let mut part = self.part(hand, run.from);
         for value in values {
             let place = run.from + tokens.len() as u64;
             part = self.part_on(hand, part, place);
             match self.fill(&part, place, value) {
                 Ok(placed) => tokens.push_reserved(placed),
-                Err(found) => return Err((place, found)),
+                Err(found) => return Err(GrowError::Taken { place, found }),
             }
         }
         Ok(Grown { run, tokens })

@@ -6,6 +6,8 @@ mod first;
 mod keys;
 mod large;
 mod lives;
+mod made;
+mod mixed;
 mod parts;
 mod race;
 mod refusals;

@@ -1,7 +1,7 @@
 -- How refusals are shown.
 use Rattle.std.specs.Prelude.{ℕ, List, ◌++◌, codes, decimal}
 use Rattle.quiet_core.specs.declared.errors.QuietError.{QuietError}
-use Rattle.quiet_core.specs.declared.errors.QuietError.TheVariants.{NoMemory, TooLong}
+use Rattle.quiet_core.specs.declared.errors.QuietError.TheVariants.{NoMemory, TooLong, Refused}
 use Rattle.quiet_core.specs.declared.errors.QuietAt.{QuietAt}
 use Rattle.quiet_core.specs.declared.errors.QuietAt.TheVariants.{OutOfRange, Broken}
 
@@ -9,6 +9,7 @@ use Rattle.quiet_core.specs.declared.errors.QuietAt.TheVariants.{OutOfRange, Bro
 abbrev pub quiet_error_text : QuietError → List ℕ
 quiet_error_text NoMemory = codes "out of memory"
 quiet_error_text TooLong = codes "longer than the limit"
+quiet_error_text (Refused made) = codes "a value was refused after " ++ decimal made ++ codes " were made"
 
 -- why a place has no value to lend
 abbrev pub quiet_at_text : QuietAt → List ℕ

@@ -1,4 +1,5 @@
 pub mod QuietList
+pub mod Resizing
 pub mod Between
 pub mod QuietAt
 pub mod Errors

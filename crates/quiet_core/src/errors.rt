@@ -6,9 +6,12 @@ use std::fmt;
 #[derive(Clone, Copy, Debug, PartialEq, Eq)]
 pub enum QuietError {
     /// There was no memory. The members are unchanged.
-    NoMemory = 1,
+    NoMemory,
     /// The length would be above the limit. Nothing is changed, and no memory was asked for.
-    TooLong = 2,
+    TooLong,
+    /// A value could not be made, after so many were. The list is as long as was asked for, and the members from there on are
+    /// broken.
+    Refused { made: u64 },
 }
 
 impl fmt::Display for QuietError {
@@ -21,6 +24,7 @@ impl fmt::Display for QuietError {
         match self {
             QuietError::NoMemory => write!(f, "out of memory"),
             QuietError::TooLong => write!(f, "longer than the limit"),
+            QuietError::Refused { made } => write!(f, "a value was refused after {made} were made"),
         }
     }
 }

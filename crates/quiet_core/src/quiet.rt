@@ -3,9 +3,10 @@ ghost use Rattle.std.specs.Prelude.{◌≡◌, ◌↔◌, ◌+◌, ◌^◌, ◌<
 ghost use Rattle.quiet_core.specs.QuietAt.{IsRefusalAt};
 ghost use Rattle.seg_core.specs.Segment.{IsLimit};
 ghost use Rattle.quiet_core.specs.QuietList.{IsWhole, IsCapacityFor, GrowsFor, IsAtLimit, IsUnchanged};
+ghost use Rattle.quiet_core.specs.Resizing.{IsOfRoom, IsNotOfRoom, IsResized, LeavesList};
 
 use crate::errors::{QuietAt, QuietError};
-use crate::room::{append, drop_all, places_for};
+use crate::room::{append, append_made, break_to, cut_to, places_for};
 use grow_core::Parts;
 use std::alloc::Global;
 use std::marker::Model;
@@ -97,6 +98,7 @@ impl<T: Drop> Quiet<T> {
         // The limit is looked at before memory is asked for.
         ensures too_long { IsErrOf result QuietError.TooLong ↔ (self.old.limit < n) }
         ensures unchanged { OnErr result (IsUnchanged self.old self.new) }
+        ensures of_room { IfErr result IsOfRoom }
         ensures untouched { self.old.limit < n → self.new ≡ self.old }
         ensures spare { n ≤ self.old.limit → n ≤ self.old.capacity → IsOk result }
     {
@@ -127,6 +129,7 @@ impl<T: Drop> Quiet<T> {
         // The limit is looked at before memory is asked for.
         ensures too_long { (result ≡ Err (QuietError.TooLong, values)) ↔ (limit < vec_len values) }
         ensures values_back { IfErr result (λ (_, back). back ≡ values) }
+        ensures of_room { IfErr result (λ (why, _). IsOfRoom why) }
     {
         let mut list = Quiet::new(alloc, limit);
         match list.assign(values) {
@@ -148,6 +151,7 @@ impl<T: Drop> Quiet<T> {
         ensures too_long { (result ≡ Err (QuietError.TooLong, value)) ↔ IsAtLimit self.old }
         ensures value_back { IfErr result (λ (_, back). back ≡ value) }
         ensures unchanged { OnErr result (IsUnchanged self.old self.new) }
+        ensures of_room { IfErr result (λ (why, _). IsOfRoom why) }
         ensures untouched { IsAtLimit self.old → self.new ≡ self.old }
         ensures spare { length self.old.members < self.old.limit
             → length self.old.members < self.old.capacity → IsOk result }
@@ -175,6 +179,7 @@ impl<T: Drop> Quiet<T> {
             ↔ (self.old.limit < vec_len values) }
         ensures values_back { IfErr result (λ (_, back). back ≡ values) }
         ensures unchanged { OnErr result (IsUnchanged self.old self.new) }
+        ensures of_room { IfErr result (λ (why, _). IsOfRoom why) }
         ensures untouched { self.old.limit < vec_len values → self.new ≡ self.old }
         ensures spare { vec_len values ≤ self.old.limit
             → vec_len values ≤ self.old.capacity → IsOk result }
@@ -195,7 +200,41 @@ impl<T: Drop> Quiet<T> {
         ensures limit { self.new.limit ≡ self.old.limit }
         ensures capacity { self.new.capacity ≡ self.old.capacity }
     {
-        drop_all(&mut self.parts);
+        cut_to(&mut self.parts, 0);
+    }
+
+    /// Drops the members from place n on, or appends values that `make` makes until there are n: it is asked for 0, 1, .. in turn. After
+    /// its first refusal it is not asked again, and the list is as long as was asked for, with broken members from there on; the
+    /// cause is dropped.
+    ///
+    /// Its time is linear in the members that go or come.
+    pub fn resize<E: Drop, F: FnMut(u64) -> Result<T, E>>(
+        &mut self,
+        n: u64,
+        make: F,
+    ) -> Result<(), QuietError>
+        requires callable { F.IsAlwaysCallable make }
+        ensures resized { OnOk result (IsResized F.step make n self.old.members self.new.members) }
+        ensures refused { IfErr result (LeavesList F.step make n self.old self.new) }
+        ensures limit { self.new.limit ≡ self.old.limit }
+        ensures capacity { OnOk result (GrowsFor n self.old.capacity self.new.capacity) }
+        // The limit is looked at before memory is asked for.
+        ensures too_long { IsErrOf result QuietError.TooLong ↔ (self.old.limit < n) }
+        ensures spare { n ≤ self.old.limit → n ≤ self.old.capacity → IfErr result IsNotOfRoom }
+    {
+        self.reserve(n)?;
+        let len = self.len();
+        if n <= len {
+            cut_to(&mut self.parts, n);
+            return Ok(());
+        }
+        match append_made(&mut self.parts, n - len, make) {
+            Ok(()) => Ok(()),
+            Err(made) => {
+                break_to(&mut self.parts, n);
+                Err(QuietError::Refused { made })
+            }
+        }
     }
 
     /// Gives up every segment that lies wholly above the length.

@@ -1,7 +1,8 @@
 //! The room under a list, and how it is filled and emptied.
-ghost use Rattle.std.specs.Prelude.{◌≡◌, ◌^◌, ◌+◌, ◌≤◌, [], ◌++◌, Some, length, map, vec_len};
+ghost use Rattle.std.specs.Prelude.{◌≡◌, ◌^◌, ◌+◌, ◌-◌, ◌<◌, ◌≤◌, ◌++◌, Some, None, OnOk, IfErr, length, map, take, replicate, vec_len};
 ghost use Rattle.grow_core.specs.Parts.{capacity_of};
 ghost use Rattle.quiet_core.specs.QuietList.{IsCapacityFor};
+ghost use Rattle.quiet_core.specs.Resizing.{IsMade, IsStopped};
 
 use grow_core::Parts;
 
@@ -26,13 +27,51 @@ pub(crate) fn append<T: Drop>(parts: &mut Parts<T>, values: Vec<T>)
     }
 }
 
-// Drops all members, the last one first.
-pub(crate) fn drop_all<T: Drop>(parts: &mut Parts<T>)
-    ensures members { parts.new.members ≡ [] }
+// Drops the members from place n on, the last one first.
+pub(crate) fn cut_to<T: Drop>(parts: &mut Parts<T>, n: u64)
+    requires { n ≤ length parts.old.members }
+    ensures members { parts.new.members ≡ take n parts.old.members }
     ensures limit { parts.new.limit ≡ parts.old.limit }
     ensures segments { parts.new.segments ≡ parts.old.segments }
 {
-    while parts.len() > 0 {
+    while parts.len() > n {
         drop(parts.pop());
+    }
+}
+
+// Appends n values that the maker makes, or, where it refuses, those before: the answer is then how many. There is room for them.
+pub(crate) fn append_made<T: Drop, E: Drop, F: FnMut(u64) -> Result<T, E>>(
+    parts: &mut Parts<T>,
+    n: u64,
+    mut make: F,
+) -> Result<(), u64>
+    requires limit { length parts.old.members + n ≤ parts.old.limit }
+    requires room { length parts.old.members + n ≤ capacity_of parts.old }
+    requires callable { F.IsAlwaysCallable make }
+    ensures made { OnOk result (IsMade F.step make n parts.old.members parts.new.members) }
+    ensures stopped { IfErr result (λ made. (made < n) × IsStopped F.step make made parts.old.members parts.new.members) }
+    ensures limit { parts.new.limit ≡ parts.old.limit }
+    ensures segments { parts.new.segments ≡ parts.old.segments }
+{
+    for i in 0..n {
+        match make(i) {
+            Ok(value) => parts.append(Some(value)),
+            Err(_cause) => return Err(i),
+        }
+    }
+    Ok(())
+}
+
+// Appends broken members until there are n. There is room for them.
+pub(crate) fn break_to<T: Drop>(parts: &mut Parts<T>, n: u64)
+    requires more { length parts.old.members ≤ n }
+    requires limit { n ≤ parts.old.limit }
+    requires room { n ≤ capacity_of parts.old }
+    ensures members { parts.new.members ≡ parts.old.members ++ replicate (n - length parts.old.members) None }
+    ensures limit { parts.new.limit ≡ parts.old.limit }
+    ensures segments { parts.new.segments ≡ parts.old.segments }
+{
+    while parts.len() < n {
+        parts.append(None);
     }
 }

@@ -3,6 +3,7 @@ ghost use Rattle.seg_core.specs.Segment.{IsLimit};
 
 mod lives;
 mod memory;
+mod resize;
 mod uses;
 
 use crate::{Quiet, QuietAt, QuietError};
@@ -22,14 +23,14 @@ fn three(alloc: Global) -> Result<Quiet<u64>, Fail> {
     listed(alloc, 16, vec![in alloc; 1u64, 2, 3]?)
 }
 
-// A value and then a broken member. No public call makes such a list yet.
+// A value and then a broken member.
 fn broken_after(alloc: Global, value: u64) -> Result<Quiet<u64>, Fail> {
     let mut list = Quiet::new(alloc, 16);
-    list.push(value).map_err(|(error, _)| error)?;
-    if list.len() < list.limit() && list.len() < list.capacity() {
-        list.parts.append(None);
+    let make = |i: u64| -> Result<u64, u64> { if i == 0 { Ok(value) } else { Err(i) } };
+    match list.resize(2, make) {
+        Err(QuietError::Refused { made: 1 }) => Ok(list),
+        _ => Err(Fail::from("nothing was refused")),
     }
-    Ok(list)
 }
 
 fn two(alloc: Global, first: u64, second: u64) -> Result<Quiet<u64>, Fail> {

@@ -1,12 +1,13 @@
 //! Random calls of one thread.
-ghost use Rattle.std.specs.Prelude.{◌≡◌, ◌<◌, ◌^◌, IfOk, IfSome};
+ghost use Rattle.std.specs.Prelude.{◌≡◌, ◌<◌, ◌≤◌, ◌^◌, IfOk, IfSome};
 ghost use Rattle.grow_core.specs.Vector.{IsHandOf, IsPlacedOf};
 
+use crate::stress::growths::{grow, grow_by, grow_to_at_least, grow_with};
 use crate::stress::random::Random;
 use crate::stress::record::Record;
-use anyhow::{Result, bail};
-use grow_core::{AtError, GrowError, Grown, Hand, Never, Placed, Shared};
-use std::alloc::{AllocError, Global};
+use anyhow::Result;
+use grow_core::{AtError, GrowError, Hand, Never, Placed, Shared};
+use std::alloc::Global;
 use std::sync::Wait;
 
 // The greatest number of values that most growths append, and how far above the size a look goes.
@@ -22,6 +23,9 @@ enum Kind {
     Push,
     Grow,
     GrowFar,
+    GrowBy,
+    GrowWith,
+    GrowToAtLeast,
     Size,
     Look,
     LookByToken,
@@ -29,11 +33,14 @@ enum Kind {
     Share,
 }
 
-const KINDS: [Kind; 9] = [
+const KINDS: [Kind; 12] = [
     Kind::TryPush,
     Kind::Push,
     Kind::Grow,
     Kind::GrowFar,
+    Kind::GrowBy,
+    Kind::GrowWith,
+    Kind::GrowToAtLeast,
     Kind::Size,
     Kind::Look,
     Kind::LookByToken,
@@ -59,6 +66,14 @@ impl Caller {
         }
     }
 
+    /// A number up to this one.
+    pub fn up_to(&mut self, most: u64) -> u64
+        requires { most < 2 ^ 32 }
+        ensures { result ≤ most }
+    {
+        self.random.below(most + 1)
+    }
+
     /// A number below the bound.
     pub fn below(&mut self, bound: usize) -> usize
         requires { 0 < bound }
@@ -67,8 +82,8 @@ impl Caller {
         self.random.below(bound as u64) as usize
     }
 
-    // The first of so many values that no call has appended yet.
-    fn take_values(&mut self, n: u64) -> u64 {
+    /// The first of so many values that no call has appended yet.
+    pub fn take_values(&mut self, n: u64) -> u64 {
         let first = self.next;
         self.next = first.wrapping_add(n);
         first
@@ -87,7 +102,7 @@ fn note_push(
 {
     match answer {
         Ok(placed) => {
-            caller.record.note_placed(placed.place(), value)?;
+            caller.record.note_placed(placed.place(), Some(value))?;
             Ok(Some(placed))
         }
         Err(error) => {
@@ -126,43 +141,6 @@ fn push<R: Wait>(
     note_push(vector, caller, value, answer)
 }
 
-fn values_from(alloc: Global, first: u64, n: u64) -> Result<Vec<u64>, AllocError> {
-    let mut values = Vec::new(alloc);
-    for i in 0..n {
-        values.push(first.wrapping_add(i))?;
-    }
-    Ok(values)
-}
-
-fn note_run(caller: &mut Caller, first: u64, grown: &Grown<u64>) -> Result<()> {
-    for i in 0..grown.run().n {
-        caller
-            .record
-            .note_placed(grown.placed(i).place(), first.wrapping_add(i))?;
-    }
-    Ok(())
-}
-
-// A growth by at most so many values.
-fn grow(
-    alloc: Global,
-    vector: &Shared<u64>,
-    hand: &mut Hand<u64>,
-    caller: &mut Caller,
-    most: u64,
-) -> Result<()>
-    requires ours { IsHandOf vector.now hand.old }
-    requires bounded { most < 2 ^ 32 }
-    ensures of { hand.new.of ≡ hand.old.of }
-{
-    let n = caller.random.below(most + 1);
-    let first = caller.take_values(n);
-    match vector.try_grow_vec(hand, values_from(alloc, first, n)?) {
-        Ok(grown) => note_run(caller, first, &grown),
-        Err(error) => caller.record.note_refused(&error),
-    }
-}
-
 // Looks at a place, which may not be filled yet.
 fn look(
     vector: &Shared<u64>,
@@ -176,8 +154,8 @@ fn look(
     ensures of { hand.new.of ≡ hand.old.of }
 {
     match vector.at(hand, place, known) {
-        Ok(at) => caller.record.note_read(place, *at.value),
-        Err(AtError::Broken(_spoilt)) => bail!("place {place} is broken"),
+        Ok(at) => caller.record.note_read(place, Some(*at.value)),
+        Err(AtError::Broken(_spoilt)) => caller.record.note_read(place, None),
         Err(AtError::OutOfRange { .. } | AtError::Pending) => Ok(()),
     }
 }
@@ -232,6 +210,9 @@ fn make_plain_call(
         Kind::TryPush | Kind::Push => {}
         Kind::Grow => return grow(alloc, vector, hand, caller, FEW),
         Kind::GrowFar => return grow(alloc, vector, hand, caller, MOST),
+        Kind::GrowBy => return grow_by(vector, hand, caller, FEW),
+        Kind::GrowWith => return grow_with(vector, hand, caller, FEW),
+        Kind::GrowToAtLeast => return grow_to_at_least(vector, hand, caller, FEW),
         Kind::Size => {
             vector.size(hand);
         }

@@ -2,14 +2,14 @@
 ghost use Rattle.std.specs.Prelude.{◌≡◌};
 ghost use Rattle.grow_core.specs.Vector.{IsHandOf};
 
-use crate::stress::record::{Filled, Record};
+use crate::stress::record::{Record, Said};
 use anyhow::{Result, bail, ensure};
-use grow_core::{Hand, Shared};
+use grow_core::{AtError, Hand, Shared};
 use std::alloc::AllocGlobal;
 
-// Writes down which value an answer said to be at each place.
-fn write_down(places: &mut [Option<u64>], placed: &[Filled]) -> Result<()> {
-    for Filled { place, value } in placed {
+// Writes down which value an answer said to be at each place, or that it is broken.
+fn write_down(places: &mut [Option<Option<u64>>], placed: &[Said]) -> Result<()> {
+    for Said { place, value } in placed {
         match places.get_mut(*place as usize) {
             None => bail!("place {place} was answered, and is not below the size"),
             Some(Some(_)) => bail!("place {place} was answered twice"),
@@ -20,7 +20,11 @@ fn write_down(places: &mut [Option<u64>], placed: &[Filled]) -> Result<()> {
 }
 
 // The value at each place below the size, as the answers said it.
-fn places_of<R: AllocGlobal>(rt: &R, size: u64, records: &[Record]) -> Result<Vec<Option<u64>>> {
+fn places_of<R: AllocGlobal>(
+    rt: &R,
+    size: u64,
+    records: &[Record],
+) -> Result<Vec<Option<Option<u64>>>> {
     let mut places = vec![in rt.alloc(); None; size as usize]?;
     for record in records {
         write_down(places.as_mut_slice(), record.placed.as_slice())?;
@@ -28,19 +32,24 @@ fn places_of<R: AllocGlobal>(rt: &R, size: u64, records: &[Record]) -> Result<Ve
     Ok(places)
 }
 
-// The value at a place, which must be readable.
-fn value_at(vector: &Shared<u64>, hand: &mut Hand<u64>, place: u64) -> Result<u64>
+// The value at a place, or nothing where it is broken. It must be one of the two.
+fn value_at(vector: &Shared<u64>, hand: &mut Hand<u64>, place: u64) -> Result<Option<u64>>
     requires ours { IsHandOf vector.now hand.old }
     ensures of { hand.new.of ≡ hand.old.of }
 {
     match vector.at(hand, place, None) {
-        Ok(at) => Ok(*at.value),
+        Ok(at) => Ok(Some(*at.value)),
+        Err(AtError::Broken(_spoilt)) => Ok(None),
         Err(error) => bail!("place {place}: {error}"),
     }
 }
 
 // Each place has the value that an answer said.
-fn compare_places(vector: &Shared<u64>, hand: &mut Hand<u64>, places: &[Option<u64>]) -> Result<()>
+fn compare_places(
+    vector: &Shared<u64>,
+    hand: &mut Hand<u64>,
+    places: &[Option<Option<u64>>],
+) -> Result<()>
     requires ours { IsHandOf vector.now hand.old }
     ensures of { hand.new.of ≡ hand.old.of }
 {
@@ -51,17 +60,19 @@ fn compare_places(vector: &Shared<u64>, hand: &mut Hand<u64>, places: &[Option<u
         let value = value_at(vector, hand, place as u64)?;
         ensure!(
             value == *said,
-            "place {place} has {value}, and {said} was pushed"
+            "place {place} has {value:?}, and {said:?} was answered"
         );
     }
     Ok(())
 }
 
 // What was read while others appended is what is there.
-fn compare_read(places: &[Option<u64>], read: &[Filled]) -> Result<()> {
-    for Filled { place, value } in read {
-        let said = places.get(*place as usize).copied().flatten();
-        ensure!(said == Some(*value), "{value} was read at place {place}");
+fn compare_read(places: &[Option<Option<u64>>], read: &[Said]) -> Result<()> {
+    for Said { place, value } in read {
+        let Some(said) = places.get(*place as usize).copied().flatten() else {
+            bail!("place {place} was read, and was not answered")
+        };
+        ensure!(said == *value, "{value:?} was read at place {place}");
     }
     Ok(())
 }
@@ -70,7 +81,7 @@ fn compare_read(places: &[Option<u64>], read: &[Filled]) -> Result<()> {
 fn compare_with(
     vector: &Shared<u64>,
     hand: &mut Hand<u64>,
-    places: &[Option<u64>],
+    places: &[Option<Option<u64>>],
     records: &[Record],
 ) -> Result<()>
     requires ours { IsHandOf vector.now hand.old }

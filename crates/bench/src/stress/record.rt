@@ -1,23 +1,23 @@
 //! What the calls of one thread were answered.
 use anyhow::{Result, bail};
-use grow_core::{GrowError, Never};
+use grow_core::GrowError;
 use std::alloc::Global;
 use std::fmt;
 
-/// A place and its value.
+/// A place and its value, or nothing where it is broken.
 #[derive(Clone, Copy, Debug)]
-pub struct Filled {
+pub struct Said {
     pub place: u64,
-    pub value: u64,
+    pub value: Option<u64>,
 }
 
 /// The answers that are compared, and how many calls were refused.
 #[derive(Drop)]
 pub struct Record {
     /// What was appended.
-    pub placed: Vec<Filled>,
+    pub placed: Vec<Said>,
     /// What was read while others appended.
-    pub read: Vec<Filled>,
+    pub read: Vec<Said>,
     /// How many exchanges were lost.
     pub lost: u64,
     /// How many growths found no room.
@@ -35,20 +35,20 @@ impl Record {
         }
     }
 
-    /// A value was appended.
-    pub fn note_placed(&mut self, place: u64, value: u64) -> Result<()> {
-        self.placed.push(Filled { place, value })?;
+    /// A value was appended, or its construction refused.
+    pub fn note_placed(&mut self, place: u64, value: Option<u64>) -> Result<()> {
+        self.placed.push(Said { place, value })?;
         Ok(())
     }
 
-    /// A value was read.
-    pub fn note_read(&mut self, place: u64, value: u64) -> Result<()> {
-        self.read.push(Filled { place, value })?;
+    /// A value was read, or a broken place.
+    pub fn note_read(&mut self, place: u64, value: Option<u64>) -> Result<()> {
+        self.read.push(Said { place, value })?;
         Ok(())
     }
 
-    /// A growth was refused, for a reason that may come.
-    pub fn note_refused<V: Drop>(&mut self, error: &GrowError<u64, V, Never>) -> Result<()> {
+    /// A growth was refused, for a reason that may come, and claimed nothing.
+    pub fn note_refused<V: Drop, E: Drop>(&mut self, error: &GrowError<u64, V, E>) -> Result<()> {
         match error {
             GrowError::Moved { .. } => self.lost = self.lost.wrapping_add(1),
             GrowError::Full { .. } => self.full = self.full.wrapping_add(1),

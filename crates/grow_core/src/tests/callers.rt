@@ -93,15 +93,21 @@ impl<T: Drop> Callers<T> {
         self.vector.meet(&mut self.a, &mut self.b);
     }
 
-    // Closes the vector by one hand with all shares, and answers the list's length.
-    pub(super) fn end(self) -> Option<u64> {
+    // The list that the vector is closed into by one hand with all shares.
+    pub(super) fn close(self) -> Option<Parts<T>> {
         let Callers { vector, mut a, b } = self;
         vector.join(&mut a, b);
         if a.is_whole() {
-            Some(vector.into_parts(a).len())
+            Some(vector.into_parts(a))
         } else {
             None
         }
+    }
+
+    // Its length.
+    pub(super) fn end(self) -> Option<u64> {
+        let parts = self.close()?;
+        Some(parts.len())
     }
 
     // The size at which a full vector refuses a value, and the value.
@@ -119,7 +125,7 @@ impl<T: Drop> Callers<T> {
     }
 }
 
-fn place_of<T: Drop, V: Drop, E: Drop>(
+pub(super) fn place_of<T: Drop, V: Drop, E: Drop>(
     pushed: Result<Placed<T>, GrowError<T, V, E>>,
 ) -> Option<u64> {
     let placed = pushed.ok()?;
@@ -127,7 +133,7 @@ fn place_of<T: Drop, V: Drop, E: Drop>(
 }
 
 // What a full vector tells and gives back.
-fn full<P: Drop, T: Drop, V: Drop, E: Drop>(
+pub(super) fn full<P: Drop, T: Drop, V: Drop, E: Drop>(
     answer: Result<P, GrowError<T, V, E>>,
 ) -> Option<(u64, V)> {
     match answer {

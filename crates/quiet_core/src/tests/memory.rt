@@ -77,3 +77,20 @@ fn a_list_is_opened_again(rt: HostRuntime) {
     pushed(&rt, &mut list, 5);
     assert!(rt; is_opened(list));
 }
+
+// Makes three zeros, at the second try if need be.
+fn resized(rt: &impl Abort, list: &mut Quiet<u64>) {
+    let make = |_: u64| -> Result<u64, u64> { Ok(0) };
+    if let Err(error) = list.resize(3, make) {
+        assert_eq!(rt; error, QuietError::NoMemory);
+        assert_eq!(rt; list.len(), 0);
+        assert_eq!(rt; list.resize(3, make), Ok(()));
+    }
+}
+
+#[test]
+fn a_list_is_made_longer_again(rt: HostRuntime) {
+    let mut list = Quiet::new(rt.alloc(), 16);
+    resized(&rt, &mut list);
+    assert_eq!(rt; (list.len(), list.capacity()), (3, 4));
+}

@@ -8,8 +8,8 @@ loop-value-preserved g c =
     let at = c.loop-value in
     let token = c.in-Ok.placed in
     let steps : into_iter_items at.value-iterator ≡ c.in-Some.value ∷ into_iter_items c.next.new.self = c.in-Some.ensures.steps.0 in
-    let here : token.place ≡ c.args.run.from + length at.tokens.items = omega (arith, at.tokens.ok, c.in-Ok.ensures.here, c.len.ensures) in
-    let filled = filled_more c.args.self.now c.args.run at.yielded at.tokens.items c.in-Some.value token at.invariant.0
+    let here : token.place ≡ c.args.claimed.run.from + length at.tokens.items = omega (arith, at.tokens.ok, c.in-Ok.ensures.here, c.len.ensures) in
+    let filled = filled_more c.args.self.now c.args.claimed.run at.yielded at.tokens.items c.in-Some.value token at.invariant.0
     c.in-Ok.ensures.token here c.in-Ok.ensures.value in (
       rw c.push_reserved.ensures.items filled,
       append_assoc at.yielded (c.in-Some.value ∷ []) _ ∙ rw (← steps) at.invariant.1,

@@ -1,0 +1,140 @@
+//! Random growths of one thread.
+ghost use Rattle.std.specs.Prelude.{◌≡◌, ◌<◌, ◌^◌};
+ghost use Rattle.grow_core.specs.Vector.{IsHandOf};
+
+use crate::stress::calls::Caller;
+use anyhow::Result;
+use grow_core::{AtLeast, GrowError, Grown, Hand, Run, Shared};
+use std::alloc::{AllocError, Global};
+
+fn values_from(alloc: Global, first: u64, n: u64) -> Result<Vec<u64>, AllocError> {
+    let mut values = Vec::new(alloc);
+    for i in 0..n {
+        values.push(first.wrapping_add(i))?;
+    }
+    Ok(values)
+}
+
+// Notes the values of a run: the first, and each next one greater by the step.
+fn note_run(caller: &mut Caller, first: u64, step: u64, grown: &Grown<u64>) -> Result<()> {
+    for i in 0..grown.run().n {
+        let value = first.wrapping_add(i.wrapping_mul(step));
+        caller
+            .record
+            .note_placed(grown.placed(i).place(), Some(value))?;
+    }
+    Ok(())
+}
+
+// Notes that the places of a run after the first ones are broken.
+fn note_broken(caller: &mut Caller, run: Run, made: u64) -> Result<()> {
+    for i in made..run.n {
+        caller.record.note_placed(run.from.wrapping_add(i), None)?;
+    }
+    Ok(())
+}
+
+// Notes the answer to a growth.
+fn note_growth<V: Drop, E: Drop>(
+    caller: &mut Caller,
+    first: u64,
+    step: u64,
+    answer: Result<Grown<u64>, GrowError<u64, V, E>>,
+) -> Result<()> {
+    match answer {
+        Ok(grown) => note_run(caller, first, step, &grown),
+        Err(GrowError::Refused { run, made, .. }) => {
+            note_run(caller, first, step, &made)?;
+            note_broken(caller, run, made.run().n)
+        }
+        Err(error) => caller.record.note_refused(&error),
+    }
+}
+
+/// A growth by at most so many values, which are moved in.
+pub fn grow(
+    alloc: Global,
+    vector: &Shared<u64>,
+    hand: &mut Hand<u64>,
+    caller: &mut Caller,
+    most: u64,
+) -> Result<()>
+    requires ours { IsHandOf vector.now hand.old }
+    requires bounded { most < 2 ^ 32 }
+    ensures of { hand.new.of ≡ hand.old.of }
+{
+    let n = caller.up_to(most);
+    let first = caller.take_values(n);
+    let answer = vector.try_grow_vec(hand, values_from(alloc, first, n)?);
+    note_growth(caller, first, 1, answer)
+}
+
+/// A growth by at most so many clones of one value.
+pub fn grow_by(
+    vector: &Shared<u64>,
+    hand: &mut Hand<u64>,
+    caller: &mut Caller,
+    most: u64,
+) -> Result<()>
+    requires ours { IsHandOf vector.now hand.old }
+    requires bounded { most < 2 ^ 32 }
+    ensures of { hand.new.of ≡ hand.old.of }
+{
+    let n = caller.up_to(most);
+    let value = caller.take_values(1);
+    let answer = vector.try_grow_by(hand, n, &value);
+    note_growth(caller, value, 0, answer)
+}
+
+/// A growth by at most so many values that are made in place, of which one may be refused.
+pub fn grow_with(
+    vector: &Shared<u64>,
+    hand: &mut Hand<u64>,
+    caller: &mut Caller,
+    most: u64,
+) -> Result<()>
+    requires ours { IsHandOf vector.now hand.old }
+    requires bounded { most < 2 ^ 32 }
+    ensures of { hand.new.of ≡ hand.old.of }
+{
+    let n = caller.up_to(most);
+    let refused = caller.up_to(most);
+    let first = caller.take_values(n);
+    let make = |i: u64| -> Result<u64, u64> {
+        if i == refused {
+            Err(i)
+        } else {
+            Ok(first.wrapping_add(i))
+        }
+    };
+    note_growth(caller, first, 1, vector.try_grow_with(hand, n, make))
+}
+
+/// A growth up to at most so many places above the size that the hand has seen, of values that are made in place, of which one
+/// may be refused.
+pub fn grow_to_at_least(
+    vector: &Shared<u64>,
+    hand: &mut Hand<u64>,
+    caller: &mut Caller,
+    most: u64,
+) -> Result<()>
+    requires ours { IsHandOf vector.now hand.old }
+    requires bounded { most < 2 ^ 32 }
+    ensures of { hand.new.of ≡ hand.old.of }
+{
+    let size = hand.seen().saturating_add(caller.up_to(most));
+    let refused = caller.up_to(most);
+    let first = caller.take_values(most);
+    let make = |i: u64| -> Result<u64, u64> {
+        if i == refused {
+            Err(i)
+        } else {
+            Ok(first.wrapping_add(i))
+        }
+    };
+    match vector.grow_to_at_least(hand, size, make) {
+        Ok(AtLeast::Ran(grown)) => note_run(caller, first, 1, &grown),
+        Ok(AtLeast::Enough { .. }) => Ok(()),
+        Err(refused) => note_growth::<(), u64>(caller, first, 1, Err(refused)),
+    }
+}

@@ -1,0 +1,16 @@
+use Rattle.std.proofs.Common.{◌≡◌, ◌+◌, ◌≤◌, map, vec_len, vec_capacity}
+use Rattle.grow_core.specs.Making.{Makes}
+use Rattle.grow_core.specs.Part.{IsPartOf}
+use Rattle.grow_core.proofs.Filling.{IsFilled}
+use Rattle.grow_core.proofs.vector.Shared.make_run.Given as goal
+
+abbrev pub invariant-loop-i : goal.invariant-loop-i
+invariant-loop-i g l =
+    IsFilled l.self l.run (map (λ token. token.value) l.tokens.items) l.tokens.items
+    × Makes (goal.F-step g) l.fn.make (map (λ token. token.value) l.tokens.items) l.make
+    × (vec_len l.tokens ≡ l.i)
+    × (l.run.n ≤ vec_capacity l.tokens)
+    × IsPartOf l.self l.part
+    × (l.part.from ≤ l.run.from + l.i)
+    × (l.run.from + l.i ≤ l.part.end)
+    × goal.F-IsAlwaysCallable g l.make

@@ -1,0 +1,66 @@
+-- What a growth up to a size leaves, won or refused.
+use Rattle.std.specs.Prelude.{◌≡◌, ℕ, ◌+◌, ◌<◌, ◌≤◌, Result}
+use Rattle.claim_core.specs.Hand.{HandView, SeesSize, seen_size}
+use Rattle.grow_core.specs.declared.token.Found.{Found}
+use Rattle.grow_core.specs.declared.errors.GrowError.{GrowError}
+use Rattle.grow_core.specs.declared.errors.GrowError.TheVariants.{NoMemory, Full, Moved, Refused, Taken}
+use Rattle.grow_core.specs.declared.raises.AtLeast.{AtLeast}
+use Rattle.grow_core.specs.declared.raises.AtLeast.TheVariants.{Ran, Enough}
+use Rattle.grow_core.specs.declared.raises.Reached.{Reached}
+use Rattle.grow_core.specs.declared.raises.Reached.TheVariants as reached
+use Rattle.grow_core.specs.Vector.{VectorView, SeesMore, limit_of}
+use Rattle.grow_core.specs.Growth.{KeepsMade, LosesPlace}
+use Rattle.grow_core.specs.Making.{IsClaimed, WonMade}
+
+-- the size was large enough, and is told: the hand has then seen it, and nothing else of it has changed
+abbrev pub IsEnough : ℕ → HandView → HandView → ℕ → Type 0
+IsEnough to old new size = (to ≤ size) × SeesSize old new size
+
+-- a growth up to a size came to this: a run that ends there, of what the maker answered for 0, 1, .. in turn; or none was needed
+abbrev pub WonAtLeast : {F T E : Type 0} → (F → ℕ → Result T E → F → Type 0) → F → VectorView T → ℕ → HandView → HandView → AtLeast T → Type 0
+WonAtLeast step maker vector to old new (Ran grown) =
+    (grown.run.from + grown.run.n ≡ to) × (0 < grown.run.n) × WonMade step maker vector grown.run.n old new grown
+WonAtLeast step maker vector to old new (Enough size) = IsEnough to old new size
+
+-- nothing was appended
+abbrev pub SaysEnough : {T : Type 0} → AtLeast T → Type 0
+SaysEnough (Ran grown) = ⊥
+SaysEnough (Enough size) = Unit {0}
+
+-- a claim up to a size came to this: a run that ends there, or none was needed
+abbrev pub ReachesSize : {T : Type 0} → VectorView T → ℕ → HandView → HandView → Reached T → Type 0
+ReachesSize vector to old new (reached.Won claimed) =
+    (claimed.run.from + claimed.run.n ≡ to) × (0 < claimed.run.n) × IsClaimed vector claimed.run.n old new claimed
+ReachesSize vector to old new (reached.Enough size) = IsEnough to old new size
+
+-- nothing was claimed, since the size was large enough
+abbrev pub IsSpared : {T : Type 0} → Reached T → Type 0
+IsSpared (reached.Won claimed) = ⊥
+IsSpared (reached.Enough size) = Unit {0}
+
+-- when each refusal of a growth up to a size comes, by what the hand had seen before the call
+abbrev pub IsDueUpTo : {T V E : Type 0} → VectorView T → ℕ → HandView → GrowError T V E → Type 0
+IsDueUpTo vector to old (NoMemory back) = (seen_size old < to) × (to ≤ limit_of vector)
+IsDueUpTo vector to old (Full size back) = limit_of vector < to
+IsDueUpTo vector to old (Moved size back) = ⊥
+IsDueUpTo vector to old (Refused run made cause) = Unit {0}
+IsDueUpTo vector to old (Taken place found) = Unit {0}
+
+-- the hand owns one more run, which ends at the size asked for, and one of its places was taken
+pub record LosesPlaceBelow {T : Type 0} (vector : VectorView T) (to : ℕ) (old new : HandView) (place : ℕ) (found : Found T) : Type 0 where
+  pub n : ℕ
+  pub lost : LosesPlace vector n old new place found
+  pub ends : lost.run.from + n ≡ to
+
+-- what each refusal leaves of the hand: a run that was claimed ends at the size asked for
+abbrev pub LeavesUpTo : {T V E : Type 0} → VectorView T → ℕ → HandView → HandView → GrowError T V E → Type 0
+LeavesUpTo vector to old new (NoMemory back) = SeesMore old new × (seen_size new < to)
+LeavesUpTo vector to old new (Full size back) = SeesSize old new size
+LeavesUpTo vector to old new (Moved size back) = ⊥
+LeavesUpTo vector to old new (Refused run made cause) = (run.from + run.n ≡ to) × KeepsMade vector run.n old new run made
+LeavesUpTo vector to old new (Taken place found) = LosesPlaceBelow vector to old new place found
+
+-- a growth up to a size was refused: when this refusal comes, and what it leaves of the hand
+pub record RefusesAtLeast {T V E : Type 0} (vector : VectorView T) (to : ℕ) (old new : HandView) (refusal : GrowError T V E) : Type 0 where
+  pub due : IsDueUpTo vector to old refusal
+  pub left : LeavesUpTo vector to old new refusal

@@ -1,0 +1,68 @@
+-- What a maker answers, and what a growth leaves whose values a maker makes.
+use Rattle.std.specs.Prelude.{◌≡◌, ℕ, ◌+◌, ◌<◌, ◌≤◌, List, [], All, Result, Ok, Err, length, replicate, vec_capacity}
+use Rattle.std.specs.List.{FoldsTo}
+use Rattle.claim_core.specs.declared.run.Run.{Run}
+use Rattle.claim_core.specs.Hand.{HandView, OwnsRun, IsWholeHand, seen_size}
+use Rattle.grow_core.specs.declared.claims.Claimed.{Claimed}
+use Rattle.grow_core.specs.declared.token.Found.{Found}
+use Rattle.grow_core.specs.declared.errors.GrowError.{GrowError}
+use Rattle.grow_core.specs.declared.errors.GrowError.TheVariants.{Refused, Taken}
+use Rattle.grow_core.specs.Vector.{VectorView, limit_of}
+use Rattle.grow_core.specs.Keys.{OwnsPlacesOf}
+use Rattle.grow_core.specs.Grown.{GrownView, IsGrownOf, values_of}
+use Rattle.grow_core.specs.Growth.{Grows, WonRun, IsFoundAt}
+
+-- asked for 0, 1, .. in turn, the maker made these values, and is then the last one. A step of it has the maker before, the number,
+-- the answer and the maker after
+abbrev pub Makes : {F T E : Type 0} → (F → ℕ → Result T E → F → Type 0) → F → List T → F → Type 0
+Makes {F} step maker values last =
+    FoldsTo {P = ℕ × F} (λ p x q. (q.0 ≡ p.0 + 1) × step p.1 p.0 (Ok x) q.1) (0, maker) values (length values, last)
+
+-- the maker made these values, and its next answer was the cause
+abbrev pub StopsAfter : {F T E : Type 0} → (F → ℕ → Result T E → F → Type 0) → F → List T → E → Type 0
+StopsAfter {F} step maker values cause = (last : F) × Makes step maker values last × ((end : F) × step last (length values) (Err cause) end)
+
+-- a growth of so many places won: its values are what the maker answered for 0, 1, .. in turn
+pub record WonMade {F T E : Type 0} (step : F → ℕ → Result T E → F → Type 0) (maker : F) (vector : VectorView T) (wanted : ℕ) (old new : HandView) (grown : GrownView T) : Type 0 where
+  pub won : WonRun vector (values_of grown) old new grown
+  pub n : grown.run.n ≡ wanted
+  pub made : (last : F) × Makes step maker (values_of grown) last
+
+-- a growth of so many places won: its values are clones of the given one, and so they are the given one where a clone equals its original
+pub record WonClones {T : Type 0} (is_clone : T → T → Type 0) (given : T) (vector : VectorView T) (wanted : ℕ) (old new : HandView) (grown : GrownView T) : Type 0 where
+  pub won : WonRun vector (values_of grown) old new grown
+  pub n : grown.run.n ≡ wanted
+  pub clones : All (is_clone given) (values_of grown)
+  pub same : ((x : T) → is_clone given x → x ≡ given) → values_of grown ≡ replicate wanted given
+
+-- a refused construction is told by the values that were made before it, and its cause
+abbrev pub IsRefusedBy : {T V E : Type 0} → (List T → E → Type 0) → GrowError T V E → Type 0
+IsRefusedBy is_end (Refused run made cause) = is_end (values_of made) cause
+IsRefusedBy is_end refusal = Unit {0}
+
+-- the hand has claimed a run of so many places, or has none to claim, and there is room for their tokens
+pub record IsClaimed {T : Type 0} (vector : VectorView T) (wanted : ℕ) (old new : HandView) (claimed : Claimed T) : Type 0 where
+  pub n : claimed.run.n ≡ wanted
+  pub run : Grows old new claimed.run
+  pub owned : 0 < claimed.run.n → OwnsRun new claimed.run
+  pub places : OwnsPlacesOf new claimed.run
+  pub not_below : seen_size old ≤ claimed.run.from
+  pub alone : IsWholeHand old → claimed.run.from ≡ seen_size old
+  pub within : claimed.run.from + claimed.run.n ≤ limit_of vector
+  pub none : claimed.tokens.items ≡ []
+  pub room : claimed.run.n ≤ vec_capacity claimed.tokens
+
+-- a place of the run was taken, and this stood there
+abbrev pub IsTakenIn : {T : Type 0} → VectorView T → Run → ℕ → Found T → Type 0
+IsTakenIn vector run place found = (run.from ≤ place) × (place < run.from + run.n) × IsFoundAt vector place found
+
+-- a run that is claimed could not be filled: a construction was refused, or a place was taken
+abbrev pub StopsIn : {T V E : Type 0} → VectorView T → Run → GrowError T V E → Type 0
+StopsIn vector run (Refused of made cause) = (of ≡ run) × (made.run.from ≡ run.from) × (made.run.n < run.n) × IsGrownOf vector made
+StopsIn vector run (Taken place found) = IsTakenIn vector run place found
+StopsIn vector run refusal = ⊥
+
+-- a place that was taken is not below this one
+abbrev pub IsTakenFrom : {T V E : Type 0} → ℕ → GrowError T V E → Type 0
+IsTakenFrom from (Taken place found) = from ≤ place
+IsTakenFrom from refusal = Unit {0}

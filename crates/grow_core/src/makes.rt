@@ -1,0 +1,202 @@
+//! Growths whose values are made in place, by a function that may refuse, or by clones.
+ghost use Rattle.std.specs.Prelude.{◌≡◌, ◌+◌, ◌<◌, ◌≤◌, [], All, IfOk, IfErr, IsErrAnd, length, map, vec_len, vec_capacity};
+ghost use Rattle.grow_core.specs.Vector.{IsHandOf, IsPlacedOf, limit_of};
+ghost use Rattle.grow_core.specs.Grown.{IsGrownOf, AreInOrder, values_of};
+ghost use Rattle.grow_core.specs.Keys.{OwnsPlacesOf};
+ghost use Rattle.grow_core.specs.Growth.{Refuses, HasNoRoom, SaysFull, IsNotMoved};
+ghost use Rattle.grow_core.specs.Making.{Makes, StopsAfter, StopsIn, WonMade, WonClones, IsRefusedBy, IsTakenIn, IsTakenFrom};
+
+use crate::claims::Claimed;
+use crate::errors::GrowError;
+use crate::grown::Grown;
+use crate::hand::Hand;
+use crate::token::{Found, Placed};
+use crate::vector::Shared;
+use claim_core::Run;
+use std::alloc::AllocError;
+use std::sync::Wait;
+
+impl<T: Drop> Shared<T> {
+    /// Appends `n` values in one run, which `make` makes: it is asked for 0, 1, .. in turn, once the run is won, and outside of
+    /// every step, so it may look at the vector and grow it by another hand. After its first refusal it is not asked again, and
+    /// the places from there on are broken. It tries once, and waits for nobody. The exchange that wins the run is its
+    /// linearization point, or, where n is 0, the load of the size.
+    pub fn try_grow_with<E: Drop, F: FnMut(u64) -> Result<T, E>>(
+        &self,
+        hand: &mut Hand<T>,
+        n: u64,
+        make: F,
+    ) -> Result<Grown<T>, GrowError<T, (), E>>
+        requires ours { IsHandOf self.now hand.old }
+        requires callable { F.IsAlwaysCallable make }
+        ensures won { IfOk result (WonMade F.step make self.now n hand.old hand.new) }
+        ensures refused { IfErr result (Refuses self.now n tt hand.old hand.new) }
+        // The cause of a refused construction is what the maker answered after the values of `made`.
+        ensures cause { IfErr result (IsRefusedBy (StopsAfter F.step make)) }
+        // No room is told by what the hand has seen, before memory is asked for.
+        ensures full { HasNoRoom self.now n hand.old → IsErrAnd result SaysFull }
+    {
+        let (claimed, ()) = self.claim_run(hand, n, ())?;
+        self.make_run(hand, claimed, make)
+    }
+
+    /// As `try_grow_with`, and it tries again where another caller was first. The maker is asked once the run is won.
+    pub fn grow_with<R: Wait, E: Drop, F: FnMut(u64) -> Result<T, E>>(
+        &self,
+        rt: &R,
+        hand: &mut Hand<T>,
+        n: u64,
+        make: F,
+    ) -> Result<Grown<T>, GrowError<T, (), E>>
+        requires ours { IsHandOf self.now hand.old }
+        requires callable { F.IsAlwaysCallable make }
+        ensures won { IfOk result (WonMade F.step make self.now n hand.old hand.new) }
+        ensures refused { IfErr result (Refuses self.now n tt hand.old hand.new) }
+        ensures cause { IfErr result (IsRefusedBy (StopsAfter F.step make)) }
+        ensures full { HasNoRoom self.now n hand.old → IsErrAnd result SaysFull }
+        ensures not_moved { IfErr result IsNotMoved }
+    {
+        let (claimed, ()) = self.claim_again(rt, hand, n, ())?;
+        self.make_run(hand, claimed, make)
+    }
+
+    // Fills the places of a run of the hand's with what the maker makes. It stops at a place that was taken, and after a refusal
+    // it breaks the places that are left.
+    pub(crate) fn make_run<E: Drop, F: FnMut(u64) -> Result<T, E>>(
+        &self,
+        hand: &Hand<T>,
+        claimed: Claimed<T>,
+        mut make: F,
+    ) -> Result<Grown<T>, GrowError<T, (), E>>
+        requires ours { IsHandOf self.now hand.now }
+        requires owned { OwnsPlacesOf hand.now claimed.run }
+        requires within { claimed.run.from + claimed.run.n ≤ limit_of self.now }
+        requires tokens { claimed.tokens.items ≡ [] }
+        requires capacity { claimed.run.n ≤ vec_capacity claimed.tokens }
+        requires callable { F.IsAlwaysCallable make }
+        ensures run { IfOk result (λ grown. grown.run ≡ claimed.run) }
+        ensures n { IfOk result (λ grown. length (values_of grown) ≡ claimed.run.n) }
+        ensures tokens { IfOk result (IsGrownOf self.now) }
+        ensures made { IfOk result (λ grown. (last : F) × Makes F.step make (values_of grown) last) }
+        ensures stopped { IfErr result (StopsIn self.now claimed.run) }
+        ensures cause { IfErr result (IsRefusedBy (StopsAfter F.step make)) }
+    {
+        self.laws();
+        let Claimed { run, mut tokens } = claimed;
+        if run.n == 0 {
+            return Ok(Grown { run, tokens });
+        }
+        let mut part = self.part(hand, run.from);
+        for i in 0..run.n {
+            let value = match make(i) {
+                Ok(value) => value,
+                Err(cause) => return Err(self.stop(hand, run, tokens, cause)),
+            };
+            let place = run.from + i;
+            part = self.part_on(hand, part, place);
+            match self.fill(&part, place, value) {
+                Ok(placed) => tokens.push_reserved(placed),
+                Err(found) => return Err(GrowError::Taken { place, found }),
+            }
+        }
+        Ok(Grown { run, tokens })
+    }
+
+    // A construction was refused: the places from there on are broken.
+    #[cold]
+    fn stop<E: Drop>(
+        &self,
+        hand: &Hand<T>,
+        run: Run,
+        tokens: Vec<Placed<T>>,
+        cause: E,
+    ) -> GrowError<T, (), E>
+        requires ours { IsHandOf self.now hand.now }
+        requires owned { OwnsPlacesOf hand.now run }
+        requires within { run.from + run.n ≤ limit_of self.now }
+        requires tokens { All (IsPlacedOf self.now) tokens.items }
+        requires in_order { AreInOrder run.from tokens.items }
+        requires fewer { vec_len tokens < run.n }
+        ensures stopped { StopsIn self.now run result }
+        // The places before it have their values still.
+        ensures after { IsTakenFrom (run.from + vec_len tokens) result }
+        ensures cause { IsRefusedBy (λ values why. (values ≡ map (λ token. token.value) tokens.items) × (why ≡ cause)) result }
+    {
+        let made = Run {
+            from: run.from,
+            n: tokens.len() as u64,
+        };
+        match self.break_rest(hand, run, made.n) {
+            Ok(()) => GrowError::Refused {
+                run,
+                made: Grown { run: made, tokens },
+                cause,
+            },
+            Err((place, found)) => GrowError::Taken { place, found },
+        }
+    }
+
+    // Breaks the places of a run of the hand's, but for the first `made` of them. It stops at a place that was taken.
+    fn break_rest(&self, hand: &Hand<T>, run: Run, made: u64) -> Result<(), (u64, Found<T>)>
+        requires ours { IsHandOf self.now hand.now }
+        requires owned { OwnsPlacesOf hand.now run }
+        requires within { run.from + run.n ≤ limit_of self.now }
+        requires fewer { made < run.n }
+        ensures taken { IfErr result (λ (place, found). IsTakenIn self.now run place found) }
+        ensures after { IfErr result (λ (place, _). run.from + made ≤ place) }
+    {
+        self.laws();
+        let end = run.from + run.n;
+        let mut part = self.part(hand, run.from + made);
+        for place in run.from + made..end {
+            part = self.part_on(hand, part, place);
+            if let Err(found) = self.spoil(&part, place) {
+                return Err((place, found));
+            }
+        }
+        Ok(())
+    }
+}
+
+impl<T: Clone> Shared<T> {
+    /// Appends `n` clones of the value in one run, each made once the run is won. A clone that finds no memory is a refused
+    /// construction: the places from there on are broken. It tries once, and waits for nobody.
+    pub fn try_grow_by(
+        &self,
+        hand: &mut Hand<T>,
+        n: u64,
+        value: &T,
+    ) -> Result<Grown<T>, GrowError<T, (), AllocError>>
+        requires ours { IsHandOf self.now hand.old }
+        ensures won { IfOk result (WonClones T.is_clone value.now self.now n hand.old hand.new) }
+        ensures refused { IfErr result (Refuses self.now n tt hand.old hand.new) }
+        ensures made { IfErr result (IsRefusedBy (λ values _. All (T.is_clone value.now) values)) }
+        ensures full { HasNoRoom self.now n hand.old → IsErrAnd result SaysFull }
+    {
+        let make = |_: u64| -> Result<T, AllocError>
+            ensures { IfOk result (T.is_clone value.entry.now) }
+        { value.clone() };
+        self.try_grow_with(hand, n, make)
+    }
+
+    /// As `try_grow_by`, and it tries again where another caller was first.
+    pub fn grow_by<R: Wait>(
+        &self,
+        rt: &R,
+        hand: &mut Hand<T>,
+        n: u64,
+        value: &T,
+    ) -> Result<Grown<T>, GrowError<T, (), AllocError>>
+        requires ours { IsHandOf self.now hand.old }
+        ensures won { IfOk result (WonClones T.is_clone value.now self.now n hand.old hand.new) }
+        ensures refused { IfErr result (Refuses self.now n tt hand.old hand.new) }
+        ensures made { IfErr result (IsRefusedBy (λ values _. All (T.is_clone value.now) values)) }
+        ensures full { HasNoRoom self.now n hand.old → IsErrAnd result SaysFull }
+        ensures not_moved { IfErr result IsNotMoved }
+    {
+        let make = |_: u64| -> Result<T, AllocError>
+            ensures { IfOk result (T.is_clone value.entry.now) }
+        { value.clone() };
+        self.grow_with(rt, hand, n, make)
+    }
+}

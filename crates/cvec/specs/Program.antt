@@ -1,11 +1,12 @@
 -- What the program does with its three streams, and its exit status.
-use Rattle.std.specs.Prelude.{◌≡◌, ◌≢◌, ℕ, ◌*◌, List, Option, Result, Ok, Err, OnOk, IfErr, IsErrOf}
+use Rattle.std.specs.Prelude.{◌≡◌, ◌≢◌, ◌⊎◌, ℕ, ◌*◌, List, Option, Result, Ok, Err, OnOk, IfErr, IsErrOf}
 use Rattle.std.specs.Io.KnownBytes.{Appends, Keeps}
 use Rattle.script_core.specs.Text.{AppendsPrefix}
 use Rattle.engine_core.specs.declared.error.RunError.{RunError}
-use Rattle.engine_core.specs.declared.error.RunError.TheVariants.{Write}
+use Rattle.engine_core.specs.declared.error.RunError.TheVariants.{NoMemory, Write}
 use Rattle.race_core.specs.declared.refusal.RaceError.TheVariants.{BadSize}
 use Rattle.race_core.specs.Race.{race_text, IsBadSize}
+use Rattle.sweep_core.specs.Sweep.{sweep_text}
 use Rattle.cvec.specs.declared.error.ProgramError.{ProgramError}
 use Rattle.cvec.specs.declared.error.ProgramError.TheVariants.{Run, Race}
 use Rattle.cvec.specs.ProgramError.{status_of, error_line, IsRaceEnd}
@@ -23,6 +24,13 @@ pub record Races (workers each : ℕ) (ended : Result (Unit {0}) ProgramError) (
   pub unwritten : IfErr ended (λ e. e ≢ Run Write → Keeps old new)
   pub refused : IfErr ended (IsRaceEnd workers each)
   pub bad_size : IsBadSize workers each → ended ≡ Err (Race BadSize)
+
+-- schedules are swept: what the writer gets, and how it ends
+pub record Sweeps (seed count len : ℕ) (ended : Result (Unit {0}) RunError) (old new : Option (List ℕ)) : Type 0 where
+  pub written : OnOk ended (Appends old new (sweep_text seed count len))
+  pub prefix : IsErrOf ended Write → AppendsPrefix old new (sweep_text seed count len)
+  pub unwritten : IfErr ended (λ e. e ≢ Write → Keeps old new)
+  pub refused : IfErr ended (λ e. (e ≡ NoMemory) ⊎ (e ≡ Write))
 
 -- a text is shown: the whole of it, or a prefix and a write fault
 abbrev pub Shows : List ℕ → Result (Unit {0}) RunError → Option (List ℕ) → Option (List ℕ) → Type 0

@@ -1,12 +1,13 @@
 -- What becomes of a command line that names no engine.
-use Rattle.std.specs.Prelude.{⊤}
+use Rattle.std.specs.Prelude.{⊤, ℕ, ◌≤◌}
 use Rattle.cvec.specs.declared.command_line.Request.{Request}
-use Rattle.cvec.specs.declared.command_line.Request.TheVariants.{Play, Race, Show, Refuse, NoMemory}
+use Rattle.cvec.specs.declared.command_line.Request.TheVariants.{Play, Race, Sweep, Show, Refuse, NoMemory}
 
 -- a text is shown, or there is no memory for it
 abbrev pub IsShown : Request → Type 0
 IsShown (Play engine) = ⊥
 IsShown (Race workers each) = ⊥
+IsShown (Sweep seed count len) = ⊥
 IsShown (Show text) = ⊤
 IsShown (Refuse text) = ⊥
 IsShown NoMemory = ⊤
@@ -15,14 +16,29 @@ IsShown NoMemory = ⊤
 abbrev pub IsRefused : Request → Type 0
 IsRefused (Play engine) = ⊥
 IsRefused (Race workers each) = ⊥
+IsRefused (Sweep seed count len) = ⊥
 IsRefused (Show text) = ⊥
 IsRefused (Refuse text) = ⊤
 IsRefused NoMemory = ⊤
 
--- a race is asked for
-abbrev pub IsRace : Request → Type 0
-IsRace (Play engine) = ⊥
-IsRace (Race workers each) = ⊤
-IsRace (Show text) = ⊥
-IsRace (Refuse text) = ⊥
-IsRace NoMemory = ⊥
+-- a race or a sweep is asked for
+abbrev pub StartsThreads : Request → Type 0
+StartsThreads (Play engine) = ⊥
+StartsThreads (Race workers each) = ⊤
+StartsThreads (Sweep seed count len) = ⊤
+StartsThreads (Show text) = ⊥
+StartsThreads (Refuse text) = ⊥
+StartsThreads NoMemory = ⊥
+
+-- a sweep may have so many schedules, with so many items each
+abbrev pub IsSweep : ℕ → ℕ → Type 0
+IsSweep count len = ((1 ≤ count) × (count ≤ 10000)) × ((1 ≤ len) × (len ≤ 1000))
+
+-- where a sweep is asked for, it is one that there may be
+abbrev pub IsInRange : Request → Type 0
+IsInRange (Play engine) = ⊤
+IsInRange (Race workers each) = ⊤
+IsInRange (Sweep seed count len) = IsSweep count len
+IsInRange (Show text) = ⊤
+IsInRange (Refuse text) = ⊤
+IsInRange NoMemory = ⊤

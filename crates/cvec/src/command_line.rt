@@ -1,9 +1,9 @@
 //! What a command line asks for.
-ghost use Rattle.std.specs.Prelude.{◌≡◌, ◌≢◌, ◌⊎◌, ◌↔◌, IsTrue};
+ghost use Rattle.std.specs.Prelude.{◌≡◌, ◌≢◌, ◌⊎◌, ◌↔◌, IsTrue, IfOk};
 ghost use Rattle.std.specs.IoError.{error_kind};
 ghost use Rattle.std.specs.declared.io.ErrorKind.TheVariants as io_kinds;
 ghost use Rattle.clap.specs.Values.{kind_of};
-ghost use Rattle.cvec.specs.Request.{IsShown, IsRefused};
+ghost use Rattle.cvec.specs.Request.{IsShown, IsRefused, IsInRange, IsSweep};
 
 use clap::error::ErrorKind;
 use clap::{Arg, ArgAction, ArgMatches, Command, Error};
@@ -12,6 +12,7 @@ use race_core::{MOST_EACH, MOST_WORKERS};
 use std::alloc::{AllocError, Global};
 use std::env::{self, Env};
 use std::io;
+use sweep_core::{MOST_ITEMS, MOST_SCHEDULES};
 
 /// What a command line asks for.
 #[derive(Debug, Drop)]
@@ -20,6 +21,8 @@ pub enum Request {
     Play(Engine),
     /// To hold a race of so many workers, each with so many values.
     Race { workers: u32, each: u32 },
+    /// To sweep so many schedules from a seed on, each of `len` items.
+    Sweep { seed: u64, count: u32, len: u32 },
     /// To show this text: help, or the version.
     Show(String),
     /// Nothing that there is. The text says why.
@@ -35,6 +38,8 @@ const CALLS: &str = "Plays each item of the script on standard input as one whol
 const STEPS: &str = "Plays each item of the script on standard input as one atomic step";
 
 const RACE: &str = "Lets threads append to one shared vector, and checks what they won";
+
+const SWEEP: &str = "Plays schedules of atomic steps that a seed gives, and checks each";
 
 const MORE: &str = "\
 Example:
@@ -60,6 +65,36 @@ Exit status, with the line on standard error:
 
 The grammar of scripts, the answers and the faults are in docs/SCRIPTS.md.";
 
+fn sweep_command<'a>(alloc: Global) -> Result<Command<'a>, AllocError> {
+    let seed = Arg::new(alloc, "seed")
+        .long("seed")
+        .value_name("S")
+        .help("The seed of the first schedule; each next one has the seed after it")
+        .required(true)
+        .action(ArgAction::Set)
+        .value_parser(clap::value_parser!(u64));
+    let count = Arg::new(alloc, "count")
+        .long("count")
+        .value_name("N")
+        .help("How many schedules, from 1 to 10000")
+        .required(true)
+        .action(ArgAction::Set)
+        .value_parser(clap::value_parser!(u32).range(1..=i64::from(MOST_SCHEDULES)));
+    let len = Arg::new(alloc, "len")
+        .long("len")
+        .value_name("L")
+        .help("How many items each has, from 1 to 1000")
+        .required(true)
+        .action(ArgAction::Set)
+        .value_parser(clap::value_parser!(u32).range(1..=i64::from(MOST_ITEMS)));
+    let sweep = Command::new(alloc, "sweep")
+        .about(SWEEP)
+        .arg(seed)?
+        .arg(count)?
+        .arg(len)?;
+    Ok(sweep)
+}
+
 fn cvec<'a>(alloc: Global) -> Result<Command<'a>, AllocError> {
     let calls = Command::new(alloc, "calls").about(CALLS);
     let steps = Command::new(alloc, "steps").about(STEPS);
@@ -81,6 +116,7 @@ fn cvec<'a>(alloc: Global) -> Result<Command<'a>, AllocError> {
         .about(RACE)
         .arg(workers)?
         .arg(each)?;
+    let sweep = sweep_command(alloc)?;
     let command = Command::new(alloc, "cvec")
         .bin_name("cvec")?
         .version("0.1.0")
@@ -89,6 +125,7 @@ fn cvec<'a>(alloc: Global) -> Result<Command<'a>, AllocError> {
         .subcommand(calls)?
         .subcommand(steps)?
         .subcommand(race)?
+        .subcommand(sweep)?
         .subcommand_required(true)
         .disable_help_subcommand(true);
     Ok(command)
@@ -108,7 +145,9 @@ fn mistake(alloc: Global, kind: ErrorKind, message: &str) -> Error
 }
 
 // The numbers of a race.
-fn race_of(alloc: Global, matches: &ArgMatches<'_>) -> Result<Request, Error> {
+fn race_of(alloc: Global, matches: &ArgMatches<'_>) -> Result<Request, Error>
+    ensures { IfOk result IsInRange }
+{
     match (
         matches.get_one::<u32>("workers"),
         matches.get_one::<u32>("each"),
@@ -122,13 +161,43 @@ fn race_of(alloc: Global, matches: &ArgMatches<'_>) -> Result<Request, Error> {
     }
 }
 
+// Whether a sweep may have these numbers.
+fn is_sweep(count: u32, len: u32) -> bool
+    ensures { IsTrue result ↔ IsSweep count len }
+{
+    count >= 1 && count <= MOST_SCHEDULES && len >= 1 && len <= MOST_ITEMS
+}
+
+// The numbers of a sweep. The parser has looked at them, but says so in no clause.
+fn sweep_of(alloc: Global, matches: &ArgMatches<'_>) -> Result<Request, Error>
+    ensures { IfOk result IsInRange }
+{
+    match (
+        matches.get_one::<u64>("seed"),
+        matches.get_one::<u32>("count"),
+        matches.get_one::<u32>("len"),
+    ) {
+        (Some(seed), Some(count), Some(len)) if is_sweep(count, len) => {
+            Ok(Request::Sweep { seed, count, len })
+        }
+        _ => Err(mistake(
+            alloc,
+            ErrorKind::MissingRequiredArgument,
+            "all three numbers are required",
+        )),
+    }
+}
+
 // What the words name. Help and the version are errors, too.
-pub(crate) fn named(alloc: Global, words: &[String]) -> Result<Request, Error> {
+pub(crate) fn named(alloc: Global, words: &[String]) -> Result<Request, Error>
+    ensures { IfOk result IsInRange }
+{
     let matches = cvec(alloc)?.try_get_matches_from(words)?;
     match matches.subcommand() {
         Some(("calls", _)) => Ok(Request::Play(Engine::Calls)),
         Some(("steps", _)) => Ok(Request::Play(Engine::Steps)),
         Some(("race", matches)) => race_of(alloc, matches),
+        Some(("sweep", matches)) => sweep_of(alloc, matches),
         _ => Err(mistake(alloc, ErrorKind::MissingSubcommand, "a command is required")),
     }
 }
@@ -147,6 +216,7 @@ pub(crate) fn stopped(alloc: Global, error: &Error) -> Request
         ⊎ (kind_of error.now ≡ ErrorKind.DisplayVersion) → IsShown result }
     ensures refused { kind_of error.now ≢ ErrorKind.DisplayHelp
         → kind_of error.now ≢ ErrorKind.DisplayVersion → IsRefused result }
+    ensures range { IsInRange result }
 {
     if is_memory(error) {
         return Request::NoMemory;
@@ -159,7 +229,9 @@ pub(crate) fn stopped(alloc: Global, error: &Error) -> Request
 }
 
 // What the words ask for.
-pub(crate) fn asked(alloc: Global, words: &[String]) -> Request {
+pub(crate) fn asked(alloc: Global, words: &[String]) -> Request
+    ensures { IsInRange result }
+{
     match named(alloc, words) {
         Ok(request) => request,
         Err(error) => stopped(alloc, &error),
@@ -170,6 +242,7 @@ pub(crate) fn asked(alloc: Global, words: &[String]) -> Request {
 pub(crate) fn not_given(alloc: Global, error: &io::Error) -> Request
     ensures memory { error_kind error.now ≡ io_kinds.OutOfMemory → result ≡ Request.NoMemory }
     ensures refused { IsRefused result }
+    ensures range { IsInRange result }
 {
     if error.kind() == io::ErrorKind::OutOfMemory {
         return Request::NoMemory;
@@ -188,7 +261,9 @@ fn words<R: Env + AllocGlobal>(rt: &R) -> io::Result<Vec<String>> {
 }
 
 /// What the command line of this process asks for.
-pub fn requested<R: Env + AllocGlobal>(rt: &R) -> Request {
+pub fn requested<R: Env + AllocGlobal>(rt: &R) -> Request
+    ensures { IsInRange result }
+{
     match words(rt) {
         Ok(words) => asked(rt.alloc(), &words),
         Err(error) => not_given(rt.alloc(), &error),

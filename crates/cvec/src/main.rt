@@ -1,8 +1,9 @@
-//! Runs scripts of calls on a vector that several actors grow, and races of threads that do.
+//! Runs scripts of calls on a vector that several actors grow, races of threads that do, and sweeps of sampled schedules.
 //!
-//! `serve` and `serve_race` are the program: what a command line asks for, over any reader and two writers. Their clauses
-//! say the exit status, and what each of the two writers gets, by `specs/Program.antt`. `main` hands them the system's
-//! streams. Only a race may wait. The engines are `engine_core`'s, the race is `race_core`'s.
+//! `serve`, `serve_race` and `serve_sweep` are the program: what a command line asks for, over any reader and two writers.
+//! Their clauses say the exit status, and what each of the two writers gets, by `specs/Program.antt`. `main` hands them the
+//! system's streams. Only a race may wait. The engines are `engine_core`'s, the race is `race_core`'s, the sweep
+//! `sweep_core`'s.
 //!
 //! No clause says which words ask for what, nor what reaches the system's streams: tests and `bin/test` show both.
 #![tactic(auto)]
@@ -14,7 +15,7 @@ mod program;
 mod tests;
 
 use crate::command_line::{Request, requested};
-use crate::program::{serve, serve_race};
+use crate::program::{serve, serve_race, serve_sweep};
 use std::io;
 use std::process::ExitCode;
 
@@ -28,6 +29,15 @@ fn main(rt: HostRuntime) -> ExitCode {
             rt.alloc(),
             workers,
             each,
+            &mut writer,
+            &mut errors,
+        ),
+        Request::Sweep { seed, count, len } => serve_sweep(
+            &rt,
+            rt.alloc(),
+            seed,
+            count,
+            len,
             &mut writer,
             &mut errors,
         ),

@@ -5,19 +5,21 @@ ghost use Rattle.std.specs.Io.KnownBytes.{Appends, Keeps};
 ghost use Rattle.script_core.specs.Text.{AppendsPrefix};
 ghost use Rattle.engine_core.specs.Output.{Plays};
 ghost use Rattle.race_core.specs.Race.{race_text, IsBadSize};
-ghost use Rattle.cvec.specs.Program.{EndsAs, Races, Shows};
+ghost use Rattle.sweep_core.specs.Sweep.{sweep_text};
+ghost use Rattle.cvec.specs.Program.{EndsAs, Races, Shows, Sweeps};
 ghost use Rattle.cvec.specs.ProgramError.{by_run, error_line, IsRaceEnd};
-ghost use Rattle.cvec.specs.Request.{IsRace};
+ghost use Rattle.cvec.specs.Request.{IsSweep, StartsThreads};
 
 use crate::command_line::Request;
 use crate::error::ProgramError;
 use engine_core::{Engine, RunError, run_calls, run_steps, write_output};
 use race_core::{Free, RaceError, race};
 use script_core::{Line, WriteFault, write_bytes};
-use std::alloc::Global;
+use std::alloc::{AllocError, Global};
 use std::io::{Read, Write};
 use std::sync::Wait;
 use std::thread::Threads;
+use sweep_core::sweep;
 
 // The status of a refused command line.
 const REFUSED: u8 = 5;
@@ -91,6 +93,37 @@ fn hold_race<X: Threads + Wait + Sync, W: Write>(
     Ok(())
 }
 
+// The text of a sweep.
+fn swept<X: Threads + Sync>(
+    rt: &X,
+    alloc: Global,
+    seed: u64,
+    count: u32,
+    len: u32,
+) -> Result<String, AllocError>
+    requires { IsSweep count len }
+    ensures { IfOk result (λ text. string_bytes text ≡ sweep_text seed count len) }
+{
+    let report = sweep(rt, alloc, seed, count, len)?;
+    report.to_string(alloc)
+}
+
+// Nothing is written before the sweep has ended.
+fn show_sweep<X: Threads + Sync, W: Write>(
+    rt: &X,
+    alloc: Global,
+    seed: u64,
+    count: u32,
+    len: u32,
+    writer: &mut W,
+) -> Result<(), RunError>
+    requires { IsSweep count len }
+    ensures { Sweeps seed count len result (W.contents writer.old) (W.contents writer.new) }
+{
+    let text = swept(rt, alloc, seed, count, len)?;
+    show(writer, text.as_str())
+}
+
 // Help may fail to be written, as any text may.
 fn show<W: Write>(writer: &mut W, text: &str) -> Result<(), RunError>
     ensures { Shows text.now result (W.contents writer.old) (W.contents writer.new) }
@@ -107,7 +140,7 @@ fn refuse<E: Write>(errors: &mut E, text: &str) -> u8
     REFUSED
 }
 
-/// Does what a command line asks for, but for a race, and returns the exit status of the program.
+/// Does what a command line asks for, but for races and sweeps, and returns the exit status of the program.
 ///
 /// The writer of errors may fail too: clauses allow any prefix of its line, and the status alone tells.
 pub fn serve<R: Read, W: Write, E: Write>(
@@ -117,7 +150,7 @@ pub fn serve<R: Read, W: Write, E: Write>(
     writer: &mut W,
     errors: &mut E,
 ) -> u8
-    requires no_race { IsRace request.now → ⊥ }
+    requires no_threads { StartsThreads request.now → ⊥ }
     ensures plays { (engine : Engine) → request.now ≡ Request.Play engine
         → (ended : Result (Unit {0}) RunError)
         × Plays engine ended (R.remaining reader.old)
@@ -137,7 +170,7 @@ pub fn serve<R: Read, W: Write, E: Write>(
     match request {
         Request::Play(Engine::Calls) => run_told(errors, run_calls(alloc, reader, writer)),
         Request::Play(Engine::Steps) => run_told(errors, run_steps(alloc, reader, writer)),
-        Request::Race { .. } => unreachable!(),
+        Request::Race { .. } | Request::Sweep { .. } => unreachable!(),
         Request::Show(text) => run_told(errors, show(writer, text)),
         Request::Refuse(text) => refuse(errors, text),
         Request::NoMemory => run_told(errors, Err(RunError::NoMemory)),
@@ -158,4 +191,22 @@ pub fn serve_race<X: Threads + Wait + Sync, W: Write, E: Write>(
         × EndsAs ended result (E.contents errors.old) (E.contents errors.new) }
 {
     told(errors, hold_race(rt, alloc, workers, each, writer))
+}
+
+/// Sweeps schedules, and returns the exit status of the program.
+pub fn serve_sweep<X: Threads + Sync, W: Write, E: Write>(
+    rt: &X,
+    alloc: Global,
+    seed: u64,
+    count: u32,
+    len: u32,
+    writer: &mut W,
+    errors: &mut E,
+) -> u8
+    requires { IsSweep count len }
+    ensures sweeps { (ended : Result (Unit {0}) RunError)
+        × Sweeps seed count len ended (W.contents writer.old) (W.contents writer.new)
+        × EndsAs (by_run ended) result (E.contents errors.old) (E.contents errors.new) }
+{
+    run_told(errors, show_sweep(rt, alloc, seed, count, len, writer))
 }

@@ -1,6 +1,6 @@
 //! The program over streams of its own: the exit status, and the line on standard error.
 
-ghost use Rattle.cvec.specs.Request.{IsRace};
+ghost use Rattle.cvec.specs.Request.{StartsThreads};
 
 use super::streams::{Broken, Narrow};
 use crate::command_line::Request;
@@ -26,7 +26,7 @@ fn ends<X: Abort, R: Read, W: Write>(
     status: u8,
     told: &str,
 )
-    requires { IsRace request.now → ⊥ }
+    requires { StartsThreads request.now → ⊥ }
 {
     let mut errors = Vec::new(alloc);
     let got = serve(alloc, request, reader, writer, &mut errors);

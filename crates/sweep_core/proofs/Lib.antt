@@ -1,0 +1,2 @@
+mod Sampled
+mod Totals

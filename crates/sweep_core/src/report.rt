@@ -1,0 +1,56 @@
+//! What a sweep found.
+ghost use Rattle.std.specs.Prelude.{◌≡◌};
+ghost use Rattle.sweep_core.specs.Sums.{both, plus};
+
+use std::alloc::AllocError;
+use std::fmt;
+
+/// What a sweep found.
+#[derive(Clone, Copy, Debug, PartialEq, Eq)]
+pub struct SweepReport {
+    /// How many schedules were played.
+    pub schedules: u64,
+    /// The events of how many are a history of the sequential vector.
+    pub legal: u64,
+    /// How many events there were in all.
+    pub events: u64,
+    /// How many calls ended in all.
+    pub ended: u64,
+}
+
+impl fmt::Display for SweepReport {
+    ghost use Rattle.std.specs.Prelude.{Some};
+    ghost use Rattle.sweep_core.specs.Sweep.{report_text};
+
+    ghost output = { λ report. Some (report_text report) };
+
+    fn fmt<W: fmt::Write>(&self, f: &mut fmt::Formatter<W>) -> fmt::Result {
+        write!(
+            f,
+            "schedules {}\nlegal {}\nevents {}\nended {}\n",
+            self.schedules, self.legal, self.events, self.ended
+        )
+    }
+}
+
+// Both lots together. Whoever counts few schedules sees no number wrap.
+fn plus(a: SweepReport, b: SweepReport) -> SweepReport
+    ensures { result ≡ plus a b }
+{
+    SweepReport {
+        schedules: a.schedules.wrapping_add(b.schedules),
+        legal: a.legal.wrapping_add(b.legal),
+        events: a.events.wrapping_add(b.events),
+        ended: a.ended.wrapping_add(b.ended),
+    }
+}
+
+// The same where memory may have been refused to either.
+pub(crate) fn both(
+    a: Result<SweepReport, AllocError>,
+    b: Result<SweepReport, AllocError>,
+) -> Result<SweepReport, AllocError>
+    ensures { result ≡ both a b }
+{
+    Ok(plus(a?, b?))
+}

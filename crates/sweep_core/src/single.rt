@@ -1,0 +1,65 @@
+//! One schedule: its play, checked and counted.
+ghost use Rattle.std.specs.Prelude.{◌≡◌, ◌≤◌, ◌↔◌, IsTrue, IfOk, length};
+ghost use Rattle.book_core.specs.Cells.{empty_list};
+ghost use Rattle.book_core.specs.Commands.{AreSound, HavePrograms};
+ghost use Rattle.book_core.specs.History.{IsLegalFrom};
+ghost use Rattle.step_core.specs.machine.Play.{play_of, played_of};
+ghost use Rattle.sweep_core.specs.Sweep.{sampled_limit, sampled_play};
+ghost use Rattle.sweep_core.specs.Sums.{report_of};
+
+use crate::report::SweepReport;
+use crate::schedule::{items_of, programs};
+use book_core::{Command, Event, Item, Reply, Sequence, check};
+use std::alloc::{AllocError, Global};
+use step_core::{PlayError, Played, laws, play};
+
+const LIMIT: u64 = 16;
+
+// The play of programs and items that can be played.
+fn play_sound(
+    alloc: Global,
+    programs: Sequence<Sequence<Command>>,
+    items: &[Item],
+) -> Result<Played, AllocError>
+    requires few { length programs ≤ 65536 }
+    requires sound { AreSound programs }
+    requires programs { HavePrograms programs items.now }
+    ensures { IfOk result (λ played. played ≡ played_of (play_of sampled_limit programs items.now)) }
+{
+    match play(alloc, LIMIT, programs, items) {
+        Ok(played) => Ok(played),
+        Err(PlayError::NoMemory) => Err(AllocError),
+        Err(PlayError::BadLimit | PlayError::BadCommand | PlayError::BadActor) => unreachable!(),
+    }
+}
+
+// The play of the schedule of a seed.
+fn played(alloc: Global, seed: u64, len: u32) -> Result<Played, AllocError>
+    ensures { IfOk result (λ played. played ≡ played_of (sampled_play seed len)) }
+{
+    let items = items_of(alloc, seed, len)?;
+    let programs = programs(alloc)?;
+    play_sound(alloc, programs, &items)
+}
+
+// Whether events are a history of the sequential vector: `check` tells.
+fn is_legal(alloc: Global, events: &[(Event, Reply)]) -> Result<bool, AllocError>
+    ensures { IfOk result (λ yes. IsTrue yes ↔ IsLegalFrom (empty_list sampled_limit) events.now) }
+{
+    check(alloc, LIMIT, events)
+}
+
+// The report of the schedule of a seed.
+pub(crate) fn report_of(alloc: Global, seed: u64, len: u32) -> Result<SweepReport, AllocError>
+    ensures { IfOk result (λ report. report ≡ report_of len seed) }
+{
+    laws::legal();
+    let played = played(alloc, seed, len)?;
+    let legal = is_legal(alloc, played.events.as_slice())?;
+    Ok(SweepReport {
+        schedules: 1,
+        legal: u64::from(legal),
+        events: played.events.len() as u64,
+        ended: played.ended.len() as u64,
+    })
+}

@@ -185,6 +185,29 @@ fn what_two_threads_append_is_in_the_closed_list(rt: HostRuntime) -> Result<(), 
     Ok(())
 }
 
+// Ten lives in turn, in each of which two threads append the same values.
+fn live_by_threads<R: Threads + Wait + Abort + Sync>(
+    rt: &R,
+    mut parts: Parts<u64>,
+) -> Option<Parts<u64>> {
+    for _life in 0..10 {
+        parts = grow_by_threads(rt, Life::open(parts)?)?;
+    }
+    Some(parts)
+}
+
+// A count of a life's values stops where the next life's begin.
+#[test]
+fn ten_lives_by_two_threads_lose_nothing(rt: HostRuntime) -> Result<(), Fail> {
+    let parts = Parts::new(rt.alloc(), 20 * EACH);
+    let parts = live_by_threads(&rt, parts).ok_or("refused")?;
+    assert_eq!(rt; parts.len(), 20 * EACH);
+    for life in 0..10u64 {
+        assert_eq!(rt; count_in_order(&parts, 2 * life * EACH), [EACH; 2]);
+    }
+    Ok(())
+}
+
 // A list of a value and a broken member, opened.
 fn open_counted<'a>(alloc: Global, drops: &'a AtomicU64) -> Option<Life<Counted<'a>>> {
     let mut parts = Parts::new(alloc, 8);
@@ -328,26 +351,26 @@ fn a_list_may_have_the_greatest_limit(rt: HostRuntime) -> Result<(), Fail> {
     Ok(())
 }
 
-// How many boxes are appended.
+// How many texts are appended.
 const MANY: u64 = 1 << 20;
 
-fn append_boxes(alloc: Global) -> Option<Parts<Box<u64>>> {
+fn append_texts(alloc: Global) -> Option<Parts<String>> {
     let mut parts = Parts::new(alloc, MANY);
     let _has_room = room(&mut parts, MANY).ok()?;
     for value in 0..MANY {
-        let made = Box::new(alloc, value).ok()?;
-        if !append(&mut parts, Some(made)) {
+        let text = format!(in alloc; "{value}").ok()?;
+        if !append(&mut parts, Some(text)) {
             return None;
         }
     }
     Some(parts)
 }
 
-// Whether the boxes come back, the last first.
-fn pop_boxes(parts: &mut Parts<Box<u64>>) -> bool {
+// Whether the texts come back, the last first.
+fn pop_texts(parts: &mut Parts<String>) -> bool {
     for value in (0..MANY).rev() {
         match pop(parts) {
-            Some(Some(made)) if *made == value => {}
+            Some(Some(text)) if text.as_str().parse::<u64>() == Ok(value) => {}
             _ => return false,
         }
     }
@@ -356,10 +379,10 @@ fn pop_boxes(parts: &mut Parts<Box<u64>>) -> bool {
 
 #[test]
 fn a_million_owning_values_come_back(rt: HostRuntime) -> Result<(), Fail> {
-    let parts = append_boxes(rt.alloc()).ok_or("no memory")?;
+    let parts = append_texts(rt.alloc()).ok_or("no memory")?;
     let life = Life::open(parts).ok_or("no memory")?;
     let mut parts = life.close().ok_or("a share is lost")?;
     assert_eq!(rt; parts.len(), MANY);
-    assert!(rt; pop_boxes(&mut parts));
+    assert!(rt; pop_texts(&mut parts));
     Ok(())
 }

@@ -33,7 +33,7 @@ impl fmt::Display for SweepReport {
     }
 }
 
-// Both lots together. Whoever counts few schedules sees no number wrap.
+// Both together. The numbers of a sweep are small, and do not wrap.
 fn plus(a: SweepReport, b: SweepReport) -> SweepReport
     ensures { result ≡ plus a b }
 {

@@ -28,7 +28,7 @@ const NOTHING: SweepReport = SweepReport {
 // A report, unless memory was refused.
 type Outcome = Result<SweepReport, AllocError>;
 
-// The reports of all schedules together, in order, from as many threads as are worth it.
+// The reports of all schedules together, whoever played them.
 fn total<R: Threads + Sync>(
     rt: &R,
     alloc: Global,

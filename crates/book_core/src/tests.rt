@@ -1,4 +1,6 @@
 //! What no clause says: that the calls succeed where there is memory, and that the table is the one that was meant.
+mod memory;
+
 use crate::{BookError, Cell, CellVec, Event, Reply, Sequence, check};
 use std::alloc::{AllocError, Global};
 use std::test::Fail;

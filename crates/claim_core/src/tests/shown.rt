@@ -22,11 +22,14 @@ fn a_bad_limit_is_refused(rt: HostRuntime) {
     }
 }
 
-// It passes too where one of the two allocations of `open` is made to fail.
+// It passes too where any one request for memory is refused.
 #[test]
 fn a_refused_allocation_is_no_memory(rt: HostRuntime) {
-    let made = opened(rt.alloc(), 8, 3);
-    assert!(rt; made == Ok((3, 3)) || made == Err(OpenError::NoMemory));
+    let mut made = opened(rt.alloc(), 8, 3);
+    if made == Err(OpenError::NoMemory) {
+        made = opened(rt.alloc(), 8, 3);
+    }
+    assert!(rt; made == Ok((3, 3)));
 }
 
 // A word of size 5 and a hand that has seen the size 2, as they are shown.

@@ -1,0 +1,31 @@
+// Any one request for memory may be refused: then the call changes nothing, and the next one goes on.
+use super::EVENTS;
+use crate::{BookError, CellVec, Event, Reply, check};
+
+// The reply to an event, at the second try where memory was refused to the first.
+fn applied(list: &mut CellVec, event: Event) -> Option<Reply> {
+    let len = list.cells().len();
+    match list.apply(event) {
+        Ok(reply) => Some(reply),
+        Err(BookError::NoMemory) if list.cells().len() == len => list.apply(event).ok(),
+        Err(_refused) => None,
+    }
+}
+
+#[test]
+fn an_event_is_tried_again(rt: HostRuntime) {
+    let mut list = CellVec::new(rt.alloc(), 6);
+    for (event, reply) in EVENTS.as_slice() {
+        assert_eq!(rt; applied(&mut list, *event), Some(*reply), "{event:?}");
+    }
+    assert_eq!(rt; list.into_cells().len(), 4);
+}
+
+#[test]
+fn a_history_is_checked_again(rt: HostRuntime) {
+    let mut answer = check(rt.alloc(), 6, &EVENTS);
+    if answer.is_err() {
+        answer = check(rt.alloc(), 6, &EVENTS);
+    }
+    assert!(rt; answer == Ok(true));
+}

@@ -1,5 +1,5 @@
-// Any one allocation may be refused: then the call gives back what it took, and the next one goes on. Run as
-// `rt try --test --fail-alloc N`, these tests pass for each N.
+// Any one allocation may be refused: then the call gives back what it took, and the next one goes on.
+// `bin/refusals` refuses each request in turn.
 use crate::{OpenError, Quiet, QuietError};
 use std::alloc::Global;
 use std::process::Abort;

@@ -1,5 +1,5 @@
-// Any one allocation may be refused: then the loop says so, and the next one answers. Run as
-// `rt try --test --fail-alloc N`, these tests pass for each N.
+// Any one allocation may be refused: then the loop says so, and the next one answers.
+// `bin/refusals` refuses each request in turn.
 use crate::{Free, ParError, Span, par_map, par_reduce};
 use quiet_core::Quiet;
 use std::alloc::Global;

@@ -67,7 +67,7 @@ impl<T> Quiet<T> {
         self.parts.limit()
     }
 
-    /// The length that can be reached without asking for memory, or the limit if that is less.
+    /// The places of the segments that are there, also past the limit. Up to it no call asks for memory.
     pub fn capacity(&self) -> u64
         ensures value { result ≡ self.now.capacity }
         ensures whole { IsWhole result }

@@ -166,6 +166,11 @@ impl<A: Allocator> Word<A> {
         found
     }
 
+    /// One load of the size by a caller without a hand, of which a proof learns nothing.
+    pub fn peek(&self) -> u64 {
+        self.table.shared.peek(SIZE_AT)
+    }
+
     /// Ends the word, and returns its last size.
     pub fn close(self, hand: Hand) -> u64
         requires ours { IsHandOf self hand }

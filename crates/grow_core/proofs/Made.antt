@@ -73,17 +73,17 @@ module _ {F T E : Type 0} (step : F → ℕ → Result T E → F → Type 0) (ma
       )
 
   -- a run that was claimed and then filled with what the maker made is a growth that won
-  pub won_made : {X : Type 0} (vector : VectorView T) (wanted : ℕ) (old new : HandView) (claimed : Claimed T) (result : Result (GrownView T) X)
-      → IsClaimed vector wanted old new claimed
+  pub won_made : {X : Type 0} (vector : VectorView T) (wanted tokens : ℕ) (old new : HandView) (claimed : Claimed T) (result : Result (GrownView T) X)
+      → IsClaimed vector wanted tokens old new claimed
       → IfOk result (λ grown. grown.run ≡ claimed.run) → IfOk result (λ grown. length (values_of grown) ≡ claimed.run.n)
       → IfOk result (IsGrownOf vector) → IfOk result (λ grown. (last : F) × Makes step maker (values_of grown) last)
       → IfOk result (WonMade step maker vector wanted old new)
-  won_made vector wanted old new claimed (Ok grown) it run n tokens made = record {
-    won = won_of_claimed vector wanted old new claimed it (values_of grown) grown (sym it.n ∙ sym n) run tokens refl;
+  won_made vector wanted room old new claimed (Ok grown) it run n tokens made = record {
+    won = won_of_claimed vector wanted room old new claimed it (values_of grown) grown (sym it.n ∙ sym n) run tokens refl;
     n = ap (λ (r : Run). r.n) run ∙ it.n;
     made = made;
   }
-  won_made vector wanted old new claimed (Err e) it run n tokens made = tt
+  won_made vector wanted room old new claimed (Err e) it run n tokens made = tt
 
 all_none : {X : Type 0} (P : X → Type 0) → All P []
 all_none P k d below = absurd (omega (arith, below))

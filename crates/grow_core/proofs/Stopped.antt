@@ -11,7 +11,7 @@ use Rattle.grow_core.specs.Growth.{Grows, WonRun, Refuses}
 use Rattle.grow_core.specs.Making.{IsClaimed, StopsIn}
 use Rattle.grow_core.specs.AtLeast.{RefusesAtLeast}
 
-module _ {T : Type 0} (vector : VectorView T) (wanted : ℕ) (old new : HandView) (claimed : Claimed T) (it : IsClaimed vector wanted old new claimed) where
+module _ {T : Type 0} (vector : VectorView T) (wanted tokens : ℕ) (old new : HandView) (claimed : Claimed T) (it : IsClaimed vector wanted tokens old new claimed) where
   -- a run that was claimed and then filled is a growth that won
   pub won_of_claimed : (given : List T) (grown : GrownView T) → wanted ≡ length given
       → grown.run ≡ claimed.run → IsGrownOf vector grown → values_of grown ≡ given → WonRun vector given old new grown
@@ -64,7 +64,7 @@ module _ {T : Type 0} (vector : VectorView T) (wanted : ℕ) (old new : HandView
 
 -- a run up to a size that was claimed and could not be filled is a growth up to that size that was refused
 pub refused_up_to : {T V E : Type 0} (vector : VectorView T) (to : ℕ) (old new : HandView) (claimed : Claimed T) (e : GrowError T V E)
-    → (claimed.run.from + claimed.run.n ≡ to) × (0 < claimed.run.n) × IsClaimed vector claimed.run.n old new claimed
+    → (claimed.run.from + claimed.run.n ≡ to) × (0 < claimed.run.n) × IsClaimed vector claimed.run.n claimed.run.n old new claimed
     → StopsIn vector claimed.run e → RefusesAtLeast vector to old new e
 refused_up_to vector to old new claimed (NoMemory back) it s = absurd s
 refused_up_to vector to old new claimed (Full size back) it s = absurd s

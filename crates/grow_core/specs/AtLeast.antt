@@ -30,7 +30,7 @@ SaysEnough (Enough size) = Unit {0}
 -- a claim up to a size came to this: a run that ends there, or none was needed
 abbrev pub ReachesSize : {T : Type 0} → VectorView T → ℕ → HandView → HandView → Reached T → Type 0
 ReachesSize vector to old new (reached.Won claimed) =
-    (claimed.run.from + claimed.run.n ≡ to) × (0 < claimed.run.n) × IsClaimed vector claimed.run.n old new claimed
+    (claimed.run.from + claimed.run.n ≡ to) × (0 < claimed.run.n) × IsClaimed vector claimed.run.n claimed.run.n old new claimed
 ReachesSize vector to old new (reached.Enough size) = IsEnough to old new size
 
 -- nothing was claimed, since the size was large enough

@@ -35,6 +35,14 @@ pub record WonRun {T : Type 0} (vector : VectorView T) (given : List T) (old new
   pub tokens : IsGrownOf vector grown
   pub values : values_of grown ≡ given
 
+-- a growth of so many places won without tokens: the run is the hand's own
+pub record WonPlaces (wanted : ℕ) (old new : HandView) (won : Run) : Type 0 where
+  pub n : won.n ≡ wanted
+  pub run : Grows old new won
+  pub owned : 0 < won.n → OwnsRun new won
+  pub not_below : seen_size old ≤ won.from
+  pub alone : IsWholeHand old → won.from ≡ seen_size old
+
 -- what stood at the place
 abbrev pub IsFoundAt : {T : Type 0} → VectorView T → ℕ → Found T → Type 0
 IsFoundAt vector place (found.Busy begun) = IsBegunOf vector begun × (begun.place ≡ place)

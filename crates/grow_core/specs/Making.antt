@@ -40,8 +40,8 @@ abbrev pub IsRefusedBy : {T V E : Type 0} → (List T → E → Type 0) → Grow
 IsRefusedBy is_end (Refused run made cause) = is_end (values_of made) cause
 IsRefusedBy is_end refusal = Unit {0}
 
--- the hand has claimed a run of so many places, or has none to claim, and there is room for their tokens
-pub record IsClaimed {T : Type 0} (vector : VectorView T) (wanted : ℕ) (old new : HandView) (claimed : Claimed T) : Type 0 where
+-- the hand has claimed a run of so many places, or has none to claim, and there is room for so many tokens
+pub record IsClaimed {T : Type 0} (vector : VectorView T) (wanted tokens : ℕ) (old new : HandView) (claimed : Claimed T) : Type 0 where
   pub n : claimed.run.n ≡ wanted
   pub run : Grows old new claimed.run
   pub owned : 0 < claimed.run.n → OwnsRun new claimed.run
@@ -50,7 +50,7 @@ pub record IsClaimed {T : Type 0} (vector : VectorView T) (wanted : ℕ) (old ne
   pub alone : IsWholeHand old → claimed.run.from ≡ seen_size old
   pub within : claimed.run.from + claimed.run.n ≤ limit_of vector
   pub none : claimed.tokens.items ≡ []
-  pub room : claimed.run.n ≤ vec_capacity claimed.tokens
+  pub room : tokens ≤ vec_capacity claimed.tokens
 
 -- a place of the run was taken, and this stood there
 abbrev pub IsTakenIn : {T : Type 0} → VectorView T → Run → ℕ → Found T → Type 0

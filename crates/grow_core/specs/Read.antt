@@ -4,8 +4,8 @@ use Rattle.claim_core.specs.Hand.{HandView, SeesSize, seen_size}
 use Rattle.grow_core.specs.declared.errors.AtError.{AtError}
 use Rattle.grow_core.specs.declared.errors.AtError.TheVariants.{OutOfRange, Pending, Broken}
 use Rattle.grow_core.specs.declared.reads.At.{At}
-use Rattle.grow_core.specs.declared.reads.Seen.{Seen}
-use Rattle.grow_core.specs.declared.reads.Seen.TheVariants as seen
+use Rattle.grow_core.specs.declared.reads.Shown.{Shown}
+use Rattle.grow_core.specs.declared.reads.Shown.TheVariants as shown
 use Rattle.grow_core.specs.Vector.{VectorView, IsPlacedOf, IsSpoiltOf}
 
 -- the value is that of the token, which is of this place of the vector
@@ -15,10 +15,15 @@ pub record IsAt {T : Type 0} (vector : VectorView T) (place : ℕ) (at : At T) :
   pub value : at.value.now ≡ at.placed.value
 
 -- what a place of the vector shows
-abbrev pub IsSeenAt : {T : Type 0} → VectorView T → ℕ → Seen T → Type 0
-IsSeenAt vector place seen.Pending = Unit {0}
-IsSeenAt vector place (seen.Filled at) = IsAt vector place at
-IsSeenAt vector place (seen.Broken spoilt) = IsSpoiltOf vector spoilt × (spoilt.place ≡ place)
+abbrev pub IsShownAt : {T : Type 0} → VectorView T → ℕ → Shown T → Type 0
+IsShownAt vector place shown.NotYet = Unit {0}
+IsShownAt vector place (shown.Filled at) = IsAt vector place at
+IsShownAt vector place (shown.Broken spoilt) = IsSpoiltOf vector spoilt × (spoilt.place ≡ place)
+
+-- this value is shown
+abbrev pub ShowsValue : {T : Type 0} → T → Shown T → Type 0
+ShowsValue x (shown.Filled at) = at.value.now ≡ x
+ShowsValue x other = ⊥
 
 -- when each refusal comes, by what the hand had seen, and sees now: a place is pending or broken below the size alone
 abbrev pub IsDueAt : {T : Type 0} → VectorView T → ℕ → HandView → HandView → AtError → Type 0

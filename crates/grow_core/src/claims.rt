@@ -40,16 +40,18 @@ pub(crate) struct Claimed<T> {
 }
 
 impl<T: Drop> Shared<T> {
-    // One try to win `n` places at the size now, with room for their tokens, which is asked for before the claim. What was
+    // One try to win `n` places at the size now, with room for so many tokens, which is asked for before the claim. What was
     // moved in is handed on. Of no places there is an empty run at that size.
     pub(crate) fn claim_run<V, E>(
         &self,
         hand: &mut Hand<T>,
         n: u64,
+        room: u64,
         value: V,
     ) -> Result<(Claimed<T>, V), GrowError<T, V, E>>
         requires ours { IsHandOf self.now hand.old }
-        ensures claimed { IfOk result (λ (claimed, _). IsClaimed self.now n hand.old hand.new claimed) }
+        requires room { room ≤ n }
+        ensures claimed { IfOk result (λ (claimed, _). IsClaimed self.now n room hand.old hand.new claimed) }
         ensures value { IfOk result (λ (_, on). on ≡ value) }
         ensures refused { IfErr result (Refuses self.now n value hand.old hand.new) }
         ensures unclaimed { IfErr result ClaimsNothing }
@@ -68,7 +70,7 @@ impl<T: Drop> Shared<T> {
                 back: value,
             });
         }
-        let Ok(tokens) = Vec::with_capacity(self.alloc, n as usize) else {
+        let Ok(tokens) = Vec::with_capacity(self.alloc, room as usize) else {
             return Err(GrowError::NoMemory { back: value });
         };
         let value = self.claim(hand, from, n, value)?;
@@ -81,10 +83,12 @@ impl<T: Drop> Shared<T> {
         rt: &R,
         hand: &mut Hand<T>,
         n: u64,
+        room: u64,
         mut value: V,
     ) -> Result<(Claimed<T>, V), GrowError<T, V, E>>
         requires ours { IsHandOf self.now hand.old }
-        ensures claimed { IfOk result (λ (claimed, _). IsClaimed self.now n hand.old hand.new claimed) }
+        requires room { room ≤ n }
+        ensures claimed { IfOk result (λ (claimed, _). IsClaimed self.now n room hand.old hand.new claimed) }
         ensures value { IfOk result (λ (_, on). on ≡ value) }
         ensures refused { IfErr result (Refuses self.now n value hand.old hand.new) }
         ensures unclaimed { IfErr result ClaimsNothing }
@@ -92,7 +96,7 @@ impl<T: Drop> Shared<T> {
         ensures not_moved { IfErr result IsNotMoved }
     {
         for _try in rt.forever() {
-            match self.claim_run(hand, n, value) {
+            match self.claim_run(hand, n, room, value) {
                 Ok(claimed) => return Ok(claimed),
                 Err(GrowError::Moved { size: _, back }) => value = back,
                 Err(refused) => return Err(refused),

@@ -1,7 +1,7 @@
 //! The token of a run.
 ghost use Rattle.std.specs.Prelude.{◌≡◌, ◌+◌, ◌<◌, slice_get, Some};
 ghost use Rattle.grow_core.specs.Vector.{VectorView, IsPlacedOf};
-ghost use Rattle.grow_core.specs.Grown.{IsGrownOf, values_of};
+ghost use Rattle.grow_core.specs.Grown.{IsGrownOf, IsInOrder, values_of};
 
 use crate::token::Placed;
 use claim_core::Run;
@@ -41,6 +41,13 @@ impl<T> Grown<T> {
         ensures { result ≡ self.now.run }
     {
         self.run
+    }
+
+    /// What every one keeps: a token of each place of the run, in order. It does nothing.
+    pub fn laws(&self)
+        ensures { IsInOrder self.now.run self.now.tokens }
+    {
+        let _run = self.run;
     }
 
     /// The token of place `i` of the run.

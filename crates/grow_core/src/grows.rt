@@ -3,7 +3,7 @@ ghost use Rattle.std.specs.Prelude.{◌≡◌, ◌+◌, ◌≤◌, [], IfOk, IfE
 ghost use Rattle.grow_core.specs.Vector.{IsHandOf, limit_of};
 ghost use Rattle.grow_core.specs.Grown.{IsGrownOf, values_of};
 ghost use Rattle.grow_core.specs.Keys.{OwnsPlacesOf};
-ghost use Rattle.grow_core.specs.Growth.{WonRun, Refuses, HasNoRoom, SaysFull, IsNotMoved};
+ghost use Rattle.grow_core.specs.Growth.{WonRun, WonPlaces, Refuses, HasNoRoom, SaysFull, IsNotMoved};
 ghost use Rattle.grow_core.specs.Making.{StopsIn};
 
 use crate::claims::Claimed;
@@ -11,6 +11,7 @@ use crate::errors::{GrowError, Never};
 use crate::grown::Grown;
 use crate::hand::Hand;
 use crate::vector::Shared;
+use claim_core::Run;
 use std::sync::Wait;
 
 impl<T: Drop> Shared<T> {
@@ -28,7 +29,7 @@ impl<T: Drop> Shared<T> {
         ensures full { HasNoRoom self.now (vec_len values) hand.old → IsErrAnd result SaysFull }
     {
         let n = values.len() as u64;
-        let (claimed, values) = self.claim_run(hand, n, values)?;
+        let (claimed, values) = self.claim_run(hand, n, n, values)?;
         self.fill_run(hand, claimed, values)
     }
 
@@ -47,8 +48,28 @@ impl<T: Drop> Shared<T> {
         ensures not_moved { IfErr result IsNotMoved }
     {
         let n = values.len() as u64;
-        let (claimed, values) = self.claim_again(rt, hand, n, values)?;
+        let (claimed, values) = self.claim_again(rt, hand, n, n, values)?;
         self.fill_run(hand, claimed, values)
+    }
+
+    /// As `grow_vec`, for a caller that wants no tokens, and so without memory for them. A look shows the values, and the
+    /// closed list has them.
+    pub fn append<R: Wait>(
+        &self,
+        rt: &R,
+        hand: &mut Hand<T>,
+        values: Vec<T>,
+    ) -> Result<Run, GrowError<T, Vec<T>, Never>>
+        requires ours { IsHandOf self.now hand.old }
+        ensures won { IfOk result (WonPlaces (vec_len values) hand.old hand.new) }
+        ensures refused { IfErr result (Refuses self.now (vec_len values) values hand.old hand.new) }
+        // No room is told by what the hand has seen, before memory is asked for.
+        ensures full { HasNoRoom self.now (vec_len values) hand.old → IsErrAnd result SaysFull }
+        ensures not_moved { IfErr result IsNotMoved }
+    {
+        let n = values.len() as u64;
+        let (claimed, values) = self.claim_again(rt, hand, n, 0, values)?;
+        self.place_run(hand, claimed.run, values)
     }
 
     // Fills the places of a run of the hand's with the values. It stops at a place that was taken.
@@ -84,5 +105,35 @@ impl<T: Drop> Shared<T> {
             }
         }
         Ok(Grown { run, tokens })
+    }
+
+    // As `fill_run`, without tokens.
+    fn place_run(
+        &self,
+        hand: &Hand<T>,
+        run: Run,
+        values: Vec<T>,
+    ) -> Result<Run, GrowError<T, Vec<T>, Never>>
+        requires ours { IsHandOf self.now hand.now }
+        requires owned { OwnsPlacesOf hand.now run }
+        requires within { run.from + run.n ≤ limit_of self.now }
+        requires values { vec_len values ≡ run.n }
+        ensures run { IfOk result (λ filled. filled ≡ run) }
+        ensures stopped { IfErr result (StopsIn self.now run) }
+    {
+        self.laws();
+        if run.n == 0 {
+            return Ok(run);
+        }
+        let mut part = self.part(hand, run.from);
+        let mut place = run.from;
+        for value in values {
+            part = self.part_on(hand, part, place);
+            if let Err(found) = self.fill(&part, place, value) {
+                return Err(GrowError::Taken { place, found });
+            }
+            place += 1;
+        }
+        Ok(run)
     }
 }

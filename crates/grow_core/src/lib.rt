@@ -31,6 +31,7 @@ mod keys;
 mod makes;
 mod open;
 mod parts;
+mod published;
 mod pushes;
 mod raises;
 mod reads;
@@ -44,8 +45,9 @@ pub use errors::{AtError, GrowError, Never};
 pub use grown::Grown;
 pub use hand::Hand;
 pub use parts::Parts;
+pub use published::Published;
 pub use raises::AtLeast;
-pub use reads::At;
+pub use reads::{At, Shown};
 pub use token::{Begun, Found, Placed, Spoilt};
 pub use vector::Shared;
 

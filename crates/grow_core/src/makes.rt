@@ -36,7 +36,7 @@ impl<T: Drop> Shared<T> {
         // No room is told by what the hand has seen, before memory is asked for.
         ensures full { HasNoRoom self.now n hand.old → IsErrAnd result SaysFull }
     {
-        let (claimed, ()) = self.claim_run(hand, n, ())?;
+        let (claimed, ()) = self.claim_run(hand, n, n, ())?;
         self.make_run(hand, claimed, make)
     }
 
@@ -56,7 +56,7 @@ impl<T: Drop> Shared<T> {
         ensures full { HasNoRoom self.now n hand.old → IsErrAnd result SaysFull }
         ensures not_moved { IfErr result IsNotMoved }
     {
-        let (claimed, ()) = self.claim_again(rt, hand, n, ())?;
+        let (claimed, ()) = self.claim_again(rt, hand, n, n, ())?;
         self.make_run(hand, claimed, make)
     }
 

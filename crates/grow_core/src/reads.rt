@@ -2,7 +2,7 @@
 ghost use Rattle.std.specs.Prelude.{◌≡◌, ◌≢◌, ◌<◌, IfOk, IfErr, IfSome, IsOkAnd, IsSomeAnd, None};
 ghost use Rattle.claim_core.specs.Hand.{seen_size};
 ghost use Rattle.grow_core.specs.Vector.{IsHandOf, IsPlacedOf, IsSpoiltOf, IsOpenedAt, SeesMore, limit_of};
-ghost use Rattle.grow_core.specs.Read.{IsAt, IsSeenAt, IsDueAt, IsInRange};
+ghost use Rattle.grow_core.specs.Read.{IsAt, IsShownAt, ShowsValue, IsDueAt, IsInRange};
 
 use crate::errors::AtError;
 use crate::hand::Hand;
@@ -20,10 +20,14 @@ pub struct At<'a, T> {
     pub placed: Placed<T>,
 }
 
-// What a place shows.
-enum Seen<'a, T> {
-    Pending,
+/// What a place shows to a look.
+#[derive(Debug, Drop)]
+pub enum Shown<'a, T> {
+    /// Nothing yet: it is not filled, and maybe not claimed.
+    NotYet,
+    /// A value.
     Filled(At<'a, T>),
+    /// None: it is broken.
     Broken(Spoilt),
 }
 
@@ -62,13 +66,28 @@ impl<T> Shared<T> {
         if place >= size {
             return Err(AtError::OutOfRange { size });
         }
-        if let Some(at) = self.opened_at(place) {
-            return Ok(at);
-        }
         match self.look(place) {
-            Seen::Pending => Err(AtError::Pending),
-            Seen::Filled(at) => Ok(at),
-            Seen::Broken(spoilt) => Err(AtError::Broken(spoilt)),
+            Shown::NotYet => Err(AtError::Pending),
+            Shown::Filled(at) => Ok(at),
+            Shown::Broken(spoilt) => Err(AtError::Broken(spoilt)),
+        }
+    }
+
+    /// What the place shows now, by one look and without a hand. Nothing is shown yet of a place that nobody claimed, or
+    /// that is past the limit.
+    #[inline]
+    pub fn look(&self, place: u64) -> Shown<'_, T>
+        ensures shown { IsShownAt self.now place result }
+        // A value of the opened list is shown to everybody.
+        ensures opened { (x : T) → IsOpenedAt self.now place x → ShowsValue x result }
+    {
+        self.laws();
+        if place >= self.limit() {
+            return Shown::NotYet;
+        }
+        match self.opened_at(place) {
+            Some(at) => Shown::Filled(at),
+            None => self.look_into(place),
         }
     }
 
@@ -103,23 +122,23 @@ impl<T> Shared<T> {
         }
     }
 
-    // What a place shows: nothing either where its segment is not installed yet.
-    fn look(&self, place: u64) -> Seen<'_, T>
+    // What the cell of a place shows: nothing either where its segment is not installed yet.
+    fn look_into(&self, place: u64) -> Shown<'_, T>
         requires { place < limit_of self.now }
-        ensures { IsSeenAt self.now place result }
+        ensures { IsShownAt self.now place result }
     {
         self.laws();
         let (segment, offset) = locate(place);
         let Some((block, key)) = self.table.scout_key(segment) else {
-            return Seen::Pending;
+            return Shown::NotYet;
         };
         match block.look(offset) {
-            Look::Empty | Look::Busy => Seen::Pending,
-            Look::Filled(value, cell) => Seen::Filled(At {
+            Look::Empty | Look::Busy => Shown::NotYet,
+            Look::Filled(value, cell) => Shown::Filled(At {
                 value,
                 placed: Placed { key, cell },
             }),
-            Look::Broken(cell) => Seen::Broken(Spoilt { key, cell }),
+            Look::Broken(cell) => Shown::Broken(Spoilt { key, cell }),
         }
     }
 

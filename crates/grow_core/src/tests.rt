@@ -12,6 +12,7 @@ mod parts;
 mod race;
 mod refusals;
 mod says;
+mod shown;
 mod tokens;
 mod uses;
 

@@ -12,7 +12,7 @@ use std::sync::atomic::{AtomicU64, Ordering};
 use std::test::Fail;
 
 // What comes of three sevens, of which the one of number `at` is refused for the cause 9: the run, how many were made, and why.
-fn grow_refused(two: &mut Callers<u64>, at: u64) -> Option<(Run, u64, u64)> {
+pub(super) fn grow_refused(two: &mut Callers<u64>, at: u64) -> Option<(Run, u64, u64)> {
     let make = |i: u64| -> Result<u64, u64> { if i == at { Err(9) } else { Ok(7) } };
     match two.vector.try_grow_with(&mut two.a, 3, make) {
         Err(GrowError::Refused { run, made, cause }) => Some((run, made.run().n, cause)),

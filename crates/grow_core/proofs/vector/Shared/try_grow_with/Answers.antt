@@ -11,5 +11,5 @@ returns-in_err-claimed-clause-cause g c =
 pub returns-clause-won : goal.returns-clause-won
 returns-clause-won g c =
     let filled = c.make_run.ensures in
-    won_made (goal.F-step g) c.args.make c.args.self.now c.args.n c.args.hand.now c.claim_run.new.hand c.in_ok-claimed.claimed c.make_run.result
+    won_made (goal.F-step g) c.args.make c.args.self.now c.args.n c.args.n c.args.hand.now c.claim_run.new.hand c.in_ok-claimed.claimed c.make_run.result
     c.in_ok-claimed.ensures.claimed filled.run filled.n filled.tokens filled.made

@@ -1,5 +1,6 @@
 pub mod Each
 pub mod Ranges
+pub mod HandLemmas
 pub mod ShareLemmas
 pub mod MemberLemmas
 pub mod Tiles

@@ -3,6 +3,7 @@ pub mod Cursor
 pub mod Each
 pub mod Gate
 pub mod Workers
+pub mod Hands
 pub mod Shares
 pub mod Loops
 pub mod Errors

@@ -5,6 +5,7 @@ ghost use denote.Param.Send.{IsSync, IsSend};
 use std::marker::PhantomData;
 use std::snapshot::Snapshot;
 use std::sync::Wait;
+use std::sync::atomic::{AtomicBool, Ordering};
 use std::thread;
 use std::thread::{Promise, Threads};
 
@@ -48,9 +49,11 @@ pub trait ForkJoin<S, A, E> {
         ensures answer { IfOk result (gives self.now first (low + high)) }
         ensures refused { IfErr result (refuses self.now first (low + high)) };
 
-    /// Why a range has no answer whose upper half has no thread.
-    fn unstarted(&self, first: u32, count: u32) -> E
-        ensures { refuses self.now first count result };
+    /// What a range answers that is not to work, since a thread could not be started.
+    fn unstarted(&self, brought: S, first: u32, count: u32) -> Result<A, E>
+        requires { brings self.now first count brought × (0 < count) }
+        ensures answer { IfOk result (gives self.now first count) }
+        ensures refused { IfErr result (refuses self.now first count) };
 }
 
 // What the upper half of a range is to answer.
@@ -72,7 +75,8 @@ impl<S, A, E, J: ForkJoin<S, A, E>> Promise<Result<A, E>> for Upper<S, J> {
 /// Does the work of a range of workers.
 ///
 /// A range of one is the worker; a larger one starts a thread for its upper half, does its lower half itself, and
-/// joins. Where that thread can't be started, nobody of the range works. Every thread that was started has ended then.
+/// joins. Where that thread can't be started, nobody of the range works, and each half answers by `unstarted` with
+/// what it brought. Every thread that was started has ended then.
 #[cycle(halves)]
 pub fn fork_join<
     R: Threads + Wait + Sync,
@@ -109,6 +113,8 @@ fn halves<
     ensures refused { IfErr result (J.refuses job.now first (low + high)) }
 {
     let (for_lower, for_upper) = job.cut(brought, first, low, high);
+    let has_no_thread = AtomicBool::new(false);
+    let stops = &has_no_thread;
     thread::scope(
         thread::scope_env(),
         rt,
@@ -132,13 +138,25 @@ fn halves<
                         × J.brings job.now middle high for_upper × (0 < high) × (middle + high < 2 ^ 32) }
                     ensures answer { IfOk result (J.gives job.entry.now middle high) }
                     ensures refused { IfErr result (J.refuses job.entry.now middle high) }
-                { fork_join(rt, job, for_upper, middle, high) },
+                {
+                    if stops.load(Ordering::SeqCst) {
+                        return job.unstarted(for_upper, middle, high);
+                    }
+                    fork_join(rt, job, for_upper, middle, high)
+                },
             );
-            let Ok(child) = child else {
-                return Err(job.unstarted(first, low + high));
+            let (lower, upper) = match child {
+                Ok(child) => {
+                    let lower = fork_join(rt, job, for_lower, first, low);
+                    (lower, child.join(rt))
+                }
+                // The thread's work comes back with what it was to bring, and stops at once.
+                Err(refused) => {
+                    stops.store(true, Ordering::SeqCst);
+                    let upper = (refused.value)();
+                    (job.unstarted(for_lower, first, low), upper)
+                }
             };
-            let lower = fork_join(rt, job, for_lower, first, low);
-            let upper = child.join(rt);
             job.both(first, low, high, lower, upper)
         },
     )

@@ -2,6 +2,7 @@
 //! gate's order.
 ghost use Rattle.std.specs.Prelude.{◌<◌};
 
+mod hands;
 mod memory;
 mod refusals;
 mod uses;

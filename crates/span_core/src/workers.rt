@@ -54,7 +54,7 @@ pub trait Work<S, A, E> {
 }
 
 // The answers of both halves, or why there are none.
-fn both<A: Drop, E: Drop>(
+pub(crate) fn both<A: Drop, E: Drop>(
     lower: Result<Vec<A>, Refusal<E>>,
     upper: Result<Vec<A>, Refusal<E>>,
 ) -> Result<Vec<A>, Refusal<E>>
@@ -147,13 +147,19 @@ impl<'a, S: Drop, A: Drop, E: Drop, W: Work<S, A, E>, G: Gate> ForkJoin<S, Vec<A
         both(lower, upper)
     }
 
-    fn unstarted(&self, _first: u32, _count: u32) -> Refusal<E> {
-        Refusal::NoMemory
+    fn unstarted(&self, _brought: S, _first: u32, _count: u32) -> Result<Vec<A>, Refusal<E>>
+        requires { (W.brings self.now.work.now _first _count _brought
+            × AreReadyBy (G.lets_through self.now.gate.now) (W.ready self.now.work.now)) × (0 < _count) }
+        ensures answer { IfOk result (λ answers. EachGives (W.gives self.now.work.now) _first _count answers.items) }
+        ensures refused { IfErr result (IsOfRange (W.gives self.now.work.now)
+            (W.refuses self.now.work.now) (G.may_refuse self.now.gate.now) _first _count) }
+    {
+        Err(Refusal::NoMemory)
     }
 }
 
 // The answer of one worker.
-fn alone<A: Drop, E>(alloc: Global, answer: A) -> Result<Vec<A>, Refusal<E>>
+pub(crate) fn alone<A: Drop, E>(alloc: Global, answer: A) -> Result<Vec<A>, Refusal<E>>
     ensures answer { IfOk result (λ answers. answers.items ≡ answer ∷ []) }
     ensures memory { IfErr result (λ e. e ≡ Refusal.NoMemory) }
 {

@@ -1,0 +1,73 @@
+-- What workers leave that each have a hand of their own.
+use Rattle.std.specs.Prelude.{◌≡◌, ℕ, ◌+◌, ◌<◌, List, [], ◌∷◌, ◌++◌, Result, Ok, Err, Vec, IfOk, IfErr, length}
+use Rattle.std.specs.List.{Contains}
+use Rattle.std.specs.Borrow.{MutBor}
+use Rattle.std.specs.declared.alloc.Global.{Global}
+use mathlib.Core.List.{IsPrefix}
+use Rattle.claim_core.specs.Word.{WordView}
+use Rattle.claim_core.specs.Hand.{HandView}
+use Rattle.span_core.specs.declared.errors.Refusal.{Refusal}
+use Rattle.span_core.specs.Workers.{IsOfRange}
+
+-- a worker begins with a hand of this word that owns nothing, and has one share
+pub record IsNewHandOf (word : WordView) (hand : HandView) : Type 0 where
+  pub of : hand.of ≡ word
+  pub mine : hand.mine ≡ []
+  pub shares : hand.shares ≡ 1
+
+-- the hand is of the same word, and has the same shares
+pub record KeepsShares (old new : HandView) : Type 0 where
+  pub of : new.of ≡ old.of
+  pub shares : new.shares ≡ old.shares
+
+-- each of so many workers that was let through may be called with such a hand
+abbrev pub AreCallable : (ℕ → MutBor HandView → Type 0) → (ℕ → Type 0) → WordView → ℕ → Type 0
+AreCallable pre through word workers =
+    (worker : ℕ) (hand : MutBor HandView) → worker < workers → through worker → IsNewHandOf word hand.now → pre worker hand
+
+-- each of them leaves its hand with its shares
+abbrev pub KeepHands : {R : Type 0} → (ℕ → MutBor HandView → R → MutBor HandView → Type 0) → WordView → ℕ → Type 0
+KeepHands {R} post word workers =
+    (worker : ℕ) (old : MutBor HandView) (result : R) (new : MutBor HandView) → worker < workers → IsNewHandOf word old.now
+    → post worker old result new → KeepsShares old.now new.now
+
+-- a worker may answer so, and leave this hand
+abbrev pub Leaves : {R : Type 0} → (ℕ → MutBor HandView → R → MutBor HandView → Type 0) → WordView → ℕ → HandView → R → Type 0
+Leaves {R} post word worker own result =
+    (old : MutBor HandView) × (new : MutBor HandView) × IsNewHandOf word old.now × post worker old result new × (new.now ≡ own)
+
+-- all that a hand owns and has seen is the other one's too
+pub record IsPartOf (own all : HandView) : Type 0 where
+  pub of : own.of ≡ all.of
+  pub seen : IsPrefix own.seen all.seen
+  pub mine : (k : ℕ) → Contains own.mine k → Contains all.mine k
+
+-- a worker said so of a hand that is part of this one
+abbrev pub SaysOfPart : {X : Type 0} → (ℕ → HandView → X → Type 0) → HandView → ℕ → X → Type 0
+SaysOfPart says all worker x = (own : HandView) × says worker own x × IsPartOf own all
+
+-- what workers from this one on said, each of a hand that is part of this one; their own runs together are these
+abbrev pub SayInTurn : {X : Type 0} → (ℕ → HandView → X → Type 0) → HandView → ℕ → List X → List ℕ → Type 0
+SayInTurn says all worker [] mine = mine ≡ []
+SayInTurn says all worker (x ∷ xs) mine =
+    (own : HandView) × (rest : List ℕ) × says worker own x × IsPartOf own all × (mine ≡ own.mine ++ rest)
+    × SayInTurn says all (worker + 1) xs rest
+
+-- so many workers answered in turn, and the hand owns their runs after those that it had
+abbrev pub HaveAnswered : {A : Type 0} → (ℕ → HandView → A → Type 0) → HandView → HandView → ℕ → List A → Type 0
+HaveAnswered gives old new workers answers =
+    (mine : List ℕ) × (new.mine ≡ old.mine ++ mine) × SayInTurn gives new 0 answers mine × (length answers ≡ workers)
+
+-- what is said of an answer, and of a refusal
+abbrev pub of_answer : {A E : Type 0} → (ℕ → HandView → Result A E → Type 0) → ℕ → HandView → A → Type 0
+of_answer says worker own answer = says worker own (Ok answer)
+
+abbrev pub of_refusal : {A E : Type 0} → (ℕ → HandView → Result A E → Type 0) → ℕ → HandView → E → Type 0
+of_refusal says worker own e = says worker own (Err e)
+
+-- what a range of workers leaves: one hand of all its runs, with a share of each; and the answers, or why there are none
+pub record IsLeft {A E : Type 0} (says : ℕ → HandView → Result A E → Type 0) (may_refuse : ℕ → Type 0) (word : WordView) (first count : ℕ) (hand : HandView) (answers : Result (Vec A Global) (Refusal E)) : Type 0 where
+  pub of : hand.of ≡ word
+  pub shares : hand.shares ≡ count
+  pub answered : IfOk answers (λ all. SayInTurn (of_answer says) hand first all.items hand.mine × (length all.items ≡ count))
+  pub refused : IfErr answers (IsOfRange (SaysOfPart (of_answer says) hand) (SaysOfPart (of_refusal says) hand) may_refuse first count)

@@ -1,0 +1,203 @@
+//! Workers on one shared vector, each with a hand of its own.
+ghost use Rattle.std.specs.Prelude.{◌≡◌, ◌+◌, ◌<◌, ◌≤◌, [], ◌∷◌, Ok, Err, IfOk, IfErr};
+ghost use mathlib.Core.List.{IsPrefix};
+ghost use Rattle.grow_core.specs.Vector.{IsHandOf};
+ghost use Rattle.span_core.specs.Workers.{IsOfRange};
+ghost use Rattle.span_core.specs.Hands.{AreCallable, KeepHands, Leaves, SaysOfPart, HaveAnswered, of_answer, of_refusal};
+
+use crate::by_halves::{ForkJoin, fork_join};
+use crate::errors::Refusal;
+use crate::gate::Gate;
+use crate::workers::{alone, both};
+use grow_core::{Hand, Never, Shared};
+use std::alloc::Global;
+use std::sync::Wait;
+use std::thread::Threads;
+
+// What workers do with their hands, and the gate that they pass.
+#[derive(Drop)]
+struct Crew<'a, T, F, G> {
+    alloc: Global,
+    vector: &'a Shared<T>,
+    work: &'a F,
+    gate: &'a G,
+    workers: u32,
+}
+
+// What a range of workers leaves: one hand, and their answers.
+#[derive(Drop)]
+struct Left<T, A, E> {
+    hand: Hand<T>,
+    answers: Result<Vec<A>, Refusal<E>>,
+}
+
+impl<'a, T, A: Drop, E: Drop, F: Fn(u32, &mut Hand<T>) -> Result<A, E>, G: Gate> ForkJoin<
+    Hand<T>,
+    Left<T, A, E>,
+    Never,
+> for Crew<'a, T, F, G> {
+    ghost use Rattle.std.specs.Prelude.{◌≡◌, ℕ, ◌+◌, ◌<◌, ◌≤◌, [], IfOk, IfErr};
+    ghost use Rattle.span_core.specs.Hands.{AreCallable, KeepHands, Leaves, IsLeft};
+
+    // The hand has a share for each worker.
+    ghost brings = { λ c first count hand. (hand.of ≡ c.vector.now.word) × (hand.mine ≡ []) × (hand.shares ≡ count)
+        × AreCallable (F.pre c.work.now) (G.lets_through c.gate.now) c.vector.now.word c.workers
+        × KeepHands (F.post c.work.now) c.vector.now.word c.workers × (first + count ≤ c.workers) };
+
+    ghost gives = { λ c first count left. IsLeft (Leaves (F.post c.work.now) c.vector.now.word)
+        (G.may_refuse c.gate.now) c.vector.now.word first count left.hand left.answers };
+
+    ghost refuses = { λ _ _ _ _. ⊥ };
+
+    // One worker passes the gate and works.
+    fn work(&self, worker: u32, brought: Hand<T>) -> Result<Left<T, A, E>, Never>
+        requires { (brought.of ≡ self.now.vector.now.word) × (brought.mine ≡ []) × (brought.shares ≡ 1)
+            × AreCallable (F.pre self.now.work.now) (G.lets_through self.now.gate.now) self.now.vector.now.word self.now.workers
+            × KeepHands (F.post self.now.work.now) self.now.vector.now.word self.now.workers × (worker + 1 ≤ self.now.workers) }
+        ensures answer { IfOk result (λ left. IsLeft (Leaves (F.post self.now.work.now) self.now.vector.now.word)
+            (G.may_refuse self.now.gate.now) self.now.vector.now.word worker 1 left.hand left.answers) }
+        ensures refused { IfErr result (λ _. ⊥) }
+    {
+        let mut hand = brought;
+        if !self.gate.before(worker) {
+            self.gate.after(worker);
+            let answers = Err(Refusal::Stuck);
+            return Ok(Left { hand, answers });
+        }
+        let answer = (self.work)(worker, &mut hand);
+        self.gate.after(worker);
+        let answers = told(self.alloc, answer);
+        Ok(Left { hand, answers })
+    }
+
+    fn cut(&self, brought: Hand<T>, first: u32, low: u32, high: u32) -> (Hand<T>, Hand<T>)
+        requires { ((brought.of ≡ self.now.vector.now.word) × (brought.mine ≡ []) × (brought.shares ≡ low + high)
+            × AreCallable (F.pre self.now.work.now) (G.lets_through self.now.gate.now) self.now.vector.now.word self.now.workers
+            × KeepHands (F.post self.now.work.now) self.now.vector.now.word self.now.workers × (first + (low + high) ≤ self.now.workers)) × (0 < low) × (0 < high) }
+        ensures lower { (result.0.of ≡ self.now.vector.now.word) × (result.0.mine ≡ []) × (result.0.shares ≡ low)
+            × AreCallable (F.pre self.now.work.now) (G.lets_through self.now.gate.now) self.now.vector.now.word self.now.workers
+            × KeepHands (F.post self.now.work.now) self.now.vector.now.word self.now.workers × (first + low ≤ self.now.workers) }
+        ensures upper { (result.1.of ≡ self.now.vector.now.word) × (result.1.mine ≡ []) × (result.1.shares ≡ high)
+            × AreCallable (F.pre self.now.work.now) (G.lets_through self.now.gate.now) self.now.vector.now.word self.now.workers
+            × KeepHands (F.post self.now.work.now) self.now.vector.now.word self.now.workers × ((first + low) + high ≤ self.now.workers) }
+    {
+        let _first = first;
+        let mut lower = brought;
+        let upper = self.vector.split(&mut lower, high);
+        (lower, upper)
+    }
+
+    fn both(
+        &self,
+        first: u32,
+        low: u32,
+        high: u32,
+        lower: Result<Left<T, A, E>, Never>,
+        upper: Result<Left<T, A, E>, Never>,
+    ) -> Result<Left<T, A, E>, Never>
+        requires lower { IfOk lower (λ left. IsLeft (Leaves (F.post self.now.work.now) self.now.vector.now.word)
+            (G.may_refuse self.now.gate.now) self.now.vector.now.word first low left.hand left.answers)
+            × IfErr lower (λ _. ⊥) }
+        requires upper { IfOk upper (λ left. IsLeft (Leaves (F.post self.now.work.now) self.now.vector.now.word)
+            (G.may_refuse self.now.gate.now) self.now.vector.now.word (first + low) high left.hand left.answers)
+            × IfErr upper (λ _. ⊥) }
+        ensures answer { IfOk result (λ left. IsLeft (Leaves (F.post self.now.work.now) self.now.vector.now.word)
+            (G.may_refuse self.now.gate.now) self.now.vector.now.word first (low + high) left.hand left.answers) }
+        ensures refused { IfErr result (λ _. ⊥) }
+    {
+        let Left { mut hand, answers } = lower?;
+        let Left {
+            hand: other,
+            answers: more,
+        } = upper?;
+        self.vector.join(&mut hand, other);
+        let answers = both(answers, more);
+        Ok(Left { hand, answers })
+    }
+
+    // The hand comes back as it was.
+    fn unstarted(&self, brought: Hand<T>, _first: u32, _count: u32) -> Result<Left<T, A, E>, Never>
+        requires { ((brought.of ≡ self.now.vector.now.word) × (brought.mine ≡ []) × (brought.shares ≡ _count)
+            × AreCallable (F.pre self.now.work.now) (G.lets_through self.now.gate.now) self.now.vector.now.word self.now.workers
+            × KeepHands (F.post self.now.work.now) self.now.vector.now.word self.now.workers × (_first + _count ≤ self.now.workers)) × (0 < _count) }
+        ensures answer { IfOk result (λ left. IsLeft (Leaves (F.post self.now.work.now) self.now.vector.now.word)
+            (G.may_refuse self.now.gate.now) self.now.vector.now.word _first _count left.hand left.answers) }
+        ensures refused { IfErr result (λ _. ⊥) }
+    {
+        let answers = Err(Refusal::NoMemory);
+        Ok(Left {
+            hand: brought,
+            answers,
+        })
+    }
+}
+
+// What one worker answered, as that of a range.
+fn told<A: Drop, E>(alloc: Global, answer: Result<A, E>) -> Result<Vec<A>, Refusal<E>>
+    ensures answer { (a : A) → answer ≡ Ok a → IfOk result (λ all. all.items ≡ a ∷ []) }
+    ensures memory { (a : A) → answer ≡ Ok a → IfErr result (λ e. e ≡ Refusal.NoMemory) }
+    ensures refused { (e : E) → answer ≡ Err e → result ≡ Err (Refusal.Worker e) }
+{
+    match answer {
+        Ok(answer) => alone(alloc, answer),
+        Err(error) => Err(Refusal::Worker(error)),
+    }
+}
+
+/// Lets workers append to one vector, each in a thread of its own but the first, and answers what each gave, in order.
+///
+/// Each has a hand with one of the shares of `hand`, which is lent to it, and passes the gate before its work and after
+/// it. All hands are joined again, whatever the workers answer, and where a thread can't be started, so that `hand` has
+/// its shares again. They are started by `fork_join`. The refusal of the worker with the lowest number is answered.
+pub fn with_hands<
+    R: Threads + Wait + Sync,
+    T: Send + Sync,
+    A: Send + Drop,
+    E: Send + Drop,
+    F: Fn(u32, &mut Hand<T>) -> Result<A, E> + Sync,
+    G: Gate + Sync,
+>(
+    rt: &R,
+    alloc: Global,
+    vector: &Shared<T>,
+    hand: &mut Hand<T>,
+    workers: u32,
+    work: &F,
+    gate: &G,
+) -> Result<Vec<A>, Refusal<E>>
+    requires ours { IsHandOf vector.now hand.old }
+    requires some { 0 < workers }
+    // The hand keeps one share itself.
+    requires fewer { workers < hand.old.shares }
+    requires callable { AreCallable (F.pre work.now) (G.lets_through gate.now) vector.now.word workers }
+    requires keeps { KeepHands (F.post work.now) vector.now.word workers }
+    ensures of { hand.new.of ≡ hand.old.of }
+    ensures shares { hand.new.shares ≡ hand.old.shares }
+    ensures begins { IsPrefix hand.old.seen hand.new.seen }
+    ensures mine { IsPrefix hand.old.mine hand.new.mine }
+    ensures answers { IfOk result (λ answers.
+        HaveAnswered (of_answer (Leaves (F.post work.now) vector.now.word))
+        hand.old hand.new workers answers.items) }
+    // Each worker below the one that was refused has given an answer.
+    ensures refused { IfErr result (IsOfRange
+        (SaysOfPart (of_answer (Leaves (F.post work.now) vector.now.word)) hand.new)
+        (SaysOfPart (of_refusal (Leaves (F.post work.now) vector.now.word)) hand.new)
+        (G.may_refuse gate.now) 0 workers) }
+{
+    let theirs = vector.split(hand, workers);
+    let crew = Crew {
+        alloc,
+        vector,
+        work,
+        gate,
+        workers,
+    };
+    match fork_join(rt, &crew, theirs, 0, workers) {
+        Ok(left) => {
+            let Left { hand: own, answers } = left;
+            vector.join(hand, own);
+            answers
+        }
+        Err(never) => match never {},
+    }
+}

@@ -37,6 +37,14 @@ pub part_right : (a b c : HandView) → c.of ≡ b.of → IsPrefix b.seen c.seen
 part_right a b c of seen mine =
     record { of = sym of; seen = seen; mine = λ k own. subst (λ m. Contains m k) (sym mine) (Contains-append_right a.mine b.mine k own) }
 
+-- what is left of a hand is of its word, and owns the same
+pub rest_of : (old rest : HandView) (shares : ℕ) → rest ≡ record old { shares = shares } → rest.of ≡ old.of
+rest_of old rest shares kept = ap (λ (h : HandView). h.of) kept
+
+pub rest_mine : (old rest own new : HandView) (shares : ℕ) → rest ≡ record old { shares = shares } → new.mine ≡ rest.mine ++ own.mine
+    → new.mine ≡ old.mine ++ own.mine
+rest_mine old rest own new shares kept mine = mine ∙ ap (λ (h : HandView). h.mine ++ own.mine) kept
+
 module _ {X : Type 0} (says : ℕ → HandView → X → Type 0) where
   -- what is said of a part of a part
   says-more : (a b : HandView) → IsPartOf a b → (worker : ℕ) (x : X) → SaysOfPart says a worker x → SaysOfPart says b worker x

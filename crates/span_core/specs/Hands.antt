@@ -1,11 +1,12 @@
 -- What workers leave that each have a hand of their own.
-use Rattle.std.specs.Prelude.{◌≡◌, ℕ, ◌+◌, ◌<◌, List, [], ◌∷◌, ◌++◌, Result, Ok, Err, Vec, IfOk, IfErr, length}
+use Rattle.std.specs.Prelude.{◌≡◌, ℕ, ◌+◌, ◌/◌, ◌<◌, List, [], ◌∷◌, ◌++◌, Result, Ok, Err, Vec, IfOk, IfErr, length}
 use Rattle.std.specs.List.{Contains}
-use Rattle.std.specs.Borrow.{MutBor}
+use Rattle.std.specs.Borrow.{Bor, MutBor}
 use Rattle.std.specs.declared.alloc.Global.{Global}
 use mathlib.Core.List.{IsPrefix}
 use Rattle.claim_core.specs.Word.{WordView}
 use Rattle.claim_core.specs.Hand.{HandView}
+use Rattle.grow_core.specs.Vector.{VectorView}
 use Rattle.span_core.specs.declared.errors.Refusal.{Refusal}
 use Rattle.span_core.specs.Workers.{IsOfRange}
 
@@ -15,26 +16,36 @@ pub record IsNewHandOf (word : WordView) (hand : HandView) : Type 0 where
   pub mine : hand.mine ≡ []
   pub shares : hand.shares ≡ 1
 
+-- the shares of each of n hands that are split off one, which keeps at least as many
+abbrev pub even_share : HandView → ℕ → ℕ
+even_share hand n = hand.shares / (n + 1)
+
+-- a hand with so many shares that is split off another: it has seen the same, and owns nothing
+abbrev pub split_off : HandView → ℕ → HandView
+split_off hand shares = record hand { mine = []; shares = shares }
+
 -- the hand is of the same word, and has the same shares
 pub record KeepsShares (old new : HandView) : Type 0 where
   pub of : new.of ≡ old.of
   pub shares : new.shares ≡ old.shares
 
--- each of so many workers that was let through may be called with such a hand
-abbrev pub AreCallable : (ℕ → MutBor HandView → Type 0) → (ℕ → Type 0) → WordView → ℕ → Type 0
-AreCallable pre through word workers =
-    (worker : ℕ) (hand : MutBor HandView) → worker < workers → through worker → IsNewHandOf word hand.now → pre worker hand
+-- each of so many workers that was let through may be called with this vector and such a hand
+abbrev pub AreCallable : {T : Type 0} → (Bor (VectorView T) → ℕ → MutBor HandView → Type 0) → (ℕ → Type 0) → VectorView T → ℕ → Type 0
+AreCallable {T} pre through vector workers =
+    (shown : Bor (VectorView T)) (worker : ℕ) (hand : MutBor HandView) → shown.now ≡ vector → worker < workers → through worker
+    → IsNewHandOf shown.now.word hand.now → pre shown worker hand
 
 -- each of them leaves its hand with its shares
-abbrev pub KeepHands : {R : Type 0} → (ℕ → MutBor HandView → R → MutBor HandView → Type 0) → WordView → ℕ → Type 0
-KeepHands {R} post word workers =
-    (worker : ℕ) (old : MutBor HandView) (result : R) (new : MutBor HandView) → worker < workers → IsNewHandOf word old.now
-    → post worker old result new → KeepsShares old.now new.now
+abbrev pub KeepHands : {T R : Type 0} → (Bor (VectorView T) → ℕ → MutBor HandView → R → MutBor HandView → Type 0) → VectorView T → ℕ → Type 0
+KeepHands {T} {R} post vector workers =
+    (shown : Bor (VectorView T)) (worker : ℕ) (old : MutBor HandView) (result : R) (new : MutBor HandView) → shown.now ≡ vector
+    → worker < workers → IsNewHandOf shown.now.word old.now → post shown worker old result new → KeepsShares old.now new.now
 
 -- a worker may answer so, and leave this hand
-abbrev pub Leaves : {R : Type 0} → (ℕ → MutBor HandView → R → MutBor HandView → Type 0) → WordView → ℕ → HandView → R → Type 0
-Leaves {R} post word worker own result =
-    (old : MutBor HandView) × (new : MutBor HandView) × IsNewHandOf word old.now × post worker old result new × (new.now ≡ own)
+abbrev pub Leaves : {T R : Type 0} → (Bor (VectorView T) → ℕ → MutBor HandView → R → MutBor HandView → Type 0) → VectorView T → ℕ → HandView → R → Type 0
+Leaves {T} {R} post vector worker own result =
+    (shown : Bor (VectorView T)) × (old : MutBor HandView) × (new : MutBor HandView) × (shown.now ≡ vector)
+    × IsNewHandOf shown.now.word old.now × post shown worker old result new × (new.now ≡ own)
 
 -- all that a hand owns and has seen is the other one's too
 pub record IsPartOf (own all : HandView) : Type 0 where

@@ -31,20 +31,23 @@ struct Left<T, A, E> {
     answers: Result<Vec<A>, Refusal<E>>,
 }
 
-impl<'a, T, A: Drop, E: Drop, F: Fn(u32, &mut Hand<T>) -> Result<A, E>, G: Gate> ForkJoin<
-    Hand<T>,
-    Left<T, A, E>,
-    Never,
-> for Crew<'a, T, F, G> {
+impl<
+    'a,
+    T,
+    A: Drop,
+    E: Drop,
+    F: Fn(&Shared<T>, u32, &mut Hand<T>) -> Result<A, E>,
+    G: Gate,
+> ForkJoin<Hand<T>, Left<T, A, E>, Never> for Crew<'a, T, F, G> {
     ghost use Rattle.std.specs.Prelude.{◌≡◌, ℕ, ◌+◌, ◌<◌, ◌≤◌, [], IfOk, IfErr};
     ghost use Rattle.span_core.specs.Hands.{AreCallable, KeepHands, Leaves, IsLeft};
 
     // The hand has a share for each worker.
     ghost brings = { λ c first count hand. (hand.of ≡ c.vector.now.word) × (hand.mine ≡ []) × (hand.shares ≡ count)
-        × AreCallable (F.pre c.work.now) (G.lets_through c.gate.now) c.vector.now.word c.workers
-        × KeepHands (F.post c.work.now) c.vector.now.word c.workers × (first + count ≤ c.workers) };
+        × AreCallable (F.pre c.work.now) (G.lets_through c.gate.now) c.vector.now c.workers
+        × KeepHands (F.post c.work.now) c.vector.now c.workers × (first + count ≤ c.workers) };
 
-    ghost gives = { λ c first count left. IsLeft (Leaves (F.post c.work.now) c.vector.now.word)
+    ghost gives = { λ c first count left. IsLeft (Leaves (F.post c.work.now) c.vector.now)
         (G.may_refuse c.gate.now) c.vector.now.word first count left.hand left.answers };
 
     ghost refuses = { λ _ _ _ _. ⊥ };
@@ -52,9 +55,9 @@ impl<'a, T, A: Drop, E: Drop, F: Fn(u32, &mut Hand<T>) -> Result<A, E>, G: Gate>
     // One worker passes the gate and works.
     fn work(&self, worker: u32, brought: Hand<T>) -> Result<Left<T, A, E>, Never>
         requires { (brought.of ≡ self.now.vector.now.word) × (brought.mine ≡ []) × (brought.shares ≡ 1)
-            × AreCallable (F.pre self.now.work.now) (G.lets_through self.now.gate.now) self.now.vector.now.word self.now.workers
-            × KeepHands (F.post self.now.work.now) self.now.vector.now.word self.now.workers × (worker + 1 ≤ self.now.workers) }
-        ensures answer { IfOk result (λ left. IsLeft (Leaves (F.post self.now.work.now) self.now.vector.now.word)
+            × AreCallable (F.pre self.now.work.now) (G.lets_through self.now.gate.now) self.now.vector.now self.now.workers
+            × KeepHands (F.post self.now.work.now) self.now.vector.now self.now.workers × (worker + 1 ≤ self.now.workers) }
+        ensures answer { IfOk result (λ left. IsLeft (Leaves (F.post self.now.work.now) self.now.vector.now)
             (G.may_refuse self.now.gate.now) self.now.vector.now.word worker 1 left.hand left.answers) }
         ensures refused { IfErr result (λ _. ⊥) }
     {
@@ -64,7 +67,7 @@ impl<'a, T, A: Drop, E: Drop, F: Fn(u32, &mut Hand<T>) -> Result<A, E>, G: Gate>
             let answers = Err(Refusal::Stuck);
             return Ok(Left { hand, answers });
         }
-        let answer = (self.work)(worker, &mut hand);
+        let answer = (self.work)(self.vector, worker, &mut hand);
         self.gate.after(worker);
         let answers = told(self.alloc, answer);
         Ok(Left { hand, answers })
@@ -72,14 +75,14 @@ impl<'a, T, A: Drop, E: Drop, F: Fn(u32, &mut Hand<T>) -> Result<A, E>, G: Gate>
 
     fn cut(&self, brought: Hand<T>, first: u32, low: u32, high: u32) -> (Hand<T>, Hand<T>)
         requires { ((brought.of ≡ self.now.vector.now.word) × (brought.mine ≡ []) × (brought.shares ≡ low + high)
-            × AreCallable (F.pre self.now.work.now) (G.lets_through self.now.gate.now) self.now.vector.now.word self.now.workers
-            × KeepHands (F.post self.now.work.now) self.now.vector.now.word self.now.workers × (first + (low + high) ≤ self.now.workers)) × (0 < low) × (0 < high) }
+            × AreCallable (F.pre self.now.work.now) (G.lets_through self.now.gate.now) self.now.vector.now self.now.workers
+            × KeepHands (F.post self.now.work.now) self.now.vector.now self.now.workers × (first + (low + high) ≤ self.now.workers)) × (0 < low) × (0 < high) }
         ensures lower { (result.0.of ≡ self.now.vector.now.word) × (result.0.mine ≡ []) × (result.0.shares ≡ low)
-            × AreCallable (F.pre self.now.work.now) (G.lets_through self.now.gate.now) self.now.vector.now.word self.now.workers
-            × KeepHands (F.post self.now.work.now) self.now.vector.now.word self.now.workers × (first + low ≤ self.now.workers) }
+            × AreCallable (F.pre self.now.work.now) (G.lets_through self.now.gate.now) self.now.vector.now self.now.workers
+            × KeepHands (F.post self.now.work.now) self.now.vector.now self.now.workers × (first + low ≤ self.now.workers) }
         ensures upper { (result.1.of ≡ self.now.vector.now.word) × (result.1.mine ≡ []) × (result.1.shares ≡ high)
-            × AreCallable (F.pre self.now.work.now) (G.lets_through self.now.gate.now) self.now.vector.now.word self.now.workers
-            × KeepHands (F.post self.now.work.now) self.now.vector.now.word self.now.workers × ((first + low) + high ≤ self.now.workers) }
+            × AreCallable (F.pre self.now.work.now) (G.lets_through self.now.gate.now) self.now.vector.now self.now.workers
+            × KeepHands (F.post self.now.work.now) self.now.vector.now self.now.workers × ((first + low) + high ≤ self.now.workers) }
     {
         let _first = first;
         let mut lower = brought;
@@ -95,13 +98,13 @@ impl<'a, T, A: Drop, E: Drop, F: Fn(u32, &mut Hand<T>) -> Result<A, E>, G: Gate>
         lower: Result<Left<T, A, E>, Never>,
         upper: Result<Left<T, A, E>, Never>,
     ) -> Result<Left<T, A, E>, Never>
-        requires lower { IfOk lower (λ left. IsLeft (Leaves (F.post self.now.work.now) self.now.vector.now.word)
+        requires lower { IfOk lower (λ left. IsLeft (Leaves (F.post self.now.work.now) self.now.vector.now)
             (G.may_refuse self.now.gate.now) self.now.vector.now.word first low left.hand left.answers)
             × IfErr lower (λ _. ⊥) }
-        requires upper { IfOk upper (λ left. IsLeft (Leaves (F.post self.now.work.now) self.now.vector.now.word)
+        requires upper { IfOk upper (λ left. IsLeft (Leaves (F.post self.now.work.now) self.now.vector.now)
             (G.may_refuse self.now.gate.now) self.now.vector.now.word (first + low) high left.hand left.answers)
             × IfErr upper (λ _. ⊥) }
-        ensures answer { IfOk result (λ left. IsLeft (Leaves (F.post self.now.work.now) self.now.vector.now.word)
+        ensures answer { IfOk result (λ left. IsLeft (Leaves (F.post self.now.work.now) self.now.vector.now)
             (G.may_refuse self.now.gate.now) self.now.vector.now.word first (low + high) left.hand left.answers) }
         ensures refused { IfErr result (λ _. ⊥) }
     {
@@ -118,9 +121,9 @@ impl<'a, T, A: Drop, E: Drop, F: Fn(u32, &mut Hand<T>) -> Result<A, E>, G: Gate>
     // The hand comes back as it was.
     fn unstarted(&self, brought: Hand<T>, _first: u32, _count: u32) -> Result<Left<T, A, E>, Never>
         requires { ((brought.of ≡ self.now.vector.now.word) × (brought.mine ≡ []) × (brought.shares ≡ _count)
-            × AreCallable (F.pre self.now.work.now) (G.lets_through self.now.gate.now) self.now.vector.now.word self.now.workers
-            × KeepHands (F.post self.now.work.now) self.now.vector.now.word self.now.workers × (_first + _count ≤ self.now.workers)) × (0 < _count) }
-        ensures answer { IfOk result (λ left. IsLeft (Leaves (F.post self.now.work.now) self.now.vector.now.word)
+            × AreCallable (F.pre self.now.work.now) (G.lets_through self.now.gate.now) self.now.vector.now self.now.workers
+            × KeepHands (F.post self.now.work.now) self.now.vector.now self.now.workers × (_first + _count ≤ self.now.workers)) × (0 < _count) }
+        ensures answer { IfOk result (λ left. IsLeft (Leaves (F.post self.now.work.now) self.now.vector.now)
             (G.may_refuse self.now.gate.now) self.now.vector.now.word _first _count left.hand left.answers) }
         ensures refused { IfErr result (λ _. ⊥) }
     {
@@ -154,7 +157,7 @@ pub fn with_hands<
     T: Send + Sync,
     A: Send + Drop,
     E: Send + Drop,
-    F: Fn(u32, &mut Hand<T>) -> Result<A, E> + Sync,
+    F: Fn(&Shared<T>, u32, &mut Hand<T>) -> Result<A, E> + Sync,
     G: Gate + Sync,
 >(
     rt: &R,
@@ -169,19 +172,19 @@ pub fn with_hands<
     requires some { 0 < workers }
     // The hand keeps one share itself.
     requires fewer { workers < hand.old.shares }
-    requires callable { AreCallable (F.pre work.now) (G.lets_through gate.now) vector.now.word workers }
-    requires keeps { KeepHands (F.post work.now) vector.now.word workers }
+    requires callable { AreCallable (F.pre work.now) (G.lets_through gate.now) vector.now workers }
+    requires keeps { KeepHands (F.post work.now) vector.now workers }
     ensures of { hand.new.of ≡ hand.old.of }
     ensures shares { hand.new.shares ≡ hand.old.shares }
     ensures begins { IsPrefix hand.old.seen hand.new.seen }
     ensures mine { IsPrefix hand.old.mine hand.new.mine }
     ensures answers { IfOk result (λ answers.
-        HaveAnswered (of_answer (Leaves (F.post work.now) vector.now.word))
+        HaveAnswered (of_answer (Leaves (F.post work.now) vector.now))
         hand.old hand.new workers answers.items) }
     // Each worker below the one that was refused has given an answer.
     ensures refused { IfErr result (IsOfRange
-        (SaysOfPart (of_answer (Leaves (F.post work.now) vector.now.word)) hand.new)
-        (SaysOfPart (of_refusal (Leaves (F.post work.now) vector.now.word)) hand.new)
+        (SaysOfPart (of_answer (Leaves (F.post work.now) vector.now)) hand.new)
+        (SaysOfPart (of_refusal (Leaves (F.post work.now) vector.now)) hand.new)
         (G.may_refuse gate.now) 0 workers) }
 {
     let theirs = vector.split(hand, workers);

@@ -15,6 +15,7 @@
 mod by_halves;
 mod cursor;
 mod errors;
+mod even;
 mod gate;
 mod hands;
 pub mod laws;
@@ -29,6 +30,7 @@ mod workers;
 pub use by_halves::{ForkJoin, fork_join};
 pub use cursor::Cursor;
 pub use errors::{ParError, Refusal};
+pub use even::split_even;
 pub use gate::{Free, Gate, PairGate};
 pub use hands::with_hands;
 pub use map::par_map;

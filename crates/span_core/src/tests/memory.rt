@@ -1,6 +1,10 @@
 // Any one allocation may be refused: then the loop says so, and the next one answers.
 // `bin/refusals` refuses each request in turn.
-use crate::{Free, ParError, Span, par_map, par_reduce};
+ghost use Rattle.std.specs.Prelude.{◌≡◌};
+ghost use Rattle.grow_core.specs.Vector.{IsHandOf};
+
+use crate::{Free, ParError, Refusal, Span, par_map, par_reduce, with_hands};
+use grow_core::{Hand, Shared};
 use quiet_core::Quiet;
 use std::alloc::Global;
 use std::process::Abort;
@@ -62,5 +66,49 @@ fn a_map_and_a_reduction_are_tried_again(rt: HostRuntime) {
     if let Some(list) = six(rt.alloc()) {
         assert!(rt; list.len() == 6);
         try_again(&rt, rt.alloc(), &list);
+    }
+}
+
+// Three workers append a value each, and answer its place.
+fn three_append<R: Threads + Wait + Sync>(
+    rt: &R,
+    alloc: Global,
+    vector: &Shared<u64>,
+    hand: &mut Hand<u64>,
+) -> Result<usize, Refusal<u32>>
+    requires ours { IsHandOf vector.now hand.old }
+    requires shares { hand.old.shares ≡ 65536 }
+    ensures of { hand.new.of ≡ hand.old.of }
+    ensures shares { hand.new.shares ≡ hand.old.shares }
+{
+    let work = |vector: &Shared<u64>, worker: u32, hand: &mut Hand<u64>| -> Result<u64, u32>
+        requires { IsHandOf vector.now hand.old }
+        ensures of { hand.new.of ≡ hand.old.of }
+        ensures shares { hand.new.shares ≡ hand.old.shares }
+    {
+        match vector.push_back(rt, hand, 5) {
+            Ok(placed) => Ok(placed.place()),
+            Err(_refused) => Err(worker),
+        }
+    };
+    let places = with_hands(rt, alloc, vector, hand, 3, &work, &Free)?;
+    Ok(places.len())
+}
+
+// What three workers answer, tried again where they had no memory, and the length of the closed list.
+fn append_again<R: Threads + Wait + Sync>(rt: &R, alloc: Global) -> Option<(bool, u64)> {
+    let (vector, mut hand) = Quiet::new(alloc, 100).open().ok()?;
+    let mut answered = three_append(rt, alloc, &vector, &mut hand);
+    if answered.is_err() {
+        answered = three_append(rt, alloc, &vector, &mut hand);
+    }
+    let is_three = matches!(answered, Ok(3));
+    Some((is_three, Quiet::close(vector, hand).len()))
+}
+
+#[test]
+fn workers_with_hands_are_tried_again(rt: HostRuntime) {
+    if let Some((is_three, len)) = append_again(&rt, rt.alloc()) {
+        assert!(rt; is_three && 3 <= len && len <= 6);
     }
 }

@@ -7,7 +7,7 @@ use Rattle.span_core.proofs.hands.CrewForkJoinHandLeftNever.both.Goals as goal
 pub returns-clause-answer : goal.returns-clause-answer
 returns-clause-answer g c =
     let word = c.args.self.now.vector.now.word in
-    let says = Leaves (goal.F-post g c.args.self.now.work.now) word in
+    let says = Leaves (goal.F-post g c.args.self.now.work.now) c.args.self.now.vector.now in
     let may = g.G.Gate.may_refuse c.args.self.now.gate.now in
     let middle = c.args.first + c.args.low in
     let a = c.in_ok-hand.field-0 in

@@ -4,6 +4,7 @@ ghost use Rattle.std.specs.Prelude.{◌<◌};
 
 mod memory;
 mod refusals;
+mod stuck;
 mod uses;
 mod watch;
 

@@ -6,6 +6,7 @@ ghost use Rattle.std.specs.Prelude.{◌≡◌, IfOk, length};
 mod histories;
 mod lines;
 mod machine;
+mod memory;
 mod running;
 mod scripts;
 mod uses;

@@ -6,6 +6,8 @@ ghost use Rattle.std.specs.Prelude.{◌≡◌, IfOk, length};
 mod histories;
 mod lines;
 mod machine;
+mod memory;
+mod running;
 mod scripts;
 mod uses;
 mod whole_calls;

@@ -1,4 +1,24 @@
-//! What no row of the program shows: readers and writers that give or take little, fail, or are interrupted.
+//! What no row of the program shows: readers and writers that give or take little, fail, or are interrupted, and memory
+//! that is refused.
 
 mod lines;
+mod memory;
 mod streams;
+
+use crate::engine::{Engine, run_calls, run_steps};
+use crate::error::RunError;
+use std::alloc::Global;
+use std::io::{Read, Write};
+
+// Runs the script that a reader has.
+fn run<R: Read, W: Write>(
+    alloc: Global,
+    engine: Engine,
+    reader: &mut R,
+    writer: &mut W,
+) -> Result<(), RunError> {
+    match engine {
+        Engine::Calls => run_calls(alloc, reader, writer),
+        Engine::Steps => run_steps(alloc, reader, writer),
+    }
+}

@@ -1,5 +1,7 @@
 //! Races under each gate, and the number of each refusal.
 
+mod memory;
+
 use crate::refusal::refused;
 use crate::{RaceError, RaceReport, race};
 use grow_core::GrowError;
@@ -29,22 +31,23 @@ fn two_workers_run_at_once(rt: HostRuntime) {
     assert!(rt; ended == Ok(report));
 }
 
-// Counts its calls, and refuses the workers from one number on.
+// Counts its calls, and refuses the workers from one number up to another.
 #[derive(Drop)]
 struct CountingGate {
-    refused_from: u32,
+    from: u32,
+    to: u32,
     before: AtomicU64,
     after: AtomicU64,
 }
 
 impl Gate for CountingGate {
-    ghost use Rattle.std.specs.Prelude.{◌≤◌};
+    ghost use Rattle.std.specs.Prelude.{◌≤◌, ◌<◌};
 
-    ghost may_refuse = { λ gate worker. gate.refused_from ≤ worker };
+    ghost may_refuse = { λ gate worker. (gate.from ≤ worker) × (worker < gate.to) };
 
     fn before(&self, worker: u32) -> bool {
         let _calls = self.before.fetch_add(1, Ordering::SeqCst);
-        worker < self.refused_from
+        worker < self.from || self.to <= worker
     }
 
     fn after(&self, _worker: u32) {
@@ -52,24 +55,30 @@ impl Gate for CountingGate {
     }
 }
 
-// From which worker on the gate refuses five workers, and whether it refuses one.
-const REFUSED: [(u32, bool); 4] = [(0, true), (2, true), (4, true), (5, false)];
+// Which of five workers the gate refuses, and whether it refuses one.
+const REFUSED: [(u32, u32, bool); 7] = [
+    (0, 5, true),
+    (2, 5, true),
+    (4, 5, true),
+    (5, 5, false),
+    (0, 1, true),
+    (1, 2, true),
+    (2, 3, true),
+];
 
 #[test]
-fn each_worker_passes_the_gate_twice_also_where_several_are_refused(rt: HostRuntime) {
-    for (refused_from, stuck) in REFUSED.as_slice() {
+fn each_worker_passes_the_gate_twice_whichever_are_refused(rt: HostRuntime) {
+    for (from, to, stuck) in REFUSED.as_slice() {
         let gate = CountingGate {
-            refused_from: *refused_from,
+            from: *from,
+            to: *to,
             before: AtomicU64::new(0),
             after: AtomicU64::new(0),
         };
         let ended = race(&rt, rt.alloc(), 5, 10, &gate);
-        assert!(rt;
-            (ended == Err(RaceError::Stuck)) == *stuck,
-            "{refused_from}"
-        );
-        assert!(rt; gate.before.load(Ordering::SeqCst) == 5, "{refused_from}");
-        assert!(rt; gate.after.load(Ordering::SeqCst) == 5, "{refused_from}");
+        assert!(rt; (ended == Err(RaceError::Stuck)) == *stuck, "{from} {to}");
+        assert!(rt; gate.before.load(Ordering::SeqCst) == 5, "{from} {to}");
+        assert!(rt; gate.after.load(Ordering::SeqCst) == 5, "{from} {to}");
     }
 }
 

@@ -5,6 +5,7 @@ ghost use Rattle.std.specs.Prelude.{◌<◌};
 mod hands;
 mod memory;
 mod refusals;
+mod stuck;
 mod uses;
 mod watch;
 

@@ -1,5 +1,7 @@
 //! Reports of sweeps, and what they sum up.
 
+mod memory;
+
 use crate::{SweepReport, sweep};
 use std::alloc::AllocError;
 

@@ -2,15 +2,16 @@
 
 use super::played;
 use book_core::{Event, Reply, check};
-use script_core::read;
+use script_core::{Script, read};
 use std::alloc::Global;
 use std::test::Fail;
+use step_core::play;
 
 // A script, and the events of its play.
 type Row = (&'static str, &'static [(Event, Reply)]);
 
 #[rattlefmt::skip]
-const ROWS: [Row; 5] = [
+pub(super) const ROWS: [Row; 5] = [
     // Pushes that meet.
     ("limit 8\nactor a push 5\nactor b push 6\nsteps a b a a b a b b b b b a a", &[
         (Event::Claim { actor: 0, n: 1 }, Reply::Run { from: 0, n: 1 }),
@@ -91,17 +92,34 @@ const SCRIPTS: [&'static str; 26] = [
     "limit 8\nactor a atleast 0 3\nsteps a",
 ];
 
-// Whether the events of the play of a script are a history.
-fn is_history(alloc: Global, script: &str) -> Result<bool, Fail> {
-    let limit = read(alloc, script.as_bytes())?.limit;
-    let played = played(alloc, true, script)?;
+// Whether the events are a history where the play of a script stops after so many items.
+fn is_history(alloc: Global, script: &str, stop: usize) -> Result<bool, Fail> {
+    let Script {
+        limit,
+        programs,
+        items,
+        ..
+    } = read(alloc, script.as_bytes())?;
+    let items = items.as_slice().get(..stop).ok_or("no such item")?;
+    let played = play(alloc, limit, programs, items)?;
     Ok(check(alloc, limit, played.events.as_slice())?)
 }
 
+// Whether they are wherever it stops, after its last item too.
+fn are_histories(alloc: Global, script: &str) -> Result<bool, Fail> {
+    let items = read(alloc, script.as_bytes())?.items.len();
+    for stop in 0..items + 1 {
+        if !is_history(alloc, script, stop)? {
+            return Ok(false);
+        }
+    }
+    Ok(true)
+}
+
 #[test]
-fn the_events_of_plays_are_histories(rt: HostRuntime) -> Result<(), Fail> {
+fn the_events_of_plays_are_histories_wherever_they_stop(rt: HostRuntime) -> Result<(), Fail> {
     for script in SCRIPTS.as_slice() {
-        assert!(rt; is_history(rt.alloc(), script)?, "{script}");
+        assert!(rt; are_histories(rt.alloc(), script)?, "{script}");
     }
     Ok(())
 }

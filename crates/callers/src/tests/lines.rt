@@ -7,10 +7,10 @@ use std::alloc::Global;
 const MOST: u64 = u64::MAX;
 
 // The number of a call, the call, its answer, and the line.
-type Row = (u64, Command, Answer, &'static str);
+pub(super) type Row = (u64, Command, Answer, &'static str);
 
 #[rattlefmt::skip]
-const ANSWERS: [Row; 12] = [
+pub(super) const ANSWERS: [Row; 12] = [
     (10, Command::Push { value: 7 }, Answer::At { place: 0 }, "a10 push at 0\n"),
     (10, Command::Grow { n: 3, value: 7 }, Answer::Run { from: 4, n: 3 }, "a10 grow run 4 3\n"),
     (10, Command::Grow { n: 3, value: 7 }, Answer::Full { size: 4 }, "a10 grow full 4\n"),
@@ -29,7 +29,7 @@ const ANSWERS: [Row; 12] = [
 ];
 
 // The line of a row.
-fn line_of(alloc: Global, row: &Row) -> Result<Vec<u8>, WriteFault> {
+pub(super) fn line_of(alloc: Global, row: &Row) -> Result<Vec<u8>, WriteFault> {
     let ended = Ended {
         actor: 0,
         number: row.0,

@@ -21,9 +21,9 @@ const REFUSED: Item = Item {
 };
 
 // A text, the limit, the letters and the items.
-type Row = (&'static str, u64, &'static [u8], &'static [Item]);
+pub(super) type Row = (&'static str, u64, &'static [u8], &'static [Item]);
 
-const ROWS: [Row; 4] = [
+pub(super) const ROWS: [Row; 4] = [
     ("limit 1\nsteps", 1, b"", &[]),
     ("limit 65536\nsteps\n", 65_536, b"", &[]),
     (
@@ -41,7 +41,7 @@ const ROWS: [Row; 4] = [
 ];
 
 // Whether a text is read as these values.
-fn is_read(alloc: Global, row: &Row) -> Result<bool, Fail> {
+pub(super) fn is_read(alloc: Global, row: &Row) -> Result<bool, ScriptError> {
     let (text, limit, names, items) = row;
     let script = read(alloc, text.as_bytes())?;
     Ok(

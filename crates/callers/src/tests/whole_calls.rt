@@ -5,13 +5,13 @@ use book_core::{Cell, Command, Event, Item, Reply};
 use std::test::Fail;
 use step_core::{PlayError, play_calls};
 
-const EVERY_COMMAND: &str = "limit 4\n\
+pub(super) const EVERY_COMMAND: &str = "limit 4\n\
     actor a fail 3 7 1, atleast 2 0, read 3, grow 2 1\n\
     actor b push 6, read 1, size\n\
     steps a a a b a b b a";
 
 #[rattlefmt::skip]
-const EVENTS: [(Event, Reply); 11] = [
+pub(super) const EVENTS: [(Event, Reply); 11] = [
     (Event::Claim { actor: 0, n: 3 }, Reply::Run { from: 0, n: 3 }),
     (Event::Finish { actor: 0, place: 0, value: 7 }, Reply::Done),
     (Event::Break { actor: 0, place: 1 }, Reply::Done),

@@ -1,15 +1,27 @@
 //! Readers and writers that give or take little, fail, or are interrupted.
 
-use crate::engine::run_calls;
+use super::run;
+use crate::engine::Engine;
 use crate::error::RunError;
 use script_core::ScriptError;
 use std::alloc::Global;
 use std::io::{self, ErrorKind, Read, Write};
-use std::process::Abort;
 
 const SCRIPT: &[u8] = b"limit 8\nactor a push 5, size\nactor b push 6\nsteps a b a\n";
 
 const TEXT: &[u8] = b"a1 push at 0\nb1 push at 1\na2 size 2\nsize 2: 5 6\n";
+
+// An engine, a script and the text of its play.
+type Row = (Engine, &'static [u8], &'static [u8]);
+
+const PLAYS: [Row; 2] = [
+    (Engine::Calls, SCRIPT, TEXT),
+    (
+        Engine::Steps,
+        b"limit 8\nactor a push 5\nactor b push 6\nsteps a b a a b a b b b b b a a",
+        b"b1 push at 1\na1 push at 0\nsize 2: 5 6\n",
+    ),
+];
 
 // Gives a byte at a time, and is interrupted before each; fails after the last where it is told to.
 #[derive(Drop)]
@@ -142,116 +154,142 @@ impl Write for Unflushed {
     }
 }
 
-// Runs the script that a reader has, and compares how it ends.
-fn ends<R: Read, W: Write>(
-    rt: &impl Abort,
-    alloc: Global,
-    reader: &mut R,
-    writer: &mut W,
-    want: Result<(), RunError>,
-) {
-    let got = run_calls(alloc, reader, writer);
-    assert!(rt; got == want);
+const ENGINES: [Engine; 2] = [Engine::Calls, Engine::Steps];
+
+// Whether a play that is read a byte at a time is whole, and nothing is left of it for another.
+fn is_read_slowly(alloc: Global, row: &Row) -> bool {
+    let (engine, rest, written) = *row;
+    let mut text = Vec::new(alloc);
+    let mut reader = Slow {
+        rest,
+        interrupted: false,
+        fails: false,
+    };
+    let fault = RunError::Script(ScriptError::Empty { line: 1 });
+    run(alloc, engine, &mut reader, &mut text) == Ok(())
+        && run(alloc, engine, &mut reader, &mut text) == Err(fault)
+        && text.as_slice() == written
 }
 
 #[test]
 fn a_reader_may_give_a_byte_at_a_time(rt: HostRuntime) {
-    let alloc = rt.alloc();
-    let mut text = Vec::new(alloc);
-    let mut reader = Slow {
-        rest: SCRIPT,
-        interrupted: false,
-        fails: false,
-    };
-    ends(&rt, alloc, &mut reader, &mut text, Ok(()));
-    let fault = RunError::Script(ScriptError::Empty { line: 1 });
-    ends(&rt, alloc, &mut reader, &mut text, Err(fault));
-    assert!(rt; text.as_slice() == TEXT);
+    for row in PLAYS.as_slice() {
+        assert!(rt; is_read_slowly(rt.alloc(), row), "{:?}", row.0);
+    }
+}
+
+// Whether a reader that fails after any number of bytes has no text.
+fn fails_without_text(alloc: Global, row: &Row) -> bool {
+    let (engine, script, _text) = *row;
+    for given in 0..script.len() + 1 {
+        let mut text = Vec::new(alloc);
+        let mut reader = Slow {
+            rest: &script[..given],
+            interrupted: false,
+            fails: true,
+        };
+        let ended = run(alloc, engine, &mut reader, &mut text);
+        if ended != Err(RunError::Read) || !text.is_empty() {
+            return false;
+        }
+    }
+    true
 }
 
 #[test]
 fn a_reader_that_fails_has_no_text(rt: HostRuntime) {
-    let alloc = rt.alloc();
-    let mut text = Vec::new(alloc);
-    let mut reader = Slow {
-        rest: SCRIPT,
-        interrupted: false,
-        fails: true,
-    };
-    ends(&rt, alloc, &mut reader, &mut text, Err(RunError::Read));
-    assert!(rt; text.is_empty());
+    for row in PLAYS.as_slice() {
+        assert!(rt; fails_without_text(rt.alloc(), row), "{:?}", row.0);
+    }
 }
 
 #[test]
 fn a_read_may_be_interrupted_less_than_1_048_576_times(rt: HostRuntime) {
-    let alloc = rt.alloc();
-    let mut text = Vec::new(alloc);
-    let mut reader = Interrupted { times: 0 };
-    ends(&rt, alloc, &mut reader, &mut text, Err(RunError::Read));
-    assert!(rt; reader.times == 1_048_576);
-    assert!(rt; text.is_empty());
+    for engine in ENGINES.as_slice() {
+        let mut text = Vec::new(rt.alloc());
+        let mut reader = Interrupted { times: 0 };
+        let ended = run(rt.alloc(), *engine, &mut reader, &mut text);
+        assert!(rt; ended == Err(RunError::Read), "{engine:?}");
+        assert!(rt; reader.times == 1_048_576 && text.is_empty(), "{engine:?}");
+    }
 }
 
 #[test]
 fn a_write_may_be_interrupted_less_than_1_048_576_times(rt: HostRuntime) {
-    let mut script = SCRIPT;
-    let mut writer = Interrupted { times: 0 };
-    ends(
-        &rt,
-        rt.alloc(),
-        &mut script,
-        &mut writer,
-        Err(RunError::Write),
-    );
-    assert!(rt; writer.times == 1_048_576);
+    for engine in ENGINES.as_slice() {
+        let mut writer = Interrupted { times: 0 };
+        let ended = run(rt.alloc(), *engine, &mut &SCRIPT[..], &mut writer);
+        assert!(rt; ended == Err(RunError::Write), "{engine:?}");
+        assert!(rt; writer.times == 1_048_576, "{engine:?}");
+    }
 }
 
 #[test]
 fn of_an_endless_line_one_byte_too_many_is_read(rt: HostRuntime) {
-    let alloc = rt.alloc();
-    let mut text = Vec::new(alloc);
-    let mut reader = Endless { given: 0 };
-    let fault = RunError::Script(ScriptError::TooMany { line: 1 });
-    ends(&rt, alloc, &mut reader, &mut text, Err(fault));
-    assert!(rt; reader.given == 1_048_577);
-    assert!(rt; text.is_empty());
+    for engine in ENGINES.as_slice() {
+        let mut text = Vec::new(rt.alloc());
+        let mut reader = Endless { given: 0 };
+        let ended = run(rt.alloc(), *engine, &mut reader, &mut text);
+        let fault = RunError::Script(ScriptError::TooMany { line: 1 });
+        assert!(rt; ended == Err(fault), "{engine:?}");
+        assert!(rt; reader.given == 1_048_577 && text.is_empty(), "{engine:?}");
+    }
+}
+
+// Whether a play is written whole where few bytes are taken at a time.
+fn is_written_slowly(alloc: Global, row: &Row) -> bool {
+    let (engine, script, text) = *row;
+    let mut reader = script;
+    let mut writer = Narrow::new(alloc, 100, None);
+    run(alloc, engine, &mut reader, &mut writer) == Ok(()) && writer.text.as_slice() == text
 }
 
 #[test]
 fn a_writer_may_take_a_few_bytes_at_a_time(rt: HostRuntime) {
-    let alloc = rt.alloc();
-    let mut script = SCRIPT;
-    let mut writer = Narrow::new(alloc, 100, None);
-    ends(&rt, alloc, &mut script, &mut writer, Ok(()));
-    assert!(rt; writer.text.as_slice() == TEXT);
+    for row in PLAYS.as_slice() {
+        assert!(rt; is_written_slowly(rt.alloc(), row), "{:?}", row.0);
+    }
+}
+
+// Whether a writer that fails has exactly the first bytes of the text, however many it has room for.
+fn fails_at_a_prefix(alloc: Global, row: &Row) -> bool {
+    let (engine, script, text) = *row;
+    for room in 0..text.len() {
+        let mut reader = script;
+        let mut writer = Narrow::new(alloc, room, Some(ErrorKind::StorageFull));
+        let ended = run(alloc, engine, &mut reader, &mut writer);
+        if ended != Err(RunError::Write) || writer.text.as_slice() != &text[..room] {
+            return false;
+        }
+    }
+    true
 }
 
 #[test]
 fn a_writer_that_fails_has_a_prefix(rt: HostRuntime) {
-    let alloc = rt.alloc();
-    for room in 0..TEXT.len() {
-        let mut script = SCRIPT;
-        let mut writer = Narrow::new(alloc, room, Some(ErrorKind::StorageFull));
-        ends(&rt, alloc, &mut script, &mut writer, Err(RunError::Write));
-        assert!(rt; writer.text.as_slice() == &TEXT[..room], "{room}");
+    for row in PLAYS.as_slice() {
+        assert!(rt; fails_at_a_prefix(rt.alloc(), row), "{:?}", row.0);
     }
 }
 
 #[test]
 fn a_writer_that_takes_no_byte_fails(rt: HostRuntime) {
-    let alloc = rt.alloc();
-    let mut script = SCRIPT;
-    let mut writer = Narrow::new(alloc, 0, None);
-    ends(&rt, alloc, &mut script, &mut writer, Err(RunError::Write));
-    assert!(rt; writer.text.is_empty());
+    for engine in ENGINES.as_slice() {
+        let mut writer = Narrow::new(rt.alloc(), 0, None);
+        let ended = run(rt.alloc(), *engine, &mut &SCRIPT[..], &mut writer);
+        assert!(rt; ended == Err(RunError::Write), "{engine:?}");
+        assert!(rt; writer.text.is_empty(), "{engine:?}");
+    }
 }
 
 #[test]
 fn a_text_that_is_not_flushed_is_a_fault(rt: HostRuntime) {
-    let alloc = rt.alloc();
-    let mut script = SCRIPT;
-    let text = Vec::new(alloc);
-    let mut writer = Unflushed { text };
-    ends(&rt, alloc, &mut script, &mut writer, Err(RunError::Write));
-    assert!(rt; writer.text.as_slice() == TEXT);
+    for (engine, script, written) in PLAYS.as_slice() {
+        let text = Vec::new(rt.alloc());
+        let mut writer = Unflushed { text };
+        let mut reader = *script;
+        let ended = run(rt.alloc(), *engine, &mut reader, &mut writer);
+        assert!(rt; ended == Err(RunError::Write), "{engine:?}");
+        assert!(rt; writer.text.as_slice() == *written, "{engine:?}");
+    }
 }

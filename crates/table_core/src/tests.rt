@@ -1,4 +1,4 @@
-ghost use Rattle.std.specs.Prelude.{◌≡◌};
+ghost use Rattle.std.specs.Prelude.{◌≡◌, ◌<◌};
 ghost use Rattle.cell_core.specs.Block.{block_len};
 
 use crate::Table;
@@ -27,24 +27,65 @@ fn shows(block: &Block<u64>, place: u64, value: u64) -> bool {
     place < block.len() && matches!(block.look(place), Look::Filled(there, _) if *there == value)
 }
 
+// The length of an entry's block, which is installed if it is not there.
+fn len_of(table: &Table<u64>, k: u32) -> Option<u64>
+    requires { k < 32 }
+{
+    match table.install(k) {
+        Ok(block) => Some(block.len()),
+        Err(_no_memory) => None,
+    }
+}
+
+// Whether an entry's block takes the value at a place, if there is memory for it.
+fn takes<T: Drop>(table: &Table<T>, k: u32, place: u64, value: T) -> bool
+    requires { k < 32 }
+{
+    match table.install(k) {
+        Ok(block) => fill(block, place, value),
+        Err(_no_memory) => false,
+    }
+}
+
+// Whether an entry's block shows the value at a place, to a caller that would install it.
+fn has(table: &Table<u64>, k: u32, place: u64, value: u64) -> bool
+    requires { k < 32 }
+{
+    match table.install(k) {
+        Ok(block) => shows(block, place, value),
+        Err(_no_memory) => false,
+    }
+}
+
+// Whether a caller that installs nothing is shown it.
+fn is_seen(table: &Table<u64>, k: u32, place: u64, value: u64) -> bool
+    requires { k < 32 }
+{
+    match table.scout(k) {
+        Some(block) => shows(block, place, value),
+        None => false,
+    }
+}
+
+fn is_set_once(table: &Table<u64>) -> bool {
+    table.installed() == 0
+        && table.scout(3).is_none()
+        && len_of(table, 3) == Some(8)
+        && takes(table, 3, 7, 5)
+        && has(table, 3, 7, 5)
+        && is_seen(table, 3, 7, 5)
+        && table.scout(2).is_none()
+}
+
 #[test]
-fn an_entry_is_set_once(rt: HostRuntime) -> Result<(), Fail> {
+fn an_entry_is_set_once(rt: HostRuntime) {
     let table = Table::new(rt.alloc());
-    assert_eq!(rt; table.installed(), 0);
-    assert!(rt; table.scout(3).is_none());
-    let block = table.install(3)?;
-    assert_eq!(rt; block.len(), 8);
-    assert!(rt; fill(block, 7, 5));
-    assert!(rt; shows(table.install(3)?, 7, 5));
-    let Some(block) = table.scout(3) else {
-        return Err(Fail::from("the block was not seen"));
-    };
-    assert!(rt; shows(block, 7, 5));
-    assert!(rt; table.scout(2).is_none());
-    assert_eq!(rt; table.install(0)?.len(), 2);
-    assert_eq!(rt; table.install(1)?.len(), 2);
-    assert_eq!(rt; table.installed(), 3);
-    Ok(())
+    assert!(rt;
+        is_set_once(&table)
+            && len_of(&table, 0) == Some(2)
+            && len_of(&table, 1) == Some(2)
+            && table.installed() == 3
+    );
 }
 
 #[test]
@@ -79,29 +120,40 @@ fn a_refused_install_sets_nothing(rt: HostRuntime) {
     assert_eq!(rt; table.installed(), 2);
 }
 
-#[test]
-fn an_exclusive_owner_has_the_blocks(rt: HostRuntime) -> Result<(), Fail> {
-    let mut table = Table::new(rt.alloc());
-    assert!(rt; table.block_mut(1).is_none());
-    assert!(rt; fill(table.install(1)?, 0, 7));
-    assert!(rt; fill(table.install(2)?, 0, 8));
-    for _twice in 0..2 {
-        let Some(block) = table.block_mut(1) else {
-            return Err(Fail::from("the block was not lent"));
-        };
-        assert!(rt; shows(block, 0, 7));
-        let Some(block) = table.block_mut(2) else {
-            return Err(Fail::from("the other block was not lent"));
-        };
-        assert!(rt; shows(block, 0, 8));
+// Whether an entry's block is lent, and shows the value at its first place.
+fn lends(table: &mut Table<u64>, k: u32, value: u64) -> bool
+    requires { k < 32 }
+{
+    match table.block_mut(k) {
+        Some(block) => shows(block, 0, value),
+        None => false,
     }
+}
+
+fn lends_two(table: &mut Table<u64>) -> bool {
+    table.block_mut(1).is_none()
+        && takes(table, 1, 0, 7)
+        && takes(table, 2, 0, 8)
+        && lends(table, 1, 7)
+        && lends(table, 2, 8)
+        && lends(table, 1, 7)
+        && lends(table, 2, 8)
+}
+
+fn has_two(table: &mut Table<u64>) -> bool {
     table.put_back();
-    assert_eq!(rt; table.installed(), 2);
-    assert!(rt; shows(table.install(2)?, 0, 8));
+    table.installed() == 2 && has(table, 2, 0, 8)
+}
+
+fn gives_one_up(table: &mut Table<u64>) -> bool {
     table.give_up(2);
-    assert!(rt; table.scout(2).is_none());
-    assert!(rt; shows(table.install(1)?, 0, 7));
-    Ok(())
+    table.scout(2).is_none() && has(table, 1, 0, 7)
+}
+
+#[test]
+fn an_exclusive_owner_has_the_blocks(rt: HostRuntime) {
+    let mut table = Table::new(rt.alloc());
+    assert!(rt; lends_two(&mut table) && has_two(&mut table) && gives_one_up(&mut table));
 }
 
 #[test]
@@ -131,24 +183,49 @@ fn a_block_that_was_lent_is_given_up(rt: HostRuntime) -> Result<(), Fail> {
 }
 
 // Each is counted once, and a block of four million cells among them.
-#[test]
-fn large_entries_are_counted_and_given_up(rt: HostRuntime) -> Result<(), Fail> {
-    let mut table = Table::new(rt.alloc());
+// Each is counted once, and a block of four million cells among them.
+fn counts_entries(table: &Table<u64>) -> bool {
     for k in 0..23u32 {
-        let block = table.install(k)?;
-        assert!(rt; fill(block, block.len().wrapping_sub(1), u64::from(k)));
-        assert_eq!(rt; table.installed(), k.wrapping_add(1));
+        let last = len_of(table, k).unwrap_or(0).wrapping_sub(1);
+        if !takes(table, k, last, u64::from(k)) || table.installed() != k.wrapping_add(1) {
+            return false;
+        }
     }
-    // It would take hours if a block were made each time.
+    true
+}
+
+// Whether the value is there by the key.
+fn has_by_key(table: &Table<u64>, k: u32, place: u64, value: u64) -> bool
+    requires { k < 32 }
+{
+    match table.install_key(k) {
+        Ok((block, _key)) => shows(block, place, value),
+        Err(_no_memory) => false,
+    }
+}
+
+// It would take hours if a block were made each time.
+fn has_a_million_times(table: &Table<u64>) -> bool {
     for _again in 0..1_000_000u32 {
-        let (block, _key) = table.install_key(22)?;
-        assert!(rt; shows(block, (1 << 22) - 1, 22));
+        if !has_by_key(table, 22, (1 << 22) - 1, 22) {
+            return false;
+        }
     }
-    assert!(rt; table.scout(31).is_none());
+    table.scout(31).is_none()
+}
+
+fn gives_the_last_up(table: &mut Table<u64>) -> bool {
     table.give_up(31);
     table.give_up(22);
-    assert_eq!(rt; table.installed(), 22);
-    Ok(())
+    table.installed() == 22
+}
+
+#[test]
+fn large_entries_are_counted_and_given_up(rt: HostRuntime) {
+    let mut table = Table::new(rt.alloc());
+    assert!(rt;
+        counts_entries(&table) && has_a_million_times(&table) && gives_the_last_up(&mut table)
+    );
 }
 
 // Puts a value into a cell of a block that is owned, if there is such a cell.

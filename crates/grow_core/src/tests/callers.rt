@@ -125,6 +125,20 @@ impl<T: Drop> Callers<T> {
     }
 }
 
+// Whether the steps hold on a new vector with two callers. The steps have a loan of it, so that neither they nor the test
+// have it to drop.
+pub(super) fn on_two<T: Drop, R: AllocGlobal + Abort, F: FnOnce(&mut Callers<T>) -> bool>(
+    rt: &R,
+    limit: u64,
+    steps: F,
+) -> bool
+    requires limit { IsLimit limit }
+    requires callable { F.IsAlwaysCallable steps }
+{
+    let mut two = Callers::new(rt, limit);
+    steps(&mut two)
+}
+
 pub(super) fn place_of<T: Drop, V: Drop, E: Drop>(
     pushed: Result<Placed<T>, GrowError<T, V, E>>,
 ) -> Option<u64> {

@@ -8,7 +8,7 @@ use std::process::Abort;
 use std::sync::Arc;
 use std::sync::atomic::{AtomicU64, Ordering};
 use std::test::Fail;
-use std::thread::join;
+use std::thread::{Threads, join};
 
 // How many new vectors both threads push on.
 const VECTORS: u64 = 10_000;
@@ -83,23 +83,43 @@ fn sum_of_two(seat: &mut Seat) -> Option<u64> {
     first.checked_add(second)
 }
 
+// The seats of both threads at all vectors.
+fn all_seats<R: AllocGlobal>(rt: &R) -> Option<(Vec<Seat>, Vec<Seat>)> {
+    let mut a = Vec::with_capacity(rt.alloc(), VECTORS as usize).ok()?;
+    let mut b = Vec::with_capacity(rt.alloc(), VECTORS as usize).ok()?;
+    for _vector in 0..VECTORS {
+        let (first, second) = seats(rt)?;
+        a.push(first).ok()?;
+        b.push(second).ok()?;
+    }
+    Some((a, b))
+}
+
+// The seats of one thread, once both have pushed on each vector.
+fn push_by_both<R: Threads + Abort + Sync>(rt: &R, a: Vec<Seat>, b: Vec<Seat>) -> Vec<Seat> {
+    let (first, second) = (AtomicU64::new(0), AtomicU64::new(0));
+    let (a, _b) = join(
+        rt,
+        || push_each(rt, a, 5, &first, &second),
+        || push_each(rt, b, 6, &second, &first),
+    );
+    a
+}
+
+// Whether both values are on each vector.
+fn have_both(seats: &mut [Seat]) -> bool {
+    for seat in seats {
+        if sum_of_two(seat) != Some(11) {
+            return false;
+        }
+    }
+    true
+}
+
 #[test]
 fn two_first_pushes_share_one_segment(rt: HostRuntime) -> Result<(), Fail> {
-    let mut a = Vec::with_capacity(rt.alloc(), VECTORS as usize)?;
-    let mut b = Vec::with_capacity(rt.alloc(), VECTORS as usize)?;
-    for _vector in 0..VECTORS {
-        let (first, second) = seats(&rt).ok_or("no memory")?;
-        a.push(first)?;
-        b.push(second)?;
-    }
-    let (first, second) = (AtomicU64::new(0), AtomicU64::new(0));
-    let (mut a, _b) = join(
-        &rt,
-        || push_each(&rt, a, 5, &first, &second),
-        || push_each(&rt, b, 6, &second, &first),
-    );
-    for seat in &mut a {
-        assert_eq!(rt; sum_of_two(seat), Some(11));
-    }
+    let (a, b) = all_seats(&rt).ok_or("no memory")?;
+    let mut seats = push_by_both(&rt, a, b);
+    assert!(rt; have_both(&mut seats));
     Ok(())
 }

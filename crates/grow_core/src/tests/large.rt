@@ -1,7 +1,8 @@
 // Growths, limits and values that are large.
-use super::callers::Callers;
+use super::callers::{Callers, on_two};
 use crate::Run;
-use std::alloc::Global;
+use std::alloc::{AllocGlobal, Global};
+use std::sync::Wait;
 
 // The numbers from one on, in order.
 fn numbers(alloc: Global, first: u64, n: u64) -> Option<Vec<u64>> {
@@ -32,29 +33,40 @@ fn grow_numbers(two: &mut Callers<u64>, alloc: Global, first: u64, n: u64) -> Op
     }
 }
 
+// Whether two growths of numbers append their runs. The first needs ten segments.
+fn grows_twice(two: &mut Callers<u64>, alloc: Global) -> bool {
+    let first = Run { from: 0, n: 1_000 };
+    let second = Run {
+        from: 1_000,
+        n: 1_100,
+    };
+    grow_numbers(two, alloc, 7, 1_000) == Some(first)
+        && two.vector.table.installed() == 10
+        && grow_numbers(two, alloc, 5_000, 1_100) == Some(second)
+}
+
+// The length of the list that is closed after both.
+fn end_of_two_growths(mut two: Callers<u64>, alloc: Global) -> Option<u64> {
+    if grows_twice(&mut two, alloc) {
+        two.end()
+    } else {
+        None
+    }
+}
+
 #[test]
 fn a_thousand_values_are_appended_over_ten_segments(rt: HostRuntime) {
-    let mut two = Callers::new(&rt, 1 << 32);
-    let first = grow_numbers(&mut two, rt.alloc(), 7, 1_000);
-    assert_eq!(rt; first, Some(Run { from: 0, n: 1_000 }));
-    assert_eq!(rt; two.vector.table.installed(), 10);
-    let second = grow_numbers(&mut two, rt.alloc(), 5_000, 1_100);
-    assert_eq!(rt;
-        second,
-        Some(Run {
-            from: 1_000,
-            n: 1_100
-        })
-    );
-    assert_eq!(rt; two.end(), Some(2_100));
+    let two = Callers::new(&rt, 1 << 32);
+    assert!(rt; end_of_two_growths(two, rt.alloc()) == Some(2_100));
+}
+
+fn has_the_greatest_limit(two: &mut Callers<u64>) -> bool {
+    two.vector.limit() == 4_294_967_296 && two.push_a(5) == Some(0) && two.at_b(0) == Some(5)
 }
 
 #[test]
 fn a_vector_may_have_the_greatest_limit(rt: HostRuntime) {
-    let mut two = Callers::new(&rt, 4_294_967_296);
-    assert_eq!(rt; two.vector.limit(), 4_294_967_296);
-    assert_eq!(rt; two.push_a(5), Some(0));
-    assert_eq!(rt; two.at_b(0), Some(5));
+    assert!(rt; on_two(&rt, 4_294_967_296, has_the_greatest_limit));
 }
 
 // The large value at a place.
@@ -75,31 +87,38 @@ fn values_may_be_large(rt: HostRuntime) {
     }
 }
 
+// How many segments there are, after no push and after each of three.
+fn segments_by_push(two: &mut Callers<u64>) -> [u32; 4] {
+    let none = two.vector.table.installed();
+    let _first = two.push_a(5);
+    let one = two.vector.table.installed();
+    let _second = two.push_b(6);
+    let both = two.vector.table.installed();
+    let _third = two.push_a(7);
+    [none, one, both, two.vector.table.installed()]
+}
+
+fn installs_as_is_needed(two: &mut Callers<u64>) -> bool {
+    segments_by_push(two) == [0, 1, 1, 2]
+}
+
 // A new vector has no segment. Three places lie in two of them.
 #[test]
 fn segments_are_installed_as_they_are_needed(rt: HostRuntime) {
-    let mut two = Callers::new(&rt, 1_000);
-    assert_eq!(rt; two.vector.table.installed(), 0);
-    let _first = two.push_a(5);
-    assert_eq!(rt; two.vector.table.installed(), 1);
+    assert!(rt; on_two(&rt, 1_000, installs_as_is_needed));
+}
+
+// Whether both growths of nothing answer the size that the other caller moved.
+fn grows_by_nothing<R: AllocGlobal + Wait>(rt: &R, two: &mut Callers<u64>) -> bool {
+    let _first = two.push_b(5);
+    let one = two.grow_a(Vec::new(rt.alloc()));
     let _second = two.push_b(6);
-    assert_eq!(rt; two.vector.table.installed(), 1);
-    let _third = two.push_a(7);
-    assert_eq!(rt; two.vector.table.installed(), 2);
+    one == Some(Run { from: 1, n: 0 })
+        && two.grow_waiting(rt, Vec::new(rt.alloc())) == Some(Run { from: 2, n: 0 })
 }
 
 // A growth of nothing looks at the size, which another caller has moved.
 #[test]
 fn a_growth_of_nothing_answers_the_size_that_it_finds(rt: HostRuntime) {
-    let mut two = Callers::new(&rt, 8);
-    let _first = two.push_b(5);
-    assert_eq!(rt;
-        two.grow_a(Vec::new(rt.alloc())),
-        Some(Run { from: 1, n: 0 })
-    );
-    let _second = two.push_b(6);
-    assert_eq!(rt;
-        two.grow_waiting(&rt, Vec::new(rt.alloc())),
-        Some(Run { from: 2, n: 0 })
-    );
+    assert!(rt; on_two(&rt, 8, |two| grows_by_nothing(&rt, two)));
 }

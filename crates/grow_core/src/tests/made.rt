@@ -3,13 +3,14 @@ ghost use Rattle.std.specs.Prelude.{◌≡◌, ◌+◌, ◌≤◌, All, IfSome};
 ghost use Rattle.grow_core.specs.Vector.{IsHandOf};
 ghost use Rattle.grow_core.specs.Grown.{IsGrownOf, values_of};
 
-use super::callers::{Callers, full, place_of};
-use super::parts::member;
-use crate::{AtError, AtLeast, GrowError, Grown, Hand, Never, Run, Shared};
+use super::callers::{Callers, full, on_two, place_of};
+use super::parts::{has_members, member, shows};
+use super::race::look;
+use crate::{AtError, AtLeast, GrowError, Grown, Hand, Never, Parts, Run, Shared};
 use std::alloc::{AllocError, AllocGlobal};
 use std::process::Abort;
+use std::sync::Wait;
 use std::sync::atomic::{AtomicU64, Ordering};
-use std::test::Fail;
 
 // What comes of three sevens, of which the one of number `at` is refused for the cause 9: the run, how many were made, and why.
 pub(super) fn grow_refused(two: &mut Callers<u64>, at: u64) -> Option<(Run, u64, u64)> {
@@ -34,17 +35,26 @@ fn sevens(two: Callers<u64>) -> Option<u64> {
     Some(made)
 }
 
+// Whether the next value stands behind a broken run.
+fn breaks_three(two: &mut Callers<u64>, at: u64) -> bool {
+    grow_refused(two, at) == Some((Run { from: 0, n: 3 }, at, 9))
+        && two.push_a(5) == Some(3)
+        && two.at_b(3) == Some(5)
+}
+
+// How many sevens the closed list has then.
+fn sevens_after(mut two: Callers<u64>, at: u64) -> Option<u64> {
+    if breaks_three(&mut two, at) {
+        sevens(two)
+    } else {
+        None
+    }
+}
+
 #[test]
 fn a_refused_construction_breaks_its_own_places_alone(rt: HostRuntime) {
     for at in 0..3u64 {
-        let mut two = Callers::new(&rt, 8);
-        assert_eq!(rt;
-            grow_refused(&mut two, at),
-            Some((Run { from: 0, n: 3 }, at, 9))
-        );
-        assert_eq!(rt; two.push_a(5), Some(3));
-        assert_eq!(rt; two.at_b(3), Some(5));
-        assert_eq!(rt; sevens(two), Some(at));
+        assert!(rt; sevens_after(Callers::new(&rt, 8), at) == Some(at), "{at}");
     }
 }
 
@@ -56,21 +66,23 @@ fn is_broken(two: &mut Callers<u64>, place: u64) -> bool {
     )
 }
 
+// The list that is closed after a refused construction, which another caller has looked at.
+fn closed_broken(mut two: Callers<u64>) -> Option<Parts<u64>> {
+    let refused = grow_refused(&mut two, 1);
+    if refused == Some((Run { from: 0, n: 3 }, 1, 9)) && is_broken(&mut two, 2) {
+        two.close()
+    } else {
+        None
+    }
+}
+
+fn has_two_broken(parts: &Parts<u64>) -> bool {
+    parts.capacity() == 4 && has_members(parts, &[Some(7), None, None])
+}
+
 #[test]
-fn broken_places_are_broken_in_the_closed_list(rt: HostRuntime) -> Result<(), Fail> {
-    let mut two = Callers::new(&rt, 8);
-    assert_eq!(rt;
-        grow_refused(&mut two, 1),
-        Some((Run { from: 0, n: 3 }, 1, 9))
-    );
-    assert!(rt; is_broken(&mut two, 2));
-    let parts = two.close().ok_or("a share is lost")?;
-    assert_eq!(rt; (parts.len(), parts.capacity()), (3, 4));
-    assert_eq!(rt;
-        (member(&parts, 0), member(&parts, 1), member(&parts, 2)),
-        (Some(Some(7)), Some(None), Some(None))
-    );
-    Ok(())
+fn broken_places_are_broken_in_the_closed_list(rt: HostRuntime) {
+    assert!(rt; shows(closed_broken(Callers::new(&rt, 8)), has_two_broken));
 }
 
 // What comes of a growth of sevens up to a size: a run, or the size that was large enough.
@@ -90,17 +102,20 @@ fn full_up_to(two: &mut Callers<u64>, size: u64) -> Option<u64> {
     Some(size)
 }
 
+fn grows_to_sizes<R: Wait>(rt: &R, two: &mut Callers<u64>) -> bool {
+    two.push_waiting(rt, 4) == Some(0)
+        && grow_up_to(two, 3) == Some(Ok(Run { from: 1, n: 2 }))
+        && grow_up_to(two, 3) == Some(Err(3))
+        && full_up_to(two, 9) == Some(3)
+        && two.push_b(5) == Some(3)
+        && grow_up_to(two, 2) == Some(Err(4))
+        && grow_up_to(two, 8) == Some(Ok(Run { from: 4, n: 4 }))
+        && two.at_b(7) == Some(7)
+}
+
 #[test]
 fn a_growth_up_to_a_size_appends_what_is_wanted(rt: HostRuntime) {
-    let mut two = Callers::new(&rt, 8);
-    assert_eq!(rt; two.push_waiting(&rt, 4), Some(0));
-    assert_eq!(rt; grow_up_to(&mut two, 3), Some(Ok(Run { from: 1, n: 2 })));
-    assert_eq!(rt; grow_up_to(&mut two, 3), Some(Err(3)));
-    assert_eq!(rt; full_up_to(&mut two, 9), Some(3));
-    assert_eq!(rt; two.push_b(5), Some(3));
-    assert_eq!(rt; grow_up_to(&mut two, 2), Some(Err(4)));
-    assert_eq!(rt; grow_up_to(&mut two, 8), Some(Ok(Run { from: 4, n: 4 })));
-    assert_eq!(rt; two.at_b(7), Some(7));
+    assert!(rt; on_two(&rt, 8, |two| grows_to_sizes(&rt, two)));
 }
 
 // A value whose clones find memory only so many times.
@@ -133,13 +148,17 @@ fn clones<'a>(two: &mut Callers<Scarce<'a>>, value: &Scarce<'a>) -> Option<u64> 
     }
 }
 
+// Whether so many clones were made, and all four places were claimed.
+fn makes_clones<'a>(two: &mut Callers<Scarce<'a>>, value: &Scarce<'a>, made: u64) -> bool {
+    clones(two, value) == Some(made) && two.size_b() == 4
+}
+
 #[test]
 fn a_clone_without_memory_is_a_refused_construction(rt: HostRuntime) {
     for memory in 0..5u64 {
         let left = AtomicU64::new(memory);
         let mut two = Callers::new(&rt, 8);
-        assert_eq!(rt; clones(&mut two, &Scarce(&left)), Some(memory));
-        assert_eq!(rt; two.size_b(), 4);
+        assert!(rt; makes_clones(&mut two, &Scarce(&left), memory), "{memory}");
     }
 }
 
@@ -162,28 +181,38 @@ impl Other<'_> {
     }
 }
 
-// A growth whose maker looks at the place that it made before, and appends beside it.
-fn grow_and_call(two: Callers<u64>) -> Option<(Run, Option<u64>)> {
-    let Callers { vector, mut a, b } = two;
-    let mut other = Other {
-        vector: &vector,
-        hand: b,
-    };
+// The run of a growth whose maker looks at the place that it made before, and appends beside it.
+fn grow_beside(vector: &Shared<u64>, hand: &mut Hand<u64>, mut other: Other<'_>) -> Option<Run>
+    requires ours { IsHandOf vector.now hand.old }
+    ensures of { hand.new.of ≡ hand.old.of }
+{
     let make = |i: u64| -> Result<u64, Never> {
         let before = if i == 0 { Some(6) } else { other.look(i - 1) };
         let pushed = other.push(100 + i.min(8));
         Ok(before.unwrap_or(0).wrapping_add(pushed.unwrap_or(0)))
     };
-    let grown = vector.try_grow_with(&mut a, 3, make).ok()?;
-    let last = vector.at(&mut a, 2, None).ok()?;
-    Some((grown.run(), Some(*last.value)))
+    match vector.try_grow_with(hand, 3, make) {
+        Ok(grown) => Some(grown.run()),
+        Err(_refused) => None,
+    }
+}
+
+// Such a run, and the value at its last place.
+fn grow_and_call(two: Callers<u64>) -> (Option<Run>, Option<u64>) {
+    let Callers { vector, mut a, b } = two;
+    let other = Other {
+        vector: &vector,
+        hand: b,
+    };
+    let run = grow_beside(&vector, &mut a, other);
+    (run, look(&vector, &mut a, 2))
 }
 
 // The first value is 6 + 3, the place that the maker appended at; then 9 + 4, and 13 + 5.
 #[test]
 fn a_maker_may_look_at_the_vector_and_append_to_it(rt: HostRuntime) {
-    let two = Callers::new(&rt, 8);
-    assert_eq!(rt; grow_and_call(two), Some((Run { from: 0, n: 3 }, Some(18))));
+    let read = grow_and_call(Callers::new(&rt, 8));
+    assert!(rt; read == (Some(Run { from: 0, n: 3 }), Some(18)));
 }
 
 // The value at the first place of a run, of which all have the value, if it has a place.
@@ -239,10 +268,13 @@ fn clone_of(two: &mut Callers<u64>, value: u64) -> Option<u64> {
     clone_read(&two.vector, &mut two.a, value)
 }
 
+fn reads_a_clone(two: &mut Callers<u64>) -> bool {
+    clone_of(two, 5) == Some(5)
+}
+
 #[test]
 fn a_clone_is_read_as_the_value(rt: HostRuntime) {
-    let mut two = Callers::new(&rt, 8);
-    assert_eq!(rt; clone_of(&mut two, 5), Some(5));
+    assert!(rt; on_two(&rt, 8, reads_a_clone));
 }
 
 // What comes after a refused construction, by a fixture's first hand.
@@ -250,8 +282,11 @@ fn next_of(two: &mut Callers<u64>) -> Option<(Run, u64)> {
     next_after(&two.vector, &mut two.a)
 }
 
+fn goes_on_behind(two: &mut Callers<u64>) -> bool {
+    next_of(two) == Some((Run { from: 0, n: 3 }, 3))
+}
+
 #[test]
 fn the_next_growth_goes_on_behind_a_broken_run(rt: HostRuntime) {
-    let mut two = Callers::new(&rt, 8);
-    assert_eq!(rt; next_of(&mut two), Some((Run { from: 0, n: 3 }, 3)));
+    assert!(rt; on_two(&rt, 8, goes_on_behind));
 }

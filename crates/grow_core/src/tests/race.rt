@@ -65,7 +65,7 @@ fn append<R: Wait + Abort>(
 }
 
 // The value at a place, where there is one.
-fn look(vector: &Shared<u64>, hand: &mut Hand<u64>, place: u64) -> Option<u64>
+pub(super) fn look(vector: &Shared<u64>, hand: &mut Hand<u64>, place: u64) -> Option<u64>
     requires ours { IsHandOf vector.now hand.old }
     ensures { hand.new.of ≡ hand.old.of }
 {
@@ -155,14 +155,31 @@ fn count_in_order(vector: &Shared<u64>, hand: &mut Hand<u64>) -> [u64; 4]
     next
 }
 
+// Whether nothing was lost, and each thread's values are in its order.
+fn keeps_all(vector: &Shared<u64>, hand: &mut Hand<u64>) -> bool
+    requires ours { IsHandOf vector.now hand.old }
+    ensures { hand.new.of ≡ hand.old.of }
+{
+    vector.size(hand) == 4 * EACH && count_in_order(vector, hand) == [EACH; 4]
+}
+
+// The length of the list that a vector is closed into.
+fn end(vector: Shared<u64>, hand: Hand<u64>) -> Option<u64>
+    requires ours { IsHandOf vector hand }
+{
+    if hand.is_whole() {
+        Some(vector.into_parts(hand).len())
+    } else {
+        None
+    }
+}
+
 #[test]
 fn four_threads_lose_nothing_and_keep_their_orders(rt: HostRuntime) -> Result<(), Fail> {
     let (vector, hand) = empty(rt.alloc(), 4 * EACH)?;
     let mut hand = push_by_four(&rt, &vector, hand);
-    assert_eq!(rt; vector.size(&mut hand), 4 * EACH);
-    assert_eq!(rt; count_in_order(&vector, &mut hand), [EACH; 4]);
-    assert!(rt; hand.is_whole());
-    assert_eq!(rt; vector.into_parts(hand).len(), 4 * EACH);
+    assert!(rt; keeps_all(&vector, &mut hand));
+    assert!(rt; end(vector, hand) == Some(4 * EACH));
     Ok(())
 }
 
@@ -213,8 +230,7 @@ fn append_and_read<R: Threads + Wait + Abort + Sync>(
 fn a_thread_reads_what_another_appends(rt: HostRuntime) -> Result<(), Fail> {
     let (vector, hand) = empty(rt.alloc(), READ)?;
     let hand = append_and_read(&rt, &vector, hand);
-    assert!(rt; hand.is_whole());
-    assert_eq!(rt; vector.into_parts(hand).len(), READ);
+    assert!(rt; end(vector, hand) == Some(READ));
     Ok(())
 }
 
@@ -303,7 +319,6 @@ fn count_runs(vector: &Shared<u64>, hand: &mut Hand<u64>) -> u64
 fn two_threads_append_runs_that_stay_whole(rt: HostRuntime) {
     let Callers { vector, a, b, .. } = Callers::new(&rt, 6 * RUNS);
     let mut hand = grow_by_two(&rt, &vector, a, b);
-    assert_eq!(rt; count_runs(&vector, &mut hand), 2 * RUNS);
-    assert!(rt; hand.is_whole());
-    assert_eq!(rt; vector.into_parts(hand).len(), 6 * RUNS);
+    assert!(rt; count_runs(&vector, &mut hand) == 2 * RUNS);
+    assert!(rt; end(vector, hand) == Some(6 * RUNS));
 }

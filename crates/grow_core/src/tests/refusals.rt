@@ -1,16 +1,21 @@
 // What a refusal gives back.
-use super::callers::{Callers, list};
+use super::callers::{Callers, list, on_two};
 use crate::{GrowError, Run};
 use std::alloc::{AllocGlobal, Global};
 use std::process::Abort;
+use std::sync::Wait;
+
+// Whether a vector that two values fill refuses a third.
+fn is_full_with_two<R: AllocGlobal + Wait + Abort>(rt: &R, two: &mut Callers<u64>) -> bool {
+    let _both = two.grow_b(list(rt, &[5, 6]));
+    two.refused_push(7) == Some((2, 7))
+        && two.refused_waiting(rt, 7) == Some((2, 7))
+        && two.size_b() == 2
+}
 
 #[test]
 fn a_full_vector_gives_the_value_back(rt: HostRuntime) {
-    let mut two = Callers::new(&rt, 2);
-    let _both = two.grow_b(list(&rt, &[5, 6]));
-    assert_eq!(rt; two.refused_push(7), Some((2, 7)));
-    assert_eq!(rt; two.refused_waiting(&rt, 7), Some((2, 7)));
-    assert_eq!(rt; two.size_b(), 2);
+    assert!(rt; on_two(&rt, 2, |two| is_full_with_two(&rt, two)));
 }
 
 // Whether the values are refused at the size, and come back.
@@ -21,34 +26,37 @@ fn is_refused(two: &mut Callers<u64>, values: Vec<u64>, size: u64, same: &[u64])
     }
 }
 
-#[test]
-fn a_whole_vec_comes_back(rt: HostRuntime) {
-    let mut two = Callers::new(&rt, 4);
+// Whether a vector with one value and room for three refuses four.
+fn refuses_four<R: AllocGlobal + Abort>(rt: &R, two: &mut Callers<u64>) -> bool {
     let _first = two.push_a(5);
     let values = [6, 7, 8, 9].as_slice();
-    assert!(rt; is_refused(&mut two, list(&rt, values), 1, values));
-    assert_eq!(rt; two.size_b(), 1);
+    is_refused(two, list(rt, values), 1, values) && two.size_b() == 1
+}
+
+#[test]
+fn a_whole_vec_comes_back(rt: HostRuntime) {
+    assert!(rt; on_two(&rt, 4, |two| refuses_four(&rt, two)));
+}
+
+// Whether a full vector answers an empty run to both growths of nothing.
+fn takes_nothing<R: AllocGlobal + Wait>(rt: &R, two: &mut Callers<u64>) -> bool {
+    let _only = two.push_a(5);
+    two.grow_a(Vec::new(rt.alloc())) == Some(Run { from: 1, n: 0 })
+        && two.grow_waiting(rt, Vec::new(rt.alloc())) == Some(Run { from: 1, n: 0 })
 }
 
 #[test]
 fn an_empty_growth_answers_an_empty_run(rt: HostRuntime) {
-    let mut two = Callers::new(&rt, 1);
-    let _only = two.push_a(5);
-    assert_eq!(rt;
-        two.grow_a(Vec::new(rt.alloc())),
-        Some(Run { from: 1, n: 0 })
-    );
-    assert_eq!(rt;
-        two.grow_waiting(&rt, Vec::new(rt.alloc())),
-        Some(Run { from: 1, n: 0 })
-    );
+    assert!(rt; on_two(&rt, 1, |two| takes_nothing(&rt, two)));
+}
+
+fn has_no_place(two: &mut Callers<u64>) -> bool {
+    two.out_of_range(0) == Some(0) && two.out_of_range(u64::MAX) == Some(0)
 }
 
 #[test]
 fn a_place_at_the_size_is_out_of_range(rt: HostRuntime) {
-    let mut two = Callers::<u64>::new(&rt, 4);
-    assert_eq!(rt; two.out_of_range(0), Some(0));
-    assert_eq!(rt; two.out_of_range(u64::MAX), Some(0));
+    assert!(rt; on_two(&rt, 4, has_no_place));
 }
 
 // A new vector, by a second call where memory was refused to the first.
@@ -92,16 +100,21 @@ fn list_again(alloc: Global, values: &[u64]) -> Option<Vec<u64>> {
     }
 }
 
+// Whether a value and then two more are appended.
+fn appends_again(two: &mut Callers<u64>, alloc: Global) -> bool {
+    if !push_again(two, 5) {
+        return false;
+    }
+    match list_again(alloc, &[6, 7]) {
+        Some(values) => grow_again(two, values, &[6, 7]) == Some(Run { from: 1, n: 2 }),
+        None => false,
+    }
+}
+
 // It passes too where any one allocation is made to fail: the call that asked for it gives back what it was given, and
 // succeeds when it is called again.
 #[test]
 fn a_refused_allocation_gives_the_values_back(rt: HostRuntime) {
     let mut two = fresh_again(&rt);
-    assert!(rt; push_again(&mut two, 5));
-    let values = list_again(rt.alloc(), &[6, 7]).unwrap_or(Vec::new(rt.alloc()));
-    assert_eq!(rt;
-        grow_again(&mut two, values, &[6, 7]),
-        Some(Run { from: 1, n: 2 })
-    );
-    assert_eq!(rt; two.size_b(), 3);
+    assert!(rt; appends_again(&mut two, rt.alloc()) && two.size_b() == 3);
 }

@@ -3,8 +3,10 @@ ghost use Rattle.std.specs.Prelude.{◌≡◌, ◌+◌, ◌<◌, ◌≤◌, IfSo
 ghost use Rattle.grow_core.specs.Hand.{seen_size};
 ghost use Rattle.grow_core.specs.Vector.{IsHandOf, limit_of};
 
-use super::callers::{Callers, list};
+use super::callers::{Callers, list, on_two};
 use crate::{Found, GrowError, Hand, Shared};
+use std::alloc::AllocGlobal;
+use std::process::Abort;
 
 // Values for which what the hand has seen leaves no room come back, and the size is told.
 fn refused(vector: &Shared<u64>, hand: &mut Hand<u64>, values: Vec<u64>) -> (u64, Vec<u64>)
@@ -119,11 +121,15 @@ fn size_by_nothing(two: &mut Callers<u64>, none: Vec<u64>) -> Option<u64> {
     }
 }
 
+// Whether neither a growth is refused nor a push, and a growth of nothing answers the size after them.
+fn is_alone<R: AllocGlobal + Abort>(rt: &R, two: &mut Callers<u64>) -> bool {
+    is_not_refused(two, list(rt, &[5]), list(rt, &[6]))
+        && size_by_nothing(two, Vec::new(rt.alloc())) == Some(4)
+}
+
 #[test]
 fn a_caller_alone_is_not_refused(rt: HostRuntime) {
-    let mut two = Callers::new(&rt, 8);
-    assert!(rt; is_not_refused(&mut two, list(&rt, &[5]), list(&rt, &[6])));
-    assert_eq!(rt; size_by_nothing(&mut two, Vec::new(rt.alloc())), Some(4));
+    assert!(rt; on_two(&rt, 8, |two| is_alone(&rt, two)));
 }
 
 // The size at which values are refused, where they are more than the limit.

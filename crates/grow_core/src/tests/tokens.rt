@@ -3,8 +3,10 @@ ghost use Rattle.std.specs.Prelude.{◌≡◌};
 ghost use Rattle.grow_core.specs.Vector.{IsHandOf, IsPlacedOf};
 ghost use Rattle.grow_core.specs.Grown.{IsGrownOf};
 
-use super::callers::{Callers, list};
+use super::callers::{Callers, list, on_two};
 use crate::{Grown, Hand, Placed, Run, Shared};
+use std::alloc::AllocGlobal;
+use std::process::Abort;
 use std::sync::Wait;
 
 // A token's value: by the token, by the token had once more, and by a look at its place.
@@ -61,10 +63,13 @@ fn grow_and_read<R: Wait>(
     }
 }
 
+// Whether three values are appended, and the second one is read.
+fn reads_a_run<R: AllocGlobal + Wait + Abort>(rt: &R, two: &mut Callers<u64>) -> bool {
+    let read = grow_and_read(rt, two, list(rt, &[7, 8, 9]));
+    read == Some((Run { from: 0, n: 3 }, 1, [8; 3])) && two.vector.limit() == 8
+}
+
 #[test]
 fn a_run_has_its_values_in_order(rt: HostRuntime) {
-    let mut two = Callers::new(&rt, 8);
-    let read = grow_and_read(&rt, &mut two, list(&rt, &[7, 8, 9]));
-    assert_eq!(rt; read, Some((Run { from: 0, n: 3 }, 1, [8; 3])));
-    assert_eq!(rt; two.vector.limit(), 8);
+    assert!(rt; on_two(&rt, 8, |two| reads_a_run(&rt, two)));
 }

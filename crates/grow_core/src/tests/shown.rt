@@ -1,5 +1,5 @@
 // What a caller without a hand is shown, and values that are appended without tokens.
-use super::callers::{Callers, full, list};
+use super::callers::{Callers, full, list, on_two};
 use super::made::grow_refused;
 use crate::{Run, Shared, Shown};
 use std::alloc::AllocGlobal;
@@ -32,33 +32,35 @@ fn append<R: Wait>(rt: &R, two: &mut Callers<u64>, values: Vec<u64>) -> Option<R
     two.vector.append(rt, &mut two.b, values).ok()
 }
 
+// Whether a walk shows values, broken places and no others, none at first.
+fn walks<R: AllocGlobal + Wait + Abort>(rt: &R, two: &mut Callers<u64>) -> bool {
+    let is_empty = shows(&two.vector, &[]);
+    let _first = two.push_a(5);
+    let _made = grow_refused(two, 1);
+    let run = append(rt, two, list(rt, &[8, 9]));
+    is_empty && run == Some(Run { from: 4, n: 2 }) && shows(&two.vector, &[5, 7, 0, 0, 8, 9])
+}
+
 #[test]
 fn a_walk_shows_each_place_below_the_size(rt: HostRuntime) {
-    let mut two = Callers::new(&rt, 8);
-    assert!(rt; shows(&two.vector, &[]));
+    assert!(rt; on_two(&rt, 8, |two| walks(&rt, two)));
+}
+
+// Whether a look without a hand tells values, broken places, and those that nobody claimed or can claim.
+fn looks(two: &mut Callers<u64>) -> bool {
     let _first = two.push_a(5);
-    let _made = grow_refused(&mut two, 1);
-    let run = append(&rt, &mut two, list(&rt, &[8, 9]));
-    assert_eq!(rt; run, Some(Run { from: 4, n: 2 }));
-    assert!(rt; shows(&two.vector, &[5, 7, 0, 0, 8, 9]));
+    let _made = grow_refused(two, 1);
+    let vector = &two.vector;
+    look_at(vector, 0) == Ok(5)
+        && look_at(vector, 1) == Ok(7)
+        && look_at(vector, 3) == Err("broken")
+        && look_at(vector, 4) == Err("not yet")
+        && look_at(vector, u64::MAX) == Err("not yet")
 }
 
 #[test]
 fn a_look_needs_no_hand(rt: HostRuntime) {
-    let mut two = Callers::new(&rt, 8);
-    let _first = two.push_a(5);
-    let _made = grow_refused(&mut two, 1);
-    let vector = &two.vector;
-    assert_eq!(rt; (look_at(vector, 0), look_at(vector, 1)), (Ok(5), Ok(7)));
-    assert_eq!(rt; look_at(vector, 3), Err("broken"));
-    assert_eq!(rt;
-        (
-            look_at(vector, 4),
-            look_at(vector, 7),
-            look_at(vector, u64::MAX)
-        ),
-        (Err("not yet"), Err("not yet"), Err("not yet"))
-    );
+    assert!(rt; on_two(&rt, 8, looks));
 }
 
 // The size at which a full vector refuses values without tokens, and how many it gives back.
@@ -71,17 +73,18 @@ fn refused_append<R: Wait>(
     Some((size, back.len()))
 }
 
+// Whether a vector with room for one more value gives two back, and takes one, and none.
+fn gives_back<R: AllocGlobal + Wait + Abort>(rt: &R, two: &mut Callers<u64>) -> bool {
+    let _first = two.push_a(5);
+    refused_append(rt, two, list(rt, &[6, 7])) == Some((1, 2))
+        && append(rt, two, list(rt, &[6])) == Some(Run { from: 1, n: 1 })
+        && append(rt, two, list(rt, &[])) == Some(Run { from: 2, n: 0 })
+        && shows(&two.vector, &[5, 6])
+}
+
 #[test]
 fn a_full_vector_gives_appended_values_back(rt: HostRuntime) {
-    let mut two = Callers::new(&rt, 2);
-    let _first = two.push_a(5);
-    let refused = refused_append(&rt, &mut two, list(&rt, &[6, 7]));
-    assert_eq!(rt; refused, Some((1, 2)));
-    let only = append(&rt, &mut two, list(&rt, &[6]));
-    assert_eq!(rt; only, Some(Run { from: 1, n: 1 }));
-    let none = append(&rt, &mut two, list(&rt, &[]));
-    assert_eq!(rt; none, Some(Run { from: 2, n: 0 }));
-    assert!(rt; shows(&two.vector, &[5, 6]));
+    assert!(rt; on_two(&rt, 2, |two| gives_back(&rt, two)));
 }
 
 // The numbers from 0 on.
@@ -106,17 +109,16 @@ fn sum_of(vector: &Shared<u64>) -> (u64, u64) {
     (sum, places)
 }
 
+// Whether a million values come to their places.
+fn appends_a_million<R: AllocGlobal + Wait + Abort>(rt: &R, two: &mut Callers<u64>) -> bool {
+    let run = append(rt, two, numbers(rt, 1_000_000));
+    run == Some(Run {
+        from: 0,
+        n: 1_000_000,
+    }) && sum_of(&two.vector) == (499_999_500_000, 1_000_000)
+}
+
 #[test]
 fn a_million_values_are_appended_without_tokens(rt: HostRuntime) {
-    let mut two = Callers::new(&rt, 1 << 32);
-    let run = append(&rt, &mut two, numbers(&rt, 1_000_000));
-    assert_eq!(rt;
-        run,
-        Some(Run {
-            from: 0,
-            n: 1_000_000
-        })
-    );
-    assert_eq!(rt; sum_of(&two.vector), (499_999_500_000, 1_000_000));
-    assert_eq!(rt; two.end(), Some(1_000_000));
+    assert!(rt; on_two(&rt, 4_294_967_296, |two| appends_a_million(&rt, two)));
 }

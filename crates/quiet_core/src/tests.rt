@@ -37,85 +37,134 @@ fn two(alloc: Global, first: u64, second: u64) -> Result<Quiet<u64>, Fail> {
     listed(alloc, 16, vec![in alloc; first, second]?)
 }
 
+fn shrunk_capacity(list: &mut Quiet<u64>) -> u64 {
+    list.shrink_to_fit();
+    list.capacity()
+}
+
+fn cleared_sizes(list: &mut Quiet<u64>) -> (u64, u64) {
+    list.clear();
+    sizes(list)
+}
+
+// The length and the capacity of a list.
+fn sizes(list: &Quiet<u64>) -> (u64, u64) {
+    (list.len(), list.capacity())
+}
+
+fn follows_the_segments(list: &mut Quiet<u64>) -> bool {
+    list.capacity() == 4
+        && list.reserve(5) == Ok(())
+        && list.capacity() == 8
+        && shrunk_capacity(list) == 4
+        && cleared_sizes(list) == (0, 4)
+        && shrunk_capacity(list) == 0
+}
+
 #[test]
 fn capacities_follow_the_segments(rt: HostRuntime) -> Result<(), Fail> {
     let mut list = three(rt.alloc())?;
-    assert_eq!(rt; list.capacity(), 4);
-    list.reserve(5)?;
-    assert_eq!(rt; list.capacity(), 8);
-    list.shrink_to_fit();
-    assert_eq!(rt; list.capacity(), 4);
-    list.clear();
-    assert_eq!(rt; (list.len(), list.capacity()), (0, 4));
-    list.shrink_to_fit();
-    assert_eq!(rt; list.capacity(), 0);
+    assert!(rt; follows_the_segments(&mut list));
     Ok(())
+}
+
+// Whether a list with a broken member is less than one with a zero there, and equal to its like.
+fn is_less(broken: &Quiet<u64>, zero: &Quiet<u64>, same: &Quiet<u64>) -> bool {
+    *broken < *zero && *broken != *zero && *broken == *same
+}
+
+fn has_a_broken_member(list: &Quiet<u64>) -> bool {
+    list.get(1) == Err(QuietAt::Broken) && list.get(2) == Err(QuietAt::OutOfRange { size: 2 })
 }
 
 #[test]
 fn broken_is_less_than_every_value(rt: HostRuntime) -> Result<(), Fail> {
     let broken = broken_after(rt.alloc(), 1)?;
     let zero = two(rt.alloc(), 1, 0)?;
-    assert!(rt; broken < zero);
-    assert!(rt; broken != zero);
-    assert!(rt; broken == broken_after(rt.alloc(), 1)?);
-    assert_eq!(rt; broken.get(1), Err(QuietAt::Broken));
-    assert_eq!(rt; broken.get(2), Err(QuietAt::OutOfRange { size: 2 }));
+    let same = broken_after(rt.alloc(), 1)?;
+    assert!(rt; is_less(&broken, &zero, &same) && has_a_broken_member(&broken));
     Ok(())
 }
 
+fn is_full_with_one(list: &mut Quiet<u64>) -> bool {
+    list.push(7) == Ok(0)
+        && list.push(8) == Err((QuietError::TooLong, 8))
+        && list.reserve(2) == Err(QuietError::TooLong)
+}
+
 #[test]
-fn a_full_list_gives_the_value_back(rt: HostRuntime) -> Result<(), Fail> {
+fn a_full_list_gives_the_value_back(rt: HostRuntime) {
     let mut list = Quiet::new(rt.alloc(), 1);
-    assert_eq!(rt; list.push(7), Ok(0));
-    assert_eq!(rt; list.push(8), Err((QuietError::TooLong, 8)));
-    assert_eq!(rt; list.reserve(2), Err(QuietError::TooLong));
-    Ok(())
+    assert!(rt; is_full_with_one(&mut list));
+}
+
+fn gives_from_both_ends(list: &Quiet<u64>) -> bool {
+    let mut members = list.iter();
+    members.len() == 3
+        && members.next().flatten().copied() == Some(1)
+        && members.next_back().flatten().copied() == Some(3)
+        && members.len() == 1
+}
+
+fn sum(list: &Quiet<u64>) -> u64 {
+    let mut sum = 0u64;
+    for value in list.into_iter().flatten() {
+        sum = sum.wrapping_add(*value);
+    }
+    sum
 }
 
 #[test]
 fn members_come_from_both_ends(rt: HostRuntime) -> Result<(), Fail> {
     let list = three(rt.alloc())?;
-    let mut members = list.iter();
-    assert_eq!(rt; members.len(), 3);
-    assert_eq!(rt; members.next().flatten().copied(), Some(1));
-    assert_eq!(rt; members.next_back().flatten().copied(), Some(3));
-    assert_eq!(rt; members.len(), 1);
-    let mut sum = 0u64;
-    for value in (&list).into_iter().flatten() {
-        sum = sum.wrapping_add(*value);
-    }
-    assert_eq!(rt; sum, 6);
+    assert!(rt; gives_from_both_ends(&list) && sum(&list) == 6);
     Ok(())
+}
+
+// The length and the limit of both lists, once they are exchanged.
+fn swapped(list: &mut Quiet<u64>, other: &mut Quiet<u64>) -> (u64, u64, u64, u64) {
+    list.swap(other);
+    (list.len(), list.limit(), other.len(), other.limit())
+}
+
+// Whether a list with a limit of five refuses six values and takes five.
+fn assigns_five(list: &mut Quiet<u64>, six: Vec<u64>, five: Vec<u64>) -> bool {
+    matches!(list.assign(six), Err((QuietError::TooLong, _)))
+        && list.assign(five).is_ok()
+        && sizes(list) == (5, 8)
 }
 
 #[test]
 fn lists_are_exchanged_and_replaced(rt: HostRuntime) -> Result<(), Fail> {
     let mut list = three(rt.alloc())?;
     let mut other = Quiet::new(rt.alloc(), 5);
-    list.swap(&mut other);
-    assert_eq!(rt;
-        (list.len(), list.limit(), other.len(), other.limit()),
-        (0, 5, 3, 16)
-    );
-    let refused = list.assign(vec![in rt.alloc(); 0u64; 6]?);
-    assert!(rt; matches!(refused, Err((QuietError::TooLong, _))));
-    assert!(rt; list.assign(vec![in rt.alloc(); 9u64; 5]?).is_ok());
-    assert_eq!(rt; (list.len(), list.capacity()), (5, 8));
+    assert!(rt; swapped(&mut list, &mut other) == (0, 5, 3, 16));
+    let six = vec![in rt.alloc(); 0u64; 6]?;
+    let five = vec![in rt.alloc(); 9u64; 5]?;
+    assert!(rt; assigns_five(&mut list, six, five));
     Ok(())
+}
+
+fn pushes_on(list: &mut Quiet<u64>) -> bool {
+    for place in 1_000_000..1_048_577u64 {
+        if list.push(place) != Ok(place) {
+            return false;
+        }
+    }
+    sizes(list) == (1_048_577, 1 << 21) && list.reserve(3_000_000) == Ok(())
+}
+
+// Whether five values stand where a million did. The capacity stays.
+fn assigns_after_a_million(list: &mut Quiet<u64>, five: Vec<u64>) -> bool {
+    list.assign(five).is_ok() && sizes(list) == (5, 1 << 22) && list.get(4) == Ok(&9)
 }
 
 #[test]
 fn a_million_values_are_moved_in_and_pushed_on(rt: HostRuntime) -> Result<(), Fail> {
     let values = vec![in rt.alloc(); 7u64; 1_000_000]?;
     let mut list = listed(rt.alloc(), 1 << 32, values)?;
-    for place in 1_000_000..1_048_577u64 {
-        assert_eq!(rt; list.push(place), Ok(place));
-    }
-    assert_eq!(rt; (list.len(), list.capacity()), (1_048_577, 1 << 21));
-    list.reserve(3_000_000)?;
-    assert!(rt; list.assign(vec![in rt.alloc(); 9u64; 5]?).is_ok());
-    assert_eq!(rt; (list.len(), list.capacity()), (5, 1 << 22));
-    assert_eq!(rt; list.get(4), Ok(&9));
+    assert!(rt; pushes_on(&mut list));
+    let five = vec![in rt.alloc(); 9u64; 5]?;
+    assert!(rt; assigns_after_a_million(&mut list, five));
     Ok(())
 }

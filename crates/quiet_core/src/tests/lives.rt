@@ -20,19 +20,33 @@ fn pushed_while_open(list: Quiet<u64>, value: u64) -> Option<(Quiet<u64>, u64)>
     Some((closed, read))
 }
 
-#[test]
-fn ten_lives_lose_nothing(rt: HostRuntime) -> Result<(), Fail> {
-    let mut list = three(rt.alloc())?;
+// The list after ten lives, in each of which a value is appended and read.
+fn live_ten_times(mut list: Quiet<u64>) -> Option<Quiet<u64>> {
     for value in 10..20u64 {
-        let (closed, read) = pushed_while_open(list, value).ok_or("refused")?;
-        assert_eq!(rt; read, value);
+        let (closed, read) = pushed_while_open(list, value)?;
+        if read != value {
+            return None;
+        }
         list = closed;
     }
-    assert_eq!(rt; (list.len(), list.limit(), list.capacity()), (13, 16, 16));
-    assert_eq!(rt; (list.get(0), list.get(2)), (Ok(&1), Ok(&3)));
+    Some(list)
+}
+
+// Whether the old members are there, and the new ones from ten on.
+fn has_all(list: &Quiet<u64>) -> bool {
     for place in 3..13u64 {
-        assert_eq!(rt; list.get(place), Ok(&(place + 7)));
+        if list.get(place) != Ok(&(place + 7)) {
+            return false;
+        }
     }
+    (list.len(), list.limit(), list.capacity()) == (13, 16, 16)
+        && (list.get(0), list.get(2)) == (Ok(&1), Ok(&3))
+}
+
+#[test]
+fn ten_lives_lose_nothing(rt: HostRuntime) -> Result<(), Fail> {
+    let list = live_ten_times(three(rt.alloc())?).ok_or("refused")?;
+    assert!(rt; has_all(&list));
     Ok(())
 }
 
@@ -65,37 +79,45 @@ fn values_of(alloc: Global, list: Quiet<u64>) -> Result<Vec<u64>, Fail> {
     Ok(list.into_iter().flatten().collect(alloc)?)
 }
 
+// Whether the values of a list are these.
+fn has_values(alloc: Global, list: Quiet<u64>, wanted: &[u64]) -> Result<bool, Fail> {
+    let values = values_of(alloc, list)?;
+    Ok(values.as_slice() == wanted)
+}
+
+// Whether the members of three come from both ends.
+fn comes_from_both_ends(list: Quiet<u64>) -> bool {
+    let mut members = list.into_iter();
+    members.next_back() == Some(Some(3))
+        && members.next() == Some(Some(1))
+        && members.len() == 1
+        && members.next() == Some(Some(2))
+        && (members.next(), members.next_back()) == (None, None)
+}
+
 #[test]
 fn values_come_out_in_order(rt: HostRuntime) -> Result<(), Fail> {
-    assert_eq!(rt;
-        values_of(rt.alloc(), three(rt.alloc())?)?.as_slice(),
-        [1, 2, 3].as_slice()
-    );
-    assert_eq!(rt;
-        values_of(rt.alloc(), broken_after(rt.alloc(), 7)?)?.as_slice(),
-        [7].as_slice()
-    );
-    let mut members = three(rt.alloc())?.into_iter();
-    assert_eq!(rt; members.next_back(), Some(Some(3)));
-    assert_eq!(rt; members.next(), Some(Some(1)));
-    assert_eq!(rt; members.len(), 1);
-    assert_eq!(rt; members.next(), Some(Some(2)));
-    assert_eq!(rt; (members.next(), members.next_back()), (None, None));
+    assert!(rt; has_values(rt.alloc(), three(rt.alloc())?, &[1, 2, 3])?);
+    assert!(rt; has_values(rt.alloc(), broken_after(rt.alloc(), 7)?, &[7])?);
+    assert!(rt; comes_from_both_ends(three(rt.alloc())?));
     Ok(())
+}
+
+fn exchanges_the_second(list: &mut Quiet<u64>) -> bool {
+    list.replace(1, 20) == Ok(2)
+        && (list.get(0), list.get(1), list.get(2)) == (Ok(&1), Ok(&20), Ok(&3))
+        && list.replace(3, 40) == Err((QuietAt::OutOfRange { size: 3 }, 40))
+}
+
+fn exchanges_no_broken_member(list: &mut Quiet<u64>) -> bool {
+    list.replace(1, 5) == Err((QuietAt::Broken, 5))
 }
 
 #[test]
 fn a_value_is_exchanged(rt: HostRuntime) -> Result<(), Fail> {
     let mut list = three(rt.alloc())?;
-    assert_eq!(rt; list.replace(1, 20), Ok(2));
-    assert_eq!(rt;
-        (list.get(0), list.get(1), list.get(2)),
-        (Ok(&1), Ok(&20), Ok(&3))
-    );
-    let refused = list.replace(3, 40);
-    assert_eq!(rt; refused, Err((QuietAt::OutOfRange { size: 3 }, 40)));
-    let mut list = broken_after(rt.alloc(), 1)?;
-    assert_eq!(rt; list.replace(1, 5), Err((QuietAt::Broken, 5)));
+    let mut broken = broken_after(rt.alloc(), 1)?;
+    assert!(rt; exchanges_the_second(&mut list) && exchanges_no_broken_member(&mut broken));
     Ok(())
 }
 

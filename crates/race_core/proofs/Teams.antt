@@ -13,8 +13,7 @@ use Rattle.claim_core.specs.Hand.{HandView, GainsRun, AddsRun, SeesRun, SeesOwn,
 use Rattle.claim_core.specs.Laws.{PlacesStay, SeenRunsStay, AddedRunsAreLast}
 use Rattle.grow_core.specs.Growth.{single}
 use Rattle.race_core.specs.declared.team.Win.{Win}
-use Rattle.race_core.specs.declared.team.Team.{Team}
-use Rattle.race_core.specs.Race.{sum_below, HasWin, IsTeam, AreAllPlaces}
+use Rattle.race_core.specs.Race.{sum_below, Team, HasWin, IsTeam, AreAllPlaces}
 
 value_of : Win → ℕ
 value_of win = win.value
@@ -49,17 +48,17 @@ sum_below_more n = ap sum_below (add-one n)
 team_more : AddedRunsAreLast → PlacesStay → SeenRunsStay
     → (word : WordView) (shares from : ℕ) (old new : Team) (win : Win)
     → IsTeam word shares from win.value old → SeesOwn old.hand → AddsRun old.hand new.hand (single win.place)
-    → new.wins.items ≡ old.wins.items ++ win ∷ [] → IsTeam word shares from (win.value + 1) new
+    → new.wins ≡ old.wins ++ win ∷ [] → IsTeam word shares from (win.value + 1) new
 team_more last places stay word shares from old new win team below adds more =
     let gain = last old.hand new.hand (single win.place) adds in
     let count = places_more places old.hand new.hand gain.0 win.place gain.1 below in
-    let sums = sum_by-append (λ (w : Win). w.value) old.wins.items (win ∷ []) in
+    let sums = sum_by-append (λ (w : Win). w.value) old.wins (win ∷ []) in
     let next = sum_below_more win.value in
     record {
       of = adds.of ∙ team.of;
       part = adds.shares ∙ team.part;
       places = let was = team.places in omega arith;
-      wins = subst (λ ws. (k : ℕ) → Contains new.hand.mine k → HasWin new.hand ws k) (sym more) (wins_more stay old.hand new.hand gain.0 old.wins.items win adds.of gain.1 team.wins);
+      wins = subst (λ ws. (k : ℕ) → Contains new.hand.mine k → HasWin new.hand ws k) (sym more) (wins_more stay old.hand new.hand gain.0 old.wins win adds.of gain.1 team.wins);
       sum = let was = team.sum in let is = ap (sum_by (λ (w : Win). w.value)) more in omega arith;
     }
 
@@ -67,7 +66,7 @@ team_more last places stay word shares from old new win team below adds more =
 pub team_told : AddedRunsAreLast → PlacesStay → SeenRunsStay
     → (word : WordView) (shares from value place : ℕ) (old new : Team) (win : Win) → win.place ≡ place → win.value ≡ value
     → IsTeam word shares from value old → SeesOwn old.hand → AddsRun old.hand new.hand (single place)
-    → new.wins.items ≡ old.wins.items ++ win ∷ [] → IsTeam word shares from (value + 1) new
+    → new.wins ≡ old.wins ++ win ∷ [] → IsTeam word shares from (value + 1) new
 team_told last places stay word shares from value place old new win here holds team below adds more =
     subst (λ v. IsTeam word shares from (v + 1) new) holds
     (team_more last places stay word shares from old new win
@@ -85,7 +84,7 @@ pub teams_joined : PlacesStay → SeenRunsStay
     → IsTeam word some from middle a → IsTeam word more middle to b → SeesOwn a.hand → SeesOwn b.hand
     → new.hand.of ≡ a.hand.of → new.hand.mine ≡ a.hand.mine ++ b.hand.mine → new.hand.shares ≡ a.hand.shares + b.hand.shares
     → IsPrefix a.hand.seen new.hand.seen → IsPrefix b.hand.seen new.hand.seen
-    → new.wins.items ≡ a.wins.items ++ b.wins.items → IsTeam word (some + more) from to new
+    → new.wins ≡ a.wins ++ b.wins → IsTeam word (some + more) from to new
 teams_joined places stay word some more from middle to a b new team_a team_b below_a below_b of mine shares seen_a seen_b wins =
     let all = ap (places_in new.hand.seen) mine in
     let both = sum_by-append (λ k. slice_index new.hand.seen k) a.hand.mine b.hand.mine in
@@ -99,19 +98,19 @@ teams_joined places stay word some more from middle to a b new team_a team_b bel
       wins = λ k own.
           subst (λ ws. HasWin new.hand ws k) (sym wins)
           (⊎_elim
-          (λ (was : Contains a.hand.mine k). wins_stay stay a.hand new.hand a.wins.items (a.wins.items ++ b.wins.items) of seen_a (Contains-append_left a.wins.items b.wins.items) k (team_a.wins k was))
-          (λ (was : Contains b.hand.mine k). wins_stay stay b.hand new.hand b.wins.items (a.wins.items ++ b.wins.items) also_of seen_b (Contains-append_right a.wins.items b.wins.items) k (team_b.wins k was))
+          (λ (was : Contains a.hand.mine k). wins_stay stay a.hand new.hand a.wins (a.wins ++ b.wins) of seen_a (Contains-append_left a.wins b.wins) k (team_a.wins k was))
+          (λ (was : Contains b.hand.mine k). wins_stay stay b.hand new.hand b.wins (a.wins ++ b.wins) also_of seen_b (Contains-append_right a.wins b.wins) k (team_b.wins k was))
           (Contains-append_cases a.hand.mine b.hand.mine k (subst (λ m. Contains m k) mine own)));
       sum =
           let x = team_a.sum in
           let y = team_b.sum in
           let is = ap (sum_by (λ (w : Win). w.value)) wins in
-          let sums = sum_by-append (λ (w : Win). w.value) a.wins.items b.wins.items in
+          let sums = sum_by-append (λ (w : Win). w.value) a.wins b.wins in
           omega arith;
     }
 
 -- nothing is won yet
-pub team_new : (from : ℕ) (team : Team) → team.hand.mine ≡ [] → team.wins.items ≡ [] → IsTeam team.hand.of team.hand.shares from from team
+pub team_new : (from : ℕ) (team : Team) → team.hand.mine ≡ [] → team.wins ≡ [] → IsTeam team.hand.of team.hand.shares from from team
 team_new from team mine wins =
     let none = ap (places_in team.hand.seen) mine in
     let sum = ap (sum_by (λ (w : Win). w.value)) wins in record {

@@ -16,7 +16,6 @@ use Rattle.span_core.specs.declared.errors.Refusal.{Refusal}
 use Rattle.span_core.specs.declared.errors.Refusal.TheVariants as refusals
 use Rattle.span_core.specs.Workers.{IsBadNumber}
 use Rattle.race_core.specs.declared.team.Win.{Win}
-use Rattle.race_core.specs.declared.team.Team.{Team}
 use Rattle.race_core.specs.declared.report.RaceReport.{RaceReport}
 use Rattle.race_core.specs.declared.refusal.RaceError.{RaceError}
 use Rattle.race_core.specs.declared.refusal.RaceError.TheVariants.{NoMemory, BadSize, Stuck, Grow}
@@ -72,13 +71,21 @@ IsFreeRefusal workers each (Grow number) = IsGrowth number
 abbrev pub HasWin : HandView → List Win → ℕ → Type 0
 HasWin hand wins index = (win : Win) × Contains wins win × SeesRun hand index (single win.place)
 
+-- what some workers have won together: their hand, and their places
+pub record Team : Type 0 where
+  pub hand : HandView
+  pub wins : List Win
+
+abbrev pub team_of : HandView → List Win → Team
+team_of hand wins = record { hand = hand; wins = wins }
+
 -- the values from one number up to another were appended, one in each run that the hand owns
 pub record IsTeam (word : WordView) (shares from to : ℕ) (team : Team) : Type 0 where
   pub of : team.hand.of ≡ word
   pub part : team.hand.shares ≡ shares
   pub places : own_places team.hand + from ≡ to
-  pub wins : (index : ℕ) → Contains team.hand.mine index → HasWin team.hand team.wins.items index
-  pub sum : sum_by (λ win. win.value) team.wins.items + sum_below from ≡ sum_below to
+  pub wins : (index : ℕ) → Contains team.hand.mine index → HasWin team.hand team.wins index
+  pub sum : sum_by (λ win. win.value) team.wins + sum_below from ≡ sum_below to
 
 -- the values of this worker were appended, by a hand with one share
 abbrev pub IsTeamOf : WordView → ℕ → ℕ → Team → Type 0

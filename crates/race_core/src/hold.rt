@@ -1,14 +1,16 @@
 //! Workers that append to one shared vector beside each other, and whether what they won is a history.
-ghost use Rattle.std.specs.Prelude.{◌≡◌, ℕ, ◌*◌, ◌↔◌, true, Err, IfOk, IsErrOf};
+ghost use Rattle.std.specs.Prelude.{◌≡◌, ℕ, ◌+◌, ◌*◌, ◌↔◌, true, Err, IfOk, IfErr, IsErrOf};
+ghost use Rattle.claim_core.specs.Hand.{SeesOwn};
+ghost use Rattle.span_core.specs.Hands.{KeepsShares};
 ghost use Rattle.span_core.specs.Workers.{MayRefuseOne};
-ghost use Rattle.race_core.specs.Race.{sum_below, IsBadSize, IsGrowth};
+ghost use Rattle.race_core.specs.Race.{sum_below, IsBadSize, IsGrowth, IsTeamOf, IsUnusedHand, IsWorkers, AreFew, team_of};
 
 use crate::refusal::RaceError;
 use crate::report::{RaceReport, report_of};
-use crate::team::Team;
-use crate::workers::{Workers, joined};
+use crate::workers::{Won, all_wins, append_each};
+use grow_core::{Hand, Shared, laws};
 use quiet_core::Quiet;
-use span_core::{Gate, run_gated};
+use span_core::{Gate, with_hands};
 use std::alloc::Global;
 use std::sync::Wait;
 use std::thread::Threads;
@@ -22,7 +24,7 @@ pub const MOST_EACH: u32 = 100_000;
 /// Workers append to one shared vector beside each other, and what they won is checked.
 ///
 /// Worker w appends w * each + j for j from 0 to each - 1. It passes the gate before its first value and after its
-/// last. They are started by `run_gated`. Time and memory are linear in the number of values.
+/// last. They are started by `with_hands`. Time and memory are linear in the number of values.
 pub fn race<R: Threads + Wait + Sync, G: Gate + Sync>(
     rt: &R,
     alloc: Global,
@@ -47,15 +49,18 @@ pub fn race<R: Threads + Wait + Sync, G: Gate + Sync>(
     let Ok((vector, mut hand)) = Quiet::new(alloc, size).open() else {
         return Err(RaceError::NoMemory)
     };
-    let theirs = vector.split(&mut hand, workers);
-    let crew = Workers {
-        rt,
-        alloc,
-        vector: &vector,
-        gate,
-        each,
-    };
-    let teams = run_gated(rt, alloc, &crew, gate, theirs, workers)?;
-    let team = joined(&vector, each, Team::new(alloc, hand), teams)?;
-    Ok(report_of(alloc, vector, team, size)?)
+    let work = |vector: &Shared<u64>, worker: u32, hand: &mut Hand<u64>| -> Won
+        requires { G.lets_through gate.now worker × (IsUnusedHand vector.now hand.old × (hand.old.shares ≡ 1))
+            × AreFew (worker + 1) each }
+        ensures kept { KeepsShares hand.old hand.new }
+        ensures own { SeesOwn hand.new }
+        ensures answer { IfOk result (λ wins. IsTeamOf vector.entry.now.word each worker (team_of hand.new wins.items)) }
+        ensures refused { IfErr result IsWorkers }
+    { append_each(rt, alloc, gate, vector, worker, each, hand) };
+    let teams = with_hands(rt, alloc, &vector, &mut hand, workers, &work, gate)?;
+    let wins = all_wins(alloc, teams)?;
+    hand.laws();
+    laws::places_stay();
+    laws::seen_runs_stay();
+    Ok(report_of(alloc, vector, hand, &wins, size)?)
 }

@@ -1,11 +1,11 @@
 //! What a race found.
 ghost use Rattle.std.specs.Prelude.{◌≡◌, ◌^◌, ◌<◌, ◌≤◌, true, IfOk, sum_by};
 ghost use Rattle.grow_core.specs.Vector.{IsHandOf, base_of};
-ghost use Rattle.race_core.specs.Race.{sum_below, IsTeam, verdict_of};
+ghost use Rattle.race_core.specs.Race.{sum_below, IsTeam, team_of, verdict_of};
 
 use crate::history::{history_of, in_order, is_legal};
-use crate::team::{Team, Win};
-use grow_core::Shared;
+use crate::team::Win;
+use grow_core::{Hand, Shared};
 use quiet_core::Quiet;
 use std::alloc::{AllocError, Global};
 use std::fmt;
@@ -61,25 +61,25 @@ fn sum_of(wins: &[Win]) -> u64
 pub(crate) fn report_of(
     alloc: Global,
     vector: Shared<u64>,
-    team: Team,
+    hand: Hand<u64>,
+    wins: &[Win],
     size: u64,
 ) -> Result<RaceReport, AllocError>
-    requires ours { IsHandOf vector team.hand }
+    requires ours { IsHandOf vector hand }
     requires base { base_of vector ≡ 0 }
     requires limits { 0 < size × size ≤ 6400000 }
-    requires team { IsTeam vector.word 65536 0 size team }
+    requires team { IsTeam vector.word 65536 0 size (team_of hand wins.now) }
     ensures size { IfOk result (λ report. report.size ≡ size) }
     ensures sum { IfOk result (λ report. report.sum ≡ sum_below size) }
     ensures legal { IfOk result (λ report. report.legal ≡ true) }
 {
-    let Team { hand, wins } = team;
     hand.whole_laws();
     let size = Quiet::close(vector, hand).len();
-    let slots = in_order(alloc, size, &wins)?;
+    let slots = in_order(alloc, size, wins)?;
     let history = history_of(alloc, &slots)?;
     Ok(RaceReport {
         size,
-        sum: sum_of(&wins),
+        sum: sum_of(wins),
         legal: is_legal(alloc, size, &history)?,
     })
 }

@@ -1,82 +1,54 @@
-//! The workers of a race: each has a hand, and appends its values.
-ghost use Rattle.std.specs.Prelude.{◌≡◌, ◌+◌, ◌*◌, IfOk, length};
-ghost use Rattle.span_core.specs.Each.{EachFrom};
-ghost use Rattle.race_core.specs.Race.{IsTeam, IsTeamOf};
+//! The workers of a race: each is lent a hand, and appends its values.
+ghost use Rattle.std.specs.Prelude.{◌≡◌, ◌+◌, IfOk, IfErr};
+ghost use Rattle.std.specs.List.{flat_map};
+ghost use Rattle.claim_core.specs.Hand.{SeesOwn};
+ghost use Rattle.race_core.specs.Race.{IsTeamOf, IsUnusedHand, IsWorkers, AreFew, team_of};
 
 use crate::refusal::RaceError;
-use crate::team::{Team, push_all};
+use crate::team::{Win, no_wins, push_all};
 use grow_core::{Hand, Shared};
-use span_core::{Gate, Work};
+use span_core::Gate;
 use std::alloc::{AllocError, Global};
 use std::sync::Wait;
 
-// What all workers of a race use.
-#[derive(Drop)]
-pub(crate) struct Workers<'a, R, G> {
-    pub(crate) rt: &'a R,
-    pub(crate) alloc: Global,
-    pub(crate) vector: &'a Shared<u64>,
-    pub(crate) gate: &'a G,
-    pub(crate) each: u64,
-}
+// What a worker answers.
+pub(crate) type Won = Result<Vec<Win>, RaceError>;
 
-impl<'a, R: Wait, G: Gate> Work<Hand<u64>, Team, RaceError> for Workers<'a, R, G> {
-    ghost use Rattle.std.specs.Prelude.{◌≡◌, ◌+◌, ◌<◌, IfOk, IfErr};
-    ghost use Rattle.race_core.specs.Race.{IsTeamOf, IsWorkers, IsUnusedHand, AreFew};
-
-    ghost ready = { λ w. G.lets_through w.gate.now };
-
-    // The hand has a share for each worker.
-    ghost brings = { λ w first count hand. IsUnusedHand w.vector.now hand × (hand.shares ≡ count)
-        × AreFew (first + count) w.each };
-
-    ghost gives = { λ w. IsTeamOf w.vector.now.word w.each };
-
-    ghost refuses = { λ _ _. IsWorkers };
-
-    // One worker appends its values.
-    fn work(&self, worker: u32, brought: Hand<u64>) -> Result<Team, RaceError>
-        requires ready { G.lets_through self.now.gate.now worker }
-        requires brought { IsUnusedHand self.now.vector.now brought × (brought.shares ≡ 1)
-            × AreFew (worker + 1) self.now.each }
-        ensures answer { IfOk result (IsTeamOf self.now.vector.now.word self.now.each worker) }
-        ensures refused { IfErr result IsWorkers }
-    {
-        let from = u64::from(worker) * self.each;
-        let to = (u64::from(worker) + 1) * self.each;
-        let team = Team::new(self.alloc, brought);
-        push_all(self.rt, self.gate, self.vector, worker, team, from, to)
-    }
-
-    fn cut(&self, brought: Hand<u64>, first: u32, low: u32, high: u32) -> (Hand<u64>, Hand<u64>)
-        requires { (IsUnusedHand self.now.vector.now brought × (brought.shares ≡ low + high)
-            × AreFew (first + (low + high)) self.now.each) × (0 < low) × (0 < high) }
-        ensures lower { IsUnusedHand self.now.vector.now result.0 × (result.0.shares ≡ low)
-            × AreFew (first + low) self.now.each }
-        ensures upper { IsUnusedHand self.now.vector.now result.1 × (result.1.shares ≡ high)
-            × AreFew ((first + low) + high) self.now.each }
-    {
-        let mut lower = brought;
-        let upper = self.vector.split(&mut lower, high);
-        (lower, upper)
-    }
-}
-
-// All teams as one, with the team that has the other shares.
-pub(crate) fn joined(
+// One worker appends its values, and answers its wins. It came through the gate.
+pub(crate) fn append_each<R: Wait, G: Gate>(
+    rt: &R,
+    alloc: Global,
+    gate: &G,
     vector: &Shared<u64>,
+    worker: u32,
     each: u64,
-    mut all: Team,
-    teams: Vec<Team>,
-) -> Result<Team, AllocError>
-    requires none { IsTeam vector.now.word all.hand.shares 0 0 all }
-    requires teams { EachFrom (IsTeamOf vector.now.word each) 0 teams.items }
-    ensures { IfOk result (IsTeam vector.now.word (all.hand.shares + length teams.items)
-        0 (length teams.items * each)) }
+    hand: &mut Hand<u64>,
+) -> Won
+    requires through { G.lets_through gate.now worker }
+    requires unused { IsUnusedHand vector.now hand.old × (hand.old.shares ≡ 1) }
+    requires few { AreFew (worker + 1) each }
+    ensures of { hand.new.of ≡ hand.old.of }
+    ensures shares { hand.new.shares ≡ hand.old.shares }
+    ensures own { SeesOwn hand.new }
+    ensures answer { IfOk result (λ wins. IsTeamOf vector.now.word each worker (team_of hand.new wins.items)) }
+    ensures refused { IfErr result IsWorkers }
 {
-    let _each = each;
-    for team in teams {
-        all.join(vector, team)?;
+    let from = u64::from(worker) * each;
+    let to = (u64::from(worker) + 1) * each;
+    let mut wins = no_wins(alloc, hand);
+    let pushed = push_all(rt, gate, vector, worker, hand, &mut wins, from, to);
+    hand.laws();
+    pushed?;
+    Ok(wins)
+}
+
+// The wins of all workers, in order.
+pub(crate) fn all_wins(alloc: Global, teams: Vec<Vec<Win>>) -> Result<Vec<Win>, AllocError>
+    ensures { IfOk result (λ all. all.items ≡ flat_map (λ wins. wins.items) teams.items) }
+{
+    let mut all = Vec::new(alloc);
+    for mut wins in teams {
+        all.append(&mut wins)?;
     }
     Ok(all)
 }

@@ -1,5 +1,5 @@
 //! A hand that is split into several at once.
-ghost use Rattle.std.specs.Prelude.{◌≡◌, ◌+◌, ◌-◌, ◌*◌, ◌<◌, IfOk, OnOk, OnErr, All, replicate};
+ghost use Rattle.std.specs.Prelude.{◌≡◌, ◌+◌, ◌-◌, ◌*◌, ◌<◌, IfOk, OnOk, OnErr, replicate};
 ghost use Rattle.grow_core.specs.Vector.{IsHandOf};
 ghost use Rattle.span_core.specs.Hands.{even_share, split_off};
 

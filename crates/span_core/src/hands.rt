@@ -39,7 +39,7 @@ impl<
     F: Fn(&Shared<T>, u32, &mut Hand<T>) -> Result<A, E>,
     G: Gate,
 > ForkJoin<Hand<T>, Left<T, A, E>, Never> for Crew<'a, T, F, G> {
-    ghost use Rattle.std.specs.Prelude.{◌≡◌, ℕ, ◌+◌, ◌<◌, ◌≤◌, [], IfOk, IfErr};
+    ghost use Rattle.std.specs.Prelude.{◌≡◌, ◌+◌, ◌<◌, ◌≤◌, [], IfOk, IfErr};
     ghost use Rattle.span_core.specs.Hands.{AreCallable, KeepHands, Leaves, IsLeft};
 
     // The hand has a share for each worker.

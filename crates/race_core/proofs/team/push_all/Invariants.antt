@@ -1,8 +1,11 @@
 use Rattle.std.proofs.Common.{◌≡◌, ℕ}
-use Rattle.race_core.specs.Race.{IsTeam}
+use Rattle.race_core.specs.Race.{IsTeam, team_of}
 use Rattle.race_core.proofs.team.push_all.Given as goal
 
 abbrev pub invariant-loop-value : goal.invariant-loop-value
 invariant-loop-value g l =
-    (l.team.hand.of ≡ l.vector.word)
-    × ((shares : ℕ) → IsTeam l.vector.word shares l.from l.from l.initial.team → IsTeam l.vector.word shares l.from l.value l.team)
+    (l.hand.of ≡ l.vector.word)
+    × (l.hand.of ≡ l.fn.hand.of)
+    × (l.hand.shares ≡ l.fn.hand.shares)
+    × ((shares : ℕ) → IsTeam l.vector.word shares l.from l.from (team_of l.fn.hand l.fn.wins.items)
+    → IsTeam l.vector.word shares l.from l.value (team_of l.hand l.wins.items))

@@ -1,5 +1,7 @@
-//! What no row of the program shows: readers and writers that fail, and the status of each error.
+//! What no row of the program shows: readers and writers that fail, memory that is refused, and the status of each
+//! error.
 
+mod memory;
 mod program;
 mod statuses;
 mod streams;

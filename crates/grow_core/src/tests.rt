@@ -7,6 +7,7 @@ mod keys;
 mod large;
 mod lives;
 mod made;
+mod memory;
 mod mixed;
 mod parts;
 mod race;

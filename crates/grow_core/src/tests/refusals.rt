@@ -60,7 +60,7 @@ fn a_place_at_the_size_is_out_of_range(rt: HostRuntime) {
 }
 
 // A new vector, by a second call where memory was refused to the first.
-fn fresh_again<R: AllocGlobal + Abort>(rt: &R) -> Callers<u64> {
+pub(super) fn fresh_again<R: AllocGlobal + Abort>(rt: &R) -> Callers<u64> {
     match Callers::try_new(rt.alloc(), 8) {
         Ok(two) => two,
         Err(_refused) => Callers::new(rt, 8),

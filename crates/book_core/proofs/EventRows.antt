@@ -3,10 +3,10 @@ use Rattle.std.proofs.Common.{◌≡◌, ℕ, ◌+◌, ◌-◌, ◌<◌, ◌≤�
 use Rattle.std.proofs.lemmas.Bool.Decides.{nat_tests}
 use Rattle.book_core.specs.declared.cells.Cell.{Cell}
 use Rattle.book_core.specs.declared.cells.Cell.TheVariants.{Pending, Filled, Broken}
-use Rattle.book_core.specs.declared.events.Event.TheVariants.{Claim, Raise, Finish, Break, Look, Size, RefusedFull}
+use Rattle.book_core.specs.declared.events.Event.TheVariants.{Claim, Raise, Look, Size, RefusedFull}
 use Rattle.book_core.specs.declared.events.Reply.TheVariants as replies
-use Rattle.book_core.specs.Cells.{CellList, with_pending, with_cell, is_pending_for, reply_of_look, apply_event}
-use Rattle.book_core.specs.Laws.{ClaimsAppend, OwnersFill, OwnersBreak}
+use Rattle.book_core.specs.Cells.{CellList, with_pending, with_cell, is_pending_for, is_broken, reply_of_look, apply_event}
+use Rattle.book_core.specs.Laws.{ClaimsAppend, OwnersFill, OwnersBreak, AnyoneMends}
 
 module _ (v : CellList) (actor size : ℕ) (is : length v.cells ≡ size) where
   pub claim_applies : (n : ℕ) → size + n ≤ v.limit
@@ -50,6 +50,10 @@ pub break_applies : OwnersBreak
 break_applies v actor place pending =
     ap (λ o. if is_pending_for actor o then Some (with_cell v place Broken, replies.Done) else None) pending
     ∙ ap (λ b. if b then Some (with_cell v place Broken, replies.Done) else None) (is_own actor)
+
+pub mend_applies : AnyoneMends
+mend_applies v actor place broken =
+    ap (λ o. if is_broken o then Some (with_cell v place (Pending actor), replies.Done) else None) broken
 
 pub look_applies : (v : CellList) (actor place : ℕ) (cell : Option Cell) → slice_get v.cells place ≡ cell
     → apply_event v (Look actor place) ≡ Some (v, reply_of_look (length v.cells) cell)

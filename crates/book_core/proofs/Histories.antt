@@ -1,16 +1,20 @@
 -- Histories in parts; and what every history keeps, since each event does: the limit, tiling runs, finished cells.
-use Rattle.std.proofs.Common.{arith, ◌≡◌, ◌↔◌, ℕ, ◌+◌, ◌<◌, List, [], ◌∷◌, ◌++◌, length, replicate, drop, get_or, drop-cons, add-one, slice_get, ap, refl, sym, ◌∙◌, subst, Option, Some, inl, inr}
-use Rattle.std.proofs.lemmas.Bool.Decides.{eqb_tells}
+use Rattle.std.proofs.Common.{arith, ◌≡◌, ◌↔◌, ℕ, ◌+◌, ◌<◌, ◌==◌, true, if◌then◌else◌, List, [], ◌∷◌, ◌++◌, length, replicate, drop, get_or, drop-cons, add-one, slice_get, ap, refl, sym, ◌∙◌, subst, Option, Some, inl, inr}
+use Rattle.std.specs.List.{Contains}
+use Rattle.std.proofs.lemmas.Bool.Decides.{nat_tests}
 use Rattle.std.proofs.lemmas.List.{length-append, length-replicate, length-set}
+use Rattle.std.proofs.lemmas.List.Elements.{Contains-append_left, Contains-append_right}
 use Rattle.std.proofs.lemmas.Option.{same_Some}
 use Rattle.book_core.specs.declared.cells.Cell.{Cell}
 use Rattle.book_core.specs.declared.cells.Cell.TheVariants.{Pending, Filled, Broken}
 use Rattle.book_core.specs.declared.events.Event.{Event}
+use Rattle.book_core.specs.declared.events.Event.TheVariants.{Mend}
 use Rattle.book_core.specs.declared.events.Reply.{Reply}
 use Rattle.book_core.specs.Cells.{CellList, apply_event}
-use Rattle.book_core.specs.History.{IsHistory, IsLegalFrom, run_of, runs_of, Tile}
+use Rattle.book_core.specs.Events.{write_in}
+use Rattle.book_core.specs.History.{IsHistory, IsLegalFrom, run_of, runs_of, Tile, writes_of}
 use Rattle.book_core.specs.Laws.{HistoriesSplit, RunsAreApart, HistoriesTile, FilledCellsStay, BrokenCellsStay}
-use Rattle.book_core.proofs.EventEffects.{Does, event_does}
+use Rattle.book_core.proofs.EventEffects.{Does, WritesCell, IsWriteOf, found_by, event_does}
 use Rattle.book_core.proofs.Lists.{get_before, get_other}
 use Rattle.book_core.proofs.Runs.{tile-append, runs_within}
 
@@ -103,43 +107,90 @@ runs_are_apart old mid new es fs run later first second is_first is_later =
     let begins = runs_within (length mid.cells) (length new.cells) (runs_of fs) later (runs_tile mid new fs second) is_later in
     omega arith
 
--- ---- Finished cells
+-- ---- Filled and broken cells
 
--- the cell is filled or broken
-abbrev IsFinished : Cell → Type 0
-IsFinished (Pending owner) = ⊥
-IsFinished (Filled value) = Unit {0}
-IsFinished Broken = Unit {0}
-
--- a cell that is not pending
-not_pending : (actor : ℕ) (cell : Cell) → IsFinished cell → Some cell ≡ Some (Pending actor) → ⊥
-not_pending actor cell finished is = subst (λ c. IsFinished c) (same_Some cell (Pending actor) is) finished
-
-finished_stays : (v : CellList) (event : Event) (w : CellList) (reply : Reply) (place : ℕ) (cell : Cell)
-    → Does v event w reply → slice_get v.cells place ≡ Some cell → IsFinished cell
-    → slice_get w.cells place ≡ Some cell
-finished_stays v event w reply place cell does here finished = elim does [
+-- a cell stays where the event doesn't write its place
+pub untouched : (v : CellList) (event : Event) (w : CellList) (reply : Reply) (place : ℕ) (cell : Cell)
+    → Does v event w reply → ((write : WritesCell v event w reply) → write.at ≡ place → ⊥)
+    → slice_get v.cells place ≡ Some cell → slice_get w.cells place ≡ Some cell
+untouched v event w reply place cell does apart here = elim does [
   | inl nothing ↦ ap (λ (x : CellList). slice_get x.cells place) nothing.list ∙ here
   | inr (inl run) ↦
       ap (λ (x : CellList). slice_get x.cells place) run.list
       ∙ get_before v.cells (replicate run.n (Pending run.actor)) place cell here
   | inr (inr write) ↦
       ap (λ (x : CellList). slice_get x.cells place) write.list
-      ∙ elim (eqb_tells place write.at) [
-        | inl same ↦ absurd (not_pending write.actor cell finished (sym here ∙ ap (λ q. slice_get v.cells q) same.1 ∙ write.pending))
-        | inr apart ↦ get_other v.cells write.at place write.cell apart.1 ∙ here
-      ]
+      ∙ get_other v.cells write.at place write.cell (λ same. apart write (sym same))
+      ∙ here
 ]
 
--- a finished cell stays as it is
-finished_cells_stay : (old new : CellList) (es : List (Event × Reply)) (place : ℕ) (cell : Cell) → IsHistory old es new
-    → slice_get old.cells place ≡ Some cell → IsFinished cell → slice_get new.cells place ≡ Some cell
-finished_cells_stay old new [] place cell is here finished = ap (λ (v : CellList). slice_get v.cells place) is ∙ here
-finished_cells_stay old new (e ∷ es) place cell (mid, first, others) here finished =
-    finished_cells_stay mid new es place cell others (finished_stays old e.0 mid e.1 place cell (event_does old e.0 mid e.1 first) here finished) finished
+-- the cell is filled
+abbrev IsFilled : Cell → Type 0
+IsFilled (Pending owner) = ⊥
+IsFilled (Filled value) = Unit {0}
+IsFilled Broken = ⊥
+
+-- nobody writes to a filled place
+filled_not_found : (actor : ℕ) (cell : Cell) → IsFilled (found_by actor cell) → ⊥
+filled_not_found actor (Pending mender) is = is
+filled_not_found actor (Filled value) is = is
+filled_not_found actor Broken is = is
+
+-- the cell is broken
+abbrev IsBroken : Cell → Type 0
+IsBroken (Pending owner) = ⊥
+IsBroken (Filled value) = ⊥
+IsBroken Broken = Unit {0}
+
+-- who writes to a broken place mends it
+broken_mended : (actor at : ℕ) (cell : Cell) (event : Event) (reply : Reply) → IsWriteOf actor at cell event reply
+    → IsBroken (found_by actor cell) → event ≡ Mend actor at
+broken_mended actor at (Pending mender) event reply write is = write.1
+broken_mended actor at (Filled value) event reply write is = absurd is
+broken_mended actor at Broken event reply write is = absurd is
+
+-- what a write finds is what stands there
+found_here : {v : CellList} {event : Event} {w : CellList} {reply : Reply} (write : WritesCell v event w reply) (place : ℕ) (cell : Cell)
+    → write.at ≡ place → slice_get v.cells place ≡ Some cell → cell ≡ found_by write.actor write.cell
+found_here {v = v} write place cell same here =
+    same_Some cell (found_by write.actor write.cell) (sym (ap (λ q. slice_get v.cells q) same ∙ here) ∙ write.found)
+
+filled_stays : (v : CellList) (event : Event) (w : CellList) (reply : Reply) (place value : ℕ) → Does v event w reply
+    → slice_get v.cells place ≡ Some (Filled value) → slice_get w.cells place ≡ Some (Filled value)
+filled_stays v event w reply place value does here =
+    untouched v event w reply place (Filled value) does
+    (λ write same. filled_not_found write.actor write.cell (subst (λ c. IsFilled c) (found_here write place (Filled value) same here) tt)) here
 
 pub filled_cells_stay : FilledCellsStay
-filled_cells_stay old new es place value told here = finished_cells_stay old new es place (Filled value) told here tt
+filled_cells_stay old new [] place value is here = ap (λ (v : CellList). slice_get v.cells place) is ∙ here
+filled_cells_stay old new (e ∷ es) place value (mid, first, others) here =
+    filled_cells_stay mid new es place value others
+    (filled_stays old e.0 mid e.1 place value (event_does old e.0 mid e.1 first) here)
+
+-- an event that writes a place is what it does there
+written_there : {v : CellList} {event : Event} {w : CellList} {reply : Reply} (write : WritesCell v event w reply) (place : ℕ)
+    → write.at ≡ place → write_in place event ≡ event ∷ []
+written_there {event = event} write place same =
+    let here : (write.at == place) ≡ true = grind (arith, nat_tests) in
+    write.writes place ∙ ap (λ b. if b then event ∷ [] else []) here
+
+broken_stays : (v : CellList) (event : Event) (w : CellList) (reply : Reply) (place : ℕ) → Does v event w reply
+    → ((actor : ℕ) → Contains (write_in place event) (Mend actor place) → ⊥)
+    → slice_get v.cells place ≡ Some Broken → slice_get w.cells place ≡ Some Broken
+broken_stays v event w reply place does unmended here =
+    untouched v event w reply place Broken does
+    (λ write same.
+    let mends : event ≡ Mend write.actor place =
+    broken_mended write.actor write.at write.cell event reply write.write (subst (λ c. IsBroken c) (found_here write place Broken same here) tt)
+    ∙ ap (Mend write.actor) same
+    in
+    unmended write.actor (subst (λ xs. Contains xs (Mend write.actor place)) (sym (written_there write place same)) (0, omega arith, mends)))
+    here
 
 pub broken_cells_stay : BrokenCellsStay
-broken_cells_stay old new es place told here = finished_cells_stay old new es place Broken told here tt
+broken_cells_stay old new [] place is unmended here = ap (λ (v : CellList). slice_get v.cells place) is ∙ here
+broken_cells_stay old new (e ∷ es) place (mid, first, others) unmended here =
+    broken_cells_stay mid new es place others
+    (λ actor mended. unmended actor (Contains-append_right (write_in place e.0) (writes_of place es) (Mend actor place) mended))
+    (broken_stays old e.0 mid e.1 place (event_does old e.0 mid e.1 first)
+    (λ actor mended. unmended actor (Contains-append_left (write_in place e.0) (writes_of place es) (Mend actor place) mended)) here)

@@ -5,8 +5,8 @@ use Rattle.std.proofs.lemmas.Bool.Decides.{nat_tests}
 use Rattle.std.proofs.lemmas.Option.{none-some}
 use Rattle.book_core.specs.declared.events.Event.{Event}
 use Rattle.book_core.specs.declared.events.Reply.{Reply}
-use Rattle.book_core.specs.History.{OwnedRun, run_of, runs_of, owner_of, Tile, writers_of}
-use Rattle.book_core.specs.Events.{writer_in}
+use Rattle.book_core.specs.History.{OwnedRun, run_of, runs_of, owner_of, Tile, writes_of}
+use Rattle.book_core.specs.Events.{write_in}
 use Rattle.std.proofs.lemmas.List.{append_assoc}
 use Rattle.std.specs.List.{Contains}
 
@@ -81,12 +81,12 @@ runs_within start end (first ∷ runs) run (begins, others) (suc i, inside, is) 
     let rest = runs_within (start + first.n) end runs run others (i, omega arith, is) in
     (omega arith, rest.1)
 
--- the runs and the writers of a history, in two parts
+-- the runs of a history, and what it did at a place, in two parts
 pub runs_of-append : (es fs : List (Event × Reply)) → runs_of (es ++ fs) ≡ runs_of es ++ runs_of fs
 runs_of-append [] fs = refl
 runs_of-append (e ∷ es) fs = ap (λ rs. run_of e.0 e.1 ++ rs) (runs_of-append es fs) ∙ sym (append_assoc (run_of e.0 e.1) (runs_of es) (runs_of fs))
 
-pub writers_of-append : (place : ℕ) (es fs : List (Event × Reply))
-    → writers_of place (es ++ fs) ≡ writers_of place es ++ writers_of place fs
-writers_of-append place [] fs = refl
-writers_of-append place (e ∷ es) fs = ap (λ rs. writer_in place e.0 ++ rs) (writers_of-append place es fs) ∙ sym (append_assoc (writer_in place e.0) (writers_of place es) (writers_of place fs))
+pub writes_of-append : (place : ℕ) (es fs : List (Event × Reply))
+    → writes_of place (es ++ fs) ≡ writes_of place es ++ writes_of place fs
+writes_of-append place [] fs = refl
+writes_of-append place (e ∷ es) fs = ap (λ rs. write_in place e.0 ++ rs) (writes_of-append place es fs) ∙ sym (append_assoc (write_in place e.0) (writes_of place es) (writes_of place fs))

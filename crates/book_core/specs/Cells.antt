@@ -1,9 +1,9 @@
 -- The sequential vector of cells, and the table of its events.
-use Rattle.std.specs.Prelude.{◌≡◌, ℕ, ◌+◌, ◌-◌, nat_le, ◌==◌, Bool, false, if◌then◌else◌, List, [], ◌++◌, length, replicate, Option, Some, None, IfSome, slice_get, slice_set}
+use Rattle.std.specs.Prelude.{◌≡◌, ℕ, ◌+◌, ◌-◌, nat_le, ◌==◌, Bool, true, false, if◌then◌else◌, List, [], ◌++◌, length, replicate, Option, Some, None, IfSome, slice_get, slice_set}
 use Rattle.book_core.specs.declared.cells.Cell.{Cell}
 use Rattle.book_core.specs.declared.cells.Cell.TheVariants.{Pending, Filled, Broken}
 use Rattle.book_core.specs.declared.events.Event.{Event}
-use Rattle.book_core.specs.declared.events.Event.TheVariants.{Claim, Raise, Finish, Break, Look, Size, RefusedFull, RefusedMemory}
+use Rattle.book_core.specs.declared.events.Event.TheVariants.{Claim, Raise, Finish, Break, Mend, Look, Size, RefusedFull, RefusedMemory}
 use Rattle.book_core.specs.declared.events.Reply.{Reply}
 use Rattle.book_core.specs.declared.events.Reply.TheVariants as replies
 
@@ -31,6 +31,13 @@ is_pending_for actor (Some (Filled value)) = false
 is_pending_for actor (Some Broken) = false
 is_pending_for actor None = false
 
+-- the cell is there, and broken
+abbrev pub is_broken : Option Cell → Bool
+is_broken (Some (Pending owner)) = false
+is_broken (Some (Filled value)) = false
+is_broken (Some Broken) = true
+is_broken None = false
+
 -- what a reader is told of a place, in a list of this length
 abbrev pub reply_of_look : ℕ → Option Cell → Reply
 reply_of_look size (Some (Pending owner)) = replies.Pending
@@ -54,6 +61,8 @@ apply_event v (Finish actor place value) =
     if is_pending_for actor (slice_get v.cells place) then Some (with_cell v place (Filled value), replies.Done) else None
 apply_event v (Break actor place) =
     if is_pending_for actor (slice_get v.cells place) then Some (with_cell v place Broken, replies.Done) else None
+apply_event v (Mend actor place) =
+    if is_broken (slice_get v.cells place) then Some (with_cell v place (Pending actor), replies.Done) else None
 apply_event v (Look actor place) = Some (v, reply_of_look (length v.cells) (slice_get v.cells place))
 apply_event v (Size actor) = Some (v, replies.Size (length v.cells))
 apply_event v (RefusedFull actor n) =

@@ -1,7 +1,7 @@
 -- What a list of programs and a schedule have to be, to be played.
 use Rattle.std.specs.Prelude.{ℕ, ◌<◌, ◌==◌, List, length, filter, All}
 use Rattle.book_core.specs.declared.commands.Command.{Command}
-use Rattle.book_core.specs.declared.commands.Command.TheVariants.{Push, Grow, AtLeast, Fail, Read, Size}
+use Rattle.book_core.specs.declared.commands.Command.TheVariants.{Push, Grow, AtLeast, Fail, Mend, Read, Size}
 use Rattle.book_core.specs.declared.commands.Item.{Item}
 use Rattle.book_core.specs.declared.commands.Ended.{Ended}
 
@@ -11,6 +11,7 @@ IsSound (Push value) = Unit {0}
 IsSound (Grow n value) = Unit {0}
 IsSound (AtLeast to value) = Unit {0}
 IsSound (Fail n value at) = at < n
+IsSound (Mend place value) = Unit {0}
 IsSound (Read place) = Unit {0}
 IsSound Size = Unit {0}
 

@@ -1,11 +1,11 @@
 -- Histories: lists of events with their replies; the runs that they claim, and whose each place is.
 use Rattle.std.specs.Prelude.{◌≡◌, ℕ, ◌+◌, nat_le, nat_lt, ◌&&◌, ◌==◌, if◌then◌else◌, List, [], ◌∷◌, ◌++◌, filter, Option, Some, None}
 use Rattle.book_core.specs.declared.events.Event.{Event}
-use Rattle.book_core.specs.declared.events.Event.TheVariants.{Claim, Raise, Finish, Break, Look, Size, RefusedFull, RefusedMemory}
+use Rattle.book_core.specs.declared.events.Event.TheVariants.{Claim, Raise, Finish, Break, Mend, Look, Size, RefusedFull, RefusedMemory}
 use Rattle.book_core.specs.declared.events.Reply.{Reply}
 use Rattle.book_core.specs.declared.events.Reply.TheVariants as replies
 use Rattle.book_core.specs.Cells.{CellList, apply_event}
-use Rattle.book_core.specs.Events.{actor_of, writer_in}
+use Rattle.book_core.specs.Events.{actor_of, write_in}
 
 -- Each event is legal where it stands, and its reply is the list's; the list before the first is old, after the last new.
 abbrev pub IsHistory : CellList → List (Event × Reply) → CellList → Type 0
@@ -41,6 +41,7 @@ run_of (Claim actor n) reply = run_in actor reply
 run_of (Raise actor to) reply = run_in actor reply
 run_of (Finish actor place value) reply = []
 run_of (Break actor place) reply = []
+run_of (Mend actor place) reply = []
 run_of (Look actor place) reply = []
 run_of (Size actor) reply = []
 run_of (RefusedFull actor n) reply = []
@@ -66,7 +67,7 @@ owner_of (run ∷ runs) place =
 abbrev pub events_of : ℕ → List (Event × Reply) → List (Event × Reply)
 events_of actor es = filter (λ e. actor_of e.0 == actor) es
 
--- the actors that filled or broke this place, in the order of the history
-abbrev pub writers_of : ℕ → List (Event × Reply) → List ℕ
-writers_of place [] = []
-writers_of place (e ∷ es) = writer_in place e.0 ++ writers_of place es
+-- what was done at this place: the events that filled, broke or mended it, in the order of the history
+abbrev pub writes_of : ℕ → List (Event × Reply) → List Event
+writes_of place [] = []
+writes_of place (e ∷ es) = write_in place e.0 ++ writes_of place es

@@ -1,14 +1,14 @@
 -- What holds of every legal history, by the table of events alone.
-use Rattle.std.specs.Prelude.{◌≡◌, ◌≤◌, ◌+◌, ◌↔◌, ℕ, List, [], ◌∷◌, ◌++◌, length, Some, slice_get}
+use Rattle.std.specs.Prelude.{◌≡◌, ◌≤◌, ◌+◌, ◌↔◌, ◌⊎◌, ℕ, List, [], ◌∷◌, ◌++◌, length, Some, slice_get}
 use Rattle.std.specs.List.{Contains}
-use Rattle.book_core.specs.declared.cells.Cell.{Cell}
 use Rattle.book_core.specs.declared.cells.Cell.TheVariants.{Pending, Filled, Broken}
 use Rattle.book_core.specs.declared.events.Event.{Event}
-use Rattle.book_core.specs.declared.events.Event.TheVariants.{Claim, Finish, Break, Look}
+use Rattle.book_core.specs.declared.events.Event.TheVariants.{Claim, Finish, Break, Mend, Look}
 use Rattle.book_core.specs.declared.events.Reply.{Reply}
 use Rattle.book_core.specs.declared.events.Reply.TheVariants as replies
 use Rattle.book_core.specs.Cells.{CellList, apply_event, with_cell, with_pending, empty_list}
-use Rattle.book_core.specs.History.{IsHistory, OwnedRun, runs_of, Tile, owner_of, writers_of}
+use Rattle.book_core.specs.Events.{finishers_of}
+use Rattle.book_core.specs.History.{IsHistory, OwnedRun, runs_of, Tile, owner_of, writes_of}
 
 -- a history in two parts is two histories, one after the other
 abbrev pub HistoriesSplit : Type 0
@@ -26,10 +26,10 @@ RunsAreApart =
     (old mid new : CellList) (es fs : List (Event × Reply)) (run later : OwnedRun) → IsHistory old es mid → IsHistory mid fs new
     → Contains (runs_of es) run → Contains (runs_of fs) later → run.from + run.n ≤ later.from
 
--- the writers of a place in a history in two parts are those in the first, and then those in the second
-abbrev pub WritersSplit : Type 0
-WritersSplit =
-    (place : ℕ) (es fs : List (Event × Reply)) → writers_of place (es ++ fs) ≡ writers_of place es ++ writers_of place fs
+-- what was done at a place in a history in two parts is what was done in the first, and then what was done in the second
+abbrev pub WritesSplit : Type 0
+WritesSplit =
+    (place : ℕ) (es fs : List (Event × Reply)) → writes_of place (es ++ fs) ≡ writes_of place es ++ writes_of place fs
 
 -- a claim up to the limit is legal, and appends its places as pending ones
 abbrev pub ClaimsAppend : Type 0
@@ -49,6 +49,12 @@ OwnersBreak =
     (old : CellList) (actor place : ℕ) → slice_get old.cells place ≡ Some (Pending actor)
     → apply_event old (Break actor place) ≡ Some (with_cell old place Broken, replies.Done)
 
+-- anyone may mend a broken cell, which is pending for it from then on
+abbrev pub AnyoneMends : Type 0
+AnyoneMends =
+    (old : CellList) (actor place : ℕ) → slice_get old.cells place ≡ Some Broken
+    → apply_event old (Mend actor place) ≡ Some (with_cell old place (Pending actor), replies.Done)
+
 -- the runs of a history tile the places that it appends
 abbrev pub HistoriesTile : Type 0
 HistoriesTile = (old new : CellList) (es : List (Event × Reply)) → IsHistory old es new → Tile (length old.cells) (runs_of es) (length new.cells)
@@ -59,27 +65,37 @@ FilledCellsStay =
     (old new : CellList) (es : List (Event × Reply)) (place value : ℕ) → IsHistory old es new
     → slice_get old.cells place ≡ Some (Filled value) → slice_get new.cells place ≡ Some (Filled value)
 
--- a broken cell stays broken
+-- a broken cell stays broken until it is mended
 abbrev pub BrokenCellsStay : Type 0
 BrokenCellsStay =
     (old new : CellList) (es : List (Event × Reply)) (place : ℕ) → IsHistory old es new
+    → ((actor : ℕ) → Contains (writes_of place es) (Mend actor place) → ⊥)
     → slice_get old.cells place ≡ Some Broken → slice_get new.cells place ≡ Some Broken
 
--- the owner of the place filled it with this value, and nobody else wrote it
-pub record IsFilledByOwner (es : List (Event × Reply)) (place value : ℕ) : Type 0 where
-  pub owner : ℕ
-  pub owns : owner_of (runs_of es) place ≡ Some owner
-  pub filled : Contains es (Finish owner place value, replies.Done)
-  pub once : writers_of place es ≡ owner ∷ []
+-- The actor may finish the place, by what was done there: it owns the place and nothing was done there, or it was the last to
+-- mend it.
+abbrev pub IsItsToFinish : List (Event × Reply) → ℕ → ℕ → List Event → Type 0
+IsItsToFinish es place actor writes =
+    ((owner_of (runs_of es) place ≡ Some actor) × (writes ≡ []))
+    ⊎ ((before : List Event) × (writes ≡ before ++ Mend actor place ∷ []))
 
--- a cell that holds a value was filled with it by the owner of its place
-abbrev pub ValuesAreTheOwners : Type 0
-ValuesAreTheOwners =
+-- one actor filled the place with this value, when it was its to finish; nothing was done there since, and nobody else filled it
+pub record IsFilledOnce (es : List (Event × Reply)) (place value : ℕ) : Type 0 where
+  pub writer : ℕ
+  pub filled : Contains es (Finish writer place value, replies.Done)
+  pub before : List Event
+  pub last : writes_of place es ≡ before ++ Finish writer place value ∷ []
+  pub its : IsItsToFinish es place writer before
+  pub once : finishers_of (writes_of place es) ≡ writer ∷ []
+
+-- a cell that holds a value was filled with it once, by the owner of its place, or by who mended it
+abbrev pub ValuesHaveOneWriter : Type 0
+ValuesHaveOneWriter =
     (limit : ℕ) (new : CellList) (es : List (Event × Reply)) (place value : ℕ) → IsHistory (empty_list limit) es new
-    → slice_get new.cells place ≡ Some (Filled value) → IsFilledByOwner es place value
+    → slice_get new.cells place ≡ Some (Filled value) → IsFilledOnce es place value
 
 -- so was a value that a look was told, before that look
-abbrev pub LooksTellTheOwnersValue : Type 0
-LooksTellTheOwnersValue =
+abbrev pub LooksTellTheWritersValue : Type 0
+LooksTellTheWritersValue =
     (limit : ℕ) (new : CellList) (es rest : List (Event × Reply)) (actor place value : ℕ)
-    → IsHistory (empty_list limit) (es ++ (Look actor place, replies.Value value) ∷ rest) new → IsFilledByOwner es place value
+    → IsHistory (empty_list limit) (es ++ (Look actor place, replies.Value value) ∷ rest) new → IsFilledOnce es place value

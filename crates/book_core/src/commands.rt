@@ -11,6 +11,8 @@ pub enum Command {
     AtLeast { to: u64, value: u64 },
     /// Grows by `n` places, and has the construction refused at the `at`-th of them, from 0.
     Fail { n: u64, value: u64, at: u64 },
+    /// Fills a broken place.
+    Mend { place: u64, value: u64 },
     /// Reads a place.
     Read { place: u64 },
     /// Reads the size.
@@ -20,7 +22,7 @@ pub enum Command {
 /// How a call ended.
 #[derive(Clone, Copy, Debug, PartialEq, Eq)]
 pub enum Answer {
-    /// The value was appended at this place.
+    /// The value was appended at this place, or the broken place was filled with it.
     At { place: u64 },
     /// The places from `from` on, `n` of them, were appended.
     Run { from: u64, n: u64 },

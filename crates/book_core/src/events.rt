@@ -11,6 +11,8 @@ pub enum Event {
     Finish { actor: u32, place: u64, value: u64 },
     /// Breaks one of the actor's pending places.
     Break { actor: u32, place: u64 },
+    /// Takes a broken place, which is pending for the actor from then on.
+    Mend { actor: u32, place: u64 },
     /// Reads a place.
     Look { actor: u32, place: u64 },
     /// Reads the length.

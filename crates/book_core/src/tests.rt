@@ -6,7 +6,7 @@ use std::alloc::{AllocError, Global};
 use std::test::Fail;
 
 // An event and its reply, in turn on a list with a limit of 6.
-const EVENTS: [(Event, Reply); 13] = [
+const EVENTS: [(Event, Reply); 15] = [
     (
         Event::Claim { actor: 0, n: 2 },
         Reply::Run { from: 0, n: 2 },
@@ -45,6 +45,8 @@ const EVENTS: [(Event, Reply); 13] = [
         Reply::Full { size: 4 },
     ),
     (Event::RefusedMemory { actor: 0 }, Reply::NoMemory),
+    (Event::Mend { actor: 2, place: 2 }, Reply::Done),
+    (Event::Look { actor: 0, place: 2 }, Reply::Pending),
 ];
 
 #[test]
@@ -56,7 +58,7 @@ fn each_event_has_its_reply(rt: HostRuntime) -> Result<(), Fail> {
     let cells = [
         Cell::Pending(0),
         Cell::Filled(7),
-        Cell::Broken,
+        Cell::Pending(2),
         Cell::Pending(1),
     ];
     assert_eq!(rt; list.cells(), cells.as_slice());
@@ -66,7 +68,7 @@ fn each_event_has_its_reply(rt: HostRuntime) -> Result<(), Fail> {
 }
 
 // None of them is legal where actor 0 has claimed two places of a list with a limit of 3.
-const REFUSED: [Event; 7] = [
+const REFUSED: [Event; 8] = [
     Event::Claim { actor: 0, n: 2 },
     Event::Claim {
         actor: 0,
@@ -84,6 +86,7 @@ const REFUSED: [Event; 7] = [
         value: 5,
     },
     Event::Break { actor: 1, place: 1 },
+    Event::Mend { actor: 0, place: 0 },
     Event::RefusedFull { actor: 0, n: 1 },
 ];
 

@@ -56,7 +56,7 @@ impl Model for CellVec {
 
 impl CellVec {
     ghost use Rattle.book_core.specs.Cells.{empty_list, apply_event, AppendsNothing};
-    ghost use Rattle.book_core.specs.Cells.{with_pending, with_cell, is_pending_for, reply_of_look};
+    ghost use Rattle.book_core.specs.Cells.{with_pending, with_cell, is_pending_for, is_broken, reply_of_look};
 
     /// Whether a vector may have this limit.
     pub fn is_limit(limit: u64) -> bool
@@ -96,6 +96,7 @@ impl CellVec {
                 value,
             } => self.settle(actor, place, Cell::Filled(value)),
             Event::Break { actor, place } => self.settle(actor, place, Cell::Broken),
+            Event::Mend { actor, place } => self.mend(actor, place),
             Event::Look { place, .. } => Ok(self.look(place)),
             Event::Size { .. } => Ok(Reply::Size { size: self.size() }),
             Event::RefusedFull { n, .. } => self.refuse(n),
@@ -201,6 +202,26 @@ impl CellVec {
         }
         self.cells[place as usize] = cell;
         Ok(Reply::Done)
+    }
+
+    // The actor takes a broken place.
+    fn mend(&mut self, actor: u32, place: u64) -> Result<Reply, BookError>
+        ensures ok { IfOk result (λ reply. apply_event self.old (Event.Mend actor place) ≡ Some (self.new, reply)) }
+        ensures err { IfErr result (λ e. (e ≡ BookError.NotLegal) × (self.new ≡ self.old)
+            × IsNone (apply_event self.old (Event.Mend actor place))) }
+    {
+        if !self.is_broken(place) {
+            return Err(BookError::NotLegal);
+        }
+        self.cells[place as usize] = Cell::Pending(actor);
+        Ok(Reply::Done)
+    }
+
+    fn is_broken(&self, place: u64) -> bool
+        ensures value { result ≡ is_broken (slice_get self.now.cells place) }
+        ensures place { IsTrue result → place < length self.now.cells }
+    {
+        matches!(self.cells.get(place as usize), Some(Cell::Broken))
     }
 
     fn is_pending_for(&self, actor: u32, place: u64) -> bool

@@ -9,7 +9,7 @@ use Rattle.std.proofs.lemmas.List.Elements.{All-from_recursion, recursion_from_A
 use Rattle.std.proofs.lemmas.List.Splits.{join_with_byte-slice_split}
 use Rattle.std.proofs.lemmas.Slice.Eq.{bytes_eq-Decides}
 use Rattle.book_core.specs.declared.commands.Command.{Command}
-use Rattle.book_core.specs.declared.commands.Command.TheVariants.{Push, Grow, AtLeast, Fail, Read, Size}
+use Rattle.book_core.specs.declared.commands.Command.TheVariants.{Push, Grow, AtLeast, Fail, Mend, Read, Size}
 use Rattle.script_core.specs.declared.error.Fault.{Fault}
 use Rattle.script_core.specs.declared.error.Fault.TheVariants.{BadCommand, TooMany}
 use Rattle.script_core.specs.Grammar.{◌>>=◌, words, pieces, try_each, argument, command_alone, command_with_one, command_with_two, command_with_three, parsed_command, parsed_program}
@@ -85,10 +85,15 @@ with_two_takes word a b c h =
       | inl p ↦
           let n = two_arguments a b Grow c p.1 in
           subst (IsSpelled (word ∷ a ∷ b ∷ [])) n.6 (spelled_two word a b (codes "grow") n.0 n.1 (word_is word (codes "grow") p.0) n.2 n.3, (n.4, n.5))
-      | inr p ↦
-          let q = test_ok (bytes_eq word (codes "atleast")) (argument a >>= λ to. (argument b >>= λ value. Ok (AtLeast to value))) BadCommand c p.1 in
-          let n = two_arguments a b AtLeast c q.1 in
-          subst (IsSpelled (word ∷ a ∷ b ∷ [])) n.6 (spelled_two word a b (codes "atleast") n.0 n.1 (word_is word (codes "atleast") q.0) n.2 n.3, (n.4, n.5))
+      | inr p ↦ elim (chosen (bytes_eq word (codes "atleast")) _ _ (Ok c) p.1) [
+        | inl q ↦
+            let n = two_arguments a b AtLeast c q.1 in
+            subst (IsSpelled (word ∷ a ∷ b ∷ [])) n.6 (spelled_two word a b (codes "atleast") n.0 n.1 (word_is word (codes "atleast") q.0) n.2 n.3, (n.4, n.5))
+        | inr q ↦
+            let r = test_ok (bytes_eq word (codes "mend")) (argument a >>= λ place. (argument b >>= λ value. Ok (Mend place value))) BadCommand c q.1 in
+            let n = two_arguments a b Mend c r.1 in
+            subst (IsSpelled (word ∷ a ∷ b ∷ [])) n.6 (spelled_two word a b (codes "mend") n.0 n.1 (word_is word (codes "mend") r.0) n.2 n.3, (n.4, n.5))
+      ]
     ]
 
 with_three_takes : (word a b d : List ℕ) (c : Command) → command_with_three word a b d ≡ Ok c
@@ -148,6 +153,7 @@ command_again (AtLeast to value) h = rw (two_words to value h.0 h.1, number_agai
 command_again (Fail n value at) h =
     let below : at < 2 ^ 64 = omega (arith, h.2, h.0) in
     rw (three_words n value at h.0 h.1 below, number_again BadCommand n h.0, number_again BadCommand value h.1, number_again BadCommand at below, lt-ltb at n h.2) refl
+command_again (Mend place value) h = rw (two_words place value h.0 h.1, number_again BadCommand place h.0, number_again BadCommand value h.1) refl
 command_again (Read place) h = rw (split_whole 32 (decimal place) (decimal_lacks 32 place (omega arith) h), number_again BadCommand place h) refl
 command_again Size h = refl
 
@@ -167,6 +173,7 @@ command_lacks_comma (Push value) h = decimal_lacks 44 value (omega arith) h
 command_lacks_comma (Grow n value) h = two_lack 44 n value (omega arith) refl h.0 h.1
 command_lacks_comma (AtLeast to value) h = two_lack 44 to value (omega arith) refl h.0 h.1
 command_lacks_comma (Fail n value at) h = three_lack 44 n value at (omega arith) refl h.0 h.1 (omega (arith, h.2, h.0))
+command_lacks_comma (Mend place value) h = two_lack 44 place value (omega arith) refl h.0 h.1
 command_lacks_comma (Read place) h = decimal_lacks 44 place (omega arith) h
 command_lacks_comma Size h = refl
 
@@ -175,6 +182,7 @@ command_lacks_lf (Push value) h = decimal_lacks 10 value (omega arith) h
 command_lacks_lf (Grow n value) h = two_lack 10 n value (omega arith) refl h.0 h.1
 command_lacks_lf (AtLeast to value) h = two_lack 10 to value (omega arith) refl h.0 h.1
 command_lacks_lf (Fail n value at) h = three_lack 10 n value at (omega arith) refl h.0 h.1 (omega (arith, h.2, h.0))
+command_lacks_lf (Mend place value) h = two_lack 10 place value (omega arith) refl h.0 h.1
 command_lacks_lf (Read place) h = decimal_lacks 10 place (omega arith) h
 command_lacks_lf Size h = refl
 

@@ -379,6 +379,7 @@ command_sound (commands.Push value) h = tt
 command_sound (commands.Grow n value) h = tt
 command_sound (commands.AtLeast to value) h = tt
 command_sound (commands.Fail n value at) h = h.2
+command_sound (commands.Mend place value) h = tt
 command_sound (commands.Read place) h = tt
 command_sound commands.Size h = tt
 

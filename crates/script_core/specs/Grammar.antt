@@ -6,7 +6,7 @@ use Rattle.std.specs.Char.{is_ascii_digit}
 use Rattle.std.specs.Str.{bytes_eq}
 use Rattle.std.specs.Str.Parse.{digits_value}
 use Rattle.book_core.specs.declared.commands.Command.{Command}
-use Rattle.book_core.specs.declared.commands.Command.TheVariants.{Push, Grow, AtLeast, Fail, Read, Size}
+use Rattle.book_core.specs.declared.commands.Command.TheVariants.{Push, Grow, AtLeast, Fail, Mend, Read, Size}
 use Rattle.book_core.specs.declared.commands.Item.{Item}
 use Rattle.script_core.specs.declared.error.ScriptError.{ScriptError}
 use Rattle.script_core.specs.declared.error.ScriptError.TheVariants as errors
@@ -91,6 +91,7 @@ unfoldable pub command_with_two : List ℕ → List ℕ → List ℕ → Result 
 command_with_two word a b =
     if bytes_eq word (codes "grow") then (argument a >>= λ n. (argument b >>= λ value. Ok (Grow n value)))
     else if bytes_eq word (codes "atleast") then (argument a >>= λ to. (argument b >>= λ value. Ok (AtLeast to value)))
+    else if bytes_eq word (codes "mend") then (argument a >>= λ place. (argument b >>= λ value. Ok (Mend place value)))
     else Err BadCommand
 
 -- a command with three arguments: the place that is refused is one of its own run

@@ -2,7 +2,7 @@
 use Rattle.std.specs.Prelude.{◌≡◌, ◌≢◌, ℕ, ◌^◌, ◌<◌, ◌≤◌, Bool, if◌then◌else◌, List, [], ◌∷◌, ◌++◌, length, map, slice_index, All, AllPairs, codes, decimal}
 use Rattle.std.specs.List.{flat_map}
 use Rattle.book_core.specs.declared.commands.Command.{Command}
-use Rattle.book_core.specs.declared.commands.Command.TheVariants.{Push, Grow, AtLeast, Fail, Read, Size}
+use Rattle.book_core.specs.declared.commands.Command.TheVariants.{Push, Grow, AtLeast, Fail, Mend, Read, Size}
 use Rattle.book_core.specs.declared.commands.Item.{Item}
 use Rattle.script_core.specs.declared.script.Script.{Script}
 
@@ -18,6 +18,7 @@ command_text (Push value) = codes "push " ++ decimal value
 command_text (Grow n value) = codes "grow " ++ decimal n ++ codes " " ++ decimal value
 command_text (AtLeast to value) = codes "atleast " ++ decimal to ++ codes " " ++ decimal value
 command_text (Fail n value at) = codes "fail " ++ decimal n ++ codes " " ++ decimal value ++ codes " " ++ decimal at
+command_text (Mend place value) = codes "mend " ++ decimal place ++ codes " " ++ decimal value
 command_text (Read place) = codes "read " ++ decimal place
 command_text Size = codes "size"
 
@@ -59,6 +60,7 @@ IsCommand (Push value) = value < 2 ^ 64
 IsCommand (Grow n value) = (n < 2 ^ 64) × (value < 2 ^ 64)
 IsCommand (AtLeast to value) = (to < 2 ^ 64) × (value < 2 ^ 64)
 IsCommand (Fail n value at) = (n < 2 ^ 64) × (value < 2 ^ 64) × (at < n)
+IsCommand (Mend place value) = (place < 2 ^ 64) × (value < 2 ^ 64)
 IsCommand (Read place) = place < 2 ^ 64
 IsCommand Size = Unit {0}
 

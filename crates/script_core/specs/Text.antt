@@ -16,6 +16,7 @@ word_of (commands.Push value) = codes "push"
 word_of (commands.Grow n value) = codes "grow"
 word_of (commands.AtLeast to value) = codes "atleast"
 word_of (commands.Fail n value at) = codes "fail"
+word_of (commands.Mend place value) = codes "mend"
 word_of (commands.Read place) = codes "read"
 word_of commands.Size = codes "size"
 

@@ -95,6 +95,10 @@ fn command_with_two(word: &[u8], a: &[u8], b: &[u8]) -> Result<Command, Fault>
         let to = argument(a)?;
         let value = argument(b)?;
         Ok(Command::AtLeast { to, value })
+    } else if is(word, "mend") {
+        let place = argument(a)?;
+        let value = argument(b)?;
+        Ok(Command::Mend { place, value })
     } else {
         Err(Fault::BadCommand)
     }

@@ -16,6 +16,7 @@ fn word(command: &Command) -> &'static [u8]
         Command::Grow { .. } => b"grow",
         Command::AtLeast { .. } => b"atleast",
         Command::Fail { .. } => b"fail",
+        Command::Mend { .. } => b"mend",
         Command::Read { .. } => b"read",
         Command::Size => b"size",
     }

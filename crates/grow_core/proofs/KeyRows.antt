@@ -93,8 +93,8 @@ none_is_none None is some = absurd (cc some)
 none_is_none (Some x) is some = absurd (cc is)
 
 -- a vector's hands are marked with the names of its segments
-pub mark_is : {T : Type 0} {word : WordView} {segments : TableView} {keys : KeyRow} {known : List (MemberView T)} {count : ℕ} {vector : VectorView T} {claims hand : HandView}
-    → IsShared word segments keys known count → record { word = word; segments = segments; opened = values_in known } ≡ vector
+pub mark_is : {T : Type 0} {word : WordView} {segments : TableView} {keys : KeyRow} {known : List (MemberView T)} {ended : Lft} {count : ℕ} {vector : VectorView T} {claims hand : HandView}
+    → IsShared word segments keys known ended count → record { word = word; segments = segments; opened = values_in known } ≡ vector
     → claims ≡ hand → hand.of ≡ vector.word → segments.names ≡ claims.of.mark
 mark_is shared view_is hand_is ours =
     sym shared.mark ∙ (ap (λ (v : VectorView _). v.word.mark) view_is ∙ (sym (ap (λ (w : WordView). w.mark) ours) ∙ sym (ap (λ (h : HandView). h.of.mark) hand_is)))

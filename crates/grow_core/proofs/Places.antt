@@ -2,7 +2,8 @@
 use Rattle.std.proofs.Common.{◌≡◌, ◌≢◌, ℕ, zero, suc, ◌+◌, ◌-◌, ◌<◌, ◌≤◌, List, [], ◌∷◌, ◌++◌, length, length-set, refl, sym, ap, ◌∙◌, subst, ⊎_elim, arith}
 use Rattle.std.proofs.lemmas.Bool.{cases_lt}
 use Rattle.std.proofs.Math.Arith.{lt_of_le-ne}
-use Rattle.std.specs.Prelude.{Some, None, slice_get, slice_set, slice_index, IsSome}
+use Rattle.std.specs.Prelude.{Some, None, All, slice_get, slice_set, slice_index, IsSome}
+use base.Fml.{Lft}
 use lib.Seq.{get_or-set_same, get_or-set_other}
 use mathlib.Core.Logic.{dite}
 use native.Mathlib.Decide.{ℕ_discrete}
@@ -14,7 +15,7 @@ use Rattle.cell_core.specs.Slot.{Names}
 use Rattle.table_core.specs.Table.{TableView, KeyView, IsKeyOf, IsBlockOf}
 use Rattle.grow_core.specs.Keys.{KeyRow, IsKeyAt, key_at}
 use Rattle.grow_core.specs.Token.{place_in}
-use Rattle.grow_core.specs.Parts.{AreMembers, AreWhole, values_in}
+use Rattle.grow_core.specs.Parts.{AreMembers, AreWhole, IsShutIn, values_in}
 
 -- a segment that does not come later begins no later
 pub starts_le : (j k : ℕ) → j ≤ k → segment_start j ≤ segment_start k
@@ -65,6 +66,28 @@ values_set [] i m = refl
 values_set (h ∷ known) zero m = refl
 values_set (h ∷ known) (suc i) m = ap (λ xs. h.value ∷ xs) (values_set known i m)
 
+-- members that are broken for an epoch stay so with one more, with one fewer, and with another one at a place
+pub shut_more : {T : Type 0} {epoch : Lft} (known : List (MemberView T)) (m : MemberView T) → All (IsShutIn epoch) known → IsShutIn epoch m
+    → All (IsShutIn epoch) (known ++ m ∷ [])
+shut_more [] m all is = (is, tt)
+shut_more (h ∷ known) m all is = (all.0, shut_more known m all.1 is)
+
+pub shut_fewer : {T : Type 0} {epoch : Lft} (known : List (MemberView T)) (m : MemberView T) → All (IsShutIn epoch) (known ++ m ∷ []) → All (IsShutIn epoch) known
+shut_fewer [] m all = tt
+shut_fewer (h ∷ known) m all = (all.0, shut_fewer known m all.1)
+
+pub shut_set : {T : Type 0} {epoch : Lft} (known : List (MemberView T)) (i : ℕ) (m : MemberView T) → All (IsShutIn epoch) known → IsShutIn epoch m
+    → All (IsShutIn epoch) (slice_set known i m)
+shut_set [] i m all is = tt
+shut_set (h ∷ known) zero m all is = (is, all.1)
+shut_set (h ∷ known) (suc i) m all is = (all.0, shut_set known i m all.1 is)
+
+pub shut_at : {T : Type 0} {epoch : Lft} (known : List (MemberView T)) (i : ℕ) (m : MemberView T) → All (IsShutIn epoch) known → slice_get known i ≡ Some m
+    → IsShutIn epoch m
+shut_at [] i m all is = absurd (let z = is in cc)
+shut_at {epoch = epoch} (h ∷ known) zero m all is = subst (IsShutIn epoch) (let z = is in cc) all.0
+shut_at (h ∷ known) (suc i) m all is = shut_at known i m all.1 is
+
 -- a place with a member is one of the list
 pub within_length : {X : Type 0} (xs : List X) (i : ℕ) (x : X) → slice_get xs i ≡ Some x → i < length xs
 within_length [] i x is = absurd (let z = is in cc)
@@ -76,7 +99,7 @@ pub kept_at : {T : Type 0} (old new : BlockView) (offset : ℕ) (m : MemberView 
     → IsMemberAt old offset m → IsMemberAt new offset m
 kept_at old new offset m len same was = record {
   within = subst (λ (n : ℕ). offset < n) (sym len) was.within;
-  known = subst (λ (c : Names). HasNames c m.value m.name m.breach) (sym same) was.known;
+  known = subst (λ (c : Names). HasNames c m.value m.name m.epoch) (sym same) was.known;
 }
 
 module _ {T : Type 0} (row row' : KeyRow) (known known' : List (MemberView T)) (segment offset : ℕ) (key key' : KeyView) where

@@ -3,7 +3,8 @@ use Rattle.std.proofs.Common.{zero, suc, lit<, ⊎_elim, ◌≡◌, ◌≢◌, �
 use Rattle.std.proofs.lemmas.List.{length-map, map-append}
 use Rattle.std.proofs.lemmas.Bool.{cases_lt}
 use Rattle.std.proofs.Math.Pow.{pow-lt}
-use Rattle.std.specs.Prelude.{slice_get, slice_set, slice_index, IsSome, MatchOption, IfSome}
+use Rattle.std.specs.Prelude.{All, slice_get, slice_set, slice_index, IsSome, MatchOption, IfSome}
+use base.Fml.{Lft}
 use lib.Seq.{get_or-set_same, get_or-set_other}
 use mathlib.Core.Logic.{dite}
 use native.Mathlib.Decide.{ℕ_discrete}
@@ -15,7 +16,7 @@ use Rattle.cell_core.specs.Member.{MemberView, HasNames}
 use Rattle.table_core.specs.Table.{KeyView, IsBlockOf}
 use Rattle.grow_core.specs.Keys.{KeyRow, IsKeyAt, AreKeys, HasKeysOfPlaces, key_at}
 use Rattle.grow_core.specs.Token.{PlacedView, place_in}
-use Rattle.grow_core.specs.Parts.{AreLong, AreMembers, AreWhole, HasFirstKeys, values_in}
+use Rattle.grow_core.specs.Parts.{AreLong, AreMembers, AreWhole, HasFirstKeys, IsShutIn, values_in}
 use Rattle.grow_core.specs.Vector.{VectorView, IsPlacedOf}
 use Rattle.grow_core.specs.Closing.{IsClosing, IsKept, IsKeptOf, KeepsValuesBelow}
 use Rattle.grow_core.proofs.Places.{value_at, pushed_there, pushed_elsewhere, within_length, kept_at, segment_below, starts_le}
@@ -159,7 +160,7 @@ values_more {T} opened known base k m all is kept values p x below there =
 pub opened_is : {T : Type 0} (block : BlockView) (offset : ℕ) (m : MemberView T) (name : ℕ) (value x : T) → IsMemberAt block offset m → m.value ≡ Some x
     → name ≡ (cell_at block offset).value → (m.name ≡ name → m.value ≡ Some value) → value ≡ x
 opened_is block offset m name value x known is named agree =
-    let same : m.name ≡ (cell_at block offset).value = subst (λ v. HasNames (cell_at block offset) v m.name m.breach) is known.known in
+    let same : m.name ≡ (cell_at block offset).value = subst (λ v. HasNames (cell_at block offset) v m.name m.epoch) is known.known in
     let both : Some value ≡ Some x = sym (agree (same ∙ sym named)) ∙ is in let z : value ≡ x = (let w = both in cc) in z
 
 module _ {T : Type 0} (law : OnePlace) (vector : VectorView T) (placed : PlacedView T) (of : IsPlacedOf vector placed) (closed : Option (List ℕ)) (before : KeyRow) (names : List ℕ) (row : KeyRow) (known : List (MemberView T)) (count : ℕ)
@@ -195,14 +196,14 @@ keys_enough opened own base size count first there inside has few end small =
     (λ high. let le = starts_le 32 count high in omega (arith, le, small)) (cases_lt count 32)
 
 -- where a vector begins to be closed
-pub closing_starts : {T : Type 0} (mark names : List ℕ) (opened own before again : KeyRow) (row none : List (MemberView T)) (base limit first count size : ℕ)
+pub closing_starts : {T : Type 0} (mark names : List ℕ) (opened own before again : KeyRow) (row none : List (MemberView T)) (epoch : Lft) (base limit first count size : ℕ)
     → AreWhole names opened row base limit first → mark ≡ names → none ≡ []
     → AreKeys names before → AreLong before → HasFirstKeys before count → count ≤ 32
     → ((s : ℕ) → s < count → IsSome (key_at opened s) → key_at before s ≡ key_at opened s) → ((s : ℕ) → s < 32 → count ≤ s → key_at before s ≡ None)
     → (count < 32 → (key_at opened count ≡ None) × (key_at own count ≡ None))
     → ((s : ℕ) → s < 32 → key_at again s ≡ key_at before s) → length again ≡ 32 → HasKeysOfPlaces own base size → base ≤ size → size ≤ limit
-    → IsClosing mark before names again row none base 0 limit count size
-closing_starts {T} mark names opened own before again row none base limit first count size whole same empty named long there few fits rest end twice rows has later most =
+    → IsClosing mark before names again row none epoch base 0 limit count size
+closing_starts {T} mark names opened own before again row none epoch base limit first count size whole same empty named long there few fits rest end twice rows has later most =
     let limited = whole.limited.1 in
     let gone : (i : ℕ) (m : MemberView T) → slice_get none i ≡ Some m → ⊥ = (λ i m is. let near = within_length none i m is in let no = ap length empty in omega (arith, near, no)) in
     record {
@@ -218,6 +219,7 @@ closing_starts {T} mark names opened own before again row none base limit first 
         there = λ s low. subst IsSome (sym (twice s (omega (arith, low, few)))) (there s low);
         of = λ s o k m low at inside is. absurd (gone (place_in s o) m is);
       };
+      shut = subst (All (IsShutIn epoch)) (sym empty) tt;
       kept = record {
         named = subst (λ (xs : List ℕ). AreKeys xs before) (sym same) named;
         long = long;

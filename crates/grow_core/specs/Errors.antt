@@ -4,6 +4,8 @@ use Rattle.grow_core.specs.declared.errors.GrowError.{GrowError}
 use Rattle.grow_core.specs.declared.errors.GrowError.TheVariants.{NoMemory, Full, Moved, Refused, Taken}
 use Rattle.grow_core.specs.declared.errors.AtError.{AtError}
 use Rattle.grow_core.specs.declared.errors.AtError.TheVariants.{OutOfRange, Pending, Broken}
+use Rattle.grow_core.specs.declared.errors.MendError.{MendError}
+use Rattle.grow_core.specs.declared.errors.MendError.TheVariants as mend
 
 -- why a growth was refused
 abbrev pub grow_error_text : {T V E : Type 0} → GrowError T V E → List ℕ
@@ -18,3 +20,9 @@ abbrev pub at_error_text : AtError → List ℕ
 at_error_text (OutOfRange size) = codes "not below size " ++ decimal size
 at_error_text Pending = codes "not filled yet"
 at_error_text (Broken spoilt) = codes "broken"
+
+-- why a place was not mended
+abbrev pub mend_error_text : {T : Type 0} → MendError T → List ℕ
+mend_error_text (mend.OutOfRange size) = codes "not below size " ++ decimal size
+mend_error_text mend.Pending = codes "not finished yet"
+mend_error_text (mend.Filled placed) = codes "filled"

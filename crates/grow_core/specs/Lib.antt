@@ -5,6 +5,7 @@ pub mod Keys
 pub mod Parts
 pub mod Grown
 pub mod Read
+pub mod Mend
 pub mod Published
 pub mod Growth
 pub mod Making

@@ -1,6 +1,7 @@
 -- What an exclusive owner holds of a vector.
-use Rattle.std.specs.Prelude.{◌≡◌, ℕ, ◌-◌, ◌<◌, ◌≤◌, List, Option, Some, IsSome, length, map, slice_get}
+use Rattle.std.specs.Prelude.{◌≡◌, ℕ, ◌-◌, ◌<◌, ◌≤◌, List, Option, Some, None, IsSome, All, length, map, slice_get}
 use Rattle.std.specs.Coded.{coded_option}
+use base.Fml.{Lft}
 use base.Stored.{Coded, coded×, coded_ℕ, coded_list, coded_via}
 use Rattle.seg_core.specs.Segment.{segment_start, segment_end, IsLimit}
 use Rattle.cell_core.specs.Block.{IsMemberAt}
@@ -49,6 +50,10 @@ abbrev pub AreMembers : {T : Type 0} → KeyRow → List (MemberView T) → Type
 AreMembers {T} row known =
     (segment offset : ℕ) (key : KeyView) (m : MemberView T) → segment < 32 → key_at row segment ≡ Some key
     → place_in segment offset < segment_end segment → slice_get known (place_in segment offset) ≡ Some m → IsMemberAt key.block offset m
+
+-- a member without a value is broken for as long as this epoch lasts
+abbrev pub IsShutIn : {T : Type 0} → Lft → MemberView T → Type 0
+IsShutIn epoch m = m.value ≡ None → m.epoch ≡ epoch
 
 -- what holds of the parts of a vector at all times
 pub record AreWhole {T : Type 0} (names : List ℕ) (row : KeyRow) (known : List (MemberView T)) (len limit count : ℕ) : Type 0 where

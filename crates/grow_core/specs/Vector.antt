@@ -9,7 +9,7 @@ use Rattle.cell_core.specs.Block.{IsPlacedIn, IsSpoiltIn, IsBegunIn}
 use Rattle.cell_core.specs.Member.{MemberView}
 use Rattle.table_core.specs.Table.{TableView, table_coded, IsKeyIn, IsBlockOf}
 use Rattle.grow_core.specs.Keys.{KeyRow}
-use Rattle.grow_core.specs.Parts.{AreWhole}
+use Rattle.grow_core.specs.Parts.{AreWhole, IsShutIn}
 use Rattle.grow_core.specs.Token.{PlacedView, SpoiltView, BegunView, place_in}
 
 -- which vector it is: its claim word, with its limit and its base, and its segments; and the list that it was opened from, each
@@ -37,10 +37,11 @@ base_of vector = vector.word.base
 abbrev pub IsOpenedAt : {T : Type 0} → VectorView T → ℕ → T → Type 0
 IsOpenedAt vector place x = slice_get vector.opened place ≡ Some (Some x)
 
--- what holds of a vector at all times: what is known of the list that it was opened from, by the keys of its first segments; and
--- the word and its hands are marked with the names of the segments
-pub record IsShared {T : Type 0} (word : WordView) (segments : TableView) (keys : KeyRow) (known : List (MemberView T)) (count : ℕ) : Type 0 where
+-- what holds of a vector at all times: what is known of the list that it was opened from, by the keys of its first segments; the
+-- epoch of that list has ended; and the word and its hands are marked with the names of the segments
+pub record IsShared {T : Type 0} (word : WordView) (segments : TableView) (keys : KeyRow) (known : List (MemberView T)) (ended : Lft) (count : ℕ) : Type 0 where
   pub whole : AreWhole segments.names keys known word.base word.limit count
+  pub shut : All (IsShutIn ended) known
   pub mark : word.mark ≡ segments.names
 
 -- the hand belongs to the vector

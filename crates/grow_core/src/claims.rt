@@ -2,7 +2,7 @@
 ghost use Rattle.std.specs.Prelude.{◌≡◌, ◌+◌, ◌<◌, ◌≤◌, IfOk, IfErr, IsErrAnd};
 ghost use Rattle.claim_core.specs.Hand.{AddsRun, OwnsPlace, seen_size};
 ghost use Rattle.cell_core.specs.Block.{block_len};
-ghost use Rattle.cell_core.specs.Shown.{IsFoundIn};
+ghost use Rattle.cell_core.specs.Shown.{IsFoundIn, IsNotEmpty};
 ghost use Rattle.table_core.specs.Table.{IsKeyIn, IsBlockOf};
 ghost use Rattle.grow_core.specs.Token.{place_in};
 ghost use Rattle.grow_core.specs.Vector.{IsHandOf, IsPlacedOf, IsSpoiltOf, limit_of};
@@ -259,10 +259,12 @@ impl<T: Drop> Shared<T> {
         requires long { IsBlockOf key.entry key.block }
         requires within { offset < block_len key.block }
         requires found { IsFoundIn key.block offset found }
+        requires not_empty { IsNotEmpty found }
         ensures { IsFoundAt self.now (place_in key.entry offset) result }
     {
         let _ = offset;
         match found {
+            block::Found::Empty => unreachable!(),
             block::Found::Busy(cell) => Found::Busy(Begun { key, cell }),
             block::Found::Filled(cell) => Found::Filled(Placed { key, cell }),
             block::Found::Broken(cell) => Found::Broken(Spoilt { key, cell }),

@@ -4,7 +4,7 @@ ghost use Rattle.claim_core.specs.Hand.{IsWholeHand, seen_size};
 ghost use Rattle.cell_core.specs.Block.{block_len, cell_at, IsMemberAt, KeepsOtherCells};
 ghost use Rattle.table_core.specs.Table.{IsBlockOf};
 ghost use Rattle.grow_core.specs.Keys.{IsKeyAt, AreKeys, key_at};
-ghost use Rattle.grow_core.specs.Parts.{AreLong, HasFirstKeys};
+ghost use Rattle.grow_core.specs.Parts.{AreLong, HasFirstKeys, IsShutIn};
 ghost use Rattle.grow_core.specs.Vector.{IsHandOf, limit_of};
 ghost use Rattle.grow_core.specs.Closing.{IsClosedFrom, KeepsValues};
 
@@ -13,7 +13,7 @@ use crate::keys::{Keys, key_of, keys_again, no_keys};
 use crate::open::Segments;
 use crate::parts::{Parts, cell_of};
 use crate::vector::Shared;
-use cell_core::block::{Block, Member, Row};
+use cell_core::block::{Block, Epoch, Member, Row};
 use claim_core::Mark;
 use std::alloc::Global;
 use std::marker::Model;
@@ -64,18 +64,24 @@ fn first_keys<T>(table: &Table<T>, opened: &Keys, own: &Keys) -> (Keys, u32)
 }
 
 // What is known of the cell for good: one without a value is broken. A value that it is known to have is its value still.
-fn settle<T>(block: &mut Block<T>, offset: u64, known: &Option<Member<T>>) -> Member<T>
+fn settle<T>(
+    block: &mut Block<T>,
+    offset: u64,
+    known: &Option<Member<T>>,
+    epoch: &Epoch,
+) -> Member<T>
     requires within { offset < block_len block.old }
     requires known { IfSome known.now (IsMemberAt block.old offset) }
     ensures member { IsMemberAt block.new offset result }
     ensures name { result.name ≡ (cell_at block.old offset).value }
     ensures kept { IfSome known.now (λ k. k.value ≢ None → result.value ≡ k.value) }
+    ensures shut { IsShutIn epoch.now result }
     ensures len { block_len block.new ≡ block_len block.old }
     ensures others { KeepsOtherCells block.old block.new offset }
 {
     match known {
-        Some(known) => block.settle_known(offset, known),
-        None => block.settle_now(offset),
+        Some(known) => block.settle_known(offset, known, epoch),
+        None => block.settle_now(offset, epoch),
     }
 }
 
@@ -99,6 +105,7 @@ struct Closing<T> {
     keys: Keys,
     opened: Row<T>,
     row: Row<T>,
+    epoch: Epoch,
     base: u64,
     len: u64,
     limit: u64,
@@ -124,8 +131,8 @@ impl<T> Model for Closing<T> {
       mark = c.mark.numbers;
     } };
 
-    ghost invariant = { λ c. IsClosing c.mark.numbers c.before c.table.names c.keys c.opened c.row c.base c.len c.limit
-        c.count c.size };
+    ghost invariant = { λ c. IsClosing c.mark.numbers c.before c.table.names c.keys c.opened c.row c.epoch c.base c.len
+        c.limit c.count c.size };
 }
 
 impl<T: Drop> Closing<T> {
@@ -159,6 +166,7 @@ impl<T: Drop> Closing<T> {
             before,
             opened,
             row: Row::new(),
+            epoch: Epoch::new(),
             base,
             len: 0,
             limit,
@@ -190,7 +198,7 @@ impl<T: Drop> Closing<T> {
         let (_, _, before) = cell_of(&self.before, self.count, self.len);
         let known = known_at(&self.opened, self.base, self.len);
         let mut block = self.table.detach(&key);
-        let member = settle(&mut block, offset, &known);
+        let member = settle(&mut block, offset, &known, &self.epoch);
         self.keys[segment as usize] = Some(self.table.attach(segment, block));
         self.row.push(&member);
         self.len += 1;
@@ -209,6 +217,7 @@ impl<T: Drop> Closing<T> {
             before,
             keys,
             row,
+            epoch,
             len,
             limit,
             count,
@@ -220,6 +229,7 @@ impl<T: Drop> Closing<T> {
             table,
             keys,
             row,
+            epoch,
             len,
             limit,
             count,

@@ -1,6 +1,6 @@
 //! Why a call was refused.
 use crate::grown::Grown;
-use crate::token::{Found, Spoilt};
+use crate::token::{Found, Placed, Spoilt};
 use claim_core::Run;
 use std::error::Error;
 use std::fmt;
@@ -34,6 +34,17 @@ pub enum AtError {
     Pending,
     /// The place is broken.
     Broken(Spoilt),
+}
+
+/// Why a place was not mended.
+#[derive(Debug, Drop)]
+pub enum MendError<T> {
+    /// The place is not below the size.
+    OutOfRange { size: u64 },
+    /// The place is claimed, and not finished yet; or another caller is mending it.
+    Pending,
+    /// The place has a value.
+    Filled(Placed<T>),
 }
 
 impl<T, V, E> fmt::Display for GrowError<T, V, E> {
@@ -86,3 +97,20 @@ impl fmt::Display for AtError {
 }
 
 impl Error for AtError {}
+
+impl<T> fmt::Display for MendError<T> {
+    ghost use Rattle.std.specs.Prelude.{Some};
+    ghost use Rattle.grow_core.specs.Errors.{mend_error_text};
+
+    ghost output = { λ error. Some (mend_error_text error) };
+
+    fn fmt<W: fmt::Write>(&self, f: &mut fmt::Formatter<W>) -> fmt::Result {
+        match self {
+            MendError::OutOfRange { size } => write!(f, "not below size {size}"),
+            MendError::Pending => write!(f, "not finished yet"),
+            MendError::Filled(_) => write!(f, "filled"),
+        }
+    }
+}
+
+impl<T: Drop> Error for MendError<T> {}

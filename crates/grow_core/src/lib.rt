@@ -29,6 +29,7 @@ mod grows;
 mod hand;
 mod keys;
 mod makes;
+mod mends;
 mod open;
 mod parts;
 mod published;
@@ -41,7 +42,7 @@ mod token;
 mod vector;
 
 pub use claim_core::{OpenError, Run, laws};
-pub use errors::{AtError, GrowError, Never};
+pub use errors::{AtError, GrowError, MendError, Never};
 pub use grown::Grown;
 pub use hand::Hand;
 pub use parts::Parts;

@@ -37,6 +37,7 @@ impl<T> Shared<T> {
             table,
             keys,
             row,
+            epoch,
             count,
             alloc,
             ..
@@ -47,6 +48,7 @@ impl<T> Shared<T> {
             keys,
             count,
             row,
+            ended: epoch.end(),
             alloc,
         };
         Ok((vector, Hand::of(claims)))

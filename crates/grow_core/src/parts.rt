@@ -4,10 +4,10 @@ ghost use Rattle.seg_core.specs.Segment.{IsLimit, segment_start, segment_end};
 ghost use Rattle.cell_core.specs.Block.{block_len, IsMemberAt, KeepsOtherCells};
 ghost use Rattle.grow_core.specs.Keys.{key_at};
 ghost use Rattle.grow_core.specs.Token.{place_in};
-ghost use Rattle.grow_core.specs.Parts.{HasFirstKeys, IsSpare, capacity_of};
+ghost use Rattle.grow_core.specs.Parts.{HasFirstKeys, IsShutIn, IsSpare, capacity_of};
 
 use crate::keys::{Keys, key_of, no_keys};
-use cell_core::block::{Block, Member, Row};
+use cell_core::block::{Block, Epoch, Member, Row};
 use claim_core::Mark;
 use seg_core::{first, len, locate};
 use std::alloc::{AllocError, Global};
@@ -21,6 +21,8 @@ pub struct Parts<T> {
     pub(crate) table: Table<T>,
     pub(crate) keys: Keys,
     pub(crate) row: Row<T>,
+    // As long as it lasts, the broken members stay broken.
+    pub(crate) epoch: Epoch,
     pub(crate) len: u64,
     pub(crate) limit: u64,
     pub(crate) count: u32,
@@ -31,8 +33,8 @@ pub struct Parts<T> {
 }
 
 impl<T> Model for Parts<T> {
-    ghost use Rattle.std.specs.Prelude.{option_map};
-    ghost use Rattle.grow_core.specs.Parts.{PartsView, parts_coded, values_in, AreWhole};
+    ghost use Rattle.std.specs.Prelude.{All, option_map};
+    ghost use Rattle.grow_core.specs.Parts.{PartsView, parts_coded, values_in, AreWhole, IsShutIn};
     ghost use Rattle.grow_core.specs.Closing.{IsKept};
 
     ghost Value = { PartsView T };
@@ -47,7 +49,8 @@ impl<T> Model for Parts<T> {
     } };
 
     ghost invariant = { λ p. AreWhole p.table.names p.keys p.row p.len p.limit p.count
-        × IsKept (option_map (λ m. m.numbers) p.closed) p.before p.table.names p.keys p.row p.count };
+        × IsKept (option_map (λ m. m.numbers) p.closed) p.before p.table.names p.keys p.row p.count
+        × All (IsShutIn p.epoch) p.row };
 }
 
 // Where a place of the segments that are there lies: its segment, the cell there, and the segment's key.
@@ -68,10 +71,16 @@ pub(crate) fn cell_of(keys: &Keys, count: u32, place: u64) -> (u32, u64, Key)
 }
 
 // Puts a value into the cell, or breaks it. It answers what is then known of the cell, and the value that it held.
-fn write<T>(block: &mut Block<T>, offset: u64, value: Option<T>) -> (Member<T>, Option<T>)
+fn write<T>(
+    block: &mut Block<T>,
+    offset: u64,
+    value: Option<T>,
+    epoch: &Epoch,
+) -> (Member<T>, Option<T>)
     requires { offset < block_len block.old }
     ensures member { IsMemberAt block.new offset result.0 }
     ensures value { result.0.value ≡ value }
+    ensures shut { IsShutIn epoch.now result.0 }
     ensures len { block_len block.new ≡ block_len block.old }
     ensures others { KeepsOtherCells block.old block.new offset }
 {
@@ -80,7 +89,7 @@ fn write<T>(block: &mut Block<T>, offset: u64, value: Option<T>) -> (Member<T>, 
             let (placed, held) = block.put_now(offset, value);
             (Member::of(&placed), held)
         }
-        None => block.spoil_now(offset),
+        None => block.spoil_now(offset, epoch),
     }
 }
 
@@ -96,6 +105,7 @@ impl<T> Parts<T> {
             table: Table::new(alloc),
             keys: no_keys(),
             row: Row::new(),
+            epoch: Epoch::new(),
             len: 0,
             limit,
             count: 0,
@@ -140,7 +150,10 @@ impl<T> Parts<T> {
             (λ value. slice_get self.now.members place ≡ Some (Some value.now)) }
     {
         let (_, offset, key) = cell_of(&self.keys, self.count, place);
-        let (value, _) = self.table.known(&key).member(offset, &self.row.at(place))?;
+        let (value, _) = self
+            .table
+            .known(&key)
+            .member(offset, &self.row.at(place), &self.epoch)?;
         Some(value)
     }
 }
@@ -234,7 +247,7 @@ impl<T: Drop> Parts<T> {
         self.closed = None;
         let (segment, offset, key) = cell_of(&self.keys, self.count, self.len);
         let mut block = self.table.detach(&key);
-        let (member, held) = write(&mut block, offset, value);
+        let (member, held) = write(&mut block, offset, value, &self.epoch);
         drop(held);
         self.keys[segment as usize] = Some(self.table.attach(segment, block));
         self.row.push(&member);
@@ -252,7 +265,7 @@ impl<T: Drop> Parts<T> {
         self.len -= 1;
         let (segment, offset, key) = cell_of(&self.keys, self.count, self.len);
         let mut block = self.table.detach(&key);
-        let value = block.take_member(offset, &self.row.at(self.len));
+        let value = block.take_member(offset, &self.row.at(self.len), &self.epoch);
         self.keys[segment as usize] = Some(self.table.attach(segment, block));
         self.row.pop();
         value
@@ -270,8 +283,8 @@ impl<T: Drop> Parts<T> {
         self.closed = None;
         let (segment, offset, key) = cell_of(&self.keys, self.count, place);
         let mut block = self.table.detach(&key);
-        let held = block.take_member(offset, &self.row.at(place));
-        let (member, none) = write(&mut block, offset, value);
+        let held = block.take_member(offset, &self.row.at(place), &self.epoch);
+        let (member, none) = write(&mut block, offset, value, &self.epoch);
         drop(none);
         self.keys[segment as usize] = Some(self.table.attach(segment, block));
         self.row.set(place, &member);

@@ -1,7 +1,7 @@
 //! How the vector is read.
-ghost use Rattle.std.specs.Prelude.{◌≡◌, ◌≢◌, ◌<◌, IfOk, IfErr, IfSome, IsOkAnd, IsSomeAnd, None};
+ghost use Rattle.std.specs.Prelude.{◌≡◌, ◌<◌, IfOk, IfErr, IfSome, IsOkAnd, IsSomeAnd, None};
 ghost use Rattle.claim_core.specs.Hand.{seen_size};
-ghost use Rattle.grow_core.specs.Vector.{IsHandOf, IsPlacedOf, IsSpoiltOf, IsOpenedAt, SeesMore, limit_of};
+ghost use Rattle.grow_core.specs.Vector.{IsHandOf, IsPlacedOf, IsOpenedAt, SeesMore, limit_of};
 ghost use Rattle.grow_core.specs.Read.{IsAt, IsShownAt, ShowsValue, IsDueAt, IsInRange};
 
 use crate::errors::AtError;
@@ -101,7 +101,7 @@ impl<T> Shared<T> {
             return None;
         }
         let (_, offset, key) = cell_of(&self.keys, self.count, place);
-        let (value, cell) = self.table.known(&key).member(offset, &self.row.at(place))?;
+        let (value, cell) = self.table.known(&key).known(offset, &self.row.at(place))?;
         Some(At {
             value,
             placed: Placed { key, cell },
@@ -161,21 +161,6 @@ impl<T> Shared<T> {
             places();
             self.table.agree(&a.key, &b.key);
             self.table.known(&a.key).agree(&a.cell, &b.cell);
-        }
-    }
-
-    /// A place with a value is not a broken one. It tells a proof so.
-    pub fn apart(&self, placed: &Placed<T>, spoilt: &Spoilt)
-        requires ours { IsPlacedOf self.now placed.now }
-        requires also_ours { IsSpoiltOf self.now spoilt.now }
-        ensures { placed.now.place ≢ spoilt.now.place }
-    {
-        if placed.place() == spoilt.place() {
-            places();
-            self.table.agree(&placed.key, &spoilt.key);
-            self.table
-                .known(&placed.key)
-                .apart(&placed.cell, &spoilt.cell);
         }
     }
 }

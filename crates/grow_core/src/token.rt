@@ -62,7 +62,7 @@ impl<T> Placed<T> {
     }
 }
 
-/// Shows that a place is broken, for good. It crosses threads, and takes 16 bytes.
+/// Shows that a place was broken. It crosses threads, and takes 16 bytes. The place may have been mended since.
 #[derive(Drop)]
 pub struct Spoilt {
     pub(crate) key: Key,

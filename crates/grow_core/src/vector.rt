@@ -6,7 +6,7 @@ ghost use Rattle.grow_core.specs.Vector.{IsHandOf, limit_of, base_of};
 
 use crate::hand::Hand;
 use crate::keys::Keys;
-use cell_core::block::Row;
+use cell_core::block::{Ended, Row};
 use claim_core::{Word, laws};
 use std::alloc::Global;
 use std::fmt;
@@ -23,6 +23,8 @@ pub struct Shared<T> {
     pub(crate) keys: Keys,
     pub(crate) count: u32,
     pub(crate) row: Row<T>,
+    // The epoch of the list has ended: its broken members may be mended.
+    pub(crate) ended: Ended,
     pub(crate) alloc: Global,
 }
 
@@ -36,7 +38,7 @@ impl<T> Model for Shared<T> {
 
     ghost view = { λ v. record { word = v.word; segments = v.table; opened = values_in v.row } };
 
-    ghost invariant = { λ v. IsShared v.word v.table v.keys v.row v.count };
+    ghost invariant = { λ v. IsShared v.word v.table v.keys v.row v.ended v.count };
 }
 
 // The size and the values are left out: only a step with a hand may look at them.

@@ -13,4 +13,5 @@ invariant_of-self-2 g c =
       grown_whole inside.table.names inside.keys inside.row inside.len inside.limit inside.count key c.self.invariant.0 small (key_here inside.table inside.count block key small of)
           (subst (λ (b : BlockView). IsBlockOf inside.count b) (sym of.of) c.in_ok-key.ensures.length),
       tt,
+      c.self.invariant.2,
     )

@@ -16,4 +16,5 @@ invariant_of-self g c =
           (subst (λ (n : ℕ). AreWhole inside.table.names inside.keys inside.row inside.len inside.limit n) one whole) (subst (λ (n : ℕ). n ≤ segment_start (inside.count - 1)) counted spare.1)
           c.give_up.ensures.others,
       tt,
+      c.self.invariant.2,
     )

@@ -4,7 +4,7 @@ use Rattle.seg_core.specs.Segment.{segment_end}
 use Rattle.grow_core.specs.Token.{PlacedView}
 use Rattle.grow_core.specs.Parts.{PartsView}
 use Rattle.grow_core.specs.Vector.{IsPlacedOf}
-use Rattle.grow_core.proofs.Places.{value_at}
+use Rattle.grow_core.proofs.Places.{value_at, shut_at}
 use Rattle.grow_core.proofs.Settled.{same_name, same_member}
 use Rattle.grow_core.proofs.parts.Parts.recall_member.Goals as goal
 
@@ -15,6 +15,9 @@ agree-requires g c =
     let closed = ap (λ (v : PartsView g.row.T.Denot). v.closed) c.self.view_is ∙ c.requires.of.1 in
     same_name c.places.ensures.one_place c.requires.of.0 _ token _ _ _ _ _ _ closed c.self.invariant.1 first.result.0 first.result.1 first.result.2 first.ensures.small first.ensures.key
     (first.ensures.place ∙ c.place-place.ensures ∙ sym at) (subst (λ (p : ℕ). p < segment_end first.result.0) (c.place-place.ensures ∙ sym at) first.ensures.within)
+
+pub member-requires-clause-epoch : goal.member-requires-clause-epoch
+member-requires-clause-epoch g c = shut_at c.self.inside.row c.place-place.result c.at-member.result c.self.invariant.2 c.at-member.ensures
 
 pub unreachable-requires : goal.unreachable-requires
 unreachable-requires g c =

@@ -3,6 +3,7 @@ mod CellSteps
 mod CellSent
 mod CellMade
 mod MemberParts
+mod Epochs
 mod CellLends
 mod LaidParts
 mod LaidMade

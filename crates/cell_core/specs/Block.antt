@@ -93,10 +93,10 @@ pub record IsBegunAt (block : BlockView) (place : ℕ) (begun : BegunView) : Typ
   pub of : IsBegunIn block begun
   pub at : begun.place ≡ place
 
--- so much is known of the cell at the place, for good
+-- so much is known of the cell at the place
 pub record IsMemberAt {T : Type 0} (block : BlockView) (place : ℕ) (m : MemberView T) : Type 0 where
   pub within : place < block_len block
-  pub known : HasNames (cell_at block place) m.value m.name m.breach
+  pub known : HasNames (cell_at block place) m.value m.name m.epoch
 
 -- the cell at the place is another one: no token of the old cell is of it
 abbrev pub RenewsCell : BlockView → BlockView → ℕ → Type 0

@@ -20,7 +20,7 @@ HasOneMore old new = (n : Names) × (new ≡ old ++ n ∷ [])
 
 -- the names of the cell at an index
 abbrev pub cell_in : List Names → ℕ → Names
-cell_in γs i = get_or γs i (record { value = 0; breach = 0 })
+cell_in γs i = get_or γs i (record { value = 0; breach = 0; epoch = [] })
 
 -- a cell that has none of the names of the other
 abbrev pub IsAnother : Names → Names → Type 0

@@ -1,24 +1,24 @@
--- What is known of a cell for good, and of each cell of a row.
+-- What is known of a cell, and of each cell of a row.
 use Rattle.std.specs.Prelude.{◌≡◌, ℕ, Option, Some, None, List, [], ◌∷◌, ◌++◌, slice_set}
 use Rattle.std.specs.Coded.{coded_option}
-use base.Stored.{Coded, gnil, coded×, coded_ℕ, coded_via}
-use base.Fml.{GName, Fml, ftrue, fsep, fauth, finv}
+use base.Stored.{Coded, gnil, coded×, coded_ℕ, coded_list, coded_via}
+use base.Fml.{Lft, GName, Fml, ftrue, fsep, fauth, finv}
 use denote.RattleType.{RattleType}
-use Rattle.cell_core.specs.Slot.{Names, written, spoilt}
+use Rattle.cell_core.specs.Slot.{Names, written}
 use Rattle.cell_core.specs.Laid.{IsAnother, cell_in}
 
--- what is known of a cell for good: its value and the name that the value has; or else that it is broken, by the name that
--- says so, and that the former name never gets a value
+-- what is known of a cell: its value and the name that the value has, for good; or else its epoch, in which it stays
+-- broken, and that the name never gets a value
 pub record MemberView (T : Type 0) : Type 0 where
   pub value : Option T
   pub name : ℕ
-  pub breach : ℕ
+  pub epoch : Lft
 
 -- how that is stored
 abbrev pub member_coded : {T : Type 0} → Coded T → Coded (MemberView T)
 member_coded {T} c =
-    coded_via (coded× (coded_option c) (coded× coded_ℕ coded_ℕ)) (λ (m : MemberView T). (m.value, (m.name, m.breach)))
-    (λ x y e i. record { value = (e i).0; name = (e i).1.0; breach = (e i).1.1 })
+    coded_via (coded× (coded_option c) (coded× coded_ℕ (coded_list coded_ℕ))) (λ (m : MemberView T). (m.value, (m.name, m.epoch)))
+    (λ x y e i. record { value = (e i).0; name = (e i).1.0; epoch = (e i).1.1 })
 
 -- what shows that a name never gets a value
 abbrev pub unfilled : GName → Fml
@@ -26,13 +26,13 @@ unfilled γ = finv (fauth γ gnil)
 
 module _ (R : RattleType) where
   -- what shows what is known
-  abbrev pub known_as : Option R.Denot → GName → GName → Fml
-  known_as (Some x) γ δ = written R γ x
-  known_as None γ δ = fsep (unfilled γ) (spoilt δ)
+  abbrev pub known_as : Option R.Denot → GName → Fml
+  known_as (Some x) γ = written R γ x
+  known_as None γ = unfilled γ
 
   -- the same of a cell
   abbrev pub member : MemberView R.Denot → Fml
-  member m = known_as m.value m.name m.breach
+  member m = known_as m.value m.name
 
   -- the same of each cell of a row
   abbrev pub members : List (MemberView R.Denot) → Fml
@@ -40,19 +40,28 @@ module _ (R : RattleType) where
   members (m ∷ ms) = fsep (member m) (members ms)
 
 -- what is known by these names is known of the cell
-abbrev pub HasNames : {T : Type 0} → Names → Option T → ℕ → ℕ → Type 0
-HasNames γ (Some x) name breach = name ≡ γ.value
-HasNames γ None name breach = breach ≡ γ.breach
+abbrev pub HasNames : {T : Type 0} → Names → Option T → ℕ → Lft → Type 0
+HasNames γ (Some x) name epoch = name ≡ γ.value
+HasNames γ None name epoch = epoch ≡ γ.epoch
 
--- the word of a cell of which so much is known
+-- the word of a cell of which so much is known, while its epoch lasts
 abbrev pub IsWordOf : {T : Type 0} → Option T → ℕ → Type 0
 IsWordOf (Some x) word = word ≡ 2
-IsWordOf None word = word ≡ 3
+IsWordOf None word = word ≡ 4
 
--- what settling the cell at an index leaves: a cell with a value stays, and any other is broken under new names
-abbrev pub Settles : {T : Type 0} → List Names → ℕ → List Names → Option T → ℕ → Type 0
-Settles old i new (Some x) breach = new ≡ old
-Settles old i new None breach = (c : Names) × IsAnother (cell_in old i) c × (new ≡ slice_set old i c) × (breach ≡ c.breach)
+-- the same at any time: a cell that is not known to have a value may have any word
+abbrev pub MayBeWordOf : {T : Type 0} → Option T → ℕ → Type 0
+MayBeWordOf (Some x) word = word ≡ 2
+MayBeWordOf None word = Unit {0}
+
+-- the epoch is that of a cell that is not known to have a value
+abbrev pub IsEpochOf : {T : Type 0} → Option T → Lft → Lft → Type 0
+IsEpochOf value own epoch = value ≡ None → own ≡ epoch
+
+-- what settling the cell at an index leaves: a cell with a value stays, and any other is broken for the epoch, under new names
+abbrev pub Settles : {T : Type 0} → List Names → ℕ → List Names → Option T → Lft → Type 0
+Settles old i new (Some x) epoch = new ≡ old
+Settles old i new None epoch = (c : Names) × IsAnother (cell_in old i) c × (new ≡ slice_set old i c) × (epoch ≡ c.epoch)
 
 -- the new list is the old one without its last member
 abbrev pub HasOneLess : {T : Type 0} → List (MemberView T) → List (MemberView T) → Type 0

@@ -6,11 +6,26 @@ use Rattle.cell_core.specs.declared.block.shown.Look.{Look}
 use Rattle.cell_core.specs.declared.block.shown.Look.TheVariants as look
 use Rattle.cell_core.specs.Block.{BlockView, IsPlacedAt, IsSpoiltAt, IsBegunAt}
 
--- what stood in the cell at the place, where it was not empty
+-- what stood in the cell at the place
 abbrev pub IsFoundIn : {T : Type 0} → BlockView → ℕ → Found T → Type 0
+IsFoundIn block place found.Empty = Unit {0}
 IsFoundIn block place (found.Busy begun) = IsBegunAt block place begun
 IsFoundIn block place (found.Filled placed) = IsPlacedAt block place placed
 IsFoundIn block place (found.Broken spoilt) = IsSpoiltAt block place spoilt
+
+-- a value stood there, and it is this one
+abbrev pub ShowsFilled : {T : Type 0} → T → Found T → Type 0
+ShowsFilled x found.Empty = ⊥
+ShowsFilled x (found.Busy begun) = ⊥
+ShowsFilled x (found.Filled placed) = placed.value ≡ x
+ShowsFilled x (found.Broken spoilt) = ⊥
+
+-- something stood there
+abbrev pub IsNotEmpty : {T : Type 0} → Found T → Type 0
+IsNotEmpty found.Empty = ⊥
+IsNotEmpty (found.Busy begun) = Unit {0}
+IsNotEmpty (found.Filled placed) = Unit {0}
+IsNotEmpty (found.Broken spoilt) = Unit {0}
 
 -- what the cell at the place may show: a value with a token of that value
 abbrev pub IsLookAt : {T : Type 0} → BlockView → ℕ → Look T → Type 0

@@ -1,36 +1,41 @@
 -- What a raw cell owns and lends.
 -- Each time the cell is lent it takes a turn: a lifetime, and a name that tracks what its room holds. One invariant
 -- holds the word, with the right to write or the shared value.
-use Rattle.std.specs.Prelude.{◌≡◌, ℕ, zero, suc, ◌+◌, Option, Some, None}
+-- A cell has an epoch too, a lifetime. It has ended for all cells but those that an owner broke: as long as it lasts, such
+-- a cell stays broken.
+use Rattle.std.specs.Prelude.{◌≡◌, ℕ, zero, suc, ◌+◌, Bool, true, false, eqb, Option, Some, None}
 use Rattle.std.specs.Coded.{coded_option}
 use mir.Syntax.{w64, ty_int}
 use mir.Raw.{raw}
 use mir.Val.{vint}
 use base.Fraction.{full_share}
-use base.Stored.{Gv, Coded, gnil, gcons, coded×, coded_ℕ, coded_via}
-use base.Fml.{Lft, GName, Fml, ftrue, ffalse, feq, fsep, fex, fat, fobs, fauth, fres, froom, fbor, finv}
+use base.Stored.{Gv, Coded, gnil, gcons, coded×, coded_ℕ, coded_list, coded_via}
+use base.Fml.{Lft, GName, Fml, ftrue, ffalse, feq, fsep, fex, fat, fobs, fauth, fres, froom, fbor, fdead, finv}
 use base.Before.{before}
 use prog.Memory.{up, align}
 use denote.RattleType.{RattleType}
 use denote.Memory.{lone, part_at, shared_of}
 use denote.RawPtr.{Ptr, block_ptr, null_ptr}
 
--- the names of a cell: one gets the value that fills it, the other is set where it breaks
+-- the names of a cell: one gets the value that fills it, another is set where it breaks; and its epoch
 pub record Names : Type 0 where
   pub value : GName
   pub breach : GName
+  pub epoch : Lft
 
 -- how the names are stored
 abbrev pub names_coded : Coded Names
-names_coded = coded_via (coded× coded_ℕ coded_ℕ) (λ (n : Names). (n.value, n.breach))
-    (λ x y e i. record { value = (e i).0; breach = (e i).1 })
+names_coded =
+    coded_via (coded× coded_ℕ (coded× coded_ℕ (coded_list coded_ℕ))) (λ (n : Names). (n.value, (n.breach, n.epoch)))
+    (λ x y e i. record { value = (e i).0; breach = (e i).1.0; epoch = (e i).1.1 })
 
--- a cell is free, busy with one writer, full, or broken
+-- a cell is free, busy with one writer, full, broken, or broken and shut for its epoch
 pub data Phase (X : Type 0) : Type 0 where
   free : Phase X
   busy : Phase X
   full : X → Phase X
   broken : Phase X
+  shut : Phase X
 
 -- the word, what the room holds, and the phase
 abbrev pub Rest : Type 0 → Type 0
@@ -48,13 +53,18 @@ fact φ = fex φ (λ _. ftrue)
 abbrev pub word : ℕ → ℕ → ℕ → Fml
 word b o n = fat full_share (ty_int w64) b o (vint w64 n)
 
--- what the second name has once the cell is broken
+-- what the second name has once the cell was broken
 abbrev pub cross : Gv
 cross = gcons gnil gnil
 
--- what shows that a cell is broken
+-- what shows that a cell was once broken
 abbrev pub spoilt : GName → Fml
 spoilt δ = fres δ cross
+
+-- the second name of a cell that was broken once, and of one that never was
+abbrev pub breached : GName → Bool → Fml
+breached δ true = fsep (spoilt δ) (fauth δ cross)
+breached δ false = fsep (fobs δ gnil) (fauth δ gnil)
 
 module _ (R : RattleType) where
   -- how what the room holds is stored
@@ -67,13 +77,7 @@ module _ (R : RattleType) where
   mark busy = gnil
   mark (full x) = gcons (R.coded.code x) gnil
   mark broken = gnil
-
-  -- what the second name has in each phase
-  abbrev pub crossed : Phase R.Denot → Gv
-  crossed free = gnil
-  crossed busy = gnil
-  crossed (full x) = gnil
-  crossed broken = cross
+  mark shut = gnil
 
   -- what shows that a cell holds a value
   abbrev pub written : GName → R.Denot → Fml
@@ -90,6 +94,7 @@ module _ (R : RattleType) where
   Lies v busy = Unit {0}
   Lies v (full x) = v ≡ Some x
   Lies v broken = v ≡ None
+  Lies v shut = v ≡ None
 
   -- where the room begins, after the word
   abbrev pub at : ℕ → ℕ
@@ -98,18 +103,27 @@ module _ (R : RattleType) where
   module _ (γ : Names) where
     -- both names, as the phase has them
     abbrev pub auths : Phase R.Denot → Fml
-    auths s = fsep (fauth γ.value (mark s)) (fauth γ.breach (crossed s))
+    auths s = fsep (fauth γ.value (mark s)) (fex Bool (breached γ.breach))
 
-    -- the right to set both names
+    -- the right to set the first name
     abbrev pub unset : Fml
-    unset = fsep (fobs γ.value gnil) (fobs γ.breach gnil)
+    unset = fobs γ.value gnil
+
+    -- the cell's epoch has ended
+    abbrev pub over : Fml
+    over = fdead γ.epoch
+
+    -- what a broken cell has: what shows that it is, and the right to set the first name
+    abbrev pub cracked : Fml
+    cracked = fsep (spoilt γ.breach) unset
 
     -- the word of each phase, with what goes with it
     abbrev pub told : ℕ → Phase R.Denot → Fml
-    told n free = fsep (feq ℕ n 0) unset
-    told n busy = feq ℕ n 1
-    told n (full x) = fsep (feq ℕ n 2) (written γ.value x)
-    told n broken = fsep (feq ℕ n 3) (fsep (spoilt γ.breach) (fobs γ.value gnil))
+    told n free = fsep (feq ℕ n 0) (fsep over unset)
+    told n busy = fsep (feq ℕ n 1) over
+    told n (full x) = fsep (feq ℕ n 2) (fsep over (written γ.value x))
+    told n broken = fsep (feq ℕ n 3) (fsep over cracked)
+    told n shut = fsep (feq ℕ n 4) cracked
 
     -- the names and the word
     abbrev pub named : ℕ → Phase R.Denot → Fml
@@ -124,13 +138,12 @@ module _ (R : RattleType) where
     known (Some x) = written γ.value x
     known None = ffalse
 
-    -- what the word shows: at 2 a value, at 3 that the cell is broken, and else nothing
+    -- what the word shows: at 2 a value, above it that the cell is broken, and else nothing
     abbrev pub sighted : ℕ → Option R.Denot → Fml
     sighted zero v = ftrue
     sighted (suc zero) v = ftrue
     sighted (suc (suc zero)) v = known v
-    sighted (suc (suc (suc zero))) v = spoilt γ.breach
-    sighted (suc (suc (suc (suc n)))) v = ftrue
+    sighted (suc (suc (suc n))) v = spoilt γ.breach
 
     -- the same, for some value
     abbrev pub sights : ℕ → Fml
@@ -155,6 +168,7 @@ module _ (R : RattleType) where
       tie busy = ftrue
       tie (full x) = fres t.1 (content.code (Some x))
       tie broken = empty
+      tie shut = empty
 
       -- what the invariant has of the room in each phase
       abbrev pub lent : Phase R.Denot → Fml
@@ -162,6 +176,7 @@ module _ (R : RattleType) where
       lent busy = ftrue
       lent (full x) = shared_of R x b (at o) t.0
       lent broken = fbor t.0 Room
+      lent shut = fbor t.0 Room
 
       -- the word, the names, and what is known of the room
       abbrev pub tied : ℕ × Phase R.Denot → Fml
@@ -181,12 +196,15 @@ module _ (R : RattleType) where
 
       -- the right to write
       abbrev pub Right : Fml
-      Right = fsep unset (fsep empty (fbor t.0 Room))
+      Right = fsep (fsep over unset) (fsep empty (fbor t.0 Room))
 
-      -- what the exchange from empty to busy gains, where it found n: the right to write, or what n shows
-      abbrev pub won : ℕ → Fml
-      won zero = Right
-      won (suc n) = sights (suc n)
+      -- what an exchange gains where it found n: the right to write, if it found what it sought; else what n shows
+      abbrev pub gained : Bool → ℕ → Fml
+      gained true n = Right
+      gained false n = sights n
+
+      abbrev pub won : ℕ → ℕ → Fml
+      won sought n = gained (eqb n sought) n
 
     -- what a `&` to the cell holds
     abbrev pub shared_at : ℕ → ℕ → Lft → Fml
@@ -198,6 +216,6 @@ module _ (R : RattleType) where
     shared null_ptr κ = ffalse
 
     -- what a claim owns, in a cell that is lent for β
-    abbrev pub claimed : Lft → Ptr → ℕ → Fml
-    claimed β (block_ptr b o) found = fex Turn (λ t. fsep (kept t b o β) (won t b o found))
-    claimed β null_ptr found = ffalse
+    abbrev pub claimed : Lft → Ptr → ℕ → ℕ → Fml
+    claimed β (block_ptr b o) sought found = fex Turn (λ t. fsep (kept t b o β) (won t b o sought found))
+    claimed β null_ptr sought found = ffalse

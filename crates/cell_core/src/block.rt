@@ -1,9 +1,10 @@
 //! A block of cells, laid raw in one row: each is a state word and room for one value.
-ghost use Rattle.std.specs.Prelude.{◌≡◌, ◌≢◌, ◌<◌, Some, None, MatchOption, IfSome, IfOk, IfErr};
-ghost use Rattle.cell_core.specs.Block.{block_len, cell_at, IsPenAt, IsPlacedIn, IsPlacedAt, IsSpoiltIn, IsMemberAt, KeepsOtherCells, RenewsCell};
-ghost use Rattle.cell_core.specs.Shown.{IsFoundIn, IsLookAt};
+ghost use Rattle.std.specs.Prelude.{◌≡◌, ◌≢◌, ◌<◌, Some, None, MatchOption, IsSomeAnd, IfSome, IfOk, IfErr, IsErrAnd};
+ghost use Rattle.cell_core.specs.Block.{block_len, cell_at, IsPenAt, IsPlacedIn, IsPlacedAt, IsMemberAt, KeepsOtherCells, RenewsCell};
+ghost use Rattle.cell_core.specs.Shown.{IsFoundIn, IsNotEmpty, ShowsFilled, IsLookAt};
 
 mod begun;
+mod epoch;
 mod member;
 mod pen;
 mod placed;
@@ -11,8 +12,9 @@ mod shown;
 mod spoilt;
 mod steps;
 
-use crate::slot::steps::Slot;
+use crate::slot::steps::{Claim, Slot};
 pub use begun::Begun;
+pub use epoch::{Ended, Epoch};
 pub use member::{Member, Row};
 pub use pen::Pen;
 pub use placed::Placed;
@@ -22,7 +24,7 @@ use std::alloc::{AllocError, Allocator, Global};
 use std::marker::Model;
 use steps::{Laid, Link};
 
-/// Cells that are each filled or broken once, and stay so. Beside its value a cell has one word.
+/// Cells that are each filled once, and stay so; a broken one may be mended. Beside its value a cell has one word.
 pub struct Block<T, A: Allocator = Global> {
     alloc: A,
     link: Link<T>,
@@ -76,26 +78,89 @@ impl<T, A: Allocator> Block<T, A> {
         self.laid.cell(self.link, place as usize)
     }
 
+    // What stood in the cell, as an exchange that lost it shows.
+    fn lost(&self, place: u64, found: u64, claim: Claim<'_, T>) -> Found<T>
+        requires { (place < block_len self.now) × (claim.of ≡ cell_at self.now place)
+            × (claim.found ≡ found) × (found ≢ claim.sought) }
+        ensures found { IsFoundIn self.now place result }
+        ensures not_empty { found ≢ 0 → IsNotEmpty result }
+    {
+        match found {
+            0 => {
+                claim.unused();
+                Found::Empty
+            }
+            1 => {
+                let begun = claim.begun();
+                Found::Busy(Begun { place, begun })
+            }
+            2 => {
+                let written = claim.written();
+                Found::Filled(Placed { place, written })
+            }
+            _ => {
+                let crack = claim.crack();
+                Found::Broken(Spoilt { place, crack })
+            }
+        }
+    }
+
     /// One exchange from empty to busy. The pen is the right to fill or break the cell.
     pub fn begin(&self, place: u64) -> Result<Pen<'_, T>, Found<T>>
         requires { place < block_len self.now }
         ensures pen { IfOk result (IsPenAt self.now place) }
         ensures found { IfErr result (IsFoundIn self.now place) }
+        ensures not_empty { IfErr result IsNotEmpty }
     {
-        match self.cell(place).claim() {
-            (0, claim) => Ok(Pen { place, claim }),
-            (2, claim) => {
+        let (found, claim) = self.cell(place).claim();
+        if found == 0 {
+            Ok(Pen { place, claim })
+        } else {
+            Err(self.lost(place, found, claim))
+        }
+    }
+
+    /// One exchange from broken to busy. Where an owner broke the cell it answers `Found::Broken`: `mend_member` mends that.
+    pub fn mend(&self, place: u64) -> Result<Pen<'_, T>, Found<T>>
+        requires { place < block_len self.now }
+        ensures pen { IfOk result (IsPenAt self.now place) }
+        ensures found { IfErr result (IsFoundIn self.now place) }
+    {
+        let (found, claim) = self.cell(place).mend();
+        if found == 3 {
+            Ok(Pen { place, claim })
+        } else {
+            Err(self.lost(place, found, claim))
+        }
+    }
+
+    /// As `mend`, of a cell of which an owner knew so much in an epoch that has ended: one that the owner broke may be mended
+    /// too.
+    pub fn mend_member(
+        &self,
+        place: u64,
+        member: &Member<T>,
+        ended: &Ended,
+    ) -> Result<Pen<'_, T>, Found<T>>
+        requires member { IsMemberAt self.now place member.now }
+        requires epoch { member.now.value ≡ None → member.now.epoch ≡ ended.now }
+        ensures pen { IfOk result (IsPenAt self.now place) }
+        ensures found { IfErr result (IsFoundIn self.now place) }
+        ensures filled { (x : T) → member.now.value ≡ Some x → IsErrAnd result (ShowsFilled x) }
+    {
+        let (found, claim) = self.cell(place).reopen(&member.member, &ended.ended);
+        match found {
+            4 => Ok(Pen { place, claim }),
+            3 => {
+                claim.unused();
+                self.mend(place)
+            }
+            2 => {
                 let written = claim.written();
+                member.member.agrees(&written);
                 Err(Found::Filled(Placed { place, written }))
             }
-            (3, claim) => {
-                let crack = claim.crack();
-                Err(Found::Broken(Spoilt { place, crack }))
-            }
-            (_, claim) => {
-                let begun = claim.begun();
-                Err(Found::Busy(Begun { place, begun }))
-            }
+            _ => Err(self.lost(place, found, claim)),
         }
     }
 
@@ -110,17 +175,17 @@ impl<T, A: Allocator> Block<T, A> {
                 sight.unused();
                 Look::Empty
             }
+            (1, sight) => {
+                sight.unused();
+                Look::Busy
+            }
             (2, sight) => {
                 let written = sight.written();
                 Look::Filled(cell.value(&written), Placed { place, written })
             }
-            (3, sight) => {
+            (_, sight) => {
                 let crack = sight.crack();
                 Look::Broken(Spoilt { place, crack })
-            }
-            (_, sight) => {
-                sight.unused();
-                Look::Busy
             }
         }
     }
@@ -141,18 +206,6 @@ impl<T, A: Allocator> Block<T, A> {
     {
         if a.place == b.place {
             a.written.agrees(&b.written);
-        }
-    }
-
-    /// A filled cell is not a broken one. It tells a proof so.
-    pub fn apart(&self, placed: &Placed<T>, spoilt: &Spoilt)
-        requires placed { IsPlacedIn self.now placed.now }
-        requires spoilt { IsSpoiltIn self.now spoilt.now }
-        ensures { placed.now.place ≢ spoilt.now.place }
-    {
-        if placed.place == spoilt.place {
-            let cell = self.cell(placed.place);
-            cell.never_both(&placed.written, &spoilt.crack);
         }
     }
 
@@ -178,34 +231,44 @@ impl<T, A: Allocator> Block<T, A> {
             .take_written(self.link, placed.place as usize, &placed.written)
     }
 
-    /// What is known of the cell for good. One that holds no value is broken after it, and is another one: older tokens are
-    /// not of it, and there is none of a value.
-    pub fn settle_now(&mut self, place: u64) -> Member<T>
+    /// What is known of the cell. One that holds no value is broken after it for the epoch, and is another one: older tokens
+    /// are not of it, and there is none of a value.
+    pub fn settle_now(&mut self, place: u64, epoch: &Epoch) -> Member<T>
         requires { place < block_len self.old }
         ensures member { IsMemberAt self.new place result }
         ensures name { result.name ≡ (cell_at self.old place).value }
         ensures filled { result.value ≢ None → self.new ≡ self.old }
+        ensures epoch { result.value ≡ None → result.epoch ≡ epoch.now }
         ensures another { result.value ≡ None → RenewsCell self.old self.new place }
         ensures len { block_len self.new ≡ block_len self.old }
         ensures others { KeepsOtherCells self.old self.new place }
     {
+        let index = place as usize;
         Member {
-            member: self.laid.settle(self.link, place as usize),
+            member: self.laid.settle(self.link, index, &epoch.epoch),
         }
     }
 
     /// As `settle_now`, of a cell of which something is known: a value that it is known to have is its value still.
-    pub fn settle_known(&mut self, place: u64, known: &Member<T>) -> Member<T>
+    pub fn settle_known(&mut self, place: u64, known: &Member<T>, epoch: &Epoch) -> Member<T>
         requires { IsMemberAt self.old place known.now }
         ensures member { IsMemberAt self.new place result }
         ensures name { result.name ≡ (cell_at self.old place).value }
         ensures kept { known.now.value ≢ None → result.value ≡ known.now.value }
+        ensures epoch { result.value ≡ None → result.epoch ≡ epoch.now }
         ensures len { block_len self.new ≡ block_len self.old }
         ensures others { KeepsOtherCells self.old self.new place }
     {
         match self.cell(place).word(&known.member) {
-            2 => known.again(),
-            _ => self.settle_now(place),
+            (2, sight) => {
+                let written = sight.written();
+                known.member.agrees(&written);
+                Member::of(&Placed { place, written })
+            }
+            (_, sight) => {
+                sight.unused();
+                self.settle_now(place, epoch)
+            }
         }
     }
 
@@ -222,34 +285,65 @@ impl<T, A: Allocator> Block<T, A> {
         (Placed { place, written }, held)
     }
 
-    /// The cell is broken after it. This answers the value that it held, if it held one.
-    pub fn spoil_now(&mut self, place: u64) -> (Member<T>, Option<T>)
+    /// The cell is broken after it for the epoch. This answers the value that it held, if it held one.
+    pub fn spoil_now(&mut self, place: u64, epoch: &Epoch) -> (Member<T>, Option<T>)
         requires { place < block_len self.old }
         ensures member { IsMemberAt self.new place result.0 }
         ensures broken { result.0.value ≡ None }
+        ensures epoch { result.0.epoch ≡ epoch.now }
         ensures len { block_len self.new ≡ block_len self.old }
         ensures others { KeepsOtherCells self.old self.new place }
     {
         let held = self.take(place);
-        let member = self.laid.spoil(self.link, place as usize);
+        let index = place as usize;
+        let member = self.laid.spoil(self.link, index, &epoch.epoch);
         (Member { member }, held)
     }
 
-    /// The value of a cell of which so much is known, with its token, or nothing where it is broken: one load.
-    pub fn member<'a>(&'a self, place: u64, member: &Member<T>) -> Option<(&'a T, Placed<T>)>
-        requires { IsMemberAt self.now place member.now }
+    /// The value of a cell of which so much is known, with its token, or nothing where it is broken, while the epoch lasts: one
+    /// load.
+    pub fn member<'a>(
+        &'a self,
+        place: u64,
+        member: &Member<T>,
+        epoch: &Epoch,
+    ) -> Option<(&'a T, Placed<T>)>
+        requires member { IsMemberAt self.now place member.now }
+        requires epoch { member.now.value ≡ None → member.now.epoch ≡ epoch.now }
         ensures value { MatchOption result (member.now.value ≡ None)
             (λ (value, _). member.now.value ≡ Some value.now) }
         ensures placed { IfSome result (λ (value, placed).
             IsPlacedAt self.now place placed × (placed.value ≡ value.now)) }
     {
         let cell = self.cell(place);
-        match cell.word(&member.member) {
+        match cell.word_in(&member.member, &epoch.epoch) {
             2 => {
                 let written = member.member.written();
                 Some((cell.value(&written), Placed { place, written }))
             }
             _ => None,
+        }
+    }
+
+    /// The same at any time: a member with a value shows it; any other cell may show a value that mended it, or nothing.
+    pub fn known<'a>(&'a self, place: u64, member: &Member<T>) -> Option<(&'a T, Placed<T>)>
+        requires { IsMemberAt self.now place member.now }
+        ensures value { (x : T) → member.now.value ≡ Some x
+            → IsSomeAnd result (λ (value, _). value.now ≡ x) }
+        ensures placed { IfSome result (λ (value, placed).
+            IsPlacedAt self.now place placed × (placed.value ≡ value.now)) }
+    {
+        let cell = self.cell(place);
+        match cell.word(&member.member) {
+            (2, sight) => {
+                let written = sight.written();
+                member.member.agrees(&written);
+                Some((cell.value(&written), Placed { place, written }))
+            }
+            (_, sight) => {
+                sight.unused();
+                None
+            }
         }
     }
 
@@ -267,16 +361,17 @@ impl<T, A: Allocator> Block<T, A> {
 }
 
 impl<T: Drop, A: Allocator> Block<T, A> {
-    /// The value of a cell of which so much is known, moved out, or nothing where it is broken. The cell is empty then, and is
-    /// another one: older tokens are not of it.
-    pub fn take_member(&mut self, place: u64, member: &Member<T>) -> Option<T>
-        requires { IsMemberAt self.old place member.now }
+    /// The value of a cell of which so much is known, moved out, or nothing where it is broken, while the epoch lasts. The cell
+    /// is empty then, and is another one: older tokens are not of it.
+    pub fn take_member(&mut self, place: u64, member: &Member<T>, epoch: &Epoch) -> Option<T>
+        requires member { IsMemberAt self.old place member.now }
+        requires epoch { member.now.value ≡ None → member.now.epoch ≡ epoch.now }
         ensures value { result ≡ member.now.value }
         ensures another { RenewsCell self.old self.new place }
         ensures len { block_len self.new ≡ block_len self.old }
         ensures others { KeepsOtherCells self.old self.new place }
     {
-        match self.cell(place).word(&member.member) {
+        match self.cell(place).word_in(&member.member, &epoch.epoch) {
             2 => {
                 let written = member.member.written();
                 Some(self.laid.take_written(self.link, place as usize, &written))

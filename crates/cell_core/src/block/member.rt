@@ -1,4 +1,4 @@
-// What is known of a cell for good, and of each cell of a row.
+// What is known of a cell, and of each cell of a row.
 ghost use Rattle.std.specs.Prelude.{◌≡◌, ◌<◌, ◌++◌, ◌∷◌, [], Some, length, slice_get, slice_set};
 ghost use Rattle.cell_core.specs.Member.{HasOneLess};
 
@@ -7,7 +7,7 @@ use crate::slot::member;
 use std::marker::Model;
 use std::mem::replace;
 
-/// What an exclusive owner knows of a cell for good: its value, or that it is broken. It has no bytes.
+/// What an exclusive owner knows of a cell: its value, for good; or the epoch in which it stays broken. It has no bytes.
 #[derive(Drop)]
 pub struct Member<T> {
     pub(crate) member: member::Member<T>,

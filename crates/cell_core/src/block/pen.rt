@@ -22,7 +22,7 @@ impl<'a, T> Model for Pen<'a, T> {
 
     ghost view = { λ p. record { place = p.place; cell = p.claim.of } };
 
-    ghost invariant = { λ p. p.claim.found ≡ 0 };
+    ghost invariant = { λ p. p.claim.found ≡ p.claim.sought };
 }
 
 impl<'a, T> Pen<'a, T> {
@@ -37,7 +37,7 @@ impl<'a, T> Pen<'a, T> {
         Placed { place, written }
     }
 
-    /// Breaks the cell: it never holds a value.
+    /// Breaks the cell: it holds no value, until somebody mends it.
     pub fn spoil(self) -> Spoilt
         ensures place { result.place ≡ self.entry.place }
         ensures name { result.name ≡ self.entry.cell.breach }

@@ -3,9 +3,11 @@ use crate::block::begun::Begun;
 use crate::block::placed::Placed;
 use crate::block::spoilt::Spoilt;
 
-/// What stood in a cell that another call began.
+/// What stood in a cell, where a call did not get it.
 #[derive(Debug, Drop)]
 pub enum Found<T> {
+    /// Nothing: nobody began it.
+    Empty,
     /// Nothing yet: a pen is out.
     Busy(Begun),
     /// A value.

@@ -1,11 +1,11 @@
-// The token of a broken cell.
+// The token of a cell that was broken.
 ghost use Rattle.std.specs.Prelude.{◌≡◌};
 
 use crate::slot::steps::Crack;
 use std::fmt;
 use std::marker::Model;
 
-/// Shows that the cell at a place is broken, for good. It has no bytes beside its place.
+/// Shows that the cell at a place was once broken. It has no bytes beside its place.
 #[derive(Drop)]
 pub struct Spoilt {
     pub(crate) place: u64,

@@ -1,5 +1,5 @@
 // The raw steps on a row of cells: its memory, a cell more, a cell less, and the cell at an index.
-ghost use Rattle.std.specs.Prelude.{◌≡◌, ℕ, ◌+◌, ◌<◌, true, List, [], length, None, IfOk};
+ghost use Rattle.std.specs.Prelude.{◌≡◌, ℕ, ◌+◌, ◌<◌, true, List, [], ◌∷◌, length, None, IfOk};
 ghost use base.Stored.{coded_list};
 ghost use prog.Memory.{capped};
 ghost use denote.RawPtr.{Ptr, coded_ptr};
@@ -7,6 +7,7 @@ ghost use Rattle.cell_core.specs.Slot.{Names, names_coded};
 ghost use Rattle.cell_core.specs.Laid.{laid, laid_lent, stride, FitsMemory, IsLinked, HasOneMore, HasOneRenamed, cell_in};
 ghost use Rattle.cell_core.specs.Member.{Settles};
 
+use crate::slot::epoch::Epoch;
 use crate::slot::member::Member;
 use crate::slot::steps::{Slot, Written};
 use std::alloc::{AllocError, Allocator};
@@ -165,35 +166,38 @@ impl<T, A: Allocator> Laid<T, A> {
         }
     }
 
-    // Breaks the cell. What it held is forgotten: a value that is still there is not dropped. The cell has new names.
-    pub(crate) fn spoil(&mut self, link: Link<T>, index: usize) -> Member<T>
+    // Breaks the cell for the epoch. What it held is forgotten: a value that is still there is not dropped. The cell has new
+    // names.
+    pub(crate) fn spoil(&mut self, link: Link<T>, index: usize, epoch: &Epoch) -> Member<T>
         requires { IsLinked self.old.at link.ptr × (index < length self.old.cells) }
         ensures { (self.new.heap ≡ self.old.heap) × (self.new.at ≡ self.old.at)
             × HasOneRenamed self.old.cells index self.new.cells × (self.new.left ≡ self.old.left)
-            × (result.of.breach ≡ (cell_in self.new.cells index).breach) × (result.of.value ≡ None) }
+            × (result.of.epoch ≡ (cell_in self.new.cells index).epoch) × (result.of.value ≡ None)
+            × (result.of.epoch ≡ epoch.now.of ∷ []) }
     {
         unsafe {
             let cell = link.ptr.add(index);
-            (&raw mut (*cell).state).write(3);
+            (&raw mut (*cell).state).write(4);
         }
         Member {
             marker: PhantomData,
         }
     }
 
-    // What is known of the cell for good. One without a value is broken then, and has new names.
-    pub(crate) fn settle(&mut self, link: Link<T>, index: usize) -> Member<T>
+    // What is known of the cell. One without a value is broken then for the epoch, and has new names.
+    pub(crate) fn settle(&mut self, link: Link<T>, index: usize, epoch: &Epoch) -> Member<T>
         requires { IsLinked self.old.at link.ptr × (index < length self.old.cells) }
         ensures { (self.new.heap ≡ self.old.heap) × (self.new.at ≡ self.old.at) × (self.new.left ≡ self.old.left)
             × (result.of.name ≡ (cell_in self.old.cells index).value)
-            × Settles self.old.cells index self.new.cells result.of.value result.of.breach }
+            × Settles self.old.cells index self.new.cells result.of.value result.of.epoch
+            × (result.of.epoch ≡ epoch.now.of ∷ []) }
     {
         unsafe {
             let cell = link.ptr.add(index);
             let state = &raw mut (*cell).state;
             let found = state.read();
             if found != 2 {
-                state.write(3);
+                state.write(4);
             }
         }
         Member {

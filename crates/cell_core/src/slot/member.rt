@@ -1,4 +1,4 @@
-// What is known of a cell for good, and of each cell of a row. It has no bytes.
+// What is known of a cell, and of each cell of a row. It has no bytes.
 ghost use Rattle.std.specs.Prelude.{◌≡◌, ◌≢◌, ◌<◌, ◌++◌, ◌∷◌, [], List, Some, None, length, slice_get, slice_set};
 ghost use base.Stored.{coded_list};
 ghost use denote.Sharing.{said};
@@ -7,7 +7,7 @@ ghost use Rattle.cell_core.specs.Member.{MemberView, member_coded, member, membe
 use crate::slot::steps::Written;
 use std::marker::{Model, PhantomData};
 
-// That a cell has its value, or that it is broken, and that its former name never gets one.
+// That a cell has its value, or that its former name never gets one.
 pub(crate) struct Member<T> {
     pub(crate) marker: PhantomData<T>,
     pub(crate) ghost of: { MemberView T } by { member_coded T.code },

@@ -1,12 +1,14 @@
 // The raw steps on one cell, each a few lines round one atomic step.
-// The word is 0 where the cell is empty, 1 while one thread has it, 2 where it is filled and 3 where it is broken.
-ghost use Rattle.std.specs.Prelude.{◌≡◌, ◌≢◌, ℕ, ◌<◌, Option};
+// The word is 0 where the cell is empty, 1 while one thread has it, 2 where it is filled, 3 where it is broken, and 4 where
+// an owner broke it and its epoch may still last.
+ghost use Rattle.std.specs.Prelude.{◌≡◌, ◌≢◌, ℕ, ◌<◌, [], ◌∷◌, Option};
 ghost use base.Fml.{ftrue, ffalse};
 ghost use denote.Sharing.{said};
 ghost use Rattle.std.specs.Coded.{coded_option};
 ghost use Rattle.cell_core.specs.Slot.{Names, names_coded, shared, claimed, sighted, written, spoilt};
-ghost use Rattle.cell_core.specs.Member.{HasNames, IsWordOf};
+ghost use Rattle.cell_core.specs.Member.{HasNames, IsWordOf, MayBeWordOf, IsEpochOf};
 
+use crate::slot::epoch::{Ended, Epoch};
 use crate::slot::member::Member;
 use atomic_table::exchange;
 use std::marker::{Brand, Model, Move, Owns, PhantomData};
@@ -31,16 +33,17 @@ impl<T> Move for Slot<T> {
     ghost own_val = { λ n vs. ffalse };
 }
 
-// What the exchange from empty to busy gained, where it found the word `found`. It must be spent.
+// What an exchange from the word `sought` to busy gained, where it found the word `found`. It must be spent.
 pub(crate) struct Claim<'a, T> {
     slot: *const Slot<T>,
     marker: PhantomData<&'a T>,
     pub(crate) ghost of: { Names } by { names_coded },
+    pub(crate) ghost sought: { ℕ },
     pub(crate) ghost found: { ℕ },
 }
 
 impl<'a, T> Model for Claim<'a, T> {
-    ghost also_owns = { λ c. claimed T.row c.of 'a c.slot c.found };
+    ghost also_owns = { λ c. claimed T.row c.of 'a c.slot c.sought c.found };
 }
 
 // What a load of the word `found` showed. It has no bytes.
@@ -68,7 +71,7 @@ impl<T> Model for Written<T> {
     ghost also_shares = { λ w _ κ. said (written T.row w.of w.value) κ };
 }
 
-// What shows that a cell is broken. It has no bytes.
+// What shows that a cell was once broken. It has no bytes.
 pub(crate) struct Crack {
     marker: PhantomData<u8>,
     pub(crate) ghost of: { ℕ },
@@ -93,9 +96,36 @@ impl Model for Begun {
 impl<T> Slot<T> {
     // The exchange from empty to busy, which returns the word as it was.
     pub(crate) fn claim(&self) -> (u64, Claim<'_, T>)
-        ensures { (result.1.of ≡ self.now) × (result.1.found ≡ result.0) }
+        ensures { (result.1.of ≡ self.now) × (result.1.sought ≡ 0) × (result.1.found ≡ result.0) }
     {
         let found = unsafe { exchange::<Brand>(&raw const self.state, 0, 1) };
+        let claim = Claim {
+            slot: self,
+            marker: PhantomData,
+        };
+        (found, claim)
+    }
+
+    // The exchange from broken to busy, of a cell whose epoch has ended.
+    pub(crate) fn mend(&self) -> (u64, Claim<'_, T>)
+        ensures { (result.1.of ≡ self.now) × (result.1.sought ≡ 3) × (result.1.found ≡ result.0) }
+    {
+        let found = unsafe { exchange::<Brand>(&raw const self.state, 3, 1) };
+        let claim = Claim {
+            slot: self,
+            marker: PhantomData,
+        };
+        (found, claim)
+    }
+
+    // The same of one that an owner broke, for whoever shows that the epoch has ended.
+    pub(crate) fn reopen(&self, member: &Member<T>, ended: &Ended) -> (u64, Claim<'_, T>)
+        requires { HasNames self.now member.now.of.value member.now.of.name member.now.of.epoch
+            × IsEpochOf member.now.of.value member.now.of.epoch (ended.now.of ∷ []) }
+        ensures { (result.1.of ≡ self.now) × (result.1.sought ≡ 4) × (result.1.found ≡ result.0)
+            × MayBeWordOf member.now.of.value result.0 }
+    {
+        let found = unsafe { exchange::<Brand>(&raw const self.state, 4, 1) };
         let claim = Claim {
             slot: self,
             marker: PhantomData,
@@ -127,28 +157,33 @@ impl<T> Slot<T> {
         }
     }
 
-    // The word, for whoever knows of the cell for good.
-    pub(crate) fn word(&self, member: &Member<T>) -> u64
-        requires { HasNames self.now member.now.of.value member.now.of.name member.now.of.breach }
+    // The word, and what it shows, for whoever knows of the cell.
+    pub(crate) fn word(&self, member: &Member<T>) -> (u64, Sight<T>)
+        requires { HasNames self.now member.now.of.value member.now.of.name member.now.of.epoch }
+        ensures { (result.1.of ≡ self.now) × (result.1.found ≡ result.0)
+            × MayBeWordOf member.now.of.value result.0 }
+    {
+        let found = unsafe { raw::load::<Brand>(&raw const self.state, SeqCst) };
+        let sight = Sight {
+            marker: PhantomData,
+        };
+        (found, sight)
+    }
+
+    // The word, for whoever shows besides that the epoch lasts.
+    pub(crate) fn word_in(&self, member: &Member<T>, epoch: &Epoch) -> u64
+        requires { HasNames self.now member.now.of.value member.now.of.name member.now.of.epoch
+            × IsEpochOf member.now.of.value member.now.of.epoch (epoch.now.of ∷ []) }
         ensures { IsWordOf member.now.of.value result }
     {
         unsafe { raw::load::<Brand>(&raw const self.state, SeqCst) }
-    }
-
-    // No cell is filled and broken. It tells a proof so.
-    pub(crate) fn never_both(&self, written: &Written<T>, crack: &Crack)
-        requires { (written.now.of ≡ self.now.value) × (crack.now.of ≡ self.now.breach) }
-        ensures { ⊥ }
-    {
-        // The load is the step at which the proof finds them apart.
-        unsafe { raw::load::<Brand>(&raw const self.state, SeqCst) };
     }
 }
 
 impl<'a, T> Claim<'a, T> {
     // Writes the value and then the word 2.
     pub(crate) fn fill(self, value: T) -> Written<T>
-        requires { self.found ≡ 0 }
+        requires { self.found ≡ self.sought }
         ensures { (result.of ≡ self.entry.of.value) × (result.value ≡ value) }
     {
         let Claim { slot, marker: _ } = self;
@@ -161,7 +196,7 @@ impl<'a, T> Claim<'a, T> {
 
     // Writes the word 3.
     pub(crate) fn spoil(self) -> Crack
-        requires { self.found ≡ 0 }
+        requires { self.found ≡ self.sought }
         ensures { result.of ≡ self.entry.of.breach }
     {
         let Claim { slot, marker: _ } = self;
@@ -173,7 +208,7 @@ impl<'a, T> Claim<'a, T> {
 
     // The token of what a lost exchange found.
     pub(crate) fn written(self) -> Written<T>
-        requires { self.found ≡ 2 }
+        requires { (self.found ≡ 2) × (self.found ≢ self.sought) }
         ensures { result.of ≡ self.entry.of.value }
     {
         let Claim { slot: _, marker: _ } = self;
@@ -183,7 +218,7 @@ impl<'a, T> Claim<'a, T> {
     }
 
     pub(crate) fn crack(self) -> Crack
-        requires { self.found ≡ 3 }
+        requires { (2 < self.found) × (self.found ≢ self.sought) }
         ensures { result.of ≡ self.entry.of.breach }
     {
         let Claim { slot: _, marker: _ } = self;
@@ -192,15 +227,21 @@ impl<'a, T> Claim<'a, T> {
         }
     }
 
-    // What a lost exchange shows of a cell that is neither filled nor broken.
+    // What a lost exchange shows of a cell that another call began.
     pub(crate) fn begun(self) -> Begun
-        requires { (0 < self.found) × (self.found ≢ 2) × (self.found ≢ 3) }
+        requires { (self.found ≡ 1) × (self.found ≢ self.sought) }
         ensures { result.of ≡ self.entry.of }
     {
         let Claim { slot: _, marker: _ } = self;
         Begun {
             marker: PhantomData,
         }
+    }
+
+    pub(crate) fn unused(self)
+        requires { self.found ≢ self.sought }
+    {
+        let Claim { slot: _, marker: _ } = self;
     }
 }
 
@@ -216,7 +257,7 @@ impl<T> Sight<T> {
     }
 
     pub(crate) fn crack(self) -> Crack
-        requires { self.found ≡ 3 }
+        requires { 2 < self.found }
         ensures { result.of ≡ self.of.breach }
     {
         let Sight { marker: _ } = self;

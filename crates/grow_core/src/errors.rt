@@ -37,7 +37,7 @@ pub enum AtError {
 }
 
 /// Why a place was not mended.
-#[derive(Debug, Drop)]
+#[derive(Drop)]
 pub enum MendError<T> {
     /// The place is not below the size.
     OutOfRange { size: u64 },
@@ -109,6 +109,16 @@ impl<T> fmt::Display for MendError<T> {
             MendError::OutOfRange { size } => write!(f, "not below size {size}"),
             MendError::Pending => write!(f, "not finished yet"),
             MendError::Filled(_) => write!(f, "filled"),
+        }
+    }
+}
+
+impl<T> fmt::Debug for MendError<T> {
+    fn fmt<W: fmt::Write>(&self, f: &mut fmt::Formatter<W>) -> fmt::Result {
+        match self {
+            MendError::OutOfRange { size } => write!(f, "OutOfRange {{ size: {size} }}"),
+            MendError::Pending => write!(f, "Pending"),
+            MendError::Filled(placed) => write!(f, "Filled {{ place: {}, .. }}", placed.place()),
         }
     }
 }

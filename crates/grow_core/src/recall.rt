@@ -37,11 +37,7 @@ impl<T> Parts<T> {
         before.agree(&placed.key);
         let member = self.row.at(place);
         member.agree(&placed.cell);
-        match self
-            .table
-            .known(&key)
-            .member(offset, &member, &self.epoch)
-        {
+        match self.table.known(&key).member(offset, &member, &self.epoch) {
             Some((value, _)) => value,
             None => unreachable!(),
         }

@@ -4,6 +4,8 @@ use Rattle.quiet_core.specs.declared.errors.QuietError.{QuietError}
 use Rattle.quiet_core.specs.declared.errors.QuietError.TheVariants.{NoMemory, TooLong, Refused}
 use Rattle.quiet_core.specs.declared.errors.QuietAt.{QuietAt}
 use Rattle.quiet_core.specs.declared.errors.QuietAt.TheVariants.{OutOfRange, Broken}
+use Rattle.quiet_core.specs.declared.errors.QuietMendError.{QuietMendError}
+use Rattle.quiet_core.specs.declared.errors.QuietMendError.TheVariants as mend
 
 -- why the list did not grow
 abbrev pub quiet_error_text : QuietError → List ℕ
@@ -15,3 +17,8 @@ quiet_error_text (Refused made) = codes "a value was refused after " ++ decimal 
 abbrev pub quiet_at_text : QuietAt → List ℕ
 quiet_at_text (OutOfRange size) = codes "out of the " ++ decimal size ++ codes " places"
 quiet_at_text Broken = codes "broken"
+
+-- why a member was not mended
+abbrev pub quiet_mend_error_text : QuietMendError → List ℕ
+quiet_mend_error_text (mend.OutOfRange size) = codes "out of the " ++ decimal size ++ codes " places"
+quiet_mend_error_text mend.Filled = codes "filled"

@@ -55,3 +55,28 @@ impl fmt::Display for QuietAt {
 }
 
 impl Error for QuietAt {}
+
+/// Why a member was not mended.
+#[derive(Clone, Copy, Debug, PartialEq, Eq)]
+pub enum QuietMendError {
+    /// The place is not below the length, which is told.
+    OutOfRange { size: u64 },
+    /// The member has a value.
+    Filled,
+}
+
+impl fmt::Display for QuietMendError {
+    ghost use Rattle.std.specs.Prelude.{Some};
+    ghost use Rattle.quiet_core.specs.Errors.{quiet_mend_error_text};
+
+    ghost output = { λ error. Some (quiet_mend_error_text error) };
+
+    fn fmt<W: fmt::Write>(&self, f: &mut fmt::Formatter<W>) -> fmt::Result {
+        match self {
+            QuietMendError::OutOfRange { size } => write!(f, "out of the {size} places"),
+            QuietMendError::Filled => write!(f, "filled"),
+        }
+    }
+}
+
+impl Error for QuietMendError {}

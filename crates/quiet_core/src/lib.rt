@@ -21,7 +21,7 @@ mod room;
 #[cfg(test)]
 mod tests;
 
-pub use errors::{QuietAt, QuietError};
+pub use errors::{QuietAt, QuietError, QuietMendError};
 pub use grow_core::{Hand, OpenError, Placed, Shared};
 pub use into_iter::IntoMembers;
 pub use iter::Members;

@@ -1,11 +1,11 @@
 //! The list, and what its owner does with it.
 ghost use Rattle.std.specs.Prelude.{◌≡◌, ◌↔◌, ◌+◌, ◌^◌, ◌<◌, ◌≤◌, [], ◌∷◌, ◌++◌, length, map, slice_get, slice_set, vec_len, Some, None, Ok, Err, IsOk, IsErrOf, IfOk, IfErr, OnOk, OnErr};
-ghost use Rattle.quiet_core.specs.QuietAt.{IsRefusalAt};
+ghost use Rattle.quiet_core.specs.QuietAt.{IsRefusalAt, IsMendRefusalAt};
 ghost use Rattle.seg_core.specs.Segment.{IsLimit};
 ghost use Rattle.quiet_core.specs.QuietList.{IsWhole, IsCapacityFor, GrowsFor, IsAtLimit, IsUnchanged};
 ghost use Rattle.quiet_core.specs.Resizing.{IsOfRoom, IsNotOfRoom, IsResized, LeavesList};
 
-use crate::errors::{QuietAt, QuietError};
+use crate::errors::{QuietAt, QuietError, QuietMendError};
 use crate::room::{append, append_made, break_to, cut_to, places_for};
 use grow_core::Parts;
 use std::alloc::Global;
@@ -264,6 +264,31 @@ impl<T: Drop> Quiet<T> {
         match self.parts.replace(place, Some(value)) {
             Some(held) => Ok(held),
             None => unreachable!(),
+        }
+    }
+
+    /// Fills a broken member with the value. A refusal says that the place is not below the length, or that it has a value, and
+    /// gives the value back. It takes no memory.
+    pub fn mend(&mut self, place: u64, value: T) -> Result<(), (QuietMendError, T)>
+        ensures mended { OnOk result (self.new.members ≡ slice_set self.old.members place (Some value)) }
+        ensures broken { OnOk result (slice_get self.old.members place ≡ Some None) }
+        ensures refused { IfErr result (λ (why, _). IsMendRefusalAt self.old.members place why) }
+        ensures value_back { IfErr result (λ (_, back). back ≡ value) }
+        ensures unchanged { OnErr result (self.new ≡ self.old) }
+        ensures limit { self.new.limit ≡ self.old.limit }
+        ensures capacity { self.new.capacity ≡ self.old.capacity }
+    {
+        match self.get(place) {
+            Ok(_) => return Err((QuietMendError::Filled, value)),
+            Err(QuietAt::OutOfRange { size }) => {
+                return Err((QuietMendError::OutOfRange { size }, value));
+            }
+            Err(QuietAt::Broken) => {}
+        }
+        let held = self.parts.replace(place, Some(value));
+        match held {
+            None => Ok(()),
+            Some(_) => unreachable!(),
         }
     }
 

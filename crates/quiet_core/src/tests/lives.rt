@@ -3,7 +3,7 @@ ghost use Rattle.std.specs.Prelude.{◌≡◌, ◌+◌, IfSome, length};
 ghost use Rattle.grow_core.specs.Vector.{IsHandOf};
 
 use super::{broken_after, three};
-use crate::{Hand, Quiet, QuietAt, Shared};
+use crate::{Hand, Quiet, QuietAt, QuietMendError, Shared};
 use std::alloc::Global;
 use std::test::Fail;
 
@@ -118,6 +118,22 @@ fn a_value_is_exchanged(rt: HostRuntime) -> Result<(), Fail> {
     let mut list = three(rt.alloc())?;
     let mut broken = broken_after(rt.alloc(), 1)?;
     assert!(rt; exchanges_the_second(&mut list) && exchanges_no_broken_member(&mut broken));
+    Ok(())
+}
+
+fn mends_the_second(list: &mut Quiet<u64>) -> bool {
+    list.mend(1, 6) == Ok(()) && list.get(1) == Ok(&6) && list.len() == 2
+}
+
+fn mends_no_value(list: &mut Quiet<u64>) -> bool {
+    list.mend(1, 7) == Err((QuietMendError::Filled, 7))
+        && list.mend(2, 8) == Err((QuietMendError::OutOfRange { size: 2 }, 8))
+}
+
+#[test]
+fn a_broken_member_is_mended_once(rt: HostRuntime) -> Result<(), Fail> {
+    let mut list = broken_after(rt.alloc(), 4)?;
+    assert!(rt; mends_the_second(&mut list) && mends_no_value(&mut list));
     Ok(())
 }
 

@@ -8,6 +8,7 @@ mod large;
 mod lives;
 mod made;
 mod memory;
+mod mends;
 mod mixed;
 mod parts;
 mod race;

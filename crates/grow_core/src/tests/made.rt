@@ -59,7 +59,7 @@ fn a_refused_construction_breaks_its_own_places_alone(rt: HostRuntime) {
 }
 
 // Whether a look without a token shows a broken place.
-fn is_broken(two: &mut Callers<u64>, place: u64) -> bool {
+pub(super) fn is_broken(two: &mut Callers<u64>, place: u64) -> bool {
     matches!(
         two.vector.at(&mut two.b, place, None),
         Err(AtError::Broken(_))

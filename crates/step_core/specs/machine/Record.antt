@@ -70,6 +70,25 @@ pub record IsLook (actor place : ℕ) (es : List (Event × Reply)) (answer : Ans
   pub events : es ≡ (Look actor place, reply) ∷ []
   pub answered : answer_to_look reply ≡ Some answer
 
+-- how a mend ends whose look has this reply: as a read does, of a place that isn't broken
+abbrev pub answer_to_mend : Reply → Option Answer
+answer_to_mend (replies.Run from n) = None
+answer_to_mend (replies.Enough size) = None
+answer_to_mend replies.Done = None
+answer_to_mend (replies.Value value) = Some (answers.Value value)
+answer_to_mend replies.Pending = Some answers.Pending
+answer_to_mend replies.Broken = None
+answer_to_mend (replies.OutOfRange size) = Some (answers.OutOfRange size)
+answer_to_mend (replies.Size size) = None
+answer_to_mend (replies.Full size) = None
+answer_to_mend replies.NoMemory = None
+
+-- a mend that found no broken place
+pub record IsUnmended (actor place : ℕ) (es : List (Event × Reply)) (answer : Answer) : Type 0 where
+  pub reply : Reply
+  pub events : es ≡ (Look actor place, reply) ∷ []
+  pub answered : answer_to_mend reply ≡ Some answer
+
 -- a broken place was mended, and filled with this value
 pub record IsMended (actor place value : ℕ) (es : List (Event × Reply)) (answer : Answer) : Type 0 where
   pub events : es ≡ (Mend actor place, replies.Done) ∷ (Finish actor place value, replies.Done) ∷ []
@@ -95,7 +114,7 @@ IsRecord actor (commands.Fail n value at) es answer =
 IsRecord actor (commands.AtLeast to value) es answer =
     IsRaised actor to value es answer
     ⊎ (IsEnough actor to es answer ⊎ (IsFull actor (λ size. to - size) es answer ⊎ IsOutOfMemory actor es answer))
-IsRecord actor (commands.Mend place value) es answer = IsMended actor place value es answer ⊎ IsLook actor place es answer
+IsRecord actor (commands.Mend place value) es answer = IsMended actor place value es answer ⊎ IsUnmended actor place es answer
 IsRecord actor (commands.Read place) es answer = IsLook actor place es answer
 IsRecord actor commands.Size es answer = IsSize actor es answer
 

@@ -241,15 +241,13 @@ fn mend_call(
 
 // The actor takes the broken place, and fills it.
 fn mended(alloc: Global, actor: u32, place: u64, value: u64) -> Result<WholeCall, AllocError>
+    requires { place + 1 < 2 ^ 64 }
     ensures { IfOk result (λ call. Is (mended actor place value) call) }
 {
-    let finish = Event::Finish {
-        actor,
-        place,
-        value,
-    };
+    let mut events = vec![in alloc; Event::Mend { actor, place }]?;
+    push_finishes(&mut events, actor, place, 1, value)?;
     Ok(WholeCall {
-        events: vec![in alloc; Event::Mend { actor, place }, finish]?,
+        events,
         answer: Answer::At { place },
     })
 }

@@ -89,7 +89,6 @@ impl Storage {
         ensures gives { given self.new result ≡ mend_at self.old actor place (map.get self.old.slots place) }
     {
         match self.blocks.get(place) {
-            None | Some(Slot::Busy(_)) | Some(Slot::Filled(_)) => self.look(actor, place),
             Some(Slot::Broken) => {
                 self.blocks.set(place, Slot::Busy(actor));
                 Outcome {
@@ -97,6 +96,7 @@ impl Storage {
                     next: Next::Goes(Phase::FillMended { place }),
                 }
             }
+            None | Some(Slot::Busy(_)) | Some(Slot::Filled(_)) => self.look(actor, place),
         }
     }
 

@@ -28,7 +28,7 @@ pub fn records()
     ensures { EveryPlayIsRecorded }
 {}
 
-/// What a reader finds filled or broken in a play, it finds so after every further item.
+/// What a reader finds filled in a play, it finds so after every further item; what it finds broken, until a mend.
 pub fn kept()
     ensures filled { EveryPlayKeepsFilledCells }
     ensures broken { EveryPlayKeepsBrokenCells }
@@ -37,7 +37,7 @@ pub fn kept()
 /// The headline: in every play, every reply is the one that a sequential vector of cells gives in one legal history.
 ///
 /// That history holds each call that claimed once, at its claim, in its caller's order; its runs tile the claimed
-/// size; a filled cell keeps the value that its owner gave it; and a refused construction breaks its own cells alone.
+/// size; a filled cell keeps the value that it was filled with; and a refused construction breaks its own cells alone.
 pub fn interleavings()
     ensures { EveryInterleavingIsSequential }
 {}

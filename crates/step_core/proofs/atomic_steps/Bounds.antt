@@ -14,15 +14,15 @@ use Rattle.book_core.specs.declared.events.Reply.{Reply}
 use Rattle.step_core.specs.declared.machine.phase.Slot.{Slot}
 use Rattle.step_core.specs.declared.machine.phase.Slot.TheVariants.{Busy, Filled, Broken}
 use Rattle.step_core.specs.declared.machine.phase.Phase.{Phase}
-use Rattle.step_core.specs.declared.machine.phase.Phase.TheVariants.{Load, Scout, Put, Exchange, Raise, Begin, Fill, Spoil, Look}
+use Rattle.step_core.specs.declared.machine.phase.Phase.TheVariants.{Load, Scout, Put, Exchange, Raise, Begin, Fill, Spoil, Mend, FillMended, Look}
 use Rattle.step_core.specs.declared.machine.phase.Next.{Next}
 use Rattle.step_core.specs.declared.machine.phase.Next.TheVariants.{Goes, Ends}
 use Rattle.step_core.specs.declared.machine.phase.Actor.{Actor}
 use Rattle.step_core.specs.machine.Storage.{Storage}
-use Rattle.step_core.specs.machine.Step.{actor_after, Configuration, Outcome, first_configuration, load_growth, load_at_least, load, after_segment, exchange, raise, begin_at, after_place, look_at, outcome_of, step_of, IsStepped}
+use Rattle.step_core.specs.machine.Step.{actor_after, Configuration, Outcome, first_configuration, load_growth, load_at_least, load, after_segment, exchange, raise, begin_at, after_place, mend_at, look_at, outcome_of, step_of, IsStepped}
 use Rattle.step_core.specs.declared.machine.Stepped.{Stepped}
 use Rattle.step_core.specs.machine.Bounds.{Wants, Exchanges, IsWithin, StaysWithin, IsPlaced, IsInLimit}
-use Rattle.step_core.proofs.atomic_steps.Cases.{first_scout, growth_cases, at_least_cases, read_cases, exchange_cases, raise_cases, begin_cases, scout_cases, raise_wants, claiming_cases, segment_cases, place_cases, step_cases}
+use Rattle.step_core.proofs.atomic_steps.Cases.{first_scout, growth_cases, at_least_cases, load_place_cases, exchange_cases, raise_cases, begin_cases, scout_cases, raise_wants, claiming_cases, segment_cases, place_cases, step_cases}
 
 -- at Load an actor is always placed
 placed_at_load : (limit : ℕ) (command : Option Command) → IfSome command (λ c. IsWithin limit c Load)
@@ -70,6 +70,7 @@ exchange_wants (commands.Push value) from n exchanges = tt
 exchange_wants (commands.Grow m value) from n exchanges = tt
 exchange_wants (commands.AtLeast to value) from n exchanges = absurd exchanges
 exchange_wants (commands.Fail m value at) from n exchanges = tt
+exchange_wants (commands.Mend place value) from n exchanges = tt
 exchange_wants (commands.Read place) from n exchanges = tt
 exchange_wants commands.Size from n exchanges = tt
 
@@ -105,8 +106,11 @@ module _ (limit : ℕ) (is_limit : limit ≤ 2 ^ 32) (m : Storage) (size : m.siz
   load_stays (commands.Grow n value) = growth_stays n (commands.Grow n value) tt
   load_stays (commands.AtLeast to value) = at_least_stays to value
   load_stays (commands.Fail n value at) = growth_stays n (commands.Fail n value at) tt
+  load_stays (commands.Mend place value) =
+      load_place_cases (Stays limit (commands.Mend place value)) m actor place (Mend place)
+      (λ inside. same_size (commands.Mend place value) _ _ (omega arith)) (λ _. same_size (commands.Mend place value) _ _ tt)
   load_stays (commands.Read place) =
-      read_cases (Stays limit (commands.Read place)) m actor place
+      load_place_cases (Stays limit (commands.Read place)) m actor place (Look place)
       (λ _. same_size (commands.Read place) _ _ tt) (λ _. same_size (commands.Read place) _ _ tt)
   load_stays commands.Size = same_size commands.Size _ _ tt
 
@@ -136,6 +140,13 @@ module _ (limit : ℕ) (is_limit : limit ≤ 2 ^ 32) (m : Storage) (size : m.siz
   look_stays place command (Some (Filled value)) = same_size command _ _ tt
   look_stays place command (Some Broken) = same_size command _ _ tt
 
+  mend_stays : (place : ℕ) (command : Command) (slot : Option Slot) → place < limit
+      → Stays limit command (mend_at m actor place slot)
+  mend_stays place command None within = look_stays place command None
+  mend_stays place command (Some (Busy owner)) within = look_stays place command (Some (Busy owner))
+  mend_stays place command (Some (Filled value)) within = look_stays place command (Some (Filled value))
+  mend_stays place command (Some Broken) within = record { size = size; next = within }
+
   outcome_stays : (command : Command) (memory : Bool) (phase : Phase) → IsWithin limit command phase
       → Stays limit command (outcome_of limit m actor command memory phase)
   outcome_stays command memory Load within = load_stays command
@@ -154,6 +165,8 @@ module _ (limit : ℕ) (is_limit : limit ≤ 2 ^ 32) (m : Storage) (size : m.siz
       record { size = size; next = place_after_within limit command from n place low room }
   outcome_stays command memory (Spoil from n place) (low, high, room) =
       record { size = size; next = place_after_within limit command from n place low room }
+  outcome_stays command memory (Mend place) within = mend_stays place command (map.get m.slots place) within
+  outcome_stays command memory (FillMended place) within = record { size = size; next = tt }
   outcome_stays command memory (Look place) within = look_stays place command (map.get m.slots place)
 
 -- ---- Whole configurations

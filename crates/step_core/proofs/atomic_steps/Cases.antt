@@ -12,12 +12,12 @@ use Rattle.book_core.specs.declared.commands.Command.TheVariants as commands
 use Rattle.book_core.specs.declared.commands.Answer.TheVariants as answers
 use Rattle.step_core.specs.declared.machine.phase.Slot.TheVariants.{Busy}
 use Rattle.step_core.specs.declared.machine.phase.Phase.{Phase}
-use Rattle.step_core.specs.declared.machine.phase.Phase.TheVariants.{Scout, Put, Exchange, Raise, Begin, Fill, Spoil, Look}
+use Rattle.step_core.specs.declared.machine.phase.Phase.TheVariants.{Scout, Put, Exchange, Raise, Begin, Fill, Spoil}
 use Rattle.step_core.specs.declared.machine.phase.Next.{Next}
 use Rattle.step_core.specs.declared.machine.phase.Next.TheVariants.{Goes, Ends}
 use Rattle.step_core.specs.declared.machine.phase.Actor.{Actor}
 use Rattle.step_core.specs.machine.Storage.{Storage}
-use Rattle.step_core.specs.machine.Step.{Configuration, Outcome, Step, goes_on, ends, with_size, with_slot, load_growth, load_at_least, load_read, claiming, after_segment, scout, exchange, raise, is_refused, begin_at, answer_of_run, after_place, outcome_of, no_step, step_to, step_in, step_as, step_of}
+use Rattle.step_core.specs.machine.Step.{Configuration, Outcome, Step, goes_on, ends, with_size, with_slot, load_growth, load_at_least, load_place, claiming, after_segment, scout, exchange, raise, is_refused, begin_at, answer_of_run, after_place, outcome_of, no_step, step_to, step_in, step_as, step_of}
 use Rattle.step_core.specs.machine.Bounds.{Wants, Exchanges}
 
 -- a test passes, or it fails
@@ -89,13 +89,13 @@ module _ (P : Outcome → Type 0) (m : Storage) (actor : ℕ) where
       (λ test. fits more (let room : to ≤ limit = grind (arith, nat_tests) in room))
       (λ test. full more (let past : limit < to = grind (arith, nat_tests) in past)))
 
-  -- Load of a read: the place is claimed, or it is not
-  pub read_cases : (place : ℕ) → (place < m.size → P (goes_on m (Look place)))
+  -- Load of a call of one place: the place is claimed, or it is not
+  pub load_place_cases : (place : ℕ) (phase : Phase) → (place < m.size → P (goes_on m phase))
       → (m.size ≤ place → P (ends m (events.Look actor place) (replies.OutOfRange m.size) (answers.OutOfRange m.size)))
-      → P (load_read m actor place)
-  read_cases place inside outside =
+      → P (load_place m actor place phase)
+  load_place_cases place phase inside outside =
       test_cases
-      (λ b. P (if b then goes_on m (Look place) else ends m (events.Look actor place) (replies.OutOfRange m.size) (answers.OutOfRange m.size)))
+      (λ b. P (if b then goes_on m phase else ends m (events.Look actor place) (replies.OutOfRange m.size) (answers.OutOfRange m.size)))
       (nat_lt place m.size)
       (λ test. inside (let before : place < m.size = grind (arith, nat_tests) in before))
       (λ test. outside (let past : m.size ≤ place = grind (arith, nat_tests) in past))
@@ -151,6 +151,7 @@ IsRaise (commands.Push value) to = ⊥
 IsRaise (commands.Grow n value) to = ⊥
 IsRaise (commands.AtLeast size value) to = size ≡ to
 IsRaise (commands.Fail n value at) to = ⊥
+IsRaise (commands.Mend place value) to = ⊥
 IsRaise (commands.Read place) to = ⊥
 IsRaise commands.Size to = ⊥
 
@@ -160,6 +161,7 @@ raise_wants (commands.Push value) from n to is wants = absurd is
 raise_wants (commands.Grow m value) from n to is wants = absurd is
 raise_wants (commands.AtLeast size value) from n to is wants = (let ends_at : from + n ≡ size = wants in omega arith)
 raise_wants (commands.Fail m value at) from n to is wants = absurd is
+raise_wants (commands.Mend place value) from n to is wants = absurd is
 raise_wants (commands.Read place) from n to is wants = absurd is
 raise_wants commands.Size from n to is wants = absurd is
 
@@ -173,6 +175,7 @@ module _ (P : Phase → Type 0) (command : Command) (from n : ℕ) where
         | commands.Grow m value ↦ (λ yes _. yes tt)
         | commands.AtLeast to value ↦ (λ _ yes. yes to refl)
         | commands.Fail m value at ↦ (λ yes _. yes tt)
+        | commands.Mend place value ↦ (λ yes _. yes tt)
         | commands.Read place ↦ (λ yes _. yes tt)
         | commands.Size ↦ (λ yes _. yes tt)
       ]

@@ -15,15 +15,15 @@ use Rattle.book_core.specs.History.{OwnedRun, runs_of, Tile, events_of}
 use Rattle.step_core.specs.declared.machine.phase.Slot.{Slot}
 use Rattle.step_core.specs.declared.machine.phase.Slot.TheVariants.{Busy, Filled, Broken}
 use Rattle.step_core.specs.declared.machine.phase.Phase.{Phase}
-use Rattle.step_core.specs.declared.machine.phase.Phase.TheVariants.{Load, Scout, Put, Exchange, Raise, Begin, Fill, Spoil, Look}
+use Rattle.step_core.specs.declared.machine.phase.Phase.TheVariants.{Load, Scout, Put, Exchange, Raise, Begin, Fill, Spoil, Mend, FillMended, Look}
 use Rattle.step_core.specs.declared.machine.phase.Actor.{Actor}
 use Rattle.step_core.specs.machine.Storage.{Storage}
-use Rattle.step_core.specs.machine.Step.{Outcome, Step, step_of, step_as, step_in, outcome_of, load, load_growth, begin_at, look_at}
+use Rattle.step_core.specs.machine.Step.{Outcome, Step, step_of, step_as, step_in, outcome_of, load, load_growth, begin_at, mend_at, look_at}
 use Rattle.step_core.specs.machine.Bounds.{Exchanges, IsWithin, IsInLimit}
 use Rattle.step_core.specs.machine.Play.{empty_play, play_of}
 use Rattle.step_core.specs.machine.Claims.{claim_of, IsOwnClaim, MovesAtClaims, MovesAreOwnClaims, NothingIsClaimedAtLoad}
 use Rattle.book_core.proofs.Runs.{runs_of-append}
-use Rattle.step_core.proofs.atomic_steps.Cases.{IsRaise, won_growth, growth_cases, at_least_cases, read_cases, exchange_cases, raise_cases, scout_cases, step_cases}
+use Rattle.step_core.proofs.atomic_steps.Cases.{IsRaise, won_growth, growth_cases, at_least_cases, load_place_cases, exchange_cases, raise_cases, scout_cases, step_cases}
 use Rattle.step_core.proofs.atomic_steps.Bounds.{opening_in_limit, within_at}
 use Rattle.step_core.proofs.atomic_steps.Tiling.{HoldsAt, step_holds, opening_holds, items_hold}
 use Rattle.step_core.proofs.atomic_steps.Legal.{items_in_limit}
@@ -67,8 +67,10 @@ module _ (m : Storage) (actor : ℕ) (command : Command) where
   load_stays limit (commands.AtLeast to value) =
       at_least_cases (StaysOrClaims m actor command) m actor limit to (λ _. inl refl) (λ _ _. inl refl) (λ _ _. inl refl)
   load_stays limit (commands.Fail n value at) = growth_stays limit n
+  load_stays limit (commands.Mend place value) =
+      load_place_cases (StaysOrClaims m actor command) m actor place (Mend place) (λ _. inl refl) (λ _. inl refl)
   load_stays limit (commands.Read place) =
-      read_cases (StaysOrClaims m actor command) m actor place (λ _. inl refl) (λ _. inl refl)
+      load_place_cases (StaysOrClaims m actor command) m actor place (Look place) (λ _. inl refl) (λ _. inl refl)
   load_stays limit commands.Size = inl refl
 
   begin_stays : (from n place : ℕ) (slot : Option Slot) → StaysOrClaims m actor command (begin_at m actor command from n place slot)
@@ -80,6 +82,12 @@ module _ (m : Storage) (actor : ℕ) (command : Command) where
   look_stays place (Some (Busy owner)) = inl refl
   look_stays place (Some (Filled value)) = inl refl
   look_stays place (Some Broken) = inl refl
+
+  mend_stays : (place : ℕ) (slot : Option Slot) → StaysOrClaims m actor command (mend_at m actor place slot)
+  mend_stays place None = inl refl
+  mend_stays place (Some (Busy owner)) = inl refl
+  mend_stays place (Some (Filled value)) = inl refl
+  mend_stays place (Some Broken) = inl refl
 
   -- a claim of the call's own moves the size, by the run's places
   won_claims : (event : Event) (n : ℕ) → claim_of actor command ≡ Some event → StaysOrClaims m actor command (won_growth m event n)
@@ -94,6 +102,7 @@ claim_by actor (commands.Push value) n asks exchanges = ap (λ k. Some (events.C
 claim_by actor (commands.Grow m value) n asks exchanges = ap (λ k. Some (events.Claim actor k)) (sym asks)
 claim_by actor (commands.AtLeast to value) n asks exchanges = absurd exchanges
 claim_by actor (commands.Fail m value at) n asks exchanges = ap (λ k. Some (events.Claim actor k)) (sym asks)
+claim_by actor (commands.Mend place value) n asks exchanges = absurd asks
 claim_by actor (commands.Read place) n asks exchanges = absurd asks
 claim_by actor commands.Size n asks exchanges = absurd asks
 
@@ -104,6 +113,7 @@ raise_own actor (commands.Push value) to is = absurd is
 raise_own actor (commands.Grow n value) to is = absurd is
 raise_own actor (commands.AtLeast size value) to is = ap (λ k. Some (events.Raise actor k)) is
 raise_own actor (commands.Fail n value at) to is = absurd is
+raise_own actor (commands.Mend place value) to is = absurd is
 raise_own actor (commands.Read place) to is = absurd is
 raise_own actor commands.Size to is = absurd is
 
@@ -126,6 +136,8 @@ row_claims limit m actor command memory (Raise to) now within (none, is) =
 row_claims limit m actor command memory (Begin from n place) now within stage = begin_stays m actor command from n place (finite.get m.slots place)
 row_claims limit m actor command memory (Fill from n place) now within stage = inl refl
 row_claims limit m actor command memory (Spoil from n place) now within stage = inl refl
+row_claims limit m actor command memory (Mend place) now within stage = mend_stays m actor command place (finite.get m.slots place)
+row_claims limit m actor command memory (FillMended place) now within stage = inl refl
 row_claims limit m actor command memory (Look place) now within stage = look_stays m actor command place (finite.get m.slots place)
 
 -- what is known of every actor of a play of sound programs
@@ -182,6 +194,8 @@ nothing_is_at_load limit actor value (Raise to) now within (none, is) = absurd i
 nothing_is_at_load limit actor value (Begin from n place) now (low, high, room) (so_far, asks) = absurd (let zero_is : n ≡ 0 = asks in omega arith)
 nothing_is_at_load limit actor value (Fill from n place) now (low, high, room) (so_far, asks, fits) = absurd (let zero_is : n ≡ 0 = asks in omega arith)
 nothing_is_at_load limit actor value (Spoil from n place) now (low, high, room) (so_far, asks, refused) = absurd (let zero_is : n ≡ 0 = asks in omega arith)
+nothing_is_at_load limit actor value (Mend place) now within (none, is) = absurd is
+nothing_is_at_load limit actor value (FillMended place) now within (so_far, is) = absurd is
 nothing_is_at_load limit actor value (Look place) now within (none, is) = absurd is
 
 pub every_nothing_is_at_load : (limit : ℕ) (programs : List (List Command)) (items : List Item) → IsLimit limit

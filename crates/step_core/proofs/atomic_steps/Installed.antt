@@ -19,18 +19,18 @@ use Rattle.book_core.specs.declared.commands.Answer.{Answer}
 use Rattle.step_core.specs.declared.machine.phase.Slot.{Slot}
 use Rattle.step_core.specs.declared.machine.phase.Slot.TheVariants.{Busy, Filled, Broken}
 use Rattle.step_core.specs.declared.machine.phase.Phase.{Phase}
-use Rattle.step_core.specs.declared.machine.phase.Phase.TheVariants.{Load, Scout, Put, Exchange, Raise, Begin, Fill, Spoil, Look}
+use Rattle.step_core.specs.declared.machine.phase.Phase.TheVariants.{Load, Scout, Put, Exchange, Raise, Begin, Fill, Spoil, Mend, FillMended, Look}
 use Rattle.step_core.specs.declared.machine.phase.Next.{Next}
 use Rattle.step_core.specs.declared.machine.phase.Next.TheVariants.{Goes, Ends}
 use Rattle.step_core.specs.declared.machine.phase.Actor.{Actor}
 use Rattle.step_core.specs.declared.machine.Stepped.{Stepped}
 use Rattle.step_core.specs.machine.Storage.{Storage}
-use Rattle.step_core.specs.machine.Step.{actor_after, Configuration, Outcome, first_configuration, load_growth, load, after_segment, begin_at, after_place, goes_on, ends, look_at, outcome_of, with_slot, with_segment, step_of, IsStepped}
+use Rattle.step_core.specs.machine.Step.{actor_after, Configuration, Outcome, first_configuration, load_growth, load, after_segment, begin_at, after_place, goes_on, ends, mend_at, look_at, outcome_of, with_slot, with_segment, step_of, IsStepped}
 use Rattle.step_core.specs.machine.Bounds.{Wants, IsWithin, IsInLimit}
 use Rattle.step_core.specs.machine.Installed.{IsReady, HasPassed, HasSegments}
 use Rattle.step_core.specs.machine.Play.{Play, with_step, after_items}
 use Rattle.step_core.proofs.atomic_steps.Keys.{same_key}
-use Rattle.step_core.proofs.atomic_steps.Cases.{first_scout, won_growth, growth_cases, at_least_cases, read_cases, exchange_cases, raise_cases, begin_cases, scout_cases, raise_wants, claiming_cases, segment_cases, place_cases, step_cases}
+use Rattle.step_core.proofs.atomic_steps.Cases.{first_scout, won_growth, growth_cases, at_least_cases, load_place_cases, exchange_cases, raise_cases, begin_cases, scout_cases, raise_wants, claiming_cases, segment_cases, place_cases, step_cases}
 use Rattle.step_core.proofs.atomic_steps.Bounds.{within_at, step_in_limit}
 
 -- where an actor goes on, it has passed the segments of its phase
@@ -55,6 +55,8 @@ passed_stays m m' (Raise to) stays passed = λ q inside. stays q (passed q insid
 passed_stays m m' (Begin from n place) stays passed = λ q inside. stays q (passed q inside)
 passed_stays m m' (Fill from n place) stays passed = λ q inside. stays q (passed q inside)
 passed_stays m m' (Spoil from n place) stays passed = λ q inside. stays q (passed q inside)
+passed_stays m m' (Mend place) stays passed = stays place passed
+passed_stays m m' (FillMended place) stays passed = stays place passed
 passed_stays m m' (Look place) stays passed = tt
 
 -- ---- Places that are ready
@@ -123,8 +125,10 @@ module _ (m : Storage) (ready : (q : ℕ) → q < m.size → IsReady m q) where
       at_least_cases (Passes m) m actor limit to
       (λ _. ends_passes _ _ _) (λ _ _. first_scout_passes (to - m.size)) (λ _ _. ends_passes _ _ _)
   load_passes limit actor (commands.Fail n value at) = growth_passes limit actor n
+  load_passes limit actor (commands.Mend place value) =
+      load_place_cases (Passes m) m actor place (Mend place) (λ inside. goes_passes (Mend place) (ready place inside)) (λ _. ends_passes _ _ _)
   load_passes limit actor (commands.Read place) =
-      read_cases (Passes m) m actor place (λ _. goes_passes (Look place) tt) (λ _. ends_passes _ _ _)
+      load_place_cases (Passes m) m actor place (Look place) (λ _. goes_passes (Look place) tt) (λ _. ends_passes _ _ _)
   load_passes limit actor commands.Size = ends_passes _ _ _
 
   -- Begin
@@ -153,6 +157,13 @@ module _ (m : Storage) (ready : (q : ℕ) → q < m.size → IsReady m q) where
   look_passes actor place (Some (Filled value)) = ends_passes _ _ _
   look_passes actor place (Some Broken) = ends_passes _ _ _
 
+  -- Mend
+  mend_passes : (actor place : ℕ) (slot : Option Slot) → IsReady m place → Passes m (mend_at m actor place slot)
+  mend_passes actor place None passed = ends_passes _ _ _
+  mend_passes actor place (Some (Busy owner)) passed = ends_passes _ _ _
+  mend_passes actor place (Some (Filled value)) passed = ends_passes _ _ _
+  mend_passes actor place (Some Broken) passed = record { stays = λ q r. r; ready = ready; next = passed }
+
   -- each row of the step table
   outcome_passes : (limit actor : ℕ) (command : Command) (memory : Bool) (phase : Phase) → IsWithin limit command phase
       → HasPassed m phase → Passes m (outcome_of limit m actor command memory phase)
@@ -178,6 +189,8 @@ module _ (m : Storage) (ready : (q : ℕ) → q < m.size → IsReady m q) where
       begin_passes actor from n place command (map.get m.slots place) passed
   outcome_passes limit actor command memory (Fill from n place) within passed = set_passes command from n place _ _ passed
   outcome_passes limit actor command memory (Spoil from n place) within passed = set_passes command from n place _ _ passed
+  outcome_passes limit actor command memory (Mend place) within passed = mend_passes actor place (map.get m.slots place) passed
+  outcome_passes limit actor command memory (FillMended place) within passed = record { stays = λ q r. r; ready = ready; next = tt }
   outcome_passes limit actor command memory (Look place) within passed = look_passes actor place (map.get m.slots place)
 
 -- ---- Whole configurations

@@ -2,14 +2,17 @@
 pub mod Replies
 use Rattle.std.proofs.Common.{◌≡◌, ℕ, ◌+◌, ◌-◌, Bool, List, [], ◌∷◌, ◌++◌, Option, refl, ap, sym, ◌∙◌, subst, append_assoc}
 use Rattle.std.proofs.lemmas.List.{append-nil}
+use Rattle.std.proofs.lemmas.List.Elements.{Contains-append_right}
+use Rattle.std.specs.List.{Contains}
 use Rattle.std.specs.Option.{option_to_list}
 use Rattle.book_core.specs.declared.events.Event.{Event}
+use Rattle.book_core.specs.declared.events.Event.TheVariants.{Mend}
 use Rattle.book_core.specs.declared.events.Reply.{Reply}
 use Rattle.book_core.specs.declared.commands.Command.{Command}
 use Rattle.book_core.specs.declared.commands.Item.{Item}
 use Rattle.seg_core.specs.Segment.{IsLimit}
 use Rattle.book_core.specs.Cells.{empty_list}
-use Rattle.book_core.specs.History.{IsHistory, runs_of}
+use Rattle.book_core.specs.History.{IsHistory, runs_of, writes_of}
 use Rattle.step_core.specs.machine.Step.{Configuration, step_of, outcome_of}
 use Rattle.step_core.specs.machine.Bounds.{IsInLimit}
 use Rattle.step_core.specs.machine.Play.{Play, empty_play, with_step, after_items, play_of}
@@ -18,7 +21,7 @@ use Rattle.step_core.specs.machine.Kept.{EveryPlayKeepsFilledCells, EveryPlayKee
 use Rattle.step_core.proofs.atomic_steps.Cases.{step_cases}
 use Rattle.step_core.proofs.atomic_steps.Bounds.{opening_in_limit, within_at, step_in_limit}
 use Rattle.book_core.proofs.Histories.{IsHistory-append, filled_cells_stay, broken_cells_stay}
-use Rattle.book_core.proofs.Runs.{runs_of-append}
+use Rattle.book_core.proofs.Runs.{runs_of-append, writes_of-append}
 use Rattle.step_core.proofs.atomic_steps.Tiling.{HoldsAt, step_holds, opening_holds, items_hold}
 use Rattle.step_core.proofs.atomic_steps.Legal.Replies.{seen, row_told}
 
@@ -36,7 +39,7 @@ step_told c events actor memory in_limit holds =
     (λ state command there is.
     let outcome = outcome_of c.limit c.storage actor command memory state.phase in
     subst (λ rs. IsHistory (seen c.limit c.storage (runs_of events)) (option_to_list outcome.event) (seen c.limit outcome.storage rs)) (sym (runs_of-append events (option_to_list outcome.event)))
-    (row_told c.limit c.storage (runs_of events) actor (record { room = in_limit.1; tile = holds.tile; taken = holds.taken }) command memory state.phase (within_at c in_limit actor state command there is) (holds.knows actor state there)))
+    (row_told c.limit c.storage (runs_of events) actor (record { room = in_limit.1; tile = holds.tile; taken = holds.taken }) command memory state.phase (within_at c in_limit actor state command there is) (λ q. writes_of q events) (holds.knows actor state there)))
 
 -- a step leaves the limit
 limit_kept : (c : Configuration) (actor : ℕ) (memory : Bool) → (step_of c actor memory).to.limit ≡ c.limit
@@ -81,23 +84,27 @@ every_play_is_legal limit programs items is_limit =
 
 -- the cells that are seen later come from those that are seen now, by a history
 goes_on : (limit : ℕ) (programs : List (List Command)) (items more : List Item) → IsLimit limit
-    → (es : List (Event × Reply)) × IsHistory (list_seen limit (play_of limit programs items)) es (list_seen limit (after_items (play_of limit programs items) more))
+    → Further limit (play_of limit programs items) (after_items (play_of limit programs items) more)
 goes_on limit programs items more is_limit =
     let opens = opening_in_limit limit programs is_limit in
     let p = play_of limit programs items in
     let in_limit : IsInLimit p.at = items_in_limit (empty_play limit programs) items opens in
     let holds : HoldsAt p.at p.events = items_hold (empty_play limit programs) items opens (opening_holds limit programs) in
-    let further = items_told limit p more (items_limit (empty_play limit programs) items) in_limit holds in
-    (further.more, further.told)
+    items_told limit p more (items_limit (empty_play limit programs) items) in_limit holds
 
 pub every_play_keeps_filled_cells : EveryPlayKeepsFilledCells
 every_play_keeps_filled_cells limit programs items is_limit more place value here =
     let p = play_of limit programs items in
     let on = goes_on limit programs items more is_limit in
-    filled_cells_stay (list_seen limit p) (list_seen limit (after_items p more)) on.0 place value on.1 here
+    filled_cells_stay (list_seen limit p) (list_seen limit (after_items p more)) on.more place value on.told here
 
 pub every_play_keeps_broken_cells : EveryPlayKeepsBrokenCells
-every_play_keeps_broken_cells limit programs items is_limit more place here =
+every_play_keeps_broken_cells limit programs items is_limit more place unmended here =
     let p = play_of limit programs items in
     let on = goes_on limit programs items more is_limit in
-    broken_cells_stay (list_seen limit p) (list_seen limit (after_items p more)) on.0 place on.1 here
+    let writes : writes_of place p.events ++ writes_of place on.more ≡ writes_of place (after_items p more).events =
+    sym (ap (writes_of place) on.events ∙ writes_of-append place p.events on.more)
+    in
+    broken_cells_stay (list_seen limit p) (list_seen limit (after_items p more)) on.more place on.told
+    (λ actor mends. unmended actor (subst (λ xs. Contains xs (Mend actor place)) writes (Contains-append_right (writes_of place p.events) (writes_of place on.more) (Mend actor place) mends)))
+    here

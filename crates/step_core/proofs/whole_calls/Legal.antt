@@ -1,5 +1,5 @@
 -- Every whole call is legal on the list as it is when the call begins.
-use Rattle.std.proofs.Common.{◌≡◌, ℕ, ◌+◌, ◌-◌, ◌≤◌, nat_le, Bool, true, false, List, [], ◌∷◌, ◌++◌, length, map, replicate, slice_get, slice_set, Some, None, IsSome, refl, ap, sym, ◌∙◌, arith, zero, suc, append_assoc, eq-eqb, if◌then◌else◌}
+use Rattle.std.proofs.Common.{◌≡◌, ℕ, ◌+◌, ◌-◌, ◌≤◌, nat_le, Bool, true, false, List, [], ◌∷◌, ◌++◌, length, map, replicate, slice_get, slice_set, Option, Some, None, IsSome, refl, ap, sym, ◌∙◌, arith, zero, suc, append_assoc, eq-eqb, if◌then◌else◌}
 use Rattle.std.proofs.Math.Seq.{set-append_seam}
 use Rattle.std.proofs.lemmas.Bool.Decides.{nat_tests}
 use Rattle.std.proofs.lemmas.List.{length-append, length-replicate, replicate-append-replicate, append-nil}
@@ -16,7 +16,9 @@ use Rattle.book_core.specs.declared.commands.Command.TheVariants as commands
 use Rattle.book_core.specs.declared.commands.Answer.TheVariants as answers
 use Rattle.book_core.specs.Cells.{CellList, with_cell, with_pending, is_pending_for, apply_event}
 use Rattle.book_core.specs.Commands.{IsSound}
-use Rattle.step_core.specs.calls.WholeCall.{WholeCall, call_on, refused}
+use Rattle.book_core.proofs.EventRows.{mend_applies, finish_applies}
+use Rattle.book_core.proofs.Lists.{get_set}
+use Rattle.step_core.specs.calls.WholeCall.{WholeCall, call_on, refused, mend_on}
 use Rattle.step_core.specs.calls.Play.{CallPlay, with_event, with_events}
 use Rattle.book_core.specs.Events.{finishes, breaks}
 
@@ -184,6 +186,18 @@ module _ (s : CallPlay) (actor : ℕ) where
       ]
       refl
 
+  -- a mend of a broken place takes it and fills it, and one of any other place reads it
+  mend_legal : (place value : ℕ) (cell : Option Cell) → slice_get s.list.cells place ≡ cell
+      → IsSome (with_events s (mend_on s.list actor place value cell).events)
+  mend_legal place value None is = refl
+  mend_legal place value (Some (Pending owner)) is = refl
+  mend_legal place value (Some (Filled held)) is = refl
+  mend_legal place value (Some Broken) is =
+      let taken = mend_applies s.list actor place is in
+      let ours = get_set s.list.cells place Broken (Pending actor) is in
+      let filled = finish_applies (with_cell s.list place (Pending actor)) actor place value ours in
+      rw (taken, filled) refl
+
   -- every whole call is legal on the list as it is when the call begins
   pub call_legal : (command : Command) → IsSound command → IsSome (with_events s (call_on s.list actor command).events)
   call_legal (commands.Push value) sound = growth_or_refusal 1 _ (filled_legal 1 value (Claim actor 1))
@@ -191,5 +205,6 @@ module _ (s : CallPlay) (actor : ℕ) where
   call_legal (commands.AtLeast to value) sound = raise_legal to value
   call_legal (commands.Fail n value at) sound =
       growth_or_refusal n _ (growth_legal n at value (Claim actor n) (omega arith))
+  call_legal (commands.Mend place value) sound = mend_legal place value (slice_get s.list.cells place) refl
   call_legal (commands.Read place) sound = refl
   call_legal commands.Size sound = refl

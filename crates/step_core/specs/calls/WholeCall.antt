@@ -3,7 +3,7 @@ use Rattle.std.specs.Prelude.{◌≡◌, ℕ, ◌+◌, ◌-◌, nat_le, if◌the
 use Rattle.book_core.specs.declared.cells.Cell.{Cell}
 use Rattle.book_core.specs.declared.cells.Cell.TheVariants as cells
 use Rattle.book_core.specs.declared.events.Event.{Event}
-use Rattle.book_core.specs.declared.events.Event.TheVariants.{Claim, Raise, Look, Size, RefusedFull}
+use Rattle.book_core.specs.declared.events.Event.TheVariants.{Claim, Raise, Finish, Mend, Look, Size, RefusedFull}
 use Rattle.book_core.specs.declared.commands.Command.{Command}
 use Rattle.book_core.specs.declared.commands.Command.TheVariants as commands
 use Rattle.book_core.specs.declared.commands.Answer.{Answer}
@@ -27,6 +27,21 @@ answer_of_look size (Some (cells.Pending owner)) = answers.Pending
 answer_of_look size (Some (cells.Filled value)) = answers.Value value
 answer_of_look size (Some cells.Broken) = answers.Broken
 answer_of_look size None = answers.OutOfRange size
+
+-- the actor takes a broken place, and fills it
+abbrev pub mended : ℕ → ℕ → ℕ → WholeCall
+mended actor place value = record { events = Mend actor place ∷ Finish actor place value ∷ []; answer = answers.At place }
+
+-- a read of a place, by what stands there
+abbrev pub looked : CellList → ℕ → ℕ → Option Cell → WholeCall
+looked v actor place cell = record { events = Look actor place ∷ []; answer = answer_of_look (length v.cells) cell }
+
+-- a mend of a place, by what stands there: a place that isn't broken is read
+abbrev pub mend_on : CellList → ℕ → ℕ → ℕ → Option Cell → WholeCall
+mend_on v actor place value (Some (cells.Pending owner)) = looked v actor place (Some (cells.Pending owner))
+mend_on v actor place value (Some (cells.Filled held)) = looked v actor place (Some (cells.Filled held))
+mend_on v actor place value (Some cells.Broken) = mended actor place value
+mend_on v actor place value None = looked v actor place None
 
 -- The table of whole calls, on the list as it is when the call begins.
 abbrev pub call_on : CellList → ℕ → Command → WholeCall
@@ -54,8 +69,8 @@ call_on v actor (commands.Fail n value at) =
       answer = answers.BrokenRun (length v.cells) n at;
     }
     else refused v actor n
-call_on v actor (commands.Read place) =
-    record { events = Look actor place ∷ []; answer = answer_of_look (length v.cells) (slice_get v.cells place) }
+call_on v actor (commands.Mend place value) = mend_on v actor place value (slice_get v.cells place)
+call_on v actor (commands.Read place) = looked v actor place (slice_get v.cells place)
 call_on v actor commands.Size = record { events = Size actor ∷ []; answer = answers.Size (length v.cells) }
 
 -- a call as the program makes it has these events and this answer

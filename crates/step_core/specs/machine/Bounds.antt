@@ -1,9 +1,9 @@
 -- The numbers of a phase stay within the limit, and what it wants is what its command wants.
 use Rattle.std.specs.Prelude.{◌≡◌, ℕ, ◌+◌, ◌<◌, ◌≤◌, IfSome, All, slice_get}
 use Rattle.book_core.specs.declared.commands.Command.{Command}
-use Rattle.book_core.specs.declared.commands.Command.TheVariants.{Push, Grow, AtLeast, Fail, Read, Size}
+use Rattle.book_core.specs.declared.commands.Command.TheVariants as commands
 use Rattle.step_core.specs.declared.machine.phase.Phase.{Phase}
-use Rattle.step_core.specs.declared.machine.phase.Phase.TheVariants.{Load, Scout, Put, Exchange, Raise, Begin, Fill, Spoil, Look}
+use Rattle.step_core.specs.declared.machine.phase.Phase.TheVariants.{Load, Scout, Put, Exchange, Raise, Begin, Fill, Spoil, Mend, FillMended, Look}
 use Rattle.step_core.specs.declared.machine.phase.Next.{Next}
 use Rattle.step_core.specs.declared.machine.phase.Next.TheVariants.{Goes, Ends}
 use Rattle.step_core.specs.declared.machine.storage.Outcome.{Outcome as Given}
@@ -14,21 +14,23 @@ use Rattle.step_core.specs.machine.Step.{Outcome, Configuration}
 
 -- a growth to at least a size wants the places up to it
 abbrev pub Wants : Command → ℕ → ℕ → Type 0
-Wants (Push value) from n = Unit {0}
-Wants (Grow m value) from n = Unit {0}
-Wants (AtLeast to value) from n = from + n ≡ to
-Wants (Fail m value at) from n = Unit {0}
-Wants (Read place) from n = Unit {0}
-Wants Size from n = Unit {0}
+Wants (commands.Push value) from n = Unit {0}
+Wants (commands.Grow m value) from n = Unit {0}
+Wants (commands.AtLeast to value) from n = from + n ≡ to
+Wants (commands.Fail m value at) from n = Unit {0}
+Wants (commands.Mend place value) from n = Unit {0}
+Wants (commands.Read place) from n = Unit {0}
+Wants commands.Size from n = Unit {0}
 
 -- a growth to at least a size claims by a raise; no other call does
 abbrev pub Exchanges : Command → Type 0
-Exchanges (Push value) = Unit {0}
-Exchanges (Grow m value) = Unit {0}
-Exchanges (AtLeast to value) = ⊥
-Exchanges (Fail m value at) = Unit {0}
-Exchanges (Read place) = Unit {0}
-Exchanges Size = Unit {0}
+Exchanges (commands.Push value) = Unit {0}
+Exchanges (commands.Grow m value) = Unit {0}
+Exchanges (commands.AtLeast to value) = ⊥
+Exchanges (commands.Fail m value at) = Unit {0}
+Exchanges (commands.Mend place value) = Unit {0}
+Exchanges (commands.Read place) = Unit {0}
+Exchanges commands.Size = Unit {0}
 
 -- where an actor stands is within the limit
 abbrev pub IsWithin : ℕ → Command → Phase → Type 0
@@ -40,6 +42,8 @@ IsWithin limit command (Raise to) = to ≤ limit
 IsWithin limit command (Begin from n place) = (from ≤ place) × (place < from + n) × (from + n ≤ limit)
 IsWithin limit command (Fill from n place) = (from ≤ place) × (place < from + n) × (from + n ≤ limit)
 IsWithin limit command (Spoil from n place) = (from ≤ place) × (place < from + n) × (from + n ≤ limit)
+IsWithin limit command (Mend place) = place < limit
+IsWithin limit command (FillMended place) = place < limit
 IsWithin limit command (Look place) = Unit {0}
 
 -- where an actor goes on, it stays within

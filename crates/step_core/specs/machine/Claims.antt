@@ -19,6 +19,7 @@ claim_of actor (commands.Push value) = Some (Claim actor 1)
 claim_of actor (commands.Grow n value) = Some (Claim actor n)
 claim_of actor (commands.AtLeast to value) = Some (Raise actor to)
 claim_of actor (commands.Fail n value at) = Some (Claim actor n)
+claim_of actor (commands.Mend place value) = None
 claim_of actor (commands.Read place) = None
 claim_of actor commands.Size = None
 

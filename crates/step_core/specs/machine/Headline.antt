@@ -23,11 +23,12 @@ pub record IsSequential (limit : ℕ) (programs : List (List Command)) (p : Play
   pub own_claims : MovesAreOwnClaims p
   -- and a growth of nothing is claimed at its load
   pub nothing_at_load : NothingIsClaimedAtLoad p
-  -- runs tile the claimed size; each place is its owner's, who fills or breaks it once; a refusal breaks its own cells alone
+  -- runs tile the claimed size; each place is its owner's, who fills or breaks it; a broken one is filled by who mends it, and
+  -- no place is filled twice; a refusal breaks its own cells alone
   pub tiled : IsTiled p
   -- a published cell keeps its value
   pub kept : FilledCellsAreKept p
-  -- and a broken one stays broken
+  -- and a broken one stays broken until it is mended
   pub stays_broken : BrokenCellsAreKept p
 
 -- Over every limit, every sound programs, every schedule with any marks of memory.

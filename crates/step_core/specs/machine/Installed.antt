@@ -3,7 +3,7 @@ use Rattle.std.specs.Prelude.{◌≡◌, ℕ, ◌+◌, ◌<◌, Bool, true, fals
 use Rattle.std.specs.FinSet as set
 use Rattle.seg_core.specs.Segment.{segment_start, segment_of}
 use Rattle.step_core.specs.declared.machine.phase.Phase.{Phase}
-use Rattle.step_core.specs.declared.machine.phase.Phase.TheVariants.{Load, Scout, Put, Exchange, Raise, Begin, Fill, Spoil, Look}
+use Rattle.step_core.specs.declared.machine.phase.Phase.TheVariants.{Load, Scout, Put, Exchange, Raise, Begin, Fill, Spoil, Mend, FillMended, Look}
 use Rattle.step_core.specs.declared.machine.phase.Actor.{Actor}
 use Rattle.step_core.specs.machine.Storage.{Storage}
 use Rattle.step_core.specs.machine.Step.{Configuration}
@@ -37,6 +37,8 @@ HasPassed m (Raise to) = (q : ℕ) → q < to → IsReady m q
 HasPassed m (Begin from n place) = (q : ℕ) → q < from + n → IsReady m q
 HasPassed m (Fill from n place) = (q : ℕ) → q < from + n → IsReady m q
 HasPassed m (Spoil from n place) = (q : ℕ) → q < from + n → IsReady m q
+HasPassed m (Mend place) = IsReady m place
+HasPassed m (FillMended place) = IsReady m place
 HasPassed m (Look place) = Unit {0}
 
 -- the segments of the claimed places are installed, and those that the actors have passed

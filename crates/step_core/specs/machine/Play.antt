@@ -57,11 +57,11 @@ after_items p (item ∷ items) = after_items (with_step p (step_of p.at item.act
 abbrev pub play_of : ℕ → List (List Command) → List Item → Play
 play_of limit programs items = after_items (empty_play limit programs) items
 
--- a place as a reader sees it: what no owner has finished is pending of its owner
+-- a place as a reader sees it: a busy slot is pending of who has it busy, and an empty one of the place's owner
 abbrev pub cell_of : Option ℕ → Option Slot → Cell
 cell_of owner (Some (Filled value)) = cells.Filled value
 cell_of owner (Some Broken) = cells.Broken
-cell_of owner (Some (Busy actor)) = cells.Pending (unwrap_or owner 0)
+cell_of owner (Some (Busy actor)) = cells.Pending actor
 cell_of owner None = cells.Pending (unwrap_or owner 0)
 
 -- the claimed places as a reader sees them, in order

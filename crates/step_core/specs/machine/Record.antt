@@ -1,7 +1,7 @@
 -- The records of calls: which events with which replies a call is, and how it ends; and that those of each actor are its calls'.
 use Rattle.std.specs.Prelude.{◌≡◌, ◌≢◌, ℕ, ◌+◌, ◌-◌, ◌⊎◌, List, [], ◌∷◌, ◌++◌, length, map, Option, Some, None, IfSome, unwrap_or, slice_get}
 use Rattle.book_core.specs.declared.events.Event.{Event}
-use Rattle.book_core.specs.declared.events.Event.TheVariants.{Claim, Raise, Look, Size, RefusedFull, RefusedMemory}
+use Rattle.book_core.specs.declared.events.Event.TheVariants.{Claim, Raise, Finish, Mend, Look, Size, RefusedFull, RefusedMemory}
 use Rattle.book_core.specs.declared.events.Reply.{Reply}
 use Rattle.book_core.specs.declared.events.Reply.TheVariants as replies
 use Rattle.book_core.specs.declared.commands.Command.{Command}
@@ -70,6 +70,30 @@ pub record IsLook (actor place : ℕ) (es : List (Event × Reply)) (answer : Ans
   pub events : es ≡ (Look actor place, reply) ∷ []
   pub answered : answer_to_look reply ≡ Some answer
 
+-- how a mend ends whose look has this reply: as a read does, of a place that isn't broken
+abbrev pub answer_to_mend : Reply → Option Answer
+answer_to_mend (replies.Run from n) = None
+answer_to_mend (replies.Enough size) = None
+answer_to_mend replies.Done = None
+answer_to_mend (replies.Value value) = Some (answers.Value value)
+answer_to_mend replies.Pending = Some answers.Pending
+answer_to_mend replies.Broken = None
+answer_to_mend (replies.OutOfRange size) = Some (answers.OutOfRange size)
+answer_to_mend (replies.Size size) = None
+answer_to_mend (replies.Full size) = None
+answer_to_mend replies.NoMemory = None
+
+-- a mend that found no broken place
+pub record IsUnmended (actor place : ℕ) (es : List (Event × Reply)) (answer : Answer) : Type 0 where
+  pub reply : Reply
+  pub events : es ≡ (Look actor place, reply) ∷ []
+  pub answered : answer_to_mend reply ≡ Some answer
+
+-- a broken place was mended, and filled with this value
+pub record IsMended (actor place value : ℕ) (es : List (Event × Reply)) (answer : Answer) : Type 0 where
+  pub events : es ≡ (Mend actor place, replies.Done) ∷ (Finish actor place value, replies.Done) ∷ []
+  pub answered : answer ≡ answers.At place
+
 -- a read of the size
 pub record IsSize (actor : ℕ) (es : List (Event × Reply)) (answer : Answer) : Type 0 where
   pub size : ℕ
@@ -90,6 +114,7 @@ IsRecord actor (commands.Fail n value at) es answer =
 IsRecord actor (commands.AtLeast to value) es answer =
     IsRaised actor to value es answer
     ⊎ (IsEnough actor to es answer ⊎ (IsFull actor (λ size. to - size) es answer ⊎ IsOutOfMemory actor es answer))
+IsRecord actor (commands.Mend place value) es answer = IsMended actor place value es answer ⊎ IsUnmended actor place es answer
 IsRecord actor (commands.Read place) es answer = IsLook actor place es answer
 IsRecord actor commands.Size es answer = IsSize actor es answer
 
@@ -127,7 +152,7 @@ pub record IsClaimedUpTo (from n place : ℕ) (es : List (Event × Reply)) : Typ
   pub up_to : from + length writes ≡ place
 
 -- What the phase says of the call's events so far: none before its claim; then the claim, and what was filled or broken
--- before the place of the phase.
+-- before the place of the phase; or the Mend of the place that it is to fill.
 abbrev pub AreSoFar : Phase → List (Event × Reply) → Type 0
 AreSoFar phases.Load es = es ≡ []
 AreSoFar (phases.Scout from n segment) es = es ≡ []
@@ -137,6 +162,8 @@ AreSoFar (phases.Raise to) es = es ≡ []
 AreSoFar (phases.Begin from n place) es = IsClaimedUpTo from n place es
 AreSoFar (phases.Fill from n place) es = IsClaimedUpTo from n place es
 AreSoFar (phases.Spoil from n place) es = IsClaimedUpTo from n place es
+AreSoFar (phases.Mend place) es = es ≡ []
+AreSoFar (phases.FillMended place) es = (actor : ℕ) × (es ≡ (Mend actor place, replies.Done) ∷ [])
 AreSoFar (phases.Look place) es = es ≡ []
 
 -- The events of an actor are the records of its ended calls, in its program's order, and a proper prefix of one more.

@@ -19,7 +19,7 @@ use Rattle.step_core.specs.machine.Storage.{Storage, storage_code}
 use Rattle.step_core.specs.declared.machine.phase.Slot.{Slot}
 use Rattle.step_core.specs.declared.machine.phase.Slot.TheVariants.{Busy, Filled, Broken}
 use Rattle.step_core.specs.declared.machine.phase.Phase.{Phase}
-use Rattle.step_core.specs.declared.machine.phase.Phase.TheVariants.{Load, Scout, Put, Exchange, Raise, Begin, Fill, Spoil, Look}
+use Rattle.step_core.specs.declared.machine.phase.Phase.TheVariants.{Load, Scout, Put, Exchange, Raise, Begin, Fill, Spoil, Mend, FillMended, Look}
 use Rattle.step_core.specs.declared.machine.phase.Next.{Next}
 use Rattle.step_core.specs.declared.machine.phase.Next.TheVariants.{Goes, Ends}
 use Rattle.step_core.specs.declared.machine.phase.Actor.{Actor}
@@ -84,10 +84,11 @@ load_at_least limit m actor to =
     then goes_on m (Scout m.size (to - m.size) (segment_of m.size))
     else ends m (events.RefusedFull actor (to - m.size)) (replies.Full m.size) (answers.Full m.size)
 
-abbrev pub load_read : Storage → ℕ → ℕ → Outcome
-load_read m actor place =
+-- a call of one place goes on to a phase where the place is claimed
+abbrev pub load_place : Storage → ℕ → ℕ → Phase → Outcome
+load_place m actor place phase =
     if nat_lt place m.size
-    then goes_on m (Look place)
+    then goes_on m phase
     else ends m (events.Look actor place) (replies.OutOfRange m.size) (answers.OutOfRange m.size)
 
 abbrev pub load : ℕ → Storage → ℕ → Command → Outcome
@@ -95,7 +96,8 @@ load limit m actor (commands.Push value) = load_growth limit m actor 1
 load limit m actor (commands.Grow n value) = load_growth limit m actor n
 load limit m actor (commands.AtLeast to value) = load_at_least limit m actor to
 load limit m actor (commands.Fail n value at) = load_growth limit m actor n
-load limit m actor (commands.Read place) = load_read m actor place
+load limit m actor (commands.Mend place value) = load_place m actor place (Mend place)
+load limit m actor (commands.Read place) = load_place m actor place (Look place)
 load limit m actor commands.Size = ends m (events.Size actor) (replies.Size m.size) (answers.Size m.size)
 
 -- ---- Scout and Put
@@ -106,6 +108,7 @@ claiming (commands.Push value) from n = Exchange from n
 claiming (commands.Grow m value) from n = Exchange from n
 claiming (commands.AtLeast to value) from n = Raise to
 claiming (commands.Fail m value at) from n = Exchange from n
+claiming (commands.Mend place value) from n = Exchange from n
 claiming (commands.Read place) from n = Exchange from n
 claiming commands.Size from n = Exchange from n
 
@@ -160,15 +163,17 @@ is_refused (commands.Push value) from place = false
 is_refused (commands.Grow n value) from place = false
 is_refused (commands.AtLeast to value) from place = false
 is_refused (commands.Fail n value at) from place = nat_le (from + at) place
+is_refused (commands.Mend at value) from place = false
 is_refused (commands.Read at) from place = false
 is_refused commands.Size from place = false
 
--- what a growth constructs
+-- what a growth or a mend constructs
 abbrev pub value_of : Command → ℕ
 value_of (commands.Push value) = value
 value_of (commands.Grow n value) = value
 value_of (commands.AtLeast to value) = value
 value_of (commands.Fail n value at) = value
+value_of (commands.Mend place value) = value
 value_of (commands.Read place) = 0
 value_of commands.Size = 0
 
@@ -178,6 +183,7 @@ answer_of_run (commands.Push value) from n = answers.At from
 answer_of_run (commands.Grow m value) from n = answers.Run from n
 answer_of_run (commands.AtLeast to value) from n = answers.Run from n
 answer_of_run (commands.Fail m value at) from n = answers.BrokenRun from n at
+answer_of_run (commands.Mend place value) from n = answers.Run from n
 answer_of_run (commands.Read place) from n = answers.Run from n
 answer_of_run commands.Size from n = answers.Run from n
 
@@ -214,6 +220,27 @@ look_at m actor place (Some (Busy owner)) = ends m (events.Look actor place) rep
 look_at m actor place (Some (Filled value)) = ends m (events.Look actor place) (replies.Value value) (answers.Value value)
 look_at m actor place (Some Broken) = ends m (events.Look actor place) replies.Broken answers.Broken
 
+-- ---- Mend
+
+-- a broken slot is taken; at any other the call ends as a read of it does
+abbrev pub mend_at : Storage → ℕ → ℕ → Option Slot → Outcome
+mend_at m actor place None = look_at m actor place None
+mend_at m actor place (Some (Busy owner)) = look_at m actor place (Some (Busy owner))
+mend_at m actor place (Some (Filled value)) = look_at m actor place (Some (Filled value))
+mend_at m actor place (Some Broken) = record {
+  storage = with_slot m place (Busy actor);
+  event = Some (events.Mend actor place, replies.Done);
+  next = Goes (FillMended place);
+}
+
+-- the mended slot is filled, and the call ends
+abbrev pub fill_mended : Storage → ℕ → Command → ℕ → Outcome
+fill_mended m actor command place = record {
+  storage = with_slot m place (Filled (value_of command));
+  event = Some (events.Finish actor place (value_of command), replies.Done);
+  next = Ends (answers.At place);
+}
+
 -- The table of steps.
 abbrev pub outcome_of : ℕ → Storage → ℕ → Command → Bool → Phase → Outcome
 outcome_of limit m actor command memory Load = load limit m actor command
@@ -224,6 +251,8 @@ outcome_of limit m actor command memory (Raise to) = raise m actor to
 outcome_of limit m actor command memory (Begin from n place) = begin_at m actor command from n place (get m.slots place)
 outcome_of limit m actor command memory (Fill from n place) = fill m actor command from n place
 outcome_of limit m actor command memory (Spoil from n place) = spoil m actor command from n place
+outcome_of limit m actor command memory (Mend place) = mend_at m actor place (get m.slots place)
+outcome_of limit m actor command memory (FillMended place) = fill_mended m actor command place
 outcome_of limit m actor command memory (Look place) = look_at m actor place (get m.slots place)
 
 -- ---- What follows a step

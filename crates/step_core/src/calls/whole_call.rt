@@ -2,7 +2,7 @@
 ghost use Rattle.std.specs.Prelude.{◌≡◌, ◌+◌, ◌-◌, ◌≤◌, ◌<◌, ◌^◌, [], ◌∷◌, ◌++◌, length, IfOk, OnOk, Some};
 ghost use Rattle.std.specs.Prelude.{None};
 ghost use Rattle.book_core.specs.Commands.{IsSound};
-ghost use Rattle.step_core.specs.calls.WholeCall.{Is, refused, call_on};
+ghost use Rattle.step_core.specs.calls.WholeCall.{Is, refused, mended, call_on};
 ghost use Rattle.book_core.specs.Events.{finishes, breaks};
 
 use book_core::{Answer, Cell, CellVec, Command, Event};
@@ -224,6 +224,34 @@ fn read_call(alloc: Global, list: &CellVec, actor: u32, place: u64) -> Result<Wh
     single(alloc, Event::Look { actor, place }, answer)
 }
 
+fn mend_call(
+    alloc: Global,
+    list: &CellVec,
+    actor: u32,
+    place: u64,
+    value: u64,
+) -> Result<WholeCall, AllocError>
+    ensures { IfOk result (λ call. Is (call_on list.now actor (Command.Mend place value)) call) }
+{
+    match list.cells().get(place as usize) {
+        Some(Cell::Broken) => mended(alloc, actor, place, value),
+        Some(Cell::Pending(_) | Cell::Filled(_)) | None => read_call(alloc, list, actor, place),
+    }
+}
+
+// The actor takes the broken place, and fills it.
+fn mended(alloc: Global, actor: u32, place: u64, value: u64) -> Result<WholeCall, AllocError>
+    requires { place + 1 < 2 ^ 64 }
+    ensures { IfOk result (λ call. Is (mended actor place value) call) }
+{
+    let mut events = vec![in alloc; Event::Mend { actor, place }]?;
+    push_finishes(&mut events, actor, place, 1, value)?;
+    Ok(WholeCall {
+        events,
+        answer: Answer::At { place },
+    })
+}
+
 pub(crate) fn whole_call(
     alloc: Global,
     list: &CellVec,
@@ -248,6 +276,7 @@ pub(crate) fn whole_call(
             };
             fail_call(alloc, list, growth)
         }
+        Command::Mend { place, value } => mend_call(alloc, list, actor, place, value),
         Command::Read { place } => read_call(alloc, list, actor, place),
         Command::Size => {
             let size = list.cells().len() as u64;

@@ -31,6 +31,10 @@ pub enum Phase {
     Fill { from: u64, n: u64, place: u64 },
     /// It breaks that slot.
     Spoil { from: u64, n: u64, place: u64 },
+    /// It takes the slot of a broken place.
+    Mend { place: u64 },
+    /// It fills the slot that it has mended.
+    FillMended { place: u64 },
     /// It reads a place.
     Look { place: u64 },
 }

@@ -76,7 +76,8 @@ impl MachinePlay {
         ensures { result ≡ cell_of (Some owner) (map.get self.now.at.storage.slots place) }
     {
         match self.machine.slot(place) {
-            None | Some(Slot::Busy(_)) => Cell::Pending(owner),
+            None => Cell::Pending(owner),
+            Some(Slot::Busy(actor)) => Cell::Pending(actor),
             Some(Slot::Filled(value)) => Cell::Filled(value),
             Some(Slot::Broken) => Cell::Broken,
         }
@@ -155,8 +156,8 @@ fn play_sound(
 
 /// Plays one atomic step for each item; an item of an actor with nothing left changes nothing.
 ///
-/// What a reader finds at a place that its owner hasn't finished is pending. Its time and memory are linear in the
-/// items, and in the places of the installed segments.
+/// What a reader finds at a place that nobody has finished or broken is pending, and so is what it finds at one that
+/// is being mended. Its time and memory are linear in the items, and in the places of the installed segments.
 pub fn play(
     alloc: Global,
     limit: u64,

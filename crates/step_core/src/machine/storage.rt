@@ -111,6 +111,8 @@ impl Storage {
             Phase::Begin { from, n, place } => Ok(self.begin(actor, command, from, n, place)),
             Phase::Fill { from, n, place } => Ok(self.fill(actor, command, from, n, place)),
             Phase::Spoil { from, n, place } => Ok(self.spoil(actor, command, from, n, place)),
+            Phase::Mend { place } => Ok(self.mend(actor, place)),
+            Phase::FillMended { place } => Ok(self.fill_mended(actor, command, place)),
             Phase::Look { place } => Ok(self.look(actor, place)),
         }
     }

@@ -23,16 +23,16 @@ use Rattle.book_core.specs.History.{IsHistory, OwnedRun, runs_of, owner_of, Tile
 use Rattle.step_core.specs.declared.machine.phase.Slot.{Slot}
 use Rattle.step_core.specs.declared.machine.phase.Slot.TheVariants.{Busy, Filled, Broken}
 use Rattle.step_core.specs.declared.machine.phase.Phase.{Phase}
-use Rattle.step_core.specs.declared.machine.phase.Phase.TheVariants.{Load, Scout, Put, Exchange, Raise, Begin, Fill, Spoil, Look}
+use Rattle.step_core.specs.declared.machine.phase.Phase.TheVariants.{Load, Scout, Put, Exchange, Raise, Begin, Fill, Spoil, Mend, FillMended, Look}
 use Rattle.step_core.specs.machine.Storage.{Storage}
-use Rattle.step_core.specs.machine.Step.{Outcome, goes_on, ends, with_size, with_segment, with_slot, load_growth, load_at_least, load_read, load, after_segment, scout, put, exchange, raise, begin_at, value_of, fill, spoil, look_at, outcome_of}
+use Rattle.step_core.specs.machine.Step.{Outcome, goes_on, ends, with_size, with_segment, with_slot, load_growth, load_at_least, load_place, load, after_segment, scout, put, exchange, raise, begin_at, value_of, fill, spoil, mend_at, fill_mended, look_at, outcome_of}
 use Rattle.step_core.specs.machine.Play.{cell_of, cells_of}
 use Rattle.step_core.specs.machine.Bounds.{IsWithin}
 use Rattle.book_core.proofs.Runs.{owner_new, owner_kept, none_past, has_place-true, owned_between}
 use Rattle.step_core.proofs.atomic_steps.Tiling.Invariant.{get_set_same, get_set_other, empty_past, Won, Knows}
-use Rattle.step_core.proofs.atomic_steps.Cases.{growth_cases, at_least_cases, read_cases, exchange_cases, raise_cases, begin_cases, scout_cases}
+use Rattle.step_core.proofs.atomic_steps.Cases.{growth_cases, at_least_cases, load_place_cases, exchange_cases, raise_cases, begin_cases, scout_cases}
 use Rattle.step_core.proofs.atomic_steps.Ranges.{map_same, map_more, map_all, map_get, map_set}
-use Rattle.book_core.proofs.EventRows.{claim_applies, raise_applies, enough_applies, full_applies, size_applies, finish_applies, break_applies, look_applies}
+use Rattle.book_core.proofs.EventRows.{claim_applies, raise_applies, enough_applies, full_applies, size_applies, finish_applies, break_applies, mend_applies, look_applies}
 
 -- the sequential vector as a reader sees it
 abbrev pub seen : ℕ → Storage → List OwnedRun → CellList
@@ -147,16 +147,17 @@ module _ (limit : ℕ) (m : Storage) (runs : List OwnedRun) (actor : ℕ) (sees 
       tells (events.Look actor place) (replies.OutOfRange m.size) (answers.OutOfRange m.size) refl
       (look_applies (seen limit m runs) actor place None none ∙ ap (λ k. Some (seen limit m runs, replies.OutOfRange k)) seen_length)
 
-  read_told : (place : ℕ) → Replies limit m runs (load_read m actor place)
-  read_told place =
-      read_cases (Replies limit m runs) m actor place (λ _. silent m (Look place) refl) (λ past. out_of_range_told place past)
+  place_told : (place : ℕ) (phase : Phase) → Replies limit m runs (load_place m actor place phase)
+  place_told place phase =
+      load_place_cases (Replies limit m runs) m actor place phase (λ _. silent m phase refl) (λ past. out_of_range_told place past)
 
   load_told : (command : Command) → Replies limit m runs (load limit m actor command)
   load_told (commands.Push value) = growth_told 1
   load_told (commands.Grow n value) = growth_told n
   load_told (commands.AtLeast to value) = at_least_told to
   load_told (commands.Fail n value at) = growth_told n
-  load_told (commands.Read place) = read_told place
+  load_told (commands.Mend place value) = place_told place (Mend place)
+  load_told (commands.Read place) = place_told place (Look place)
   load_told commands.Size = tells (events.Size actor) (replies.Size m.size) (answers.Size m.size) refl (size_applies (seen limit m runs) actor m.size seen_length)
 
   -- ---- Scout and Put
@@ -198,13 +199,16 @@ module _ (limit : ℕ) (m : Storage) (runs : List OwnedRun) (actor : ℕ) (sees 
   seen_other place slot q apart = ap (λ s. cell_of (owner_of runs q) s) (sym (get_set_other m place slot q apart))
 
   begin_told : (command : Command) (from n place : ℕ) (slot : Option Slot) → finite.get m.slots place ≡ slot
-      → Replies limit m runs (begin_at m actor command from n place slot)
-  begin_told command from n place (Some slot) is = silent m (Begin from n place) refl
-  begin_told command from n place None is =
+      → owner_of runs place ≡ Some actor → Replies limit m runs (begin_at m actor command from n place slot)
+  begin_told command from n place (Some slot) is ours = silent m (Begin from n place) refl
+  begin_told command from n place None is ours =
+      let pending : cells.Pending actor ≡ seen_at m runs place =
+      sym (ap (λ s. cell_of (owner_of runs place) s) is ∙ ap (λ o. cell_of o None) ours)
+      in
       let same : cells_of (with_slot m place (Busy actor)) runs ≡ cells_of m runs =
       map_same (seen_at (with_slot m place (Busy actor)) runs) (seen_at m runs) 0 m.size (λ p low high. elim (eqb_tells p place) [
         | inl same ↦ subst (λ q. seen_at (with_slot m place (Busy actor)) runs q ≡ seen_at m runs q) (sym same.1)
-            (seen_set place (Busy actor) ∙ sym (ap (λ s. cell_of (owner_of runs place) s) is))
+            (seen_set place (Busy actor) ∙ pending)
         | inr apart ↦ sym (seen_other place (Busy actor) p apart.1)
       ]) in
       begin_cases (Replies limit m runs) m actor command from n place
@@ -227,14 +231,12 @@ module _ (limit : ℕ) (m : Storage) (runs : List OwnedRun) (actor : ℕ) (sees 
       let here : 0 + place ≡ place = omega arith in
       map_get (seen_at m runs) 0 m.size place inside ∙ ap (λ p. Some (seen_at m runs p)) here ∙ ap (λ s. Some (cell_of (owner_of runs place) s)) is
 
-  -- the place is pending of its owner
-  pending_there : (from n place : ℕ) → Won m runs actor from n place → finite.get m.slots place ≡ Some (Busy actor)
+  -- the place is pending of who has its slot busy
+  pending_there : (place : ℕ) → place < m.size → finite.get m.slots place ≡ Some (Busy actor)
       → slice_get (cells_of m runs) place ≡ Some (cells.Pending actor)
-  pending_there from n place won busy =
-      let inside : place < m.size = (let a = won.before in let b = won.claimed in omega arith) in
-      seen_there place (Some (Busy actor)) inside busy ∙ ap (λ o. Some (cell_of o (Some (Busy actor)))) (won.owned place won.within won.before)
+  pending_there place inside busy = seen_there place (Some (Busy actor)) inside busy
 
-  -- what is seen where a slot that a filled or broken cell is of is set
+  -- what is seen where the slot of a cell is set
   finished : (place : ℕ) (slot : Slot) (cell : Cell) (event : Event) → place < m.size
       → cell_of (owner_of runs place) (Some slot) ≡ cell → runs_of ((event, replies.Done) ∷ []) ≡ []
       → seen limit (with_slot m place slot)
@@ -250,7 +252,7 @@ module _ (limit : ℕ) (m : Storage) (runs : List OwnedRun) (actor : ℕ) (sees 
       let value = value_of command in
       let now = finished place (Filled value) (cells.Filled value) (events.Finish actor place value) inside refl refl in
       one_event (seen limit m runs) _ (events.Finish actor place value) replies.Done
-      (finish_applies (seen limit m runs) actor place value (pending_there from n place won busy) ∙ ap (λ v. Some (v, replies.Done)) (sym now))
+      (finish_applies (seen limit m runs) actor place value (pending_there place inside busy) ∙ ap (λ v. Some (v, replies.Done)) (sym now))
 
   spoil_told : (command : Command) (from n place : ℕ) → Won m runs actor from n place
       → finite.get m.slots place ≡ Some (Busy actor) → Replies limit m runs (spoil m actor command from n place)
@@ -258,7 +260,7 @@ module _ (limit : ℕ) (m : Storage) (runs : List OwnedRun) (actor : ℕ) (sees 
       let inside : place < m.size = (let a = won.before in let b = won.claimed in omega arith) in
       let now = finished place Broken cells.Broken (events.Break actor place) inside refl refl in
       one_event (seen limit m runs) _ (events.Break actor place) replies.Done
-      (break_applies (seen limit m runs) actor place (pending_there from n place won busy) ∙ ap (λ v. Some (v, replies.Done)) (sym now))
+      (break_applies (seen limit m runs) actor place (pending_there place inside busy) ∙ ap (λ v. Some (v, replies.Done)) (sym now))
 
   -- ---- Look
 
@@ -277,16 +279,39 @@ module _ (limit : ℕ) (m : Storage) (runs : List OwnedRun) (actor : ℕ) (sees 
   look_told place (Some (Filled value)) inside is = looks place (Some (Filled value)) (replies.Value value) (answers.Value value) inside is refl
   look_told place (Some Broken) inside is = looks place (Some Broken) replies.Broken answers.Broken inside is refl
 
+  -- ---- Mend
+
+  mend_told : (place : ℕ) (slot : Option Slot) → place < m.size → finite.get m.slots place ≡ slot
+      → Replies limit m runs (mend_at m actor place slot)
+  mend_told place None inside is = look_told place None inside is
+  mend_told place (Some (Busy owner)) inside is = look_told place (Some (Busy owner)) inside is
+  mend_told place (Some (Filled value)) inside is = look_told place (Some (Filled value)) inside is
+  mend_told place (Some Broken) inside is =
+      let now = finished place (Busy actor) (cells.Pending actor) (events.Mend actor place) inside refl refl in
+      one_event (seen limit m runs) _ (events.Mend actor place) replies.Done
+      (mend_applies (seen limit m runs) actor place (seen_there place (Some Broken) inside is) ∙ ap (λ v. Some (v, replies.Done)) (sym now))
+
+  mended_told : (command : Command) (place : ℕ) → place < m.size → finite.get m.slots place ≡ Some (Busy actor)
+      → Replies limit m runs (fill_mended m actor command place)
+  mended_told command place inside busy =
+      let value = value_of command in
+      let now = finished place (Filled value) (cells.Filled value) (events.Finish actor place value) inside refl refl in
+      one_event (seen limit m runs) _ (events.Finish actor place value) replies.Done
+      (finish_applies (seen limit m runs) actor place value (pending_there place inside busy) ∙ ap (λ v. Some (v, replies.Done)) (sym now))
+
   -- ---- The table
 
   pub row_told : (command : Command) (memory : Bool) (phase : Phase) → IsWithin limit command phase
-      → Knows m runs actor phase → Replies limit m runs (outcome_of limit m actor command memory phase)
-  row_told command memory Load within knows = load_told command
-  row_told command memory (Scout from n k) within knows = scout_told command from n k
-  row_told command memory (Put from n k) within knows = put_told command memory from n k
-  row_told command memory (Exchange from n) (some, room, exchanges) knows = exchange_told from n room
-  row_told command memory (Raise to) within knows = raise_told to within
-  row_told command memory (Begin from n place) within knows = begin_told command from n place (finite.get m.slots place) refl
-  row_told command memory (Fill from n place) within (won, busy) = fill_told command from n place won busy
-  row_told command memory (Spoil from n place) within (won, busy) = spoil_told command from n place won busy
-  row_told command memory (Look place) within inside = look_told place (finite.get m.slots place) inside refl
+      → (writes : ℕ → List Event) → Knows m runs writes actor phase → Replies limit m runs (outcome_of limit m actor command memory phase)
+  row_told command memory Load within writes knows = load_told command
+  row_told command memory (Scout from n k) within writes knows = scout_told command from n k
+  row_told command memory (Put from n k) within writes knows = put_told command memory from n k
+  row_told command memory (Exchange from n) (some, room, exchanges) writes knows = exchange_told from n room
+  row_told command memory (Raise to) within writes knows = raise_told to within
+  row_told command memory (Begin from n place) within writes (won, empty) =
+      begin_told command from n place (finite.get m.slots place) refl (won.owned place won.within won.before)
+  row_told command memory (Fill from n place) within writes (won, busy, nothing) = fill_told command from n place won busy
+  row_told command memory (Spoil from n place) within writes (won, busy, nothing) = spoil_told command from n place won busy
+  row_told command memory (Mend place) within writes inside = mend_told place (finite.get m.slots place) inside refl
+  row_told command memory (FillMended place) within writes (inside, busy, by) = mended_told command place inside busy
+  row_told command memory (Look place) within writes inside = look_told place (finite.get m.slots place) inside refl

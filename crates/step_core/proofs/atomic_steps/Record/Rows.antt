@@ -17,15 +17,15 @@ use Rattle.book_core.specs.Commands.{IsSound}
 use Rattle.step_core.specs.declared.machine.phase.Slot.{Slot}
 use Rattle.step_core.specs.declared.machine.phase.Slot.TheVariants.{Busy, Filled, Broken}
 use Rattle.step_core.specs.declared.machine.phase.Phase.{Phase}
-use Rattle.step_core.specs.declared.machine.phase.Phase.TheVariants.{Load, Scout, Put, Exchange, Raise, Begin, Fill, Spoil, Look}
+use Rattle.step_core.specs.declared.machine.phase.Phase.TheVariants.{Load, Scout, Put, Exchange, Raise, Begin, Fill, Spoil, Mend, FillMended, Look}
 use Rattle.step_core.specs.declared.machine.phase.Next.{Next}
 use Rattle.step_core.specs.declared.machine.phase.Next.TheVariants.{Goes, Ends}
 use Rattle.step_core.specs.machine.Storage.{Storage}
-use Rattle.step_core.specs.machine.Step.{Outcome, with_slot, load_growth, load_at_least, load_read, load, after_segment, put, exchange, raise, begin_at, is_refused, value_of, answer_of_run, after_place, look_at, outcome_of}
+use Rattle.step_core.specs.machine.Step.{Outcome, with_slot, load_growth, load_at_least, load_place, load, after_segment, put, exchange, raise, begin_at, is_refused, value_of, answer_of_run, after_place, mend_at, fill_mended, look_at, outcome_of}
 use Rattle.step_core.specs.machine.Bounds.{Exchanges, IsWithin}
 use Rattle.step_core.specs.machine.Record.{IsRecord, IsBegun, IsClaimedUpTo, AreSoFar}
 use Rattle.book_core.specs.Events.{actor_of}
-use Rattle.step_core.proofs.atomic_steps.Cases.{IsRaise, enough, won_growth, growth_cases, at_least_cases, read_cases, exchange_cases, raise_cases, begin_cases, scout_cases, claiming_cases, segment_cases, place_cases}
+use Rattle.step_core.proofs.atomic_steps.Cases.{IsRaise, enough, won_growth, growth_cases, at_least_cases, load_place_cases, exchange_cases, raise_cases, begin_cases, scout_cases, claiming_cases, segment_cases, place_cases}
 use Rattle.step_core.proofs.atomic_steps.Record.Settled.{Asks, claiming_event, settling, settled, run_so_far, run_recorded, settled_more, settled_parts}
 
 -- the call is a read of this place
@@ -34,8 +34,19 @@ IsReadOf (commands.Push value) at = ⊥
 IsReadOf (commands.Grow n value) at = ⊥
 IsReadOf (commands.AtLeast to value) at = ⊥
 IsReadOf (commands.Fail n value place) at = ⊥
+IsReadOf (commands.Mend place value) at = ⊥
 IsReadOf (commands.Read place) at = place ≡ at
 IsReadOf commands.Size at = ⊥
+
+-- the call is a mend of this place
+abbrev IsMendOf : Command → ℕ → Type 0
+IsMendOf (commands.Push value) at = ⊥
+IsMendOf (commands.Grow n value) at = ⊥
+IsMendOf (commands.AtLeast to value) at = ⊥
+IsMendOf (commands.Fail n value place) at = ⊥
+IsMendOf (commands.Mend place value) at = place ≡ at
+IsMendOf (commands.Read place) at = ⊥
+IsMendOf commands.Size at = ⊥
 
 -- what a phase says of its call, and of the call's events so far
 abbrev pub StageOf : ℕ → Command → Phase → List (Event × Reply) → Type 0
@@ -49,6 +60,9 @@ StageOf actor command (Fill from n place) now =
     (now ≡ run_so_far actor command from n (place - from)) × Asks command n × (is_refused command from place ≡ false)
 StageOf actor command (Spoil from n place) now =
     (now ≡ run_so_far actor command from n (place - from)) × Asks command n × (is_refused command from place ≡ true)
+StageOf actor command (Mend place) now = (now ≡ []) × IsMendOf command place
+StageOf actor command (FillMended place) now =
+    (now ≡ (events.Mend actor place, replies.Done) ∷ []) × IsMendOf command place
 StageOf actor command (Look place) now = (now ≡ []) × IsReadOf command place
 
 -- the events so far are those of what follows: of the phase, or of the call that ends
@@ -75,6 +89,7 @@ full_recorded actor (commands.Push value) n size asks exchanges = inr (inl (reco
 full_recorded actor (commands.Grow m value) n size asks exchanges = inr (inl (record { size = size; events = ap (λ k. (events.RefusedFull actor k, replies.Full size) ∷ []) asks; answered = refl }))
 full_recorded actor (commands.AtLeast to value) n size asks exchanges = absurd exchanges
 full_recorded actor (commands.Fail m value at) n size asks exchanges = inr (inl (record { size = size; events = ap (λ k. (events.RefusedFull actor k, replies.Full size) ∷ []) asks; answered = refl }))
+full_recorded actor (commands.Mend place value) n size asks exchanges = absurd asks
 full_recorded actor (commands.Read place) n size asks exchanges = absurd asks
 full_recorded actor commands.Size n size asks exchanges = absurd asks
 
@@ -85,6 +100,7 @@ memory_recorded actor (commands.Push value) n asks = inr (inr (record { events =
 memory_recorded actor (commands.Grow m value) n asks = inr (inr (record { events = refl; answered = refl }))
 memory_recorded actor (commands.AtLeast to value) n asks = inr (inr (inr (record { events = refl; answered = refl })))
 memory_recorded actor (commands.Fail m value at) n asks = inr (inr (record { events = refl; answered = refl }))
+memory_recorded actor (commands.Mend place value) n asks = absurd asks
 memory_recorded actor (commands.Read place) n asks = absurd asks
 memory_recorded actor commands.Size n asks = absurd asks
 
@@ -97,6 +113,7 @@ nothing_recorded actor (commands.Grow m value) n size sound asks exchanges none 
     (inl (record { from = size; events = refl; answered = refl }))
 nothing_recorded actor (commands.AtLeast to value) n size sound asks exchanges none = absurd exchanges
 nothing_recorded actor (commands.Fail m value at) n size sound asks exchanges none = absurd (let same : n ≡ m = asks in let inside : at < m = sound in omega arith)
+nothing_recorded actor (commands.Mend place value) n size sound asks exchanges none = absurd asks
 nothing_recorded actor (commands.Read place) n size sound asks exchanges none = absurd asks
 nothing_recorded actor commands.Size n size sound asks exchanges none = absurd asks
 
@@ -117,6 +134,7 @@ claimed_by_exchange actor (commands.Push value) n exchanges = refl
 claimed_by_exchange actor (commands.Grow m value) n exchanges = refl
 claimed_by_exchange actor (commands.AtLeast to value) n exchanges = absurd exchanges
 claimed_by_exchange actor (commands.Fail m value at) n exchanges = refl
+claimed_by_exchange actor (commands.Mend place value) n exchanges = refl
 claimed_by_exchange actor (commands.Read place) n exchanges = refl
 claimed_by_exchange actor commands.Size n exchanges = refl
 
@@ -144,11 +162,18 @@ module _ (m : Storage) (actor : ℕ) where
       (λ _ _. record { its = refl; told = inr (inr (inl (record { size = m.size; events = refl; answered = refl }))) })
 
   -- a read is loaded
-  read_told : (place : ℕ) → Tells actor (commands.Read place) [] (load_read m actor place)
+  read_told : (place : ℕ) → Tells actor (commands.Read place) [] (load_place m actor place (Look place))
   read_told place =
-      read_cases (Tells actor (commands.Read place) []) m actor place
+      load_place_cases (Tells actor (commands.Read place) []) m actor place (Look place)
       (λ _. record { its = tt; told = (refl, refl) })
       (λ _. record { its = refl; told = record { reply = replies.OutOfRange m.size; events = refl; answered = refl } })
+
+  -- a mend is loaded
+  mend_loaded : (place value : ℕ) → Tells actor (commands.Mend place value) [] (load_place m actor place (Mend place))
+  mend_loaded place value =
+      load_place_cases (Tells actor (commands.Mend place value) []) m actor place (Mend place)
+      (λ _. record { its = tt; told = (refl, refl) })
+      (λ _. record { its = refl; told = inr (record { reply = replies.OutOfRange m.size; events = refl; answered = refl }) })
 
   -- every call is loaded
   load_told : (limit : ℕ) (command : Command) → IsSound command → Tells actor command [] (load limit m actor command)
@@ -156,6 +181,7 @@ module _ (m : Storage) (actor : ℕ) where
   load_told limit (commands.Grow n value) sound = growth_told limit n (commands.Grow n value) sound refl tt
   load_told limit (commands.AtLeast to value) sound = at_least_told limit to value
   load_told limit (commands.Fail n value at) sound = growth_told limit n (commands.Fail n value at) sound refl tt
+  load_told limit (commands.Mend place value) sound = mend_loaded place value
   load_told limit (commands.Read place) sound = read_told place
   load_told limit commands.Size sound =
       record { its = refl; told = record { size = m.size; events = refl; answered = refl } }
@@ -197,6 +223,7 @@ module _ (m : Storage) (actor : ℕ) where
   raise_told (commands.AtLeast size value) to is =
       subst (λ k. Tells actor (commands.AtLeast size value) [] (raise m actor k)) is (at_least_raised size value)
   raise_told (commands.Fail n value at) to is = absurd is
+  raise_told (commands.Mend place value) to is = absurd is
   raise_told (commands.Read place) to is = absurd is
   raise_told commands.Size to is = absurd is
 
@@ -218,9 +245,46 @@ module _ (m : Storage) (actor : ℕ) where
   look_told (commands.Grow n value) place slot is = absurd is
   look_told (commands.AtLeast to value) place slot is = absurd is
   look_told (commands.Fail n value at) place slot is = absurd is
+  look_told (commands.Mend at value) place slot is = absurd is
   look_told (commands.Read at) place slot is =
       subst (λ k. Tells actor (commands.Read at) [] (look_at m actor k slot)) is (read_looked at slot)
   look_told commands.Size place slot is = absurd is
+
+  -- a mend takes a broken slot, or ends by what the slot holds
+  slot_mended : (place value : ℕ) (slot : Option Slot)
+      → Tells actor (commands.Mend place value) [] (mend_at m actor place slot)
+  slot_mended place value None =
+      record { its = refl; told = inr (record { reply = replies.Pending; events = refl; answered = refl }) }
+  slot_mended place value (Some (Busy owner)) =
+      record { its = refl; told = inr (record { reply = replies.Pending; events = refl; answered = refl }) }
+  slot_mended place value (Some (Filled held)) =
+      record { its = refl; told = inr (record { reply = replies.Value held; events = refl; answered = refl }) }
+  slot_mended place value (Some Broken) = record { its = refl; told = (refl, refl) }
+
+  -- only a mend mends
+  mend_told : (command : Command) (place : ℕ) (slot : Option Slot) → IsMendOf command place
+      → Tells actor command [] (mend_at m actor place slot)
+  mend_told (commands.Push value) place slot is = absurd is
+  mend_told (commands.Grow n value) place slot is = absurd is
+  mend_told (commands.AtLeast to value) place slot is = absurd is
+  mend_told (commands.Fail n value at) place slot is = absurd is
+  mend_told (commands.Mend at value) place slot is =
+      subst (λ k. Tells actor (commands.Mend at value) [] (mend_at m actor k slot)) is (slot_mended at value slot)
+  mend_told (commands.Read at) place slot is = absurd is
+  mend_told commands.Size place slot is = absurd is
+
+  -- the mended slot is filled
+  mended_told : (command : Command) (place : ℕ) → IsMendOf command place
+      → Tells actor command ((events.Mend actor place, replies.Done) ∷ []) (fill_mended m actor command place)
+  mended_told (commands.Push value) place is = absurd is
+  mended_told (commands.Grow n value) place is = absurd is
+  mended_told (commands.AtLeast to value) place is = absurd is
+  mended_told (commands.Fail n value at) place is = absurd is
+  mended_told (commands.Mend at value) place is =
+      subst (λ k. Tells actor (commands.Mend at value) ((events.Mend actor k, replies.Done) ∷ []) (fill_mended m actor (commands.Mend at value) k)) is
+      (record { its = refl; told = inl (record { events = refl; answered = refl }) })
+  mended_told (commands.Read at) place is = absurd is
+  mended_told commands.Size place is = absurd is
 
 -- ---- Steps of a call that won its places
 
@@ -280,6 +344,9 @@ module _ (limit : ℕ) (m : Storage) (actor : ℕ) (command : Command) (memory :
       after so_far (settle_told actor command from n place (with_slot m place (Filled (value_of command))) (events.Finish actor place (value_of command)) sound asks low high refl (rw fits refl))
   row_told (Spoil from n place) now sound (low, high, room) (so_far, asks, refused) =
       after so_far (settle_told actor command from n place (with_slot m place Broken) (events.Break actor place) sound asks low high refl (rw refused refl))
+  row_told (Mend place) now sound within (none, is) =
+      after none (mend_told m actor command place (finite.get m.slots place) is)
+  row_told (FillMended place) now sound within (so_far, is) = after so_far (mended_told m actor command place is)
   row_told (Look place) now sound within (none, is) =
       after none (look_told m actor command place (finite.get m.slots place) is)
 
@@ -311,6 +378,12 @@ some_begun actor (commands.Push value) = growth_begun actor (commands.Push value
 some_begun actor (commands.Grow n value) = growth_begun actor (commands.Grow n value) n refl
 some_begun actor (commands.AtLeast to value) = growth_begun actor (commands.AtLeast to value) 0 tt
 some_begun actor (commands.Fail n value at) = growth_begun actor (commands.Fail n value at) n refl
+some_begun actor (commands.Mend place value) = record {
+  rest = (events.Look actor place, replies.Pending) ∷ [];
+  answer = answers.Pending;
+  recorded = inr (record { reply = replies.Pending; events = refl; answered = refl });
+  proper = cons_is_some _ [];
+}
 some_begun actor (commands.Read place) = record {
   rest = (events.Look actor place, replies.Pending) ∷ [];
   answer = answers.Pending;
@@ -323,6 +396,23 @@ some_begun actor commands.Size = record {
   recorded = record { size = 0; events = refl; answered = refl };
   proper = cons_is_some _ [];
 }
+
+-- a mend that has its place, and has not filled it, is begun
+mend_begun : (actor : ℕ) (command : Command) (place : ℕ) → IsMendOf command place
+    → IsBegun actor command ((events.Mend actor place, replies.Done) ∷ [])
+mend_begun actor (commands.Push value) place is = absurd is
+mend_begun actor (commands.Grow n value) place is = absurd is
+mend_begun actor (commands.AtLeast to value) place is = absurd is
+mend_begun actor (commands.Fail n value at) place is = absurd is
+mend_begun actor (commands.Mend at value) place is =
+    subst (λ k. IsBegun actor (commands.Mend at value) ((events.Mend actor k, replies.Done) ∷ [])) is (record {
+      rest = (events.Finish actor at value, replies.Done) ∷ [];
+      answer = answers.At at;
+      recorded = inl (record { events = refl; answered = refl });
+      proper = cons_is_some _ [];
+    })
+mend_begun actor (commands.Read at) place is = absurd is
+mend_begun actor commands.Size place is = absurd is
 
 module _ (actor : ℕ) (command : Command) (now : List (Event × Reply)) where
   -- a call without events is begun
@@ -364,6 +454,9 @@ module _ (actor : ℕ) (command : Command) (now : List (Event × Reply)) where
       run_begun from n (place - from) sound asks (omega arith) so_far
   stage_begun limit (Spoil from n place) sound (low, high, room) (so_far, asks, refused) =
       run_begun from n (place - from) sound asks (omega arith) so_far
+  stage_begun limit (Mend place) sound within (none, is) = none_begun none
+  stage_begun limit (FillMended place) sound within (so_far, is) =
+      subst (IsBegun actor command) (sym so_far) (mend_begun actor command place is)
   stage_begun limit (Look place) sound within (none, is) = none_begun none
 
   -- so the events so far are what the phase says
@@ -377,4 +470,6 @@ module _ (actor : ℕ) (command : Command) (now : List (Event × Reply)) where
   stage_so_far limit (Begin from n place) (low, high, room) (so_far, asks) = up_to from n place low so_far
   stage_so_far limit (Fill from n place) (low, high, room) (so_far, asks, fits) = up_to from n place low so_far
   stage_so_far limit (Spoil from n place) (low, high, room) (so_far, asks, refused) = up_to from n place low so_far
+  stage_so_far limit (Mend place) within (none, is) = none
+  stage_so_far limit (FillMended place) within (so_far, is) = (actor, so_far)
   stage_so_far limit (Look place) within (none, is) = none

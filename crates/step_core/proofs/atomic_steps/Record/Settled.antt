@@ -23,6 +23,7 @@ Asks (commands.Push value) n = n ≡ 1
 Asks (commands.Grow m value) n = n ≡ m
 Asks (commands.AtLeast to value) n = Unit {0}
 Asks (commands.Fail m value at) n = n ≡ m
+Asks (commands.Mend place value) n = ⊥
 Asks (commands.Read place) n = ⊥
 Asks commands.Size n = ⊥
 
@@ -32,6 +33,7 @@ claiming_event actor (commands.Push value) n = Claim actor n
 claiming_event actor (commands.Grow m value) n = Claim actor n
 claiming_event actor (commands.AtLeast to value) n = Raise actor to
 claiming_event actor (commands.Fail m value at) n = Claim actor n
+claiming_event actor (commands.Mend place value) n = Claim actor n
 claiming_event actor (commands.Read place) n = Claim actor n
 claiming_event actor commands.Size n = Claim actor n
 
@@ -98,5 +100,6 @@ run_recorded actor (commands.AtLeast to value) from n sound asks =
 run_recorded actor (commands.Fail m value at) from n sound asks =
     subst (λ k. IsRecord actor (commands.Fail m value at) (run_so_far actor (commands.Fail m value at) from k k) (answer_of_run (commands.Fail m value at) from k)) (sym asks)
     (inl (record { from = from; events = ap (λ es. (Claim actor m, replies.Run from m) ∷ map (λ event. (event, replies.Done)) es) (filled_up_to actor m value at from sound); answered = refl }))
+run_recorded actor (commands.Mend place value) from n sound asks = absurd asks
 run_recorded actor (commands.Read place) from n sound asks = absurd asks
 run_recorded actor commands.Size from n sound asks = absurd asks

@@ -8,7 +8,7 @@ use book_core::{Answer, Command, Event, Reply};
 use seg_core::locate;
 
 impl Storage {
-    ghost use Rattle.step_core.specs.machine.Step.{load_growth, load_at_least, load_read, load, ends as ends_with};
+    ghost use Rattle.step_core.specs.machine.Step.{load_growth, load_at_least, load_place, load, ends as ends_with};
     ghost use Rattle.step_core.specs.machine.Bounds.{given};
 
     pub(crate) fn refuse(&self, actor: u32, n: u64) -> Outcome
@@ -77,12 +77,13 @@ impl Storage {
         self.refuse(actor, to - size)
     }
 
-    fn load_read(&self, actor: u32, place: u64) -> Outcome
-        ensures gives { given self.now result ≡ load_read self.now actor place }
+    // A call of one place goes on to this phase where the place is claimed.
+    fn load_place(&self, actor: u32, place: u64, phase: Phase) -> Outcome
+        ensures gives { given self.now result ≡ load_place self.now actor place phase }
     {
         let size = self.size;
         if place < size {
-            return goes(Phase::Look { place });
+            return goes(phase);
         }
         ends(
             Event::Look { actor, place },
@@ -100,7 +101,8 @@ impl Storage {
             Command::Push { .. } => self.load_growth(limit, actor, 1),
             Command::Grow { n, .. } | Command::Fail { n, .. } => self.load_growth(limit, actor, n),
             Command::AtLeast { to, .. } => self.load_at_least(limit, actor, to),
-            Command::Read { place } => self.load_read(actor, place),
+            Command::Mend { place, .. } => self.load_place(actor, place, Phase::Mend { place }),
+            Command::Read { place } => self.load_place(actor, place, Phase::Look { place }),
             Command::Size => {
                 let size = self.size;
                 ends(

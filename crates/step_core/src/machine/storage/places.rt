@@ -1,4 +1,4 @@
-//! Begin, Fill, Spoil and Look: what is done to the slot of one place.
+//! Begin, Fill, Spoil, Mend and Look: what is done to the slot of one place.
 ghost use Rattle.std.specs.Prelude.{◌≡◌, ◌+◌, ◌≤◌, ◌<◌, ◌^◌};
 ghost use Rattle.std.specs.FinMap as map;
 ghost use Rattle.step_core.specs.machine.Step.{is_refused, value_of, answer_of_run, after_place};
@@ -8,7 +8,7 @@ use crate::machine::storage::{Outcome, Storage, ends, goes};
 use book_core::{Answer, Command, Event, Reply};
 
 impl Storage {
-    ghost use Rattle.step_core.specs.machine.Step.{begin_at, fill, spoil, look_at};
+    ghost use Rattle.step_core.specs.machine.Step.{begin_at, fill, spoil, mend_at, fill_mended, look_at};
     ghost use Rattle.step_core.specs.machine.Bounds.{given};
     ghost use Rattle.step_core.specs.machine.Installed.{IsReady};
 
@@ -83,6 +83,38 @@ impl Storage {
         }
     }
 
+    pub(crate) fn mend(&mut self, actor: u32, place: u64) -> Outcome
+        requires place { place < 2 ^ 32 }
+        requires there { IsReady self.old place }
+        ensures gives { given self.new result ≡ mend_at self.old actor place (map.get self.old.slots place) }
+    {
+        match self.blocks.get(place) {
+            Some(Slot::Broken) => {
+                self.blocks.set(place, Slot::Busy(actor));
+                Outcome {
+                    event: Some((Event::Mend { actor, place }, Reply::Done)),
+                    next: Next::Goes(Phase::FillMended { place }),
+                }
+            }
+            None | Some(Slot::Busy(_)) | Some(Slot::Filled(_)) => self.look(actor, place),
+        }
+    }
+
+    pub(crate) fn fill_mended(&mut self, actor: u32, command: &Command, place: u64) -> Outcome
+        requires place { place < 2 ^ 32 }
+        requires there { IsReady self.old place }
+        ensures gives { given self.new result ≡ fill_mended self.old actor command.now place }
+    {
+        let value = value_of(command);
+        self.blocks.set(place, Slot::Filled(value));
+        let event = Event::Finish {
+            actor,
+            place,
+            value,
+        };
+        ends(event, Reply::Done, Answer::At { place })
+    }
+
     pub(crate) fn look(&self, actor: u32, place: u64) -> Outcome
         ensures gives { given self.now result ≡ look_at self.now actor place (map.get self.now.slots place) }
     {
@@ -110,7 +142,7 @@ fn is_refused(command: &Command, from: u64, place: u64) -> bool
     }
 }
 
-// What a growth constructs.
+// What a growth or a mend constructs.
 fn value_of(command: &Command) -> u64
     ensures { result ≡ value_of command.now }
 {
@@ -118,7 +150,8 @@ fn value_of(command: &Command) -> u64
         Command::Push { value }
         | Command::Grow { value, .. }
         | Command::AtLeast { value, .. }
-        | Command::Fail { value, .. } => value,
+        | Command::Fail { value, .. }
+        | Command::Mend { value, .. } => value,
         Command::Read { .. } | Command::Size => 0,
     }
 }

@@ -1,4 +1,4 @@
--- A value that a read answered was filled in by the owner of its place, before that read.
+-- A value that a read answered was filled in once, by the owner of its place or by who mended it, before that read.
 use Rattle.std.proofs.Common.{◌≡◌, ◌⊎◌, ℕ, ◌+◌, ◌==◌, true, false, if◌then◌else◌, List, [], ◌∷◌, ◌++◌, get_or, Option, Some, None, Result, Ok, Err, IfOk, OnOk, slice_get, zero, suc, ap, sym, ◌∙◌, subst, append_assoc, inl, inr, arith}
 use Rattle.std.proofs.lemmas.Bool.Decides.{nat_tests}
 use Rattle.std.proofs.lemmas.Option.{none-some, same_Some}
@@ -17,14 +17,14 @@ use Rattle.book_core.specs.Cells.{empty_list}
 use Rattle.book_core.specs.Commands.{AreSound, calls_of}
 use Rattle.book_core.specs.Events.{actor_of}
 use Rattle.book_core.specs.History.{IsHistory, events_of}
-use Rattle.book_core.specs.Laws.{LooksTellTheOwnersValue}
+use Rattle.book_core.specs.Laws.{LooksTellTheWritersValue}
 use Rattle.step_core.specs.declared.errors.PlayError.{PlayError}
 use Rattle.step_core.specs.declared.programs.Played.{Played}
 use Rattle.step_core.specs.machine.Play.{Play, play_of, played_of}
 use Rattle.step_core.specs.machine.Legal.{list_seen}
 use Rattle.step_core.specs.machine.Record.{answer_to_look, IsLook, IsRecord, AreCalls, program_of}
 use Rattle.step_core.specs.machine.Headline.{IsSequential, EveryInterleavingIsSequential}
-use Rattle.callers.specs.Uses.{ReadsTellTheOwners}
+use Rattle.callers.specs.Uses.{ReadsTellTheWriters}
 
 -- an event stands in a history, between what came before and after it
 record Stands (es : List (Event × Reply)) (e : Event × Reply) : Type 0 where
@@ -130,7 +130,7 @@ among_own (x ∷ calls) (suc i) ended is =
     [ true ↦ record { at = suc others.at; is = others.is } | false ↦ others ]
 
 pub reads_tell : (limit : ℕ) (programs : List (List Command)) (p : Play) → IsSequential limit programs p
-    → LooksTellTheOwnersValue → ReadsTellTheOwners p.ended p.events
+    → LooksTellTheWritersValue → ReadsTellTheWriters p.ended p.events
 reads_tell limit programs p is law i place value ended there reads told =
     let r = is.recorded ended.actor in
     let own = among_own p.ended i ended there in
@@ -146,9 +146,9 @@ reads_tell limit programs p is law i place value ended there reads told =
 
 -- so it is of what a play answers
 pub reads_of : (r : Result Played PlayError) (limit : ℕ) (programs : List (List Command)) (items : List Item)
-    → EveryInterleavingIsSequential → LooksTellTheOwnersValue
+    → EveryInterleavingIsSequential → LooksTellTheWritersValue
     → IfOk r (λ played. played ≡ played_of (play_of limit programs items)) → OnOk r (IsLimit limit)
-    → OnOk r (AreSound programs) → IfOk r (λ played. ReadsTellTheOwners played.ended played.events)
+    → OnOk r (AreSound programs) → IfOk r (λ played. ReadsTellTheWriters played.ended played.events)
 reads_of (Ok played) limit programs items law looks is is_limit sound =
-    subst (λ (x : Played). ReadsTellTheOwners x.ended x.events) (sym is) (reads_tell limit programs (play_of limit programs items) (law limit programs items is_limit sound) looks)
+    subst (λ (x : Played). ReadsTellTheWriters x.ended x.events) (sym is) (reads_tell limit programs (play_of limit programs items) (law limit programs items is_limit sound) looks)
 reads_of (Err e) limit programs items law looks is is_limit sound = tt

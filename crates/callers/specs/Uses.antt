@@ -9,7 +9,7 @@ use Rattle.book_core.specs.declared.commands.Command.TheVariants.{Read}
 use Rattle.book_core.specs.declared.commands.Answer.TheVariants.{At, Value}
 use Rattle.book_core.specs.declared.commands.Ended.{Ended}
 use Rattle.book_core.specs.History.{OwnedRun, runs_of}
-use Rattle.book_core.specs.Laws.{IsFilledByOwner}
+use Rattle.book_core.specs.Laws.{IsFilledOnce}
 
 -- calls that ended at one place are one call
 abbrev pub PushesAreApart : List Ended → Type 0
@@ -17,18 +17,18 @@ PushesAreApart calls =
     (i j place : ℕ) (a b : Ended) → slice_get calls i ≡ Some a → slice_get calls j ≡ Some b
     → a.answer ≡ At place → b.answer ≡ At place → i ≡ j
 
--- the look of a read is an event of the history, and before it the place's owner filled it with the value
-pub record IsReadOfOwners (events : List (Event × Reply)) (actor place value : ℕ) : Type 0 where
+-- the look of a read is an event of the history, and before it the place was filled with the value, once, by its owner or by who mended it
+pub record IsReadOfWriters (events : List (Event × Reply)) (actor place value : ℕ) : Type 0 where
   pub before : List (Event × Reply)
   pub after : List (Event × Reply)
   pub look : events ≡ before ++ (Look actor place, replies.Value value) ∷ after
-  pub filled : IsFilledByOwner before place value
+  pub filled : IsFilledOnce before place value
 
 -- so it is of every read that answered a value
-abbrev pub ReadsTellTheOwners : List Ended → List (Event × Reply) → Type 0
-ReadsTellTheOwners calls events =
+abbrev pub ReadsTellTheWriters : List Ended → List (Event × Reply) → Type 0
+ReadsTellTheWriters calls events =
     (i place value : ℕ) (ended : Ended) → slice_get calls i ≡ Some ended → ended.command ≡ Read place
-    → ended.answer ≡ Value value → IsReadOfOwners events ended.actor place value
+    → ended.answer ≡ Value value → IsReadOfWriters events ended.actor place value
 
 -- wherever a history is cut, what is claimed after the cut lies past all that was claimed before it
 abbrev pub LaterRunsLiePast : List (Event × Reply) → Type 0

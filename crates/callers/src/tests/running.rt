@@ -5,7 +5,7 @@ ghost use Rattle.seg_core.specs.Segment.{IsLimit};
 ghost use Rattle.grow_core.specs.Vector.{IsHandOf};
 
 use book_core::{Answer, Cell, Command, Ended, Item};
-use grow_core::{At, AtError, AtLeast, GrowError, Grown, Hand, Never, Placed, Shared};
+use grow_core::{At, AtError, AtLeast, GrowError, Grown, Hand, MendError, Never, Placed, Shared};
 use quiet_core::{Quiet, QuietAt};
 use rand_core::SeedableRng;
 use rand_core::utils::NextWord;
@@ -70,6 +70,23 @@ fn look_answer(looked: Result<At<'_, u64>, AtError>) -> Answer {
     }
 }
 
+// The answer of a mend. The value at a place that is filled is read by the token that the refusal has.
+fn mend(vector: &Shared<u64>, hand: &mut Hand<u64>, place: u64, value: u64) -> Answer
+    requires ours { IsHandOf vector.now hand.old }
+    ensures of { hand.new.of ≡ hand.old.of }
+{
+    match vector.mend(hand, place, value) {
+        Ok(placed) => Answer::At {
+            place: placed.place(),
+        },
+        Err((MendError::OutOfRange { size }, _)) => Answer::OutOfRange { size },
+        Err((MendError::Pending, _)) => Answer::Pending,
+        Err((MendError::Filled(placed), _)) => Answer::Value {
+            value: *vector.get(&placed),
+        },
+    }
+}
+
 // The answer of a call by a hand.
 fn answer_of(vector: &Shared<u64>, hand: &mut Hand<u64>, command: Command) -> Option<Answer>
     requires ours { IsHandOf vector.now hand.old }
@@ -86,6 +103,7 @@ fn answer_of(vector: &Shared<u64>, hand: &mut Hand<u64>, command: Command) -> Op
             let make = |i: u64| -> Result<u64, ()> { if i == at { Err(()) } else { Ok(value) } };
             growth_answer(vector.try_grow_with(hand, n, make))
         }
+        Command::Mend { place, value } => Some(mend(vector, hand, place, value)),
         Command::Read { place } => Some(look_answer(vector.at(hand, place, None))),
         Command::Size => Some(Answer::Size {
             size: vector.size(hand),
@@ -257,7 +275,7 @@ fn counted(alloc: Global, script: &str) -> Result<Counts, Fail> {
 type Row = (&'static str, bool);
 
 #[rattlefmt::skip]
-const ROWS: [Row; 6] = [
+const ROWS: [Row; 7] = [
     ("limit 16\nactor a push 1, grow 3 2, atleast 9 3\nactor b fail 4 5 2, read 0, push 6\n\
         actor c atleast 5 7, size, grow 2 8\nsteps", false),
     ("limit 8\nactor a push 1, grow 3 2, atleast 9 3\nactor b fail 4 5 2, read 0, push 6\n\
@@ -271,6 +289,9 @@ const ROWS: [Row; 6] = [
         actor c fail 5 7 4, size, fail 2 8 1\nsteps", true),
     ("limit 8\nactor a fail 1 1 0, fail 3 2 2, read 3\nactor b fail 4 5 1, read 0, fail 2 6 1\n\
         actor c fail 5 7 2, size, fail 2 8 0\nsteps", true),
+    // Two actors mend what the first breaks, and what they break themselves.
+    ("limit 8\nactor a fail 2 1 0, fail 3 2 1, mend 1 9\nactor b mend 0 5, fail 2 6 0, mend 2 6\n\
+        actor c mend 0 7, mend 2 8, read 0\nsteps", false),
 ];
 
 #[test]

@@ -1,6 +1,6 @@
 //! What callers prove of plays by the public clauses alone.
 ghost use Rattle.std.specs.Prelude.{◌≤◌, length, IfOk};
-ghost use Rattle.callers.specs.Uses.{PushesAreApart, ReadsTellTheOwners, LaterRunsLiePast};
+ghost use Rattle.callers.specs.Uses.{PushesAreApart, ReadsTellTheWriters, LaterRunsLiePast};
 
 use book_core::{Command, Item, Sequence};
 use script_core::{Script, read};
@@ -8,8 +8,8 @@ use std::alloc::Global;
 use std::test::Fail;
 use step_core::{PlayError, Played, laws, play};
 
-// What a caller knows of a play. Two pushes that ended in it are at different places. A value that a read answered was
-// filled in by the owner of its place, before that read. Wherever the history is cut, what is claimed later lies past what
+// What a caller knows of a play. Two calls that ended at a place are at different places. A value that a read answered was
+// filled in once, by the owner of its place or by who mended it, before that read. Wherever the history is cut, what is claimed later lies past what
 // was claimed before.
 fn play_known(
     alloc: Global,
@@ -19,14 +19,14 @@ fn play_known(
 ) -> Result<Played, PlayError>
     requires { length programs ≤ 65536 }
     ensures apart { IfOk result (λ played. PushesAreApart played.ended) }
-    ensures owners { IfOk result (λ played. ReadsTellTheOwners played.ended played.events) }
+    ensures writers { IfOk result (λ played. ReadsTellTheWriters played.ended played.events) }
     ensures past { IfOk result (λ played. LaterRunsLiePast played.events) }
 {
     laws::interleavings();
     book_core::laws::histories_split();
     book_core::laws::runs_split();
-    book_core::laws::writers_split();
-    book_core::laws::values_are_the_owners();
+    book_core::laws::writes_split();
+    book_core::laws::values_have_one_writer();
     play(alloc, limit, programs, items)
 }
 

@@ -11,7 +11,6 @@ use mir.Val.{Val, vstruct, vnil, of_list}
 use denote.Laws.{Is}
 use types.Logic.{Logic, sem}
 use types.Kit.{‵, raw, ◌⊛◌, given, later, await, updating, now, fpack, ◌$◌, ◌∵◌, !, qed, by, move, keep, drop, frame, assume, suffices, use0, use1, use2, split, learn, fsplit, fjoin, done}
-use types.Tokens.{res_dup}
 use denote.RattleType.{RattleType}
 use denote.Shadow.{makes_shadow}
 use denote.Struct.Struct.{Struct}

@@ -1,10 +1,10 @@
 -- What a load of more than 2 showed is that the cell is broken.
-use Rattle.std.proofs.Common.{◌<◌, ◌≡◌, ℕ, [], ◌∷◌, refl}
+use Rattle.std.proofs.Common.{◌<◌, ◌≡◌, [], ◌∷◌, refl}
 use mir.Syntax.{a_type}
 use mir.Val.{Val}
 use mir.MapTy.{inst_fn}
 use base.Logic.{SProp, emp}
-use types.Kit.{‵, raw, ◌⊛◌, ◌$◌, ◌∵◌, !, qed, by, move, keep, use0, use1, split, fsplit, fjoin, rewrite}
+use types.Kit.{‵, raw, ◌⊛◌, ◌$◌, ◌∵◌, !, qed, by, move, keep, use0, use1, split, fsplit, fjoin}
 use types.Run.{no_more, and_then, returns, enter}
 use types.ByLocal.{alloc_all, pass_all, free_all, look_at, get, sets}
 use types.Part.{agg}
@@ -18,7 +18,7 @@ use denote.Param.{param, layouts}
 use denote.Triple.Walked.{Stays, stay_dropped, walk_of, Goes-dropped}
 use Rattle.atomic_table.proofs.Walks.{proved, leaves}
 use denote.Triple.Entry.{alive}
-use Rattle.cell_core.specs.Slot.{spoilt, Names, sighted}
+use Rattle.cell_core.specs.Slot.{spoilt, Names}
 use Rattle.cell_core.specs.contracts.slot.steps.Sight as Sight
 use Rattle.cell_core.specs.contracts.slot.steps.Crack as Crack
 use Rattle.cell_core.proofs.CellMade.{sight_cracks, token_val, sight_told, crack_made}

@@ -5,7 +5,7 @@ use mir.Val.{Val, vint, vptr, vstruct, vcons, vnil, of_list}
 use mir.MapTy.{inst_fn}
 use base.Logic.{SProp, wand, emp, via, apply∗}
 use base.Fml.{Lft, Share, Fml, ftrue, fsep, flft, finv, fbor, feq}
-use types.Kit.{mean, ‵, raw, ◌⊛◌, some, later, at_ret, ◌$◌, ◌∵◌, !, qed, by, move, keep, drop, use0, use2, use3, split, split3, join, fsplit, fsplit3, fjoin, fpick, pick, await, feq_i, flt_i, use1, fjoin3, fpack}
+use types.Kit.{mean, ‵, raw, ◌⊛◌, some, later, at_ret, ◌$◌, ◌∵◌, !, qed, by, move, keep, drop, use0, use2, use3, split, join, fsplit, fsplit3, fjoin, fpick, pick, await, feq_i, flt_i, use1, fjoin3, fpack}
 use types.Run.{stop, fld, addr, lit, of_opd, no_more, and_then, first, blocks, exec, Calls-last, returns, enter}
 use types.ByLocal.{alloc_all, pass_all, free_all, look_at, get, through, sets, lands_last, env}
 use types.Part.{agg}
@@ -23,7 +23,7 @@ use denote.Builtin.{RefOf, u64}
 use denote.Ref.{shr_vals, shr_Tells}
 use denote.Triple.Walked.{Stays, stay_dropped, walk_of, Goes-dropped}
 use Rattle.atomic_table.proofs.Walks.{proved, leaves}
-use Rattle.atomic_table.proofs.Calls.{fm, seq_cst, found, loads, finds, exchanges}
+use Rattle.atomic_table.proofs.Calls.{fm, found, finds, exchanges}
 use Rattle.core.proofs.atomic.Steps.{tail}
 use Rattle.cell_core.specs.Slot.{Names, Turn, Cell, kept, won}
 use Rattle.cell_core.specs.Member.{MemberView, HasNames, MayBeWordOf, IsEpochOf}

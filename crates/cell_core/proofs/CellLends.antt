@@ -19,7 +19,7 @@ use denote.Param.Laws.{Laws}
 use denote.Struct.Lending.{Lends}
 use contract.Monad as monad
 use Rattle.core.proofs.cell.Borrows.{by_one}
-use Rattle.cell_core.specs.Slot.{Names, Phase, free, busy, full, broken, Rest, Turn, content, Lies, at, inside, Room, tie, lent, tied, standing, Cell, kept, shared_at}
+use Rattle.cell_core.specs.Slot.{Names, Phase, free, busy, full, broken, shut, Rest, Turn, content, Lies, at, inside, Room, tie, lent, tied, standing, Cell, kept, shared_at}
 use Rattle.cell_core.specs.Laid.{rests, still}
 use Rattle.cell_core.proofs.CellSteps.{pins}
 
@@ -76,6 +76,7 @@ module _ (T : RattleType) (L : Laws T) (γ : Names) {M : Type 1} {𝓤 : Ura M} 
     lies free v = qed 𝓛 (‵ (fobs η (code None)) ∷ ‵ (fauth η (code v)) ∷ []) ∵ name_agree ! (content T) {x = None} {y = v} (λ z. by ! (monad.fact_i 𝓤 (v ≡ None) _ (sym z)))
     lies busy v = monad.fact_i 𝓤 (Unit {0}) _ tt
     lies (full x) v = qed 𝓛 (‵ (fres η (code (Some x))) ∷ ‵ (fauth η (code v)) ∷ []) ∵ res_agree ! (content T) {x = Some x} {y = v} (λ z. by ! (monad.fact_i 𝓤 (v ≡ Some x) _ (sym z)))
+    lies shut v = qed 𝓛 (‵ (fobs η (code None)) ∷ ‵ (fauth η (code v)) ∷ []) ∵ name_agree ! (content T) {x = None} {y = v} (λ z. by ! (monad.fact_i 𝓤 (v ≡ None) _ (sym z)))
     lies broken v = qed 𝓛 (‵ (fobs η (code None)) ∷ ‵ (fauth η (code v)) ∷ []) ∵ name_agree ! (content T) {x = None} {y = v} (λ z. by ! (monad.fact_i 𝓤 (v ≡ None) _ (sym z)))
 
     way_back : emp 𝓤 ⊢ ⟦ fwand (fsep (fdead κ) (fseps (Tied ∷ V ∷ []))) (fupd P) ⟧
@@ -89,11 +90,13 @@ module _ (T : RattleType) (L : Laws T) (γ : Names) {M : Type 1} {𝓤 : Ura M} 
     ties free v so = subst (λ (u : X). A.obs η (code v) ⊢ A.obs η (code u)) so (id⊢ 𝓤 _)
     ties busy v so = qed 𝓛 (‵ (fobs η (code v)) ∷ []) ∵ drop ! $ done !
     ties (full x) v so = subst (λ (u : X). A.obs η (code v) ⊢ A.res η (code u)) so (𝓛.names.obs-res η (code v))
+    ties shut v so = subst (λ (u : X). A.obs η (code v) ⊢ A.obs η (code u)) so (id⊢ 𝓤 _)
     ties broken v so = subst (λ (u : X). A.obs η (code v) ⊢ A.obs η (code u)) so (id⊢ 𝓤 _)
 
     lends : (ts : Toks) → Incl (span ts) T.lives → Incl (span ts) κ → (s : Phase T.Denot)
         → ⟦ tie T γ t b o s ⟧ ∗ A.bor κ V ∗ lfts 𝓛 ts ⊢ H.⇛ (⟦ tie T γ t b o s ⟧ ∗ ⟦ lent T γ t b o s ⟧ ∗ lfts 𝓛 ts)
     lends ts inc sp free = 𝓛.laws.⇛_intro _
+    lends ts inc sp shut = 𝓛.laws.⇛_intro _
     lends ts inc sp broken = 𝓛.laws.⇛_intro _
     lends ts inc sp busy = qed 𝓛 (‵ ftrue ∷ ‵ (fbor κ V) ∷ raw (lfts 𝓛 ts) ∷ []) ∵ updating ! $ now ! $ nothing ! $ keep ! (0 ∷ 1 ∷ 3 ∷ []) $ done !
     lends ts inc sp (full y) = let Q : Fml = part_at T full_share y b e in let c = code (Some y) in

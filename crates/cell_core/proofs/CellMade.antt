@@ -1,14 +1,14 @@
 -- What the raw steps on a cell hand out, as values. Assumes `Logic`.
-use Rattle.std.proofs.Common.{arith, ◌≡◌, ℕ, suc, T, List, [], ◌∷◌, ◌++◌, refl, ap, ◌∙◌}
+use Rattle.std.proofs.Common.{Bool, eq-eqb, ne_eqb, arith, ◌≡◌, ◌≢◌, ◌<◌, ℕ, zero, suc, T, List, [], ◌∷◌, ◌++◌, refl, ap, ◌∙◌}
 use Rattle.std.specs.Prelude.{Option, Some, None}
 use seplogic.Ra.Ura.{Ura}
 use mir.Syntax.{ty_ptr, ty_struct, tcons, tnil}
 use mir.Val.{Val, vstruct, vcons, vnil, of_list, has_ty, WT}
-use base.Logic.{ent, emp, never_e}
-use base.Fml.{Lft, fex}
+use base.Logic.{ent, emp, id⊢, never_e}
+use base.Fml.{Lft, Fml, fsep, fex}
 use contract.Monad.{fact, fact_i}
 use types.Logic.{Logic, sem}
-use types.Kit.{‵, ◌$◌, ◌∵◌, !, qed, use0, keep, fsplit, fpick, fpack, done}
+use types.Kit.{‵, ◌$◌, ◌∵◌, !, qed, use0, keep, fsplit, fjoin, fpick, fpack, rewrite, done}
 use denote.RattleType.{RattleType}
 use denote.Laws.{Is}
 use denote.Ref.{NamedLft}
@@ -16,7 +16,7 @@ use denote.RawPtr.{Ptr, InBlock, block_ptr, null_ptr, ptr_val}
 use denote.Shadow.{makes_shadow}
 use denote.Struct.Struct.{Struct}
 use denote.Struct.Owning.{shape}
-use Rattle.cell_core.specs.Slot.{Names, written, spoilt, known, sights, sighted, claimed}
+use Rattle.cell_core.specs.Slot.{Names, Turn, written, spoilt, known, kept, Right, gained, sights, sighted, claimed}
 use Rattle.cell_core.specs.contracts.slot.steps.Claim as Claim
 use Rattle.cell_core.specs.contracts.slot.steps.Sight as Sight
 use Rattle.cell_core.specs.contracts.slot.steps.Written as Written
@@ -51,14 +51,29 @@ sight_told R vs is = is.1.0 ∙ ap (λ (ws : List Val). vstruct (of_list (ws ++ 
 
 module _ {M : Type 1} {𝓤 : Ura M} (𝓛 : Logic 𝓤) (R : RattleType) where
   -- what a claim owns lies in a block
-  pub claim_placed : (γ : Names) (β : Lft) (p : Ptr) (n : ℕ) → ent 𝓤 (sem 𝓛 (claimed R γ β p n)) (fact 𝓤 (InBlock p))
-  claim_placed γ β (block_ptr b o) n = fact_i 𝓤 (Unit {0}) _ tt
-  claim_placed γ β null_ptr n = never_e 𝓤 _
+  pub claim_placed : (γ : Names) (β : Lft) (p : Ptr) (m n : ℕ) → ent 𝓤 (sem 𝓛 (claimed R γ β p m n)) (fact 𝓤 (InBlock p))
+  claim_placed γ β (block_ptr b o) m n = fact_i 𝓤 (Unit {0}) _ tt
+  claim_placed γ β null_ptr m n = never_e 𝓤 _
 
   -- what a lost exchange showed
-  pub claim_shows : (γ : Names) (β : Lft) (p : Ptr) (n : ℕ) → ent 𝓤 (sem 𝓛 (claimed R γ β p (suc n))) (sem 𝓛 (sights R γ (suc n)))
-  claim_shows γ β (block_ptr b o) n = qed 𝓛 (‵ (claimed R γ β (block_ptr b o) (suc n)) ∷ []) ∵ fpick ! (λ t. fsplit ! $ keep ! (1 ∷ []) $ done !)
-  claim_shows γ β null_ptr n = never_e 𝓤 _
+  pub claim_shows : (γ : Names) (β : Lft) (p : Ptr) (m n : ℕ) → n ≢ m → ent 𝓤 (sem 𝓛 (claimed R γ β p m n)) (sem 𝓛 (sights R γ n))
+  claim_shows γ β (block_ptr b o) m n lost = qed 𝓛 (‵ (claimed R γ β (block_ptr b o) m n) ∷ []) ∵ fpick ! (λ t. fsplit ! $ keep ! (1 ∷ []) $ rewrite ! 0 (λ (h : Bool). ‵ (gained R γ t b o h n)) (ne_eqb n m lost) refl $ done !)
+  claim_shows γ β null_ptr m n lost = never_e 𝓤 _
+
+  -- what one that found what it sought gained
+  abbrev pub Held : Names → Lft → ℕ → ℕ → Fml
+  Held γ β b o = fex Turn (λ t. fsep (kept R γ t b o β) (Right R γ t b o))
+
+  pub claim_gains : (γ : Names) (β : Lft) (b o m n : ℕ) → n ≡ m → ent 𝓤 (sem 𝓛 (claimed R γ β (block_ptr b o) m n)) (sem 𝓛 (Held γ β b o))
+  claim_gains γ β b o m n same = qed 𝓛 (‵ (claimed R γ β (block_ptr b o) m n) ∷ []) ∵ fpick ! (λ t. fsplit ! $ rewrite ! 1 (λ (h : Bool). ‵ (gained R γ t b o h n)) (eq-eqb n m same) refl $ fjoin ! $
+      fpack ! Turn (λ u. fsep (kept R γ u b o β) (Right R γ u b o)) t $ done !)
+
+  -- a word above 2 showed that the cell is broken
+  pub sight_cracks : (γ : Names) (n : ℕ) (v : Option R.Denot) → 2 < n → ent 𝓤 (sem 𝓛 (sighted R γ n v)) (sem 𝓛 (spoilt γ.breach))
+  sight_cracks γ zero v more = absurd (omega arith)
+  sight_cracks γ (suc zero) v more = absurd (omega arith)
+  sight_cracks γ (suc (suc zero)) v more = absurd (omega arith)
+  sight_cracks γ (suc (suc (suc n))) v more = id⊢ 𝓤 _
 
   pub sight_made : (γ : Names) (n : ℕ) (v : Option R.Denot)
       → ent 𝓤 (sem 𝓛 (sighted R γ n v)) (sem 𝓛 ((Sight.the_row R).own_val (record { marker = record {}; of = γ; found = n; value = v }) (token_val ∷ [])))

@@ -1,16 +1,16 @@
 -- The steps on the word of a raw cell. Assumes `Logic`.
-use Rattle.std.proofs.Common.{◌≡◌, ℕ, ◌+◌, eqb, [], ◌∷◌, sym, refl, ap, subst, arith}
+use Rattle.std.proofs.Common.{Bool, true, false, ◌≡◌, ℕ, ◌+◌, eqb, [], ◌∷◌, sym, refl, ap, ◌∙◌, subst, arith}
 use Rattle.std.specs.Prelude.{Option, Some, None}
 use seplogic.Ra.Ura.{Ura}
 use base.Fraction.{full_share}
 use base.Stored.{Gv, gnil, gnum, gcons}
-use base.Logic.{SProp, ent, sep, wand, ex, emp, upd, upd_i, id⊢}
-use base.Fml.{Lft, Incl, GName, Share, Fml, ftrue, ffalse, fsep, fseps, fwand, fupd, fdead, fobs, fauth, fres, fbor, flft, finv}
+use base.Logic.{SProp, ent, sep, wand, ex, emp, guard, never, never_e, upd, upd_i, id⊢}
+use base.Fml.{Lft, Incl, GName, Share, Fml, ftrue, feq, fsep, fseps, fwand, fupd, fdead, fobs, fauth, fres, fbor, flft, finv}
 use base.Before.{before}
 use ghost.Rules.{Toks, span}
 use prog.Atomic.{either}
 use types.Logic.{Logic, sem, lfts}
-use types.Kit.{‵, raw, ◌⊛◌, some, given, later, ◌$◌, ◌∵◌, !, qed, by, move, keep, drop, use1, use2, split, join, fsplit, fsplit3, fjoin, fjoin3, fpick, fpack, pick, learn, show, frame, each, assume, suffices, await, updating, now, rewrite, settle, feq_i, feq_l, done}
+use types.Kit.{‵, raw, ◌⊛◌, some, given, later, ◌$◌, ◌∵◌, !, qed, by, move, keep, drop, use1, use2, use3, split, check, join, fsplit, fsplit3, fjoin, fjoin3, fpick, fpack, pick, learn, show, frame, each, assume, suffices, await, updating, now, rewrite, settle, feq_i, feq_l, done}
 use types.Tokens.{bor_open, obor_alter, res_dup, res_agree}
 use types.Na.{before_dup}
 use denote.RattleType.{RattleType, RowLaws}
@@ -25,8 +25,8 @@ use Rattle.core.proofs.once.Turns.{one_value}
 use Rattle.core.proofs.cell.Borrows.{by_one}
 use Rattle.core.specs.Sync.RawAtomic.{asks, always}
 use Rattle.core.proofs.raw_atomic.Asked.{borrowed, Lies, Again}
-use Rattle.cell_core.specs.Member.{HasNames, IsWordOf, unfilled, known_as}
-use Rattle.cell_core.specs.Slot.{Names, Phase, fact, free, busy, full, broken, Turn, word, cross, spoilt, content, mark, crossed, written, place, at, auths, unset, told, inside, Room, tie, lent, standing, Cell, kept, Right, won, sighted, sights, shared_at}
+use Rattle.cell_core.specs.Member.{HasNames, IsWordOf, MayBeWordOf, IsEpochOf, unfilled, known_as}
+use Rattle.cell_core.specs.Slot.{Names, Phase, fact, free, busy, full, broken, shut, Turn, word, cross, spoilt, breached, content, mark, written, place, at, auths, unset, over, settable, cracked, told, inside, Room, tie, lent, standing, Cell, kept, Right, gained, won, sighted, sights, shared_at}
 
 abbrev head : Gv → Gv
 head (gcons a b) = a
@@ -91,51 +91,141 @@ module _ {M : Type 1} {𝓤 : Ura M} (𝓛 : Logic 𝓤) (R : RattleType) (γ : 
       use2 𝓛 (raw (upd 𝓤 (ex 𝓤 (Next f after n)))) (law n z.1) $ settle 𝓛 Z (some (λ (s : S). ‵ (beside (f n) s) ⊛ ‵ (after n))) $ pick ! (λ s. split ! $ fsplit3 ! $ fjoin ! $ move ! (1 ∷ []) $ fsplit ! $
       move ! (4 ∷ 2 ∷ 0 ∷ []) $ fjoin3 ! $ fjoin ! $ fpack ! (ℕ × S) (standing R γ t b o) (f n, s) $ suffices ! _ (upd_i 𝓤 Z) $ done !))))
 
-  abbrev pub claim : ℕ → ℕ
-  claim n = either (eqb n 0) 1 n
-
-  abbrev Won : ℕ → Fml
-  Won = won R γ t b o
-
   abbrev rest : S → Fml
   rest s = fsep (tie R γ t b o s) (lent R γ t b o s)
+
+  -- the word of each phase, and what goes with it
+  abbrev word_of : S → ℕ
+  word_of free = 0
+  word_of busy = 1
+  word_of (full x) = 2
+  word_of broken = 3
+  word_of shut = 4
+
+  abbrev told_with : S → Fml
+  told_with free = settable R γ
+  told_with busy = over R γ
+  told_with (full x) = fsep (over R γ) (written R γ.value x)
+  told_with broken = fsep (over R γ) (cracked R γ)
+  told_with shut = cracked R γ
+
+  abbrev Told : ℕ → S → Fml
+  Told n s = fsep (feq ℕ n (word_of s)) (told_with s)
+
+  abbrev Beside : ℕ → S → Fml
+  Beside n s = fsep (auths R γ s) (fsep (Told n s) (rest s))
+
+  opened : (n : ℕ) (s : S) → ⟦ beside n s ⟧ ⊢ ⟦ Beside n s ⟧
+  opened n free = id⊢ 𝓤 _
+  opened n busy = id⊢ 𝓤 _
+  opened n (full x) = id⊢ 𝓤 _
+  opened n broken = id⊢ 𝓤 _
+  opened n shut = id⊢ 𝓤 _
+
+  shut_again : (n : ℕ) (s : S) → ⟦ Beside n s ⟧ ⊢ ⟦ beside n s ⟧
+  shut_again n free = id⊢ 𝓤 _
+  shut_again n busy = id⊢ 𝓤 _
+  shut_again n (full x) = id⊢ 𝓤 _
+  shut_again n broken = id⊢ 𝓤 _
+  shut_again n shut = id⊢ 𝓤 _
+
+  word_is : (n : ℕ) (s : S) → ⟦ beside n s ⟧ ⊢ guard 𝓤 (n ≡ word_of s) ⟦ beside n s ⟧
+  word_is n s = qed 𝓛 (‵ (beside n s) ∷ []) ∵ use1 𝓛 (‵ (Beside n s)) (opened n s) $ fsplit3 ! $ move ! (1 ∷ []) $ fsplit ! $ feq_l ! (λ e. check ! e $ feq_i ! ℕ n (word_of s) e $ fjoin ! $ move ! (1 ∷ 0 ∷ 2 ∷ []) $ fjoin3 ! $ by ! (shut_again n s))
 
   -- what the word shows can be had beside the invariant
   abbrev Sights : ℕ → Fml
   Sights = sights R γ
 
-  looked : (n : ℕ) (s : S) → ⟦ beside n s ⟧ ⊢ ⟦ beside n s ⟧ ∗ ⟦ Sights n ⟧
-  looked n free = qed 𝓛 (‵ (beside n free) ∷ []) ∵ fsplit3 ! $ move ! (1 ∷ []) $ fsplit ! $ feq_l ! (λ e. keep ! (1 ∷ 0 ∷ 2 ∷ []) $
-      by ! (subst (λ (m : ℕ). ⟦ auths R γ free ⟧ ∗ ⟦ unset R γ ⟧ ∗ ⟦ rest free ⟧ ⊢ ⟦ beside m free ⟧ ∗ ⟦ Sights m ⟧) (sym e) (qed 𝓛 (‵ (auths R γ free) ∷ ‵ (unset R γ) ∷ ‵ (rest free) ∷ []) ∵
-      feq_i ! ℕ 0 0 refl $ move ! (0 ∷ 2 ∷ []) $ fjoin ! $ move ! (1 ∷ 0 ∷ []) $ fjoin3 ! $ frame ! $ nothing ! $ fpack ! (Option R.Denot) (sighted R γ 0) None $ done !)))
-  looked n busy = qed 𝓛 (‵ (beside n busy) ∷ []) ∵ fsplit3 ! $ move ! (1 ∷ []) $ feq_l ! (λ e.
-      by ! (subst (λ (m : ℕ). ⟦ auths R γ busy ⟧ ∗ ⟦ rest busy ⟧ ⊢ ⟦ beside m busy ⟧ ∗ ⟦ Sights m ⟧) (sym e) (qed 𝓛 (‵ (auths R γ busy) ∷ ‵ (rest busy) ∷ []) ∵
-      feq_i ! ℕ 1 1 refl $ move ! (1 ∷ 0 ∷ []) $ fjoin3 ! $ frame ! $ nothing ! $ fpack ! (Option R.Denot) (sighted R γ 1) None $ done !)))
-  looked n (full x) = qed 𝓛 (‵ (beside n (full x)) ∷ []) ∵ fsplit3 ! $ move ! (1 ∷ []) $ fsplit ! $ feq_l ! (λ e. keep ! (1 ∷ 0 ∷ 2 ∷ []) $
-      by ! (subst (λ (m : ℕ). ⟦ auths R γ (full x) ⟧ ∗ ⟦ written R γ.value x ⟧ ∗ ⟦ rest (full x) ⟧ ⊢ ⟦ beside m (full x) ⟧ ∗ ⟦ Sights m ⟧) (sym e) (qed 𝓛 (‵ (auths R γ (full x)) ∷ ‵ (written R γ.value x) ∷ ‵ (rest (full x)) ∷ []) ∵
-      move ! (1 ∷ []) $ res_dup ! $ feq_i ! ℕ 2 2 refl $ fjoin ! $ move ! (2 ∷ 0 ∷ 3 ∷ []) $ fjoin3 ! $ frame ! $ fpack ! (Option R.Denot) (sighted R γ 2) (Some x) $ done !)))
-  looked n broken = let K : Fml = fobs γ.value gnil in qed 𝓛 (‵ (beside n broken) ∷ []) ∵ fsplit3 ! $ move ! (1 ∷ []) $ fsplit ! $ feq_l ! (λ e. fsplit ! $ keep ! (2 ∷ 0 ∷ 1 ∷ 3 ∷ []) $
-      by ! (subst (λ (m : ℕ). ⟦ auths R γ broken ⟧ ∗ ⟦ spoilt γ.breach ⟧ ∗ ⟦ K ⟧ ∗ ⟦ rest broken ⟧ ⊢ ⟦ beside m broken ⟧ ∗ ⟦ Sights m ⟧) (sym e) (qed 𝓛 (‵ (auths R γ broken) ∷ ‵ (spoilt γ.breach) ∷ ‵ K ∷ ‵ (rest broken) ∷ []) ∵
-      move ! (1 ∷ []) $ res_dup ! $ move ! (0 ∷ 3 ∷ []) $ fjoin ! $ feq_i ! ℕ 3 3 refl $ fjoin ! $ move ! (2 ∷ 0 ∷ 3 ∷ []) $ fjoin3 ! $ frame ! $ fpack ! (Option R.Denot) (sighted R γ 3) None $ done !)))
+  abbrev seen_of : S → Option R.Denot
+  seen_of free = None
+  seen_of busy = None
+  seen_of (full x) = Some x
+  seen_of broken = None
+  seen_of shut = None
 
-  claims_at : (n : ℕ) (s : S) → ⟦ beside n s ⟧ ∗ emp 𝓤 ⊢ upd 𝓤 (ex 𝓤 (Next claim Won n))
-  claims_at n free = qed 𝓛 (‵ (beside n free) ∷ raw (emp 𝓤) ∷ []) ∵ suffices ! _ (upd_i 𝓤 (ex 𝓤 (Next claim Won n))) $ fsplit3 ! $ move ! (1 ∷ []) $ fsplit ! $ feq_l ! (λ e. keep ! (1 ∷ 0 ∷ 2 ∷ []) $
-      by ! (subst (λ (m : ℕ). ⟦ auths R γ free ⟧ ∗ ⟦ Right R γ t b o ⟧ ⊢ ex 𝓤 (Next claim Won m)) (sym e) (qed 𝓛 (‵ (auths R γ free) ∷ ‵ (Right R γ t b o) ∷ []) ∵ show ! (Next claim Won 0) busy $
-      nothing ! $ nothing ! $ fjoin ! $ feq_i ! ℕ 1 1 refl $ move ! (2 ∷ 0 ∷ 1 ∷ []) $ fjoin3 ! $ done !)))
-  claims_at n busy = qed 𝓛 (‵ (beside n busy) ∷ raw (emp 𝓤) ∷ []) ∵ suffices ! _ (upd_i 𝓤 (ex 𝓤 (Next claim Won n))) $ fsplit3 ! $ move ! (1 ∷ []) $ feq_l ! (λ e. keep ! (0 ∷ []) $
-      by ! (subst (λ (m : ℕ). ⟦ auths R γ busy ⟧ ⊢ ex 𝓤 (Next claim Won m)) (sym e) (qed 𝓛 (‵ (auths R γ busy) ∷ []) ∵ show ! (Next claim Won 1) busy $
-      nothing ! $ nothing ! $ fjoin ! $ feq_i ! ℕ 1 1 refl $ move ! (2 ∷ 0 ∷ 1 ∷ []) $ fjoin3 ! $ by ! (looked 1 busy))))
-  claims_at n (full x) = qed 𝓛 (‵ (beside n (full x)) ∷ raw (emp 𝓤) ∷ []) ∵ suffices ! _ (upd_i 𝓤 (ex 𝓤 (Next claim Won n))) $ fsplit3 ! $ move ! (1 ∷ []) $ fsplit ! $ feq_l ! (λ e. keep ! (1 ∷ 0 ∷ 2 ∷ []) $
-      by ! (subst (λ (m : ℕ). ⟦ auths R γ (full x) ⟧ ∗ ⟦ written R γ.value x ⟧ ∗ ⟦ rest (full x) ⟧ ⊢ ex 𝓤 (Next claim Won m)) (sym e) (qed 𝓛 (‵ (auths R γ (full x)) ∷ ‵ (written R γ.value x) ∷ ‵ (rest (full x)) ∷ []) ∵ show ! (Next claim Won 2) (full x) $
-      feq_i ! ℕ 2 2 refl $ move ! (0 ∷ 2 ∷ []) $ fjoin ! $ move ! (1 ∷ 0 ∷ []) $ fjoin3 ! $ by ! (looked 2 (full x)))))
-  claims_at n broken = qed 𝓛 (‵ (beside n broken) ∷ raw (emp 𝓤) ∷ []) ∵ suffices ! _ (upd_i 𝓤 (ex 𝓤 (Next claim Won n))) $ fsplit3 ! $ move ! (1 ∷ []) $ fsplit ! $ feq_l ! (λ e. keep ! (1 ∷ 0 ∷ 2 ∷ []) $
-      let K : Fml = fsep (spoilt γ.breach) (fobs γ.value gnil) in
-      by ! (subst (λ (m : ℕ). ⟦ auths R γ broken ⟧ ∗ ⟦ K ⟧ ∗ ⟦ rest broken ⟧ ⊢ ex 𝓤 (Next claim Won m)) (sym e) (qed 𝓛 (‵ (auths R γ broken) ∷ ‵ K ∷ ‵ (rest broken) ∷ []) ∵ show ! (Next claim Won 3) broken $
-      feq_i ! ℕ 3 3 refl $ move ! (0 ∷ 2 ∷ []) $ fjoin ! $ move ! (1 ∷ 0 ∷ []) $ fjoin3 ! $ by ! (looked 3 broken))))
+  shows_with : (s : S) → ⟦ told_with s ⟧ ⊢ ⟦ told_with s ⟧ ∗ ⟦ sighted R γ (word_of s) (seen_of s) ⟧
+  shows_with free = qed 𝓛 (‵ (settable R γ) ∷ []) ∵ nothing ! $ move ! (1 ∷ []) $ done !
+  shows_with busy = qed 𝓛 (‵ (over R γ) ∷ []) ∵ nothing ! $ move ! (1 ∷ []) $ done !
+  shows_with (full x) = qed 𝓛 (‵ (fsep (over R γ) (written R γ.value x)) ∷ []) ∵ fsplit ! $ move ! (1 ∷ []) $ res_dup ! $ move ! (2 ∷ 0 ∷ []) $ fjoin ! $ done !
+  shows_with broken = qed 𝓛 (‵ (fsep (over R γ) (cracked R γ)) ∷ []) ∵ fsplit ! $ move ! (1 ∷ []) $ fsplit ! $ res_dup ! $ move ! (0 ∷ 2 ∷ []) $ fjoin ! $ move ! (2 ∷ 0 ∷ []) $ fjoin ! $ done !
+  shows_with shut = qed 𝓛 (‵ (cracked R γ) ∷ []) ∵ fsplit ! $ res_dup ! $ move ! (0 ∷ 2 ∷ []) $ fjoin ! $ done !
+
+  looked : (n : ℕ) (s : S) → ⟦ beside n s ⟧ ⊢ ⟦ beside n s ⟧ ∗ ⟦ Sights n ⟧
+  looked n s = qed 𝓛 (‵ (beside n s) ∷ []) ∵ use1 𝓛 (‵ (Beside n s)) (opened n s) $ fsplit3 ! $ move ! (1 ∷ []) $ fsplit ! $ feq_l ! (λ e.
+      use1 𝓛 (‵ (told_with s) ⊛ ‵ (sighted R γ (word_of s) (seen_of s))) (shows_with s) $ split ! $ feq_i ! ℕ n (word_of s) e $ fjoin ! $
+      -- [the word; what it shows; the names; the room]
+      move ! (2 ∷ 0 ∷ 3 ∷ []) $ fjoin3 ! $ use1 𝓛 (‵ (beside n s)) (shut_again n s) $ frame ! $ rewrite ! 0 (λ (k : ℕ). ‵ (sighted R γ k (seen_of s))) (sym e) refl $ fpack ! (Option R.Denot) (sighted R γ n) (seen_of s) $ done !)
+
+  -- an exchange from the word m to busy
+  abbrev pub exchanged : ℕ → ℕ → ℕ
+  exchanged m n = either (eqb n m) 1 n
+
+  abbrev Won : ℕ → ℕ → Fml
+  Won = won R γ t b o
+
+  abbrev Gains : Bool → ℕ → S → Pr
+  Gains hit n s = ⟦ beside (either hit 1 n) s ⟧ ∗ ⟦ gained R γ t b o hit n ⟧
+
+  misses : (m n : ℕ) (s : S) → eqb n m ≡ false → ⟦ beside n s ⟧ ⊢ Next (exchanged m) (Won m) n s
+  misses m n s miss = subst (λ (h : Bool). ⟦ beside n s ⟧ ⊢ Gains h n s) (sym miss) (looked n s)
+
+  seized : ⟦ auths R γ busy ⟧ ∗ ⟦ over R γ ⟧ ∗ ⟦ unset R γ ⟧ ∗ ⟦ rest free ⟧ ⊢ ⟦ beside 1 busy ⟧ ∗ ⟦ Right R γ t b o ⟧
+  seized = qed 𝓛 (‵ (auths R γ busy) ∷ ‵ (over R γ) ∷ ‵ (unset R γ) ∷ ‵ (rest free) ∷ []) ∵ move ! (1 ∷ []) $ use1 𝓛 (‵ (over R γ) ⊛ ‵ (over R γ)) (𝓛.lfts.dead_dup γ.epoch) $ split ! $
+      -- [the epoch has ended, twice; the names; the right to set; the room]
+      move ! (0 ∷ 3 ∷ []) $ fjoin ! $ move ! (0 ∷ 3 ∷ []) $ fjoin ! $ move ! (1 ∷ []) $ feq_i ! ℕ 1 1 refl $ fjoin ! $ nothing ! $ nothing ! $ fjoin ! $
+      move ! (3 ∷ 1 ∷ 0 ∷ []) $ fjoin3 ! $ done !
+
+  frees : (n : ℕ) → ⟦ beside n free ⟧ ⊢ ⟦ beside 1 busy ⟧ ∗ ⟦ Right R γ t b o ⟧
+  frees n = qed 𝓛 (‵ (beside n free) ∷ []) ∵ fsplit3 ! $ move ! (1 ∷ []) $ fsplit ! $ drop ! $ fsplit ! $ move ! (2 ∷ 0 ∷ 1 ∷ 3 ∷ []) $ by ! seized
+
+  unbreaks : (n : ℕ) → ⟦ beside n broken ⟧ ⊢ ⟦ beside 1 busy ⟧ ∗ ⟦ Right R γ t b o ⟧
+  unbreaks n = qed 𝓛 (‵ (beside n broken) ∷ []) ∵ fsplit3 ! $ move ! (1 ∷ []) $ fsplit ! $ drop ! $ fsplit ! $ move ! (1 ∷ []) $ fsplit ! $ drop ! $
+      -- [the right to set; the epoch has ended; the names; the room]
+      move ! (2 ∷ 1 ∷ 0 ∷ []) $ by ! seized
+
+  unshuts : (n : ℕ) → ⟦ beside n shut ⟧ ∗ ⟦ over R γ ⟧ ⊢ ⟦ beside 1 busy ⟧ ∗ ⟦ Right R γ t b o ⟧
+  unshuts n = qed 𝓛 (‵ (beside n shut) ∷ ‵ (over R γ) ∷ []) ∵ fsplit3 ! $ move ! (1 ∷ []) $ fsplit ! $ drop ! $ fsplit ! $ drop ! $
+      -- [the right to set; the names; the room; the epoch has ended]
+      move ! (1 ∷ 3 ∷ 0 ∷ []) $ by ! seized
+
+  hits : (m n : ℕ) (P : Pr) → eqb n m ≡ true → P ⊢ ⟦ beside 1 busy ⟧ ∗ ⟦ Right R γ t b o ⟧ → P ⊢ Next (exchanged m) (Won m) n busy
+  hits m n P hit gain = subst (λ (h : Bool). P ⊢ Gains h n busy) (sym hit) gain
+
+  abbrev Exchanged : ℕ → ℕ → Pr
+  Exchanged m n = ex 𝓤 (Next (exchanged m) (Won m) n)
+
+  missed : (m n : ℕ) (s : S) → eqb (word_of s) m ≡ false → n ≡ word_of s → ⟦ beside n s ⟧ ⊢ Exchanged m n
+  missed m n s miss e = qed 𝓛 (‵ (beside n s) ∷ []) ∵ show ! (Next (exchanged m) (Won m) n) s $ by ! (misses m n s (ap (λ (k : ℕ). eqb k m) e ∙ miss))
+
+  hit_by : (m n : ℕ) (s : S) (P : Pr) → eqb (word_of s) m ≡ true → n ≡ word_of s → P ⊢ ⟦ beside 1 busy ⟧ ∗ ⟦ Right R γ t b o ⟧ → P ⊢ Exchanged m n
+  hit_by m n s P hit e gain = qed 𝓛 (raw P ∷ []) ∵ show ! (Next (exchanged m) (Won m) n) busy $ by ! (hits m n P (ap (λ (k : ℕ). eqb k m) e ∙ hit) gain)
+
+  claims_at : (n : ℕ) (s : S) → n ≡ word_of s → ⟦ beside n s ⟧ ⊢ Exchanged 0 n
+  claims_at n free e = hit_by 0 n free ⟦ beside n free ⟧ refl e (frees n)
+  claims_at n busy e = missed 0 n busy refl e
+  claims_at n (full x) e = missed 0 n (full x) refl e
+  claims_at n broken e = missed 0 n broken refl e
+  claims_at n shut e = missed 0 n shut refl e
+
+  mends_at : (n : ℕ) (s : S) → n ≡ word_of s → ⟦ beside n s ⟧ ⊢ Exchanged 3 n
+  mends_at n free e = missed 3 n free refl e
+  mends_at n busy e = missed 3 n busy refl e
+  mends_at n (full x) e = missed 3 n (full x) refl e
+  mends_at n broken e = hit_by 3 n broken ⟦ beside n broken ⟧ refl e (unbreaks n)
+  mends_at n shut e = missed 3 n shut refl e
+
+  exchange_of : (m : ℕ) → ((n : ℕ) (s : S) → n ≡ word_of s → ⟦ beside n s ⟧ ⊢ Exchanged m n) → (q : Share)
+      → A.inv (fbor α I) ∗ (A.lft α q ∗ emp 𝓤) ⊢ asks 𝓛 (block_ptr b (o + 0)) (exchanged m) always (λ n. fsep (flft α q) (Won m n))
+  exchange_of m law q = stepped q (exchanged m) (Won m) (emp 𝓤) (λ n s. qed 𝓛 (‵ (beside n s) ∷ raw (emp 𝓤) ∷ []) ∵ suffices ! _ (upd_i 𝓤 (Exchanged m n)) $ keep ! (0 ∷ []) $
+      use1 𝓛 (given (n ≡ word_of s) (‵ (beside n s))) (word_is n s) $ learn ! (λ e. by ! (law n s e)))
 
   pub claims : (q : Share)
-      → A.inv (fbor α I) ∗ (A.lft α q ∗ emp 𝓤) ⊢ asks 𝓛 (block_ptr b (o + 0)) claim always (λ n. fsep (flft α q) (Won n))
-  claims q = stepped q claim Won (emp 𝓤) claims_at
+      → A.inv (fbor α I) ∗ (A.lft α q ∗ emp 𝓤) ⊢ asks 𝓛 (block_ptr b (o + 0)) (exchanged 0) always (λ n. fsep (flft α q) (Won 0 n))
+  claims = exchange_of 0 claims_at
+
+  pub mends : (q : Share)
+      → A.inv (fbor α I) ∗ (A.lft α q ∗ emp 𝓤) ⊢ asks 𝓛 (block_ptr b (o + 0)) (exchanged 3) always (λ n. fsep (flft α q) (Won 3 n))
+  mends = exchange_of 3 mends_at
 
   -- a value that is there is lent for good
   abbrev pub frozen : R.Denot → Fml
@@ -164,55 +254,122 @@ module _ {M : Type 1} {𝓤 : Ura M} (𝓛 : Logic 𝓤) (R : RattleType) (γ : 
       use1 𝓛 (later (‵ (shared_of R x b c₀ α) ⊛ raw (lfts 𝓛 ts))) (shares x α ts b c₀ inc sp) $ await ! tt $ split ! $ move ! (2 ∷ 0 ∷ []) $ fjoin ! $ now ! $ done !
 
   pub publishes : (q : Share) (x : R.Denot)
-      → A.inv (fbor α I) ∗ (A.lft α q ∗ (⟦ unset R γ ⟧ ∗ ⟦ frozen x ⟧)) ⊢ asks 𝓛 (block_ptr b (o + 0)) (λ _. 2) always (λ _. fsep (flft α q) (written R γ.value x))
-  publishes q x = let c : Gv = mark R (full x) in let N = Next (λ _. 2) (λ _. written R γ.value x) in stepped q (λ _. 2) (λ _. written R γ.value x) (⟦ unset R γ ⟧ ∗ ⟦ frozen x ⟧) (λ n s. let Z : Pr = ex 𝓤 (N n) in
-      qed 𝓛 (‵ (beside n s) ∷ ‵ (unset R γ) ∷ ‵ (frozen x) ∷ []) ∵ fsplit ! $ fsplit ! $ move ! (3 ∷ []) $ fsplit ! $ keep ! (0 ∷ 2 ∷ 1 ∷ 3 ∷ 5 ∷ []) $
-      use2 𝓛 (raw (upd 𝓤 (A.obs γ.value c ∗ A.auth γ.value c))) (𝓛.names.name_set_upd γ.value gnil (mark R s) c) $ settle 𝓛 Z (‵ (fobs γ.value c) ⊛ ‵ (fauth γ.value c)) $ split ! $ move ! (2 ∷ 3 ∷ []) $
-      use2 𝓛 (raw (upd 𝓤 (A.obs γ.breach gnil ∗ A.auth γ.breach gnil))) (𝓛.names.name_set_upd γ.breach gnil (crossed R s) gnil) $ settle 𝓛 Z (‵ (fobs γ.breach gnil) ⊛ ‵ (fauth γ.breach gnil)) $ split ! $
-      suffices ! _ (upd_i 𝓤 Z) $ move ! (2 ∷ []) $ use1 𝓛 (‵ (fres γ.value c)) (𝓛.names.obs-res γ.value c) $ res_dup ! $ show ! (N n) (full x) $
-      move ! (4 ∷ 3 ∷ []) $ fjoin ! $ move ! (1 ∷ []) $ feq_i ! ℕ 2 2 refl $ fjoin ! $ move ! (1 ∷ 0 ∷ 4 ∷ []) $ fjoin3 ! $ keep ! (0 ∷ 1 ∷ []) $ done !)
+      → A.inv (fbor α I) ∗ (A.lft α q ∗ (⟦ settable R γ ⟧ ∗ ⟦ frozen x ⟧)) ⊢ asks 𝓛 (block_ptr b (o + 0)) (λ _. 2) always (λ _. fsep (flft α q) (written R γ.value x))
+  publishes q x = let c : Gv = mark R (full x) in let N = Next (λ _. 2) (λ _. written R γ.value x) in stepped q (λ _. 2) (λ _. written R γ.value x) (⟦ settable R γ ⟧ ∗ ⟦ frozen x ⟧) (λ n s. let Z : Pr = ex 𝓤 (N n) in
+      qed 𝓛 (‵ (beside n s) ∷ ‵ (settable R γ) ∷ ‵ (frozen x) ∷ []) ∵ fsplit ! $ fsplit ! $ move ! (3 ∷ []) $ fsplit ! $ keep ! (1 ∷ 2 ∷ 3 ∷ 0 ∷ 5 ∷ []) $
+      -- [the right to set; the value's name; the breach's; the epoch has ended; the room]
+      use2 𝓛 (raw (upd 𝓤 (A.obs γ.value c ∗ A.auth γ.value c))) (𝓛.names.name_set_upd γ.value gnil (mark R s) c) $ settle 𝓛 Z (‵ (fobs γ.value c) ⊛ ‵ (fauth γ.value c)) $ split ! $
+      suffices ! _ (upd_i 𝓤 Z) $ use1 𝓛 (‵ (fres γ.value c)) (𝓛.names.obs-res γ.value c) $ res_dup ! $ show ! (N n) (full x) $
+      move ! (2 ∷ 3 ∷ []) $ fjoin ! $ move ! (3 ∷ 1 ∷ []) $ fjoin ! $ feq_i ! ℕ 2 2 refl $ fjoin ! $ move ! (1 ∷ 0 ∷ 3 ∷ []) $ fjoin3 ! $ done !)
+
+  -- the second name says from now on that the cell was broken
+  cracks : (δ : GName) (once : Bool) → ⟦ breached δ once ⟧ ⊢ upd 𝓤 (⟦ breached δ true ⟧ ∗ ⟦ spoilt δ ⟧)
+  cracks δ true = let Z : Pr = ⟦ breached δ true ⟧ ∗ ⟦ spoilt δ ⟧ in qed 𝓛 (‵ (breached δ true) ∷ []) ∵ suffices ! _ (upd_i 𝓤 Z) $ fsplit ! $ res_dup ! $ move ! (0 ∷ 2 ∷ []) $ fjoin ! $ done !
+  cracks δ false = let Z : Pr = ⟦ breached δ true ⟧ ∗ ⟦ spoilt δ ⟧ in qed 𝓛 (‵ (breached δ false) ∷ []) ∵ fsplit ! $
+      use2 𝓛 (raw (upd 𝓤 (A.obs δ cross ∗ A.auth δ cross))) (𝓛.names.name_set_upd δ gnil gnil cross) $ settle 𝓛 Z (‵ (fobs δ cross) ⊛ ‵ (fauth δ cross)) $ split ! $
+      suffices ! _ (upd_i 𝓤 Z) $ use1 𝓛 (‵ (spoilt δ)) (𝓛.names.obs-res δ cross) $ res_dup ! $ move ! (0 ∷ 2 ∷ []) $ fjoin ! $ done !
 
   pub breaks : (q : Share)
       → A.inv (fbor α I) ∗ (A.lft α q ∗ ⟦ Right R γ t b o ⟧) ⊢ asks 𝓛 (block_ptr b (o + 0)) (λ _. 3) always (λ _. fsep (flft α q) (spoilt γ.breach))
-  breaks q = let N = Next (λ _. 3) (λ _. spoilt γ.breach) in stepped q (λ _. 3) (λ _. spoilt γ.breach) ⟦ Right R γ t b o ⟧ (λ n s. let Z : Pr = ex 𝓤 (N n) in
-      qed 𝓛 (‵ (beside n s) ∷ ‵ (Right R γ t b o) ∷ []) ∵ fsplit ! $ fsplit ! $ move ! (3 ∷ []) $ fsplit ! $ fsplit ! $ keep ! (0 ∷ 3 ∷ 1 ∷ 4 ∷ 2 ∷ []) $
-      use2 𝓛 (raw (upd 𝓤 (A.obs γ.value gnil ∗ A.auth γ.value gnil))) (𝓛.names.name_set_upd γ.value gnil (mark R s) gnil) $ settle 𝓛 Z (‵ (fobs γ.value gnil) ⊛ ‵ (fauth γ.value gnil)) $ split ! $ move ! (2 ∷ 3 ∷ []) $
-      use2 𝓛 (raw (upd 𝓤 (A.obs γ.breach cross ∗ A.auth γ.breach cross))) (𝓛.names.name_set_upd γ.breach gnil (crossed R s) cross) $ settle 𝓛 Z (‵ (fobs γ.breach cross) ⊛ ‵ (fauth γ.breach cross)) $ split ! $
-      suffices ! _ (upd_i 𝓤 Z) $ use1 𝓛 (‵ (spoilt γ.breach)) (𝓛.names.obs-res γ.breach cross) $ res_dup ! $ show ! (N n) broken $
-      -- [broken, twice; the breach's name; the right to the value's name; the value's name; the room]
-      move ! (4 ∷ 2 ∷ []) $ fjoin ! $ move ! (1 ∷ 3 ∷ []) $ fjoin ! $ feq_i ! ℕ 3 3 refl $ fjoin ! $ move ! (1 ∷ 0 ∷ 3 ∷ []) $ fjoin3 ! $ done !)
+  breaks q = let N = Next (λ _. 3) (λ _. spoilt γ.breach) in stepped q (λ _. 3) (λ _. spoilt γ.breach) ⟦ Right R γ t b o ⟧ (λ n s. let Z : Pr = ex 𝓤 (N n) in let δ : GName = γ.breach in
+      qed 𝓛 (‵ (beside n s) ∷ ‵ (Right R γ t b o) ∷ []) ∵ fsplit ! $ fsplit ! $ move ! (3 ∷ []) $ fsplit ! $ fsplit ! $ keep ! (1 ∷ 3 ∷ 4 ∷ 0 ∷ 2 ∷ []) $
+      -- [the right to set; the value's name; the breach's; the epoch has ended; the room]
+      use2 𝓛 (raw (upd 𝓤 (A.obs γ.value gnil ∗ A.auth γ.value gnil))) (𝓛.names.name_set_upd γ.value gnil (mark R s) gnil) $ settle 𝓛 Z (‵ (fobs γ.value gnil) ⊛ ‵ (fauth γ.value gnil)) $ split ! $ move ! (2 ∷ []) $ fpick ! (λ once.
+      use1 𝓛 (raw (upd 𝓤 (⟦ breached δ true ⟧ ∗ ⟦ spoilt δ ⟧))) (cracks δ once) $ settle 𝓛 Z (‵ (breached δ true) ⊛ ‵ (spoilt δ)) $ split ! $ suffices ! _ (upd_i 𝓤 Z) $ show ! (N n) broken $ fpack ! Bool (breached δ) true $
+      -- [the breach's name; broken; the right to set; the value's name; the epoch has ended; the room]
+      move ! (3 ∷ 0 ∷ []) $ fjoin ! $ move ! (1 ∷ []) $ res_dup ! $ move ! (0 ∷ 3 ∷ []) $ fjoin ! $ move ! (3 ∷ 0 ∷ []) $ fjoin ! $ feq_i ! ℕ 3 3 refl $ fjoin ! $ move ! (2 ∷ 0 ∷ 3 ∷ []) $ fjoin3 ! $ done !))
 
   pub looks : (q : Share)
       → A.inv (fbor α I) ∗ (A.lft α q ∗ emp 𝓤) ⊢ asks 𝓛 (block_ptr b (o + 0)) (λ n. n) always (λ n. fsep (flft α q) (Sights n))
   looks q = stepped q (λ n. n) Sights (emp 𝓤) (λ n s. let N : S → Pr = Next (λ m. m) Sights n in
       qed 𝓛 (‵ (beside n s) ∷ raw (emp 𝓤) ∷ []) ∵ suffices ! _ (upd_i 𝓤 (ex 𝓤 N)) $ keep ! (0 ∷ []) $ show ! N s $ by ! (looked n s))
 
-  -- what is known of a cell for good tells its word
-  told_two : (x : R.Denot) (n : ℕ) (s : S) → mark R (full x) ≡ mark R s → ⟦ beside n s ⟧ ⊢ ⟦ beside n s ⟧ ∗ ⟦ fact (n ≡ 2) ⟧
-  told_two x n free e = absurd (let z : 1 ≡ 0 = ap paired e in omega arith)
-  told_two x n busy e = absurd (let z : 1 ≡ 0 = ap paired e in omega arith)
-  told_two x n broken e = absurd (let z : 1 ≡ 0 = ap paired e in omega arith)
-  told_two x n (full y) e = qed 𝓛 (‵ (beside n (full y)) ∷ []) ∵ fsplit3 ! $ move ! (1 ∷ []) $ fsplit ! $ feq_l ! (λ two. feq_i ! ℕ n 2 two $ fjoin ! $ move ! (1 ∷ 0 ∷ 2 ∷ []) $ fjoin3 ! $ frame ! $
-      nothing ! $ fpack ! (n ≡ 2) (λ _. ftrue) two $ done !)
+  -- a cell with a value is full
+  is_full : (x : R.Denot) (s : S) → mark R (full x) ≡ mark R s → word_of s ≡ 2
+  is_full x free e = absurd (let z : 1 ≡ 0 = ap paired e in omega arith)
+  is_full x busy e = absurd (let z : 1 ≡ 0 = ap paired e in omega arith)
+  is_full x (full y) e = refl
+  is_full x broken e = absurd (let z : 1 ≡ 0 = ap paired e in omega arith)
+  is_full x shut e = absurd (let z : 1 ≡ 0 = ap paired e in omega arith)
 
-  told_three : (n : ℕ) (s : S) → cross ≡ crossed R s → ⟦ beside n s ⟧ ⊢ ⟦ beside n s ⟧ ∗ ⟦ fact (n ≡ 3) ⟧
-  told_three n free e = absurd (let z : 1 ≡ 0 = ap paired e in omega arith)
-  told_three n busy e = absurd (let z : 1 ≡ 0 = ap paired e in omega arith)
-  told_three n (full y) e = absurd (let z : 1 ≡ 0 = ap paired e in omega arith)
-  told_three n broken e = qed 𝓛 (‵ (beside n broken) ∷ []) ∵ fsplit3 ! $ move ! (1 ∷ []) $ fsplit ! $ feq_l ! (λ three. feq_i ! ℕ n 3 three $ fjoin ! $ move ! (1 ∷ 0 ∷ 2 ∷ []) $ fjoin3 ! $ frame ! $
-      nothing ! $ fpack ! (n ≡ 3) (λ _. ftrue) three $ done !)
+  full_at : (x : R.Denot) (n : ℕ) (s : S) → ⟦ beside n s ⟧ ∗ ⟦ written R γ.value x ⟧ ⊢ guard 𝓤 (word_of s ≡ 2) ⟦ beside n s ⟧
+  full_at x n s = qed 𝓛 (‵ (beside n s) ∷ ‵ (written R γ.value x) ∷ []) ∵ fsplit ! $ fsplit ! $ move ! (3 ∷ 0 ∷ []) $
+      use2 𝓛 (given (mark R (full x) ≡ mark R s) (‵ (written R γ.value x) ⊛ ‵ (fauth γ.value (mark R s)))) (𝓛.names.res_agree γ.value (mark R (full x)) (mark R s)) $ learn ! (λ e. check ! (is_full x s e) $ split ! $ drop ! $ move ! (0 ∷ 1 ∷ []) $ fjoin ! $ fjoin ! $ done !)
 
-  word_at : (v : Option R.Denot) (name breach : ℕ) → HasNames γ v name breach → (n : ℕ) (s : S)
-      → ⟦ beside n s ⟧ ∗ ⟦ known_as R v name breach ⟧ ⊢ ⟦ beside n s ⟧ ∗ ⟦ fact (IsWordOf v n) ⟧
-  word_at (Some x) name breach same n s = qed 𝓛 (‵ (beside n s) ∷ ‵ (written R name x) ∷ []) ∵ rewrite ! 1 (λ (k : ℕ). ‵ (written R k x)) same refl $ fsplit ! $ fsplit ! $ move ! (3 ∷ 0 ∷ []) $
-      use2 𝓛 (given (mark R (full x) ≡ mark R s) (‵ (written R γ.value x) ⊛ ‵ (fauth γ.value (mark R s)))) (𝓛.names.res_agree γ.value (mark R (full x)) (mark R s)) $ learn ! (λ e. split ! $ drop ! $ move ! (0 ∷ 1 ∷ []) $ fjoin ! $ fjoin ! $ by ! (told_two x n s e))
-  word_at None name breach same n s = qed 𝓛 (‵ (beside n s) ∷ ‵ (fsep (unfilled name) (spoilt breach)) ∷ []) ∵ move ! (1 ∷ []) $ fsplit ! $ drop ! $ rewrite ! 0 (λ (k : ℕ). ‵ (spoilt k)) same refl $ move ! (1 ∷ []) $ fsplit ! $ fsplit ! $ move ! (3 ∷ 1 ∷ []) $
-      use2 𝓛 (given (cross ≡ crossed R s) (‵ (spoilt γ.breach) ⊛ ‵ (fauth γ.breach (crossed R s)))) (𝓛.names.res_agree γ.breach cross (crossed R s)) $ learn ! (λ e. split ! $ drop ! $ move ! (1 ∷ 0 ∷ []) $ fjoin ! $ fjoin ! $ by ! (told_three n s e))
+  -- what is known of a cell tells its word
+  word_at : (v : Option R.Denot) (name : ℕ) (epoch : Lft) → HasNames γ v name epoch → (n : ℕ) (s : S)
+      → ⟦ beside n s ⟧ ∗ ⟦ known_as R v name ⟧ ⊢ guard 𝓤 (MayBeWordOf v n) ⟦ beside n s ⟧
+  word_at (Some x) name epoch same n s = qed 𝓛 (‵ (beside n s) ∷ ‵ (written R name x) ∷ []) ∵ rewrite ! 1 (λ (k : ℕ). ‵ (written R k x)) same refl $
+      use2 𝓛 (given (word_of s ≡ 2) (‵ (beside n s))) (full_at x n s) $ learn ! (λ two. use1 𝓛 (given (n ≡ word_of s) (‵ (beside n s))) (word_is n s) $ learn ! (λ e. check ! (e ∙ two) $ done !))
+  word_at None name epoch same n s = qed 𝓛 (‵ (beside n s) ∷ ‵ (unfilled name) ∷ []) ∵ check ! tt $ keep ! (0 ∷ []) $ done !
 
-  pub finds_member : (q : Share) (v : Option R.Denot) (name breach : ℕ) → HasNames γ v name breach
-      → A.inv (fbor α I) ∗ (A.lft α q ∗ ⟦ known_as R v name breach ⟧) ⊢ asks 𝓛 (block_ptr b (o + 0)) (λ n. n) always (λ n. fsep (flft α q) (fact (IsWordOf v n)))
-  finds_member q v name breach same = stepped q (λ n. n) (λ n. fact (IsWordOf v n)) ⟦ known_as R v name breach ⟧ (λ n s. let N : S → Pr = Next (λ m. m) (λ m. fact (IsWordOf v m)) n in
-      qed 𝓛 (‵ (beside n s) ∷ ‵ (known_as R v name breach) ∷ []) ∵ suffices ! _ (upd_i 𝓤 (ex 𝓤 N)) $ show ! N s $ by ! (word_at v name breach same n s))
+  abbrev pub Shown : Option R.Denot → ℕ → Fml
+  Shown v n = fsep (Sights n) (fact (MayBeWordOf v n))
+
+  pub finds_member : (q : Share) (v : Option R.Denot) (name : ℕ) (epoch : Lft) → HasNames γ v name epoch
+      → A.inv (fbor α I) ∗ (A.lft α q ∗ ⟦ known_as R v name ⟧) ⊢ asks 𝓛 (block_ptr b (o + 0)) (λ n. n) always (λ n. fsep (flft α q) (Shown v n))
+  finds_member q v name epoch same = stepped q (λ n. n) (Shown v) ⟦ known_as R v name ⟧ (λ n s. let N : S → Pr = Next (λ m. m) (Shown v) n in
+      qed 𝓛 (‵ (beside n s) ∷ ‵ (known_as R v name) ∷ []) ∵ suffices ! _ (upd_i 𝓤 (ex 𝓤 N)) $ show ! N s $
+      use2 𝓛 (given (MayBeWordOf v n) (‵ (beside n s))) (word_at v name epoch same n s) $ learn ! (λ so. use1 𝓛 (‵ (beside n s) ⊛ ‵ (Sights n)) (looked n s) $ split ! $ frame ! $
+      nothing ! $ fpack ! (MayBeWordOf v n) (λ _. ftrue) so $ move ! (1 ∷ 0 ∷ []) $ fjoin ! $ done !))
+
+  -- a cell that is not shut shows that its epoch has ended; so it is shut, as long as that lasts
+  ends_at : (q : Share) (n : ℕ) (s : S) → ⟦ told_with s ⟧ ⊢ ⟦ over R γ ⟧ → ⟦ beside n s ⟧ ∗ A.lft γ.epoch q ⊢ guard 𝓤 (n ≡ 4) (⟦ beside n s ⟧ ∗ A.lft γ.epoch q)
+  ends_at q n s has = qed 𝓛 (‵ (beside n s) ∷ ‵ (flft γ.epoch q) ∷ []) ∵ use1 𝓛 (‵ (Beside n s)) (opened n s) $ fsplit3 ! $ move ! (1 ∷ []) $ fsplit ! $ drop ! $ use1 𝓛 (‵ (over R γ)) has $ keep ! (3 ∷ 0 ∷ []) $
+      use2 𝓛 (raw (never 𝓤)) (𝓛.lfts.lft-dead γ.epoch q) $ by ! (never_e 𝓤 _)
+
+  first_of : (P Q : Fml) → ⟦ fsep P Q ⟧ ⊢ ⟦ P ⟧
+  first_of P Q = qed 𝓛 (‵ (fsep P Q) ∷ []) ∵ fsplit ! $ keep ! (0 ∷ []) $ done !
+
+  lasts_at : (q : Share) (n : ℕ) (s : S) → ⟦ beside n s ⟧ ∗ A.lft γ.epoch q ⊢ guard 𝓤 (n ≡ 4) (⟦ beside n s ⟧ ∗ A.lft γ.epoch q)
+  lasts_at q n free = ends_at q n free (first_of (over R γ) (unset R γ))
+  lasts_at q n busy = ends_at q n busy (id⊢ 𝓤 _)
+  lasts_at q n (full x) = ends_at q n (full x) (first_of (over R γ) (written R γ.value x))
+  lasts_at q n broken = ends_at q n broken (first_of (over R γ) (cracked R γ))
+  lasts_at q n shut = qed 𝓛 (‵ (beside n shut) ∷ ‵ (flft γ.epoch q) ∷ []) ∵ use1 𝓛 (given (n ≡ 4) (‵ (beside n shut))) (word_is n shut) $ learn ! (λ e. check ! e $ done !)
+
+  abbrev pub Lasting : Option R.Denot → Lft → Share → ℕ → Fml
+  Lasting v e r n = fsep (flft e r) (fact (IsWordOf v n))
+
+  word_in : (v : Option R.Denot) (name : ℕ) (epoch e : Lft) → HasNames γ v name epoch → IsEpochOf v epoch e → (r : Share) (n : ℕ) (s : S)
+      → ⟦ beside n s ⟧ ∗ ⟦ known_as R v name ⟧ ∗ A.lft e r ⊢ guard 𝓤 (IsWordOf v n) (⟦ beside n s ⟧ ∗ A.lft e r)
+  word_in (Some x) name epoch e same of r n s = qed 𝓛 (‵ (beside n s) ∷ ‵ (written R name x) ∷ ‵ (flft e r) ∷ []) ∵ move ! (0 ∷ 1 ∷ []) $
+      use2 𝓛 (given (n ≡ 2) (‵ (beside n s))) (word_at (Some x) name epoch same n s) $ learn ! (λ two. check ! two $ done !)
+  word_in None name epoch e same of r n s = let is : e ≡ γ.epoch = sym (of refl) ∙ same in qed 𝓛 (‵ (beside n s) ∷ ‵ (unfilled name) ∷ ‵ (flft e r) ∷ []) ∵ keep ! (0 ∷ 2 ∷ []) $
+      rewrite ! 1 (λ (k : Lft). ‵ (flft k r)) is refl $ use2 𝓛 (given (n ≡ 4) (‵ (beside n s) ⊛ ‵ (flft γ.epoch r))) (lasts_at r n s) $ learn ! (λ four. check ! four $ split ! $ rewrite ! 1 (λ (k : Lft). ‵ (flft k r)) (sym is) refl $ done !)
+
+  pub finds_lasting : (q : Share) (v : Option R.Denot) (name : ℕ) (epoch e : Lft) (r : Share) → HasNames γ v name epoch → IsEpochOf v epoch e
+      → A.inv (fbor α I) ∗ (A.lft α q ∗ (⟦ known_as R v name ⟧ ∗ A.lft e r)) ⊢ asks 𝓛 (block_ptr b (o + 0)) (λ n. n) always (λ n. fsep (flft α q) (Lasting v e r n))
+  finds_lasting q v name epoch e r same of = stepped q (λ n. n) (Lasting v e r) (⟦ known_as R v name ⟧ ∗ A.lft e r) (λ n s. let N : S → Pr = Next (λ m. m) (Lasting v e r) n in
+      qed 𝓛 (‵ (beside n s) ∷ ‵ (known_as R v name) ∷ ‵ (flft e r) ∷ []) ∵ suffices ! _ (upd_i 𝓤 (ex 𝓤 N)) $ show ! N s $
+      use3 𝓛 (given (IsWordOf v n) (‵ (beside n s) ⊛ ‵ (flft e r))) (word_in v name epoch e same of r n s) $ learn ! (λ so. split ! $ frame ! $
+      nothing ! $ fpack ! (IsWordOf v n) (λ _. ftrue) so $ move ! (1 ∷ 0 ∷ []) $ fjoin ! $ done !))
+
+  -- the exchange from shut to busy, where the epoch has ended
+  abbrev pub Reopened : Option R.Denot → ℕ → Fml
+  Reopened v n = fsep (Won 4 n) (fact (MayBeWordOf v n))
+
+  reopens_at : (n : ℕ) (s : S) → n ≡ word_of s → ⟦ beside n s ⟧ ∗ ⟦ over R γ ⟧ ⊢ Exchanged 4 n
+  reopens_at n shut e = hit_by 4 n shut (⟦ beside n shut ⟧ ∗ ⟦ over R γ ⟧) refl e (unshuts n)
+  reopens_at n free e = qed 𝓛 (‵ (beside n free) ∷ ‵ (over R γ) ∷ []) ∵ keep ! (0 ∷ []) $ by ! (missed 4 n free refl e)
+  reopens_at n busy e = qed 𝓛 (‵ (beside n busy) ∷ ‵ (over R γ) ∷ []) ∵ keep ! (0 ∷ []) $ by ! (missed 4 n busy refl e)
+  reopens_at n (full x) e = qed 𝓛 (‵ (beside n (full x)) ∷ ‵ (over R γ) ∷ []) ∵ keep ! (0 ∷ []) $ by ! (missed 4 n (full x) refl e)
+  reopens_at n broken e = qed 𝓛 (‵ (beside n broken) ∷ ‵ (over R γ) ∷ []) ∵ keep ! (0 ∷ []) $ by ! (missed 4 n broken refl e)
+
+  reopens_with : (v : Option R.Denot) (name : ℕ) (epoch e : Lft) → HasNames γ v name epoch → IsEpochOf v epoch e → (n : ℕ) (s : S)
+      → ⟦ beside n s ⟧ ∗ ⟦ known_as R v name ⟧ ∗ A.dead e ⊢ guard 𝓤 (MayBeWordOf v n) (Exchanged 4 n)
+  reopens_with (Some x) name epoch e same of n s = qed 𝓛 (‵ (beside n s) ∷ ‵ (written R name x) ∷ ‵ (fdead e) ∷ []) ∵ keep ! (0 ∷ 1 ∷ []) $
+      rewrite ! 1 (λ (k : ℕ). ‵ (written R k x)) same refl $ use2 𝓛 (given (word_of s ≡ 2) (‵ (beside n s))) (full_at x n s) $ learn ! (λ two. use1 𝓛 (given (n ≡ word_of s) (‵ (beside n s))) (word_is n s) $ learn ! (λ is.
+      check ! (is ∙ two) $ by ! (missed 4 n s (ap (λ (k : ℕ). eqb k 4) two) is)))
+  reopens_with None name epoch e same of n s = qed 𝓛 (‵ (beside n s) ∷ ‵ (unfilled name) ∷ ‵ (fdead e) ∷ []) ∵ check ! tt $ keep ! (0 ∷ 2 ∷ []) $
+      rewrite ! 1 (λ (k : Lft). ‵ (fdead k)) (sym (of refl) ∙ same) refl $ use1 𝓛 (given (n ≡ word_of s) (‵ (beside n s))) (word_is n s) $ learn ! (λ is. by ! (reopens_at n s is))
+
+  pub reopens : (q : Share) (v : Option R.Denot) (name : ℕ) (epoch e : Lft) → HasNames γ v name epoch → IsEpochOf v epoch e
+      → A.inv (fbor α I) ∗ (A.lft α q ∗ (⟦ known_as R v name ⟧ ∗ A.dead e)) ⊢ asks 𝓛 (block_ptr b (o + 0)) (exchanged 4) always (λ n. fsep (flft α q) (Reopened v n))
+  reopens q v name epoch e same of = stepped q (exchanged 4) (Reopened v) (⟦ known_as R v name ⟧ ∗ A.dead e) (λ n s. let N : S → Pr = Next (exchanged 4) (Reopened v) n in let B : S → Pr = Next (exchanged 4) (Won 4) n in
+      qed 𝓛 (‵ (beside n s) ∷ ‵ (known_as R v name) ∷ ‵ (fdead e) ∷ []) ∵ suffices ! _ (upd_i 𝓤 (ex 𝓤 N)) $
+      use3 𝓛 (given (MayBeWordOf v n) (some (λ (z : S). ‵ (beside (exchanged 4 n) z) ⊛ ‵ (Won 4 n)))) (reopens_with v name epoch e same of n s) $ learn ! (λ so. pick ! (λ z. split ! $ show ! N z $ frame ! $
+      nothing ! $ fpack ! (MayBeWordOf v n) (λ _. ftrue) so $ move ! (1 ∷ 0 ∷ []) $ fjoin ! $ done !)))
 
   abbrev pub there : R.Denot → Fml
   there x = shared_of R x b c₀ α
@@ -226,6 +383,7 @@ module _ {M : Type 1} {𝓤 : Ura M} (𝓛 : Logic 𝓤) (R : RattleType) (γ : 
     there_at x n free e = absurd (let z : 1 ≡ 0 = ap paired e in omega arith)
     there_at x n busy e = absurd (let z : 1 ≡ 0 = ap paired e in omega arith)
     there_at x n broken e = absurd (let z : 1 ≡ 0 = ap paired e in omega arith)
+    there_at x n shut e = absurd (let z : 1 ≡ 0 = ap paired e in omega arith)
     there_at x n (full y) e = subst (λ (u : R.Denot). ⟦ beside n (full y) ⟧ ⊢ ⟦ beside n (full y) ⟧ ∗ ⟦ there u ⟧) (sym (R.coded.inj x y (ap head e))) (shows n y)
 
     pub finds_written : (q : Share) (x : R.Denot)
@@ -233,20 +391,6 @@ module _ {M : Type 1} {𝓤 : Ura M} (𝓛 : Logic 𝓤) (R : RattleType) (γ : 
     finds_written q x = stepped q (λ n. n) (λ _. there x) ⟦ written R γ.value x ⟧ (λ n s. let N : S → Pr = Next (λ m. m) (λ _. there x) n in
         qed 𝓛 (‵ (beside n s) ∷ ‵ (written R γ.value x) ∷ []) ∵ suffices ! _ (upd_i 𝓤 (ex 𝓤 N)) $ fsplit ! $ fsplit ! $ move ! (3 ∷ 0 ∷ []) $
         use2 𝓛 (given (mark R (full x) ≡ mark R s) (‵ (written R γ.value x) ⊛ ‵ (fauth γ.value (mark R s)))) (𝓛.names.res_agree γ.value (mark R (full x)) (mark R s)) $ learn ! (λ e. split ! $ drop ! $ move ! (0 ∷ 1 ∷ []) $ fjoin ! $ fjoin ! $ show ! N s $ by ! (there_at x n s e)))
-
-  -- no cell is filled and broken
-  both : (x : R.Denot) (s : S) → mark R (full x) ≡ mark R s → cross ≡ crossed R s → ⊥
-  both x free e d = absurd (let z : 1 ≡ 0 = ap paired e in omega arith)
-  both x busy e d = absurd (let z : 1 ≡ 0 = ap paired e in omega arith)
-  both x (full y) e d = absurd (let z : 1 ≡ 0 = ap paired d in omega arith)
-  both x broken e d = absurd (let z : 1 ≡ 0 = ap paired e in omega arith)
-
-  pub never_both : (q : Share) (x : R.Denot)
-      → A.inv (fbor α I) ∗ (A.lft α q ∗ (⟦ written R γ.value x ⟧ ∗ ⟦ spoilt γ.breach ⟧)) ⊢ asks 𝓛 (block_ptr b (o + 0)) (λ n. n) always (λ n. fsep (flft α q) ffalse)
-  never_both q x = stepped q (λ n. n) (λ _. ffalse) (⟦ written R γ.value x ⟧ ∗ ⟦ spoilt γ.breach ⟧) (λ n s.
-      qed 𝓛 (‵ (beside n s) ∷ ‵ (written R γ.value x) ∷ ‵ (spoilt γ.breach) ∷ []) ∵ fsplit ! $ fsplit ! $ move ! (3 ∷ 0 ∷ []) $
-      use2 𝓛 (given (mark R (full x) ≡ mark R s) (‵ (written R γ.value x) ⊛ ‵ (fauth γ.value (mark R s)))) (𝓛.names.res_agree γ.value (mark R (full x)) (mark R s)) $ learn ! (λ e. split ! $ move ! (4 ∷ 2 ∷ []) $
-      use2 𝓛 (given (cross ≡ crossed R s) (‵ (spoilt γ.breach) ⊛ ‵ (fauth γ.breach (crossed R s)))) (𝓛.names.res_agree γ.breach cross (crossed R s)) $ learn ! (λ d. absurd (both x s e d))))
 
 pub one_written : {M : Type 1} {𝓤 : Ura M} (𝓛 : Logic 𝓤) (R : RattleType) (γ : GName) (x y : R.Denot)
     → ent 𝓤 (sep 𝓤 (sem 𝓛 (written R γ x)) (sem 𝓛 (written R γ y))) (monad.fact 𝓤 (x ≡ y))

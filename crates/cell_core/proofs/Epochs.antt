@@ -2,13 +2,13 @@
 use Rattle.std.proofs.Common.{◌≡◌, ℕ, List, [], ◌∷◌, ◌++◌, refl, ap, ◌∙◌}
 use seplogic.Ra.Ura.{Ura}
 use base.Fraction.{full_share}
-use base.Logic.{ent, emp, sep}
-use base.Fml.{Lft, Fml, flft, fdead, fbor, fshr_bor}
+use base.Logic.{ent}
+use base.Fml.{Lft, flft, fdead, fbor}
 use base.Before.{before}
-use mir.Val.{Val, vstruct, vcons, vnil, of_list}
+use mir.Val.{Val, vstruct, vnil, of_list}
 use contract.BorrowLft.{meet_⊑_left}
 use types.Logic.{Logic, sem, lfts}
-use types.Kit.{‵, raw, ◌$◌, ◌∵◌, !, qed, by, move, use0, use2, updating, now, done}
+use types.Kit.{‵, raw, ◌$◌, ◌∵◌, !, qed, move, use0, use2, updating, now, done}
 use types.Tokens.{bor_fracture}
 use types.Na.{before-Incl, before_lent}
 use denote.Laws.{Is}

@@ -1,4 +1,4 @@
--- What is known of a cell for good, and of each cell of a row. Assumes `Logic`.
+-- What is known of a cell, and of each cell of a row. Assumes `Logic`.
 use Rattle.std.proofs.Common.{◌≡◌, ℕ, zero, suc, ◌<◌, ◌≢◌, List, [], ◌∷◌, ◌++◌, length, refl, ap, ◌∙◌, subst, arith}
 use Rattle.std.specs.Prelude.{Option, Some, None, slice_get, slice_set}
 use mathlib.Core.Logic.{dite}
@@ -11,7 +11,6 @@ use mir.Val.{Val, vstruct, vnil, of_list}
 use denote.Laws.{Is}
 use types.Logic.{Logic, sem}
 use types.Kit.{‵, raw, ◌⊛◌, given, later, await, updating, now, fpack, ◌$◌, ◌∵◌, !, qed, by, move, keep, drop, frame, assume, suffices, use0, use1, use2, split, learn, fsplit, fjoin, done}
-use types.Tokens.{res_dup}
 use denote.RattleType.{RattleType}
 use denote.Shadow.{makes_shadow}
 use denote.Struct.Struct.{Struct}
@@ -19,7 +18,7 @@ use denote.Struct.Owning.{shape}
 use denote.Steps.{nothing, heard}
 use contract.Monad as monad
 use base.Fml.{fex}
-use Rattle.cell_core.specs.Slot.{fact, written, spoilt, mark, full}
+use Rattle.cell_core.specs.Slot.{fact, written, mark, full}
 use Rattle.cell_core.specs.Member.{MemberView, unfilled, known_as, member, members}
 use Rattle.cell_core.specs.contracts.slot.member.Member as Member
 use Rattle.cell_core.specs.contracts.slot.member.Row as Row
@@ -61,15 +60,13 @@ module _ {M : Type 1} {𝓤 : Ura M} (𝓛 : Logic 𝓤) (R : RattleType) where
   abbrev View : Type 0
   View = MemberView R.Denot
 
-  pub known_twice : (v : Option R.Denot) (γ δ : ℕ) → ⟦ known_as R v γ δ ⟧ ⊢ ⟦ known_as R v γ δ ⟧ ∗ ⟦ known_as R v γ δ ⟧
-  known_twice (Some x) γ δ = 𝓛.names.res_dup γ (mark R (full x))
-  known_twice None γ δ = qed 𝓛 (‵ (fsep (unfilled γ) (spoilt δ)) ∷ []) ∵ fsplit ! $ use1 𝓛 (‵ (unfilled γ) ⊛ ‵ (unfilled γ)) (𝓛.invs.inv_dup (fauth γ gnil)) $ split ! $ move ! (2 ∷ []) $ res_dup ! $
-      -- [broken, twice; unfilled, twice]
-      move ! (2 ∷ 0 ∷ []) $ fjoin ! $ move ! (2 ∷ 1 ∷ []) $ fjoin ! $ done !
+  pub known_twice : (v : Option R.Denot) (γ : ℕ) → ⟦ known_as R v γ ⟧ ⊢ ⟦ known_as R v γ ⟧ ∗ ⟦ known_as R v γ ⟧
+  known_twice (Some x) γ = 𝓛.names.res_dup γ (mark R (full x))
+  known_twice None γ = 𝓛.invs.inv_dup (fauth γ gnil)
 
   pub members_twice : (ms : List View) → ⟦ members R ms ⟧ ⊢ ⟦ members R ms ⟧ ∗ ⟦ members R ms ⟧
   members_twice [] = qed 𝓛 (‵ ftrue ∷ []) ∵ nothing ! $ done !
-  members_twice (m ∷ ms) = qed 𝓛 (‵ (members R (m ∷ ms)) ∷ []) ∵ fsplit ! $ use1 𝓛 (‵ (member R m) ⊛ ‵ (member R m)) (known_twice m.value m.name m.breach) $ split ! $ move ! (2 ∷ []) $
+  members_twice (m ∷ ms) = qed 𝓛 (‵ (members R (m ∷ ms)) ∷ []) ∵ fsplit ! $ use1 𝓛 (‵ (member R m) ⊛ ‵ (member R m)) (known_twice m.value m.name) $ split ! $ move ! (2 ∷ []) $
       use1 𝓛 (‵ (members R ms) ⊛ ‵ (members R ms)) (members_twice ms) $ split ! $ move ! (2 ∷ 0 ∷ []) $ fjoin ! $ move ! (2 ∷ 1 ∷ []) $ fjoin ! $ done !
 
   -- one more at the end
@@ -85,7 +82,7 @@ module _ {M : Type 1} {𝓤 : Ura M} (𝓛 : Logic 𝓤) (R : RattleType) where
   -- the one at an index
   pub members_at : (ms : List View) (i : ℕ) (m : View) → slice_get ms i ≡ Some m → ⟦ members R ms ⟧ ⊢ ⟦ member R m ⟧
   members_at [] i m is = absurd (let z = is in cc)
-  members_at (h ∷ ms) zero m is = qed 𝓛 (‵ (members R (h ∷ ms)) ∷ []) ∵ fsplit ! $ keep ! (0 ∷ []) $ by ! (subst (λ (u : View). ⟦ member R h ⟧ ⊢ ⟦ member R u ⟧) (let z = is in cc) (base.Logic.id⊢ 𝓤 ⟦ member R h ⟧))
+  members_at (h ∷ ms) zero m is = qed 𝓛 (‵ (members R (h ∷ ms)) ∷ []) ∵ fsplit ! $ keep ! (0 ∷ []) $ by ! (subst (λ (u : View). ⟦ member R h ⟧ ⊢ ⟦ member R u ⟧) (let same : h ≡ m = (let z = is in cc) in same) (base.Logic.id⊢ 𝓤 ⟦ member R h ⟧))
   members_at (h ∷ ms) (suc i) m is = qed 𝓛 (‵ (members R (h ∷ ms)) ∷ []) ∵ fsplit ! $ keep ! (1 ∷ []) $ by ! (members_at ms i m is)
 
   nil_is_not_full : (x y : Gv) → gcons x y ≡ gnil → ⊥
@@ -102,23 +99,23 @@ module _ {M : Type 1} {𝓤 : Ura M} (𝓛 : Logic 𝓤) (R : RattleType) where
   abbrev pub Valued : Option R.Denot → ℕ → R.Denot → Fml
   Valued v γ x = fsep (fact (Some x ≡ v)) (written R γ x)
 
-  pub valued : (v : Option R.Denot) (γ δ : ℕ) → v ≢ None → ⟦ known_as R v γ δ ⟧ ⊢ ⟦ fex R.Denot (Valued v γ) ⟧
-  valued (Some x) γ δ some = qed 𝓛 (‵ (written R γ x) ∷ []) ∵ nothing ! $ fpack ! (Some x ≡ Some x) (λ _. ftrue) refl $ fjoin ! $ fpack ! R.Denot (Valued (Some x) γ) x $ done !
-  valued None γ δ some = absurd (some refl)
+  pub valued : (v : Option R.Denot) (γ : ℕ) → v ≢ None → ⟦ known_as R v γ ⟧ ⊢ ⟦ fex R.Denot (Valued v γ) ⟧
+  valued (Some x) γ some = qed 𝓛 (‵ (written R γ x) ∷ []) ∵ nothing ! $ fpack ! (Some x ≡ Some x) (λ _. ftrue) refl $ fjoin ! $ fpack ! R.Denot (Valued (Some x) γ) x $ done !
+  valued None γ some = absurd (some refl)
 
   -- what is known by a name is what its token says
-  pub value_agrees : (v : Option R.Denot) (γ δ : ℕ) (x : R.Denot) → ⟦ known_as R v γ δ ⟧ ∗ ⟦ written R γ x ⟧ ⊢ H.⇛ (monad.fact 𝓤 (v ≡ Some x))
-  value_agrees (Some z) γ δ x = qed 𝓛 (‵ (written R γ z) ∷ ‵ (written R γ x) ∷ []) ∵ updating ! $ use2 𝓛 (raw (monad.fact 𝓤 (z ≡ x))) (one_written 𝓛 R γ z x) $ heard ! (z ≡ x) (λ same. now ! $
+  pub value_agrees : (v : Option R.Denot) (γ : ℕ) (x : R.Denot) → ⟦ known_as R v γ ⟧ ∗ ⟦ written R γ x ⟧ ⊢ H.⇛ (monad.fact 𝓤 (v ≡ Some x))
+  value_agrees (Some z) γ x = qed 𝓛 (‵ (written R γ z) ∷ ‵ (written R γ x) ∷ []) ∵ updating ! $ use2 𝓛 (raw (monad.fact 𝓤 (z ≡ x))) (one_written 𝓛 R γ z x) $ heard ! (z ≡ x) (λ same. now ! $
       by ! (monad.fact_i 𝓤 (Some z ≡ Some x) (emp 𝓤) (ap Some same)))
-  value_agrees None γ δ x = qed 𝓛 (‵ (fsep (unfilled γ) (spoilt δ)) ∷ ‵ (written R γ x) ∷ []) ∵ updating ! $ fsplit ! $ move ! (0 ∷ 2 ∷ []) $ use2 𝓛 (later (given ⊥ (raw (emp 𝓤)))) (never_filled γ x) $ await ! tt $ learn ! (λ z. absurd z)
+  value_agrees None γ x = qed 𝓛 (‵ (unfilled γ) ∷ ‵ (written R γ x) ∷ []) ∵ updating ! $ use2 𝓛 (later (given ⊥ (raw (emp 𝓤)))) (never_filled γ x) $ await ! tt $ learn ! (λ z. absurd z)
 
   -- the same, of any token: it says something where the names are one
-  pub value_agrees_if : (v : Option R.Denot) (γ δ γ' : ℕ) (x : R.Denot) → ⟦ known_as R v γ δ ⟧ ∗ ⟦ written R γ' x ⟧ ⊢ H.⇛ (monad.fact 𝓤 (γ ≡ γ' → v ≡ Some x))
-  value_agrees_if v γ δ γ' x = dite (ℕ_discrete γ γ')
-      (λ same. subst (λ (k : ℕ). ⟦ known_as R v γ δ ⟧ ∗ ⟦ written R k x ⟧ ⊢ H.⇛ (monad.fact 𝓤 (γ ≡ k → v ≡ Some x))) same
-      (qed 𝓛 (‵ (known_as R v γ δ) ∷ ‵ (written R γ x) ∷ []) ∵ updating ! $ use2 𝓛 (later (raw (monad.fact 𝓤 (v ≡ Some x)))) (value_agrees v γ δ x) $ await ! tt $ heard ! (v ≡ Some x) (λ is. now ! $
+  pub value_agrees_if : (v : Option R.Denot) (γ γ' : ℕ) (x : R.Denot) → ⟦ known_as R v γ ⟧ ∗ ⟦ written R γ' x ⟧ ⊢ H.⇛ (monad.fact 𝓤 (γ ≡ γ' → v ≡ Some x))
+  value_agrees_if v γ γ' x = dite (ℕ_discrete γ γ')
+      (λ same. subst (λ (k : ℕ). ⟦ known_as R v γ ⟧ ∗ ⟦ written R k x ⟧ ⊢ H.⇛ (monad.fact 𝓤 (γ ≡ k → v ≡ Some x))) same
+      (qed 𝓛 (‵ (known_as R v γ) ∷ ‵ (written R γ x) ∷ []) ∵ updating ! $ use2 𝓛 (later (raw (monad.fact 𝓤 (v ≡ Some x)))) (value_agrees v γ x) $ await ! tt $ heard ! (v ≡ Some x) (λ is. now ! $
       by ! (monad.fact_i 𝓤 (γ ≡ γ → v ≡ Some x) (emp 𝓤) (λ _. is)))))
-      (λ other. qed 𝓛 (‵ (known_as R v γ δ) ∷ ‵ (written R γ' x) ∷ []) ∵ updating ! $ keep ! [] $ now ! $ by ! (monad.fact_i 𝓤 (γ ≡ γ' → v ≡ Some x) (emp 𝓤) (λ same. absurd (other same))))
+      (λ other. qed 𝓛 (‵ (known_as R v γ) ∷ ‵ (written R γ' x) ∷ []) ∵ updating ! $ keep ! [] $ now ! $ by ! (monad.fact_i 𝓤 (γ ≡ γ' → v ≡ Some x) (emp 𝓤) (λ same. absurd (other same))))
 
   -- what is known of one cell is another
   pub members_set : (ms : List View) (i : ℕ) (m : View) → ⟦ members R ms ⟧ ∗ ⟦ member R m ⟧ ⊢ ⟦ members R (slice_set ms i m) ⟧

@@ -113,13 +113,17 @@ module _ (R : RattleType) where
     abbrev pub over : Fml
     over = fdead γ.epoch
 
+    -- the right to write needs both
+    abbrev pub settable : Fml
+    settable = fsep over unset
+
     -- what a broken cell has: what shows that it is, and the right to set the first name
     abbrev pub cracked : Fml
     cracked = fsep (spoilt γ.breach) unset
 
     -- the word of each phase, with what goes with it
     abbrev pub told : ℕ → Phase R.Denot → Fml
-    told n free = fsep (feq ℕ n 0) (fsep over unset)
+    told n free = fsep (feq ℕ n 0) settable
     told n busy = fsep (feq ℕ n 1) over
     told n (full x) = fsep (feq ℕ n 2) (fsep over (written γ.value x))
     told n broken = fsep (feq ℕ n 3) (fsep over cracked)
@@ -196,7 +200,7 @@ module _ (R : RattleType) where
 
       -- the right to write
       abbrev pub Right : Fml
-      Right = fsep (fsep over unset) (fsep empty (fbor t.0 Room))
+      Right = fsep settable (fsep empty (fbor t.0 Room))
 
       -- what an exchange gains where it found n: the right to write, if it found what it sought; else what n shows
       abbrev pub gained : Bool → ℕ → Fml

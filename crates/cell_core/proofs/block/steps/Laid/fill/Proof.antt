@@ -82,7 +82,7 @@ fill_spec 𝓤 𝓛 𝓜 𝓡 wired T Al L _ ga da dd _ _ =
     move ! (1 ∷ []) $ use1 𝓛 (‵ (W.own_val made (token_val ∷ []))) (written_made 𝓛 R γ'.value x) $ sets ! (agg ! (no_more !)) refl (tt, tt) $ sets ! (agg ! (and_then ! (get ! refl) (no_more !))) refl (tt, (tt, tt)) $
     move ! (1 ∷ 2 ∷ 0 ∷ []) $
     let h' : Lo.Denot = record { marker = h.marker; heap = h.heap; at = p; cells = set cs j γ'; left = h.left } in
-    let there : cell_in h'.cells j ≡ γ' = get_or-set_same cs j γ' (record { value = 0; breach = 0 }) asked.1 in
+    let there : cell_in h'.cells j ≡ γ' = get_or-set_same cs j γ' (record { value = 0; breach = 0; epoch = [] }) asked.1 in
     let Kept : Type 0 = (h.heap ≡ h.heap) × (p ≡ h.at) × HasOneRenamed cs j h'.cells × (h.left ≡ h.left) × (γ'.value ≡ (cell_in h'.cells j).value) × (x ≡ x) in
     -- [the new cell; the way back; ..]
     move ! (1 ∷ []) $ use1 𝓛 (raw (Back γ')) (all_e 𝓤 Back γ') $ move ! (1 ∷ 0 ∷ []) $

@@ -1,5 +1,5 @@
--- `push` writes the word of the next cell, which takes two new names.
-use Rattle.std.proofs.Common.{◌≡◌, ℕ, ◌+◌, suc, length, ◌*◌, ◌^◌, ◌<◌, List, [], ◌∷◌, ◌++◌, sym, refl, ap, subst, arith, w64, ◌-◌, lit<}
+-- `push` writes the word of the next cell, which takes new names, and an epoch that has ended.
+use Rattle.std.proofs.Common.{Bool, false, ◌≡◌, ℕ, ◌+◌, suc, length, ◌*◌, ◌^◌, ◌<◌, List, [], ◌∷◌, ◌++◌, sym, refl, ap, subst, arith, w64, ◌-◌, lit<}
 use Rattle.std.specs.Prelude.{None}
 use mir.Syntax.{Ty, a_type, dcons, dnil, named}
 use mir.Val.{Val, vint, vptr, vunit}
@@ -26,7 +26,7 @@ use denote.Plain.{uint_vals, uint_Tells}
 use denote.Triple.Walked.{Stays, stay_dropped, stay_ref, walk_of, Goes-dropped, Goes-ref}
 use Rattle.core.proofs.atomic.Steps.{tail}
 use Rattle.atomic_table.proofs.Walks.{proved, leaves}
-use Rattle.cell_core.specs.Slot.{Names, Rest, free, Lies}
+use Rattle.cell_core.specs.Slot.{Names, Rest, breached, free, Lies}
 use Rattle.cell_core.specs.Laid.{laid, stride, rooms, still, rests, IsLinked, HasOneMore}
 use Rattle.cell_core.specs.contracts.block.steps.Link as link
 use Rattle.cell_core.specs.contracts.block.steps.Laid as loose
@@ -34,7 +34,7 @@ use Rattle.cell_core.proofs.CellMade.{pointer_val, pointer_good}
 use Rattle.cell_core.proofs.LaidMade.{link_told, uncapped}
 use Rattle.cell_core.proofs.LaidParts as parts
 use base.Stored.{gnil}
-use types.Tokens.{name_new}
+use types.Tokens.{lft_new, lft_end, name_new}
 use Rattle.cell_core.specs.contracts.block.steps.Laid.push.{ended, clauses}
 use Rattle.cell_core.specs.contracts.block.steps.Laid.push.Key.{name as #self}
 use Rattle.cell_core.proofs.block.steps.Laid.push.Statement.{statement}
@@ -63,13 +63,13 @@ push_spec 𝓤 𝓛 𝓜 𝓡 wired T Al L _ ga da dd _ _ =
     first ! $ blocks ! $ sets ! (is ! (bin ! (get ! refl) (size_word !) (record { fits = subst (λ (j : ℕ). j < 2 ^ 64) (sym (uncapped j (stride R) small)) small })) (ap (vint w64) (uncapped j (stride R) small))) refl (tt, record { fits = small }) $
     sets ! (bin ! (get_in ! (fld ! refl (stop !)) (sub ! 0 refl (all_of_it !))) (get ! refl) tt) refl (tt, tt) $
     sets ! (addr ! (through ! refl (fld ! refl (stop !)))) refl (tt, tt) $ assigns_last ! (of_opd ! (lit ! tt)) (through ! refl (stop !)) (init ! 0 refl (tt, record { fits = lit< tt })) $ exec ! 𝓣.C 𝓣.Λ Ev (tail fn.body) (at_ret Ev Post) $ sets ! (of_opd ! (unit_lit !)) refl (tt, tt) $
-    name_new ! tt gnil (λ γv. name_new ! tt gnil (λ γb. let γ : Names = record { value = γv; breach = γb } in
-    -- [the right to break; its name; the right to fill; its name; the word; the room; the rest of the row; ..]
-    move ! (2 ∷ 0 ∷ []) $ fjoin ! $ feq_i ! ℕ 0 0 refl $ fjoin ! $ move ! (2 ∷ 1 ∷ []) $ fjoin ! $ fjoin ! $ nothing ! $ fpack ! (Lies R None free) (λ _. ftrue) refl $ move ! (1 ∷ 0 ∷ []) $ fjoin ! $
+    name_new ! tt gnil (λ γv. name_new ! tt gnil (λ γb. lft_new ! tt (λ ν. lft_end ! tt $ let γ : Names = record { value = γv; breach = γb; epoch = ν ∷ [] } in
+    -- [the epoch has ended; the right to break; its name; the right to fill; its name; the word; the room; the rest of the row; ..]
+    move ! (1 ∷ 2 ∷ []) $ fjoin ! $ fpack ! Bool (breached γb) false $ move ! (3 ∷ 0 ∷ []) $ fjoin ! $ move ! (1 ∷ 2 ∷ []) $ fjoin ! $ feq_i ! ℕ 0 0 refl $ fjoin ! $ move ! (1 ∷ 0 ∷ []) $ fjoin ! $ nothing ! $ fpack ! (Lies R None free) (λ _. ftrue) refl $ move ! (1 ∷ 0 ∷ []) $ fjoin ! $
     move ! (1 ∷ 2 ∷ 0 ∷ []) $ fjoin3 ! $ fpack ! (Rest R.Denot) (rests R b γ e) (0, None, free) $ move ! (1 ∷ []) $ use1 𝓛 (raw (Again γ)) (all_e 𝓤 Again γ) $ move ! (1 ∷ 0 ∷ []) $
     use2 𝓛 (‵ (laid R token p (h.cells ++ γ ∷ []) left)) (apply∗ 𝓤 (sem 𝓛 (still R b γ e)) (sem 𝓛 (laid R token p (h.cells ++ γ ∷ []) left))) $
     let h' : Lo.Denot = record { marker = h.marker; heap = h.heap; at = p; cells = h.cells ++ γ ∷ []; left = left } in move ! (1 ∷ 0 ∷ []) $ fjoin ! $ move ! (1 ∷ 0 ∷ []) $
     closes ! tt Lo h' ts b' o' $ feq_i ! (List Val) (vptr b' o' ∷ []) (vptr b' o' ∷ []) refl $ fjoin3 ! $ nothing ! $ nothing ! $ fjoin ! $ nothing ! $ fjoin ! $ move ! (1 ∷ 0 ∷ []) $ fjoin ! $ move ! (1 ∷ 2 ∷ []) $ join ! $
     let Kept : Type 0 = (h.heap ≡ h.heap) × (p ≡ h.at) × HasOneMore h.cells h'.cells × (left + 1 ≡ h.left) in
     use0 𝓛 (raw (fact 𝓤 Kept)) (fact_i 𝓤 Kept (emp 𝓤) (refl, sym asked.0.0, (γ, refl), omega arith)) $ feq_i ! (List Val) (vunit ∷ []) (vunit ∷ []) refl $
-    returns ! (look_at ! 0 refl) $ free_all ! refl $ keep ! (2 ∷ 3 ∷ 0 ∷ 1 ∷ []) $ by ! (leaves 𝓛 En hs c y vunit tt (h', (tt, (tt, tt))) (tt, (tt, (tt, tt)))))))))))
+    returns ! (look_at ! 0 refl) $ free_all ! refl $ keep ! (2 ∷ 3 ∷ 0 ∷ 1 ∷ []) $ by ! (leaves 𝓛 En hs c y vunit tt (h', (tt, (tt, tt))) (tt, (tt, (tt, tt))))))))))))

@@ -1,8 +1,5 @@
 -- A `&` to an `Epoch` lasts no longer than the epoch. Assumes `Logic`.
 use Rattle.std.proofs.Common.{[], ◌∷◌}
-use base.Before.{before}
-use base.Fraction.{full_share}
-use base.Fml.{Lft}
 use denote.Builtin.{u8}
 use denote.Param.Shared.{copy_shared}
 use denote.SharingLaws.{ends_shr_laws}

@@ -16,6 +16,6 @@ use Rattle.cell_core.proofs.slot.member.Member.TheLaw.Statement.{statement}
 
 pub shares : (T : RattleType) (L : Laws T) → statement T L
 shares T L = of_Lends (C.struct T) (C.the_codes T.Denot T.coded (P.the_row T).coded) (C.the_heap T) (C.the_lent T)
-    (λ d p. record { contraction = λ M 𝓤 𝓛 κ. known_twice 𝓛 T d.of.value d.of.name d.of.breach; mono = λ M 𝓤 𝓛 κ' κ. snd∗ 𝓤 (sem 𝓛 (before κ' κ)) (sem 𝓛 (member T d.of)) })
+    (λ d p. record { contraction = λ M 𝓤 𝓛 κ. known_twice 𝓛 T d.of.value d.of.name; mono = λ M 𝓤 𝓛 κ' κ. snd∗ 𝓤 (sem 𝓛 (before κ' κ)) (sem 𝓛 (member T d.of)) })
     (copy_shared (P.the_field T) (field_copy (P.the_type T) tt), tt)
-    (λ M 𝓤 𝓛 d p. lends_twice 𝓛 (member T d.of) (known_twice 𝓛 T d.of.value d.of.name d.of.breach) (C.the_row T).lives)
+    (λ M 𝓤 𝓛 d p. lends_twice 𝓛 (member T d.of) (known_twice 𝓛 T d.of.value d.of.name) (C.the_row T).lives)

@@ -38,7 +38,7 @@ filled_spec 𝓤 𝓛 𝓜 𝓡 wired T L =
     let token = RefOf (0 ∷ []) tt (plain (λ _. W)) (λ _. tt) in let hs : Stays En.signature.params En.kept = (stay_dropped token yes, tt) in
     proved 𝓛 En hs c 𝓜 𝓡 (Goes-dropped 𝓛 2 token yes (λ κs x f. refl), tt) (#self inst) fn (code.unfolded 𝓤 H 𝓜 𝓡 wired (T, tt))
     (λ κs. (shr_vals, tt)) (λ κs. (shr_Tells (named 0) κs.0 W, tt)) (λ κs qs bounds a gh are.
-    let p : Val = vptr a.0.ref_ptr.0 a.0.ref_ptr.1 in let γ : ℕ = a.0.now.of in let x : T.Denot = a.0.now.value in let m : MemberView T.Denot = record { value = Some x; name = γ; breach = 0 } in
+    let p : Val = vptr a.0.ref_ptr.0 a.0.ref_ptr.1 in let γ : ℕ = a.0.now.of in let x : T.Denot = a.0.now.value in let m : MemberView T.Denot = record { value = Some x; name = γ; epoch = [] } in
     let r : S.Denot = record { marker = record {}; of = m } in let Told : Type 0 = (Some x ≡ Some x) × (γ ≡ γ) in
     let y : (walk_of 𝓛 En hs c).Ghost = ((κs, qs, bounds, a, (p ∷ [], tt)), gh) in let Post : Val → SProp 𝓤 = (walk_of 𝓛 En hs c).post y in
     qed 𝓛 ((raw (alive 𝓛 En.signature κs qs) ⊛ ‵ (owns (types_at En.signature.params κs) a y.0.4)) ∷ raw ((c κs a).requires gh) ∷ []) ∵ split ! $ keep ! (1 ∷ 0 ∷ []) $

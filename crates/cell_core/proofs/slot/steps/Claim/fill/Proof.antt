@@ -36,7 +36,7 @@ use Rattle.std.specs.Prelude.{None}
 use Rattle.cell_core.specs.Slot.{Names, content, written, place, at, inside, Room, claimed}
 use Rattle.cell_core.specs.contracts.slot.steps.Claim as Claim
 use Rattle.cell_core.specs.contracts.slot.steps.Written as Written
-use Rattle.cell_core.proofs.CellMade.{token_val, pointer_val, pointer_good, claim_told, claim_placed, written_made}
+use Rattle.cell_core.proofs.CellMade.{Held, claim_gains, token_val, pointer_val, pointer_good, claim_told, claim_placed, written_made}
 use Rattle.cell_core.proofs.CellSteps as steps
 use Rattle.cell_core.specs.contracts.slot.steps.Claim.fill.{ended, clauses}
 use Rattle.cell_core.specs.contracts.slot.steps.Claim.fill.Key.{name as #self}
@@ -57,10 +57,10 @@ fill_spec 𝓤 𝓛 𝓜 𝓡 wired T L =
     let y : (walk_of 𝓛 En hs c).Ghost = At (pointer_val p ∷ [], (vy ∷ [], tt)) in let Post : Val → SProp 𝓤 = (walk_of 𝓛 En hs c).post y in let S : RattleType = Written.the_row R in
     subst (λ (vss : List Val × (List Val × Unit {0})). ent 𝓤 ((walk_of 𝓛 En hs c).pre (At vss)) (WpFn 𝓤 H 𝓣.C 𝓣.Λ fn ((walk_of 𝓛 En hs c).args (At vss)) ((walk_of 𝓛 En hs c).post (At vss))))
     (λ i. (sym (claim_told ℓ R p z.0.4.0 are.0.0) i, (sym got.1 i, tt))) (
-    qed 𝓛 (((‵ (flft β q) ⊛ ‵ (flft τ r) ⊛ ‵ ftrue) ⊛ ‵ (owns (types_at En.signature.params κs) a y.0.4)) ∷ raw (fact 𝓤 (τ ⊑ T.lives)) ∷ raw (fact 𝓤 (h.found ≡ 0)) ∷ []) ∵
-    move ! (1 ∷ 2 ∷ []) $ heard ! (τ ⊑ T.lives) (λ le. heard ! (h.found ≡ 0) (λ asked. split ! $ split3 ! $ move ! (3 ∷ []) $ fsplit3 ! $ fsplit ! $ keep ! (1 ∷ 2 ∷ 4 ∷ 5 ∷ 6 ∷ []) $
-    use1 𝓛 (given (InBlock p) (‵ (claimed R γ β p h.found))) (fact_use 𝓤 _ (claim_placed 𝓛 R γ β p h.found) (guard_i 𝓤 (InBlock p) (sem 𝓛 (claimed R γ β p h.found)))) $ learn ! (λ inb. let is_at : p ≡ block_ptr b o = at_block p inb in
-    rewrite ! 0 (λ (u : Ptr × ℕ). ‵ (claimed R γ β u.0 u.1)) (λ i. (is_at i, asked i)) refl $
+    qed 𝓛 (((‵ (flft β q) ⊛ ‵ (flft τ r) ⊛ ‵ ftrue) ⊛ ‵ (owns (types_at En.signature.params κs) a y.0.4)) ∷ raw (fact 𝓤 (τ ⊑ T.lives)) ∷ raw (fact 𝓤 (h.found ≡ h.sought)) ∷ []) ∵
+    move ! (1 ∷ 2 ∷ []) $ heard ! (τ ⊑ T.lives) (λ le. heard ! (h.found ≡ h.sought) (λ asked. split ! $ split3 ! $ move ! (3 ∷ []) $ fsplit3 ! $ fsplit ! $ keep ! (1 ∷ 2 ∷ 4 ∷ 5 ∷ 6 ∷ []) $
+    use1 𝓛 (given (InBlock p) (‵ (claimed R γ β p h.sought h.found))) (fact_use 𝓤 _ (claim_placed 𝓛 R γ β p h.sought h.found) (guard_i 𝓤 (InBlock p) (sem 𝓛 (claimed R γ β p h.sought h.found)))) $ learn ! (λ inb. let is_at : p ≡ block_ptr b o = at_block p inb in
+    rewrite ! 0 (λ (u : Ptr). ‵ (claimed R γ β u h.sought h.found)) is_at refl $ use1 𝓛 (‵ (Held 𝓛 R γ β b o)) (claim_gains 𝓛 R γ β b o h.sought h.found asked) $
     enter ! 𝓣.C 𝓣.Λ fn (pointer_val p ∷ vy ∷ []) Post $ alloc_all ! (λ l. pass_all ! refl (pointer_good p, (fy, tt)) $ let Ev = env fn.locals l in
     fpick ! (λ t. let α : Lft = t.0 in let V : Fml = Room R γ t b o in fsplit ! $ fsplit ! $ move ! (2 ∷ []) $ fsplit ! $ move ! (1 ∷ []) $ fsplit ! $
     -- [empty; the room's borrow; unset; before; the invariant; the value; the token; T's token; the rest]

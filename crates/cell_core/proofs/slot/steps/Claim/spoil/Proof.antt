@@ -26,7 +26,7 @@ use Rattle.core.proofs.atomic.Steps.{tail}
 use Rattle.cell_core.specs.Slot.{Names, spoilt, claimed}
 use Rattle.cell_core.specs.contracts.slot.steps.Claim as Claim
 use Rattle.cell_core.specs.contracts.slot.steps.Crack as Crack
-use Rattle.cell_core.proofs.CellMade.{token_val, pointer_val, pointer_good, claim_told, claim_placed, crack_made}
+use Rattle.cell_core.proofs.CellMade.{Held, claim_gains, token_val, pointer_val, pointer_good, claim_told, claim_placed, crack_made}
 use Rattle.cell_core.proofs.CellSteps as steps
 use Rattle.cell_core.specs.contracts.slot.steps.Claim.spoil.{ended, clauses}
 use Rattle.cell_core.specs.contracts.slot.steps.Claim.spoil.Key.{name as #self}
@@ -43,10 +43,10 @@ spoil_spec 𝓤 𝓛 𝓜 𝓡 wired T L =
     let ℓ = named_lft 2 0 tt κs in let Hr : RattleType = Claim.the_row ℓ R in let h : Hr.Denot = a.0 in let p : Ptr = h.slot in let b : ℕ = block_of p in let o : ℕ = count_of p in let β : Lft = κs.0 in let q : Share = qs.0 in
     let γ : Names = h.of in let others : Fml = fsep (flft κs.1.0 qs.1.0) ftrue in let S : RattleType = Crack.the_row in
     let y : (walk_of 𝓛 En hs c).Ghost = ((κs, qs, bounds, a, (pointer_val p ∷ [], tt)), gh) in let Post : Val → SProp 𝓤 = (walk_of 𝓛 En hs c).post y in
-    qed 𝓛 (((‵ (flft β q) ⊛ ‵ others) ⊛ ‵ (owns (types_at En.signature.params κs) a y.0.4)) ∷ raw (fact 𝓤 _) ∷ raw (fact 𝓤 (h.found ≡ 0)) ∷ []) ∵
-    keep ! (2 ∷ 0 ∷ []) $ heard ! (h.found ≡ 0) (λ asked. split ! $ split ! $ move ! (2 ∷ []) $ fsplit ! $ fsplit ! $ keep ! (1 ∷ 3 ∷ 4 ∷ []) $
-    use1 𝓛 (given (InBlock p) (‵ (claimed R γ β p h.found))) (fact_use 𝓤 _ (claim_placed 𝓛 R γ β p h.found) (guard_i 𝓤 (InBlock p) (sem 𝓛 (claimed R γ β p h.found)))) $ learn ! (λ inb. let is_at : p ≡ block_ptr b o = at_block p inb in
-    rewrite ! 0 (λ (u : Ptr × ℕ). ‵ (claimed R γ β u.0 u.1)) (λ i. (is_at i, asked i)) refl $
+    qed 𝓛 (((‵ (flft β q) ⊛ ‵ others) ⊛ ‵ (owns (types_at En.signature.params κs) a y.0.4)) ∷ raw (fact 𝓤 _) ∷ raw (fact 𝓤 (h.found ≡ h.sought)) ∷ []) ∵
+    keep ! (2 ∷ 0 ∷ []) $ heard ! (h.found ≡ h.sought) (λ asked. split ! $ split ! $ move ! (2 ∷ []) $ fsplit ! $ fsplit ! $ keep ! (1 ∷ 3 ∷ 4 ∷ []) $
+    use1 𝓛 (given (InBlock p) (‵ (claimed R γ β p h.sought h.found))) (fact_use 𝓤 _ (claim_placed 𝓛 R γ β p h.sought h.found) (guard_i 𝓤 (InBlock p) (sem 𝓛 (claimed R γ β p h.sought h.found)))) $ learn ! (λ inb. let is_at : p ≡ block_ptr b o = at_block p inb in
+    rewrite ! 0 (λ (u : Ptr). ‵ (claimed R γ β u h.sought h.found)) is_at refl $ use1 𝓛 (‵ (Held 𝓛 R γ β b o)) (claim_gains 𝓛 R γ β b o h.sought h.found asked) $
     enter ! 𝓣.C 𝓣.Λ fn (pointer_val p ∷ []) Post $ alloc_all ! (λ l. pass_all ! refl (pointer_good p, tt) $ let Ev = env fn.locals l in
     fpick ! (λ t. let α : Lft = t.0 in fsplit ! $ fsplit ! $
     -- [before; the invariant; the right to write; the token; the others]

@@ -1,10 +1,10 @@
--- What a load of 3 showed is that the cell is broken.
-use Rattle.std.proofs.Common.{◌≡◌, ℕ, [], ◌∷◌, refl}
+-- What a load of more than 2 showed is that the cell is broken.
+use Rattle.std.proofs.Common.{◌<◌, ◌≡◌, [], ◌∷◌, refl}
 use mir.Syntax.{a_type}
 use mir.Val.{Val}
 use mir.MapTy.{inst_fn}
 use base.Logic.{SProp, emp}
-use types.Kit.{‵, raw, ◌⊛◌, ◌$◌, ◌∵◌, !, qed, by, move, keep, use0, use1, split, fsplit, fjoin, rewrite}
+use types.Kit.{‵, raw, ◌⊛◌, ◌$◌, ◌∵◌, !, qed, by, move, keep, use0, use1, split, fsplit, fjoin}
 use types.Run.{no_more, and_then, returns, enter}
 use types.ByLocal.{alloc_all, pass_all, free_all, look_at, get, sets}
 use types.Part.{agg}
@@ -18,10 +18,10 @@ use denote.Param.{param, layouts}
 use denote.Triple.Walked.{Stays, stay_dropped, walk_of, Goes-dropped}
 use Rattle.atomic_table.proofs.Walks.{proved, leaves}
 use denote.Triple.Entry.{alive}
-use Rattle.cell_core.specs.Slot.{Names, sighted}
+use Rattle.cell_core.specs.Slot.{spoilt, Names}
 use Rattle.cell_core.specs.contracts.slot.steps.Sight as Sight
 use Rattle.cell_core.specs.contracts.slot.steps.Crack as Crack
-use Rattle.cell_core.proofs.CellMade.{token_val, sight_told, crack_made}
+use Rattle.cell_core.proofs.CellMade.{sight_cracks, token_val, sight_told, crack_made}
 use Rattle.cell_core.specs.contracts.slot.steps.Sight.crack.{ended, clauses}
 use Rattle.cell_core.specs.contracts.slot.steps.Sight.crack.Key.{name as #self}
 use Rattle.cell_core.proofs.slot.steps.Sight.crack.Statement.{statement}
@@ -36,8 +36,8 @@ crack_spec 𝓤 𝓛 𝓜 𝓡 wired T L =
     (λ κs. ((λ _. token_val ∷ []), tt)) (λ κs. ((λ x vs so. sight_told R vs so.0), tt)) (λ κs qs bounds a gh are.
     let h : Si.Denot = a.0 in let γ : Names = h.of in
     let y : (walk_of 𝓛 En hs c).Ghost = ((κs, qs, bounds, a, (token_val ∷ [], tt)), gh) in let Post : Val → SProp 𝓤 = (walk_of 𝓛 En hs c).post y in
-    qed 𝓛 ((raw (alive 𝓛 En.signature κs qs) ⊛ ‵ (owns (types_at En.signature.params κs) a y.0.4)) ∷ raw (fact 𝓤 _) ∷ raw (fact 𝓤 (h.found ≡ 3)) ∷ []) ∵ keep ! (2 ∷ 0 ∷ []) $ heard ! (h.found ≡ 3) (λ asked.
-    split ! $ move ! (1 ∷ []) $ fsplit ! $ fsplit ! $ keep ! (1 ∷ 3 ∷ []) $ rewrite ! 0 (λ (k : ℕ). ‵ (sighted R γ k h.value)) asked refl $
+    qed 𝓛 ((raw (alive 𝓛 En.signature κs qs) ⊛ ‵ (owns (types_at En.signature.params κs) a y.0.4)) ∷ raw (fact 𝓤 _) ∷ raw (fact 𝓤 (2 < h.found)) ∷ []) ∵ keep ! (2 ∷ 0 ∷ []) $ heard ! (2 < h.found) (λ asked.
+    split ! $ move ! (1 ∷ []) $ fsplit ! $ fsplit ! $ keep ! (1 ∷ 3 ∷ []) $ use1 𝓛 (‵ (spoilt γ.breach)) (sight_cracks 𝓛 R γ h.found h.value asked) $
     let r : S.Denot = record { marker = record {}; of = γ.breach } in let Told : Type 0 = γ.breach ≡ γ.breach in use1 𝓛 (‵ (S.own_val r (token_val ∷ []))) (crack_made 𝓛 γ.breach) $
     enter ! 𝓣.C 𝓣.Λ fn (token_val ∷ []) Post $ alloc_all ! (λ l. pass_all ! refl ((tt, (tt, tt)), tt) $
     sets ! (agg ! (no_more !)) refl (tt, tt) $ sets ! (agg ! (and_then ! (get ! refl) (no_more !))) refl (tt, (tt, tt)) $

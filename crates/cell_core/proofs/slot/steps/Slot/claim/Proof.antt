@@ -52,7 +52,7 @@ claim_spec 𝓤 𝓛 𝓜 𝓡 wired T L =
     enter ! 𝓣.C 𝓣.Λ fn (vptr b o ∷ []) Post $ alloc_all ! (λ l. pass_all ! refl ((tt, tt), tt) $ let Ev = env fn.locals l in
     unhide ! $ fpick ! (λ t. let J : Fml = fbor t.0 (Cell R γ t b o) in fsplit ! $ use1 𝓛 (‵ (before κ t.0) ⊛ ‵ (before κ t.0)) (before_dup 𝓛 κ t.0) $ split ! $ move ! (2 ∷ []) $
     use1 𝓛 (‵ (finv J) ⊛ ‵ (finv J)) (𝓛.invs.inv_dup J) $ split ! $ move ! (2 ∷ 0 ∷ []) $ fjoin ! $ move ! (2 ∷ 3 ∷ []) $ use2 𝓛 (later (some (λ (s : Share). ‵ (flft t.0 s) ⊛ raw (wand 𝓤 (𝓛.A.lft t.0 s) (H.⇛ (𝓛.A.lft κ q)))))) (Lends-one 𝓛 𝓜 𝓡 κ t.0 q) $ await ! tt $ pick ! (λ s. split ! $
-    let Won : ℕ → Fml = won R γ t b o in let after : ℕ → Fml = λ n. fsep (flft t.0 s) (Won n) in
+    let Won : ℕ → Fml = won R γ t b o 0 in let after : ℕ → Fml = λ n. fsep (flft t.0 s) (Won n) in
     first ! $ blocks ! $ sets ! (addr ! (through ! refl (fld ! refl (stop !)))) refl (tt, tt) $ nothing ! $ move ! (4 ∷ 1 ∷ 0 ∷ []) $
     use3 𝓛 (raw (𝓣.C _ (vptr b (o + 0) ∷ vint w64 0 ∷ vint w64 1 ∷ []) (λ u. mean 𝓛 (found after u))))
     (via 𝓤 _ (steps.claims 𝓛 R γ t b o s) (exchanges 𝓛 𝓜 𝓡 (code.calls-atomic_table::exchange 𝓡.env wired) (block_ptr b (o + 0)) 0 1 (lit< tt) (lit< tt) after)) $
@@ -61,10 +61,10 @@ claim_spec 𝓤 𝓛 𝓜 𝓡 wired T L =
     sets ! (addr ! (through ! refl (stop !))) refl (tt, tt) $ sets ! (agg ! (no_more !)) refl (tt, tt) $ sets ! (agg ! (and_then ! (get ! refl) (and_then ! (get ! refl) (no_more !)))) refl (tt, (tt, (tt, tt))) $
     sets ! (of_opd ! (get ! refl)) refl (tt, (tt, (tt, tt))) $ sets ! (agg ! (and_then ! (get ! refl) (and_then ! (get ! refl) (no_more !)))) refl (tt, (record { fits = fits }, ((tt, (tt, tt)), tt))) $
     fsplit ! $ move ! (0 ∷ 2 ∷ []) $ use2 𝓛 (later (‵ (flft κ q))) (apply∗ 𝓤 (𝓛.A.lft t.0 s) (H.⇛ (𝓛.A.lft κ q))) $ await ! tt $ move ! (0 ∷ 3 ∷ []) $ join ! $ move ! (2 ∷ 1 ∷ []) $
-    fjoin ! $ fpack ! Turn (λ z. fsep (kept R γ z b o κ) (won R γ z b o n)) t $
-    let h : Hr.Denot = record { slot = p; marker = record {}; of = γ; found = n } in let r : Val = vstruct (vcons (vint w64 n) (vcons (pointer_val p) vnil)) in let Told : Type 0 = (γ ≡ γ) × (n ≡ n) in
+    fjoin ! $ fpack ! Turn (λ z. fsep (kept R γ z b o κ) (won R γ z b o 0 n)) t $
+    let h : Hr.Denot = record { slot = p; marker = record {}; of = γ; sought = 0; found = n } in let r : Val = vstruct (vcons (vint w64 n) (vcons (pointer_val p) vnil)) in let Told : Type 0 = (γ ≡ γ) × (0 ≡ 0) × (n ≡ n) in
     use0 𝓛 (‵ ((Words ℓ R).own_val (p, (tt, tt)) (pointer_val p ∷ []))) (claim_made ℓ R 𝓛 p) $ fjoin ! $ nothing ! $ flt_i ! n (2 ^ 64) fits $ feq_i ! (List Val) (vint w64 n ∷ []) (vint w64 n ∷ []) refl $ fjoin ! $
     move ! (0 ∷ 2 ∷ 1 ∷ []) $ fjoin3 ! $ feq_i ! (List Val) (r ∷ []) (r ∷ []) refl $ fjoin ! $
     fpack ! (Valss (u64 ∷ Hr ∷ [])) (λ uss. fsep (feq (List Val) (r ∷ []) (vstruct (of_list (uss.0 ++ (uss.1.0 ++ []))) ∷ [])) (owns (u64 ∷ Hr ∷ []) (n, (h, tt)) uss)) (vint w64 n ∷ [], (pointer_val p ∷ [], tt)) $
-    use0 𝓛 (raw (fact 𝓤 Told)) (fact_i 𝓤 Told (emp 𝓤) (refl, refl)) $ nothing ! $ nothing ! $ fjoin ! $
+    use0 𝓛 (raw (fact 𝓤 Told)) (fact_i 𝓤 Told (emp 𝓤) (refl, refl, refl)) $ nothing ! $ nothing ! $ fjoin ! $
     returns ! (look_at ! 0 refl) $ free_all ! refl $ keep ! (3 ∷ 0 ∷ 2 ∷ 1 ∷ []) $ by ! (leaves 𝓛 En hs c y r (n, h) (tt, tt) (tt, tt))))))))

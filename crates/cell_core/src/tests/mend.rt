@@ -125,13 +125,7 @@ fn is_settled_anew(block: &mut Block<u64>) -> bool
     let broken = broken_in(block, &first);
     let second = Epoch::new();
     let anew = block.settle_known(0, &broken, &second);
-    let ended = first.end();
-    number(block.mend(0)) == 3
-        && number(block.mend_member(0, &anew, &second.end())) == 5
-        && {
-            drop(ended);
-            true
-        }
+    number(block.mend(0)) == 3 && number(block.mend_member(0, &anew, &second.end())) == 5
 }
 
 #[test]

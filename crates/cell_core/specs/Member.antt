@@ -17,7 +17,8 @@ pub record MemberView (T : Type 0) : Type 0 where
 -- how that is stored
 abbrev pub member_coded : {T : Type 0} → Coded T → Coded (MemberView T)
 member_coded {T} c =
-    coded_via (coded× (coded_option c) (coded× coded_ℕ (coded_list coded_ℕ))) (λ (m : MemberView T). (m.value, (m.name, m.epoch)))
+    coded_via (coded× (coded_option c) (coded× coded_ℕ (coded_list coded_ℕ)))
+    (λ (m : MemberView T). (m.value, (m.name, m.epoch)))
     (λ x y e i. record { value = (e i).0; name = (e i).1.0; epoch = (e i).1.1 })
 
 -- what shows that a name never gets a value
@@ -58,7 +59,8 @@ MayBeWordOf None word = Unit {0}
 abbrev pub IsEpochOf : {T : Type 0} → Option T → Lft → Lft → Type 0
 IsEpochOf value own epoch = value ≡ None → own ≡ epoch
 
--- what settling the cell at an index leaves: a cell with a value stays, and any other is broken for the epoch, under new names
+-- what settling the cell at an index leaves: a cell with a value stays, and any other is broken for the epoch, under new
+-- names
 abbrev pub Settles : {T : Type 0} → List Names → ℕ → List Names → Option T → Lft → Type 0
 Settles old i new (Some x) epoch = new ≡ old
 Settles old i new None epoch = (c : Names) × IsAnother (cell_in old i) c × (new ≡ slice_set old i c) × (epoch ≡ c.epoch)

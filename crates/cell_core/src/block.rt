@@ -1,11 +1,12 @@
 //! A block of cells, laid raw in one row: each is a state word and room for one value.
-ghost use Rattle.std.specs.Prelude.{◌≡◌, ◌≢◌, ◌<◌, Some, None, MatchOption, IsSomeAnd, IfSome, IfOk, IfErr, IsErrAnd};
-ghost use Rattle.cell_core.specs.Block.{block_len, cell_at, IsPenAt, IsPlacedIn, IsPlacedAt, IsMemberAt, KeepsOtherCells, RenewsCell};
+ghost use Rattle.std.specs.Prelude.{◌≡◌, ◌≢◌, ◌<◌, Some, None, IsSomeAnd, IfSome, IfOk, IfErr, IsErrAnd};
+ghost use Rattle.cell_core.specs.Block.{block_len, cell_at, IsPenAt, IsPlacedIn, IsPlacedAt, IsMemberAt};
 ghost use Rattle.cell_core.specs.Shown.{IsFoundIn, IsNotEmpty, ShowsFilled, IsLookAt};
 
 mod begun;
 mod epoch;
 mod member;
+mod owner;
 mod pen;
 mod placed;
 mod shown;
@@ -120,7 +121,8 @@ impl<T, A: Allocator> Block<T, A> {
         }
     }
 
-    /// One exchange from broken to busy. Where an owner broke the cell it answers `Found::Broken`: `mend_member` mends that.
+    /// One exchange from broken to busy. Where an owner broke the cell it answers `Found::Broken`: `mend_member` mends
+    /// that.
     pub fn mend(&self, place: u64) -> Result<Pen<'_, T>, Found<T>>
         requires { place < block_len self.now }
         ensures pen { IfOk result (IsPenAt self.now place) }
@@ -134,8 +136,8 @@ impl<T, A: Allocator> Block<T, A> {
         }
     }
 
-    /// As `mend`, of a cell of which an owner knew so much in an epoch that has ended: one that the owner broke may be mended
-    /// too.
+    /// As `mend`, of a cell of which an owner knew so much in an epoch that has ended: one that the owner broke may be
+    /// mended too.
     pub fn mend_member(
         &self,
         place: u64,
@@ -209,123 +211,8 @@ impl<T, A: Allocator> Block<T, A> {
         }
     }
 
-    /// The value of the cell, if it holds one. The cell is empty then, and is another one: older tokens are not of it.
-    pub fn take(&mut self, place: u64) -> Option<T>
-        requires { place < block_len self.old }
-        ensures len { block_len self.new ≡ block_len self.old }
-        ensures another { RenewsCell self.old self.new place }
-        ensures others { KeepsOtherCells self.old self.new place }
-    {
-        self.laid.take(self.link, place as usize)
-    }
-
-    /// The token's value, moved out. The cell is empty then, and is another one: older tokens are not of it.
-    pub fn take_value(&mut self, placed: &Placed<T>) -> T
-        requires { IsPlacedIn self.old placed.now }
-        ensures value { result ≡ placed.now.value }
-        ensures len { block_len self.new ≡ block_len self.old }
-        ensures another { RenewsCell self.old self.new placed.now.place }
-        ensures others { KeepsOtherCells self.old self.new placed.now.place }
-    {
-        self.laid
-            .take_written(self.link, placed.place as usize, &placed.written)
-    }
-
-    /// What is known of the cell. One that holds no value is broken after it for the epoch, and is another one: older tokens
-    /// are not of it, and there is none of a value.
-    pub fn settle_now(&mut self, place: u64, epoch: &Epoch) -> Member<T>
-        requires { place < block_len self.old }
-        ensures member { IsMemberAt self.new place result }
-        ensures name { result.name ≡ (cell_at self.old place).value }
-        ensures filled { result.value ≢ None → self.new ≡ self.old }
-        ensures epoch { result.value ≡ None → result.epoch ≡ epoch.now }
-        ensures another { result.value ≡ None → RenewsCell self.old self.new place }
-        ensures len { block_len self.new ≡ block_len self.old }
-        ensures others { KeepsOtherCells self.old self.new place }
-    {
-        let index = place as usize;
-        Member {
-            member: self.laid.settle(self.link, index, &epoch.epoch),
-        }
-    }
-
-    /// As `settle_now`, of a cell of which something is known: a value that it is known to have is its value still.
-    pub fn settle_known(&mut self, place: u64, known: &Member<T>, epoch: &Epoch) -> Member<T>
-        requires { IsMemberAt self.old place known.now }
-        ensures member { IsMemberAt self.new place result }
-        ensures name { result.name ≡ (cell_at self.old place).value }
-        ensures kept { known.now.value ≢ None → result.value ≡ known.now.value }
-        ensures epoch { result.value ≡ None → result.epoch ≡ epoch.now }
-        ensures len { block_len self.new ≡ block_len self.old }
-        ensures others { KeepsOtherCells self.old self.new place }
-    {
-        match self.cell(place).word(&known.member) {
-            (2, sight) => {
-                let written = sight.written();
-                known.member.agrees(&written);
-                Member::of(&Placed { place, written })
-            }
-            (_, sight) => {
-                sight.unused();
-                self.settle_now(place, epoch)
-            }
-        }
-    }
-
-    /// The cell holds the value after it. Beside its token this answers the value that it held, if it held one.
-    pub fn put_now(&mut self, place: u64, value: T) -> (Placed<T>, Option<T>)
-        requires { place < block_len self.old }
-        ensures placed { IsPlacedAt self.new place result.0 }
-        ensures value { result.0.value ≡ value }
-        ensures len { block_len self.new ≡ block_len self.old }
-        ensures others { KeepsOtherCells self.old self.new place }
-    {
-        let held = self.take(place);
-        let written = self.laid.fill(self.link, place as usize, value);
-        (Placed { place, written }, held)
-    }
-
-    /// The cell is broken after it for the epoch. This answers the value that it held, if it held one.
-    pub fn spoil_now(&mut self, place: u64, epoch: &Epoch) -> (Member<T>, Option<T>)
-        requires { place < block_len self.old }
-        ensures member { IsMemberAt self.new place result.0 }
-        ensures broken { result.0.value ≡ None }
-        ensures epoch { result.0.epoch ≡ epoch.now }
-        ensures len { block_len self.new ≡ block_len self.old }
-        ensures others { KeepsOtherCells self.old self.new place }
-    {
-        let held = self.take(place);
-        let index = place as usize;
-        let member = self.laid.spoil(self.link, index, &epoch.epoch);
-        (Member { member }, held)
-    }
-
-    /// The value of a cell of which so much is known, with its token, or nothing where it is broken, while the epoch lasts: one
-    /// load.
-    pub fn member<'a>(
-        &'a self,
-        place: u64,
-        member: &Member<T>,
-        epoch: &Epoch,
-    ) -> Option<(&'a T, Placed<T>)>
-        requires member { IsMemberAt self.now place member.now }
-        requires epoch { member.now.value ≡ None → member.now.epoch ≡ epoch.now }
-        ensures value { MatchOption result (member.now.value ≡ None)
-            (λ (value, _). member.now.value ≡ Some value.now) }
-        ensures placed { IfSome result (λ (value, placed).
-            IsPlacedAt self.now place placed × (placed.value ≡ value.now)) }
-    {
-        let cell = self.cell(place);
-        match cell.word_in(&member.member, &epoch.epoch) {
-            2 => {
-                let written = member.member.written();
-                Some((cell.value(&written), Placed { place, written }))
-            }
-            _ => None,
-        }
-    }
-
-    /// The same at any time: a member with a value shows it; any other cell may show a value that mended it, or nothing.
+    /// The value of a cell of which an owner knows so much, with its token: one load. A member with a value shows it; any
+    /// other cell shows nothing, or the value that mended it.
     pub fn known<'a>(&'a self, place: u64, member: &Member<T>) -> Option<(&'a T, Placed<T>)>
         requires { IsMemberAt self.now place member.now }
         ensures value { (x : T) → member.now.value ≡ Some x
@@ -357,30 +244,6 @@ impl<T, A: Allocator> Block<T, A> {
         } = self;
         let count = len as usize;
         laid.free(&alloc, link, count);
-    }
-}
-
-impl<T: Drop, A: Allocator> Block<T, A> {
-    /// The value of a cell of which so much is known, moved out, or nothing where it is broken, while the epoch lasts. The cell
-    /// is empty then, and is another one: older tokens are not of it.
-    pub fn take_member(&mut self, place: u64, member: &Member<T>, epoch: &Epoch) -> Option<T>
-        requires member { IsMemberAt self.old place member.now }
-        requires epoch { member.now.value ≡ None → member.now.epoch ≡ epoch.now }
-        ensures value { result ≡ member.now.value }
-        ensures another { RenewsCell self.old self.new place }
-        ensures len { block_len self.new ≡ block_len self.old }
-        ensures others { KeepsOtherCells self.old self.new place }
-    {
-        match self.cell(place).word_in(&member.member, &epoch.epoch) {
-            2 => {
-                let written = member.member.written();
-                Some(self.laid.take_written(self.link, place as usize, &written))
-            }
-            _ => {
-                drop(self.take(place));
-                None
-            }
-        }
     }
 }
 

@@ -5,8 +5,8 @@
 //! cell (`specs/Block.antt`). What its calls answer of a cell is `specs/Shown.antt`.
 //!
 //! A caller can prove that a token's value is what its cell holds, in any thread and for good, that two tokens of one
-//! cell have one value, that a cell that an owner broke stays so while the owner's epoch lasts, and that a call that came
-//! too late has a token of what stands there. It can't prove what a look without a token shows.
+//! cell have one value, that what an owner broke stays so while the owner's epoch lasts, and that a call that came too
+//! late has a token of what stands there. It can't prove what a look without a token shows.
 //!
 //! The block is safe code over the raw steps on one cell (`slot/steps.rt`) and on a row of cells (`block/steps.rt`),
 //! which are proved by hand. What they own is `specs/Slot.antt` and `specs/Laid.antt`.

@@ -1,3 +1,4 @@
 mod block;
+mod mend;
 mod owner;
 mod race;

@@ -7,7 +7,8 @@ use crate::slot::member;
 use std::marker::Model;
 use std::mem::replace;
 
-/// What an exclusive owner knows of a cell: its value, for good; or the epoch in which it stays broken. It has no bytes.
+/// What an exclusive owner knows of a cell: its value, for good; or the epoch in which it stays broken. It has no
+/// bytes.
 #[derive(Drop)]
 pub struct Member<T> {
     pub(crate) member: member::Member<T>,

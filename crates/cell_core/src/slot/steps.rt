@@ -1,6 +1,6 @@
 // The raw steps on one cell, each a few lines round one atomic step.
-// The word is 0 where the cell is empty, 1 while one thread has it, 2 where it is filled, 3 where it is broken, and 4 where
-// an owner broke it and its epoch may still last.
+// The word is 0 where the cell is empty, 1 while one thread has it, 2 where it is filled, 3 where it is broken, and 4
+// where an owner broke it and its epoch may still last.
 ghost use Rattle.std.specs.Prelude.{◌≡◌, ◌≢◌, ℕ, ◌<◌, [], ◌∷◌, Option};
 ghost use base.Fml.{ftrue, ffalse};
 ghost use denote.Sharing.{said};

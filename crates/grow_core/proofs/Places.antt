@@ -2,7 +2,7 @@
 use Rattle.std.proofs.Common.{◌≡◌, ◌≢◌, ℕ, zero, suc, ◌+◌, ◌-◌, ◌<◌, ◌≤◌, List, [], ◌∷◌, ◌++◌, length, length-set, refl, sym, ap, ◌∙◌, subst, ⊎_elim, arith}
 use Rattle.std.proofs.lemmas.Bool.{cases_lt}
 use Rattle.std.proofs.Math.Arith.{lt_of_le-ne}
-use Rattle.std.specs.Prelude.{Some, None, All, slice_get, slice_set, slice_index, IsSome}
+use Rattle.std.specs.Prelude.{Some, None, slice_get, slice_set, slice_index, IsSome}
 use base.Fml.{Lft}
 use lib.Seq.{get_or-set_same, get_or-set_other}
 use mathlib.Core.Logic.{dite}
@@ -15,7 +15,7 @@ use Rattle.cell_core.specs.Slot.{Names}
 use Rattle.table_core.specs.Table.{TableView, KeyView, IsKeyOf, IsBlockOf}
 use Rattle.grow_core.specs.Keys.{KeyRow, IsKeyAt, key_at}
 use Rattle.grow_core.specs.Token.{place_in}
-use Rattle.grow_core.specs.Parts.{AreMembers, AreWhole, IsShutIn, values_in}
+use Rattle.grow_core.specs.Parts.{AreMembers, AreWhole, AreShutIn, IsShutIn, values_in}
 
 -- a segment that does not come later begins no later
 pub starts_le : (j k : ℕ) → j ≤ k → segment_start j ≤ segment_start k
@@ -67,26 +67,26 @@ values_set (h ∷ known) zero m = refl
 values_set (h ∷ known) (suc i) m = ap (λ xs. h.value ∷ xs) (values_set known i m)
 
 -- members that are broken for an epoch stay so with one more, with one fewer, and with another one at a place
-pub shut_more : {T : Type 0} {epoch : Lft} (known : List (MemberView T)) (m : MemberView T) → All (IsShutIn epoch) known → IsShutIn epoch m
-    → All (IsShutIn epoch) (known ++ m ∷ [])
-shut_more [] m all is = (is, tt)
-shut_more (h ∷ known) m all is = (all.0, shut_more known m all.1 is)
+pub shut_more : {T : Type 0} (epoch : Lft) (known : List (MemberView T)) (m : MemberView T) → AreShutIn epoch known → IsShutIn epoch m
+    → AreShutIn epoch (known ++ m ∷ [])
+shut_more epoch [] m all is = (is, tt)
+shut_more epoch (h ∷ known) m all is = (all.0, shut_more epoch known m all.1 is)
 
-pub shut_fewer : {T : Type 0} {epoch : Lft} (known : List (MemberView T)) (m : MemberView T) → All (IsShutIn epoch) (known ++ m ∷ []) → All (IsShutIn epoch) known
-shut_fewer [] m all = tt
-shut_fewer (h ∷ known) m all = (all.0, shut_fewer known m all.1)
+pub shut_fewer : {T : Type 0} (epoch : Lft) (known : List (MemberView T)) (m : MemberView T) → AreShutIn epoch (known ++ m ∷ []) → AreShutIn epoch known
+shut_fewer epoch [] m all = tt
+shut_fewer epoch (h ∷ known) m all = (all.0, shut_fewer epoch known m all.1)
 
-pub shut_set : {T : Type 0} {epoch : Lft} (known : List (MemberView T)) (i : ℕ) (m : MemberView T) → All (IsShutIn epoch) known → IsShutIn epoch m
-    → All (IsShutIn epoch) (slice_set known i m)
-shut_set [] i m all is = tt
-shut_set (h ∷ known) zero m all is = (is, all.1)
-shut_set (h ∷ known) (suc i) m all is = (all.0, shut_set known i m all.1 is)
+pub shut_set : {T : Type 0} (epoch : Lft) (known : List (MemberView T)) (i : ℕ) (m : MemberView T) → AreShutIn epoch known → IsShutIn epoch m
+    → AreShutIn epoch (slice_set known i m)
+shut_set epoch [] i m all is = tt
+shut_set epoch (h ∷ known) zero m all is = (is, all.1)
+shut_set epoch (h ∷ known) (suc i) m all is = (all.0, shut_set epoch known i m all.1 is)
 
-pub shut_at : {T : Type 0} {epoch : Lft} (known : List (MemberView T)) (i : ℕ) (m : MemberView T) → All (IsShutIn epoch) known → slice_get known i ≡ Some m
+pub shut_at : {T : Type 0} (epoch : Lft) (known : List (MemberView T)) (i : ℕ) (m : MemberView T) → AreShutIn epoch known → slice_get known i ≡ Some m
     → IsShutIn epoch m
-shut_at [] i m all is = absurd (let z = is in cc)
-shut_at {epoch = epoch} (h ∷ known) zero m all is = subst (IsShutIn epoch) (let z = is in cc) all.0
-shut_at (h ∷ known) (suc i) m all is = shut_at known i m all.1 is
+shut_at epoch [] i m all is = absurd (let z = is in cc)
+shut_at epoch (h ∷ known) zero m all is = let same : h ≡ m = (let z = is in cc) in subst (IsShutIn epoch) same all.0
+shut_at epoch (h ∷ known) (suc i) m all is = shut_at epoch known i m all.1 is
 
 -- a place with a member is one of the list
 pub within_length : {X : Type 0} (xs : List X) (i : ℕ) (x : X) → slice_get xs i ≡ Some x → i < length xs

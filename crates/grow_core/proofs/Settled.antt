@@ -3,7 +3,7 @@ use Rattle.std.proofs.Common.{zero, suc, lit<, ⊎_elim, ◌≡◌, ◌≢◌, �
 use Rattle.std.proofs.lemmas.List.{length-map, map-append}
 use Rattle.std.proofs.lemmas.Bool.{cases_lt}
 use Rattle.std.proofs.Math.Pow.{pow-lt}
-use Rattle.std.specs.Prelude.{All, slice_get, slice_set, slice_index, IsSome, MatchOption, IfSome}
+use Rattle.std.specs.Prelude.{slice_get, slice_set, slice_index, IsSome, MatchOption, IfSome}
 use base.Fml.{Lft}
 use lib.Seq.{get_or-set_same, get_or-set_other}
 use mathlib.Core.Logic.{dite}
@@ -16,7 +16,7 @@ use Rattle.cell_core.specs.Member.{MemberView, HasNames}
 use Rattle.table_core.specs.Table.{KeyView, IsBlockOf}
 use Rattle.grow_core.specs.Keys.{KeyRow, IsKeyAt, AreKeys, HasKeysOfPlaces, key_at}
 use Rattle.grow_core.specs.Token.{PlacedView, place_in}
-use Rattle.grow_core.specs.Parts.{AreLong, AreMembers, AreWhole, HasFirstKeys, IsShutIn, values_in}
+use Rattle.grow_core.specs.Parts.{AreLong, AreMembers, AreWhole, HasFirstKeys, AreShutIn, values_in}
 use Rattle.grow_core.specs.Vector.{VectorView, IsPlacedOf}
 use Rattle.grow_core.specs.Closing.{IsClosing, IsKept, IsKeptOf, KeepsValuesBelow}
 use Rattle.grow_core.proofs.Places.{value_at, pushed_there, pushed_elsewhere, within_length, kept_at, segment_below, starts_le}
@@ -219,7 +219,7 @@ closing_starts {T} mark names opened own before again row none epoch base limit 
         there = λ s low. subst IsSome (sym (twice s (omega (arith, low, few)))) (there s low);
         of = λ s o k m low at inside is. absurd (gone (place_in s o) m is);
       };
-      shut = subst (All (IsShutIn epoch)) (sym empty) tt;
+      shut = subst (AreShutIn epoch) (sym empty) tt;
       kept = record {
         named = subst (λ (xs : List ℕ). AreKeys xs before) (sym same) named;
         long = long;

@@ -1,5 +1,5 @@
 -- How a vector is closed into a list, and what is kept of it there.
-use Rattle.std.specs.Prelude.{◌≡◌, ℕ, ◌<◌, ◌≤◌, List, Option, Some, None, All, slice_get, slice_index, length}
+use Rattle.std.specs.Prelude.{◌≡◌, ℕ, ◌<◌, ◌≤◌, List, Option, Some, None, slice_get, slice_index, length}
 use Rattle.std.specs.Coded.{coded_option}
 use base.Fml.{Lft}
 use base.Stored.{Coded, coded×, coded_ℕ, coded_list, coded_via}
@@ -9,7 +9,7 @@ use Rattle.cell_core.specs.Member.{MemberView}
 use Rattle.table_core.specs.Table.{KeyView}
 use Rattle.grow_core.specs.Keys.{KeyRow, AreKeys, key_at}
 use Rattle.grow_core.specs.Token.{PlacedView, place_in}
-use Rattle.grow_core.specs.Parts.{AreLong, AreMembers, AreWhole, HasFirstKeys, IsShutIn, values_in}
+use Rattle.grow_core.specs.Parts.{AreLong, AreMembers, AreWhole, HasFirstKeys, AreShutIn, values_in}
 use Rattle.grow_core.specs.Vector.{VectorView, IsPlacedOf}
 
 -- a list of which so much is known was closed from the vector, and is as it was then
@@ -64,7 +64,7 @@ KeepsValuesBelow {T} n old new = (place : ℕ) (x : T) → place < n → slice_g
 -- what holds while a vector is being closed
 pub record IsClosing {T : Type 0} (mark : List ℕ) (before : KeyRow) (names : List ℕ) (row : KeyRow) (opened known : List (MemberView T)) (epoch : Lft) (base len limit count size : ℕ) : Type 0 where
   pub whole : AreWhole names row known len limit count
-  pub shut : All (IsShutIn epoch) known
+  pub shut : AreShutIn epoch known
   pub kept : IsKeptOf mark before names row known count
   pub first : AreMembers before opened
   pub all : length opened ≡ base

@@ -2,7 +2,7 @@
 use Rattle.std.specs.Prelude.{◌≡◌, ℕ, ◌<◌, ◌≤◌}
 use Rattle.claim_core.specs.Hand.{HandView, SeesSize, seen_size}
 use Rattle.cell_core.specs.Block.{PenView, IsPenAt, block_len}
-use Rattle.table_core.specs.Table.{KeyView, IsKeyIn, IsBlockOf}
+use Rattle.table_core.specs.Table.{TableView, KeyView, IsKeyIn, IsBlockOf}
 use Rattle.grow_core.specs.declared.errors.MendError.{MendError}
 use Rattle.grow_core.specs.declared.errors.MendError.TheVariants.{OutOfRange, Pending, Filled}
 use Rattle.grow_core.specs.Token.{place_in}

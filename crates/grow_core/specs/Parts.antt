@@ -1,5 +1,5 @@
 -- What an exclusive owner holds of a vector.
-use Rattle.std.specs.Prelude.{◌≡◌, ℕ, ◌-◌, ◌<◌, ◌≤◌, List, Option, Some, None, IsSome, All, length, map, slice_get}
+use Rattle.std.specs.Prelude.{◌≡◌, ℕ, ◌-◌, ◌<◌, ◌≤◌, List, [], ◌∷◌, Option, Some, None, IsSome, length, map, slice_get}
 use Rattle.std.specs.Coded.{coded_option}
 use base.Fml.{Lft}
 use base.Stored.{Coded, coded×, coded_ℕ, coded_list, coded_via}
@@ -54,6 +54,11 @@ AreMembers {T} row known =
 -- a member without a value is broken for as long as this epoch lasts
 abbrev pub IsShutIn : {T : Type 0} → Lft → MemberView T → Type 0
 IsShutIn epoch m = m.value ≡ None → m.epoch ≡ epoch
+
+-- so it is of each of these members
+abbrev pub AreShutIn : {T : Type 0} → Lft → List (MemberView T) → Type 0
+AreShutIn epoch [] = Unit {0}
+AreShutIn epoch (m ∷ known) = IsShutIn epoch m × AreShutIn epoch known
 
 -- what holds of the parts of a vector at all times
 pub record AreWhole {T : Type 0} (names : List ℕ) (row : KeyRow) (known : List (MemberView T)) (len limit count : ℕ) : Type 0 where

@@ -1,6 +1,7 @@
 -- The shared vector as callers see it, and what belongs to it.
 use Rattle.std.specs.Prelude.{◌≡◌, ℕ, List, Option, Some, slice_get}
 use Rattle.std.specs.Coded.{coded_option}
+use base.Fml.{Lft}
 use base.Stored.{Coded, coded×, coded_list, coded_via}
 use mathlib.Core.List.{IsPrefix}
 use Rattle.claim_core.specs.Word.{WordView, word_coded}
@@ -9,7 +10,7 @@ use Rattle.cell_core.specs.Block.{IsPlacedIn, IsSpoiltIn, IsBegunIn}
 use Rattle.cell_core.specs.Member.{MemberView}
 use Rattle.table_core.specs.Table.{TableView, table_coded, IsKeyIn, IsBlockOf}
 use Rattle.grow_core.specs.Keys.{KeyRow}
-use Rattle.grow_core.specs.Parts.{AreWhole, IsShutIn}
+use Rattle.grow_core.specs.Parts.{AreWhole, AreShutIn}
 use Rattle.grow_core.specs.Token.{PlacedView, SpoiltView, BegunView, place_in}
 
 -- which vector it is: its claim word, with its limit and its base, and its segments; and the list that it was opened from, each
@@ -41,7 +42,7 @@ IsOpenedAt vector place x = slice_get vector.opened place ≡ Some (Some x)
 -- epoch of that list has ended; and the word and its hands are marked with the names of the segments
 pub record IsShared {T : Type 0} (word : WordView) (segments : TableView) (keys : KeyRow) (known : List (MemberView T)) (ended : Lft) (count : ℕ) : Type 0 where
   pub whole : AreWhole segments.names keys known word.base word.limit count
-  pub shut : All (IsShutIn ended) known
+  pub shut : AreShutIn ended known
   pub mark : word.mark ≡ segments.names
 
 -- the hand belongs to the vector

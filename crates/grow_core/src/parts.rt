@@ -33,8 +33,8 @@ pub struct Parts<T> {
 }
 
 impl<T> Model for Parts<T> {
-    ghost use Rattle.std.specs.Prelude.{All, option_map};
-    ghost use Rattle.grow_core.specs.Parts.{PartsView, parts_coded, values_in, AreWhole, IsShutIn};
+    ghost use Rattle.std.specs.Prelude.{option_map};
+    ghost use Rattle.grow_core.specs.Parts.{PartsView, parts_coded, values_in, AreWhole, AreShutIn};
     ghost use Rattle.grow_core.specs.Closing.{IsKept};
 
     ghost Value = { PartsView T };
@@ -50,7 +50,7 @@ impl<T> Model for Parts<T> {
 
     ghost invariant = { λ p. AreWhole p.table.names p.keys p.row p.len p.limit p.count
         × IsKept (option_map (λ m. m.numbers) p.closed) p.before p.table.names p.keys p.row p.count
-        × All (IsShutIn p.epoch) p.row };
+        × AreShutIn p.epoch p.row };
 }
 
 // Where a place of the segments that are there lies: its segment, the cell there, and the segment's key.

@@ -16,7 +16,7 @@ invariant_of-result g c =
     let limit : c.limit-limit.result ≡ vector.word.limit = c.limit-limit.ensures ∙ ap (λ (v : VectorView g.row.T.Denot). v.word.limit) (sym c.vector.view_is) in
     let size : c.close-size.result ≡ seen_size c.args.hand = c.close-size.ensures ∙ ap (λ (h : HandView). seen_size h) c.hand.view_is in
     let places = c.laws-2.ensures.places in let within = c.laws-2.ensures.within in
-    closing_starts c.of-mark.result.numbers vector.table.names vector.keys c.whole_keys.result.now c.first_keys-before.result.0 c.keys_again.result vector.row c.new.result c.new-epoch.result c.base-base.result c.limit-limit.result vector.count
+    closing_starts c.of-mark.result.numbers vector.table.names vector.keys c.whole_keys.result.now c.first_keys-before.result.0 c.keys_again.result vector.row c.new.result c.new-2.result c.base-base.result c.limit-limit.result vector.count
     c.first_keys-before.result.1 c.close-size.result (subst (λ (u : ℕ × ℕ). AreWhole vector.table.names vector.keys vector.row u.0 u.1 vector.count) (λ i. (sym base i, sym limit i)) c.vector.invariant.whole)
     c.of-mark.ensures c.new.ensures keys.named keys.long keys.there keys.few keys.first keys.none keys.end c.keys_again.ensures (search rules)
     (subst (λ (u : ℕ × ℕ). HasKeysOfPlaces c.whole_keys.result.now u.0 u.1) (λ i. ((hand_base ∙ sym base) i, sym size i)) c.whole_keys.ensures.all)

@@ -1,6 +1,6 @@
 use Rattle.std.proofs.Common.{◌≡◌, ◌≢◌, ℕ, ◌+◌, ◌<◌, List, [], ◌∷◌, ◌++◌, length, length-append, sym, ap, ◌∙◌, subst, arith}
 use Rattle.std.proofs.lemmas.List.{length-map}
-use Rattle.std.specs.Prelude.{Some, IfSome, All, slice_get, slice_set, slice_index}
+use Rattle.std.specs.Prelude.{Some, IfSome, slice_get, slice_set, slice_index}
 use Rattle.seg_core.specs.Segment.{segment_end, HasPlace}
 use Rattle.seg_core.proofs.Doubling.{one_segment}
 use Rattle.cell_core.specs.Block.{BlockView, IsMemberAt, KeepsOtherCells, block_len, cell_at}
@@ -8,7 +8,7 @@ use Rattle.cell_core.specs.Member.{MemberView}
 use Rattle.table_core.specs.Table.{KeyView, IsKeyOf}
 use Rattle.grow_core.specs.Keys.{KeyRow, key_at}
 use Rattle.grow_core.specs.Token.{place_in}
-use Rattle.grow_core.specs.Parts.{IsShutIn, values_in}
+use Rattle.grow_core.specs.Parts.{AreShutIn, values_in}
 use Rattle.grow_core.specs.Closing.{ClosingView, IsKeptOf, KeepsValuesBelow}
 use Rattle.grow_core.proofs.Places.{written_whole, segment_below, shut_more, pushed_there, pushed_elsewhere}
 use Rattle.grow_core.proofs.Settled.{Known, known_there, kept_settled, values_more}
@@ -64,7 +64,7 @@ invariant_of-self g c =
           let both : Some m ≡ Some n = sym last ∙ ap (λ (xs : List (MemberView _)). slice_get xs (place_in segment offset)) (sym pushed) ∙ is in
           subst (λ (u : MemberView _). IsMemberAt block offset u) (let z = both in cc) c.settle-member.ensures.member)
           (ap length pushed ∙ length-append known (m ∷ []) ∙ ap (λ (n : ℕ). n + 1) whole.all) (omega (arith, below, most)) (omega (arith, below, enough));
-      shut = subst (All (IsShutIn inside.epoch)) (sym pushed) (shut_more known m inv.shut c.settle-member.ensures.shut);
+      shut = subst (AreShutIn inside.epoch) (sym pushed) (shut_more inside.epoch known m inv.shut c.settle-member.ensures.shut);
       kept = subst (λ (xs : List (MemberView _)). IsKeptOf inside.mark.numbers inside.before c.attach.new.self.names (slice_set row segment (Some key')) xs inside.count) (sym pushed)
           (kept_settled inside.mark.numbers inside.before names row known inside.count inv.kept segment offset c.cell_of-before.result.2 key small first has_before c.cell_of-segment.ensures.key here
           c.attach.new.self.names key' m whole.rows within others name (subst (λ (b : BlockView). KeepsOtherCells key.block b offset) (sym of.of) cells));

@@ -1,13 +1,13 @@
 use Rattle.std.proofs.Common.{◌≡◌, ◌≢◌, ℕ, ◌+◌, ◌<◌, List, [], ◌∷◌, ◌++◌, length, length-append, sym, ap, ◌∙◌, subst, arith}
 use Rattle.std.proofs.lemmas.List.{length-map}
-use Rattle.std.specs.Prelude.{Some, All, slice_get, slice_index}
+use Rattle.std.specs.Prelude.{Some, slice_get, slice_index}
 use Rattle.seg_core.specs.Segment.{segment_start, segment_end}
 use Rattle.cell_core.specs.Block.{BlockView, IsMemberAt, KeepsOtherCells, block_len}
 use Rattle.cell_core.specs.Member.{MemberView}
 use Rattle.table_core.specs.Table.{KeyView, IsKeyOf}
 use Rattle.grow_core.specs.Keys.{KeyRow}
 use Rattle.grow_core.specs.Token.{place_in}
-use Rattle.grow_core.specs.Parts.{PartsView, IsShutIn, values_in, capacity_of}
+use Rattle.grow_core.specs.Parts.{PartsView, AreShutIn, values_in, capacity_of}
 use Rattle.grow_core.proofs.Places.{written_whole, shut_more, pushed_there, pushed_elsewhere}
 use Rattle.grow_core.proofs.parts.Parts.append.Goals as goal
 
@@ -34,5 +34,5 @@ invariant_of-self g c =
           subst (λ (u : MemberView _). IsMemberAt block offset u) (let z = both in cc) c.write-member.ensures.member)
           (ap length pushed ∙ length-append known (m ∷ []) ∙ ap (λ (n : ℕ). n + 1) whole.all) (omega (arith, below)) (omega (arith, room)),
       tt,
-      subst (All (IsShutIn c.self.inside.epoch)) (sym pushed) (shut_more known m c.self.invariant.2 c.write-member.ensures.shut),
+      subst (AreShutIn c.self.inside.epoch) (sym pushed) (shut_more c.self.inside.epoch known m c.self.invariant.2 c.write-member.ensures.shut),
     )

@@ -1,13 +1,13 @@
 use Rattle.std.proofs.Common.{◌≡◌, ◌≢◌, ℕ, ◌+◌, ◌-◌, ◌<◌, List, [], ◌∷◌, ◌++◌, length, length-append, map, sym, ap, ◌∙◌, subst, arith}
 use Rattle.std.proofs.lemmas.List.{map-append}
-use Rattle.std.specs.Prelude.{Some, All, slice_get, slice_index}
+use Rattle.std.specs.Prelude.{Some, slice_get, slice_index}
 use Rattle.seg_core.specs.Segment.{segment_end}
 use Rattle.cell_core.specs.Block.{BlockView, KeepsOtherCells, block_len}
 use Rattle.cell_core.specs.Member.{MemberView}
 use Rattle.table_core.specs.Table.{KeyView, IsKeyOf}
 use Rattle.grow_core.specs.Keys.{KeyRow}
 use Rattle.grow_core.specs.Token.{place_in}
-use Rattle.grow_core.specs.Parts.{PartsView, IsShutIn}
+use Rattle.grow_core.specs.Parts.{PartsView, AreShutIn}
 use Rattle.grow_core.proofs.Places.{written_whole, shut_at, shut_fewer, pushed_there, pushed_elsewhere, none_past}
 use Rattle.grow_core.proofs.parts.Parts.pop.Goals as goal
 
@@ -32,11 +32,11 @@ invariant_of-self g c =
           (λ n is. let none = sym (none_past known') ∙ ap (slice_get known') here ∙ is in absurd (let z = none in cc))
           (omega (arith, fewer)) (omega (arith, fewer, within)) (omega (arith, fewer, inner)),
       tt,
-      shut_fewer known' last (subst (All (IsShutIn c.self.inside.epoch)) popped c.self.invariant.2),
+      shut_fewer c.self.inside.epoch known' last (subst (AreShutIn c.self.inside.epoch) popped c.self.invariant.2),
     )
 
 pub take_member-value-requires-clause-epoch : goal.take_member-value-requires-clause-epoch
-take_member-value-requires-clause-epoch g c = shut_at c.self.inside.row (c.self.inside.len - 1) c.at.result c.self.invariant.2 c.at.ensures
+take_member-value-requires-clause-epoch g c = shut_at c.self.inside.epoch c.self.inside.row (c.self.inside.len - 1) c.at.result c.self.invariant.2 c.at.ensures
 
 pub returns-clause-member : goal.returns-clause-member
 returns-clause-member g c =

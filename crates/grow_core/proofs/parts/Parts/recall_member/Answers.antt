@@ -17,7 +17,7 @@ agree-requires g c =
     (first.ensures.place ∙ c.place-place.ensures ∙ sym at) (subst (λ (p : ℕ). p < segment_end first.result.0) (c.place-place.ensures ∙ sym at) first.ensures.within)
 
 pub member-requires-clause-epoch : goal.member-requires-clause-epoch
-member-requires-clause-epoch g c = shut_at c.self.inside.row c.place-place.result c.at-member.result c.self.invariant.2 c.at-member.ensures
+member-requires-clause-epoch g c = shut_at c.self.inside.epoch c.self.inside.row c.place-place.result c.at-member.result c.self.invariant.2 c.at-member.ensures
 
 pub unreachable-requires : goal.unreachable-requires
 unreachable-requires g c =

@@ -33,6 +33,11 @@ value_at [] i m is = absurd (let z = is in cc)
 value_at (h ∷ known) zero m is = let same : h ≡ m = (let z = is in cc) in ap (λ (u : MemberView _). Some u.value) same
 value_at (h ∷ known) (suc i) m is = value_at known i m is
 
+-- what is known of a place has the value that the list has there
+pub known_value : {T : Type 0} (known : List (MemberView T)) (i : ℕ) (m : MemberView T) (x : T) → slice_get known i ≡ Some m
+    → slice_get (values_in known) i ≡ Some (Some x) → m.value ≡ Some x
+known_value known i m x is there = let both : Some m.value ≡ Some (Some x) = sym (value_at known i m is) ∙ there in let z = both in cc
+
 -- what is put at the end is there, and all else as it was
 pub pushed_there : {X : Type 0} (xs : List X) (x : X) → slice_get (xs ++ x ∷ []) (length xs) ≡ Some x
 pushed_there [] x = refl

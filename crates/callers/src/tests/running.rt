@@ -79,10 +79,12 @@ fn mend(vector: &Shared<u64>, hand: &mut Hand<u64>, place: u64, value: u64) -> A
         Ok(placed) => Answer::At {
             place: placed.place(),
         },
-        Err((MendError::OutOfRange { size }, _)) => Answer::OutOfRange { size },
-        Err((MendError::Pending, _)) => Answer::Pending,
-        Err((MendError::Filled(placed), _)) => Answer::Value {
-            value: *vector.get(&placed),
+        Err((error, _back)) => match error {
+            MendError::OutOfRange { size } => Answer::OutOfRange { size },
+            MendError::Pending => Answer::Pending,
+            MendError::Filled(placed) => Answer::Value {
+                value: *vector.get(&placed),
+            },
         },
     }
 }

@@ -32,9 +32,11 @@ fn mend(vector: &Shared<u64>, hand: &mut Hand<u64>, place: u64, value: u64) -> M
 {
     match vector.mend(hand, place, value) {
         Ok(placed) => Mended::At(placed.place()),
-        Err((MendError::OutOfRange { size }, back)) => Mended::OutOfRange(size, back),
-        Err((MendError::Pending, back)) => Mended::Pending(back),
-        Err((MendError::Filled(placed), back)) => Mended::Filled(*vector.get(&placed), back),
+        Err((error, back)) => match error {
+            MendError::OutOfRange { size } => Mended::OutOfRange(size, back),
+            MendError::Pending => Mended::Pending(back),
+            MendError::Filled(placed) => Mended::Filled(*vector.get(&placed), back),
+        },
     }
 }
 

@@ -18,7 +18,7 @@ use Rattle.step_core.specs.declared.machine.phase.Actor.{Actor}
 use Rattle.step_core.specs.machine.Step.{Configuration}
 use Rattle.step_core.specs.machine.Play.{Play, play_of}
 
--- nobody has finished or broken what the slot holds
+-- the slot is empty or busy: a reader sees the place as pending
 abbrev pub IsUnfinished : Option Slot → Type 0
 IsUnfinished None = Unit {0}
 IsUnfinished (Some (Busy actor)) = Unit {0}
@@ -91,7 +91,7 @@ BeginsMeetEmptySlots p =
 abbrev pub DebtsAreApart : Play → Type 0
 DebtsAreApart p = (a b place : ℕ) → Owes p.at a place → Owes p.at b place → a ≡ b
 
--- the owed places are the claimed places that nobody has finished or broken
+-- the owed places are the claimed places that are pending
 abbrev pub DebtsArePending : Play → Type 0
 DebtsArePending p =
     (place : ℕ) → ((place < p.at.storage.size) × IsUnfinished (get p.at.storage.slots place)) ↔ ((actor : ℕ) × Owes p.at actor place)

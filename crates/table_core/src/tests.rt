@@ -1,7 +1,8 @@
-ghost use Rattle.std.specs.Prelude.{◌≡◌, ◌<◌};
+ghost use Rattle.std.specs.Prelude.{◌≡◌, ◌<◌, IfSome};
 ghost use Rattle.cell_core.specs.Block.{block_len};
+ghost use Rattle.table_core.specs.Table.{IsKeyIn};
 
-use crate::Table;
+use crate::{Key, Table};
 use cell_core::block::{Block, Look};
 use std::sync::atomic::{AtomicU64, Ordering};
 use std::test::Fail;
@@ -88,36 +89,58 @@ fn an_entry_is_set_once(rt: HostRuntime) {
     );
 }
 
+// Whether two keys of one entry are of one block.
+fn is_one_block(table: &Table<u64>, a: &Key, b: &Key) -> bool
+    requires first { IsKeyIn table.now a.now }
+    requires second { IsKeyIn table.now b.now }
+{
+    table.agree(a, b);
+    (a.entry(), b.entry()) == (2, 2) && shows(table.known(a), 0, 6) && shows(table.known(b), 0, 6)
+}
+
+// Whether a caller that looks has the block of this key, and a key of its own that is as good.
+fn has_another_key(table: &Table<u64>, key: &Key) -> bool
+    requires { IsKeyIn table.now key.now }
+{
+    match table.scout_key(2) {
+        Some((block, other)) => shows(block, 0, 6) && is_one_block(table, key, &other.again()),
+        None => false,
+    }
+}
+
+fn has_keys_of_one_block(table: &Table<u64>) -> bool {
+    match table.install_key(2) {
+        Ok((block, key)) => fill(block, 0, 6) && has_another_key(table, &key),
+        Err(_no_memory) => false,
+    }
+}
+
 #[test]
-fn keys_of_one_entry_have_one_block(rt: HostRuntime) -> Result<(), Fail> {
+fn keys_of_one_entry_have_one_block(rt: HostRuntime) {
     let table = Table::new(rt.alloc());
-    assert!(rt; table.scout_key(2).is_none());
-    let (block, key) = table.install_key(2)?;
-    assert!(rt; fill(block, 0, 6));
-    let Some((again, other)) = table.scout_key(2) else {
-        return Err(Fail::from("the block was not seen"));
-    };
-    assert!(rt; shows(again, 0, 6));
-    table.agree(&key, &other.again());
-    assert_eq!(rt; (key.entry(), other.entry()), (2, 2));
-    assert!(rt; shows(table.known(&key), 0, 6));
-    assert!(rt; shows(table.known(&other), 0, 6));
-    Ok(())
+    assert!(rt; table.scout_key(2).is_none() && has_keys_of_one_block(&table));
+}
+
+// Whether an entry's block is there, at the second try if need be. A refused try leaves this many entries.
+fn is_there_at_last(table: &Table<u64>, k: u32, installed: u32) -> bool
+    requires { k < 32 }
+{
+    len_of(table, k).is_some() || table.installed() == installed && len_of(table, k).is_some()
+}
+
+fn has_a_key_at_last(table: &Table<u64>, k: u32, installed: u32) -> bool
+    requires { k < 32 }
+{
+    table.install_key(k).is_ok() || table.installed() == installed && table.install_key(k).is_ok()
 }
 
 // It passes too where any one allocation is made to fail.
 #[test]
 fn a_refused_install_sets_nothing(rt: HostRuntime) {
-    let table = Table::<u64>::new(rt.alloc());
-    if table.install(4).is_err() {
-        assert_eq!(rt; table.installed(), 0);
-        assert!(rt; table.install(4).is_ok());
-    }
-    if table.install_key(5).is_err() {
-        assert_eq!(rt; table.installed(), 1);
-        assert!(rt; table.install_key(5).is_ok());
-    }
-    assert_eq!(rt; table.installed(), 2);
+    let table = Table::new(rt.alloc());
+    assert!(rt;
+        is_there_at_last(&table, 4, 0) && has_a_key_at_last(&table, 5, 1) && table.installed() == 2
+    );
 }
 
 // Whether an entry's block is lent, and shows the value at its first place.
@@ -156,33 +179,45 @@ fn an_exclusive_owner_has_the_blocks(rt: HostRuntime) {
     assert!(rt; lends_two(&mut table) && has_two(&mut table) && gives_one_up(&mut table));
 }
 
+// Puts another block where the one of an entry was lent, and answers whether one was.
+fn puts_another(table: &mut Table<u64>, other: Block<u64>) -> bool {
+    match table.block_mut(1) {
+        Some(block) => {
+            *block = other;
+            true
+        }
+        None => false,
+    }
+}
+
+fn is_not_put_back(table: &mut Table<u64>, other: Block<u64>) -> bool {
+    len_of(table, 1) == Some(2)
+        && puts_another(table, other)
+        && table.block_mut(1).is_none()
+        && table.installed() == 0
+}
+
 #[test]
 fn a_block_of_another_length_is_not_put_back(rt: HostRuntime) -> Result<(), Fail> {
-    let mut table = Table::<u64>::new(rt.alloc());
-    table.install(1)?;
     let other = Block::new(rt.alloc(), 3)?;
-    let Some(block) = table.block_mut(1) else {
-        return Err(Fail::from("the block was not lent"));
-    };
-    *block = other;
-    assert!(rt; table.block_mut(1).is_none());
-    assert_eq!(rt; table.installed(), 0);
+    let mut table = Table::new(rt.alloc());
+    assert!(rt; is_not_put_back(&mut table, other));
     Ok(())
+}
+
+fn gives_up_what_was_lent(table: &mut Table<u64>) -> bool {
+    let is_lent = len_of(table, 1) == Some(2) && table.block_mut(1).is_some();
+    table.give_up(1);
+    table.put_back();
+    is_lent && table.scout(1).is_none() && table.block_mut(1).is_none()
 }
 
 #[test]
-fn a_block_that_was_lent_is_given_up(rt: HostRuntime) -> Result<(), Fail> {
-    let mut table = Table::<u64>::new(rt.alloc());
-    table.install(1)?;
-    assert!(rt; table.block_mut(1).is_some());
-    table.give_up(1);
-    table.put_back();
-    assert!(rt; table.scout(1).is_none());
-    assert!(rt; table.block_mut(1).is_none());
-    Ok(())
+fn a_block_that_was_lent_is_given_up(rt: HostRuntime) {
+    let mut table = Table::new(rt.alloc());
+    assert!(rt; gives_up_what_was_lent(&mut table));
 }
 
-// Each is counted once, and a block of four million cells among them.
 // Each is counted once, and a block of four million cells among them.
 fn counts_entries(table: &Table<u64>) -> bool {
     for k in 0..23u32 {
@@ -237,29 +272,71 @@ fn put(block: &mut Block<u64>, place: u64, value: u64)
     }
 }
 
-#[test]
-fn a_detached_block_is_attached_again(rt: HostRuntime) -> Result<(), Fail> {
-    let mut table = Table::new(rt.alloc());
-    let (block, key) = table.install_key(2)?;
-    assert!(rt; fill(block, 1, 7));
-    let (block, other) = table.install_key(0)?;
-    assert!(rt; fill(block, 1, 6));
-    let mut block = table.detach(&key);
-    assert!(rt; table.scout(2).is_none());
-    assert_eq!(rt; table.installed(), 1);
+// A key of an entry, whose block is installed if it is not there.
+fn key_of<T: Drop>(table: &Table<T>, k: u32) -> Option<Key>
+    requires { k < 32 }
+    ensures of { IfSome result (λ key. IsKeyIn table.now key) }
+    ensures entry { IfSome result (λ key. key.entry ≡ k) }
+{
+    match table.install_key(k) {
+        Ok((_block, key)) => Some(key),
+        Err(_no_memory) => None,
+    }
+}
+
+// Takes the block of a key out, and attaches it again with one value more. The other key is of an entry that keeps its block.
+fn is_attached_again(table: &mut Table<u64>, key: &Key, other: &Key) -> bool
+    requires key { IsKeyIn table.old key.now }
+    requires other { IsKeyIn table.old other.now }
+    requires third { key.now.entry ≡ 2 }
+    requires first { other.now.entry ≡ 0 }
+{
+    let mut block = table.detach(key);
+    let is_out = table.scout(2).is_none() && table.installed() == 1;
     put(&mut block, 3, 9);
-    let key = table.attach(2, block);
-    assert_eq!(rt; key.entry(), 2);
-    assert!(rt; shows(table.known(&key), 1, 7));
-    assert!(rt; shows(table.known(&key), 3, 9));
-    assert!(rt; shows(table.known(&other), 1, 6));
-    assert!(rt; shows(table.install(2)?, 3, 9));
-    let block = table.detach(&key);
-    assert!(rt; table.install(2)?.len() == 4);
-    let key = table.attach(2, block);
-    assert!(rt; shows(table.known(&key), 3, 9));
-    assert_eq!(rt; table.installed(), 2);
-    Ok(())
+    let again = table.attach(2, block);
+    is_out
+        && again.entry() == 2
+        && shows(table.known(&again), 1, 7)
+        && shows(table.known(&again), 3, 9)
+        && shows(table.known(other), 1, 6)
+}
+
+fn attaches_again(table: &mut Table<u64>) -> bool {
+    match (key_of(table, 2), key_of(table, 0)) {
+        (Some(key), Some(other)) => is_attached_again(table, &key, &other),
+        _ => false,
+    }
+}
+
+// Whether the block of a key comes back in the place of one that was installed meanwhile.
+fn comes_back(table: &mut Table<u64>, key: &Key) -> bool
+    requires key { IsKeyIn table.old key.now }
+    requires third { key.now.entry ≡ 2 }
+{
+    let block = table.detach(key);
+    let is_new = len_of(table, 2) == Some(4) && !has(table, 2, 3, 9);
+    let again = table.attach(2, block);
+    is_new && shows(table.known(&again), 3, 9) && table.installed() == 2
+}
+
+fn attaches_for_another(table: &mut Table<u64>) -> bool {
+    match key_of(table, 2) {
+        Some(key) => comes_back(table, &key),
+        None => false,
+    }
+}
+
+#[test]
+fn a_detached_block_is_attached_again(rt: HostRuntime) {
+    let mut table = Table::new(rt.alloc());
+    assert!(rt;
+        takes(&table, 2, 1, 7)
+            && takes(&table, 0, 1, 6)
+            && attaches_again(&mut table)
+            && has(&table, 2, 3, 9)
+            && attaches_for_another(&mut table)
+    );
 }
 
 struct Counted<'a>(&'a AtomicU64);
@@ -271,24 +348,52 @@ impl Drop for Counted<'_> {
     }
 }
 
-#[test]
-fn each_block_is_dropped_once(rt: HostRuntime) -> Result<(), Fail> {
-    let drops = AtomicU64::new(0);
-    let mut table = Table::new(rt.alloc());
-    for k in 0..4 {
-        assert!(rt; fill(table.install(k)?, 1, Counted(&drops)));
+fn drops_so_far(drops: &AtomicU64) -> u64 {
+    drops.load(Ordering::SeqCst)
+}
+
+fn fills_four<'a>(table: &Table<Counted<'a>>, drops: &'a AtomicU64) -> bool {
+    for k in 0..4u32 {
+        if !takes(table, k, 1, Counted(drops)) {
+            return false;
+        }
     }
+    true
+}
+
+fn drops_what_is_given_up(table: &mut Table<Counted<'_>>, drops: &AtomicU64) -> bool {
     table.give_up(2);
-    assert_eq!(rt; drops.load(Ordering::SeqCst), 1);
+    let is_dropped = drops_so_far(drops) == 1;
     table.give_up(2);
-    assert!(rt; table.block_mut(1).is_some());
-    assert_eq!(rt; drops.load(Ordering::SeqCst), 1);
-    let (_block, key) = table.install_key(3)?;
-    let block = table.detach(&key);
-    assert_eq!(rt; drops.load(Ordering::SeqCst), 1);
-    table.attach(3, block);
-    assert_eq!(rt; drops.load(Ordering::SeqCst), 1);
-    drop(table);
-    assert_eq!(rt; drops.load(Ordering::SeqCst), 4);
-    Ok(())
+    is_dropped && table.block_mut(1).is_some() && drops_so_far(drops) == 1
+}
+
+fn keeps_what_is_detached(table: &mut Table<Counted<'_>>, drops: &AtomicU64, key: &Key) -> bool
+    requires key { IsKeyIn table.old key.now }
+    requires fourth { key.now.entry ≡ 3 }
+{
+    let block = table.detach(key);
+    let is_kept = drops_so_far(drops) == 1;
+    let _again = table.attach(3, block);
+    is_kept && drops_so_far(drops) == 1
+}
+
+fn keeps_the_fourth(table: &mut Table<Counted<'_>>, drops: &AtomicU64) -> bool {
+    match key_of(table, 3) {
+        Some(key) => keeps_what_is_detached(table, drops, &key),
+        None => false,
+    }
+}
+
+// The table is dropped at the end.
+fn drops_one_so_far<'a>(mut table: Table<Counted<'a>>, drops: &'a AtomicU64) -> bool {
+    fills_four(&table, drops)
+        && drops_what_is_given_up(&mut table, drops)
+        && keeps_the_fourth(&mut table, drops)
+}
+
+#[test]
+fn each_block_is_dropped_once(rt: HostRuntime) {
+    let drops = AtomicU64::new(0);
+    assert!(rt; drops_one_so_far(Table::new(rt.alloc()), &drops) && drops_so_far(&drops) == 4);
 }

@@ -1,12 +1,12 @@
 // Two threads at one table.
 ghost use Rattle.table_core.specs.Table.{IsKeyIn};
 
-use crate::tests::{Counted, fill, shows};
+use crate::tests::{Counted, drops_so_far, fill, key_of, shows, takes};
 use crate::{Key, Table};
-use std::alloc::AllocError;
+use std::alloc::{AllocError, Global};
 use std::sync::atomic::{AtomicU64, Ordering};
 use std::test::Fail;
-use std::thread::join;
+use std::thread::{Threads, join};
 
 const TABLES: u64 = 10_000;
 
@@ -56,24 +56,44 @@ fn install_all<'a>(
     won
 }
 
+fn new_tables<'a>(alloc: Global) -> Result<Vec<Table<Counted<'a>>>, AllocError> {
+    let mut tables = Vec::with_capacity(alloc, TABLES as usize)?;
+    for _table in 0..TABLES {
+        tables.push(Table::new(alloc))?;
+    }
+    Ok(tables)
+}
+
+// How often a thread of two was the first to fill a cell.
+fn install_from_two<'a, R: Threads>(
+    rt: &R,
+    tables: &[Table<Counted<'a>>],
+    drops: &'a AtomicU64,
+) -> Option<u64> {
+    let (first, second) = (AtomicU64::new(0), AtomicU64::new(0));
+    let (a, b) = join(
+        rt,
+        || install_all(tables, drops, &first, &second),
+        || install_all(tables, drops, &second, &first),
+    );
+    Some(a.ok()?.wrapping_add(b.ok()?))
+}
+
+// The tables are dropped at the end.
+fn have_one_block_each<'a, R: Threads>(
+    rt: &R,
+    tables: Vec<Table<Counted<'a>>>,
+    drops: &'a AtomicU64,
+) -> bool {
+    install_from_two(rt, tables.as_slice(), drops) == Some(TABLES) && drops_so_far(drops) == TABLES
+}
+
 #[test]
 fn two_threads_install_one_block(rt: HostRuntime) -> Result<(), Fail> {
     let drops = AtomicU64::new(0);
-    let mut tables = Vec::with_capacity(rt.alloc(), TABLES as usize)?;
-    for _table in 0..TABLES {
-        tables.push(Table::new(rt.alloc()))?;
-    }
-    let (first, second) = (AtomicU64::new(0), AtomicU64::new(0));
-    let tables_seen = tables.as_slice();
-    let (a, b) = join(
-        &rt,
-        || install_all(tables_seen, &drops, &first, &second),
-        || install_all(tables_seen, &drops, &second, &first),
-    );
-    assert_eq!(rt; a?.wrapping_add(b?), TABLES);
-    assert_eq!(rt; drops.load(Ordering::SeqCst), TABLES);
-    drop(tables);
-    assert_eq!(rt; drops.load(Ordering::SeqCst), 2 * TABLES);
+    let tables = new_tables(rt.alloc())?;
+    assert!(rt; have_one_block_each(&rt, tables, &drops));
+    assert_eq!(rt; drops_so_far(&drops), 2 * TABLES);
     Ok(())
 }
 
@@ -83,21 +103,32 @@ fn sees(table: &Table<u64>, key: &Key) -> bool
     shows(table.known(key), 0, 9)
 }
 
-#[test]
-fn keys_are_used_in_another_thread(rt: HostRuntime) -> Result<(), Fail> {
-    let table = Table::new(rt.alloc());
-    let (block, key) = table.install_key(2)?;
-    assert!(rt; fill(block, 0, 9));
-    let (shared, held, other) = (&table, &key, key.again());
+// Whether two threads have the block, one by the key and one by a key like it.
+fn is_seen_by_two<R: Threads>(rt: &R, table: &Table<u64>, key: &Key) -> bool
+    requires { IsKeyIn table.now key.now }
+{
+    let other = key.again();
     let (a, b) = join(
-        &rt,
+        rt,
         || -> bool
-            requires { IsKeyIn shared.now held.now }
-        { sees(shared, held) },
+            requires { IsKeyIn table.now key.now }
+        { sees(table, key) },
         || -> bool
-            requires { IsKeyIn shared.now other }
-        { sees(shared, &other) },
+            requires { IsKeyIn table.now other }
+        { sees(table, &other) },
     );
-    assert!(rt; a && b);
-    Ok(())
+    a && b
+}
+
+fn has_a_key_for_two<R: Threads>(rt: &R, table: &Table<u64>) -> bool {
+    match key_of(table, 2) {
+        Some(key) => is_seen_by_two(rt, table, &key),
+        None => false,
+    }
+}
+
+#[test]
+fn keys_are_used_in_another_thread(rt: HostRuntime) {
+    let table = Table::new(rt.alloc());
+    assert!(rt; takes(&table, 2, 0, 9) && has_a_key_for_two(&rt, &table));
 }

@@ -197,7 +197,7 @@ finisher_open runs writes place actor (Some (Filled value)) is finishes = elim i
 finisher_open runs writes place actor (Some Broken) is finishes =
     absurd (none-some actor (sym (ap (finisher_after (owner_of runs place)) is.is) ∙ finishes))
 
--- and the other way round
+-- a place that is an actor's own to fill by its slot is its to finish by what was done there
 open_finisher : (es : List (Event × Reply)) (writes : List Event) (place actor : ℕ) (slot : Option Slot)
     → Settlement (runs_of es) writes place slot → IsOpen (runs_of es) actor place slot
     → IsItsToFinish es place actor writes
@@ -216,12 +216,12 @@ open_unfinished runs actor place (Some (Busy other)) its_own = tt
 open_unfinished runs actor place (Some (Filled value)) its_own = its_own
 open_unfinished runs actor place (Some Broken) its_own = its_own
 
--- and the other way round
-unfinished_unfinished : (actor : ℕ) (slot : Option Slot) → IsUnfinishedFor actor slot → IsUnfinished slot
-unfinished_unfinished actor None is = tt
-unfinished_unfinished actor (Some (Busy other)) is = tt
-unfinished_unfinished actor (Some (Filled value)) is = is
-unfinished_unfinished actor (Some Broken) is = is
+-- so is one that is unfinished for an actor
+unfinished_for_one : (actor : ℕ) (slot : Option Slot) → IsUnfinishedFor actor slot → IsUnfinished slot
+unfinished_for_one actor None is = tt
+unfinished_for_one actor (Some (Busy other)) is = tt
+unfinished_for_one actor (Some (Filled value)) is = is
+unfinished_for_one actor (Some Broken) is = is
 
 module _ (p : Play) (holds : HoldsAt p.at p.events) where
   -- a debt is its actor's to fill
@@ -276,7 +276,7 @@ tiled p holds has = record {
       one_open (runs_of p.events) a b place (finite.get p.at.storage.slots place) (debt_open p holds a place owes_a).0 (debt_open p holds b place owes_b).0;
   debts_pending = λ place. (
     λ (inside, unfinished). owed_by p holds place inside unfinished,
-    λ (actor, owes). ((debt_open p holds actor place owes).1, unfinished_unfinished actor (finite.get p.at.storage.slots place) owes.unfinished),
+    λ (actor, owes). ((debt_open p holds actor place owes).1, unfinished_for_one actor (finite.get p.at.storage.slots place) owes.unfinished),
   );
   debts_of_history = λ actor place. (
     λ owes. open_finisher p.events (writes_of place p.events) place actor (finite.get p.at.storage.slots place) (holds.settled place) (debt_open p holds actor place owes).0,

@@ -1,6 +1,9 @@
 //! How long it takes to open a list of ten million values as a shared vector, and to close it into a list again.
+ghost use Rattle.claim_core.specs.Hand.{IsWholeHand};
+ghost use Rattle.grow_core.specs.Vector.{IsHandOf};
+
 use anyhow::{Result, bail, ensure};
-use grow_core::{Parts, Shared};
+use grow_core::{Hand, Parts, Shared};
 use std::alloc::{AllocError, AllocGlobal, Global};
 use std::rt::Clock;
 use std::time::{Duration, Instant};
@@ -28,6 +31,18 @@ fn filled(alloc: Global) -> Result<Parts<u64>, AllocError> {
     Ok(parts)
 }
 
+// How long the vector takes to be closed.
+fn time_close<R: Clock>(rt: &R, vector: Shared<u64>, hand: Hand<u64>) -> Result<Duration>
+    requires ours { IsHandOf vector hand }
+    requires whole { IsWholeHand hand }
+{
+    let start = Instant::now(rt)?;
+    let parts = vector.into_parts(hand);
+    let took = start.elapsed(rt)?;
+    ensure!(parts.len() == VALUES, "values were lost");
+    Ok(took)
+}
+
 // How long the two took: opening the list, and closing the vector.
 fn time_both<R: Clock>(rt: &R, parts: Parts<u64>) -> Result<(Duration, Duration)> {
     let start = Instant::now(rt)?;
@@ -35,10 +50,7 @@ fn time_both<R: Clock>(rt: &R, parts: Parts<u64>) -> Result<(Duration, Duration)
         bail!("no memory")
     };
     let opened = start.elapsed(rt)?;
-    let start = Instant::now(rt)?;
-    let parts = vector.into_parts(hand);
-    let closed = start.elapsed(rt)?;
-    ensure!(parts.len() == VALUES, "values were lost");
+    let closed = time_close(rt, vector, hand)?;
     Ok((opened, closed))
 }
 

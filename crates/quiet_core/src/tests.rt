@@ -7,65 +7,80 @@ mod resize;
 mod uses;
 
 use crate::{Quiet, QuietAt, QuietError};
-use std::alloc::Global;
-use std::test::Fail;
+use std::alloc::AllocGlobal;
+use std::process::Abort;
 
-fn listed(alloc: Global, limit: u64, values: Vec<u64>) -> Result<Quiet<u64>, Fail>
-    requires { IsLimit limit }
-{
-    match Quiet::from_vec(alloc, limit, values) {
-        Ok(list) => Ok(list),
-        Err((error, _)) => Err(Fail::from(error)),
+// The values in a `Vec`.
+fn vec_of<R: AllocGlobal + Abort>(rt: &R, values: &[u64]) -> Vec<u64> {
+    match Vec::from_slice(rt.alloc(), values) {
+        Ok(made) => made,
+        Err(error) => panic!(rt; "{error}"),
     }
 }
 
-fn three(alloc: Global) -> Result<Quiet<u64>, Fail> {
-    listed(alloc, 16, vec![in alloc; 1u64, 2, 3]?)
+fn listed<R: AllocGlobal + Abort>(rt: &R, limit: u64, values: Vec<u64>) -> Quiet<u64>
+    requires { IsLimit limit }
+{
+    match Quiet::from_vec(rt.alloc(), limit, values) {
+        Ok(list) => list,
+        Err((error, _back)) => panic!(rt; "{error}"),
+    }
+}
+
+fn list_of<R: AllocGlobal + Abort>(rt: &R, values: &[u64]) -> Quiet<u64> {
+    listed(rt, 16, vec_of(rt, values))
+}
+
+// Whether a new list has the value and then a broken member.
+fn breaks_the_second(list: &mut Quiet<u64>, value: u64) -> bool {
+    let make = |i: u64| -> Result<u64, u64> { if i == 0 { Ok(value) } else { Err(i) } };
+    list.resize(2, make) == Err(QuietError::Refused { made: 1 })
 }
 
 // A value and then a broken member.
-fn broken_after(alloc: Global, value: u64) -> Result<Quiet<u64>, Fail> {
-    let mut list = Quiet::new(alloc, 16);
-    let make = |i: u64| -> Result<u64, u64> { if i == 0 { Ok(value) } else { Err(i) } };
-    match list.resize(2, make) {
-        Err(QuietError::Refused { made: 1 }) => Ok(list),
-        _ => Err(Fail::from("nothing was refused")),
-    }
+fn broken_after<R: AllocGlobal + Abort>(rt: &R, value: u64) -> Quiet<u64> {
+    let mut list = Quiet::new(rt.alloc(), 16);
+    assert!(rt; breaks_the_second(&mut list, value));
+    list
 }
 
-fn two(alloc: Global, first: u64, second: u64) -> Result<Quiet<u64>, Fail> {
-    listed(alloc, 16, vec![in alloc; first, second]?)
+// Whether a list has the value at a place.
+fn has(list: &Quiet<u64>, place: u64, value: u64) -> bool {
+    list.get(place) == Ok(&value)
 }
 
-fn shrunk_capacity(list: &mut Quiet<u64>) -> u64 {
+fn is_broken(list: &Quiet<u64>, place: u64) -> bool {
+    list.get(place) == Err(QuietAt::Broken)
+}
+
+// Whether a list has this length and this capacity.
+fn measures(list: &Quiet<u64>, len: u64, capacity: u64) -> bool {
+    list.len() == len && list.capacity() == capacity
+}
+
+fn shrinks_to(list: &mut Quiet<u64>, capacity: u64) -> bool {
     list.shrink_to_fit();
-    list.capacity()
+    list.capacity() == capacity
 }
 
-fn cleared_sizes(list: &mut Quiet<u64>) -> (u64, u64) {
+fn is_cleared(list: &mut Quiet<u64>) -> bool {
     list.clear();
-    sizes(list)
-}
-
-// The length and the capacity of a list.
-fn sizes(list: &Quiet<u64>) -> (u64, u64) {
-    (list.len(), list.capacity())
+    measures(list, 0, 4)
 }
 
 fn follows_the_segments(list: &mut Quiet<u64>) -> bool {
     list.capacity() == 4
         && list.reserve(5) == Ok(())
         && list.capacity() == 8
-        && shrunk_capacity(list) == 4
-        && cleared_sizes(list) == (0, 4)
-        && shrunk_capacity(list) == 0
+        && shrinks_to(list, 4)
+        && is_cleared(list)
+        && shrinks_to(list, 0)
 }
 
 #[test]
-fn capacities_follow_the_segments(rt: HostRuntime) -> Result<(), Fail> {
-    let mut list = three(rt.alloc())?;
+fn capacities_follow_the_segments(rt: HostRuntime) {
+    let mut list = list_of(&rt, &[1, 2, 3]);
     assert!(rt; follows_the_segments(&mut list));
-    Ok(())
 }
 
 // Whether a list with a broken member is less than one with a zero there, and equal to its like.
@@ -74,16 +89,15 @@ fn is_less(broken: &Quiet<u64>, zero: &Quiet<u64>, same: &Quiet<u64>) -> bool {
 }
 
 fn has_a_broken_member(list: &Quiet<u64>) -> bool {
-    list.get(1) == Err(QuietAt::Broken) && list.get(2) == Err(QuietAt::OutOfRange { size: 2 })
+    is_broken(list, 1) && list.get(2) == Err(QuietAt::OutOfRange { size: 2 })
 }
 
 #[test]
-fn broken_is_less_than_every_value(rt: HostRuntime) -> Result<(), Fail> {
-    let broken = broken_after(rt.alloc(), 1)?;
-    let zero = two(rt.alloc(), 1, 0)?;
-    let same = broken_after(rt.alloc(), 1)?;
+fn broken_is_less_than_every_value(rt: HostRuntime) {
+    let broken = broken_after(&rt, 1);
+    let zero = list_of(&rt, &[1, 0]);
+    let same = broken_after(&rt, 1);
     assert!(rt; is_less(&broken, &zero, &same) && has_a_broken_member(&broken));
-    Ok(())
 }
 
 fn is_full_with_one(list: &mut Quiet<u64>) -> bool {
@@ -115,34 +129,30 @@ fn sum(list: &Quiet<u64>) -> u64 {
 }
 
 #[test]
-fn members_come_from_both_ends(rt: HostRuntime) -> Result<(), Fail> {
-    let list = three(rt.alloc())?;
+fn members_come_from_both_ends(rt: HostRuntime) {
+    let list = list_of(&rt, &[1, 2, 3]);
     assert!(rt; gives_from_both_ends(&list) && sum(&list) == 6);
-    Ok(())
 }
 
-// The length and the limit of both lists, once they are exchanged.
-fn swapped(list: &mut Quiet<u64>, other: &mut Quiet<u64>) -> (u64, u64, u64, u64) {
+// Whether three values of a limit of 16 and none of a limit of five are exchanged.
+fn are_exchanged(list: &mut Quiet<u64>, other: &mut Quiet<u64>) -> bool {
     list.swap(other);
-    (list.len(), list.limit(), other.len(), other.limit())
+    list.len() == 0 && list.limit() == 5 && other.len() == 3 && other.limit() == 16
 }
 
 // Whether a list with a limit of five refuses six values and takes five.
 fn assigns_five(list: &mut Quiet<u64>, six: Vec<u64>, five: Vec<u64>) -> bool {
     matches!(list.assign(six), Err((QuietError::TooLong, _)))
         && list.assign(five).is_ok()
-        && sizes(list) == (5, 8)
+        && measures(list, 5, 8)
 }
 
 #[test]
-fn lists_are_exchanged_and_replaced(rt: HostRuntime) -> Result<(), Fail> {
-    let mut list = three(rt.alloc())?;
+fn lists_are_exchanged_and_replaced(rt: HostRuntime) {
+    let mut list = list_of(&rt, &[1, 2, 3]);
     let mut other = Quiet::new(rt.alloc(), 5);
-    assert!(rt; swapped(&mut list, &mut other) == (0, 5, 3, 16));
-    let six = vec![in rt.alloc(); 0u64; 6]?;
-    let five = vec![in rt.alloc(); 9u64; 5]?;
-    assert!(rt; assigns_five(&mut list, six, five));
-    Ok(())
+    let (six, five) = (vec_of(&rt, &[0; 6]), vec_of(&rt, &[9; 5]));
+    assert!(rt; are_exchanged(&mut list, &mut other) && assigns_five(&mut list, six, five));
 }
 
 fn pushes_on(list: &mut Quiet<u64>) -> bool {
@@ -151,20 +161,23 @@ fn pushes_on(list: &mut Quiet<u64>) -> bool {
             return false;
         }
     }
-    sizes(list) == (1_048_577, 1 << 21) && list.reserve(3_000_000) == Ok(())
+    measures(list, 1_048_577, 1 << 21) && list.reserve(3_000_000) == Ok(())
 }
 
 // Whether five values stand where a million did. The capacity stays.
 fn assigns_after_a_million(list: &mut Quiet<u64>, five: Vec<u64>) -> bool {
-    list.assign(five).is_ok() && sizes(list) == (5, 1 << 22) && list.get(4) == Ok(&9)
+    list.assign(five).is_ok() && measures(list, 5, 1 << 22) && has(list, 4, 9)
+}
+
+fn a_million<R: AllocGlobal + Abort>(rt: &R) -> Vec<u64> {
+    match vec![in rt.alloc(); 7u64; 1_000_000] {
+        Ok(made) => made,
+        Err(error) => panic!(rt; "{error}"),
+    }
 }
 
 #[test]
-fn a_million_values_are_moved_in_and_pushed_on(rt: HostRuntime) -> Result<(), Fail> {
-    let values = vec![in rt.alloc(); 7u64; 1_000_000]?;
-    let mut list = listed(rt.alloc(), 1 << 32, values)?;
-    assert!(rt; pushes_on(&mut list));
-    let five = vec![in rt.alloc(); 9u64; 5]?;
-    assert!(rt; assigns_after_a_million(&mut list, five));
-    Ok(())
+fn a_million_values_are_moved_in_and_pushed_on(rt: HostRuntime) {
+    let mut list = listed(&rt, 1 << 32, a_million(&rt));
+    assert!(rt; pushes_on(&mut list) && assigns_after_a_million(&mut list, vec_of(&rt, &[9; 5])));
 }

@@ -1,5 +1,6 @@
 // Any one allocation may be refused: then the call gives back what it took, and the next one goes on.
 // `bin/refusals` refuses each request in turn.
+use super::{has, measures};
 use crate::{OpenError, Quiet, QuietError};
 use std::alloc::Global;
 use std::process::Abort;
@@ -11,21 +12,24 @@ fn pushed(rt: &impl Abort, list: &mut Quiet<u64>, value: u64) {
         Ok(place) => assert_eq!(rt; place, len),
         Err(refused) => {
             assert_eq!(rt; refused, (QuietError::NoMemory, value));
-            assert_eq!(rt; (list.len(), list.capacity()), (len, capacity));
+            assert!(rt; measures(list, len, capacity));
             assert_eq!(rt; list.push(value), Ok(len));
         }
     }
 }
 
 // The list of these values, at the second try if need be.
-fn listed(rt: &impl Abort, alloc: Global, values: Vec<u64>) -> Option<Quiet<u64>> {
+fn listed(rt: &impl Abort, alloc: Global, values: Vec<u64>) -> Quiet<u64> {
     let len = values.len();
     match Quiet::from_vec(alloc, 16, values) {
-        Ok(list) => Some(list),
+        Ok(list) => list,
         Err((error, back)) => {
             assert_eq!(rt; error, QuietError::NoMemory);
             assert_eq!(rt; back.len(), len);
-            Quiet::from_vec(alloc, 16, back).ok()
+            match Quiet::from_vec(alloc, 16, back) {
+                Ok(list) => list,
+                Err((error, _back)) => panic!(rt; "{error}"),
+            }
         }
     }
 }
@@ -36,29 +40,32 @@ fn a_push_is_tried_again(rt: HostRuntime) {
     for value in 0..6u64 {
         pushed(&rt, &mut list, value);
     }
-    assert_eq!(rt; (list.len(), list.capacity()), (6, 8));
-    assert_eq!(rt; list.get(5), Ok(&5));
+    assert!(rt; measures(&list, 6, 8) && has(&list, 5, 5));
+}
+
+// Replaces three values by five, at the second try if need be.
+fn assigned(rt: &impl Abort, list: &mut Quiet<u64>, values: Vec<u64>) {
+    assert!(rt; measures(list, 3, 4));
+    if let Err((error, back)) = list.assign(values) {
+        assert_eq!(rt; error, QuietError::NoMemory);
+        assert!(rt; has(list, 2, 3) && list.assign(back).is_ok());
+    }
+    assert!(rt; measures(list, 5, 8) && has(list, 4, 8));
+}
+
+// The values, where there is memory for a `Vec` of them.
+fn vec_of(alloc: Global, values: &[u64]) -> Option<Vec<u64>> {
+    Vec::from_slice(alloc, values).ok()
 }
 
 #[test]
 fn values_are_moved_in_again(rt: HostRuntime) {
-    let Ok(first) = vec![in rt.alloc(); 1u64, 2, 3] else {
-        return
-    };
-    let Ok(second) = vec![in rt.alloc(); 4u64, 5, 6, 7, 8] else {
-        return
-    };
-    let list = listed(&rt, rt.alloc(), first);
-    assert!(rt; list.is_some());
-    let Some(mut list) = list else { return };
-    assert_eq!(rt; (list.len(), list.capacity()), (3, 4));
-    if let Err((error, back)) = list.assign(second) {
-        assert_eq!(rt; error, QuietError::NoMemory);
-        assert_eq!(rt; list.get(2), Ok(&3));
-        assert!(rt; list.assign(back).is_ok());
+    if let Some(first) = vec_of(rt.alloc(), &[1, 2, 3]) {
+        let mut list = listed(&rt, rt.alloc(), first);
+        if let Some(second) = vec_of(rt.alloc(), &[4, 5, 6, 7, 8]) {
+            assigned(&rt, &mut list, second);
+        }
     }
-    assert_eq!(rt; (list.len(), list.capacity()), (5, 8));
-    assert_eq!(rt; list.get(4), Ok(&8));
 }
 
 // The vector that a list was opened into, at the second try if need be.
@@ -92,5 +99,5 @@ fn resized(rt: &impl Abort, list: &mut Quiet<u64>) {
 fn a_list_is_made_longer_again(rt: HostRuntime) {
     let mut list = Quiet::new(rt.alloc(), 16);
     resized(&rt, &mut list);
-    assert_eq!(rt; (list.len(), list.capacity()), (3, 4));
+    assert!(rt; measures(&list, 3, 4));
 }

@@ -1,11 +1,16 @@
 // Lists that are made to have another length.
-use super::{sizes, three};
-use crate::{Quiet, QuietAt, QuietError};
-use std::test::Fail;
+use super::{has, is_broken, list_of, measures};
+use crate::{Quiet, QuietError};
 
-// Makes the list so long. The maker's value of number `refused` is refused, the others are ten and their number. With the answer it
-// tells how often the maker was asked.
-fn resize(list: &mut Quiet<u64>, n: u64, refused: u64) -> (Result<(), QuietError>, u64) {
+// Whether a list that is made so long answers this, and the maker was asked so often. The maker's value of number `refused` is
+// refused, the others are ten and their number.
+fn resizes(
+    list: &mut Quiet<u64>,
+    n: u64,
+    refused: u64,
+    answer: Result<(), QuietError>,
+    times: u64,
+) -> bool {
     let mut asked = 0u64;
     let make = |i: u64| -> Result<u64, u64> {
         asked = asked.wrapping_add(1);
@@ -15,49 +20,49 @@ fn resize(list: &mut Quiet<u64>, n: u64, refused: u64) -> (Result<(), QuietError
             Ok(i.wrapping_add(10))
         }
     };
-    let answer = list.resize(n, make);
-    (answer, asked)
+    list.resize(n, make) == answer && asked == times
 }
 
 fn grows_to_five(list: &mut Quiet<u64>) -> bool {
-    resize(list, 5, 9) == (Ok(()), 2)
-        && sizes(list) == (5, 8)
-        && (list.get(2), list.get(3), list.get(4)) == (Ok(&3), Ok(&10), Ok(&11))
+    resizes(list, 5, 9, Ok(()), 2)
+        && measures(list, 5, 8)
+        && has(list, 2, 3)
+        && has(list, 3, 10)
+        && has(list, 4, 11)
 }
 
 fn is_cut_to_two(list: &mut Quiet<u64>) -> bool {
-    resize(list, 2, 0) == (Ok(()), 0)
-        && sizes(list) == (2, 8)
-        && list.get(1) == Ok(&2)
-        && resize(list, 17, 9) == (Err(QuietError::TooLong), 0)
+    resizes(list, 2, 0, Ok(()), 0)
+        && measures(list, 2, 8)
+        && has(list, 1, 2)
+        && resizes(list, 17, 9, Err(QuietError::TooLong), 0)
         && list.len() == 2
 }
 
 #[test]
-fn a_list_is_cut_and_made_longer(rt: HostRuntime) -> Result<(), Fail> {
-    let mut list = three(rt.alloc())?;
+fn a_list_is_cut_and_made_longer(rt: HostRuntime) {
+    let mut list = list_of(&rt, &[1, 2, 3]);
     assert!(rt; grows_to_five(&mut list) && is_cut_to_two(&mut list));
-    Ok(())
 }
 
 // The maker is not asked again.
 fn breaks_the_last_two(list: &mut Quiet<u64>) -> bool {
-    resize(list, 7, 2) == (Err(QuietError::Refused { made: 2 }), 3)
-        && sizes(list) == (7, 8)
-        && (list.get(2), list.get(4)) == (Ok(&3), Ok(&11))
-        && (list.get(5), list.get(6)) == (Err(QuietAt::Broken), Err(QuietAt::Broken))
+    resizes(list, 7, 2, Err(QuietError::Refused { made: 2 }), 3)
+        && measures(list, 7, 8)
+        && has(list, 2, 3)
+        && has(list, 4, 11)
+        && is_broken(list, 5)
+        && is_broken(list, 6)
 }
 
 #[test]
-fn a_refused_value_breaks_the_members_from_there_on(rt: HostRuntime) -> Result<(), Fail> {
-    let mut list = three(rt.alloc())?;
+fn a_refused_value_breaks_the_members_from_there_on(rt: HostRuntime) {
+    let mut list = list_of(&rt, &[1, 2, 3]);
     assert!(rt; breaks_the_last_two(&mut list));
-    Ok(())
 }
 
 fn makes_a_million(list: &mut Quiet<u64>) -> bool {
-    resize(list, 1 << 20, 1 << 20) == (Ok(()), 1 << 20)
-        && list.get((1 << 20) - 1) == Ok(&((1 << 20) + 9))
+    resizes(list, 1 << 20, 1 << 20, Ok(()), 1 << 20) && has(list, (1 << 20) - 1, (1 << 20) + 9)
 }
 
 #[test]

@@ -1,8 +1,10 @@
 // What callers prove by the public clauses alone.
 ghost use Rattle.std.specs.Prelude.{◌≡◌, ◌^◌, ◌≤◌, Some, IfOk, replicate, slice_get};
 
+use super::{measures, vec_of};
 use crate::{Quiet, QuietAt, QuietError};
-use std::alloc::Global;
+use std::alloc::{AllocGlobal, Global};
+use std::process::Abort;
 use std::test::Fail;
 
 // A list of values gives back each value at its place, also once it has more room.
@@ -41,18 +43,19 @@ fn zeros(alloc: Global, n: u64) -> Result<Quiet<u64>, QuietError>
     Ok(list)
 }
 
+// Whether three values give this at a place.
+fn gives<R: AllocGlobal + Abort>(rt: &R, place: u64, value: Option<u64>) -> bool {
+    value_at(rt.alloc(), vec_of(rt, &[5, 6, 7]), 100, place) == Ok(value)
+}
+
 #[test]
-fn a_value_is_given_back_at_its_place(rt: HostRuntime) -> Result<(), Fail> {
-    for (place, want) in [(0, Some(5)), (2, Some(7)), (3, None)] {
-        let values = vec![in rt.alloc(); 5u64, 6, 7]?;
-        assert_eq!(rt; value_at(rt.alloc(), values, 100, place)?, want);
-    }
-    Ok(())
+fn a_value_is_given_back_at_its_place(rt: HostRuntime) {
+    assert!(rt; gives(&rt, 0, Some(5)) && gives(&rt, 2, Some(7)) && gives(&rt, 3, None));
 }
 
 #[test]
 fn room_that_was_made_is_filled(rt: HostRuntime) -> Result<(), Fail> {
     let list = zeros(rt.alloc(), 5)?;
-    assert_eq!(rt; (list.len(), list.capacity()), (5, 8));
+    assert!(rt; measures(&list, 5, 8));
     Ok(())
 }

@@ -80,7 +80,7 @@ class Function:
             return False
         if self.holder:
             return len(module) > 1 and self.is_owned_by(module[-2])
-        return module[:-1] == re.sub(r"^src/|/?(lib|main)?\.rt$", "", file).split("/")
+        return module[:-1] == module_of(file)
 
     def is_owned_by(self, name):
         """Whether proofs have this name for the type whose function this is: that of the type, and then those of the trait
@@ -90,8 +90,15 @@ class Function:
         return name == names[-1] or len(names) > 1 and name.startswith(names[-1] + names[0])
 
 
+def module_of(file):
+    """The path of the module that a source file is."""
+    path = file.removeprefix("src/").removesuffix(".rt").split("/")
+    return path if path not in (["lib"], ["main"]) else []
+
+
 def without_types(text):
     """The text without what stands in angle brackets."""
+    text = text.replace("->", "")
     while re.search(r"<[^<>]*>", text):
         text = re.sub(r"<[^<>]*>", "", text)
     return text

@@ -3,6 +3,7 @@
 import contextlib
 import fcntl
 import os
+import re
 import shutil
 import subprocess
 import sys
@@ -11,6 +12,8 @@ import time
 from concurrent.futures import FIRST_COMPLETED, ThreadPoolExecutor, wait
 
 PARTS = ("src", "specs", "proofs")
+# The folder of the toolchain.
+KIT = os.path.dirname(os.path.dirname(os.path.realpath(shutil.which("rt") or "rt")))
 # What one check takes at most, in bytes, as seen so far.
 MEMORY_OF_A_CHECK = 4_000_000_000
 
@@ -75,6 +78,10 @@ class Repository:
     def program(self, name):
         return os.path.isfile(f"{self.folder(name)}/src/main.rt")
 
+    def library(self, name):
+        """The library that was built of the crate."""
+        return f"{self.folder(name)}/out/rlib/{name}.rlib"
+
     @contextlib.contextmanager
     def room(self, name):
         """The folder of a copy of the crate, in a repository that has no more than what the crate stands on."""
@@ -91,6 +98,22 @@ class Repository:
                 if os.path.isdir(f"{self.folder(name)}/{part}"):
                     shutil.copytree(f"{self.folder(name)}/{part}", f"{place}/crates/{name}/{part}")
             yield f"{place}/crates/{name}"
+
+    def check(self, name, folder, kept, *words):
+        """Has the prover check sources of the crate in a folder, over what `kept` holds, which it adds to, and returns what it
+        said. What the crate stands on must be built."""
+        own = [it for it in self.deps[name] if it in self.deps]
+        given = [f"{it}={KIT}/rlibs/{it}.rlib" for it in ["std", *self.deps[name]] if it not in own]
+        given += [f"{it}={self.library(it)}" for it in own]
+        places = [f"{KIT}/rlibs", *(os.path.dirname(self.library(it)) for it in self.below(name))]
+        return said_by(
+            folder,
+            [f"{KIT}/bin/rattle", "check", "--crate-name", name, "src/main.rt" if self.program(name) else "src/lib.rt"]
+            + [word for it in given for word in ("--extern", it)]
+            + [word for it in places for word in ("-L", f"dependency={it}")]
+            + ["--antt-project", f"{KIT}/rattle/logic/antt-project.json", "--logic-built", f"{KIT}/logic_built"]
+            + ["--links", f"{name}=", "--incremental", kept, *words],
+        )[1]
 
     def prove(self, name, jobs):
         """Proves the crate over what earlier checks of it kept, beside any other crate's proof, and returns the status and
@@ -112,8 +135,13 @@ class Repository:
 
 def rt(folder, *words):
     """Runs rt in a folder, and returns its status and what it printed."""
+    return said_by(folder, ["rt", *words])
+
+
+def said_by(folder, words):
+    """Runs a command in a folder, and returns its status and what it printed."""
     ran = subprocess.run(
-        ["rt", *words],
+        words,
         cwd=folder,
         stdin=subprocess.DEVNULL,
         stdout=subprocess.PIPE,
@@ -134,44 +162,61 @@ def lanes():
     return max(1, min(len(os.sched_getaffinity(0)), free // MEMORY_OF_A_CHECK))
 
 
-def is_alone():
-    """Whether the process whose number RT_BESIDE has, if it has one, has ended."""
-    beside = os.environ.get("RT_BESIDE", "")
-    try:
-        with open(f"/proc/{beside}/stat", encoding="utf-8", errors="replace") as file:
-            return not beside or file.read().rpartition(")")[2].split()[0] == "Z"
-    except OSError:
-        return True
+class Gate:
+    """The toolchain's gate, `rt ci`, at work in a process on a copy of a repository."""
+
+    def __init__(self, copy, log, process):
+        self.repository, self.log, self.process = Repository(copy), log, process
+
+    def is_over(self):
+        try:
+            with open(f"/proc/{self.process}/stat", encoding="utf-8", errors="replace") as file:
+                return file.read().rpartition(")")[2].split()[0] == "Z"
+        except OSError:
+            return True
+
+    def said_of(self, name):
+        """Whether a crate is proved, and what the prover said of it. None: it is not known yet."""
+        is_over = self.is_over()
+        with open(self.log, encoding="utf-8", errors="replace") as file:
+            said = file.read()
+        found = re.search(rf"^rt: {name} (proved$|is kept:|NOT PROVED)", said, re.MULTILINE)
+        if not found:
+            return (False, "") if is_over else None
+        return found[1] != "NOT PROVED", said[: found.start()].rpartition(f"== {name}\n")[2]
 
 
 class Task:
-    """Work that starts once the tasks before it are done, with the processors that no other task waits for."""
+    """Work that starts once the tasks before it are done and it is due, with the processors that no other task waits for."""
 
-    def __init__(self, weight, before, work):
-        self.weight, self.before, self.work = weight, before, work
+    def __init__(self, weight, before, work, is_due=lambda: True):
+        self.weight, self.before, self.work, self.is_due = weight, before, work, is_due
         # What the longest chain of tasks that begins with this one weighs.
         self.chain = weight
         self.answer = None
 
 
-def run(tasks):
+def run(tasks, gate=None):
     """Runs tasks side by side, those with the longest chains first. Each comes after those that it waits for. They take half of
-    the lanes as long as the process RT_BESIDE is at work."""
+    the lanes as long as a gate is at work."""
     for task in reversed(tasks):
         for it in task.before:
             it.chain = max(it.chain, it.weight + task.chain)
     left, running, done, most = sorted(tasks, key=lambda it: -it.chain), {}, set(), lanes()
     with ThreadPoolExecutor(most) as pool:
         while left or running:
-            ready = [it for it in left if done.issuperset(it.before)]
-            open_lanes = most if is_alone() else max(1, most // 2)
+            ready = [it for it in left if done.issuperset(it.before) and it.is_due()]
+            open_lanes = most if not gate or gate.is_over() else max(1, most // 2)
             for at, task in enumerate(ready):
                 idle = open_lanes - sum(jobs for _, jobs in running.values())
                 if idle > 0:
                     jobs = max(1, idle // (len(ready) - at))
                     running[pool.submit(task.work, jobs)] = task, jobs
                     left.remove(task)
-            for ended in wait(running, return_when=FIRST_COMPLETED).done:
+            if not running:
+                time.sleep(1)
+                continue
+            for ended in wait(running, timeout=1 if gate else None, return_when=FIRST_COMPLETED).done:
                 task, _ = running.pop(ended)
                 task.answer = ended.result()
                 done.add(task)

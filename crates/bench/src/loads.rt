@@ -5,10 +5,11 @@ ghost use Rattle.std.specs.Thread.{IsSync};
 ghost use Rattle.grow_core.specs.Vector.{IsHandOf};
 
 use crate::other_vectors::push_boxcar;
-use crate::shared_vector::{empty, hands_for, push, push_by_calls};
+use crate::shared_vector::{empty_in, hands_for, push, push_by_calls};
 use crate::trial::{time_hands, time_threads};
 use anyhow::{Result, bail};
 use grow_core::{Hand, Never, Shared};
+use seg_core::Layout;
 use std::alloc::{AllocError, AllocGlobal};
 use std::rt::Clock;
 use std::sync::{Arc, Wait};
@@ -52,12 +53,23 @@ pub struct Load {
     pub values: u64,
     /// Whether the vector lies in an `Arc`.
     pub is_in_arc: bool,
+    /// How long its first segment is.
+    pub layout: Layout,
+}
+
+/// A first segment of 256 places, where the name asks for it, and else one of two.
+pub fn layout_of(name: &str) -> Layout {
+    if name.ends_with("-256") {
+        Layout::new(8).unwrap_or_default()
+    } else {
+        Layout::default()
+    }
 }
 
 /// The load of this name.
 pub fn load_of(name: &str) -> Result<Load> {
     let (work, filled, values) = match name {
-        "push" => (Work::Push, 0, FRESH),
+        "push" | "push-256" => (Work::Push, 0, FRESH),
         "push-installed" | "push-arc" => (Work::Push, FILLED, MORE),
         "push-call" => (Work::CallPush, FILLED, MORE),
         "grow" => (Work::Grow, 0, FRESH),
@@ -74,6 +86,7 @@ pub fn load_of(name: &str) -> Result<Load> {
         filled,
         values,
         is_in_arc: name == "push-arc",
+        layout: layout_of(name),
     })
 }
 
@@ -261,7 +274,11 @@ impl Load {
         rt: &R,
         threads: usize,
     ) -> Result<()> {
-        let (vector, mut hand) = empty(rt.alloc(), self.filled.saturating_add(self.values))?;
+        let (vector, mut hand) = empty_in(
+            rt.alloc(),
+            self.layout,
+            self.filled.saturating_add(self.values),
+        )?;
         if self.is_in_arc {
             let vector = Arc::new(rt.alloc(), vector)?;
             self.print_time_on(rt, &vector, &mut hand, threads)

@@ -12,6 +12,7 @@
 mod bare_number;
 mod claim_word;
 mod figures;
+mod hundreds;
 mod lives;
 mod loads;
 mod other_vectors;
@@ -21,8 +22,9 @@ mod thing;
 mod trial;
 
 use crate::figures::print_figures;
+use crate::hundreds::print_hundreds;
 use crate::lives::{Turn, print_turn};
-use crate::loads::{load_of, print_boxcar_time};
+use crate::loads::{layout_of, load_of, print_boxcar_time};
 use crate::stress::print_stress;
 use crate::thing::{GROUPS, Group};
 use anyhow::{Result, bail, ensure};
@@ -87,6 +89,7 @@ fn print_load<R: Threads + Wait + Clock + Print + AllocGlobal + Sync>(
 ) -> Result<()> {
     match name {
         "boxcar" => print_boxcar_time(rt, threads),
+        "hundreds" | "hundreds-256" => print_hundreds(rt, layout_of(name)),
         "open" => print_turn(rt, Turn::Open),
         "close" => print_turn(rt, Turn::Close),
         _ => load_of(name)?.print_time(rt, threads),

@@ -7,6 +7,7 @@ ghost use Rattle.grow_core.specs.Vector.{IsHandOf};
 use crate::trial::{Trial, time_hands};
 use anyhow::Result;
 use grow_core::{Hand, OpenError, Parts, Shared};
+use seg_core::{Layout, MOST_PLACES};
 use std::alloc::{AllocError, AllocGlobal, Global};
 use std::rt::Clock;
 use std::sync::Wait;
@@ -16,10 +17,21 @@ use std::thread::Threads;
 pub fn empty<T: Drop>(alloc: Global, limit: u64) -> Result<(Shared<T>, Hand<T>), OpenError>
     ensures hand { IfOk result (λ (vector, hand). IsHandOf vector hand × IsWholeHand hand) }
 {
-    if limit == 0 || limit > 1 << 32 {
+    empty_in(alloc, Layout::default(), limit)
+}
+
+/// The same in segments of this layout.
+pub fn empty_in<T: Drop>(
+    alloc: Global,
+    layout: Layout,
+    limit: u64,
+) -> Result<(Shared<T>, Hand<T>), OpenError>
+    ensures hand { IfOk result (λ (vector, hand). IsHandOf vector hand × IsWholeHand hand) }
+{
+    if limit == 0 || limit > MOST_PLACES {
         return Err(OpenError::BadLimit);
     }
-    match Shared::of_parts(Parts::new(alloc, limit)) {
+    match Shared::of_parts(Parts::new_in(alloc, layout, limit)) {
         Ok(opened) => Ok(opened),
         Err((_, error)) => Err(error),
     }

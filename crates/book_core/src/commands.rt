@@ -57,3 +57,17 @@ pub struct Ended {
     pub command: Command,
     pub answer: Answer,
 }
+
+/// What a call took that ended.
+#[derive(Clone, Copy, Debug, PartialEq, Eq)]
+pub struct Work {
+    pub actor: u32,
+    /// Its number among its actor's calls, which begin at 1.
+    pub number: u64,
+    /// How many exchanges it lost: they found another size, and the call went on from there.
+    pub lost: u64,
+    /// How many atomic steps it took.
+    pub steps: u64,
+    /// The greatest number of segments that the places of one of its rounds touched.
+    pub segments: u64,
+}

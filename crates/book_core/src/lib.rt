@@ -22,7 +22,7 @@ mod tests;
 mod vector;
 
 pub use cells::Cell;
-pub use commands::{Answer, Command, Ended, Item};
+pub use commands::{Answer, Command, Ended, Item, Work};
 pub use events::{Event, Reply};
 pub use history::check;
 pub use list::Sequence;

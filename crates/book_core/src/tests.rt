@@ -108,12 +108,12 @@ fn an_event_that_is_not_legal_changes_nothing(rt: HostRuntime) -> Result<(), Fai
 }
 
 #[test]
-fn a_limit_is_from_1_to_2_to_the_32(rt: HostRuntime) {
+fn a_limit_is_from_1_to_2_to_the_40(rt: HostRuntime) {
     for (limit, is_limit) in [
         (0, false),
         (1, true),
-        (4_294_967_296, true),
-        (4_294_967_297, false),
+        (1_099_511_627_776, true),
+        (1_099_511_627_777, false),
     ] {
         assert_eq!(rt; CellVec::is_limit(limit), is_limit, "{limit}");
     }

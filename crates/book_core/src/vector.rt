@@ -5,6 +5,7 @@ ghost use Rattle.seg_core.specs.Segment.{IsLimit};
 
 use crate::cells::Cell;
 use crate::events::{Event, Reply};
+use seg_core::MOST_PLACES;
 use std::alloc::{AllocError, Global};
 use std::error::Error;
 use std::fmt;
@@ -62,7 +63,7 @@ impl CellVec {
     pub fn is_limit(limit: u64) -> bool
         ensures { IsTrue result ↔ IsLimit limit }
     {
-        1 <= limit && limit <= 1 << 32
+        1 <= limit && limit <= MOST_PLACES
     }
 
     /// The empty list. It takes no memory yet.

@@ -20,10 +20,11 @@ use Rattle.book_core.specs.Events.{actor_of, write_in, finisher_in, finishers_of
 use Rattle.book_core.specs.History.{events_of, writes_of}
 use Rattle.book_core.specs.Laws.{WritesSplit}
 use Rattle.book_core.specs.declared.commands.Item.{Item}
-use Rattle.seg_core.specs.Segment.{IsLimit}
+use Rattle.seg_core.specs.Segment.{IsLayout, IsLimit}
 use Rattle.step_core.specs.declared.errors.PlayError.{PlayError}
 use Rattle.step_core.specs.declared.programs.Played.{Played}
-use Rattle.step_core.specs.machine.Play.{Play, play_of, played_of}
+use Rattle.step_core.specs.machine.Play.{Play, play_of}
+use Rattle.step_core.specs.machine.Work.{play_shown}
 use Rattle.step_core.specs.machine.Record.{answer_to_look, answer_to_mend, IsRecord, AreCalls, program_of}
 use Rattle.step_core.specs.machine.Tiling.{IsWrittenFor}
 use Rattle.step_core.specs.machine.Headline.{IsSequential, EveryInterleavingIsSequential}
@@ -327,9 +328,9 @@ pushes_are_apart split limit programs p is i j place a b is_a is_b at_a at_b =
     ]
 
 -- so it is of what a play answers
-pub pushes_of : (r : Result Played PlayError) (limit : ℕ) (programs : List (List Command)) (items : List Item)
-    → WritesSplit → EveryInterleavingIsSequential → IfOk r (λ played. played ≡ played_of (play_of limit programs items))
-    → OnOk r (IsLimit limit) → OnOk r (AreSound programs) → IfOk r (λ played. PushesAreApart played.ended)
-pushes_of (Ok played) limit programs items split law is is_limit sound =
-    subst (λ (x : Played). PushesAreApart x.ended) (sym is) (pushes_are_apart split limit programs (play_of limit programs items) (law limit programs items is_limit sound))
-pushes_of (Err e) limit programs items split law is is_limit sound = tt
+pub pushes_of : (r : Result Played PlayError) (f limit : ℕ) (programs : List (List Command)) (items : List Item)
+    → WritesSplit → EveryInterleavingIsSequential → IfOk r (λ played. played ≡ play_shown f limit programs items)
+    → OnOk r (IsLayout f) → OnOk r (IsLimit limit) → OnOk r (AreSound programs) → IfOk r (λ played. PushesAreApart played.ended)
+pushes_of (Ok played) f limit programs items split law is is_layout is_limit sound =
+    subst (λ (x : Played). PushesAreApart x.ended) (sym is) (pushes_are_apart split limit programs (play_of f limit programs items) (law f is_layout limit programs items is_limit sound))
+pushes_of (Err e) f limit programs items split law is is_layout is_limit sound = tt

@@ -12,7 +12,7 @@ use Rattle.book_core.specs.declared.commands.Answer.{Answer}
 use Rattle.book_core.specs.declared.commands.Answer.TheVariants as answers
 use Rattle.book_core.specs.declared.commands.Ended.{Ended}
 use Rattle.book_core.specs.declared.commands.Item.{Item}
-use Rattle.seg_core.specs.Segment.{IsLimit}
+use Rattle.seg_core.specs.Segment.{IsLayout, IsLimit}
 use Rattle.book_core.specs.Cells.{empty_list}
 use Rattle.book_core.specs.Commands.{AreSound, calls_of}
 use Rattle.book_core.specs.Events.{actor_of}
@@ -20,7 +20,8 @@ use Rattle.book_core.specs.History.{IsHistory, events_of}
 use Rattle.book_core.specs.Laws.{LooksTellTheWritersValue}
 use Rattle.step_core.specs.declared.errors.PlayError.{PlayError}
 use Rattle.step_core.specs.declared.programs.Played.{Played}
-use Rattle.step_core.specs.machine.Play.{Play, play_of, played_of}
+use Rattle.step_core.specs.machine.Play.{Play, play_of}
+use Rattle.step_core.specs.machine.Work.{play_shown}
 use Rattle.step_core.specs.machine.Legal.{list_seen}
 use Rattle.step_core.specs.machine.Record.{answer_to_look, IsLook, IsRecord, AreCalls, program_of}
 use Rattle.step_core.specs.machine.Headline.{IsSequential, EveryInterleavingIsSequential}
@@ -145,10 +146,10 @@ reads_tell limit programs p is law i place value ended there reads told =
     }
 
 -- so it is of what a play answers
-pub reads_of : (r : Result Played PlayError) (limit : ℕ) (programs : List (List Command)) (items : List Item)
+pub reads_of : (r : Result Played PlayError) (f limit : ℕ) (programs : List (List Command)) (items : List Item)
     → EveryInterleavingIsSequential → LooksTellTheWritersValue
-    → IfOk r (λ played. played ≡ played_of (play_of limit programs items)) → OnOk r (IsLimit limit)
+    → IfOk r (λ played. played ≡ play_shown f limit programs items) → OnOk r (IsLayout f) → OnOk r (IsLimit limit)
     → OnOk r (AreSound programs) → IfOk r (λ played. ReadsTellTheWriters played.ended played.events)
-reads_of (Ok played) limit programs items law looks is is_limit sound =
-    subst (λ (x : Played). ReadsTellTheWriters x.ended x.events) (sym is) (reads_tell limit programs (play_of limit programs items) (law limit programs items is_limit sound) looks)
-reads_of (Err e) limit programs items law looks is is_limit sound = tt
+reads_of (Ok played) f limit programs items law looks is is_layout is_limit sound =
+    subst (λ (x : Played). ReadsTellTheWriters x.ended x.events) (sym is) (reads_tell limit programs (play_of f limit programs items) (law f is_layout limit programs items is_limit sound) looks)
+reads_of (Err e) f limit programs items law looks is is_layout is_limit sound = tt

@@ -4,6 +4,7 @@
 ghost use Rattle.std.specs.Prelude.{◌≡◌, IfOk, length};
 
 mod histories;
+mod layouts;
 mod lines;
 mod machine;
 mod memory;
@@ -11,6 +12,7 @@ mod running;
 mod scripts;
 mod uses;
 mod whole_calls;
+mod work;
 
 use book_core::{Command, Sequence};
 use script_core::{Script, read};

@@ -7,7 +7,6 @@ mod Fits
 mod Kept
 mod Belongs
 mod WholeHand
-mod KeyRows
 mod OwnCounts
 mod OwnPlaces
 mod OwnFacts

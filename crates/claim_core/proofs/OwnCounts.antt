@@ -10,11 +10,6 @@ use Rattle.claim_core.specs.Laws.{PlacesStay, AddedPlacesAddUp, JoinedPlacesAddU
 use Rattle.claim_core.proofs.Places.{places_stay}
 use Rattle.claim_core.proofs.RunLaws.{added_last}
 
--- a hand that has seen more, and owns what it owned
-pub own_places-same : PlacesStay → (old new : HandView) → IsPrefix old.seen new.seen → new.mine ≡ old.mine
-    → ((k : ℕ) → Contains old.mine k → k < length old.seen) → own_places new ≡ own_places old
-own_places-same law old new seen mine below = ap (places_in new.seen) mine ∙ law old.seen new.seen old.mine seen below
-
 -- a hand that owns what two hands owned
 pub own_places-joined : PlacesStay → (a b new : HandView) → IsPrefix a.seen new.seen → IsPrefix b.seen new.seen
     → new.mine ≡ a.mine ++ b.mine

@@ -8,7 +8,7 @@ use Rattle.claim_core.specs.declared.run.Enough.{Enough}
 -- why a word was not opened
 abbrev pub open_error_text : OpenError → List ℕ
 open_error_text NoMemory = codes "out of memory"
-open_error_text BadLimit = codes "the limit is not from 1 to 4294967296, or the base is above it"
+open_error_text BadLimit = codes "the limit is not from 1 to 1099511627776, or the base is above it"
 
 -- a lost exchange, with the size that it found
 abbrev pub moved_text : Moved → List ℕ

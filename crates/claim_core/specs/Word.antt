@@ -1,6 +1,7 @@
 -- The claim word as callers see it.
-use Rattle.std.specs.Prelude.{ℕ, List, ◌<◌, ◌≤◌, ◌^◌}
+use Rattle.std.specs.Prelude.{ℕ, List, ◌<◌, ◌≤◌}
 use base.Stored.{Coded, coded×, coded_ℕ, coded_list, coded_via}
+use Rattle.seg_core.specs.Segment.{most_places}
 use Rattle.atomic_table.specs.Seated.{TableId, table_id_coded}
 
 -- which word it is, the greatest size that it may have, the size that it began with, and the numbers that its opener marked it with
@@ -19,5 +20,5 @@ word_coded =
 -- a word may have this limit, and begin at this base
 pub record AreBounds (limit base : ℕ) : Type 0 where
   pub positive : 0 < limit
-  pub small : limit ≤ 2 ^ 32
+  pub small : limit ≤ most_places
   pub room : base ≤ limit

@@ -29,6 +29,3 @@ pub use hand::Hand;
 pub use mark::{Mark, Marks};
 pub use run::{Enough, Moved, Run};
 pub use word::{OpenError, Word};
-
-#[cfg(test)]
-mod tests;

@@ -10,13 +10,11 @@ use crate::rule::{Load, OneList};
 use crate::seat_view::SeatView;
 use crate::terms::Terms;
 use atomic_table::Table;
+use seg_core::MOST_PLACES;
 use std::alloc::{Allocator, Global};
 use std::error::Error;
 use std::fmt;
 use std::marker::Model;
-
-// The greatest limit.
-const GREATEST_LIMIT: u64 = 1 << 32;
 
 // The size is the middle one of so many words: 128 bytes on either side keep what changes with it off its cache line.
 const WORDS: usize = 33;
@@ -39,7 +37,7 @@ fn words_around(size: u64) -> [u64; WORDS]
 pub enum OpenError {
     /// Out of memory.
     NoMemory = 1,
-    /// The limit is not from 1 to 2^32, or the base is above it.
+    /// The limit is not from 1 to 2^40, or the base is above it.
     BadLimit = 2,
 }
 
@@ -55,7 +53,7 @@ impl fmt::Display for OpenError {
             OpenError::BadLimit => {
                 write!(
                     f,
-                    "the limit is not from 1 to 4294967296, or the base is above it"
+                    "the limit is not from 1 to 1099511627776, or the base is above it"
                 )
             }
         }
@@ -116,7 +114,7 @@ impl<A: Allocator> Word<A> {
         ensures hand { IfOk result (λ (word, hand). IsNewHand word hand) }
         ensures bad_limit { (result ≡ Err OpenError.BadLimit) ↔ ¬ AreBounds limit base }
     {
-        if limit == 0 || limit > GREATEST_LIMIT || base > limit {
+        if limit == 0 || limit > MOST_PLACES || base > limit {
             return Err(OpenError::BadLimit);
         }
         let terms = Terms { limit, base, mark };

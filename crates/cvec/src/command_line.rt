@@ -97,7 +97,11 @@ fn sweep_command<'a>(alloc: Global) -> Result<Command<'a>, AllocError> {
 
 fn cvec<'a>(alloc: Global) -> Result<Command<'a>, AllocError> {
     let calls = Command::new(alloc, "calls").about(CALLS);
-    let steps = Command::new(alloc, "steps").about(STEPS);
+    let counted = Arg::new(alloc, "count")
+        .long("count")
+        .help("Says then what each call took that ended: lost exchanges and steps")
+        .action(ArgAction::SetTrue);
+    let steps = Command::new(alloc, "steps").about(STEPS).arg(counted)?;
     let workers = Arg::new(alloc, "workers")
         .long("workers")
         .value_name("W")
@@ -195,6 +199,9 @@ pub(crate) fn named(alloc: Global, words: &[String]) -> Result<Request, Error>
     let matches = cvec(alloc)?.try_get_matches_from(words)?;
     match matches.subcommand() {
         Some(("calls", _)) => Ok(Request::Play(Engine::Calls)),
+        Some(("steps", matches)) if matches.get_flag("count") => {
+            Ok(Request::Play(Engine::Counted))
+        }
         Some(("steps", _)) => Ok(Request::Play(Engine::Steps)),
         Some(("race", matches)) => race_of(alloc, matches),
         Some(("sweep", matches)) => sweep_of(alloc, matches),

@@ -12,7 +12,7 @@ ghost use Rattle.cvec.specs.Request.{IsSweep, StartsThreads};
 
 use crate::command_line::Request;
 use crate::error::ProgramError;
-use engine_core::{Engine, RunError, run_calls, run_steps, write_output};
+use engine_core::{Engine, RunError, run_calls, run_steps, run_steps_counted, write_output};
 use race_core::{Free, RaceError, race};
 use script_core::{Line, WriteFault, write_bytes};
 use std::alloc::{AllocError, Global};
@@ -170,6 +170,9 @@ pub fn serve<R: Read, W: Write, E: Write>(
     match request {
         Request::Play(Engine::Calls) => run_told(errors, run_calls(alloc, reader, writer)),
         Request::Play(Engine::Steps) => run_told(errors, run_steps(alloc, reader, writer)),
+        Request::Play(Engine::Counted) => {
+            run_told(errors, run_steps_counted(alloc, reader, writer))
+        }
         Request::Race { .. } | Request::Sweep { .. } => unreachable!(),
         Request::Show(text) => run_told(errors, show(writer, text)),
         Request::Refuse(text) => refuse(errors, text),

@@ -3,16 +3,17 @@ use Rattle.std.specs.Prelude.{◌≡◌, ◌≢◌, ℕ, List, ◌++◌, Option,
 use Rattle.std.specs.List.{flat_map}
 use Rattle.std.specs.Io.KnownBytes.{Appends, Keeps}
 use Rattle.book_core.specs.declared.commands.Ended.{Ended}
+use Rattle.book_core.specs.declared.commands.Work.{Work}
 use Rattle.script_core.specs.declared.error.ScriptError.{ScriptError}
 use Rattle.script_core.specs.declared.error.ScriptError.TheVariants as faults
 use Rattle.script_core.specs.declared.script.Script.{Script}
 use Rattle.script_core.specs.Grammar.{script_of}
-use Rattle.script_core.specs.Text.{answer_line, cells_line, AppendsPrefix}
+use Rattle.script_core.specs.Text.{answer_line, cells_line, work_line, AppendsPrefix}
 use Rattle.step_core.specs.declared.programs.Played.{Played}
 use Rattle.step_core.specs.calls.Play.{calls_played}
-use Rattle.step_core.specs.machine.Play.{play_of, played_of}
+use Rattle.step_core.specs.machine.Work.{play_shown}
 use Rattle.engine_core.specs.declared.engine.Engine.{Engine}
-use Rattle.engine_core.specs.declared.engine.Engine.TheVariants.{Calls, Steps}
+use Rattle.engine_core.specs.declared.engine.Engine.TheVariants.{Calls, Steps, Counted}
 use Rattle.engine_core.specs.declared.error.RunError.{RunError}
 use Rattle.engine_core.specs.declared.error.RunError.TheVariants as errors
 
@@ -24,10 +25,21 @@ ended_line names ended = answer_line (slice_index names ended.actor) ended
 abbrev pub played_text : List ℕ → Played → List ℕ
 played_text names played = flat_map (ended_line names) played.ended ++ cells_line played.cells
 
--- the play of a script: each item is one whole call, or one atomic step
+-- the line of what a call took that ended, with its actor's letter
+abbrev pub work_line_in : List ℕ → Work → List ℕ
+work_line_in names work = work_line (slice_index names work.actor) work
+
+-- what an engine writes of a play: its text; with the counts, and then a line of what each call took that ended, in order
+abbrev pub text_by : Engine → List ℕ → Played → List ℕ
+text_by Calls names played = played_text names played
+text_by Steps names played = played_text names played
+text_by Counted names played = played_text names played ++ flat_map (work_line_in names) played.work
+
+-- the play of a script: each item is one whole call, or one atomic step in segments of its layout
 abbrev pub play_by : Engine → Script → Option Played
 play_by Calls s = calls_played s.limit s.programs s.items
-play_by Steps s = Some (played_of (play_of s.limit s.programs s.items))
+play_by Steps s = Some (play_shown s.first s.limit s.programs s.items)
+play_by Counted s = Some (play_shown s.first s.limit s.programs s.items)
 
 -- the input is a script, and the text is that of its play
 pub record IsTextOf (engine : Engine) (input text : List ℕ) : Type 0 where
@@ -35,7 +47,7 @@ pub record IsTextOf (engine : Engine) (input text : List ℕ) : Type 0 where
   pub played : Played
   pub read : script_of input ≡ Ok script
   pub play_of : play_by engine script ≡ Some played
-  pub whole : text ≡ played_text script.names played
+  pub whole : text ≡ text_by engine script.names played
 
 -- known bytes grow by the text of the script that the input is
 abbrev pub AppendsText : Engine → List ℕ → Option (List ℕ) → Option (List ℕ) → Type 0

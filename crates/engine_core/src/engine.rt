@@ -1,6 +1,7 @@
 //! From the bytes of a script to the bytes of its play: one engine with two plays.
 ghost use Rattle.std.specs.Prelude.{◌≡◌, length, Some, IfOk};
 ghost use Rattle.book_core.specs.Commands.{HaveActors};
+ghost use Rattle.step_core.specs.machine.Work.{AreOfActors};
 ghost use Rattle.engine_core.specs.Output.{play_by, Plays};
 ghost use Rattle.engine_core.specs.Reading.{IsPlayable};
 
@@ -9,9 +10,10 @@ use crate::script::read_script;
 use crate::text::write_play;
 use book_core::Sequence;
 use script_core::Script;
+use seg_core::Layout;
 use std::alloc::{AllocError, Global};
 use std::io::{Read, Write};
-use step_core::{PlayError, Played, play, play_calls};
+use step_core::{PlayError, Played, play_calls, play_in};
 
 /// What the items of a script are.
 #[derive(Clone, Copy, Debug, PartialEq, Eq)]
@@ -20,6 +22,8 @@ pub enum Engine {
     Calls,
     /// Each item is one atomic step.
     Steps,
+    /// Each item is one atomic step, and what each call took that ended is written too.
+    Counted,
 }
 
 // The letters of a script's actors, and its play. It was read, so only memory can be refused.
@@ -32,16 +36,23 @@ fn play_script(
     ensures names { IfOk result (λ (names, _). names ≡ script.names) }
     ensures played { IfOk result (λ (_, played). play_by engine script ≡ Some played) }
     ensures actors { IfOk result (λ (_, played). HaveActors (length script.names) played.ended) }
+    ensures work { IfOk result (λ (_, played). AreOfActors (length script.names) played.work) }
 {
     let Script {
         limit,
+        first,
         names,
         programs,
         items,
     } = script;
+    let Some(layout) = Layout::new(first) else {
+        unreachable!()
+    };
     let played = match engine {
         Engine::Calls => play_calls(alloc, limit, programs, items.as_slice()),
-        Engine::Steps => play(alloc, limit, programs, items.as_slice()),
+        Engine::Steps | Engine::Counted => {
+            play_in(alloc, layout, limit, programs, items.as_slice())
+        }
     };
     match played {
         Ok(played) => Ok((names, played)),
@@ -62,7 +73,7 @@ fn run<R: Read, W: Write>(
 {
     let script = read_script(alloc, reader)?;
     let (names, played) = play_script(alloc, engine, script)?;
-    write_play(alloc, writer, names.as_slice(), &played)
+    write_play(alloc, writer, engine, names.as_slice(), &played)
 }
 
 /// Runs a script whose items are whole calls.
@@ -79,7 +90,7 @@ pub fn run_calls<R: Read, W: Write>(
     run(alloc, Engine::Calls, reader, writer)
 }
 
-/// Runs a script whose items are atomic steps. It is `run_calls` but for what an item plays.
+/// Runs a script whose items are atomic steps, in segments of the script's layout. It is `run_calls` but for what an item plays.
 pub fn run_steps<R: Read, W: Write>(
     alloc: Global,
     reader: &mut R,
@@ -89,4 +100,17 @@ pub fn run_steps<R: Read, W: Write>(
         (W.contents writer.old) (W.contents writer.new) }
 {
     run(alloc, Engine::Steps, reader, writer)
+}
+
+/// Runs a script whose items are atomic steps, and counts what its calls take. It is `run_steps`, and then a line for each call
+/// that ended, in order: its lost exchanges and its steps.
+pub fn run_steps_counted<R: Read, W: Write>(
+    alloc: Global,
+    reader: &mut R,
+    writer: &mut W,
+) -> Result<(), RunError>
+    ensures plays { Plays Engine.Counted result (R.remaining reader.old)
+        (W.contents writer.old) (W.contents writer.new) }
+{
+    run(alloc, Engine::Counted, reader, writer)
 }

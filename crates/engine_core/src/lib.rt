@@ -1,7 +1,8 @@
 //! From the bytes of a script to the bytes of its answers.
 //!
 //! `run_calls` reads a script from any reader, plays each item as one whole call, and writes the answers and the cells to
-//! any writer. `run_steps` does the same with each item as one atomic step.
+//! any writer. `run_steps` does the same with each item as one atomic step, and
+//! `run_steps_counted` says then what each call took.
 //!
 //! Contracts see a reader as the bytes that it has left, and a writer as the bytes that it holds, where these are known.
 //! A caller can prove what was written, or why it was not, over whole bytes: `IsTextOf` of `specs/Output.antt`, and the
@@ -17,6 +18,6 @@ mod script;
 mod tests;
 mod text;
 
-pub use engine::{Engine, run_calls, run_steps};
+pub use engine::{Engine, run_calls, run_steps, run_steps_counted};
 pub use error::RunError;
 pub use output::write_output;

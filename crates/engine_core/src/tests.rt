@@ -5,7 +5,7 @@ mod lines;
 mod memory;
 mod streams;
 
-use crate::engine::{Engine, run_calls, run_steps};
+use crate::engine::{Engine, run_calls, run_steps, run_steps_counted};
 use crate::error::RunError;
 use std::alloc::Global;
 use std::io::{Read, Write};
@@ -20,5 +20,6 @@ fn run<R: Read, W: Write>(
     match engine {
         Engine::Calls => run_calls(alloc, reader, writer),
         Engine::Steps => run_steps(alloc, reader, writer),
+        Engine::Counted => run_steps_counted(alloc, reader, writer),
     }
 }

@@ -2,13 +2,16 @@
 ghost use Rattle.std.specs.Prelude.{◌≡◌, ◌⊎◌, ◌++◌, length, IfOk, IfErr, OnOk, IsErrOf};
 ghost use Rattle.std.specs.Io.KnownBytes.{Appends, Keeps};
 ghost use Rattle.book_core.specs.Commands.{HaveActors};
-ghost use Rattle.script_core.specs.Text.{answer_line, cells_line, AppendsPrefix};
-ghost use Rattle.engine_core.specs.Output.{played_text};
+ghost use Rattle.std.specs.List.{flat_map};
+ghost use Rattle.script_core.specs.Text.{answer_line, cells_line, work_line, AppendsPrefix};
+ghost use Rattle.step_core.specs.machine.Work.{AreOfActors};
+ghost use Rattle.engine_core.specs.Output.{played_text, text_by, work_line_in};
 
+use crate::engine::Engine;
 use crate::error::RunError;
 use crate::output::write_output;
-use book_core::{Cell, Ended};
-use script_core::{write_cells, write_reply};
+use book_core::{Cell, Ended, Work};
+use script_core::{write_cells, write_reply, write_work};
 use std::alloc::{AllocError, Global};
 use std::io::Write;
 use step_core::Played;
@@ -29,6 +32,47 @@ fn push_cells(text: &mut Vec<u8>, cells: &[Cell]) -> Result<(), AllocError>
     match write_cells(text, cells) {
         Ok(()) => Ok(()),
         Err(_) => Err(AllocError),
+    }
+}
+
+fn push_work(text: &mut Vec<u8>, name: u8, work: &Work) -> Result<(), AllocError>
+    ensures { OnOk result (text.new.items ≡ text.old.items ++ work_line name work.now) }
+{
+    match write_work(text, name, work) {
+        Ok(()) => Ok(()),
+        Err(_) => Err(AllocError),
+    }
+}
+
+// The lines of what the calls of actors with these letters took.
+fn push_works(text: &mut Vec<u8>, names: &[u8], works: &[Work]) -> Result<(), AllocError>
+    requires actors { AreOfActors (length names.now) works.now }
+    ensures { OnOk result (text.new.items ≡ text.old.items ++ flat_map (work_line_in names.now) works.now) }
+{
+    for work in works {
+        push_work(text, names[work.actor as usize], work)?;
+    }
+    Ok(())
+}
+
+// What the engine writes of a play whose actors have these letters.
+fn whole_text(
+    alloc: Global,
+    engine: Engine,
+    names: &[u8],
+    played: &Played,
+) -> Result<Vec<u8>, AllocError>
+    requires actors { HaveActors (length names.now) played.now.ended }
+    requires work { AreOfActors (length names.now) played.now.work }
+    ensures { IfOk result (λ text. text.items ≡ text_by engine names.now played.now) }
+{
+    let mut text = text_of_play(alloc, names, played)?;
+    match engine {
+        Engine::Calls | Engine::Steps => Ok(text),
+        Engine::Counted => {
+            push_works(&mut text, names, played.work.as_slice())?;
+            Ok(text)
+        }
     }
 }
 
@@ -53,20 +97,22 @@ pub(crate) fn text_of_play(
 pub(crate) fn write_play<W: Write>(
     alloc: Global,
     writer: &mut W,
+    engine: Engine,
     names: &[u8],
     played: &Played,
 ) -> Result<(), RunError>
     requires actors { HaveActors (length names.now) played.now.ended }
+    requires work { AreOfActors (length names.now) played.now.work }
     ensures written { OnOk result
         (Appends (W.contents writer.old) (W.contents writer.new)
-        (played_text names.now played.now)) }
+        (text_by engine names.now played.now)) }
     ensures prefix { IsErrOf result RunError.Write → AppendsPrefix (W.contents writer.old)
-        (W.contents writer.new) (played_text names.now played.now) }
+        (W.contents writer.new) (text_by engine names.now played.now) }
     ensures faults { IfErr result (λ e.
         (e ≡ RunError.NoMemory × Keeps (W.contents writer.old) (W.contents writer.new))
         ⊎ (e ≡ RunError.Write)) }
 {
-    let text = text_of_play(alloc, names, played)?;
+    let text = whole_text(alloc, engine, names, played)?;
     write_output(writer, &text)?;
     Ok(())
 }

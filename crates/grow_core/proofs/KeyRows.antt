@@ -15,24 +15,26 @@ use Rattle.cell_core.specs.Member.{MemberView}
 use Rattle.table_core.specs.Table.{TableView}
 use Rattle.grow_core.specs.Vector.{VectorView, IsShared}
 use Rattle.grow_core.specs.Parts.{values_in}
-use Rattle.grow_core.specs.Keys.{KeyRow, AreKeys, KeepsKeys, HasKeysOfRun, IsKeyed, key_at}
+use Rattle.grow_core.specs.Keys.{KeyRow, AreKeys, KeepsKeys, HasKeysOfRun, IsKeyed, key_at, mark_of, layout_in}
 
 module _ (old new : HandView) (row row' : KeyRow) (sees : SeesOwn old) (keyed : IsKeyed old row) (keys : AreKeys old.of.mark row') (kept : KeepsKeys row row') where
   -- the hand has seen more, and owns what it owned
   pub keyed_sees : OwnPlacesStay → KeepsOwn old new → IsPrefix old.seen new.seen → IsKeyed new row'
   keyed_sees law same more = record {
     keys = subst (λ (w : WordView). AreKeys w.mark row') (sym same.of) keys;
-    own = λ place segment small own there. kept segment small (keyed.own place segment small (law old new place sees same more own) there);
+    own = λ place segment small own there. kept segment small
+        (keyed.own place segment small (law old new place sees same more own) (subst (λ (w : WordView). HasPlace (layout_in w.mark) segment place) same.of there));
   }
 
   -- the hand has one more run, and the row has the keys of its segments
-  pub keyed_adds : AddedPlacesAreOfTheRun → (run : Run) → AddsRun old new run → HasKeysOfRun row' run.from run.n → IsKeyed new row'
+  pub keyed_adds : AddedPlacesAreOfTheRun → (run : Run) → AddsRun old new run → HasKeysOfRun (layout_in old.of.mark) row' run.from run.n → IsKeyed new row'
   keyed_adds law run adds run_keys = record {
     keys = subst (λ (w : WordView). AreKeys w.mark row') (sym adds.of) keys;
     own = λ place segment small own there.
+        let there' = subst (λ (w : WordView). HasPlace (layout_in w.mark) segment place) adds.of there in
         ⊎_elim
-        (λ (was : OwnsPlace old place). kept segment small (keyed.own place segment small was there))
-        (λ (is_place : IsPlaceOf run place). run_keys segment small (record { place = place; inside = is_place; there = there }))
+        (λ (was : OwnsPlace old place). kept segment small (keyed.own place segment small was there'))
+        (λ (is_place : IsPlaceOf run place). run_keys segment small (record { place = place; inside = is_place; there = there' }))
         (law old new run place sees adds own);
   }
 
@@ -48,13 +50,13 @@ keyed_more hand row row' keyed keys kept = record {
 pub keyed_joins : JoinedPlacesAreOfEither → (a b new : HandView) (row_a row_b row : KeyRow) → SeesOwn a → SeesOwn b
     → new.of ≡ a.of → new.of ≡ b.of
     → IsPrefix a.seen new.seen → IsPrefix b.seen new.seen → new.mine ≡ a.mine ++ b.mine → IsKeyed a row_a → IsKeyed b row_b
-    → ((names : List ℕ) → AreKeys names row_a → AreKeys names row_b → AreKeys names row) → KeepsKeys row_a row → KeepsKeys row_b row → IsKeyed new row
+    → ((mark : List ℕ) → AreKeys mark row_a → AreKeys mark row_b → AreKeys mark row) → KeepsKeys row_a row → KeepsKeys row_b row → IsKeyed new row
 keyed_joins law a b new row_a row_b row sees also_sees of also_of more also_more mine keyed also_keyed keys kept put = record {
   keys = keys new.of.mark (subst (λ (w : WordView). AreKeys w.mark row_a) (sym of) keyed.keys) (subst (λ (w : WordView). AreKeys w.mark row_b) (sym also_of) also_keyed.keys);
   own = λ place segment small own there.
       ⊎_elim
-      (λ (was : OwnsPlace a place). kept segment small (keyed.own place segment small was there))
-      (λ (was : OwnsPlace b place). put segment small (also_keyed.own place segment small was there))
+      (λ (was : OwnsPlace a place). kept segment small (keyed.own place segment small was (subst (λ (w : WordView). HasPlace (layout_in w.mark) segment place) of there)))
+      (λ (was : OwnsPlace b place). put segment small (also_keyed.own place segment small was (subst (λ (w : WordView). HasPlace (layout_in w.mark) segment place) also_of there)))
       (law a b new place sees also_sees of also_of more also_more mine own);
 }
 
@@ -64,7 +66,7 @@ pub record Walked (P : ℕ → Type 0) (old now : KeyRow) (n : ℕ) : Type 0 whe
   pub there : (segment : ℕ) → segment < n → P segment → IsSome (key_at now segment)
 
 -- so it is after one segment more
-pub walked_on : {P : ℕ → Type 0} {old now next : KeyRow} {n : ℕ} → Walked P old now n → n < 32 → KeepsKeys now next
+pub walked_on : {P : ℕ → Type 0} {old now next : KeyRow} {n : ℕ} → Walked P old now n → n < 40 → KeepsKeys now next
     → (P n → IsSome (key_at next n)) → Walked P old next (n + 1)
 walked_on {P} {old} {now} {next} {n} walked small kept here = record {
   kept = λ segment lt was. kept segment lt (walked.kept segment lt was);
@@ -75,15 +77,15 @@ walked_on {P} {old} {now} {next} {n} walked small kept here = record {
 }
 
 -- a run of one place touches the place's segment alone
-pub keys_of_one : OneSegment → (row : KeyRow) (segment place : ℕ) → HasPlace segment place → IsSome (key_at row segment) → HasKeysOfRun row place 1
-keys_of_one law row segment place here key = λ j small touches.
+pub keys_of_one : (f : ℕ) → OneSegment → (row : KeyRow) (segment place : ℕ) → HasPlace f segment place → IsSome (key_at row segment) → HasKeysOfRun f row place 1
+keys_of_one f law row segment place here key = λ j small touches.
     let same : touches.place ≡ place = omega (arith, touches.inside) in
-    let also_here : HasPlace j place = subst (λ p. HasPlace j p) same touches.there in
-    subst (λ k. IsSome (key_at row k)) (law segment j place here also_here) key
+    let also_here : HasPlace f j place = subst (λ p. HasPlace f j p) same touches.there in
+    subst (λ k. IsSome (key_at row k)) (law f segment j place here also_here) key
 
 -- a row that has the keys of a run has those of its later places
-pub keys_of_later : (row : KeyRow) (from n later m : ℕ) → from ≤ later → later + m ≤ from + n → HasKeysOfRun row from n → HasKeysOfRun row later m
-keys_of_later row from n later m above within has = λ segment small touches.
+pub keys_of_later : (f : ℕ) (row : KeyRow) (from n later m : ℕ) → from ≤ later → later + m ≤ from + n → HasKeysOfRun f row from n → HasKeysOfRun f row later m
+keys_of_later f row from n later m above within has = λ segment small touches.
     let first = touches.inside.0 in
     let last = touches.inside.1 in
     has segment small (record { place = touches.place; inside = (omega (arith, above, first), omega (arith, within, last)); there = touches.there })
@@ -93,9 +95,16 @@ pub none_is_none : {X : Type 0} (o : Option X) → o ≡ None → IsSome o → �
 none_is_none None is some = absurd (cc some)
 none_is_none (Some x) is some = absurd (cc is)
 
--- a vector's hands are marked with the names of its segments
+-- and they know its layout
+pub hand_layout : {T : Type 0} {word : WordView} {segments : TableView} {keys : KeyRow} {known : List (MemberView T)} {ended : Lft} {count : ℕ} {vector : VectorView T} (hand : HandView)
+    → IsShared word segments keys known ended count → record { word = word; segments = segments; opened = values_in known } ≡ vector
+    → hand.of ≡ vector.word → segments.layout ≡ layout_in hand.of.mark
+hand_layout hand shared view_is ours =
+    sym (ap layout_in shared.mark) ∙ (ap (λ (v : VectorView _). layout_in v.word.mark) view_is ∙ sym (ap (λ (w : WordView). layout_in w.mark) ours))
+
+-- a vector's hands are marked with the layout and the names of its segments
 pub mark_is : {T : Type 0} {word : WordView} {segments : TableView} {keys : KeyRow} {known : List (MemberView T)} {ended : Lft} {count : ℕ} {vector : VectorView T} {claims hand : HandView}
     → IsShared word segments keys known ended count → record { word = word; segments = segments; opened = values_in known } ≡ vector
-    → claims ≡ hand → hand.of ≡ vector.word → segments.names ≡ claims.of.mark
+    → claims ≡ hand → hand.of ≡ vector.word → mark_of segments ≡ claims.of.mark
 mark_is shared view_is hand_is ours =
     sym shared.mark ∙ (ap (λ (v : VectorView _). v.word.mark) view_is ∙ (sym (ap (λ (w : WordView). w.mark) ours) ∙ sym (ap (λ (h : HandView). h.of.mark) hand_is)))

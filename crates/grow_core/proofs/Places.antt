@@ -1,5 +1,5 @@
 -- The parts of a vector: where a place lies, and what is kept where one cell is written.
-use Rattle.std.proofs.Common.{◌≡◌, ◌≢◌, ℕ, zero, suc, ◌+◌, ◌-◌, ◌<◌, ◌≤◌, List, [], ◌∷◌, ◌++◌, length, length-set, refl, sym, ap, ◌∙◌, subst, ⊎_elim, arith}
+use Rattle.std.proofs.Common.{◌≡◌, ◌≢◌, ℕ, zero, suc, ◌+◌, ◌-◌, ◌^◌, ◌<◌, ◌≤◌, List, [], ◌∷◌, ◌++◌, length, length-set, refl, sym, ap, ◌∙◌, subst, ⊎_elim, arith}
 use Rattle.std.proofs.lemmas.Bool.{cases_lt}
 use Rattle.std.proofs.Math.Arith.{lt_of_le-ne}
 use Rattle.std.specs.Prelude.{Some, None, slice_get, slice_set, slice_index, IsSome}
@@ -7,25 +7,25 @@ use base.Fml.{Lft}
 use lib.Seq.{get_or-set_same, get_or-set_other}
 use mathlib.Core.Logic.{dite}
 use native.Mathlib.Decide.{ℕ_discrete}
-use Rattle.seg_core.specs.Segment.{segment_start, segment_end, HasPlace}
-use Rattle.seg_core.proofs.Doubling.{segment_end-le, one_segment}
+use Rattle.seg_core.specs.Segment.{segment_start, segment_end, segment_count, most_places, HasPlace}
+use Rattle.seg_core.proofs.Doubling.{segment_end-le, one_segment, starts_at_power}
 use Rattle.cell_core.specs.Block.{BlockView, IsMemberAt, KeepsOtherCells, block_len, cell_at}
 use Rattle.cell_core.specs.Member.{MemberView, HasNames}
 use Rattle.cell_core.specs.Slot.{Names}
 use Rattle.table_core.specs.Table.{TableView, KeyView, IsKeyOf, IsBlockOf}
-use Rattle.grow_core.specs.Keys.{KeyRow, IsKeyAt, key_at}
+use Rattle.grow_core.specs.Keys.{KeyRow, IsKeyAt, key_at, mark_of}
 use Rattle.grow_core.specs.Token.{place_in}
 use Rattle.grow_core.specs.Parts.{AreMembers, AreWhole, AreShutIn, IsShutIn, values_in}
 
 -- a segment that does not come later begins no later
-pub starts_le : (j k : ℕ) → j ≤ k → segment_start j ≤ segment_start k
-starts_le zero k le = omega arith
-starts_le (suc j) zero le = absurd (omega arith)
-starts_le (suc j) (suc k) le = segment_end-le j k (omega arith)
+pub starts_le : (f j k : ℕ) → j ≤ k → segment_start f j ≤ segment_start f k
+starts_le f zero k le = omega arith
+starts_le f (suc j) zero le = absurd (omega arith)
+starts_le f (suc j) (suc k) le = segment_end-le f j k (omega arith)
 
 -- a place below where a segment begins is in one before it
-pub segment_below : (segment place count : ℕ) → HasPlace segment place → place < segment_start count → segment < count
-segment_below segment place count has below = ⊎_elim (λ lt. lt) (λ ge. let le = starts_le count segment ge in let from = has.from in absurd (omega arith)) (cases_lt segment count)
+pub segment_below : (f segment place count : ℕ) → HasPlace f segment place → place < segment_start f count → segment < count
+segment_below f segment place count has below = ⊎_elim (λ lt. lt) (λ ge. let le = starts_le f count segment ge in let from = has.from in absurd (omega arith)) (cases_lt segment count)
 
 -- the value at a place, of what is known there
 pub value_at : {T : Type 0} (known : List (MemberView T)) (i : ℕ) (m : MemberView T) → slice_get known i ≡ Some m → slice_get (values_in known) i ≡ Some m.value
@@ -107,32 +107,33 @@ kept_at old new offset m len same was = record {
   known = subst (λ (c : Names). HasNames c m.value m.name m.epoch) (sym same) was.known;
 }
 
-module _ {T : Type 0} (row row' : KeyRow) (known known' : List (MemberView T)) (segment offset : ℕ) (key key' : KeyView) where
+module _ {T : Type 0} (f : ℕ) (row row' : KeyRow) (known known' : List (MemberView T)) (segment offset : ℕ) (key key' : KeyView) where
   abbrev place : ℕ
-  place = place_in segment offset
+  place = place_in f segment offset
 
   -- one cell was written, by another key of its segment: what was known elsewhere stays known
-  pub members_changed : AreMembers row known → segment < 32 → key_at row segment ≡ Some key → key_at row' segment ≡ Some key'
+  pub members_changed : AreMembers f row known → segment < 40 → key_at row segment ≡ Some key → key_at row' segment ≡ Some key'
       → ((s : ℕ) → s ≢ segment → key_at row' s ≡ key_at row s)
       → block_len key'.block ≡ block_len key.block → KeepsOtherCells key.block key'.block offset
       → ((q : ℕ) → q ≢ place → slice_get known' q ≡ slice_get known q)
       → ((m : MemberView T) → slice_get known' place ≡ Some m → IsMemberAt key'.block offset m)
-      → place < segment_end segment → AreMembers row' known'
+      → place < segment_end f segment → AreMembers f row' known'
   members_changed are small has has' others len cells elsewhere there within s o k m low at inside is =
       dite (ℕ_discrete s segment)
       (λ same. let same_key : Some key' ≡ Some k = sym has' ∙ ap (key_at row') (sym same) ∙ at in let is_key : key' ≡ k = (let z = same_key in cc) in
       dite (ℕ_discrete o offset)
-      (λ here. let at_place : place_in s o ≡ place = (λ i. place_in (same i) (here i)) in
+      (λ here. let at_place : place_in f s o ≡ place = (λ i. place_in f (same i) (here i)) in
       subst (λ (u : KeyView × ℕ). IsMemberAt u.0.block u.1 m) (λ i. (is_key i, sym here i)) (there m (ap (slice_get known') (sym at_place) ∙ is)))
-      (λ other. let apart : place_in s o ≢ place = (λ e. other (omega (arith, e, ap segment_start same))) in
-      let was : IsMemberAt key.block o m = are segment o key m small has (subst (λ (x : ℕ). place_in x o < segment_end x) same inside) (ap (λ (x : ℕ). slice_get known (place_in x o)) (sym same) ∙ sym (elsewhere (place_in s o) apart) ∙ is) in
+      (λ other. let apart : place_in f s o ≢ place = (λ e. other (omega (arith, e, ap (segment_start f) same))) in
+      let was : IsMemberAt key.block o m = are segment o key m small has (subst (λ (x : ℕ). place_in f x o < segment_end f x) same inside) (ap (λ (x : ℕ). slice_get known (place_in f x o)) (sym same) ∙ sym (elsewhere (place_in f s o) apart) ∙ is) in
       subst (λ (u : KeyView). IsMemberAt u.block o m) is_key (kept_at key.block key'.block o m len (cells o other) was)))
-      (λ other. let apart : place_in s o ≢ place = (λ e. other (one_segment s segment place (record { from = omega (arith, e); before = subst (λ (x : ℕ). x < segment_end s) e inside }) (record { from = omega arith; before = within }))) in
-      are s o k m low (sym (others s other) ∙ at) inside (sym (elsewhere (place_in s o) apart) ∙ is))
+      (λ other. let apart : place_in f s o ≢ place = (λ e. other (one_segment f s segment place (record { from = omega (arith, e); before = subst (λ (x : ℕ). x < segment_end f s) e inside }) (record { from = omega arith; before = within }))) in
+      are s o k m low (sym (others s other) ∙ at) inside (sym (elsewhere (place_in f s o) apart) ∙ is))
 
 -- the key of an entry is the key of that segment
-pub key_here : (table : TableView) (segment : ℕ) (block : BlockView) (key : KeyView) → segment < 32 → IsKeyOf table segment block key → IsKeyAt table.names segment key
+pub key_here : (table : TableView) (segment : ℕ) (block : BlockView) (key : KeyView) → segment < segment_count table.layout → IsKeyOf table segment block key → IsKeyAt (mark_of table) segment key
 key_here table segment block key small of = record {
+  layout = of.inside.layout;
   at = of.at;
   within = small;
   named = subst (λ (k : ℕ). slice_index table.names k ≡ key.name) of.at of.inside.named;
@@ -141,23 +142,26 @@ key_here table segment block key small of = record {
 some_is : (key : KeyView) → IsSome (Some key)
 some_is key = refl
 
-module _ {T : Type 0} (names : List ℕ) (table' : TableView) (row : KeyRow) (known known' : List (MemberView T)) (segment offset len len' limit count : ℕ) (key key' : KeyView) (block : BlockView) where
+module _ {T : Type 0} (f : ℕ) (names : List ℕ) (table' : TableView) (row : KeyRow) (known known' : List (MemberView T)) (segment offset len len' limit count : ℕ) (key key' : KeyView) (block : BlockView) where
   abbrev row' : KeyRow
   row' = slice_set row segment (Some key')
 
   -- one cell was written, and its block has another key
-  pub written_whole : AreWhole names row known len limit count → segment < 32 → place_in segment offset < segment_end segment
+  pub written_whole : AreWhole f names row known len limit count → table'.layout ≡ f → segment < 40 → segment < segment_count f → place_in f segment offset < segment_end f segment
       → key_at row segment ≡ Some key → ((j : ℕ) → j ≢ segment → slice_index table'.names j ≡ slice_index names j) → IsKeyOf table' segment block key'
       → block_len block ≡ block_len key.block → KeepsOtherCells key.block block offset
-      → ((q : ℕ) → q ≢ place_in segment offset → slice_get known' q ≡ slice_get known q)
-      → ((m : MemberView T) → slice_get known' (place_in segment offset) ≡ Some m → IsMemberAt block offset m)
-      → length known' ≡ len' → len' ≤ limit → len' ≤ segment_start count → AreWhole table'.names row' known' len' limit count
-  written_whole whole small inside has others of same_len cells elsewhere there all within below =
+      → ((q : ℕ) → q ≢ place_in f segment offset → slice_get known' q ≡ slice_get known q)
+      → ((m : MemberView T) → slice_get known' (place_in f segment offset) ≡ Some m → IsMemberAt block offset m)
+      → length known' ≡ len' → len' ≤ limit → len' ≤ segment_start f count → AreWhole table'.layout table'.names row' known' len' limit count
+  written_whole whole same_layout small few inside has others of same_len cells elsewhere there all within below =
       let here : key_at row' segment ≡ Some key' = get_or-set_same row segment (Some key') None (omega (arith, small, whole.rows)) in
       let away : (s : ℕ) → s ≢ segment → key_at row' s ≡ key_at row s = (λ s other. get_or-set_other row segment s (Some key') None other) in
       let is_block : block ≡ key'.block = sym of.of in
       let picks : (s : ℕ) (k : KeyView) → key_at row' s ≡ Some k → s ≡ segment → k ≡ key' = (λ s k at same. let e : Some k ≡ Some key' = sym at ∙ ap (key_at row') same ∙ here in let z : k ≡ key' = (let w = e in cc) in z) in
-      record {
+      let is_key : IsKeyAt (f ∷ table'.names) segment key' =
+      subst (λ (l : ℕ). IsKeyAt (l ∷ table'.names) segment key') same_layout (key_here table' segment block key' (subst (λ (l : ℕ). segment < segment_count l) (sym same_layout) few) of) in
+      subst (λ (l : ℕ). AreWhole l table'.names row' known' len' limit count) (sym same_layout) (record {
+        layout = whole.layout;
         limited = whole.limited;
         within = within;
         all = all;
@@ -165,31 +169,32 @@ module _ {T : Type 0} (names : List ℕ) (table' : TableView) (row : KeyRow) (kn
         few = whole.few;
         inside = below;
         named = λ s k low at. dite (ℕ_discrete s segment)
-            (λ same. subst (λ (u : ℕ × KeyView). IsKeyAt table'.names u.0 u.1) (λ i. (sym same i, sym (picks s k at same) i)) (key_here table' segment block key' small of))
-            (λ other. let was = whole.named s k low (sym (away s other) ∙ at) in record { at = was.at; within = was.within; named = others s other ∙ was.named });
+            (λ same. subst (λ (u : ℕ × KeyView). IsKeyAt (f ∷ table'.names) u.0 u.1) (λ i. (sym same i, sym (picks s k at same) i)) is_key)
+            (λ other. let was = whole.named s k low (sym (away s other) ∙ at) in record { layout = was.layout; at = was.at; within = was.within; named = others s other ∙ was.named });
         long = λ s k low at. dite (ℕ_discrete s segment)
-            (λ same. subst (λ (u : ℕ × KeyView). IsBlockOf u.0 u.1.block) (λ i. (sym same i, sym (picks s k at same) i))
-            (subst (λ (n : ℕ). segment_start segment + n ≡ segment_end segment) (sym (ap block_len (sym is_block) ∙ same_len)) (whole.long segment key small has)))
+            (λ same. subst (λ (u : ℕ × KeyView). IsBlockOf f u.0 u.1.block) (λ i. (sym same i, sym (picks s k at same) i))
+            (subst (λ (n : ℕ). segment_start f segment + n ≡ segment_end f segment) (sym (ap block_len (sym is_block) ∙ same_len)) (whole.long segment key small has)))
             (λ other. whole.long s k low (sym (away s other) ∙ at));
         there = λ s low. dite (ℕ_discrete s segment)
             (λ same. subst IsSome (sym (ap (key_at row') same ∙ here)) (some_is key'))
             (λ other. subst IsSome (sym (away s other)) (whole.there s low));
-        of = members_changed row row' known known' segment offset key key' whole.of small has here away (ap block_len (sym is_block) ∙ same_len)
+        of = members_changed f row row' known known' segment offset key key' whole.of small has here away (ap block_len (sym is_block) ∙ same_len)
             (λ q other. subst (λ (b : BlockView). cell_at b q ≡ cell_at key.block q) is_block (cells q other)) elsewhere
             (λ m is. subst (λ (b : BlockView). IsMemberAt b offset m) is_block (there m is)) inside;
-      }
+      })
 
 -- a segment after the members was installed
-pub grown_whole : {T : Type 0} (names : List ℕ) (row : KeyRow) (known : List (MemberView T)) (len limit count : ℕ) (key : KeyView)
-    → AreWhole names row known len limit count → count < 32 → IsKeyAt names count key → IsBlockOf count key.block
-    → AreWhole names (slice_set row count (Some key)) known len limit (count + 1)
-grown_whole names row known len limit count key whole small is long =
+pub grown_whole : {T : Type 0} (f : ℕ) (names : List ℕ) (row : KeyRow) (known : List (MemberView T)) (len limit count : ℕ) (key : KeyView)
+    → AreWhole f names row known len limit count → count < segment_count f → IsKeyAt (f ∷ names) count key → IsBlockOf f count key.block
+    → AreWhole f names (slice_set row count (Some key)) known len limit (count + 1)
+grown_whole f names row known len limit count key whole small is long =
     let row' : KeyRow = slice_set row count (Some key) in
-    let here : key_at row' count ≡ Some key = get_or-set_same row count (Some key) None (omega (arith, small, whole.rows)) in
+    let here : key_at row' count ≡ Some key = get_or-set_same row count (Some key) None (omega (arith, small, whole.rows, whole.layout.0)) in
     let away : (s : ℕ) → s ≢ count → key_at row' s ≡ key_at row s = (λ s other. get_or-set_other row count s (Some key) None other) in
     let picks : (s : ℕ) (k : KeyView) → key_at row' s ≡ Some k → s ≡ count → k ≡ key = (λ s k at same. let e : Some k ≡ Some key = sym at ∙ ap (key_at row') same ∙ here in let z : k ≡ key = (let w = e in cc) in z) in
-    let up = starts_le count (count + 1) (omega arith) in let inner = whole.inside in
+    let up = starts_le f count (count + 1) (omega arith) in let inner = whole.inside in
     record {
+      layout = whole.layout;
       limited = whole.limited;
       within = whole.within;
       all = whole.all;
@@ -197,46 +202,55 @@ grown_whole names row known len limit count key whole small is long =
       few = omega (arith, small);
       inside = omega (arith, up, inner);
       named = λ s k low at. dite (ℕ_discrete s count)
-          (λ same. subst (λ (u : ℕ × KeyView). IsKeyAt names u.0 u.1) (λ i. (sym same i, sym (picks s k at same) i)) is)
+          (λ same. subst (λ (u : ℕ × KeyView). IsKeyAt (f ∷ names) u.0 u.1) (λ i. (sym same i, sym (picks s k at same) i)) is)
           (λ other. whole.named s k low (sym (away s other) ∙ at));
       long = λ s k low at. dite (ℕ_discrete s count)
-          (λ same. subst (λ (u : ℕ × KeyView). IsBlockOf u.0 u.1.block) (λ i. (sym same i, sym (picks s k at same) i)) long)
+          (λ same. subst (λ (u : ℕ × KeyView). IsBlockOf f u.0 u.1.block) (λ i. (sym same i, sym (picks s k at same) i)) long)
           (λ other. whole.long s k low (sym (away s other) ∙ at));
       there = λ s low. dite (ℕ_discrete s count)
           (λ same. subst IsSome (sym (ap (key_at row') same ∙ here)) (some_is key))
           (λ other. subst IsSome (sym (away s other)) (whole.there s (lt_of_le-ne (omega (arith, low)) other)));
       of = λ s o k m low at inside got. dite (ℕ_discrete s count)
-          (λ same. let past = within_length known (place_in s o) m got in let all = whole.all in let e = ap segment_start same in absurd (omega (arith, past, all, inner, e)))
+          (λ same. let past = within_length known (place_in f s o) m got in let all = whole.all in let e = ap (segment_start f) same in absurd (omega (arith, past, all, inner, e)))
           (λ other. whole.of s o k m low (sym (away s other) ∙ at) inside got);
     }
 
 -- the last segment was given up, which had no member
-pub cut_whole : {T : Type 0} (names names' : List ℕ) (row : KeyRow) (known : List (MemberView T)) (len limit count : ℕ)
-    → AreWhole names row known len limit (count + 1) → len ≤ segment_start count → ((j : ℕ) → (j ≡ count → ⊥) → slice_index names' j ≡ slice_index names j)
-    → AreWhole names' (slice_set row count None) known len limit count
-cut_whole names names' row known len limit count whole low_len others =
+pub cut_whole : {T : Type 0} (f : ℕ) (names names' : List ℕ) (row : KeyRow) (known : List (MemberView T)) (len limit count : ℕ)
+    → AreWhole f names row known len limit (count + 1) → len ≤ segment_start f count → ((j : ℕ) → (j ≡ count → ⊥) → slice_index names' j ≡ slice_index names j)
+    → AreWhole f names' (slice_set row count None) known len limit count
+cut_whole f names names' row known len limit count whole low_len others =
     let few = whole.few in
     let row' : KeyRow = slice_set row count None in
-    let here : key_at row' count ≡ None = get_or-set_same row count None None (omega (arith, few, whole.rows)) in
+    let here : key_at row' count ≡ None = get_or-set_same row count None None (omega (arith, few, whole.rows, whole.layout.0)) in
     let away : (s : ℕ) → s ≢ count → key_at row' s ≡ key_at row s = (λ s other. get_or-set_other row count s None None other) in
     let gone : (s : ℕ) (k : KeyView) → key_at row' s ≡ Some k → s ≡ count → ⊥ = (λ s k at same. let e : None ≡ Some k = sym here ∙ ap (key_at row') (sym same) ∙ at in let z = e in cc) in
     record {
+      layout = whole.layout;
       limited = whole.limited;
       within = whole.within;
       all = whole.all;
       rows = length-set row count None ∙ whole.rows;
       few = omega (arith, few);
       inside = low_len;
-      named = λ s k low at. let other : s ≢ count = gone s k at in let was = whole.named s k low (sym (away s other) ∙ at) in record { at = was.at; within = was.within; named = others s other ∙ was.named };
+      named = λ s k low at. let other : s ≢ count = gone s k at in let was = whole.named s k low (sym (away s other) ∙ at) in record { layout = was.layout; at = was.at; within = was.within; named = others s other ∙ was.named };
       long = λ s k low at. whole.long s k low (sym (away s (gone s k at)) ∙ at);
       there = λ s low. let other : s ≢ count = (λ e. omega (arith, e, low)) in subst IsSome (sym (away s other)) (whole.there s (omega (arith, low)));
       of = λ s o k m low at inside got. whole.of s o k m low (sym (away s (gone s k at)) ∙ at) inside got;
     }
 
--- a segment that begins below 2^32 is one of 32
-pub few_below : (s n : ℕ) → n ≤ 4294967296 → segment_start s < n → s < 32
-few_below s n small below = ⊎_elim (λ lt. lt) (λ ge. let le = starts_le 32 s ge in absurd (omega (arith, le))) (cases_lt s 32)
+-- after the last segment of a layout there are no places
+pub all_places : (f : ℕ) → f ≤ 8 → segment_start f (segment_count f) ≡ most_places
+all_places f most =
+    starts_at_power f (41 - f) (omega arith) ∙ ap (λ e. 2 ^ e) (let e : 41 - f + f - 1 ≡ 40 = omega arith in e)
+
+-- a segment that begins below 2^40 is one of the layout's
+pub few_below : (f s n : ℕ) → f ≤ 8 → n ≤ most_places → segment_start f s < n → s < segment_count f
+few_below f s n most small below =
+    ⊎_elim (λ lt. lt)
+    (λ ge. let le = starts_le f (segment_count f) s ge in let all = all_places f most in absurd (omega (arith, le, all)))
+    (cases_lt s (segment_count f))
 
 -- where the last segment has a member, each one before it has
-pub none_spare : (s k len : ℕ) → ((0 < s) × (len ≤ segment_start (s - 1)) → ⊥) → k < s → segment_start k < len
-none_spare s k len full below = ⊎_elim (λ lt. lt) (λ ge. absurd (full (omega (arith, below), (let le = starts_le k (s - 1) (omega (arith, below)) in omega (arith, le, ge))))) (cases_lt (segment_start k) len)
+pub none_spare : (f s k len : ℕ) → ((0 < s) × (len ≤ segment_start f (s - 1)) → ⊥) → k < s → segment_start f k < len
+none_spare f s k len full below = ⊎_elim (λ lt. lt) (λ ge. absurd (full (omega (arith, below), (let le = starts_le f k (s - 1) (omega (arith, below)) in omega (arith, le, ge))))) (cases_lt (segment_start f k) len)

@@ -1,43 +1,43 @@
 -- How a vector is closed place by place, and what a token of it says of the list.
-use Rattle.std.proofs.Common.{zero, suc, lit<, ⊎_elim, ◌≡◌, ◌≢◌, ℕ, ◌+◌, ◌<◌, ◌≤◌, List, [], ◌∷◌, ◌++◌, length, length-append, length-set, Option, Some, None, refl, sym, ap, ◌∙◌, subst, arith}
+use Rattle.std.proofs.Common.{zero, suc, ⊎_elim, ◌≡◌, ◌≢◌, ℕ, ◌+◌, ◌<◌, ◌≤◌, List, [], ◌∷◌, ◌++◌, length, length-append, length-set, Option, Some, None, refl, sym, ap, ◌∙◌, subst, arith}
 use Rattle.std.proofs.lemmas.List.{length-map, map-append}
 use Rattle.std.proofs.lemmas.Bool.{cases_lt}
-use Rattle.std.proofs.Math.Pow.{pow-lt}
+use Rattle.std.proofs.Math.Pow.{pow-lt, pow_pos}
 use Rattle.std.specs.Prelude.{slice_get, slice_set, slice_index, IsSome, MatchOption, IfSome}
 use base.Fml.{Lft}
 use lib.Seq.{get_or-set_same, get_or-set_other}
 use mathlib.Core.Logic.{dite}
 use native.Mathlib.Decide.{ℕ_discrete}
-use Rattle.seg_core.specs.Segment.{segment_start, segment_end, HasPlace}
+use Rattle.seg_core.specs.Segment.{segment_start, segment_end, segment_count, most_places, HasPlace}
 use Rattle.seg_core.specs.Laws.{OnePlace}
 use Rattle.seg_core.proofs.Doubling.{one_segment}
 use Rattle.cell_core.specs.Block.{BlockView, IsMemberAt, KeepsOtherCells, cell_at}
 use Rattle.cell_core.specs.Member.{MemberView, HasNames}
 use Rattle.table_core.specs.Table.{KeyView, IsBlockOf}
-use Rattle.grow_core.specs.Keys.{KeyRow, IsKeyAt, AreKeys, HasKeysOfPlaces, key_at}
+use Rattle.grow_core.specs.Keys.{KeyRow, IsKeyAt, AreKeys, HasKeysOfPlaces, key_at, mark_of, layout_in, names_in}
 use Rattle.grow_core.specs.Token.{PlacedView, place_in}
 use Rattle.grow_core.specs.Parts.{AreLong, AreMembers, AreWhole, HasFirstKeys, AreShutIn, values_in}
-use Rattle.grow_core.specs.Vector.{VectorView, IsPlacedOf}
+use Rattle.grow_core.specs.Vector.{VectorView, IsPlacedOf, layout_of}
 use Rattle.grow_core.specs.Closing.{IsClosing, IsKept, IsKeptOf, KeepsValuesBelow}
-use Rattle.grow_core.proofs.Places.{value_at, pushed_there, pushed_elsewhere, within_length, kept_at, segment_below, starts_le}
+use Rattle.grow_core.proofs.Places.{value_at, pushed_there, pushed_elsewhere, within_length, kept_at, segment_below, all_places}
 use Rattle.grow_core.proofs.KeyRows.{none_is_none}
 
 -- the row has the keys of the first n segments and no other: those of the opened list, where that has them
-pub record AreFirst (names : List ℕ) (opened keys : KeyRow) (n : ℕ) : Type 0 where
-  pub rows : length keys ≡ 32
-  pub named : AreKeys names keys
-  pub long : AreLong keys
+pub record AreFirst (f : ℕ) (names : List ℕ) (opened keys : KeyRow) (n : ℕ) : Type 0 where
+  pub rows : length keys ≡ 40
+  pub named : AreKeys (f ∷ names) keys
+  pub long : AreLong f keys
   pub there : HasFirstKeys keys n
   pub first : (s : ℕ) → s < n → IsSome (key_at opened s) → key_at keys s ≡ key_at opened s
-  pub none : (s : ℕ) → s < 32 → n ≤ s → key_at keys s ≡ None
+  pub none : (s : ℕ) → s < 40 → n ≤ s → key_at keys s ≡ None
 
 refl_some : (key : KeyView) → IsSome (Some key)
 refl_some key = refl
 
 -- so it is with one key more
-pub first_more : (names : List ℕ) (opened keys : KeyRow) (n : ℕ) (key : KeyView) → AreFirst names opened keys n → n < 32 → IsKeyAt names n key
-    → IsBlockOf n key.block → (IsSome (key_at opened n) → Some key ≡ key_at opened n) → AreFirst names opened (slice_set keys n (Some key)) (n + 1)
-first_more names opened keys n key are small is long one =
+pub first_more : (f : ℕ) (names : List ℕ) (opened keys : KeyRow) (n : ℕ) (key : KeyView) → AreFirst f names opened keys n → n < 40 → IsKeyAt (f ∷ names) n key
+    → IsBlockOf f n key.block → (IsSome (key_at opened n) → Some key ≡ key_at opened n) → AreFirst f names opened (slice_set keys n (Some key)) (n + 1)
+first_more f names opened keys n key are small is long one =
     let row : KeyRow = slice_set keys n (Some key) in
     let here : key_at row n ≡ Some key = get_or-set_same keys n (Some key) None (omega (arith, small, are.rows)) in
     let away : (s : ℕ) → s ≢ n → key_at row s ≡ key_at keys s = (λ s other. get_or-set_other keys n s (Some key) None other) in
@@ -46,10 +46,10 @@ first_more names opened keys n key are small is long one =
     record {
       rows = length-set keys n (Some key) ∙ are.rows;
       named = λ s k low at. dite (ℕ_discrete s n)
-          (λ same. subst (λ (u : ℕ × KeyView). IsKeyAt names u.0 u.1) (λ i. (sym same i, sym (picks s k at same) i)) is)
+          (λ same. subst (λ (u : ℕ × KeyView). IsKeyAt (f ∷ names) u.0 u.1) (λ i. (sym same i, sym (picks s k at same) i)) is)
           (λ other. are.named s k low (sym (away s other) ∙ at));
       long = λ s k low at. dite (ℕ_discrete s n)
-          (λ same. subst (λ (u : ℕ × KeyView). IsBlockOf u.0 u.1.block) (λ i. (sym same i, sym (picks s k at same) i)) long)
+          (λ same. subst (λ (u : ℕ × KeyView). IsBlockOf f u.0 u.1.block) (λ i. (sym same i, sym (picks s k at same) i)) long)
           (λ other. are.long s k low (sym (away s other) ∙ at));
       there = λ s low. dite (ℕ_discrete s n)
           (λ same. subst IsSome (sym (ap (key_at row) same ∙ here)) some_is)
@@ -61,34 +61,35 @@ first_more names opened keys n key are small is long one =
     }
 
 -- what is kept is kept of the vector that the list was closed from
-pub kept_of : {T : Type 0} (closed : Option (List ℕ)) (mark : List ℕ) (before : KeyRow) (names : List ℕ) (row : KeyRow) (known : List (MemberView T)) (count : ℕ)
-    → closed ≡ Some mark → IsKept closed before names row known count → IsKeptOf mark before names row known count
-kept_of closed mark before names row known count is kept = subst (λ (c : Option (List ℕ)). IsKept c before names row known count) is kept
+pub kept_of : {T : Type 0} (f : ℕ) (closed : Option (List ℕ)) (mark : List ℕ) (before : KeyRow) (names : List ℕ) (row : KeyRow) (known : List (MemberView T)) (count : ℕ)
+    → closed ≡ Some mark → IsKept f closed before names row known count → IsKeptOf f mark before names row known count
+kept_of f closed mark before names row known count is kept = subst (λ (c : Option (List ℕ)). IsKept f c before names row known count) is kept
 
 -- the cell of a token at a place that lies there
-pub token_cell : {T : Type 0} → OnePlace → (segment offset : ℕ) (vector : VectorView T) (placed : PlacedView T) → IsPlacedOf vector placed
-    → place_in segment offset ≡ placed.place → placed.place < segment_end segment → (placed.key.entry ≡ segment) × (placed.cell.place ≡ offset)
-token_cell law segment offset vector placed of here within =
-    let long = of.long in let inside = of.cell.within in let at = of.place in
-    law placed.key.entry segment placed.cell.place offset (omega (arith, long, inside)) (omega (arith, here, within)) (sym at ∙ sym here)
+pub token_cell : {T : Type 0} (f : ℕ) → OnePlace → (segment offset : ℕ) (vector : VectorView T) (placed : PlacedView T) → layout_of vector ≡ f → IsPlacedOf vector placed
+    → place_in f segment offset ≡ placed.place → placed.place < segment_end f segment → (placed.key.entry ≡ segment) × (placed.cell.place ≡ offset)
+token_cell f law segment offset vector placed same of here within =
+    let long = subst (λ (l : ℕ). IsBlockOf l placed.key.entry placed.key.block) same of.long in let inside = of.cell.within in
+    let at = of.place ∙ ap (λ (l : ℕ). place_in l placed.key.entry placed.cell.place) same in
+    law f placed.key.entry segment placed.cell.place offset (omega (arith, long, inside)) (omega (arith, here, within)) (sym at ∙ sym here)
 
-module _ {T : Type 0} (mark : List ℕ) (before : KeyRow) (names : List ℕ) (row : KeyRow) (known : List (MemberView T)) (count : ℕ) (kept : IsKeptOf mark before names row known count) where
+module _ {T : Type 0} (f : ℕ) (mark : List ℕ) (before : KeyRow) (names : List ℕ) (row : KeyRow) (known : List (MemberView T)) (count : ℕ) (kept : IsKeptOf f mark before names row known count) where
   -- the name of a member is that of the token of its place
-  pub name_of_token : (segment offset : ℕ) (old : KeyView) (vector : VectorView T) (placed : PlacedView T) (m : MemberView T) → segment < 32 → key_at before segment ≡ Some old
-      → place_in segment offset ≡ placed.place → placed.place < segment_end segment → placed.cell.place ≡ offset → old.block ≡ placed.key.block → IsPlacedOf vector placed
+  pub name_of_token : (segment offset : ℕ) (old : KeyView) (vector : VectorView T) (placed : PlacedView T) (m : MemberView T) → segment < 40 → key_at before segment ≡ Some old
+      → place_in f segment offset ≡ placed.place → placed.place < segment_end f segment → placed.cell.place ≡ offset → old.block ≡ placed.key.block → IsPlacedOf vector placed
       → slice_get known placed.place ≡ Some m → m.name ≡ placed.cell.name
   name_of_token segment offset old vector placed m small at here within cell same of is =
-      kept.of segment offset old m small at (subst (λ (p : ℕ). p < segment_end segment) (sym here) within) (ap (slice_get known) here ∙ is)
+      kept.of segment offset old m small at (subst (λ (p : ℕ). p < segment_end f segment) (sym here) within) (ap (slice_get known) here ∙ is)
       ∙ (λ i. (cell_at (same i) (sym cell i)).value) ∙ sym of.cell.named
 
-  module _ (segment offset : ℕ) (old key : KeyView) (small : segment < 32) (first : segment < count) (has : key_at before segment ≡ Some old) (has' : key_at row segment ≡ Some key) (here : length known ≡ place_in segment offset) where
+  module _ (segment offset : ℕ) (old key : KeyView) (small : segment < 40) (first : segment < count) (has : key_at before segment ≡ Some old) (has' : key_at row segment ≡ Some key) (here : length known ≡ place_in f segment offset) where
     -- the next cell is the one that it was
     pub same_cell_still : cell_at key.block offset ≡ cell_at old.block offset
     same_cell_still = kept.later segment offset old key small has has' (let e = here in omega (arith, e))
 
     -- what was known of it is known still
-    pub known_there : (opened : List (MemberView T)) (base : ℕ) (k : Option (MemberView T)) → AreMembers before opened → IsBlockOf segment key.block
-        → place_in segment offset < segment_end segment → MatchOption k (base ≤ length known) (λ m. slice_get opened (length known) ≡ Some m) → IfSome k (IsMemberAt key.block offset)
+    pub known_there : (opened : List (MemberView T)) (base : ℕ) (k : Option (MemberView T)) → AreMembers f before opened → IsBlockOf f segment key.block
+        → place_in f segment offset < segment_end f segment → MatchOption k (base ≤ length known) (λ m. slice_get opened (length known) ≡ Some m) → IfSome k (IsMemberAt key.block offset)
     known_there opened base None are long inside is = tt
     known_there opened base (Some m) are long inside is =
         let was : IsMemberAt old.block offset m = are segment offset old m small has inside (ap (slice_get opened) (sym here) ∙ is) in
@@ -96,30 +97,31 @@ module _ {T : Type 0} (mark : List ℕ) (before : KeyRow) (names : List ℕ) (ro
         kept_at old.block key.block offset m (omega (arith, long, was_long)) same_cell_still was
 
     -- the next place is a member
-    pub kept_settled : (names' : List ℕ) (key' : KeyView) (m : MemberView T) → length row ≡ 32 → place_in segment offset < segment_end segment
+    pub kept_settled : (names' : List ℕ) (key' : KeyView) (m : MemberView T) → length row ≡ 40 → place_in f segment offset < segment_end f segment
         → ((j : ℕ) → j ≢ segment → slice_index names' j ≡ slice_index names j) → m.name ≡ (cell_at key.block offset).value → KeepsOtherCells key.block key'.block offset
-        → IsKeptOf mark before names' (slice_set row segment (Some key')) (known ++ m ∷ []) count
+        → IsKeptOf f mark before names' (slice_set row segment (Some key')) (known ++ m ∷ []) count
     kept_settled names' key' m rows inside others name cells =
         let row' : KeyRow = slice_set row segment (Some key') in
         let is_there : key_at row' segment ≡ Some key' = get_or-set_same row segment (Some key') None (omega (arith, small, rows)) in
         let away : (s : ℕ) → s ≢ segment → key_at row' s ≡ key_at row s = (λ s other. get_or-set_other row segment s (Some key') None other) in
         let more : length (known ++ m ∷ []) ≡ length known + 1 = length-append known (m ∷ []) in
         record {
+          layout = kept.layout;
           named = kept.named;
           long = kept.long;
           there = kept.there;
-          of = λ s o k n low at within is. dite (ℕ_discrete (place_in s o) (length known))
+          of = λ s o k n low at within is. dite (ℕ_discrete (place_in f s o) (length known))
               (λ same. let both : Some m ≡ Some n = sym (pushed_there known m) ∙ ap (slice_get (known ++ m ∷ [])) (sym same) ∙ is in let one : m ≡ n = (let z = both in cc) in
-              let e : place_in s o ≡ place_in segment offset = same ∙ here in
-              let seg : s ≡ segment = one_segment s segment (place_in s o) (record { from = omega arith; before = within }) (record { from = omega (arith, e); before = subst (λ (p : ℕ). p < segment_end segment) (sym e) inside }) in
-              let off : o ≡ offset = (let starts = ap segment_start seg in omega (arith, e, starts)) in
+              let e : place_in f s o ≡ place_in f segment offset = same ∙ here in
+              let seg : s ≡ segment = one_segment f s segment (place_in f s o) (record { from = omega arith; before = within }) (record { from = omega (arith, e); before = subst (λ (p : ℕ). p < segment_end f segment) (sym e) inside }) in
+              let off : o ≡ offset = (let starts = ap (segment_start f) seg in omega (arith, e, starts)) in
               let key_is : Some k ≡ Some old = sym at ∙ ap (key_at before) seg ∙ has in let old_is : k ≡ old = (let z = key_is in cc) in
               ap (λ (u : MemberView T). u.name) (sym one) ∙ name ∙ ap (λ c. c.value) same_cell_still ∙ (λ i. (cell_at (sym old_is i).block (sym off i)).value))
-              (λ other. kept.of s o k n low at within (sym (pushed_elsewhere known m (place_in s o) other) ∙ is));
+              (λ other. kept.of s o k n low at within (sym (pushed_elsewhere known m (place_in f s o) other) ∙ is));
           later = λ s o a b low at at' past. dite (ℕ_discrete s segment)
               (λ same. let new_is : Some b ≡ Some key' = sym at' ∙ ap (key_at row') same ∙ is_there in let b_is : b ≡ key' = (let z = new_is in cc) in
               let old_is : Some a ≡ Some old = sym at ∙ ap (key_at before) same ∙ has in let a_is : a ≡ old = (let z = old_is in cc) in
-              let starts = ap segment_start same in
+              let starts = ap (segment_start f) same in
               let apart : o ≢ offset = (λ e. omega (arith, e, starts, past, more, here)) in
               ap (λ (u : KeyView). cell_at u.block o) b_is ∙ cells o apart
               ∙ kept.later segment o old key small has has' (omega (arith, starts, past, more)) ∙ ap (λ (u : KeyView). cell_at u.block o) (sym a_is))
@@ -163,14 +165,14 @@ opened_is block offset m name value x known is named agree =
     let same : m.name ≡ (cell_at block offset).value = subst (λ v. HasNames (cell_at block offset) v m.name m.epoch) is known.known in
     let both : Some value ≡ Some x = sym (agree (same ∙ sym named)) ∙ is in let z : value ≡ x = (let w = both in cc) in z
 
-module _ {T : Type 0} (law : OnePlace) (vector : VectorView T) (placed : PlacedView T) (of : IsPlacedOf vector placed) (closed : Option (List ℕ)) (before : KeyRow) (names : List ℕ) (row : KeyRow) (known : List (MemberView T)) (count : ℕ)
-    (is : closed ≡ Some vector.segments.names) (kept : IsKept closed before names row known count) (segment offset : ℕ) (old : KeyView) (small : segment < 32) (has : key_at before segment ≡ Some old)
-    (here : place_in segment offset ≡ placed.place) (within : placed.place < segment_end segment) where
-  abbrev cell : (placed.key.entry ≡ segment) × (placed.cell.place ≡ offset)
-  cell = token_cell law segment offset vector placed of here within
+module _ {T : Type 0} (f : ℕ) (law : OnePlace) (vector : VectorView T) (placed : PlacedView T) (of : IsPlacedOf vector placed) (closed : Option (List ℕ)) (before : KeyRow) (names : List ℕ) (row : KeyRow) (known : List (MemberView T)) (count : ℕ)
+    (is : closed ≡ Some (mark_of vector.segments)) (kept : IsKept f closed before names row known count) (segment offset : ℕ) (old : KeyView) (small : segment < 40) (has : key_at before segment ≡ Some old)
+    (here : place_in f segment offset ≡ placed.place) (within : placed.place < segment_end f segment) where
+  abbrev the : IsKeptOf f (mark_of vector.segments) before names row known count
+  the = kept_of f closed (mark_of vector.segments) before names row known count is kept
 
-  abbrev the : IsKeptOf vector.segments.names before names row known count
-  the = kept_of closed vector.segments.names before names row known count is kept
+  abbrev cell : (placed.key.entry ≡ segment) × (placed.cell.place ≡ offset)
+  cell = token_cell f law segment offset vector placed the.layout of here within
 
   -- the key of the segment of a token, as it was before, has the name of the token's key
   pub same_name : old.name ≡ placed.key.name
@@ -180,34 +182,38 @@ module _ {T : Type 0} (law : OnePlace) (vector : VectorView T) (placed : PlacedV
   pub same_member : (m : MemberView T) → old.block ≡ placed.key.block → slice_get known placed.place ≡ Some m → (m.name ≡ placed.cell.name → m.value ≡ Some placed.cell.value)
       → m.value ≡ Some placed.value
   same_member m same at agree =
-      agree (name_of_token vector.segments.names before names row known count the segment offset old vector placed m small has here within cell.1 same of at) ∙ ap Some (sym of.value)
+      agree (name_of_token f (mark_of vector.segments) before names row known count the segment offset old vector placed m small has here within cell.1 same of at) ∙ ap Some (sym of.value)
 
-segment_ends_later : (k : ℕ) → segment_start k < segment_end k
-segment_ends_later zero = lit< tt
-segment_ends_later (suc k) = pow-lt (let e : k + 1 < suc k + 1 = omega arith in e)
+segment_ends_later : (f k : ℕ) → segment_start f k < segment_end f k
+segment_ends_later f zero = pow_pos (0 + f)
+segment_ends_later f (suc k) = pow-lt (let e : k + f < suc k + f = omega arith in e)
 
 -- the first segments have all places that were claimed: the opened list has the keys of those below the base, and the hand of the others
-pub keys_enough : (opened own : KeyRow) (base size count first : ℕ) → HasFirstKeys opened first → base ≤ segment_start first → HasKeysOfPlaces own base size → count ≤ 32
-    → (count < 32 → (key_at opened count ≡ None) × (key_at own count ≡ None)) → size ≤ 4294967296 → size ≤ segment_start count
-keys_enough opened own base size count first there inside has few end small =
-    ⊎_elim (λ low. ⊎_elim (λ past. let place = segment_start count in let in_it : HasPlace count place = record { from = omega arith; before = segment_ends_later count } in
-    absurd (⊎_elim (λ below. none_is_none (key_at opened count) (end low).0 (there count (segment_below count place first in_it (omega (arith, below, inside)))))
-    (λ above. none_is_none (key_at own count) (end low).1 (has place count above past low in_it)) (cases_lt place base))) (λ within. within) (cases_lt (segment_start count) size))
-    (λ high. let le = starts_le 32 count high in omega (arith, le, small)) (cases_lt count 32)
+pub keys_enough : (f : ℕ) (opened own : KeyRow) (base size count first : ℕ) → HasFirstKeys opened first → base ≤ segment_start f first → HasKeysOfPlaces f own base size → f ≤ 8 → 1 ≤ f → count ≤ segment_count f
+    → (count < segment_count f → (key_at opened count ≡ None) × (key_at own count ≡ None)) → size ≤ most_places → size ≤ segment_start f count
+keys_enough f opened own base size count first there inside has most some few end small =
+    ⊎_elim (λ low. ⊎_elim (λ past. let place = segment_start f count in let in_it : HasPlace f count place = record { from = omega arith; before = segment_ends_later f count } in
+    absurd (⊎_elim (λ below. none_is_none (key_at opened count) (end low).0 (there count (segment_below f count place first in_it (omega (arith, below, inside)))))
+    (λ above. none_is_none (key_at own count) (end low).1 (has place count above past (omega (arith, low, some)) in_it)) (cases_lt place base))) (λ within. within) (cases_lt (segment_start f count) size))
+    (λ high. let all = all_places f most in
+    let same : segment_start f count ≡ segment_start f (segment_count f) = ap (segment_start f) (let e : count ≡ segment_count f = omega (arith, high, few) in e) in
+    omega (arith, same, all, small)) (cases_lt count (segment_count f))
 
 -- where a vector begins to be closed
-pub closing_starts : {T : Type 0} (mark names : List ℕ) (opened own before again : KeyRow) (row none : List (MemberView T)) (epoch : Lft) (base limit first count size : ℕ)
-    → AreWhole names opened row base limit first → mark ≡ names → none ≡ []
-    → AreKeys names before → AreLong before → HasFirstKeys before count → count ≤ 32
-    → ((s : ℕ) → s < count → IsSome (key_at opened s) → key_at before s ≡ key_at opened s) → ((s : ℕ) → s < 32 → count ≤ s → key_at before s ≡ None)
-    → (count < 32 → (key_at opened count ≡ None) × (key_at own count ≡ None))
-    → ((s : ℕ) → s < 32 → key_at again s ≡ key_at before s) → length again ≡ 32 → HasKeysOfPlaces own base size → base ≤ size → size ≤ limit
-    → IsClosing mark before names again row none epoch base 0 limit count size
-closing_starts {T} mark names opened own before again row none epoch base limit first count size whole same empty named long there few fits rest end twice rows has later most =
+pub closing_starts : {T : Type 0} (f : ℕ) (mark names : List ℕ) (opened own before again : KeyRow) (row none : List (MemberView T)) (epoch : Lft) (base limit first count size : ℕ)
+    → AreWhole f names opened row base limit first → mark ≡ f ∷ names → none ≡ []
+    → AreKeys (f ∷ names) before → AreLong f before → HasFirstKeys before count → count ≤ segment_count f
+    → ((s : ℕ) → s < count → IsSome (key_at opened s) → key_at before s ≡ key_at opened s) → ((s : ℕ) → s < 40 → count ≤ s → key_at before s ≡ None)
+    → (count < segment_count f → (key_at opened count ≡ None) × (key_at own count ≡ None))
+    → ((s : ℕ) → s < 40 → key_at again s ≡ key_at before s) → length again ≡ 40 → HasKeysOfPlaces f own base size → base ≤ size → size ≤ limit
+    → IsClosing f mark before names again row none epoch base 0 limit count size
+closing_starts {T} f mark names opened own before again row none epoch base limit first count size whole same empty named long there few fits rest end twice rows has later most =
     let limited = whole.limited.1 in
     let gone : (i : ℕ) (m : MemberView T) → slice_get none i ≡ Some m → ⊥ = (λ i m is. let near = within_length none i m is in let no = ap length empty in omega (arith, near, no)) in
+    let small = whole.layout.0 in
     record {
       whole = record {
+        layout = whole.layout;
         limited = whole.limited;
         within = omega arith;
         all = ap length empty;
@@ -216,21 +222,22 @@ closing_starts {T} mark names opened own before again row none epoch base limit 
         inside = omega arith;
         named = λ s k low at. named s k low (sym (twice s low) ∙ at);
         long = λ s k low at. long s k low (sym (twice s low) ∙ at);
-        there = λ s low. subst IsSome (sym (twice s (omega (arith, low, few)))) (there s low);
-        of = λ s o k m low at inside is. absurd (gone (place_in s o) m is);
+        there = λ s low. subst IsSome (sym (twice s (omega (arith, low, few, small)))) (there s low);
+        of = λ s o k m low at inside is. absurd (gone (place_in f s o) m is);
       };
       shut = subst (AreShutIn epoch) (sym empty) tt;
       kept = record {
+        layout = ap layout_in same;
         named = subst (λ (xs : List ℕ). AreKeys xs before) (sym same) named;
         long = long;
         there = there;
-        of = λ s o k m low at inside is. absurd (gone (place_in s o) m is);
+        of = λ s o k m low at inside is. absurd (gone (place_in f s o) m is);
         later = λ s o a b low at at' past. let both : Some b ≡ Some a = sym at' ∙ twice s low ∙ at in let one : b ≡ a = (let z = both in cc) in ap (λ (u : KeyView). cell_at u.block o) one;
-        after = λ s low ge. ap (λ (xs : List ℕ). slice_index xs s) (sym same);
+        after = λ s low ge. ap (λ (xs : List ℕ). slice_index (names_in xs) s) (sym same);
       };
       first = λ s o k m low at inside is.
-          let near = within_length row (place_in s o) m is in let all = whole.all in let inner = whole.inside in
-          let at_first : s < first = segment_below s (place_in s o) first (record { from = omega arith; before = inside }) (omega (arith, near, all, inner)) in
+          let near = within_length row (place_in f s o) m is in let all = whole.all in let inner = whole.inside in
+          let at_first : s < first = segment_below f s (place_in f s o) first (record { from = omega arith; before = inside }) (omega (arith, near, all, inner)) in
           let low' : s < count = ⊎_elim (λ lt. lt) (λ ge. absurd (none_is_none (key_at before s) (rest s low ge) (subst IsSome (sym at) (refl_some k)))) (cases_lt s count) in
           whole.of s o k m low (sym (fits s low' (whole.there s at_first)) ∙ at) inside is;
       all = whole.all;
@@ -238,5 +245,5 @@ closing_starts {T} mark names opened own before again row none epoch base limit 
       values = λ p x below is. absurd (omega (arith, below));
       within = omega arith;
       most = most;
-      enough = keys_enough opened own base size count first whole.there whole.inside has few end (omega (arith, most, limited));
+      enough = keys_enough f opened own base size count first whole.there whole.inside has whole.layout.1 small few end (omega (arith, most, limited));
     }

@@ -7,14 +7,14 @@ use Rattle.seg_core.specs.Segment.{segment_start, segment_end}
 use Rattle.cell_core.specs.Block.{cell_at}
 use Rattle.cell_core.specs.Member.{MemberView}
 use Rattle.table_core.specs.Table.{KeyView}
-use Rattle.grow_core.specs.Keys.{KeyRow, AreKeys, key_at}
+use Rattle.grow_core.specs.Keys.{KeyRow, AreKeys, key_at, mark_of, layout_in, names_in}
 use Rattle.grow_core.specs.Token.{PlacedView, place_in}
 use Rattle.grow_core.specs.Parts.{AreLong, AreMembers, AreWhole, HasFirstKeys, AreShutIn, values_in}
 use Rattle.grow_core.specs.Vector.{VectorView, IsPlacedOf}
 
 -- a list of which so much is known was closed from the vector, and is as it was then
 abbrev pub IsClosedFrom : {T : Type 0} → VectorView T → Option (List ℕ) → Type 0
-IsClosedFrom vector closed = closed ≡ Some vector.segments.names
+IsClosedFrom vector closed = closed ≡ Some (mark_of vector.segments)
 
 -- the token is of the vector that such a list was closed from
 abbrev pub IsOfClosed : {T : Type 0} → Option (List ℕ) → PlacedView T → Type 0
@@ -24,52 +24,54 @@ IsOfClosed {T} closed placed = (vector : VectorView T) × IsClosedFrom vector cl
 abbrev pub KeepsValues : {T : Type 0} → List (Option T) → List (Option T) → Type 0
 KeepsValues {T} old new = (place : ℕ) (x : T) → slice_get old place ≡ Some (Some x) → slice_get new place ≡ Some (Some x)
 
--- what is kept of a vector whose segments had these names: the keys of the first of them, so many, as they were before. The names
+-- what is kept of a vector whose segments had this mark: the keys of the first of them, so many, as they were before. The names
 -- of the values are those of the cells there, each cell after the known ones is the one that it was, and so is each segment
 -- after the first ones
-pub record IsKeptOf {T : Type 0} (mark : List ℕ) (before : KeyRow) (names : List ℕ) (row : KeyRow) (known : List (MemberView T)) (count : ℕ) : Type 0 where
+pub record IsKeptOf {T : Type 0} (f : ℕ) (mark : List ℕ) (before : KeyRow) (names : List ℕ) (row : KeyRow) (known : List (MemberView T)) (count : ℕ) : Type 0 where
+  pub layout : layout_in mark ≡ f
   pub named : AreKeys mark before
-  pub long : AreLong before
+  pub long : AreLong f before
   pub there : HasFirstKeys before count
-  pub of : (segment offset : ℕ) (key : KeyView) (m : MemberView T) → segment < 32 → key_at before segment ≡ Some key
-      → place_in segment offset < segment_end segment → slice_get known (place_in segment offset) ≡ Some m → m.name ≡ (cell_at key.block offset).value
-  pub later : (segment offset : ℕ) (old new : KeyView) → segment < 32 → key_at before segment ≡ Some old → key_at row segment ≡ Some new
-      → length known ≤ place_in segment offset → cell_at new.block offset ≡ cell_at old.block offset
-  pub after : (segment : ℕ) → segment < 32 → count ≤ segment → slice_index names segment ≡ slice_index mark segment
+  pub of : (segment offset : ℕ) (key : KeyView) (m : MemberView T) → segment < 40 → key_at before segment ≡ Some key
+      → place_in f segment offset < segment_end f segment → slice_get known (place_in f segment offset) ≡ Some m → m.name ≡ (cell_at key.block offset).value
+  pub later : (segment offset : ℕ) (old new : KeyView) → segment < 40 → key_at before segment ≡ Some old → key_at row segment ≡ Some new
+      → length known ≤ place_in f segment offset → cell_at new.block offset ≡ cell_at old.block offset
+  pub after : (segment : ℕ) → segment < 40 → count ≤ segment → slice_index names segment ≡ slice_index (names_in mark) segment
 
 -- the same, of the vector that the list was closed from, if it was closed from one
-abbrev pub IsKept : {T : Type 0} → Option (List ℕ) → KeyRow → List ℕ → KeyRow → List (MemberView T) → ℕ → Type 0
-IsKept None before names row known count = Unit {0}
-IsKept (Some mark) before names row known count = IsKeptOf mark before names row known count
+abbrev pub IsKept : {T : Type 0} → ℕ → Option (List ℕ) → KeyRow → List ℕ → KeyRow → List (MemberView T) → ℕ → Type 0
+IsKept f None before names row known count = Unit {0}
+IsKept f (Some mark) before names row known count = IsKeptOf f mark before names row known count
 
 -- a vector that is being closed: the list that it was opened from, the members of the new one so far, the greatest length, how
--- many there will be, and the names that its segments had
+-- many there will be, the layout of its segments, and the mark that they had
 pub record ClosingView (T : Type 0) : Type 0 where
   pub opened : List (Option T)
   pub members : List (Option T)
   pub limit : ℕ
   pub size : ℕ
+  pub layout : ℕ
   pub mark : List ℕ
 
 abbrev pub closing_coded : {T : Type 0} → Coded T → Coded (ClosingView T)
 closing_coded {T} c =
-    coded_via (coded× (coded_list (coded_option c)) (coded× (coded_list (coded_option c)) (coded× coded_ℕ (coded× coded_ℕ (coded_list coded_ℕ)))))
-    (λ (v : ClosingView T). (v.opened, (v.members, (v.limit, (v.size, v.mark)))))
-    (λ x y e i. record { opened = (e i).0; members = (e i).1.0; limit = (e i).1.1.0; size = (e i).1.1.1.0; mark = (e i).1.1.1.1 })
+    coded_via (coded× (coded_list (coded_option c)) (coded× (coded_list (coded_option c)) (coded× coded_ℕ (coded× coded_ℕ (coded× coded_ℕ (coded_list coded_ℕ))))))
+    (λ (v : ClosingView T). (v.opened, (v.members, (v.limit, (v.size, (v.layout, v.mark))))))
+    (λ x y e i. record { opened = (e i).0; members = (e i).1.0; limit = (e i).1.1.0; size = (e i).1.1.1.0; layout = (e i).1.1.1.1.0; mark = (e i).1.1.1.1.1 })
 
 -- each value of the old list that is below a place is at its place in the new one
 abbrev pub KeepsValuesBelow : {T : Type 0} → ℕ → List (Option T) → List (Option T) → Type 0
 KeepsValuesBelow {T} n old new = (place : ℕ) (x : T) → place < n → slice_get old place ≡ Some (Some x) → slice_get new place ≡ Some (Some x)
 
 -- what holds while a vector is being closed
-pub record IsClosing {T : Type 0} (mark : List ℕ) (before : KeyRow) (names : List ℕ) (row : KeyRow) (opened known : List (MemberView T)) (epoch : Lft) (base len limit count size : ℕ) : Type 0 where
-  pub whole : AreWhole names row known len limit count
+pub record IsClosing {T : Type 0} (f : ℕ) (mark : List ℕ) (before : KeyRow) (names : List ℕ) (row : KeyRow) (opened known : List (MemberView T)) (epoch : Lft) (base len limit count size : ℕ) : Type 0 where
+  pub whole : AreWhole f names row known len limit count
   pub shut : AreShutIn epoch known
-  pub kept : IsKeptOf mark before names row known count
-  pub first : AreMembers before opened
+  pub kept : IsKeptOf f mark before names row known count
+  pub first : AreMembers f before opened
   pub all : length opened ≡ base
   pub inside : base ≤ size
   pub values : KeepsValuesBelow len (values_in opened) (values_in known)
   pub within : len ≤ size
   pub most : size ≤ limit
-  pub enough : size ≤ segment_start count
+  pub enough : size ≤ segment_start f count

@@ -1,9 +1,9 @@
 -- The keys that a hand carries: a row of one optional key for each segment.
-use Rattle.std.specs.Prelude.{◌≡◌, ℕ, List, Option, Some, None, IsSome, ◌<◌, ◌≤◌, slice_index, slice_index_or}
-use Rattle.seg_core.specs.Segment.{HasPlace, Touches}
+use Rattle.std.specs.Prelude.{◌≡◌, ℕ, List, [], ◌∷◌, Option, Some, None, IsSome, ◌<◌, ◌≤◌, slice_index, slice_index_or}
+use Rattle.seg_core.specs.Segment.{HasPlace, Touches, segment_count}
 use Rattle.claim_core.specs.declared.run.Run.{Run}
 use Rattle.claim_core.specs.Hand.{HandView, OwnsPlace, IsPlaceOf}
-use Rattle.table_core.specs.Table.{KeyView}
+use Rattle.table_core.specs.Table.{TableView, KeyView}
 
 abbrev pub KeyRow : Type 0
 KeyRow = List (Option KeyView)
@@ -12,33 +12,49 @@ KeyRow = List (Option KeyView)
 abbrev pub key_at : KeyRow → ℕ → Option KeyView
 key_at row segment = slice_index_or row segment None
 
--- the key is that of the segment, among the segments with these names
-pub record IsKeyAt (names : List ℕ) (segment : ℕ) (key : KeyView) : Type 0 where
+-- what marks the segments of a table: their layout, and then their names
+abbrev pub mark_of : TableView → List ℕ
+mark_of table = table.layout ∷ table.names
+
+-- the layout that a mark tells
+abbrev pub layout_in : List ℕ → ℕ
+layout_in [] = 0
+layout_in (f ∷ names) = f
+
+-- the names that a mark tells
+abbrev pub names_in : List ℕ → List ℕ
+names_in [] = []
+names_in (f ∷ names) = names
+
+-- the key is that of the segment, among the segments with this mark
+pub record IsKeyAt (mark : List ℕ) (segment : ℕ) (key : KeyView) : Type 0 where
+  pub layout : key.layout ≡ layout_in mark
   pub at : key.entry ≡ segment
-  pub within : segment < 32
-  pub named : slice_index names segment ≡ key.name
+  pub within : segment < segment_count (layout_in mark)
+  pub named : slice_index (names_in mark) segment ≡ key.name
 
 -- each key of the row is that of its segment
 abbrev pub AreKeys : List ℕ → KeyRow → Type 0
-AreKeys names row = (segment : ℕ) (key : KeyView) → segment < 32 → key_at row segment ≡ Some key → IsKeyAt names segment key
+AreKeys mark row = (segment : ℕ) (key : KeyView) → segment < 40 → key_at row segment ≡ Some key → IsKeyAt mark segment key
 
 -- no key is lost
 abbrev pub KeepsKeys : KeyRow → KeyRow → Type 0
-KeepsKeys old new = (segment : ℕ) → segment < 32 → IsSome (key_at old segment) → IsSome (key_at new segment)
+KeepsKeys old new = (segment : ℕ) → segment < 40 → IsSome (key_at old segment) → IsSome (key_at new segment)
 
 -- the hand owns each place of the run
 abbrev pub OwnsPlacesOf : HandView → Run → Type 0
 OwnsPlacesOf hand run = (place : ℕ) → IsPlaceOf run place → OwnsPlace hand place
 
 -- the row has the key of each segment that the run of n places from a place on touches
-abbrev pub HasKeysOfRun : KeyRow → ℕ → ℕ → Type 0
-HasKeysOfRun row from n = (segment : ℕ) → segment < 32 → Touches segment from n → IsSome (key_at row segment)
+abbrev pub HasKeysOfRun : ℕ → KeyRow → ℕ → ℕ → Type 0
+HasKeysOfRun f row from n = (segment : ℕ) → segment < 40 → Touches f segment from n → IsSome (key_at row segment)
 
 -- the row has the key of the segment of each place from one place up to another
-abbrev pub HasKeysOfPlaces : KeyRow → ℕ → ℕ → Type 0
-HasKeysOfPlaces row from to = (place segment : ℕ) → from ≤ place → place < to → segment < 32 → HasPlace segment place → IsSome (key_at row segment)
+abbrev pub HasKeysOfPlaces : ℕ → KeyRow → ℕ → ℕ → Type 0
+HasKeysOfPlaces f row from to =
+    (place segment : ℕ) → from ≤ place → place < to → segment < 40 → HasPlace f segment place → IsSome (key_at row segment)
 
 -- the row has the key of each segment that the hand's own runs touch
 pub record IsKeyed (hand : HandView) (row : KeyRow) : Type 0 where
   pub keys : AreKeys hand.of.mark row
-  pub own : (place segment : ℕ) → segment < 32 → OwnsPlace hand place → HasPlace segment place → IsSome (key_at row segment)
+  pub own : (place segment : ℕ) → segment < 40 → OwnsPlace hand place → HasPlace (layout_in hand.of.mark) segment place → IsSome (key_at row segment)

@@ -33,7 +33,7 @@ TellsValue x other = ⊥
 -- the right to write the place, with the key of its segment
 pub record IsTakenAt (segments : TableView) (place : ℕ) (taken : KeyView × PenView) : Type 0 where
   pub key : IsKeyIn segments taken.0
-  pub long : IsBlockOf taken.0.entry taken.0.block
+  pub long : IsBlockOf segments.layout taken.0.entry taken.0.block
   pub within : taken.1.place < block_len taken.0.block
   pub pen : IsPenAt taken.0.block taken.1.place taken.1
-  pub here : place ≡ place_in taken.0.entry taken.1.place
+  pub here : place ≡ place_in segments.layout taken.0.entry taken.1.place

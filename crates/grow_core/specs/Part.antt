@@ -9,6 +9,6 @@ use Rattle.grow_core.specs.Vector.{VectorView}
 pub record IsPartOf {T : Type 0} (vector : VectorView T) (part : Part T) : Type 0 where
   pub key : IsKeyIn vector.segments part.key
   pub block : part.block.now ≡ part.key.block
-  pub long : IsBlockOf part.key.entry part.key.block
-  pub first : part.from ≡ segment_start part.key.entry
-  pub last : part.end ≡ segment_end part.key.entry
+  pub long : IsBlockOf vector.segments.layout part.key.entry part.key.block
+  pub first : part.from ≡ segment_start vector.segments.layout part.key.entry
+  pub last : part.end ≡ segment_end vector.segments.layout part.key.entry

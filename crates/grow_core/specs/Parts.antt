@@ -3,53 +3,54 @@ use Rattle.std.specs.Prelude.{◌≡◌, ℕ, ◌-◌, ◌<◌, ◌≤◌, List,
 use Rattle.std.specs.Coded.{coded_option}
 use base.Fml.{Lft}
 use base.Stored.{Coded, coded×, coded_ℕ, coded_list, coded_via}
-use Rattle.seg_core.specs.Segment.{segment_start, segment_end, IsLimit}
+use Rattle.seg_core.specs.Segment.{segment_start, segment_end, segment_count, IsLayout, IsLimit}
 use Rattle.cell_core.specs.Block.{IsMemberAt}
 use Rattle.cell_core.specs.Member.{MemberView}
 use Rattle.table_core.specs.Table.{KeyView, IsBlockOf}
 use Rattle.grow_core.specs.Keys.{KeyRow, AreKeys, key_at}
 use Rattle.grow_core.specs.Token.{place_in}
 
--- each member is a value or broken (`None`); the greatest length; how many segments are there, from the first on; and, where it was
--- closed from a vector and is as it was then, the names of that vector's segments
+-- each member is a value or broken (`None`); the greatest length; the layout of the segments, and how many are there, from the first
+-- on; and, where it was closed from a vector and is as it was then, the mark of that vector's segments
 pub record PartsView (T : Type 0) : Type 0 where
   pub members : List (Option T)
   pub limit : ℕ
+  pub layout : ℕ
   pub segments : ℕ
   pub closed : Option (List ℕ)
 
 -- how that is stored
 abbrev pub parts_coded : {T : Type 0} → Coded T → Coded (PartsView T)
 parts_coded {T} c =
-    coded_via (coded× (coded_list (coded_option c)) (coded× coded_ℕ (coded× coded_ℕ (coded_option (coded_list coded_ℕ)))))
-    (λ (p : PartsView T). (p.members, (p.limit, (p.segments, p.closed))))
-    (λ x y e i. record { members = (e i).0; limit = (e i).1.0; segments = (e i).1.1.0; closed = (e i).1.1.1 })
+    coded_via (coded× (coded_list (coded_option c)) (coded× coded_ℕ (coded× coded_ℕ (coded× coded_ℕ (coded_option (coded_list coded_ℕ))))))
+    (λ (p : PartsView T). (p.members, (p.limit, (p.layout, (p.segments, p.closed)))))
+    (λ x y e i. record { members = (e i).0; limit = (e i).1.0; layout = (e i).1.1.0; segments = (e i).1.1.1.0; closed = (e i).1.1.1.1 })
 
 -- the places of the segments that are there
 abbrev pub capacity_of : {T : Type 0} → PartsView T → ℕ
-capacity_of parts = segment_start parts.segments
+capacity_of parts = segment_start parts.layout parts.segments
 
 -- the last segment has no member
 abbrev pub IsSpare : {T : Type 0} → PartsView T → Type 0
-IsSpare parts = (0 < parts.segments) × (length parts.members ≤ segment_start (parts.segments - 1))
+IsSpare parts = (0 < parts.segments) × (length parts.members ≤ segment_start parts.layout (parts.segments - 1))
 
 -- the values that are known, in order
 abbrev pub values_in : {T : Type 0} → List (MemberView T) → List (Option T)
 values_in row = map (λ m. m.value) row
 
 -- each key of the row is of a block as long as its segment
-abbrev pub AreLong : KeyRow → Type 0
-AreLong row = (segment : ℕ) (key : KeyView) → segment < 32 → key_at row segment ≡ Some key → IsBlockOf segment key.block
+abbrev pub AreLong : ℕ → KeyRow → Type 0
+AreLong f row = (segment : ℕ) (key : KeyView) → segment < 40 → key_at row segment ≡ Some key → IsBlockOf f segment key.block
 
 -- the row has the keys of the first segments, so many
 abbrev pub HasFirstKeys : KeyRow → ℕ → Type 0
 HasFirstKeys row count = (segment : ℕ) → segment < count → IsSome (key_at row segment)
 
 -- what is known of a place is known of its cell, by the key of its segment
-abbrev pub AreMembers : {T : Type 0} → KeyRow → List (MemberView T) → Type 0
-AreMembers {T} row known =
-    (segment offset : ℕ) (key : KeyView) (m : MemberView T) → segment < 32 → key_at row segment ≡ Some key
-    → place_in segment offset < segment_end segment → slice_get known (place_in segment offset) ≡ Some m → IsMemberAt key.block offset m
+abbrev pub AreMembers : {T : Type 0} → ℕ → KeyRow → List (MemberView T) → Type 0
+AreMembers {T} f row known =
+    (segment offset : ℕ) (key : KeyView) (m : MemberView T) → segment < 40 → key_at row segment ≡ Some key
+    → place_in f segment offset < segment_end f segment → slice_get known (place_in f segment offset) ≡ Some m → IsMemberAt key.block offset m
 
 -- a member without a value is broken for as long as this epoch lasts
 abbrev pub IsShutIn : {T : Type 0} → Lft → MemberView T → Type 0
@@ -61,14 +62,15 @@ AreShutIn epoch [] = Unit {0}
 AreShutIn epoch (m ∷ known) = IsShutIn epoch m × AreShutIn epoch known
 
 -- what holds of the parts of a vector at all times
-pub record AreWhole {T : Type 0} (names : List ℕ) (row : KeyRow) (known : List (MemberView T)) (len limit count : ℕ) : Type 0 where
+pub record AreWhole {T : Type 0} (f : ℕ) (names : List ℕ) (row : KeyRow) (known : List (MemberView T)) (len limit count : ℕ) : Type 0 where
+  pub layout : IsLayout f
   pub limited : IsLimit limit
   pub within : len ≤ limit
   pub all : length known ≡ len
-  pub rows : length row ≡ 32
-  pub few : count ≤ 32
-  pub inside : len ≤ segment_start count
-  pub named : AreKeys names row
-  pub long : AreLong row
+  pub rows : length row ≡ 40
+  pub few : count ≤ segment_count f
+  pub inside : len ≤ segment_start f count
+  pub named : AreKeys (f ∷ names) row
+  pub long : AreLong f row
   pub there : HasFirstKeys row count
-  pub of : AreMembers row known
+  pub of : AreMembers f row known

@@ -1,7 +1,7 @@
 -- The tokens of the vector's places.
-use Rattle.std.specs.Prelude.{ℕ, ◌+◌, ◌<◌, ◌^◌}
+use Rattle.std.specs.Prelude.{ℕ, ◌+◌, ◌<◌}
 use base.Stored.{Coded, coded×, coded_ℕ, coded_via}
-use Rattle.seg_core.specs.Segment.{segment_start}
+use Rattle.seg_core.specs.Segment.{segment_start, segment_count, most_places}
 use Rattle.cell_core.specs.Block as block
 use Rattle.table_core.specs.Table.{KeyView, key_coded}
 
@@ -38,21 +38,21 @@ abbrev pub begun_coded : Coded BegunView
 begun_coded = coded_via (coded× coded_ℕ (coded× key_coded block.begun_coded)) (λ (b : BegunView). (b.place, (b.key, b.cell)))
     (λ x y e i. record { place = (e i).0; key = (e i).1.0; cell = (e i).1.1 })
 
--- a cell of a segment is this place of the vector
-abbrev pub place_in : ℕ → ℕ → ℕ
-place_in segment offset = segment_start segment + offset
+-- a cell of a segment of a layout is this place of the vector
+abbrev pub place_in : ℕ → ℕ → ℕ → ℕ
+place_in f segment offset = segment_start f segment + offset
 
 -- the token that a key and a cell's token are together
 abbrev pub placed_view : {T : Type 0} → KeyView → block.PlacedView T → PlacedView T
-placed_view key cell = record { place = place_in key.entry cell.place; value = cell.value; key = key; cell = cell }
+placed_view key cell = record { place = place_in key.layout key.entry cell.place; value = cell.value; key = key; cell = cell }
 
 abbrev pub spoilt_view : KeyView → block.SpoiltView → SpoiltView
-spoilt_view key cell = record { place = place_in key.entry cell.place; key = key; cell = cell }
+spoilt_view key cell = record { place = place_in key.layout key.entry cell.place; key = key; cell = cell }
 
 abbrev pub begun_view : KeyView → block.BegunView → BegunView
-begun_view key cell = record { place = place_in key.entry cell.place; key = key; cell = cell }
+begun_view key cell = record { place = place_in key.layout key.entry cell.place; key = key; cell = cell }
 
--- the numbers of a segment and of a cell there
-pub record AreSmall (segment offset : ℕ) : Type 0 where
-  pub few : segment < 32
-  pub within : offset < 2 ^ 32
+-- the numbers of a segment of a layout and of a cell there
+pub record AreSmall (f segment offset : ℕ) : Type 0 where
+  pub few : segment < segment_count f
+  pub within : offset < most_places

@@ -5,7 +5,7 @@ ghost use Rattle.cell_core.specs.Block.{block_len};
 ghost use Rattle.cell_core.specs.Shown.{IsFoundIn, IsNotEmpty};
 ghost use Rattle.table_core.specs.Table.{IsKeyIn, IsBlockOf};
 ghost use Rattle.grow_core.specs.Token.{place_in};
-ghost use Rattle.grow_core.specs.Vector.{IsHandOf, IsPlacedOf, IsSpoiltOf, limit_of};
+ghost use Rattle.grow_core.specs.Vector.{IsHandOf, IsPlacedOf, IsSpoiltOf, layout_of, limit_of};
 ghost use Rattle.grow_core.specs.Keys.{OwnsPlacesOf};
 ghost use Rattle.grow_core.specs.Part.{IsPartOf};
 ghost use Rattle.grow_core.specs.Growth.{Refuses, IsFoundAt, HasNoRoom, SaysFull, IsNotMoved, ClaimsNothing};
@@ -19,7 +19,6 @@ use crate::vector::Shared;
 use cell_core::block;
 use cell_core::block::Block;
 use claim_core::{Moved, Run, laws};
-use seg_core::{first, len, locate};
 use std::sync::Wait;
 use table_core::Key;
 
@@ -152,14 +151,15 @@ impl<T: Drop> Shared<T> {
         ensures before { place < result.end }
     {
         self.laws();
-        let (segment, _) = locate(place);
+        let layout = self.table.layout();
+        let (segment, _) = layout.locate(place);
         let key = hand.key(segment, place);
-        let from = first(segment);
+        let from = layout.first(segment);
         Part {
             block: self.table.known(&key),
             key,
             from,
-            end: from + len(segment),
+            end: from + layout.len(segment),
         }
     }
 
@@ -206,6 +206,7 @@ impl<T: Drop> Shared<T> {
     }
 
     // Breaks a place of the segment.
+    #[tactic(auto, using(crate::proofs::Cells::small_cell))]
     pub(crate) fn spoil(&self, part: &Part<'_, T>, place: u64) -> Result<Spoilt, Found<T>>
         requires part { IsPartOf self.now part.now }
         requires from { part.now.from ≤ place }
@@ -227,6 +228,7 @@ impl<T: Drop> Shared<T> {
 
     // Fills a cell of the segment that has this key with the value.
     #[inline(always)]
+    #[tactic(auto, using(crate::proofs::Cells::small_cell))]
     pub(crate) fn fill_cell(
         &self,
         block: &Block<T>,
@@ -236,12 +238,12 @@ impl<T: Drop> Shared<T> {
     ) -> Result<Placed<T>, Found<T>>
         requires key { IsKeyIn self.now.segments key }
         requires block { block.now ≡ key.block }
-        requires long { IsBlockOf key.entry key.block }
+        requires long { IsBlockOf (layout_of self.now) key.entry key.block }
         requires within { offset < block_len block.now }
         ensures token { IfOk result (IsPlacedOf self.now) }
-        ensures here { IfOk result (λ placed. placed.place ≡ place_in key.entry offset) }
+        ensures here { IfOk result (λ placed. placed.place ≡ place_in (layout_of self.now) key.entry offset) }
         ensures value { IfOk result (λ placed. placed.value ≡ value) }
-        ensures found { IfErr result (IsFoundAt self.now (place_in key.entry offset)) }
+        ensures found { IfErr result (IsFoundAt self.now (place_in (layout_of self.now) key.entry offset)) }
     {
         match block.begin(offset) {
             Ok(pen) => Ok(Placed {
@@ -254,13 +256,14 @@ impl<T: Drop> Shared<T> {
 
     // What stood in a cell of the segment that has this key.
     #[cold]
+    #[tactic(auto, using(crate::proofs::Cells::small_cell))]
     fn found(&self, key: Key, offset: u64, found: block::Found<T>) -> Found<T>
         requires key { IsKeyIn self.now.segments key }
-        requires long { IsBlockOf key.entry key.block }
+        requires long { IsBlockOf (layout_of self.now) key.entry key.block }
         requires within { offset < block_len key.block }
         requires found { IsFoundIn key.block offset found }
         requires not_empty { IsNotEmpty found }
-        ensures { IsFoundAt self.now (place_in key.entry offset) result }
+        ensures { IsFoundAt self.now (place_in (layout_of self.now) key.entry offset) result }
     {
         let _ = offset;
         match found {

@@ -2,10 +2,11 @@
 ghost use Rattle.std.specs.Prelude.{◌≡◌, ◌≢◌, ◌+◌, ◌<◌, ◌≤◌, ℕ, Some, None, MatchOption, IfSome, IsSome, IsTrue, IsFalse, length, slice_get};
 ghost use Rattle.claim_core.specs.Hand.{IsWholeHand, seen_size};
 ghost use Rattle.cell_core.specs.Block.{block_len, cell_at, IsMemberAt, KeepsOtherCells};
+ghost use Rattle.seg_core.specs.Segment.{IsLayout, segment_count};
 ghost use Rattle.table_core.specs.Table.{IsBlockOf};
-ghost use Rattle.grow_core.specs.Keys.{IsKeyAt, AreKeys, key_at};
+ghost use Rattle.grow_core.specs.Keys.{IsKeyAt, AreKeys, key_at, mark_of};
 ghost use Rattle.grow_core.specs.Parts.{AreLong, HasFirstKeys, IsShutIn};
-ghost use Rattle.grow_core.specs.Vector.{IsHandOf, limit_of};
+ghost use Rattle.grow_core.specs.Vector.{IsHandOf, layout_of, limit_of};
 ghost use Rattle.grow_core.specs.Closing.{IsClosedFrom, KeepsValues};
 
 use crate::hand::Hand;
@@ -21,11 +22,12 @@ use table_core::{Key, Table};
 
 // The key of a segment: that of the opened list, or the hand's, or else one of a look at the table.
 fn key_now<T>(table: &Table<T>, opened: &Keys, own: &Keys, segment: u32) -> Option<Key>
-    requires within { segment < 32 }
-    requires opened { AreKeys table.now.names opened.now }
-    requires own { AreKeys table.now.names own.now }
-    ensures key { IfSome result (IsKeyAt table.now.names segment) }
-    ensures long { IfSome result (λ key. IsBlockOf segment key.block) }
+    requires layout { IsLayout table.now.layout }
+    requires within { segment < segment_count table.now.layout }
+    requires opened { AreKeys (mark_of table.now) opened.now }
+    requires own { AreKeys (mark_of table.now) own.now }
+    ensures key { IfSome result (IsKeyAt (mark_of table.now) segment) }
+    ensures long { IfSome result (λ key. IsBlockOf table.now.layout segment key.block) }
     ensures first { IsSome (key_at opened.now segment) → result ≡ key_at opened.now segment }
     ensures there { IsSome (key_at own.now segment) → IsSome result }
 {
@@ -43,24 +45,26 @@ fn key_now<T>(table: &Table<T>, opened: &Keys, own: &Keys, segment: u32) -> Opti
 
 // The keys of the first segments, and how many there are.
 fn first_keys<T>(table: &Table<T>, opened: &Keys, own: &Keys) -> (Keys, u32)
-    requires opened { AreKeys table.now.names opened.now }
-    requires own { AreKeys table.now.names own.now }
-    ensures named { AreKeys table.now.names result.0 }
-    ensures long { AreLong result.0 }
+    requires opened { AreKeys (mark_of table.now) opened.now }
+    requires own { AreKeys (mark_of table.now) own.now }
+    ensures named { AreKeys (mark_of table.now) result.0 }
+    ensures long { AreLong table.now.layout result.0 }
     ensures there { HasFirstKeys result.0 result.1 }
-    ensures few { result.1 ≤ 32 }
+    ensures few { result.1 ≤ segment_count table.now.layout }
     ensures first { (s : ℕ) → s < result.1 → IsSome (key_at opened.now s) → key_at result.0 s ≡ key_at opened.now s }
-    ensures none { (s : ℕ) → s < 32 → result.1 ≤ s → key_at result.0 s ≡ None }
-    ensures end { result.1 < 32 → (key_at opened.now result.1 ≡ None) × (key_at own.now result.1 ≡ None) }
+    ensures none { (s : ℕ) → s < 40 → result.1 ≤ s → key_at result.0 s ≡ None }
+    ensures end { result.1 < segment_count table.now.layout → (key_at opened.now result.1 ≡ None) × (key_at own.now result.1 ≡ None) }
 {
+    let layout = table.layout();
+    let _f = layout.f();
     let mut keys = no_keys();
-    for segment in 0..32u32 {
+    for segment in 0..layout.segments() {
         let Some(key) = key_now(table, opened, own, segment) else {
             return (keys, segment)
         };
         keys[segment as usize] = Some(key);
     }
-    (keys, 32)
+    (keys, layout.segments())
 }
 
 // What is known of the cell for good: one without a value is broken. A value that it is known to have is its value still.
@@ -128,11 +132,12 @@ impl<T> Model for Closing<T> {
       members = values_in c.row;
       limit = c.limit;
       size = c.size;
+      layout = c.table.layout;
       mark = c.mark.numbers;
     } };
 
-    ghost invariant = { λ c. IsClosing c.mark.numbers c.before c.table.names c.keys c.opened c.row c.epoch c.base c.len
-        c.limit c.count c.size };
+    ghost invariant = { λ c. IsClosing c.table.layout c.mark.numbers c.before c.table.names c.keys c.opened c.row c.epoch c.base
+        c.len c.limit c.count c.size };
 }
 
 impl<T: Drop> Closing<T> {
@@ -144,7 +149,8 @@ impl<T: Drop> Closing<T> {
         ensures members { length result.members ≡ 0 }
         ensures limit { result.limit ≡ limit_of vector }
         ensures size { result.size ≡ seen_size hand }
-        ensures mark { result.mark ≡ vector.segments.names }
+        ensures layout { result.layout ≡ layout_of vector }
+        ensures mark { result.mark ≡ mark_of vector.segments }
     {
         vector.laws();
         hand.laws();
@@ -192,10 +198,11 @@ impl<T: Drop> Closing<T> {
         ensures more { length self.new.members ≡ length self.old.members + 1 }
         ensures limit { self.new.limit ≡ self.old.limit }
         ensures size { self.new.size ≡ self.old.size }
+        ensures layout { self.new.layout ≡ self.old.layout }
         ensures mark { self.new.mark ≡ self.old.mark }
     {
-        let (segment, offset, key) = cell_of(&self.keys, self.count, self.len);
-        let (_, _, before) = cell_of(&self.before, self.count, self.len);
+        let (segment, offset, key) = cell_of(&self.table, &self.keys, self.count, self.len);
+        let (_, _, before) = cell_of(&self.table, &self.before, self.count, self.len);
         let known = known_at(&self.opened, self.base, self.len);
         let mut block = self.table.detach(&key);
         let member = settle(&mut block, offset, &known, &self.epoch);
@@ -209,6 +216,7 @@ impl<T: Drop> Closing<T> {
         requires { length self.members ≡ self.size }
         ensures length { length result.members ≡ self.size }
         ensures limit { result.limit ≡ self.limit }
+        ensures layout { result.layout ≡ self.layout }
         ensures opened { KeepsValues self.opened result.members }
         ensures closed { result.closed ≡ Some self.mark }
     {
@@ -249,6 +257,7 @@ impl<T: Drop> Shared<T> {
         requires whole { IsWholeHand hand }
         ensures length { length result.members ≡ seen_size hand }
         ensures limit { result.limit ≡ limit_of self }
+        ensures layout { result.layout ≡ layout_of self }
         ensures opened { KeepsValues self.opened result.members }
         ensures closed { IsClosedFrom self result.closed }
     {

@@ -4,7 +4,7 @@ ghost use Rattle.std.specs.List.{IsDistinct};
 ghost use Rattle.claim_core.specs.Lengths.{Tiles, times};
 ghost use Rattle.claim_core.specs.Hand.{IsWholeHand, OwnsPlace, seen_size, own_places};
 ghost use Rattle.seg_core.specs.Segment.{HasPlace};
-ghost use Rattle.grow_core.specs.Keys.{IsKeyed, IsKeyAt, AreKeys, HasKeysOfPlaces};
+ghost use Rattle.grow_core.specs.Keys.{IsKeyed, IsKeyAt, AreKeys, HasKeysOfPlaces, layout_in};
 
 use crate::keys::{Keys, key_of, no_keys};
 use claim_core::Hand as ClaimHand;
@@ -63,7 +63,7 @@ impl<T> Hand<T> {
     pub(crate) fn whole_keys(&self) -> &Keys
         requires whole { IsWholeHand self.now }
         ensures keys { AreKeys self.now.of.mark result.now }
-        ensures all { HasKeysOfPlaces result.now self.now.of.base (seen_size self.now) }
+        ensures all { HasKeysOfPlaces (layout_in self.now.of.mark) result.now self.now.of.base (seen_size self.now) }
     {
         self.whole_laws();
         self.keys()
@@ -71,9 +71,9 @@ impl<T> Hand<T> {
 
     // The key of a segment that has a place of the hand's own.
     pub(crate) fn key(&self, segment: u32, place: u64) -> Key
-        requires small { segment < 32 }
+        requires small { segment < 40 }
         requires owned { OwnsPlace self.now place }
-        requires there { HasPlace segment place }
+        requires there { HasPlace (layout_in self.now.of.mark) segment place }
         ensures { IsKeyAt self.now.of.mark segment result }
     {
         let _ = place;

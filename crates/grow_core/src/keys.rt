@@ -1,18 +1,18 @@
 // The keys of the segments that a hand's runs touch.
-ghost use Rattle.std.specs.Prelude.{◌≡◌, ◌≤◌, ◌<◌, ◌+◌, ◌^◌, ℕ, List, IfOk, IsSome, None};
-ghost use Rattle.grow_core.specs.Keys.{IsKeyAt, AreKeys, KeepsKeys, HasKeysOfRun, key_at};
+ghost use Rattle.std.specs.Prelude.{◌≡◌, ◌≤◌, ◌<◌, ◌+◌, ℕ, List, IfOk, IsSome, None};
+ghost use Rattle.seg_core.specs.Segment.{IsLayout, most_places, segment_count};
+ghost use Rattle.grow_core.specs.Keys.{IsKeyAt, AreKeys, KeepsKeys, HasKeysOfRun, key_at, mark_of};
 
-use seg_core::segments_of;
 use std::alloc::AllocError;
 use std::array;
 use table_core::{Key, Table};
 
-// A key for each segment, where the hand has it.
-pub(crate) type Keys = [Option<Key>; 32];
+// A key for each segment, where the hand has it: room for the segments of every layout.
+pub(crate) type Keys = [Option<Key>; 40];
 
 // No key.
 pub(crate) fn no_keys() -> Keys
-    ensures { (segment : ℕ) → segment < 32 → key_at result segment ≡ None }
+    ensures { (segment : ℕ) → segment < 40 → key_at result segment ≡ None }
 {
     array::from_fn(
         |_: usize| -> Option<Key>
@@ -23,7 +23,7 @@ pub(crate) fn no_keys() -> Keys
 
 // The key of a segment, once more, where the row has it.
 pub(crate) fn key_of(row: &Keys, segment: u32) -> Option<Key>
-    requires { segment < 32 }
+    requires { segment < 40 }
     ensures { result ≡ key_at row.now segment }
 {
     match &row[segment as usize] {
@@ -34,11 +34,11 @@ pub(crate) fn key_of(row: &Keys, segment: u32) -> Option<Key>
 
 // The same keys once more.
 pub(crate) fn keys_again(row: &Keys) -> Keys
-    ensures { (segment : ℕ) → segment < 32 → key_at result segment ≡ key_at row.now segment }
+    ensures { (segment : ℕ) → segment < 40 → key_at result segment ≡ key_at row.now segment }
 {
     array::from_fn(
         |segment: usize| -> Option<Key>
-            requires { segment < 32 }
+            requires { segment < 40 }
             ensures { result ≡ key_at row.entry.now segment }
         { key_of(row, segment as u32) },
     )
@@ -46,8 +46,8 @@ pub(crate) fn keys_again(row: &Keys) -> Keys
 
 // Puts the key of a segment into the row.
 fn put_key(row: &mut Keys, segment: u32, key: Key)
-    requires { segment < 32 }
-    ensures keys { (names : List ℕ) → AreKeys names row.old → IsKeyAt names segment key → AreKeys names row.new }
+    requires { segment < 40 }
+    ensures keys { (mark : List ℕ) → AreKeys mark row.old → IsKeyAt mark segment key → AreKeys mark row.new }
     ensures kept { KeepsKeys row.old row.new }
     ensures put { IsSome (key_at row.new segment) }
 {
@@ -56,8 +56,8 @@ fn put_key(row: &mut Keys, segment: u32, key: Key)
 
 // Puts the other row's key of a segment into the row, where it has none.
 fn put_other(row: &mut Keys, other: &Keys, segment: u32)
-    requires { segment < 32 }
-    ensures keys { (names : List ℕ) → AreKeys names row.old → AreKeys names other.now → AreKeys names row.new }
+    requires { segment < 40 }
+    ensures keys { (mark : List ℕ) → AreKeys mark row.old → AreKeys mark other.now → AreKeys mark row.new }
     ensures kept { KeepsKeys row.old row.new }
     ensures put { IsSome (key_at other.now segment) → IsSome (key_at row.new segment) }
 {
@@ -70,11 +70,11 @@ fn put_other(row: &mut Keys, other: &Keys, segment: u32)
 
 // Puts the other row's keys into the row, where it has none.
 pub(crate) fn put_keys(row: &mut Keys, other: &Keys)
-    ensures keys { (names : List ℕ) → AreKeys names row.old → AreKeys names other.now → AreKeys names row.new }
+    ensures keys { (mark : List ℕ) → AreKeys mark row.old → AreKeys mark other.now → AreKeys mark row.new }
     ensures kept { KeepsKeys row.old row.new }
     ensures put { KeepsKeys other.now row.new }
 {
-    for segment in 0..32u32 {
+    for segment in 0..40u32 {
         put_other(row, other, segment);
     }
 }
@@ -86,12 +86,13 @@ pub(crate) fn key_for<T: Drop>(
     keys: &mut Keys,
     segment: u32,
 ) -> Result<Key, AllocError>
-    requires within { segment < 32 }
-    requires keys { AreKeys table.now.names keys.old }
-    ensures keys { AreKeys table.now.names keys.new }
+    requires layout { IsLayout table.now.layout }
+    requires within { segment < segment_count table.now.layout }
+    requires keys { AreKeys (mark_of table.now) keys.old }
+    ensures keys { AreKeys (mark_of table.now) keys.new }
     ensures kept { KeepsKeys keys.old keys.new }
     ensures put { IfOk result (λ _. IsSome (key_at keys.new segment)) }
-    ensures key { IfOk result (IsKeyAt table.now.names segment) }
+    ensures key { IfOk result (IsKeyAt (mark_of table.now) segment) }
 {
     match key_of(keys, segment) {
         Some(key) => Ok(key),
@@ -102,12 +103,13 @@ pub(crate) fn key_for<T: Drop>(
 // Sees to it that the segment is installed, and puts its key into the row.
 #[cold]
 fn install_one<T: Drop>(table: &Table<T>, keys: &mut Keys, segment: u32) -> Result<Key, AllocError>
-    requires within { segment < 32 }
-    requires keys { AreKeys table.now.names keys.old }
-    ensures keys { AreKeys table.now.names keys.new }
+    requires layout { IsLayout table.now.layout }
+    requires within { segment < segment_count table.now.layout }
+    requires keys { AreKeys (mark_of table.now) keys.old }
+    ensures keys { AreKeys (mark_of table.now) keys.new }
     ensures kept { KeepsKeys keys.old keys.new }
     ensures put { IfOk result (λ _. IsSome (key_at keys.new segment)) }
-    ensures key { IfOk result (IsKeyAt table.now.names segment) }
+    ensures key { IfOk result (IsKeyAt (mark_of table.now) segment) }
 {
     let (_, key) = table.install_key(segment)?;
     put_key(keys, segment, key.again());
@@ -122,13 +124,15 @@ pub(crate) fn install<T: Drop>(
     n: u64,
 ) -> Result<(), AllocError>
     requires some { 0 < n }
-    requires places { from + n ≤ 2 ^ 32 }
-    requires keys { AreKeys table.now.names keys.old }
-    ensures keys { AreKeys table.now.names keys.new }
+    requires places { from + n ≤ most_places }
+    requires keys { AreKeys (mark_of table.now) keys.old }
+    ensures keys { AreKeys (mark_of table.now) keys.new }
     ensures kept { KeepsKeys keys.old keys.new }
-    ensures run { IfOk result (λ _. HasKeysOfRun keys.new from n) }
+    ensures run { IfOk result (λ _. HasKeysOfRun table.now.layout keys.new from n) }
 {
-    let (first, end) = segments_of(from, n);
+    let layout = table.layout();
+    let _f = layout.f();
+    let (first, end) = layout.segments_of(from, n);
     for segment in first..end {
         key_for(table, keys, segment)?;
     }

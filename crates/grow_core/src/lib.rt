@@ -1,7 +1,7 @@
 //! The shared vector: many callers append to it and read it beside each other, and no element
 //! moves.
 //!
-//! Contracts see a `Shared` as which vector it is, with its limit and its base
+//! Contracts see a `Shared` as which vector it is, with its limit, layout and base
 //! (`specs/Vector.antt`); a `Hand` as what its caller has seen of the size (the lengths of all runs
 //! up to then), the indices of its own runs and its shares; a `Placed` as a place and its value;
 //! and a `Grown` as a run with the token of each place (`specs/Grown.antt`). What a growth leaves,

@@ -5,7 +5,7 @@ ghost use Rattle.cell_core.specs.Block.{block_len};
 ghost use Rattle.cell_core.specs.Shown.{IsFoundIn, ShowsFilled};
 ghost use Rattle.table_core.specs.Table.{IsBlockOf, IsKeyIn};
 ghost use Rattle.grow_core.specs.Token.{place_in};
-ghost use Rattle.grow_core.specs.Vector.{IsHandOf, IsOpenedAt, IsPlacedOf, SeesMore, base_of, limit_of};
+ghost use Rattle.grow_core.specs.Vector.{IsHandOf, IsOpenedAt, IsPlacedOf, SeesMore, base_of, layout_of, limit_of};
 ghost use Rattle.grow_core.specs.Mend.{IsMendDue, IsUnmendedAt, IsTakenAt, IsSeen, TellsValue};
 
 use crate::errors::MendError;
@@ -14,13 +14,13 @@ use crate::parts::cell_of;
 use crate::token::Placed;
 use crate::vector::Shared;
 use cell_core::block::{self, Pen};
-use seg_core::locate;
 use table_core::Key;
 
 impl<T> Shared<T> {
     /// Fills a broken place: one load of the size, and one exchange of the place's state from broken to busy (at a place that was
     /// broken when the vector was opened, at most two), which is where it takes the place. It waits for nobody, and takes no
     /// memory.
+    #[tactic(auto, using(crate::proofs::Cells::small_cell))]
     pub fn mend(
         &self,
         hand: &mut Hand<T>,
@@ -74,7 +74,7 @@ impl<T> Shared<T> {
         ensures refused { IfErr result (IsUnmendedAt self.now place) }
         ensures opened { (x : T) → IsOpenedAt self.now place x → IsErrAnd result (TellsValue x) }
     {
-        let (_, offset, key) = cell_of(&self.keys, self.count, place);
+        let (_, offset, key) = cell_of(&self.table, &self.keys, self.count, place);
         let block = self.table.known(&key);
         match block.mend_member(offset, &self.row.at(place), &self.ended) {
             Ok(pen) => Ok((key, pen)),
@@ -89,7 +89,7 @@ impl<T> Shared<T> {
         ensures refused { IfErr result (IsUnmendedAt self.now place) }
     {
         self.laws();
-        let (segment, offset) = locate(place);
+        let (segment, offset) = self.table.layout().locate(place);
         let Some((block, key)) = self.table.scout_key(segment) else {
             return Err(MendError::Pending);
         };
@@ -102,12 +102,13 @@ impl<T> Shared<T> {
     // Why a cell of the segment that has this key was not taken. It is found broken where an owner broke it, and none is so
     // where the opened list ends.
     #[cold]
+    #[tactic(auto, using(crate::proofs::Cells::small_cell))]
     fn unmended(&self, key: Key, offset: u64, found: block::Found<T>) -> MendError<T>
         requires key { IsKeyIn self.now.segments key }
-        requires long { IsBlockOf key.entry key.block }
+        requires long { IsBlockOf (layout_of self.now) key.entry key.block }
         requires within { offset < block_len key.block }
         requires found { IsFoundIn key.block offset found }
-        ensures refused { IsUnmendedAt self.now (place_in key.entry offset) result }
+        ensures refused { IsUnmendedAt self.now (place_in (layout_of self.now) key.entry offset) result }
         ensures value { (x : T) → ShowsFilled x found → TellsValue x result }
     {
         let _ = offset;

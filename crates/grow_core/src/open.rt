@@ -1,7 +1,7 @@
 //! How an owner's list is opened: it becomes a vector that many callers share.
 ghost use Rattle.std.specs.Prelude.{◌≡◌, length, IfOk, IfErr};
 ghost use Rattle.claim_core.specs.Hand.{IsNewHand};
-ghost use Rattle.grow_core.specs.Vector.{limit_of, base_of};
+ghost use Rattle.grow_core.specs.Vector.{limit_of, layout_of, base_of};
 
 use crate::hand::Hand;
 use crate::parts::Parts;
@@ -9,11 +9,13 @@ use crate::vector::Shared;
 use claim_core::{Mark, Marks, OpenError, Word};
 use table_core::Table;
 
-// A vector's word is marked with the names of its segments.
+// A vector's word is marked with the layout and the names of its segments.
 pub(crate) struct Segments;
 
 impl<T> Marks<Table<T>> for Segments {
-    ghost numbers = { λ table. table.names };
+    ghost use Rattle.grow_core.specs.Keys.{mark_of};
+
+    ghost numbers = { λ table. mark_of table };
 }
 
 impl<T> Shared<T> {
@@ -23,6 +25,7 @@ impl<T> Shared<T> {
     pub fn of_parts(parts: Parts<T>) -> Result<(Shared<T>, Hand<T>), (Parts<T>, OpenError)>
         ensures opened { IfOk result (λ (vector, _). vector.opened ≡ parts.members) }
         ensures limit { IfOk result (λ (vector, _). limit_of vector ≡ parts.limit) }
+        ensures layout { IfOk result (λ (vector, _). layout_of vector ≡ parts.layout) }
         ensures base { IfOk result (λ (vector, _). base_of vector ≡ length parts.members) }
         ensures hand { IfOk result (λ (vector, hand). IsNewHand vector.word hand) }
         ensures back { IfErr result (λ (back, _). back ≡ parts) }

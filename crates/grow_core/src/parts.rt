@@ -1,6 +1,6 @@
 //! What an exclusive owner holds of a vector: a list of values and broken members.
 ghost use Rattle.std.specs.Prelude.{◌≡◌, ℕ, ◌+◌, ◌-◌, ◌<◌, ◌≤◌, ◌++◌, ◌∷◌, [], Some, None, MatchOption, IsOk, IfOk, IfErr, IsTrue, IsFalse, length, slice_get, slice_set};
-ghost use Rattle.seg_core.specs.Segment.{IsLimit, segment_start, segment_end};
+ghost use Rattle.seg_core.specs.Segment.{IsLimit, segment_start, segment_end, segment_count};
 ghost use Rattle.cell_core.specs.Block.{block_len, IsMemberAt, KeepsOtherCells};
 ghost use Rattle.grow_core.specs.Keys.{key_at};
 ghost use Rattle.grow_core.specs.Token.{place_in};
@@ -9,7 +9,7 @@ ghost use Rattle.grow_core.specs.Parts.{HasFirstKeys, IsShutIn, IsSpare, capacit
 use crate::keys::{Keys, key_of, no_keys};
 use cell_core::block::{Block, Epoch, Member, Row};
 use claim_core::Mark;
-use seg_core::{first, len, locate};
+use seg_core::Layout;
 use std::alloc::{AllocError, Global};
 use std::marker::Model;
 use table_core::{Key, Table};
@@ -27,7 +27,7 @@ pub struct Parts<T> {
     pub(crate) limit: u64,
     pub(crate) count: u32,
     pub(crate) alloc: Global,
-    // Of the vector that the list was closed from: the keys of its first segments as they were before, and its segments' names.
+    // Of the vector that the list was closed from: the keys of its first segments as they were before, and its segments' mark.
     pub(crate) before: Keys,
     pub(crate) closed: Option<Mark>,
 }
@@ -44,26 +44,30 @@ impl<T> Model for Parts<T> {
     ghost view = { λ p. record {
       members = values_in p.row;
       limit = p.limit;
+      layout = p.table.layout;
       segments = p.count;
       closed = option_map (λ m. m.numbers) p.closed;
     } };
 
-    ghost invariant = { λ p. AreWhole p.table.names p.keys p.row p.len p.limit p.count
-        × IsKept (option_map (λ m. m.numbers) p.closed) p.before p.table.names p.keys p.row p.count
+    ghost invariant = { λ p. AreWhole p.table.layout p.table.names p.keys p.row p.len p.limit p.count
+        × IsKept p.table.layout (option_map (λ m. m.numbers) p.closed) p.before p.table.names p.keys p.row p.count
         × AreShutIn p.epoch p.row };
 }
 
 // Where a place of the segments that are there lies: its segment, the cell there, and the segment's key.
-pub(crate) fn cell_of(keys: &Keys, count: u32, place: u64) -> (u32, u64, Key)
-    requires few { count ≤ 32 }
+pub(crate) fn cell_of<T>(table: &Table<T>, keys: &Keys, count: u32, place: u64) -> (u32, u64, Key)
+    requires few { count ≤ segment_count table.now.layout }
     requires there { HasFirstKeys keys.now count }
-    requires inside { place < segment_start count }
-    ensures small { result.0 < 32 }
-    ensures place { place_in result.0 result.1 ≡ place }
-    ensures within { place < segment_end result.0 }
+    requires inside { place < segment_start table.now.layout count }
+    ensures small { result.0 < 40 }
+    ensures segment { result.0 < segment_count table.now.layout }
+    ensures place { place_in table.now.layout result.0 result.1 ≡ place }
+    ensures within { place < segment_end table.now.layout result.0 }
     ensures key { key_at keys.now result.0 ≡ Some result.2 }
 {
-    let (segment, offset) = locate(place);
+    let layout = table.layout();
+    let _f = layout.f();
+    let (segment, offset) = layout.locate(place);
     match key_of(keys, segment) {
         Some(key) => (segment, offset, key),
         None => unreachable!(),
@@ -94,15 +98,28 @@ fn write<T>(
 }
 
 impl<T> Parts<T> {
-    /// The empty list. It takes no memory yet.
+    /// The empty list, whose first segment has two places. It takes no memory yet.
     pub fn new(alloc: Global, limit: u64) -> Parts<T>
         requires { IsLimit limit }
         ensures members { result.members ≡ [] }
         ensures limit { result.limit ≡ limit }
+        ensures layout { result.layout ≡ 1 }
         ensures capacity { capacity_of result ≡ 0 }
     {
+        Parts::new_in(alloc, Layout::default(), limit)
+    }
+
+    /// The empty list, whose segments are those of the layout. It takes no memory yet.
+    pub fn new_in(alloc: Global, layout: Layout, limit: u64) -> Parts<T>
+        requires { IsLimit limit }
+        ensures members { result.members ≡ [] }
+        ensures limit { result.limit ≡ limit }
+        ensures layout { result.layout ≡ layout }
+        ensures capacity { capacity_of result ≡ 0 }
+    {
+        let _f = layout.f();
         Parts {
-            table: Table::new(alloc),
+            table: Table::new_in(alloc, layout),
             keys: no_keys(),
             row: Row::new(),
             epoch: Epoch::new(),
@@ -131,6 +148,13 @@ impl<T> Parts<T> {
         self.limit
     }
 
+    /// How its places are cut into segments.
+    pub fn layout(&self) -> Layout
+        ensures { result ≡ self.now.layout }
+    {
+        self.table.layout()
+    }
+
     /// The places of the segments that are there, which is how many members it can have without more memory.
     pub fn capacity(&self) -> u64
         ensures value { result ≡ capacity_of self.now }
@@ -140,7 +164,8 @@ impl<T> Parts<T> {
             return 0;
         }
         let last = self.count - 1;
-        first(last) + len(last)
+        let layout = self.layout();
+        layout.first(last) + layout.len(last)
     }
 
     /// The member at the place, or nothing where it is broken.
@@ -149,7 +174,7 @@ impl<T> Parts<T> {
         ensures { MatchOption result (slice_get self.now.members place ≡ Some None)
             (λ value. slice_get self.now.members place ≡ Some (Some value.now)) }
     {
-        let (_, offset, key) = cell_of(&self.keys, self.count, place);
+        let (_, offset, key) = cell_of(&self.table, &self.keys, self.count, place);
         let (value, _) = self
             .table
             .known(&key)
@@ -163,7 +188,7 @@ impl<T: Drop> Parts<T> {
     #[tactic(auto, using(crate::proofs::Places::few_below))]
     fn lacks_room(&self, n: u64) -> bool
         requires { n ≤ self.now.limit }
-        ensures lacks { IsTrue result → (capacity_of self.now < n) × (self.now.segments < 32) }
+        ensures lacks { IsTrue result → (capacity_of self.now < n) × (self.now.segments < segment_count self.now.layout) }
         ensures has { IsFalse result → n ≤ capacity_of self.now }
     {
         let _ = &self.table;
@@ -175,14 +200,15 @@ impl<T: Drop> Parts<T> {
         ensures spare { IsTrue result → IsSpare self.now }
         ensures none { IsFalse result → ¬ IsSpare self.now }
     {
-        self.count > 0 && first(self.count - 1) >= self.len
+        self.count > 0 && self.layout().first(self.count - 1) >= self.len
     }
 
     // One segment more.
     fn add_segment(&mut self) -> Result<(), AllocError>
-        requires { self.old.segments < 32 }
+        requires { self.old.segments < segment_count self.old.layout }
         ensures members { self.new.members ≡ self.old.members }
         ensures limit { self.new.limit ≡ self.old.limit }
+        ensures layout { self.new.layout ≡ self.old.layout }
         ensures more { IfOk result (λ _. self.new.segments ≡ self.old.segments + 1) }
         ensures same { IfErr result (λ _. self.new.segments ≡ self.old.segments) }
     {
@@ -199,11 +225,12 @@ impl<T: Drop> Parts<T> {
         requires { n ≤ self.old.limit }
         ensures members { self.new.members ≡ self.old.members }
         ensures limit { self.new.limit ≡ self.old.limit }
+        ensures layout { self.new.layout ≡ self.old.layout }
         ensures room { IfOk result (λ _. n ≤ capacity_of self.new) }
         // Where there is room, no memory is asked for.
         ensures spare { n ≤ capacity_of self.old → IsOk result }
         ensures kept { self.old.segments ≤ self.new.segments }
-        ensures least { (k : ℕ) → self.old.segments ≤ k → k < self.new.segments → segment_start k < n }
+        ensures least { (k : ℕ) → self.old.segments ≤ k → k < self.new.segments → segment_start self.old.layout k < n }
     {
         while self.lacks_room(n) {
             self.add_segment()?;
@@ -216,6 +243,7 @@ impl<T: Drop> Parts<T> {
         requires { IsSpare self.old }
         ensures members { self.new.members ≡ self.old.members }
         ensures limit { self.new.limit ≡ self.old.limit }
+        ensures layout { self.new.layout ≡ self.old.layout }
         ensures fewer { self.new.segments + 1 ≡ self.old.segments }
     {
         self.closed = None;
@@ -228,8 +256,9 @@ impl<T: Drop> Parts<T> {
     pub fn cut(&mut self)
         ensures members { self.new.members ≡ self.old.members }
         ensures limit { self.new.limit ≡ self.old.limit }
+        ensures layout { self.new.layout ≡ self.old.layout }
         ensures fewer { self.new.segments ≤ self.old.segments }
-        ensures least { (k : ℕ) → k < self.new.segments → segment_start k < length self.new.members }
+        ensures least { (k : ℕ) → k < self.new.segments → segment_start self.new.layout k < length self.new.members }
     {
         while self.has_spare() {
             self.drop_segment();
@@ -242,10 +271,11 @@ impl<T: Drop> Parts<T> {
         requires room { length self.old.members < capacity_of self.old }
         ensures members { self.new.members ≡ self.old.members ++ value ∷ [] }
         ensures limit { self.new.limit ≡ self.old.limit }
+        ensures layout { self.new.layout ≡ self.old.layout }
         ensures segments { self.new.segments ≡ self.old.segments }
     {
         self.closed = None;
-        let (segment, offset, key) = cell_of(&self.keys, self.count, self.len);
+        let (segment, offset, key) = cell_of(&self.table, &self.keys, self.count, self.len);
         let mut block = self.table.detach(&key);
         let (member, held) = write(&mut block, offset, value, &self.epoch);
         drop(held);
@@ -259,11 +289,12 @@ impl<T: Drop> Parts<T> {
         requires { 0 < length self.old.members }
         ensures member { self.old.members ≡ self.new.members ++ result ∷ [] }
         ensures limit { self.new.limit ≡ self.old.limit }
+        ensures layout { self.new.layout ≡ self.old.layout }
         ensures segments { self.new.segments ≡ self.old.segments }
     {
         self.closed = None;
         self.len -= 1;
-        let (segment, offset, key) = cell_of(&self.keys, self.count, self.len);
+        let (segment, offset, key) = cell_of(&self.table, &self.keys, self.count, self.len);
         let mut block = self.table.detach(&key);
         let value = block.take_member(offset, &self.row.at(self.len), &self.epoch);
         self.keys[segment as usize] = Some(self.table.attach(segment, block));
@@ -278,10 +309,11 @@ impl<T: Drop> Parts<T> {
         ensures members { self.new.members ≡ slice_set self.old.members place value }
         ensures member { slice_get self.old.members place ≡ Some result }
         ensures limit { self.new.limit ≡ self.old.limit }
+        ensures layout { self.new.layout ≡ self.old.layout }
         ensures segments { self.new.segments ≡ self.old.segments }
     {
         self.closed = None;
-        let (segment, offset, key) = cell_of(&self.keys, self.count, place);
+        let (segment, offset, key) = cell_of(&self.table, &self.keys, self.count, place);
         let mut block = self.table.detach(&key);
         let held = block.take_member(offset, &self.row.at(place), &self.epoch);
         let (member, none) = write(&mut block, offset, value, &self.epoch);

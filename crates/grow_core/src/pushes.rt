@@ -11,7 +11,6 @@ use crate::token::Placed;
 use crate::vector::Shared;
 use claim_core::{Moved, laws};
 use seg_core::laws::places;
-use seg_core::locate;
 use std::sync::Wait;
 
 impl<T: Drop> Shared<T> {
@@ -62,7 +61,7 @@ impl<T: Drop> Shared<T> {
                 back: value,
             });
         }
-        let (segment, offset) = locate(from);
+        let (segment, offset) = self.table.layout().locate(from);
         let Ok(key) = key_for(&self.table, &mut hand.keys, segment) else {
             return Err(GrowError::NoMemory { back: value });
         };

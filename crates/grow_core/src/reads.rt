@@ -11,7 +11,6 @@ use crate::token::{Placed, Spoilt};
 use crate::vector::Shared;
 use cell_core::block::Look;
 use seg_core::laws::places;
-use seg_core::locate;
 
 /// The value at a place, and the token that shows it.
 #[derive(Debug, Drop)]
@@ -100,7 +99,7 @@ impl<T> Shared<T> {
         if place >= self.word.base() {
             return None;
         }
-        let (_, offset, key) = cell_of(&self.keys, self.count, place);
+        let (_, offset, key) = cell_of(&self.table, &self.keys, self.count, place);
         let (value, cell) = self.table.known(&key).known(offset, &self.row.at(place))?;
         Some(At {
             value,
@@ -116,7 +115,7 @@ impl<T> Shared<T> {
         let place = placed.place();
         if place < self.word.base() {
             places();
-            let (_, _, key) = cell_of(&self.keys, self.count, place);
+            let (_, _, key) = cell_of(&self.table, &self.keys, self.count, place);
             self.table.agree(&key, &placed.key);
             self.row.at(place).agree(&placed.cell);
         }
@@ -128,7 +127,7 @@ impl<T> Shared<T> {
         ensures { IsShownAt self.now place result }
     {
         self.laws();
-        let (segment, offset) = locate(place);
+        let (segment, offset) = self.table.layout().locate(place);
         let Some((block, key)) = self.table.scout_key(segment) else {
             return Shown::NotYet;
         };

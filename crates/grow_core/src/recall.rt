@@ -32,8 +32,8 @@ impl<T> Parts<T> {
     {
         places();
         let place = placed.place();
-        let (_, offset, key) = cell_of(&self.keys, self.count, place);
-        let (_, _, before) = cell_of(&self.before, self.count, place);
+        let (_, offset, key) = cell_of(&self.table, &self.keys, self.count, place);
+        let (_, _, before) = cell_of(&self.table, &self.before, self.count, place);
         before.agree(&placed.key);
         let member = self.row.at(place);
         member.agree(&placed.cell);

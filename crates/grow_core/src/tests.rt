@@ -5,6 +5,7 @@ mod drops;
 mod first;
 mod keys;
 mod large;
+mod layouts;
 mod lives;
 mod made;
 mod memory;

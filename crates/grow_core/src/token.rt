@@ -3,17 +3,16 @@ ghost use Rattle.std.specs.Prelude.{◌≡◌};
 ghost use Rattle.grow_core.specs.Token.{AreSmall, place_in};
 
 use cell_core::block;
-use seg_core::first;
 use std::fmt;
 use std::marker::Model;
 use table_core::Key;
 
 // The place of a cell in the segment of a key.
 fn place_of(key: &Key, offset: u64) -> u64
-    requires { AreSmall key.now.entry offset }
-    ensures { result ≡ place_in key.now.entry offset }
+    requires { AreSmall key.now.layout key.now.entry offset }
+    ensures { result ≡ place_in key.now.layout key.now.entry offset }
 {
-    first(key.entry()) + offset
+    key.layout().first(key.entry()) + offset
 }
 
 /// Shows that a place holds a value, for good. It crosses threads, and takes 16 bytes.
@@ -32,7 +31,7 @@ impl<T> Model for Placed<T> {
 
     ghost view = { λ p. placed_view p.key p.cell };
 
-    ghost invariant = { λ p. AreSmall p.key.entry p.cell.place };
+    ghost invariant = { λ p. AreSmall p.key.layout p.key.entry p.cell.place };
 }
 
 impl<T> fmt::Debug for Placed<T> {
@@ -78,7 +77,7 @@ impl Model for Spoilt {
 
     ghost view = { λ s. spoilt_view s.key s.cell };
 
-    ghost invariant = { λ s. AreSmall s.key.entry s.cell.place };
+    ghost invariant = { λ s. AreSmall s.key.layout s.key.entry s.cell.place };
 }
 
 impl fmt::Debug for Spoilt {
@@ -124,7 +123,7 @@ impl Model for Begun {
 
     ghost view = { λ b. begun_view b.key b.cell };
 
-    ghost invariant = { λ b. AreSmall b.key.entry b.cell.place };
+    ghost invariant = { λ b. AreSmall b.key.layout b.key.entry b.cell.place };
 }
 
 impl fmt::Debug for Begun {

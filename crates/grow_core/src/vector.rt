@@ -2,12 +2,13 @@
 ghost use Rattle.std.specs.Prelude.{◌≡◌, ◌≤◌, length};
 ghost use Rattle.claim_core.specs.Word.{AreBounds};
 ghost use Rattle.claim_core.specs.Hand.{IsWholeHand, SeesSize, seen_size};
-ghost use Rattle.grow_core.specs.Vector.{IsHandOf, limit_of, base_of};
+ghost use Rattle.grow_core.specs.Vector.{IsHandOf, limit_of, layout_of, base_of};
 
 use crate::hand::Hand;
 use crate::keys::Keys;
 use cell_core::block::{Ended, Row};
 use claim_core::{Word, laws};
+use seg_core::Layout;
 use std::alloc::Global;
 use std::fmt;
 use std::marker::Model;
@@ -56,6 +57,13 @@ impl<T> Shared<T> {
         ensures { result ≡ limit_of self.now }
     {
         self.word.limit()
+    }
+
+    /// How its places are cut into segments.
+    pub fn layout(&self) -> Layout
+        ensures { result ≡ layout_of self.now }
+    {
+        self.table.layout()
     }
 
     /// What every vector keeps: it began with the list that it was opened from. It does nothing.

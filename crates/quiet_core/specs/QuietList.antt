@@ -7,11 +7,12 @@ use Rattle.std.specs.declared.cmp.Ordering.{Ordering}
 use Rattle.seg_core.specs.Segment.{segment_end}
 use Rattle.grow_core.specs.Parts.{PartsView, capacity_of}
 
--- each member is a value or broken (`None`); the greatest length; the places of the segments that are there; and, where it was
--- closed from a vector and is as it was then, the names of that vector's segments
+-- each member is a value or broken (`None`); the greatest length; the layout of the segments; the places of those that are there; and,
+-- where it was closed from a vector and is as it was then, the mark of that vector's segments
 pub record QuietList (T : Type 0) : Type 0 where
   pub members : List (Option T)
   pub limit : ℕ
+  pub layout : ℕ
   pub capacity : ℕ
   pub closed : Option (List ℕ)
 
@@ -19,39 +20,41 @@ pub record QuietList (T : Type 0) : Type 0 where
 abbrev pub quiet_code : {T : Type 0} → Coded T → Coded (QuietList T)
 quiet_code {T} code =
     code_by
-    (List (Option T) × (ℕ × (ℕ × Option (List ℕ))))
-    (coded× (coded_list (coded_option code)) (coded× coded_ℕ (coded× coded_ℕ (coded_option (coded_list coded_ℕ)))))
-    (λ q. (q.members, (q.limit, (q.capacity, q.closed))))
-    (λ p. record { members = p.0; limit = p.1.0; capacity = p.1.1.0; closed = p.1.1.1 })
+    (List (Option T) × (ℕ × (ℕ × (ℕ × Option (List ℕ)))))
+    (coded× (coded_list (coded_option code)) (coded× coded_ℕ (coded× coded_ℕ (coded× coded_ℕ (coded_option (coded_list coded_ℕ))))))
+    (λ q. (q.members, (q.limit, (q.layout, (q.capacity, q.closed)))))
+    (λ p. record { members = p.0; limit = p.1.0; layout = p.1.1.0; capacity = p.1.1.1.0; closed = p.1.1.1.1 })
     (λ _. refl)
 
 -- what an owner holds of a vector, as a list
 abbrev pub list_of : {T : Type 0} → PartsView T → QuietList T
-list_of parts = record { members = parts.members; limit = parts.limit; capacity = capacity_of parts; closed = parts.closed }
+list_of parts =
+    record { members = parts.members; limit = parts.limit; layout = parts.layout; capacity = capacity_of parts; closed = parts.closed }
 
--- a number of places that fill whole segments: none, or all up to the end of a segment
-abbrev pub IsWhole : ℕ → Type 0
-IsWhole places = (places ≡ 0) ⊎ ((segment : ℕ) × (places ≡ segment_end segment))
+-- a number of places that fill whole segments of a layout: none, or all up to the end of a segment
+abbrev pub IsWhole : ℕ → ℕ → Type 0
+IsWhole f places = (places ≡ 0) ⊎ ((segment : ℕ) × (places ≡ segment_end f segment))
 
 -- the fewest whole segments with places for n members
-pub record IsCapacityFor (n capacity : ℕ) : Type 0 where
-  pub whole : IsWhole capacity
+pub record IsCapacityFor (f n capacity : ℕ) : Type 0 where
+  pub whole : IsWhole f capacity
   pub room : n ≤ capacity
-  pub least : (other : ℕ) → IsWhole other → n ≤ other → capacity ≤ other
+  pub least : (other : ℕ) → IsWhole f other → n ≤ other → capacity ≤ other
 
 -- the new capacity is the greater of the old one and the one for n members
-abbrev pub GrowsFor : ℕ → ℕ → ℕ → Type 0
-GrowsFor n old new = (needed : ℕ) × IsCapacityFor n needed × (new ≡ max old needed)
+abbrev pub GrowsFor : ℕ → ℕ → ℕ → ℕ → Type 0
+GrowsFor f n old new = (needed : ℕ) × IsCapacityFor f n needed × (new ≡ max old needed)
 
 module _ {T : Type 0} where
   -- no more member fits below the limit
   abbrev pub IsAtLimit : QuietList T → Type 0
   IsAtLimit list = length list.members ≡ list.limit
 
-  -- the members and the limit are the same, and no segment is given up
+  -- the members, the limit and the layout are the same, and no segment is given up
   pub record IsUnchanged (old new : QuietList T) : Type 0 where
     pub members : new.members ≡ old.members
     pub limit : new.limit ≡ old.limit
+    pub layout : new.layout ≡ old.layout
     pub capacity : old.capacity ≤ new.capacity
 
   -- two members are equal where both are broken, or both are equal values

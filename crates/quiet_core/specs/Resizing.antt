@@ -42,4 +42,4 @@ module _ {F T E : Type 0} (step : F → ℕ → Result T E → F → Type 0) (ma
   LeavesList n old new NoMemory = IsUnchanged old new
   LeavesList n old new TooLong = new ≡ old
   LeavesList n old new (Refused made) =
-      IsBrokenOff n made old.members new.members × (new.limit ≡ old.limit) × GrowsFor n old.capacity new.capacity
+      IsBrokenOff n made old.members new.members × (new.limit ≡ old.limit) × (new.layout ≡ old.layout) × GrowsFor old.layout n old.capacity new.capacity

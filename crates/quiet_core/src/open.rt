@@ -1,7 +1,7 @@
 //! How a list becomes a vector that many callers share, and how that becomes a list again.
 ghost use Rattle.std.specs.Prelude.{◌≡◌, ◌<◌, Some, length, slice_get, IfOk, IfErr};
 ghost use Rattle.claim_core.specs.Hand.{IsWholeHand, IsNewHand, seen_size};
-ghost use Rattle.grow_core.specs.Vector.{IsHandOf, limit_of, base_of};
+ghost use Rattle.grow_core.specs.Vector.{IsHandOf, limit_of, layout_of, base_of};
 ghost use Rattle.grow_core.specs.Closing.{IsClosedFrom, IsOfClosed, KeepsValues};
 
 use crate::quiet::Quiet;
@@ -14,6 +14,7 @@ impl<T> Quiet<T> {
     pub fn open(self) -> Result<(Shared<T>, Hand<T>), (Quiet<T>, OpenError)>
         ensures opened { IfOk result (λ (vector, _). vector.opened ≡ self.members) }
         ensures limit { IfOk result (λ (vector, _). limit_of vector ≡ self.limit) }
+        ensures layout { IfOk result (λ (vector, _). layout_of vector ≡ self.layout) }
         ensures base { IfOk result (λ (vector, _). base_of vector ≡ length self.members) }
         ensures hand { IfOk result (λ (vector, hand). IsNewHand vector.word hand) }
         ensures back { IfErr result (λ (back, _). back ≡ self) }
@@ -48,6 +49,7 @@ impl<T: Drop> Quiet<T> {
         requires whole { IsWholeHand hand }
         ensures length { length result.members ≡ seen_size hand }
         ensures limit { result.limit ≡ limit_of vector }
+        ensures layout { result.layout ≡ layout_of vector }
         ensures opened { KeepsValues vector.opened result.members }
         ensures closed { IsClosedFrom vector result.closed }
     {

@@ -1,13 +1,14 @@
 //! The list, and what its owner does with it.
-ghost use Rattle.std.specs.Prelude.{◌≡◌, ◌↔◌, ◌+◌, ◌^◌, ◌<◌, ◌≤◌, [], ◌∷◌, ◌++◌, length, map, slice_get, slice_set, vec_len, Some, None, Ok, Err, IsOk, IsErrOf, IfOk, IfErr, OnOk, OnErr};
+ghost use Rattle.std.specs.Prelude.{◌≡◌, ◌↔◌, ◌+◌, ◌<◌, ◌≤◌, [], ◌∷◌, ◌++◌, length, map, slice_get, slice_set, vec_len, Some, None, Ok, Err, IsOk, IsErrOf, IfOk, IfErr, OnOk, OnErr};
 ghost use Rattle.quiet_core.specs.QuietAt.{IsRefusalAt, IsMendRefusalAt};
-ghost use Rattle.seg_core.specs.Segment.{IsLimit};
+ghost use Rattle.seg_core.specs.Segment.{IsLimit, most_places};
 ghost use Rattle.quiet_core.specs.QuietList.{IsWhole, IsCapacityFor, GrowsFor, IsAtLimit, IsUnchanged};
 ghost use Rattle.quiet_core.specs.Resizing.{IsOfRoom, IsNotOfRoom, IsResized, LeavesList};
 
 use crate::errors::{QuietAt, QuietError, QuietMendError};
 use crate::room::{append, append_made, break_to, cut_to, places_for};
 use grow_core::Parts;
+use seg_core::Layout;
 use std::alloc::Global;
 use std::marker::Model;
 use std::{fmt, mem};
@@ -35,23 +36,42 @@ impl<T: fmt::Debug> fmt::Debug for Quiet<T> {
 }
 
 impl<T> Quiet<T> {
-    /// The empty list. It takes no memory yet.
+    /// The empty list, whose first segment has two places. It takes no memory yet.
     pub fn new(alloc: Global, limit: u64) -> Self
         requires { IsLimit limit }
         ensures members { result.members ≡ [] }
         ensures limit { result.limit ≡ limit }
+        ensures layout { result.layout ≡ 1 }
+        ensures capacity { result.capacity ≡ 0 }
+    {
+        Quiet::new_in(alloc, Layout::default(), limit)
+    }
+
+    /// The empty list, whose segments are those of the layout. It takes no memory yet.
+    pub fn new_in(alloc: Global, layout: Layout, limit: u64) -> Self
+        requires { IsLimit limit }
+        ensures members { result.members ≡ [] }
+        ensures limit { result.limit ≡ limit }
+        ensures layout { result.layout ≡ layout }
         ensures capacity { result.capacity ≡ 0 }
     {
         Quiet {
-            parts: Parts::new(alloc, limit),
+            parts: Parts::new_in(alloc, layout, limit),
         }
+    }
+
+    /// How its places are cut into segments.
+    pub fn layout(&self) -> Layout
+        ensures { result ≡ self.now.layout }
+    {
+        self.parts.layout()
     }
 
     /// How many members there are.
     pub fn len(&self) -> u64
         ensures value { result ≡ length self.now.members }
         ensures within { result ≤ self.now.limit }
-        ensures small { result ≤ 2 ^ 32 }
+        ensures small { result ≤ most_places }
     {
         let _limit = self.parts.limit();
         self.parts.len()
@@ -70,7 +90,7 @@ impl<T> Quiet<T> {
     /// The places of the segments that are there, also past the limit. Up to it no call asks for memory.
     pub fn capacity(&self) -> u64
         ensures value { result ≡ self.now.capacity }
-        ensures whole { IsWhole result }
+        ensures whole { IsWhole self.now.layout result }
         ensures bound { length self.now.members ≤ result }
     {
         self.parts.capacity()
@@ -94,7 +114,8 @@ impl<T: Drop> Quiet<T> {
     pub fn reserve(&mut self, n: u64) -> Result<(), QuietError>
         ensures members { self.new.members ≡ self.old.members }
         ensures limit { self.new.limit ≡ self.old.limit }
-        ensures capacity { OnOk result (GrowsFor n self.old.capacity self.new.capacity) }
+        ensures layout { self.new.layout ≡ self.old.layout }
+        ensures capacity { OnOk result (GrowsFor self.old.layout n self.old.capacity self.new.capacity) }
         // The limit is looked at before memory is asked for.
         ensures too_long { IsErrOf result QuietError.TooLong ↔ (self.old.limit < n) }
         ensures unchanged { OnErr result (IsUnchanged self.old self.new) }
@@ -105,7 +126,7 @@ impl<T: Drop> Quiet<T> {
         if self.limit() < n {
             return Err(QuietError::TooLong);
         }
-        if places_for(n) <= self.capacity() {
+        if places_for(self.layout(), n) <= self.capacity() {
             return Ok(());
         }
         match self.parts.room(n) {
@@ -125,7 +146,8 @@ impl<T: Drop> Quiet<T> {
         requires { IsLimit limit }
         ensures members { IfOk result (λ q. q.members ≡ map Some values.items) }
         ensures limit { IfOk result (λ q. q.limit ≡ limit) }
-        ensures capacity { IfOk result (λ q. IsCapacityFor (vec_len values) q.capacity) }
+        ensures layout { IfOk result (λ q. q.layout ≡ 1) }
+        ensures capacity { IfOk result (λ q. IsCapacityFor 1 (vec_len values) q.capacity) }
         // The limit is looked at before memory is asked for.
         ensures too_long { (result ≡ Err (QuietError.TooLong, values)) ↔ (limit < vec_len values) }
         ensures values_back { IfErr result (λ (_, back). back ≡ values) }
@@ -145,8 +167,9 @@ impl<T: Drop> Quiet<T> {
         ensures place { IfOk result (λ place. place ≡ length self.old.members) }
         ensures appended { OnOk result (self.new.members ≡ self.old.members ++ Some value ∷ []) }
         ensures limit { self.new.limit ≡ self.old.limit }
+        ensures layout { self.new.layout ≡ self.old.layout }
         ensures capacity { OnOk result
-            (GrowsFor (length self.new.members) self.old.capacity self.new.capacity) }
+            (GrowsFor self.old.layout (length self.new.members) self.old.capacity self.new.capacity) }
         // The limit is looked at before memory is asked for.
         ensures too_long { (result ≡ Err (QuietError.TooLong, value)) ↔ IsAtLimit self.old }
         ensures value_back { IfErr result (λ (_, back). back ≡ value) }
@@ -172,8 +195,9 @@ impl<T: Drop> Quiet<T> {
     pub fn assign(&mut self, values: Vec<T>) -> Result<(), (QuietError, Vec<T>)>
         ensures members { OnOk result (self.new.members ≡ map Some values.items) }
         ensures limit { self.new.limit ≡ self.old.limit }
+        ensures layout { self.new.layout ≡ self.old.layout }
         ensures capacity { OnOk result
-            (GrowsFor (vec_len values) self.old.capacity self.new.capacity) }
+            (GrowsFor self.old.layout (vec_len values) self.old.capacity self.new.capacity) }
         // The limit is looked at before memory is asked for.
         ensures too_long { (result ≡ Err (QuietError.TooLong, values))
             ↔ (self.old.limit < vec_len values) }
@@ -198,6 +222,7 @@ impl<T: Drop> Quiet<T> {
     pub fn clear(&mut self)
         ensures members { self.new.members ≡ [] }
         ensures limit { self.new.limit ≡ self.old.limit }
+        ensures layout { self.new.layout ≡ self.old.layout }
         ensures capacity { self.new.capacity ≡ self.old.capacity }
     {
         cut_to(&mut self.parts, 0);
@@ -217,7 +242,8 @@ impl<T: Drop> Quiet<T> {
         ensures resized { OnOk result (IsResized F.step make n self.old.members self.new.members) }
         ensures refused { IfErr result (LeavesList F.step make n self.old self.new) }
         ensures limit { self.new.limit ≡ self.old.limit }
-        ensures capacity { OnOk result (GrowsFor n self.old.capacity self.new.capacity) }
+        ensures layout { self.new.layout ≡ self.old.layout }
+        ensures capacity { OnOk result (GrowsFor self.old.layout n self.old.capacity self.new.capacity) }
         // The limit is looked at before memory is asked for.
         ensures too_long { IsErrOf result QuietError.TooLong ↔ (self.old.limit < n) }
         ensures spare { n ≤ self.old.limit → n ≤ self.old.capacity → IfErr result IsNotOfRoom }
@@ -241,7 +267,8 @@ impl<T: Drop> Quiet<T> {
     pub fn shrink_to_fit(&mut self)
         ensures members { self.new.members ≡ self.old.members }
         ensures limit { self.new.limit ≡ self.old.limit }
-        ensures capacity { IsCapacityFor (length self.old.members) self.new.capacity }
+        ensures layout { self.new.layout ≡ self.old.layout }
+        ensures capacity { IsCapacityFor self.old.layout (length self.old.members) self.new.capacity }
     {
         self.parts.cut();
         let _room = self.parts.capacity();
@@ -256,6 +283,7 @@ impl<T: Drop> Quiet<T> {
         ensures value_back { IfErr result (λ (_, back). back ≡ value) }
         ensures unchanged { OnErr result (self.new ≡ self.old) }
         ensures limit { self.new.limit ≡ self.old.limit }
+        ensures layout { self.new.layout ≡ self.old.layout }
         ensures capacity { self.new.capacity ≡ self.old.capacity }
     {
         if let Err(error) = self.get(place) {
@@ -276,6 +304,7 @@ impl<T: Drop> Quiet<T> {
         ensures value_back { IfErr result (λ (_, back). back ≡ value) }
         ensures unchanged { OnErr result (self.new ≡ self.old) }
         ensures limit { self.new.limit ≡ self.old.limit }
+        ensures layout { self.new.layout ≡ self.old.layout }
         ensures capacity { self.new.capacity ≡ self.old.capacity }
     {
         match self.get(place) {

@@ -1,17 +1,19 @@
 //! The room under a list, and how it is filled and emptied.
-ghost use Rattle.std.specs.Prelude.{◌≡◌, ◌^◌, ◌+◌, ◌-◌, ◌<◌, ◌≤◌, ◌++◌, Some, None, OnOk, IfErr, length, map, take, replicate, vec_len};
+ghost use Rattle.std.specs.Prelude.{◌≡◌, ◌+◌, ◌-◌, ◌<◌, ◌≤◌, ◌++◌, Some, None, OnOk, IfErr, length, map, take, replicate, vec_len};
+ghost use Rattle.seg_core.specs.Segment.{most_places};
 ghost use Rattle.grow_core.specs.Parts.{capacity_of};
 ghost use Rattle.quiet_core.specs.QuietList.{IsCapacityFor};
 ghost use Rattle.quiet_core.specs.Resizing.{IsMade, IsStopped};
 
 use grow_core::Parts;
+use seg_core::Layout;
 
 // The places of the fewest whole segments with room for n members.
-pub(crate) fn places_for(n: u64) -> u64
-    requires { n ≤ 2 ^ 32 }
-    ensures { IsCapacityFor n result }
+pub(crate) fn places_for(layout: Layout, n: u64) -> u64
+    requires { n ≤ most_places }
+    ensures { IsCapacityFor layout n result }
 {
-    seg_core::capacity_for(n)
+    layout.capacity_for(n)
 }
 
 // Appends the values. There is room for them.
@@ -20,6 +22,7 @@ pub(crate) fn append<T: Drop>(parts: &mut Parts<T>, values: Vec<T>)
     requires room { length parts.old.members + vec_len values ≤ capacity_of parts.old }
     ensures members { parts.new.members ≡ parts.old.members ++ map Some values.items }
     ensures limit { parts.new.limit ≡ parts.old.limit }
+    ensures layout { parts.new.layout ≡ parts.old.layout }
     ensures segments { parts.new.segments ≡ parts.old.segments }
 {
     for value in values {
@@ -32,6 +35,7 @@ pub(crate) fn cut_to<T: Drop>(parts: &mut Parts<T>, n: u64)
     requires { n ≤ length parts.old.members }
     ensures members { parts.new.members ≡ take n parts.old.members }
     ensures limit { parts.new.limit ≡ parts.old.limit }
+    ensures layout { parts.new.layout ≡ parts.old.layout }
     ensures segments { parts.new.segments ≡ parts.old.segments }
 {
     while parts.len() > n {
@@ -51,6 +55,7 @@ pub(crate) fn append_made<T: Drop, E: Drop, F: FnMut(u64) -> Result<T, E>>(
     ensures made { OnOk result (IsMade F.step make n parts.old.members parts.new.members) }
     ensures stopped { IfErr result (λ made. (made < n) × IsStopped F.step make made parts.old.members parts.new.members) }
     ensures limit { parts.new.limit ≡ parts.old.limit }
+    ensures layout { parts.new.layout ≡ parts.old.layout }
     ensures segments { parts.new.segments ≡ parts.old.segments }
 {
     for i in 0..n {
@@ -69,6 +74,7 @@ pub(crate) fn break_to<T: Drop>(parts: &mut Parts<T>, n: u64)
     requires room { n ≤ capacity_of parts.old }
     ensures members { parts.new.members ≡ parts.old.members ++ replicate (n - length parts.old.members) None }
     ensures limit { parts.new.limit ≡ parts.old.limit }
+    ensures layout { parts.new.layout ≡ parts.old.layout }
     ensures segments { parts.new.segments ≡ parts.old.segments }
 {
     while parts.len() < n {

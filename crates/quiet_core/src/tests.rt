@@ -1,6 +1,7 @@
 //! What no clause says: that the calls succeed where there is memory, and what the worked rows say.
 ghost use Rattle.seg_core.specs.Segment.{IsLimit};
 
+mod layouts;
 mod lives;
 mod memory;
 mod resize;
@@ -58,7 +59,7 @@ fn measures(list: &Quiet<u64>, len: u64, capacity: u64) -> bool {
     list.len() == len && list.capacity() == capacity
 }
 
-fn shrinks_to(list: &mut Quiet<u64>, capacity: u64) -> bool {
+pub(crate) fn shrinks_to(list: &mut Quiet<u64>, capacity: u64) -> bool {
     list.shrink_to_fit();
     list.capacity() == capacity
 }

@@ -1,13 +1,13 @@
--- First lines and actor lines: what is read is spelled so, and what is spelled so is read.
+-- First lines, layout lines and actor lines: what is read is spelled so, and what is spelled so is read.
 use Rattle.std.proofs.Common.{◌≡◌, ◌≢◌, ℕ, zero, suc, ◌<◌, ◌≤◌, true, false, ◌&&◌, cond, eqb, leb, List, [], ◌∷◌, ◌++◌, length, get_or, drop, Option, Some, None, Ok, Err, refl, sym, ap, subst, ◌∙◌, arith, inl, inr}
-use Rattle.std.specs.Prelude.{codes}
+use Rattle.std.specs.Prelude.{codes, decimal}
 use Rattle.std.specs.List.{starts_with, list_any}
 use Rattle.std.proofs.lemmas.Bool.{cases_Bool, and_parts, or_parts, or_from, eqb-true, eqb-false, ne_eqb, leb-true, leb-false, le-leb, lt-leb, cond-true, cond-false}
 use Rattle.std.proofs.lemmas.Bool.Decides.{Decides-eqb}
 use Rattle.std.proofs.lemmas.Slice.Eq.{starts_is}
 use Rattle.book_core.specs.declared.commands.Command.{Command}
-use Rattle.script_core.specs.declared.error.Fault.TheVariants.{BadLimit, BadLine, BadName, TwiceNamed, TooMany}
-use Rattle.script_core.specs.Grammar.{◌>>=◌, cut, number_or, limit_in, parsed_limit, parsed_name, parsed_program, program_after, parsed_actor}
+use Rattle.script_core.specs.declared.error.Fault.TheVariants.{BadLimit, BadLine, BadName, TwiceNamed, TooMany, BadFirst}
+use Rattle.script_core.specs.Grammar.{◌>>=◌, cut, number_or, limit_in, layout_in, parsed_limit, parsed_name, parsed_program, program_after, parsed_actor}
 use Rattle.script_core.specs.Spelling.{limit_line, program_text, IsName, IsProgram}
 use Rattle.script_core.proofs.NumberSpelling.{bind_ok, test_ok, refusal_ok, ok_is, number_takes, number_again}
 use Rattle.script_core.proofs.CommandSpelling.{program_takes, program_again}
@@ -34,6 +34,24 @@ pub limit_again : (limit : ℕ) → 1 ≤ limit → limit ≤ 65536 → parsed_l
 unfolding parsed_limit limit_in
 limit_again limit low high =
     rw (number_again BadLimit limit (omega arith), le-leb 1 limit low, le-leb limit 65536 high) refl
+
+-- ---- Layout lines
+
+pub layout_takes : (words : List ℕ) (first : ℕ) → layout_in words ≡ Ok first
+    → (words ≡ decimal first) × ((1 ≤ first) × (first ≤ 8))
+unfolding layout_in
+layout_takes words first h =
+    let q = bind_ok (number_or BadFirst words) (λ n. (cond (leb 1 n && leb n 8) (Ok n) (Err BadFirst))) first h in
+    let t = test_ok (leb 1 q.0 && leb q.0 8) (Ok q.0) BadFirst first q.2 in
+    let n = number_takes BadFirst words q.0 q.1 in
+    let range = and_parts (leb 1 q.0) (leb q.0 8) t.0 in
+    subst (λ (k : ℕ). (words ≡ decimal k) × ((1 ≤ k) × (k ≤ 8))) (ok_is _ _ t.1)
+    (n.0, (leb-true 1 q.0 range.0, leb-true q.0 8 range.1))
+
+pub layout_again : (first : ℕ) → 1 ≤ first → first ≤ 8 → layout_in (decimal first) ≡ Ok first
+unfolding layout_in
+layout_again first low high =
+    rw (number_again BadFirst first (omega arith), le-leb 1 first low, le-leb first 8 high) refl
 
 -- ---- Actor lines
 

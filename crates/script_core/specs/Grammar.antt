@@ -11,7 +11,7 @@ use Rattle.book_core.specs.declared.commands.Item.{Item}
 use Rattle.script_core.specs.declared.error.ScriptError.{ScriptError}
 use Rattle.script_core.specs.declared.error.ScriptError.TheVariants as errors
 use Rattle.script_core.specs.declared.error.Fault.{Fault}
-use Rattle.script_core.specs.declared.error.Fault.TheVariants.{BadLimit, BadLine, BadName, TwiceNamed, BadCommand, NumberTooLarge, TooMany}
+use Rattle.script_core.specs.declared.error.Fault.TheVariants.{BadLimit, BadLine, BadName, TwiceNamed, BadCommand, NumberTooLarge, TooMany, BadFirst}
 use Rattle.script_core.specs.declared.script.Script.{Script}
 use Rattle.script_core.specs.ScriptError.{error_at}
 
@@ -124,6 +124,10 @@ limit_in text = number_or BadLimit text >>= λ limit. (if nat_le 1 limit && nat_
 unfoldable pub parsed_limit : List ℕ → Result ℕ Fault
 parsed_limit line = if starts_with nat_eq line (codes "limit ") then limit_in (drop 6 line) else Err BadLine
 
+-- the layout: a number from 1 to 8
+unfoldable pub layout_in : List ℕ → Result ℕ Fault
+layout_in text = number_or BadFirst text >>= λ first. (if nat_le 1 first && nat_le first 8 then Ok first else Err BadFirst)
+
 -- a name is one letter from a to z
 unfoldable pub parsed_name : List ℕ → Result ℕ Fault
 parsed_name [] = Err BadName
@@ -160,6 +164,10 @@ unfoldable pub parsed_items : List ℕ → List ℕ → Result (List Item) Fault
 parsed_items names [] = Ok []
 parsed_items names (space ∷ text) = try_each (parsed_item names) 100000 [] (words text)
 
+-- a layout line begins with its word and a space
+unfoldable pub is_layout_line : List ℕ → Bool
+is_layout_line line = starts_with nat_eq line (codes "first ")
+
 -- an actor line begins with its word and a space
 unfoldable pub is_actor_line : List ℕ → Bool
 is_actor_line line = starts_with nat_eq line (codes "actor ")
@@ -176,8 +184,9 @@ at_line line (Ok x) = Ok x
 at_line line (Err fault) = Err (error_at line fault)
 
 -- a script of these parts
-abbrev pub script : ℕ → List ℕ → List (List Command) → List Item → Script
-script limit names programs items = record { limit = limit; names = names; programs = programs; items = items }
+abbrev pub script : ℕ → ℕ → List ℕ → List (List Command) → List Item → Script
+script limit first names programs items =
+    record { limit = limit; first = first; names = names; programs = programs; items = items }
 
 -- nothing stands after the items line
 abbrev pub closed : ℕ → Script → List (List ℕ) → Result Script ScriptError
@@ -185,20 +194,29 @@ closed line s [] = Ok s
 closed line s (text ∷ rest) = Err (errors.BadLine line)
 
 -- the lines from this one on, after actor lines with these names and programs
-unfoldable pub body_of : ℕ → ℕ → List ℕ → List (List Command) → List (List ℕ) → Result Script ScriptError
-body_of limit line names programs [] = Err (errors.NoItems line)
-body_of limit line names programs (text ∷ rest) =
+unfoldable pub body_of : ℕ → ℕ → ℕ → List ℕ → List (List Command) → List (List ℕ) → Result Script ScriptError
+body_of limit first line names programs [] = Err (errors.NoItems line)
+body_of limit first line names programs (text ∷ rest) =
     if is_actor_line text
     then (at_line line (parsed_actor names (drop 6 text)) >>= λ actor.
-    body_of limit (line + 1) (names ++ actor.0 ∷ []) (programs ++ actor.1 ∷ []) rest)
+    body_of limit first (line + 1) (names ++ actor.0 ∷ []) (programs ++ actor.1 ∷ []) rest)
     else if is_items_line text
-    then (at_line line (parsed_items names (drop 5 text)) >>= λ items. closed (line + 1) (script limit names programs items) rest)
+    then (at_line line (parsed_items names (drop 5 text)) >>= λ items.
+    closed (line + 1) (script limit first names programs items) rest)
     else Err (errors.BadLine line)
+
+-- the lines from line 2 on. Line 2 may be a layout line; where it is none, the layout is 1
+unfoldable pub after_limit : ℕ → List (List ℕ) → Result Script ScriptError
+after_limit limit [] = body_of limit 1 2 [] [] []
+after_limit limit (text ∷ rest) =
+    if is_layout_line text
+    then (at_line 2 (layout_in (drop 6 text)) >>= λ first. body_of limit first 3 [] [] rest)
+    else body_of limit 1 2 [] [] (text ∷ rest)
 
 -- all lines
 unfoldable pub script_of_lines : List (List ℕ) → Result Script ScriptError
 script_of_lines [] = Err (errors.Empty 1)
-script_of_lines (text ∷ rest) = at_line 1 (parsed_limit text) >>= λ limit. body_of limit 2 [] [] rest
+script_of_lines (text ∷ rest) = at_line 1 (parsed_limit text) >>= λ limit. after_limit limit rest
 
 -- the script that the bytes are, or their first fault
 unfoldable pub script_of : List ℕ → Result Script ScriptError

@@ -1,7 +1,7 @@
 -- The faults of a text: their numbers, their lines, and how they are shown.
 use Rattle.std.specs.Prelude.{ℕ, List, ◌++◌, Option, Some, None, codes, decimal}
 use Rattle.script_core.specs.declared.error.ScriptError.{ScriptError}
-use Rattle.script_core.specs.declared.error.ScriptError.TheVariants.{NoMemory, Empty, BadLimit, BadLine, BadName, TwiceNamed, BadCommand, NumberTooLarge, TooMany, NoItems}
+use Rattle.script_core.specs.declared.error.ScriptError.TheVariants.{NoMemory, Empty, BadLimit, BadLine, BadName, TwiceNamed, BadCommand, NumberTooLarge, TooMany, NoItems, BadFirst}
 use Rattle.script_core.specs.declared.error.Fault.{Fault}
 use Rattle.script_core.specs.declared.error.Fault.TheVariants as faults
 
@@ -17,6 +17,7 @@ number_of (BadCommand line) = 7
 number_of (NumberTooLarge line) = 8
 number_of (TooMany line) = 9
 number_of (NoItems line) = 10
+number_of (BadFirst line) = 11
 
 -- the line of each fault
 abbrev pub line_of : ScriptError → Option ℕ
@@ -30,6 +31,7 @@ line_of (BadCommand line) = Some line
 line_of (NumberTooLarge line) = Some line
 line_of (TooMany line) = Some line
 line_of (NoItems line) = Some line
+line_of (BadFirst line) = Some line
 
 -- how a fault of this number is shown, by its line
 abbrev text_at : Option ℕ → ℕ → List ℕ
@@ -49,3 +51,4 @@ error_at line faults.TwiceNamed = TwiceNamed line
 error_at line faults.BadCommand = BadCommand line
 error_at line faults.NumberTooLarge = NumberTooLarge line
 error_at line faults.TooMany = TooMany line
+error_at line faults.BadFirst = BadFirst line

@@ -1,5 +1,5 @@
--- Scripts in the words of their grammar: the one spelling of each.
-use Rattle.std.specs.Prelude.{◌≡◌, ◌≢◌, ℕ, ◌^◌, ◌<◌, ◌≤◌, Bool, if◌then◌else◌, List, [], ◌∷◌, ◌++◌, length, map, slice_index, All, AllPairs, codes, decimal}
+-- Scripts in the words of their grammar: how each is spelled.
+use Rattle.std.specs.Prelude.{◌≡◌, ◌≢◌, ℕ, ◌^◌, ◌<◌, ◌≤◌, Bool, false, if◌then◌else◌, List, [], ◌∷◌, ◌++◌, length, map, slice_index, All, AllPairs, codes, decimal}
 use Rattle.std.specs.List.{flat_map}
 use Rattle.book_core.specs.declared.commands.Command.{Command}
 use Rattle.book_core.specs.declared.commands.Command.TheVariants.{Push, Grow, AtLeast, Fail, Mend, Read, Size}
@@ -30,6 +30,14 @@ program_text program = joined (codes ", ") (map command_text program)
 abbrev pub limit_line : ℕ → List ℕ
 limit_line limit = codes "limit " ++ decimal limit
 
+-- a layout line
+abbrev pub layout_line : ℕ → List ℕ
+layout_line first = codes "first " ++ decimal first
+
+-- the layout line with its LF, where the text has one
+abbrev pub layout_text : ℕ → Bool → List ℕ
+layout_text first with_layout = if with_layout then layout_line first ++ codes "\n" else []
+
 -- an actor line
 abbrev pub actor_line : ℕ → List Command → List ℕ
 actor_line name program = codes "actor " ++ name ∷ codes " " ++ program_text program
@@ -48,11 +56,11 @@ item_text names item = codes " " ++ slice_index names item.actor ∷ (if item.me
 abbrev pub items_line : List ℕ → List Item → List ℕ
 items_line names items = codes "steps" ++ flat_map (item_text names) items
 
--- a script, whose last line has its LF or not
-abbrev pub text_of : Script → Bool → List ℕ
-text_of s last_lf =
-    limit_line s.limit ++ (codes "\n" ++ (actors_text s.names s.programs
-    ++ (items_line s.names s.items ++ (if last_lf then codes "\n" else []))))
+-- a script, with a layout line or without one, whose last line has its LF or not
+abbrev pub text_of : Script → Bool → Bool → List ℕ
+text_of s with_layout last_lf =
+    limit_line s.limit ++ (codes "\n" ++ (layout_text s.first with_layout ++ (actors_text s.names s.programs
+    ++ (items_line s.names s.items ++ (if last_lf then codes "\n" else [])))))
 
 -- numbers are below 2^64, and a refused construction is at a place of its own run
 abbrev pub IsCommand : Command → Type 0
@@ -72,11 +80,12 @@ IsProgram program = (1 ≤ length program) × (length program ≤ 1000) × All I
 abbrev pub IsName : ℕ → Type 0
 IsName name = (97 ≤ name) × (name ≤ 122)
 
--- what a script has to be, in a text with a last LF or without one
-pub record IsScript (s : Script) (last_lf : Bool) : Type 0 where
+-- what a script has to be, in a text with a layout line, or without one where the layout is 1, and with a last LF or without
+pub record IsScript (s : Script) (with_layout last_lf : Bool) : Type 0 where
   pub limit : (1 ≤ s.limit) × (s.limit ≤ 65536)
+  pub first : (1 ≤ s.first) × (s.first ≤ 8) × (with_layout ≡ false → s.first ≡ 1)
   pub actors : (length s.names ≤ 16) × (length s.names ≡ length s.programs)
   pub names : All IsName s.names × AllPairs (λ a b. a ≢ b) s.names
   pub programs : All IsProgram s.programs
   pub items : (length s.items ≤ 100000) × All (λ item. item.actor < length s.names) s.items
-  pub bytes : length (text_of s last_lf) ≤ 1048576
+  pub bytes : length (text_of s with_layout last_lf) ≤ 1048576

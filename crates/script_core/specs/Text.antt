@@ -9,6 +9,7 @@ use Rattle.book_core.specs.declared.commands.Command.TheVariants as commands
 use Rattle.book_core.specs.declared.commands.Answer.{Answer}
 use Rattle.book_core.specs.declared.commands.Answer.TheVariants as answers
 use Rattle.book_core.specs.declared.commands.Ended.{Ended}
+use Rattle.book_core.specs.declared.commands.Work.{Work}
 
 -- the word of a command
 abbrev pub word_of : Command → List ℕ
@@ -38,6 +39,11 @@ answer_text (answers.Size size) = decimal size
 abbrev pub answer_line : ℕ → Ended → List ℕ
 answer_line name ended =
     name ∷ decimal ended.number ++ codes " " ++ word_of ended.command ++ codes " " ++ answer_text ended.answer ++ codes "\n"
+
+-- the line of what a call took that ended: the actor's name with the call's number, its lost exchanges, and its steps
+abbrev pub work_line : ℕ → Work → List ℕ
+work_line name work =
+    name ∷ decimal work.number ++ codes " lost " ++ decimal work.lost ++ codes " steps " ++ decimal work.steps ++ codes "\n"
 
 -- a cell
 abbrev pub cell_text : Cell → List ℕ

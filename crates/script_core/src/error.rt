@@ -29,10 +29,12 @@ pub enum ScriptError {
     TooMany { line: u64 },
     /// The lines end without an items line.
     NoItems { line: u64 },
+    /// The layout is not a number, or not from 1 to 8.
+    BadFirst { line: u64 },
 }
 
 impl ScriptError {
-    /// The fault's number, from 1 to 10.
+    /// The fault's number, from 1 to 11.
     pub fn number(&self) -> u8
         ensures { result ≡ number_of self.now }
     {
@@ -47,6 +49,7 @@ impl ScriptError {
             ScriptError::NumberTooLarge { .. } => 8,
             ScriptError::TooMany { .. } => 9,
             ScriptError::NoItems { .. } => 10,
+            ScriptError::BadFirst { .. } => 11,
         }
     }
 
@@ -64,7 +67,8 @@ impl ScriptError {
             | ScriptError::BadCommand { line }
             | ScriptError::NumberTooLarge { line }
             | ScriptError::TooMany { line }
-            | ScriptError::NoItems { line } => Some(*line),
+            | ScriptError::NoItems { line }
+            | ScriptError::BadFirst { line } => Some(*line),
         }
     }
 }
@@ -115,6 +119,7 @@ pub(crate) enum Fault {
     BadCommand,
     NumberTooLarge,
     TooMany,
+    BadFirst,
 }
 
 // Why a line was not read to its end.
@@ -148,6 +153,7 @@ impl Fault {
             Fault::BadCommand => ScriptError::BadCommand { line },
             Fault::NumberTooLarge => ScriptError::NumberTooLarge { line },
             Fault::TooMany => ScriptError::TooMany { line },
+            Fault::BadFirst => ScriptError::BadFirst { line },
         }
     }
 }

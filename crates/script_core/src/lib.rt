@@ -1,9 +1,9 @@
 //! Scripts and answer lines as text.
 //!
-//! - `read` reads a script: a limit, the actors with their programs, and the items of a schedule. Contracts see what it
-//!   returns as `script_of` of `specs/Grammar.antt`: the script, or the first fault with its line.
-//! - `specs/Spelling.antt` says the same in the grammar's own words: `text_of` is the spelling of a script, and a
-//!   text is read exactly where it is the spelling of a script (`IsScript`).
+//! - `read` reads a script: a limit, a layout, the actors with their programs, and the items of a schedule. Contracts see
+//!   what it returns as `script_of` of `specs/Grammar.antt`: the script, or the first fault with its line.
+//! - `specs/Spelling.antt` says the same in the grammar's own words: `text_of` is a script's spelling, with a layout line
+//!   or without one, and a text is read exactly where it is the spelling of a script (`IsScript`).
 //! - `write_reply` and `write_cells` write the answer lines and the last line, as `specs/Text.antt` has them.
 //!   `write_bytes` is the one loop that writes, and `Line` a line on the stack.
 //!
@@ -30,4 +30,4 @@ pub use error::ScriptError;
 pub use line::Line;
 pub use reading::read;
 pub use script::Script;
-pub use write::{write_cells, write_reply};
+pub use write::{write_cells, write_reply, write_work};

@@ -1,6 +1,6 @@
 //! Lines, and what they are.
-ghost use Rattle.std.specs.Prelude.{◌≡◌, ◌<◌, ◌≤◌, ◌∷◌, length, IsTrue};
-ghost use Rattle.script_core.specs.Grammar.{lines, parsed_limit, is_items_line};
+ghost use Rattle.std.specs.Prelude.{◌≡◌, ◌<◌, ◌≤◌, ◌∷◌, length, drop, IsTrue};
+ghost use Rattle.script_core.specs.Grammar.{lines, parsed_limit, layout_in, is_layout_line, is_items_line};
 ghost use Rattle.script_core.specs.Reading.{IsKind};
 
 use crate::cut::cut_at;
@@ -27,6 +27,14 @@ pub(crate) fn first_line(text: &[u8]) -> (&[u8], &[u8])
     }
 }
 
+#[tactic(auto, unfolding(crate::specs::Grammar::is_layout_line))]
+pub(crate) fn is_layout_line(line: &[u8]) -> bool
+    ensures value { result ≡ is_layout_line line.now }
+    ensures long { IsTrue result → 6 ≤ length line.now }
+{
+    line.starts_with(b"first ")
+}
+
 #[tactic(auto, unfolding(crate::specs::Grammar::is_items_line))]
 fn is_items_line(line: &[u8]) -> bool
     ensures value { result ≡ is_items_line line.now }
@@ -45,6 +53,20 @@ pub(crate) fn kind(line: &[u8]) -> LineKind<'_>
         LineKind::Items(&line[5..])
     } else {
         LineKind::Other
+    }
+}
+
+// The layout of a layout line.
+#[tactic(auto, unfolding(crate::specs::Grammar::layout_in))]
+pub(crate) fn layout(line: &[u8]) -> Result<u32, Fault>
+    requires { 6 ≤ length line.now }
+    ensures { result ≡ layout_in (drop 6 line.now) }
+{
+    let first = number(&line[6..], Fault::BadFirst)?;
+    if (1..=8).contains(&first) {
+        Ok(first as u32)
+    } else {
+        Err(Fault::BadFirst)
     }
 }
 

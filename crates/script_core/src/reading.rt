@@ -1,18 +1,18 @@
 //! Whole scripts.
-ghost use Rattle.std.specs.Prelude.{◌≡◌, ◌≢◌, ◌⊎◌, ◌+◌, ◌^◌, ◌<◌, ◌≤◌, ◌==◌, count_by, take, length, OnOk, []};
+ghost use Rattle.std.specs.Prelude.{◌≡◌, ◌≢◌, ◌⊎◌, ◌+◌, ◌^◌, ◌<◌, ◌≤◌, ◌==◌, count_by, take, drop, length, OnOk, []};
 ghost use Rattle.std.specs.Prelude.{IfOk, IfErr, IsErrOf, Ok, Err, Bool};
-ghost use Rattle.seg_core.specs.Segment.{IsLimit};
+ghost use Rattle.seg_core.specs.Segment.{IsLayout, IsLimit};
 ghost use Rattle.book_core.specs.Commands.{AreSound, HavePrograms};
 ghost use Rattle.script_core.specs.declared.script.Script.{Script};
 ghost use Rattle.script_core.specs.Reading.{GivesLines};
-ghost use Rattle.script_core.specs.Grammar.{lines, parsed_limit, parsed_actor, parsed_items, at_line, closed};
-ghost use Rattle.script_core.specs.Grammar.{body_of, script_of};
+ghost use Rattle.script_core.specs.Grammar.{lines, parsed_limit, layout_in, parsed_actor, parsed_items, at_line};
+ghost use Rattle.script_core.specs.Grammar.{closed, body_of, after_limit, script_of};
 ghost use Rattle.script_core.specs.Spelling.{IsScript, text_of};
 
 use crate::actor::actor;
 use crate::error::ScriptError;
 use crate::items::items;
-use crate::lines::{LineKind, first_line, kind, limit};
+use crate::lines::{LineKind, first_line, is_layout_line, kind, layout, limit};
 use crate::script::Script;
 use book_core::{Command, Item, Sequence};
 use std::alloc::Global;
@@ -29,12 +29,15 @@ pub fn read(alloc: Global, text: &[u8]) -> Result<Script, ScriptError>
 
     // In the grammar's own words: a text is read exactly where it is the spelling of a script.
     ensures found { IfOk result (λ s.
-        (last_lf : Bool) × IsScript s last_lf × (text.now ≡ text_of s last_lf)) }
-    ensures only { (s : Script) (last_lf : Bool) → IsScript s last_lf → text.now ≡ text_of s last_lf
+        (with_layout last_lf : Bool) × IsScript s with_layout last_lf
+        × (text.now ≡ text_of s with_layout last_lf)) }
+    ensures only { (s : Script) (with_layout last_lf : Bool) → IsScript s with_layout last_lf
+        → text.now ≡ text_of s with_layout last_lf
         → (result ≡ Ok s) ⊎ IsErrOf result ScriptError.NoMemory }
 
     // So it can be played.
     ensures limit { IfOk result (λ s. IsLimit s.limit × (s.limit ≤ 65536)) }
+    ensures first { IfOk result (λ s. IsLayout s.first) }
     ensures names { IfOk result (λ s. length s.names ≡ length s.programs) }
     ensures sound { IfOk result (λ s. AreSound s.programs) }
     ensures actors { IfOk result (λ s. HavePrograms s.programs s.items) }
@@ -54,7 +57,7 @@ fn whole(alloc: Global, text: &[u8]) -> Result<Script, ScriptError>
     }
     let (first, rest) = first_line(text);
     let limit = limit_at(first)?;
-    body(alloc, limit, rest)
+    after_limit(alloc, limit, rest)
 }
 
 // The line of the last byte that a script may have.
@@ -77,6 +80,13 @@ fn limit_at(line: &[u8]) -> Result<u64, ScriptError>
     ensures { result ≡ at_line 1 (parsed_limit line.now) }
 {
     limit(line).map_err(|fault| fault.at(1))
+}
+
+fn layout_at(line: &[u8]) -> Result<u32, ScriptError>
+    requires { 6 ≤ length line.now }
+    ensures { result ≡ at_line 2 (layout_in (drop 6 line.now)) }
+{
+    layout(line).map_err(|fault| fault.at(2))
 }
 
 fn actor_at(
@@ -120,18 +130,40 @@ fn closed(line: u64, script: Script, rest: &[u8]) -> Result<Script, ScriptError>
     }
 }
 
-// The lines after the first.
-fn body(alloc: Global, limit: u64, text: &[u8]) -> Result<Script, ScriptError>
+// The lines from line 2 on: a layout line or none, and then the others.
+fn after_limit(alloc: Global, limit: u64, text: &[u8]) -> Result<Script, ScriptError>
     requires { length text.now ≤ 1048576 }
-    ensures { GivesLines result (body_of limit 2 [] [] (lines text.now)) }
+    ensures { GivesLines result (after_limit limit (lines text.now)) }
+{
+    if text.is_empty() {
+        return Err(ScriptError::NoItems { line: 2 });
+    }
+    let (second, rest) = first_line(text);
+    if !is_layout_line(second) {
+        return body(alloc, limit, 1, 2, text);
+    }
+    let first = layout_at(second)?;
+    body(alloc, limit, first, 3, rest)
+}
+
+// The actor lines and the items line, of which the first has this number.
+fn body(
+    alloc: Global,
+    limit: u64,
+    first: u32,
+    line: u64,
+    text: &[u8],
+) -> Result<Script, ScriptError>
+    requires { line + length text.now ≤ 1048578 }
+    ensures { GivesLines result (body_of limit first line [] [] (lines text.now)) }
 {
     let mut names = Vec::new(alloc);
     let mut programs = Vec::new(alloc);
-    let mut line = 2;
+    let mut line = line;
     let mut text = text;
     while !text.is_empty() {
-        let (first, rest) = first_line(text);
-        match kind(first) {
+        let (next, rest) = first_line(text);
+        match kind(next) {
             LineKind::Actor(words) => {
                 let (name, program) = actor_at(alloc, line, &names, words)?;
                 names.push(name)?;
@@ -143,6 +175,7 @@ fn body(alloc: Global, limit: u64, text: &[u8]) -> Result<Script, ScriptError>
                 let programs = Sequence::from_vec(programs);
                 let script = Script {
                     limit,
+                    first,
                     names,
                     programs,
                     items,

@@ -1,11 +1,11 @@
 //! Answer lines and cells as text.
 ghost use Rattle.std.specs.Prelude.{◌≡◌, ◌++◌, codes, decimal, OnOk, OnErr};
 ghost use Rattle.std.specs.Io.KnownBytes.{Appends};
-ghost use Rattle.script_core.specs.Text.{word_of, answer_text, answer_line, cell_text, cells_line, AppendsPrefix};
+ghost use Rattle.script_core.specs.Text.{word_of, answer_text, answer_line, work_line, cell_text, cells_line, AppendsPrefix};
 
 use crate::bytes::{WriteFault, write_bytes};
 use crate::line::Line;
-use book_core::{Answer, Cell, Command, Ended};
+use book_core::{Answer, Cell, Command, Ended, Work};
 use std::io::Write;
 
 fn word(command: &Command) -> &'static [u8]
@@ -63,6 +63,27 @@ pub fn write_reply<W: Write>(w: &mut W, name: u8, ended: &Ended) -> Result<(), W
 {
     let mut line = Line::new();
     write_line(&mut line, name, ended)?;
+    write_bytes(w, line.as_slice())
+}
+
+fn write_counts<W: Write>(w: &mut W, name: u8, work: &Work) -> Result<(), WriteFault>
+    ensures { OnOk result
+        (Appends (W.contents w.old) (W.contents w.new) (work_line name work.now)) }
+{
+    w.write_all(&[name])?;
+    writeln!(w, "{} lost {} steps {}", work.number, work.lost, work.steps)?;
+    Ok(())
+}
+
+/// Writes the line of what a call took that ended. It takes no memory.
+pub fn write_work<W: Write>(w: &mut W, name: u8, work: &Work) -> Result<(), WriteFault>
+    ensures ok { OnOk result
+        (Appends (W.contents w.old) (W.contents w.new) (work_line name work.now)) }
+    ensures fault { OnErr result
+        (AppendsPrefix (W.contents w.old) (W.contents w.new) (work_line name work.now)) }
+{
+    let mut line = Line::new();
+    write_counts(&mut line, name, work)?;
     write_bytes(w, line.as_slice())
 }
 

@@ -1,5 +1,5 @@
 //! What no clause says: that the intervals are those that were meant.
-use crate::{capacity_for, first, len, locate, segments_of};
+use crate::{Layout, MOST_PLACES, capacity_for, first, len, locate, segments_of};
 
 #[test]
 fn places_lie_in_their_segments(rt: HostRuntime) {
@@ -55,4 +55,49 @@ fn capacities_are_whole_segments(rt: HostRuntime) {
     ] {
         assert_eq!(rt; capacity_for(n), capacity, "{n}");
     }
+}
+
+#[test]
+fn a_layout_is_from_1_to_8(rt: HostRuntime) {
+    for f in 0..10u32 {
+        assert_eq!(rt;
+            Layout::new(f).map(|it: Layout| -> u32 { it.f() }),
+            (1 <= f && f <= 8).then_some(f),
+            "{f}"
+        );
+    }
+}
+
+// Whether the place lies there in this layout.
+fn lies_in(f: u32, place: u64, there: (u32, u64)) -> bool {
+    match Layout::new(f) {
+        Some(layout) => place < MOST_PLACES && layout.locate(place) == there,
+        None => false,
+    }
+}
+
+#[test]
+fn places_lie_in_the_segments_of_a_layout(rt: HostRuntime) {
+    for (f, place, there) in [
+        (3, 0, (0, 0)),
+        (3, 7, (0, 7)),
+        (3, 8, (1, 0)),
+        (3, 15, (1, 7)),
+        (3, 16, (2, 0)),
+        (1, 1_099_511_627_775, (39, 549_755_813_887)),
+        (8, 1_099_511_627_775, (32, 549_755_813_887)),
+    ] {
+        assert!(rt; lies_in(f, place, there), "{f} {place}");
+    }
+}
+
+#[test]
+fn a_layout_has_its_capacities(rt: HostRuntime) {
+    let layout = Layout::new(3).unwrap_or_default();
+    assert_eq!(rt; layout.f(), 3);
+    assert_eq!(rt;
+        (layout.capacity_for(9), layout.capacity_for(MOST_PLACES)),
+        (16, 1 << 40)
+    );
+    assert_eq!(rt; layout.segments_of(0, MOST_PLACES), (0, layout.segments()));
 }

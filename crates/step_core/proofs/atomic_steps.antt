@@ -1,11 +1,15 @@
 pub mod Keys
 pub mod Ranges
 pub mod Cases
+pub mod KeptLayout
 pub mod BlockViews
 pub mod Bounds
 pub mod Tiling
 pub mod Installed
 pub mod Owners
+pub mod Tallies
+pub mod Bounded
+pub mod WorkActors
 pub mod Legal
 pub mod Record
 pub mod Claims

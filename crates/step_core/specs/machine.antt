@@ -11,3 +11,5 @@ pub mod Headline
 pub mod Bounds
 pub mod Installed
 pub mod Owners
+pub mod Work
+pub mod Tallies

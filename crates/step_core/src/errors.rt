@@ -6,7 +6,7 @@ use std::fmt;
 #[derive(Clone, Copy, Debug, PartialEq, Eq)]
 pub enum PlayError {
     NoMemory = 1,
-    /// The limit isn't from 1 to 2^32.
+    /// The limit isn't from 1 to 2^40.
     BadLimit = 2,
     /// A `fail` has its construction refused at a place that it doesn't ask for.
     BadCommand = 3,
@@ -23,7 +23,7 @@ impl fmt::Display for PlayError {
     fn fmt<W: fmt::Write>(&self, f: &mut fmt::Formatter<W>) -> fmt::Result {
         match self {
             PlayError::NoMemory => write!(f, "out of memory"),
-            PlayError::BadLimit => write!(f, "the limit is not from 1 to 4294967296"),
+            PlayError::BadLimit => write!(f, "the limit is not from 1 to 1099511627776"),
             PlayError::BadCommand => write!(
                 f,
                 "a refused construction is past the end of its call"
@@ -39,7 +39,7 @@ impl Error for PlayError {}
 #[derive(Clone, Copy, Debug, PartialEq, Eq)]
 pub enum MakeError {
     NoMemory = 1,
-    /// The limit isn't from 1 to 2^32.
+    /// The limit isn't from 1 to 2^40.
     BadLimit = 2,
     /// A `fail` has its construction refused at a place that it doesn't ask for.
     BadCommand = 3,
@@ -54,7 +54,7 @@ impl fmt::Display for MakeError {
     fn fmt<W: fmt::Write>(&self, f: &mut fmt::Formatter<W>) -> fmt::Result {
         match self {
             MakeError::NoMemory => write!(f, "out of memory"),
-            MakeError::BadLimit => write!(f, "the limit is not from 1 to 4294967296"),
+            MakeError::BadLimit => write!(f, "the limit is not from 1 to 1099511627776"),
             MakeError::BadCommand => write!(
                 f,
                 "a refused construction is past the end of its call"

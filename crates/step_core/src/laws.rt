@@ -3,9 +3,10 @@ ghost use Rattle.step_core.specs.calls.Laws.{CallsPlay, CallsAreLegal};
 ghost use Rattle.step_core.specs.machine.Headline.{EveryInterleavingIsSequential};
 ghost use Rattle.step_core.specs.machine.Legal.{EveryPlayIsLegal};
 ghost use Rattle.step_core.specs.machine.Kept.{EveryPlayKeepsFilledCells, EveryPlayKeepsBrokenCells};
-ghost use Rattle.step_core.specs.machine.Play.{PlaysBeginAtTheFirst, PlaysGoOnByAStep};
+ghost use Rattle.step_core.specs.machine.Play.{PlaysBeginAtTheFirst, PlaysGoOnByAStep, PlaysKeepTheLayout};
 ghost use Rattle.step_core.specs.machine.Record.{EveryPlayIsRecorded};
 ghost use Rattle.step_core.specs.machine.Tiling.{EveryPlayIsTiled};
+ghost use Rattle.step_core.specs.machine.Work.{EveryCallIsBounded};
 
 /// What holds of every play of whole calls.
 pub fn whole_calls()
@@ -46,4 +47,14 @@ pub fn interleavings()
 pub fn stepping()
     ensures begins { PlaysBeginAtTheFirst }
     ensures goes_on { PlaysGoOnByAStep }
+    ensures layout { PlaysKeepTheLayout }
+{}
+
+/// No call of any play takes more than it may, whether it has ended or is under way.
+///
+/// It loses no more exchanges than others made the size larger since its first step, and a round touches at most 40
+/// segments. A growth of n places takes a step, then two at each segment of a round and one at the round's end, and
+/// two at each place; a mend takes at most three steps, a read two, and a look at the size one.
+pub fn work()
+    ensures { EveryCallIsBounded }
 {}

@@ -2,13 +2,16 @@
 ghost use Rattle.std.specs.Prelude.{◌≡◌, ◌≤◌, ◌<◌, ◌↔◌, length, IfOk, OnOk, OnErr, IsErrOf, Some, None};
 ghost use Rattle.std.specs.Prelude.{map as list_map};
 ghost use Rattle.std.specs.FinMap as map;
-ghost use Rattle.seg_core.specs.Segment.{IsLimit};
+ghost use Rattle.seg_core.specs.Segment.{IsLayout, IsLimit};
 ghost use Rattle.book_core.specs.Commands.{AreSound};
 ghost use Rattle.step_core.specs.machine.Step.{step_of, IsStepped};
 ghost use Rattle.step_core.specs.machine.Bounds.{IsInLimit};
 ghost use Rattle.step_core.specs.machine.Installed.{HasSegments, MayRunOut};
+ghost use Rattle.step_core.specs.machine.Work.{phase_at};
+ghost use Rattle.step_core.specs.machine.Tallies.{HasRoom};
 
 mod blocks;
+mod counts;
 mod phase;
 mod schedule;
 mod storage;
@@ -18,7 +21,8 @@ use crate::machine::storage::Storage;
 use crate::programs::check_programs;
 use book_core::{Command, Ended, Event, Reply, Sequence};
 pub use phase::{Actor, Next, Phase, Slot};
-pub use schedule::play;
+pub use schedule::{play, play_in};
+use seg_core::Layout;
 use std::alloc::{AllocError, Global};
 use std::marker::Model;
 
@@ -61,16 +65,38 @@ impl Machine {
     ghost use Rattle.step_core.specs.machine.Step.{first_configuration, step_of};
     ghost use Rattle.step_core.specs.machine.Step.{IsStepped};
     ghost use Rattle.step_core.specs.machine.Installed.{MayRunOut};
+    ghost use Rattle.step_core.specs.machine.Work.{has_call, phase_at};
+    ghost use Rattle.step_core.specs.machine.Tallies.{HasRoom};
 
-    /// The machine before the first step. Its memory is linear in the actors.
+    /// The machine before the first step, with a first segment of two places. Its memory is linear in the actors.
     pub fn new(
         alloc: Global,
         limit: u64,
         programs: Sequence<Sequence<Command>>,
     ) -> Result<Machine, MakeError>
         requires { length programs ≤ 65536 }
-        ensures made { IfOk result (λ machine. machine ≡ first_configuration limit programs) }
+        ensures made { IfOk result (λ machine. machine ≡ first_configuration 1 limit programs) }
         // What the laws ask for.
+        ensures limit { OnOk result (IsLimit limit) }
+        ensures sound { OnOk result (AreSound programs) }
+        ensures bad_limit { IsErrOf result MakeError.BadLimit ↔ (IsLimit limit → ⊥) }
+        ensures bad_command { IsErrOf result MakeError.BadCommand
+            ↔ IsLimit limit × (AreSound programs → ⊥) }
+    {
+        Machine::new_in(alloc, Layout::default(), limit, programs)
+    }
+
+    /// The machine before the first step, with segments of this layout.
+    pub fn new_in(
+        alloc: Global,
+        layout: Layout,
+        limit: u64,
+        programs: Sequence<Sequence<Command>>,
+    ) -> Result<Machine, MakeError>
+        requires { length programs ≤ 65536 }
+        ensures made { IfOk result (λ machine. machine ≡ first_configuration layout limit programs) }
+        // What the laws ask for.
+        ensures layout { OnOk result (IsLayout layout) }
         ensures limit { OnOk result (IsLimit limit) }
         ensures sound { OnOk result (AreSound programs) }
         ensures bad_limit { IsErrOf result MakeError.BadLimit ↔ (IsLimit limit → ⊥) }
@@ -81,7 +107,7 @@ impl Machine {
         match actors_of(alloc, programs) {
             Ok(actors) => Ok(Machine {
                 limit,
-                storage: Storage::new(alloc),
+                storage: Storage::new(alloc, layout),
                 actors,
             }),
             Err(_) => Err(MakeError::NoMemory),
@@ -107,6 +133,32 @@ impl Machine {
         ensures { result ≡ map.get self.now.storage.slots place }
     {
         self.storage.slot(place)
+    }
+
+    // How the places are cut into segments.
+    pub(crate) fn layout(&self) -> Layout
+        ensures { result ≡ self.now.storage.layout }
+    {
+        self.storage.layout()
+    }
+
+    // Whether an actor has a call left or under way.
+    pub(crate) fn has_call(&self, actor: u32) -> bool
+        ensures { result ≡ has_call self.now actor }
+    {
+        match self.actors.get(actor as usize) {
+            Some(current) => current.command().is_some(),
+            None => false,
+        }
+    }
+
+    // The phase of an actor's call; an actor without one is as at Load.
+    pub(crate) fn phase(&self, actor: u32) -> Phase
+        ensures phase { result ≡ phase_at self.now actor }
+        ensures room { HasRoom result }
+    {
+        let storage = &self.storage;
+        phase_among(self.limit, storage, &self.actors, actor)
     }
 
     /// One atomic step of an actor; one with nothing left, or without a program, changes nothing.
@@ -160,6 +212,21 @@ fn step_among(
         event: outcome.event,
         ended,
     })
+}
+
+fn phase_among(limit: u64, storage: &Storage, actors: &Vec<Actor>, actor: u32) -> Phase
+    requires limit { IsInLimit (record { limit = limit; storage = storage.now; actors = actors.now.items }) }
+    ensures phase { result
+        ≡ phase_at (record { limit = limit; storage = storage.now; actors = actors.now.items }) actor }
+    ensures room { HasRoom result }
+{
+    let Some(current) = actors.get(actor as usize) else {
+        return Phase::Load;
+    };
+    match current.command() {
+        Some(_) => current.phase,
+        None => Phase::Load,
+    }
 }
 
 fn actors_of(alloc: Global, programs: Sequence<Sequence<Command>>) -> Result<Vec<Actor>, AllocError>

@@ -4,14 +4,16 @@ ghost use Rattle.seg_core.specs.Segment.{IsLimit};
 ghost use Rattle.book_core.specs.Commands.{IsSound, AreSound, HavePrograms};
 
 use crate::errors::{MakeError, PlayError};
-use book_core::{Cell, CellVec, Command, Ended, Event, Item, Reply, Sequence};
+use book_core::{Cell, CellVec, Command, Ended, Event, Item, Reply, Sequence, Work};
 
-/// What a play gives: the events with their replies, the calls that ended, each in order, and the cells at the end.
+/// What a play gives: the events with their replies, the calls that ended, each in order, the cells at the end, and what
+/// each ended call took, in the order of `ended`; of a play of whole calls no work is known.
 #[derive(Debug, Drop)]
 pub struct Played {
     pub events: Sequence<(Event, Reply)>,
     pub ended: Sequence<Ended>,
     pub cells: Sequence<Cell>,
+    pub work: Sequence<Work>,
 }
 
 fn is_sound(command: &Command) -> bool

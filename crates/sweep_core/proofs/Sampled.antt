@@ -1,5 +1,5 @@
 -- Sampled schedules: their items are of the three actors, they can be played, and their plays are legal and short.
-use Rattle.std.proofs.Common.{◌≡◌, ℕ, zero, suc, ◌+◌, ◌-◌, ◌<◌, ◌≤◌, List, [], ◌∷◌, ◌++◌, length, map, Option, Some, None, refl, sym, ap, ◌∙◌, arith, append-nil, append_assoc}
+use Rattle.std.proofs.Common.{◌≡◌, ℕ, zero, suc, ◌+◌, ◌-◌, ◌<◌, ◌≤◌, List, [], ◌∷◌, ◌++◌, length, map, Option, Some, None, Result, Ok, Err, IfOk, refl, sym, ap, ◌∙◌, arith, append-nil, append_assoc}
 use Rattle.std.proofs.lemmas.List.{length-map, length-append}
 use Rattle.std.proofs.lemmas.List.Elements.{All-nil, All-cons}
 use Rattle.std.specs.List.{All}
@@ -16,6 +16,8 @@ use Rattle.book_core.specs.History.{IsLegalFrom}
 use Rattle.step_core.specs.machine.Step.{Step, step_of}
 use Rattle.step_core.specs.machine.Play.{Play, empty_play, play_of, after_items, with_step}
 use Rattle.step_core.specs.machine.Legal.{EveryPlayIsLegal, list_seen}
+use Rattle.step_core.specs.machine.Work.{play_shown}
+use Rattle.step_core.specs.declared.programs.Played.{Played}
 use Rattle.sweep_core.specs.declared.report.SweepReport.{SweepReport}
 use Rattle.sweep_core.specs.Sums.{report_of}
 use Rattle.sweep_core.specs.Sweep.{sampled_limit, sampled_programs, sampled_play, item_of, generator_of, items_from, items_of}
@@ -82,16 +84,38 @@ are_sound =
     (all_three IsSound (AtLeast 5 7) Size (Grow 2 8) tt tt tt)
 
 -- a sampled play is that of the sampled programs and items
-pub is_play : (seed len : ℕ) → sampled_play seed len ≡ play_of sampled_limit sampled_programs (items_of seed len)
+pub is_play : (seed len : ℕ) → sampled_play seed len ≡ play_of 1 sampled_limit sampled_programs (items_of seed len)
 unfolding sampled_play
 is_play seed len = refl
+
+-- what a play of them shows
+is_shown : (seed len : ℕ) (programs : List (List Command)) (items : List Item) → programs ≡ sampled_programs
+    → items ≡ items_of seed len → play_of 1 sampled_limit programs items ≡ sampled_play seed len
+is_shown seed len programs items programs_are items_are =
+    ap (λ p. play_of 1 sampled_limit p items) programs_are ∙ ap (play_of 1 sampled_limit sampled_programs) items_are ∙ sym (is_play seed len)
+
+pub shows_events : {E : Type 0} (seed len : ℕ) (programs : List (List Command)) (items : List Item) (r : Result Played E)
+    → programs ≡ sampled_programs → items ≡ items_of seed len
+    → IfOk r (λ played. played ≡ play_shown 1 sampled_limit programs items)
+    → IfOk r (λ played. played.events ≡ (sampled_play seed len).events)
+shows_events seed len programs items (Ok played) programs_are items_are is =
+    ap (λ (p : Played). p.events) is ∙ ap (λ (p : Play). p.events) (is_shown seed len programs items programs_are items_are)
+shows_events seed len programs items (Err e) programs_are items_are is = tt
+
+pub shows_ended : {E : Type 0} (seed len : ℕ) (programs : List (List Command)) (items : List Item) (r : Result Played E)
+    → programs ≡ sampled_programs → items ≡ items_of seed len
+    → IfOk r (λ played. played ≡ play_shown 1 sampled_limit programs items)
+    → IfOk r (λ played. played.ended ≡ (sampled_play seed len).ended)
+shows_ended seed len programs items (Ok played) programs_are items_are is =
+    ap (λ (p : Played). p.ended) is ∙ ap (λ (p : Play). p.ended) (is_shown seed len programs items programs_are items_are)
+shows_ended seed len programs items (Err e) programs_are items_are is = tt
 
 -- its events are a history of the sequential vector
 pub is_legal : EveryPlayIsLegal → (seed len : ℕ) → IsLegalFrom (empty_list sampled_limit) (sampled_play seed len).events
 unfolding sampled_play
 is_legal law seed len = (
-  list_seen sampled_limit (play_of sampled_limit sampled_programs (items_of seed len)),
-  law sampled_limit sampled_programs (items_of seed len) (omega arith, omega arith),
+  list_seen sampled_limit (play_of 1 sampled_limit sampled_programs (items_of seed len)),
+  law 1 (omega arith, omega arith) sampled_limit sampled_programs (items_of seed len) (omega arith, omega arith),
 )
 
 at_most_one : {X : Type 0} (o : Option X) → length (option_to_list o) ≤ 1
@@ -121,7 +145,7 @@ pub is_short : (seed len : ℕ) → (length (sampled_play seed len).events ≤ l
 unfolding sampled_play
 is_short seed len =
     let count = length-items_from len (generator_of seed) in
-    let adds = steps_add (empty_play sampled_limit sampled_programs) (items_of seed len) in
+    let adds = steps_add (empty_play 1 sampled_limit sampled_programs) (items_of seed len) in
     (omega (arith, count, adds.0), omega (arith, count, adds.1))
 
 -- the report of one schedule, by its parts

@@ -41,7 +41,7 @@ items_of seed len = items_from len (generator_of seed)
 
 -- its play
 unfoldable pub sampled_play : ℕ → ℕ → Play
-sampled_play seed len = play_of sampled_limit sampled_programs (items_of seed len)
+sampled_play seed len = play_of 1 sampled_limit sampled_programs (items_of seed len)
 
 -- the seed of the schedule of this number: seeds wrap at 2^64
 abbrev pub seed_of : ℕ → ℕ → ℕ

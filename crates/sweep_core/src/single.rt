@@ -3,7 +3,7 @@ ghost use Rattle.std.specs.Prelude.{◌≡◌, ◌≤◌, ◌↔◌, IsTrue, IfO
 ghost use Rattle.book_core.specs.Cells.{empty_list};
 ghost use Rattle.book_core.specs.Commands.{AreSound, HavePrograms};
 ghost use Rattle.book_core.specs.History.{IsLegalFrom};
-ghost use Rattle.step_core.specs.machine.Play.{play_of, played_of};
+ghost use Rattle.step_core.specs.machine.Work.{play_shown};
 ghost use Rattle.sweep_core.specs.Sweep.{sampled_limit, sampled_play};
 ghost use Rattle.sweep_core.specs.Sums.{report_of};
 
@@ -24,7 +24,7 @@ fn play_sound(
     requires few { length programs ≤ 65536 }
     requires sound { AreSound programs }
     requires programs { HavePrograms programs items.now }
-    ensures { IfOk result (λ played. played ≡ played_of (play_of sampled_limit programs items.now)) }
+    ensures { IfOk result (λ played. played ≡ play_shown 1 sampled_limit programs items.now) }
 {
     match play(alloc, LIMIT, programs, items) {
         Ok(played) => Ok(played),
@@ -35,7 +35,8 @@ fn play_sound(
 
 // The play of the schedule of a seed.
 fn played(alloc: Global, seed: u64, len: u32) -> Result<Played, AllocError>
-    ensures { IfOk result (λ played. played ≡ played_of (sampled_play seed len)) }
+    ensures events { IfOk result (λ played. played.events ≡ (sampled_play seed len).events) }
+    ensures ended { IfOk result (λ played. played.ended ≡ (sampled_play seed len).ended) }
 {
     let items = items_of(alloc, seed, len)?;
     let programs = programs(alloc)?;

@@ -4,42 +4,46 @@ use Rattle.std.specs.Coded.{coded_option}
 use base.Stored.{Coded, coded×, coded_ℕ, coded_list, coded_via}
 use Rattle.std.specs.declared.option.Option.{Option}
 use Rattle.std.specs.declared.option.Option.TheVariants.{None, Some}
-use Rattle.seg_core.specs.Segment.{segment_start, segment_end}
+use Rattle.seg_core.specs.Segment.{segment_start, segment_end, segment_count}
 use Rattle.cell_core.specs.Block.{BlockView, block_coded, block_len}
 use Rattle.table_core.specs.Entry.{EntryView, length_of}
 
--- a table: the name of each entry, and the entry whose block is lent, if one is
+-- a table: the layout of its segments, the name of each entry, and the entry whose block is lent, if one is
 pub record TableView : Type 0 where
+  pub layout : ℕ
   pub names : List ℕ
   pub lent : Option ℕ
 
 -- how that is stored
 abbrev pub table_coded : Coded TableView
 table_coded =
-    coded_via (coded× (coded_list coded_ℕ) (coded_option coded_ℕ)) (λ (t : TableView). (t.names, t.lent)) (λ x y e i. record { names = (e i).0; lent = (e i).1 })
+    coded_via (coded× coded_ℕ (coded× (coded_list coded_ℕ) (coded_option coded_ℕ))) (λ (t : TableView). (t.layout, (t.names, t.lent)))
+    (λ x y e i. record { layout = (e i).0; names = (e i).1.0; lent = (e i).1.1 })
 
--- the key of an entry: the entry's number, its block, and its name
+-- the key of an entry: the table's layout, the entry's number, its block, and its name
 pub record KeyView : Type 0 where
+  pub layout : ℕ
   pub entry : ℕ
   pub block : BlockView
   pub name : ℕ
 
 abbrev pub key_coded : Coded KeyView
 key_coded =
-    coded_via (coded× coded_ℕ (coded× block_coded coded_ℕ)) (λ (k : KeyView). (k.entry, (k.block, k.name)))
-    (λ x y e i. record { entry = (e i).0; block = (e i).1.0; name = (e i).1.1 })
+    coded_via (coded× coded_ℕ (coded× coded_ℕ (coded× block_coded coded_ℕ))) (λ (k : KeyView). (k.layout, (k.entry, (k.block, k.name))))
+    (λ x y e i. record { layout = (e i).0; entry = (e i).1.0; block = (e i).1.1.0; name = (e i).1.1.1 })
 
 -- the number of places of a segment
-abbrev pub IsLengthOf : ℕ → ℕ → Type 0
-IsLengthOf k n = segment_start k + n ≡ segment_end k
+abbrev pub IsLengthOf : ℕ → ℕ → ℕ → Type 0
+IsLengthOf f k n = segment_start f k + n ≡ segment_end f k
 
 -- the block has as many cells as the segment has places
-abbrev pub IsBlockOf : ℕ → BlockView → Type 0
-IsBlockOf k block = IsLengthOf k (block_len block)
+abbrev pub IsBlockOf : ℕ → ℕ → BlockView → Type 0
+IsBlockOf f k block = IsLengthOf f k (block_len block)
 
 -- the key is of an entry of the table
 pub record IsKeyIn (table : TableView) (key : KeyView) : Type 0 where
-  pub within : key.entry < 32
+  pub layout : key.layout ≡ table.layout
+  pub within : key.entry < segment_count table.layout
   pub named : slice_index table.names key.entry ≡ key.name
 
 -- the key is of this entry, and of this block
@@ -58,8 +62,8 @@ abbrev pub RenewsEntry : TableView → TableView → ℕ → Type 0
 RenewsEntry old new k = slice_index new.names k ≢ slice_index old.names k
 
 -- each entry is as long as its segment
-abbrev pub AllFit : List EntryView → Type 0
-AllFit entries = (k : ℕ) (e : EntryView) → k < 32 → IsLengthOf k (length_of (slice_index_or entries k e))
+abbrev pub AllFit : ℕ → List EntryView → Type 0
+AllFit f entries = (k : ℕ) (e : EntryView) → k < segment_count f → IsLengthOf f k (length_of (slice_index_or entries k e))
 
 -- the block that is known, if any is
 abbrev pub block_or_empty : Option BlockView → BlockView

@@ -1,6 +1,7 @@
 //! The table of segments.
 ghost use Rattle.std.specs.Prelude.{◌≡◌, ◌<◌, ◌≤◌, slice_index, IfSome, IfOk};
 ghost use Rattle.table_core.specs.Table.{IsBlockOf, IsKeyIn, IsKeyOf, IsLengthOf};
+ghost use Rattle.seg_core.specs.Segment.{IsLayout, segment_count};
 ghost use Rattle.table_core.specs.Entry.{length_of};
 
 mod key;
@@ -10,7 +11,7 @@ use crate::entry::{Entry, Measured, Sight};
 use cell_core::block::Block;
 pub use key::Key;
 use owner::Lent;
-use seg_core::len;
+use seg_core::Layout;
 use std::alloc::{AllocError, Global};
 use std::array;
 use std::marker::Model;
@@ -21,53 +22,83 @@ impl<T> Measured for Block<T> {
     ghost measure = { block_len };
 }
 
-/// A table of 32 entries, each set at most once, to the block of its segment. It has a pointer for each entry.
+// Room for the segments of every layout.
+const ENTRIES: usize = 40;
+
+/// A table of an entry for each segment of a layout, 41 - f of them, each set at most once, to the block of its segment. It has
+/// room for 40 pointers.
 #[derive(Drop)]
 pub struct Table<T> {
-    entries: [Entry<Block<T>>; 32],
-    lent: Option<Lent<T>>,
+    layout: Layout,
     alloc: Global,
+    entries: [Entry<Block<T>>; ENTRIES],
+    lent: Option<Lent<T>>,
 }
 
 impl<T> Model for Table<T> {
     ghost use Rattle.std.specs.Prelude.{map, option_map};
     ghost use Rattle.table_core.specs.Entry.{name_of};
+    ghost use Rattle.seg_core.specs.Segment.{IsLayout};
     ghost use Rattle.table_core.specs.Table.{TableView, AllFit};
 
     ghost Value = { TableView };
 
-    ghost view = { λ t. record { names = map name_of t.entries; lent = option_map (λ l. l.entry) t.lent } };
+    ghost view = { λ t. record { layout = t.layout; names = map name_of t.entries; lent = option_map (λ l. l.entry) t.lent } };
 
-    ghost invariant = { λ t. AllFit t.entries };
+    ghost invariant = { λ t. IsLayout t.layout × AllFit t.layout t.entries };
 }
 
-fn empty_entry<T>(alloc: Global, k: u32) -> Entry<Block<T>>
-    requires { k < 32 }
-    ensures { IsLengthOf k (length_of result) }
+fn empty_entry<T>(alloc: Global, layout: Layout, k: u32) -> Entry<Block<T>>
+    ensures { k < segment_count layout → IsLengthOf layout k (length_of result) }
 {
-    Entry::new(alloc, len(k))
+    let len = if k < layout.segments() {
+        layout.len(k)
+    } else {
+        0
+    };
+    Entry::new(alloc, len)
 }
 
 impl<T> Table<T> {
+    /// No entry is set, and the first segment has two places. It takes no memory from the allocator.
+    pub fn new(alloc: Global) -> Table<T>
+        ensures { result.layout ≡ 1 }
+    {
+        Table::new_in(alloc, Layout::default())
+    }
+
     /// No entry is set. It takes no memory from the allocator.
-    pub fn new(alloc: Global) -> Table<T> {
+    pub fn new_in(alloc: Global, layout: Layout) -> Table<T>
+        ensures { result.layout ≡ layout }
+    {
+        // It is one from 1 to 8: the entries are enough.
+        let _f = layout.f();
         let entries = array::from_fn(
             |k: usize| -> Entry<Block<T>>
-                requires { k < 32 }
-                ensures { IsLengthOf k (length_of result) }
-            { empty_entry(alloc, k as u32) },
+                requires { k < 40 }
+                ensures { k < segment_count layout → IsLengthOf layout k (length_of result) }
+            { empty_entry(alloc, layout, k as u32) },
         );
         Table {
+            layout,
+            alloc,
             entries,
             lent: None,
-            alloc,
         }
+    }
+
+    /// How the places are cut into segments.
+    pub fn layout(&self) -> Layout
+        ensures value { result ≡ self.now.layout }
+        ensures layout { IsLayout self.now.layout }
+    {
+        self.layout
     }
 
     /// The block of the entry, if it is set now: one load.
     pub fn scout(&self, k: u32) -> Option<&Block<T>>
-        requires { k < 32 }
-        ensures { IfSome result (λ block. IsBlockOf k block.now) }
+        requires { k < segment_count self.now.layout }
+        ensures { IfSome result (λ block. IsBlockOf self.now.layout k block.now) }
     {
         let entry = &self.entries[k as usize];
         entry.look(&mut entry.sight())
@@ -75,8 +106,8 @@ impl<T> Table<T> {
 
     /// As `scout`, with the entry's key.
     pub fn scout_key(&self, k: u32) -> Option<(&Block<T>, Key)>
-        requires { k < 32 }
-        ensures length { IfSome result (λ (block, _). IsBlockOf k block.now) }
+        requires { k < segment_count self.now.layout }
+        ensures length { IfSome result (λ (block, _). IsBlockOf self.now.layout k block.now) }
         ensures key { IfSome result (λ (block, key). IsKeyOf self.now k block.now key) }
     {
         let entry = &self.entries[k as usize];
@@ -85,7 +116,8 @@ impl<T> Table<T> {
             Some(block) => Some((
                 block,
                 Key {
-                    entry: k,
+                    layout: self.layout,
+                    entry: k as u8,
                     sight: sight.again(),
                 },
             )),
@@ -95,10 +127,10 @@ impl<T> Table<T> {
 
     /// How many entries are set, each looked at once.
     pub fn installed(&self) -> u32
-        ensures { result ≤ 32 }
+        ensures { result ≤ segment_count self.now.layout }
     {
         let mut count = 0;
-        for k in 0..32 {
+        for k in 0..self.layout.segments() {
             if self.scout(k).is_some() {
                 count += 1;
             }
@@ -110,7 +142,7 @@ impl<T> Table<T> {
     pub fn known<'a>(&'a self, key: &Key) -> &'a Block<T>
         requires { IsKeyIn self.now key.now }
         ensures block { result.now ≡ key.now.block }
-        ensures length { IsBlockOf key.now.entry result.now }
+        ensures length { IsBlockOf self.now.layout key.now.entry result.now }
     {
         let mut sight = key.sight.again::<T>();
         match self.entries[key.entry as usize].look(&mut sight) {
@@ -134,17 +166,17 @@ impl<T> Table<T> {
 impl<T: Drop> Table<T> {
     // The entry's block: a new one, unless the entry is set.
     fn set<'a>(&'a self, k: u32, sight: &mut Sight<Block<T>>) -> Result<&'a Block<T>, AllocError>
-        requires within { k < 32 }
+        requires within { k < segment_count self.now.layout }
         requires of { slice_index self.now.names k ≡ sight.old.of }
         ensures same { sight.new.of ≡ sight.old.of }
         ensures known { IfOk result (λ block. sight.new.known ≡ Some block.now) }
-        ensures length { IfOk result (λ block. IsBlockOf k block.now) }
+        ensures length { IfOk result (λ block. IsBlockOf self.now.layout k block.now) }
     {
         let entry = &self.entries[k as usize];
         match entry.look(sight) {
             Some(block) => Ok(block),
             None => {
-                let block = Block::new(self.alloc, len(k))?;
+                let block = Block::new(self.alloc, self.layout.len(k))?;
                 let (first, back) = entry.set(Box::new(self.alloc, block)?, sight);
                 if let Some(back) = back {
                     Box::into_inner(back).free();
@@ -157,16 +189,16 @@ impl<T: Drop> Table<T> {
     /// The entry's block. Where the entry is not set, it makes a block and sets the entry to it; if another call came
     /// first, it frees its own at once and answers that call's. An entry is never set by a call that is refused.
     pub fn install(&self, k: u32) -> Result<&Block<T>, AllocError>
-        requires { k < 32 }
-        ensures { IfOk result (λ block. IsBlockOf k block.now) }
+        requires { k < segment_count self.now.layout }
+        ensures { IfOk result (λ block. IsBlockOf self.now.layout k block.now) }
     {
         self.set(k, &mut self.entries[k as usize].sight())
     }
 
     /// As `install`, with the entry's key.
     pub fn install_key(&self, k: u32) -> Result<(&Block<T>, Key), AllocError>
-        requires { k < 32 }
-        ensures length { IfOk result (λ (block, _). IsBlockOf k block.now) }
+        requires { k < segment_count self.now.layout }
+        ensures length { IfOk result (λ (block, _). IsBlockOf self.now.layout k block.now) }
         ensures key { IfOk result (λ (block, key). IsKeyOf self.now k block.now key) }
     {
         let mut sight = self.entries[k as usize].sight();
@@ -174,7 +206,8 @@ impl<T: Drop> Table<T> {
         Ok((
             block,
             Key {
-                entry: k,
+                layout: self.layout,
+                entry: k as u8,
                 sight: sight.again(),
             },
         ))

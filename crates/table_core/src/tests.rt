@@ -4,6 +4,8 @@ ghost use Rattle.table_core.specs.Table.{IsKeyIn};
 
 use crate::{Key, Table};
 use cell_core::block::{Block, Look};
+use seg_core::Layout;
+use std::alloc::Global;
 use std::sync::atomic::{AtomicU64, Ordering};
 use std::test::Fail;
 
@@ -30,8 +32,9 @@ fn shows(block: &Block<u64>, place: u64, value: u64) -> bool {
 
 // The length of an entry's block, which is installed if it is not there.
 fn len_of(table: &Table<u64>, k: u32) -> Option<u64>
-    requires { k < 32 }
+    requires { k < 33 }
 {
+    let _layout = table.layout();
     match table.install(k) {
         Ok(block) => Some(block.len()),
         Err(_no_memory) => None,
@@ -40,8 +43,9 @@ fn len_of(table: &Table<u64>, k: u32) -> Option<u64>
 
 // Whether an entry's block takes the value at a place, if there is memory for it.
 fn takes<T: Drop>(table: &Table<T>, k: u32, place: u64, value: T) -> bool
-    requires { k < 32 }
+    requires { k < 33 }
 {
+    let _layout = table.layout();
     match table.install(k) {
         Ok(block) => fill(block, place, value),
         Err(_no_memory) => false,
@@ -50,8 +54,9 @@ fn takes<T: Drop>(table: &Table<T>, k: u32, place: u64, value: T) -> bool
 
 // Whether an entry's block shows the value at a place, to a caller that would install it.
 fn has(table: &Table<u64>, k: u32, place: u64, value: u64) -> bool
-    requires { k < 32 }
+    requires { k < 33 }
 {
+    let _layout = table.layout();
     match table.install(k) {
         Ok(block) => shows(block, place, value),
         Err(_no_memory) => false,
@@ -60,8 +65,9 @@ fn has(table: &Table<u64>, k: u32, place: u64, value: u64) -> bool
 
 // Whether a caller that installs nothing is shown it.
 fn is_seen(table: &Table<u64>, k: u32, place: u64, value: u64) -> bool
-    requires { k < 32 }
+    requires { k < 33 }
 {
+    let _layout = table.layout();
     match table.scout(k) {
         Some(block) => shows(block, place, value),
         None => false,
@@ -69,6 +75,7 @@ fn is_seen(table: &Table<u64>, k: u32, place: u64, value: u64) -> bool
 }
 
 fn is_set_once(table: &Table<u64>) -> bool {
+    let _layout = table.layout();
     table.installed() == 0
         && table.scout(3).is_none()
         && len_of(table, 3) == Some(8)
@@ -102,6 +109,7 @@ fn is_one_block(table: &Table<u64>, a: &Key, b: &Key) -> bool
 fn has_another_key(table: &Table<u64>, key: &Key) -> bool
     requires { IsKeyIn table.now key.now }
 {
+    let _layout = table.layout();
     match table.scout_key(2) {
         Some((block, other)) => shows(block, 0, 6) && is_one_block(table, key, &other.again()),
         None => false,
@@ -109,6 +117,7 @@ fn has_another_key(table: &Table<u64>, key: &Key) -> bool
 }
 
 fn has_keys_of_one_block(table: &Table<u64>) -> bool {
+    let _layout = table.layout();
     match table.install_key(2) {
         Ok((block, key)) => fill(block, 0, 6) && has_another_key(table, &key),
         Err(_no_memory) => false,
@@ -123,14 +132,16 @@ fn keys_of_one_entry_have_one_block(rt: HostRuntime) {
 
 // Whether an entry's block is there, at the second try if need be. A refused try leaves this many entries.
 fn is_there_at_last(table: &Table<u64>, k: u32, installed: u32) -> bool
-    requires { k < 32 }
+    requires { k < 33 }
 {
+    let _layout = table.layout();
     len_of(table, k).is_some() || table.installed() == installed && len_of(table, k).is_some()
 }
 
 fn has_a_key_at_last(table: &Table<u64>, k: u32, installed: u32) -> bool
-    requires { k < 32 }
+    requires { k < 33 }
 {
+    let _layout = table.layout();
     table.install_key(k).is_ok() || table.installed() == installed && table.install_key(k).is_ok()
 }
 
@@ -145,8 +156,9 @@ fn a_refused_install_sets_nothing(rt: HostRuntime) {
 
 // Whether an entry's block is lent, and shows the value at its first place.
 fn lends(table: &mut Table<u64>, k: u32, value: u64) -> bool
-    requires { k < 32 }
+    requires { k < 33 }
 {
+    let _layout = table.layout();
     match table.block_mut(k) {
         Some(block) => shows(block, 0, value),
         None => false,
@@ -154,6 +166,7 @@ fn lends(table: &mut Table<u64>, k: u32, value: u64) -> bool
 }
 
 fn lends_two(table: &mut Table<u64>) -> bool {
+    let _layout = table.layout();
     table.block_mut(1).is_none()
         && takes(table, 1, 0, 7)
         && takes(table, 2, 0, 8)
@@ -169,6 +182,7 @@ fn has_two(table: &mut Table<u64>) -> bool {
 }
 
 fn gives_one_up(table: &mut Table<u64>) -> bool {
+    let _layout = table.layout();
     table.give_up(2);
     table.scout(2).is_none() && has(table, 1, 0, 7)
 }
@@ -181,6 +195,7 @@ fn an_exclusive_owner_has_the_blocks(rt: HostRuntime) {
 
 // Puts another block where the one of an entry was lent, and answers whether one was.
 fn puts_another(table: &mut Table<u64>, other: Block<u64>) -> bool {
+    let _layout = table.layout();
     match table.block_mut(1) {
         Some(block) => {
             *block = other;
@@ -193,7 +208,7 @@ fn puts_another(table: &mut Table<u64>, other: Block<u64>) -> bool {
 fn is_not_put_back(table: &mut Table<u64>, other: Block<u64>) -> bool {
     len_of(table, 1) == Some(2)
         && puts_another(table, other)
-        && table.block_mut(1).is_none()
+        && !is_lent(table)
         && table.installed() == 0
 }
 
@@ -205,8 +220,14 @@ fn a_block_of_another_length_is_not_put_back(rt: HostRuntime) -> Result<(), Fail
     Ok(())
 }
 
+fn is_lent(table: &mut Table<u64>) -> bool {
+    let _layout = table.layout();
+    table.block_mut(1).is_some()
+}
+
 fn gives_up_what_was_lent(table: &mut Table<u64>) -> bool {
-    let is_lent = len_of(table, 1) == Some(2) && table.block_mut(1).is_some();
+    let is_lent = len_of(table, 1) == Some(2) && is_lent(table);
+    let _layout = table.layout();
     table.give_up(1);
     table.put_back();
     is_lent && table.scout(1).is_none() && table.block_mut(1).is_none()
@@ -231,8 +252,9 @@ fn counts_entries(table: &Table<u64>) -> bool {
 
 // Whether the value is there by the key.
 fn has_by_key(table: &Table<u64>, k: u32, place: u64, value: u64) -> bool
-    requires { k < 32 }
+    requires { k < 33 }
 {
+    let _layout = table.layout();
     match table.install_key(k) {
         Ok((block, _key)) => shows(block, place, value),
         Err(_no_memory) => false,
@@ -241,6 +263,7 @@ fn has_by_key(table: &Table<u64>, k: u32, place: u64, value: u64) -> bool
 
 // It would take hours if a block were made each time.
 fn has_a_million_times(table: &Table<u64>) -> bool {
+    let _layout = table.layout();
     for _again in 0..1_000_000u32 {
         if !has_by_key(table, 22, (1 << 22) - 1, 22) {
             return false;
@@ -250,6 +273,7 @@ fn has_a_million_times(table: &Table<u64>) -> bool {
 }
 
 fn gives_the_last_up(table: &mut Table<u64>) -> bool {
+    let _layout = table.layout();
     table.give_up(31);
     table.give_up(22);
     table.installed() == 22
@@ -274,10 +298,11 @@ fn put(block: &mut Block<u64>, place: u64, value: u64)
 
 // A key of an entry, whose block is installed if it is not there.
 fn key_of<T: Drop>(table: &Table<T>, k: u32) -> Option<Key>
-    requires { k < 32 }
+    requires { k < 33 }
     ensures of { IfSome result (λ key. IsKeyIn table.now key) }
     ensures entry { IfSome result (λ key. key.entry ≡ k) }
 {
+    let _layout = table.layout();
     match table.install_key(k) {
         Ok((_block, key)) => Some(key),
         Err(_no_memory) => None,
@@ -362,6 +387,7 @@ fn fills_four<'a>(table: &Table<Counted<'a>>, drops: &'a AtomicU64) -> bool {
 }
 
 fn drops_what_is_given_up(table: &mut Table<Counted<'_>>, drops: &AtomicU64) -> bool {
+    let _layout = table.layout();
     table.give_up(2);
     let is_dropped = drops_so_far(drops) == 1;
     table.give_up(2);
@@ -396,4 +422,20 @@ fn drops_one_so_far<'a>(mut table: Table<Counted<'a>>, drops: &'a AtomicU64) -> 
 fn each_block_is_dropped_once(rt: HostRuntime) {
     let drops = AtomicU64::new(0);
     assert!(rt; drops_one_so_far(Table::new(rt.alloc()), &drops) && drops_so_far(&drops) == 4);
+}
+
+// Whether the first segments of this layout are as long as they should be, and the last is not there.
+fn has_segments_of(alloc: Global, f: u32) -> bool {
+    let Some(layout) = Layout::new(f) else {
+        return false;
+    };
+    let table: Table<u64> = Table::new_in(alloc, layout);
+    let lens = (len_of(&table, 0), len_of(&table, 1), len_of(&table, 2));
+    let first = 1 << f.min(8);
+    lens == (Some(first), Some(first), Some(2 * first)) && table.installed() == 3
+}
+
+#[test]
+fn segments_follow_from_the_first(rt: HostRuntime) {
+    assert!(rt; (1..9u32).all(|f: u32| -> bool { has_segments_of(rt.alloc(), f) }));
 }

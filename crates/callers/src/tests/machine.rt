@@ -128,7 +128,7 @@ fn one_call_each(
 fn the_most_programs_are_played(rt: HostRuntime) -> Result<(), Fail> {
     let programs = one_call_each(rt.alloc(), 65_536, Command::Push { value: 9 })?;
     assert!(rt; programs.len() == 65_536);
-    let mut machine = Machine::new(rt.alloc(), 4_294_967_296, programs)?;
+    let mut machine = Machine::new(rt.alloc(), 1_099_511_627_776, programs)?;
     for actor in 0..65_536 {
         for _step in 0..6 {
             machine.step(actor, true)?;
@@ -151,7 +151,15 @@ fn a_growth_fills_all_segments_of_65_536_places(rt: HostRuntime) -> Result<(), F
     Ok(())
 }
 
-const REFUSED: [(u64, MakeError); 2] = [(0, MakeError::BadLimit), (1, MakeError::BadCommand)];
+// A limit, and the refusal of a program that is not sound. Limits are looked at first.
+#[rattlefmt::skip]
+const REFUSED: [(u64, MakeError); 5] = [
+    (0, MakeError::BadLimit),
+    (1, MakeError::BadCommand),
+    (4_294_967_297, MakeError::BadCommand),
+    (1_099_511_627_776, MakeError::BadCommand),
+    (1_099_511_627_777, MakeError::BadLimit),
+];
 
 #[test]
 fn a_machine_that_cannot_be_is_refused(rt: HostRuntime) -> Result<(), Fail> {

@@ -20,32 +20,27 @@ const REFUSED: Item = Item {
     memory: false,
 };
 
-// A text, the limit, the letters and the items.
-pub(super) type Row = (&'static str, u64, &'static [u8], &'static [Item]);
+// A text, the limit, the layout, the letters and the items.
+pub(super) type Row = (&'static str, u64, u32, &'static [u8], &'static [Item]);
 
-pub(super) const ROWS: [Row; 4] = [
-    ("limit 1\nsteps", 1, b"", &[]),
-    ("limit 65536\nsteps\n", 65_536, b"", &[]),
-    (
-        "limit 8\nactor a push 18446744073709551615\nsteps a! a",
-        8,
-        b"a",
-        &[REFUSED, A],
-    ),
-    (
-        "limit 2\nactor z size\nactor b size\nsteps z b z!\n",
-        2,
-        b"zb",
-        &[A, B, REFUSED],
-    ),
+#[rattlefmt::skip]
+pub(super) const ROWS: [Row; 7] = [
+    ("limit 1\nsteps", 1, 1, b"", &[]),
+    ("limit 65536\nsteps\n", 65_536, 1, b"", &[]),
+    ("limit 8\nfirst 1\nsteps", 8, 1, b"", &[]),
+    ("limit 8\nfirst 8\nsteps\n", 8, 8, b"", &[]),
+    ("limit 8\nfirst 2\nactor a grow 3 7\nsteps a a a a a a a a a a", 8, 2, b"a", &[A, A, A, A, A, A, A, A, A, A]),
+    ("limit 8\nactor a push 18446744073709551615\nsteps a! a", 8, 1, b"a", &[REFUSED, A]),
+    ("limit 2\nactor z size\nactor b size\nsteps z b z!\n", 2, 1, b"zb", &[A, B, REFUSED]),
 ];
 
 // Whether a text is read as these values.
 pub(super) fn is_read(alloc: Global, row: &Row) -> Result<bool, ScriptError> {
-    let (text, limit, names, items) = row;
+    let (text, limit, first, names, items) = row;
     let script = read(alloc, text.as_bytes())?;
     Ok(
         script.limit == *limit
+            && script.first == *first
             && script.names.as_slice() == *names
             && script.items.as_slice() == *items
             && script.programs.len() == names.len(),

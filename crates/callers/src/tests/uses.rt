@@ -4,15 +4,17 @@ ghost use Rattle.callers.specs.Uses.{PushesAreApart, ReadsTellTheWriters, LaterR
 
 use book_core::{Command, Item, Sequence};
 use script_core::{Script, read};
+use seg_core::Layout;
 use std::alloc::Global;
 use std::test::Fail;
-use step_core::{PlayError, Played, laws, play};
+use step_core::{PlayError, Played, laws, play_in};
 
-// What a caller knows of a play. Two calls that ended at a place are at different places. A value that a read answered was
+// What a caller knows of a play in segments of any layout. Two calls that ended at a place are at different places. A value that a read answered was
 // filled in once, by the owner of its place or by who mended it, before that read. Wherever the history is cut, what is claimed later lies past what
 // was claimed before.
 fn play_known(
     alloc: Global,
+    layout: Layout,
     limit: u64,
     programs: Sequence<Sequence<Command>>,
     items: &[Item],
@@ -27,7 +29,7 @@ fn play_known(
     book_core::laws::runs_split();
     book_core::laws::writes_split();
     book_core::laws::values_have_one_writer();
-    play(alloc, limit, programs, items)
+    play_in(alloc, layout, limit, programs, items)
 }
 
 #[test]
@@ -39,7 +41,13 @@ fn callers_know_whose_each_place_and_value_is(rt: HostRuntime) -> Result<(), Fai
         items,
         ..
     } = read(rt.alloc(), text)?;
-    let played = play_known(rt.alloc(), limit, programs, items.as_slice())?;
+    let played = play_known(
+        rt.alloc(),
+        Layout::default(),
+        limit,
+        programs,
+        items.as_slice(),
+    )?;
     assert_eq!(rt; (played.ended.len(), played.events.len()), (3, 5));
     Ok(())
 }

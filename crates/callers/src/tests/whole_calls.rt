@@ -56,10 +56,12 @@ fn a_growth_to_a_size_past_the_limit_has_its_events(rt: HostRuntime) -> Result<(
 type Refused = (u64, Command, u32, PlayError);
 
 #[rattlefmt::skip]
-const REFUSED: [Refused; 4] = [
+const REFUSED: [Refused; 6] = [
     (0, UNSOUND, 1, PlayError::BadLimit),
-    (4_294_967_297, Command::Size, 0, PlayError::BadLimit),
+    (1_099_511_627_777, Command::Size, 0, PlayError::BadLimit),
     (1, UNSOUND, 1, PlayError::BadCommand),
+    (4_294_967_297, UNSOUND, 1, PlayError::BadCommand),
+    (1_099_511_627_776, UNSOUND, 1, PlayError::BadCommand),
     (1, Command::Size, 1, PlayError::BadActor),
 ];
 

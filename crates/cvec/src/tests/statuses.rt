@@ -11,7 +11,7 @@ use script_core::ScriptError;
 type Row = (ProgramError, u8, &'static str);
 
 #[rattlefmt::skip]
-const ENDS: [Row; 17] = [
+const ENDS: [Row; 18] = [
     (Run(RunError::Script(ScriptError::Empty { line: 1 })), 2, "line 1: fault 2\n"),
     (Run(RunError::Script(ScriptError::BadLimit { line: 1 })), 2, "line 1: fault 3\n"),
     (Run(RunError::Script(ScriptError::BadLine { line: 3 })), 2, "line 3: fault 4\n"),
@@ -21,6 +21,7 @@ const ENDS: [Row; 17] = [
     (Run(RunError::Script(ScriptError::NumberTooLarge { line: 2 })), 2, "line 2: fault 8\n"),
     (Run(RunError::Script(ScriptError::TooMany { line: 1_048_577 })), 2, "line 1048577: fault 9\n"),
     (Run(RunError::Script(ScriptError::NoItems { line: 18 })), 2, "line 18: fault 10\n"),
+    (Run(RunError::Script(ScriptError::BadFirst { line: 2 })), 2, "line 2: fault 11\n"),
     (Run(RunError::NoMemory), 3, "memory\n"),
     (Run(RunError::Read), 4, "read fault\n"),
     (Run(RunError::Write), 4, "write fault\n"),

@@ -1,5 +1,5 @@
 // What a whole hand's keys are for: each place that was claimed is looked at by its segment's key.
-ghost use Rattle.std.specs.Prelude.{◌<◌, ◌≤◌, ◌^◌};
+ghost use Rattle.std.specs.Prelude.{◌<◌, ◌≤◌};
 ghost use Rattle.grow_core.specs.Hand.{IsWholeHand, seen_size};
 ghost use Rattle.grow_core.specs.Vector.{IsHandOf};
 
@@ -7,16 +7,16 @@ use super::callers::{Callers, list};
 use crate::keys::key_of;
 use crate::{Hand, Shared};
 use cell_core::block::Look;
-use seg_core::locate;
 
 // Whether a claimed place has a value.
 fn is_filled(vector: &Shared<u64>, hand: &Hand<u64>, place: u64) -> bool
     requires ours { IsHandOf vector.now hand.now }
     requires whole { IsWholeHand hand.now }
     requires claimed { (hand.now.of.base ≤ place) × (place < seen_size hand.now) }
-    requires small { place < 2 ^ 32 }
 {
-    let (segment, offset) = locate(place);
+    vector.laws();
+    hand.laws();
+    let (segment, offset) = vector.table.layout().locate(place);
     match key_of(hand.whole_keys(), segment) {
         Some(key) => matches!(vector.table.known(&key).look(offset), Look::Filled(..)),
         None => unreachable!(),

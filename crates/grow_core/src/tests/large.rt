@@ -56,17 +56,17 @@ fn end_of_two_growths(mut two: Callers<u64>, alloc: Global) -> Option<u64> {
 
 #[test]
 fn a_thousand_values_are_appended_over_ten_segments(rt: HostRuntime) {
-    let two = Callers::new(&rt, 1 << 32);
+    let two = Callers::new(&rt, 1 << 40);
     assert!(rt; end_of_two_growths(two, rt.alloc()) == Some(2_100));
 }
 
 fn has_the_greatest_limit(two: &mut Callers<u64>) -> bool {
-    two.vector.limit() == 4_294_967_296 && two.push_a(5) == Some(0) && two.at_b(0) == Some(5)
+    two.vector.limit() == 1_099_511_627_776 && two.push_a(5) == Some(0) && two.at_b(0) == Some(5)
 }
 
 #[test]
 fn a_vector_may_have_the_greatest_limit(rt: HostRuntime) {
-    assert!(rt; on_two(&rt, 4_294_967_296, has_the_greatest_limit));
+    assert!(rt; on_two(&rt, 1_099_511_627_776, has_the_greatest_limit));
 }
 
 // The large value at a place.

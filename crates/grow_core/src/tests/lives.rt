@@ -16,7 +16,7 @@ use std::thread::Threads;
 
 // A vector in its life, and its only caller.
 #[derive(Drop)]
-struct Life<T> {
+pub(super) struct Life<T> {
     vector: Shared<T>,
     hand: Hand<T>,
     ghost ours: { IsHandOf vector hand },
@@ -29,7 +29,7 @@ impl<T: Drop> Life<T> {
     }
 
     // The place of a value that a try appends.
-    fn push(&mut self, value: T) -> Option<u64> {
+    pub(super) fn push(&mut self, value: T) -> Option<u64> {
         let placed = self.vector.try_push_back(&mut self.hand, value).ok()?;
         Some(placed.place())
     }
@@ -37,6 +37,11 @@ impl<T: Drop> Life<T> {
     // Whether a try appends the values.
     fn grow(&mut self, values: Vec<T>) -> bool {
         self.vector.try_grow_vec(&mut self.hand, values).is_ok()
+    }
+
+    // Whether a value fills a broken place.
+    pub(super) fn mend(&mut self, place: u64, value: T) -> bool {
+        self.vector.mend(&mut self.hand, place, value).is_ok()
     }
 
     fn close(self) -> Option<Parts<T>> {
@@ -49,8 +54,15 @@ impl<T: Drop> Life<T> {
     }
 }
 
+impl<T: Clone> Life<T> {
+    // Whether clones of the value are appended.
+    pub(super) fn grow_by<R: Wait>(&mut self, rt: &R, n: u64, value: &T) -> bool {
+        self.vector.grow_by(rt, &mut self.hand, n, value).is_ok()
+    }
+}
+
 // The life of a list in which these steps hold, and the list that it is closed into.
-fn live<T: Drop, F: FnOnce(&mut Life<T>) -> bool>(
+pub(super) fn live<T: Drop, F: FnOnce(&mut Life<T>) -> bool>(
     parts: Option<Parts<T>>,
     steps: F,
 ) -> Option<Parts<T>>
@@ -72,7 +84,7 @@ fn look(life: &mut Life<u64>, place: u64) -> Result<u64, AtError> {
 }
 
 // The value at a place, if there is one.
-fn read(life: &mut Life<u64>, place: u64) -> Option<u64> {
+pub(super) fn read(life: &mut Life<u64>, place: u64) -> Option<u64> {
     look(life, place).ok()
 }
 
@@ -473,12 +485,12 @@ fn the_capacity_is_of_the_segments_that_are_there(rt: HostRuntime) {
 }
 
 fn has_the_greatest_limit(parts: &Parts<u64>) -> bool {
-    sizes(parts) == (0, 4_294_967_296, 0)
+    sizes(parts) == (0, 1_099_511_627_776, 0)
 }
 
 #[test]
 fn a_list_may_have_the_greatest_limit(rt: HostRuntime) {
-    let parts = reopened(Parts::new(rt.alloc(), 4_294_967_296));
+    let parts = reopened(Parts::new(rt.alloc(), 1_099_511_627_776));
     assert!(rt; shows(parts, has_the_greatest_limit));
 }
 

@@ -17,7 +17,7 @@ fn value_at(
 ) -> Result<Option<u64>, QuietError>
     ensures { IfOk result (λ value. value ≡ slice_get values.items place) }
 {
-    let mut list = match Quiet::from_vec(alloc, 1 << 32, values) {
+    let mut list = match Quiet::from_vec(alloc, 1 << 40, values) {
         Ok(list) => list,
         Err((error, _)) => return Err(error),
     };
@@ -31,7 +31,7 @@ fn value_at(
 
 // Once there is room for n members, n pushes are not refused.
 fn zeros(alloc: Global, n: u64) -> Result<Quiet<u64>, QuietError>
-    requires { 1 ≤ n × n ≤ 2 ^ 32 }
+    requires { 1 ≤ n × n ≤ 2 ^ 40 }
     ensures { IfOk result (λ list. list.members ≡ replicate n (Some 0)) }
 {
     let mut list = Quiet::new(alloc, n);

@@ -1,6 +1,6 @@
 -- A fact of a row of the step table, where it is a fact of each outcome that the row may have.
-use Rattle.std.proofs.Common.{◌≡◌, ℕ, ◌+◌, ◌-◌, ◌<◌, ◌≤◌, ◌==◌, nat_le, nat_lt, Bool, true, false, if◌then◌else◌, Some, None, slice_get, refl, subst, arith}
-use Rattle.std.proofs.lemmas.Bool.{eqb-true}
+use Rattle.std.proofs.Common.{◌≡◌, ◌≢◌, ℕ, ◌+◌, ◌-◌, ◌<◌, ◌≤◌, ◌==◌, nat_le, nat_lt, Bool, true, false, if◌then◌else◌, Some, None, slice_get, refl, subst, arith}
+use Rattle.std.proofs.lemmas.Bool.{eqb-true, eqb-false}
 use Rattle.std.proofs.lemmas.Bool.Decides.{nat_tests}
 use Rattle.std.specs.FinSet as set
 use Rattle.seg_core.specs.Segment.{segment_end, segment_of}
@@ -33,7 +33,7 @@ claim_of_nothing m actor = ends m (events.Claim actor 0) (replies.Run m.size 0) 
 
 -- n more places are looked for from the first segment on
 abbrev pub first_scout : Storage → ℕ → Outcome
-first_scout m n = goes_on m (Scout m.size n (segment_of m.size))
+first_scout m n = goes_on m (Scout m.size n (segment_of m.layout m.size))
 
 -- n more places would pass the limit
 abbrev pub refusal : Storage → ℕ → ℕ → Outcome
@@ -101,17 +101,23 @@ module _ (P : Outcome → Type 0) (m : Storage) (actor : ℕ) where
       (λ test. outside (let past : m.size ≤ place = grind (arith, nat_tests) in past))
 
   -- Exchange: the size is the one that the actor knows, or it has moved and there is room, or there is none
-  pub exchange_cases : (limit from n : ℕ) → (m.size ≡ from → P (won_growth m (events.Claim actor n) n))
-      → (m.size + n ≤ limit → P (first_scout m n)) → (limit < m.size + n → P (refusal m actor n))
+  pub moved_cases : (limit from n : ℕ) → (m.size ≡ from → P (won_growth m (events.Claim actor n) n))
+      → (m.size ≢ from → m.size + n ≤ limit → P (first_scout m n)) → (limit < m.size + n → P (refusal m actor n))
       → P (exchange limit m actor from n)
-  exchange_cases limit from n same fits full =
+  moved_cases limit from n same fits full =
       test_cases
       (λ b. P (if b then record { storage = with_size m (from + n); event = Some (events.Claim actor n, replies.Run from n); next = Goes (Begin from n from) } else if nat_le (m.size + n) limit then first_scout m n else refusal m actor n))
       (m.size == from)
       (λ test.
       let is : m.size ≡ from = eqb-true m.size from test in
       subst (λ f. P (record { storage = with_size m (f + n); event = Some (events.Claim actor n, replies.Run f n); next = Goes (Begin f n f) })) is (same is))
-      (λ _. room_cases limit n fits full)
+      (λ test. room_cases limit n (fits (eqb-false m.size from test)) full)
+
+  -- the same where it doesn't matter that the size has moved
+  pub exchange_cases : (limit from n : ℕ) → (m.size ≡ from → P (won_growth m (events.Claim actor n) n))
+      → (m.size + n ≤ limit → P (first_scout m n)) → (limit < m.size + n → P (refusal m actor n))
+      → P (exchange limit m actor from n)
+  exchange_cases limit from n same fits full = moved_cases limit from n same (λ _. fits) full
 
   -- Raise: the size is that large, or it moves
   pub raise_cases : (to : ℕ) → (to ≤ m.size → P (enough m actor to))
@@ -137,10 +143,10 @@ module _ (P : Outcome → Type 0) (m : Storage) (actor : ℕ) where
 
 -- Scout: the segment is installed, or it is not
 pub scout_cases : (P : Outcome → Type 0) (m : Storage) (command : Command) (from n segment : ℕ)
-    → (set.contains m.installed segment ≡ true → P (goes_on m (after_segment command from n segment)))
+    → (set.contains m.installed segment ≡ true → P (goes_on m (after_segment m.layout command from n segment)))
     → P (goes_on m (Put from n segment)) → P (scout m command from n segment)
 scout_cases P m command from n segment there not_there =
-    test_cases (λ b. P (if b then goes_on m (after_segment command from n segment) else goes_on m (Put from n segment)))
+    test_cases (λ b. P (if b then goes_on m (after_segment m.layout command from n segment) else goes_on m (Put from n segment)))
     (set.contains m.installed segment) there (λ _. not_there)
 
 -- ---- What follows a segment or a place
@@ -182,13 +188,13 @@ module _ (P : Phase → Type 0) (command : Command) (from n : ℕ) where
       exchanges raises
 
   -- after a segment comes the next one, or the claim
-  pub segment_cases : (segment : ℕ) → (segment_end segment < from + n → P (Scout from n (segment + 1)))
-      → (from + n ≤ segment_end segment → P (claiming command from n)) → P (after_segment command from n segment)
-  segment_cases segment more last =
+  pub segment_cases : (f segment : ℕ) → (segment_end f segment < from + n → P (Scout from n (segment + 1)))
+      → (from + n ≤ segment_end f segment → P (claiming command from n)) → P (after_segment f command from n segment)
+  segment_cases f segment more last =
       test_cases (λ b. P (if b then Scout from n (segment + 1) else claiming command from n))
-      (nat_lt (segment_end segment) (from + n))
-      (λ test. more (let before : segment_end segment < from + n = grind (arith, nat_tests) in before))
-      (λ test. last (let reaches : from + n ≤ segment_end segment = grind (arith, nat_tests) in reaches))
+      (nat_lt (segment_end f segment) (from + n))
+      (λ test. more (let before : segment_end f segment < from + n = grind (arith, nat_tests) in before))
+      (λ test. last (let reaches : from + n ≤ segment_end f segment = grind (arith, nat_tests) in reaches))
 
 -- after a place of a run comes the next one, or the end of the call
 pub place_cases : (P : Next → Type 0) (command : Command) (from n place : ℕ)

@@ -9,7 +9,7 @@ use Rattle.book_core.specs.declared.events.Reply.TheVariants as replies
 use Rattle.book_core.specs.declared.commands.Command.{Command}
 use Rattle.book_core.specs.declared.commands.Command.TheVariants as commands
 use Rattle.book_core.specs.declared.commands.Item.{Item}
-use Rattle.seg_core.specs.Segment.{IsLimit}
+use Rattle.seg_core.specs.Segment.{IsLayout, IsLimit}
 use Rattle.book_core.specs.Commands.{AreSound, calls_of}
 use Rattle.book_core.specs.History.{OwnedRun, runs_of, Tile, events_of}
 use Rattle.step_core.specs.declared.machine.phase.Slot.{Slot}
@@ -37,14 +37,14 @@ tile_behind : (start mid end : ℕ) (xs ys : List OwnedRun) → Tile start xs mi
 tile_behind start mid end [] ys first whole = subst (λ s. Tile s ys end) first whole
 tile_behind start mid end (x ∷ xs) ys (begins, others) (_, whole) = tile_behind (start + x.n) mid end xs ys others whole
 
-pub every_play_moves_at_claims : (limit : ℕ) (programs : List (List Command)) (items : List Item) → IsLimit limit
-    → MovesAtClaims (play_of limit programs items)
-every_play_moves_at_claims limit programs items is_limit item =
-    let opens = opening_in_limit limit programs is_limit in
-    let p = play_of limit programs items in
-    let holds : HoldsAt p.at p.events = items_hold (empty_play limit programs) items opens (opening_holds limit programs) in
+pub every_play_moves_at_claims : (f : ℕ) → IsLayout f → (limit : ℕ) (programs : List (List Command)) (items : List Item) → IsLimit limit
+    → MovesAtClaims (play_of f limit programs items)
+every_play_moves_at_claims f is_layout limit programs items is_limit item =
+    let opens = opening_in_limit f limit programs is_layout is_limit in
+    let p = play_of f limit programs items in
+    let holds : HoldsAt p.at p.events = items_hold (empty_play f limit programs) items opens (opening_holds f limit programs) in
     let step = step_of p.at item.actor item.memory in
-    let after : HoldsAt step.to (p.events ++ option_to_list step.event) = step_holds p.at p.events item.actor item.memory (items_in_limit (empty_play limit programs) items opens) holds in
+    let after : HoldsAt step.to (p.events ++ option_to_list step.event) = step_holds p.at p.events item.actor item.memory (items_in_limit (empty_play f limit programs) items opens) holds in
     tile_behind 0 p.at.storage.size step.to.storage.size (runs_of p.events) (runs_of (option_to_list step.event)) holds.tile
     (subst (λ rs. Tile 0 rs step.to.storage.size) (runs_of-append p.events (option_to_list step.event)) after.tile)
 
@@ -120,7 +120,7 @@ raise_own actor commands.Size to is = absurd is
 -- each row of the step table
 row_claims : (limit : ℕ) (m : Storage) (actor : ℕ) (command : Command) (memory : Bool) (phase : Phase)
     (now : List (Event × Reply))
-    → IsWithin limit command phase → StageOf actor command phase now
+    → IsWithin m.layout limit command phase → StageOf actor command phase now
     → StaysOrClaims m actor command (outcome_of limit m actor command memory phase)
 row_claims limit m actor command memory Load now within stage = load_stays m actor command limit command
 row_claims limit m actor command memory (Scout from n segment) now within stage =
@@ -141,27 +141,27 @@ row_claims limit m actor command memory (FillMended place) now within stage = in
 row_claims limit m actor command memory (Look place) now within stage = look_stays m actor command place (finite.get m.slots place)
 
 -- what is known of every actor of a play of sound programs
-stand_in : (limit : ℕ) (programs : List (List Command)) (items : List Item) → IsLimit limit → AreSound programs
-    → AllStand programs (play_of limit programs items).at.actors (play_of limit programs items).events (play_of limit programs items).ended
-stand_in limit programs items is_limit sound =
-    items_stand programs (empty_play limit programs) items sound (opening_in_limit limit programs is_limit) (opening_stands limit programs)
+stand_in : (f : ℕ) → IsLayout f → (limit : ℕ) (programs : List (List Command)) (items : List Item) → IsLimit limit → AreSound programs
+    → AllStand programs (play_of f limit programs items).at.actors (play_of f limit programs items).events (play_of f limit programs items).ended
+stand_in f is_layout limit programs items is_limit sound =
+    items_stand programs (empty_play f limit programs) items sound (opening_in_limit f limit programs is_layout is_limit) (opening_stands f limit programs)
 
 -- an actor of a play with a call under way: where it stands, and within what
-record UnderWay (limit actor : ℕ) (state : Actor) (command : Command) : Type 0 where
+record UnderWay (f limit actor : ℕ) (state : Actor) (command : Command) : Type 0 where
   pub now : List (Event × Reply)
   pub stage : StageOf actor command state.phase now
-  pub within : IsWithin limit command state.phase
+  pub within : IsWithin f limit command state.phase
 
-under_way : (limit : ℕ) (programs : List (List Command)) (items : List Item) → IsLimit limit → AreSound programs
+under_way : (f : ℕ) → IsLayout f → (limit : ℕ) (programs : List (List Command)) (items : List Item) → IsLimit limit → AreSound programs
     → (actor : ℕ) (state : Actor) (command : Command)
-    → slice_get (play_of limit programs items).at.actors actor ≡ Some state
+    → slice_get (play_of f limit programs items).at.actors actor ≡ Some state
     → slice_get state.program state.ended ≡ Some command
-    → UnderWay (play_of limit programs items).at.limit actor state command
-under_way limit programs items is_limit sound actor state command there is =
-    let p = play_of limit programs items in
-    let in_limit : IsInLimit p.at = items_in_limit (empty_play limit programs) items (opening_in_limit limit programs is_limit) in
+    → UnderWay (play_of f limit programs items).at.storage.layout (play_of f limit programs items).at.limit actor state command
+under_way f is_layout limit programs items is_limit sound actor state command there is =
+    let p = play_of f limit programs items in
+    let in_limit : IsInLimit p.at = items_in_limit (empty_play f limit programs) items (opening_in_limit f limit programs is_layout is_limit) in
     let s : Standing programs actor state (events_of actor p.events) (calls_of actor p.ended) =
-    subst (λ o. Stands programs actor o (events_of actor p.events) (calls_of actor p.ended)) there (stand_in limit programs items is_limit sound actor)
+    subst (λ o. Stands programs actor o (events_of actor p.events) (calls_of actor p.ended)) there (stand_in f is_layout limit programs items is_limit sound actor)
     in
     record {
       now = s.now;
@@ -169,41 +169,41 @@ under_way limit programs items is_limit sound actor state command there is =
       within = within_at p.at in_limit actor state command there is;
     }
 
-pub every_move_is_own : (limit : ℕ) (programs : List (List Command)) (items : List Item) → IsLimit limit
-    → AreSound programs → MovesAreOwnClaims (play_of limit programs items)
-every_move_is_own limit programs items is_limit sound item =
-    let p = play_of limit programs items in
+pub every_move_is_own : (f : ℕ) → IsLayout f → (limit : ℕ) (programs : List (List Command)) (items : List Item) → IsLimit limit
+    → AreSound programs → MovesAreOwnClaims (play_of f limit programs items)
+every_move_is_own f is_layout limit programs items is_limit sound item =
+    let p = play_of f limit programs items in
     let actor = item.actor in
     step_cases (λ step. step.to.storage.size ≢ p.at.storage.size → IsOwnClaim p.at actor step) p.at actor item.memory
     (λ moves. absurd (moves refl))
     (λ state command there is moves.
-    let way = under_way limit programs items is_limit sound actor state command there is in
+    let way = under_way f is_layout limit programs items is_limit sound actor state command there is in
     elim (row_claims p.at.limit p.at.storage actor command item.memory state.phase way.now way.within way.stage) [
       | inl stays ↦ absurd (moves stays)
       | inr (claim, own, event) ↦ record { state = state; there = there; command = command; under_way = is; claim = claim; own = own; event = event }
     ])
 
 -- a growth of nothing is nowhere but at Load
-nothing_is_at_load : (limit actor value : ℕ) (phase : Phase) (now : List (Event × Reply))
-    → IsWithin limit (commands.Grow 0 value) phase → StageOf actor (commands.Grow 0 value) phase now → phase ≡ Load
-nothing_is_at_load limit actor value Load now within stage = refl
-nothing_is_at_load limit actor value (Scout from n segment) now (some, room, number, wants) (none, asks) = absurd (let zero_is : n ≡ 0 = asks in omega arith)
-nothing_is_at_load limit actor value (Put from n segment) now (some, room, number, wants) (none, asks) = absurd (let zero_is : n ≡ 0 = asks in omega arith)
-nothing_is_at_load limit actor value (Exchange from n) now (some, room, exchanges) (none, asks) = absurd (let zero_is : n ≡ 0 = asks in omega arith)
-nothing_is_at_load limit actor value (Raise to) now within (none, is) = absurd is
-nothing_is_at_load limit actor value (Begin from n place) now (low, high, room) (so_far, asks) = absurd (let zero_is : n ≡ 0 = asks in omega arith)
-nothing_is_at_load limit actor value (Fill from n place) now (low, high, room) (so_far, asks, fits) = absurd (let zero_is : n ≡ 0 = asks in omega arith)
-nothing_is_at_load limit actor value (Spoil from n place) now (low, high, room) (so_far, asks, refused) = absurd (let zero_is : n ≡ 0 = asks in omega arith)
-nothing_is_at_load limit actor value (Mend place) now within (none, is) = absurd is
-nothing_is_at_load limit actor value (FillMended place) now within (so_far, is) = absurd is
-nothing_is_at_load limit actor value (Look place) now within (none, is) = absurd is
+nothing_is_at_load : (f limit actor value : ℕ) (phase : Phase) (now : List (Event × Reply))
+    → IsWithin f limit (commands.Grow 0 value) phase → StageOf actor (commands.Grow 0 value) phase now → phase ≡ Load
+nothing_is_at_load f limit actor value Load now within stage = refl
+nothing_is_at_load f limit actor value (Scout from n segment) now (some, room, number, wants) (none, asks) = absurd (let zero_is : n ≡ 0 = asks in omega arith)
+nothing_is_at_load f limit actor value (Put from n segment) now (some, room, number, wants) (none, asks) = absurd (let zero_is : n ≡ 0 = asks in omega arith)
+nothing_is_at_load f limit actor value (Exchange from n) now (some, room, exchanges) (none, asks) = absurd (let zero_is : n ≡ 0 = asks in omega arith)
+nothing_is_at_load f limit actor value (Raise to) now within (none, is) = absurd is
+nothing_is_at_load f limit actor value (Begin from n place) now (low, high, room) (so_far, asks) = absurd (let zero_is : n ≡ 0 = asks in omega arith)
+nothing_is_at_load f limit actor value (Fill from n place) now (low, high, room) (so_far, asks, fits) = absurd (let zero_is : n ≡ 0 = asks in omega arith)
+nothing_is_at_load f limit actor value (Spoil from n place) now (low, high, room) (so_far, asks, refused) = absurd (let zero_is : n ≡ 0 = asks in omega arith)
+nothing_is_at_load f limit actor value (Mend place) now within (none, is) = absurd is
+nothing_is_at_load f limit actor value (FillMended place) now within (so_far, is) = absurd is
+nothing_is_at_load f limit actor value (Look place) now within (none, is) = absurd is
 
-pub every_nothing_is_at_load : (limit : ℕ) (programs : List (List Command)) (items : List Item) → IsLimit limit
-    → AreSound programs → NothingIsClaimedAtLoad (play_of limit programs items)
-every_nothing_is_at_load limit programs items is_limit sound item state value there is =
-    let p = play_of limit programs items in
-    let way = under_way limit programs items is_limit sound item.actor state (commands.Grow 0 value) there is in
-    let at_load : state.phase ≡ Load = nothing_is_at_load p.at.limit item.actor value state.phase way.now way.within way.stage in (
+pub every_nothing_is_at_load : (f : ℕ) → IsLayout f → (limit : ℕ) (programs : List (List Command)) (items : List Item) → IsLimit limit
+    → AreSound programs → NothingIsClaimedAtLoad (play_of f limit programs items)
+every_nothing_is_at_load f is_layout limit programs items is_limit sound item state value there is =
+    let p = play_of f limit programs items in
+    let way = under_way f is_layout limit programs items is_limit sound item.actor state (commands.Grow 0 value) there is in
+    let at_load : state.phase ≡ Load = nothing_is_at_load p.at.storage.layout p.at.limit item.actor value state.phase way.now way.within way.stage in (
       at_load,
       ap (λ (s : Step). s.event) (ap (step_as p.at item.actor item.memory) there ∙ ap (step_in p.at item.actor item.memory state) is)
           ∙ ap (λ phase. (outcome_of p.at.limit p.at.storage item.actor (commands.Grow 0 value) item.memory phase).event) at_load,

@@ -30,6 +30,7 @@ use Rattle.step_core.specs.machine.Bounds.{Wants, IsWithin, IsInLimit}
 use Rattle.step_core.specs.machine.Installed.{IsReady, HasPassed, HasSegments}
 use Rattle.step_core.specs.machine.Play.{Play, with_step, after_items}
 use Rattle.step_core.proofs.atomic_steps.Keys.{same_key}
+use Rattle.step_core.proofs.atomic_steps.KeptLayout.{row_keeps_layout}
 use Rattle.step_core.proofs.atomic_steps.Cases.{first_scout, won_growth, growth_cases, at_least_cases, load_place_cases, exchange_cases, raise_cases, begin_cases, scout_cases, raise_wants, claiming_cases, segment_cases, place_cases, step_cases}
 use Rattle.step_core.proofs.atomic_steps.Bounds.{within_at, step_in_limit}
 
@@ -45,27 +46,30 @@ record Passes (m : Storage) (outcome : Outcome) : Type 0 where
   pub next : PassesOn outcome.storage outcome.next
 
 -- what others have passed stays
-passed_stays : (m m' : Storage) (phase : Phase) → ((q : ℕ) → IsReady m q → IsReady m' q) → HasPassed m phase
-    → HasPassed m' phase
-passed_stays m m' Load stays passed = tt
-passed_stays m m' (Scout from n k) stays passed = λ q before inside. stays q (passed q before inside)
-passed_stays m m' (Put from n k) stays passed = λ q before inside. stays q (passed q before inside)
-passed_stays m m' (Exchange from n) stays passed = λ q inside. stays q (passed q inside)
-passed_stays m m' (Raise to) stays passed = λ q inside. stays q (passed q inside)
-passed_stays m m' (Begin from n place) stays passed = λ q inside. stays q (passed q inside)
-passed_stays m m' (Fill from n place) stays passed = λ q inside. stays q (passed q inside)
-passed_stays m m' (Spoil from n place) stays passed = λ q inside. stays q (passed q inside)
-passed_stays m m' (Mend place) stays passed = stays place passed
-passed_stays m m' (FillMended place) stays passed = stays place passed
-passed_stays m m' (Look place) stays passed = tt
+passed_stays : (m m' : Storage) (phase : Phase) → m'.layout ≡ m.layout → ((q : ℕ) → IsReady m q → IsReady m' q)
+    → HasPassed m phase → HasPassed m' phase
+passed_stays m m' Load same stays passed = tt
+passed_stays m m' (Scout from n k) same stays passed =
+    λ q before inside. stays q (passed q (subst (λ f. q < segment_start f k) same before) inside)
+passed_stays m m' (Put from n k) same stays passed =
+    λ q before inside. stays q (passed q (subst (λ f. q < segment_start f k) same before) inside)
+passed_stays m m' (Exchange from n) same stays passed = λ q inside. stays q (passed q inside)
+passed_stays m m' (Raise to) same stays passed = λ q inside. stays q (passed q inside)
+passed_stays m m' (Begin from n place) same stays passed = λ q inside. stays q (passed q inside)
+passed_stays m m' (Fill from n place) same stays passed = λ q inside. stays q (passed q inside)
+passed_stays m m' (Spoil from n place) same stays passed = λ q inside. stays q (passed q inside)
+passed_stays m m' (Mend place) same stays passed = stays place passed
+passed_stays m m' (FillMended place) same stays passed = stays place passed
+passed_stays m m' (Look place) same stays passed = tt
 
 -- ---- Places that are ready
 
 -- an installed segment stays when another is
 ready_kept : (m : Storage) (k place : ℕ) → IsReady m place → IsReady (with_segment m k) place
 ready_kept m k place ready =
-    set.contains-insert nat_cmp_total m.installed k (segment_of place)
-    ∙ ap (λ b. eq_by_cmp nat_cmp (segment_of place) k || b) ready ∙ or-true (eq_by_cmp nat_cmp (segment_of place) k)
+    set.contains-insert nat_cmp_total m.installed k (segment_of m.layout place)
+    ∙ ap (λ b. eq_by_cmp nat_cmp (segment_of m.layout place) k || b) ready
+    ∙ or-true (eq_by_cmp nat_cmp (segment_of m.layout place) k)
 
 -- a segment that was just installed is there
 installed_now : (m : Storage) (k : ℕ) → set.contains (with_segment m k).installed k ≡ true
@@ -73,20 +77,21 @@ installed_now m k =
     set.contains-insert nat_cmp_total m.installed k k ∙ ap (λ b. b || set.contains m.installed k) (same_key k)
 
 -- where a segment and all before it are ready, so are all places before its end
-ready_through : (m : Storage) (k bound : ℕ) → ((q : ℕ) → q < segment_start k → q < bound → IsReady m q)
-    → set.contains m.installed k ≡ true → (q : ℕ) → q < segment_end k → q < bound → IsReady m q
+ready_through : (m : Storage) (k bound : ℕ) → ((q : ℕ) → q < segment_start m.layout k → q < bound → IsReady m q)
+    → set.contains m.installed k ≡ true → (q : ℕ) → q < segment_end m.layout k → q < bound → IsReady m q
 ready_through m k bound before there q ends inside =
-    elim (cases_lt q (segment_start k)) [
+    elim (cases_lt q (segment_start m.layout k)) [
       | inl earlier ↦ before q earlier inside
-      | inr later ↦ subst (λ j. set.contains m.installed j ≡ true) (is_segment_of k q (record { from = later; before = ends })) there
+      | inr later ↦ subst (λ j. set.contains m.installed j ≡ true) (is_segment_of m.layout k q (record { from = later; before = ends })) there
     ]
 
 -- what follows an installed segment has passed it
 segment_passed : (m : Storage) (command : Command) (from n k : ℕ) → Wants command from n
-    → ((q : ℕ) → q < segment_end k → q < from + n → IsReady m q) → HasPassed m (after_segment command from n k)
+    → ((q : ℕ) → q < segment_end m.layout k → q < from + n → IsReady m q)
+    → HasPassed m (after_segment m.layout command from n k)
 segment_passed m command from n k wants ready =
-    segment_cases (HasPassed m) command from n k
-    (λ _ q before inside. ready q (subst (λ e. q < e) (segment_start-next k) before) inside)
+    segment_cases (HasPassed m) command from n m.layout k
+    (λ _ q before inside. ready q (subst (λ e. q < e) (segment_start-next m.layout k) before) inside)
     (λ reaches. claiming_cases (HasPassed m) command from n
     (λ _ q inside. ready q (omega arith) inside)
     (λ to raises q inside. let ends_at = raise_wants command from n to raises wants in ready q (omega arith) (omega arith)))
@@ -105,8 +110,8 @@ module _ (m : Storage) (ready : (q : ℕ) → q < m.size → IsReady m q) where
   -- at the first segment of the places from the size on, all places before it are claimed
   first_scout_passes : (n : ℕ) → Passes m (first_scout m n)
   first_scout_passes n =
-      goes_passes (Scout m.size n (segment_of m.size))
-      (λ q before inside. ready q (let has = segment_of_has m.size in let low : segment_start (segment_of m.size) ≤ m.size = has.from in omega arith))
+      goes_passes (Scout m.size n (segment_of m.layout m.size))
+      (λ q before inside. ready q (let has = segment_of_has m.layout m.size in let low : segment_start m.layout (segment_of m.layout m.size) ≤ m.size = has.from in omega arith))
 
   -- what a claim wins, it has passed
   won_passes : (event : Event) (n : ℕ) → ((q : ℕ) → q < m.size + n → IsReady m q) → Passes m (won_growth m event n)
@@ -165,12 +170,12 @@ module _ (m : Storage) (ready : (q : ℕ) → q < m.size → IsReady m q) where
   mend_passes actor place (Some Broken) passed = record { stays = λ q r. r; ready = ready; next = passed }
 
   -- each row of the step table
-  outcome_passes : (limit actor : ℕ) (command : Command) (memory : Bool) (phase : Phase) → IsWithin limit command phase
+  outcome_passes : (limit actor : ℕ) (command : Command) (memory : Bool) (phase : Phase) → IsWithin m.layout limit command phase
       → HasPassed m phase → Passes m (outcome_of limit m actor command memory phase)
   outcome_passes limit actor command memory Load within passed = load_passes limit actor command
   outcome_passes limit actor command memory (Scout from n k) (some, room, number, wants) passed =
       scout_cases (Passes m) m command from n k
-      (λ there. goes_passes (after_segment command from n k) (segment_passed m command from n k wants (ready_through m k (from + n) passed there)))
+      (λ there. goes_passes (after_segment m.layout command from n k) (segment_passed m command from n k wants (ready_through m k (from + n) passed there)))
       (goes_passes (Put from n k) passed)
   outcome_passes limit actor command true (Put from n k) (some, room, number, wants) passed = record {
     stays = λ q r. ready_kept m k q r;
@@ -196,10 +201,11 @@ module _ (m : Storage) (ready : (q : ℕ) → q < m.size → IsReady m q) where
 -- ---- Whole configurations
 
 -- before the first step nothing is claimed, and nobody has passed a segment
-pub first_has_segments : (limit : ℕ) (programs : List (List Command)) → HasSegments (first_configuration limit programs)
-first_has_segments limit programs = (
+pub first_has_segments : (f limit : ℕ) (programs : List (List Command))
+    → HasSegments (first_configuration f limit programs)
+first_has_segments f limit programs = (
   λ q inside. absurd (omega arith),
-  All-map (λ (state : Actor). HasPassed (first_configuration limit programs).storage state.phase) _ programs (λ k d inside. tt),
+  All-map (λ (state : Actor). HasPassed (first_configuration f limit programs).storage state.phase) _ programs (λ k d inside. tt),
 )
 
 -- at Load of its next call an actor has passed nothing
@@ -216,10 +222,11 @@ step_has_segments c actor memory in_limit has =
     (λ state command there is.
     let outcome = outcome_of c.limit c.storage actor command memory state.phase in
     let passed : HasPassed c.storage state.phase = at_place (λ (a : Actor). HasPassed c.storage a.phase) c.actors actor state has.1 there in
+    let same = row_keeps_layout c.limit c.storage actor command memory state.phase in
     let passes = outcome_passes c.storage has.0 c.limit actor command memory state.phase (within_at c in_limit actor state command there is) passed in (
       passes.ready,
       All-set (λ (a : Actor). HasPassed outcome.storage a.phase) c.actors actor (actor_after state outcome.next) (after_has_passed outcome.storage state outcome.next passes.next)
-          (All-weaker (λ (a : Actor). HasPassed c.storage a.phase) (λ (a : Actor). HasPassed outcome.storage a.phase) (λ a was. passed_stays c.storage outcome.storage a.phase passes.stays was) c.actors has.1),
+          (All-weaker (λ (a : Actor). HasPassed c.storage a.phase) (λ (a : Actor). HasPassed outcome.storage a.phase) (λ a was. passed_stays c.storage outcome.storage a.phase same passes.stays was) c.actors has.1),
     ))
 
 -- so do items
@@ -242,10 +249,10 @@ left_has_segments (Err e) c new actor memory in_limit has gives kept = (
 )
 
 -- so does a new machine
-pub new_has_segments : (limit : ℕ) (m : Storage) (actors : List Actor) (programs : List (List Command))
-    → m ≡ (first_configuration limit programs).storage → actors ≡ (first_configuration limit programs).actors
+pub new_has_segments : (f limit : ℕ) (m : Storage) (actors : List Actor) (programs : List (List Command))
+    → m ≡ (first_configuration f limit programs).storage → actors ≡ (first_configuration f limit programs).actors
     → HasSegments (record { limit = limit; storage = m; actors = actors })
-new_has_segments limit m actors programs storage_is actors_are = (
+new_has_segments f limit m actors programs storage_is actors_are = (
   (λ q inside. absurd (let same : m.size ≡ 0 = ap (λ (x : Storage). x.size) storage_is in omega arith)),
-  subst (λ (x : Storage). All (λ (a : Actor). HasPassed x a.phase) actors) (sym storage_is) (subst (All (λ (a : Actor). HasPassed (first_configuration limit programs).storage a.phase)) (sym actors_are) (first_has_segments limit programs).1),
+  subst (λ (x : Storage). All (λ (a : Actor). HasPassed x a.phase) actors) (sym storage_is) (subst (All (λ (a : Actor). HasPassed (first_configuration f limit programs).storage a.phase)) (sym actors_are) (first_has_segments f limit programs).1),
 )

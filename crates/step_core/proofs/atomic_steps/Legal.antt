@@ -10,7 +10,7 @@ use Rattle.book_core.specs.declared.events.Event.TheVariants.{Mend}
 use Rattle.book_core.specs.declared.events.Reply.{Reply}
 use Rattle.book_core.specs.declared.commands.Command.{Command}
 use Rattle.book_core.specs.declared.commands.Item.{Item}
-use Rattle.seg_core.specs.Segment.{IsLimit}
+use Rattle.seg_core.specs.Segment.{IsLayout, IsLimit}
 use Rattle.book_core.specs.Cells.{empty_list}
 use Rattle.book_core.specs.History.{IsHistory, runs_of, writes_of}
 use Rattle.step_core.specs.machine.Step.{Configuration, step_of, outcome_of}
@@ -76,32 +76,32 @@ items_told limit p (item ∷ items) is in_limit holds =
     }
 
 pub every_play_is_legal : EveryPlayIsLegal
-every_play_is_legal limit programs items is_limit =
-    let further = items_told limit (empty_play limit programs) items refl (opening_in_limit limit programs is_limit) (opening_holds limit programs) in
-    subst (λ es. IsHistory (empty_list limit) es (list_seen limit (play_of limit programs items))) (sym further.events) further.told
+every_play_is_legal f is_layout limit programs items is_limit =
+    let further = items_told limit (empty_play f limit programs) items refl (opening_in_limit f limit programs is_layout is_limit) (opening_holds f limit programs) in
+    subst (λ es. IsHistory (empty_list limit) es (list_seen limit (play_of f limit programs items))) (sym further.events) further.told
 
 -- ---- What is finished stays
 
 -- the cells that are seen later come from those that are seen now, by a history
-goes_on : (limit : ℕ) (programs : List (List Command)) (items more : List Item) → IsLimit limit
-    → Further limit (play_of limit programs items) (after_items (play_of limit programs items) more)
-goes_on limit programs items more is_limit =
-    let opens = opening_in_limit limit programs is_limit in
-    let p = play_of limit programs items in
-    let in_limit : IsInLimit p.at = items_in_limit (empty_play limit programs) items opens in
-    let holds : HoldsAt p.at p.events = items_hold (empty_play limit programs) items opens (opening_holds limit programs) in
-    items_told limit p more (items_limit (empty_play limit programs) items) in_limit holds
+goes_on : (f : ℕ) → IsLayout f → (limit : ℕ) (programs : List (List Command)) (items more : List Item) → IsLimit limit
+    → Further limit (play_of f limit programs items) (after_items (play_of f limit programs items) more)
+goes_on f is_layout limit programs items more is_limit =
+    let opens = opening_in_limit f limit programs is_layout is_limit in
+    let p = play_of f limit programs items in
+    let in_limit : IsInLimit p.at = items_in_limit (empty_play f limit programs) items opens in
+    let holds : HoldsAt p.at p.events = items_hold (empty_play f limit programs) items opens (opening_holds f limit programs) in
+    items_told limit p more (items_limit (empty_play f limit programs) items) in_limit holds
 
 pub every_play_keeps_filled_cells : EveryPlayKeepsFilledCells
-every_play_keeps_filled_cells limit programs items is_limit more place value here =
-    let p = play_of limit programs items in
-    let on = goes_on limit programs items more is_limit in
+every_play_keeps_filled_cells f is_layout limit programs items is_limit more place value here =
+    let p = play_of f limit programs items in
+    let on = goes_on f is_layout limit programs items more is_limit in
     filled_cells_stay (list_seen limit p) (list_seen limit (after_items p more)) on.more place value on.told here
 
 pub every_play_keeps_broken_cells : EveryPlayKeepsBrokenCells
-every_play_keeps_broken_cells limit programs items is_limit more place unmended here =
-    let p = play_of limit programs items in
-    let on = goes_on limit programs items more is_limit in
+every_play_keeps_broken_cells f is_layout limit programs items is_limit more place unmended here =
+    let p = play_of f limit programs items in
+    let on = goes_on f is_layout limit programs items more is_limit in
     let writes : writes_of place p.events ++ writes_of place on.more ≡ writes_of place (after_items p more).events =
     sym (ap (writes_of place) on.events ∙ writes_of-append place p.events on.more)
     in

@@ -1,5 +1,5 @@
 -- Where the runs of a play follow each other, its cells are those of their owners, place by place.
-use Rattle.std.proofs.Common.{◌≡◌, ℕ, ◌+◌, ◌<◌, ◌≤◌, Bool, List, [], ◌∷◌, ◌++◌, length, map, replicate, Option, Some, Result, Ok, Err, IfOk, All, zero, suc, refl, ap, sym, ◌∙◌, subst, arith}
+use Rattle.std.proofs.Common.{◌≡◌, ℕ, ◌+◌, ◌<◌, ◌≤◌, Bool, List, [], ◌∷◌, ◌++◌, length, map, replicate, Option, Some, All, zero, suc, refl, ap, sym, ◌∙◌, subst, arith}
 use Rattle.std.proofs.lemmas.List.{length-append, length-replicate}
 use Rattle.std.proofs.lemmas.List.Elements.{All-append, All-nil, All-cons}
 use Rattle.std.specs.List.{range_with_len}
@@ -8,20 +8,18 @@ use Rattle.std.specs.FinMap.{get}
 use Rattle.book_core.specs.declared.commands.Command.{Command}
 use Rattle.book_core.specs.declared.commands.Item.{Item}
 use Rattle.book_core.specs.declared.commands.Ended.{Ended}
-use Rattle.seg_core.specs.Segment.{IsLimit}
 use Rattle.book_core.specs.Commands.{HavePrograms, HaveActors}
 use Rattle.book_core.specs.History.{OwnedRun, runs_of, owner_of, Tile}
 use Rattle.step_core.specs.declared.machine.phase.Slot.{Slot}
 use Rattle.step_core.specs.declared.machine.phase.Next.{Next}
 use Rattle.step_core.specs.declared.machine.phase.Next.TheVariants.{Goes, Ends}
 use Rattle.step_core.specs.declared.machine.phase.Actor.{Actor}
-use Rattle.step_core.specs.declared.programs.Played.{Played}
 use Rattle.step_core.specs.machine.Step.{ended_by, Configuration, step_of, outcome_of}
 use Rattle.step_core.specs.machine.Play.{Play, empty_play, with_step, after_items, play_of, cell_of, played_of}
+use Rattle.book_core.specs.declared.commands.Work.{Work}
 use Rattle.step_core.specs.machine.Owners.{owners_of, cells_from, played_by_owners}
 use Rattle.book_core.proofs.Runs.{has_place-true, has_place-past}
 use Rattle.step_core.proofs.atomic_steps.Cases.{step_cases}
-use Rattle.step_core.proofs.atomic_steps.Tiling.{every_play_is_tiled}
 
 -- the owners of the places from one on are these, in order
 abbrev AreOwners : (ℕ → Option ℕ) → ℕ → List ℕ → Type 0
@@ -66,26 +64,13 @@ tile_length start end (run ∷ runs) (begins, others) =
     omega arith
 
 -- what a play shows is what its owners show
-shown : (p : Play) → Tile 0 (runs_of p.events) p.at.storage.size → played_by_owners p ≡ played_of p
-shown p tile =
+pub shown : (p : Play) (work : List Work) → Tile 0 (runs_of p.events) p.at.storage.size
+    → played_by_owners p work ≡ record { events = p.events; ended = p.ended; cells = (played_of p).cells; work = work }
+shown p work tile =
     let are = by_owners (owner_of (runs_of p.events)) (get p.at.storage.slots) 0 (owners_of (runs_of p.events)) (tile_owners 0 p.at.storage.size (runs_of p.events) tile) in
     let whole : 0 + length (owners_of (runs_of p.events)) ≡ p.at.storage.size = tile_length 0 p.at.storage.size (runs_of p.events) tile in
     let count : length (owners_of (runs_of p.events)) ≡ p.at.storage.size = omega arith in
-    ap (λ cells. record { events = p.events; ended = p.ended; cells = cells }) (are ∙ ap (λ n. map (λ place. cell_of (owner_of (runs_of p.events) place) (get p.at.storage.slots place)) (range_with_len 0 n)) count)
-
--- a play from nothing claimed
-pub from_opening : (limit : ℕ) (programs : List (List Command)) (items : List Item) (p q : Play)
-    → p ≡ after_items q items → q ≡ empty_play limit programs → p ≡ play_of limit programs items
-from_opening limit programs items p q is opens = is ∙ ap (λ o. after_items o items) opens
-
-pub play_shown : {E : Type 0} (limit : ℕ) (programs : List (List Command)) (items : List Item) (p : Play)
-    (result : Result Played E)
-    → IsLimit limit → p ≡ play_of limit programs items → IfOk result (λ played. played ≡ played_by_owners p)
-    → IfOk result (λ played. played ≡ played_of (play_of limit programs items))
-play_shown limit programs items p (Ok played) is_limit plays is =
-    let tiled = every_play_is_tiled limit programs items is_limit in
-    is ∙ ap played_by_owners plays ∙ shown (play_of limit programs items) tiled.runs_tile
-play_shown limit programs items p (Err e) is_limit plays is = tt
+    ap (λ cells. record { events = p.events; ended = p.ended; cells = cells; work = work }) (are ∙ ap (λ n. map (λ place. cell_of (owner_of (runs_of p.events) place) (get p.at.storage.slots place)) (range_with_len 0 n)) count)
 
 -- ---- Whose calls end
 
@@ -108,11 +93,6 @@ items_actors count p (item ∷ items) have actors =
     items_actors count (with_step p (step_of p.at item.actor item.memory)) items (λ k d inside. have (suc k) d (omega arith))
     (All-append (λ (e : Ended). e.actor < count) p.ended (option_to_list (step_of p.at item.actor item.memory).ended) actors (step_actors count p.at item.actor item.memory (have 0 item (omega arith))))
 
-pub play_actors : {E : Type 0} (limit : ℕ) (programs : List (List Command)) (items : List Item) (p : Play)
-    (result : Result Played E)
-    → HavePrograms programs items → p ≡ play_of limit programs items
-    → IfOk result (λ played. played ≡ played_by_owners p)
-    → IfOk result (λ played. HaveActors (length programs) played.ended)
-play_actors limit programs items p (Ok played) have plays is =
-    subst (λ (r : Played). HaveActors (length programs) r.ended) (sym (is ∙ ap played_by_owners plays)) (items_actors (length programs) (empty_play limit programs) items have (All-nil _))
-play_actors limit programs items p (Err e) have plays is = tt
+pub play_actors : (f limit : ℕ) (programs : List (List Command)) (items : List Item) → HavePrograms programs items
+    → HaveActors (length programs) (play_of f limit programs items).ended
+play_actors f limit programs items have = items_actors (length programs) (empty_play f limit programs) items have (All-nil _)

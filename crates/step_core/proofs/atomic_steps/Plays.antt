@@ -10,4 +10,4 @@ after_items-append p [] more = refl
 after_items-append p (item ∷ items) more = after_items-append (with_step p (step_of p.at item.actor item.memory)) items more
 
 pub plays_go_on_by_a_step : PlaysGoOnByAStep
-plays_go_on_by_a_step limit programs items item = after_items-append (empty_play limit programs) items (item ∷ [])
+plays_go_on_by_a_step f limit programs items item = after_items-append (empty_play f limit programs) items (item ∷ [])

@@ -214,9 +214,9 @@ items_stand programs p (item ∷ items) sound in_limit stand =
     items_stand programs (with_step p (step_of p.at item.actor item.memory)) items sound (step_in_limit p.at in_limit item.actor item.memory) (step_stands programs p.at p.events p.ended stand item.actor item.memory sound in_limit)
 
 -- before the first step
-pub opening_stands : (limit : ℕ) (programs : List (List Command))
-    → AllStand programs (first_configuration limit programs).actors [] []
-opening_stands limit programs actor =
+pub opening_stands : (f limit : ℕ) (programs : List (List Command))
+    → AllStand programs (first_configuration f limit programs).actors [] []
+opening_stands f limit programs actor =
     let first : List Command → Actor = λ program. record { program = program; ended = 0; phase = Load } in
     subst (λ o. Stands programs actor o [] []) (sym (slice_get-map first programs actor))
     (elim (slice_get programs actor) as (λ o. slice_get programs actor ≡ o → Stands programs actor (option_map first o) [] []) [
@@ -226,17 +226,17 @@ opening_stands limit programs actor =
     refl)
 
 -- what is under way of a sound call is begun
-under_way : (limit actor : ℕ) (command : Option Command) (phase : Phase) (now : List (Event × Reply))
-    → IfSome command (λ c. IsSound c) → IfSome command (λ c. IsWithin limit c phase) → OfStage actor command phase now
+under_way : (f limit actor : ℕ) (command : Option Command) (phase : Phase) (now : List (Event × Reply))
+    → IfSome command (λ c. IsSound c) → IfSome command (λ c. IsWithin f limit c phase) → OfStage actor command phase now
     → IsUnderWay actor command now
-under_way limit actor None phase now sound within staged = staged.0
-under_way limit actor (Some command) phase now sound within staged = stage_begun actor command now limit phase sound within staged
+under_way f limit actor None phase now sound within staged = staged.0
+under_way f limit actor (Some command) phase now sound within staged = stage_begun actor command now f limit phase sound within staged
 
 -- and it is as far as its phase
-so_far : (limit actor : ℕ) (command : Option Command) (phase : Phase) (now : List (Event × Reply))
-    → IfSome command (λ c. IsWithin limit c phase) → OfStage actor command phase now → AreSoFar phase now
-so_far limit actor None phase now within (none, at_load) = subst (λ p. AreSoFar p now) (sym at_load) none
-so_far limit actor (Some command) phase now within staged = stage_so_far actor command now limit phase within staged
+so_far : (f limit actor : ℕ) (command : Option Command) (phase : Phase) (now : List (Event × Reply))
+    → IfSome command (λ c. IsWithin f limit c phase) → OfStage actor command phase now → AreSoFar phase now
+so_far f limit actor None phase now within (none, at_load) = subst (λ p. AreSoFar p now) (sym at_load) none
+so_far f limit actor (Some command) phase now within staged = stage_so_far actor command now f limit phase within staged
 
 -- a command of a sound program, if there is one
 sound_if_there : (programs : List (List Command)) (program : List Command) (actor number : ℕ) → AreSound programs
@@ -264,7 +264,7 @@ stands_recorded programs p actor None sound in_limit there (none, no_events, no_
 stands_recorded programs p actor (Some state) sound in_limit there s =
     let program : state.program ≡ program_of programs actor = sym (ap (λ o. unwrap_or o []) s.program) in
     let begun : IsUnderWay actor (slice_get state.program state.ended) s.now =
-    under_way p.at.limit actor (slice_get state.program state.ended) state.phase s.now
+    under_way p.at.storage.layout p.at.limit actor (slice_get state.program state.ended) state.phase s.now
     (sound_if_there programs state.program actor state.ended sound s.program)
     (actor_at p.at in_limit actor state there)
     s.stage
@@ -276,11 +276,11 @@ stands_recorded programs p actor (Some state) sound in_limit there s =
       calls = subst (λ commands. AreCalls actor commands 0 (calls_of actor p.ended) s.done) program s.ended;
       under_way = subst (λ commands. IsUnderWay actor (slice_get commands (length (calls_of actor p.ended))) s.now) program (subst (λ k. IsUnderWay actor (slice_get state.program k) s.now) (sym s.count) begun);
       so_far = subst (λ o. IfSome o (λ (state : Actor). AreSoFar state.phase s.now)) (sym there)
-          (so_far p.at.limit actor (slice_get state.program state.ended) state.phase s.now (actor_at p.at in_limit actor state there) s.stage);
+          (so_far p.at.storage.layout p.at.limit actor (slice_get state.program state.ended) state.phase s.now (actor_at p.at in_limit actor state there) s.stage);
     }
 
 pub every_play_is_recorded : EveryPlayIsRecorded
-every_play_is_recorded limit programs items is_limit sound actor =
-    let opens = opening_in_limit limit programs is_limit in
-    let stand = items_stand programs (empty_play limit programs) items sound opens (opening_stands limit programs) in
-    stands_recorded programs (play_of limit programs items) actor (slice_get (play_of limit programs items).at.actors actor) sound (items_in_limit (empty_play limit programs) items opens) refl (stand actor)
+every_play_is_recorded f is_layout limit programs items is_limit sound actor =
+    let opens = opening_in_limit f limit programs is_layout is_limit in
+    let stand = items_stand programs (empty_play f limit programs) items sound opens (opening_stands f limit programs) in
+    stands_recorded programs (play_of f limit programs items) actor (slice_get (play_of f limit programs items).at.actors actor) sound (items_in_limit (empty_play f limit programs) items opens) refl (stand actor)

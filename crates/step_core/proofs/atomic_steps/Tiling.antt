@@ -89,21 +89,21 @@ items_hold p (item ∷ items) in_limit holds =
 
 -- before the first step each actor is at Load
 at_load : (programs : List (List Command)) (actor : ℕ) (state : Actor)
-    → slice_get (first_configuration 0 programs).actors actor ≡ Some state → state.phase ≡ Load
+    → slice_get (first_configuration 0 0 programs).actors actor ≡ Some state → state.phase ≡ Load
 at_load programs actor state is =
     elim (slice_get programs actor) as (λ o. option_map (λ program. record { program = program; ended = 0; phase = Load }) o ≡ Some state → state.phase ≡ Load)
     [ None ↦ (λ none. absurd (none-some state none)) | Some program ↦ (λ some. ap (λ (a : Actor). a.phase) (sym (same_Some _ state some))) ]
     (sym (slice_get-map (λ program. record { program = program; ended = 0; phase = Load }) programs actor) ∙ is)
 
-empty_slot : (q : ℕ) → finite.get (first_configuration 0 []).storage.slots q ≡ None
+empty_slot : (q : ℕ) → finite.get (first_configuration 0 0 []).storage.slots q ≡ None
 empty_slot q = finite.get-empty nat_cmp q
 
-pub opening_holds : (limit : ℕ) (programs : List (List Command)) → HoldsAt (first_configuration limit programs) []
-opening_holds limit programs = record {
+pub opening_holds : (f limit : ℕ) (programs : List (List Command)) → HoldsAt (first_configuration f limit programs) []
+opening_holds f limit programs = record {
   tile = refl;
   taken = λ q slot is. absurd (none-some slot (sym (empty_slot q) ∙ is));
   settled = λ q. subst (Settlement [] [] q) (sym (empty_slot q)) refl;
-  knows = λ actor state is. subst (Knows (first_configuration limit programs).storage [] (λ q. []) actor) (sym (at_load programs actor state is)) tt;
+  knows = λ actor state is. subst (Knows (first_configuration f limit programs).storage [] (λ q. []) actor) (sym (at_load programs actor state is)) tt;
   owed = λ q inside. absurd (omega arith);
 }
 
@@ -285,7 +285,7 @@ tiled p holds has = record {
 }
 
 pub every_play_is_tiled : EveryPlayIsTiled
-every_play_is_tiled limit programs items is_limit =
-    let opens = opening_in_limit limit programs is_limit in
-    let p = empty_play limit programs in
-    tiled (play_of limit programs items) (items_hold p items opens (opening_holds limit programs)) (items_have_segments p items opens (first_has_segments limit programs))
+every_play_is_tiled f is_layout limit programs items is_limit =
+    let opens = opening_in_limit f limit programs is_layout is_limit in
+    let p = empty_play f limit programs in
+    tiled (play_of f limit programs items) (items_hold p items opens (opening_holds f limit programs)) (items_have_segments p items opens (first_has_segments f limit programs))

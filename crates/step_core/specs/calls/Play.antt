@@ -66,9 +66,9 @@ with_items programs s (item ∷ items) =
     (λ after. with_items programs after items)
     (with_call s item.actor (next_call programs s.counts item.actor))
 
--- what a stage shows: its events, its ended calls and its cells
+-- what a stage shows: its events, its ended calls and its cells; a whole call has no steps to count
 abbrev pub played_of_calls : CallPlay → Played
-played_of_calls s = record { events = s.events; ended = s.ended; cells = s.list.cells }
+played_of_calls s = record { events = s.events; ended = s.ended; cells = s.list.cells; work = [] }
 
 -- the play of whole calls
 abbrev pub calls_played : ℕ → List (List Command) → List Item → Option Played

@@ -9,7 +9,7 @@ use Rattle.step_core.specs.declared.machine.phase.Next.TheVariants.{Goes, Ends}
 use Rattle.step_core.specs.declared.machine.storage.Outcome.{Outcome as Given}
 use Rattle.step_core.specs.machine.Storage.{Storage}
 use Rattle.step_core.specs.declared.machine.phase.Actor.{Actor}
-use Rattle.seg_core.specs.Segment.{IsLimit}
+use Rattle.seg_core.specs.Segment.{IsLayout, segment_count, IsLimit}
 use Rattle.step_core.specs.machine.Step.{Outcome, Configuration}
 
 -- a growth to at least a size wants the places up to it
@@ -33,32 +33,33 @@ Exchanges (commands.Read place) = Unit {0}
 Exchanges commands.Size = Unit {0}
 
 -- where an actor stands is within the limit
-abbrev pub IsWithin : ℕ → Command → Phase → Type 0
-IsWithin limit command Load = Unit {0}
-IsWithin limit command (Scout from n segment) = (0 < n) × (from + n ≤ limit) × (segment < 32) × Wants command from n
-IsWithin limit command (Put from n segment) = (0 < n) × (from + n ≤ limit) × (segment < 32) × Wants command from n
-IsWithin limit command (Exchange from n) = (0 < n) × (from + n ≤ limit) × Exchanges command
-IsWithin limit command (Raise to) = to ≤ limit
-IsWithin limit command (Begin from n place) = (from ≤ place) × (place < from + n) × (from + n ≤ limit)
-IsWithin limit command (Fill from n place) = (from ≤ place) × (place < from + n) × (from + n ≤ limit)
-IsWithin limit command (Spoil from n place) = (from ≤ place) × (place < from + n) × (from + n ≤ limit)
-IsWithin limit command (Mend place) = place < limit
-IsWithin limit command (FillMended place) = place < limit
-IsWithin limit command (Look place) = Unit {0}
+abbrev pub IsWithin : ℕ → ℕ → Command → Phase → Type 0
+IsWithin f limit command Load = Unit {0}
+IsWithin f limit command (Scout from n segment) = (0 < n) × (from + n ≤ limit) × (segment < segment_count f) × Wants command from n
+IsWithin f limit command (Put from n segment) = (0 < n) × (from + n ≤ limit) × (segment < segment_count f) × Wants command from n
+IsWithin f limit command (Exchange from n) = (0 < n) × (from + n ≤ limit) × Exchanges command
+IsWithin f limit command (Raise to) = to ≤ limit
+IsWithin f limit command (Begin from n place) = (from ≤ place) × (place < from + n) × (from + n ≤ limit)
+IsWithin f limit command (Fill from n place) = (from ≤ place) × (place < from + n) × (from + n ≤ limit)
+IsWithin f limit command (Spoil from n place) = (from ≤ place) × (place < from + n) × (from + n ≤ limit)
+IsWithin f limit command (Mend place) = place < limit
+IsWithin f limit command (FillMended place) = place < limit
+IsWithin f limit command (Look place) = Unit {0}
 
 -- where an actor goes on, it stays within
-abbrev pub StaysWithin : ℕ → Command → Next → Type 0
-StaysWithin limit command (Goes phase) = IsWithin limit command phase
-StaysWithin limit command (Ends answer) = Unit {0}
+abbrev pub StaysWithin : ℕ → ℕ → Command → Next → Type 0
+StaysWithin f limit command (Goes phase) = IsWithin f limit command phase
+StaysWithin f limit command (Ends answer) = Unit {0}
 
 -- an outcome: what is left, and what is given
 abbrev pub given : Storage → Given → Outcome
 given m outcome = record { storage = m; event = outcome.event; next = outcome.next }
 
 -- an actor with a call under way stands within the limit
-abbrev pub IsPlaced : ℕ → Actor → Type 0
-IsPlaced limit state = IfSome (slice_get state.program state.ended) (λ command. IsWithin limit command state.phase)
+abbrev pub IsPlaced : ℕ → ℕ → Actor → Type 0
+IsPlaced f limit state = IfSome (slice_get state.program state.ended) (λ command. IsWithin f limit command state.phase)
 
--- so do all actors, and the size
+-- so do all actors, and the size; and the segments are those of a layout
 abbrev pub IsInLimit : Configuration → Type 0
-IsInLimit c = IsLimit c.limit × (c.storage.size ≤ c.limit) × All (λ state. IsPlaced c.limit state) c.actors
+IsInLimit c =
+    IsLimit c.limit × (c.storage.size ≤ c.limit) × All (λ state. IsPlaced c.storage.layout c.limit state) c.actors × IsLayout c.storage.layout

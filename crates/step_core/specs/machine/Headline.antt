@@ -2,7 +2,7 @@
 use Rattle.std.specs.Prelude.{ℕ, List}
 use Rattle.book_core.specs.declared.commands.Command.{Command}
 use Rattle.book_core.specs.declared.commands.Item.{Item}
-use Rattle.seg_core.specs.Segment.{IsLimit}
+use Rattle.seg_core.specs.Segment.{IsLayout, IsLimit}
 use Rattle.book_core.specs.Commands.{AreSound}
 use Rattle.step_core.specs.machine.Claims.{MovesAtClaims, MovesAreOwnClaims, NothingIsClaimedAtLoad}
 use Rattle.step_core.specs.machine.Play.{Play, play_of}
@@ -31,7 +31,7 @@ pub record IsSequential (limit : ℕ) (programs : List (List Command)) (p : Play
   -- and a broken one stays broken until it is mended
   pub stays_broken : BrokenCellsAreKept p
 
--- Over every limit, every sound programs, every schedule with any marks of memory.
+-- Over every layout, every limit, every sound programs, every schedule with any marks of memory.
 abbrev pub EveryInterleavingIsSequential : Type 0
 EveryInterleavingIsSequential =
-    (limit : ℕ) (programs : List (List Command)) (items : List Item) → IsLimit limit → AreSound programs → IsSequential limit programs (play_of limit programs items)
+    (f : ℕ) → IsLayout f → (limit : ℕ) (programs : List (List Command)) (items : List Item) → IsLimit limit → AreSound programs → IsSequential limit programs (play_of f limit programs items)

@@ -25,13 +25,13 @@ pub record MayRunOut (c : Configuration) (actor : ℕ) (memory : Bool) : Type 0 
 
 -- the segment of the place is installed
 abbrev pub IsReady : Storage → ℕ → Type 0
-IsReady m place = set.contains m.installed (segment_of place) ≡ true
+IsReady m place = set.contains m.installed (segment_of m.layout place) ≡ true
 
 -- the segments that an actor in this phase has passed are installed
 abbrev pub HasPassed : Storage → Phase → Type 0
 HasPassed m Load = Unit {0}
-HasPassed m (Scout from n segment) = (q : ℕ) → q < segment_start segment → q < from + n → IsReady m q
-HasPassed m (Put from n segment) = (q : ℕ) → q < segment_start segment → q < from + n → IsReady m q
+HasPassed m (Scout from n segment) = (q : ℕ) → q < segment_start m.layout segment → q < from + n → IsReady m q
+HasPassed m (Put from n segment) = (q : ℕ) → q < segment_start m.layout segment → q < from + n → IsReady m q
 HasPassed m (Exchange from n) = (q : ℕ) → q < from + n → IsReady m q
 HasPassed m (Raise to) = (q : ℕ) → q < to → IsReady m q
 HasPassed m (Begin from n place) = (q : ℕ) → q < from + n → IsReady m q

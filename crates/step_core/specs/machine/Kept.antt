@@ -5,7 +5,7 @@ use Rattle.book_core.specs.declared.cells.Cell.TheVariants.{Filled, Broken}
 use Rattle.book_core.specs.declared.events.Event.TheVariants.{Mend}
 use Rattle.book_core.specs.declared.commands.Command.{Command}
 use Rattle.book_core.specs.declared.commands.Item.{Item}
-use Rattle.seg_core.specs.Segment.{IsLimit}
+use Rattle.seg_core.specs.Segment.{IsLayout, IsLimit}
 use Rattle.book_core.specs.History.{writes_of}
 use Rattle.step_core.specs.machine.Play.{Play, after_items, play_of, played_of}
 
@@ -25,9 +25,9 @@ BrokenCellsAreKept p =
 -- so it is with the filled places of every play
 abbrev pub EveryPlayKeepsFilledCells : Type 0
 EveryPlayKeepsFilledCells =
-    (limit : ℕ) (programs : List (List Command)) (items : List Item) → IsLimit limit → FilledCellsAreKept (play_of limit programs items)
+    (f : ℕ) → IsLayout f → (limit : ℕ) (programs : List (List Command)) (items : List Item) → IsLimit limit → FilledCellsAreKept (play_of f limit programs items)
 
 -- and with its broken places
 abbrev pub EveryPlayKeepsBrokenCells : Type 0
 EveryPlayKeepsBrokenCells =
-    (limit : ℕ) (programs : List (List Command)) (items : List Item) → IsLimit limit → BrokenCellsAreKept (play_of limit programs items)
+    (f : ℕ) → IsLayout f → (limit : ℕ) (programs : List (List Command)) (items : List Item) → IsLimit limit → BrokenCellsAreKept (play_of f limit programs items)

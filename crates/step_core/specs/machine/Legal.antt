@@ -2,7 +2,7 @@
 use Rattle.std.specs.Prelude.{ℕ, List}
 use Rattle.book_core.specs.declared.commands.Command.{Command}
 use Rattle.book_core.specs.declared.commands.Item.{Item}
-use Rattle.seg_core.specs.Segment.{IsLimit}
+use Rattle.seg_core.specs.Segment.{IsLayout, IsLimit}
 use Rattle.book_core.specs.Cells.{CellList, empty_list}
 use Rattle.book_core.specs.History.{IsHistory}
 use Rattle.step_core.specs.machine.Play.{Play, play_of, played_of}
@@ -18,4 +18,4 @@ IsLegal limit p = IsHistory (empty_list limit) p.events (list_seen limit p)
 -- so it is in every play
 abbrev pub EveryPlayIsLegal : Type 0
 EveryPlayIsLegal =
-    (limit : ℕ) (programs : List (List Command)) (items : List Item) → IsLimit limit → IsLegal limit (play_of limit programs items)
+    (f : ℕ) → IsLayout f → (limit : ℕ) (programs : List (List Command)) (items : List Item) → IsLimit limit → IsLegal limit (play_of f limit programs items)

@@ -5,6 +5,7 @@ use Rattle.book_core.specs.declared.cells.Cell.{Cell}
 use Rattle.book_core.specs.History.{OwnedRun, runs_of}
 use Rattle.step_core.specs.declared.machine.phase.Slot.{Slot}
 use Rattle.step_core.specs.declared.programs.Played.{Played}
+use Rattle.book_core.specs.declared.commands.Work.{Work}
 use Rattle.step_core.specs.machine.Play.{Play, cell_of}
 
 -- the owner of each place of runs that follow each other
@@ -17,10 +18,11 @@ abbrev pub cells_from : (ℕ → Option Slot) → ℕ → List ℕ → List Cell
 cells_from slot place [] = []
 cells_from slot place (owner ∷ owners) = cell_of (Some owner) (slot place) ∷ cells_from slot (place + 1) owners
 
--- what a play shows, where its runs follow each other
-abbrev pub played_by_owners : Play → Played
-played_by_owners p = record {
+-- what a play shows, where its runs follow each other, with what its calls took
+abbrev pub played_by_owners : Play → List Work → Played
+played_by_owners p work = record {
   events = p.events;
   ended = p.ended;
   cells = cells_from (get p.at.storage.slots) 0 (owners_of (runs_of p.events));
+  work = work;
 }

@@ -37,8 +37,8 @@ play_code =
     (λ _. refl)
 
 -- before the first item
-abbrev pub empty_play : ℕ → List (List Command) → Play
-empty_play limit programs = record { at = first_configuration limit programs; events = []; ended = [] }
+abbrev pub empty_play : ℕ → ℕ → List (List Command) → Play
+empty_play f limit programs = record { at = first_configuration f limit programs; events = []; ended = [] }
 
 -- with what one step leaves and gives
 abbrev pub with_step : Play → Step → Play
@@ -53,9 +53,9 @@ abbrev pub after_items : Play → List Item → Play
 after_items p [] = p
 after_items p (item ∷ items) = after_items (with_step p (step_of p.at item.actor item.memory)) items
 
--- the play of a schedule
-abbrev pub play_of : ℕ → List (List Command) → List Item → Play
-play_of limit programs items = after_items (empty_play limit programs) items
+-- the play of a schedule, in segments of a layout
+abbrev pub play_of : ℕ → ℕ → List (List Command) → List Item → Play
+play_of f limit programs items = after_items (empty_play f limit programs) items
 
 -- a place as a reader sees it: a busy slot is pending of who has it busy, and an empty one of the place's owner
 abbrev pub cell_of : Option ℕ → Option Slot → Cell
@@ -68,18 +68,24 @@ cell_of owner None = cells.Pending (unwrap_or owner 0)
 abbrev pub cells_of : Storage → List OwnedRun → List Cell
 cells_of m runs = map (λ place. cell_of (owner_of runs place) (get m.slots place)) (range_with_len 0 m.size)
 
--- what a play shows: its events, its ended calls and its cells
+-- what a play shows: its events, its ended calls and its cells; what its calls took is counted beside it
 abbrev pub played_of : Play → Played
-played_of p = record { events = p.events; ended = p.ended; cells = cells_of p.at.storage (runs_of p.events) }
+played_of p = record { events = p.events; ended = p.ended; cells = cells_of p.at.storage (runs_of p.events); work = [] }
 
 -- The play of one item more is one step more of its configuration: so a machine that is moved by the steps of a schedule is
 -- at the configuration of its play.
 abbrev pub PlaysGoOnByAStep : Type 0
 PlaysGoOnByAStep =
-    (limit : ℕ) (programs : List (List Command)) (items : List Item) (item : Item)
-    → play_of limit programs (items ++ item ∷ [])
-    ≡ with_step (play_of limit programs items) (step_of (play_of limit programs items).at item.actor item.memory)
+    (f limit : ℕ) (programs : List (List Command)) (items : List Item) (item : Item)
+    → play_of f limit programs (items ++ item ∷ [])
+    ≡ with_step (play_of f limit programs items) (step_of (play_of f limit programs items).at item.actor item.memory)
 
 -- the play of no items is at the first configuration
 abbrev pub PlaysBeginAtTheFirst : Type 0
-PlaysBeginAtTheFirst = (limit : ℕ) (programs : List (List Command)) → (play_of limit programs []).at ≡ first_configuration limit programs
+PlaysBeginAtTheFirst =
+    (f limit : ℕ) (programs : List (List Command)) → (play_of f limit programs []).at ≡ first_configuration f limit programs
+
+-- no step changes the layout
+abbrev pub PlaysKeepTheLayout : Type 0
+PlaysKeepTheLayout =
+    (f limit : ℕ) (programs : List (List Command)) (items : List Item) → (play_of f limit programs items).at.storage.layout ≡ f

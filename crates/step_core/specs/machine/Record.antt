@@ -10,7 +10,7 @@ use Rattle.book_core.specs.declared.commands.Answer.{Answer}
 use Rattle.book_core.specs.declared.commands.Answer.TheVariants as answers
 use Rattle.book_core.specs.declared.commands.Ended.{Ended}
 use Rattle.book_core.specs.declared.commands.Item.{Item}
-use Rattle.seg_core.specs.Segment.{IsLimit}
+use Rattle.seg_core.specs.Segment.{IsLayout, IsLimit}
 use Rattle.book_core.specs.Commands.{AreSound, calls_of}
 use Rattle.book_core.specs.History.{events_of}
 use Rattle.book_core.specs.Events.{finishes, breaks}
@@ -183,7 +183,7 @@ program_of programs actor = unwrap_or (slice_get programs actor) []
 abbrev pub AreRecorded : List (List Command) → Play → Type 0
 AreRecorded programs p = (actor : ℕ) → IsRecorded p actor (program_of programs actor)
 
--- so it is in every play: any limit, any sound programs, any schedule, with any marks of memory
+-- so it is in every play: any layout, any limit, any sound programs, any schedule, with any marks of memory
 abbrev pub EveryPlayIsRecorded : Type 0
 EveryPlayIsRecorded =
-    (limit : ℕ) (programs : List (List Command)) (items : List Item) → IsLimit limit → AreSound programs → AreRecorded programs (play_of limit programs items)
+    (f : ℕ) → IsLayout f → (limit : ℕ) (programs : List (List Command)) (items : List Item) → IsLimit limit → AreSound programs → AreRecorded programs (play_of f limit programs items)

@@ -54,15 +54,25 @@ ends m happens reply answer = record { storage = m; event = Some (happens, reply
 
 -- the size is this one now
 abbrev pub with_size : Storage → ℕ → Storage
-with_size m to = record { size = to; installed = m.installed; slots = m.slots }
+with_size m to = record { layout = m.layout; size = to; installed = m.installed; slots = m.slots }
 
 -- the segment is installed now
 abbrev pub with_segment : Storage → ℕ → Storage
-with_segment m segment = record { size = m.size; installed = set.insert m.installed segment; slots = m.slots }
+with_segment m segment = record {
+  layout = m.layout;
+  size = m.size;
+  installed = set.insert m.installed segment;
+  slots = m.slots;
+}
 
 -- the slot of the place holds this now
 abbrev pub with_slot : Storage → ℕ → Slot → Storage
-with_slot m place slot = record { size = m.size; installed = m.installed; slots = insert m.slots place slot }
+with_slot m place slot = record {
+  layout = m.layout;
+  size = m.size;
+  installed = m.installed;
+  slots = insert m.slots place slot;
+}
 
 -- ---- Load
 
@@ -72,7 +82,7 @@ load_growth limit m actor n =
     if n == 0
     then ends m (events.Claim actor 0) (replies.Run m.size 0) (answers.Run m.size 0)
     else if nat_le (m.size + n) limit
-    then goes_on m (Scout m.size n (segment_of m.size))
+    then goes_on m (Scout m.size n (segment_of m.layout m.size))
     else ends m (events.RefusedFull actor n) (replies.Full m.size) (answers.Full m.size)
 
 -- a growth to at least a size
@@ -81,7 +91,7 @@ load_at_least limit m actor to =
     if nat_le to m.size
     then ends m (events.Raise actor to) (replies.Enough m.size) (answers.Enough m.size)
     else if nat_le to limit
-    then goes_on m (Scout m.size (to - m.size) (segment_of m.size))
+    then goes_on m (Scout m.size (to - m.size) (segment_of m.layout m.size))
     else ends m (events.RefusedFull actor (to - m.size)) (replies.Full m.size) (answers.Full m.size)
 
 -- a call of one place goes on to a phase where the place is claimed
@@ -113,21 +123,21 @@ claiming (commands.Read place) from n = Exchange from n
 claiming commands.Size from n = Exchange from n
 
 -- the next segment, or the claim after the last
-abbrev pub after_segment : Command → ℕ → ℕ → ℕ → Phase
-after_segment command from n segment =
-    if nat_lt (segment_end segment) (from + n) then Scout from n (segment + 1) else claiming command from n
+abbrev pub after_segment : ℕ → Command → ℕ → ℕ → ℕ → Phase
+after_segment f command from n segment =
+    if nat_lt (segment_end f segment) (from + n) then Scout from n (segment + 1) else claiming command from n
 
 abbrev pub scout : Storage → Command → ℕ → ℕ → ℕ → Outcome
 scout m command from n segment =
     if set.contains m.installed segment
-    then goes_on m (after_segment command from n segment)
+    then goes_on m (after_segment m.layout command from n segment)
     else goes_on m (Put from n segment)
 
 -- memory is asked for before anything else is looked at
 abbrev pub put : Storage → ℕ → Command → Bool → ℕ → ℕ → ℕ → Outcome
 put m actor command memory from n segment =
     if memory
-    then goes_on (with_segment m segment) (after_segment command from n segment)
+    then goes_on (with_segment m segment) (after_segment m.layout command from n segment)
     else ends m (events.RefusedMemory actor) replies.NoMemory answers.NoMemory
 
 -- ---- Exchange and Raise
@@ -142,7 +152,7 @@ exchange limit m actor from n =
     }
     else if nat_le (m.size + n) limit
     -- a lost exchange
-    then goes_on m (Scout m.size n (segment_of m.size))
+    then goes_on m (Scout m.size n (segment_of m.layout m.size))
     else ends m (events.RefusedFull actor n) (replies.Full m.size) (answers.Full m.size)
 
 abbrev pub raise : Storage → ℕ → ℕ → Outcome
@@ -306,11 +316,11 @@ step_as c actor memory (Some state) = step_in c actor memory state (slice_get st
 abbrev pub step_of : Configuration → ℕ → Bool → Step
 step_of c actor memory = step_as c actor memory (slice_get c.actors actor)
 
--- nothing is claimed, installed or filled, and each actor is at its first call
-abbrev pub first_configuration : ℕ → List (List Command) → Configuration
-first_configuration limit programs = record {
+-- nothing is claimed, installed or filled in segments of this layout, and each actor is at its first call
+abbrev pub first_configuration : ℕ → ℕ → List (List Command) → Configuration
+first_configuration f limit programs = record {
   limit = limit;
-  storage = record { size = 0; installed = set.empty; slots = empty };
+  storage = record { layout = f; size = 0; installed = set.empty; slots = empty };
   actors = map (λ program. record { program = program; ended = 0; phase = Load }) programs;
 }
 

@@ -7,8 +7,10 @@ use Rattle.std.specs.Coded.{Coded, code_by, coded×, coded_ℕ}
 use Rattle.step_core.specs.declared.machine.phase.Slot.{Slot}
 use Rattle.step_core.specs.contracts.machine.phase.Slot as slot
 
--- the size, the installed segments, and the slots that aren't empty
+-- how the places are cut into segments, the first of which has 2^layout of them; the size, the installed segments, and the
+-- slots that aren't empty
 pub record Storage : Type 0 where
+  pub layout : ℕ
   pub size : ℕ
   pub installed : set.FinSet nat_cmp
   pub slots : map.FinMap nat_cmp Slot
@@ -16,8 +18,8 @@ pub record Storage : Type 0 where
 -- it is stored as its fields
 abbrev pub storage_code : Coded Storage
 storage_code =
-    code_by (ℕ × (set.FinSet nat_cmp × map.FinMap nat_cmp Slot))
-    (coded× coded_ℕ (coded× (set.code coded_ℕ) (map.code coded_ℕ slot.the_row.coded)))
-    (λ m. (m.size, (m.installed, m.slots)))
-    (λ p. record { size = p.0; installed = p.1.0; slots = p.1.1 })
+    code_by (ℕ × (ℕ × (set.FinSet nat_cmp × map.FinMap nat_cmp Slot)))
+    (coded× coded_ℕ (coded× coded_ℕ (coded× (set.code coded_ℕ) (map.code coded_ℕ slot.the_row.coded))))
+    (λ m. (m.layout, (m.size, (m.installed, m.slots))))
+    (λ p. record { layout = p.0; size = p.1.0; installed = p.1.1.0; slots = p.1.1.1 })
     (λ _. refl)

@@ -7,7 +7,7 @@ use Rattle.book_core.specs.declared.events.Event.{Event}
 use Rattle.book_core.specs.declared.events.Event.TheVariants.{Finish, Break, Mend}
 use Rattle.book_core.specs.declared.commands.Command.{Command}
 use Rattle.book_core.specs.declared.commands.Item.{Item}
-use Rattle.seg_core.specs.Segment.{IsLimit}
+use Rattle.seg_core.specs.Segment.{IsLayout, IsLimit}
 use Rattle.book_core.specs.History.{runs_of, owner_of, writes_of, Tile}
 use Rattle.book_core.specs.Laws.{IsItsToFinish}
 use Rattle.step_core.specs.declared.machine.phase.Slot.{Slot}
@@ -79,7 +79,7 @@ FilledOnce p =
 
 -- every segment that has a claimed place is installed
 abbrev pub SegmentsAreThere : Play → Type 0
-SegmentsAreThere p = (place : ℕ) → place < p.at.storage.size → set.contains p.at.storage.installed (segment_of place) ≡ true
+SegmentsAreThere p = (place : ℕ) → place < p.at.storage.size → set.contains p.at.storage.installed (segment_of p.at.storage.layout place) ≡ true
 
 -- an actor that is about to begin a place finds its slot empty
 abbrev pub BeginsMeetEmptySlots : Play → Type 0
@@ -113,7 +113,7 @@ pub record IsTiled (p : Play) : Type 0 where
   pub debts_pending : DebtsArePending p
   pub debts_of_history : DebtsAreOfHistory p
 
--- all of it holds of every play: any limit, any programs, any schedule, with any marks of memory
+-- all of it holds of every play: any layout, any limit, any programs, any schedule, with any marks of memory
 abbrev pub EveryPlayIsTiled : Type 0
 EveryPlayIsTiled =
-    (limit : ℕ) (programs : List (List Command)) (items : List Item) → IsLimit limit → IsTiled (play_of limit programs items)
+    (f : ℕ) → IsLayout f → (limit : ℕ) (programs : List (List Command)) (items : List Item) → IsLimit limit → IsTiled (play_of f limit programs items)

@@ -152,13 +152,14 @@ impl CallPlay {
         Ok(())
     }
 
-    fn into_played(self) -> Played
+    fn into_played(self, alloc: Global) -> Played
         ensures { result ≡ played_of_calls self }
     {
         Played {
             events: Sequence::from_vec(self.events),
             ended: Sequence::from_vec(self.ended),
             cells: Sequence::from_vec(self.list.into_cells()),
+            work: Sequence::from_vec(Vec::new(alloc)),
         }
     }
 }
@@ -177,7 +178,7 @@ fn play_sound(
 {
     let mut play = CallPlay::new(alloc, limit, programs)?;
     play.play(alloc, programs, items)?;
-    Ok(play.into_played())
+    Ok(play.into_played(alloc))
 }
 
 /// Plays one whole call for each item, on a list of cells; an item of an actor with no call left plays nothing.

@@ -1,6 +1,7 @@
 //! Whole calls on the sequential vector.
 ghost use Rattle.std.specs.Prelude.{◌≡◌, ◌+◌, ◌-◌, ◌≤◌, ◌<◌, ◌^◌, [], ◌∷◌, ◌++◌, length, IfOk, OnOk, Some};
 ghost use Rattle.std.specs.Prelude.{None};
+ghost use Rattle.seg_core.specs.Segment.{most_places};
 ghost use Rattle.book_core.specs.Commands.{IsSound};
 ghost use Rattle.step_core.specs.calls.WholeCall.{Is, refused, mended, call_on};
 ghost use Rattle.book_core.specs.Events.{finishes, breaks};
@@ -123,7 +124,7 @@ fn grown(
 fn room(list: &CellVec) -> u64
     ensures value { result ≡ list.now.limit - length list.now.cells }
     ensures bound { length list.now.cells ≤ list.now.limit }
-    ensures range { list.now.limit ≤ 2 ^ 32 }
+    ensures range { list.now.limit ≤ most_places }
 {
     list.limit() - list.cells().len() as u64
 }

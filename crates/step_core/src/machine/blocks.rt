@@ -1,20 +1,17 @@
 //! The segments of the machine: an entry for each, empty or a block with a slot for each of its places.
-ghost use Rattle.std.specs.Prelude.{◌≡◌, ◌<◌, ◌^◌, true, length, replicate, slice_get, slice_set, IfOk, OnOk};
+ghost use Rattle.std.specs.Prelude.{◌≡◌, ◌<◌, true, length, replicate, slice_get, slice_set, IfOk, OnOk};
 ghost use Rattle.std.specs.Prelude.{OnErr, IsOk, IsSome, IfSome, Some, None};
 ghost use Rattle.std.specs.Option.{option_map};
 ghost use Rattle.std.specs.FinMap as map;
 ghost use Rattle.std.specs.FinSet as set;
-ghost use Rattle.seg_core.specs.Segment.{segment_of};
+ghost use Rattle.seg_core.specs.Segment.{IsLayout, most_places, segment_count, segment_of};
 ghost use Rattle.step_core.specs.machine.Blocks.{flattened};
 
 use crate::machine::phase::Slot;
-use seg_core::{len, locate};
+use seg_core::{Layout, MOST_PLACES};
 use std::alloc::{AllocError, Global};
 use std::array;
 use std::marker::Model;
-
-// No segment has a place from here on.
-const PLACES: u64 = 1 << 32;
 
 // The slots of one segment, in the order of its places; `None` is an empty one.
 #[derive(Drop)]
@@ -55,11 +52,12 @@ impl Block {
     }
 }
 
-// The entries of the segments.
+// The entries of the segments: 40 of them, as many as segments where the first one is the shortest.
 #[derive(Drop)]
 pub(crate) struct Blocks {
     alloc: Global,
-    entries: [Option<Block>; 32],
+    layout: Layout,
+    entries: [Option<Block>; 40],
 }
 
 impl Model for Blocks {
@@ -69,26 +67,38 @@ impl Model for Blocks {
 
     ghost coded = { shown_code };
 
-    ghost view = { λ b. shown b.entries };
+    ghost view = { λ b. shown b.layout b.entries };
 
-    ghost invariant = { λ b. AreBlocks b.entries };
+    ghost invariant = { λ b. AreBlocks b.layout b.entries };
 }
 
 impl Blocks {
     ghost use Rattle.step_core.specs.machine.Blocks.{shown_with_segment, shown_with_slot};
 
-    pub(crate) fn new(alloc: Global) -> Self
-        ensures { result ≡ record { installed = set.empty; slots = map.empty } }
+    pub(crate) fn new(alloc: Global, layout: Layout) -> Self
+        ensures empty { result ≡ record { layout = layout; installed = set.empty; slots = map.empty } }
+        ensures layout { IsLayout layout }
     {
+        // Its f is that of a layout.
+        let _f = layout.f();
         Blocks {
             alloc,
+            layout,
             entries: array::from_fn(|_| None),
         }
     }
 
+    // How the places are cut into segments.
+    pub(crate) fn layout(&self) -> Layout
+        ensures value { result ≡ self.now.layout }
+        ensures layout { IsLayout result }
+    {
+        self.layout
+    }
+
     // Whether a segment is installed.
     pub(crate) fn has(&self, segment: u32) -> bool
-        requires { segment < 32 }
+        requires { segment < segment_count self.now.layout }
         ensures { result ≡ set.contains self.now.installed segment }
     {
         self.entries[segment as usize].is_some()
@@ -99,10 +109,10 @@ impl Blocks {
         ensures { result ≡ map.get self.now.slots place }
     {
         let entries = &self.entries;
-        if PLACES <= place {
+        if MOST_PLACES <= place {
             return None;
         }
-        let (segment, offset) = locate(place);
+        let (segment, offset) = self.layout.locate(place);
         match &entries[segment as usize] {
             Some(block) => block.get(offset),
             None => None,
@@ -111,17 +121,17 @@ impl Blocks {
 
     // Sets the slot of a place whose segment is installed. It takes no memory.
     pub(crate) fn set(&mut self, place: u64, slot: Slot)
-        requires place { place < 2 ^ 32 }
-        requires there { set.contains self.old.installed (segment_of place) ≡ true }
+        requires place { place < most_places }
+        requires there { set.contains self.old.installed (segment_of self.old.layout place) ≡ true }
         ensures { self.new ≡ shown_with_slot self.old place slot }
     {
-        let (segment, offset) = locate(place);
+        let (segment, offset) = self.layout.locate(place);
         set_in(&mut self.entries[segment as usize], offset, slot);
     }
 
     // Makes the block of a segment, where it has none, in one pass over it. It takes memory there alone.
     pub(crate) fn install(&mut self, segment: u32) -> Result<(), AllocError>
-        requires { segment < 32 }
+        requires { segment < segment_count self.old.layout }
         ensures ok { OnOk result (self.new ≡ shown_with_segment self.old segment) }
         ensures err { OnErr result (self.new ≡ self.old) }
         ensures there { set.contains self.old.installed segment ≡ true → IsOk result }
@@ -132,7 +142,7 @@ impl Blocks {
         make_in(
             &mut self.entries[segment as usize],
             self.alloc,
-            len(segment),
+            self.layout.len(segment),
         )?;
         Ok(())
     }

@@ -1,23 +1,25 @@
 //! Plays of the machine: each item of a schedule is one atomic step.
 ghost use Rattle.std.specs.Prelude.{◌≡◌, ◌≤◌, ◌↔◌, ◌++◌, length, replicate, IfOk, OnOk, Some, IsErrOf};
 ghost use Rattle.std.specs.FinMap as map;
-ghost use Rattle.seg_core.specs.Segment.{IsLimit};
+ghost use Rattle.seg_core.specs.Segment.{IsLayout, IsLimit};
 ghost use Rattle.book_core.specs.Commands.{AreSound, HavePrograms, HaveActors};
 ghost use Rattle.book_core.specs.History.{run_of};
 ghost use Rattle.step_core.specs.machine.Owners.{owners_of};
-ghost use Rattle.step_core.specs.machine.Play.{play_of, played_of};
+ghost use Rattle.step_core.specs.machine.Work.{AreOfActors, play_shown};
 
 use crate::errors::{MakeError, PlayError};
 use crate::machine::Machine;
-use crate::machine::phase::Slot;
+use crate::machine::counts::CountedPlay;
+use crate::machine::phase::{Phase, Slot};
 use crate::programs::{Played, check_schedule};
-use book_core::{Cell, Command, Ended, Event, Item, Reply, Sequence};
+use book_core::{Cell, Command, Ended, Event, Item, Reply, Sequence, Work};
+use seg_core::Layout;
 use std::alloc::{AllocError, Global};
 use std::marker::Model;
 
 // A play so far.
 #[derive(Drop)]
-struct MachinePlay {
+pub(crate) struct MachinePlay {
     machine: Machine,
     events: Vec<(Event, Reply)>,
     ended: Vec<Ended>,
@@ -36,11 +38,34 @@ impl Model for MachinePlay {
 impl MachinePlay {
     ghost use Rattle.book_core.specs.History.{runs_of};
     ghost use Rattle.step_core.specs.machine.Owners.{cells_from, played_by_owners};
-    ghost use Rattle.step_core.specs.machine.Play.{with_step, after_items, cell_of};
+    ghost use Rattle.step_core.specs.machine.Play.{with_step, cell_of};
     ghost use Rattle.step_core.specs.machine.Step.{step_of};
+    ghost use Rattle.step_core.specs.machine.Work.{has_call, phase_at};
+    ghost use Rattle.step_core.specs.machine.Tallies.{HasRoom};
 
-    fn item(&mut self, item: &Item) -> Result<(), AllocError>
-        ensures { OnOk result (self.new ≡ with_step self.old (step_of self.old.at item.now.actor item.now.memory)) }
+    pub(crate) fn layout(&self) -> Layout
+        ensures { result ≡ self.now.at.storage.layout }
+    {
+        self.machine.layout()
+    }
+
+    pub(crate) fn has_call(&self, actor: u32) -> bool
+        ensures { result ≡ has_call self.now.at actor }
+    {
+        self.machine.has_call(actor)
+    }
+
+    pub(crate) fn phase(&self, actor: u32) -> Phase
+        ensures phase { result ≡ phase_at self.now.at actor }
+        ensures room { HasRoom result }
+    {
+        self.machine.phase(actor)
+    }
+
+    // One step, and the call that ended with it, if one did.
+    pub(crate) fn item(&mut self, item: &Item) -> Result<Option<Ended>, AllocError>
+        ensures step { OnOk result (self.new ≡ with_step self.old (step_of self.old.at item.now.actor item.now.memory)) }
+        ensures ended { IfOk result (λ ended. ended ≡ (step_of self.old.at item.now.actor item.now.memory).ended) }
     {
         let stepped = self.machine.step(item.actor, item.memory)?;
         if let Some(told) = stepped.event {
@@ -49,16 +74,7 @@ impl MachinePlay {
         if let Some(ended) = stepped.ended {
             self.ended.push(ended)?;
         }
-        Ok(())
-    }
-
-    fn play(&mut self, items: &[Item]) -> Result<(), AllocError>
-        ensures { OnOk result (self.new ≡ after_items self.old items.now) }
-    {
-        for item in items {
-            self.item(item)?;
-        }
-        Ok(())
+        Ok(stepped.ended)
     }
 
     // The owner of each claimed place, in order.
@@ -93,8 +109,9 @@ impl MachinePlay {
         Ok(cells)
     }
 
-    fn into_played(self, alloc: Global) -> Result<Played, AllocError>
-        ensures { IfOk result (λ played. played ≡ played_by_owners self) }
+    // What the play shows, with what its calls took.
+    pub(crate) fn into_played(self, alloc: Global, work: Vec<Work>) -> Result<Played, AllocError>
+        ensures { IfOk result (λ played. played ≡ played_by_owners self work.items) }
     {
         let owners = self.owners(alloc)?;
         let cells = self.cells(alloc, &owners)?;
@@ -102,6 +119,7 @@ impl MachinePlay {
             events: Sequence::from_vec(self.events),
             ended: Sequence::from_vec(self.ended),
             cells: Sequence::from_vec(cells),
+            work: Sequence::from_vec(work),
         })
     }
 }
@@ -129,6 +147,7 @@ fn push_run(owners: &mut Vec<u32>, told: &(Event, Reply)) -> Result<(), AllocErr
 
 fn play_sound(
     alloc: Global,
+    layout: Layout,
     limit: u64,
     programs: Sequence<Sequence<Command>>,
     items: &[Item],
@@ -137,24 +156,29 @@ fn play_sound(
     requires limit { IsLimit limit }
     requires sound { AreSound programs }
     requires programs { HavePrograms programs items.now }
-    ensures played { IfOk result (λ played. played ≡ played_of (play_of limit programs items.now)) }
+    ensures played { IfOk result (λ played. played ≡ play_shown layout limit programs items.now) }
     ensures actors { IfOk result (λ played. HaveActors (length programs) played.ended) }
+    ensures work { IfOk result (λ played. AreOfActors (length programs) played.work) }
+    ensures layout { OnOk result (IsLayout layout) }
 {
-    let machine = match Machine::new(alloc, limit, programs) {
+    let actors = programs.len();
+    let machine = match Machine::new_in(alloc, layout, limit, programs) {
         Ok(machine) => machine,
         Err(MakeError::NoMemory) => return Err(AllocError),
         Err(MakeError::BadLimit | MakeError::BadCommand) => unreachable!(),
     };
-    let mut play = MachinePlay {
+    let play = MachinePlay {
         machine,
         events: Vec::new(alloc),
         ended: Vec::new(alloc),
     };
-    play.play(items)?;
-    play.into_played(alloc)
+    let mut counted = CountedPlay::new(alloc, play, actors)?;
+    counted.play(items)?;
+    counted.into_played(alloc)
 }
 
-/// Plays one atomic step for each item; an item of an actor with nothing left changes nothing.
+/// Plays one atomic step for each item, with a first segment of two places; an item of an actor with nothing left changes
+/// nothing.
 ///
 /// What a reader finds at a place that nobody has finished or broken is pending, and so is what it finds at one that
 /// is being mended. Its time and memory are linear in the items, and in the places of the installed segments.
@@ -165,8 +189,9 @@ pub fn play(
     items: &[Item],
 ) -> Result<Played, PlayError>
     requires { length programs ≤ 65536 }
-    ensures played { IfOk result (λ played. played ≡ played_of (play_of limit programs items.now)) }
+    ensures played { IfOk result (λ played. played ≡ play_shown 1 limit programs items.now) }
     ensures actors { IfOk result (λ played. HaveActors (length programs) played.ended) }
+    ensures work { IfOk result (λ played. AreOfActors (length programs) played.work) }
     // What the laws ask for.
     ensures limit { OnOk result (IsLimit limit) }
     ensures sound { OnOk result (AreSound programs) }
@@ -176,6 +201,31 @@ pub fn play(
     ensures bad_actor { IsErrOf result PlayError.BadActor
         ↔ IsLimit limit × AreSound programs × (HavePrograms programs items.now → ⊥) }
 {
+    play_in(alloc, Layout::default(), limit, programs, items)
+}
+
+/// Plays one atomic step for each item, with segments of this layout, and otherwise as [`play`] does.
+pub fn play_in(
+    alloc: Global,
+    layout: Layout,
+    limit: u64,
+    programs: Sequence<Sequence<Command>>,
+    items: &[Item],
+) -> Result<Played, PlayError>
+    requires { length programs ≤ 65536 }
+    ensures played { IfOk result (λ played. played ≡ play_shown layout limit programs items.now) }
+    ensures actors { IfOk result (λ played. HaveActors (length programs) played.ended) }
+    ensures work { IfOk result (λ played. AreOfActors (length programs) played.work) }
+    // What the laws ask for.
+    ensures layout { OnOk result (IsLayout layout) }
+    ensures limit { OnOk result (IsLimit limit) }
+    ensures sound { OnOk result (AreSound programs) }
+    ensures bad_limit { IsErrOf result PlayError.BadLimit ↔ (IsLimit limit → ⊥) }
+    ensures bad_command { IsErrOf result PlayError.BadCommand
+        ↔ IsLimit limit × (AreSound programs → ⊥) }
+    ensures bad_actor { IsErrOf result PlayError.BadActor
+        ↔ IsLimit limit × AreSound programs × (HavePrograms programs items.now → ⊥) }
+{
     check_schedule(limit, programs.as_slice(), items)?;
-    play_sound(alloc, limit, programs, items).map_err(|_| PlayError::NoMemory)
+    play_sound(alloc, layout, limit, programs, items).map_err(|_| PlayError::NoMemory)
 }

@@ -1,7 +1,8 @@
 //! What the actors of the machine share. Each kind of step has a file of its own.
-ghost use Rattle.std.specs.Prelude.{◌≡◌, ◌-◌, ◌≤◌, ◌<◌, ◌^◌, IfOk, OnErr, Some, None};
+ghost use Rattle.std.specs.Prelude.{◌≡◌, ◌-◌, ◌≤◌, ◌<◌, IfOk, OnErr, Some, None};
 ghost use Rattle.std.specs.FinMap as map;
 ghost use Rattle.std.specs.FinSet as set;
+ghost use Rattle.seg_core.specs.Segment.{IsLayout, most_places};
 
 mod claim;
 mod load;
@@ -11,6 +12,7 @@ mod segments;
 use crate::machine::blocks::Blocks;
 use crate::machine::phase::{Next, Phase, Slot};
 use book_core::{Answer, Command, Event, Reply};
+use seg_core::Layout;
 use std::alloc::{AllocError, Global};
 use std::marker::Model;
 
@@ -28,7 +30,12 @@ impl Model for Storage {
 
     ghost coded = { storage_code };
 
-    ghost view = { λ s. record { size = s.size; installed = s.blocks.installed; slots = s.blocks.slots } };
+    ghost view = { λ s. record {
+      layout = s.blocks.layout;
+      size = s.size;
+      installed = s.blocks.installed;
+      slots = s.blocks.slots;
+    } };
 }
 
 // What a step gives beside what it leaves: at most one event with its reply, and what follows.
@@ -61,13 +68,21 @@ impl Storage {
     ghost use Rattle.step_core.specs.machine.Bounds.{IsWithin, given};
     ghost use Rattle.step_core.specs.machine.Installed.{HasPassed, TakesMemory};
 
-    pub(crate) fn new(alloc: Global) -> Self
-        ensures { result ≡ record { size = 0; installed = set.empty; slots = map.empty } }
+    pub(crate) fn new(alloc: Global, layout: Layout) -> Self
+        ensures empty { result ≡ record { layout = layout; size = 0; installed = set.empty; slots = map.empty } }
+        ensures layout { IsLayout layout }
     {
         Storage {
             size: 0,
-            blocks: Blocks::new(alloc),
+            blocks: Blocks::new(alloc, layout),
         }
+    }
+
+    // How the places are cut into segments.
+    pub(crate) fn layout(&self) -> Layout
+        ensures { result ≡ self.now.layout }
+    {
+        self.blocks.layout()
     }
 
     // How many places are claimed.
@@ -93,9 +108,9 @@ impl Storage {
         memory: bool,
         phase: Phase,
     ) -> Result<Outcome, AllocError>
-        requires limit { limit ≤ 2 ^ 32 }
+        requires limit { limit ≤ most_places }
         requires size { self.old.size ≤ limit }
-        requires phase { IsWithin limit command.now phase }
+        requires phase { IsWithin self.old.layout limit command.now phase }
         requires passed { HasPassed self.old phase }
         ensures gives { IfOk result (λ outcome. given self.new outcome
             ≡ outcome_of limit self.old actor command.now memory phase) }

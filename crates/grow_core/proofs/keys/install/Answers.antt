@@ -1,11 +1,12 @@
-use Rattle.std.proofs.Common.{arith}
+use Rattle.std.proofs.Common.{ℕ, sym, subst, arith}
+use Rattle.seg_core.specs.Segment.{Touches}
 use Rattle.grow_core.proofs.KeyRows.{walked_on}
 use Rattle.grow_core.proofs.keys.install.Goals as goal
 
 pub loop-segment-preserved : goal.loop-segment-preserved
-loop-segment-preserved g c = (c.key_for.ensures.keys, walked_on c.loop-segment.invariant.1 (omega arith) c.key_for.ensures.kept (λ _. c.in_ok-key_for.ensures.put))
+loop-segment-preserved g c = (c.key_for.ensures.keys, walked_on c.loop-segment.invariant.1 (omega (arith, c.f-f.ensures.layout.0, c.segments_of-first.ensures.bound)) c.key_for.ensures.kept (λ _. c.in_ok-key_for.ensures.put))
 
 pub returns-clause-run : goal.returns-clause-run
 returns-clause-run g c = λ segment small touches.
-    let within = (c.segments_of-first.ensures.touched segment).0 touches in
+    let within = (c.segments_of-first.ensures.touched segment).0 (subst (λ (f : ℕ). Touches f segment c.args.from c.args.n) (sym c.layout-layout.ensures.value) touches) in
     c.loop-segment.invariant.1.there segment (let lt = within.1 in omega arith) within.0

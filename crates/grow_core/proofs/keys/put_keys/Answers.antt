@@ -6,5 +6,5 @@ pub loop-segment-preserved : goal.loop-segment-preserved
 loop-segment-preserved c =
     let put = c.put_other.ensures in (
       walked_on c.loop-segment.invariant.0 (omega arith) put.kept put.put,
-      λ names old other. put.keys names (c.loop-segment.invariant.1 names old other) other,
+      λ mark old other. put.keys mark (c.loop-segment.invariant.1 mark old other) other,
     )

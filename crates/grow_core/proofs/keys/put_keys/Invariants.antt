@@ -7,4 +7,4 @@ use Rattle.grow_core.proofs.keys.put_keys.Given as goal
 abbrev pub invariant-loop-segment : goal.invariant-loop-segment
 invariant-loop-segment l =
     Walked (λ segment. IsSome (key_at l.other segment)) l.initial.row l.row l.segment
-    × ((names : List ℕ) → AreKeys names l.initial.row → AreKeys names l.other → AreKeys names l.row)
+    × ((mark : List ℕ) → AreKeys mark l.initial.row → AreKeys mark l.other → AreKeys mark l.row)

@@ -1,4 +1,4 @@
-use Rattle.std.proofs.Common.{of_calls, ◌≡◌, ℕ, ◌+◌, ◌∷◌, [], ◌++◌, Some, length, length-append, map, sym, ap, ◌∙◌, append_assoc, subst}
+use Rattle.std.proofs.Common.{of_calls, ℕ, ◌+◌, ◌∷◌, [], ◌++◌, Some, length-append, map, sym, ap, ◌∙◌, append_assoc, subst}
 use Rattle.std.proofs.lemmas.List.{map-append}
 use Rattle.grow_core.proofs.Made.{made_push}
 use Rattle.quiet_core.proofs.room.append_made.Goals as goal
@@ -19,6 +19,7 @@ loop-i-preserved g c =
         members,
       ),
       c.append.ensures.limit ∙ at.invariant.1,
-      c.append.ensures.segments ∙ at.invariant.2,
+      c.append.ensures.layout ∙ at.invariant.2,
+      c.append.ensures.segments ∙ at.invariant.3,
       search of_calls,
     )

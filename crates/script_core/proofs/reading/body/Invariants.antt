@@ -4,7 +4,7 @@ use Rattle.script_core.proofs.reading.body.Given as goal
 
 abbrev pub invariant-loop-text : goal.invariant-loop-text
 invariant-loop-text l = record {
-  so_far : body_of l.limit l.line l.names.items l.programs.items (lines l.text) ≡ body_of l.limit 2 [] [] (lines l.fn.text);
+  so_far : body_of l.limit l.first l.line l.names.items l.programs.items (lines l.text) ≡ body_of l.limit l.first l.fn.line [] [] (lines l.fn.text);
   few_lines : l.line + length l.text ≤ 1048578;
   few_names : length l.names.items ≤ 16;
 }

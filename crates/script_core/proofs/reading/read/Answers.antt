@@ -1,4 +1,4 @@
-use Rattle.script_core.proofs.ScriptSpelling.{found_by, only_by, limit_by, names_by, sound_by, actors_by}
+use Rattle.script_core.proofs.ScriptSpelling.{found_by, only_by, limit_by, layout_by, names_by, sound_by, actors_by}
 use Rattle.script_core.proofs.reading.read.Goals as goal
 
 pub returns-clause-found : goal.returns-clause-found
@@ -9,6 +9,9 @@ returns-clause-only c = only_by c.whole.result c.args.text.now c.whole.ensures
 
 pub returns-clause-limit : goal.returns-clause-limit
 returns-clause-limit c = limit_by c.whole.result c.args.text.now c.whole.ensures
+
+pub returns-clause-first : goal.returns-clause-first
+returns-clause-first c = layout_by c.whole.result c.args.text.now c.whole.ensures
 
 pub returns-clause-names : goal.returns-clause-names
 returns-clause-names c = names_by c.whole.result c.args.text.now c.whole.ensures

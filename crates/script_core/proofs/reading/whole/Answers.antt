@@ -21,4 +21,4 @@ pub returns : goal.returns
 returns c =
     let some : 0 < length c.args.text.now = omega (arith, eqb-false _ _ (sym c.is_empty.ensures ∙ c.if-is_empty.false)) in
     let found = first_found c.args.text.now c.first_line.result.0.now (lines c.first_line.result.1.now) _ some (omega arith) c.first_line.ensures.lines (sym c.limit_at.ensures ∙ c.in_ok-limit.was) in
-    gives_along c.body.result _ _ found c.body.ensures
+    gives_along c.after_limit.result _ _ found c.after_limit.ensures

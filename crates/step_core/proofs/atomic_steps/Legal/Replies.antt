@@ -131,13 +131,13 @@ module _ (limit : ℕ) (m : Storage) (runs : List OwnedRun) (actor : ℕ) (sees 
   growth_told : (n : ℕ) → Replies limit m runs (load_growth limit m actor n)
   growth_told n =
       growth_cases (Replies limit m runs) m actor limit n
-      (λ _. nothing_claimed) (λ _ _. silent m (Scout m.size n (segment_of m.size)) refl) (λ past. full_told n past)
+      (λ _. nothing_claimed) (λ _ _. silent m (Scout m.size n (segment_of m.layout m.size)) refl) (λ past. full_told n past)
 
   at_least_told : (to : ℕ) → Replies limit m runs (load_at_least limit m actor to)
   at_least_told to =
       at_least_cases (Replies limit m runs) m actor limit to
       (λ had. enough_told to had)
-      (λ _ _. silent m (Scout m.size (to - m.size) (segment_of m.size)) refl)
+      (λ _ _. silent m (Scout m.size (to - m.size) (segment_of m.layout m.size)) refl)
       (λ more past. full_told (to - m.size) (omega arith))
 
   out_of_range_told : (place : ℕ) → m.size ≤ place
@@ -165,11 +165,11 @@ module _ (limit : ℕ) (m : Storage) (runs : List OwnedRun) (actor : ℕ) (sees 
   scout_told : (command : Command) (from n k : ℕ) → Replies limit m runs (scout m command from n k)
   scout_told command from n k =
       scout_cases (Replies limit m runs) m command from n k
-      (λ _. silent m (after_segment command from n k) refl) (silent m (Put from n k) refl)
+      (λ _. silent m (after_segment m.layout command from n k) refl) (silent m (Put from n k) refl)
 
   put_told : (command : Command) (memory : Bool) (from n k : ℕ)
       → Replies limit m runs (put m actor command memory from n k)
-  put_told command true from n k = silent (with_segment m k) (after_segment command from n k) refl
+  put_told command true from n k = silent (with_segment m k) (after_segment m.layout command from n k) refl
   put_told command false from n k = tells (events.RefusedMemory actor) replies.NoMemory answers.NoMemory refl refl
 
   -- ---- Exchange and Raise
@@ -178,7 +178,7 @@ module _ (limit : ℕ) (m : Storage) (runs : List OwnedRun) (actor : ℕ) (sees 
   exchange_told from n room =
       exchange_cases (Replies limit m runs) m actor limit from n
       (λ same. claims n (events.Claim actor n) refl (claim_applies (seen limit m runs) actor m.size seen_length n (omega arith)))
-      (λ _. silent m (Scout m.size n (segment_of m.size)) refl)
+      (λ _. silent m (Scout m.size n (segment_of m.layout m.size)) refl)
       (λ past. full_told n past)
 
   raise_told : (to : ℕ) → to ≤ limit → Replies limit m runs (raise m actor to)
@@ -301,7 +301,7 @@ module _ (limit : ℕ) (m : Storage) (runs : List OwnedRun) (actor : ℕ) (sees 
 
   -- ---- The table
 
-  pub row_told : (command : Command) (memory : Bool) (phase : Phase) → IsWithin limit command phase
+  pub row_told : (command : Command) (memory : Bool) (phase : Phase) → IsWithin m.layout limit command phase
       → (writes : ℕ → List Event) → Knows m runs writes actor phase → Replies limit m runs (outcome_of limit m actor command memory phase)
   row_told command memory Load within writes knows = load_told command
   row_told command memory (Scout from n k) within writes knows = scout_told command from n k

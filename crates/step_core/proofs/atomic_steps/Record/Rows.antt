@@ -120,10 +120,10 @@ nothing_recorded actor commands.Size n size sound asks exchanges none = absurd a
 -- ---- Steps of a call that has no events so far
 
 -- behind a segment comes the next one, or the claim
-segment_told : (actor : ℕ) (command : Command) (from n segment : ℕ) → Asks command n
-    → StageOf actor command (after_segment command from n segment) []
-segment_told actor command from n segment asks =
-    segment_cases (λ phase. StageOf actor command phase []) command from n segment
+segment_told : (actor : ℕ) (command : Command) (f from n segment : ℕ) → Asks command n
+    → StageOf actor command (after_segment f command from n segment) []
+segment_told actor command f from n segment asks =
+    segment_cases (λ phase. StageOf actor command phase []) command from n f segment
     (λ _. (refl, asks))
     (λ _. claiming_cases (λ phase. StageOf actor command phase []) command from n (λ _. (refl, asks)) (λ to is. (refl, is)))
 
@@ -189,7 +189,7 @@ module _ (m : Storage) (actor : ℕ) where
   -- a segment is put, or memory is refused
   put_told : (command : Command) (memory : Bool) (from n segment : ℕ) → Asks command n
       → Tells actor command [] (put m actor command memory from n segment)
-  put_told command true from n segment asks = record { its = tt; told = segment_told actor command from n segment asks }
+  put_told command true from n segment asks = record { its = tt; told = segment_told actor command m.layout from n segment asks }
   put_told command false from n segment asks = record { its = refl; told = memory_recorded actor command n asks }
 
   -- a claim of the call's own, by the event that wins n places for it
@@ -326,12 +326,12 @@ after {actor = actor} {command = command} {o = o} is tells = subst (λ es. Tells
 
 module _ (limit : ℕ) (m : Storage) (actor : ℕ) (command : Command) (memory : Bool) where
   -- every step
-  pub row_told : (phase : Phase) (now : List (Event × Reply)) → IsSound command → IsWithin limit command phase
+  pub row_told : (phase : Phase) (now : List (Event × Reply)) → IsSound command → IsWithin m.layout limit command phase
       → StageOf actor command phase now → Tells actor command now (outcome_of limit m actor command memory phase)
   row_told Load now sound within none = after none (load_told m actor limit command sound)
   row_told (Scout from n segment) now sound within (none, asks) =
       after none (scout_cases (Tells actor command []) m command from n segment
-      (λ _. record { its = tt; told = segment_told actor command from n segment asks })
+      (λ _. record { its = tt; told = segment_told actor command m.layout from n segment asks })
       (record { its = tt; told = (refl, asks) }))
   row_told (Put from n segment) now sound within (none, asks) =
       after none (put_told m actor command memory from n segment asks)
@@ -441,35 +441,35 @@ module _ (actor : ℕ) (command : Command) (now : List (Event × Reply)) where
   }
 
   -- a call under way is begun, whatever its phase
-  pub stage_begun : (limit : ℕ) (phase : Phase) → IsSound command → IsWithin limit command phase
+  pub stage_begun : (f limit : ℕ) (phase : Phase) → IsSound command → IsWithin f limit command phase
       → StageOf actor command phase now → IsBegun actor command now
-  stage_begun limit Load sound within none = none_begun none
-  stage_begun limit (Scout from n segment) sound within (none, asks) = none_begun none
-  stage_begun limit (Put from n segment) sound within (none, asks) = none_begun none
-  stage_begun limit (Exchange from n) sound within (none, asks) = none_begun none
-  stage_begun limit (Raise to) sound within (none, is) = none_begun none
-  stage_begun limit (Begin from n place) sound (low, high, room) (so_far, asks) =
+  stage_begun f limit Load sound within none = none_begun none
+  stage_begun f limit (Scout from n segment) sound within (none, asks) = none_begun none
+  stage_begun f limit (Put from n segment) sound within (none, asks) = none_begun none
+  stage_begun f limit (Exchange from n) sound within (none, asks) = none_begun none
+  stage_begun f limit (Raise to) sound within (none, is) = none_begun none
+  stage_begun f limit (Begin from n place) sound (low, high, room) (so_far, asks) =
       run_begun from n (place - from) sound asks (omega arith) so_far
-  stage_begun limit (Fill from n place) sound (low, high, room) (so_far, asks, fits) =
+  stage_begun f limit (Fill from n place) sound (low, high, room) (so_far, asks, fits) =
       run_begun from n (place - from) sound asks (omega arith) so_far
-  stage_begun limit (Spoil from n place) sound (low, high, room) (so_far, asks, refused) =
+  stage_begun f limit (Spoil from n place) sound (low, high, room) (so_far, asks, refused) =
       run_begun from n (place - from) sound asks (omega arith) so_far
-  stage_begun limit (Mend place) sound within (none, is) = none_begun none
-  stage_begun limit (FillMended place) sound within (so_far, is) =
+  stage_begun f limit (Mend place) sound within (none, is) = none_begun none
+  stage_begun f limit (FillMended place) sound within (so_far, is) =
       subst (IsBegun actor command) (sym so_far) (mend_begun actor command place is)
-  stage_begun limit (Look place) sound within (none, is) = none_begun none
+  stage_begun f limit (Look place) sound within (none, is) = none_begun none
 
   -- so the events so far are what the phase says
-  pub stage_so_far : (limit : ℕ) (phase : Phase) → IsWithin limit command phase → StageOf actor command phase now
+  pub stage_so_far : (f limit : ℕ) (phase : Phase) → IsWithin f limit command phase → StageOf actor command phase now
       → AreSoFar phase now
-  stage_so_far limit Load within none = none
-  stage_so_far limit (Scout from n segment) within (none, asks) = none
-  stage_so_far limit (Put from n segment) within (none, asks) = none
-  stage_so_far limit (Exchange from n) within (none, asks) = none
-  stage_so_far limit (Raise to) within (none, is) = none
-  stage_so_far limit (Begin from n place) (low, high, room) (so_far, asks) = up_to from n place low so_far
-  stage_so_far limit (Fill from n place) (low, high, room) (so_far, asks, fits) = up_to from n place low so_far
-  stage_so_far limit (Spoil from n place) (low, high, room) (so_far, asks, refused) = up_to from n place low so_far
-  stage_so_far limit (Mend place) within (none, is) = none
-  stage_so_far limit (FillMended place) within (so_far, is) = (actor, so_far)
-  stage_so_far limit (Look place) within (none, is) = none
+  stage_so_far f limit Load within none = none
+  stage_so_far f limit (Scout from n segment) within (none, asks) = none
+  stage_so_far f limit (Put from n segment) within (none, asks) = none
+  stage_so_far f limit (Exchange from n) within (none, asks) = none
+  stage_so_far f limit (Raise to) within (none, is) = none
+  stage_so_far f limit (Begin from n place) (low, high, room) (so_far, asks) = up_to from n place low so_far
+  stage_so_far f limit (Fill from n place) (low, high, room) (so_far, asks, fits) = up_to from n place low so_far
+  stage_so_far f limit (Spoil from n place) (low, high, room) (so_far, asks, refused) = up_to from n place low so_far
+  stage_so_far f limit (Mend place) within (none, is) = none
+  stage_so_far f limit (FillMended place) within (so_far, is) = (actor, so_far)
+  stage_so_far f limit (Look place) within (none, is) = none

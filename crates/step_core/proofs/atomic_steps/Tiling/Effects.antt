@@ -32,7 +32,7 @@ next_run m actor n = record { owner = actor; from = m.size; n = n }
 
 -- other segments are installed
 abbrev pub with_installed : Storage → set.FinSet nat_cmp → Storage
-with_installed m segments = record { size = m.size; installed = segments; slots = m.slots }
+with_installed m segments = record { layout = m.layout; size = m.size; installed = segments; slots = m.slots }
 
 -- what was done at a place is the same where runs follow
 settlement_kept : (runs more : List OwnedRun) (writes : List Event) (place : ℕ) (slot : Option Slot)

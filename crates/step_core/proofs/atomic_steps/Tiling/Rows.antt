@@ -39,9 +39,9 @@ use Rattle.step_core.proofs.atomic_steps.Tiling.Steps.{phase_after, Stands, Kept
 -- before a call has claimed, nothing is known of its places
 nothing_known : (m : Storage) (runs : List OwnedRun) (writes : ℕ → List Event) (actor : ℕ) (command : Command)
     (from n k : ℕ)
-    → Knows m runs writes actor (after_segment command from n k)
+    → Knows m runs writes actor (after_segment m.layout command from n k)
 nothing_known m runs writes actor command from n k =
-    segment_cases (Knows m runs writes actor) command from n k (λ _. tt)
+    segment_cases (Knows m runs writes actor) command from n m.layout k (λ _. tt)
     (λ _. claiming_cases (Knows m runs writes actor) command from n (λ _. tt) (λ _ _. tt))
 
 -- what one event does at its place, and at any other
@@ -83,7 +83,7 @@ module _ {m : Storage} {actors : List Actor} {runs : List OwnedRun} {writes : �
 
   -- it goes on to the first segment of places that have room
   first_scouted : (n : ℕ) → Kept actors runs writes actor state (first_scout m n)
-  first_scouted n = gone_on (Scout m.size n (segment_of m.size)) (λ _ _. tt)
+  first_scouted n = gone_on (Scout m.size n (segment_of m.layout m.size)) (λ _ _. tt)
 
   refused : (n : ℕ) → Kept actors runs writes actor state (refusal m actor n)
   refused n = ended (events.RefusedFull actor n) (replies.Full m.size) (answers.Full m.size) refl (λ q. refl)
@@ -126,7 +126,7 @@ module _ {m : Storage} {actors : List Actor} {runs : List OwnedRun} {writes : �
   put_in : (command : Command) (memory : Bool) (from n k : ℕ)
       → Kept actors runs writes actor state (put m actor command memory from n k)
   put_in command true from n k =
-      quiet (set.insert m.installed k) None (Goes (after_segment command from n k)) refl (λ q. refl)
+      quiet (set.insert m.installed k) None (Goes (after_segment m.layout command from n k)) refl (λ q. refl)
       (λ rs ws. nothing_known (with_segment m k) rs ws actor command from n k)
   put_in command false from n k = ended (events.RefusedMemory actor) replies.NoMemory answers.NoMemory refl (λ q. refl)
 
@@ -377,13 +377,13 @@ module _ {m : Storage} {actors : List Actor} {runs : List OwnedRun} {writes : �
 -- ---- The table
 
 module _ {m : Storage} {actors : List Actor} {runs : List OwnedRun} {writes : ℕ → List Event} {actor : ℕ} {state : Actor} (limit : ℕ) (command : Command) (memory : Bool) where
-  pub row_kept : (phase : Phase) → IsWithin limit command phase → Knows m runs writes actor phase
+  pub row_kept : (phase : Phase) → IsWithin m.layout limit command phase → Knows m runs writes actor phase
       → Stands m actors runs writes actor state phase
       → Kept actors runs writes actor state (outcome_of limit m actor command memory phase)
   row_kept Load within knows s = loaded s (λ q x. x) limit command
   row_kept (Scout from n k) within knows s =
       scout_cases (Kept actors runs writes actor state) m command from n k
-      (λ _. gone_on s (λ q x. x) (after_segment command from n k) (λ rs ws. nothing_known m rs ws actor command from n k))
+      (λ _. gone_on s (λ q x. x) (after_segment m.layout command from n k) (λ rs ws. nothing_known m rs ws actor command from n k))
       (gone_on s (λ q x. x) (Put from n k) (λ _ _. tt))
   row_kept (Put from n k) within knows s = put_in s (λ q x. x) command memory from n k
   row_kept (Exchange from n) (some, room, exchanges) knows s =

@@ -5,13 +5,13 @@ use Rattle.step_core.proofs.atomic_steps.Tiling.{every_play_is_tiled}
 use Rattle.step_core.proofs.laws.interleavings.Goals as goal
 
 pub returns : goal.returns
-returns c = λ limit programs items is_limit sound. record {
-  legal = every_play_is_legal limit programs items is_limit;
-  recorded = every_play_is_recorded limit programs items is_limit sound;
-  at_claims = every_play_moves_at_claims limit programs items is_limit;
-  own_claims = every_move_is_own limit programs items is_limit sound;
-  nothing_at_load = every_nothing_is_at_load limit programs items is_limit sound;
-  tiled = every_play_is_tiled limit programs items is_limit;
-  kept = every_play_keeps_filled_cells limit programs items is_limit;
-  stays_broken = every_play_keeps_broken_cells limit programs items is_limit;
+returns c = λ f is_layout limit programs items is_limit sound. record {
+  legal = every_play_is_legal f is_layout limit programs items is_limit;
+  recorded = every_play_is_recorded f is_layout limit programs items is_limit sound;
+  at_claims = every_play_moves_at_claims f is_layout limit programs items is_limit;
+  own_claims = every_move_is_own f is_layout limit programs items is_limit sound;
+  nothing_at_load = every_nothing_is_at_load f is_layout limit programs items is_limit sound;
+  tiled = every_play_is_tiled f is_layout limit programs items is_limit;
+  kept = every_play_keeps_filled_cells f is_layout limit programs items is_limit;
+  stays_broken = every_play_keeps_broken_cells f is_layout limit programs items is_limit;
 }

@@ -1,5 +1,6 @@
 //! Exchange and Raise: the two steps that claim places.
-ghost use Rattle.std.specs.Prelude.{◌≡◌, ◌+◌, ◌≤◌, ◌<◌, ◌^◌};
+ghost use Rattle.std.specs.Prelude.{◌≡◌, ◌+◌, ◌≤◌, ◌<◌};
+ghost use Rattle.seg_core.specs.Segment.{most_places};
 
 use crate::machine::phase::{Next, Phase};
 use crate::machine::storage::{Outcome, Storage, ends, goes};
@@ -10,7 +11,7 @@ impl Storage {
     ghost use Rattle.step_core.specs.machine.Bounds.{given};
 
     pub(crate) fn exchange(&mut self, limit: u64, actor: u32, from: u64, n: u64) -> Outcome
-        requires limit { limit ≤ 2 ^ 32 }
+        requires limit { limit ≤ most_places }
         requires size { self.old.size ≤ limit }
         requires some { 0 < n }
         requires places { from + n ≤ limit }

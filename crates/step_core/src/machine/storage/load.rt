@@ -1,11 +1,10 @@
 //! Load: what a call finds of the size, and whether it goes on.
-ghost use Rattle.std.specs.Prelude.{◌≡◌, ◌+◌, ◌≤◌, ◌<◌, ◌^◌, ℕ};
-ghost use Rattle.seg_core.specs.Segment.{segment_of};
+ghost use Rattle.std.specs.Prelude.{◌≡◌, ◌+◌, ◌≤◌, ◌<◌, ℕ};
+ghost use Rattle.seg_core.specs.Segment.{most_places, segment_count, segment_of};
 
 use crate::machine::phase::Phase;
 use crate::machine::storage::{Outcome, Storage, ends, goes};
 use book_core::{Answer, Command, Event, Reply};
-use seg_core::locate;
 
 impl Storage {
     ghost use Rattle.step_core.specs.machine.Step.{load_growth, load_at_least, load_place, load, ends as ends_with};
@@ -26,11 +25,11 @@ impl Storage {
     // The call wants n places from the size on, and looks at their first segment.
     pub(crate) fn scout_first(&self, n: u64) -> Phase
         requires some { 0 < n }
-        requires places { self.now.size + n ≤ 2 ^ 32 }
-        ensures { (segment : ℕ) × (segment ≡ segment_of self.now.size) × (segment < 32)
-            × (result ≡ Phase.Scout self.now.size n segment) }
+        requires places { self.now.size + n ≤ most_places }
+        ensures { (segment : ℕ) × (segment ≡ segment_of self.now.layout self.now.size)
+            × (segment < segment_count self.now.layout) × (result ≡ Phase.Scout self.now.size n segment) }
     {
-        let (segment, _) = locate(self.size);
+        let (segment, _) = self.blocks.layout().locate(self.size);
         Phase::Scout {
             from: self.size,
             n,
@@ -39,7 +38,7 @@ impl Storage {
     }
 
     fn load_growth(&self, limit: u64, actor: u32, n: u64) -> Outcome
-        requires limit { limit ≤ 2 ^ 32 }
+        requires limit { limit ≤ most_places }
         requires size { self.now.size ≤ limit }
         ensures gives { given self.now result ≡ load_growth limit self.now actor n }
     {
@@ -59,7 +58,7 @@ impl Storage {
     }
 
     fn load_at_least(&self, limit: u64, actor: u32, to: u64) -> Outcome
-        requires limit { limit ≤ 2 ^ 32 }
+        requires limit { limit ≤ most_places }
         requires size { self.now.size ≤ limit }
         ensures gives { given self.now result ≡ load_at_least limit self.now actor to }
     {
@@ -93,7 +92,7 @@ impl Storage {
     }
 
     pub(crate) fn load(&self, limit: u64, actor: u32, command: &Command) -> Outcome
-        requires limit { limit ≤ 2 ^ 32 }
+        requires limit { limit ≤ most_places }
         requires size { self.now.size ≤ limit }
         ensures gives { given self.now result ≡ load limit self.now actor command.now }
     {

@@ -1,6 +1,7 @@
 //! Begin, Fill, Spoil, Mend and Look: what is done to the slot of one place.
-ghost use Rattle.std.specs.Prelude.{◌≡◌, ◌+◌, ◌≤◌, ◌<◌, ◌^◌};
+ghost use Rattle.std.specs.Prelude.{◌≡◌, ◌+◌, ◌≤◌, ◌<◌};
 ghost use Rattle.std.specs.FinMap as map;
+ghost use Rattle.seg_core.specs.Segment.{most_places};
 ghost use Rattle.step_core.specs.machine.Step.{is_refused, value_of, answer_of_run, after_place};
 
 use crate::machine::phase::{Next, Phase, Slot};
@@ -21,7 +22,7 @@ impl Storage {
         place: u64,
     ) -> Outcome
         requires low { from ≤ place }
-        requires place { place < 2 ^ 32 }
+        requires place { place < most_places }
         requires there { IsReady self.old place }
         ensures gives { given self.new result
             ≡ begin_at self.old actor command.now from n place (map.get self.old.slots place) }
@@ -46,7 +47,7 @@ impl Storage {
         place: u64,
     ) -> Outcome
         requires place { place < from + n }
-        requires places { from + n ≤ 2 ^ 32 }
+        requires places { from + n ≤ most_places }
         requires there { IsReady self.old place }
         ensures gives { given self.new result ≡ fill self.old actor command.now from n place }
     {
@@ -72,7 +73,7 @@ impl Storage {
         place: u64,
     ) -> Outcome
         requires place { place < from + n }
-        requires places { from + n ≤ 2 ^ 32 }
+        requires places { from + n ≤ most_places }
         requires there { IsReady self.old place }
         ensures gives { given self.new result ≡ spoil self.old actor command.now from n place }
     {
@@ -84,7 +85,7 @@ impl Storage {
     }
 
     pub(crate) fn mend(&mut self, actor: u32, place: u64) -> Outcome
-        requires place { place < 2 ^ 32 }
+        requires place { place < most_places }
         requires there { IsReady self.old place }
         ensures gives { given self.new result ≡ mend_at self.old actor place (map.get self.old.slots place) }
     {
@@ -101,7 +102,7 @@ impl Storage {
     }
 
     pub(crate) fn fill_mended(&mut self, actor: u32, command: &Command, place: u64) -> Outcome
-        requires place { place < 2 ^ 32 }
+        requires place { place < most_places }
         requires there { IsReady self.old place }
         ensures gives { given self.new result ≡ fill_mended self.old actor command.now place }
     {
@@ -170,7 +171,7 @@ fn answer_of_run(command: &Command, from: u64, n: u64) -> Answer
 // The next place of the run, or the end of the call after the last.
 fn after_place(command: &Command, from: u64, n: u64, place: u64) -> Next
     requires place { place < from + n }
-    requires places { from + n ≤ 2 ^ 32 }
+    requires places { from + n ≤ most_places }
     ensures { result ≡ after_place command.now from n place }
 {
     if place + 1 < from + n {

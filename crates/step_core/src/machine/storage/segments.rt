@@ -1,12 +1,13 @@
 //! Scout and Put: a growth sees to it that the segments of its places are installed.
-ghost use Rattle.std.specs.Prelude.{◌≡◌, ◌+◌, ◌≤◌, ◌<◌, ◌^◌, true, false, IfOk, OnErr};
+ghost use Rattle.std.specs.Prelude.{◌≡◌, ◌+◌, ◌≤◌, ◌<◌, true, false, IfOk, OnErr};
 ghost use Rattle.std.specs.FinSet as set;
+ghost use Rattle.seg_core.specs.Segment.{IsLayout, most_places, segment_count};
 ghost use Rattle.step_core.specs.machine.Step.{claiming, after_segment};
 
 use crate::machine::phase::Phase;
 use crate::machine::storage::{Outcome, Storage, ends, goes};
 use book_core::{Answer, Command, Event, Reply};
-use seg_core::{first, len};
+use seg_core::Layout;
 use std::alloc::AllocError;
 
 impl Storage {
@@ -14,12 +15,12 @@ impl Storage {
     ghost use Rattle.step_core.specs.machine.Bounds.{given};
 
     pub(crate) fn scout(&self, command: &Command, from: u64, n: u64, segment: u32) -> Outcome
-        requires segment { segment < 32 }
-        requires places { from + n ≤ 2 ^ 32 }
+        requires segment { segment < segment_count self.now.layout }
+        requires places { from + n ≤ most_places }
         ensures gives { given self.now result ≡ scout self.now command.now from n segment }
     {
         if self.blocks.has(segment) {
-            return goes(after_segment(command, from, n, segment));
+            return goes(after_segment(self.blocks.layout(), command, from, n, segment));
         }
         goes(Phase::Put { from, n, segment })
     }
@@ -33,8 +34,8 @@ impl Storage {
         n: u64,
         segment: u32,
     ) -> Result<Outcome, AllocError>
-        requires segment { segment < 32 }
-        requires places { from + n ≤ 2 ^ 32 }
+        requires segment { segment < segment_count self.old.layout }
+        requires places { from + n ≤ most_places }
         ensures gives { IfOk result (λ outcome. given self.new outcome
             ≡ put self.old actor command.now memory from n segment) }
         ensures err { OnErr result (self.new ≡ self.old) }
@@ -46,7 +47,7 @@ impl Storage {
             return Ok(ends(event, Reply::NoMemory, Answer::NoMemory));
         }
         self.blocks.install(segment)?;
-        Ok(goes(after_segment(command, from, n, segment)))
+        Ok(goes(after_segment(self.blocks.layout(), command, from, n, segment)))
     }
 }
 
@@ -61,12 +62,13 @@ fn claiming(command: &Command, from: u64, n: u64) -> Phase
 }
 
 // The next segment of the places, or their claim after the last.
-fn after_segment(command: &Command, from: u64, n: u64, segment: u32) -> Phase
-    requires segment { segment < 32 }
-    requires places { from + n ≤ 2 ^ 32 }
-    ensures { result ≡ after_segment command.now from n segment }
+fn after_segment(layout: Layout, command: &Command, from: u64, n: u64, segment: u32) -> Phase
+    requires layout { IsLayout layout }
+    requires segment { segment < segment_count layout }
+    requires places { from + n ≤ most_places }
+    ensures { result ≡ after_segment layout command.now from n segment }
 {
-    let end = first(segment) + len(segment);
+    let end = layout.first(segment) + layout.len(segment);
     if end < from + n {
         Phase::Scout {
             from,

@@ -4,10 +4,10 @@ use Rattle.callers.proofs.ReadValues.{reads_of}
 use Rattle.callers.proofs.tests.uses.play_known.Goals as goal
 
 pub returns-clause-apart : goal.returns-clause-apart
-returns-clause-apart c = pushes_of c.play.result c.args.limit c.args.programs c.args.items.now c.writes_split.ensures c.interleavings.ensures c.play.ensures.played c.play.ensures.limit c.play.ensures.sound
+returns-clause-apart c = pushes_of c.play_in.result c.args.layout c.args.limit c.args.programs c.args.items.now c.writes_split.ensures c.interleavings.ensures c.play_in.ensures.played c.play_in.ensures.layout c.play_in.ensures.limit c.play_in.ensures.sound
 
 pub returns-clause-writers : goal.returns-clause-writers
-returns-clause-writers c = reads_of c.play.result c.args.limit c.args.programs c.args.items.now c.interleavings.ensures c.values_have_one_writer.ensures.looks c.play.ensures.played c.play.ensures.limit c.play.ensures.sound
+returns-clause-writers c = reads_of c.play_in.result c.args.layout c.args.limit c.args.programs c.args.items.now c.interleavings.ensures c.values_have_one_writer.ensures.looks c.play_in.ensures.played c.play_in.ensures.layout c.play_in.ensures.limit c.play_in.ensures.sound
 
 pub returns-clause-past : goal.returns-clause-past
-returns-clause-past c = later_runs_of c.play.result c.args.limit c.args.programs c.args.items.now c.histories_split.ensures c.runs_split.ensures.apart c.interleavings.ensures c.play.ensures.played c.play.ensures.limit c.play.ensures.sound
+returns-clause-past c = later_runs_of c.play_in.result c.args.layout c.args.limit c.args.programs c.args.items.now c.histories_split.ensures c.runs_split.ensures.apart c.interleavings.ensures c.play_in.ensures.played c.play_in.ensures.layout c.play_in.ensures.limit c.play_in.ensures.sound

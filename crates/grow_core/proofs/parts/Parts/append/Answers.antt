@@ -13,10 +13,10 @@ use Rattle.grow_core.proofs.parts.Parts.append.Goals as goal
 
 pub invariant_of-self : goal.invariant_of-self
 invariant_of-self g c =
-    let names : List ℕ = c.self.inside.table.names in let row : KeyRow = c.self.inside.keys in let known = c.self.inside.row in let len : ℕ = c.self.inside.len in
+    let f : ℕ = c.self.inside.table.layout in let names : List ℕ = c.self.inside.table.names in let row : KeyRow = c.self.inside.keys in let known = c.self.inside.row in let len : ℕ = c.self.inside.len in
     let segment : ℕ = c.cell_of-segment.result.0 in let offset : ℕ = c.cell_of-segment.result.1 in let key : KeyView = c.cell_of-segment.result.2 in
-    let small : segment < 32 = c.cell_of-segment.ensures.small in let at_len : place_in segment offset ≡ len = c.cell_of-segment.ensures.place in
-    let inside : place_in segment offset < segment_end segment = subst (λ (p : ℕ). p < segment_end segment) (sym at_len) c.cell_of-segment.ensures.within in
+    let small : segment < 40 = c.cell_of-segment.ensures.small in let at_len : place_in f segment offset ≡ len = c.cell_of-segment.ensures.place in
+    let inside : place_in f segment offset < segment_end f segment = subst (λ (p : ℕ). p < segment_end f segment) (sym at_len) c.cell_of-segment.ensures.within in
     let whole = c.self.invariant.0 in let at = (whole.named segment key small c.cell_of-segment.ensures.key).at in
     let block : BlockView = c.write-member.new.block in let m = c.write-member.result.0 in let key' : KeyView = c.attach.result in
     let start : c.deref_mut.result.now ≡ key.block = c.deref_mut.ensures.value ∙ c.detach-block.ensures.block in
@@ -25,12 +25,12 @@ invariant_of-self g c =
     let pushed : c.push.new.self ≡ known ++ m ∷ [] = c.push.ensures in
     let counted : length (values_in known) ≡ len = length-map known (λ (u : MemberView _). u.value) ∙ whole.all in
     let below : len < c.self.inside.limit = subst (λ (n : ℕ). n < c.self.inside.limit) counted (subst (λ (v : PartsView _). length v.members < v.limit) (sym c.self.view_is) c.requires.below) in
-    let room : len < segment_start c.self.inside.count = subst (λ (n : ℕ). n < segment_start c.self.inside.count) counted (subst (λ (v : PartsView _). length v.members < capacity_of v) (sym c.self.view_is) c.requires.room) in (
-      written_whole names c.attach.new.self row known c.push.new.self segment offset len (len + 1) c.self.inside.limit c.self.inside.count key key' block whole small inside c.cell_of-segment.ensures.key others of
+    let room : len < segment_start f c.self.inside.count = subst (λ (n : ℕ). n < segment_start f c.self.inside.count) counted (subst (λ (v : PartsView _). length v.members < capacity_of v) (sym c.self.view_is) c.requires.room) in (
+      written_whole f names c.attach.new.self row known c.push.new.self segment offset len (len + 1) c.self.inside.limit c.self.inside.count key key' block whole (c.attach.ensures.layout ∙ c.detach-block.ensures.layout) small c.cell_of-segment.ensures.segment inside c.cell_of-segment.ensures.key others of
           (c.write-member.ensures.len ∙ ap block_len start) (subst (λ (b : BlockView). KeepsOtherCells b block offset) start c.write-member.ensures.others)
           (λ q other. ap (λ (xs : List (MemberView _)). slice_get xs q) pushed ∙ pushed_elsewhere known m q (λ e. other (e ∙ whole.all ∙ sym at_len)))
-          (λ n is. let last : slice_get (known ++ m ∷ []) (place_in segment offset) ≡ Some m = ap (slice_get (known ++ m ∷ [])) (at_len ∙ sym whole.all) ∙ pushed_there known m in
-          let both : Some m ≡ Some n = sym last ∙ ap (λ (xs : List (MemberView _)). slice_get xs (place_in segment offset)) (sym pushed) ∙ is in
+          (λ n is. let last : slice_get (known ++ m ∷ []) (place_in f segment offset) ≡ Some m = ap (slice_get (known ++ m ∷ [])) (at_len ∙ sym whole.all) ∙ pushed_there known m in
+          let both : Some m ≡ Some n = sym last ∙ ap (λ (xs : List (MemberView _)). slice_get xs (place_in f segment offset)) (sym pushed) ∙ is in
           subst (λ (u : MemberView _). IsMemberAt block offset u) (let z = both in cc) c.write-member.ensures.member)
           (ap length pushed ∙ length-append known (m ∷ []) ∙ ap (λ (n : ℕ). n + 1) whole.all) (omega (arith, below)) (omega (arith, room)),
       tt,

@@ -13,10 +13,10 @@ use Rattle.grow_core.proofs.parts.Parts.pop.Goals as goal
 
 pub invariant_of-self : goal.invariant_of-self
 invariant_of-self g c =
-    let names : List ℕ = c.self.inside.table.names in let row : KeyRow = c.self.inside.keys in let known = c.self.inside.row in let len : ℕ = c.self.inside.len in
+    let f : ℕ = c.self.inside.table.layout in let names : List ℕ = c.self.inside.table.names in let row : KeyRow = c.self.inside.keys in let known = c.self.inside.row in let len : ℕ = c.self.inside.len in
     let segment : ℕ = c.cell_of-segment.result.0 in let offset : ℕ = c.cell_of-segment.result.1 in let key : KeyView = c.cell_of-segment.result.2 in
-    let small : segment < 32 = c.cell_of-segment.ensures.small in let at_last : place_in segment offset ≡ len - 1 = c.cell_of-segment.ensures.place in
-    let inside : place_in segment offset < segment_end segment = subst (λ (p : ℕ). p < segment_end segment) (sym at_last) c.cell_of-segment.ensures.within in
+    let small : segment < 40 = c.cell_of-segment.ensures.small in let at_last : place_in f segment offset ≡ len - 1 = c.cell_of-segment.ensures.place in
+    let inside : place_in f segment offset < segment_end f segment = subst (λ (p : ℕ). p < segment_end f segment) (sym at_last) c.cell_of-segment.ensures.within in
     let whole = c.self.invariant.0 in let at = (whole.named segment key small c.cell_of-segment.ensures.key).at in
     let block : BlockView = c.take_member-value.new.self in let key' : KeyView = c.attach.result in let known' = c.pop.new.self in
     let start : c.deref_mut.result.now ≡ key.block = c.deref_mut.ensures.value ∙ c.detach-block.ensures.block in
@@ -24,9 +24,9 @@ invariant_of-self g c =
     let others : (j : ℕ) → j ≢ segment → slice_index c.attach.new.self.names j ≡ slice_index names j = (λ j other. c.attach.ensures.others j other ∙ c.detach-block.ensures.others j (λ e. other (e ∙ at))) in
     let last = c.pop.ensures.0 in let popped : known ≡ known' ++ last ∷ [] = c.pop.ensures.1 in
     let fewer : length known' + 1 ≡ len = sym (length-append known' (last ∷ [])) ∙ ap length (sym popped) ∙ whole.all in
-    let here : length known' ≡ place_in segment offset = omega (arith, fewer, at_last) in
+    let here : length known' ≡ place_in f segment offset = omega (arith, fewer, at_last) in
     let within = whole.within in let inner = whole.inside in (
-      written_whole names c.attach.new.self row known known' segment offset len (len - 1) c.self.inside.limit c.self.inside.count key key' block whole small inside c.cell_of-segment.ensures.key others of
+      written_whole f names c.attach.new.self row known known' segment offset len (len - 1) c.self.inside.limit c.self.inside.count key key' block whole (c.attach.ensures.layout ∙ c.detach-block.ensures.layout) small c.cell_of-segment.ensures.segment inside c.cell_of-segment.ensures.key others of
           (c.take_member-value.ensures.len ∙ ap block_len start) (subst (λ (b : BlockView). KeepsOtherCells b block offset) start c.take_member-value.ensures.others)
           (λ q other. sym (pushed_elsewhere known' last q (λ e. other (e ∙ here))) ∙ ap (λ (xs : List (MemberView _)). slice_get xs q) (sym popped))
           (λ n is. let none = sym (none_past known') ∙ ap (slice_get known') here ∙ is in absurd (let z = none in cc))

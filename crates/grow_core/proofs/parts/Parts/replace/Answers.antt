@@ -13,10 +13,10 @@ use Rattle.grow_core.proofs.parts.Parts.replace.Goals as goal
 
 pub invariant_of-self : goal.invariant_of-self
 invariant_of-self g c =
-    let names : List ℕ = c.self.inside.table.names in let row : KeyRow = c.self.inside.keys in let known = c.self.inside.row in let len : ℕ = c.self.inside.len in
+    let f : ℕ = c.self.inside.table.layout in let names : List ℕ = c.self.inside.table.names in let row : KeyRow = c.self.inside.keys in let known = c.self.inside.row in let len : ℕ = c.self.inside.len in
     let segment : ℕ = c.cell_of-segment.result.0 in let offset : ℕ = c.cell_of-segment.result.1 in let key : KeyView = c.cell_of-segment.result.2 in let place : ℕ = c.args.place in
-    let small : segment < 32 = c.cell_of-segment.ensures.small in let at_place : place_in segment offset ≡ place = c.cell_of-segment.ensures.place in
-    let inside : place_in segment offset < segment_end segment = subst (λ (p : ℕ). p < segment_end segment) (sym at_place) c.cell_of-segment.ensures.within in
+    let small : segment < 40 = c.cell_of-segment.ensures.small in let at_place : place_in f segment offset ≡ place = c.cell_of-segment.ensures.place in
+    let inside : place_in f segment offset < segment_end f segment = subst (λ (p : ℕ). p < segment_end f segment) (sym at_place) c.cell_of-segment.ensures.within in
     let whole = c.self.invariant.0 in let at = (whole.named segment key small c.cell_of-segment.ensures.key).at in
     let block : BlockView = c.write-member.new.block in let m = c.write-member.result.0 in let key' : KeyView = c.attach.result in
     let start : c.deref_mut.result.now ≡ key.block = c.deref_mut.ensures.value ∙ c.detach-block.ensures.block in
@@ -29,10 +29,10 @@ invariant_of-self g c =
     let near : place < length known = subst (λ (n : ℕ). place < n) (sym whole.all) below in
     let lens : block_len block ≡ block_len key.block = c.write-member.ensures.len ∙ ap block_len between ∙ c.take_member-held.ensures.len ∙ ap block_len start in
     let cells : KeepsOtherCells key.block block offset = (λ q other. c.write-member.ensures.others q other ∙ ap (λ (b : BlockView). Rattle.cell_core.specs.Block.cell_at b q) between ∙ c.take_member-held.ensures.others q other ∙ ap (λ (b : BlockView). Rattle.cell_core.specs.Block.cell_at b q) start) in (
-      written_whole names c.attach.new.self row known c.set.new.self segment offset len len c.self.inside.limit c.self.inside.count key key' block whole small inside c.cell_of-segment.ensures.key others of lens cells
+      written_whole f names c.attach.new.self row known c.set.new.self segment offset len len c.self.inside.limit c.self.inside.count key key' block whole (c.attach.ensures.layout ∙ c.detach-block.ensures.layout) small c.cell_of-segment.ensures.segment inside c.cell_of-segment.ensures.key others of lens cells
           (λ q other. ap (λ (xs : List (MemberView _)). slice_get xs q) changed ∙ set_elsewhere known m place q (λ e. other (e ∙ sym at_place)))
-          (λ n is. let here : slice_get (slice_set known place m) (place_in segment offset) ≡ Some m = ap (slice_get (slice_set known place m)) at_place ∙ set_there known m place near in
-          let both : Some m ≡ Some n = sym here ∙ ap (λ (xs : List (MemberView _)). slice_get xs (place_in segment offset)) (sym changed) ∙ is in
+          (λ n is. let here : slice_get (slice_set known place m) (place_in f segment offset) ≡ Some m = ap (slice_get (slice_set known place m)) at_place ∙ set_there known m place near in
+          let both : Some m ≡ Some n = sym here ∙ ap (λ (xs : List (MemberView _)). slice_get xs (place_in f segment offset)) (sym changed) ∙ is in
           subst (λ (u : MemberView _). IsMemberAt block offset u) (let z = both in cc) c.write-member.ensures.member)
           (ap length changed ∙ length-set known place m ∙ whole.all) whole.within whole.inside,
       tt,

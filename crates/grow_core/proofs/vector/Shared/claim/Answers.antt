@@ -1,7 +1,7 @@
-use Rattle.std.proofs.Common.{sym, subst}
+use Rattle.std.proofs.Common.{List, ℕ, sym, subst}
 use Rattle.claim_core.specs.declared.run.Run.{Run}
 use Rattle.claim_core.specs.Hand.{AddsRun}
-use Rattle.grow_core.specs.Keys.{AreKeys, HasKeysOfRun}
+use Rattle.grow_core.specs.Keys.{AreKeys, HasKeysOfRun, layout_in}
 use Rattle.grow_core.proofs.KeyRows.{keyed_more, keyed_sees, keyed_adds, mark_is}
 use Rattle.grow_core.proofs.vector.Shared.claim.Goals.{in-Ok-exchange, in-Err, in-Err-2}
 use Rattle.grow_core.proofs.vector.Shared.claim.Goals as goal
@@ -18,7 +18,8 @@ invariant_of-hand-2 g c =
     let below = c.laws-2.ensures.below in
     let kept = c.install.ensures.kept in
     elim c.match-exchange.branch [
-      | in-Ok-exchange w ↦ let run_keys = subst (λ (r : Run). HasKeysOfRun c.install.new.keys r.from r.n) (sym w.in-Ok-exchange.ensures.run) c.in-Ok.ensures.run in keyed_adds _ _ _ _ below c.hand.invariant keys kept c.added_places_are_of_the_run.ensures w.in-Ok-exchange._run w.in-Ok-exchange.ensures.claimed run_keys
+      | in-Ok-exchange w ↦ let all_keys = subst (λ (m : List ℕ). HasKeysOfRun (layout_in m) c.install.new.keys c.args.from c.args.n) mark c.in-Ok.ensures.run in
+          let run_keys = subst (λ (r : Run). HasKeysOfRun (layout_in c.hand.inside.claims.of.mark) c.install.new.keys r.from r.n) (sym w.in-Ok-exchange.ensures.run) all_keys in keyed_adds _ _ _ _ below c.hand.invariant keys kept c.added_places_are_of_the_run.ensures w.in-Ok-exchange._run w.in-Ok-exchange.ensures.claimed run_keys
       | in-Err w ↦ let lost = w.in-Err.ensures.seen in keyed_sees _ _ _ _ below c.hand.invariant keys kept c.own_places_stay.ensures lost.own lost.seen
       | in-Err-2 w ↦ let lost = w.in-Err.ensures.seen in keyed_sees _ _ _ _ below c.hand.invariant keys kept c.own_places_stay.ensures lost.own lost.seen
     ]

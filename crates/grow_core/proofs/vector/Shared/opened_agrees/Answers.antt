@@ -14,15 +14,15 @@ use Rattle.grow_core.proofs.vector.Shared.opened_agrees.Goals as goal
 
 pub returns-then-place-base : goal.returns-then-place-base
 returns-then-place-base g c = λ x there.
-    let whole = c.self.invariant.whole in let here = c.cell_of-key in let segment : ℕ = here.result.0 in let offset : ℕ = here.result.1 in let key = here.result.2 in let placed = c.placed.inside in let m = c.at.result in
+    let whole = c.self.invariant.whole in let f : ℕ = c.self.inside.table.layout in let here = c.cell_of-key in let segment : ℕ = here.result.0 in let offset : ℕ = here.result.1 in let key = here.result.2 in let placed = c.placed.inside in let m = c.at.result in
     let at = ap (λ (p : PlacedView g.row.T.Denot). p.place) c.placed.view_is in
     let token = subst (λ (p : PlacedView g.row.T.Denot). IsPlacedOf c.args.self.now p) (sym c.placed.view_is) c.requires in
-    let cell = token_cell c.places.ensures.one_place segment offset c.args.self.now _ token (here.ensures.place ∙ c.place-place.ensures ∙ sym at)
-    (subst (λ (p : ℕ). p < segment_end segment) (c.place-place.ensures ∙ sym at) here.ensures.within) in
+    let cell = token_cell f c.places.ensures.one_place segment offset c.args.self.now _ (ap (λ (v : VectorView g.row.T.Denot). v.segments.layout) (sym c.self.view_is)) token (here.ensures.place ∙ c.place-place.ensures ∙ sym at)
+    (subst (λ (p : ℕ). p < segment_end f segment) (c.place-place.ensures ∙ sym at) here.ensures.within) in
     let key_is = whole.named segment key here.ensures.small here.ensures.key in
     let same : key.block ≡ placed.key.block = c.agree.ensures (key_is.at ∙ sym cell.0) in
-    let known : slice_get c.self.inside.row (place_in segment offset) ≡ Some m = ap (slice_get c.self.inside.row) here.ensures.place ∙ c.at.ensures in
-    let inside : place_in segment offset < segment_end segment = subst (λ (p : ℕ). p < segment_end segment) (sym here.ensures.place) here.ensures.within in
+    let known : slice_get c.self.inside.row (place_in f segment offset) ≡ Some m = ap (slice_get c.self.inside.row) here.ensures.place ∙ c.at.ensures in
+    let inside : place_in f segment offset < segment_end f segment = subst (λ (p : ℕ). p < segment_end f segment) (sym here.ensures.place) here.ensures.within in
     let member = whole.of segment offset key m here.ensures.small here.ensures.key inside known in
     let opened : Some m.value ≡ Some (Some x) = sym (value_at c.self.inside.row c.place-place.result m c.at.ensures) ∙ ap (slice_get (values_in c.self.inside.row)) c.place-place.ensures
     ∙ ap (λ (v : VectorView g.row.T.Denot). slice_get v.opened c.args.placed.now.place) c.self.view_is ∙ there in

@@ -1,6 +1,6 @@
-use Rattle.std.proofs.Common.{◌≡◌, ap, subst, arith}
+use Rattle.std.proofs.Common.{◌≡◌, List, ℕ, ◌-◌, ap, subst, arith}
 use Rattle.claim_core.specs.Hand.{seen_size}
-use Rattle.grow_core.specs.Keys.{AreKeys}
+use Rattle.grow_core.specs.Keys.{AreKeys, HasKeysOfRun, layout_in}
 use Rattle.grow_core.proofs.KeyRows.{keyed_more, keyed_sees, keyed_adds, keys_of_later, mark_is}
 use Rattle.grow_core.proofs.vector.Shared.raise.Goals.{in-Ok-raise, in-Err}
 use Rattle.grow_core.proofs.vector.Shared.raise.Goals as goal
@@ -16,13 +16,13 @@ invariant_of-hand-2 g c =
     let keys = subst (λ names. AreKeys names c.install.new.keys) mark c.install.ensures.keys in
     let below = c.laws-2.ensures.below in
     let kept = c.install.ensures.kept in
-    let there = c.in-Ok.ensures.run in
+    let there = subst (λ (m : List ℕ). HasKeysOfRun (layout_in m) c.install.new.keys c.seen-from.result (c.args.size - c.seen-from.result)) mark c.in-Ok.ensures.run in
     elim c.match-raise.branch [
       | in-Ok-raise w ↦
           let run = w.in-Ok-raise.run' in
           let won = w.in-Ok-raise.ensures in
           let same : seen_size c.hand.inside.claims ≡ seen_size c.args.hand.now = ap seen_size c.hand.view_is in
           keyed_adds _ _ _ _ below c.hand.invariant keys kept c.added_places_are_of_the_run.ensures run won.claimed
-          (keys_of_later c.install.new.keys _ _ run.from run.n (omega (arith, won.not_below, c.seen-from.ensures, same)) (omega (arith, won.run, c.requires.further, c.seen-from.ensures)) there)
+          (keys_of_later _ c.install.new.keys _ _ run.from run.n (omega (arith, won.not_below, c.seen-from.ensures, same)) (omega (arith, won.run, c.requires.further, c.seen-from.ensures)) there)
       | in-Err w ↦ let lost = w.in-Err.ensures.seen in keyed_sees _ _ _ _ below c.hand.invariant keys kept c.own_places_stay.ensures lost.own lost.seen
     ]

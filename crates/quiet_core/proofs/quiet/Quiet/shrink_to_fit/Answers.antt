@@ -8,5 +8,7 @@ pub returns-clause-capacity : goal.returns-clause-capacity
 returns-clause-capacity g c =
     let after = c.cut.new.self in
     let same : length after.members ≡ length c.args.self.now.members = ap length (c.cut.ensures.members ∙ ap (λ (q : QuietList g.row.T.Denot). q.members) c.self.view_is) in
-    let room : length after.members ≤ segment_start after.segments = subst (λ (n : ℕ). length after.members ≤ n) c.capacity-room.ensures.value c.capacity-room.ensures.room in
-    subst (λ (n : ℕ). IsCapacityFor n (segment_start after.segments)) same (fewest_left (length after.members) after.segments room c.cut.ensures.least)
+    let layout : after.layout ≡ c.args.self.now.layout = c.cut.ensures.layout ∙ ap (λ (q : QuietList g.row.T.Denot). q.layout) c.self.view_is in
+    let room : length after.members ≤ segment_start after.layout after.segments = subst (λ (n : ℕ). length after.members ≤ n) c.capacity-room.ensures.value c.capacity-room.ensures.room in
+    subst (λ (u : ℕ × ℕ). IsCapacityFor u.0 u.1 (segment_start after.layout after.segments)) (λ i. (layout i, same i))
+    (fewest_left after.layout (length after.members) after.segments room c.cut.ensures.least)

@@ -2,9 +2,9 @@ use Rattle.std.proofs.Common.{sym, ◌∙◌}
 use Rattle.step_core.proofs.atomic_steps.BlockViews.{slot_past, slot_in_entry}
 use Rattle.step_core.proofs.machine.blocks.Blocks.get.Goals as goal
 
-pub returns-then-place-ge-PLACES : goal.returns-then-place-ge-PLACES
-returns-then-place-ge-PLACES c =
-    sym (slot_past c.self.view_is c.self.invariant c.args.place c.if-place-ge-PLACES.true)
+pub returns-then-place-ge-MOST_PLACES : goal.returns-then-place-ge-MOST_PLACES
+returns-then-place-ge-MOST_PLACES c =
+    sym (slot_past c.self.view_is c.self.invariant c.args.place c.if-place-ge-MOST_PLACES.true)
 
 pub returns-in-Some : goal.returns-in-Some
 returns-in-Some c =

@@ -16,11 +16,11 @@ set_in-requires-clause-inside c =
 pub invariant_of-self : goal.invariant_of-self
 invariant_of-self c =
     let at = c.locate-segment.ensures in
-    subst (λ e. AreBlocks (slice_set c.self.inside.entries c.locate-segment.result.0 e)) (sym c.set_in.ensures)
+    subst (λ e. AreBlocks c.self.inside.layout (slice_set c.self.inside.entries c.locate-segment.result.0 e)) (sym c.set_in.ensures)
     (set_is_blocks c.self.view_is c.self.invariant at.segment at.bound c.locate-segment.result.1 at.offset c.index-self-segment.is c.args.slot c.requires.there)
 
 pub returns : goal.returns
 returns c =
     let at = c.locate-segment.ensures in
-    ap (λ e. shown (slice_set c.self.inside.entries c.locate-segment.result.0 e)) c.set_in.ensures
+    ap (λ e. shown c.self.inside.layout (slice_set c.self.inside.entries c.locate-segment.result.0 e)) c.set_in.ensures
     ∙ set_shows c.self.view_is c.self.invariant at.segment at.bound c.locate-segment.result.1 at.offset c.index-self-segment.is c.args.slot c.requires.there

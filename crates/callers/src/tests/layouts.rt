@@ -1,0 +1,85 @@
+//! Machines and plays with segments of each layout.
+
+use book_core::{Answer, Cell};
+use script_core::{Script, read};
+use seg_core::Layout;
+use std::alloc::Global;
+use std::test::Fail;
+use step_core::{Machine, Played, play_in};
+
+// The number of a layout, and how many steps a growth by 300 takes up to its claim: a load, two for each segment of its
+// places, and an exchange.
+#[rattlefmt::skip]
+const STEPS: [(u32, u32); 8] = [
+    (1, 20), (2, 18), (3, 16), (4, 14), (5, 12), (6, 10), (7, 8), (8, 6),
+];
+
+fn layout_of(f: u32) -> Layout {
+    Layout::new(f).unwrap_or(Layout::default())
+}
+
+// The size of a new machine after some steps of its one actor, which grows it by 300.
+fn size_after(alloc: Global, f: u32, steps: u32) -> Result<u64, Fail> {
+    let script = read(alloc, b"limit 300\nactor a grow 300 7\nsteps")?;
+    let mut machine = Machine::new_in(alloc, layout_of(f), script.limit, script.programs)?;
+    for _step in 0..steps {
+        machine.step(0, true)?;
+    }
+    Ok(machine.size())
+}
+
+#[test]
+fn a_growth_looks_for_the_segments_of_its_layout(rt: HostRuntime) -> Result<(), Fail> {
+    for (f, steps) in STEPS.as_slice() {
+        assert!(rt; size_after(rt.alloc(), *f, *steps - 1)? == 0, "{f}");
+        assert!(rt; size_after(rt.alloc(), *f, *steps)? == 300, "{f}");
+    }
+    Ok(())
+}
+
+// The answer of a play's only ended call, and its third cell.
+type Seen = (Option<Answer>, Option<Cell>);
+
+const GROWN: Seen = (Some(Answer::Run { from: 0, n: 3 }), Some(Cell::Filled(7)));
+
+const PENDING: Seen = (None, Some(Cell::Pending(0)));
+
+const REFUSED: Seen = (Some(Answer::NoMemory), None);
+
+const GROW: &str = "limit 8\nactor a grow 3 7\nsteps a a a a a a a a a a";
+
+// Its second segment is refused, where there is one.
+const GROW_REFUSED: &str = "limit 8\nactor a grow 3 7\nsteps a a a a a! a a a a a";
+
+#[rattlefmt::skip]
+const PLAYS: [(u32, Seen, Seen); 8] = [
+    (1, PENDING, REFUSED), (2, GROWN, GROWN), (3, GROWN, GROWN), (4, GROWN, GROWN),
+    (5, GROWN, GROWN), (6, GROWN, GROWN), (7, GROWN, GROWN), (8, GROWN, GROWN),
+];
+
+fn played_in(alloc: Global, f: u32, text: &str) -> Result<Played, Fail> {
+    let Script {
+        limit,
+        programs,
+        items,
+        ..
+    } = read(alloc, text.as_bytes())?;
+    Ok(play_in(alloc, layout_of(f), limit, programs, items.as_slice())?)
+}
+
+fn seen(alloc: Global, f: u32, text: &str) -> Result<Seen, Fail> {
+    let played = played_in(alloc, f, text)?;
+    let answer = played.ended.as_slice().first().map(|ended| ended.answer);
+    Ok((answer, played.cells.as_slice().get(2).copied()))
+}
+
+#[test]
+fn a_growth_of_three_has_one_segment_but_in_the_shortest_layout(
+    rt: HostRuntime,
+) -> Result<(), Fail> {
+    for (f, granted, refused) in PLAYS.as_slice() {
+        assert!(rt; seen(rt.alloc(), *f, GROW)? == *granted, "{f}");
+        assert!(rt; seen(rt.alloc(), *f, GROW_REFUSED)? == *refused, "{f}");
+    }
+    Ok(())
+}

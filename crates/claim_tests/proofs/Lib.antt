@@ -1,0 +1,2 @@
+mod KeyRows
+mod OwnCounts

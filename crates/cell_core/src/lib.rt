@@ -14,5 +14,3 @@
 
 pub mod block;
 mod slot;
-#[cfg(test)]
-mod tests;

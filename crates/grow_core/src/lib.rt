@@ -51,6 +51,3 @@ pub use raises::AtLeast;
 pub use reads::{At, Shown};
 pub use token::{Begun, Found, Placed, Spoilt};
 pub use vector::Shared;
-
-#[cfg(test)]
-mod tests;

@@ -18,8 +18,6 @@ mod iter;
 mod open;
 mod quiet;
 mod room;
-#[cfg(test)]
-mod tests;
 
 pub use errors::{QuietAt, QuietError, QuietMendError};
 pub use grow_core::{Hand, OpenError, Placed, Shared};

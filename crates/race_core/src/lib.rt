@@ -12,11 +12,9 @@ mod hold;
 mod refusal;
 mod report;
 mod team;
-#[cfg(test)]
-mod tests;
 mod workers;
 
 pub use hold::{MOST_EACH, MOST_WORKERS, race};
-pub use refusal::RaceError;
+pub use refusal::{RaceError, refused};
 pub use report::RaceReport;
 pub use span_core::{Free, Gate, PairGate};

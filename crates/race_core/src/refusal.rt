@@ -63,8 +63,8 @@ impl From<Refusal<RaceError>> for RaceError {
     }
 }
 
-// Why a growth of a race was refused.
-pub(crate) fn refused(error: GrowError<u64, u64, Never>) -> RaceError
+/// What a race tells of a growth that was refused: a full vector by number 2, a taken place by 5, and else that memory was refused.
+pub fn refused(error: GrowError<u64, u64, Never>) -> RaceError
     requires { IsNotMoved error }
     ensures told { IsToldAs error result }
     ensures workers { IsWorkers result }

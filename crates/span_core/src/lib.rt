@@ -24,8 +24,6 @@ mod map;
 mod reduce;
 mod shares;
 mod span;
-#[cfg(test)]
-mod tests;
 mod workers;
 
 pub use by_halves::{ForkJoin, fork_join};

@@ -14,7 +14,5 @@
 
 mod entry;
 mod table;
-#[cfg(test)]
-mod tests;
 
 pub use table::{Key, Table};

@@ -1,0 +1,7 @@
+//! Tests of `grow_core`, and what callers prove of a shared vector by public clauses.
+//!
+//! A crate with tests is proved once without and once with them. Here nothing is proved twice but a few lines.
+#![tactic(auto)]
+
+#[cfg(test)]
+mod tests;

@@ -1,0 +1,181 @@
+// A vector and two callers of it. Each call keeps both hands the vector's own and answers plain values, so that a test
+// has nothing to prove of them and few values to drop.
+ghost use Rattle.std.specs.Prelude.{◌≡◌, IfOk};
+ghost use Rattle.seg_core.specs.Segment.{IsLimit};
+ghost use Rattle.claim_core.specs.Hand.{IsNewHand};
+ghost use Rattle.grow_core.specs.Vector.{IsHandOf, limit_of, base_of};
+
+use grow_core::{AtError, GrowError, Hand, OpenError, Parts, Placed, Run, Shared};
+use std::alloc::{AllocGlobal, Global};
+use std::process::Abort;
+use std::sync::Wait;
+
+// A vector that begins empty.
+pub(super) fn empty<T: Drop>(alloc: Global, limit: u64) -> Result<(Shared<T>, Hand<T>), OpenError>
+    requires { IsLimit limit }
+    ensures limit { IfOk result (λ (vector, _). limit_of vector ≡ limit) }
+    ensures base { IfOk result (λ (vector, _). base_of vector ≡ 0) }
+    ensures hand { IfOk result (λ (vector, hand). IsNewHand vector.word hand) }
+{
+    match Shared::of_parts(Parts::new(alloc, limit)) {
+        Ok(opened) => Ok(opened),
+        Err((_back, error)) => Err(error),
+    }
+}
+
+#[derive(Drop)]
+pub(super) struct Callers<T> {
+    pub(super) vector: Shared<T>,
+    pub(super) a: Hand<T>,
+    pub(super) b: Hand<T>,
+    ghost ours: { IsHandOf vector a },
+    ghost also_ours: { IsHandOf vector b },
+    ghost base: { base_of vector ≡ 0 },
+}
+
+impl<T: Drop> Callers<T> {
+    // A new vector. Its second hand has 100 shares.
+    pub(super) fn try_new(alloc: Global, limit: u64) -> Result<Callers<T>, OpenError>
+        requires { IsLimit limit }
+    {
+        let (vector, mut a) = empty(alloc, limit)?;
+        let b = vector.split(&mut a, 100);
+        Ok(Callers { vector, a, b })
+    }
+
+    pub(super) fn new<R: AllocGlobal + Abort>(rt: &R, limit: u64) -> Callers<T>
+        requires { IsLimit limit }
+    {
+        match Callers::try_new(rt.alloc(), limit) {
+            Ok(made) => made,
+            Err(error) => panic!(rt; "{error}"),
+        }
+    }
+
+    // The place of a value that a try appends.
+    pub(super) fn push_a(&mut self, value: T) -> Option<u64> {
+        place_of(self.vector.try_push_back(&mut self.a, value))
+    }
+
+    pub(super) fn push_b(&mut self, value: T) -> Option<u64> {
+        place_of(self.vector.try_push_back(&mut self.b, value))
+    }
+
+    // The same by a push that tries again.
+    pub(super) fn push_waiting<R: Wait>(&mut self, rt: &R, value: T) -> Option<u64> {
+        place_of(self.vector.push_back(rt, &mut self.a, value))
+    }
+
+    // The run of values that a try appends.
+    pub(super) fn grow_a(&mut self, values: Vec<T>) -> Option<Run> {
+        let grown = self.vector.try_grow_vec(&mut self.a, values).ok()?;
+        Some(grown.run())
+    }
+
+    pub(super) fn grow_b(&mut self, values: Vec<T>) -> Option<Run> {
+        let grown = self.vector.try_grow_vec(&mut self.b, values).ok()?;
+        Some(grown.run())
+    }
+
+    // The same by a growth that tries again.
+    pub(super) fn grow_waiting<R: Wait>(&mut self, rt: &R, values: Vec<T>) -> Option<Run> {
+        let grown = self.vector.grow_vec(rt, &mut self.a, values).ok()?;
+        Some(grown.run())
+    }
+
+    // The size, by one look.
+    pub(super) fn size_b(&mut self) -> u64 {
+        self.vector.size(&mut self.b)
+    }
+
+    // Both hands have then seen the same.
+    pub(super) fn meet(&mut self) {
+        self.vector.meet(&mut self.a, &mut self.b);
+    }
+
+    // The list that the vector is closed into by one hand with all shares.
+    pub(super) fn close(self) -> Option<Parts<T>> {
+        let Callers { vector, mut a, b } = self;
+        vector.join(&mut a, b);
+        if a.is_whole() {
+            Some(vector.into_parts(a))
+        } else {
+            None
+        }
+    }
+
+    // Its length.
+    pub(super) fn end(self) -> Option<u64> {
+        let parts = self.close()?;
+        Some(parts.len())
+    }
+
+    // The size at which a full vector refuses a value, and the value.
+    pub(super) fn refused_push(&mut self, value: T) -> Option<(u64, T)> {
+        full(self.vector.try_push_back(&mut self.a, value))
+    }
+
+    pub(super) fn refused_waiting<R: Wait>(&mut self, rt: &R, value: T) -> Option<(u64, T)> {
+        full(self.vector.push_back(rt, &mut self.a, value))
+    }
+
+    // The size at which a full vector refuses values, and the values.
+    pub(super) fn refused_growth(&mut self, values: Vec<T>) -> Option<(u64, Vec<T>)> {
+        full(self.vector.try_grow_vec(&mut self.a, values))
+    }
+}
+
+// Whether the steps hold on a new vector with two callers. The steps have a loan of it, so that neither they nor the test
+// have it to drop.
+pub(super) fn on_two<T: Drop, R: AllocGlobal + Abort, F: FnOnce(&mut Callers<T>) -> bool>(
+    rt: &R,
+    limit: u64,
+    steps: F,
+) -> bool
+    requires limit { IsLimit limit }
+    requires callable { F.IsAlwaysCallable steps }
+{
+    let mut two = Callers::new(rt, limit);
+    steps(&mut two)
+}
+
+pub(super) fn place_of<T: Drop, V: Drop, E: Drop>(
+    pushed: Result<Placed<T>, GrowError<T, V, E>>,
+) -> Option<u64> {
+    let placed = pushed.ok()?;
+    Some(placed.place())
+}
+
+// What a full vector tells and gives back.
+pub(super) fn full<P: Drop, T: Drop, V: Drop, E: Drop>(
+    answer: Result<P, GrowError<T, V, E>>,
+) -> Option<(u64, V)> {
+    match answer {
+        Err(GrowError::Full { size, back }) => Some((size, back)),
+        _ => None,
+    }
+}
+
+impl Callers<u64> {
+    // The value at a place, by a look without a token.
+    pub(super) fn at_b(&mut self, place: u64) -> Option<u64> {
+        let at = self.vector.at(&mut self.b, place, None).ok()?;
+        Some(*at.value)
+    }
+
+    // The size that a place is not below.
+    pub(super) fn out_of_range(&mut self, place: u64) -> Option<u64> {
+        match self.vector.at(&mut self.b, place, None) {
+            Err(AtError::OutOfRange { size }) => Some(size),
+            _ => None,
+        }
+    }
+}
+
+// The values in a `Vec`.
+pub(super) fn list<R: AllocGlobal + Abort>(rt: &R, values: &[u64]) -> Vec<u64> {
+    match Vec::from_slice(rt.alloc(), values) {
+        Ok(made) => made,
+        Err(error) => panic!(rt; "{error}"),
+    }
+}

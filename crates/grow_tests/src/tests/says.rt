@@ -1,0 +1,149 @@
+// What each refusal says, in plain numbers: each function stands on one definition of the contracts.
+ghost use Rattle.std.specs.Prelude.{◌≡◌, ◌+◌, ◌<◌, ◌≤◌, IfSome, vec_len};
+ghost use Rattle.grow_core.specs.Hand.{seen_size};
+ghost use Rattle.grow_core.specs.Vector.{IsHandOf, limit_of};
+
+use super::callers::{Callers, list, on_two};
+use grow_core::{Found, GrowError, Hand, Shared};
+use std::alloc::AllocGlobal;
+use std::process::Abort;
+
+// Values for which what the hand has seen leaves no room come back, and the size is told.
+fn refused(vector: &Shared<u64>, hand: &mut Hand<u64>, values: Vec<u64>) -> (u64, Vec<u64>)
+    requires ours { IsHandOf vector.now hand.old }
+    requires no_room { limit_of vector.now < seen_size hand.old + vec_len values }
+    ensures of { hand.new.of ≡ hand.old.of }
+    ensures back { result.1 ≡ values }
+    ensures size { result.0 ≡ seen_size hand.new }
+{
+    match vector.try_grow_vec(hand, values) {
+        Err(GrowError::Full { size, back }) => (size, back),
+        _ => unreachable!(),
+    }
+}
+
+// The size that a growth was overtaken by: another caller moved it, and there is room still.
+fn overtaken(vector: &Shared<u64>, hand: &mut Hand<u64>, values: Vec<u64>) -> Option<u64>
+    requires ours { IsHandOf vector.now hand.old }
+    ensures of { hand.new.of ≡ hand.old.of }
+    ensures further { IfSome result (λ size. seen_size hand.old < size) }
+    ensures room { IfSome result (λ size. size + vec_len values ≤ limit_of vector.now) }
+{
+    match vector.try_grow_vec(hand, values) {
+        Err(GrowError::Moved { size, .. }) => Some(size),
+        _ => None,
+    }
+}
+
+// A value that found no memory, though there was room for it.
+fn kept(vector: &Shared<u64>, hand: &mut Hand<u64>, value: u64) -> Option<u64>
+    requires ours { IsHandOf vector.now hand.old }
+    ensures of { hand.new.of ≡ hand.old.of }
+    ensures same { IfSome result (λ back. back ≡ value) }
+    ensures room { IfSome result (λ _. seen_size hand.new < limit_of vector.now) }
+{
+    match vector.try_push_back(hand, value) {
+        Err(GrowError::NoMemory { back }) => Some(back),
+        _ => None,
+    }
+}
+
+// A place that was taken lies below the size that the hand has then seen.
+fn taken(vector: &Shared<u64>, hand: &mut Hand<u64>, values: Vec<u64>) -> Option<u64>
+    requires ours { IsHandOf vector.now hand.old }
+    ensures of { hand.new.of ≡ hand.old.of }
+    ensures below { IfSome result (λ place. place < seen_size hand.new) }
+{
+    match vector.try_grow_vec(hand, values) {
+        Err(GrowError::Taken { place, .. }) => Some(place),
+        _ => None,
+    }
+}
+
+// A place that was taken and holds nothing yet is the place that is told.
+fn busy(vector: &Shared<u64>, hand: &mut Hand<u64>, value: u64) -> Option<(u64, u64)>
+    requires ours { IsHandOf vector.now hand.old }
+    ensures of { hand.new.of ≡ hand.old.of }
+    ensures same { IfSome result (λ (told, found). told ≡ found) }
+{
+    match vector.try_push_back(hand, value) {
+        Err(
+            GrowError::Taken {
+                place,
+                found: Found::Busy(begun),
+            },
+        ) => Some((place, begun.place())),
+        _ => None,
+    }
+}
+
+// A growth of nothing claims nothing, and answers the size that the hand has then seen.
+fn nothing(vector: &Shared<u64>, hand: &mut Hand<u64>, values: Vec<u64>) -> u64
+    requires ours { IsHandOf vector.now hand.old }
+    requires nothing { vec_len values ≡ 0 }
+    ensures of { hand.new.of ≡ hand.old.of }
+    ensures from { result ≡ seen_size hand.new }
+    ensures mine { hand.new.mine ≡ hand.old.mine }
+{
+    match vector.try_grow_vec(hand, values) {
+        Ok(grown) => grown.run().from,
+        Err(_refused) => unreachable!(),
+    }
+}
+
+// The value at a place below the size that the hand has then seen.
+fn seen_value(vector: &Shared<u64>, hand: &mut Hand<u64>, place: u64) -> Option<u64>
+    requires ours { IsHandOf vector.now hand.old }
+    ensures of { hand.new.of ≡ hand.old.of }
+    ensures below { IfSome result (λ _. place < seen_size hand.new) }
+{
+    match vector.at(hand, place, None) {
+        Ok(at) => Some(*at.value),
+        Err(_refused) => None,
+    }
+}
+
+// Whether no refusal comes, where one caller is at work and there is room for four values.
+fn is_not_refused(two: &mut Callers<u64>, five: Vec<u64>, six: Vec<u64>) -> bool {
+    overtaken(&two.vector, &mut two.a, five).is_none()
+        && taken(&two.vector, &mut two.a, six).is_none()
+        && kept(&two.vector, &mut two.a, 7).is_none()
+        && busy(&two.vector, &mut two.a, 8).is_none()
+        && seen_value(&two.vector, &mut two.a, 3) == Some(8)
+}
+
+// The size that a growth of nothing answers.
+fn size_by_nothing(two: &mut Callers<u64>, none: Vec<u64>) -> Option<u64> {
+    if none.len() == 0 {
+        Some(nothing(&two.vector, &mut two.b, none))
+    } else {
+        None
+    }
+}
+
+// Whether neither a growth is refused nor a push, and a growth of nothing answers the size after them.
+fn is_alone<R: AllocGlobal + Abort>(rt: &R, two: &mut Callers<u64>) -> bool {
+    is_not_refused(two, list(rt, &[5]), list(rt, &[6]))
+        && size_by_nothing(two, Vec::new(rt.alloc())) == Some(4)
+}
+
+#[test]
+fn a_caller_alone_is_not_refused(rt: HostRuntime) {
+    assert!(rt; on_two(&rt, 8, |two| is_alone(&rt, two)));
+}
+
+// The size at which values are refused, where they are more than the limit.
+fn refused_size(two: &mut Callers<u64>, values: Vec<u64>) -> Option<u64> {
+    if (values.len() as u64) > two.vector.limit() {
+        Some(refused(&two.vector, &mut two.b, values).0)
+    } else {
+        None
+    }
+}
+
+#[test]
+fn values_beyond_the_limit_are_refused(rt: HostRuntime) {
+    let mut two = Callers::new(&rt, 2);
+    let _first = two.push_a(5);
+    assert_eq!(rt; refused_size(&mut two, list(&rt, &[6, 7, 8])), Some(1));
+}

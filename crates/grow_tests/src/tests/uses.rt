@@ -1,0 +1,244 @@
+// What callers prove by the public clauses alone.
+ghost use Rattle.std.specs.Prelude.{◌≡◌, ◌+◌, ◌<◌, ◌++◌, ℕ, List, Some, IfSome, slice_get};
+ghost use Rattle.grow_core.specs.Lengths.{Tiles, runs_end};
+ghost use Rattle.grow_core.specs.Hand.{OwnsRun, AreDisjoint, IsWholeHand};
+ghost use Rattle.grow_core.specs.Vector.{IsHandOf, IsPlacedOf, IsOpenedAt, base_of};
+ghost use Rattle.grow_core.specs.Closing.{KeepsValues};
+ghost use Rattle.grow_core.specs.Growth.{single};
+
+use super::callers::{Callers, empty};
+use super::parts::member;
+use grow_core::{Hand, Parts, Placed, Shared, laws};
+use std::alloc::Global;
+use std::thread::{Threads, join};
+
+// Appends a value, in whatever thread it is called.
+fn push_one(
+    vector: &Shared<u64>,
+    mut hand: Hand<u64>,
+    value: u64,
+) -> (Hand<u64>, Option<Placed<u64>>)
+    requires ours { IsHandOf vector.now hand }
+    ensures of { result.0.of ≡ vector.now.word }
+    ensures shares { result.0.shares ≡ hand.shares }
+    ensures owned { IfSome result.1 (λ p. OwnsRun result.0 (single p.place)) }
+    ensures token { IfSome result.1 (IsPlacedOf vector.now) }
+    ensures value { IfSome result.1 (λ p. p.value ≡ value) }
+{
+    let placed = vector.try_push_back(&mut hand, value).ok();
+    (hand, placed)
+}
+
+// Two threads append a value each, and their hands meet: they have two places.
+fn push_in_two_threads<R: Threads + Sync>(
+    rt: &R,
+    vector: &Shared<u64>,
+    a: Hand<u64>,
+    b: Hand<u64>,
+) -> Option<(Placed<u64>, Placed<u64>)>
+    requires ours { IsHandOf vector.now a }
+    requires also_ours { IsHandOf vector.now b }
+    ensures disjoint { IfSome result (λ (x, y). AreDisjoint (single x.place) (single y.place)) }
+    ensures tokens { IfSome result (λ (x, y). IsPlacedOf vector.now x × IsPlacedOf vector.now y) }
+{
+    let ((mut a, x), (mut b, y)) = join(
+        rt,
+        || -> (Hand<u64>, Option<Placed<u64>>)
+            requires { IsHandOf vector.now a }
+            ensures of { result.0.of ≡ vector.entry.now.word }
+            ensures owned { IfSome result.1 (λ p. OwnsRun result.0 (single p.place)) }
+            ensures token { IfSome result.1 (IsPlacedOf vector.entry.now) }
+        { push_one(vector, a, 5) },
+        || -> (Hand<u64>, Option<Placed<u64>>)
+            requires { IsHandOf vector.now b }
+            ensures of { result.0.of ≡ vector.entry.now.word }
+            ensures owned { IfSome result.1 (λ p. OwnsRun result.0 (single p.place)) }
+            ensures token { IfSome result.1 (IsPlacedOf vector.entry.now) }
+        { push_one(vector, b, 6) },
+    );
+    let x = x?;
+    let y = y?;
+    vector.meet(&mut a, &mut b);
+    laws::own_runs_stay();
+    laws::owners_are_apart();
+    Some((x, y))
+}
+
+// A value that one thread appends is the value that another reads by its token.
+fn push_here_read_there<R: Threads + Sync>(
+    rt: &R,
+    vector: &Shared<u64>,
+    hand: Hand<u64>,
+    value: u64,
+) -> Option<u64>
+    requires ours { IsHandOf vector.now hand }
+    ensures { IfSome result (λ read. read ≡ value) }
+{
+    let (_, placed) = push_one(vector, hand, value);
+    let placed = placed?;
+    let (read, ()) = join(
+        rt,
+        || -> u64
+            requires { IsPlacedOf vector.now placed }
+            ensures { result ≡ placed.value }
+        { *vector.get(&placed) },
+        || (),
+    );
+    Some(read)
+}
+
+// Once two hands that have all shares are joined, their runs tile the length of the list that the vector is closed into.
+fn end_of_both(vector: Shared<u64>, mut a: Hand<u64>, b: Hand<u64>) -> u64
+    requires ours { IsHandOf vector a }
+    requires also_ours { IsHandOf vector b }
+    requires whole { a.shares + b.shares ≡ 65536 }
+    ensures { (lengths : List ℕ)
+        × Tiles (base_of vector) lengths (a.mine ++ b.mine)
+        × (result ≡ runs_end (base_of vector) lengths) }
+{
+    vector.join(&mut a, b);
+    a.whole_laws();
+    vector.into_parts(a).len()
+}
+
+// A value of the opened list is what anybody reads at its place, with a token of the place or without.
+fn read_opened(
+    vector: &Shared<u64>,
+    hand: &mut Hand<u64>,
+    place: u64,
+    known: Option<&Placed<u64>>,
+) -> Option<u64>
+    requires ours { IsHandOf vector.now hand.old }
+    requires known { IfSome known (λ p. IsPlacedOf vector.now p.now × (p.now.place ≡ place)) }
+    ensures { (x : ℕ) → IsOpenedAt vector.now place x → result ≡ Some x }
+{
+    match vector.at(hand, place, known) {
+        Ok(at) => Some(*at.value),
+        Err(_refused) => None,
+    }
+}
+
+// A value of a list is read at its place, once the list is opened.
+fn open_and_read(parts: Parts<u64>, place: u64) -> Option<Option<u64>>
+    ensures { (x : ℕ) → slice_get parts.members place ≡ Some (Some x) → IfSome result (λ read. read ≡ Some x) }
+{
+    let (vector, mut hand) = Shared::of_parts(parts).ok()?;
+    Some(read_opened(&vector, &mut hand, place, None))
+}
+
+// The value of a push is recalled by its token, once the vector is closed.
+fn push_and_recall(vector: Shared<u64>, mut hand: Hand<u64>, value: u64) -> Option<u64>
+    requires ours { IsHandOf vector hand }
+    requires whole { IsWholeHand hand }
+    ensures { IfSome result (λ read. read ≡ value) }
+{
+    let placed = vector.try_push_back(&mut hand, value).ok()?;
+    let parts = vector.into_parts(hand);
+    Some(*parts.recall(&placed))
+}
+
+// The value of a push is the closed list's member at its place.
+fn push_and_close(vector: Shared<u64>, mut hand: Hand<u64>, value: u64) -> Option<(Parts<u64>, u64)>
+    requires ours { IsHandOf vector hand }
+    requires whole { IsWholeHand hand }
+    ensures { IfSome result (λ (parts, place). slice_get parts.members place ≡ Some (Some value)) }
+{
+    let placed = vector.try_push_back(&mut hand, value).ok()?;
+    let parts = vector.into_parts(hand);
+    let _value = parts.recall(&placed);
+    let place = placed.place();
+    Some((parts, place))
+}
+
+// A value of a list is its member still after a life in which another value is appended.
+fn live_once(parts: Parts<u64>, value: u64) -> Option<Parts<u64>>
+    ensures { IfSome result (λ after. KeepsValues parts.members after.members) }
+{
+    let (vector, mut hand) = Shared::of_parts(parts).ok()?;
+    let _placed = vector.try_push_back(&mut hand, value).ok()?;
+    Some(vector.into_parts(hand))
+}
+
+// The values and the sum of the places of a value that each of two threads appends.
+fn read_of_two<R: Threads + Sync>(rt: &R, two: Callers<u64>) -> Option<(u64, u64, u64)> {
+    let Callers { vector, a, b } = two;
+    match push_in_two_threads(rt, &vector, a, b) {
+        Some((x, y)) => Some(read_both(&vector, &x, &y)),
+        None => None,
+    }
+}
+
+// The values and the sum of the places of two tokens.
+fn read_both(vector: &Shared<u64>, x: &Placed<u64>, y: &Placed<u64>) -> (u64, u64, u64)
+    requires ours { IsPlacedOf vector.now x.now }
+    requires also_ours { IsPlacedOf vector.now y.now }
+{
+    (
+        *vector.get(x),
+        *vector.get(y),
+        x.place().wrapping_add(y.place()),
+    )
+}
+
+#[test]
+fn two_threads_append_and_join(rt: HostRuntime) {
+    assert!(rt; read_of_two(&rt, Callers::new(&rt, 8)) == Some((5, 6, 1)));
+}
+
+#[test]
+fn a_value_is_read_in_another_thread(rt: HostRuntime) {
+    let Callers { vector, a, .. } = Callers::new(&rt, 8);
+    assert_eq!(rt; push_here_read_there(&rt, &vector, a, 7), Some(7));
+}
+
+// The size at which both hands end the vector.
+fn end_by_both(two: Callers<u64>) -> Option<u64> {
+    let Callers { vector, a, b } = two;
+    if u64::from(a.share()) + u64::from(b.share()) == 65_536 {
+        Some(end_of_both(vector, a, b))
+    } else {
+        None
+    }
+}
+
+#[test]
+fn hands_that_were_joined_end_the_vector(rt: HostRuntime) {
+    let mut two = Callers::new(&rt, 8);
+    let _first = two.push_a(5);
+    let _second = two.push_b(6);
+    assert_eq!(rt; end_by_both(two), Some(2));
+}
+
+// What is read at the first place of a list that has lived twice.
+fn read_after_two_lives(alloc: Global) -> Option<Option<u64>> {
+    let parts = live_once(Parts::new(alloc, 8), 5)?;
+    let parts = live_once(parts, 6)?;
+    if parts.len() == 2 {
+        open_and_read(parts, 0)
+    } else {
+        None
+    }
+}
+
+#[test]
+fn a_member_lives_on_from_list_to_list(rt: HostRuntime) {
+    assert!(rt; read_after_two_lives(rt.alloc()) == Some(Some(5)));
+}
+
+// The value of a push to a new vector, recalled by its token.
+fn recall_pushed(alloc: Global, value: u64) -> Option<u64> {
+    let (vector, hand) = empty(alloc, 8).ok()?;
+    push_and_recall(vector, hand, value)
+}
+
+// The value of a push to a new vector, as the closed list's member.
+fn close_pushed(alloc: Global, value: u64) -> Option<u64> {
+    let (vector, hand) = empty(alloc, 8).ok()?;
+    let (parts, place) = push_and_close(vector, hand, value)?;
+    member(&parts, place)?
+}
+
+#[test]
+fn a_pushed_value_is_a_member_of_the_closed_list(rt: HostRuntime) {
+    assert!(rt; recall_pushed(rt.alloc(), 7) == Some(7) && close_pushed(rt.alloc(), 7) == Some(7));
+}

@@ -1,0 +1,178 @@
+// Lists that were opened and closed, and what comes out of them.
+ghost use Rattle.std.specs.Prelude.{◌≡◌, ◌+◌, IfSome, length};
+ghost use Rattle.claim_core.specs.Hand.{IsNewHand};
+ghost use Rattle.grow_core.specs.Vector.{IsHandOf};
+
+use super::{broken_after, has, list_of, measures};
+use quiet_core::{Hand, Quiet, QuietAt, QuietMendError, Shared};
+use std::alloc::AllocGlobal;
+use std::process::Abort;
+use std::test::Fail;
+
+// The list that comes of one life in which a value is appended, if there is memory and room; and what is recalled by its token.
+fn pushed_while_open(list: Quiet<u64>, value: u64) -> Option<(Quiet<u64>, u64)>
+    ensures read { IfSome result (λ (_, read). read ≡ value) }
+    ensures more { IfSome result (λ (new, _). length new.members ≡ length list.members + 1) }
+    ensures limit { IfSome result (λ (new, _). new.limit ≡ list.limit) }
+{
+    let (vector, mut hand) = list.open().ok()?;
+    let placed = vector.try_push_back(&mut hand, value).ok()?;
+    let closed = Quiet::close(vector, hand);
+    let read = *closed.recall(&placed);
+    Some((closed, read))
+}
+
+// The list after ten lives, in each of which a value is appended and read.
+fn live_ten_times(mut list: Quiet<u64>) -> Option<Quiet<u64>> {
+    for value in 10..20u64 {
+        let (closed, read) = pushed_while_open(list, value)?;
+        if read != value {
+            return None;
+        }
+        list = closed;
+    }
+    Some(list)
+}
+
+// Whether the old members are there, and the new ones from ten on.
+fn has_all(list: &Quiet<u64>) -> bool {
+    for place in 3..13u64 {
+        if !has(list, place, place + 7) {
+            return false;
+        }
+    }
+    measures(list, 13, 16) && list.limit() == 16 && has(list, 0, 1) && has(list, 2, 3)
+}
+
+fn loses_nothing(list: Quiet<u64>) -> bool {
+    match live_ten_times(list) {
+        Some(list) => has_all(&list),
+        None => false,
+    }
+}
+
+#[test]
+fn ten_lives_lose_nothing(rt: HostRuntime) {
+    assert!(rt; loses_nothing(list_of(&rt, &[1, 2, 3])));
+}
+
+// What a look without a token shows at a place.
+fn look(vector: &Shared<u64>, hand: &mut Hand<u64>, place: u64) -> Option<u64>
+    requires ours { IsHandOf vector.now hand.old }
+    ensures of { hand.new.of ≡ hand.old.of }
+{
+    let at = vector.at(hand, place, None).ok()?;
+    Some(*at.value)
+}
+
+// The place of a value that is appended.
+fn place_of(vector: &Shared<u64>, hand: &mut Hand<u64>, value: u64) -> Option<u64>
+    requires ours { IsHandOf vector.now hand.old }
+    ensures of { hand.new.of ≡ hand.old.of }
+{
+    let placed = vector.try_push_back(hand, value).ok()?;
+    Some(placed.place())
+}
+
+// Whether one hand appends a value, and two others that were there before it see it.
+fn are_told(vector: &Shared<u64>, h: &mut Hand<u64>, g: &mut Hand<u64>, k: &mut Hand<u64>) -> bool
+    requires ours { IsHandOf vector.now h.old }
+    requires second { IsHandOf vector.now g.old }
+    requires third { IsHandOf vector.now k.old }
+{
+    place_of(vector, h, 5) == Some(0)
+        && look(vector, g, 0) == Some(5)
+        && look(vector, g, 1).is_none()
+        && vector.size(k) == 1
+}
+
+fn tells_three(vector: &Shared<u64>, mut h: Hand<u64>) -> bool
+    requires new { IsNewHand vector.now.word h }
+{
+    let mut g = vector.split(&mut h, 1);
+    let mut k = vector.split(&mut h, 1);
+    are_told(vector, &mut h, &mut g, &mut k)
+}
+
+fn tells_its_hands(list: Quiet<u64>) -> bool {
+    match list.open() {
+        Ok((vector, hand)) => tells_three(&vector, hand),
+        Err(_refused) => false,
+    }
+}
+
+#[test]
+fn three_hands_see_one_push(rt: HostRuntime) {
+    assert!(rt; tells_its_hands(Quiet::new(rt.alloc(), 8)));
+}
+
+// Whether the values of a list are these, without its broken members.
+fn has_values<R: AllocGlobal + Abort>(rt: &R, list: Quiet<u64>, wanted: &[u64]) -> bool {
+    match list.into_iter().flatten().collect::<Vec<u64>>(rt.alloc()) {
+        Ok(values) => values.as_slice() == wanted,
+        Err(error) => panic!(rt; "{error}"),
+    }
+}
+
+// Whether the members of three come from both ends.
+fn comes_from_both_ends(list: Quiet<u64>) -> bool {
+    let mut members = list.into_iter();
+    members.next_back() == Some(Some(3))
+        && members.next() == Some(Some(1))
+        && members.len() == 1
+        && members.next() == Some(Some(2))
+        && (members.next(), members.next_back()) == (None, None)
+}
+
+#[test]
+fn values_come_out_in_order(rt: HostRuntime) {
+    assert!(rt;
+        has_values(&rt, list_of(&rt, &[1, 2, 3]), &[1, 2, 3])
+            && has_values(&rt, broken_after(&rt, 7), &[7])
+            && comes_from_both_ends(list_of(&rt, &[1, 2, 3]))
+    );
+}
+
+fn exchanges_the_second(list: &mut Quiet<u64>) -> bool {
+    list.replace(1, 20) == Ok(2)
+        && has(list, 0, 1)
+        && has(list, 1, 20)
+        && has(list, 2, 3)
+        && list.replace(3, 40) == Err((QuietAt::OutOfRange { size: 3 }, 40))
+}
+
+fn exchanges_no_broken_member(list: &mut Quiet<u64>) -> bool {
+    list.replace(1, 5) == Err((QuietAt::Broken, 5))
+}
+
+#[test]
+fn a_value_is_exchanged(rt: HostRuntime) {
+    let mut list = list_of(&rt, &[1, 2, 3]);
+    let mut broken = broken_after(&rt, 1);
+    assert!(rt; exchanges_the_second(&mut list) && exchanges_no_broken_member(&mut broken));
+}
+
+fn mends_the_second(list: &mut Quiet<u64>) -> bool {
+    list.mend(1, 6) == Ok(()) && list.get(1) == Ok(&6) && list.len() == 2
+}
+
+fn mends_no_value(list: &mut Quiet<u64>) -> bool {
+    list.mend(1, 7) == Err((QuietMendError::Filled, 7))
+        && list.mend(2, 8) == Err((QuietMendError::OutOfRange { size: 2 }, 8))
+}
+
+#[test]
+fn a_broken_member_is_mended_once(rt: HostRuntime) {
+    let mut list = broken_after(&rt, 4);
+    assert!(rt; mends_the_second(&mut list) && mends_no_value(&mut list));
+}
+
+#[test]
+fn a_list_shows_its_members(rt: HostRuntime) -> Result<(), Fail> {
+    let list = broken_after(&rt, 7);
+    assert_eq!(rt;
+        format!(in rt.alloc(); "{list:?}")?.as_str(),
+        "[Some(7), None]"
+    );
+    Ok(())
+}

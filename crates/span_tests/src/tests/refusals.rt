@@ -1,0 +1,94 @@
+// Several workers are refused, and the lowest one's refusal is seen.
+use span_core::{Gate, Job, ParError, run_workers};
+use std::alloc::{AllocError, Global};
+use std::sync::Wait;
+use std::sync::atomic::{AtomicU64, Ordering};
+use std::thread::Threads;
+
+// A digit for each worker, the lowest first, to the base 3: 0 works, 1 is refused by the gate, 2 has no memory.
+#[derive(Drop)]
+struct Fates {
+    digits: u32,
+    before: AtomicU64,
+    after: AtomicU64,
+}
+
+impl Fates {
+    fn new(digits: u32) -> Fates {
+        Fates {
+            digits,
+            before: AtomicU64::new(0),
+            after: AtomicU64::new(0),
+        }
+    }
+
+    fn of(&self, worker: u32) -> u32 {
+        let mut digits = self.digits;
+        for _ in 0..worker {
+            digits /= 3;
+        }
+        digits % 3
+    }
+
+    fn lowest(&self, workers: u32) -> Option<ParError> {
+        for worker in 0..workers {
+            match self.of(worker) {
+                1 => return Some(ParError::Stuck),
+                2 => return Some(ParError::NoMemory),
+                _ => {}
+            }
+        }
+        None
+    }
+}
+
+impl Job<u32> for Fates {
+    ghost use Rattle.std.specs.Prelude.{◌≡◌};
+
+    ghost ready = { λ _ _. Unit {0} };
+
+    ghost gives = { λ _ worker answer. answer ≡ worker };
+
+    fn work(&self, worker: u32) -> Result<u32, AllocError> {
+        if self.of(worker) == 2 {
+            return Err(AllocError);
+        }
+        Ok(worker)
+    }
+}
+
+impl Gate for Fates {
+    ghost may_refuse = { λ _ _. Unit {0} };
+
+    fn before(&self, worker: u32) -> bool {
+        self.before.fetch_add(1, Ordering::SeqCst);
+        self.of(worker) != 1
+    }
+
+    fn after(&self, _worker: u32) {
+        self.after.fetch_add(1, Ordering::SeqCst);
+    }
+}
+
+// Whether the refusal of the lowest of four workers is answered, and all of them pass the gate twice.
+fn answers_lowest<R: Threads + Wait + Sync>(rt: &R, alloc: Global, digits: u32) -> bool {
+    let fates = Fates::new(digits);
+    run_workers(rt, alloc, &fates, &fates, 4).err() == fates.lowest(4)
+        && fates.before.load(Ordering::SeqCst) == 4
+        && fates.after.load(Ordering::SeqCst) == 4
+}
+
+// The numbers of five workers, each of which answers with its own.
+fn numbers<R: Threads + Wait + Sync>(rt: &R, alloc: Global) -> Result<bool, ParError> {
+    let fates = Fates::new(0);
+    let answers = run_workers(rt, alloc, &fates, &fates, 5)?;
+    Ok(answers.as_slice() == [0, 1, 2, 3, 4].as_slice())
+}
+
+#[test]
+fn the_refusal_of_the_lowest_worker_and_the_answers_in_order_come(rt: HostRuntime) {
+    for digits in 0..81 {
+        assert!(rt; answers_lowest(&rt, rt.alloc(), digits), "{digits}");
+    }
+    assert!(rt; numbers(&rt, rt.alloc()) == Ok(true));
+}

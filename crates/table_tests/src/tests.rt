@@ -1,0 +1,441 @@
+ghost use Rattle.std.specs.Prelude.{◌≡◌, ◌<◌, IfSome};
+ghost use Rattle.cell_core.specs.Block.{block_len};
+ghost use Rattle.table_core.specs.Table.{IsKeyIn};
+
+use table_core::{Key, Table};
+use cell_core::block::{Block, Look};
+use seg_core::Layout;
+use std::alloc::Global;
+use std::sync::atomic::{AtomicU64, Ordering};
+use std::test::Fail;
+
+mod race;
+
+// Fills the cell at a place, unless another came first.
+fn fill<T: Drop>(block: &Block<T>, place: u64, value: T) -> bool {
+    if place >= block.len() {
+        return false;
+    }
+    match block.begin(place) {
+        Ok(pen) => {
+            let _placed = pen.fill(value);
+            true
+        }
+        Err(_found) => false,
+    }
+}
+
+// Whether the cell at a place shows the value.
+fn shows(block: &Block<u64>, place: u64, value: u64) -> bool {
+    place < block.len() && matches!(block.look(place), Look::Filled(there, _) if *there == value)
+}
+
+// The length of an entry's block, which is installed if it is not there.
+fn len_of(table: &Table<u64>, k: u32) -> Option<u64>
+    requires { k < 33 }
+{
+    let _layout = table.layout();
+    match table.install(k) {
+        Ok(block) => Some(block.len()),
+        Err(_no_memory) => None,
+    }
+}
+
+// Whether an entry's block takes the value at a place, if there is memory for it.
+fn takes<T: Drop>(table: &Table<T>, k: u32, place: u64, value: T) -> bool
+    requires { k < 33 }
+{
+    let _layout = table.layout();
+    match table.install(k) {
+        Ok(block) => fill(block, place, value),
+        Err(_no_memory) => false,
+    }
+}
+
+// Whether an entry's block shows the value at a place, to a caller that would install it.
+fn has(table: &Table<u64>, k: u32, place: u64, value: u64) -> bool
+    requires { k < 33 }
+{
+    let _layout = table.layout();
+    match table.install(k) {
+        Ok(block) => shows(block, place, value),
+        Err(_no_memory) => false,
+    }
+}
+
+// Whether a caller that installs nothing is shown it.
+fn is_seen(table: &Table<u64>, k: u32, place: u64, value: u64) -> bool
+    requires { k < 33 }
+{
+    let _layout = table.layout();
+    match table.scout(k) {
+        Some(block) => shows(block, place, value),
+        None => false,
+    }
+}
+
+fn is_set_once(table: &Table<u64>) -> bool {
+    let _layout = table.layout();
+    table.installed() == 0
+        && table.scout(3).is_none()
+        && len_of(table, 3) == Some(8)
+        && takes(table, 3, 7, 5)
+        && has(table, 3, 7, 5)
+        && is_seen(table, 3, 7, 5)
+        && table.scout(2).is_none()
+}
+
+#[test]
+fn an_entry_is_set_once(rt: HostRuntime) {
+    let table = Table::new(rt.alloc());
+    assert!(rt;
+        is_set_once(&table)
+            && len_of(&table, 0) == Some(2)
+            && len_of(&table, 1) == Some(2)
+            && table.installed() == 3
+    );
+}
+
+// Whether two keys of one entry are of one block.
+fn is_one_block(table: &Table<u64>, a: &Key, b: &Key) -> bool
+    requires first { IsKeyIn table.now a.now }
+    requires second { IsKeyIn table.now b.now }
+{
+    table.agree(a, b);
+    (a.entry(), b.entry()) == (2, 2) && shows(table.known(a), 0, 6) && shows(table.known(b), 0, 6)
+}
+
+// Whether a caller that looks has the block of this key, and a key of its own that is as good.
+fn has_another_key(table: &Table<u64>, key: &Key) -> bool
+    requires { IsKeyIn table.now key.now }
+{
+    let _layout = table.layout();
+    match table.scout_key(2) {
+        Some((block, other)) => shows(block, 0, 6) && is_one_block(table, key, &other.again()),
+        None => false,
+    }
+}
+
+fn has_keys_of_one_block(table: &Table<u64>) -> bool {
+    let _layout = table.layout();
+    match table.install_key(2) {
+        Ok((block, key)) => fill(block, 0, 6) && has_another_key(table, &key),
+        Err(_no_memory) => false,
+    }
+}
+
+#[test]
+fn keys_of_one_entry_have_one_block(rt: HostRuntime) {
+    let table = Table::new(rt.alloc());
+    assert!(rt; table.scout_key(2).is_none() && has_keys_of_one_block(&table));
+}
+
+// Whether an entry's block is there, at the second try if need be. A refused try leaves this many entries.
+fn is_there_at_last(table: &Table<u64>, k: u32, installed: u32) -> bool
+    requires { k < 33 }
+{
+    let _layout = table.layout();
+    len_of(table, k).is_some() || table.installed() == installed && len_of(table, k).is_some()
+}
+
+fn has_a_key_at_last(table: &Table<u64>, k: u32, installed: u32) -> bool
+    requires { k < 33 }
+{
+    let _layout = table.layout();
+    table.install_key(k).is_ok() || table.installed() == installed && table.install_key(k).is_ok()
+}
+
+// It passes too where any one allocation is made to fail.
+#[test]
+fn a_refused_install_sets_nothing(rt: HostRuntime) {
+    let table = Table::new(rt.alloc());
+    assert!(rt;
+        is_there_at_last(&table, 4, 0) && has_a_key_at_last(&table, 5, 1) && table.installed() == 2
+    );
+}
+
+// Whether an entry's block is lent, and shows the value at its first place.
+fn lends(table: &mut Table<u64>, k: u32, value: u64) -> bool
+    requires { k < 33 }
+{
+    let _layout = table.layout();
+    match table.block_mut(k) {
+        Some(block) => shows(block, 0, value),
+        None => false,
+    }
+}
+
+fn lends_two(table: &mut Table<u64>) -> bool {
+    let _layout = table.layout();
+    table.block_mut(1).is_none()
+        && takes(table, 1, 0, 7)
+        && takes(table, 2, 0, 8)
+        && lends(table, 1, 7)
+        && lends(table, 2, 8)
+        && lends(table, 1, 7)
+        && lends(table, 2, 8)
+}
+
+fn has_two(table: &mut Table<u64>) -> bool {
+    table.put_back();
+    table.installed() == 2 && has(table, 2, 0, 8)
+}
+
+fn gives_one_up(table: &mut Table<u64>) -> bool {
+    let _layout = table.layout();
+    table.give_up(2);
+    table.scout(2).is_none() && has(table, 1, 0, 7)
+}
+
+#[test]
+fn an_exclusive_owner_has_the_blocks(rt: HostRuntime) {
+    let mut table = Table::new(rt.alloc());
+    assert!(rt; lends_two(&mut table) && has_two(&mut table) && gives_one_up(&mut table));
+}
+
+// Puts another block where the one of an entry was lent, and answers whether one was.
+fn puts_another(table: &mut Table<u64>, other: Block<u64>) -> bool {
+    let _layout = table.layout();
+    match table.block_mut(1) {
+        Some(block) => {
+            *block = other;
+            true
+        }
+        None => false,
+    }
+}
+
+fn is_not_put_back(table: &mut Table<u64>, other: Block<u64>) -> bool {
+    len_of(table, 1) == Some(2)
+        && puts_another(table, other)
+        && !is_lent(table)
+        && table.installed() == 0
+}
+
+#[test]
+fn a_block_of_another_length_is_not_put_back(rt: HostRuntime) -> Result<(), Fail> {
+    let other = Block::new(rt.alloc(), 3)?;
+    let mut table = Table::new(rt.alloc());
+    assert!(rt; is_not_put_back(&mut table, other));
+    Ok(())
+}
+
+fn is_lent(table: &mut Table<u64>) -> bool {
+    let _layout = table.layout();
+    table.block_mut(1).is_some()
+}
+
+fn gives_up_what_was_lent(table: &mut Table<u64>) -> bool {
+    let is_lent = len_of(table, 1) == Some(2) && is_lent(table);
+    let _layout = table.layout();
+    table.give_up(1);
+    table.put_back();
+    is_lent && table.scout(1).is_none() && table.block_mut(1).is_none()
+}
+
+#[test]
+fn a_block_that_was_lent_is_given_up(rt: HostRuntime) {
+    let mut table = Table::new(rt.alloc());
+    assert!(rt; gives_up_what_was_lent(&mut table));
+}
+
+// Each is counted once, and a block of four million cells among them.
+fn counts_entries(table: &Table<u64>) -> bool {
+    for k in 0..23u32 {
+        let last = len_of(table, k).unwrap_or(0).wrapping_sub(1);
+        if !takes(table, k, last, u64::from(k)) || table.installed() != k.wrapping_add(1) {
+            return false;
+        }
+    }
+    true
+}
+
+// Whether the value is there by the key.
+fn has_by_key(table: &Table<u64>, k: u32, place: u64, value: u64) -> bool
+    requires { k < 33 }
+{
+    let _layout = table.layout();
+    match table.install_key(k) {
+        Ok((block, _key)) => shows(block, place, value),
+        Err(_no_memory) => false,
+    }
+}
+
+// It would take hours if a block were made each time.
+fn has_a_million_times(table: &Table<u64>) -> bool {
+    let _layout = table.layout();
+    for _again in 0..1_000_000u32 {
+        if !has_by_key(table, 22, (1 << 22) - 1, 22) {
+            return false;
+        }
+    }
+    table.scout(31).is_none()
+}
+
+fn gives_the_last_up(table: &mut Table<u64>) -> bool {
+    let _layout = table.layout();
+    table.give_up(31);
+    table.give_up(22);
+    table.installed() == 22
+}
+
+#[test]
+fn large_entries_are_counted_and_given_up(rt: HostRuntime) {
+    let mut table = Table::new(rt.alloc());
+    assert!(rt;
+        counts_entries(&table) && has_a_million_times(&table) && gives_the_last_up(&mut table)
+    );
+}
+
+// Puts a value into a cell of a block that is owned, if there is such a cell.
+fn put(block: &mut Block<u64>, place: u64, value: u64)
+    ensures { block_len block.new ≡ block_len block.old }
+{
+    if place < block.len() {
+        drop(block.put_now(place, value));
+    }
+}
+
+// A key of an entry, whose block is installed if it is not there.
+fn key_of<T: Drop>(table: &Table<T>, k: u32) -> Option<Key>
+    requires { k < 33 }
+    ensures of { IfSome result (λ key. IsKeyIn table.now key) }
+    ensures entry { IfSome result (λ key. key.entry ≡ k) }
+{
+    let _layout = table.layout();
+    match table.install_key(k) {
+        Ok((_block, key)) => Some(key),
+        Err(_no_memory) => None,
+    }
+}
+
+// Takes the block of a key out, and attaches it again with one value more. The other key is of an entry that keeps its block.
+fn is_attached_again(table: &mut Table<u64>, key: &Key, other: &Key) -> bool
+    requires key { IsKeyIn table.old key.now }
+    requires other { IsKeyIn table.old other.now }
+    requires third { key.now.entry ≡ 2 }
+    requires first { other.now.entry ≡ 0 }
+{
+    let mut block = table.detach(key);
+    let is_out = table.scout(2).is_none() && table.installed() == 1;
+    put(&mut block, 3, 9);
+    let again = table.attach(2, block);
+    is_out
+        && again.entry() == 2
+        && shows(table.known(&again), 1, 7)
+        && shows(table.known(&again), 3, 9)
+        && shows(table.known(other), 1, 6)
+}
+
+fn attaches_again(table: &mut Table<u64>) -> bool {
+    match (key_of(table, 2), key_of(table, 0)) {
+        (Some(key), Some(other)) => is_attached_again(table, &key, &other),
+        _ => false,
+    }
+}
+
+// Whether the block of a key comes back in the place of one that was installed meanwhile.
+fn comes_back(table: &mut Table<u64>, key: &Key) -> bool
+    requires key { IsKeyIn table.old key.now }
+    requires third { key.now.entry ≡ 2 }
+{
+    let block = table.detach(key);
+    let is_new = len_of(table, 2) == Some(4) && !has(table, 2, 3, 9);
+    let again = table.attach(2, block);
+    is_new && shows(table.known(&again), 3, 9) && table.installed() == 2
+}
+
+fn attaches_for_another(table: &mut Table<u64>) -> bool {
+    match key_of(table, 2) {
+        Some(key) => comes_back(table, &key),
+        None => false,
+    }
+}
+
+#[test]
+fn a_detached_block_is_attached_again(rt: HostRuntime) {
+    let mut table = Table::new(rt.alloc());
+    assert!(rt;
+        takes(&table, 2, 1, 7)
+            && takes(&table, 0, 1, 6)
+            && attaches_again(&mut table)
+            && has(&table, 2, 3, 9)
+            && attaches_for_another(&mut table)
+    );
+}
+
+struct Counted<'a>(&'a AtomicU64);
+
+impl Drop for Counted<'_> {
+    fn drop(self) {
+        let Counted(drops) = self;
+        drops.fetch_add(1, Ordering::SeqCst);
+    }
+}
+
+fn drops_so_far(drops: &AtomicU64) -> u64 {
+    drops.load(Ordering::SeqCst)
+}
+
+fn fills_four<'a>(table: &Table<Counted<'a>>, drops: &'a AtomicU64) -> bool {
+    for k in 0..4u32 {
+        if !takes(table, k, 1, Counted(drops)) {
+            return false;
+        }
+    }
+    true
+}
+
+fn drops_what_is_given_up(table: &mut Table<Counted<'_>>, drops: &AtomicU64) -> bool {
+    let _layout = table.layout();
+    table.give_up(2);
+    let is_dropped = drops_so_far(drops) == 1;
+    table.give_up(2);
+    is_dropped && table.block_mut(1).is_some() && drops_so_far(drops) == 1
+}
+
+fn keeps_what_is_detached(table: &mut Table<Counted<'_>>, drops: &AtomicU64, key: &Key) -> bool
+    requires key { IsKeyIn table.old key.now }
+    requires fourth { key.now.entry ≡ 3 }
+{
+    let block = table.detach(key);
+    let is_kept = drops_so_far(drops) == 1;
+    let _again = table.attach(3, block);
+    is_kept && drops_so_far(drops) == 1
+}
+
+fn keeps_the_fourth(table: &mut Table<Counted<'_>>, drops: &AtomicU64) -> bool {
+    match key_of(table, 3) {
+        Some(key) => keeps_what_is_detached(table, drops, &key),
+        None => false,
+    }
+}
+
+// The table is dropped at the end.
+fn drops_one_so_far<'a>(mut table: Table<Counted<'a>>, drops: &'a AtomicU64) -> bool {
+    fills_four(&table, drops)
+        && drops_what_is_given_up(&mut table, drops)
+        && keeps_the_fourth(&mut table, drops)
+}
+
+#[test]
+fn each_block_is_dropped_once(rt: HostRuntime) {
+    let drops = AtomicU64::new(0);
+    assert!(rt; drops_one_so_far(Table::new(rt.alloc()), &drops) && drops_so_far(&drops) == 4);
+}
+
+// Whether the first segments of this layout are as long as they should be, and the last is not there.
+fn has_segments_of(alloc: Global, f: u32) -> bool {
+    let Some(layout) = Layout::new(f) else {
+        return false;
+    };
+    let table: Table<u64> = Table::new_in(alloc, layout);
+    let lens = (len_of(&table, 0), len_of(&table, 1), len_of(&table, 2));
+    let first = 1 << f.min(8);
+    lens == (Some(first), Some(first), Some(2 * first)) && table.installed() == 3
+}
+
+#[test]
+fn segments_follow_from_the_first(rt: HostRuntime) {
+    assert!(rt; (1..9u32).all(|f: u32| -> bool { has_segments_of(rt.alloc(), f) }));
+}

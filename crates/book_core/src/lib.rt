@@ -17,8 +17,6 @@ mod events;
 mod history;
 pub mod laws;
 mod list;
-#[cfg(test)]
-mod tests;
 mod vector;
 
 pub use cells::Cell;

@@ -14,8 +14,6 @@ mod error;
 mod input;
 mod output;
 mod script;
-#[cfg(test)]
-mod tests;
 mod text;
 
 pub use engine::{Engine, run_calls, run_steps, run_steps_counted};

@@ -11,8 +11,6 @@
 pub mod laws;
 mod layout;
 mod segments;
-#[cfg(test)]
-mod tests;
 
 pub use layout::{Layout, MOST_PLACES};
 pub use segments::{capacity_for, first, len, locate, segments_of};

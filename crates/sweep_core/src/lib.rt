@@ -11,8 +11,6 @@ mod report;
 mod schedule;
 mod share;
 mod single;
-#[cfg(test)]
-mod tests;
 
 pub use report::SweepReport;
 pub use share::{MOST_ITEMS, MOST_SCHEDULES, sweep};

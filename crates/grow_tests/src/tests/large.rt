@@ -107,7 +107,11 @@ fn values_may_be_large(rt: HostRuntime) {
 // These after so many pushes, by either caller in turn.
 fn end_of_pushes(mut two: Callers<u64>, n: u64) -> Option<(u64, u64)> {
     for j in 0..n {
-        let _place = if j % 2 == 0 { two.push_a(j) } else { two.push_b(j) };
+        let _place = if j % 2 == 0 {
+            two.push_a(j)
+        } else {
+            two.push_b(j)
+        };
     }
     sizes_at_end(two)
 }
@@ -116,7 +120,10 @@ fn end_of_pushes(mut two: Callers<u64>, n: u64) -> Option<(u64, u64)> {
 #[test]
 fn segments_are_installed_as_they_are_needed(rt: HostRuntime) {
     for (n, capacity) in [(0, 0), (1, 2), (2, 2), (3, 4)].as_slice() {
-        assert!(rt; end_of_pushes(Callers::new(&rt, 1_000), *n) == Some((*n, *capacity)), "{n}");
+        assert!(rt;
+            end_of_pushes(Callers::new(&rt, 1_000), *n) == Some((*n, *capacity)),
+            "{n}"
+        );
     }
 }
 

@@ -357,9 +357,7 @@ fn a_vector_that_lost_a_hand_drops_each_value_once(rt: HostRuntime) {
 // Breaks the next place.
 fn break_one(life: &mut Life<u64>) -> bool {
     let make = |_i: u64| -> Result<u64, u64> { Err(9) };
-    life.vector
-        .try_grow_with(&mut life.hand, 1, make)
-        .is_err()
+    life.vector.try_grow_with(&mut life.hand, 1, make).is_err()
 }
 
 // Exchanges a member, where there is one.

@@ -196,7 +196,11 @@ fn grow_beside(vector: &Shared<u64>, hand: &mut Hand<u64>, mut other: Other<'_>)
 {
     let make = |i: u64| -> Result<u64, Never> {
         let before = if i == 0 { Some(6) } else { other.look(i - 1) };
-        let pushed = if other.is_pending(i) { other.push(100 + i.min(8)) } else { None };
+        let pushed = if other.is_pending(i) {
+            other.push(100 + i.min(8))
+        } else {
+            None
+        };
         Ok(before.unwrap_or(0).wrapping_add(pushed.unwrap_or(0)))
     };
     match vector.try_grow_with(hand, 3, make) {

@@ -101,7 +101,10 @@ fn is_broken_to(vector: &Shared<u64>, hand: &mut Hand<u64>, place: u64) -> bool
     requires ours { IsHandOf vector.now hand.old }
     ensures { hand.new.of ≡ hand.old.of }
 {
-    matches!(vector.at(hand, place, None), Err(grow_core::AtError::Broken(_)))
+    matches!(
+        vector.at(hand, place, None),
+        Err(grow_core::AtError::Broken(_))
+    )
 }
 
 // Whether a place that was broken in the opened list is mended, and another one beside it stays broken.

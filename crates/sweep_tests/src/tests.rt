@@ -2,8 +2,8 @@
 
 mod memory;
 
-use crate::{SweepReport, sweep};
 use std::alloc::AllocError;
+use sweep_core::{SweepReport, sweep};
 
 #[test]
 fn two_items_tell_and_end_nothing(rt: HostRuntime) -> Result<(), AllocError> {

@@ -1,5 +1,5 @@
 //! What no clause says: that the intervals are those that were meant.
-use crate::{Layout, MOST_PLACES, capacity_for, first, len, locate, segments_of};
+use seg_core::{Layout, MOST_PLACES, capacity_for, first, len, locate, segments_of};
 
 #[test]
 fn places_lie_in_their_segments(rt: HostRuntime) {

@@ -1,6 +1,6 @@
 // Any one request for memory may be refused: then a sweep has no report, and the next one has the whole.
 // `bin/refusals` refuses each request in turn.
-use crate::{SweepReport, sweep};
+use sweep_core::{SweepReport, sweep};
 
 const REPORT: SweepReport = SweepReport {
     schedules: 2,

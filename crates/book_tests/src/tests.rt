@@ -1,7 +1,7 @@
 //! What no clause says: that the calls succeed where there is memory, and that the table is the one that was meant.
 mod memory;
 
-use crate::{BookError, Cell, CellVec, Event, Reply, Sequence, check};
+use book_core::{BookError, Cell, CellVec, Event, Reply, Sequence, check};
 use std::alloc::{AllocError, Global};
 use std::test::Fail;
 

@@ -1,6 +1,6 @@
 // Any one request for memory may be refused: then the call changes nothing, and the next one goes on.
 use super::EVENTS;
-use crate::{BookError, CellVec, Event, Reply, check};
+use book_core::{BookError, CellVec, Event, Reply, check};
 
 // The reply to an event, at the second try where memory was refused to the first.
 fn applied(list: &mut CellVec, event: Event) -> Option<Reply> {

@@ -1,8 +1,7 @@
 // Any one request for memory may be refused: then a run says so and writes nothing, and the next one writes its whole
 // text. `bin/refusals` refuses each request in turn.
 use super::run;
-use crate::engine::Engine;
-use crate::error::RunError;
+use engine_core::{Engine, RunError};
 use script_core::ScriptError;
 use std::alloc::Global;
 

@@ -5,8 +5,7 @@ mod lines;
 mod memory;
 mod streams;
 
-use crate::engine::{Engine, run_calls, run_steps, run_steps_counted};
-use crate::error::RunError;
+use engine_core::{Engine, RunError, run_calls, run_steps, run_steps_counted};
 use std::alloc::Global;
 use std::io::{Read, Write};
 

@@ -1,8 +1,7 @@
 //! Readers and writers that give or take little, fail, or are interrupted.
 
 use super::run;
-use crate::engine::Engine;
-use crate::error::RunError;
+use engine_core::{Engine, RunError};
 use script_core::ScriptError;
 use std::alloc::Global;
 use std::io::{self, ErrorKind, Read, Write};

@@ -175,6 +175,23 @@ class Gate:
         except OSError:
             return True
 
+    def checks(self):
+        """How many checks the gate has at work now: the provers below its process, each of those that one is made of."""
+        parents, provers = {}, set()
+        for number in filter(str.isdigit, os.listdir("/proc")):
+            with contextlib.suppress(OSError):
+                with open(f"/proc/{number}/stat", encoding="utf-8", errors="replace") as file:
+                    head, _, tail = file.read().rpartition(")")
+                parents[number] = tail.split()[1]
+                provers.update([number] if head.endswith("(rattle") else [])
+        return sum(self.is_above(it, parents) for it in provers - {parents[it] for it in provers})
+
+    def is_above(self, number, parents):
+        """Whether the gate's process is above this one."""
+        while number in parents and number != self.process:
+            number = parents[number]
+        return number == self.process
+
     def said_of(self, name):
         """Whether a crate is proved, and what the prover said of it. None: it is not known yet."""
         is_over = self.is_over()
@@ -197,8 +214,8 @@ class Task:
 
 
 def run(tasks, gate=None):
-    """Runs tasks side by side, those with the longest chains first. Each comes after those that it waits for. They take half of
-    the lanes as long as a gate is at work."""
+    """Runs tasks side by side, those with the longest chains first. Each comes after those that it waits for. As long as a gate is
+    at work they take half of the lanes, or those that it leaves."""
     for task in reversed(tasks):
         for it in task.before:
             it.chain = max(it.chain, it.weight + task.chain)
@@ -206,7 +223,7 @@ def run(tasks, gate=None):
     with ThreadPoolExecutor(most) as pool:
         while left or running:
             ready = [it for it in left if done.issuperset(it.before) and it.is_due()]
-            open_lanes = most if not gate or gate.is_over() else max(1, most // 2)
+            open_lanes = most if not gate or gate.is_over() else max(1, most // 2, most - gate.checks())
             for at, task in enumerate(ready):
                 idle = open_lanes - sum(jobs for _, jobs in running.values())
                 if idle > 0:

@@ -2,8 +2,8 @@
 ghost use Rattle.std.specs.Prelude.{◌≡◌, ◌≢◌, ◌<◌, None, IfSome};
 ghost use Rattle.cell_core.specs.Block.{block_len, IsPlacedIn, IsPlacedAt, IsMemberAt};
 
-use cell_core::block::{Block, Ended, Epoch, Found, Look, Member, Pen, Placed};
-use crate::tests::block::{Counted, fill};
+use crate::tests::block::{Counted, fill, number};
+use cell_core::block::{Block, Ended, Epoch, Look, Member, Placed};
 use std::sync::atomic::{AtomicU64, Ordering};
 use std::test::Fail;
 use std::thread::{Threads, join};
@@ -21,27 +21,7 @@ fn mend<T: Drop>(block: &Block<T>, place: u64, value: T) -> Option<Placed<T>>
 fn spoil<T>(block: &Block<T>, place: u64) -> bool
     requires { place < block_len block.now }
 {
-    match block.begin(place) {
-        Ok(pen) => {
-            pen.spoil();
-            true
-        }
-        Err(_found) => false,
-    }
-}
-
-// A number for what a call got or found: 5 is a pen, which breaks the cell.
-fn number<T>(tried: Result<Pen<'_, T>, Found<T>>) -> u64 {
-    match tried {
-        Ok(pen) => {
-            pen.spoil();
-            5
-        }
-        Err(Found::Empty) => 0,
-        Err(Found::Busy(_)) => 1,
-        Err(Found::Filled(_)) => 2,
-        Err(Found::Broken(_)) => 3,
-    }
+    number(block.begin(place)) == 5
 }
 
 // What a mend finds before a cell is begun, while its pen is out, once it is broken, and once it is filled.

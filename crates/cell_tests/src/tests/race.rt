@@ -2,8 +2,8 @@
 ghost use Rattle.std.specs.Prelude.{◌≡◌, ◌<◌, IfSome};
 ghost use Rattle.cell_core.specs.Block.{block_len, IsPlacedIn};
 
-use cell_core::block::{Block, Placed};
 use crate::tests::block::fill;
+use cell_core::block::{Block, Placed};
 use std::test::Fail;
 use std::thread::{Threads, join};
 

@@ -2,9 +2,19 @@ ghost use Rattle.std.specs.Prelude.{◌≡◌, ◌<◌, IfSome};
 ghost use Rattle.cell_core.specs.Block.{block_len, IsPlacedIn, KeepsOtherCells};
 
 use cell_core::block::{Block, Found, Look, Pen, Placed, Spoilt};
-use std::alloc::{AllocError, Global};
+use std::alloc::{AllocError, AllocGlobal, Global};
+use std::process::Abort;
 use std::sync::atomic::{AtomicU64, Ordering};
-use std::test::Fail;
+
+// A block of empty cells.
+pub(crate) fn made<T, R: AllocGlobal + Abort>(rt: &R, n: u64) -> Block<T>
+    ensures { block_len result ≡ n }
+{
+    match Block::new(rt.alloc(), n) {
+        Ok(block) => block,
+        Err(error) => panic!(rt; "{error}"),
+    }
+}
 
 // Fills the cell, unless another call began it.
 pub(crate) fn fill<T: Drop>(block: &Block<T>, place: u64, value: T) -> Option<Placed<T>>
@@ -100,10 +110,9 @@ fn is_filled_once(block: &Block<u64>) -> bool
 }
 
 #[test]
-fn a_cell_is_filled_once(rt: HostRuntime) -> Result<(), Fail> {
-    let block = Block::new(rt.alloc(), 4)?;
+fn a_cell_is_filled_once(rt: HostRuntime) {
+    let block = made(&rt, 4);
     assert!(rt; block.len() == 4 && is_filled_once(&block));
-    Ok(())
 }
 
 // Whether the cell is busy until its pen is spent.
@@ -122,10 +131,9 @@ fn is_busy_until_filled(block: &Block<u64>) -> bool
 }
 
 #[test]
-fn a_cell_is_busy_while_its_pen_is_out(rt: HostRuntime) -> Result<(), Fail> {
-    let block = Block::new(rt.alloc(), 3)?;
+fn a_cell_is_busy_while_its_pen_is_out(rt: HostRuntime) {
+    let block = made(&rt, 3);
     assert!(rt; is_busy_until_filled(&block));
-    Ok(())
 }
 
 // The places of the token of a cell that is broken now, and of the token once more.
@@ -151,10 +159,9 @@ fn stays_broken(block: &Block<u64>) -> bool
 }
 
 #[test]
-fn a_broken_cell_is_not_begun(rt: HostRuntime) -> Result<(), Fail> {
-    let block = Block::new(rt.alloc(), 3)?;
+fn a_broken_cell_is_not_begun(rt: HostRuntime) {
+    let block = made(&rt, 3);
     assert!(rt; stays_broken(&block));
-    Ok(())
 }
 
 // Whether the first cell is filled, and its value is taken.
@@ -200,10 +207,9 @@ fn is_taken_alone(block: &mut Block<u64>) -> bool
 }
 
 #[test]
-fn a_taken_cell_is_empty(rt: HostRuntime) -> Result<(), Fail> {
-    let mut block = Block::new(rt.alloc(), 3)?;
+fn a_taken_cell_is_empty(rt: HostRuntime) {
+    let mut block = made(&rt, 3);
     assert!(rt; is_taken_alone(&mut block));
-    Ok(())
 }
 
 // Whether the value is taken of the second cell, which is empty then.
@@ -228,10 +234,9 @@ fn is_taken_by_token(block: &mut Block<u64>) -> bool
 }
 
 #[test]
-fn the_value_of_a_token_is_taken(rt: HostRuntime) -> Result<(), Fail> {
-    let mut block = Block::new(rt.alloc(), 3)?;
+fn the_value_of_a_token_is_taken(rt: HostRuntime) {
+    let mut block = made(&rt, 3);
     assert!(rt; is_taken_by_token(&mut block));
-    Ok(())
 }
 
 // How many cells show that nobody began them.
@@ -246,8 +251,8 @@ fn empty_cells<T>(block: &Block<T>) -> u64 {
 }
 
 #[test]
-fn a_million_cells_are_empty_and_filled(rt: HostRuntime) -> Result<(), Fail> {
-    let block = Block::new(rt.alloc(), 1 << 20)?;
+fn a_million_cells_are_empty_and_filled(rt: HostRuntime) {
+    let block = made(&rt, 1 << 20);
     assert_eq!(rt; empty_cells(&block), 1 << 20);
     for place in 0..block.len() {
         assert!(rt; is_filled(&block, place, place));
@@ -256,7 +261,6 @@ fn a_million_cells_are_empty_and_filled(rt: HostRuntime) -> Result<(), Fail> {
     assert!(rt;
         matches!(block.look((1 << 20) - 1), Look::Filled(value, _) if *value == (1 << 20) - 1)
     );
-    Ok(())
 }
 
 pub(crate) struct Counted<'a>(pub(crate) &'a AtomicU64);
@@ -306,24 +310,22 @@ fn drops_three<'a>(block: &mut Block<Counted<'a>>, drops: &'a AtomicU64) -> bool
 }
 
 #[test]
-fn each_value_is_dropped_once(rt: HostRuntime) -> Result<(), Fail> {
+fn each_value_is_dropped_once(rt: HostRuntime) {
     let drops = AtomicU64::new(0);
-    let mut block = Block::new(rt.alloc(), 5)?;
+    let mut block = made(&rt, 5);
     assert!(rt; drops_three(&mut block, &drops));
     // Cells 0 and 3 are filled, 1 is broken, 2 and 4 are empty.
     drop(block);
     assert_eq!(rt; count(&drops), 5);
-    Ok(())
 }
 
 #[test]
-fn a_freed_block_drops_no_value(rt: HostRuntime) -> Result<(), Fail> {
+fn a_freed_block_drops_no_value(rt: HostRuntime) {
     let drops = AtomicU64::new(0);
-    let block = Block::new(rt.alloc(), 3)?;
+    let block = made(&rt, 3);
     assert!(rt; is_filled(&block, 1, Counted(&drops)));
     block.free();
     assert_eq!(rt; count(&drops), 0);
-    Ok(())
 }
 
 // The values of the first and the last of three cells.
@@ -336,19 +338,18 @@ fn ends<T: Copy>(block: &Block<T>, a: T, b: T) -> Option<(T, T)>
 }
 
 // Whether they are the values that were put into a new block.
-fn lie_apart<T: Copy + PartialEq>(alloc: Global, a: T, b: T) -> Result<bool, AllocError> {
-    let block = Block::new(alloc, 3)?;
-    Ok(ends(&block, a, b) == Some((a, b)))
+fn lie_apart<T: Copy + PartialEq>(alloc: Global, a: T, b: T) -> bool {
+    match Block::new(alloc, 3) {
+        Ok(block) => ends(&block, a, b) == Some((a, b)),
+        Err(_no_memory) => false,
+    }
 }
 
 #[test]
-fn values_of_each_size_lie_apart(rt: HostRuntime) -> Result<(), Fail> {
+fn values_of_each_size_lie_apart(rt: HostRuntime) {
     let alloc = rt.alloc();
-    assert!(rt; lie_apart(alloc, (), ())?);
-    assert!(rt; lie_apart(alloc, 1u8, 2)? && lie_apart(alloc, 1u64, 2)?);
-    assert!(rt; lie_apart(alloc, [1u64; 3], [2; 3])?);
-    assert!(rt; lie_apart(alloc, [1u64; 32], [2; 32])?);
-    Ok(())
+    assert!(rt; lie_apart(alloc, (), ()) && lie_apart(alloc, 1u8, 2) && lie_apart(alloc, 1u64, 2));
+    assert!(rt; lie_apart(alloc, [1u64; 3], [2; 3]) && lie_apart(alloc, [1u64; 32], [2; 32]));
 }
 
 // Whether the cells of a new block are empty.

@@ -1,10 +1,9 @@
 ghost use Rattle.std.specs.Prelude.{◌≡◌, ◌≢◌, ◌<◌, ◌∷◌, [], Some, None, IfSome, length, slice_get};
 ghost use Rattle.cell_core.specs.Block.{block_len, IsMemberAt, KeepsOtherCells};
 
-use super::block::{Counted, count, fill, is_broken, is_empty, is_filled};
+use super::block::{Counted, count, fill, is_broken, is_empty, is_filled, made};
 use cell_core::block::{Block, Ended, Epoch, Look, Member, Row};
 use std::sync::atomic::AtomicU64;
-use std::test::Fail;
 
 // The value of a cell of which so much is known.
 fn value_of(block: &Block<u64>, place: u64, member: &Member<u64>, epoch: &Epoch) -> Option<u64>
@@ -64,11 +63,10 @@ fn is_settled(block: &mut Block<u64>, epoch: &Epoch) -> bool
 }
 
 #[test]
-fn a_settled_cell_is_filled_or_broken(rt: HostRuntime) -> Result<(), Fail> {
+fn a_settled_cell_is_filled_or_broken(rt: HostRuntime) {
     let epoch = Epoch::new();
-    let mut block = Block::new(rt.alloc(), 4)?;
+    let mut block = made(&rt, 4);
     assert!(rt; is_settled(&mut block, &epoch) && is_empty(&block, 2) && is_empty(&block, 3));
-    Ok(())
 }
 
 // The value of a cell that is known to have it and is settled, by what is known and by its token.
@@ -100,11 +98,10 @@ fn is_settled_as_known(block: &mut Block<u64>, epoch: &Epoch) -> bool
 }
 
 #[test]
-fn a_value_that_is_known_stays_when_its_cell_is_settled(rt: HostRuntime) -> Result<(), Fail> {
+fn a_value_that_is_known_stays_when_its_cell_is_settled(rt: HostRuntime) {
     let epoch = Epoch::new();
-    let mut block = Block::new(rt.alloc(), 2)?;
+    let mut block = made(&rt, 2);
     assert!(rt; is_settled_as_known(&mut block, &epoch));
-    Ok(())
 }
 
 // The value and the place of the token that a put gives, and the value that the cell held.
@@ -145,11 +142,10 @@ fn has_one_value(block: &Block<u64>) -> bool
 }
 
 #[test]
-fn an_owner_puts_values_into_any_cell(rt: HostRuntime) -> Result<(), Fail> {
+fn an_owner_puts_values_into_any_cell(rt: HostRuntime) {
     let epoch = Epoch::new();
-    let mut block = Block::new(rt.alloc(), 3)?;
+    let mut block = made(&rt, 3);
     assert!(rt; takes_any_value(&mut block, &epoch) && has_one_value(&block));
-    Ok(())
 }
 
 // The value of a member, and that of one which is broken.
@@ -173,12 +169,11 @@ fn is_empty_once_taken(block: &mut Block<u64>, epoch: &Epoch) -> bool
 }
 
 #[test]
-fn a_member_is_taken_and_its_cell_is_empty(rt: HostRuntime) -> Result<(), Fail> {
+fn a_member_is_taken_and_its_cell_is_empty(rt: HostRuntime) {
     let epoch = Epoch::new();
-    let mut block = Block::new(rt.alloc(), 3)?;
+    let mut block = made(&rt, 3);
     assert!(rt; is_empty_once_taken(&mut block, &epoch) && is_filled(&block, 0, 9));
     assert_eq!(rt; block.take(0), Some(9));
-    Ok(())
 }
 
 fn row_of(a: &Member<u64>, b: &Member<u64>, c: &Member<u64>) -> Row<u64>
@@ -270,11 +265,18 @@ fn has_row(block: &mut Block<u64>, epoch: &Epoch) -> bool
 }
 
 #[test]
-fn a_row_has_its_members_in_order(rt: HostRuntime) -> Result<(), Fail> {
+fn a_row_has_its_members_in_order(rt: HostRuntime) {
     let epoch = Epoch::new();
-    let mut block = Block::new(rt.alloc(), 3)?;
+    let mut block = made(&rt, 3);
     assert!(rt; has_row(&mut block, &epoch));
-    Ok(())
+}
+
+// The value that a cell held before it has another.
+fn put_over<T>(block: &mut Block<T>, place: u64, value: T) -> Option<T>
+    requires { place < block_len block.old }
+    ensures { block_len block.new ≡ block_len block.old }
+{
+    block.put_now(place, value).1
 }
 
 // How many values were dropped once a cell has a new one.
@@ -282,7 +284,7 @@ fn count_put<'a>(block: &mut Block<Counted<'a>>, place: u64, drops: &'a AtomicU6
     requires { place < block_len block.old }
     ensures { block_len block.new ≡ block_len block.old }
 {
-    drop(block.put_now(place, Counted(drops)));
+    drop(put_over(block, place, Counted(drops)));
     count(drops)
 }
 
@@ -311,21 +313,12 @@ fn count_taken(
     (settled, count(drops))
 }
 
-// Whether a first value is put into a cell that held none.
-fn puts_first<'a>(block: &mut Block<Counted<'a>>, place: u64, drops: &'a AtomicU64) -> bool
-    requires { place < block_len block.old }
-    ensures { block_len block.new ≡ block_len block.old }
-{
-    let (_placed, held) = block.put_now(place, Counted(drops));
-    held.is_none()
-}
-
 // Whether the first four cells get values, and none is dropped.
 fn drops_none<'a>(block: &mut Block<Counted<'a>>, drops: &'a AtomicU64) -> bool
     requires { 3 < block_len block.old }
     ensures { block_len block.new ≡ block_len block.old }
 {
-    puts_first(block, 0, drops)
+    put_over(block, 0, Counted(drops)).is_none()
         && count_put(block, 1, drops) == 0
         && count_put(block, 2, drops) == 0
         && count_put(block, 3, drops) == 0
@@ -342,14 +335,13 @@ fn drops_three<'a>(block: &mut Block<Counted<'a>>, epoch: &Epoch, drops: &'a Ato
 }
 
 #[test]
-fn an_owner_drops_no_value_twice(rt: HostRuntime) -> Result<(), Fail> {
+fn an_owner_drops_no_value_twice(rt: HostRuntime) {
     let drops = AtomicU64::new(0);
     let epoch = Epoch::new();
-    let mut block = Block::new(rt.alloc(), 4)?;
+    let mut block = made(&rt, 4);
     assert!(rt; drops_three(&mut block, &epoch, &drops));
     drop(block);
     assert_eq!(rt; count(&drops), 5);
-    Ok(())
 }
 
 fn is_shared<X: Send + Sync>() {}

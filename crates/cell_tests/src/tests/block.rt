@@ -1,10 +1,20 @@
 ghost use Rattle.std.specs.Prelude.{◌≡◌, ◌<◌, IfSome};
-ghost use Rattle.cell_core.specs.Block.{block_len, IsPlacedIn};
+ghost use Rattle.cell_core.specs.Block.{block_len, IsPlacedIn, KeepsOtherCells};
 
 use cell_core::block::{Block, Found, Look, Pen, Placed, Spoilt};
-use std::alloc::{AllocError, Global};
+use std::alloc::{AllocError, AllocGlobal, Global};
+use std::process::Abort;
 use std::sync::atomic::{AtomicU64, Ordering};
-use std::test::Fail;
+
+// A block of empty cells.
+pub(crate) fn made<T, R: AllocGlobal + Abort>(rt: &R, n: u64) -> Block<T>
+    ensures { block_len result ≡ n }
+{
+    match Block::new(rt.alloc(), n) {
+        Ok(block) => block,
+        Err(error) => panic!(rt; "{error}"),
+    }
+}
 
 // Fills the cell, unless another call began it.
 pub(crate) fn fill<T: Drop>(block: &Block<T>, place: u64, value: T) -> Option<Placed<T>>
@@ -16,8 +26,41 @@ pub(crate) fn fill<T: Drop>(block: &Block<T>, place: u64, value: T) -> Option<Pl
     Some(block.begin(place).ok()?.fill(value))
 }
 
-// What stood in the cell. One that was empty is broken.
-fn found<T>(block: &Block<T>, place: u64) -> Option<Found<T>>
+// A number for what a call got or found: 5 is a pen, which breaks the cell.
+pub(crate) fn number<T>(tried: Result<Pen<'_, T>, Found<T>>) -> u64 {
+    match tried {
+        Ok(pen) => {
+            pen.spoil();
+            5
+        }
+        Err(Found::Empty) => 0,
+        Err(Found::Busy(_)) => 1,
+        Err(Found::Filled(_)) => 2,
+        Err(Found::Broken(_)) => 3,
+    }
+}
+
+pub(crate) fn is_empty<T>(block: &Block<T>, place: u64) -> bool
+    requires { place < block_len block.now }
+{
+    matches!(block.look(place), Look::Empty)
+}
+
+pub(crate) fn is_broken<T>(block: &Block<T>, place: u64) -> bool
+    requires { place < block_len block.now }
+{
+    matches!(block.look(place), Look::Broken(_))
+}
+
+// Whether a value goes into the cell.
+pub(crate) fn is_filled<T: Drop>(block: &Block<T>, place: u64, value: T) -> bool
+    requires { place < block_len block.now }
+{
+    fill(block, place, value).is_some()
+}
+
+// The place of the token that a lost begin gives, where another call is at the cell.
+fn busy_place<T>(block: &Block<T>, place: u64) -> Option<u64>
     requires { place < block_len block.now }
 {
     match block.begin(place) {
@@ -25,98 +68,182 @@ fn found<T>(block: &Block<T>, place: u64) -> Option<Found<T>>
             pen.spoil();
             None
         }
-        Err(found) => Some(found),
+        Err(Found::Busy(begun)) => Some(begun.place()),
+        Err(_found) => None,
     }
 }
 
-// The place of the token that a lost begin gives, where another call is at the cell.
-fn busy_place<T: Drop>(block: &Block<T>, place: u64) -> Option<u64>
-    requires { place < block_len block.now }
+// The value that a look shows and the place of its token, which agrees with the token of the fill.
+fn seen(block: &Block<u64>, placed: &Placed<u64>) -> Option<(u64, u64)>
+    requires { IsPlacedIn block.now placed.now × (2 < block_len block.now) }
 {
-    match found(block, place) {
-        Some(Found::Busy(begun)) => Some(begun.place()),
+    match block.look(2) {
+        Look::Filled(value, again) => {
+            block.agree(placed, &again);
+            Some((*value, again.place()))
+        }
         _ => None,
     }
 }
 
-#[test]
-fn a_cell_is_filled_once(rt: HostRuntime) -> Result<(), Fail> {
-    let block = Block::new(rt.alloc(), 4)?;
-    assert_eq!(rt; block.len(), 4);
-    assert!(rt; matches!(block.look(2), Look::Empty));
-    let placed = fill(&block, 2, 5u64).ok_or("the cell was empty")?;
-    assert_eq!(rt; (placed.place(), *block.value(&placed)), (2, 5));
-    assert!(rt; matches!(found(&block, 2), Some(Found::Filled(_))));
-    let Look::Filled(value, again) = block.look(2) else {
-        return Err(Fail::from("the value was not seen"));
-    };
-    assert_eq!(rt; (*value, again.place()), (5, 2));
-    block.agree(&placed, &again);
-    assert!(rt; fill(&block, 2, 6).is_none());
-    assert_eq!(rt; *block.value(&placed.again()), 5);
-    assert!(rt; matches!(block.look(1), Look::Empty));
-    Ok(())
+// What is seen of a cell that was filled, and that another call tries to fill.
+fn stays_filled(block: &Block<u64>, placed: &Placed<u64>) -> bool
+    requires { IsPlacedIn block.now placed.now × (2 < block_len block.now) }
+{
+    placed.place() == 2
+        && *block.value(placed) == 5
+        && number(block.begin(2)) == 2
+        && seen(block, placed) == Some((5, 2))
+        && !is_filled(block, 2, 6)
+        && *block.value(&placed.again()) == 5
+}
+
+fn is_filled_once(block: &Block<u64>) -> bool
+    requires { 2 < block_len block.now }
+{
+    is_empty(block, 2)
+        && match fill(block, 2, 5) {
+            Some(placed) => stays_filled(block, &placed),
+            None => false,
+        }
+        && is_empty(block, 1)
 }
 
 #[test]
-fn a_cell_is_busy_while_its_pen_is_out(rt: HostRuntime) -> Result<(), Fail> {
-    let block = Block::new(rt.alloc(), 3)?;
+fn a_cell_is_filled_once(rt: HostRuntime) {
+    let block = made(&rt, 4);
+    assert!(rt; block.len() == 4 && is_filled_once(&block));
+}
+
+// Whether the cell is busy until its pen is spent.
+fn is_busy_until_filled(block: &Block<u64>) -> bool
+    requires { 1 < block_len block.now }
+{
     match block.begin(1) {
         Ok(pen) => {
-            assert!(rt; matches!(block.look(1), Look::Busy));
-            assert_eq!(rt; busy_place(&block, 1), Some(1));
-            let placed = pen.fill(7u64);
-            assert_eq!(rt; *block.value(&placed), 7);
-            Ok(())
+            let is_busy = matches!(block.look(1), Look::Busy);
+            let found = busy_place(block, 1);
+            let placed = pen.fill(7);
+            is_busy && found == Some(1) && *block.value(&placed) == 7
         }
-        Err(_found) => Err(Fail::from("the cell was not empty")),
+        Err(_found) => false,
     }
 }
 
 #[test]
-fn a_broken_cell_is_not_begun(rt: HostRuntime) -> Result<(), Fail> {
-    let block = Block::new(rt.alloc(), 3)?;
-    let spoilt = block.begin(1).ok().ok_or("the cell was empty")?.spoil();
-    assert_eq!(rt; (spoilt.place(), spoilt.again().place()), (1, 1));
-    assert!(rt; fill(&block, 1, 6u64).is_none());
-    assert!(rt; matches!(found(&block, 1), Some(Found::Broken(_))));
-    assert!(rt; matches!(block.look(1), Look::Broken(_)));
-    Ok(())
+fn a_cell_is_busy_while_its_pen_is_out(rt: HostRuntime) {
+    let block = made(&rt, 3);
+    assert!(rt; is_busy_until_filled(&block));
+}
+
+// The places of the token of a cell that is broken now, and of the token once more.
+fn spoilt_places(block: &Block<u64>, place: u64) -> Option<(u64, u64)>
+    requires { place < block_len block.now }
+{
+    match block.begin(place) {
+        Ok(pen) => {
+            let spoilt = pen.spoil();
+            Some((spoilt.place(), spoilt.again().place()))
+        }
+        Err(_found) => None,
+    }
+}
+
+fn stays_broken(block: &Block<u64>) -> bool
+    requires { 1 < block_len block.now }
+{
+    spoilt_places(block, 1) == Some((1, 1))
+        && !is_filled(block, 1, 6)
+        && number(block.begin(1)) == 3
+        && is_broken(block, 1)
 }
 
 #[test]
-fn a_taken_cell_is_empty(rt: HostRuntime) -> Result<(), Fail> {
-    let mut block = Block::new(rt.alloc(), 3)?;
-    let other = fill(&block, 2, 9u64).ok_or("the cell was empty")?;
-    assert_eq!(rt; block.take(0), None);
-    assert!(rt; fill(&block, 0, 5).is_some());
-    assert_eq!(rt; block.take(0), Some(5));
-    assert!(rt; matches!(block.look(0), Look::Empty));
-    assert!(rt; fill(&block, 0, 6).is_some());
-    assert_eq!(rt; block.take(0), Some(6));
-    assert!(rt; found(&block, 0).is_none());
-    assert_eq!(rt; block.take(0), None);
-    assert!(rt; matches!(block.look(0), Look::Empty));
-    assert_eq!(rt; *block.value(&other), 9);
-    Ok(())
+fn a_broken_cell_is_not_begun(rt: HostRuntime) {
+    let block = made(&rt, 3);
+    assert!(rt; stays_broken(&block));
+}
+
+// Whether the first cell is filled, and its value is taken.
+fn gives_up(block: &mut Block<u64>, value: u64) -> bool
+    requires { 0 < block_len block.old }
+    ensures len { block_len block.new ≡ block_len block.old }
+    ensures others { KeepsOtherCells block.old block.new 0 }
+{
+    is_filled(block, 0, value) && block.take(0) == Some(value)
+}
+
+// Whether nothing is taken of the first cell, which is empty then.
+fn gives_up_nothing(block: &mut Block<u64>) -> bool
+    requires { 0 < block_len block.old }
+    ensures len { block_len block.new ≡ block_len block.old }
+    ensures others { KeepsOtherCells block.old block.new 0 }
+{
+    block.take(0).is_none() && is_empty(block, 0)
+}
+
+// Whether the first cell is empty each time that it was taken.
+fn is_empty_once_taken(block: &mut Block<u64>) -> bool
+    requires { 0 < block_len block.old }
+    ensures len { block_len block.new ≡ block_len block.old }
+    ensures others { KeepsOtherCells block.old block.new 0 }
+{
+    block.take(0).is_none()
+        && gives_up(block, 5)
+        && is_empty(block, 0)
+        && gives_up(block, 6)
+        && number(block.begin(0)) == 5
+        && gives_up_nothing(block)
+}
+
+// The same, while another cell keeps its value.
+fn is_taken_alone(block: &mut Block<u64>) -> bool
+    requires { 2 < block_len block.old }
+{
+    match fill(block, 2, 9) {
+        Some(other) => is_empty_once_taken(block) && *block.value(&other) == 9,
+        None => false,
+    }
 }
 
 #[test]
-fn the_value_of_a_token_is_taken(rt: HostRuntime) -> Result<(), Fail> {
-    let mut block = Block::new(rt.alloc(), 3)?;
-    let other = fill(&block, 2, 9u64).ok_or("the cell was empty")?;
-    let placed = fill(&block, 1, 5).ok_or("the cell was empty")?;
-    assert_eq!(rt; block.take_value(&placed), 5);
-    assert!(rt; matches!(block.look(1), Look::Empty));
-    assert_eq!(rt; *block.value(&other), 9);
-    Ok(())
+fn a_taken_cell_is_empty(rt: HostRuntime) {
+    let mut block = made(&rt, 3);
+    assert!(rt; is_taken_alone(&mut block));
+}
+
+// Whether the value is taken of the second cell, which is empty then.
+fn gives_up_by_token(block: &mut Block<u64>) -> bool
+    requires { 1 < block_len block.old }
+    ensures len { block_len block.new ≡ block_len block.old }
+    ensures others { KeepsOtherCells block.old block.new 1 }
+{
+    match fill(block, 1, 5) {
+        Some(placed) => block.take_value(&placed) == 5 && is_empty(block, 1),
+        None => false,
+    }
+}
+
+fn is_taken_by_token(block: &mut Block<u64>) -> bool
+    requires { 2 < block_len block.old }
+{
+    match fill(block, 2, 9) {
+        Some(other) => gives_up_by_token(block) && *block.value(&other) == 9,
+        None => false,
+    }
+}
+
+#[test]
+fn the_value_of_a_token_is_taken(rt: HostRuntime) {
+    let mut block = made(&rt, 3);
+    assert!(rt; is_taken_by_token(&mut block));
 }
 
 // How many cells show that nobody began them.
 fn empty_cells<T>(block: &Block<T>) -> u64 {
     let mut count: u64 = 0;
     for place in 0..block.len() {
-        if matches!(block.look(place), Look::Empty) {
+        if is_empty(block, place) {
             count = count.wrapping_add(1);
         }
     }
@@ -124,17 +251,16 @@ fn empty_cells<T>(block: &Block<T>) -> u64 {
 }
 
 #[test]
-fn a_million_cells_are_empty_and_filled(rt: HostRuntime) -> Result<(), Fail> {
-    let block = Block::new(rt.alloc(), 1 << 20)?;
+fn a_million_cells_are_empty_and_filled(rt: HostRuntime) {
+    let block = made(&rt, 1 << 20);
     assert_eq!(rt; empty_cells(&block), 1 << 20);
     for place in 0..block.len() {
-        assert!(rt; fill(&block, place, place).is_some());
+        assert!(rt; is_filled(&block, place, place));
     }
     assert_eq!(rt; empty_cells(&block), 0);
     assert!(rt;
         matches!(block.look((1 << 20) - 1), Look::Filled(value, _) if *value == (1 << 20) - 1)
     );
-    Ok(())
 }
 
 pub(crate) struct Counted<'a>(pub(crate) &'a AtomicU64);
@@ -146,33 +272,60 @@ impl Drop for Counted<'_> {
     }
 }
 
-#[test]
-fn each_value_is_dropped_once(rt: HostRuntime) -> Result<(), Fail> {
-    let drops = AtomicU64::new(0);
-    let mut block = Block::new(rt.alloc(), 5)?;
+pub(crate) fn count(drops: &AtomicU64) -> u64 {
+    drops.load(Ordering::SeqCst)
+}
+
+// Fills the first four cells.
+fn fills_four<'a>(block: &Block<Counted<'a>>, drops: &'a AtomicU64) -> bool
+    requires { 3 < block_len block.now }
+{
     for place in 0..4 {
-        assert!(rt; fill(&block, place, Counted(&drops)).is_some());
+        if !is_filled(block, place, Counted(drops)) {
+            return false;
+        }
     }
-    assert!(rt; fill(&block, 1, Counted(&drops)).is_none());
-    assert_eq!(rt; drops.load(Ordering::SeqCst), 1);
-    drop(block.take(1));
-    drop(block.take(2));
-    assert_eq!(rt; drops.load(Ordering::SeqCst), 3);
-    // Cells 0 and 3 are filled, 1 is broken, 2 and 4 are empty.
-    assert!(rt; found(&block, 1).is_none());
-    drop(block);
-    assert_eq!(rt; drops.load(Ordering::SeqCst), 5);
-    Ok(())
+    true
+}
+
+// How many values were dropped once the value of the cell is taken.
+fn count_taken(block: &mut Block<Counted<'_>>, place: u64, drops: &AtomicU64) -> u64
+    requires { place < block_len block.old }
+    ensures { block_len block.new ≡ block_len block.old }
+{
+    drop(block.take(place));
+    count(drops)
+}
+
+// Whether a value that is refused and two that are taken are dropped.
+fn drops_three<'a>(block: &mut Block<Counted<'a>>, drops: &'a AtomicU64) -> bool
+    requires { 3 < block_len block.old }
+{
+    fills_four(block, drops)
+        && !is_filled(block, 1, Counted(drops))
+        && count(drops) == 1
+        && count_taken(block, 1, drops) == 2
+        && count_taken(block, 2, drops) == 3
+        && number(block.begin(1)) == 5
 }
 
 #[test]
-fn a_freed_block_drops_no_value(rt: HostRuntime) -> Result<(), Fail> {
+fn each_value_is_dropped_once(rt: HostRuntime) {
     let drops = AtomicU64::new(0);
-    let block = Block::new(rt.alloc(), 3)?;
-    assert!(rt; fill(&block, 1, Counted(&drops)).is_some());
+    let mut block = made(&rt, 5);
+    assert!(rt; drops_three(&mut block, &drops));
+    // Cells 0 and 3 are filled, 1 is broken, 2 and 4 are empty.
+    drop(block);
+    assert_eq!(rt; count(&drops), 5);
+}
+
+#[test]
+fn a_freed_block_drops_no_value(rt: HostRuntime) {
+    let drops = AtomicU64::new(0);
+    let block = made(&rt, 3);
+    assert!(rt; is_filled(&block, 1, Counted(&drops)));
     block.free();
-    assert_eq!(rt; drops.load(Ordering::SeqCst), 0);
-    Ok(())
+    assert_eq!(rt; count(&drops), 0);
 }
 
 // The values of the first and the last of three cells.
@@ -184,27 +337,25 @@ fn ends<T: Copy>(block: &Block<T>, a: T, b: T) -> Option<(T, T)>
     Some((*block.value(&first), *block.value(&last)))
 }
 
+// Whether they are the values that were put into a new block.
+fn lie_apart<T: Copy + PartialEq>(alloc: Global, a: T, b: T) -> bool {
+    match Block::new(alloc, 3) {
+        Ok(block) => ends(&block, a, b) == Some((a, b)),
+        Err(_no_memory) => false,
+    }
+}
+
 #[test]
-fn values_of_each_size_lie_apart(rt: HostRuntime) -> Result<(), Fail> {
+fn values_of_each_size_lie_apart(rt: HostRuntime) {
     let alloc = rt.alloc();
-    assert_eq!(rt; ends(&Block::new(alloc, 3)?, (), ()), Some(((), ())));
-    assert_eq!(rt; ends(&Block::new(alloc, 3)?, 1u8, 2), Some((1, 2)));
-    assert_eq!(rt; ends(&Block::new(alloc, 3)?, 1u64, 2), Some((1, 2)));
-    assert_eq!(rt;
-        ends(&Block::new(alloc, 3)?, [1u64; 3], [2; 3]),
-        Some(([1; 3], [2; 3]))
-    );
-    assert_eq!(rt;
-        ends(&Block::new(alloc, 3)?, [1u64; 32], [2; 32]),
-        Some(([1; 32], [2; 32]))
-    );
-    Ok(())
+    assert!(rt; lie_apart(alloc, (), ()) && lie_apart(alloc, 1u8, 2) && lie_apart(alloc, 1u64, 2));
+    assert!(rt; lie_apart(alloc, [1u64; 3], [2; 3]) && lie_apart(alloc, [1u64; 32], [2; 32]));
 }
 
 // Whether the cells of a new block are empty.
 fn is_made_empty(alloc: Global) -> Result<bool, AllocError> {
     let block = Block::<u64>::new(alloc, 3)?;
-    Ok(matches!(block.look(2), Look::Empty))
+    Ok(is_empty(&block, 2))
 }
 
 // It passes too where any one request for memory is refused.

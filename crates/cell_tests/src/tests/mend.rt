@@ -2,10 +2,9 @@
 ghost use Rattle.std.specs.Prelude.{◌≡◌, ◌≢◌, ◌<◌, None, IfSome};
 ghost use Rattle.cell_core.specs.Block.{block_len, IsPlacedIn, IsPlacedAt, IsMemberAt};
 
-use cell_core::block::{Block, Ended, Epoch, Found, Look, Member, Pen, Placed};
-use crate::tests::block::{Counted, fill};
+use crate::tests::block::{Counted, fill, made, number};
+use cell_core::block::{Block, Ended, Epoch, Look, Member, Placed};
 use std::sync::atomic::{AtomicU64, Ordering};
-use std::test::Fail;
 use std::thread::{Threads, join};
 
 // Mends the cell with a value, where it is broken.
@@ -21,26 +20,20 @@ fn mend<T: Drop>(block: &Block<T>, place: u64, value: T) -> Option<Placed<T>>
 fn spoil<T>(block: &Block<T>, place: u64) -> bool
     requires { place < block_len block.now }
 {
-    match block.begin(place) {
-        Ok(pen) => {
-            pen.spoil();
-            true
-        }
-        Err(_found) => false,
-    }
+    number(block.begin(place)) == 5
 }
 
-// A number for what a call got or found: 5 is a pen, which breaks the cell.
-fn number<T>(tried: Result<Pen<'_, T>, Found<T>>) -> u64 {
-    match tried {
+// Whether a mend finds the first cell busy while its pen is out, which breaks it.
+fn is_busy_to_a_mend(block: &Block<u64>) -> bool
+    requires { 0 < block_len block.now }
+{
+    match block.begin(0) {
         Ok(pen) => {
+            let found = number(block.mend(0));
             pen.spoil();
-            5
+            found == 1
         }
-        Err(Found::Empty) => 0,
-        Err(Found::Busy(_)) => 1,
-        Err(Found::Filled(_)) => 2,
-        Err(Found::Broken(_)) => 3,
+        Err(_found) => false,
     }
 }
 
@@ -48,18 +41,8 @@ fn number<T>(tried: Result<Pen<'_, T>, Found<T>>) -> u64 {
 fn is_mended_only_where_broken(block: &Block<u64>) -> bool
     requires { 0 < block_len block.now }
 {
-    if number(block.mend(0)) != 0 {
-        return false;
-    }
-    let is_busy = match block.begin(0) {
-        Ok(pen) => {
-            let found = number(block.mend(0));
-            pen.spoil();
-            found == 1
-        }
-        Err(_found) => false,
-    };
-    is_busy
+    number(block.mend(0)) == 0
+        && is_busy_to_a_mend(block)
         && number(block.mend(0)) == 5
         && mend(block, 0, 7).is_some()
         && number(block.mend(0)) == 2
@@ -67,10 +50,9 @@ fn is_mended_only_where_broken(block: &Block<u64>) -> bool
 }
 
 #[test]
-fn a_broken_cell_is_mended_and_no_other(rt: HostRuntime) -> Result<(), Fail> {
-    let block = Block::new(rt.alloc(), 1)?;
+fn a_broken_cell_is_mended_and_no_other(rt: HostRuntime) {
+    let block = made(&rt, 1);
     assert!(rt; is_mended_only_where_broken(&block));
-    Ok(())
 }
 
 // What is known of the first cell in a new epoch, where it is broken.
@@ -94,27 +76,33 @@ fn is_shut(block: &Block<u64>, broken: &Member<u64>, epoch: &Epoch) -> bool
         && matches!(block.look(0), Look::Broken(_))
 }
 
+// The number of a mend by what was known in an epoch that has ended.
+fn number_after(block: &Block<u64>, broken: &Member<u64>, ended: &Ended) -> u64
+    requires { IsMemberAt block.now 0 broken.now × (broken.now.epoch ≡ ended.now) }
+{
+    number(block.mend_member(0, broken, ended))
+}
+
 // What they find once it has ended.
 fn is_mended_after(block: &Block<u64>, broken: &Member<u64>, ended: &Ended) -> bool
     requires { IsMemberAt block.now 0 broken.now × (broken.now.epoch ≡ ended.now) }
 {
     number(block.mend(0)) == 3
-        && number(block.mend_member(0, broken, ended)) == 5
-        && number(block.mend_member(0, broken, &ended.again())) == 5
+        && number_after(block, broken, ended) == 5
+        && number_after(block, broken, &ended.again()) == 5
         && mend(block, 0, 8).is_some()
         && matches!(block.known(0, broken), Some((8, _)))
-        && number(block.mend_member(0, broken, ended)) == 2
+        && number_after(block, broken, ended) == 2
 }
 
 #[test]
-fn what_an_owner_broke_is_mended_after_its_epoch(rt: HostRuntime) -> Result<(), Fail> {
-    let mut block = Block::new(rt.alloc(), 1)?;
+fn what_an_owner_broke_is_mended_after_its_epoch(rt: HostRuntime) {
+    let mut block = made(&rt, 1);
     let epoch = Epoch::new();
     let broken = broken_in(&mut block, &epoch);
     assert!(rt; is_shut(&block, &broken, &epoch));
     let ended = epoch.end();
     assert!(rt; is_mended_after(&block, &broken, &ended));
-    Ok(())
 }
 
 // A cell that an owner broke in one epoch is settled in another.
@@ -129,10 +117,9 @@ fn is_settled_anew(block: &mut Block<u64>) -> bool
 }
 
 #[test]
-fn a_broken_cell_is_settled_anew_in_each_epoch(rt: HostRuntime) -> Result<(), Fail> {
-    let mut block = Block::new(rt.alloc(), 1)?;
+fn a_broken_cell_is_settled_anew_in_each_epoch(rt: HostRuntime) {
+    let mut block = made(&rt, 1);
     assert!(rt; is_settled_anew(&mut block));
-    Ok(())
 }
 
 // Whether a cell that was mended is settled as one with its value.
@@ -154,16 +141,15 @@ fn is_settled_mended(block: &mut Block<u64>) -> bool
 }
 
 #[test]
-fn a_mended_cell_is_settled_with_its_value(rt: HostRuntime) -> Result<(), Fail> {
-    let mut block = Block::new(rt.alloc(), 1)?;
+fn a_mended_cell_is_settled_with_its_value(rt: HostRuntime) {
+    let mut block = made(&rt, 1);
     assert!(rt; is_settled_mended(&mut block));
-    Ok(())
 }
 
 #[test]
-fn a_mended_value_is_dropped_once(rt: HostRuntime) -> Result<(), Fail> {
+fn a_mended_value_is_dropped_once(rt: HostRuntime) {
     let drops = AtomicU64::new(0);
-    let block = Block::new(rt.alloc(), 2)?;
+    let block = made(&rt, 2);
     assert!(rt; spoil(&block, 0) && mend(&block, 0, Counted(&drops)).is_some());
     assert!(rt;
         fill(&block, 1, Counted(&drops)).is_some() && mend(&block, 1, Counted(&drops)).is_none()
@@ -171,7 +157,6 @@ fn a_mended_value_is_dropped_once(rt: HostRuntime) -> Result<(), Fail> {
     assert_eq!(rt; drops.load(Ordering::SeqCst), 1);
     drop(block);
     assert_eq!(rt; drops.load(Ordering::SeqCst), 3);
-    Ok(())
 }
 
 // Two threads mend the cell.
@@ -212,10 +197,9 @@ fn is_mended_by_one<R: Threads + Sync>(rt: &R, block: &Block<u64>, place: u64) -
 }
 
 #[test]
-fn one_of_two_threads_mends_a_cell(rt: HostRuntime) -> Result<(), Fail> {
-    let block = Block::new(rt.alloc(), 1000)?;
+fn one_of_two_threads_mends_a_cell(rt: HostRuntime) {
+    let block = made(&rt, 1000);
     for place in 0..1000 {
         assert!(rt; is_mended_by_one(&rt, &block, place));
     }
-    Ok(())
 }

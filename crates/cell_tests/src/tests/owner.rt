@@ -1,126 +1,347 @@
-use super::block::{Counted, fill};
+ghost use Rattle.std.specs.Prelude.{◌≡◌, ◌≢◌, ◌<◌, ◌∷◌, [], Some, None, IfSome, length, slice_get};
+ghost use Rattle.cell_core.specs.Block.{block_len, IsMemberAt, KeepsOtherCells};
+
+use super::block::{Counted, count, fill, is_broken, is_empty, is_filled, made};
 use cell_core::block::{Block, Ended, Epoch, Look, Member, Row};
-use std::sync::atomic::{AtomicU64, Ordering};
-use std::test::Fail;
+use std::sync::atomic::AtomicU64;
 
-#[test]
-fn a_settled_cell_is_filled_or_broken(rt: HostRuntime) -> Result<(), Fail> {
-    let epoch = Epoch::new();
-    let mut block = Block::new(rt.alloc(), 4)?;
-    let placed = fill(&block, 1, 5u64).ok_or("the cell was empty")?;
-    let filled = block.settle_now(1, &epoch);
+// The value of a cell of which so much is known.
+fn value_of(block: &Block<u64>, place: u64, member: &Member<u64>, epoch: &Epoch) -> Option<u64>
+    requires member { IsMemberAt block.now place member.now }
+    requires epoch { member.now.value ≡ None → member.now.epoch ≡ epoch.now }
+{
+    let (value, _placed) = block.member(place, member, epoch)?;
+    Some(*value)
+}
+
+// The same of a cell that is settled.
+fn settled_value(block: &mut Block<u64>, place: u64, epoch: &Epoch) -> Option<u64>
+    requires { place < block_len block.old }
+    ensures len { block_len block.new ≡ block_len block.old }
+    ensures others { KeepsOtherCells block.old block.new place }
+{
+    let member = block.settle_now(place, epoch);
+    value_of(block, place, &member, epoch)
+}
+
+// What is known of a cell that was filled, and is settled.
+fn settled_filled(block: &mut Block<u64>, epoch: &Epoch) -> Option<Member<u64>>
+    requires { 1 < block_len block.old }
+    ensures member { IfSome result (IsMemberAt block.new 1) }
+    ensures epoch { IfSome result (λ member. member.value ≡ None → member.epoch ≡ epoch.now) }
+    ensures len { block_len block.new ≡ block_len block.old }
+{
+    let placed = fill(block, 1, 5)?;
+    let filled = block.settle_now(1, epoch);
     filled.agree(&placed);
-    assert!(rt; matches!(block.member(1, &filled, &epoch), Some((5, _))));
-    let broken = block.settle_now(0, &epoch);
-    assert!(rt; block.member(0, &broken, &epoch).is_none());
-    assert!(rt; matches!(block.look(0), Look::Broken(_)));
-    assert!(rt; fill(&block, 0, 6).is_none());
-    let again = block.settle_now(0, &epoch);
-    assert!(rt; block.member(0, &again, &epoch).is_none());
-    assert!(rt; matches!(block.member(1, &filled.again(), &epoch), Some((5, _))));
-    assert!(rt; matches!(block.look(2), Look::Empty));
-    assert!(rt; matches!(block.look(3), Look::Empty));
-    Ok(())
+    Some(filled)
+}
+
+// Whether the first cell is broken once it is settled, and stays so.
+fn is_settled_broken(block: &mut Block<u64>, epoch: &Epoch) -> bool
+    requires { 0 < block_len block.old }
+    ensures len { block_len block.new ≡ block_len block.old }
+    ensures others { KeepsOtherCells block.old block.new 0 }
+{
+    settled_value(block, 0, epoch).is_none()
+        && is_broken(block, 0)
+        && !is_filled(block, 0, 6)
+        && settled_value(block, 0, epoch).is_none()
+}
+
+// Whether one cell is settled with its value, and one without.
+fn is_settled(block: &mut Block<u64>, epoch: &Epoch) -> bool
+    requires { 1 < block_len block.old }
+    ensures { block_len block.new ≡ block_len block.old }
+{
+    match settled_filled(block, epoch) {
+        Some(filled) => value_of(block, 1, &filled, epoch) == Some(5)
+            && is_settled_broken(block, epoch)
+            && value_of(block, 1, &filled.again(), epoch) == Some(5),
+        None => false,
+    }
 }
 
 #[test]
-fn a_value_that_is_known_stays_when_its_cell_is_settled(rt: HostRuntime) -> Result<(), Fail> {
+fn a_settled_cell_is_filled_or_broken(rt: HostRuntime) {
     let epoch = Epoch::new();
-    let mut block = Block::new(rt.alloc(), 2)?;
-    let (placed, _held) = block.put_now(1, 5u64);
-    let filled = block.settle_known(1, &Member::of(&placed), &epoch);
-    assert!(rt; matches!(block.member(1, &filled, &epoch), Some((5, _))));
-    assert_eq!(rt; block.value(&placed), &5);
-    let (broken, _held) = block.spoil_now(0, &epoch);
-    let again = block.settle_known(0, &broken, &epoch);
-    assert!(rt; block.member(0, &again, &epoch).is_none());
-    assert!(rt; matches!(block.look(0), Look::Broken(_)));
-    Ok(())
+    let mut block = made(&rt, 4);
+    assert!(rt; is_settled(&mut block, &epoch) && is_empty(&block, 2) && is_empty(&block, 3));
+}
+
+// The value of a cell that is known to have it and is settled, by what is known and by its token.
+fn kept_value(block: &mut Block<u64>, epoch: &Epoch) -> (Option<u64>, u64)
+    requires { 1 < block_len block.old }
+    ensures { block_len block.new ≡ block_len block.old }
+{
+    let (placed, _held) = block.put_now(1, 5);
+    let filled = block.settle_known(1, &Member::of(&placed), epoch);
+    (value_of(block, 1, &filled, epoch), *block.value(&placed))
+}
+
+// The value of a cell that is known to be broken, and is settled.
+fn value_of_broken(block: &mut Block<u64>, epoch: &Epoch) -> Option<u64>
+    requires { 0 < block_len block.old }
+    ensures { block_len block.new ≡ block_len block.old }
+{
+    let (broken, _held) = block.spoil_now(0, epoch);
+    let again = block.settle_known(0, &broken, epoch);
+    value_of(block, 0, &again, epoch)
+}
+
+fn is_settled_as_known(block: &mut Block<u64>, epoch: &Epoch) -> bool
+    requires { 1 < block_len block.old }
+{
+    kept_value(block, epoch) == (Some(5), 5)
+        && value_of_broken(block, epoch).is_none()
+        && is_broken(block, 0)
 }
 
 #[test]
-fn an_owner_puts_values_into_any_cell(rt: HostRuntime) -> Result<(), Fail> {
+fn a_value_that_is_known_stays_when_its_cell_is_settled(rt: HostRuntime) {
     let epoch = Epoch::new();
-    let mut block = Block::new(rt.alloc(), 3)?;
-    let (first, held) = block.put_now(1, 5u64);
-    assert_eq!(rt; (*block.value(&first), held), (5, None));
-    let (second, held) = block.put_now(1, 6);
-    assert_eq!(rt; (*block.value(&second), held), (6, Some(5)));
-    assert_eq!(rt; second.place(), 1);
-    let (_broken, held) = block.spoil_now(1, &epoch);
-    assert_eq!(rt; held, Some(6));
-    assert!(rt; matches!(block.look(1), Look::Broken(_)));
-    let (_broken, held) = block.spoil_now(1, &epoch);
-    assert_eq!(rt; held, None);
-    let (third, held) = block.put_now(1, 7);
-    assert_eq!(rt; (*block.value(&third), held), (7, None));
-    assert!(rt; matches!(block.look(1), Look::Filled(7, _)));
-    assert!(rt; matches!(block.look(0), Look::Empty));
-    assert!(rt; matches!(block.look(2), Look::Empty));
-    Ok(())
+    let mut block = made(&rt, 2);
+    assert!(rt; is_settled_as_known(&mut block, &epoch));
+}
+
+// The value and the place of the token that a put gives, and the value that the cell held.
+fn put(block: &mut Block<u64>, place: u64, value: u64) -> (u64, u64, Option<u64>)
+    requires { place < block_len block.old }
+    ensures { block_len block.new ≡ block_len block.old }
+{
+    let (placed, held) = block.put_now(place, value);
+    (*block.value(&placed), placed.place(), held)
+}
+
+// The value that a cell held before it is broken.
+fn spoil(block: &mut Block<u64>, place: u64, epoch: &Epoch) -> Option<u64>
+    requires { place < block_len block.old }
+    ensures { block_len block.new ≡ block_len block.old }
+{
+    block.spoil_now(place, epoch).1
+}
+
+// Whether the second cell takes a value where it is empty, filled or broken.
+fn takes_any_value(block: &mut Block<u64>, epoch: &Epoch) -> bool
+    requires { 1 < block_len block.old }
+    ensures { block_len block.new ≡ block_len block.old }
+{
+    put(block, 1, 5) == (5, 1, None)
+        && put(block, 1, 6) == (6, 1, Some(5))
+        && spoil(block, 1, epoch) == Some(6)
+        && is_broken(block, 1)
+        && spoil(block, 1, epoch).is_none()
+        && put(block, 1, 7) == (7, 1, None)
+}
+
+// Whether the second cell alone of three has the value.
+fn has_one_value(block: &Block<u64>) -> bool
+    requires { 2 < block_len block.now }
+{
+    matches!(block.look(1), Look::Filled(7, _)) && is_empty(block, 0) && is_empty(block, 2)
 }
 
 #[test]
-fn a_member_is_taken_and_its_cell_is_empty(rt: HostRuntime) -> Result<(), Fail> {
+fn an_owner_puts_values_into_any_cell(rt: HostRuntime) {
     let epoch = Epoch::new();
-    let mut block = Block::new(rt.alloc(), 3)?;
-    let (placed, _held) = block.put_now(2, 8u64);
+    let mut block = made(&rt, 3);
+    assert!(rt; takes_any_value(&mut block, &epoch) && has_one_value(&block));
+}
+
+// The value of a member, and that of one which is broken.
+fn take_members(block: &mut Block<u64>, epoch: &Epoch) -> (Option<u64>, Option<u64>)
+    requires { 2 < block_len block.old }
+    ensures { block_len block.new ≡ block_len block.old }
+{
+    let (placed, _held) = block.put_now(2, 8);
     let filled = Member::of(&placed);
-    let (broken, _held) = block.spoil_now(0, &epoch);
-    assert_eq!(rt; block.take_member(2, &filled, &epoch), Some(8));
-    assert_eq!(rt; block.take_member(0, &broken, &epoch), None);
-    assert!(rt; matches!(block.look(2), Look::Empty));
-    assert!(rt; matches!(block.look(0), Look::Empty));
-    assert!(rt; fill(&block, 0, 9).is_some());
-    assert_eq!(rt; block.take(0), Some(9));
-    Ok(())
+    let (broken, _held) = block.spoil_now(0, epoch);
+    let first = block.take_member(2, &filled, epoch);
+    (first, block.take_member(0, &broken, epoch))
+}
+
+// Whether both cells are empty then.
+fn is_empty_once_taken(block: &mut Block<u64>, epoch: &Epoch) -> bool
+    requires { 2 < block_len block.old }
+    ensures { block_len block.new ≡ block_len block.old }
+{
+    take_members(block, epoch) == (Some(8), None) && is_empty(block, 2) && is_empty(block, 0)
 }
 
 #[test]
-fn a_row_has_its_members_in_order(rt: HostRuntime) -> Result<(), Fail> {
+fn a_member_is_taken_and_its_cell_is_empty(rt: HostRuntime) {
     let epoch = Epoch::new();
-    let mut block = Block::new(rt.alloc(), 3)?;
-    let (first, _held) = block.put_now(0, 5u64);
-    let (broken, _held) = block.spoil_now(1, &epoch);
-    let (last, _held) = block.put_now(2, 6);
+    let mut block = made(&rt, 3);
+    assert!(rt; is_empty_once_taken(&mut block, &epoch) && is_filled(&block, 0, 9));
+    assert_eq!(rt; block.take(0), Some(9));
+}
+
+fn row_of(a: &Member<u64>, b: &Member<u64>, c: &Member<u64>) -> Row<u64>
+    ensures { result ≡ a.now ∷ b.now ∷ c.now ∷ [] }
+{
     let mut row = Row::new();
-    row.push(&Member::of(&first));
-    row.push(&broken);
-    row.push(&Member::of(&last));
-    assert!(rt; matches!(block.member(0, &row.at(0), &epoch), Some((5, _))));
-    assert!(rt; block.member(1, &row.at(1), &epoch).is_none());
-    assert!(rt; matches!(block.member(2, &row.at(2), &epoch), Some((6, _))));
+    row.push(a);
+    row.push(b);
+    row.push(c);
+    row
+}
+
+// Gives up the last of three members.
+fn pop(row: &mut Row<u64>, a: &Member<u64>, b: &Member<u64>, c: &Member<u64>)
+    requires { row.old ≡ a.now ∷ b.now ∷ c.now ∷ [] }
+    ensures len { length row.new ≡ 2 }
+    ensures first { slice_get row.new 0 ≡ Some a.now }
+    ensures second { slice_get row.new 1 ≡ Some b.now }
+{
     row.pop();
-    assert!(rt; block.member(1, &row.at(1), &epoch).is_none());
+}
+
+// Whether a row of three has its members in order: the second is broken.
+fn has_three(
+    block: &Block<u64>,
+    row: &Row<u64>,
+    a: &Member<u64>,
+    b: &Member<u64>,
+    c: &Member<u64>,
+    epoch: &Epoch,
+) -> bool
+    requires row { row.now ≡ a.now ∷ b.now ∷ c.now ∷ [] }
+    requires first { IsMemberAt block.now 0 a.now × (a.now.value ≢ None) }
+    requires second { IsMemberAt block.now 1 b.now × (b.now.epoch ≡ epoch.now) }
+    requires third { IsMemberAt block.now 2 c.now × (c.now.value ≢ None) }
+{
+    value_of(block, 0, &row.at(0), epoch) == Some(5)
+        && value_of(block, 1, &row.at(1), epoch).is_none()
+        && value_of(block, 2, &row.at(2), epoch) == Some(6)
+}
+
+// Whether a row of two has another second member, once it is set.
+fn has_another(block: &mut Block<u64>, row: &mut Row<u64>, a: &Member<u64>, epoch: &Epoch) -> bool
+    requires len { length row.old ≡ 2 }
+    requires row { slice_get row.old 0 ≡ Some a.now }
+    requires first { IsMemberAt block.old 0 a.now × (a.now.value ≢ None) }
+    requires within { 1 < block_len block.old }
+{
     let (second, _held) = block.put_now(1, 7);
     row.set(1, &Member::of(&second));
-    assert!(rt; matches!(block.member(1, &row.at(1), &epoch), Some((7, _))));
-    assert!(rt; matches!(block.member(0, &row.at(0), &epoch), Some((5, _))));
-    Ok(())
+    value_of(block, 1, &row.at(1), epoch) == Some(7)
+        && value_of(block, 0, &row.at(0), epoch) == Some(5)
+}
+
+// Whether a row has what is pushed to it and set in it.
+fn has_members(
+    block: &mut Block<u64>,
+    a: &Member<u64>,
+    b: &Member<u64>,
+    c: &Member<u64>,
+    epoch: &Epoch,
+) -> bool
+    requires first { IsMemberAt block.old 0 a.now × (a.now.value ≢ None) }
+    requires second { IsMemberAt block.old 1 b.now × (b.now.epoch ≡ epoch.now) }
+    requires third { IsMemberAt block.old 2 c.now × (c.now.value ≢ None) }
+{
+    let mut row = row_of(a, b, c);
+    if !has_three(block, &row, a, b, c, epoch) {
+        return false;
+    }
+    pop(&mut row, a, b, c);
+    value_of(block, 1, &row.at(1), epoch).is_none() && has_another(block, &mut row, a, epoch)
+}
+
+// The same of three cells, of which the second is broken.
+fn has_row(block: &mut Block<u64>, epoch: &Epoch) -> bool
+    requires { 2 < block_len block.old }
+{
+    let (first, _held) = block.put_now(0, 5);
+    let (broken, _held) = block.spoil_now(1, epoch);
+    let (last, _held) = block.put_now(2, 6);
+    has_members(
+        block,
+        &Member::of(&first),
+        &broken,
+        &Member::of(&last),
+        epoch,
+    )
 }
 
 #[test]
-fn an_owner_drops_no_value_twice(rt: HostRuntime) -> Result<(), Fail> {
+fn a_row_has_its_members_in_order(rt: HostRuntime) {
+    let epoch = Epoch::new();
+    let mut block = made(&rt, 3);
+    assert!(rt; has_row(&mut block, &epoch));
+}
+
+// The value that a cell held before it has another.
+fn put_over<T>(block: &mut Block<T>, place: u64, value: T) -> Option<T>
+    requires { place < block_len block.old }
+    ensures { block_len block.new ≡ block_len block.old }
+{
+    block.put_now(place, value).1
+}
+
+// How many values were dropped once a cell has a new one.
+fn count_put<'a>(block: &mut Block<Counted<'a>>, place: u64, drops: &'a AtomicU64) -> u64
+    requires { place < block_len block.old }
+    ensures { block_len block.new ≡ block_len block.old }
+{
+    drop(put_over(block, place, Counted(drops)));
+    count(drops)
+}
+
+// How many once it is broken.
+fn count_spoilt(block: &mut Block<Counted<'_>>, place: u64, epoch: &Epoch, drops: &AtomicU64) -> u64
+    requires { place < block_len block.old }
+    ensures { block_len block.new ≡ block_len block.old }
+{
+    drop(block.spoil_now(place, epoch));
+    count(drops)
+}
+
+// How many once it is settled, and once its value is taken.
+fn count_taken(
+    block: &mut Block<Counted<'_>>,
+    place: u64,
+    epoch: &Epoch,
+    drops: &AtomicU64,
+) -> (u64, u64)
+    requires { place < block_len block.old }
+    ensures { block_len block.new ≡ block_len block.old }
+{
+    let member = block.settle_now(place, epoch);
+    let settled = count(drops);
+    drop(block.take_member(place, &member, epoch));
+    (settled, count(drops))
+}
+
+// Whether the first four cells get values, and none is dropped.
+fn drops_none<'a>(block: &mut Block<Counted<'a>>, drops: &'a AtomicU64) -> bool
+    requires { 3 < block_len block.old }
+    ensures { block_len block.new ≡ block_len block.old }
+{
+    put_over(block, 0, Counted(drops)).is_none()
+        && count_put(block, 1, drops) == 0
+        && count_put(block, 2, drops) == 0
+        && count_put(block, 3, drops) == 0
+}
+
+// Whether each that leaves its cell is dropped then.
+fn drops_three<'a>(block: &mut Block<Counted<'a>>, epoch: &Epoch, drops: &'a AtomicU64) -> bool
+    requires { 3 < block_len block.old }
+{
+    drops_none(block, drops)
+        && count_put(block, 0, drops) == 1
+        && count_spoilt(block, 1, epoch, drops) == 2
+        && count_taken(block, 2, epoch, drops) == (2, 3)
+}
+
+#[test]
+fn an_owner_drops_no_value_twice(rt: HostRuntime) {
     let drops = AtomicU64::new(0);
     let epoch = Epoch::new();
-    let mut block = Block::new(rt.alloc(), 4)?;
-    let (_first, none) = block.put_now(0, Counted(&drops));
-    assert!(rt; none.is_none());
-    drop(block.put_now(1, Counted(&drops)));
-    drop(block.put_now(2, Counted(&drops)));
-    drop(block.put_now(3, Counted(&drops)));
-    assert_eq!(rt; drops.load(Ordering::SeqCst), 0);
-    drop(block.put_now(0, Counted(&drops)));
-    assert_eq!(rt; drops.load(Ordering::SeqCst), 1);
-    drop(block.spoil_now(1, &epoch));
-    assert_eq!(rt; drops.load(Ordering::SeqCst), 2);
-    let member = block.settle_now(2, &epoch);
-    assert_eq!(rt; drops.load(Ordering::SeqCst), 2);
-    drop(block.take_member(2, &member, &epoch));
-    assert_eq!(rt; drops.load(Ordering::SeqCst), 3);
+    let mut block = made(&rt, 4);
+    assert!(rt; drops_three(&mut block, &epoch, &drops));
     drop(block);
-    assert_eq!(rt; drops.load(Ordering::SeqCst), 5);
-    Ok(())
+    assert_eq!(rt; count(&drops), 5);
 }
 
 fn is_shared<X: Send + Sync>() {}

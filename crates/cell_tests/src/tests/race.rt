@@ -2,9 +2,8 @@
 ghost use Rattle.std.specs.Prelude.{◌≡◌, ◌<◌, IfSome};
 ghost use Rattle.cell_core.specs.Block.{block_len, IsPlacedIn};
 
+use crate::tests::block::{fill, made};
 use cell_core::block::{Block, Placed};
-use crate::tests::block::fill;
-use std::test::Fail;
 use std::thread::{Threads, join};
 
 // Two threads fill the cell: the tokens that they get know one value.
@@ -30,15 +29,21 @@ fn fill_by_two<R: Threads + Sync>(
     )
 }
 
-#[test]
-fn one_of_two_threads_begins_a_cell(rt: HostRuntime) -> Result<(), Fail> {
-    let block = Block::new(rt.alloc(), 1000)?;
-    for place in 0..1000 {
-        match fill_by_two(&rt, &block, place) {
-            (Some(a), None) => assert_eq!(rt; *block.value(&a), 5),
-            (None, Some(b)) => assert_eq!(rt; *block.value(&b), 6),
-            _other => return Err(Fail::from("not one of two threads filled the cell")),
-        }
+// Whether one of two threads fills the cell, and its token has its value.
+fn is_begun_by_one<R: Threads + Sync>(rt: &R, block: &Block<u64>, place: u64) -> bool
+    requires { place < block_len block.now }
+{
+    match fill_by_two(rt, block, place) {
+        (Some(a), None) => *block.value(&a) == 5,
+        (None, Some(b)) => *block.value(&b) == 6,
+        _other => false,
     }
-    Ok(())
+}
+
+#[test]
+fn one_of_two_threads_begins_a_cell(rt: HostRuntime) {
+    let block = made(&rt, 1000);
+    for place in 0..1000 {
+        assert!(rt; is_begun_by_one(&rt, &block, place));
+    }
 }

@@ -13,7 +13,7 @@ const ROUNDS: usize = 7;
 const THREADS: [usize; 3] = [1, 2, 4];
 
 // The least, the middle and the greatest time of the rounds.
-#[derive(Clone, Copy, Debug)]
+#[derive(Clone, Copy)]
 struct Spread {
     least: u64,
     middle: u64,
@@ -125,10 +125,7 @@ fn print_head<R: Print>(rt: &R) -> Result<()> {
     println!(rt;
         "nanoseconds a try, of {ROUNDS} rounds; the ratio of a group's first thing to each"
     )?;
-    println!(rt;
-        "{:<8} {:<15} {:>8} {:>8} {:>8} {:>8}",
-        "threads", "what", "least", "middle", "most", "ratio"
-    )?;
+    println!(rt; "threads  what               least   middle     most    ratio")?;
     Ok(())
 }
 

@@ -1,6 +1,7 @@
 //! Many vectors of a hundred values each, one after another.
 use crate::shared_vector::{empty_in, push};
 use anyhow::{Result, ensure};
+use grow_core::OpenError;
 use seg_core::Layout;
 use std::alloc::AllocGlobal;
 use std::rt::Clock;
@@ -11,19 +12,15 @@ const VALUES: u64 = 100;
 
 const VECTORS: u64 = 100_000;
 
-// Makes a vector, appends its values, and drops it.
-fn fill_one<R: Wait + AllocGlobal>(rt: &R, layout: Layout) -> Result<()> {
+// Makes a vector, appends its values, and drops it: how many it had.
+fn fill_one<R: Wait + AllocGlobal>(rt: &R, layout: Layout) -> Result<u64, OpenError> {
     let (vector, hand) = empty_in(rt.alloc(), layout, VALUES)?;
-    ensure!(
-        push(rt, &vector, hand, VALUES) == VALUES,
-        "a value was lost"
-    );
-    Ok(())
+    Ok(push(rt, &vector, hand, VALUES))
 }
 
 fn fill_all<R: Wait + AllocGlobal>(rt: &R, layout: Layout) -> Result<()> {
     for _vector in 0..VECTORS {
-        fill_one(rt, layout)?;
+        ensure!(fill_one(rt, layout)? == VALUES, "a value was lost");
     }
     Ok(())
 }

@@ -5,13 +5,14 @@ ghost use Rattle.grow_core.specs.Vector.{IsHandOf};
 use anyhow::{Result, bail, ensure};
 use grow_core::{Hand, Parts, Shared};
 use std::alloc::{AllocError, AllocGlobal, Global};
+use std::io;
 use std::rt::Clock;
 use std::time::{Duration, Instant};
 
 const VALUES: u64 = 10_000_000;
 
 /// Which of the two is timed.
-#[derive(Clone, Copy, Debug)]
+#[derive(Clone, Copy)]
 pub enum Turn {
     /// The list is opened.
     Open,
@@ -19,16 +20,32 @@ pub enum Turn {
     Close,
 }
 
-// A list of all values.
-fn filled(alloc: Global) -> Result<Parts<u64>, AllocError> {
-    let mut parts = Parts::new(alloc, VALUES);
-    parts.room(VALUES)?;
+// Appends all values to a list that has room for them.
+fn append_all(parts: &mut Parts<u64>) {
     for value in 0..VALUES {
         if parts.len() < parts.limit() && parts.len() < parts.capacity() {
             parts.append(Some(value));
         }
     }
+}
+
+// A list of all values.
+fn filled(alloc: Global) -> Result<Parts<u64>, AllocError> {
+    let mut parts = Parts::new(alloc, VALUES);
+    parts.room(VALUES)?;
+    append_all(&mut parts);
     Ok(parts)
+}
+
+// How long it took from the start to now, if the list has all values.
+fn time_since<R: Clock>(
+    rt: &R,
+    start: io::Result<Instant>,
+    parts: &Parts<u64>,
+) -> Result<Duration> {
+    let took = start?.elapsed(rt)?;
+    ensure!(parts.len() == VALUES, "values were lost");
+    Ok(took)
 }
 
 // How long the vector takes to be closed.
@@ -36,11 +53,9 @@ fn time_close<R: Clock>(rt: &R, vector: Shared<u64>, hand: Hand<u64>) -> Result<
     requires ours { IsHandOf vector hand }
     requires whole { IsWholeHand hand }
 {
-    let start = Instant::now(rt)?;
+    let start = Instant::now(rt);
     let parts = vector.into_parts(hand);
-    let took = start.elapsed(rt)?;
-    ensure!(parts.len() == VALUES, "values were lost");
-    Ok(took)
+    time_since(rt, start, &parts)
 }
 
 // How long the two took: opening the list, and closing the vector.

@@ -29,7 +29,7 @@ const MORE: u64 = 8_000_000;
 const LIST: u64 = 64;
 
 /// What each thread does again and again.
-#[derive(Clone, Copy, Debug)]
+#[derive(Clone, Copy)]
 pub enum Work {
     /// Appends a value.
     Push,
@@ -46,7 +46,7 @@ pub enum Work {
 }
 
 /// A load: what is done, and how many values there are before its time starts and while it runs.
-#[derive(Clone, Copy, Debug)]
+#[derive(Clone, Copy)]
 pub struct Load {
     pub work: Work,
     pub filled: u64,
@@ -66,20 +66,36 @@ pub fn layout_of(name: &str) -> Layout {
     }
 }
 
+// The name of a load, what is done, how many values there are before its time starts, and how many while it runs.
+const ROWS: [(&'static str, Work, u64, u64); 12] = [
+    ("push", Work::Push, 0, FRESH),
+    ("push-256", Work::Push, 0, FRESH),
+    ("push-installed", Work::Push, FILLED, MORE),
+    ("push-arc", Work::Push, FILLED, MORE),
+    ("push-call", Work::CallPush, FILLED, MORE),
+    ("grow", Work::Grow, 0, FRESH),
+    ("grow-installed", Work::Grow, FILLED, MORE),
+    ("make", Work::Make, 0, FRESH),
+    ("make-installed", Work::Make, FILLED, MORE),
+    ("at-least", Work::AtLeast, 0, FRESH),
+    ("at-least-installed", Work::AtLeast, FILLED, MORE),
+    ("look", Work::Look, FILLED, MORE),
+];
+
+// What is done by the load of this name, and the two numbers of values.
+fn row_of(name: &str) -> Option<(Work, u64, u64)> {
+    for (known, work, filled, values) in ROWS.as_slice() {
+        if *known == name {
+            return Some((*work, *filled, *values));
+        }
+    }
+    None
+}
+
 /// The load of this name.
 pub fn load_of(name: &str) -> Result<Load> {
-    let (work, filled, values) = match name {
-        "push" | "push-256" => (Work::Push, 0, FRESH),
-        "push-installed" | "push-arc" => (Work::Push, FILLED, MORE),
-        "push-call" => (Work::CallPush, FILLED, MORE),
-        "grow" => (Work::Grow, 0, FRESH),
-        "grow-installed" => (Work::Grow, FILLED, MORE),
-        "make" => (Work::Make, 0, FRESH),
-        "make-installed" => (Work::Make, FILLED, MORE),
-        "at-least" => (Work::AtLeast, 0, FRESH),
-        "at-least-installed" => (Work::AtLeast, FILLED, MORE),
-        "look" => (Work::Look, FILLED, MORE),
-        _ => bail!("no load has the name {name}"),
+    let Some((work, filled, values)) = row_of(name) else {
+        bail!("no load has the name {name}")
     };
     Ok(Load {
         work,

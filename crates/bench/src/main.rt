@@ -26,7 +26,7 @@ use crate::hundreds::print_hundreds;
 use crate::lives::{Turn, print_turn};
 use crate::loads::{layout_of, load_of, print_boxcar_time};
 use crate::stress::print_stress;
-use crate::thing::{GROUPS, Group};
+use crate::thing::{GROUPS, Group, Thing};
 use anyhow::{Result, bail, ensure};
 use std::alloc::AllocGlobal;
 use std::env::{self, Env};
@@ -39,16 +39,25 @@ const THREADS: usize = 2;
 
 const TRIES: u64 = 500;
 
+// Runs a thing shortly.
+fn print_count<R: Threads + Wait + Clock + Print + AllocGlobal + Sync>(
+    rt: &R,
+    thing: Thing,
+) -> Result<()> {
+    let trial = thing.run(rt, THREADS, TRIES)?;
+    let name = thing.name();
+    ensure!(trial.wins == trial.size, "{name} lost a win");
+    println!(rt; "{name}: {TRIES} tries by each of {THREADS} threads, every win counted")?;
+    Ok(())
+}
+
 // Runs each thing of a group shortly.
 fn print_counts_of<R: Threads + Wait + Clock + Print + AllocGlobal + Sync>(
     rt: &R,
     group: Group,
 ) -> Result<()> {
     for thing in group.things.as_slice() {
-        let trial = thing.run(rt, THREADS, TRIES)?;
-        let name = thing.name();
-        ensure!(trial.wins == trial.size, "{name} lost a win");
-        println!(rt; "{name}: {TRIES} tries by each of {THREADS} threads, every win counted")?;
+        print_count(rt, *thing)?;
     }
     Ok(())
 }

@@ -11,7 +11,7 @@ use std::sync::Wait;
 use std::thread::Threads;
 
 /// What is measured.
-#[derive(Clone, Copy, Debug)]
+#[derive(Clone, Copy)]
 pub enum Thing {
     /// An exchange on the claim word by a hand that begins from what it has seen.
     ClaimWord,
@@ -28,7 +28,7 @@ pub enum Thing {
 }
 
 /// Things that are measured beside each other, the one in question first, and how often a thread tries.
-#[derive(Clone, Copy, Debug)]
+#[derive(Clone, Copy)]
 pub struct Group {
     pub things: [Thing; 3],
     pub tries: u64,

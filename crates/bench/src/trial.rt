@@ -9,7 +9,7 @@ use std::thread::Threads;
 use std::time::{Duration, Instant};
 
 /// How long the tries took, how many of them won, and the size that they left: the two are the same where no win is lost.
-#[derive(Clone, Copy, Debug)]
+#[derive(Clone, Copy)]
 pub struct Trial {
     pub took: Duration,
     pub wins: u64,
@@ -18,7 +18,11 @@ pub struct Trial {
 
 // All wins of the threads.
 fn sum_of(wins: &[u64]) -> u64 {
-    wins.iter().fold(0u64, |sum, won| sum.wrapping_add(*won))
+    let mut sum: u64 = 0;
+    for won in wins {
+        sum = sum.wrapping_add(*won);
+    }
+    sum
 }
 
 /// Runs the tries in this many threads: how long they took, and how many of them won.

@@ -17,7 +17,7 @@ const FEW: u64 = 5;
 const MOST: u64 = 1_000;
 
 // The kinds of call.
-#[derive(Clone, Copy, Debug)]
+#[derive(Clone, Copy)]
 enum Kind {
     TryPush,
     Push,

@@ -3,18 +3,26 @@ ghost use Rattle.std.specs.Prelude.{◌≡◌};
 ghost use Rattle.grow_core.specs.Vector.{IsHandOf};
 
 use crate::stress::record::{Record, Said};
-use anyhow::{Result, bail, ensure};
+use anyhow::{Error, Result, anyhow, bail, ensure};
 use grow_core::{AtError, Hand, Shared};
 use std::alloc::AllocGlobal;
+use std::fmt::Display;
 
-// Writes down which value an answer said to be at each place, or that it is broken.
+// Writes down which value an answer said to be at a place, or that it is broken.
+fn write_one(places: &mut [Option<Option<u64>>], said: Said) -> Result<()> {
+    let place = said.place;
+    match places.get_mut(place as usize) {
+        None => bail!("place {place} was answered, and is not below the size"),
+        Some(Some(_)) => bail!("place {place} was answered twice"),
+        Some(free) => *free = Some(said.value),
+    }
+    Ok(())
+}
+
+// The same for each place that was answered.
 fn write_down(places: &mut [Option<Option<u64>>], placed: &[Said]) -> Result<()> {
-    for Said { place, value } in placed {
-        match places.get_mut(*place as usize) {
-            None => bail!("place {place} was answered, and is not below the size"),
-            Some(Some(_)) => bail!("place {place} was answered twice"),
-            Some(free) => *free = Some(*value),
-        }
+    for said in placed {
+        write_one(places, *said)?;
     }
     Ok(())
 }
@@ -32,6 +40,11 @@ fn places_of<R: AllocGlobal>(
     Ok(places)
 }
 
+// What is said of a place that has no value and is not broken.
+fn not_filled<P: Display>(place: u64, error: &P) -> Error {
+    anyhow!("place {place}: {error}")
+}
+
 // The value at a place, or nothing where it is broken. It must be one of the two.
 fn value_at(vector: &Shared<u64>, hand: &mut Hand<u64>, place: u64) -> Result<Option<u64>>
     requires ours { IsHandOf vector.now hand.old }
@@ -40,7 +53,7 @@ fn value_at(vector: &Shared<u64>, hand: &mut Hand<u64>, place: u64) -> Result<Op
     match vector.at(hand, place, None) {
         Ok(at) => Ok(Some(*at.value)),
         Err(AtError::Broken(_spoilt)) => Ok(None),
-        Err(error) => bail!("place {place}: {error}"),
+        Err(error) => Err(not_filled(place, &error)),
     }
 }
 

@@ -3,6 +3,7 @@ ghost use Rattle.std.specs.Prelude.{◌≡◌, ◌<◌, ◌^◌};
 ghost use Rattle.grow_core.specs.Vector.{IsHandOf};
 
 use crate::stress::calls::Caller;
+use crate::stress::record::Record;
 use anyhow::Result;
 use grow_core::{AtLeast, GrowError, Grown, Hand, Run, Shared};
 use std::alloc::{AllocError, Global};
@@ -15,39 +16,43 @@ fn values_from(alloc: Global, first: u64, n: u64) -> Result<Vec<u64>, AllocError
     Ok(values)
 }
 
+// Notes that a run's place of this index has this value.
+fn note_one(record: &mut Record, grown: &Grown<u64>, i: u64, value: u64) -> Result<()>
+    requires inside { i < grown.now.run.n }
+{
+    record.note_placed(grown.placed(i).place(), Some(value))
+}
+
 // Notes the values of a run: the first, and each next one greater by the step.
-fn note_run(caller: &mut Caller, first: u64, step: u64, grown: &Grown<u64>) -> Result<()> {
+fn note_run(record: &mut Record, first: u64, step: u64, grown: &Grown<u64>) -> Result<()> {
     for i in 0..grown.run().n {
-        let value = first.wrapping_add(i.wrapping_mul(step));
-        caller
-            .record
-            .note_placed(grown.placed(i).place(), Some(value))?;
+        note_one(record, grown, i, first.wrapping_add(i.wrapping_mul(step)))?;
     }
     Ok(())
 }
 
 // Notes that the places of a run after the first ones are broken.
-fn note_broken(caller: &mut Caller, run: Run, made: u64) -> Result<()> {
+fn note_broken(record: &mut Record, run: Run, made: u64) -> Result<()> {
     for i in made..run.n {
-        caller.record.note_placed(run.from.wrapping_add(i), None)?;
+        record.note_placed(run.from.wrapping_add(i), None)?;
     }
     Ok(())
 }
 
 // Notes the answer to a growth.
 fn note_growth<V: Drop, E: Drop>(
-    caller: &mut Caller,
+    record: &mut Record,
     first: u64,
     step: u64,
     answer: Result<Grown<u64>, GrowError<u64, V, E>>,
 ) -> Result<()> {
     match answer {
-        Ok(grown) => note_run(caller, first, step, &grown),
+        Ok(grown) => note_run(record, first, step, &grown),
         Err(GrowError::Refused { run, made, .. }) => {
-            note_run(caller, first, step, &made)?;
-            note_broken(caller, run, made.run().n)
+            note_run(record, first, step, &made)?;
+            note_broken(record, run, made.run().n)
         }
-        Err(error) => caller.record.note_refused(&error),
+        Err(error) => record.note_refused(&error),
     }
 }
 
@@ -66,7 +71,7 @@ pub fn grow(
     let n = caller.up_to(most);
     let first = caller.take_values(n);
     let answer = vector.try_grow_vec(hand, values_from(alloc, first, n)?);
-    note_growth(caller, first, 1, answer)
+    note_growth(&mut caller.record, first, 1, answer)
 }
 
 /// A growth by at most so many clones of one value.
@@ -83,7 +88,7 @@ pub fn grow_by(
     let n = caller.up_to(most);
     let value = caller.take_values(1);
     let answer = vector.try_grow_by(hand, n, &value);
-    note_growth(caller, value, 0, answer)
+    note_growth(&mut caller.record, value, 0, answer)
 }
 
 /// A growth by at most so many values that are made in place, of which one may be refused.
@@ -107,7 +112,12 @@ pub fn grow_with(
             Ok(first.wrapping_add(i))
         }
     };
-    note_growth(caller, first, 1, vector.try_grow_with(hand, n, make))
+    note_growth(
+        &mut caller.record,
+        first,
+        1,
+        vector.try_grow_with(hand, n, make),
+    )
 }
 
 /// A growth up to at most so many places above the size that the hand has seen, of values that are made in place, of which one
@@ -133,8 +143,8 @@ pub fn grow_to_at_least(
         }
     };
     match vector.grow_to_at_least(hand, size, make) {
-        Ok(AtLeast::Ran(grown)) => note_run(caller, first, 1, &grown),
+        Ok(AtLeast::Ran(grown)) => note_run(&mut caller.record, first, 1, &grown),
         Ok(AtLeast::Enough { .. }) => Ok(()),
-        Err(refused) => note_growth::<(), u64>(caller, first, 1, Err(refused)),
+        Err(refused) => note_growth::<(), u64>(&mut caller.record, first, 1, Err(refused)),
     }
 }

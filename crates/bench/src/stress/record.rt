@@ -5,7 +5,7 @@ use std::alloc::Global;
 use std::fmt;
 
 /// A place and its value, or nothing where it is broken.
-#[derive(Clone, Copy, Debug)]
+#[derive(Clone, Copy)]
 pub struct Said {
     pub place: u64,
     pub value: Option<u64>,
@@ -24,6 +24,12 @@ pub struct Record {
     pub full: u64,
 }
 
+// Notes a place and its value in a list.
+fn note(list: &mut Vec<Said>, place: u64, value: Option<u64>) -> Result<()> {
+    list.push(Said { place, value })?;
+    Ok(())
+}
+
 impl Record {
     /// Of no call.
     pub fn new(alloc: Global) -> Record {
@@ -37,14 +43,12 @@ impl Record {
 
     /// A value was appended, or its construction refused.
     pub fn note_placed(&mut self, place: u64, value: Option<u64>) -> Result<()> {
-        self.placed.push(Said { place, value })?;
-        Ok(())
+        note(&mut self.placed, place, value)
     }
 
     /// A value was read, or a broken place.
     pub fn note_read(&mut self, place: u64, value: Option<u64>) -> Result<()> {
-        self.read.push(Said { place, value })?;
-        Ok(())
+        note(&mut self.read, place, value)
     }
 
     /// A growth was refused, for a reason that may come, and claimed nothing.
@@ -59,7 +63,7 @@ impl Record {
 }
 
 /// How much there was of each kind, on all vectors together.
-#[derive(Clone, Copy, Debug, Default)]
+#[derive(Clone, Copy, Default)]
 pub struct Counts {
     vectors: u64,
     placed: u64,

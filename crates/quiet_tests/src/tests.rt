@@ -93,28 +93,17 @@ fn has_a_broken_member(list: &Quiet<u64>) -> bool {
     is_broken(list, 1) && list.get(2) == Err(QuietAt::OutOfRange { size: 2 })
 }
 
-fn are_less(broken: Quiet<u64>, zero: Quiet<u64>, same: Quiet<u64>) -> bool {
-    is_less(&broken, &zero, &same) && has_a_broken_member(&broken)
-}
-
 #[test]
 fn broken_is_less_than_every_value(rt: HostRuntime) {
-    assert!(rt;
-        are_less(
-            broken_after(&rt, 1),
-            list_of(&rt, &[1, 0]),
-            broken_after(&rt, 1)
-        )
-    );
-}
-
-fn pushes(list: &mut Quiet<u64>, value: u64, answer: Result<u64, (QuietError, u64)>) -> bool {
-    list.push(value) == answer
+    let broken = broken_after(&rt, 1);
+    let zero = list_of(&rt, &[1, 0]);
+    let same = broken_after(&rt, 1);
+    assert!(rt; is_less(&broken, &zero, &same) && has_a_broken_member(&broken));
 }
 
 fn is_full_with_one(list: &mut Quiet<u64>) -> bool {
-    pushes(list, 7, Ok(0))
-        && pushes(list, 8, Err((QuietError::TooLong, 8)))
+    list.push(7) == Ok(0)
+        && list.push(8) == Err((QuietError::TooLong, 8))
         && list.reserve(2) == Err(QuietError::TooLong)
 }
 
@@ -154,28 +143,17 @@ fn are_exchanged(list: &mut Quiet<u64>, other: &mut Quiet<u64>) -> bool {
 
 // Whether a list with a limit of five refuses six values and takes five.
 fn assigns_five(list: &mut Quiet<u64>, six: Vec<u64>, five: Vec<u64>) -> bool {
-    let refused = matches!(list.assign(six), Err((QuietError::TooLong, _)));
-    let taken = list.assign(five).is_ok();
-    refused && taken && measures(list, 5, 8)
-}
-
-fn exchange(mut list: Quiet<u64>, mut other: Quiet<u64>, six: Vec<u64>, five: Vec<u64>) -> bool {
-    let exchanged = are_exchanged(&mut list, &mut other);
-    let assigned = assigns_five(&mut list, six, five);
-    exchanged && assigned
+    matches!(list.assign(six), Err((QuietError::TooLong, _)))
+        && list.assign(five).is_ok()
+        && measures(list, 5, 8)
 }
 
 #[test]
 fn lists_are_exchanged_and_replaced(rt: HostRuntime) {
+    let mut list = list_of(&rt, &[1, 2, 3]);
+    let mut other = Quiet::new(rt.alloc(), 5);
     let (six, five) = (vec_of(&rt, &[0; 6]), vec_of(&rt, &[9; 5]));
-    assert!(rt;
-        exchange(
-            list_of(&rt, &[1, 2, 3]),
-            Quiet::new(rt.alloc(), 5),
-            six,
-            five
-        )
-    );
+    assert!(rt; are_exchanged(&mut list, &mut other) && assigns_five(&mut list, six, five));
 }
 
 fn pushes_on(list: &mut Quiet<u64>) -> bool {

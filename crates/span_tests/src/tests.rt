@@ -9,8 +9,8 @@ mod stuck;
 mod uses;
 mod watch;
 
-use span_core::{Free, Gate, PairGate, ParError, Span, par_map, par_reduce};
 use quiet_core::Quiet;
+use span_core::{Free, Gate, PairGate, ParError, Span, par_map, par_reduce};
 use std::alloc::Global;
 use std::sync::Wait;
 use std::sync::atomic::{AtomicU64, Ordering};

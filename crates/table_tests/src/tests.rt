@@ -2,12 +2,12 @@ ghost use Rattle.std.specs.Prelude.{◌≡◌, ◌<◌, IfSome};
 ghost use Rattle.cell_core.specs.Block.{block_len};
 ghost use Rattle.table_core.specs.Table.{IsKeyIn};
 
-use table_core::{Key, Table};
 use cell_core::block::{Block, Look};
 use seg_core::Layout;
 use std::alloc::Global;
 use std::sync::atomic::{AtomicU64, Ordering};
 use std::test::Fail;
+use table_core::{Key, Table};
 
 mod race;
 

@@ -4,9 +4,14 @@ use quiet_core::Quiet;
 use seg_core::Layout;
 use std::alloc::Global;
 
-// Whether these two members are appended.
-fn takes_two(list: &mut Quiet<u64>, first: u64, second: u64) -> bool {
-    list.push(first).is_ok() && list.push(second).is_ok()
+// A list of the layout with these two members.
+fn two(alloc: Global, f: u32, first: u64, second: u64) -> Option<Quiet<u64>> {
+    let mut list = Quiet::new_in(alloc, Layout::new(f)?, 16);
+    if list.push(first).is_ok() && list.push(second).is_ok() {
+        Some(list)
+    } else {
+        None
+    }
 }
 
 // Whether the capacity follows the layout's segments.
@@ -18,21 +23,16 @@ fn follows_its_segments(list: &mut Quiet<u64>, layout: Layout) -> bool {
         && shrinks_to(list, layout.capacity_for(2))
 }
 
-fn is_of(alloc: Global, layout: Layout) -> bool {
-    let mut list = Quiet::new_in(alloc, layout, 16);
-    takes_two(&mut list, 1, 2) && follows_its_segments(&mut list, layout)
-}
-
-fn follows(alloc: Global, f: u32) -> bool {
-    match Layout::new(f) {
-        Some(layout) => is_of(alloc, layout),
-        None => false,
+fn is_of(alloc: Global, f: u32) -> bool {
+    match (two(alloc, f, 1, 2), Layout::new(f)) {
+        (Some(mut list), Some(layout)) => follows_its_segments(&mut list, layout),
+        _ => false,
     }
 }
 
 #[test]
 fn capacities_follow_the_layout(rt: HostRuntime) {
-    assert!(rt; (1..9u32).all(|f: u32| -> bool { follows(rt.alloc(), f) }));
+    assert!(rt; (1..9u32).all(|f: u32| -> bool { is_of(rt.alloc(), f) }));
 }
 
 // Whether the first two lists are equal, and both less than the third.
@@ -40,21 +40,14 @@ fn are_in_order(a: &Quiet<u64>, b: &Quiet<u64>, c: &Quiet<u64>) -> bool {
     *a == *b && *a < *c && *b < *c
 }
 
-fn take_two(a: &mut Quiet<u64>, b: &mut Quiet<u64>, c: &mut Quiet<u64>) -> bool {
-    takes_two(a, 1, 2) && takes_two(b, 1, 2) && takes_two(c, 1, 3)
-}
-
 // Whether lists of two layouts compare by their members alone.
-fn compare_by_members(alloc: Global, one: Layout, other: Layout) -> bool {
-    let mut a = Quiet::new_in(alloc, one, 16);
-    let mut b = Quiet::new_in(alloc, other, 16);
-    let mut c = Quiet::new_in(alloc, one, 16);
-    take_two(&mut a, &mut b, &mut c) && are_in_order(&a, &b, &c)
-}
-
 fn compare(alloc: Global, f: u32, g: u32) -> bool {
-    match (Layout::new(f), Layout::new(g)) {
-        (Some(one), Some(other)) => compare_by_members(alloc, one, other),
+    match (
+        two(alloc, f, 1, 2),
+        two(alloc, g, 1, 2),
+        two(alloc, f, 1, 3),
+    ) {
+        (Some(a), Some(b), Some(c)) => are_in_order(&a, &b, &c),
         _ => false,
     }
 }

@@ -5,8 +5,9 @@ ghost use Rattle.grow_core.specs.Vector.{IsHandOf};
 
 use super::{broken_after, has, list_of, measures};
 use quiet_core::{Hand, Quiet, QuietAt, QuietMendError, Shared};
-use std::alloc::{AllocGlobal, Global};
+use std::alloc::AllocGlobal;
 use std::process::Abort;
+use std::test::Fail;
 
 // The list that comes of one life in which a value is appended, if there is memory and room; and what is recalled by its token.
 fn pushed_while_open(list: Quiet<u64>, value: u64) -> Option<(Quiet<u64>, u64)>
@@ -132,22 +133,16 @@ fn values_come_out_in_order(rt: HostRuntime) {
     );
 }
 
-type Exchanged = Result<u64, (QuietAt, u64)>;
-
-fn exchanges(list: &mut Quiet<u64>, place: u64, value: u64, answer: Exchanged) -> bool {
-    list.replace(place, value) == answer
-}
-
 fn exchanges_the_second(list: &mut Quiet<u64>) -> bool {
-    exchanges(list, 1, 20, Ok(2))
+    list.replace(1, 20) == Ok(2)
         && has(list, 0, 1)
         && has(list, 1, 20)
         && has(list, 2, 3)
-        && exchanges(list, 3, 40, Err((QuietAt::OutOfRange { size: 3 }, 40)))
+        && list.replace(3, 40) == Err((QuietAt::OutOfRange { size: 3 }, 40))
 }
 
 fn exchanges_no_broken_member(list: &mut Quiet<u64>) -> bool {
-    exchanges(list, 1, 5, Err((QuietAt::Broken, 5)))
+    list.replace(1, 5) == Err((QuietAt::Broken, 5))
 }
 
 #[test]
@@ -172,15 +167,12 @@ fn a_broken_member_is_mended_once(rt: HostRuntime) {
     assert!(rt; mends_the_second(&mut list) && mends_no_value(&mut list));
 }
 
-fn shows(alloc: Global, list: &Quiet<u64>, text: &str) -> bool {
-    match format!(in alloc; "{list:?}") {
-        Ok(shown) => shown.as_str() == text,
-        Err(_) => false,
-    }
-}
-
 #[test]
-fn a_list_shows_its_members(rt: HostRuntime) {
+fn a_list_shows_its_members(rt: HostRuntime) -> Result<(), Fail> {
     let list = broken_after(&rt, 7);
-    assert!(rt; shows(rt.alloc(), &list, "[Some(7), None]"));
+    assert_eq!(rt;
+        format!(in rt.alloc(); "{list:?}")?.as_str(),
+        "[Some(7), None]"
+    );
+    Ok(())
 }

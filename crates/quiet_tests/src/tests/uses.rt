@@ -1,24 +1,11 @@
 // What callers prove by the public clauses alone.
-ghost use Rattle.std.specs.Prelude.{◌≡◌, ◌^◌, ◌≤◌, Some, IfOk, map, replicate, slice_get};
+ghost use Rattle.std.specs.Prelude.{◌≡◌, ◌^◌, ◌≤◌, Some, IfOk, replicate, slice_get};
 
 use super::{measures, vec_of};
 use quiet_core::{Quiet, QuietAt, QuietError};
 use std::alloc::{AllocGlobal, Global};
 use std::process::Abort;
 use std::test::Fail;
-
-// The list of these values, with room for so many.
-fn with_room(alloc: Global, values: Vec<u64>, room: u64) -> Result<Quiet<u64>, QuietError>
-    ensures { IfOk result (λ list. list.members ≡ map Some values.items) }
-{
-    match Quiet::from_vec(alloc, 1 << 40, values) {
-        Ok(mut list) => match list.reserve(room) {
-            Ok(()) => Ok(list),
-            Err(error) => Err(error),
-        },
-        Err((error, _)) => Err(error),
-    }
-}
 
 // A list of values gives back each value at its place, also once it has more room.
 #[tactic(auto, using(crate::proofs::Values::value_there, crate::proofs::Values::not_broken))]
@@ -30,7 +17,11 @@ fn value_at(
 ) -> Result<Option<u64>, QuietError>
     ensures { IfOk result (λ value. value ≡ slice_get values.items place) }
 {
-    let list = with_room(alloc, values, room)?;
+    let mut list = match Quiet::from_vec(alloc, 1 << 40, values) {
+        Ok(list) => list,
+        Err((error, _)) => return Err(error),
+    };
+    list.reserve(room)?;
     match list.get(place) {
         Ok(value) => Ok(Some(*value)),
         Err(QuietAt::OutOfRange { .. }) => Ok(None),

@@ -2,9 +2,9 @@
 ghost use Rattle.std.specs.Prelude.{◌≡◌, ◌<◌, ◌≤◌};
 ghost use Rattle.grow_core.specs.Vector.{IsHandOf};
 
-use span_core::{Free, Gate, PairGate, Refusal, split_even, with_hands};
 use grow_core::{GrowError, Hand, Never, Shared};
 use quiet_core::Quiet;
+use span_core::{Free, Gate, PairGate, Refusal, split_even, with_hands};
 use std::alloc::Global;
 use std::sync::Wait;
 use std::thread::Threads;

@@ -3,9 +3,9 @@
 ghost use Rattle.std.specs.Prelude.{◌≡◌};
 ghost use Rattle.grow_core.specs.Vector.{IsHandOf};
 
-use span_core::{Free, ParError, Refusal, Span, par_map, par_reduce, with_hands};
 use grow_core::{Hand, Shared};
 use quiet_core::Quiet;
+use span_core::{Free, ParError, Refusal, Span, par_map, par_reduce, with_hands};
 use std::alloc::Global;
 use std::process::Abort;
 use std::sync::Wait;

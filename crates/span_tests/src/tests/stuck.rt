@@ -1,7 +1,7 @@
 // A gate that refuses one worker of three, whichever it is: the loop is stuck, and each worker passed the gate twice.
 use crate::tests::{numbered, refusal_of};
-use span_core::{Gate, ParError, Span, par_reduce};
 use quiet_core::Quiet;
+use span_core::{Gate, ParError, Span, par_reduce};
 use std::alloc::Global;
 use std::sync::Wait;
 use std::sync::atomic::{AtomicU64, Ordering};

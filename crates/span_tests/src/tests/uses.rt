@@ -4,8 +4,8 @@ ghost use Rattle.std.specs.Option.{option_copied};
 ghost use Rattle.span_core.specs.Loops.{wrapping_sum};
 
 use crate::tests::numbered;
-use span_core::{Free, ParError, Span, laws, par_map, par_reduce};
 use quiet_core::Quiet;
+use span_core::{Free, ParError, Span, laws, par_map, par_reduce};
 use std::alloc::{AllocError, Global};
 use std::sync::Wait;
 use std::test::Fail;

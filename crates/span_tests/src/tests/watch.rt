@@ -2,8 +2,8 @@
 ghost use Rattle.std.specs.Prelude.{◌<◌};
 
 use crate::tests::numbered;
-use span_core::{Gate, Job, ParError, Span, par_map, par_reduce, run_workers};
 use quiet_core::Quiet;
+use span_core::{Gate, Job, ParError, Span, par_map, par_reduce, run_workers};
 use std::alloc::{AllocError, Global};
 use std::sync::Wait;
 use std::sync::atomic::{AtomicU64, Ordering};

@@ -2,12 +2,12 @@ ghost use Rattle.std.specs.Prelude.{◌≡◌, ◌<◌, IfSome};
 ghost use Rattle.cell_core.specs.Block.{block_len};
 ghost use Rattle.table_core.specs.Table.{IsKeyIn};
 
-use table_core::{Key, Table};
 use cell_core::block::{Block, Look};
 use seg_core::Layout;
 use std::alloc::Global;
 use std::sync::atomic::{AtomicU64, Ordering};
 use std::test::Fail;
+use table_core::{Key, Table};
 
 mod race;
 
@@ -16,12 +16,12 @@ fn fill<T: Drop>(block: &Block<T>, place: u64, value: T) -> bool {
     if place >= block.len() {
         return false;
     }
-    match block.begin(place) {
-        Ok(pen) => {
+    match block.begin(place).ok() {
+        Some(pen) => {
             let _placed = pen.fill(value);
             true
         }
-        Err(_found) => false,
+        None => false,
     }
 }
 
@@ -225,12 +225,16 @@ fn is_lent(table: &mut Table<u64>) -> bool {
     table.block_mut(1).is_some()
 }
 
-fn gives_up_what_was_lent(table: &mut Table<u64>) -> bool {
-    let is_lent = len_of(table, 1) == Some(2) && is_lent(table);
+// Whether an entry whose block was lent has none once it is given up.
+fn gives_it_up(table: &mut Table<u64>) -> bool {
     let _layout = table.layout();
     table.give_up(1);
     table.put_back();
-    is_lent && table.scout(1).is_none() && table.block_mut(1).is_none()
+    table.scout(1).is_none() && !is_lent(table)
+}
+
+fn gives_up_what_was_lent(table: &mut Table<u64>) -> bool {
+    len_of(table, 1) == Some(2) && is_lent(table) && gives_it_up(table)
 }
 
 #[test]

@@ -2,11 +2,11 @@
 ghost use Rattle.table_core.specs.Table.{IsKeyIn};
 
 use crate::tests::{Counted, drops_so_far, fill, key_of, shows, takes};
-use table_core::{Key, Table};
 use std::alloc::{AllocError, Global};
 use std::sync::atomic::{AtomicU64, Ordering};
 use std::test::Fail;
 use std::thread::{Threads, join};
+use table_core::{Key, Table};
 
 const TABLES: u64 = 10_000;
 

@@ -16,12 +16,12 @@ fn fill<T: Drop>(block: &Block<T>, place: u64, value: T) -> bool {
     if place >= block.len() {
         return false;
     }
-    match block.begin(place).ok() {
-        Some(pen) => {
+    match block.begin(place) {
+        Ok(pen) => {
             let _placed = pen.fill(value);
             true
         }
-        None => false,
+        Err(_found) => false,
     }
 }
 

@@ -225,12 +225,16 @@ fn is_lent(table: &mut Table<u64>) -> bool {
     table.block_mut(1).is_some()
 }
 
-fn gives_up_what_was_lent(table: &mut Table<u64>) -> bool {
-    let is_lent = len_of(table, 1) == Some(2) && is_lent(table);
+// Whether an entry whose block was lent has none once it is given up.
+fn gives_it_up(table: &mut Table<u64>) -> bool {
     let _layout = table.layout();
     table.give_up(1);
     table.put_back();
-    is_lent && table.scout(1).is_none() && table.block_mut(1).is_none()
+    table.scout(1).is_none() && !is_lent(table)
+}
+
+fn gives_up_what_was_lent(table: &mut Table<u64>) -> bool {
+    len_of(table, 1) == Some(2) && is_lent(table) && gives_it_up(table)
 }
 
 #[test]

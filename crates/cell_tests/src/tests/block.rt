@@ -119,15 +119,13 @@ fn a_cell_is_filled_once(rt: HostRuntime) {
 fn is_busy_until_filled(block: &Block<u64>) -> bool
     requires { 1 < block_len block.now }
 {
-    match block.begin(1) {
-        Ok(pen) => {
-            let is_busy = matches!(block.look(1), Look::Busy);
-            let found = busy_place(block, 1);
-            let placed = pen.fill(7);
-            is_busy && found == Some(1) && *block.value(&placed) == 7
-        }
-        Err(_found) => false,
-    }
+    let Some(pen) = block.begin(1).ok() else {
+        return false;
+    };
+    let is_busy = matches!(block.look(1), Look::Busy);
+    let found = busy_place(block, 1);
+    let placed = pen.fill(7);
+    is_busy && found == Some(1) && *block.value(&placed) == 7
 }
 
 #[test]
@@ -140,13 +138,8 @@ fn a_cell_is_busy_while_its_pen_is_out(rt: HostRuntime) {
 fn spoilt_places(block: &Block<u64>, place: u64) -> Option<(u64, u64)>
     requires { place < block_len block.now }
 {
-    match block.begin(place) {
-        Ok(pen) => {
-            let spoilt = pen.spoil();
-            Some((spoilt.place(), spoilt.again().place()))
-        }
-        Err(_found) => None,
-    }
+    let spoilt = block.begin(place).ok()?.spoil();
+    Some((spoilt.place(), spoilt.again().place()))
 }
 
 fn stays_broken(block: &Block<u64>) -> bool

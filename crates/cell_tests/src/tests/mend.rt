@@ -27,14 +27,12 @@ fn spoil<T>(block: &Block<T>, place: u64) -> bool
 fn is_busy_to_a_mend(block: &Block<u64>) -> bool
     requires { 0 < block_len block.now }
 {
-    match block.begin(0) {
-        Ok(pen) => {
-            let found = number(block.mend(0));
-            pen.spoil();
-            found == 1
-        }
-        Err(_found) => false,
-    }
+    let Some(pen) = block.begin(0).ok() else {
+        return false;
+    };
+    let found = number(block.mend(0));
+    pen.spoil();
+    found == 1
 }
 
 // What a mend finds before a cell is begun, while its pen is out, once it is broken, and once it is filled.

@@ -58,18 +58,22 @@ fn rounds_of<R: Threads + Wait + Clock + AllocGlobal + Sync>(
     Ok(rounds)
 }
 
+// The time at this index.
+fn time_at(times: &[u64], index: usize) -> u64 {
+    times.get(index).copied().unwrap_or(0)
+}
+
 // How the times of the thing at this index of its group are spread.
 fn spread_of<R: AllocGlobal>(rt: &R, rounds: &[[u64; 3]], index: usize) -> Result<Spread> {
     let mut times = Vec::new(rt.alloc());
     for round in rounds {
-        times.push(round.get(index).copied().unwrap_or(0))?;
+        times.push(time_at(round.as_slice(), index))?;
     }
     times.sort()?;
-    let at = |index: usize| times.get(index).copied().unwrap_or(0);
     Ok(Spread {
-        least: at(0),
-        middle: at(ROUNDS / 2),
-        most: at(ROUNDS - 1),
+        least: time_at(times.as_slice(), 0),
+        middle: time_at(times.as_slice(), ROUNDS / 2),
+        most: time_at(times.as_slice(), ROUNDS - 1),
     })
 }
 

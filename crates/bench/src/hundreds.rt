@@ -1,5 +1,6 @@
 //! Many vectors of a hundred values each, one after another.
 use crate::shared_vector::{empty_in, push};
+use crate::trial::print_nanoseconds;
 use anyhow::{Result, ensure};
 use grow_core::OpenError;
 use seg_core::Layout;
@@ -29,6 +30,5 @@ fn fill_all<R: Wait + AllocGlobal>(rt: &R, layout: Layout) -> Result<()> {
 pub fn print_hundreds<R: Wait + Clock + Print + AllocGlobal>(rt: &R, layout: Layout) -> Result<()> {
     let start = Instant::now(rt)?;
     fill_all(rt, layout)?;
-    println!(rt; "{}", start.elapsed(rt)?.as_nanos())?;
-    Ok(())
+    print_nanoseconds(rt, start.elapsed(rt)?)
 }

@@ -2,6 +2,7 @@
 ghost use Rattle.claim_core.specs.Hand.{IsWholeHand};
 ghost use Rattle.grow_core.specs.Vector.{IsHandOf};
 
+use crate::trial::print_nanoseconds;
 use anyhow::{Result, bail, ensure};
 use grow_core::{Hand, Parts, Shared};
 use std::alloc::{AllocError, AllocGlobal, Global};
@@ -76,6 +77,5 @@ pub fn print_turn<R: Clock + Print + AllocGlobal>(rt: &R, turn: Turn) -> Result<
         Turn::Open => opened,
         Turn::Close => closed,
     };
-    println!(rt; "{}", took.as_nanos())?;
-    Ok(())
+    print_nanoseconds(rt, took)
 }

@@ -6,7 +6,7 @@ ghost use Rattle.grow_core.specs.Vector.{IsHandOf};
 
 use crate::other_vectors::push_boxcar;
 use crate::shared_vector::{empty_in, hands_for, push, push_by_calls};
-use crate::trial::{time_hands, time_threads};
+use crate::trial::{print_nanoseconds, time_hands, time_threads};
 use anyhow::{Result, bail};
 use grow_core::{Hand, Never, Shared};
 use seg_core::Layout;
@@ -279,8 +279,7 @@ impl Load {
     {
         push(rt, vector, vector.split(hand, 1), self.filled);
         let took = self.time(rt, vector, hand, threads)?;
-        println!(rt; "{}", took.as_nanos())?;
-        Ok(())
+        print_nanoseconds(rt, took)
     }
 
     /// Runs it in this many threads, and prints the nanoseconds that it took. The vector stands until they are
@@ -312,8 +311,7 @@ fn print_boxcar_time_on<R: Threads + Wait + Clock + Print + AllocGlobal + Sync>(
 ) -> Result<()> {
     let times = FRESH / (threads as u64).max(1);
     let (took, _wins) = time_threads(rt, threads, &|_| push_boxcar(rt, list, times))?;
-    println!(rt; "{}", took.as_nanos())?;
-    Ok(())
+    print_nanoseconds(rt, took)
 }
 
 /// Pushes as many values as the load `push` on a new `boxcar::Vec`, and prints the nanoseconds that it took.

@@ -39,6 +39,12 @@ const THREADS: usize = 2;
 
 const TRIES: u64 = 500;
 
+// Says that every win of a thing was counted.
+fn print_counted<R: Print>(rt: &R, name: &str) -> Result<()> {
+    println!(rt; "{name}: {TRIES} tries by each of {THREADS} threads, every win counted")?;
+    Ok(())
+}
+
 // Runs a thing shortly.
 fn print_count<R: Threads + Wait + Clock + Print + AllocGlobal + Sync>(
     rt: &R,
@@ -47,8 +53,7 @@ fn print_count<R: Threads + Wait + Clock + Print + AllocGlobal + Sync>(
     let trial = thing.run(rt, THREADS, TRIES)?;
     let name = thing.name();
     ensure!(trial.wins == trial.size, "{name} lost a win");
-    println!(rt; "{name}: {TRIES} tries by each of {THREADS} threads, every win counted")?;
-    Ok(())
+    print_counted(rt, name)
 }
 
 // Runs each thing of a group shortly.
@@ -77,14 +82,19 @@ enum Task<'a> {
     Stress(u64),
 }
 
+// The number that a word says.
+fn number_of(word: &String) -> Result<u64> {
+    Ok(word.as_str().parse()?)
+}
+
 fn task_of(words: &[String]) -> Result<Task<'_>> {
     match words {
         [] => Ok(Task::Counts),
         [word] if word.as_str() == "figures" => Ok(Task::Figures),
-        [word, seconds] if word.as_str() == "stress" => Ok(Task::Stress(seconds.as_str().parse()?)),
+        [word, seconds] if word.as_str() == "stress" => Ok(Task::Stress(number_of(seconds)?)),
         [word, name, threads] if word.as_str() == "load" => Ok(Task::Load {
             name: name.as_str(),
-            threads: threads.as_str().parse()?,
+            threads: number_of(threads)? as usize,
         }),
         _ => bail!("usage: bench [figures | load NAME THREADS | stress SECONDS]"),
     }

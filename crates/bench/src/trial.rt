@@ -52,3 +52,9 @@ pub fn time_hands<R: Threads + Clock + Sync, H: Send + Drop, F: Fn(H) -> u64 + S
     let took = start.elapsed(rt)?;
     Ok((took, sum_of(wins.as_slice())))
 }
+
+/// Prints the nanoseconds of a time.
+pub fn print_nanoseconds<R: Print>(rt: &R, time: Duration) -> Result<()> {
+    println!(rt; "{}", time.as_nanos())?;
+    Ok(())
+}

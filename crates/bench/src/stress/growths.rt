@@ -16,17 +16,18 @@ fn values_from(alloc: Global, first: u64, n: u64) -> Result<Vec<u64>, AllocError
     Ok(values)
 }
 
-// Notes that a run's place of this index has this value.
-fn note_one(record: &mut Record, grown: &Grown<u64>, i: u64, value: u64) -> Result<()>
+// The place of this index in a run, as its token says it.
+fn place_of(grown: &Grown<u64>, i: u64) -> u64
     requires inside { i < grown.now.run.n }
 {
-    record.note_placed(grown.placed(i).place(), Some(value))
+    grown.placed(i).place()
 }
 
 // Notes the values of a run: the first, and each next one greater by the step.
 fn note_run(record: &mut Record, first: u64, step: u64, grown: &Grown<u64>) -> Result<()> {
     for i in 0..grown.run().n {
-        note_one(record, grown, i, first.wrapping_add(i.wrapping_mul(step)))?;
+        let value = first.wrapping_add(i.wrapping_mul(step));
+        record.note_placed(place_of(grown, i), Some(value))?;
     }
     Ok(())
 }

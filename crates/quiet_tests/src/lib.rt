@@ -1,7 +1,0 @@
-//! Tests of `quiet_core`, and what callers prove of an exclusive list by public clauses.
-//!
-//! A crate with tests is proved once without and once with them. Here nothing is proved twice but a few lines.
-#![tactic(auto)]
-
-#[cfg(test)]
-mod tests;

@@ -1,0 +1,203 @@
+// Cells that were broken, and are mended.
+ghost use Rattle.std.specs.Prelude.{◌≡◌, ◌≢◌, ◌<◌, None, IfSome};
+ghost use Rattle.cell_core.specs.Block.{block_len, IsPlacedIn, IsPlacedAt, IsMemberAt};
+
+use crate::cell::block::{Counted, fill, made, number};
+use cell_core::block::{Block, Ended, Epoch, Look, Member, Placed};
+use std::sync::atomic::{AtomicU64, Ordering};
+use std::thread::{Threads, join};
+
+// Mends the cell with a value, where it is broken.
+fn mend<T: Drop>(block: &Block<T>, place: u64, value: T) -> Option<Placed<T>>
+    requires { place < block_len block.now }
+    ensures token { IfSome result (IsPlacedAt block.now place) }
+    ensures value { IfSome result (λ placed. placed.value ≡ value) }
+{
+    Some(block.mend(place).ok()?.fill(value))
+}
+
+// Breaks the cell, where it is empty.
+fn spoil<T>(block: &Block<T>, place: u64) -> bool
+    requires { place < block_len block.now }
+{
+    number(block.begin(place)) == 5
+}
+
+// Whether a mend finds the first cell busy while its pen is out, which breaks it.
+fn is_busy_to_a_mend(block: &Block<u64>) -> bool
+    requires { 0 < block_len block.now }
+{
+    let Some(pen) = block.begin(0).ok() else {
+        return false;
+    };
+    let found = number(block.mend(0));
+    pen.spoil();
+    found == 1
+}
+
+// What a mend finds before a cell is begun, while its pen is out, once it is broken, and once it is filled.
+fn is_mended_only_where_broken(block: &Block<u64>) -> bool
+    requires { 0 < block_len block.now }
+{
+    number(block.mend(0)) == 0
+        && is_busy_to_a_mend(block)
+        && number(block.mend(0)) == 5
+        && mend(block, 0, 7).is_some()
+        && number(block.mend(0)) == 2
+        && matches!(block.look(0), Look::Filled(7, _))
+}
+
+#[test]
+fn a_broken_cell_is_mended_and_no_other(rt: HostRuntime) {
+    let block = made(&rt, 1);
+    assert!(rt; is_mended_only_where_broken(&block));
+}
+
+// What is known of the first cell in a new epoch, where it is broken.
+fn broken_in(block: &mut Block<u64>, epoch: &Epoch) -> Member<u64>
+    requires { 0 < block_len block.old }
+    ensures member { IsMemberAt block.new 0 result }
+    ensures epoch { result.epoch ≡ epoch.now }
+    ensures len { block_len block.new ≡ block_len block.old }
+{
+    block.spoil_now(0, epoch).0
+}
+
+// What calls find in a cell that an owner broke, while its epoch lasts.
+fn is_shut(block: &Block<u64>, broken: &Member<u64>, epoch: &Epoch) -> bool
+    requires { IsMemberAt block.now 0 broken.now × (broken.now.epoch ≡ epoch.now) }
+{
+    number(block.mend(0)) == 3
+        && number(block.begin(0)) == 3
+        && block.member(0, broken, epoch).is_none()
+        && block.known(0, broken).is_none()
+        && matches!(block.look(0), Look::Broken(_))
+}
+
+// The number of a mend by what was known in an epoch that has ended.
+fn number_after(block: &Block<u64>, broken: &Member<u64>, ended: &Ended) -> u64
+    requires { IsMemberAt block.now 0 broken.now × (broken.now.epoch ≡ ended.now) }
+{
+    number(block.mend_member(0, broken, ended))
+}
+
+// What they find once it has ended.
+fn is_mended_after(block: &Block<u64>, broken: &Member<u64>, ended: &Ended) -> bool
+    requires { IsMemberAt block.now 0 broken.now × (broken.now.epoch ≡ ended.now) }
+{
+    number(block.mend(0)) == 3
+        && number_after(block, broken, ended) == 5
+        && number_after(block, broken, &ended.again()) == 5
+        && mend(block, 0, 8).is_some()
+        && matches!(block.known(0, broken), Some((8, _)))
+        && number_after(block, broken, ended) == 2
+}
+
+#[test]
+fn what_an_owner_broke_is_mended_after_its_epoch(rt: HostRuntime) {
+    let mut block = made(&rt, 1);
+    let epoch = Epoch::new();
+    let broken = broken_in(&mut block, &epoch);
+    assert!(rt; is_shut(&block, &broken, &epoch));
+    let ended = epoch.end();
+    assert!(rt; is_mended_after(&block, &broken, &ended));
+}
+
+// A cell that an owner broke in one epoch is settled in another.
+fn is_settled_anew(block: &mut Block<u64>) -> bool
+    requires { 0 < block_len block.old }
+{
+    let first = Epoch::new();
+    let broken = broken_in(block, &first);
+    let second = Epoch::new();
+    let anew = block.settle_known(0, &broken, &second);
+    number(block.mend(0)) == 3 && number(block.mend_member(0, &anew, &second.end())) == 5
+}
+
+#[test]
+fn a_broken_cell_is_settled_anew_in_each_epoch(rt: HostRuntime) {
+    let mut block = made(&rt, 1);
+    assert!(rt; is_settled_anew(&mut block));
+}
+
+// Whether a cell that was mended is settled as one with its value.
+fn is_settled_mended(block: &mut Block<u64>) -> bool
+    requires { 0 < block_len block.old }
+{
+    let epoch = Epoch::new();
+    let broken = broken_in(block, &epoch);
+    let ended = epoch.end();
+    let next = Epoch::new();
+    match block.mend_member(0, &broken, &ended) {
+        Ok(pen) => {
+            pen.fill(9);
+        }
+        Err(_found) => {}
+    }
+    let member = block.settle_known(0, &broken, &next);
+    matches!(block.known(0, &member), Some((9, _))) && block.take(0) == Some(9)
+}
+
+#[test]
+fn a_mended_cell_is_settled_with_its_value(rt: HostRuntime) {
+    let mut block = made(&rt, 1);
+    assert!(rt; is_settled_mended(&mut block));
+}
+
+#[test]
+fn a_mended_value_is_dropped_once(rt: HostRuntime) {
+    let drops = AtomicU64::new(0);
+    let block = made(&rt, 2);
+    assert!(rt; spoil(&block, 0) && mend(&block, 0, Counted(&drops)).is_some());
+    assert!(rt;
+        fill(&block, 1, Counted(&drops)).is_some() && mend(&block, 1, Counted(&drops)).is_none()
+    );
+    assert_eq!(rt; drops.load(Ordering::SeqCst), 1);
+    drop(block);
+    assert_eq!(rt; drops.load(Ordering::SeqCst), 3);
+}
+
+// Two threads mend the cell.
+fn mend_by_two<R: Threads + Sync>(
+    rt: &R,
+    block: &Block<u64>,
+    place: u64,
+) -> (Option<Placed<u64>>, Option<Placed<u64>>)
+    requires { place < block_len block.now }
+    ensures first { IfSome result.0 (λ a. IsPlacedAt block.now place a × (a.value ≡ 5)) }
+    ensures second { IfSome result.1 (λ b. IsPlacedAt block.now place b × (b.value ≡ 6)) }
+{
+    join(
+        rt,
+        || -> Option<Placed<u64>>
+            requires { place < block_len block.now }
+            ensures { IfSome result (λ a. IsPlacedAt block.entry.now place a × (a.value ≡ 5)) }
+        { mend(block, place, 5) },
+        || -> Option<Placed<u64>>
+            requires { place < block_len block.now }
+            ensures { IfSome result (λ b. IsPlacedAt block.entry.now place b × (b.value ≡ 6)) }
+        { mend(block, place, 6) },
+    )
+}
+
+// Whether one of two threads mends the cell, and its value is seen.
+fn is_mended_by_one<R: Threads + Sync>(rt: &R, block: &Block<u64>, place: u64) -> bool
+    requires { place < block_len block.now }
+{
+    spoil(block, place)
+        && match mend_by_two(rt, block, place) {
+            (Some(a), None) => *block.value(&a) == 5
+                && matches!(block.look(place), Look::Filled(5, _)),
+            (None, Some(b)) => *block.value(&b) == 6
+                && matches!(block.look(place), Look::Filled(6, _)),
+            _other => false,
+        }
+}
+
+#[test]
+fn one_of_two_threads_mends_a_cell(rt: HostRuntime) {
+    let block = made(&rt, 1000);
+    for place in 0..1000 {
+        assert!(rt; is_mended_by_one(&rt, &block, place));
+    }
+}

@@ -1,0 +1,11 @@
+//! Tests of `claim_core`, `cell_core` and `table_core`, a module each.
+//!
+//! A crate with tests is proved once without and once with them. Here nothing is proved twice but a few lines.
+#![tactic(auto)]
+
+#[cfg(test)]
+mod cell;
+#[cfg(test)]
+mod claim;
+#[cfg(test)]
+mod table;

@@ -1,6 +1,0 @@
-use Rattle.std.proofs.Common.{drop}
-use Rattle.span_core.proofs.Tiles.{Tiles}
-use Rattle.span_tests.proofs.tests.uses.walk_leaves.Given as goal
-
-abbrev pub invariant-loop-leaf : goal.invariant-loop-leaf
-invariant-loop-leaf l = Tiles l.next l.fn.span.to (drop l.leaf-index l.leaf-items)

@@ -1,7 +1,0 @@
-//! Tests of `sweep_core`: what a seed gives.
-//!
-//! A crate with tests is proved once without and once with them. Here nothing is proved twice but a few lines.
-#![tactic(auto)]
-
-#[cfg(test)]
-mod tests;

@@ -217,7 +217,7 @@ class Task:
 
 def run(tasks, gate=None):
     """Runs tasks side by side, those with the longest chains first. Each comes after those that it waits for. The one with the
-    longest chain of all may use every lane. As long as a gate is at work they take half of the lanes, or those that it leaves."""
+    longest chain of all may use every lane, before the others. As long as a gate is at work they take half of the lanes, or those that it leaves."""
     for task in reversed(tasks):
         for it in task.before:
             it.chain = max(it.chain, it.weight + task.chain)
@@ -228,7 +228,7 @@ def run(tasks, gate=None):
             open_lanes = most if not gate or gate.is_over() else max(1, most // 2, most - gate.checks())
             longest = max(it.chain for it in [*left, *(it for it, _ in running.values())])
             for at, task in enumerate(ready):
-                idle = open_lanes - sum(jobs for _, jobs in running.values())
+                idle = open_lanes - sum(1 if it.is_first else jobs for it, jobs in running.values())
                 is_alone = not any(it.is_first for it, _ in running.values())
                 task.is_first = not gate and task.chain == longest and is_alone
                 if idle > 0 or task.is_first:

@@ -115,10 +115,9 @@ class Repository:
             + ["--links", f"{name}=", "--incremental", kept, *words],
         )[1]
 
-    def prove(self, name, jobs, is_first=False):
+    def prove(self, name, jobs):
         """Proves the crate over what earlier checks of it kept, beside any other crate's proof, and returns the status and
-        what the proof said. A library is built too. What it stands on must be built. Another proof that comes first is not kept
-        waiting."""
+        what the proof said. A library is built too. What it stands on must be built."""
         kept = f"{self.folder(name)}/out"
         held = os.open(self.folder(name), os.O_RDONLY)
         try:
@@ -126,8 +125,7 @@ class Repository:
             with self.room(name) as room:
                 if os.path.isdir(kept):
                     shutil.copytree(kept, f"{room}/out")
-                words = ["rt", "check" if self.program(name) else "lib", "--jobs", str(jobs)]
-                answer = said_by(room, words if is_first else ["nice", *words])
+                answer = rt(room, "check" if self.program(name) else "lib", "--jobs", str(jobs))
                 shutil.rmtree(kept, ignore_errors=True)
                 shutil.move(f"{room}/out", kept)
                 return answer
@@ -210,29 +208,26 @@ class Task:
 
     def __init__(self, weight, before, work, is_due=lambda: True):
         self.weight, self.before, self.work, self.is_due = weight, before, work, is_due
-        # What the longest chain of tasks that begins with this one weighs, and whether none was longer when it started.
-        self.chain, self.is_first = weight, False
+        # What the longest chain of tasks that begins with this one weighs.
+        self.chain = weight
         self.answer = None
 
 
 def run(tasks, gate=None):
-    """Runs tasks side by side, those with the longest chains first. Each comes after those that it waits for. The one with the
-    longest chain of all may use every lane, before the others. As long as a gate is at work they take half of the lanes, or those that it leaves."""
+    """Runs tasks side by side, those with the longest chains first. Each comes after those that it waits for. As long as a gate is
+    at work they take half of the lanes, or those that it leaves."""
     for task in reversed(tasks):
         for it in task.before:
             it.chain = max(it.chain, it.weight + task.chain)
     left, running, done, most = sorted(tasks, key=lambda it: -it.chain), {}, set(), lanes()
-    with ThreadPoolExecutor(most + 1) as pool:
+    with ThreadPoolExecutor(most) as pool:
         while left or running:
             ready = [it for it in left if done.issuperset(it.before) and it.is_due()]
             open_lanes = most if not gate or gate.is_over() else max(1, most // 2, most - gate.checks())
-            longest = max(it.chain for it in [*left, *(it for it, _ in running.values())])
             for at, task in enumerate(ready):
-                idle = open_lanes - sum(1 if it.is_first else jobs for it, jobs in running.values())
-                is_alone = not any(it.is_first for it, _ in running.values())
-                task.is_first = not gate and task.chain == longest and is_alone
-                if idle > 0 or task.is_first:
-                    jobs = most if task.is_first else max(1, idle // (len(ready) - at))
+                idle = open_lanes - sum(jobs for _, jobs in running.values())
+                if idle > 0:
+                    jobs = max(1, idle // (len(ready) - at))
                     running[pool.submit(task.work, jobs)] = task, jobs
                     left.remove(task)
             if not running:
@@ -253,7 +248,7 @@ def proofs(repository, names):
         if not all(tasks[it].answer for it in repository.below(name)):
             return False
         clock = Clock()
-        status, said = repository.prove(name, jobs, tasks[name].is_first)
+        status, said = repository.prove(name, jobs)
         words = f"proved, {clock.minutes():.1f} min" if not status else f"NOT PROVED\n{said}"
         print(f"{name}: {words}", file=sys.stderr, flush=True)
         return not status

@@ -1,4 +1,5 @@
--- What a legal event does to the list: nothing, or it appends a run of pending places, or it writes one place.
+-- The effect of a legal event on the list: none, or it appends a run of pending places, or it writes one
+-- place.
 use Rattle.std.proofs.Common.{◌≡◌, ◌⊎◌, ℕ, ◌+◌, ◌-◌, nat_le, ◌==◌, Bool, true, false, if◌then◌else◌, [], ◌∷◌, length, Option, Some, None, slice_get, refl, ap, subst, inl, inr}
 use Rattle.std.proofs.lemmas.Bool.{eqb-true, false≢true}
 use Rattle.std.proofs.lemmas.Option.{none-some, same_Some}
@@ -26,7 +27,7 @@ pub record AppendsRun (v : CellList) (event : Event) (w : CellList) (reply : Rep
   pub run : run_of event reply ≡ record { owner = actor; from = length v.cells; n = n } ∷ []
   pub writes : (place : ℕ) → write_in place event ≡ []
 
--- the event by which an actor writes this cell
+-- the event with which an actor writes this cell
 abbrev pub IsWriteOf : ℕ → ℕ → Cell → Event → Reply → Type 0
 IsWriteOf actor at (Pending mender) event reply = (mender ≡ actor) × (event ≡ Mend actor at) × (reply ≡ replies.Done)
 IsWriteOf actor at (Filled value) event reply = (event ≡ Finish actor at value) × (reply ≡ replies.Done)
@@ -66,7 +67,7 @@ unfolding Row
 legal v event to told does w reply is = subst (λ (a : CellList × Reply). Does v event a.0 a.1) (same_Some _ _ is) does
 
 -- a place that is found pending for an actor
-pending_is : (actor : ℕ) (cell : Option Cell) → is_pending_for actor cell ≡ true → cell ≡ Some (Pending actor)
+pub pending_is : (actor : ℕ) (cell : Option Cell) → is_pending_for actor cell ≡ true → cell ≡ Some (Pending actor)
 pending_is actor (Some (Pending owner)) is = ap (λ k. Some (Pending k)) (eqb-true owner actor is)
 pending_is actor (Some (Filled value)) is = absurd (false≢true is)
 pending_is actor (Some Broken) is = absurd (false≢true is)
@@ -79,7 +80,7 @@ broken_is (Some (Filled value)) is = absurd (false≢true is)
 broken_is (Some Broken) is = refl
 broken_is None is = absurd (false≢true is)
 
--- a write, where a test finds that the place has what the actor writes to
+-- a write, if a test finds that the place has what the actor writes to
 write_row : (v : CellList) (actor at : ℕ) (cell : Cell) (event : Event) (test : Bool)
     → (test ≡ true → slice_get v.cells at ≡ Some (found_by actor cell)) → IsWriteOf actor at cell event replies.Done
     → run_of event replies.Done ≡ [] → ((place : ℕ) → write_in place event ≡ (if at == place then event ∷ [] else []))

@@ -1,21 +1,22 @@
 -- Histories in parts; and what every history keeps, since each event does: the limit, tiling runs, finished cells.
-use Rattle.std.proofs.Common.{arith, ◌≡◌, ◌↔◌, ℕ, ◌+◌, ◌<◌, ◌==◌, true, if◌then◌else◌, List, [], ◌∷◌, ◌++◌, length, replicate, drop, get_or, drop-cons, add-one, slice_get, ap, refl, sym, ◌∙◌, subst, Option, Some, inl, inr}
+use Rattle.std.proofs.Common.{arith, ◌≡◌, ◌↔◌, ℕ, ◌+◌, ◌<◌, ◌==◌, true, false, zero, suc, if◌then◌else◌, List, [], ◌∷◌, ◌++◌, length, replicate, drop, get_or, drop-cons, add-one, slice_get, ap, refl, sym, ◌∙◌, subst, Option, Some, None, inl, inr}
 use Rattle.std.specs.List.{Contains}
 use Rattle.std.proofs.lemmas.Bool.Decides.{nat_tests}
 use Rattle.std.proofs.lemmas.List.{length-append, length-replicate, length-set}
 use Rattle.std.proofs.lemmas.List.Elements.{Contains-append_left, Contains-append_right}
-use Rattle.std.proofs.lemmas.Option.{same_Some}
+use Rattle.std.proofs.lemmas.Option.{none-some, same_Some}
 use Rattle.book_core.specs.declared.cells.Cell.{Cell}
 use Rattle.book_core.specs.declared.cells.Cell.TheVariants.{Pending, Filled, Broken}
 use Rattle.book_core.specs.declared.events.Event.{Event}
-use Rattle.book_core.specs.declared.events.Event.TheVariants.{Mend}
+use Rattle.book_core.specs.declared.events.Event.TheVariants.{Finish, Mend}
 use Rattle.book_core.specs.declared.events.Reply.{Reply}
-use Rattle.book_core.specs.Cells.{CellList, apply_event}
+use Rattle.book_core.specs.declared.events.Reply.TheVariants as replies
+use Rattle.book_core.specs.Cells.{CellList, with_cell, is_pending_for, apply_event}
 use Rattle.book_core.specs.Events.{write_in}
 use Rattle.book_core.specs.History.{IsHistory, IsLegalFrom, run_of, runs_of, Tile, writes_of}
-use Rattle.book_core.specs.Laws.{HistoriesSplit, RunsAreApart, HistoriesTile, FilledCellsStay, BrokenCellsStay}
-use Rattle.book_core.proofs.EventEffects.{Does, WritesCell, IsWriteOf, found_by, event_does}
-use Rattle.book_core.proofs.Lists.{get_before, get_other}
+use Rattle.book_core.specs.Laws.{HistoriesSplit, RunsAreApart, HistoriesTile, FilledCellsStay, BrokenCellsStay, FinishesFill}
+use Rattle.book_core.proofs.EventEffects.{Does, WritesCell, IsWriteOf, found_by, pending_is, event_does}
+use Rattle.book_core.proofs.Lists.{get_before, get_other, get_set}
 use Rattle.book_core.proofs.Runs.{tile-append, runs_within}
 
 -- the entry at an index, and those after it
@@ -142,14 +143,14 @@ IsBroken (Pending owner) = ⊥
 IsBroken (Filled value) = ⊥
 IsBroken Broken = Unit {0}
 
--- who writes to a broken place mends it
+-- an actor that writes to a broken place mends it
 broken_mended : (actor at : ℕ) (cell : Cell) (event : Event) (reply : Reply) → IsWriteOf actor at cell event reply
     → IsBroken (found_by actor cell) → event ≡ Mend actor at
 broken_mended actor at (Pending mender) event reply write is = write.1
 broken_mended actor at (Filled value) event reply write is = absurd is
 broken_mended actor at Broken event reply write is = absurd is
 
--- what a write finds is what stands there
+-- a write finds the cell of its place
 found_here : {v : CellList} {event : Event} {w : CellList} {reply : Reply} (write : WritesCell v event w reply) (place : ℕ) (cell : Cell)
     → write.at ≡ place → slice_get v.cells place ≡ Some cell → cell ≡ found_by write.actor write.cell
 found_here {v = v} write place cell same here =
@@ -194,3 +195,26 @@ broken_cells_stay old new (e ∷ es) place (mid, first, others) unmended here =
     (λ actor mended. unmended actor (Contains-append_right (write_in place e.0) (writes_of place es) (Mend actor place) mended))
     (broken_stays old e.0 mid e.1 place (event_does old e.0 mid e.1 first)
     (λ actor mended. unmended actor (Contains-append_left (write_in place e.0) (writes_of place es) (Mend actor place) mended)) here)
+
+-- ---- What fills a place leaves it filled
+
+filled_there : (v : CellList) (actor place value : ℕ) (w : CellList) (reply : Reply)
+    → apply_event v (Finish actor place value) ≡ Some (w, reply) → slice_get w.cells place ≡ Some (Filled value)
+filled_there v actor place value w reply applies =
+    let after : CellList × Reply = (with_cell v place (Filled value), replies.Done) in
+    let told : CellList × Reply = (w, reply) in
+    elim (is_pending_for actor (slice_get v.cells place)) as (λ b. is_pending_for actor (slice_get v.cells place) ≡ b → (if b then Some after else None) ≡ Some told → slice_get w.cells place ≡ Some (Filled value)) [
+      | true ↦ (λ pending is.
+          ap (λ (x : CellList × Reply). slice_get x.0.cells place) (sym (same_Some after told is))
+          ∙ get_set v.cells place (Pending actor) (Filled value) (pending_is actor (slice_get v.cells place) pending))
+      | false ↦ (λ _ is. absurd (none-some told is))
+    ]
+    refl applies
+
+pub finishes_fill : FinishesFill
+finishes_fill old new [] actor place value history (i, inside, is) = absurd (omega arith)
+finishes_fill old new (e ∷ es) actor place value (mid, first, others) (zero, inside, is) =
+    filled_cells_stay mid new es place value others
+    (filled_there old actor place value mid e.1 (subst (λ event. apply_event old event ≡ Some (mid, e.1)) (ap (λ (x : Event × Reply). x.0) is) first))
+finishes_fill old new (e ∷ es) actor place value (mid, first, others) (suc i, inside, is) =
+    finishes_fill mid new es actor place value others (i, omega arith, is)

@@ -1,4 +1,4 @@
--- What stands at a place of a list: as it is, as it goes on, and where a place is set.
+-- The member at a place of a list: as it is, as the list grows, and if a place is set.
 use Rattle.std.proofs.Common.{◌≡◌, ◌≢◌, ℕ, ◌+◌, ◌<◌, ◌≤◌, List, [], ◌∷◌, ◌++◌, length, replicate, All, Some, slice_get, slice_set, zero, suc, refl, ap, subst, arith}
 use Rattle.std.proofs.lemmas.List.Elements.{All-get_or}
 use Rattle.std.proofs.lemmas.Option.{none-some, slice_get_within, get_or_from_slice_get}

@@ -1,4 +1,4 @@
--- What stands at each place was written by the place's owner, or by who mended it.
+-- Each place's cell was written by the place's owner, or by its mender.
 use Rattle.std.proofs.Common.{◌≡◌, ℕ, ◌+◌, ◌<◌, ◌≤◌, ◌==◌, Bool, true, false, if◌then◌else◌, List, [], ◌∷◌, ◌++◌, length, replicate, Option, Some, None, slice_get, refl, ap, sym, ◌∙◌, subst, append_assoc, arith, inl, inr}
 use Rattle.std.proofs.lemmas.Bool.{cases_lt, ne_eqb, false≢true}
 use Rattle.std.proofs.lemmas.Bool.Decides.{nat_tests, eqb_tells}
@@ -20,7 +20,7 @@ use Rattle.book_core.proofs.Histories.{IsHistory-split}
 use Rattle.book_core.proofs.Lists.{get_before, get_other, get_set, get_appended}
 use Rattle.book_core.proofs.Runs.{has_place-true, owner_kept, owner_new, none_past, tile-append, runs_of-append, writes_of-append}
 
--- what a history says of a place, by what stands there
+-- what a history says of a place, by the cell there
 Says : List (Event × Reply) → ℕ → Option Cell → Type 0
 Says es place None = writes_of place es ≡ []
 Says es place (Some (Pending actor)) =
@@ -83,7 +83,7 @@ module _ (es : List (Event × Reply)) (v : CellList) (tells : Tells es v) (event
   abbrev e : Event × Reply
   e = (event, reply)
 
-  -- the runs tile the list after the event, where its run tiles what it appends
+  -- the runs tile the list after the event, if its run tiles what it appends
   tile_after : Tile (length v.cells) (run_of event reply) (length w.cells)
       → Tile 0 (runs_of (es ++ e ∷ [])) (length w.cells)
   tile_after more =

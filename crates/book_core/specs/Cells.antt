@@ -38,7 +38,7 @@ is_broken (Some (Filled value)) = false
 is_broken (Some Broken) = true
 is_broken None = false
 
--- what a reader is told of a place, in a list of this length
+-- what a look shows of a place, in a list of this length
 abbrev pub reply_of_look : ℕ → Option Cell → Reply
 reply_of_look size (Some (Pending owner)) = replies.Pending
 reply_of_look size (Some (Filled value)) = replies.Value value
@@ -69,6 +69,6 @@ apply_event v (RefusedFull actor n) =
     if nat_le (length v.cells + n) v.limit then None else Some (v, replies.Full (length v.cells))
 apply_event v (RefusedMemory actor) = Some (v, replies.NoMemory)
 
--- the event leaves as many places as there were
+-- the event leaves the number of places as it was
 abbrev pub AppendsNothing : CellList → Event → Type 0
 AppendsNothing v event = IfSome (apply_event v event) (λ after. length after.0.cells ≡ length v.cells)

@@ -1,11 +1,11 @@
--- What a list of programs and a schedule have to be, to be played.
+-- Conditions under which programs and a schedule can be played.
 use Rattle.std.specs.Prelude.{ℕ, ◌<◌, ◌==◌, List, length, filter, All}
 use Rattle.book_core.specs.declared.commands.Command.{Command}
 use Rattle.book_core.specs.declared.commands.Command.TheVariants.{Push, Grow, AtLeast, Fail, Mend, Read, Size}
 use Rattle.book_core.specs.declared.commands.Item.{Item}
 use Rattle.book_core.specs.declared.commands.Ended.{Ended}
 
--- a refused construction stands at one of its call's own places
+-- a refused construction is at one of its call's own places
 abbrev pub IsSound : Command → Type 0
 IsSound (Push value) = Unit {0}
 IsSound (Grow n value) = Unit {0}
@@ -27,6 +27,6 @@ HavePrograms programs items = All (λ item. item.actor < length programs) items
 abbrev pub HaveActors : ℕ → List Ended → Type 0
 HaveActors count calls = All (λ ended. ended.actor < count) calls
 
--- the calls of an actor that have ended, in the order in which they did
+-- the ended calls of an actor, in the order of their ends
 abbrev pub calls_of : ℕ → List Ended → List Ended
 calls_of actor calls = filter (λ (ended : Ended). ended.actor == actor) calls

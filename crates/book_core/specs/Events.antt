@@ -1,4 +1,5 @@
--- Events by themselves: whose each is, which place it writes, who fills, and the events by which an owner writes several places.
+-- Events by themselves: the actor of each, the place that it writes, the event that fills, and the events by
+-- which an owner writes several places.
 use Rattle.std.specs.Prelude.{ℕ, ◌==◌, if◌then◌else◌, List, [], ◌∷◌, ◌++◌, map}
 use Rattle.std.specs.List.{range_with_len}
 use Rattle.book_core.specs.declared.events.Event.{Event}

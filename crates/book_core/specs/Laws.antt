@@ -94,8 +94,14 @@ ValuesHaveOneWriter =
     (limit : ℕ) (new : CellList) (es : List (Event × Reply)) (place value : ℕ) → IsHistory (empty_list limit) es new
     → slice_get new.cells place ≡ Some (Filled value) → IsFilledOnce es place value
 
--- so was a value that a look was told, before that look
+-- so was a value that a look showed, before that look
 abbrev pub LooksTellTheWritersValue : Type 0
 LooksTellTheWritersValue =
     (limit : ℕ) (new : CellList) (es rest : List (Event × Reply)) (actor place value : ℕ)
     → IsHistory (empty_list limit) (es ++ (Look actor place, replies.Value value) ∷ rest) new → IsFilledOnce es place value
+
+-- a place that an event of a history filled holds that value at its end
+abbrev pub FinishesFill : Type 0
+FinishesFill =
+    (old new : CellList) (es : List (Event × Reply)) (actor place value : ℕ) → IsHistory old es new
+    → Contains es (Finish actor place value, replies.Done) → slice_get new.cells place ≡ Some (Filled value)

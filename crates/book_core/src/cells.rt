@@ -3,7 +3,7 @@
 /// One claimed place, as a reader sees it.
 #[derive(Clone, Copy, Debug, PartialEq, Eq)]
 pub enum Cell {
-    /// Claimed or mended by this actor, and not finished.
+    /// Claimed or mended by this actor, but not finished.
     Pending(u32),
     /// Published, with this value.
     Filled(u64),

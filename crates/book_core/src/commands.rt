@@ -1,4 +1,4 @@
-//! What the actors of a script are told to do, and how their calls end.
+//! Calls that the actors of a script make, and how they end.
 
 /// One call of an actor.
 #[derive(Clone, Copy, Debug, PartialEq, Eq)]
@@ -58,7 +58,7 @@ pub struct Ended {
     pub answer: Answer,
 }
 
-/// What a call took that ended.
+/// What an ended call took.
 #[derive(Clone, Copy, Debug, PartialEq, Eq)]
 pub struct Work {
     pub actor: u32,

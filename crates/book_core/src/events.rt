@@ -1,6 +1,6 @@
 //! The events of the sequential vector, and what it replies.
 
-/// What one actor does to the vector at one moment.
+/// One actor's change to the vector, or look at it, at one moment.
 #[derive(Clone, Copy, Debug, PartialEq, Eq)]
 pub enum Event {
     /// Appends `n` pending places.

@@ -1,4 +1,4 @@
-//! The sequential vector: the plain list of cells that every other layer is held against.
+//! The sequential vector: the plain list of cells that is the reference for every other layer.
 //!
 //! - `CellVec` is a limit and a list of cells; contracts see it as the record `CellList` of `specs/Cells.antt`.
 //! - `CellVec::apply` is the table of events there, `apply_event`: one equation a row.
@@ -7,8 +7,8 @@
 //! - `check` tells whether a list of events with replies is a history of the empty list: `IsLegalFrom` there.
 //! - `Sequence` is the list type of all results: contracts see it as a list.
 //!
-//! A caller can prove what each event does and answers, and when it is refused. Nothing here knows of segments, atomic
-//! steps or threads.
+//! A caller can prove what each event does and replies, and when it is refused. Nothing here knows of
+//! segments, atomic steps or threads.
 #![tactic(auto)]
 
 mod cells;

@@ -3,7 +3,7 @@ ghost use Rattle.std.specs.Prelude.{◌≡◌, ◌==◌, length};
 
 use std::marker::Model;
 
-/// A list that contracts see as one. It is a `Vec`, with no more memory than that one has.
+/// A `Vec` that contracts see as a list. It takes no more memory than the `Vec`.
 #[derive(Debug, Drop)]
 pub struct Sequence<T> {
     members: Vec<T>,
@@ -18,35 +18,35 @@ impl<T> Model for Sequence<T> {
 }
 
 impl<T> Sequence<T> {
-    /// The members of a `Vec`, in its order. It takes no memory.
+    /// Makes a list of the members of a `Vec`, in its order. It takes no memory.
     pub fn from_vec(members: Vec<T>) -> Self
         ensures { result ≡ members.items }
     {
         Sequence { members }
     }
 
-    /// The members, in order.
+    /// Lends the members, in order.
     pub fn as_slice(&self) -> &[T]
         ensures { result.now ≡ self.now }
     {
         self.members.as_slice()
     }
 
-    /// The `Vec` again. It takes no memory.
+    /// Gives the `Vec` back. It takes no memory.
     pub fn into_vec(self) -> Vec<T>
         ensures { result.items ≡ self }
     {
         self.members
     }
 
-    /// How many members there are.
+    /// Returns the number of members.
     pub fn len(&self) -> usize
         ensures { result ≡ length self.now }
     {
         self.members.len()
     }
 
-    /// Whether there is none.
+    /// Tests whether the list has no members.
     pub fn is_empty(&self) -> bool
         ensures { result ≡ (length self.now == 0) }
     {

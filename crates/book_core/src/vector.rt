@@ -36,7 +36,7 @@ impl fmt::Display for BookError {
 
 impl Error for BookError {}
 
-/// A limit and a list of cells, on which one event happens at a time.
+/// The sequential vector: a limit and a list of cells. It changes by one event at a time.
 #[derive(Debug, Drop)]
 pub struct CellVec {
     limit: u64,
@@ -59,14 +59,14 @@ impl CellVec {
     ghost use Rattle.book_core.specs.Cells.{empty_list, apply_event, AppendsNothing};
     ghost use Rattle.book_core.specs.Cells.{with_pending, with_cell, is_pending_for, is_broken, reply_of_look};
 
-    /// Whether a vector may have this limit.
+    /// Tests whether a vector may have this limit.
     pub fn is_limit(limit: u64) -> bool
         ensures { IsTrue result ↔ IsLimit limit }
     {
         1 <= limit && limit <= MOST_PLACES
     }
 
-    /// The empty list. It takes no memory yet.
+    /// Makes an empty list. It takes no memory yet.
     pub fn new(alloc: Global, limit: u64) -> Self
         requires { IsLimit limit }
         ensures { result ≡ empty_list limit }
@@ -77,12 +77,12 @@ impl CellVec {
         }
     }
 
-    /// The event happens, and the list replies.
+    /// Applies the event, and returns the reply.
     ///
     /// Its time is linear in the places that are appended, and it takes memory for them alone.
     pub fn apply(&mut self, event: Event) -> Result<Reply, BookError>
         ensures ok { IfOk result (λ reply. apply_event self.old event ≡ Some (self.new, reply)) }
-        // Whether the event is legal is looked at before memory is asked for.
+        // The event is tested for legality before memory is asked for.
         ensures not_legal { IsErrOf result BookError.NotLegal
             ↔ IsNone (apply_event self.old event) }
         ensures err { OnErr result (self.new ≡ self.old) }
@@ -105,21 +105,21 @@ impl CellVec {
         }
     }
 
-    /// The cells of the claimed places, in order.
+    /// Lends the cells of the claimed places, in order.
     pub fn cells(&self) -> &[Cell]
         ensures { result.now ≡ self.now.cells }
     {
         self.cells.as_slice()
     }
 
-    /// The cells alone. It takes no memory.
+    /// Gives the cells away. It takes no memory.
     pub fn into_cells(self) -> Vec<Cell>
         ensures { result.items ≡ self.cells }
     {
         self.cells
     }
 
-    /// The greatest length that the list may reach.
+    /// Returns the greatest length that the list may reach.
     pub fn limit(&self) -> u64
         ensures value { result ≡ self.now.limit }
         ensures range { IsLimit result }

@@ -1,7 +1,5 @@
 -- The runs of a play, wherever its history is cut in two.
-use Rattle.std.proofs.Common.{◌≡◌, ℕ, List, ◌∷◌, ◌++◌, Result, Ok, Err, IfOk, OnOk, sym, subst}
-use Rattle.book_core.specs.declared.events.Event.{Event}
-use Rattle.book_core.specs.declared.events.Reply.{Reply}
+use Rattle.std.proofs.Common.{◌≡◌, ℕ, List, Result, Ok, Err, IfOk, OnOk, sym, subst}
 use Rattle.book_core.specs.declared.commands.Command.{Command}
 use Rattle.book_core.specs.declared.commands.Item.{Item}
 use Rattle.seg_core.specs.Segment.{IsLayout, IsLimit}
@@ -24,7 +22,7 @@ later_runs limit programs p split apart is before after run later cut first seco
     let parts = (split (empty_list limit) (list_seen limit p) before after).0 whole in
     apart (empty_list limit) parts.0 (list_seen limit p) before after run later parts.1 parts.2 first second
 
--- so it is of what a play answers
+-- the same holds for the result of a play
 pub later_runs_of : (r : Result Played PlayError) (f limit : ℕ) (programs : List (List Command)) (items : List Item)
     → HistoriesSplit → RunsAreApart → EveryInterleavingIsSequential
     → IfOk r (λ played. played ≡ play_shown f limit programs items) → OnOk r (IsLayout f) → OnOk r (IsLimit limit)

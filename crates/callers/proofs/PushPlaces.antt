@@ -43,7 +43,7 @@ fillers_split : WritesSplit → (place : ℕ) (es fs : List (Event × Reply)) �
 fillers_split split place es fs = ap finishers_of (split place es fs) ∙ finishers_append (writes_of place es) (writes_of place fs)
 
 -- the place of an answer that has one
-place_in : Answer → Option ℕ
+unfoldable pub place_in : Answer → Option ℕ
 place_in (answers.At place) = Some place
 place_in (answers.Run from n) = None
 place_in (answers.Enough size) = None
@@ -57,12 +57,12 @@ place_in (answers.OutOfRange size) = None
 place_in (answers.Size size) = None
 
 -- an answer with this place is not one without
-other_answer : {A : Type 0} (answer other : Answer) (place : ℕ) → answer ≡ answers.At place → answer ≡ other
+pub other_answer : {A : Type 0} (answer other : Answer) (place : ℕ) → answer ≡ answers.At place → answer ≡ other
     → place_in other ≡ None → A
 unfolding place_in
 other_answer answer other place at is none = absurd (none-some place (sym (sym (ap place_in at) ∙ ap place_in is ∙ none)))
 
--- no look is told a place
+-- no look shows a place
 no_place_told : (reply : Reply) (place : ℕ) → answer_to_look reply ≡ Some (answers.At place) → ⊥
 unfolding place_in
 no_place_told (replies.Run from n) place is = none-some _ is
@@ -77,7 +77,7 @@ no_place_told (replies.Full size) place is = none-some _ is
 no_place_told replies.NoMemory place is = none-some _ is
 
 -- nor is a mend that found no broken place
-no_place_found : (reply : Reply) (place : ℕ) → answer_to_mend reply ≡ Some (answers.At place) → ⊥
+pub no_place_found : (reply : Reply) (place : ℕ) → answer_to_mend reply ≡ Some (answers.At place) → ⊥
 unfolding place_in
 no_place_found (replies.Run from n) place is = none-some _ is
 no_place_found (replies.Enough size) place is = none-some _ is
@@ -90,7 +90,7 @@ no_place_found (replies.Size size) place is = none-some _ is
 no_place_found (replies.Full size) place is = none-some _ is
 no_place_found replies.NoMemory place is = none-some _ is
 
--- the record of a call that answered this place has a Finish of it
+-- the record of a call that ended with this place has a Finish of it
 writes_place : (k : ℕ) (command : Command) (es : List (Event × Reply)) (answer : Answer) (place : ℕ)
     → IsRecord k command es answer → answer ≡ answers.At place → 0 < length (fillers place es)
 unfolding place_in
@@ -327,7 +327,7 @@ pushes_are_apart split limit programs p is i j place a b is_a is_b at_a at_b =
       ]
     ]
 
--- so it is of what a play answers
+-- the same holds for the result of a play
 pub pushes_of : (r : Result Played PlayError) (f limit : ℕ) (programs : List (List Command)) (items : List Item)
     → WritesSplit → EveryInterleavingIsSequential → IfOk r (λ played. played ≡ play_shown f limit programs items)
     → OnOk r (IsLayout f) → OnOk r (IsLimit limit) → OnOk r (AreSound programs) → IfOk r (λ played. PushesAreApart played.ended)

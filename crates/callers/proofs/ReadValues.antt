@@ -1,4 +1,4 @@
--- A value that a read answered was filled in once, by the owner of its place or by who mended it, before that read.
+-- A value that a read found was filled in once, by the owner of its place or by its mender, before that read.
 use Rattle.std.proofs.Common.{◌≡◌, ◌⊎◌, ℕ, ◌+◌, ◌==◌, true, false, if◌then◌else◌, List, [], ◌∷◌, ◌++◌, get_or, Option, Some, None, Result, Ok, Err, IfOk, OnOk, slice_get, zero, suc, ap, sym, ◌∙◌, subst, append_assoc, inl, inr, arith}
 use Rattle.std.proofs.lemmas.Bool.Decides.{nat_tests}
 use Rattle.std.proofs.lemmas.Option.{none-some, same_Some}
@@ -27,17 +27,17 @@ use Rattle.step_core.specs.machine.Record.{answer_to_look, IsLook, IsRecord, Are
 use Rattle.step_core.specs.machine.Headline.{IsSequential, EveryInterleavingIsSequential}
 use Rattle.callers.specs.Uses.{ReadsTellTheWriters}
 
--- an event stands in a history, between what came before and after it
-record Stands (es : List (Event × Reply)) (e : Event × Reply) : Type 0 where
+-- an event has a position in a history, between what came before and after it
+pub record Stands (es : List (Event × Reply)) (e : Event × Reply) : Type 0 where
   pub before : List (Event × Reply)
   pub after : List (Event × Reply)
   pub is : es ≡ before ++ e ∷ after
 
--- it stands in a longer one too
-stands_left : (es fs : List (Event × Reply)) (e : Event × Reply) → Stands es e → Stands (es ++ fs) e
+-- it has a position in a longer one too
+pub stands_left : (es fs : List (Event × Reply)) (e : Event × Reply) → Stands es e → Stands (es ++ fs) e
 stands_left es fs e s = record { before = s.before; after = s.after ++ fs; is = ap (λ xs. xs ++ fs) s.is ∙ append_assoc s.before (e ∷ s.after) fs }
 
-stands_right : (es fs : List (Event × Reply)) (e : Event × Reply) → Stands fs e → Stands (es ++ fs) e
+pub stands_right : (es fs : List (Event × Reply)) (e : Event × Reply) → Stands fs e → Stands (es ++ fs) e
 stands_right es fs e s = record { before = es ++ s.before; after = s.after; is = ap (λ xs. es ++ xs) s.is ∙ sym (append_assoc es s.before (e ∷ s.after)) }
 
 -- a list without its first member
@@ -45,15 +45,15 @@ rest_of : List (Event × Reply) → List (Event × Reply)
 rest_of [] = []
 rest_of (x ∷ xs) = xs
 
--- a list with a first member stands for an event by that member, or by what follows it
+-- a list with a first member has an event there, or in what follows it
 cons_parts : (x e : Event × Reply) (xs before after : List (Event × Reply)) → x ∷ xs ≡ before ++ e ∷ after
     → (x ≡ e) ⊎ Stands xs e
 unfolding rest_of
 cons_parts x e xs [] after is = inl (ap (λ l. get_or l 0 x) is)
 cons_parts x e xs (b ∷ before) after is = inr (record { before = before; after = after; is = ap rest_of is })
 
--- what stands among the events of an actor stands in the history
-stands_in : (k : ℕ) (es : List (Event × Reply)) (e : Event × Reply) → Stands (events_of k es) e → Stands es e
+-- a position among the events of an actor is one in the history
+pub stands_in : (k : ℕ) (es : List (Event × Reply)) (e : Event × Reply) → Stands (events_of k es) e → Stands es e
 unfolding rest_of
 stands_in k [] e s = record { before = s.before; after = s.after; is = s.is }
 stands_in k (x ∷ es) e s =
@@ -80,7 +80,7 @@ value_in answers.Broken = None
 value_in (answers.OutOfRange size) = None
 value_in (answers.Size size) = None
 
--- the look of a read that answered a value was told it
+-- the look of a read that found a value showed it
 value_told : (reply : Reply) (value : ℕ) → answer_to_look reply ≡ Some (answers.Value value)
     → reply ≡ replies.Value value
 unfolding value_in
@@ -114,11 +114,11 @@ call_looks k program number (x ∷ calls) es (suc i) place value ended (first, r
     (stands_right first rest (Look k place, replies.Value value) (call_looks k program (number + 1) calls rest i place value ended others is reads told))
 
 -- a call is among those of its actor
-record IsAmong (calls : List Ended) (ended : Ended) : Type 0 where
+pub record IsAmong (calls : List Ended) (ended : Ended) : Type 0 where
   pub at : ℕ
   pub is : slice_get calls at ≡ Some ended
 
-among_own : (calls : List Ended) (i : ℕ) (ended : Ended) → slice_get calls i ≡ Some ended
+pub among_own : (calls : List Ended) (i : ℕ) (ended : Ended) → slice_get calls i ≡ Some ended
     → IsAmong (calls_of ended.actor calls) ended
 among_own [] i ended is = absurd (none-some ended is)
 among_own (x ∷ calls) zero ended is =
@@ -145,7 +145,7 @@ reads_tell limit programs p is law i place value ended there reads told =
       filled = law limit (list_seen limit p) here.before here.after ended.actor place value (subst (λ xs. IsHistory (empty_list limit) xs (list_seen limit p)) here.is is.legal);
     }
 
--- so it is of what a play answers
+-- the same holds for the result of a play
 pub reads_of : (r : Result Played PlayError) (f limit : ℕ) (programs : List (List Command)) (items : List Item)
     → EveryInterleavingIsSequential → LooksTellTheWritersValue
     → IfOk r (λ played. played ≡ play_shown f limit programs items) → OnOk r (IsLayout f) → OnOk r (IsLimit limit)

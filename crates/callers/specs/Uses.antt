@@ -24,7 +24,7 @@ pub record IsReadOfWriters (events : List (Event × Reply)) (actor place value :
   pub look : events ≡ before ++ (Look actor place, replies.Value value) ∷ after
   pub filled : IsFilledOnce before place value
 
--- so it is of every read that answered a value
+-- the same holds for every read that found a value
 abbrev pub ReadsTellTheWriters : List Ended → List (Event × Reply) → Type 0
 ReadsTellTheWriters calls events =
     (i place value : ℕ) (ended : Ended) → slice_get calls i ≡ Some ended → ended.command ≡ Read place

@@ -1,7 +1,7 @@
-//! Callers of `book_core`, `script_core` and `step_core`: tests alone, also of the running vector beside them, and what
-//! callers prove by public clauses.
+//! Tests of `book_core`, `script_core` and `step_core`, also next to the running vector, and what callers
+//! prove of them by public clauses.
 //!
-//! A crate with tests is proved once without and once with them. Here nothing is proved twice but a few lines.
+//! A crate with tests is proved once without and once with them. Here only a few lines are proved twice.
 #![tactic(auto)]
 
 #[cfg(test)]

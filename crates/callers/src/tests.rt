@@ -1,8 +1,9 @@
-//! What no clause says: which scripts, events and lines are those that were meant, and that calls succeed where there
-//! is memory. The texts of plays are rows of the program, in `crates/cvec/rows`.
+//! Facts that no clause states: which scripts, events and lines are the intended ones, and that calls succeed
+//! if there is memory. The texts of plays are rows of the program, in `crates/cvec/rows`.
 
 ghost use Rattle.std.specs.Prelude.{◌≡◌, IfOk, length};
 
+mod every_play;
 mod histories;
 mod layouts;
 mod lines;

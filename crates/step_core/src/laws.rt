@@ -8,42 +8,46 @@ ghost use Rattle.step_core.specs.machine.Record.{EveryPlayIsRecorded};
 ghost use Rattle.step_core.specs.machine.Tiling.{EveryPlayIsTiled};
 ghost use Rattle.step_core.specs.machine.Work.{EveryCallIsBounded};
 
-/// What holds of every play of whole calls.
+/// States what holds of every play of whole calls.
 pub fn whole_calls()
     ensures plays { CallsPlay }
     ensures legal { CallsAreLegal }
 {}
 
-/// What holds of the places of every play of the machine: of any programs, any schedule, any marks of memory.
+/// States what holds of the places of every play of the machine, for any programs, any schedule and any marks
+/// of memory.
 pub fn tiling()
     ensures { EveryPlayIsTiled }
 {}
 
-/// The events of every play, with their replies, are a history of the sequential vector.
+/// States that the events of every play, with their replies, are a history of the sequential vector.
 pub fn legal()
     ensures { EveryPlayIsLegal }
 {}
 
-/// The events of every actor in every play are the records of its calls, in its program's order.
+/// States that the events of every actor in every play are the records of its calls, in its program's order.
 pub fn records()
     ensures { EveryPlayIsRecorded }
 {}
 
-/// What a reader finds filled in a play, it finds so after every further item; what it finds broken, until a mend.
+/// States that a cell that a reader finds filled is found the same after every further item, and a broken one
+/// until its mend.
 pub fn kept()
     ensures filled { EveryPlayKeepsFilledCells }
     ensures broken { EveryPlayKeepsBrokenCells }
 {}
 
-/// The headline: in every play, every reply is the one that a sequential vector of cells gives in one legal history.
+/// States the headline: in every play, every reply is the one that a sequential vector of cells gives in one
+/// legal history.
 ///
-/// That history holds each call that claimed once, at its claim, in its caller's order; its runs tile the claimed
-/// size; a filled cell keeps the value that it was filled with; and a refused construction breaks its own cells alone.
+/// That history holds each call that claimed once, at its claim, in its caller's order; its runs tile the
+/// claimed size; a filled cell keeps the value with which it was filled; and a refused construction breaks
+/// its own cells alone.
 pub fn interleavings()
     ensures { EveryInterleavingIsSequential }
 {}
 
-/// The machine that has taken the steps of a schedule is at the configuration of its play.
+/// States that a machine which has taken the steps of a schedule is in the configuration of its play.
 pub fn stepping()
     ensures begins { PlaysBeginAtTheFirst }
     ensures goes_on { PlaysGoOnByAStep }
@@ -52,8 +56,8 @@ pub fn stepping()
 
 /// No call of any play takes more than it may, whether it has ended or is under way.
 ///
-/// It loses no more exchanges than others made the size larger since its first step, and a round touches at most 40
-/// segments. A growth of n places takes a step, then two at each segment of a round and one at the round's end, and
+/// It loses no more exchanges than others made the size larger since its first step. A round touches at most 40
+/// segments, and no more than the most that its places touch anywhere within the limit. A growth of n places takes a step, then two at each segment of a round and one at the round's end, and
 /// two at each place; a mend takes at most three steps, a read two, and a look at the size one.
 pub fn work()
     ensures { EveryCallIsBounded }

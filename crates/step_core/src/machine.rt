@@ -26,7 +26,7 @@ use seg_core::Layout;
 use std::alloc::{AllocError, Global};
 use std::marker::Model;
 
-/// What one step gave: at most one event with its reply, and at most one call that ended.
+/// The result of one step: at most one event with its reply, and at most one ended call.
 #[derive(Clone, Copy, Debug, PartialEq, Eq)]
 pub struct Stepped {
     pub event: Option<(Event, Reply)>,
@@ -38,7 +38,7 @@ const NOTHING: Stepped = Stepped {
     ended: None,
 };
 
-/// Actors with programs over one vector, which move it by one atomic step at a time.
+/// Actors with programs on one vector, which they change by one atomic step at a time.
 #[derive(Drop)]
 pub struct Machine {
     limit: u64,
@@ -68,7 +68,8 @@ impl Machine {
     ghost use Rattle.step_core.specs.machine.Work.{has_call, phase_at};
     ghost use Rattle.step_core.specs.machine.Tallies.{HasRoom};
 
-    /// The machine before the first step, with a first segment of two places. Its memory is linear in the actors.
+    /// Makes a machine before its first step, with a first segment of two places. Its memory is linear in the
+    /// actors.
     pub fn new(
         alloc: Global,
         limit: u64,
@@ -86,7 +87,7 @@ impl Machine {
         Machine::new_in(alloc, Layout::default(), limit, programs)
     }
 
-    /// The machine before the first step, with segments of this layout.
+    /// Makes a machine before its first step, with segments of this layout.
     pub fn new_in(
         alloc: Global,
         layout: Layout,
@@ -114,21 +115,21 @@ impl Machine {
         }
     }
 
-    /// How many actors there are.
+    /// Returns the number of actors.
     pub fn actors(&self) -> usize
         ensures { result ≡ length self.now.actors }
     {
         self.actors.len()
     }
 
-    /// How many places are claimed.
+    /// Returns the number of claimed places.
     pub fn size(&self) -> u64
         ensures { result ≡ self.now.storage.size }
     {
         self.storage.size()
     }
 
-    /// What the slot of a place holds; `None` where it is empty.
+    /// Returns what the slot of a place holds, or `None` if it is empty.
     pub fn slot(&self, place: u64) -> Option<Slot>
         ensures { result ≡ map.get self.now.storage.slots place }
     {
@@ -142,7 +143,7 @@ impl Machine {
         self.storage.layout()
     }
 
-    // Whether an actor has a call left or under way.
+    // Tests whether an actor has a call left or under way.
     pub(crate) fn has_call(&self, actor: u32) -> bool
         ensures { result ≡ has_call self.now actor }
     {
@@ -161,10 +162,10 @@ impl Machine {
         phase_among(self.limit, storage, &self.actors, actor)
     }
 
-    /// One atomic step of an actor; one with nothing left, or without a program, changes nothing.
+    /// Takes one atomic step of an actor. An actor with nothing left, or without a program, changes nothing.
     ///
-    /// `memory` says whether a request for a segment is granted in this step. A step takes constant time; Put of a
-    /// segment that is not installed makes its block, in one pass over it.
+    /// `memory` says whether a request for a segment is granted in this step. A step takes constant time,
+    /// except that Put of a segment that is not installed makes its block, in one pass over it.
     pub fn step(&mut self, actor: u32, memory: bool) -> Result<Stepped, AllocError>
         ensures steps { IfOk result (λ stepped.
             IsStepped (step_of self.old actor memory) self.new stepped) }

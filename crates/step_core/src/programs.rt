@@ -6,8 +6,8 @@ ghost use Rattle.book_core.specs.Commands.{IsSound, AreSound, HavePrograms};
 use crate::errors::{MakeError, PlayError};
 use book_core::{Cell, CellVec, Command, Ended, Event, Item, Reply, Sequence, Work};
 
-/// What a play gives: the events with their replies, the calls that ended, each in order, the cells at the end, and what
-/// each ended call took, in the order of `ended`; of a play of whole calls no work is known.
+/// The result of a play: the events with their replies and the ended calls, each in order; the cells at the
+/// end; and what each ended call took, in the order of `ended`. A play of whole calls has no counts.
 #[derive(Debug, Drop)]
 pub struct Played {
     pub events: Sequence<(Event, Reply)>,
@@ -44,7 +44,7 @@ fn have_programs(programs: &[Sequence<Command>], items: &[Item]) -> bool
     items.iter().all(|item| (item.actor as usize) < count)
 }
 
-// Whether the programs can be run: the limit is looked at first, then the commands.
+// Tests whether the programs can be run: the limit is looked at first, then the commands.
 pub(crate) fn check_programs(limit: u64, programs: &[Sequence<Command>]) -> Result<(), MakeError>
     ensures limit { OnOk result (IsLimit limit) }
     ensures sound { OnOk result (AreSound programs.now) }
@@ -62,7 +62,8 @@ pub(crate) fn check_programs(limit: u64, programs: &[Sequence<Command>]) -> Resu
     Ok(())
 }
 
-// Whether the schedule can be played: the programs are looked at first, and then whether each item has one.
+// Tests whether the schedule can be played: the programs are looked at first, and then whether each item has
+// one.
 pub(crate) fn check_schedule(
     limit: u64,
     programs: &[Sequence<Command>],

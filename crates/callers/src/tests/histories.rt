@@ -23,7 +23,7 @@ pub(super) const ROWS: [Row; 5] = [
     ("limit 8\nactor a push 5\nactor b push 6\nsteps a a b b b a!", &[
         (Event::RefusedMemory { actor: 0 }, Reply::NoMemory),
     ]),
-    // Growths to a size, of which one finds enough.
+    // Growths to a size, one of them finding enough.
     ("limit 8\nactor a atleast 4 0\nactor b atleast 5 1\nsteps a a a a a b b b b b b b b b b b b b b b b a", &[
         (Event::Raise { actor: 1, to: 5 }, Reply::Run { from: 0, n: 5 }),
         (Event::Finish { actor: 1, place: 0, value: 1 }, Reply::Done),
@@ -48,7 +48,7 @@ pub(super) const ROWS: [Row; 5] = [
     ]),
 ];
 
-// Whether the play of a script has these events.
+// Tests whether the play of a script has these events.
 fn has_events(alloc: Global, script: &str, events: &[(Event, Reply)]) -> Result<bool, Fail> {
     Ok(played(alloc, true, script)?.events.as_slice() == events)
 }
@@ -92,7 +92,7 @@ const SCRIPTS: [&'static str; 26] = [
     "limit 8\nactor a atleast 0 3\nsteps a",
 ];
 
-// Whether the events are a history where the play of a script stops after so many items.
+// Tests whether the events are a history if the play of a script stops after `stop` items.
 fn is_history(alloc: Global, script: &str, stop: usize) -> Result<bool, Fail> {
     let Script {
         limit,
@@ -105,7 +105,7 @@ fn is_history(alloc: Global, script: &str, stop: usize) -> Result<bool, Fail> {
     Ok(check(alloc, limit, played.events.as_slice())?)
 }
 
-// Whether they are wherever it stops, after its last item too.
+// Tests whether they are, at every stop, after the last item too.
 fn are_histories(alloc: Global, script: &str) -> Result<bool, Fail> {
     let items = read(alloc, script.as_bytes())?.items.len();
     for stop in 0..items + 1 {

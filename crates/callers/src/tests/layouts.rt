@@ -5,7 +5,7 @@ use script_core::{Script, read};
 use seg_core::Layout;
 use std::alloc::Global;
 use std::test::Fail;
-use step_core::{Machine, Played, play_in};
+use step_core::{Machine, Played, Slot, play_in};
 
 // The number of a layout, and how many steps a growth by 300 takes up to its claim: a load, two for each segment of its
 // places, and an exchange.
@@ -14,7 +14,7 @@ const STEPS: [(u32, u32); 8] = [
     (1, 20), (2, 18), (3, 16), (4, 14), (5, 12), (6, 10), (7, 8), (8, 6),
 ];
 
-fn layout_of(f: u32) -> Layout {
+pub(super) fn layout_of(f: u32) -> Layout {
     Layout::new(f).unwrap_or(Layout::default())
 }
 
@@ -37,6 +37,34 @@ fn a_growth_looks_for_the_segments_of_its_layout(rt: HostRuntime) -> Result<(), 
     Ok(())
 }
 
+// The number of a layout, and how many steps a growth by 65,536 takes: those up to its claim, and two for each place.
+#[rattlefmt::skip]
+const FILLED: [(u32, u32); 8] = [
+    (1, 131_106), (2, 131_104), (3, 131_102), (4, 131_100), (5, 131_098), (6, 131_096), (7, 131_094), (8, 131_092),
+];
+
+// Tests whether the last of 65,536 places is filled exactly at the last of these steps.
+fn is_filled_by(alloc: Global, f: u32, steps: u32) -> Result<bool, Fail> {
+    let script = read(alloc, b"limit 65536\nactor a grow 65536 7\nsteps")?;
+    let mut machine = Machine::new_in(alloc, layout_of(f), script.limit, script.programs)?;
+    for _step in 1..steps {
+        machine.step(0, true)?;
+    }
+    let is_busy = machine.slot(65_535) == Some(Slot::Busy(0));
+    machine.step(0, true)?;
+    let is_filled = machine.slot(65_535) == Some(Slot::Filled(7))
+        && machine.slot(0) == Some(Slot::Filled(7));
+    Ok(is_busy && is_filled && machine.size() == 65_536 && machine.slot(65_536).is_none())
+}
+
+#[test]
+fn a_growth_fills_all_segments_of_65536_places(rt: HostRuntime) -> Result<(), Fail> {
+    for (f, steps) in FILLED.as_slice() {
+        assert!(rt; is_filled_by(rt.alloc(), *f, *steps)?, "{f}");
+    }
+    Ok(())
+}
+
 // The answer of a play's only ended call, and its third cell.
 type Seen = (Option<Answer>, Option<Cell>);
 
@@ -48,7 +76,7 @@ const REFUSED: Seen = (Some(Answer::NoMemory), None);
 
 const GROW: &str = "limit 8\nactor a grow 3 7\nsteps a a a a a a a a a a";
 
-// Its second segment is refused, where there is one.
+// The second segment is refused, if there is one.
 const GROW_REFUSED: &str = "limit 8\nactor a grow 3 7\nsteps a a a a a! a a a a a";
 
 #[rattlefmt::skip]

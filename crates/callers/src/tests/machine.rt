@@ -8,9 +8,9 @@ use std::test::Fail;
 use step_core::{Machine, MakeError, Slot, Stepped};
 
 // An actor's step with memory, the size after it, and whether it is an event.
-type Row = (u32, u64, bool);
+pub(super) type Row = (u32, u64, bool);
 
-// Two pushes, of which the second loses its first exchange.
+// Two pushes; the second loses its first exchange.
 #[rattlefmt::skip]
 const LOST: [Row; 13] = [
     (0, 0, false), (1, 0, false), (0, 0, false), (0, 0, false), (1, 0, false), (0, 1, true),
@@ -18,7 +18,7 @@ const LOST: [Row; 13] = [
     (0, 2, true),
 ];
 
-// Two growths to a size, of which the first finds enough.
+// Two growths to a size; the first finds enough.
 #[rattlefmt::skip]
 const RAISED: [Row; 22] = [
     (0, 0, false), (0, 0, false), (0, 0, false), (0, 0, false), (0, 0, false), (1, 0, false),
@@ -35,7 +35,7 @@ const BROKEN: [Row; 12] = [
 ];
 
 #[rattlefmt::skip]
-const PLAYS: [(&'static str, &'static [Row]); 3] = [
+pub(super) const PLAYS: [(&'static str, &'static [Row]); 3] = [
     ("limit 8\nactor a push 5\nactor b push 5\nsteps", &LOST),
     ("limit 8\nactor a atleast 4 0\nactor b atleast 5 1\nsteps", &RAISED),
     ("limit 8\nactor a fail 3 7 1\nsteps", &BROKEN),
@@ -47,7 +47,7 @@ fn machine(alloc: Global, script: &str) -> Result<Machine, Fail> {
     Ok(Machine::new(alloc, script.limit, script.programs)?)
 }
 
-// Whether the size and the events after each step of a machine are those of these rows.
+// Tests whether the size and the events after each step of a machine are those of these rows.
 fn takes(mut machine: Machine, rows: &[Row]) -> Result<bool, Fail> {
     for (actor, size, is_event) in rows {
         let stepped = machine.step(*actor, true)?;
@@ -136,18 +136,6 @@ fn the_most_programs_are_played(rt: HostRuntime) -> Result<(), Fail> {
     }
     assert!(rt; machine.actors() == 65_536 && machine.size() == 65_536);
     assert!(rt; machine.slot(65_535) == Some(Slot::Filled(9)));
-    Ok(())
-}
-
-#[test]
-fn a_growth_fills_all_segments_of_65_536_places(rt: HostRuntime) -> Result<(), Fail> {
-    let mut machine = machine(rt.alloc(), "limit 65536\nactor a grow 65536 7\nsteps")?;
-    // One load, two steps for each of sixteen segments, one exchange, and two steps for each place.
-    for _step in 0..131_106 {
-        machine.step(0, true)?;
-    }
-    assert!(rt; machine.size() == 65_536 && machine.slot(65_536).is_none());
-    assert!(rt; machine.slot(65_535) == Some(Slot::Filled(7)));
     Ok(())
 }
 

@@ -148,7 +148,7 @@ impl Actors {
         }
     }
 
-    // Whether calls that ended elsewhere have the same answers here.
+    // Tests whether calls that ended elsewhere end alike here.
     fn answer_alike(&mut self, calls: &[Ended]) -> bool {
         for call in calls {
             if self.call(call.actor, call.command) != Some(call.answer) {
@@ -183,7 +183,7 @@ fn is_member(list: &Quiet<u64>, place: u64, cell: &Cell) -> bool {
     }
 }
 
-// Whether a list has the members that the cells say.
+// Tests whether a list has the members that the cells say.
 fn has_cells(list: &Quiet<u64>, cells: &[Cell]) -> bool {
     let mut place = 0;
     for cell in cells {
@@ -195,7 +195,7 @@ fn has_cells(list: &Quiet<u64>, cells: &[Cell]) -> bool {
     place == list.len()
 }
 
-// Whether the calls of a play have its answers on a vector of this limit too, and leave its cells.
+// Tests whether the calls of a play end alike on a vector of this limit, and leave its cells.
 fn plays_alike(alloc: Global, limit: u64, played: &Played) -> Option<bool>
     requires { IsLimit limit }
 {

@@ -34,7 +34,7 @@ pub(super) const ROWS: [Row; 7] = [
     ("limit 2\nactor z size\nactor b size\nsteps z b z!\n", 2, 1, b"zb", &[A, B, REFUSED]),
 ];
 
-// Whether a text is read as these values.
+// Tests whether a text is read as these values.
 pub(super) fn is_read(alloc: Global, row: &Row) -> Result<bool, ScriptError> {
     let (text, limit, first, names, items) = row;
     let script = read(alloc, text.as_bytes())?;

@@ -1,14 +1,17 @@
 //! What the calls of a play take.
 
-use super::played;
+use super::layouts::layout_of;
 use book_core::Work;
+use script_core::read;
+use std::alloc::Global;
 use std::test::Fail;
+use step_core::{Played, play_calls, play_in};
 
-// A script, and what its calls take by atomic steps, in the order in which they end.
-type Row = (&'static str, &'static [Work]);
+// A script, and what its calls take by atomic steps, in the order of their ends.
+pub(super) type Row = (&'static str, &'static [Work]);
 
 #[rattlefmt::skip]
-const ROWS: [Row; 5] = [
+pub(super) const ROWS: [Row; 8] = [
     ("limit 8\nactor a push 5\nsteps a a a a a a", &[
         Work { actor: 0, number: 1, lost: 0, steps: 6, segments: 1 },
     ]),
@@ -32,7 +35,54 @@ const ROWS: [Row; 5] = [
         Work { actor: 1, number: 1, lost: 0, steps: 5, segments: 1 },
         Work { actor: 0, number: 1, lost: 0, steps: 4, segments: 1 },
     ]),
+    // Each kind of call. The first places are in segments of two and two.
+    ("limit 16\nactor a fail 1 7 0, mend 0 9, read 0, size, atleast 3 1, atleast 2 0, atleast 17 0, grow 0 5\n\
+        steps a a a a a a a a a a a a a a a a a a a a a a a a", &[
+        Work { actor: 0, number: 1, lost: 0, steps: 6, segments: 1 },
+        Work { actor: 0, number: 2, lost: 0, steps: 3, segments: 0 },
+        Work { actor: 0, number: 3, lost: 0, steps: 2, segments: 0 },
+        Work { actor: 0, number: 4, lost: 0, steps: 1, segments: 0 },
+        Work { actor: 0, number: 5, lost: 0, steps: 9, segments: 2 },
+        Work { actor: 0, number: 6, lost: 0, steps: 1, segments: 0 },
+        Work { actor: 0, number: 7, lost: 0, steps: 1, segments: 0 },
+        Work { actor: 0, number: 8, lost: 0, steps: 1, segments: 0 },
+    ]),
+    // The same where the first eight places are one segment, and then a call that is refused its second.
+    ("limit 16\nfirst 3\nactor a fail 1 7 0, mend 0 9, read 0, size, atleast 3 1, grow 6 5\n\
+        steps a a a a a a a a a a a a a a a a a a a a a a a!", &[
+        Work { actor: 0, number: 1, lost: 0, steps: 6, segments: 1 },
+        Work { actor: 0, number: 2, lost: 0, steps: 3, segments: 0 },
+        Work { actor: 0, number: 3, lost: 0, steps: 2, segments: 0 },
+        Work { actor: 0, number: 4, lost: 0, steps: 1, segments: 0 },
+        Work { actor: 0, number: 5, lost: 0, steps: 7, segments: 1 },
+        Work { actor: 0, number: 6, lost: 0, steps: 4, segments: 2 },
+    ]),
+    // Two rounds in segments of sixteen: the second has the places 15 to 17.
+    ("limit 32\nfirst 4\nactor a fail 3 7 1\nactor b grow 15 2, read 14\n\
+        steps a a a b b b a a a a a a a a a a a \
+        b b b b b b b b b b b b b b b b b b b b b b b b b b b b b b b b", &[
+        Work { actor: 0, number: 1, lost: 1, steps: 14, segments: 2 },
+        Work { actor: 1, number: 1, lost: 0, steps: 33, segments: 1 },
+        Work { actor: 1, number: 2, lost: 0, steps: 2, segments: 0 },
+    ]),
 ];
+
+// The play of a script in its layout, or by whole calls.
+pub(super) fn played(alloc: Global, by_steps: bool, text: &str) -> Result<Played, Fail> {
+    let script = read(alloc, text.as_bytes())?;
+    let (limit, programs, items) = (script.limit, script.programs, script.items);
+    if by_steps {
+        Ok(play_in(
+            alloc,
+            layout_of(script.first),
+            limit,
+            programs,
+            items.as_slice(),
+        )?)
+    } else {
+        Ok(play_calls(alloc, limit, programs, items.as_slice())?)
+    }
+}
 
 #[test]
 fn a_call_takes_what_its_steps_are(rt: HostRuntime) -> Result<(), Fail> {

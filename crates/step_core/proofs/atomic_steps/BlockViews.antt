@@ -50,7 +50,7 @@ given_within f (suc n) q inside =
       | inr apart ↦ given_elsewhere (map_below f n) n (f n) q apart.1 ∙ given_within f n q (let ne : q ≢ n = apart.1 in omega arith)
     ]
 
--- where a function has nothing from the bound on, the map has what the function has
+-- if a function has nothing from the bound on, the map has what the function has
 get_map_below : (f : ℕ → Option Slot) (n : ℕ) → ((q : ℕ) → n ≤ q → f q ≡ None) → (q : ℕ)
     → map.get (map_below f n) q ≡ f q
 get_map_below f n nothing q =
@@ -91,7 +91,7 @@ tested_within f (suc n) q inside =
       | inr apart ↦ tested_before (set_below f n) n q (f n) apart.1 ∙ tested_within f n q (let ne : q ≢ n = apart.1 in omega arith)
     ]
 
--- where a test fails from the bound on, the set has what passes
+-- if a test fails from the bound on, the set has what passes
 contains_set_below : (f : ℕ → Bool) (n : ℕ) → ((q : ℕ) → n ≤ q → f q ≡ false) → (q : ℕ)
     → set.contains (set_below f n) q ≡ f q
 contains_set_below f n nothing q =
@@ -204,7 +204,7 @@ empty_block zero o = refl
 empty_block (suc n) zero = refl
 empty_block (suc n) (suc o) = empty_block n o
 
--- a new block where there was none shows one segment more
+-- a new block in an empty entry shows a further segment
 pub shows_block : (f : ℕ) (entries : Entries) (k n : ℕ) → AreBlocks f entries → k < segment_count f
     → block_of entries k ≡ None
     → shown f (slice_set entries k (Some (replicate n None))) ≡ record { layout = f; installed = set.insert (shown f entries).installed k; slots = (shown f entries).slots }

@@ -27,10 +27,11 @@ use Rattle.step_core.specs.declared.machine.phase.Actor.{Actor}
 use Rattle.step_core.specs.machine.Storage.{Storage}
 use Rattle.step_core.specs.machine.Step.{Configuration, Outcome, actor_after, ended_by, no_step, step_to, step_in, step_as, step_of, outcome_of, first_configuration}
 use Rattle.step_core.specs.machine.Bounds.{IsInLimit}
-use Rattle.step_core.specs.machine.Play.{Play, with_step}
+use Rattle.step_core.specs.machine.Play.{Play, empty_play, with_step}
 use Rattle.step_core.specs.machine.Work.{Count, CallWork, Counted, no_count, count_after, has_command, has_call, phase_in, phase_of, phase_at, first_counted, with_count, next_count, count_step, count_items, counted_of, growths_of_others, IsBounded, AreBounded, EveryCallIsBounded}
-use Rattle.step_core.proofs.atomic_steps.KeptLayout.{row_keeps_layout}
+use Rattle.step_core.proofs.atomic_steps.KeptLayout.{row_keeps_layout, plays_keep_the_layout}
 use Rattle.step_core.proofs.atomic_steps.Bounds.{opening_in_limit, within_at, step_in_limit}
+use Rattle.step_core.proofs.atomic_steps.Legal.{items_limit}
 use Rattle.step_core.proofs.atomic_steps.Tiling.{HoldsAt, step_holds, opening_holds}
 use Rattle.step_core.proofs.atomic_steps.Tiling.Invariant.{Knows}
 use Rattle.step_core.proofs.atomic_steps.Tiling.Steps.{phase_after}
@@ -44,41 +45,41 @@ abbrev grown : ℕ → Count → List (Event × Reply) → ℕ
 grown actor count events = growths_of_others actor (drop count.begun events)
 
 -- the actor's call, if it has one, has taken what it may in this phase
-abbrev IsPaced : Storage → List (Event × Reply) → ℕ → Count → Phase → Option Command → Type 0
-IsPaced m events actor count phase call =
-    IfSome call (λ command. Paces m.layout m.size command count (grown actor count events) phase)
+abbrev IsPaced : ℕ → Storage → List (Event × Reply) → ℕ → Count → Phase → Option Command → Type 0
+IsPaced limit m events actor count phase call =
+    IfSome call (λ command. Paces m.layout limit m.size command count (grown actor count events) phase)
 
 -- so has an actor's call under way
 record Standing (k : Counted) (actor : ℕ) (state : Actor) : Type 0 where
   pub count : Count
   pub there : slice_get k.counts actor ≡ Some count
   pub begun : count.begun ≤ length k.play.events
-  pub paces : IsPaced k.play.at.storage k.play.events actor count state.phase (slice_get state.program state.ended)
+  pub paces : IsPaced k.play.at.limit k.play.at.storage k.play.events actor count state.phase (slice_get state.program state.ended)
 
 -- a call that has ended took what it may
-abbrev IsCallBounded : List (Event × Reply) → CallWork → Type 0
-IsCallBounded events call =
-    (call.until ≤ length events) × IsBounded call.ended.actor call.ended.command call.count (drop call.count.begun (take call.until events))
+abbrev IsCallBounded : ℕ → ℕ → List (Event × Reply) → CallWork → Type 0
+IsCallBounded f limit events call =
+    (call.until ≤ length events) × IsBounded f limit call.ended.actor call.ended.command call.count (drop call.count.begun (take call.until events))
 
 -- what every step keeps
 record Keeps (k : Counted) : Type 0 where
   pub standing : (actor : ℕ) (state : Actor) → slice_get k.play.at.actors actor ≡ Some state → Standing k actor state
-  pub calls : All (λ call. IsCallBounded k.play.events call) k.calls
+  pub calls : All (λ call. IsCallBounded k.play.at.storage.layout k.play.at.limit k.play.events call) k.calls
   pub ended : map (λ (call : CallWork). call.ended) k.calls ≡ k.play.ended
 
 -- ---- Where events follow
 
-bounded_still : (events more : List (Event × Reply)) (call : CallWork) → IsCallBounded events call
-    → IsCallBounded (events ++ more) call
-bounded_still events more call (within, bounded) = (
+bounded_still : (f limit : ℕ) (events more : List (Event × Reply)) (call : CallWork) → IsCallBounded f limit events call
+    → IsCallBounded f limit (events ++ more) call
+bounded_still f limit events more call (within, bounded) = (
   let longer : length (events ++ more) ≡ length events + length more = length-append events more in omega arith,
-  subst (λ es. IsBounded call.ended.actor call.ended.command call.count (drop call.count.begun es)) (sym (take-append-le call.until events more within)) bounded,
+  subst (λ es. IsBounded f limit call.ended.actor call.ended.command call.count (drop call.count.begun es)) (sym (take-append-le call.until events more within)) bounded,
 )
 
-all_bounded_still : (events more : List (Event × Reply)) (calls : List CallWork) → All (λ call. IsCallBounded events call) calls
-    → All (λ call. IsCallBounded (events ++ more) call) calls
-all_bounded_still events more calls all =
-    All-weaker (λ call. IsCallBounded events call) (λ call. IsCallBounded (events ++ more) call) (bounded_still events more) calls all
+all_bounded_still : (f limit : ℕ) (events more : List (Event × Reply)) (calls : List CallWork)
+    → All (λ call. IsCallBounded f limit events call) calls → All (λ call. IsCallBounded f limit (events ++ more) call) calls
+all_bounded_still f limit events more calls all =
+    All-weaker (λ call. IsCallBounded f limit events call) (λ call. IsCallBounded f limit (events ++ more) call) (bounded_still f limit events more) calls all
 
 -- a call's first step is at the end of the events before it
 begun_within : (count : Count) (events more : List (Event × Reply)) → count.begun ≤ length events
@@ -113,22 +114,22 @@ begins_empty c events holds actor state there from n place phase =
     knows.1
 
 -- an actor's call paces on where others take a step
-paced_on : (m m' : Storage) (events more : List (Event × Reply)) (actor : ℕ) (count : Count) (phase : Phase)
+paced_on : (limit : ℕ) (m m' : Storage) (events more : List (Event × Reply)) (actor : ℕ) (count : Count) (phase : Phase)
     (call : Option Command)
     → m'.layout ≡ m.layout → m.size ≤ m'.size → count.begun ≤ length events
-    → (m'.size ≢ m.size → 0 < growths_of_others actor more) → IsPaced m events actor count phase call
-    → IsPaced m' (events ++ more) actor count phase call
-paced_on m m' events more actor count phase None layout larger within counts paces = tt
-paced_on m m' events more actor count phase (Some command) layout larger within counts paces =
+    → (m'.size ≢ m.size → 0 < growths_of_others actor more) → IsPaced limit m events actor count phase call
+    → IsPaced limit m' (events ++ more) actor count phase call
+paced_on limit m m' events more actor count phase None layout larger within counts paces = tt
+paced_on limit m m' events more actor count phase (Some command) layout larger within counts paces =
     let since = growths_since actor count.begun events more within in
-    subst (λ f. Paces f m'.size command count (grown actor count (events ++ more)) phase) (sym layout)
-    (paces_kept command count larger (omega arith) (λ moved. let one = counts moved in omega arith) m.layout phase paces)
+    subst (λ f. Paces f limit m'.size command count (grown actor count (events ++ more)) phase) (sym layout)
+    (paces_kept m.layout limit command count larger (omega arith) (λ moved. let one = counts moved in omega arith) phase paces)
 
 -- a call that has not begun
-paced_at_load : (m : Storage) (events : List (Event × Reply)) (actor : ℕ) (call : Option Command)
-    → IsPaced m events actor no_count Load call
-paced_at_load m events actor None = tt
-paced_at_load m events actor (Some command) = refl
+paced_at_load : (limit : ℕ) (m : Storage) (events : List (Event × Reply)) (actor : ℕ) (call : Option Command)
+    → IsPaced limit m events actor no_count Load call
+paced_at_load limit m events actor None = tt
+paced_at_load limit m events actor (Some command) = refl
 
 -- at Load of a next call, and of none
 at_load : (command : Option Command) → phase_in Load command ≡ Load
@@ -163,7 +164,7 @@ module _ (k : Counted) (keeps : Keeps k) (actor : ℕ) (state : Actor) (command 
         count = was.count;
         there = get_other k.counts actor other new apart ∙ was.there;
         begun = (let a = was.begun in omega arith);
-        paces = paced_on k.play.at.storage o.storage k.play.events (option_to_list o.event) other was.count other_state.phase
+        paces = paced_on k.play.at.limit k.play.at.storage o.storage k.play.events (option_to_list o.event) other was.count other_state.phase
             (slice_get other_state.program other_state.ended) layout (moves_up k.play.at.storage actor o moves) was.begun
             (moves_count k.play.at.storage actor other o (λ same. apart (sym same)) moves) was.paces;
       }
@@ -208,10 +209,17 @@ module _ (k : Counted) (keeps : Keeps k) (actor : ℕ) (state : Actor) (command 
         | inr apart ↦ others new calls other other_state apart.1 at
       ]
 
+  -- the ended calls took what they may
+  calls_still : (o : Outcome) → o.storage.layout ≡ k.play.at.storage.layout
+      → All (λ call. IsCallBounded o.storage.layout k.play.at.limit (k.play.events ++ option_to_list o.event) call) k.calls
+  calls_still o layout =
+      subst (λ f. All (λ call. IsCallBounded f k.play.at.limit (k.play.events ++ option_to_list o.event) call) k.calls) (sym layout)
+      (all_bounded_still k.play.at.storage.layout k.play.at.limit k.play.events (option_to_list o.event) k.calls keeps.calls)
+
   -- the call goes on
   call_goes : (o : Outcome) (phase : Phase) → o.storage.layout ≡ k.play.at.storage.layout → (count : Count)
       → slice_get k.counts actor ≡ Some count → count.begun ≤ length k.play.events
-      → Paces k.play.at.storage.layout o.storage.size command (counted_on count phase) (growths_then o count) phase
+      → Paces k.play.at.storage.layout k.play.at.limit o.storage.size command (counted_on count phase) (growths_then o count) phase
       → OthersStand o (Goes phase)
       → Keeps (record { play = play_after o (Goes phase); counts = slice_set k.counts actor (counted_on count phase); calls = k.calls })
   call_goes o phase layout count counted within paces others =
@@ -221,10 +229,10 @@ module _ (k : Counted) (keeps : Keeps k) (actor : ℕ) (state : Actor) (command 
           count = new;
           there = get_set k.counts actor count new counted;
           begun = begun_within count k.play.events (option_to_list o.event) within;
-          paces = subst (λ c. IfSome c (λ call. Paces o.storage.layout o.storage.size call new (growths_then o count) phase)) (sym is)
-              (subst (λ f. Paces f o.storage.size command new (growths_then o count) phase) (sym layout) paces);
+          paces = subst (λ c. IfSome c (λ call. Paces o.storage.layout k.play.at.limit o.storage.size call new (growths_then o count) phase)) (sym is)
+              (subst (λ f. Paces f k.play.at.limit o.storage.size command new (growths_then o count) phase) (sym layout) paces);
         });
-        calls = all_bounded_still k.play.events (option_to_list o.event) k.calls keeps.calls;
+        calls = calls_still o layout;
         ended = keeps.ended ∙ sym (append-nil k.play.ended);
       }
 
@@ -237,31 +245,34 @@ module _ (k : Counted) (keeps : Keeps k) (actor : ℕ) (state : Actor) (command 
   }
 
   -- the call ends
-  call_ends : (o : Outcome) (ended : Ended) (next : Next) → ended_by actor state command next ≡ Some ended
+  call_ends : (o : Outcome) → o.storage.layout ≡ k.play.at.storage.layout → (ended : Ended) (next : Next) → ended_by actor state command next ≡ Some ended
       → ended.actor ≡ actor → ended.command ≡ command → (new : Count) → new.begun ≤ length k.play.events
-      → Stops command new (growths_of_others actor (drop new.begun (k.play.events ++ option_to_list o.event)))
+      → Stops o.storage.layout k.play.at.limit command new (growths_of_others actor (drop new.begun (k.play.events ++ option_to_list o.event)))
       → ((other : ℕ) (other_state : Actor) → slice_get (slice_set k.play.at.actors actor (actor_after state next)) other ≡ Some other_state
       → Standing (with_ended o next ended new) other other_state)
       → Keeps (with_ended o next ended new)
-  call_ends o ended next is_ended its_actor its_command new within stops stand =
+  call_ends o layout ended next is_ended its_actor its_command new within stops stand =
       let events = k.play.events ++ option_to_list o.event in
       let call : CallWork = record { ended = ended; count = new; until = length events } in
-      let bounded : IsBounded actor command new (drop new.begun events) = record { lost = stops.lost; steps = stops.steps; segments = stops.segments } in
+      let f = o.storage.layout in
+      let limit = k.play.at.limit in
+      let bounded : IsBounded f limit actor command new (drop new.begun events) =
+      record { lost = stops.lost; steps = stops.steps; segments = stops.segments; touched = stops.touched } in
       record {
         standing = stand;
-        calls = All-append (λ c. IsCallBounded events c) k.calls (call ∷ []) (all_bounded_still k.play.events (option_to_list o.event) k.calls keeps.calls)
-            (All-cons (λ c. IsCallBounded events c) call [] (
+        calls = All-append (λ c. IsCallBounded f limit events c) k.calls (call ∷ []) (calls_still o layout)
+            (All-cons (λ c. IsCallBounded f limit events c) call [] (
               le_refl (length events),
-              subst (λ es. IsBounded ended.actor ended.command new (drop new.begun es)) (sym (take-length events))
-                  (subst (λ a. IsBounded a ended.command new (drop new.begun events)) (sym its_actor) (subst (λ c. IsBounded actor c new (drop new.begun events)) (sym its_command) bounded)),
-            ) (All-nil (λ c. IsCallBounded events c)));
+              subst (λ es. IsBounded f limit ended.actor ended.command new (drop new.begun es)) (sym (take-length events))
+                  (subst (λ a. IsBounded f limit a ended.command new (drop new.begun events)) (sym its_actor) (subst (λ c. IsBounded f limit actor c new (drop new.begun events)) (sym its_command) bounded)),
+            ) (All-nil (λ c. IsCallBounded f limit events c)));
         ended = map-append (λ (c : CallWork). c.ended) k.calls (call ∷ []) ∙ ap (λ es. es ++ ended ∷ []) keeps.ended ∙ ap (λ e. k.play.ended ++ option_to_list e) (sym is_ended);
       }
 
   -- what a step leaves, whether the call goes on or ends
   call_kept_on : (o : Outcome) (next : Next) → o.storage.layout ≡ k.play.at.storage.layout → (count : Count)
       → slice_get k.counts actor ≡ Some count → count.begun ≤ length k.play.events
-      → PacesOn k.play.at.storage.layout o.storage.size command count (growths_then o count) (length k.play.events) state.phase next
+      → PacesOn k.play.at.storage.layout k.play.at.limit o.storage.size command count (growths_then o count) (length k.play.events) state.phase next
       → OthersStand o next
       → Keeps (with_count k actor (play_after o next) (counted_on count (phase_after next)) (ended_by actor state command next))
   call_kept_on o (Goes phase) layout count counted within paces others = call_goes o phase layout count counted within paces others
@@ -269,12 +280,13 @@ module _ (k : Counted) (keeps : Keeps k) (actor : ℕ) (state : Actor) (command 
       let new = counted_on count Load in
       let ended : Ended = record { actor = actor; number = state.ended + 1; command = command; answer = answer } in
       let calls = k.calls ++ record { ended = ended; count = new; until = length (k.play.events ++ option_to_list o.event) } ∷ [] in
-      call_ends o ended (Ends answer) refl refl refl new (first_within count k.play.events within) stops
+      call_ends o layout ended (Ends answer) refl refl refl new (first_within count k.play.events within)
+      (subst (λ f. Stops f k.play.at.limit command new (growths_then o count)) (sym layout) stops)
       (all_stand o (Ends answer) no_count calls others (record {
         count = no_count;
         there = get_set k.counts actor count no_count counted;
         begun = omega arith;
-        paces = paced_at_load o.storage (k.play.events ++ option_to_list o.event) actor (slice_get state.program (state.ended + 1));
+        paces = paced_at_load k.play.at.limit o.storage (k.play.events ++ option_to_list o.event) actor (slice_get state.program (state.ended + 1));
       }))
 
   -- the row of the step table for the call
@@ -291,9 +303,9 @@ module _ (k : Counted) (keeps : Keeps k) (actor : ℕ) (state : Actor) (command 
       let within = within_at c in_limit actor state command there is in
       let layout = row_keeps_layout c.limit c.storage actor command memory state.phase in
       let moves = row_moves c.limit c.storage actor command memory state.phase within in
-      let was : Paces c.storage.layout c.storage.size command s.count (grown actor s.count k.play.events) state.phase =
-      subst (λ call. IfSome call (λ x. Paces c.storage.layout c.storage.size x s.count (grown actor s.count k.play.events) state.phase)) is s.paces in
-      let since = paces_since c.storage.layout c.storage.size (grown actor s.count k.play.events) (growths_then o s.count) command s.count state.phase
+      let was : Paces c.storage.layout c.limit c.storage.size command s.count (grown actor s.count k.play.events) state.phase =
+      subst (λ call. IfSome call (λ x. Paces c.storage.layout c.limit c.storage.size x s.count (grown actor s.count k.play.events) state.phase)) is s.paces in
+      let since = paces_since c.storage.layout c.limit c.storage.size (grown actor s.count k.play.events) (growths_then o s.count) command s.count state.phase
       (growths_after actor s.count k.play.events (option_to_list o.event) s.begun) was in
       let leaves = row_leaves c.limit c.storage in_limit.3 in_limit.0.1 actor (growths_then o s.count) (length k.play.events) command s.count memory state.phase within
       (λ from n place phase. begins_empty c k.play.events holds actor state there from n place phase) since in
@@ -359,8 +371,8 @@ first_kept f limit programs = record {
         count = no_count;
         there = get_appended [] (length programs) actor no_count (omega arith) (omega arith);
         begun = omega arith;
-        paces = subst (λ phase. IsPaced (first_configuration f limit programs).storage [] actor no_count phase (slice_get state.program state.ended)) (sym first.0)
-            (paced_at_load (first_configuration f limit programs).storage [] actor (slice_get state.program state.ended));
+        paces = subst (λ phase. IsPaced limit (first_configuration f limit programs).storage [] actor no_count phase (slice_get state.program state.ended)) (sym first.0)
+            (paced_at_load limit (first_configuration f limit programs).storage [] actor (slice_get state.program state.ended));
       });
   calls = All-nil _;
   ended = refl;
@@ -369,15 +381,16 @@ first_kept f limit programs = record {
 -- ---- The law
 
 -- a call under way took what it may
-under_way_bounded : (k : Counted) → Keeps k → IsInLimit k.play.at → AreBounded k
+under_way_bounded : (k : Counted) → Keeps k → IsInLimit k.play.at
+    → AreBounded k.play.at.storage.layout k.play.at.limit k
 under_way_bounded k keeps in_limit = record {
   ended = λ i d inside. (keeps.calls i d inside).1;
   under_way = λ actor state command there is. (
       let s = keeps.standing actor state there in
-      let paces : Paces k.play.at.storage.layout k.play.at.storage.size command s.count (grown actor s.count k.play.events) state.phase =
-      subst (λ call. IfSome call (λ x. Paces k.play.at.storage.layout k.play.at.storage.size x s.count (grown actor s.count k.play.events) state.phase)) is s.paces in
-      let stops = paces_stops k.play.at.storage.layout k.play.at.storage.size k.play.at.limit (grown actor s.count k.play.events) command s.count state.phase (within_at k.play.at in_limit actor state command there is) paces in
-      (s.count, s.there, record { lost = stops.lost; steps = stops.steps; segments = stops.segments }));
+      let paces : Paces k.play.at.storage.layout k.play.at.limit k.play.at.storage.size command s.count (grown actor s.count k.play.events) state.phase =
+      subst (λ call. IfSome call (λ x. Paces k.play.at.storage.layout k.play.at.limit k.play.at.storage.size x s.count (grown actor s.count k.play.events) state.phase)) is s.paces in
+      let stops = paces_stops k.play.at.storage.layout k.play.at.limit k.play.at.storage.size (grown actor s.count k.play.events) command s.count state.phase (within_at k.play.at in_limit actor state command there is) paces in
+      (s.count, s.there, record { lost = stops.lost; steps = stops.steps; segments = stops.segments; touched = stops.touched }));
 }
 
 pub every_call_is_bounded : EveryCallIsBounded
@@ -385,4 +398,8 @@ every_call_is_bounded f is_layout limit programs items is_limit =
     let k = counted_of f limit programs items in
     let play_is = counted_play f limit programs items in
     let kept = items_kept (first_counted f limit programs) items (opening_in_limit f limit programs is_layout is_limit) (opening_holds f limit programs) (first_kept f limit programs) in
-    (record { play = play_is; calls = kept.0.ended ∙ ap (λ (p : Play). p.ended) play_is }, under_way_bounded k kept.0 kept.1)
+    let layout : k.play.at.storage.layout ≡ f = ap (λ (p : Play). p.at.storage.layout) play_is ∙ plays_keep_the_layout f limit programs items in
+    let same_limit : k.play.at.limit ≡ limit = ap (λ (p : Play). p.at.limit) play_is ∙ items_limit (empty_play f limit programs) items in (
+      record { play = play_is; calls = kept.0.ended ∙ ap (λ (p : Play). p.ended) play_is },
+      subst (λ x. AreBounded x limit k) layout (subst (λ x. AreBounded k.play.at.storage.layout x k) same_limit (under_way_bounded k kept.0 kept.1)),
+    )

@@ -72,7 +72,7 @@ module _ (f limit : ℕ) (command : Command) (from n : ℕ) where
   place_after_within place low room =
       place_cases (StaysWithin f limit command) command from n place (λ before. (omega arith, before, room)) (λ _. tt)
 
--- an exchange's call wants as many places anywhere
+-- an exchange's call wants the same number of places anywhere
 exchange_wants : (command : Command) (from n : ℕ) → Exchanges command → Wants command from n
 exchange_wants (commands.Push value) from n exchanges = tt
 exchange_wants (commands.Grow m value) from n exchanges = tt
@@ -85,7 +85,7 @@ exchange_wants commands.Size from n exchanges = tt
 -- ---- Rows
 
 module _ (limit : ℕ) (is_limit : limit ≤ most_places) (m : Storage) (is_layout : IsLayout m.layout) (size : m.size ≤ limit) (actor : ℕ) where
-  -- where the size stays, only the phase matters
+  -- if the size stays, only the phase matters
   same_size : (command : Command) (event : Option (Event × Reply)) (next : Next) → StaysWithin m.layout limit command next
       → Stays m.layout limit command (record { storage = m; event = event; next = next })
   same_size command event next within = record { size = size; next = within }
@@ -179,7 +179,7 @@ module _ (limit : ℕ) (is_limit : limit ≤ most_places) (m : Storage) (is_layo
 
 -- ---- Whole configurations
 
--- where the actor stands after a step is placed
+-- an actor's phase after a step is placed
 after_is_placed : (f limit : ℕ) (state : Actor) (command : Command) (next : Next)
     → slice_get state.program state.ended ≡ Some command → StaysWithin f limit command next
     → IsPlaced f limit (actor_after state next)

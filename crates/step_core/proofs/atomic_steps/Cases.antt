@@ -1,4 +1,4 @@
--- A fact of a row of the step table, where it is a fact of each outcome that the row may have.
+-- A fact of a row of the step table, if it is a fact of each outcome that the row may have.
 use Rattle.std.proofs.Common.{◌≡◌, ◌≢◌, ℕ, ◌+◌, ◌-◌, ◌<◌, ◌≤◌, ◌==◌, nat_le, nat_lt, Bool, true, false, if◌then◌else◌, Some, None, slice_get, refl, subst, arith}
 use Rattle.std.proofs.lemmas.Bool.{eqb-true, eqb-false}
 use Rattle.std.proofs.lemmas.Bool.Decides.{nat_tests}
@@ -25,7 +25,7 @@ test_cases : (P : Bool → Type 0) (test : Bool) → (test ≡ true → P true) 
 test_cases P true passes fails = passes refl
 test_cases P false passes fails = fails refl
 
--- ---- Outcomes that stand in several rows
+-- ---- Outcomes that occur in several rows
 
 -- a growth of nothing claims no places
 abbrev pub claim_of_nothing : Storage → ℕ → Outcome

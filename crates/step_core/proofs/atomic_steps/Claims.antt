@@ -95,7 +95,7 @@ module _ (m : Storage) (actor : ℕ) (command : Command) where
       let count : n ≡ m.size + n - m.size = omega arith in
       inr (event, own, ap (λ k. Some (event, replies.Run m.size k)) count)
 
--- the claim of a growth that exchanges is by as many places as it asks for
+-- the claim of a growth that exchanges is by the places that it asks for
 claim_by : (actor : ℕ) (command : Command) (n : ℕ) → Asks command n → Exchanges command
     → claim_of actor command ≡ Some (events.Claim actor n)
 claim_by actor (commands.Push value) n asks exchanges = ap (λ k. Some (events.Claim actor k)) (sym asks)

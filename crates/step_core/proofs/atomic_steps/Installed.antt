@@ -34,7 +34,7 @@ use Rattle.step_core.proofs.atomic_steps.KeptLayout.{row_keeps_layout}
 use Rattle.step_core.proofs.atomic_steps.Cases.{first_scout, won_growth, growth_cases, at_least_cases, load_place_cases, exchange_cases, raise_cases, begin_cases, scout_cases, raise_wants, claiming_cases, segment_cases, place_cases, step_cases}
 use Rattle.step_core.proofs.atomic_steps.Bounds.{within_at, step_in_limit}
 
--- where an actor goes on, it has passed the segments of its phase
+-- if an actor goes on, it has passed the segments of its phase
 abbrev PassesOn : Storage → Next → Type 0
 PassesOn m (Goes phase) = HasPassed m phase
 PassesOn m (Ends answer) = Unit {0}
@@ -76,7 +76,7 @@ installed_now : (m : Storage) (k : ℕ) → set.contains (with_segment m k).inst
 installed_now m k =
     set.contains-insert nat_cmp_total m.installed k k ∙ ap (λ b. b || set.contains m.installed k) (same_key k)
 
--- where a segment and all before it are ready, so are all places before its end
+-- if a segment and all before it are ready, so are all places before its end
 ready_through : (m : Storage) (k bound : ℕ) → ((q : ℕ) → q < segment_start m.layout k → q < bound → IsReady m q)
     → set.contains m.installed k ≡ true → (q : ℕ) → q < segment_end m.layout k → q < bound → IsReady m q
 ready_through m k bound before there q ends inside =

@@ -46,7 +46,7 @@ limit_kept : (c : Configuration) (actor : ℕ) (memory : Bool) → (step_of c ac
 limit_kept c actor memory = step_cases (λ step. step.to.limit ≡ c.limit) c actor memory refl (λ state command there is. refl)
 
 -- so do items, which stay within it
-items_limit : (p : Play) (items : List Item) → (after_items p items).at.limit ≡ p.at.limit
+pub items_limit : (p : Play) (items : List Item) → (after_items p items).at.limit ≡ p.at.limit
 items_limit p [] = refl
 items_limit p (item ∷ items) = items_limit (with_step p (step_of p.at item.actor item.memory)) items ∙ limit_kept p.at item.actor item.memory
 

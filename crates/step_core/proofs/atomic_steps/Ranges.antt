@@ -31,7 +31,7 @@ map_all f x a (suc n) is =
     ap (λ y. y ∷ map f (range_with_len (a + 1) n)) (is a (omega arith) (omega arith))
     ∙ ap (λ xs. x ∷ xs) (map_all f x (a + 1) n (λ p low high. is p (omega arith) (omega arith)))
 
--- what stands at a place
+-- the member at a place
 pub map_get : {X : Type 0} (f : ℕ → X) (a n k : ℕ) → k < n → slice_get (map f (range_with_len a n)) k ≡ Some (f (a + k))
 map_get f a zero k inside = absurd (omega arith)
 map_get f a (suc n) zero inside = (let here : a ≡ a + zero = omega arith in ap (λ p. Some (f p)) here)

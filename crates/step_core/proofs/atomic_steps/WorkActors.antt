@@ -1,5 +1,5 @@
--- What is counted is of actors that have programs.
-use Rattle.std.proofs.Common.{◌≡◌, ℕ, ◌<◌, ◌∷◌, List, [], length, map, All, ap, sym, ◌∙◌, subst, Option, Result, Ok, Err, IfOk}
+-- Counts are of actors that have programs.
+use Rattle.std.proofs.Common.{◌≡◌, ℕ, ◌<◌, ◌∷◌, List, [], length, map, ap, sym, subst, Result, Ok, Err, IfOk}
 use Rattle.std.proofs.lemmas.List.Elements.{All-nil, All-cons, All-head, All-tail}
 use Rattle.seg_core.specs.Segment.{IsLayout, IsLimit}
 use Rattle.book_core.specs.declared.commands.Command.{Command}
@@ -8,7 +8,6 @@ use Rattle.book_core.specs.declared.commands.Ended.{Ended}
 use Rattle.book_core.specs.declared.commands.Work.{Work}
 use Rattle.book_core.specs.Commands.{HavePrograms, HaveActors}
 use Rattle.step_core.specs.declared.programs.Played.{Played}
-use Rattle.step_core.specs.machine.Play.{play_of}
 use Rattle.step_core.specs.machine.Work.{CallWork, AreOfActors, counted_of, work_in, play_shown}
 use Rattle.step_core.proofs.atomic_steps.Owners.{play_actors}
 use Rattle.step_core.proofs.atomic_steps.Bounded.{every_call_is_bounded}

@@ -21,7 +21,7 @@ pub record WholeCall : Type 0 where
 abbrev pub refused : CellList → ℕ → ℕ → WholeCall
 refused v actor n = record { events = RefusedFull actor n ∷ []; answer = answers.Full (length v.cells) }
 
--- how a read ends, by what stands at its place
+-- how a read ends, by the cell at its place
 abbrev pub answer_of_look : ℕ → Option Cell → Answer
 answer_of_look size (Some (cells.Pending owner)) = answers.Pending
 answer_of_look size (Some (cells.Filled value)) = answers.Value value
@@ -32,11 +32,11 @@ answer_of_look size None = answers.OutOfRange size
 abbrev pub mended : ℕ → ℕ → ℕ → WholeCall
 mended actor place value = record { events = Mend actor place ∷ Finish actor place value ∷ []; answer = answers.At place }
 
--- a read of a place, by what stands there
+-- a read of a place, by the cell there
 abbrev pub looked : CellList → ℕ → ℕ → Option Cell → WholeCall
 looked v actor place cell = record { events = Look actor place ∷ []; answer = answer_of_look (length v.cells) cell }
 
--- a mend of a place, by what stands there: a place that isn't broken is read
+-- a mend of a place, by the cell there: a place that is not broken is read
 abbrev pub mend_on : CellList → ℕ → ℕ → ℕ → Option Cell → WholeCall
 mend_on v actor place value (Some (cells.Pending owner)) = looked v actor place (Some (cells.Pending owner))
 mend_on v actor place value (Some (cells.Filled held)) = looked v actor place (Some (cells.Filled held))

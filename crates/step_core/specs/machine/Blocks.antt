@@ -59,7 +59,7 @@ slot_in (Some block) offset = flattened (slice_get block offset)
 abbrev pub slot_at : ℕ → Entries → ℕ → Option Slot
 slot_at f entries place = slot_in (block_of entries (segment_of f place)) (place - segment_start f (segment_of f place))
 
--- a key with its value, where there is one
+-- a key with its value, if there is one
 abbrev pub with_value : map.FinMap nat_cmp Slot → ℕ → Option Slot → map.FinMap nat_cmp Slot
 with_value m key None = m
 with_value m key (Some value) = map.insert m key value
@@ -74,7 +74,7 @@ unfoldable pub set_below : (ℕ → Bool) → ℕ → set.FinSet nat_cmp
 set_below f zero = set.empty
 set_below f (suc bound) = if f bound then set.insert (set_below f bound) bound else set_below f bound
 
--- how many entries there are: as many as segments where the first one is the shortest
+-- the number of entries: that of the segments with the shortest first segment
 abbrev pub entry_count : ℕ
 entry_count = 40
 

@@ -32,7 +32,7 @@ Exchanges (commands.Mend place value) = Unit {0}
 Exchanges (commands.Read place) = Unit {0}
 Exchanges commands.Size = Unit {0}
 
--- where an actor stands is within the limit
+-- the actor's phase is within the limit
 abbrev pub IsWithin : ℕ → ℕ → Command → Phase → Type 0
 IsWithin f limit command Load = Unit {0}
 IsWithin f limit command (Scout from n segment) = (0 < n) × (from + n ≤ limit) × (segment < segment_count f) × Wants command from n
@@ -46,7 +46,7 @@ IsWithin f limit command (Mend place) = place < limit
 IsWithin f limit command (FillMended place) = place < limit
 IsWithin f limit command (Look place) = Unit {0}
 
--- where an actor goes on, it stays within
+-- if an actor goes on, it stays within the limit
 abbrev pub StaysWithin : ℕ → ℕ → Command → Next → Type 0
 StaysWithin f limit command (Goes phase) = IsWithin f limit command phase
 StaysWithin f limit command (Ends answer) = Unit {0}

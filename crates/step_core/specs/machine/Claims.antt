@@ -13,7 +13,7 @@ use Rattle.step_core.specs.declared.machine.phase.Actor.{Actor}
 use Rattle.step_core.specs.machine.Step.{Configuration, Step, step_of}
 use Rattle.step_core.specs.machine.Play.{Play}
 
--- the event by which a call claims its places
+-- the event that claims a call's places
 abbrev pub claim_of : ℕ → Command → Option Event
 claim_of actor (commands.Push value) = Some (Claim actor 1)
 claim_of actor (commands.Grow n value) = Some (Claim actor n)
@@ -34,13 +34,13 @@ pub record IsOwnClaim (c : Configuration) (actor : ℕ) (step : Step) : Type 0 w
   pub own : claim_of actor command ≡ Some claim
   pub event : step.event ≡ Some (claim, replies.Run c.storage.size (step.to.storage.size - c.storage.size))
 
--- Where the next item moves the size, the event of that very step has the run from the old size to the new one; and where
--- its event has a run, it begins at the old size and ends at the new one.
+-- If the next item moves the size, the event of that very step has the run from the old size to the new one;
+-- and if its event has a run, it begins at the old size and ends at the new one.
 abbrev pub MovesAtClaims : Play → Type 0
 MovesAtClaims p =
     (item : Item) → Tile p.at.storage.size (runs_of (option_to_list (step_of p.at item.actor item.memory).event)) (step_of p.at item.actor item.memory).to.storage.size
 
--- where the next item moves the size, that step is the claim of the call under way of its actor
+-- if the next item moves the size, that step is the claim of the call under way of its actor
 abbrev pub MovesAreOwnClaims : Play → Type 0
 MovesAreOwnClaims p =
     (item : Item) → (step_of p.at item.actor item.memory).to.storage.size ≢ p.at.storage.size

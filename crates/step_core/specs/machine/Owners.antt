@@ -18,7 +18,7 @@ abbrev pub cells_from : (ℕ → Option Slot) → ℕ → List ℕ → List Cell
 cells_from slot place [] = []
 cells_from slot place (owner ∷ owners) = cell_of (Some owner) (slot place) ∷ cells_from slot (place + 1) owners
 
--- what a play shows, where its runs follow each other, with what its calls took
+-- what a play shows if its runs follow each other, with what its calls took
 abbrev pub played_by_owners : Play → List Work → Played
 played_by_owners p work = record {
   events = p.events;

@@ -57,7 +57,8 @@ after_items p (item ∷ items) = after_items (with_step p (step_of p.at item.act
 abbrev pub play_of : ℕ → ℕ → List (List Command) → List Item → Play
 play_of f limit programs items = after_items (empty_play f limit programs) items
 
--- a place as a reader sees it: a busy slot is pending of who has it busy, and an empty one of the place's owner
+-- a place as a reader sees it: a busy slot is pending for the actor that is writing it, and an empty one for
+-- the place's owner
 abbrev pub cell_of : Option ℕ → Option Slot → Cell
 cell_of owner (Some (Filled value)) = cells.Filled value
 cell_of owner (Some Broken) = cells.Broken
@@ -68,12 +69,12 @@ cell_of owner None = cells.Pending (unwrap_or owner 0)
 abbrev pub cells_of : Storage → List OwnedRun → List Cell
 cells_of m runs = map (λ place. cell_of (owner_of runs place) (get m.slots place)) (range_with_len 0 m.size)
 
--- what a play shows: its events, its ended calls and its cells; what its calls took is counted beside it
+-- what a play shows: its events, its ended calls and its cells; what its calls took is counted separately
 abbrev pub played_of : Play → Played
 played_of p = record { events = p.events; ended = p.ended; cells = cells_of p.at.storage (runs_of p.events); work = [] }
 
--- The play of one item more is one step more of its configuration: so a machine that is moved by the steps of a schedule is
--- at the configuration of its play.
+-- The play of an added item is one further step of its configuration: so a machine that is moved by the steps
+-- of a schedule is in the configuration of its play.
 abbrev pub PlaysGoOnByAStep : Type 0
 PlaysGoOnByAStep =
     (f limit : ℕ) (programs : List (List Command)) (items : List Item) (item : Item)

@@ -1,4 +1,5 @@
--- The records of calls: which events with which replies a call is, and how it ends; and that those of each actor are its calls'.
+-- The records of calls: the events with replies that make up a call, and how it ends; and that each actor's
+-- events are its calls'.
 use Rattle.std.specs.Prelude.{◌≡◌, ◌≢◌, ℕ, ◌+◌, ◌-◌, ◌⊎◌, List, [], ◌∷◌, ◌++◌, length, map, Option, Some, None, IfSome, unwrap_or, slice_get}
 use Rattle.book_core.specs.declared.events.Event.{Event}
 use Rattle.book_core.specs.declared.events.Event.TheVariants.{Claim, Raise, Finish, Mend, Look, Size, RefusedFull, RefusedMemory}
@@ -29,12 +30,12 @@ pub record IsGrown (claim : Event) (actor n value made : ℕ) (answer_at : ℕ �
   pub events : es ≡ run_record claim actor from n value made
   pub answered : answer ≡ answer_at from
 
--- a growth to at least a size, which won as many places as it found wanting
+-- a growth up to a size, which won the places that it found missing
 pub record IsRaised (actor to value : ℕ) (es : List (Event × Reply)) (answer : Answer) : Type 0 where
   pub n : ℕ
   pub grown : IsGrown (Raise actor to) actor n value n (λ from. answers.Run from n) es answer
 
--- a growth that was past the limit, by as many places as the size tells
+-- a growth that was past the limit, by the places that the size leaves
 pub record IsFull (actor : ℕ) (n_at : ℕ → ℕ) (es : List (Event × Reply)) (answer : Answer) : Type 0 where
   pub size : ℕ
   pub events : es ≡ (RefusedFull actor (n_at size), replies.Full size) ∷ []
@@ -139,7 +140,7 @@ pub record IsBegun (actor : ℕ) (command : Command) (es : List (Event × Reply)
   pub recorded : IsRecord actor command (es ++ rest) answer
   pub proper : rest ≢ []
 
--- so are those of the call under way; where no call is left there are none
+-- so are those of the call under way; if no call is left there are none
 abbrev pub IsUnderWay : ℕ → Option Command → List (Event × Reply) → Type 0
 IsUnderWay actor None es = es ≡ []
 IsUnderWay actor (Some command) es = IsBegun actor command es
@@ -151,8 +152,8 @@ pub record IsClaimedUpTo (from n place : ℕ) (es : List (Event × Reply)) : Typ
   pub events : es ≡ (claim, replies.Run from n) ∷ writes
   pub up_to : from + length writes ≡ place
 
--- What the phase says of the call's events so far: none before its claim; then the claim, and what was filled or broken
--- before the place of the phase; or the Mend of the place that it is to fill.
+-- The call's events so far, by its phase: none before its claim; then the claim, and what was filled or
+-- broken before the phase's place; or the Mend of the place that it is to fill.
 abbrev pub AreSoFar : Phase → List (Event × Reply) → Type 0
 AreSoFar phases.Load es = es ≡ []
 AreSoFar (phases.Scout from n segment) es = es ≡ []

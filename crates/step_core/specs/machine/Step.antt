@@ -267,7 +267,7 @@ outcome_of limit m actor command memory (Look place) = look_at m actor place (ge
 
 -- ---- What follows a step
 
--- where the actor stands: in the next phase, or at Load of its next call
+-- the actor afterwards: in the next phase, or at Load of its next call
 abbrev pub actor_after : Actor → Next → Actor
 actor_after state (Goes phase) = record { program = state.program; ended = state.ended; phase = phase }
 actor_after state (Ends answer) = record { program = state.program; ended = state.ended + 1; phase = Load }

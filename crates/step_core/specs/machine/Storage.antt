@@ -7,8 +7,8 @@ use Rattle.std.specs.Coded.{Coded, code_by, coded×, coded_ℕ}
 use Rattle.step_core.specs.declared.machine.phase.Slot.{Slot}
 use Rattle.step_core.specs.contracts.machine.phase.Slot as slot
 
--- how the places are cut into segments, the first of which has 2^layout of them; the size, the installed segments, and the
--- slots that aren't empty
+-- how the places are divided into segments (the first has 2^layout of them); the size, the installed
+-- segments, and the slots that are not empty
 pub record Storage : Type 0 where
   pub layout : ℕ
   pub size : ℕ

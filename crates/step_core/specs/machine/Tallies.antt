@@ -31,7 +31,7 @@ tallied_code =
     (λ p. record { play = p.0; tallies = p.1.0; work = p.1.1 })
     (λ _. refl)
 
--- what a call took that ended with this tally
+-- what an ended call took with this tally
 abbrev pub work_by : Ended → Tally → Work
 work_by ended tally = record {
   actor = ended.actor;
@@ -74,7 +74,7 @@ tallied k = record {
   work = map work_in k.calls;
 }
 
--- what a counted play shows, where its runs follow each other
+-- what a counted play shows if its runs follow each other
 abbrev pub shown_by_owners : Tallied → Played
 shown_by_owners t = played_by_owners t.play t.work
 

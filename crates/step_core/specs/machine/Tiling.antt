@@ -96,8 +96,8 @@ abbrev pub DebtsArePending : Play → Type 0
 DebtsArePending p =
     (place : ℕ) → ((place < p.at.storage.size) × IsUnfinished (get p.at.storage.slots place)) ↔ ((actor : ℕ) × Owes p.at actor place)
 
--- an actor owes exactly the places that are its to finish by the history: that it owns, and at which nothing was done; or
--- where the last that was done is its Mend
+-- an actor owes exactly the places that are its to finish by the history: that it owns, and at which nothing
+-- was done; or whose last write is its Mend
 abbrev pub DebtsAreOfHistory : Play → Type 0
 DebtsAreOfHistory p =
     (actor place : ℕ) → Owes p.at actor place ↔ IsItsToFinish p.events place actor (writes_of place p.events)

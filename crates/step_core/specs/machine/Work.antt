@@ -1,5 +1,5 @@
--- What the calls of a play take, counted beside it: steps, lost exchanges, and the segments of a round; and how they are
--- bounded.
+-- What the calls of a play take, counted next to it: steps, lost exchanges, and the segments of a round; and
+-- how they are bounded.
 use Rattle.std.specs.Prelude.{◌≡◌, ℕ, ◌+◌, ◌-◌, ◌*◌, ◌<◌, ◌≤◌, ◌==◌, ◌&&◌, nat_lt, max, not, is_some, Bool, true, false, if◌then◌else◌, List, [], ◌∷◌, ◌++◌, length, map, replicate, take, drop, All, Option, Some, None, slice_get, slice_set, unwrap_or}
 use Rattle.std.specs.List.{filter}
 use Rattle.seg_core.specs.Segment.{IsLayout, IsLimit, segment_of}
@@ -99,7 +99,7 @@ segments_wanted f (Look place) = 0
 abbrev pub no_tally : Tally
 no_tally = record { lost = 0; steps = 0; segments = 0 }
 
--- with one step more, from a phase to the one after it
+-- the tally after a further step, from a phase to the one after it
 abbrev pub tally_after : ℕ → Tally → Phase → Phase → Tally
 tally_after f tally before after = record {
   lost = if is_lost before after then tally.lost + 1 else tally.lost;
@@ -118,7 +118,7 @@ pub record Count : Type 0 where
 abbrev pub no_count : Count
 no_count = record { tally = no_tally; wanted = 0; begun = 0 }
 
--- with one step more, before which there were so many events
+-- the count after a further step, before which there were `now` events
 abbrev pub count_after : ℕ → Count → Phase → Phase → ℕ → Count
 count_after f count before after events = record {
   tally = tally_after f count.tally before after;
@@ -134,7 +134,7 @@ has_command (Some state) = is_some (slice_get state.program state.ended)
 abbrev pub has_call : Configuration → ℕ → Bool
 has_call c actor = has_command (slice_get c.actors actor)
 
--- the phase in which it stands; an actor without one is as at Load
+-- the actor's phase; an actor without one is as at Load
 abbrev pub phase_in : Phase → Option Command → Phase
 phase_in phase None = Load
 phase_in phase (Some command) = phase
@@ -193,7 +193,7 @@ count_items k (item ∷ items) =
 abbrev pub counted_of : ℕ → ℕ → List (List Command) → List Item → Counted
 counted_of f limit programs items = count_items (first_counted f limit programs) items
 
--- what a call took that ended
+-- what an ended call took
 abbrev pub work_in : CallWork → Work
 work_in call = record {
   actor = call.ended.actor;
@@ -203,7 +203,7 @@ work_in call = record {
   segments = call.count.tally.segments;
 }
 
--- what the calls of a play took, in the order in which they ended
+-- what the calls of a play took, in the order of their ends
 abbrev pub work_of : ℕ → ℕ → List (List Command) → List Item → List Work
 work_of f limit programs items = map work_in (counted_of f limit programs items).calls
 
@@ -224,8 +224,8 @@ abbrev pub growths_of_others : ℕ → List (Event × Reply) → ℕ
 growths_of_others actor events =
     length (filter (λ (run : OwnedRun). not (run.owner == actor) && nat_lt 0 run.n) (runs_of events))
 
--- a growth of n places that lost so many exchanges takes no more steps: its Load, two at each segment of a round and one at
--- the round's end, and two at each place
+-- a growth of n places that lost `lost` exchanges takes no more steps: its Load, two at each segment of a
+-- round and one at the round's end, and two at each place
 abbrev pub growth_steps : ℕ → ℕ → ℕ → ℕ
 growth_steps n lost segments = 1 + (lost + 1) * (2 * segments + 1) + 2 * n
 
@@ -239,7 +239,8 @@ steps_allowed (commands.Mend place value) wanted lost segments = 3
 steps_allowed (commands.Read place) wanted lost segments = 2
 steps_allowed commands.Size wanted lost segments = 1
 
--- the most exchanges that a call loses, where others made the size larger so many times: a growth to at least a size has none
+-- the greatest number of exchanges that a call loses if others made the size larger `growths` times: a growth
+-- up to a size has none
 abbrev pub losses_allowed : Command → ℕ → ℕ
 losses_allowed (commands.Push value) growths = growths
 losses_allowed (commands.Grow n value) growths = growths
@@ -249,19 +250,39 @@ losses_allowed (commands.Mend place value) growths = 0
 losses_allowed (commands.Read place) growths = 0
 losses_allowed commands.Size growths = 0
 
--- a call took no more than it may, among these events from its first step on
-pub record IsBounded (actor : ℕ) (command : Command) (count : Count) (events : List (Event × Reply)) : Type 0 where
+-- it is at most the greatest number of segments that n places within the limit touch: it is at most each number that
+-- no n places pass, wherever they begin
+abbrev pub IsTouchable : ℕ → ℕ → ℕ → ℕ → Type 0
+IsTouchable f limit n segments =
+    (most : ℕ) → ((from : ℕ) → from + n ≤ limit → segments_touched f from n ≤ most) → segments ≤ most
+
+-- how many segments a round of the call may touch: those of the places that it wants; a call that claims no place has
+-- no round
+abbrev pub MayTouch : ℕ → ℕ → Command → ℕ → ℕ → Type 0
+MayTouch f limit (commands.Push value) wanted segments = IsTouchable f limit 1 segments
+MayTouch f limit (commands.Grow n value) wanted segments = IsTouchable f limit n segments
+MayTouch f limit (commands.AtLeast to value) wanted segments = IsTouchable f limit wanted segments
+MayTouch f limit (commands.Fail n value at) wanted segments = IsTouchable f limit n segments
+MayTouch f limit (commands.Mend place value) wanted segments = segments ≡ 0
+MayTouch f limit (commands.Read place) wanted segments = segments ≡ 0
+MayTouch f limit commands.Size wanted segments = segments ≡ 0
+
+-- a call took no more than it may, in segments of this layout and up to this limit, among these events from its first
+-- step on
+pub record IsBounded (f limit actor : ℕ) (command : Command) (count : Count) (events : List (Event × Reply))
+    : Type 0 where
   pub lost : count.tally.lost ≤ losses_allowed command (growths_of_others actor events)
   pub steps : count.tally.steps ≤ steps_allowed command count.wanted count.tally.lost count.tally.segments
   pub segments : count.tally.segments ≤ 40
+  pub touched : MayTouch f limit command count.wanted count.tally.segments
 
 -- each call that has ended, and each under way
-pub record AreBounded (k : Counted) : Type 0 where
-  pub ended : All (λ call. IsBounded call.ended.actor call.ended.command call.count (drop call.count.begun (take call.until k.play.events))) k.calls
+pub record AreBounded (f limit : ℕ) (k : Counted) : Type 0 where
+  pub ended : All (λ call. IsBounded f limit call.ended.actor call.ended.command call.count (drop call.count.begun (take call.until k.play.events))) k.calls
   pub under_way : (actor : ℕ) (state : Actor) (command : Command) → slice_get k.play.at.actors actor ≡ Some state
       → slice_get state.program state.ended ≡ Some command
       → (count : Count) × (slice_get k.counts actor ≡ Some count)
-      × IsBounded actor command count (drop count.begun k.play.events)
+      × IsBounded f limit actor command count (drop count.begun k.play.events)
 
 -- it is the play of the schedule that is counted, each of its ended calls in order
 pub record IsCountOf (k : Counted) (p : Play) : Type 0 where
@@ -272,4 +293,4 @@ pub record IsCountOf (k : Counted) (p : Play) : Type 0 where
 abbrev pub EveryCallIsBounded : Type 0
 EveryCallIsBounded =
     (f : ℕ) → IsLayout f → (limit : ℕ) (programs : List (List Command)) (items : List Item) → IsLimit limit
-    → IsCountOf (counted_of f limit programs items) (play_of f limit programs items) × AreBounded (counted_of f limit programs items)
+    → IsCountOf (counted_of f limit programs items) (play_of f limit programs items) × AreBounded f limit (counted_of f limit programs items)

@@ -181,10 +181,10 @@ fn play_sound(
     Ok(play.into_played(alloc))
 }
 
-/// Plays one whole call for each item, on a list of cells; an item of an actor with no call left plays nothing.
+/// Plays one whole call per item, on a list of cells. An item of an actor with no call left plays nothing.
 ///
-/// The marks of the items have no effect, since such a call asks for no segment. Its time and memory are linear in the
-/// items and the places that they append.
+/// The marks of the items have no effect, since such a call asks for no segment. Its time and memory are
+/// linear in the items and the places that they append.
 pub fn play_calls(
     alloc: Global,
     limit: u64,

@@ -9,7 +9,7 @@ ghost use Rattle.book_core.specs.Events.{finishes, breaks};
 use book_core::{Answer, Cell, CellVec, Command, Event};
 use std::alloc::{AllocError, Global};
 
-// What a call does where nothing comes between: its events in order, and how it ends.
+// A call with nothing in between: its events in order, and how it ends.
 #[derive(Drop)]
 pub(crate) struct WholeCall {
     pub(crate) events: Vec<Event>,

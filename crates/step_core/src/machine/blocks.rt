@@ -52,7 +52,7 @@ impl Block {
     }
 }
 
-// The entries of the segments: 40 of them, as many as segments where the first one is the shortest.
+// The entries of the segments: 40 of them, the number of segments with the shortest first segment.
 #[derive(Drop)]
 pub(crate) struct Blocks {
     alloc: Global,
@@ -96,7 +96,7 @@ impl Blocks {
         self.layout
     }
 
-    // Whether a segment is installed.
+    // Tests whether a segment is installed.
     pub(crate) fn has(&self, segment: u32) -> bool
         requires { segment < segment_count self.now.layout }
         ensures { result ≡ set.contains self.now.installed segment }
@@ -129,7 +129,7 @@ impl Blocks {
         set_in(&mut self.entries[segment as usize], offset, slot);
     }
 
-    // Makes the block of a segment, where it has none, in one pass over it. It takes memory there alone.
+    // Makes the block of a segment, if it has none, in one pass over it. Only then does it take memory.
     pub(crate) fn install(&mut self, segment: u32) -> Result<(), AllocError>
         requires { segment < segment_count self.old.layout }
         ensures ok { OnOk result (self.new ≡ shown_with_segment self.old segment) }

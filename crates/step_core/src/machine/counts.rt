@@ -14,7 +14,7 @@ use seg_core::Layout;
 use std::alloc::{AllocError, Global};
 use std::marker::Model;
 
-// What the call that an actor has under way has taken so far.
+// The work so far of the call that an actor has under way.
 #[derive(Clone, Copy)]
 pub(crate) struct Tally {
     lost: u64,
@@ -73,7 +73,7 @@ fn segments_wanted(layout: Layout, phase: Phase) -> u64
 impl Tally {
     ghost use Rattle.step_core.specs.machine.Tallies.{work_by};
 
-    // With one step more, from a phase to the one after it.
+    // Counts one more step, from a phase to the one after it.
     fn after(self, layout: Layout, before: Phase, after: Phase) -> Tally
         requires lost { self.lost ≤ self.steps }
         requires steps { self.steps + 1 < 2 ^ 64 }
@@ -97,7 +97,7 @@ impl Tally {
         }
     }
 
-    // What a call took that ended with this tally.
+    // What an ended call took with this tally.
     fn work(self, ended: &Ended) -> Work
         ensures { result ≡ work_by ended.now self }
     {
@@ -133,7 +133,7 @@ impl CountedPlay {
     ghost use Rattle.std.specs.Prelude.{[]};
     ghost use Rattle.step_core.specs.machine.Tallies.{tally_step, tally_items, with_tally, shown_by_owners};
 
-    // A play of so many actors, before the first item.
+    // A play of `actors` actors before its first item.
     pub(crate) fn new(
         alloc: Global,
         play: MachinePlay,

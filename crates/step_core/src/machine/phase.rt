@@ -1,9 +1,9 @@
-//! Where an actor of the machine stands.
+//! The phases of an actor of the machine.
 ghost use Rattle.std.specs.Prelude.{◌≡◌, ◌+◌, ◌<◌, ◌^◌, OnSome, slice_get};
 
 use book_core::{Answer, Command, Ended, Sequence};
 
-/// What a slot of the machine holds; a slot that isn't there is empty.
+/// The state of a slot of the machine; a slot without an entry is empty.
 #[derive(Clone, Copy, Debug, PartialEq, Eq)]
 pub enum Slot {
     /// An actor has taken it, and constructs a value in it.
@@ -12,7 +12,7 @@ pub enum Slot {
     Broken,
 }
 
-/// The atomic step that an actor takes next. A growth wants the places from `from` on, `n` of them.
+/// The atomic step that an actor takes next. A growth wants `n` places, from `from` on.
 #[derive(Clone, Copy, Debug, PartialEq, Eq)]
 pub enum Phase {
     /// It loads the size.
@@ -65,7 +65,7 @@ impl Actor {
         self.program.as_slice().get(self.ended as usize).copied()
     }
 
-    // What follows a step comes to pass.
+    // Advances the actor: to its next phase, or to the end of its call.
     pub(crate) fn follow(&mut self, actor: u32, command: Command, next: Next) -> Option<Ended>
         requires { self.old.ended + 1 < 2 ^ 64 }
         ensures state { self.new ≡ actor_after self.old next }

@@ -177,11 +177,11 @@ fn play_sound(
     counted.into_played(alloc)
 }
 
-/// Plays one atomic step for each item, with a first segment of two places; an item of an actor with nothing left changes
-/// nothing.
+/// Plays one atomic step per item, with a first segment of two places. An item of an actor with nothing left
+/// changes nothing.
 ///
-/// What a reader finds at a place that nobody has finished or broken is pending, and so is what it finds at one that
-/// is being mended. Its time and memory are linear in the items, and in the places of the installed segments.
+/// A reader finds a place pending if nobody has finished or broken it, or if it is being mended. Its time and
+/// memory are linear in the items, and in the places of the installed segments.
 pub fn play(
     alloc: Global,
     limit: u64,
@@ -204,7 +204,7 @@ pub fn play(
     play_in(alloc, Layout::default(), limit, programs, items)
 }
 
-/// Plays one atomic step for each item, with segments of this layout, and otherwise as [`play`] does.
+/// Plays one atomic step per item like [`play`], with segments of this layout.
 pub fn play_in(
     alloc: Global,
     layout: Layout,

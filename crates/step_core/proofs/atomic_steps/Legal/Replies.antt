@@ -61,7 +61,7 @@ module _ (limit : ℕ) (m : Storage) (runs : List OwnedRun) (actor : ℕ) (sees 
   seen_length : length (cells_of m runs) ≡ m.size
   seen_length = length-map-range_with_len (seen_at m runs) 0 m.size
 
-  -- where no run is added and the cells are the same
+  -- if no run is added and the cells are the same
   same_seen : (m' : Storage) (added : List OwnedRun) → added ≡ [] → cells_of m' runs ≡ cells_of m runs
       → seen limit m' (runs ++ added) ≡ seen limit m runs
   same_seen m' added none is =
@@ -231,7 +231,7 @@ module _ (limit : ℕ) (m : Storage) (runs : List OwnedRun) (actor : ℕ) (sees 
       let here : 0 + place ≡ place = omega arith in
       map_get (seen_at m runs) 0 m.size place inside ∙ ap (λ p. Some (seen_at m runs p)) here ∙ ap (λ s. Some (cell_of (owner_of runs place) s)) is
 
-  -- the place is pending of who has its slot busy
+  -- the place is pending for the actor that is writing its slot
   pending_there : (place : ℕ) → place < m.size → finite.get m.slots place ≡ Some (Busy actor)
       → slice_get (cells_of m runs) place ≡ Some (cells.Pending actor)
   pending_there place inside busy = seen_there place (Some (Busy actor)) inside busy

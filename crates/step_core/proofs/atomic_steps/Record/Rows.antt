@@ -1,4 +1,5 @@
--- The rows of the step table: the events of a call so far are a beginning of a record, and where the call ends, a record.
+-- The rows of the step table: the events of a call so far are a beginning of a record, and a record if the
+-- call ends.
 use Rattle.std.proofs.Common.{◌≡◌, ◌≢◌, ℕ, ◌+◌, ◌-◌, ◌<◌, ◌≤◌, Bool, true, false, List, [], ◌∷◌, ◌++◌, length, map, Option, Some, None, zero, suc, refl, ap, sym, ◌∙◌, subst, arith, inl, inr}
 use Rattle.std.proofs.Math.Nat.{sub_self}
 use Rattle.std.proofs.lemmas.List.{append-nil, length-map}
@@ -139,7 +140,7 @@ claimed_by_exchange actor (commands.Read place) n exchanges = refl
 claimed_by_exchange actor commands.Size n exchanges = refl
 
 module _ (m : Storage) (actor : ℕ) where
-  -- a growth by so many is loaded
+  -- a growth by a number of places is loaded
   growth_told : (limit n : ℕ) (command : Command) → IsSound command → Asks command n → Exchanges command
       → Tells actor command [] (load_growth limit m actor n)
   growth_told limit n command sound asks exchanges =

@@ -42,11 +42,11 @@ abbrev pub settling : ℕ → Command → ℕ → ℕ → Event
 settling actor command from place =
     if is_refused command from place then Break actor place else Finish actor place (value_of command)
 
--- so many places of the run settled, in ascending order
+-- a number of places of the run settled, in ascending order
 abbrev pub settled : ℕ → Command → ℕ → ℕ → List (Event × Reply)
 settled actor command from count = map (λ event. (event, replies.Done)) (map (settling actor command from) (range_with_len from count))
 
--- the claim of n places, and so many of them settled
+-- the claim of n places, and a number of them settled
 abbrev pub run_so_far : ℕ → Command → ℕ → ℕ → ℕ → List (Event × Reply)
 run_so_far actor command from n count = (claiming_event actor command n, replies.Run from n) ∷ settled actor command from count
 
@@ -65,12 +65,12 @@ settled_parts actor command from k n within =
     ap (map (λ event. (event, replies.Done))) (map_parts (settling actor command from) from k n (omega arith))
     ∙ map-append (λ event. (event, replies.Done)) (map (settling actor command from) (range_with_len from k)) (map (settling actor command from) (range_with_len (from + k) (n - k)))
 
--- where no place is refused, all are filled and none broken
+-- if no place is refused, all are filled and none broken
 all_filled : (actor from n value : ℕ)
     → finishes actor from n value ≡ finishes actor from n value ++ breaks actor (from + n) (n - n)
 all_filled actor from n value = rw (sub_self n) (sym (append-nil (finishes actor from n value)))
 
--- where one place is refused, those before it are filled, and then the others broken
+-- if one place is refused, those before it are filled, and then the others broken
 filled_up_to : (actor n value at from : ℕ) → at < n
     → map (settling actor (commands.Fail n value at) from)
     (range_with_len from n) ≡ finishes actor from at value ++ breaks actor (from + at) (n - at)

@@ -1,4 +1,4 @@
--- What every step keeps: the facts from which the clauses on tiling, owners, segments and debts follow.
+-- The invariant of every step: the facts that imply the clauses on tiling, owners, segments and debts.
 use Rattle.std.proofs.Common.{◌≡◌, ◌≢◌, ℕ, ◌+◌, ◌<◌, ◌≤◌, ◌⊎◌, cond, List, [], ◌∷◌, Option, Some, None, slice_get, refl, ap, sym, ◌∙◌, subst, arith}
 use Rattle.std.proofs.lemmas.Option.{same_Some}
 use Rattle.std.specs.Cmp.{nat_cmp_total}

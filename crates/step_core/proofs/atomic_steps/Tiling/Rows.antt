@@ -259,7 +259,7 @@ module _ {m : Storage} {actors : List Actor} {runs : List OwnedRun} {writes : �
   ours : owner_of runs place ≡ Some actor
   ours = won.owned place won.within won.before
 
-  -- another place is covered as it was, where the actor goes on in its run
+  -- a different place is covered as it was, if the actor goes on in its run
   elsewhere : (slot : Slot) (next : Phase) → ((q : ℕ) → InRun from n q → IsWonOrMended next q) → (q : ℕ) → q ≢ place
       → q < m.size → Covered actor m (with_slot m place slot) phase next q
   elsewhere slot next stays q apart below =

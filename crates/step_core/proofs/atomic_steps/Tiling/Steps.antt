@@ -16,7 +16,7 @@ use Rattle.step_core.specs.machine.Tiling.{IsUnfinished}
 use Rattle.step_core.proofs.atomic_steps.Tiling.Invariant.{IsOpen, Knows, Settlement, Holds, Effect}
 use Rattle.step_core.proofs.atomic_steps.Tiling.Effects.{Covered, combined}
 
--- the phase in which an actor stands after a step
+-- the phase of an actor after a step
 abbrev pub phase_after : Next → Phase
 phase_after (Goes phase) = phase
 phase_after (Ends answer) = Load

@@ -132,7 +132,7 @@ impl Storage {
     }
 }
 
-// Whether the construction at this place of the run is refused.
+// Tests whether the construction at this place of the run is refused.
 fn is_refused(command: &Command, from: u64, place: u64) -> bool
     requires { from ≤ place }
     ensures { result ≡ is_refused command.now from place }

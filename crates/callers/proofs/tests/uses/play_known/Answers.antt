@@ -1,3 +1,4 @@
+use Rattle.callers.proofs.CallSteps.{few_steps_of}
 use Rattle.callers.proofs.LaterRuns.{later_runs_of}
 use Rattle.callers.proofs.PushPlaces.{pushes_of}
 use Rattle.callers.proofs.ReadValues.{reads_of}
@@ -11,3 +12,6 @@ returns-clause-writers c = reads_of c.play_in.result c.args.layout c.args.limit 
 
 pub returns-clause-past : goal.returns-clause-past
 returns-clause-past c = later_runs_of c.play_in.result c.args.layout c.args.limit c.args.programs c.args.items.now c.histories_split.ensures c.runs_split.ensures.apart c.interleavings.ensures c.play_in.ensures.played c.play_in.ensures.layout c.play_in.ensures.limit c.play_in.ensures.sound
+
+pub returns-clause-few : goal.returns-clause-few
+returns-clause-few c = few_steps_of c.play_in.result c.args.layout c.args.limit c.args.programs c.args.items.now c.runs_split.ensures.split c.work.ensures c.play_in.ensures.played c.play_in.ensures.layout c.play_in.ensures.limit

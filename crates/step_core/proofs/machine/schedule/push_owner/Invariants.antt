@@ -1,4 +1,4 @@
--- so many have been pushed
+-- this many have been pushed
 use Rattle.std.proofs.Common.{◌≡◌, ◌++◌, replicate}
 use Rattle.step_core.proofs.machine.schedule.push_owner.Given as goal
 

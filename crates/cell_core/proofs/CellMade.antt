@@ -80,9 +80,9 @@ module _ {M : Type 1} {𝓤 : Ura M} (𝓛 : Logic 𝓤) (R : RattleType) where
   sight_made γ n v = let F = (Struct (shape (Sight.the_type R))).own_val (tt, tt) (token_val ∷ []) in
       qed 𝓛 (‵ (sighted R γ n v) ∷ []) ∵ use0 𝓛 (‵ F) (makes_shadow 𝓛 F (λ vss. (tt, ((λ uss. (tt, tt)), tt))) ((vstruct vnil ∷ [], tt), (refl, ((tt, (refl, tt)), tt)))) $ done !
 
-  pub written_made : (γ : ℕ) (x : R.Denot)
-      → ent 𝓤 (sem 𝓛 (written R γ x)) (sem 𝓛 ((Written.the_row R).own_val (record { marker = record {}; of = γ; value = x }) (token_val ∷ [])))
-  written_made γ x = let F = (Struct (shape (Written.the_type R))).own_val (tt, tt) (token_val ∷ []) in
+  pub written_made : (γ : ℕ) (x : R.Denot) (n : ℕ)
+      → ent 𝓤 (sem 𝓛 (written R γ x)) (sem 𝓛 ((Written.the_row R).own_val (record { marker = record {}; of = γ; value = x; found = n }) (token_val ∷ [])))
+  written_made γ x n = let F = (Struct (shape (Written.the_type R))).own_val (tt, tt) (token_val ∷ []) in
       qed 𝓛 (‵ (written R γ x) ∷ []) ∵ use0 𝓛 (‵ F) (makes_shadow 𝓛 F (λ vss. (tt, ((λ uss. (tt, tt)), tt))) ((vstruct vnil ∷ [], tt), (refl, ((tt, (refl, tt)), tt)))) $ done !
 
   pub known_some : (γ : Names) (v : Option R.Denot) → ent 𝓤 (sem 𝓛 (known R γ v)) (sem 𝓛 (fex R.Denot (written R γ.value)))

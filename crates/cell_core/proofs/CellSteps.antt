@@ -132,7 +132,7 @@ module _ {M : Type 1} {𝓤 : Ura M} (𝓛 : Logic 𝓤) (R : RattleType) (γ : 
   word_is : (n : ℕ) (s : S) → ⟦ beside n s ⟧ ⊢ guard 𝓤 (n ≡ word_of s) ⟦ beside n s ⟧
   word_is n s = qed 𝓛 (‵ (beside n s) ∷ []) ∵ use1 𝓛 (‵ (Beside n s)) (opened n s) $ fsplit3 ! $ move ! (1 ∷ []) $ fsplit ! $ feq_l ! (λ e. check ! e $ feq_i ! ℕ n (word_of s) e $ fjoin ! $ move ! (1 ∷ 0 ∷ 2 ∷ []) $ fjoin3 ! $ by ! (shut_again n s))
 
-  -- what the word shows can be had beside the invariant
+  -- what the word shows can be had next to the invariant
   abbrev Sights : ℕ → Fml
   Sights = sights R γ
 
@@ -227,7 +227,7 @@ module _ {M : Type 1} {𝓤 : Ura M} (𝓛 : Logic 𝓤) (R : RattleType) (γ : 
       → A.inv (fbor α I) ∗ (A.lft α q ∗ emp 𝓤) ⊢ asks 𝓛 (block_ptr b (o + 0)) (exchanged 3) always (λ n. fsep (flft α q) (Won 3 n))
   mends = exchange_of 3 mends_at
 
-  -- a value that is there is lent for good
+  -- a value that is there is lent permanently
   abbrev pub frozen : R.Denot → Fml
   frozen x = rest (full x)
 
@@ -345,7 +345,7 @@ module _ {M : Type 1} {𝓤 : Ura M} (𝓛 : Logic 𝓤) (R : RattleType) (γ : 
       use3 𝓛 (given (IsWordOf v n) (‵ (beside n s) ⊛ ‵ (flft e r))) (word_in v name epoch e same of r n s) $ learn ! (λ so. split ! $ frame ! $
       nothing ! $ fpack ! (IsWordOf v n) (λ _. ftrue) so $ move ! (1 ∷ 0 ∷ []) $ fjoin ! $ done !))
 
-  -- the exchange from shut to busy, where the epoch has ended
+  -- the exchange from shut to busy, if the epoch has ended
   abbrev pub Reopened : Option R.Denot → ℕ → Fml
   Reopened v n = fsep (Won 4 n) (fact (MayBeWordOf v n))
 

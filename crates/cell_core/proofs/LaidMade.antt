@@ -1,12 +1,12 @@
 -- The machine value of a link to a row, and the size of a row. Assumes `Logic`.
-use Rattle.std.proofs.Common.{zero, suc, sym, suc-mul, zero-mul, ◌≡◌, ℕ, ◌*◌, ◌^◌, ◌<◌, List, [], ◌∷◌, ◌++◌, refl, ap, ◌∙◌, arith}
+use Rattle.std.proofs.Common.{zero, suc, sym, subst, suc-mul, zero-mul, ◌≡◌, ℕ, ◌*◌, ◌^◌, ◌<◌, List, [], ◌∷◌, ◌++◌, refl, ap, ◌∙◌, arith}
 use seplogic.Ra.Ura.{Ura}
 use mir.Val.{Val, vstruct, vnil, of_list}
 use base.Logic.{ent, emp}
 use mir.Syntax.{ty_array}
 use prog.Memory.{capped, size, align}
 use prog.RawLaws.{size-raw, align-raw}
-use prog.Capped.{capped_is}
+use prog.Capped.{capped_is, capped_small}
 use types.Logic.{Logic, sem}
 use denote.RattleType.{RattleType}
 use denote.Laws.{Is}
@@ -42,6 +42,13 @@ module _ (X : RattleType) where
 
   pub token_made : {M : Type 1} {𝓤 : Ura M} (𝓛 : Logic 𝓤) → ent 𝓤 (emp 𝓤) (sem 𝓛 (Token.own_val (record {}, tt) (token_val ∷ [])))
   token_made 𝓛 = makes_shadow 𝓛 (Token.own_val (record {}, tt) (token_val ∷ [])) (λ vss. (tt, ((λ uss. (tt, tt)), tt))) ((vstruct vnil ∷ [], tt), (refl, ((tt, (refl, tt)), tt)))
+
+-- what fits by the size that a word holds, fits
+pub bytes_fit : (n k : ℕ) → n * capped k < 2 ^ 63 → n * k < 2 ^ 63
+bytes_fit zero k h = let none = zero-mul k in omega arith
+bytes_fit (suc n) k h =
+    let more = suc-mul n (capped k) in let same : capped k ≡ k = capped_is k (let x = capped_small k (omega arith) in omega arith) in
+    subst (λ (j : ℕ). suc n * j < 2 ^ 63) same h
 
 pub uncapped : (i k : ℕ) → i * k < 2 ^ 64 → i * capped k ≡ i * k
 uncapped zero k h = zero-mul (capped k) ∙ sym (zero-mul k)

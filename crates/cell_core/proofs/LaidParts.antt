@@ -87,7 +87,7 @@ module _ {M : Type 1} {𝓤 : Ura M} (𝓛 : Logic 𝓤) (R : RattleType) (token
 
   -- a cell of the row lies within the block
   pub within : (i n : ℕ) → i ≤ n → FitsMemory R n → i * s < 2 ^ 63
-  within i n le fits = let a : i * s ≤ n * s = mul-le-mul_right s le in let b : n * s < 2 ^ 63 = fits.1 in omega arith
+  within i n le fits = let a : i * s ≤ n * s = mul-le-mul_right s le in let b : n * s < 2 ^ 63 = fits in omega arith
 
   abbrev τ : Ty
   τ = bare (cell_ty R)
@@ -114,7 +114,7 @@ module _ {M : Type 1} {𝓤 : Ura M} (𝓛 : Logic 𝓤) (R : RattleType) (token
   abbrev pub Filled : Ptr → List Names → ℕ → ℕ → Names → Pr
   Filled p cs left e c = ⟦ still R (block_of p) c e ⟧ -∗ ⟦ laid R token p (cs ++ c ∷ []) left ⟧
 
-  -- room for one cell more, which makes the row longer
+  -- room for a further cell, which makes the row longer
   pub next_room : (p : Ptr) (cs : List Names) (left e : ℕ) → e ≡ length cs * s + count_of p
       → ⟦ laid R token p cs (suc left) ⟧ ⊢ guard 𝓤 (length cs * s < 2 ^ 63) (⟦ rooms R (block_of p) e ⟧ ∗ all 𝓤 (Filled p cs left e))
   next_room p cs left e is = let b : ℕ = block_of p in let o : ℕ = count_of p in let k : ℕ = length cs in let n : ℕ = k + suc left in
@@ -203,7 +203,7 @@ module _ {M : Type 1} {𝓤 : Ura M} (𝓛 : Logic 𝓤) (R : RattleType) (token
   full_is_not_nil : (x y : Gv) → gcons x y ≡ gnil → ⊥
   full_is_not_nil x y e = cc
 
-  -- a cell of which a token shows a value holds that value
+  -- a cell that holds a value by a token holds that value
   pub held_at : (γ : Names) (b e : ℕ) (r : Rest R.Denot) (x : R.Denot)
       → ⟦ place R r.1 b e ⟧ ∗ ⟦ resting R γ r ⟧ ∗ ⟦ written R γ.value x ⟧ ⊢ ⟦ part_at R full_share x b e ⟧ ∗ ⟦ auths R γ r.2 ⟧
   held_at γ b e (n, v, free) x = let w : Gv = mark R (full x) in qed 𝓛 (‵ (place R v b e) ∷ ‵ (resting R γ (n, v, free)) ∷ ‵ (written R γ.value x) ∷ []) ∵ move ! (1 ∷ []) $ fsplit ! $ fsplit ! $ fsplit ! $ move ! (5 ∷ 0 ∷ []) $
@@ -252,7 +252,7 @@ module _ {M : Type 1} {𝓤 : Ura M} (𝓛 : Logic 𝓤) (R : RattleType) (token
       use3 𝓛 (later (given (δ ≢ γ) (‵ (fobs δ gnil) ⊛ ‵ (fauth δ gnil) ⊛ ‵ (fauth γ gnil)))) (is_new γ δ gnil) $ await ! tt $ learn ! (λ apart. split3 ! $ now ! $ check ! apart $
       move ! (3 ∷ 2 ∷ []) $ fjoin ! $ move ! (1 ∷ 2 ∷ 0 ∷ []) $ done !)
 
-  -- names of an epoch, of which the two that can be set are none of the cell's
+  -- names of an epoch; the two that can be set are not the cell's
   abbrev pub IsNew : Names → Lft → Names → Type 0
   IsNew γ epoch c = IsAnother γ c × (c.epoch ≡ epoch)
 
@@ -280,7 +280,7 @@ module _ {M : Type 1} {𝓤 : Ura M} (𝓛 : Logic 𝓤) (R : RattleType) (token
       rewrite ! 3 (λ (k : Lft). ‵ (fdead k)) (sym new.1) refl $ move ! (3 ∷ 0 ∷ []) $ fjoin ! $ fjoin ! $ nothing ! $ fpack ! (IsAnother γ γ') (λ _. ftrue) new.0 $ fjoin ! $
       fpack ! Names (λ c. fsep (fact (IsAnother γ c)) (fsep (settable R c) (auths R c free))) γ' $ keep ! (0 ∷ []) $ done !)))
 
-  -- a cell whose word is 0, and whose room is empty, is another one under new names
+  -- a cell whose word is 0, and whose room is empty, gets fresh names
   abbrev pub Renewed : Names → ℕ → ℕ → Fml
   Renewed γ b e = fex Names (λ γ'. fsep (fact (IsAnother γ γ')) (still R b γ' e))
 

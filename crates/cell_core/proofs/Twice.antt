@@ -1,4 +1,4 @@
--- What can be had twice can be lent as it is. Assumes `Logic`.
+-- Facts that can be duplicated can be lent as they are. Assumes `Logic`.
 use Rattle.std.proofs.Common.{[], ◌∷◌}
 use seplogic.Ra.Ura.{Ura}
 use base.Logic.{ent, sep, wand, apply∗}

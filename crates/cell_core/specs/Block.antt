@@ -13,27 +13,31 @@ pub record BlockView : Type 0 where
 abbrev pub block_coded : Coded BlockView
 block_coded = coded_via (coded_list names_coded) (λ (b : BlockView). b.cells) (λ x y e i. record { cells = e i })
 
--- the right to write a cell: its place, and the names of the cell
+-- the right to write a cell: its place, the names of the cell, and the word that the exchange found there
 pub record PenView : Type 0 where
   pub place : ℕ
   pub cell : Names
+  pub found : ℕ
 
 -- how a pen is stored
 abbrev pub pen_coded : Coded PenView
-pen_coded = coded_via (coded× coded_ℕ names_coded) (λ (p : PenView). (p.place, p.cell))
-    (λ x y e i. record { place = (e i).0; cell = (e i).1 })
+pen_coded = coded_via (coded× coded_ℕ (coded× names_coded coded_ℕ)) (λ (p : PenView). (p.place, (p.cell, p.found)))
+    (λ x y e i. record { place = (e i).0; cell = (e i).1.0; found = (e i).1.1 })
 
--- the token of a filled cell: its place, its value, and the name that the value has
+-- the token of a filled cell: its place, its value, and the name that the value has; and in the writer's own token the
+-- word that its exchange found there
 pub record PlacedView (T : Type 0) : Type 0 where
   pub place : ℕ
   pub value : T
   pub name : ℕ
+  pub found : ℕ
 
 -- how a token is stored
 abbrev pub placed_coded : {T : Type 0} → Coded T → Coded (PlacedView T)
 placed_coded {T} c =
-    coded_via (coded× coded_ℕ (coded× c coded_ℕ)) (λ (p : PlacedView T). (p.place, (p.value, p.name)))
-    (λ x y e i. record { place = (e i).0; value = (e i).1.0; name = (e i).1.1 })
+    coded_via (coded× coded_ℕ (coded× c (coded× coded_ℕ coded_ℕ)))
+    (λ (p : PlacedView T). (p.place, (p.value, (p.name, p.found))))
+    (λ x y e i. record { place = (e i).0; value = (e i).1.0; name = (e i).1.1.0; found = (e i).1.1.1 })
 
 -- the token of a broken cell: its place, and the name that says so
 pub record SpoiltView : Type 0 where
@@ -62,6 +66,22 @@ cell_at block place = cell_in block.cells place
 pub record IsPenAt (block : BlockView) (place : ℕ) (pen : PenView) : Type 0 where
   pub at : pen.place ≡ place
   pub cell : pen.cell ≡ cell_at block place
+
+-- the word is that of a broken cell
+abbrev pub IsBrokenWord : ℕ → Type 0
+IsBrokenWord word = 2 < word
+
+-- the pen's exchange found the cell empty
+abbrev pub IsFresh : PenView → Type 0
+IsFresh pen = pen.found ≡ 0
+
+-- the pen's exchange found the cell broken
+abbrev pub IsMending : PenView → Type 0
+IsMending pen = IsBrokenWord pen.found
+
+-- the token is the mender's own: its exchange found the cell broken
+abbrev pub IsMended : {T : Type 0} → PlacedView T → Type 0
+IsMended placed = IsBrokenWord placed.found
 
 -- the token is of a cell of the block
 pub record IsPlacedIn {T : Type 0} (block : BlockView) (placed : PlacedView T) : Type 0 where
@@ -93,12 +113,12 @@ pub record IsBegunAt (block : BlockView) (place : ℕ) (begun : BegunView) : Typ
   pub of : IsBegunIn block begun
   pub at : begun.place ≡ place
 
--- so much is known of the cell at the place
+-- this is known of the cell at the place
 pub record IsMemberAt {T : Type 0} (block : BlockView) (place : ℕ) (m : MemberView T) : Type 0 where
   pub within : place < block_len block
   pub known : HasNames (cell_at block place) m.value m.name m.epoch
 
--- the cell at the place is another one: no token of the old cell is of it
+-- the cell at the place has fresh names: no older token applies to it
 abbrev pub RenewsCell : BlockView → BlockView → ℕ → Type 0
 RenewsCell old new place = IsAnother (cell_at old place) (cell_at new place)
 

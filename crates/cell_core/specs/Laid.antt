@@ -26,7 +26,7 @@ cell_in γs i = get_or γs i (record { value = 0; breach = 0; epoch = [] })
 abbrev pub IsAnother : Names → Names → Type 0
 IsAnother old new = (new.value ≢ old.value) × (new.breach ≢ old.breach)
 
--- the cell at the index is another one, and each other cell keeps its names
+-- the cell at the index has fresh names, and each other cell keeps its names
 abbrev pub HasOneRenamed : List Names → ℕ → List Names → Type 0
 HasOneRenamed old i new = (n : Names) × IsAnother (cell_in old i) n × (new ≡ slice_set old i n)
 
@@ -43,13 +43,9 @@ module _ (R : RattleType) where
   abbrev pub row_ty : ℕ → Ty
   row_ty n = raw (ty_array cell_ty n)
 
-  -- a cell is below 8 MiB
-  abbrev pub Small : Type 0
-  Small = stride < 2 ^ 23
-
-  -- n cells fit in a block
+  -- n cells fit in the address space: they are fewer than 2^63 bytes
   abbrev pub FitsMemory : ℕ → Type 0
-  FitsMemory n = Small × (n * stride < 2 ^ 63)
+  FitsMemory n = n * stride < 2 ^ 63
 
   -- the two parts of an empty cell
   abbrev pub rooms : ℕ → ℕ → Fml

@@ -7,8 +7,8 @@ use denote.RattleType.{RattleType}
 use Rattle.cell_core.specs.Slot.{Names, written}
 use Rattle.cell_core.specs.Laid.{IsAnother, cell_in}
 
--- what is known of a cell: its value and the name that the value has, for good; or else its epoch, in which it stays
--- broken, and that the name never gets a value
+-- what is known of a cell: the value that it always keeps and the value's name; or otherwise the epoch in
+-- which it stays broken, and that the name never gets a value
 pub record MemberView (T : Type 0) : Type 0 where
   pub value : Option T
   pub name : ℕ
@@ -45,7 +45,7 @@ abbrev pub HasNames : {T : Type 0} → Names → Option T → ℕ → Lft → Ty
 HasNames γ (Some x) name epoch = name ≡ γ.value
 HasNames γ None name epoch = epoch ≡ γ.epoch
 
--- the word of a cell of which so much is known, while its epoch lasts
+-- the word of a cell by what is known of it, while its epoch lasts
 abbrev pub IsWordOf : {T : Type 0} → Option T → ℕ → Type 0
 IsWordOf (Some x) word = word ≡ 2
 IsWordOf None word = word ≡ 4

@@ -6,21 +6,21 @@ use Rattle.cell_core.specs.declared.block.shown.Look.{Look}
 use Rattle.cell_core.specs.declared.block.shown.Look.TheVariants as look
 use Rattle.cell_core.specs.Block.{BlockView, IsPlacedAt, IsSpoiltAt, IsBegunAt}
 
--- what stood in the cell at the place
+-- what a call found in the cell at the place
 abbrev pub IsFoundIn : {T : Type 0} → BlockView → ℕ → Found T → Type 0
 IsFoundIn block place found.Empty = Unit {0}
 IsFoundIn block place (found.Busy begun) = IsBegunAt block place begun
 IsFoundIn block place (found.Filled placed) = IsPlacedAt block place placed
 IsFoundIn block place (found.Broken spoilt) = IsSpoiltAt block place spoilt
 
--- a value stood there, and it is this one
+-- the call found a value, and it is this one
 abbrev pub ShowsFilled : {T : Type 0} → T → Found T → Type 0
 ShowsFilled x found.Empty = ⊥
 ShowsFilled x (found.Busy begun) = ⊥
 ShowsFilled x (found.Filled placed) = placed.value ≡ x
 ShowsFilled x (found.Broken spoilt) = ⊥
 
--- something stood there
+-- the call found the cell not empty
 abbrev pub IsNotEmpty : {T : Type 0} → Found T → Type 0
 IsNotEmpty found.Empty = ⊥
 IsNotEmpty (found.Busy begun) = Unit {0}

@@ -96,7 +96,7 @@ module _ (R : RattleType) where
   Lies v broken = v ≡ None
   Lies v shut = v ≡ None
 
-  -- where the room begins, after the word
+  -- the offset of the room, after the word
   abbrev pub at : ℕ → ℕ
   at o = o + up (align (lone R.mir)) 8
 

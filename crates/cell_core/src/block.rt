@@ -1,6 +1,6 @@
 //! A block of cells, laid raw in one row: each is a state word and room for one value.
 ghost use Rattle.std.specs.Prelude.{◌≡◌, ◌≢◌, ◌<◌, Some, None, IsSomeAnd, IfSome, IfOk, IfErr, IsErrAnd};
-ghost use Rattle.cell_core.specs.Block.{block_len, cell_at, IsPenAt, IsPlacedIn, IsPlacedAt, IsMemberAt};
+ghost use Rattle.cell_core.specs.Block.{block_len, cell_at, IsPenAt, IsFresh, IsMending, IsPlacedIn, IsPlacedAt, IsMemberAt};
 ghost use Rattle.cell_core.specs.Shown.{IsFoundIn, IsNotEmpty, ShowsFilled, IsLookAt};
 
 mod begun;
@@ -25,7 +25,8 @@ use std::alloc::{AllocError, Allocator, Global};
 use std::marker::Model;
 use steps::{Laid, Link};
 
-/// Cells that are each filled once, and stay so; a broken one may be mended. Beside its value a cell has one word.
+/// A row of cells that are each filled at most once and keep their value; a broken one may be mended. Each
+/// has one state word beyond its value.
 pub struct Block<T, A: Allocator = Global> {
     alloc: A,
     link: Link<T>,
@@ -49,7 +50,8 @@ impl<T, A: Allocator> Model for Block<T, A> {
 }
 
 impl<T, A: Allocator> Block<T, A> {
-    /// A block of `n` empty cells. It takes time and memory linear in `n`.
+    /// Makes a block of `n` empty cells, in time and memory linear in `n`. Cells of 2^63 bytes or more are refused
+    /// before memory is requested, since no allocator can give them.
     pub fn new(alloc: A, n: u64) -> Result<Block<T, A>, AllocError>
         ensures { IfOk result (λ block. block_len block ≡ n) }
     {
@@ -65,7 +67,7 @@ impl<T, A: Allocator> Block<T, A> {
         })
     }
 
-    /// How many cells it has.
+    /// Returns the number of cells.
     pub fn len(&self) -> u64
         ensures { result ≡ block_len self.now }
     {
@@ -79,7 +81,7 @@ impl<T, A: Allocator> Block<T, A> {
         self.laid.cell(self.link, place as usize)
     }
 
-    // What stood in the cell, as an exchange that lost it shows.
+    // What an exchange that lost a cell found there.
     fn lost(&self, place: u64, found: u64, claim: Claim<'_, T>) -> Found<T>
         requires { (place < block_len self.now) × (claim.of ≡ cell_at self.now place)
             × (claim.found ≡ found) × (found ≢ claim.sought) }
@@ -106,10 +108,11 @@ impl<T, A: Allocator> Block<T, A> {
         }
     }
 
-    /// One exchange from empty to busy. The pen is the right to fill or break the cell.
+    /// Begins a cell by one exchange from empty to busy. The pen is the right to fill or break the cell.
     pub fn begin(&self, place: u64) -> Result<Pen<'_, T>, Found<T>>
         requires { place < block_len self.now }
         ensures pen { IfOk result (IsPenAt self.now place) }
+        ensures fresh { IfOk result IsFresh }
         ensures found { IfErr result (IsFoundIn self.now place) }
         ensures not_empty { IfErr result IsNotEmpty }
     {
@@ -121,11 +124,12 @@ impl<T, A: Allocator> Block<T, A> {
         }
     }
 
-    /// One exchange from broken to busy. Where an owner broke the cell it answers `Found::Broken`: `mend_member` mends
-    /// that.
+    /// Takes a broken cell by one exchange from broken to busy. If an owner broke the cell, this returns
+    /// `Found::Broken`; `mend_member` mends such a cell.
     pub fn mend(&self, place: u64) -> Result<Pen<'_, T>, Found<T>>
         requires { place < block_len self.now }
         ensures pen { IfOk result (IsPenAt self.now place) }
+        ensures broken { IfOk result IsMending }
         ensures found { IfErr result (IsFoundIn self.now place) }
     {
         let (found, claim) = self.cell(place).mend();
@@ -136,8 +140,7 @@ impl<T, A: Allocator> Block<T, A> {
         }
     }
 
-    /// As `mend`, of a cell of which an owner knew so much in an epoch that has ended: one that the owner broke may be
-    /// mended too.
+    /// Takes a broken cell like `mend`, also one that an owner broke in an epoch that has ended.
     pub fn mend_member(
         &self,
         place: u64,
@@ -147,6 +150,7 @@ impl<T, A: Allocator> Block<T, A> {
         requires member { IsMemberAt self.now place member.now }
         requires epoch { member.now.value ≡ None → member.now.epoch ≡ ended.now }
         ensures pen { IfOk result (IsPenAt self.now place) }
+        ensures broken { IfOk result IsMending }
         ensures found { IfErr result (IsFoundIn self.now place) }
         ensures filled { (x : T) → member.now.value ≡ Some x → IsErrAnd result (ShowsFilled x) }
     {
@@ -166,7 +170,7 @@ impl<T, A: Allocator> Block<T, A> {
         }
     }
 
-    /// What the cell shows now. It waits for nobody.
+    /// Looks at what the cell shows now, by one load.
     pub fn look(&self, place: u64) -> Look<'_, T>
         requires { place < block_len self.now }
         ensures { IsLookAt self.now place result }
@@ -192,7 +196,7 @@ impl<T, A: Allocator> Block<T, A> {
         }
     }
 
-    /// The token's value.
+    /// Returns the token's value.
     pub fn value<'a>(&'a self, placed: &Placed<T>) -> &'a T
         requires { IsPlacedIn self.now placed.now }
         ensures { result.now ≡ placed.now.value }
@@ -200,7 +204,7 @@ impl<T, A: Allocator> Block<T, A> {
         self.cell(placed.place).value(&placed.written)
     }
 
-    /// Two tokens of one place have one value. It tells a proof so.
+    /// Shows a proof that two tokens of one place have one value.
     pub fn agree(&self, a: &Placed<T>, b: &Placed<T>)
         requires a { IsPlacedIn self.now a.now }
         requires b { IsPlacedIn self.now b.now }
@@ -211,8 +215,8 @@ impl<T, A: Allocator> Block<T, A> {
         }
     }
 
-    /// The value of a cell of which an owner knows so much, with its token: one load. A member with a value shows it; any
-    /// other cell shows nothing, or the value that mended it.
+    /// Returns the value of a cell with its token, by one load. A cell that `member` knows to be filled shows
+    /// its value; any other cell shows nothing, or the value that mended it.
     pub fn known<'a>(&'a self, place: u64, member: &Member<T>) -> Option<(&'a T, Placed<T>)>
         requires { IsMemberAt self.now place member.now }
         ensures value { (x : T) → member.now.value ≡ Some x
@@ -234,7 +238,7 @@ impl<T, A: Allocator> Block<T, A> {
         }
     }
 
-    /// Frees its memory at once, without a look at its cells: no value is dropped.
+    /// Frees the memory without a look at the cells: no value is dropped.
     pub fn free(self) {
         let Block {
             alloc,

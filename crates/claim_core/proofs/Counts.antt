@@ -45,7 +45,7 @@ IsDistinct-from_times (x ∷ xs) once =
     let absent : times x xs ≡ 0 = let o = once x in grind (arith, nat_tests) in
     IsDistinct-cons nat_eq x xs (absent_differs x xs absent) (IsDistinct-from_times xs (λ k. let o = once k in omega arith))
 
--- the number n is once more among the numbers below n + 1
+-- the number n is counted once among the numbers below n + 1, and not before
 pub once_more : (k n : ℕ) → once_below k (n + 1) ≡ times k (n ∷ []) + once_below k n
 once_more k n = grind (arith, nat_tests)
 

@@ -6,7 +6,7 @@ use Rattle.std.specs.Prelude.{slice_index}
 use mathlib.Core.List.{IsPrefix}
 use Rattle.claim_core.specs.Lengths.{places_in}
 use Rattle.claim_core.specs.Hand.{HandView, own_places}
-use Rattle.claim_core.specs.Laws.{PlacesStay, AddedPlacesAddUp, JoinedPlacesAddUp}
+use Rattle.claim_core.specs.Laws.{PlacesStay, OwnCountsStay, AddedPlacesAddUp, JoinedPlacesAddUp}
 use Rattle.claim_core.proofs.Places.{places_stay}
 use Rattle.claim_core.proofs.RunLaws.{added_last}
 
@@ -21,6 +21,9 @@ own_places-joined law a b new seen_a seen_b mine below_a below_b =
     let of_a = law a.seen new.seen a.mine seen_a below_a in
     let of_b = law b.seen new.seen b.mine seen_b below_b in
     omega arith
+
+pub own_counts_stay : OwnCountsStay
+own_counts_stay old new sees keeps more = ap (places_in new.seen) keeps.mine ∙ places_stay old.seen new.seen old.mine more sees
 
 pub joined_places_add : JoinedPlacesAddUp
 joined_places_add a b new sees also_sees more also_more mine = own_places-joined places_stay a b new more also_more mine sees also_sees

@@ -26,7 +26,7 @@ same_tells a b e = grind (arith, nat_tests)
 same_is : (a b : ℕ) → a ≡ b → (a == b) ≡ true
 same_is a b e = grind (arith, nat_tests)
 
--- the test answers yes for the run of this index
+-- the test succeeds for the run of this index
 is_at : (hand : HandView) (run : Run) (k : ℕ) → SeesRun hand k run → is_run_at hand run k ≡ true
 is_at hand run k sees =
     and_from (nat_lt k (length hand.seen)) _ (below_is _ _ sees.there)

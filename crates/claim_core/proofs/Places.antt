@@ -83,13 +83,13 @@ places_in-le xs ks part =
     let all = ap sum (take-length xs) in
     omega arith
 
--- all runs, each once, have as many places as the lengths add up to
+-- all runs, each once, have the sum of the lengths as their number of places
 pub places_in-all : (xs ks : List ℕ) → ((k : ℕ) → times k ks ≡ once_below k (length xs)) → places_in xs ks ≡ sum xs
 places_in-all xs ks all =
     sum_by-weigh (λ k. get_or xs k 0) (length xs) ks (λ k le. let a = all k in omega arith)
     ∙ (weigh-once xs ks (length xs) (omega arith) (λ k lt. let a = all k in omega arith) ∙ ap sum (take-length xs))
 
--- runs have as many places as before when the list goes on
+-- runs keep their number of places when the list grows
 pub places_stay : (xs ys ks : List ℕ) → IsPrefix xs ys → ((k : ℕ) → Contains ks k → k < length xs)
     → places_in ys ks ≡ places_in xs ks
 places_stay xs ys [] p below = refl

@@ -48,7 +48,7 @@ find_run base (x ∷ xs) place from to =
     (suc r.0, record { there = omega arith; after = omega (arith, sum_by-cons (λ y. y) x (take r.0 xs)); before = omega (arith, sum_by-cons (λ y. y) x (take r.0 xs)) }))
     (λ less. (zero, record { there = omega arith; after = omega arith; before = omega arith }))
 
--- where one list is a prefix of another, a run of both begins at the same place in both, and has the same length
+-- if one list is a prefix of another, a run of both begins at the same place in both, and has the same length
 pub starts_there : (xs ys : List ℕ) (k : ℕ) → IsPrefix xs ys → k ≤ length xs → sum (take k ys) ≡ sum (take k xs)
 starts_there xs ys k p le = ap (λ l. sum (take k l)) (sym p.1) ∙ ap sum (take-append-le k xs p.0 le)
 
@@ -67,7 +67,7 @@ run_stays base xs ys k place p run =
     let here = reads_there xs ys k p there in
     record { there = omega arith; after = omega arith; before = omega arith }
 
--- and it was there before, where its index was
+-- and it was there before, if its index was
 pub run_was_there : (base : ℕ) (xs ys : List ℕ) (k place : ℕ) → IsPrefix xs ys → k < length xs
     → InRun base ys k place → InRun base xs k place
 run_was_there base xs ys k place p there run =
@@ -77,7 +77,7 @@ run_was_there base xs ys k place p there run =
     let here = reads_there xs ys k p there in
     record { there = there; after = omega arith; before = omega arith }
 
--- where each index is owned, the runs tile
+-- if each index is owned, the runs tile
 pub all_tile : (base : ℕ) (lengths indices : List ℕ) → ((k : ℕ) → k < length lengths → Contains indices k)
     → Tiles base lengths indices
 all_tile base lengths indices all =

@@ -22,7 +22,7 @@ abbrev pub RunsAreApart : Type 0
 RunsAreApart =
     (base : ℕ) (lengths : List ℕ) (j k place : ℕ) → InRun base lengths j place → InRun base lengths k place → j ≡ k
 
--- the runs of these indices have as many places as before when the list goes on
+-- the runs of these indices keep their number of places when the list grows
 abbrev pub PlacesStay : Type 0
 PlacesStay =
     (before after indices : List ℕ) → IsPrefix before after → ((k : ℕ) → Contains indices k → k < length before)
@@ -84,6 +84,11 @@ OwnPlacesStay =
     (old new : HandView) (place : ℕ) → SeesOwn old → KeepsOwn old new → IsPrefix old.seen new.seen
     → OwnsPlace new place → OwnsPlace old place
 
+-- a hand that has seen more owns the same number of places
+abbrev pub OwnCountsStay : Type 0
+OwnCountsStay =
+    (old new : HandView) → SeesOwn old → KeepsOwn old new → IsPrefix old.seen new.seen → own_places new ≡ own_places old
+
 -- a hand that has one more run owns the places that it owned, and those of the run
 abbrev pub AddedPlacesAreOfTheRun : Type 0
 AddedPlacesAreOfTheRun =
@@ -102,12 +107,12 @@ JoinedPlacesAreOfEither =
     → IsPrefix a.seen new.seen → IsPrefix b.seen new.seen → new.mine ≡ a.mine ++ b.mine
     → OwnsPlace new place → OwnsPlace a place ⊎ OwnsPlace b place
 
--- a hand that has one more run owns as many places more as the run has
+-- a hand with an added run owns that run's number of places more
 abbrev pub AddedPlacesAddUp : Type 0
 AddedPlacesAddUp =
     (old new : HandView) (run : Run) → SeesOwn old → AddsRun old new run → own_places new ≡ own_places old + run.n
 
--- a hand that two were joined into owns as many places as the two together
+-- a joined hand owns as many places as the two hands together
 abbrev pub JoinedPlacesAddUp : Type 0
 JoinedPlacesAddUp =
     (a b new : HandView) → SeesOwn a → SeesOwn b → IsPrefix a.seen new.seen → IsPrefix b.seen new.seen

@@ -2,7 +2,7 @@
 use Rattle.std.specs.Prelude.{ℕ, ◌+◌, ◌-◌, ◌<◌, ◌≤◌, ◌==◌, ◌≡◌, min, if◌then◌else◌, List, [], ◌∷◌, length, take, slice_index}
 use Rattle.std.specs.List.{sum, sum_by, Contains}
 
--- where the runs end: the base plus the sum of their lengths
+-- the end of the runs: the base plus the sum of their lengths
 abbrev pub runs_end : ℕ → List ℕ → ℕ
 runs_end base lengths = base + sum lengths
 

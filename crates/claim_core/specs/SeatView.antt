@@ -73,7 +73,7 @@ pub record Claims (v : SeatView) (found n : ℕ) (w : SeatView) : Type 0 where
   pub same : SameOwn v (record w { mine = v.mine })
   pub consistent : IsConsistent w
 
--- the two lists of a join are prefixes of what the seat has seen. Nothing else is told
+-- the two lists of a join are prefixes of what the seat has seen; nothing else is learned
 pub record Settles (v w : SeatView) : Type 0 where
   pub one : IsPrefix v.one v.seen
   pub other : IsPrefix v.other v.seen
@@ -81,7 +81,7 @@ pub record Settles (v w : SeatView) : Type 0 where
   pub same : SameOwn v w
   pub consistent : IsConsistent w
 
--- what a step is told of its seat
+-- what a step learns of its seat
 abbrev pub Seated : Type 0
 Seated = Me (Unit {0}) SeatView
 

@@ -9,7 +9,7 @@ use crate::word::{SIZE_AT, Word};
 use std::alloc::Allocator;
 
 impl<A: Allocator> Word<A> {
-    /// One try to move the size from `from` to `from + n`. It waits for nobody.
+    /// Tries once to move the size from `from` to `from + n`. It waits for nobody.
     pub fn exchange(&self, hand: &mut Hand, from: u64, n: u64) -> Result<Run, Moved>
         requires ours { IsHandOf self.now hand.old }
         requires some_places { 0 < n }
@@ -19,7 +19,7 @@ impl<A: Allocator> Word<A> {
         ensures run { IfOk result (λ run. run ≡ record { from = from; n = n }) }
         ensures claimed { IfOk result (λ run. AddsRun hand.old hand.new run) }
         ensures not_below { IfOk result (λ run. seen_size hand.old ≤ run.from) }
-        // Lost: nothing is claimed, and the hand has seen the size that it is told.
+        // Lost: nothing is claimed, and the hand has seen the size that comes with the refusal.
         ensures moved { IfErr result (λ lost. from < lost.size) }
         ensures seen { IfErr result (λ lost. SeesSize hand.old hand.new lost.size) }
         // Nobody else can claim beside a whole hand.
@@ -36,7 +36,7 @@ impl<A: Allocator> Word<A> {
         }
     }
 
-    /// One step that makes the size the greater of itself and `to`. It waits for nobody.
+    /// Raises the size to `to`, if it is smaller, by one step. It waits for nobody.
     pub fn raise(&self, hand: &mut Hand, to: u64) -> Result<Run, Enough>
         requires ours { IsHandOf self.now hand.old }
         requires within_limit { to ≤ self.now.limit }
@@ -44,7 +44,8 @@ impl<A: Allocator> Word<A> {
         ensures run { IfOk result (λ run. run.from + run.n ≡ to) }
         ensures claimed { IfOk result (λ run. AddsRun hand.old hand.new run) }
         ensures not_below { IfOk result (λ run. seen_size hand.old ≤ run.from) }
-        // It was large enough: nothing is claimed, and the hand has seen the size that it is told.
+        // The size was large enough: nothing is claimed, and the hand has seen the size that comes with the
+        // refusal.
         ensures enough { IfErr result (λ enough. to ≤ enough.size) }
         ensures seen { IfErr result (λ enough. SeesSize hand.old hand.new enough.size) }
         // Nobody else can claim beside a whole hand.

@@ -12,8 +12,8 @@ use std::marker::Model;
 // The shares of a whole hand.
 pub(crate) const WHOLE: u32 = 65536;
 
-/// What a caller has seen of the size, and its part of the right to close the word. It takes 16 bytes.
-/// It may be lost: its runs and shares are then lost for good, and the word can no longer be closed.
+/// What a caller has seen of the size, and its shares. Closing the word needs all shares, so once a hand is
+/// dropped the word can only be dropped. It takes 16 bytes.
 #[derive(Drop)]
 pub struct Hand {
     pub(crate) seat: Seat<(), SeatView>,
@@ -43,21 +43,21 @@ impl fmt::Debug for Hand {
 }
 
 impl Hand {
-    /// Its part of the right to close the word.
+    /// Returns the hand's shares.
     pub fn share(&self) -> u32
         ensures { result ≡ self.now.shares }
     {
         self.shares
     }
 
-    /// Whether it has all shares.
+    /// Tests whether the hand has all shares.
     pub fn is_whole(&self) -> bool
         ensures { IsTrue result ↔ IsWholeHand self.now }
     {
         self.share() == WHOLE
     }
 
-    /// What every hand keeps. The call does nothing.
+    /// Shows a proof what every hand keeps. The call does nothing.
     pub fn laws(&self)
         ensures positive { All (λ n. 0 < n) self.now.seen }
         ensures within { seen_size self.now ≤ self.now.of.limit }
@@ -72,8 +72,8 @@ impl Hand {
         let _seen = self.seen;
     }
 
-    /// What a whole hand keeps: it has seen all that was claimed, and owns it. The size is the base
-    /// and the places of all its runs. The call does nothing.
+    /// Shows a proof what a whole hand keeps: it has seen all that was claimed, and owns it. The size is the
+    /// base plus the places of all its runs. The call does nothing.
     pub fn whole_laws(&self)
         requires whole { IsWholeHand self.now }
         ensures all { (k : ℕ) → k < length self.now.seen → Contains self.now.mine k }
@@ -83,7 +83,7 @@ impl Hand {
         let _shares = self.shares;
     }
 
-    /// The size that it has seen.
+    /// Returns the size that the hand has seen.
     pub fn seen(&self) -> u64
         ensures { result ≡ seen_size self.now }
     {

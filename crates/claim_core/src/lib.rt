@@ -1,13 +1,14 @@
-//! The claim word: one shared number, the size, on which all callers claim places, and the hands that they hold.
+//! The claim word: one shared number, the size, that callers move to claim places; and the hands that they
+//! hold.
 //!
 //! Contracts see a `Word` as which word it is, its limit and its base (`specs/Word.antt`), and a `Hand` as its word,
 //! the lengths of all runs that it has seen, the indices of its own runs among them, and its shares
 //! (`specs/Hand.antt`, `specs/Lengths.antt`). Each call says what its hand knows before and after it.
 //!
-//! A caller can prove that a run begins where all runs before it end, that every size it is told is a true one, that
-//! two hands that met or were joined own no run in common, and that the runs of a hand with all shares tile the
-//! places from the base to the size. `laws` has what follows from these definitions alone. Nothing is said about the
-//! order of callers that never met, nor that a try wins.
+//! A caller can prove that a run begins at the end of all runs before it; that every size it learns is a true
+//! one; that two hands that met or were joined own no common run; and that the runs of a hand with all shares
+//! tile the places from the base to the size. `laws` has what follows from these definitions alone. Nothing
+//! is said about the order of callers that never met, nor that a try wins.
 //!
 //! The code is safe, over `atomic_table`. Its rule is `specs/Rule.antt`: there is one list of lengths, and what each
 //! hand has seen is a prefix of it. That each kind of step keeps the rule is `proofs/Kept.antt`, over

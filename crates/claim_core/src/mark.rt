@@ -4,13 +4,13 @@ ghost use base.Fml.{ftrue};
 
 use std::marker::{Model, PhantomData};
 
-/// How a mark is read off a value.
+/// Reads a mark off a value.
 pub trait Marks<X> {
     ghost numbers: { X → List ℕ };
 }
 
-/// The numbers that a word is marked with, and so each of its hands: which segments belong to it, say. It has no bytes
-/// and owns nothing.
+/// The numbers that mark a word and each of its hands: which segments belong to it, for example. A mark has
+/// no bytes and owns nothing.
 pub struct Mark {
     marker: PhantomData<()>,
     pub ghost numbers: { List ℕ },
@@ -21,7 +21,7 @@ impl Model for Mark {
 }
 
 impl Mark {
-    /// The mark that is read off the value.
+    /// Returns the mark that is read off the value.
     pub fn of<X, M: Marks<X>>(x: &X) -> Mark
         ensures { result.numbers ≡ M.numbers x.now }
     {
@@ -31,7 +31,7 @@ impl Mark {
         }
     }
 
-    /// The mark without numbers.
+    /// Returns the mark without numbers.
     pub fn none() -> Mark
         ensures { result.numbers ≡ [] }
     {

@@ -4,7 +4,7 @@ use crate::terms::Terms;
 use atomic_table::{Join, Play, Seat, Split, TableRule};
 use std::marker::{Brand, PhantomData};
 
-/// There is one list of lengths, which ends at the size.
+/// The rule: there is one list of lengths, and it ends at the size.
 pub struct OneList;
 
 impl TableRule<(), SeatView, Terms> for OneList {
@@ -16,13 +16,13 @@ impl TableRule<(), SeatView, Terms> for OneList {
     ghost first = { first_view };
 }
 
-/// The steps on the word.
+/// The table of steps on the word.
 pub type ClaimTable = atomic_table::Shared<(), SeatView, Terms, OneList>;
 
-/// What a caller makes them with.
+/// A caller's seat; each of its steps starts there.
 pub type ClaimSeat = Seat<(), SeatView>;
 
-/// A load that tells the size.
+/// A load that shows the size.
 pub struct Load;
 
 impl Play<(), SeatView> for Load {
@@ -31,7 +31,7 @@ impl Play<(), SeatView> for Load {
     ghost then = { loaded };
 }
 
-/// The load that ends a join. It tells no size.
+/// The load that ends a join. It shows no size.
 pub struct Settle;
 
 impl Play<(), SeatView> for Settle {
@@ -58,7 +58,7 @@ impl Play<(), SeatView> for Raise {
     ghost then = { raised };
 }
 
-/// Two seats become one.
+/// The step that makes one seat of two.
 pub struct Both;
 
 impl Join<SeatView> for Both {
@@ -69,7 +69,7 @@ impl Join<SeatView> for Both {
     ghost spent = { spent_view };
 }
 
-/// A seat with nothing is split off.
+/// The step that splits off an empty seat.
 pub struct Blank;
 
 impl Split<SeatView> for Blank {
@@ -80,7 +80,7 @@ impl Split<SeatView> for Blank {
     ghost right = { λ v. spent_view };
 }
 
-/// What a split leaves, and what it gives away. Each call picks it.
+/// What a split keeps and what it gives away, chosen by each call.
 pub trait Parts {
     ghost use Rattle.std.specs.Prelude.{ℕ, List};
 
@@ -105,7 +105,7 @@ impl Parts for Brand {
     ghost given_shares = { 0 };
 }
 
-/// A seat is cut in two, which have seen the same.
+/// The step that splits a seat in two that have seen the same.
 pub struct Cut<P: Parts> {
     parts: PhantomData<P>,
 }

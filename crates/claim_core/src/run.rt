@@ -1,4 +1,4 @@
-//! What a claim answers.
+//! Results of a claim.
 use std::error::Error;
 use std::fmt;
 
@@ -9,7 +9,7 @@ pub struct Run {
     pub n: u64,
 }
 
-/// The size was another one than the caller expected. Nothing was claimed.
+/// The size differed from what the caller expected. Nothing was claimed.
 #[derive(Clone, Copy, Debug, PartialEq, Eq)]
 pub struct Moved {
     pub size: u64,

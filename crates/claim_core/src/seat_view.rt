@@ -1,8 +1,9 @@
 //! What a seat at the word knows.
 use std::collections::LinkedList;
 
-/// The terms and the mark of its word, the lengths of the runs that it has seen, the indices of its own runs, its shares, and
-/// the two lists that its last join put together. No value of it is made.
+/// The terms and the mark of a seat's word, the lengths of the runs that it has seen, the indices of its own
+/// runs, its shares, and the two lists that its last join combined. Never constructed: it exists in proofs
+/// only.
 pub struct SeatView {
     pub limit: u64,
     pub base: u64,

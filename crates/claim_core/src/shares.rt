@@ -12,8 +12,8 @@ use std::marker::Brand;
 use std::mem;
 
 impl<A: Allocator> Word<A> {
-    /// Gives some of the shares to a new hand, which has seen the same. It takes one load of the word,
-    /// which tells nothing about the size.
+    /// Splits shares off into a new hand, which has seen the same. It takes one load of the word, which shows
+    /// no size.
     pub fn split(&self, hand: &mut Hand, shares: u32) -> Hand
         requires ours { IsHandOf self.now hand.old }
         requires some_shares { 0 < shares }
@@ -46,8 +46,8 @@ impl<A: Allocator> Word<A> {
         }
     }
 
-    /// Puts the other hand's runs and shares into the hand, which has then seen the more of what the two
-    /// had seen. It takes two loads of the word, which tell nothing about the size.
+    /// Joins the other hand's runs and shares into the hand, which has then seen whichever is more of what
+    /// the two had seen. It takes two loads of the word, which show no size.
     pub fn join(&self, hand: &mut Hand, other: Hand)
         requires ours { IsHandOf self.now hand.old }
         requires also_ours { IsHandOf self.now other }
@@ -67,8 +67,8 @@ impl<A: Allocator> Word<A> {
         hand.seen = hand.seen.max(seen);
     }
 
-    /// Shows two hands to each other: both have then seen all that was claimed before one load of the
-    /// size. It takes three more loads, which tell nothing.
+    /// Shows two hands to each other: both have then seen all that was claimed before one load of the size.
+    /// It takes three more loads, which show no size.
     pub fn meet(&self, a: &mut Hand, b: &mut Hand)
         requires ours { IsHandOf self.now a.old }
         requires also_ours { IsHandOf self.now b.old }

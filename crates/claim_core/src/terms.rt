@@ -1,4 +1,4 @@
-//! What is fixed when a word is opened.
+//! Terms that are fixed when a word is opened.
 use crate::mark::Mark;
 
 /// The greatest size, the size at the start, and the mark.

@@ -16,7 +16,8 @@ use std::error::Error;
 use std::fmt;
 use std::marker::Model;
 
-// The size is the middle one of so many words: 128 bytes on either side keep what changes with it off its cache line.
+// The size is the middle one of this many words: 128 bytes on either side keep everything else off its cache
+// line.
 const WORDS: usize = 33;
 
 // Which of them it is.
@@ -62,7 +63,8 @@ impl fmt::Display for OpenError {
 
 impl Error for OpenError {}
 
-/// The size of what all callers share. Contracts see which word it is, its limit and its base.
+/// The word that all callers share, which is the size. Contracts see which word it is, its limit and its
+/// base.
 #[derive(Drop)]
 pub struct Word<A: Allocator = Global> {
     pub(crate) table: Table<(), SeatView, Terms, OneList, A>,
@@ -91,8 +93,8 @@ impl<A: Allocator> fmt::Debug for Word<A> {
 }
 
 impl<A: Allocator> Word<A> {
-    /// A new word, and the hand that has all shares. It takes two allocations; the word has 264 bytes, so that nothing
-    /// else lies on its cache line.
+    /// Opens a word, and returns it with the hand that has all shares. It takes two allocations; the word has
+    /// 264 bytes, so that nothing else lies on its cache line.
     pub fn open(alloc: A, limit: u64, base: u64) -> Result<(Word<A>, Hand), OpenError>
         ensures word { IfOk result (λ (word, _). (word.limit ≡ limit) × (word.base ≡ base)) }
         ensures hand { IfOk result (λ (word, hand). IsNewHand word hand) }
@@ -102,7 +104,7 @@ impl<A: Allocator> Word<A> {
         Word::open_marked(alloc, limit, base, Mark::none())
     }
 
-    /// As `open`, with a mark that its hands share.
+    /// Opens a word like `open`, with a mark that its hands share.
     pub fn open_marked(
         alloc: A,
         limit: u64,
@@ -129,28 +131,28 @@ impl<A: Allocator> Word<A> {
         Ok((Word { table, terms }, hand))
     }
 
-    /// The greatest size that it may have.
+    /// Returns the greatest size that the word may have.
     pub fn limit(&self) -> u64
         ensures { result ≡ self.now.limit }
     {
         self.terms.limit
     }
 
-    /// The size that it began with.
+    /// Returns the word's first size.
     pub fn base(&self) -> u64
         ensures { result ≡ self.now.base }
     {
         self.terms.base
     }
 
-    /// What every word keeps. The call does nothing.
+    /// Shows a proof what every word keeps. The call does nothing.
     pub fn laws(&self)
         ensures { AreBounds self.now.limit self.now.base }
     {
         let _limit = self.terms.limit;
     }
 
-    /// One load of the size.
+    /// Returns the size, by one load.
     pub fn size(&self, hand: &mut Hand) -> u64
         requires ours { IsHandOf self.now hand.old }
         ensures seen { SeesSize hand.old hand.new result }
@@ -164,12 +166,12 @@ impl<A: Allocator> Word<A> {
         found
     }
 
-    /// One load of the size by a caller without a hand, of which a proof learns nothing.
+    /// Returns the size by one load, for a caller without a hand. A proof learns nothing from it.
     pub fn peek(&self) -> u64 {
         self.table.shared.peek(SIZE_AT)
     }
 
-    /// Ends the word, and returns its last size.
+    /// Closes the word, and returns its last size.
     pub fn close(self, hand: Hand) -> u64
         requires ours { IsHandOf self hand }
         requires whole { IsWholeHand hand }

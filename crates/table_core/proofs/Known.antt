@@ -1,4 +1,4 @@
--- What is known of an entry that is owned whole, and one that is set from the start. Assumes `Logic`.
+-- Knowledge of an entry that is owned whole, and of one that is set from the start. Assumes `Logic`.
 use Rattle.std.proofs.Common.{◌≡◌, ℕ, List, [], ◌∷◌, refl, ap}
 use seplogic.Ra.Ura.{Ura}
 use base.Stored.{Gv, gnil, gcons}

@@ -8,17 +8,20 @@ use Rattle.seg_core.specs.Segment.{segment_start, segment_end, segment_count}
 use Rattle.cell_core.specs.Block.{BlockView, block_coded, block_len}
 use Rattle.table_core.specs.Entry.{EntryView, length_of}
 
--- a table: the layout of its segments, the name of each entry, and the entry whose block is lent, if one is
+-- a table: the layout of its segments, the name of each entry, the entry whose block is lent, if one is, and the
+-- entry that `holds_now` last named, if no entry changed since
 pub record TableView : Type 0 where
   pub layout : ℕ
   pub names : List ℕ
   pub lent : Option ℕ
+  pub held : Option ℕ
 
 -- how that is stored
 abbrev pub table_coded : Coded TableView
 table_coded =
-    coded_via (coded× coded_ℕ (coded× (coded_list coded_ℕ) (coded_option coded_ℕ))) (λ (t : TableView). (t.layout, (t.names, t.lent)))
-    (λ x y e i. record { layout = (e i).0; names = (e i).1.0; lent = (e i).1.1 })
+    coded_via (coded× coded_ℕ (coded× (coded_list coded_ℕ) (coded× (coded_option coded_ℕ) (coded_option coded_ℕ))))
+    (λ (t : TableView). (t.layout, (t.names, (t.lent, t.held))))
+    (λ x y e i. record { layout = (e i).0; names = (e i).1.0; lent = (e i).1.1.0; held = (e i).1.1.1 })
 
 -- the key of an entry: the table's layout, the entry's number, its block, and its name
 pub record KeyView : Type 0 where
@@ -36,7 +39,7 @@ key_coded =
 abbrev pub IsLengthOf : ℕ → ℕ → ℕ → Type 0
 IsLengthOf f k n = segment_start f k + n ≡ segment_end f k
 
--- the block has as many cells as the segment has places
+-- the block has a cell for each place of the segment
 abbrev pub IsBlockOf : ℕ → ℕ → BlockView → Type 0
 IsBlockOf f k block = IsLengthOf f k (block_len block)
 
@@ -57,7 +60,7 @@ abbrev pub KeepsOtherEntries : TableView → TableView → ℕ → Type 0
 KeepsOtherEntries old new k =
     (j : ℕ) → (j ≡ k → ⊥) → slice_index new.names j ≡ slice_index old.names j
 
--- the entry is another one: no key of the old entry is of it
+-- the entry has a fresh name: no older key applies to it
 abbrev pub RenewsEntry : TableView → TableView → ℕ → Type 0
 RenewsEntry old new k = slice_index new.names k ≢ slice_index old.names k
 

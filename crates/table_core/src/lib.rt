@@ -3,13 +3,14 @@
 //! A `Table` has an entry for each segment of a layout. Contracts see it as the names of its entries, a block as the names of its cells, and a
 //! `Key` as its entry's number, its block, and the entry's name (`specs/Table.antt`).
 //!
-//! A caller can prove that the block of entry k has as many cells as segment k has places, that a key's block is
-//! there, in any thread and for good, and that two keys of one entry have one block. It can't prove what a look
-//! without a key shows. An exclusive owner has the blocks; an entry that it changed is another one, and older keys are
-//! not of it.
+//! A caller can prove that the block of entry k has as many cells as segment k has places; that a key's block
+//! is there, at any time and in any thread; and that two keys of one entry have one block. A caller cannot
+//! prove what a look without a key shows. An exclusive owner has the blocks; an entry that it changes gets a
+//! fresh name, so older keys do not apply to it.
 //!
-//! `entry/steps.rt` has the raw steps on an entry, each a few lines round one atomic step, and `entry/loose.rt` a box
-//! as its pointer. Both are proved by hand; what an entry owns is `specs/Entry.antt`. All else is safe code.
+//! `entry/steps.rt` has the raw steps on an entry, each a few lines around one atomic step, and
+//! `entry/loose.rt` a box as its pointer. Both are proved by hand; `specs/Entry.antt` defines what an entry
+//! owns. Everything else is safe code.
 #![tactic(auto)]
 
 mod entry;

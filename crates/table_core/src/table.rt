@@ -10,7 +10,7 @@ mod owner;
 use crate::entry::{Entry, Measured, Sight};
 use cell_core::block::Block;
 pub use key::Key;
-use owner::Lent;
+use owner::{Held, Lent};
 use seg_core::Layout;
 use std::alloc::{AllocError, Global};
 use std::array;
@@ -25,27 +25,35 @@ impl<T> Measured for Block<T> {
 // Room for the segments of every layout.
 const ENTRIES: usize = 40;
 
-/// A table of an entry for each segment of a layout, 41 - f of them, each set at most once, to the block of its segment. It has
-/// room for 40 pointers.
+/// The table of a vector's segments: 41 - f entries, each set at most once, to the block of its segment. It
+/// has room for 40 pointers.
 #[derive(Drop)]
 pub struct Table<T> {
     layout: Layout,
     alloc: Global,
     entries: [Entry<Block<T>>; ENTRIES],
     lent: Option<Lent<T>>,
+    held: Option<Held>,
 }
 
 impl<T> Model for Table<T> {
-    ghost use Rattle.std.specs.Prelude.{map, option_map};
+    ghost use Rattle.std.specs.Prelude.{◌≡◌, map, option_map, slice_index};
+    ghost use Rattle.std.specs.Option.{ForSome};
     ghost use Rattle.table_core.specs.Entry.{name_of};
     ghost use Rattle.seg_core.specs.Segment.{IsLayout};
     ghost use Rattle.table_core.specs.Table.{TableView, AllFit};
 
     ghost Value = { TableView };
 
-    ghost view = { λ t. record { layout = t.layout; names = map name_of t.entries; lent = option_map (λ l. l.entry) t.lent } };
+    ghost view = { λ t. record {
+      layout = t.layout;
+      names = map name_of t.entries;
+      lent = option_map (λ l. l.entry) t.lent;
+      held = option_map (λ h. h.entry) t.held;
+    } };
 
-    ghost invariant = { λ t. IsLayout t.layout × AllFit t.layout t.entries };
+    ghost invariant = { λ t. IsLayout t.layout × AllFit t.layout t.entries
+        × ForSome t.held (λ h. slice_index (map name_of t.entries) h.entry ≡ h.sight.of) };
 }
 
 fn empty_entry<T>(alloc: Global, layout: Layout, k: u32) -> Entry<Block<T>>
@@ -60,14 +68,15 @@ fn empty_entry<T>(alloc: Global, layout: Layout, k: u32) -> Entry<Block<T>>
 }
 
 impl<T> Table<T> {
-    /// No entry is set, and the first segment has two places. It takes no memory from the allocator.
+    /// Makes a table without blocks whose first segment has two places. It takes no memory from the
+    /// allocator.
     pub fn new(alloc: Global) -> Table<T>
         ensures { result.layout ≡ 1 }
     {
         Table::new_in(alloc, Layout::default())
     }
 
-    /// No entry is set. It takes no memory from the allocator.
+    /// Makes a table without blocks. It takes no memory from the allocator.
     pub fn new_in(alloc: Global, layout: Layout) -> Table<T>
         ensures { result.layout ≡ layout }
     {
@@ -84,10 +93,11 @@ impl<T> Table<T> {
             alloc,
             entries,
             lent: None,
+            held: None,
         }
     }
 
-    /// How the places are cut into segments.
+    /// Returns how the places are divided into segments.
     pub fn layout(&self) -> Layout
         ensures value { result ≡ self.now.layout }
         ensures layout { IsLayout self.now.layout }
@@ -95,7 +105,7 @@ impl<T> Table<T> {
         self.layout
     }
 
-    /// The block of the entry, if it is set now: one load.
+    /// Returns the entry's block if it is set now, by one load.
     pub fn scout(&self, k: u32) -> Option<&Block<T>>
         requires { k < segment_count self.now.layout }
         ensures { IfSome result (λ block. IsBlockOf self.now.layout k block.now) }
@@ -104,7 +114,7 @@ impl<T> Table<T> {
         entry.look(&mut entry.sight())
     }
 
-    /// As `scout`, with the entry's key.
+    /// Returns the entry's block like `scout`, with the entry's key.
     pub fn scout_key(&self, k: u32) -> Option<(&Block<T>, Key)>
         requires { k < segment_count self.now.layout }
         ensures length { IfSome result (λ (block, _). IsBlockOf self.now.layout k block.now) }
@@ -125,7 +135,7 @@ impl<T> Table<T> {
         }
     }
 
-    /// How many entries are set, each looked at once.
+    /// Counts the entries that are set, looking at each once.
     pub fn installed(&self) -> u32
         ensures { result ≤ segment_count self.now.layout }
     {
@@ -138,7 +148,7 @@ impl<T> Table<T> {
         count
     }
 
-    /// The key's block, always: one load.
+    /// Returns the key's block, which is always there, by one load.
     pub fn known<'a>(&'a self, key: &Key) -> &'a Block<T>
         requires { IsKeyIn self.now key.now }
         ensures block { result.now ≡ key.now.block }
@@ -151,7 +161,7 @@ impl<T> Table<T> {
         }
     }
 
-    /// Two keys of one entry have one block. It tells a proof so.
+    /// Shows a proof that two keys of one entry have one block.
     pub fn agree(&self, a: &Key, b: &Key)
         requires a { IsKeyIn self.now a.now }
         requires b { IsKeyIn self.now b.now }
@@ -186,8 +196,8 @@ impl<T: Drop> Table<T> {
         }
     }
 
-    /// The entry's block. Where the entry is not set, it makes a block and sets the entry to it; if another call came
-    /// first, it frees its own at once and answers that call's. An entry is never set by a call that is refused.
+    /// Returns the entry's block, and makes and sets it if there is none. If another call comes first, this
+    /// call frees its own block at once and returns the other's. A refused call never sets an entry.
     pub fn install(&self, k: u32) -> Result<&Block<T>, AllocError>
         requires { k < segment_count self.now.layout }
         ensures { IfOk result (λ block. IsBlockOf self.now.layout k block.now) }
@@ -195,7 +205,7 @@ impl<T: Drop> Table<T> {
         self.set(k, &mut self.entries[k as usize].sight())
     }
 
-    /// As `install`, with the entry's key.
+    /// Returns the entry's block like `install`, with the entry's key.
     pub fn install_key(&self, k: u32) -> Result<(&Block<T>, Key), AllocError>
         requires { k < segment_count self.now.layout }
         ensures length { IfOk result (λ (block, _). IsBlockOf self.now.layout k block.now) }

@@ -5,7 +5,7 @@ use crate::slot::steps;
 use std::fmt;
 use std::marker::Model;
 
-/// Shows that another call began the cell at a place. It has no bytes beside its place.
+/// Evidence that another call began the cell at a place. It has no bytes except its place.
 #[derive(Drop)]
 pub struct Begun {
     pub(crate) place: u64,
@@ -31,7 +31,7 @@ impl fmt::Debug for Begun {
 }
 
 impl Begun {
-    /// The cell's place in its block.
+    /// Returns the cell's place in its block.
     pub fn place(&self) -> u64
         ensures { result ≡ self.now.place }
     {

@@ -1,10 +1,10 @@
-// The time in which what an owner broke stays broken.
+// An epoch: while it lasts, what its owner broke stays broken.
 ghost use Rattle.std.specs.Prelude.{◌≡◌};
 
 use crate::slot::epoch;
 use std::marker::Model;
 
-/// A time in which the cells that an exclusive owner broke stay broken. It has no bytes.
+/// A period: until it ends, the cells that an exclusive owner broke stay broken. It has no bytes.
 #[derive(Drop)]
 pub struct Epoch {
     pub(crate) epoch: epoch::Epoch,
@@ -23,14 +23,14 @@ impl Model for Epoch {
 }
 
 impl Epoch {
-    /// A new one.
+    /// Begins an epoch.
     pub fn new() -> Epoch {
         Epoch {
             epoch: epoch::Epoch::begin(),
         }
     }
 
-    /// Ends it: what was broken in it may be mended.
+    /// Ends the epoch. Others may then mend what was broken in it.
     pub fn end(self) -> Ended
         ensures { result ≡ self }
     {
@@ -39,7 +39,7 @@ impl Epoch {
     }
 }
 
-/// That an epoch has ended. It has no bytes.
+/// Evidence that an epoch has ended. It has no bytes.
 #[derive(Drop)]
 pub struct Ended {
     pub(crate) ended: epoch::Ended,
@@ -58,7 +58,7 @@ impl Model for Ended {
 }
 
 impl Ended {
-    /// The same once more.
+    /// Duplicates the member.
     pub fn again(&self) -> Ended
         ensures { result ≡ self.now }
     {

@@ -7,8 +7,8 @@ use crate::slot::member;
 use std::marker::Model;
 use std::mem::replace;
 
-/// What an exclusive owner knows of a cell: its value, for good; or the epoch in which it stays broken. It has no
-/// bytes.
+/// What an exclusive owner knows of a cell: the value that it always keeps, or its epoch, if it is broken
+/// until that ends. It has no bytes.
 #[derive(Drop)]
 pub struct Member<T> {
     pub(crate) member: member::Member<T>,
@@ -25,7 +25,7 @@ impl<T> Model for Member<T> {
 }
 
 impl<T> Member<T> {
-    /// Of a filled cell, by its token.
+    /// Makes the member of a filled cell from its token.
     pub fn of(placed: &Placed<T>) -> Member<T>
         ensures value { result.value ≡ Some placed.now.value }
         ensures name { result.name ≡ placed.now.name }
@@ -35,7 +35,7 @@ impl<T> Member<T> {
         }
     }
 
-    /// The same once more.
+    /// Duplicates the member.
     pub fn again(&self) -> Member<T>
         ensures { result ≡ self.now }
     {
@@ -44,7 +44,7 @@ impl<T> Member<T> {
         }
     }
 
-    /// What is known by a token's name is the token's value. It tells a proof so.
+    /// Shows a proof that a member and a token of one name have one value.
     pub fn agree(&self, placed: &Placed<T>)
         ensures { self.now.name ≡ placed.now.name → self.now.value ≡ Some placed.now.value }
     {
@@ -52,7 +52,7 @@ impl<T> Member<T> {
     }
 }
 
-/// What is known of each cell of a row, in order. It has no bytes, however long it is.
+/// What is known of each cell of a row, in order. It has no bytes, at any length.
 #[derive(Drop)]
 pub struct Row<T> {
     row: member::Row<T>,
@@ -71,7 +71,7 @@ impl<T> Model for Row<T> {
 }
 
 impl<T> Row<T> {
-    /// Of no cell.
+    /// Makes a row of no cells.
     pub fn new() -> Row<T>
         ensures { result ≡ [] }
     {
@@ -80,14 +80,14 @@ impl<T> Row<T> {
         }
     }
 
-    /// One cell more, at the end.
+    /// Appends what is known of one cell.
     pub fn push(&mut self, member: &Member<T>)
         ensures { self.new ≡ self.old ++ member.now ∷ [] }
     {
         self.row = replace(&mut self.row, member::Row::empty()).longer(&member.member);
     }
 
-    /// The last cell given up.
+    /// Removes the last cell.
     pub fn pop(&mut self)
         requires { 0 < length self.old }
         ensures { HasOneLess self.old self.new }
@@ -95,7 +95,7 @@ impl<T> Row<T> {
         self.row = replace(&mut self.row, member::Row::empty()).shorter();
     }
 
-    /// The cell at a place of the row is another one, of which so much is known.
+    /// Replaces what is known of the cell at a place of the row.
     pub fn set(&mut self, place: u64, member: &Member<T>)
         requires { place < length self.old }
         ensures { self.new ≡ slice_set self.old place member.now }
@@ -103,7 +103,7 @@ impl<T> Row<T> {
         self.row = replace(&mut self.row, member::Row::empty()).with(place, &member.member);
     }
 
-    /// What is known of the cell at a place of the row.
+    /// Returns what is known of the cell at a place of the row.
     pub fn at(&self, place: u64) -> Member<T>
         requires { place < length self.now }
         ensures { slice_get self.now place ≡ Some result }

@@ -1,12 +1,13 @@
-// What an exclusive owner does with the cells of a block, and what it knows of them.
+// Calls of an exclusive owner of a block's cells, and what it learns of them.
 ghost use Rattle.std.specs.Prelude.{◌≡◌, ◌≢◌, ◌<◌, Some, None, MatchOption, IfSome};
 ghost use Rattle.cell_core.specs.Block.{block_len, cell_at, IsPlacedIn, IsPlacedAt, IsMemberAt, KeepsOtherCells, RenewsCell};
 
-use crate::block::{Block, Epoch, Member, Placed};
+use crate::block::{Block, Epoch, Look, Member, Placed};
 use std::alloc::Allocator;
 
 impl<T, A: Allocator> Block<T, A> {
-    /// The value of the cell, if it holds one. The cell is empty then, and is another one: older tokens are not of it.
+    /// Moves the cell's value out, if it holds one. The cell is then empty and has fresh names, so no older
+    /// token applies to it.
     pub fn take(&mut self, place: u64) -> Option<T>
         requires { place < block_len self.old }
         ensures len { block_len self.new ≡ block_len self.old }
@@ -16,7 +17,8 @@ impl<T, A: Allocator> Block<T, A> {
         self.laid.take(self.link, place as usize)
     }
 
-    /// The token's value, moved out. The cell is empty then, and is another one: older tokens are not of it.
+    /// Moves the token's value out. The cell is then empty and has fresh names, so no older token applies to
+    /// it.
     pub fn take_value(&mut self, placed: &Placed<T>) -> T
         requires { IsPlacedIn self.old placed.now }
         ensures value { result ≡ placed.now.value }
@@ -28,8 +30,8 @@ impl<T, A: Allocator> Block<T, A> {
             .take_written(self.link, placed.place as usize, &placed.written)
     }
 
-    /// What is known of the cell. One that holds no value is broken after it for the epoch, and is another one: older
-    /// tokens are not of it, and there is none of a value.
+    /// Settles the cell and returns what is known of it. If it holds no value it is now broken until the
+    /// epoch ends, and has fresh names, so no older token applies to it and none has a value.
     pub fn settle_now(&mut self, place: u64, epoch: &Epoch) -> Member<T>
         requires { place < block_len self.old }
         ensures member { IsMemberAt self.new place result }
@@ -46,7 +48,7 @@ impl<T, A: Allocator> Block<T, A> {
         }
     }
 
-    /// As `settle_now`, of a cell of which something is known: a value that it is known to have is its value still.
+    /// Settles the cell like `settle_now`, when something is known of it: a known value stays.
     pub fn settle_known(&mut self, place: u64, known: &Member<T>, epoch: &Epoch) -> Member<T>
         requires { IsMemberAt self.old place known.now }
         ensures member { IsMemberAt self.new place result }
@@ -69,7 +71,20 @@ impl<T, A: Allocator> Block<T, A> {
         }
     }
 
-    /// The cell holds the value after it. Beside its token this answers the value that it held, if it held one.
+    /// Returns the token of the cell if the cell is filled, and changes nothing.
+    pub fn token_now(&mut self, place: u64) -> Option<Placed<T>>
+        requires { place < block_len self.old }
+        ensures placed { IfSome result (IsPlacedAt self.new place) }
+        ensures unchanged { self.new ≡ self.old }
+    {
+        match self.look(place) {
+            Look::Filled(_, placed) => Some(placed),
+            _ => None,
+        }
+    }
+
+    /// Fills the cell with the value, whatever it held, and returns its token and the value that it held, if
+    /// any.
     pub fn put_now(&mut self, place: u64, value: T) -> (Placed<T>, Option<T>)
         requires { place < block_len self.old }
         ensures placed { IsPlacedAt self.new place result.0 }
@@ -82,7 +97,8 @@ impl<T, A: Allocator> Block<T, A> {
         (Placed { place, written }, held)
     }
 
-    /// The cell is broken after it for the epoch. This answers the value that it held, if it held one.
+    /// Breaks the cell until the epoch ends, and returns what is then known of it and the value that it held,
+    /// if any.
     pub fn spoil_now(&mut self, place: u64, epoch: &Epoch) -> (Member<T>, Option<T>)
         requires { place < block_len self.old }
         ensures member { IsMemberAt self.new place result.0 }
@@ -97,8 +113,7 @@ impl<T, A: Allocator> Block<T, A> {
         (Member { member }, held)
     }
 
-    /// The value of a cell of which so much is known, with its token, or nothing where it is broken, while the epoch
-    /// lasts: one load.
+    /// Returns the cell's value with its token, or `None` if it is broken, by one load. The epoch must last.
     pub fn member<'a>(
         &'a self,
         place: u64,
@@ -124,8 +139,8 @@ impl<T, A: Allocator> Block<T, A> {
 }
 
 impl<T: Drop, A: Allocator> Block<T, A> {
-    /// The value of a cell of which so much is known, moved out, or nothing where it is broken, while the epoch lasts.
-    /// The cell is empty then, and is another one: older tokens are not of it.
+    /// Moves the cell's value out, or returns `None` if it is broken. The epoch must last. The cell is then
+    /// empty and has fresh names, so no older token applies to it.
     pub fn take_member(&mut self, place: u64, member: &Member<T>, epoch: &Epoch) -> Option<T>
         requires member { IsMemberAt self.old place member.now }
         requires epoch { member.now.value ≡ None → member.now.epoch ≡ epoch.now }

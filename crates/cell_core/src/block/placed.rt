@@ -5,7 +5,7 @@ use crate::slot::steps::Written;
 use std::fmt;
 use std::marker::Model;
 
-/// Shows that the cell at a place holds a value, for good. It has no bytes beside its place.
+/// Evidence that the cell at a place holds a value, which it keeps. It has no bytes except its place.
 #[derive(Drop)]
 pub struct Placed<T> {
     pub(crate) place: u64,
@@ -19,7 +19,12 @@ impl<T> Model for Placed<T> {
 
     ghost coded = { placed_coded T.code };
 
-    ghost view = { λ p. record { place = p.place; value = p.written.value; name = p.written.of } };
+    ghost view = { λ p. record {
+      place = p.place;
+      value = p.written.value;
+      name = p.written.of;
+      found = p.written.found;
+    } };
 }
 
 impl<T> fmt::Debug for Placed<T> {
@@ -31,14 +36,14 @@ impl<T> fmt::Debug for Placed<T> {
 }
 
 impl<T> Placed<T> {
-    /// The cell's place in its block.
+    /// Returns the cell's place in its block.
     pub fn place(&self) -> u64
         ensures { result ≡ self.now.place }
     {
         self.place
     }
 
-    /// The token once more.
+    /// Duplicates the token.
     pub fn again(&self) -> Placed<T>
         ensures { result ≡ self.now }
     {

@@ -3,7 +3,7 @@ use crate::block::begun::Begun;
 use crate::block::placed::Placed;
 use crate::block::spoilt::Spoilt;
 
-/// What stood in a cell, where a call did not get it.
+/// What a call found in a cell that it did not get.
 #[derive(Debug, Drop)]
 pub enum Found<T> {
     /// Nothing: nobody began it.

@@ -5,7 +5,7 @@ use crate::slot::steps::Crack;
 use std::fmt;
 use std::marker::Model;
 
-/// Shows that the cell at a place was once broken. It has no bytes beside its place.
+/// Evidence that the cell at a place was once broken. It has no bytes except its place.
 #[derive(Drop)]
 pub struct Spoilt {
     pub(crate) place: u64,
@@ -29,14 +29,14 @@ impl fmt::Debug for Spoilt {
 }
 
 impl Spoilt {
-    /// The cell's place in its block.
+    /// Returns the cell's place in its block.
     pub fn place(&self) -> u64
         ensures { result ≡ self.now.place }
     {
         self.place
     }
 
-    /// The token once more.
+    /// Duplicates the token.
     pub fn again(&self) -> Spoilt
         ensures { result ≡ self.now }
     {

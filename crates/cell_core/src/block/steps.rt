@@ -14,7 +14,7 @@ use std::alloc::{AllocError, Allocator};
 use std::marker::{Model, PhantomData};
 use std::mem::{align_of, size_of};
 
-// Where a row lies. It owns nothing.
+// The address of a row. It owns nothing.
 pub(crate) struct Link<T> {
     pub(crate) ptr: *mut Slot<T>,
     marker: PhantomData<T>,
@@ -58,10 +58,15 @@ fn cell_size<T>() -> usize
     size_of::<Slot<T>>()
 }
 
+// Returns whether `len` cells take fewer than 2^63 bytes.
+#[tactic(auto, using(crate::proofs::LaidMade::bytes_fit))]
 fn fits<T>(len: usize) -> bool
     ensures { result ≡ true → FitsMemory T.row len }
 {
-    cell_size::<T>() < 1 << 23 && len < 1 << 40
+    match len.checked_mul(cell_size::<T>()) {
+        Some(bytes) => bytes < 1 << 63,
+        None => false,
+    }
 }
 
 impl<T, A: Allocator> Laid<T, A> {
@@ -84,7 +89,7 @@ impl<T, A: Allocator> Laid<T, A> {
         }
     }
 
-    // Room for `len` cells. It refuses 2^40 cells or more, and a cell of 8 MiB or more.
+    // Requests room for `len` cells. It refuses 2^63 bytes or more, which no allocator can give.
     pub(crate) fn reserve(alloc: &A, len: usize) -> Result<(Link<T>, Laid<T, A>), AllocError>
         ensures { IfOk result (λ l. (l.1.heap ≡ alloc.now) × IsLinked l.1.at l.0.ptr
             × (l.1.cells ≡ []) × (l.1.left ≡ len)) }
@@ -134,7 +139,8 @@ impl<T, A: Allocator> Laid<T, A> {
         }
     }
 
-    // The value of the cell at an index, for whoever shows that there is one. The cell is empty then, and has new names.
+    // Moves out the value of the cell at an index, by evidence that it has one. The cell is then empty and
+    // has fresh names.
     pub(crate) fn take_written(&mut self, link: Link<T>, index: usize, written: &Written<T>) -> T
         requires { IsLinked self.old.at link.ptr × (index < length self.old.cells)
             × (written.now.of ≡ (cell_in self.old.cells index).value) }

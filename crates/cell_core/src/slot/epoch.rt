@@ -1,4 +1,5 @@
-// A time in which the cells that an exclusive owner broke stay broken. It is a lifetime of the logic, and has no bytes.
+// A period: until it ends, the cells that an exclusive owner broke stay broken. It is a lifetime of the
+// logic, and has no bytes.
 ghost use Rattle.std.specs.Prelude.{◌≡◌, ℕ, [], ◌∷◌};
 ghost use base.Fraction.{full_share};
 ghost use base.Fml.{flft, fdead};
@@ -7,7 +8,7 @@ ghost use denote.Sharing.{said};
 
 use std::marker::{Model, PhantomData};
 
-// The whole of the lifetime's token: who has it may end the lifetime.
+// The whole of the lifetime's token, which is the right to end the lifetime.
 pub(crate) struct Epoch {
     marker: PhantomData<u8>,
     pub(crate) ghost of: { ℕ },
@@ -19,7 +20,7 @@ impl Model for Epoch {
     ghost also_shares = { λ e _ κ. before κ (e.of ∷ []) };
 }
 
-// That the lifetime has ended.
+// Evidence that the lifetime has ended.
 pub(crate) struct Ended {
     marker: PhantomData<u8>,
     pub(crate) ghost of: { ℕ },

@@ -7,7 +7,7 @@ ghost use Rattle.cell_core.specs.Member.{MemberView, member_coded, member, membe
 use crate::slot::steps::Written;
 use std::marker::{Model, PhantomData};
 
-// That a cell has its value, or that its former name never gets one.
+// Evidence that a cell has its value, or that its former name never gets one.
 pub(crate) struct Member<T> {
     pub(crate) marker: PhantomData<T>,
     pub(crate) ghost of: { MemberView T } by { member_coded T.code },
@@ -47,7 +47,7 @@ impl<T> Member<T> {
         }
     }
 
-    // What is known by a name is what its token says. It tells a proof so.
+    // Shows a proof that what is known by a name is what the name's token says.
     pub(crate) fn agrees(&self, written: &Written<T>)
         ensures { self.now.of.name ≡ written.now.of → self.now.of.value ≡ Some written.now.value }
     {}
@@ -96,7 +96,7 @@ impl<T> Row<T> {
         }
     }
 
-    // What is known of the cell at an index is this, from now on.
+    // Replaces what is known of the cell at an index.
     pub(crate) fn with(self, index: u64, member: &Member<T>) -> Row<T>
         ensures { result.of ≡ slice_set self.of index member.now.of }
     {

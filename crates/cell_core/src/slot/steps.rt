@@ -1,6 +1,6 @@
-// The raw steps on one cell, each a few lines round one atomic step.
-// The word is 0 where the cell is empty, 1 while one thread has it, 2 where it is filled, 3 where it is broken, and 4
-// where an owner broke it and its epoch may still last.
+// The raw steps on one cell, each a few lines around one atomic step. The word is 0 if the cell is empty, 1
+// while one thread has it, 2 if it is filled, 3 if it is broken, and 4 if an owner broke it and its epoch may
+// still last.
 ghost use Rattle.std.specs.Prelude.{◌≡◌, ◌≢◌, ℕ, ◌<◌, [], ◌∷◌, Option};
 ghost use base.Fml.{ftrue, ffalse};
 ghost use denote.Sharing.{said};
@@ -33,7 +33,7 @@ impl<T> Move for Slot<T> {
     ghost own_val = { λ n vs. ffalse };
 }
 
-// What an exchange from the word `sought` to busy gained, where it found the word `found`. It must be spent.
+// What an exchange from the word `sought` to busy gained when it found the word `found`. It must be spent.
 pub(crate) struct Claim<'a, T> {
     slot: *const Slot<T>,
     marker: PhantomData<&'a T>,
@@ -58,11 +58,13 @@ impl<T> Model for Sight<T> {
     ghost also_owns = { λ s. sighted T.row s.of s.found s.value };
 }
 
-// What shows that a cell holds a value, for good. It has no bytes.
+// Shows that a cell holds a value. It has no bytes. The writer's own token knows the word that its exchange
+// found.
 pub(crate) struct Written<T> {
     pub(crate) marker: PhantomData<T>,
     pub(crate) ghost of: { ℕ },
     pub(crate) ghost value: { T },
+    pub(crate) ghost found: { ℕ },
 }
 
 impl<T> Model for Written<T> {
@@ -71,7 +73,7 @@ impl<T> Model for Written<T> {
     ghost also_shares = { λ w _ κ. said (written T.row w.of w.value) κ };
 }
 
-// What shows that a cell was once broken. It has no bytes.
+// Evidence that a cell was once broken. It has no bytes.
 pub(crate) struct Crack {
     marker: PhantomData<u8>,
     pub(crate) ghost of: { ℕ },
@@ -118,7 +120,7 @@ impl<T> Slot<T> {
         (found, claim)
     }
 
-    // The same of one that an owner broke, for whoever shows that the epoch has ended.
+    // Takes a cell that an owner broke, by evidence that the epoch has ended.
     pub(crate) fn reopen(&self, member: &Member<T>, ended: &Ended) -> (u64, Claim<'_, T>)
         requires { HasNames self.now member.now.of.value member.now.of.name member.now.of.epoch
             × IsEpochOf member.now.of.value member.now.of.epoch (ended.now.of ∷ []) }
@@ -144,20 +146,20 @@ impl<T> Slot<T> {
         (found, sight)
     }
 
-    // The value, for whoever shows that there is one.
+    // Returns the value, by evidence that there is one.
     pub(crate) fn value<'a>(&'a self, written: &Written<T>) -> &'a T
         requires { written.now.of ≡ self.now.value }
         ensures { result.now ≡ written.now.value }
     {
         let slot = self as *const Slot<T>;
         unsafe {
-            // The word is 2. The load is the step at which the proof finds the shared value.
+            // The word is 2. At this load the proof finds the shared value.
             raw::load::<Brand>(&raw const (*slot).state, SeqCst);
             &(*slot).room
         }
     }
 
-    // The word, and what it shows, for whoever knows of the cell.
+    // Loads the word, by what is known of the cell.
     pub(crate) fn word(&self, member: &Member<T>) -> (u64, Sight<T>)
         requires { HasNames self.now member.now.of.value member.now.of.name member.now.of.epoch }
         ensures { (result.1.of ≡ self.now) × (result.1.found ≡ result.0)
@@ -170,7 +172,7 @@ impl<T> Slot<T> {
         (found, sight)
     }
 
-    // The word, for whoever shows besides that the epoch lasts.
+    // Loads the word, by evidence that the epoch lasts.
     pub(crate) fn word_in(&self, member: &Member<T>, epoch: &Epoch) -> u64
         requires { HasNames self.now member.now.of.value member.now.of.name member.now.of.epoch
             × IsEpochOf member.now.of.value member.now.of.epoch (epoch.now.of ∷ []) }
@@ -184,7 +186,7 @@ impl<'a, T> Claim<'a, T> {
     // Writes the value and then the word 2.
     pub(crate) fn fill(self, value: T) -> Written<T>
         requires { self.found ≡ self.sought }
-        ensures { (result.of ≡ self.entry.of.value) × (result.value ≡ value) }
+        ensures { (result.of ≡ self.entry.of.value) × (result.value ≡ value) × (result.found ≡ self.entry.found) }
     {
         let Claim { slot, marker: _ } = self;
         unsafe { (&raw const (*slot).room as *mut T).write(value) };
@@ -273,14 +275,14 @@ impl<T> Sight<T> {
 
 impl<T> Written<T> {
     pub(crate) fn again(&self) -> Written<T>
-        ensures { (result.of ≡ self.now.of) × (result.value ≡ self.now.value) }
+        ensures { (result.of ≡ self.now.of) × (result.value ≡ self.now.value) × (result.found ≡ self.now.found) }
     {
         Written {
             marker: PhantomData,
         }
     }
 
-    // A cell holds one value. It tells a proof so.
+    // Shows a proof that a cell holds one value.
     pub(crate) fn agrees(&self, other: &Written<T>)
         requires { self.now.of ≡ other.now.of }
         ensures { self.now.value ≡ other.now.value }

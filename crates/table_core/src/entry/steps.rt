@@ -40,7 +40,7 @@ impl<B: Measured> Move for Entry<B> {
         (λ p. Fields.own_val (record { word = atomic_ptr_holding p; alloc = e.0 }) vs) };
 }
 
-// What was seen of an entry: nothing yet, or its block for good. It has no bytes.
+// What was seen of an entry: nothing yet, or the block that it always has from then on. It has no bytes.
 pub(crate) struct Sight<B> {
     marker: PhantomData<B>,
     pub(crate) ghost of: { ℕ },
@@ -126,7 +126,7 @@ impl<B: Measured> Entry<B> {
             × (other.new ≡ other.old) }
     {}
 
-    // The pointer of a box, beside it.
+    // Takes the pointer of a box out.
     fn pointer(block: Loose<B, Global>) -> (*mut B, Loose<B, Global>)
         ensures { (result.0 ≡ block.at) × (result.1.at ≡ block.at) × (result.1.value ≡ block.value) }
     {
@@ -193,7 +193,7 @@ impl<B: Measured + Drop> Entry<B> {
         Entry::full(AtomicPtr::new(at), block)
     }
 
-    // The block, for whoever has the whole entry: for a sight that knows a block, that one.
+    // Takes the block out of an entry that the caller has whole: the sight's block, if it knows one.
     pub(crate) fn into_box(self, sight: &Sight<B>) -> Option<Box<B>>
         requires { sight.now.of ≡ name_of self }
         ensures length { IfSome result (λ b. B.measure b.value ≡ length_of self) }
@@ -222,7 +222,7 @@ impl<B> Sight<B> {
 }
 
 impl<T> Sight<Block<T>> {
-    // The same sight once more. What is known of an entry says nothing of the type of the values.
+    // Duplicates the sight. What is known of an entry says nothing of the type of the values.
     pub(crate) fn again<U>(&self) -> Sight<Block<U>>
         ensures { (result.of ≡ self.now.of) × (result.known ≡ self.now.known) }
     {

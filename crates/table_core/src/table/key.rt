@@ -7,8 +7,8 @@ use seg_core::Layout;
 use std::fmt;
 use std::marker::Model;
 
-/// Shows that an entry is set, for good. Beside the entry's number and the layout it has no bytes, and it says nothing of the type
-/// of the values.
+/// Evidence that an entry is set, and stays so. It has no bytes except the entry's number and the layout, and
+/// says nothing of the type of the values.
 #[derive(Drop)]
 pub struct Key {
     pub(crate) layout: Layout,
@@ -38,7 +38,7 @@ impl fmt::Debug for Key {
 }
 
 impl Key {
-    /// The entry's number.
+    /// Returns the entry's number.
     pub fn entry(&self) -> u32
         ensures { result ≡ self.now.entry }
     {
@@ -46,7 +46,7 @@ impl Key {
         *entry as u32
     }
 
-    /// How the places are cut into segments.
+    /// Returns how the places are divided into segments.
     pub fn layout(&self) -> Layout
         ensures { result ≡ self.now.layout }
     {
@@ -54,7 +54,7 @@ impl Key {
         *layout
     }
 
-    /// Two keys with one name are of one block, whatever became of its entry since. It tells a proof so.
+    /// Shows a proof that two keys of one name have one block, whatever became of its entry since.
     pub fn agree(&self, other: &Key)
         requires { self.now.name ≡ other.now.name }
         ensures { self.now.block ≡ other.now.block }
@@ -62,7 +62,7 @@ impl Key {
         self.sight.agrees(&other.sight);
     }
 
-    /// The key once more.
+    /// Duplicates the key.
     pub fn again(&self) -> Key
         ensures { result ≡ self.now }
     {

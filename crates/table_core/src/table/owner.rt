@@ -1,5 +1,5 @@
-// What an exclusive owner does with the blocks.
-ghost use Rattle.std.specs.Prelude.{◌≡◌, ◌<◌, None, slice_index, MatchOption, IfSome, IsTrue};
+// Calls of an exclusive owner of the blocks.
+ghost use Rattle.std.specs.Prelude.{◌≡◌, ◌≢◌, ◌<◌, Some, None, slice_index, MatchOption, IfSome, IsSome, IsTrue};
 ghost use Rattle.table_core.specs.Entry.{Agrees};
 ghost use Rattle.table_core.specs.Table.{IsBlockOf, IsKeyIn, IsKeyOf, KeepsOtherEntries, RenewsEntry};
 ghost use Rattle.seg_core.specs.Segment.{segment_count};
@@ -18,10 +18,19 @@ pub(crate) struct Lent<T> {
     ghost within: { entry < 40 },
 }
 
-// Whether the block of the entry is out, and as long as its segment.
+// An entry that is known to be set.
+#[derive(Drop)]
+pub(crate) struct Held {
+    pub(crate) entry: u32,
+    pub(crate) sight: Sight<Block<()>>,
+    ghost set: { sight.known ≢ None },
+}
+
+// Tests whether the entry's block is lent, and as long as its segment.
 fn is_out<T>(lent: &Option<Lent<T>>, layout: Layout, k: u32) -> bool
     requires { k < segment_count layout }
-    ensures { IsTrue result → IfSome lent.now (λ l. IsBlockOf layout k l.block.value) }
+    ensures length { IsTrue result → IfSome lent.now (λ l. IsBlockOf layout k l.block.value) }
+    ensures some { IsTrue result → IsSome lent.now }
 {
     match lent {
         Some(lent) => lent.entry == k && lent.block.len() == layout.len(k),
@@ -33,8 +42,8 @@ impl<T: Drop> Table<T> {
     ghost use Rattle.std.specs.Borrow.{sem};
     ghost use Rattle.table_core.specs.Lending.{LendsBlock};
 
-    /// Puts the block that `block_mut` lent back into its entry, if it is still as long as the segment, and drops it if
-    /// it is not. The other exclusive calls do so too.
+    /// Puts the block that `block_mut` lent back into its entry if it is still as long as the segment, and
+    /// drops it otherwise. The other exclusive calls do so too.
     pub fn put_back(&mut self)
         ensures layout { self.new.layout ≡ self.old.layout }
         ensures names { self.new.names ≡ self.old.names }
@@ -62,9 +71,22 @@ impl<T: Drop> Table<T> {
         ensures block { MatchOption result (sight.now.known ≡ None) (λ block. Agrees sight.now.known block.value) }
     {
         self.put_back();
+        self.held = None;
         let mut new = empty_entry(self.alloc, self.layout, k);
         new.rename(&mut self.entries[k as usize]);
         replace(&mut self.entries[k as usize], new).into_box(sight)
+    }
+
+    // Returns a sight of the entry. After `holds_now` it knows the entry's block.
+    fn sight(&self, k: u32) -> Sight<Block<T>>
+        requires { k < segment_count self.now.layout }
+        ensures of { slice_index self.now.names k ≡ result.of }
+        ensures known { self.now.held ≡ Some k → result.known ≢ None }
+    {
+        match &self.held {
+            Some(held) if held.entry == k => held.sight.again(),
+            _ => self.entries[k as usize].sight(),
+        }
     }
 
     // The block of the entry, taken out of it or out before.
@@ -72,24 +94,57 @@ impl<T: Drop> Table<T> {
         requires { k < segment_count self.old.layout }
         ensures layout { self.new.layout ≡ self.old.layout }
         ensures others { KeepsOtherEntries self.old self.new k }
+        ensures there { self.old.held ≡ Some k → IsSome result }
         ensures length { IfSome result (λ l. IsBlockOf self.old.layout k l.block.value) }
     {
         if is_out(&self.lent, self.layout, k) {
             return self.lent.take();
         }
-        let sight = self.entries[k as usize].sight();
+        let sight = self.sight(k);
         match self.take_out(k, &sight) {
             Some(block) => Some(Lent { entry: k, block }),
             None => None,
         }
     }
 
-    /// The block of the entry, if it is set. The entry is a new one after it, and shows its block to shared calls only
-    /// from the next exclusive call on.
+    /// Returns the key of the entry if it is set. It puts back what `block_mut` lent, and changes nothing else.
+    pub fn key_now(&mut self, k: u32) -> Option<Key>
+        requires { k < segment_count self.old.layout }
+        ensures key { IfSome result (λ key. IsKeyIn self.new key × (key.entry ≡ k)) }
+        ensures length { IfSome result (λ key. IsBlockOf self.old.layout k key.block) }
+        ensures layout { self.new.layout ≡ self.old.layout }
+        ensures names { self.new.names ≡ self.old.names }
+        ensures back { self.new.lent ≡ None }
+    {
+        self.put_back();
+        match self.scout_key(k) {
+            Some((_, key)) => Some(key),
+            None => None,
+        }
+    }
+
+    /// Records that the key's entry is set: `block_mut` then lends its block, unless another call changes an entry
+    /// first.
+    pub fn holds_now(&mut self, key: &Key)
+        requires { IsKeyIn self.old key.now }
+        ensures held { self.new.held ≡ Some key.now.entry }
+        ensures layout { self.new.layout ≡ self.old.layout }
+        ensures names { self.new.names ≡ self.old.names }
+        ensures lent { self.new.lent ≡ self.old.lent }
+    {
+        self.held = Some(Held {
+            entry: key.entry(),
+            sight: key.sight.again(),
+        });
+    }
+
+    /// Lends the entry's block if it is set. The entry then has a fresh name, and shows its block to shared
+    /// calls only from the next exclusive call on.
     pub fn block_mut(&mut self, k: u32) -> Option<&mut Block<T>>
         requires { k < segment_count self.old.layout }
         ensures* others { sem 𝓛 (LendsBlock T.row self.entry k result) }
         ensures length { IfSome result (λ block. IsBlockOf self.old.layout k block.now) }
+        ensures there { self.old.held ≡ Some k → IsSome result }
     {
         self.lent = self.lend(k);
         match &mut self.lent {
@@ -98,7 +153,8 @@ impl<T: Drop> Table<T> {
         }
     }
 
-    /// The key's block, taken out of its entry, which is a new one after it, and not set. It takes no memory.
+    /// Takes the key's block out of its entry, which is then not set and has a fresh name. It takes no
+    /// memory.
     pub fn detach(&mut self, key: &Key) -> Box<Block<T>>
         requires { IsKeyIn self.old key.now }
         ensures block { result.value ≡ key.now.block }
@@ -115,7 +171,8 @@ impl<T: Drop> Table<T> {
         }
     }
 
-    /// The entry is set to the block, and this is its key. A block that it was set to before is dropped. It takes no memory.
+    /// Sets the entry to the block and returns the entry's key. A block that it was set to before is dropped.
+    /// It takes no memory.
     #[tactic(auto, using(crate::proofs::Names::names_kept, crate::proofs::Names::name_there))]
     pub fn attach(&mut self, k: u32, block: Box<Block<T>>) -> Key
         requires within { k < segment_count self.old.layout }
@@ -126,6 +183,7 @@ impl<T: Drop> Table<T> {
         ensures lent { self.new.lent ≡ self.old.lent }
     {
         let (entry, sight) = Entry::filled(block);
+        self.held = None;
         self.entries[k as usize] = entry;
         Key {
             layout: self.layout,
@@ -134,7 +192,7 @@ impl<T: Drop> Table<T> {
         }
     }
 
-    /// The entry is a new one after it, and not set; its block is dropped.
+    /// Drops the entry's block. The entry is then not set and has a fresh name.
     pub fn give_up(&mut self, k: u32)
         requires { k < segment_count self.old.layout }
         ensures layout { self.new.layout ≡ self.old.layout }

@@ -78,8 +78,8 @@ fill_spec 𝓤 𝓛 𝓜 𝓡 wired T Al L _ ga da dd _ _ =
     use1 𝓛 (‵ (fat full_share (bare (layout T)) b i vy)) (𝓛.laws.at_raw full_share (layout T) b i vy) $ move ! (0 ∷ 10 ∷ []) $ gather m ! x vy b i $
     move ! (2 ∷ []) $ fsplit ! $ fsplit ! $ move ! (1 ∷ []) $ drop ! $ move ! (1 ∷ []) $ drop ! $ move ! (0 ∷ 2 ∷ 1 ∷ []) $
     use3 𝓛 (later (‵ (parts.Refilled 𝓛 R token γ x b e))) (parts.refilled 𝓛 R token γ x b e r.2) $ await ! tt $ fpick ! (λ γ'. fsplit ! $ fpick ! (λ apart. drop ! $ fsplit ! $
-    let made : W.Denot = record { marker = record {}; of = γ'.value; value = x } in
-    move ! (1 ∷ []) $ use1 𝓛 (‵ (W.own_val made (token_val ∷ []))) (written_made 𝓛 R γ'.value x) $ sets ! (agg ! (no_more !)) refl (tt, tt) $ sets ! (agg ! (and_then ! (get ! refl) (no_more !))) refl (tt, (tt, tt)) $
+    let made : W.Denot = record { marker = record {}; of = γ'.value; value = x; found = 0 } in
+    move ! (1 ∷ []) $ use1 𝓛 (‵ (W.own_val made (token_val ∷ []))) (written_made 𝓛 R γ'.value x 0) $ sets ! (agg ! (no_more !)) refl (tt, tt) $ sets ! (agg ! (and_then ! (get ! refl) (no_more !))) refl (tt, (tt, tt)) $
     move ! (1 ∷ 2 ∷ 0 ∷ []) $
     let h' : Lo.Denot = record { marker = h.marker; heap = h.heap; at = p; cells = set cs j γ'; left = h.left } in
     let there : cell_in h'.cells j ≡ γ' = get_or-set_same cs j γ' (record { value = 0; breach = 0; epoch = [] }) asked.1 in

@@ -62,7 +62,7 @@ free_spec 𝓤 𝓛 𝓜 𝓡 wired T Al L LA ga da dd met _ =
     rewrite ! 0 (λ (u : Al.Denot × Ptr). ‵ (laid R (ga.dealloc_token u.0) u.1 h.cells h.left)) (λ i. (asked.0 i, asked.1 i)) refl $
     use1 𝓛 (‵ (laid R token p [] (length h.cells + h.left))) (parts.forgotten T L 𝓛 token p h.cells h.left) $ rewrite ! 0 (λ (m : ℕ). ‵ (laid R token p [] m)) asked.2 refl $ fsplit ! $ fpick ! (λ so. fpack ! (InBlock p × FitsMemory R (0 + n)) (λ _. ftrue) so $ fjoin ! $
     rewrite ! 0 (λ (u : Ptr). ‵ (laid R token u [] n)) (at_block p so.0) refl $
-    use1 𝓛 (given (FitsMemory R n) (‵ (froom τ b o) ⊛ ‵ (token τ p'))) (parts.gathers 𝓛 R token b o n) $ learn ! (λ fits. let small : s < 2 ^ 64 = (let x = fits.1 in omega arith) in split ! $
+    use1 𝓛 (given (FitsMemory R n) (‵ (froom τ b o) ⊛ ‵ (token τ p'))) (parts.gathers 𝓛 R token b o n) $ learn ! (λ fits. let small : s < 2 ^ 64 = (let x : s < 2 ^ 63 = fits in omega arith) in split ! $
     suffices ! (Run (us p')) (subst (λ (u : Ptr). ent 𝓤 (Run (us p')) (Run (us u))) (sym (at_block p so.0)) (id⊢ 𝓤 (Run (us p')))) $
     enter ! 𝓣.C 𝓣.Λ fn (us p') Post $ alloc_all ! (λ l. pass_all ! refl ((tt, (tt, tt)), ((tt, tt), (pointer_good p', ((tt, record { fits = are.1.1.1.0.1 }), tt)))) $ let Ev = env fn.locals l in first ! $ blocks ! $
     sets ! (of_opd ! (get_in ! (fld ! refl (stop !)) (sub ! 0 refl (all_of_it !)))) refl (tt, tt) $

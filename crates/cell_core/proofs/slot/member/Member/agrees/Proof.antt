@@ -1,4 +1,4 @@
--- What is known by the name of a token is what the token says.
+-- Knowledge by the name of a token agrees with the token.
 use Rattle.std.proofs.Common.{◌≡◌, ℕ, List, [], ◌∷◌, refl, Some}
 use mir.Syntax.{a_type, named}
 use mir.Val.{Val, vunit, vptr}

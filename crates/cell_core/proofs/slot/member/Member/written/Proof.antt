@@ -43,7 +43,7 @@ written_spec 𝓤 𝓛 𝓜 𝓡 wired T L =
     let y : (walk_of 𝓛 En hs c).Ghost = ((κs, qs, bounds, a, (p ∷ [], tt)), gh) in let Post : Val → SProp 𝓤 = (walk_of 𝓛 En hs c).post y in
     qed 𝓛 ((raw (alive 𝓛 En.signature κs qs) ⊛ ‵ (owns (types_at En.signature.params κs) a y.0.4)) ∷ raw (fact 𝓤 _) ∷ raw (fact 𝓤 Asked) ∷ []) ∵ keep ! (2 ∷ 0 ∷ []) $ heard ! Asked (λ asked. split ! $ keep ! (1 ∷ 0 ∷ []) $
     fsplit ! $ fsplit ! $ keep ! (1 ∷ 3 ∷ []) $ unhide ! $ fsplit ! $ drop ! $ use1 𝓛 (‵ (fex R.Denot (Valued 𝓛 R m.value γ))) (valued 𝓛 R m.value γ asked) $ fpick ! (λ x. fsplit ! $ fpick ! (λ is. drop ! $
-    let r : W.Denot = record { marker = record {}; of = γ; value = x } in let Told : Type 0 = (Some x ≡ m.value) × (γ ≡ γ) in use1 𝓛 (‵ (W.own_val r (token_val ∷ []))) (written_made 𝓛 R γ x) $
+    let r : W.Denot = record { marker = record {}; of = γ; value = x; found = 0 } in let Told : Type 0 = (Some x ≡ m.value) × (γ ≡ γ) in use1 𝓛 (‵ (W.own_val r (token_val ∷ []))) (written_made 𝓛 R γ x 0) $
     enter ! 𝓣.C 𝓣.Λ fn (p ∷ []) Post $ alloc_all ! (λ l. pass_all ! refl ((tt, tt), tt) $
     sets ! (agg ! (no_more !)) refl (tt, tt) $ sets ! (agg ! (and_then ! (get ! refl) (no_more !))) refl (tt, (tt, tt)) $
     use0 𝓛 (raw (fact 𝓤 Told)) (fact_i 𝓤 Told (emp 𝓤) (is, refl)) $ nothing ! $ nothing ! $ fjoin ! $

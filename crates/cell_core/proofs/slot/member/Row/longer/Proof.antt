@@ -1,4 +1,4 @@
--- `longer` knows one cell more.
+-- `longer` knows a further cell.
 use Rattle.std.proofs.Common.{◌≡◌, List, [], ◌∷◌, ◌++◌, refl}
 use mir.Syntax.{a_type, named}
 use mir.Val.{Val, vptr}

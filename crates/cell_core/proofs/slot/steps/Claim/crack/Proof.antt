@@ -1,4 +1,4 @@
--- What a lost exchange found is that the cell is broken.
+-- A lost exchange found the cell broken.
 use Rattle.std.proofs.Common.{◌≢◌, ◌<◌, ◌≡◌, [], ◌∷◌, refl}
 use mir.Syntax.{a_type}
 use mir.Val.{Val}

@@ -87,8 +87,8 @@ fill_spec 𝓤 𝓛 𝓜 𝓡 wired T L =
     lands_last ! refl (tt, tt) $ exec ! 𝓣.C 𝓣.Λ Ev (tail (tail (tail fn.body))) (at_ret Ev Post) $
     -- [the store's; T's token; the way back; the rest]
     fsplit ! $ move ! (0 ∷ 3 ∷ []) $ use2 𝓛 (later (‵ (flft β q))) (apply∗ 𝓤 (A.lft α s) (H.⇛ (A.lft β q))) $ await ! tt $ move ! (2 ∷ 3 ∷ []) $ join ! $ move ! (1 ∷ 0 ∷ []) $ join ! $ move ! (1 ∷ []) $
-    let made : S.Denot = record { marker = record {}; of = γ.value; value = x } in let Told : Type 0 = (γ.value ≡ γ.value) × (x ≡ x) in
-    use1 𝓛 (‵ (S.own_val made (token_val ∷ []))) (written_made 𝓛 R γ.value x) $
+    let made : S.Denot = record { marker = record {}; of = γ.value; value = x; found = h.found } in let Told : Type 0 = (γ.value ≡ γ.value) × (x ≡ x) × (h.found ≡ h.found) in
+    use1 𝓛 (‵ (S.own_val made (token_val ∷ []))) (written_made 𝓛 R γ.value x h.found) $
     sets ! (agg ! (no_more !)) refl (tt, tt) $ sets ! (agg ! (and_then ! (get ! refl) (no_more !))) refl (tt, (tt, tt)) $
-    use0 𝓛 (raw (fact 𝓤 Told)) (fact_i 𝓤 Told (emp 𝓤) (refl, refl)) $ nothing ! $ nothing ! $ fjoin ! $ nothing ! $ fjoin ! $
+    use0 𝓛 (raw (fact 𝓤 Told)) (fact_i 𝓤 Told (emp 𝓤) (refl, refl, refl)) $ nothing ! $ nothing ! $ fjoin ! $ nothing ! $ fjoin ! $
     returns ! (look_at ! 0 refl) $ free_all ! refl $ keep ! (3 ∷ 0 ∷ 2 ∷ 1 ∷ []) $ by ! (leaves 𝓛 En hs c y token_val made (tt, (tt, tt)) (tt, (tt, tt)))))))))))))))

@@ -1,4 +1,4 @@
--- What a lost exchange found is a value.
+-- A lost exchange found a value.
 use Rattle.std.proofs.Common.{◌≢◌, ◌≡◌, ℕ, [], ◌∷◌, refl}
 use mir.Syntax.{a_type}
 use mir.Val.{Val}
@@ -43,7 +43,7 @@ written_spec 𝓤 𝓛 𝓜 𝓡 wired T L =
     keep ! (2 ∷ 0 ∷ []) $ heard ! Asked (λ asked. split ! $ move ! (1 ∷ []) $ fsplit ! $ fsplit ! $ keep ! (1 ∷ 3 ∷ []) $
     use1 𝓛 (given (InBlock p) (‵ (claimed R γ β p h.sought h.found))) (fact_use 𝓤 _ (claim_placed 𝓛 R γ β p h.sought h.found) (guard_i 𝓤 (InBlock p) (sem 𝓛 (claimed R γ β p h.sought h.found)))) $ learn ! (λ inb.
     use1 𝓛 (‵ (sights R γ h.found)) (claim_shows 𝓛 R γ β p h.sought h.found asked.1) $ fpick ! (λ v. rewrite ! 0 (λ (k : ℕ). ‵ (sighted R γ k v)) asked.0 refl $ use1 𝓛 (‵ (fex R.Denot (written R γ.value))) (known_some 𝓛 R γ v) $ fpick ! (λ x.
-    let r : S.Denot = record { marker = record {}; of = γ.value; value = x } in let Told : Type 0 = γ.value ≡ γ.value in use1 𝓛 (‵ (S.own_val r (token_val ∷ []))) (written_made 𝓛 R γ.value x) $
+    let r : S.Denot = record { marker = record {}; of = γ.value; value = x; found = 0 } in let Told : Type 0 = γ.value ≡ γ.value in use1 𝓛 (‵ (S.own_val r (token_val ∷ []))) (written_made 𝓛 R γ.value x 0) $
     enter ! 𝓣.C 𝓣.Λ fn (pointer_val p ∷ []) Post $ alloc_all ! (λ l. pass_all ! refl (pointer_good p, tt) $
     sets ! (agg ! (no_more !)) refl (tt, tt) $ sets ! (agg ! (and_then ! (get ! refl) (no_more !))) refl (tt, (tt, tt)) $
     use0 𝓛 (raw (fact 𝓤 Told)) (fact_i 𝓤 Told (emp 𝓤) refl) $ nothing ! $ nothing ! $ fjoin ! $

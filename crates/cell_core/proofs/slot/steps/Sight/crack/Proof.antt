@@ -1,4 +1,4 @@
--- What a load of more than 2 showed is that the cell is broken.
+-- A load of more than 2 showed that the cell is broken.
 use Rattle.std.proofs.Common.{◌<◌, ◌≡◌, [], ◌∷◌, refl}
 use mir.Syntax.{a_type}
 use mir.Val.{Val}

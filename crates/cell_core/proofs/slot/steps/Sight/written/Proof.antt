@@ -1,4 +1,4 @@
--- What a load of 2 showed is a value.
+-- A load of 2 showed a value.
 use Rattle.std.proofs.Common.{◌≡◌, ℕ, [], ◌∷◌, refl}
 use mir.Syntax.{a_type}
 use mir.Val.{Val}
@@ -39,7 +39,7 @@ written_spec 𝓤 𝓛 𝓜 𝓡 wired T L =
     let y : (walk_of 𝓛 En hs c).Ghost = ((κs, qs, bounds, a, (token_val ∷ [], tt)), gh) in let Post : Val → SProp 𝓤 = (walk_of 𝓛 En hs c).post y in
     qed 𝓛 ((raw (alive 𝓛 En.signature κs qs) ⊛ ‵ (owns (types_at En.signature.params κs) a y.0.4)) ∷ raw (fact 𝓤 _) ∷ raw (fact 𝓤 (h.found ≡ 2)) ∷ []) ∵ keep ! (2 ∷ 0 ∷ []) $ heard ! (h.found ≡ 2) (λ asked.
     split ! $ move ! (1 ∷ []) $ fsplit ! $ fsplit ! $ keep ! (1 ∷ 3 ∷ []) $ rewrite ! 0 (λ (k : ℕ). ‵ (sighted R γ k h.value)) asked refl $ use1 𝓛 (‵ (fex R.Denot (written R γ.value))) (known_some 𝓛 R γ h.value) $ fpick ! (λ x.
-    let r : S.Denot = record { marker = record {}; of = γ.value; value = x } in let Told : Type 0 = γ.value ≡ γ.value in use1 𝓛 (‵ (S.own_val r (token_val ∷ []))) (written_made 𝓛 R γ.value x) $
+    let r : S.Denot = record { marker = record {}; of = γ.value; value = x; found = 0 } in let Told : Type 0 = γ.value ≡ γ.value in use1 𝓛 (‵ (S.own_val r (token_val ∷ []))) (written_made 𝓛 R γ.value x 0) $
     enter ! 𝓣.C 𝓣.Λ fn (token_val ∷ []) Post $ alloc_all ! (λ l. pass_all ! refl ((tt, (tt, tt)), tt) $
     sets ! (agg ! (no_more !)) refl (tt, tt) $ sets ! (agg ! (and_then ! (get ! refl) (no_more !))) refl (tt, (tt, tt)) $
     use0 𝓛 (raw (fact 𝓤 Told)) (fact_i 𝓤 Told (emp 𝓤) refl) $ nothing ! $ nothing ! $ fjoin ! $

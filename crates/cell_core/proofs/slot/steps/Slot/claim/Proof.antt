@@ -1,4 +1,4 @@
--- `claim` takes the right to write, where it finds the cell empty.
+-- `claim` takes the right to write, if it finds the cell empty.
 use Rattle.std.proofs.Common.{◌≡◌, ℕ, ◌+◌, ◌^◌, List, [], ◌∷◌, ◌++◌, refl, lit<, w64}
 use mir.Syntax.{a_type, named}
 use mir.Val.{Val, vint, vptr, vstruct, vcons, vnil, of_list}

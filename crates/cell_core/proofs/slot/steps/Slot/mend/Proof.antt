@@ -1,4 +1,4 @@
--- `mend` takes the right to write, where it finds the cell broken.
+-- `mend` takes the right to write, if it finds the cell broken.
 use Rattle.std.proofs.Common.{◌≡◌, ℕ, ◌+◌, ◌^◌, List, [], ◌∷◌, ◌++◌, refl, lit<, w64}
 use mir.Syntax.{a_type, named}
 use mir.Val.{Val, vint, vptr, vstruct, vcons, vnil, of_list}

@@ -1,4 +1,4 @@
--- `reopen` takes the right to write, where it finds a cell that an owner broke and whose epoch has ended.
+-- `reopen` takes the right to write, if it finds a cell that an owner broke and the epoch has ended.
 use Rattle.std.proofs.Common.{ℕ, ◌+◌, ◌^◌, List, [], ◌∷◌, refl, lit<, w64, ◌≡◌, ◌++◌}
 use mir.Syntax.{a_type, named}
 use mir.Val.{Val, vint, vptr, vstruct, vcons, vnil, of_list}

@@ -1,4 +1,4 @@
--- `value` lends the room, where a token shows that it holds a value.
+-- `value` lends the room, by a token that shows that it holds a value.
 use Rattle.std.proofs.Common.{◌≡◌, ℕ, ◌+◌, List, [], ◌∷◌, sym, refl, lit<}
 use mir.Syntax.{a_type, named}
 use mir.Val.{Val, vptr}

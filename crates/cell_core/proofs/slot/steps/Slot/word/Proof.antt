@@ -1,4 +1,4 @@
--- `word` loads the word, of a cell of which something is known, and answers what it shows.
+-- `word` loads the word of a cell by what is known of it, and returns what it shows.
 use Rattle.std.proofs.Common.{◌≡◌, ℕ, ◌+◌, ◌^◌, List, [], ◌∷◌, ◌++◌, refl, lit<, w64}
 use mir.Syntax.{a_type, named}
 use mir.Val.{Val, vint, vptr, vstruct, vcons, vnil, of_list}

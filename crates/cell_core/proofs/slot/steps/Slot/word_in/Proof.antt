@@ -1,4 +1,4 @@
--- `word_in` loads the word, of a cell of which something is known, while its epoch lasts.
+-- `word_in` loads the word of a cell by what is known of it, while its epoch lasts.
 use Rattle.std.proofs.Common.{ℕ, ◌+◌, ◌^◌, List, [], ◌∷◌, refl, lit<, w64}
 use mir.Syntax.{a_type, named}
 use mir.Val.{Val, vint, vptr}

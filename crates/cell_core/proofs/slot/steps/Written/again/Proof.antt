@@ -35,11 +35,11 @@ again_spec 𝓤 𝓛 𝓜 𝓡 wired T L =
     let self = RefOf (0 ∷ []) tt (plain (λ _. S)) (λ _. tt) in let hs : Stays En.signature.params En.kept = (stay_dropped self yes, tt) in
     proved 𝓛 En hs c 𝓜 𝓡 (Goes-dropped 𝓛 2 self yes (λ κs x f. refl), tt) (#self inst) fn (code.unfolded 𝓤 H 𝓜 𝓡 wired (T, tt))
     (λ κs. (shr_vals, tt)) (λ κs. (shr_Tells (named 0) κs.0 S, tt)) (λ κs qs bounds a gh are.
-    let p : Val = vptr a.0.ref_ptr.0 a.0.ref_ptr.1 in let γ : ℕ = a.0.now.of in let x : T.Denot = a.0.now.value in let r : S.Denot = record { marker = record {}; of = γ; value = x } in let Told : Type 0 = (γ ≡ γ) × (x ≡ x) in
+    let p : Val = vptr a.0.ref_ptr.0 a.0.ref_ptr.1 in let γ : ℕ = a.0.now.of in let x : T.Denot = a.0.now.value in let n : ℕ = a.0.now.found in let r : S.Denot = record { marker = record {}; of = γ; value = x; found = n } in let Told : Type 0 = (γ ≡ γ) × (x ≡ x) × (n ≡ n) in
     let y : (walk_of 𝓛 En hs c).Ghost = ((κs, qs, bounds, a, (p ∷ [], tt)), gh) in let Post : Val → SProp 𝓤 = (walk_of 𝓛 En hs c).post y in
     qed 𝓛 ((raw (alive 𝓛 En.signature κs qs) ⊛ ‵ (owns (types_at En.signature.params κs) a y.0.4)) ∷ raw ((c κs a).requires gh) ∷ []) ∵ split ! $ keep ! (1 ∷ 0 ∷ []) $
-    fsplit ! $ fsplit ! $ keep ! (1 ∷ 3 ∷ []) $ unhide ! $ fsplit ! $ drop ! $ use1 𝓛 (‵ (S.own_val r (token_val ∷ []))) (written_made 𝓛 R γ x) $
+    fsplit ! $ fsplit ! $ keep ! (1 ∷ 3 ∷ []) $ unhide ! $ fsplit ! $ drop ! $ use1 𝓛 (‵ (S.own_val r (token_val ∷ []))) (written_made 𝓛 R γ x n) $
     enter ! 𝓣.C 𝓣.Λ fn (p ∷ []) Post $ alloc_all ! (λ l. pass_all ! refl ((tt, tt), tt) $
     sets ! (agg ! (no_more !)) refl (tt, tt) $ sets ! (agg ! (and_then ! (get ! refl) (no_more !))) refl (tt, (tt, tt)) $
-    use0 𝓛 (raw (fact 𝓤 Told)) (fact_i 𝓤 Told (emp 𝓤) (refl, refl)) $ nothing ! $ nothing ! $ fjoin ! $
+    use0 𝓛 (raw (fact 𝓤 Told)) (fact_i 𝓤 Told (emp 𝓤) (refl, refl, refl)) $ nothing ! $ nothing ! $ fjoin ! $
     returns ! (look_at ! 0 refl) $ free_all ! refl $ keep ! (3 ∷ 0 ∷ 2 ∷ 1 ∷ []) $ by ! (leaves 𝓛 En hs c y token_val r (tt, tt) (tt, tt))))

@@ -1,4 +1,4 @@
--- `rename` gives the entry a new name beside the other, which is owned meanwhile.
+-- `rename` gives the entry a new name next to the other, which is owned meanwhile.
 use Rattle.std.proofs.Common.{◌≡◌, ◌≢◌, ℕ, List, [], ◌∷◌, ◌++◌, refl, sym, subst}
 use mir.Syntax.{dcons, dnil, a_type}
 use mir.Val.{Val, vptr, vunit}

@@ -1,4 +1,4 @@
--- What a sight knows is known twice, and says nothing of the type of the values.
+-- Knowledge of a sight can be duplicated, and says nothing of the type of the values.
 use Rattle.std.proofs.Common.{◌≡◌, ℕ, [], ◌∷◌, refl}
 use mir.Syntax.{a_type, named}
 use mir.Val.{Val, vptr}

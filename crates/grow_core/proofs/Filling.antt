@@ -7,6 +7,7 @@ use Rattle.std.proofs.lemmas.List.Elements.{All-append}
 use Rattle.claim_core.specs.declared.run.Run.{Run}
 use Rattle.grow_core.specs.Token.{PlacedView}
 use Rattle.grow_core.specs.Vector.{VectorView, IsPlacedOf}
+use Rattle.grow_core.specs.Grown.{IsKeptRun}
 
 -- the run's first places have these values, and these are their tokens
 pub record IsFilled {T : Type 0} (vector : VectorView T) (run : Run) (values : List T) (tokens : List (PlacedView T)) : Type 0 where
@@ -23,9 +24,16 @@ slice_get-push (z ∷ zs) y zero x h = inl h
 slice_get-push (z ∷ zs) y (suc i) x h =
     ⊎_elim (λ left. inl left) (λ right. inr (ap suc right.0, right.1)) (slice_get-push zs y i x h)
 
+pub all_none : {X : Type 0} (P : X → Type 0) → All P []
+all_none P k d below = absurd (omega (arith, below))
+
 all_one : {X : Type 0} (P : X → Type 0) (x : X) → P x → All P (x ∷ [])
 all_one P x p zero d lt = p
 all_one P x p (suc k) d lt = absurd (omega arith)
+
+-- no place is filled yet
+pub filled_none : {T : Type 0} (vector : VectorView T) (run : Run) → IsFilled vector run [] []
+filled_none vector run = record { tokens_of = all_none (IsPlacedOf vector); values_are = refl; places = λ i token h. absurd (cc) }
 
 -- the next place is filled
 pub filled_more : {T : Type 0} (vector : VectorView T) (run : Run) (values : List T) (tokens : List (PlacedView T)) (value : T) (token : PlacedView T)
@@ -45,3 +53,9 @@ filled_more {T} vector run values tokens value token filled of here holds =
 pub filled_self : {T : Type 0} (vector : VectorView T) (run : Run) (values : List T) (tokens : List (PlacedView T))
     → IsFilled vector run values tokens → IsFilled vector run (map (λ token. token.value) tokens) tokens
 filled_self vector run values tokens filled = record { tokens_of = filled.tokens_of; values_are = refl; places = filled.places }
+
+module _ {K T : Type 0} (step : K → PlacedView T → Unit {0} → K → Type 0) (vector : VectorView T) (run : Run) where
+  -- no token was kept of a run without values
+  pub kept_none : (keep : K) (values : List T) → length values ≡ 0 → IsKeptRun step keep keep vector run values
+  kept_none keep [] none = record { tokens = []; kept = refl; of = all_none (IsPlacedOf vector); places = λ i token h. absurd (cc); hold = refl }
+  kept_none keep (x ∷ xs) none = absurd (omega (arith, none))

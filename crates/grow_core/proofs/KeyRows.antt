@@ -1,4 +1,4 @@
--- That a hand has the keys of its own runs is kept by each step.
+-- Each step keeps the fact that a hand has the keys of its own runs.
 use Rattle.std.proofs.Common.{◌≡◌, ℕ, ◌+◌, ◌<◌, ◌≤◌, List, ◌++◌, Option, Some, None, sym, ap, ◌∙◌, subst, ⊎_elim, arith}
 use Rattle.std.specs.Prelude.{IsSome}
 use base.Fml.{Lft}
@@ -65,7 +65,7 @@ pub record Walked (P : ℕ → Type 0) (old now : KeyRow) (n : ℕ) : Type 0 whe
   pub kept : KeepsKeys old now
   pub there : (segment : ℕ) → segment < n → P segment → IsSome (key_at now segment)
 
--- so it is after one segment more
+-- the same holds after a further segment
 pub walked_on : {P : ℕ → Type 0} {old now next : KeyRow} {n : ℕ} → Walked P old now n → n < 40 → KeepsKeys now next
     → (P n → IsSome (key_at next n)) → Walked P old next (n + 1)
 walked_on {P} {old} {now} {next} {n} walked small kept here = record {

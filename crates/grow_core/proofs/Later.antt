@@ -1,4 +1,4 @@
--- What a hand is told holds of it as it was before, when it had seen less.
+-- Facts that a hand learns hold of it as it was before, when it had seen less.
 use Rattle.std.proofs.Common.{◌≡◌, ℕ, ◌+◌, ◌<◌, ◌≤◌, List, [], ◌∷◌, ◌++◌, length, refl, sym, ap, ◌∙◌, subst, arith, append_assoc}
 use Rattle.std.specs.List.{sum}
 use Rattle.std.proofs.lemmas.List.{append-nil}
@@ -22,7 +22,7 @@ more_self a = record { seen = ([], append-nil a.seen); own = record { of = refl;
 pub sees_self : (a : HandView) (size : ℕ) → size ≡ seen_size a → seen_size a ≤ a.of.limit → SeesSize a a size
 sees_self a size is within = record { seen = (more_self a).seen; ends = sym is; within = omega arith; own = (more_self a).own }
 
--- a size that is told is more that is seen
+-- a size that is learned is more that is seen
 pub more_of_size : (a b : HandView) (size : ℕ) → SeesSize a b size → SeesMore a b
 more_of_size a b size s = record { seen = s.seen; own = s.own }
 
@@ -74,30 +74,38 @@ due_after vector n a b (Moved size back) p still due = let below = size_grows a 
 due_after vector n a b (Refused run made cause) p still due = tt
 due_after vector n a b (Taken place found) p still due = tt
 
+-- what a hand with all shares has seen is all that there is
+alone_after : (a b : HandView) → SeesMore a b → (IsWholeHand a → seen_size b ≡ seen_size a) → (place : ℕ)
+    → (IsWholeHand b → place ≡ seen_size b) → IsWholeHand a → place ≡ seen_size a
+alone_after a b more still place alone whole = alone (more.own.shares ∙ whole) ∙ still whole
+
 -- what a refusal leaves of a hand, it leaves of one that had seen less
 pub leaves_after : {T V E : Type 0} (vector : VectorView T) (n : ℕ) (a b c : HandView) (e : GrowError T V E)
-    → SeesMore a b → Leaves vector n b c e → Leaves vector n a c e
-leaves_after vector n a b c (NoMemory back) p l = record { more = more_after a b c p l.more; room = l.room }
-leaves_after vector n a b c (Full size back) p l = size_after a b c size p l
-leaves_after vector n a b c (Moved size back) p l = size_after a b c size p l
-leaves_after vector n a b c (Refused run made cause) p l = record { claimed = adds_after a b c run p l.claimed; all = l.all; first = l.first; fewer = l.fewer; tokens = l.tokens }
-leaves_after vector n a b c (Taken place found) p l =
+    → SeesMore a b → (IsWholeHand a → seen_size b ≡ seen_size a) → Leaves vector n b c e → Leaves vector n a c e
+leaves_after vector n a b c (NoMemory back) p still l = record { more = more_after a b c p l.more; room = l.room }
+leaves_after vector n a b c (Full size back) p still l = size_after a b c size p l
+leaves_after vector n a b c (Moved size back) p still l = size_after a b c size p l
+leaves_after vector n a b c (Refused run made cause) p still l = let below = size_grows a b p in record {
+  claimed = adds_after a b c run p l.claimed;
+  all = l.all;
+  not_below = omega (arith, below, l.not_below);
+  alone = alone_after a b p still run.from l.alone;
+  first = l.first;
+  fewer = l.fewer;
+  tokens = l.tokens;
+}
+leaves_after vector n a b c (Taken place found) p still l =
     record { run = l.run; claimed = adds_after a b c l.run p l.claimed; all = l.all; after = l.after; before = l.before; there = l.there }
 
--- what a refused growth leaves of a hand, it leaves of one that had seen less, where its refusal was due then
+-- what a refused growth leaves of a hand, it leaves of one that had seen less, if its refusal was due then
 pub refuses_after : {T V E : Type 0} (vector : VectorView T) (n : ℕ) (given : V) (a b c : HandView) (e : GrowError T V E)
     → SeesMore a b → (IsWholeHand a → seen_size b ≡ seen_size a) → Refuses vector n given b c e → Refuses vector n given a c e
 refuses_after vector n given a b c e more still r = record {
   some_places = r.some_places;
   due = due_after vector n a b e more still r.due;
-  left = leaves_after vector n a b c e more r.left;
+  left = leaves_after vector n a b c e more still r.left;
   back = r.back;
 }
-
--- what a hand with all shares has seen is all that there is
-alone_after : (a b : HandView) → SeesMore a b → (IsWholeHand a → seen_size b ≡ seen_size a) → (place : ℕ)
-    → (IsWholeHand b → place ≡ seen_size b) → IsWholeHand a → place ≡ seen_size a
-alone_after a b more still place alone whole = alone (more.own.shares ∙ whole) ∙ still whole
 
 module _ {T : Type 0} (vector : VectorView T) (a b c : HandView) (more : SeesMore a b) (still : IsWholeHand a → seen_size b ≡ seen_size a) where
   -- a push won, and so it did by the hand as it was

@@ -1,5 +1,5 @@
--- What a maker has made so far.
-use Rattle.std.proofs.Common.{suc, ◌≡◌, ℕ, ◌+◌, List, [], ◌∷◌, ◌++◌, length, length-append, replicate, map, Result, Ok, Err, IfOk, refl, sym, ap, ◌∙◌, subst, arith}
+-- The values that a maker has made so far.
+use Rattle.std.proofs.Common.{suc, ◌≡◌, ℕ, ◌+◌, ◌<◌, List, [], ◌∷◌, ◌++◌, length, length-append, replicate, map, Result, Ok, Err, IfOk, refl, sym, ap, ◌∙◌, subst, arith}
 use Rattle.std.specs.Prelude.{IfErr}
 use Rattle.std.specs.List.{All}
 use Rattle.std.proofs.lemmas.List.{map-append, length-map}
@@ -14,20 +14,13 @@ use Rattle.grow_core.specs.Token.{PlacedView}
 use Rattle.grow_core.specs.Vector.{VectorView}
 use Rattle.grow_core.specs.Grown.{GrownView, IsGrownOf, values_of}
 use Rattle.grow_core.specs.Growth.{ClaimsNothing}
-use Rattle.grow_core.specs.Making.{Makes, StopsAfter, WonMade, WonClones, IsRefusedBy, IsClaimed}
+use Rattle.grow_core.specs.Making.{Makes, FirstIsForZero, StopsAt, StopsAfter, LeavesMaker, WonMade, WonClones, IsRefusedBy, IsClaimed, StopsIn}
 use Rattle.grow_core.proofs.Stopped.{won_of_claimed}
+use Rattle.grow_core.proofs.Filling.{all_none}
 
 -- the values of tokens
 abbrev pub token_values : {T : Type 0} → List (PlacedView T) → List T
 token_values tokens = map (λ token. token.value) tokens
-
--- a growth that claims nothing was not refused by its maker
-pub refused_by_none : {T V E : Type 0} (P : List T → E → Type 0) (e : GrowError T V E) → ClaimsNothing e → IsRefusedBy P e
-refused_by_none P (NoMemory back) none = tt
-refused_by_none P (Full size back) none = tt
-refused_by_none P (Moved size back) none = tt
-refused_by_none P (Refused run made cause) none = absurd none
-refused_by_none P (Taken place found) none = tt
 
 -- what is said of a refusal may be said in other words
 pub refused_by_map : {T V E : Type 0} (P Q : List T → E → Type 0) (e : GrowError T V E)
@@ -38,12 +31,17 @@ refused_by_map P Q (Moved size back) on it = tt
 refused_by_map P Q (Refused run made cause) on it = on (values_of made) cause it
 refused_by_map P Q (Taken place found) on it = tt
 
+-- the first value is the answer for 0
+pub first_made : {F T E : Type 0} (step : F → ℕ → Result T E → F → Type 0) → FirstIsForZero step
+first_made step maker [] last x made h = absurd (cc)
+first_made step maker (y ∷ ys) last x made h = let same : y ≡ x = cc in (made.0.1, subst (λ z. step maker 0 (Ok z) made.0.1) same made.1.1)
+
 module _ {F T E : Type 0} (step : F → ℕ → Result T E → F → Type 0) (maker : F) where
   -- nothing is made yet
-  pub made_none : (tokens : List (PlacedView T)) → tokens ≡ [] → (last : F) × Makes step maker (token_values tokens) last
-  made_none tokens none = subst (λ ts. (last : F) × Makes step maker (token_values ts) last) (sym none) (maker, refl)
+  pub made_none : (tokens : List (PlacedView T)) → tokens ≡ [] → Makes step maker (token_values tokens) maker
+  made_none tokens none = subst (λ ts. Makes step maker (token_values ts) maker) (sym none) refl
 
-  -- one value more
+  -- a further value
   pub made_push : (values : List T) (last end : F) (x : T) (i : ℕ) → Makes step maker values last → length values ≡ i → step last i (Ok x) end
       → Makes step maker (values ++ x ∷ []) end
   made_push values last end x i made same call =
@@ -61,32 +59,72 @@ module _ {F T E : Type 0} (step : F → ℕ → Result T E → F → Type 0) (ma
       subst (λ vs. Makes step maker vs end) (sym values) (made_push (token_values tokens) last end x i made (length-map tokens V ∙ n) call)
 
   -- the maker refused after the values of these tokens
-  pub stops_after : (tokens : List (PlacedView T)) (last end : F) (cause : E) (i : ℕ)
+  pub stops_at : (tokens : List (PlacedView T)) (last end : F) (cause : E) (i : ℕ)
       → Makes step maker (token_values tokens) last → length tokens ≡ i → step last i (Err cause) end
-      → (values : List T) (why : E) → (values ≡ token_values tokens) × (why ≡ cause) → StopsAfter step maker values why
-  stops_after tokens last end cause i made n call values why is =
-      let V : PlacedView T → T = λ t. t.value in
-      let same : length values ≡ i = ap length is.0 ∙ (length-map tokens V ∙ n) in (
+      → StopsAt step maker (token_values tokens) cause end
+  stops_at tokens last end cause i made n call =
+      let V : PlacedView T → T = λ t. t.value in (
         last,
-        subst (λ vs. Makes step maker vs last) (sym is.0) made,
-        (end, subst (λ k. step last k (Err why) end) (sym same) (subst (λ w. step last i (Err w) end) (sym is.1) call)),
+        made,
+        subst (λ k. step last k (Err cause) end) (sym (length-map tokens V ∙ n)) call,
       )
 
+  -- a maker that refused is left as it was then
+  pub left_by_stop : {V : Type 0} (vector : VectorView T) (run : Run) (made : List T) (why : E) (end : F) (e : GrowError T V E) → StopsIn vector run e
+      → IsRefusedBy (λ values cause. (values ≡ made) × (cause ≡ why)) e → StopsAt step maker made why end → LeavesMaker step maker end e
+  left_by_stop vector run made why end (NoMemory back) s r at = absurd s
+  left_by_stop vector run made why end (Full size back) s r at = absurd s
+  left_by_stop vector run made why end (Moved size back) s r at = absurd s
+  left_by_stop vector run made why end (Refused of grown cause) s r at =
+      subst (λ vs. StopsAt step maker vs cause end) (sym r.0) (subst (λ w. StopsAt step maker made w end) (sym r.1) at)
+  left_by_stop vector run made why end (Taken place found) s r at = tt
+
+  -- a growth that claims nothing asks its maker for nothing
+  pub left_by_none : {V : Type 0} (e : GrowError T V E) → ClaimsNothing e → LeavesMaker step maker maker e
+  left_by_none (NoMemory back) none = refl
+  left_by_none (Full size back) none = refl
+  left_by_none (Moved size back) none = refl
+  left_by_none (Refused run made cause) none = absurd none
+  left_by_none (Taken place found) none = tt
+
+  -- the cause of a refused construction is the last answer of the maker
+  pub cause_of_left : {X V : Type 0} (end : F) (result : Result X (GrowError T V E))
+      → IfErr result (LeavesMaker step maker end) → IfErr result (IsRefusedBy (StopsAfter step maker))
+  cause_of_left end (Ok x) left = tt
+  cause_of_left end (Err (NoMemory back)) left = tt
+  cause_of_left end (Err (Full size back)) left = tt
+  cause_of_left end (Err (Moved size back)) left = tt
+  cause_of_left end (Err (Refused run made cause)) left = (left.0, left.1, (end, left.2))
+  cause_of_left end (Err (Taken place found)) left = tt
+
   -- a run that was claimed and then filled with what the maker made is a growth that won
-  pub won_made : {X : Type 0} (vector : VectorView T) (wanted tokens : ℕ) (old new : HandView) (claimed : Claimed T) (result : Result (GrownView T) X)
+  pub won_made : {X : Type 0} (vector : VectorView T) (wanted tokens : ℕ) (old new : HandView) (claimed : Claimed T) (result : Result (GrownView T) X) (end : F)
       → IsClaimed vector wanted tokens old new claimed
       → IfOk result (λ grown. grown.run ≡ claimed.run) → IfOk result (λ grown. length (values_of grown) ≡ claimed.run.n)
-      → IfOk result (IsGrownOf vector) → IfOk result (λ grown. (last : F) × Makes step maker (values_of grown) last)
+      → IfOk result (IsGrownOf vector) → IfOk result (λ grown. Makes step maker (values_of grown) end)
       → IfOk result (WonMade step maker vector wanted old new)
-  won_made vector wanted room old new claimed (Ok grown) it run n tokens made = record {
+  won_made vector wanted room old new claimed (Ok grown) end it run n tokens made = record {
     won = won_of_claimed vector wanted room old new claimed it (values_of grown) grown (sym it.n ∙ sym n) run tokens refl;
     n = ap (λ (r : Run). r.n) run ∙ it.n;
-    made = made;
+    made = (end, made);
   }
-  won_made vector wanted room old new claimed (Err e) it run n tokens made = tt
+  won_made vector wanted room old new claimed (Err e) end it run n tokens made = tt
 
-all_none : {X : Type 0} (P : X → Type 0) → All P []
-all_none P k d below = absurd (omega (arith, below))
+  -- a run up to a size that was claimed and then filled with what the maker made is a growth up to that size that won
+  pub won_up_to : (vector : VectorView T) (to : ℕ) (old new : HandView) (claimed : Claimed T) (grown : GrownView T) (end : F)
+      → (claimed.run.from + claimed.run.n ≡ to) × (0 < claimed.run.n) × IsClaimed vector claimed.run.n claimed.run.n old new claimed
+      → grown.run ≡ claimed.run → length (values_of grown) ≡ claimed.run.n → IsGrownOf vector grown → Makes step maker (values_of grown) end
+      → (grown.run.from + grown.run.n ≡ to) × (0 < grown.run.n) × WonMade step maker vector grown.run.n old new grown
+  won_up_to vector to old new claimed grown end it run n tokens made =
+      let same_n : grown.run.n ≡ claimed.run.n = ap (λ (r : Run). r.n) run in (
+        ap (λ (r : Run). r.from + r.n) run ∙ it.0,
+        omega (arith, same_n, it.1),
+        record {
+          won = won_of_claimed vector claimed.run.n claimed.run.n old new claimed it.2 (values_of grown) grown (sym n) run tokens refl;
+          n = refl;
+          made = (end, made);
+        },
+      )
 
 -- values that are all the same
 same_all : {X : Type 0} (P : X → Type 0) (given : X) → ((x : X) → P x → x ≡ given) → (xs : List X) → All P xs → xs ≡ replicate (length xs) given

@@ -71,7 +71,7 @@ values_set [] i m = refl
 values_set (h ∷ known) zero m = refl
 values_set (h ∷ known) (suc i) m = ap (λ xs. h.value ∷ xs) (values_set known i m)
 
--- members that are broken for an epoch stay so with one more, with one fewer, and with another one at a place
+-- members that are broken for an epoch stay so when one is added, removed or replaced
 pub shut_more : {T : Type 0} (epoch : Lft) (known : List (MemberView T)) (m : MemberView T) → AreShutIn epoch known → IsShutIn epoch m
     → AreShutIn epoch (known ++ m ∷ [])
 shut_more epoch [] m all is = (is, tt)
@@ -251,6 +251,6 @@ few_below f s n most small below =
     (λ ge. let le = starts_le f (segment_count f) s ge in let all = all_places f most in absurd (omega (arith, le, all)))
     (cases_lt s (segment_count f))
 
--- where the last segment has a member, each one before it has
+-- if the last segment has a member, each one before it has
 pub none_spare : (f s k len : ℕ) → ((0 < s) × (len ≤ segment_start f (s - 1)) → ⊥) → k < s → segment_start f k < len
 none_spare f s k len full below = ⊎_elim (λ lt. lt) (λ ge. absurd (full (omega (arith, below), (let le = starts_le f k (s - 1) (omega (arith, below)) in omega (arith, le, ge))))) (cases_lt (segment_start f k) len)

@@ -22,7 +22,7 @@ use Rattle.grow_core.specs.Closing.{IsClosing, IsKept, IsKeptOf, KeepsValuesBelo
 use Rattle.grow_core.proofs.Places.{value_at, pushed_there, pushed_elsewhere, within_length, kept_at, segment_below, all_places}
 use Rattle.grow_core.proofs.KeyRows.{none_is_none}
 
--- the row has the keys of the first n segments and no other: those of the opened list, where that has them
+-- the row has the keys of the first n segments and no other: those of the opened list, if that has them
 pub record AreFirst (f : ℕ) (names : List ℕ) (opened keys : KeyRow) (n : ℕ) : Type 0 where
   pub rows : length keys ≡ 40
   pub named : AreKeys (f ∷ names) keys
@@ -34,7 +34,7 @@ pub record AreFirst (f : ℕ) (names : List ℕ) (opened keys : KeyRow) (n : ℕ
 refl_some : (key : KeyView) → IsSome (Some key)
 refl_some key = refl
 
--- so it is with one key more
+-- the same holds with an added key
 pub first_more : (f : ℕ) (names : List ℕ) (opened keys : KeyRow) (n : ℕ) (key : KeyView) → AreFirst f names opened keys n → n < 40 → IsKeyAt (f ∷ names) n key
     → IsBlockOf f n key.block → (IsSome (key_at opened n) → Some key ≡ key_at opened n) → AreFirst f names opened (slice_set keys n (Some key)) (n + 1)
 first_more f names opened keys n key are small is long one =
@@ -199,7 +199,7 @@ keys_enough f opened own base size count first there inside has most some few en
     let same : segment_start f count ≡ segment_start f (segment_count f) = ap (segment_start f) (let e : count ≡ segment_count f = omega (arith, high, few) in e) in
     omega (arith, same, all, small)) (cases_lt count (segment_count f))
 
--- where a vector begins to be closed
+-- the state in which a vector begins to be closed
 pub closing_starts : {T : Type 0} (f : ℕ) (mark names : List ℕ) (opened own before again : KeyRow) (row none : List (MemberView T)) (epoch : Lft) (base limit first count size : ℕ)
     → AreWhole f names opened row base limit first → mark ≡ f ∷ names → none ≡ []
     → AreKeys (f ∷ names) before → AreLong f before → HasFirstKeys before count → count ≤ segment_count f

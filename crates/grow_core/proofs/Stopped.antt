@@ -1,7 +1,7 @@
--- What comes of a run that was claimed.
-use Rattle.std.proofs.Common.{◌≡◌, ℕ, ◌+◌, ◌<◌, List, length, refl, sym, ap, ◌∙◌, subst, arith}
+-- The outcome of a run that was claimed.
+use Rattle.std.proofs.Common.{◌≡◌, ℕ, ◌+◌, ◌<◌, ◌≤◌, List, length, refl, sym, ap, ◌∙◌, subst, arith}
 use Rattle.claim_core.specs.declared.run.Run.{Run}
-use Rattle.claim_core.specs.Hand.{HandView, AddsRun, OwnsRun}
+use Rattle.claim_core.specs.Hand.{HandView, AddsRun, OwnsRun, seen_size}
 use Rattle.grow_core.specs.declared.claims.Claimed.{Claimed}
 use Rattle.grow_core.specs.declared.errors.GrowError.{GrowError}
 use Rattle.grow_core.specs.declared.errors.GrowError.TheVariants.{NoMemory, Full, Moved, Refused, Taken}
@@ -41,6 +41,8 @@ module _ {T : Type 0} (vector : VectorView T) (wanted tokens : ℕ) (old new : H
         left = record {
           claimed = subst (λ (r : Run). AddsRun old new r) (sym is) (it.run.claimed some);
           all = same_n;
+          not_below = subst (λ (r : Run). seen_size old ≤ r.from) (sym is) it.not_below;
+          alone = λ whole. ap (λ (r : Run). r.from) is ∙ it.alone whole;
           first = s.1 ∙ ap (λ (r : Run). r.from) (sym is);
           fewer = omega (arith, s.2, it.n);
           tokens = s.3;
@@ -77,6 +79,8 @@ refused_up_to {T} {V} {E} vector to old new claimed (Refused run made cause) it 
         record {
           claimed = subst (λ (r : Run). AddsRun old new r) (sym is) (it.2.run.claimed it.1);
           all = refl;
+          not_below = subst (λ (r : Run). seen_size old ≤ r.from) (sym is) it.2.not_below;
+          alone = λ whole. ap (λ (r : Run). r.from) is ∙ it.2.alone whole;
           first = s.1 ∙ ap (λ (r : Run). r.from) (sym is);
           fewer = subst (λ (r : Run). made.run.n < r.n) (sym is) s.2;
           tokens = s.3;

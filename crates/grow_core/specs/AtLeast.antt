@@ -10,17 +10,24 @@ use Rattle.grow_core.specs.declared.raises.Reached.{Reached}
 use Rattle.grow_core.specs.declared.raises.Reached.TheVariants as reached
 use Rattle.grow_core.specs.Vector.{VectorView, SeesMore, limit_of}
 use Rattle.grow_core.specs.Growth.{KeepsMade, LosesPlace}
-use Rattle.grow_core.specs.Making.{IsClaimed, WonMade}
+use Rattle.grow_core.specs.Grown.{values_of}
+use Rattle.grow_core.specs.Making.{IsClaimed, Makes, WonMade}
 
--- the size was large enough, and is told: the hand has then seen it, and nothing else of it has changed
+-- the size was large enough: the hand has then seen it, and nothing else of the hand has changed
 abbrev pub IsEnough : ℕ → HandView → HandView → ℕ → Type 0
 IsEnough to old new size = (to ≤ size) × SeesSize old new size
 
--- a growth up to a size came to this: a run that ends there, of what the maker answered for 0, 1, .. in turn; or none was needed
+-- the result of a growth up to a size: a run that ends there, of what the maker returned for 0, 1, 2 and so
+-- on; or none was needed
 abbrev pub WonAtLeast : {F T E : Type 0} → (F → ℕ → Result T E → F → Type 0) → F → VectorView T → ℕ → HandView → HandView → AtLeast T → Type 0
 WonAtLeast step maker vector to old new (Ran grown) =
     (grown.run.from + grown.run.n ≡ to) × (0 < grown.run.n) × WonMade step maker vector grown.run.n old new grown
 WonAtLeast step maker vector to old new (Enough size) = IsEnough to old new size
+
+-- what a growth up to a size leaves of its maker: it was asked for the values of the run alone, or not at all
+abbrev pub MadeUpTo : {F T E : Type 0} → (F → ℕ → Result T E → F → Type 0) → F → F → AtLeast T → Type 0
+MadeUpTo step maker end (Ran grown) = Makes step maker (values_of grown) end
+MadeUpTo step maker end (Enough size) = end ≡ maker
 
 -- nothing was appended
 abbrev pub SaysEnough : {T : Type 0} → AtLeast T → Type 0

@@ -12,7 +12,7 @@ use Rattle.grow_core.specs.Token.{PlacedView, place_in}
 use Rattle.grow_core.specs.Parts.{AreLong, AreMembers, AreWhole, HasFirstKeys, AreShutIn, values_in}
 use Rattle.grow_core.specs.Vector.{VectorView, IsPlacedOf}
 
--- a list of which so much is known was closed from the vector, and is as it was then
+-- the list, by what is known of it, was closed from the vector, and is as it was then
 abbrev pub IsClosedFrom : {T : Type 0} → VectorView T → Option (List ℕ) → Type 0
 IsClosedFrom vector closed = closed ≡ Some (mark_of vector.segments)
 
@@ -24,9 +24,9 @@ IsOfClosed {T} closed placed = (vector : VectorView T) × IsClosedFrom vector cl
 abbrev pub KeepsValues : {T : Type 0} → List (Option T) → List (Option T) → Type 0
 KeepsValues {T} old new = (place : ℕ) (x : T) → slice_get old place ≡ Some (Some x) → slice_get new place ≡ Some (Some x)
 
--- what is kept of a vector whose segments had this mark: the keys of the first of them, so many, as they were before. The names
--- of the values are those of the cells there, each cell after the known ones is the one that it was, and so is each segment
--- after the first ones
+-- what is kept of a vector whose segments had this mark: the keys of its first `count` segments, as they were
+-- before. The names of the values are those of the cells there; each cell after the known ones is unchanged,
+-- and so is each segment after the first ones
 pub record IsKeptOf {T : Type 0} (f : ℕ) (mark : List ℕ) (before : KeyRow) (names : List ℕ) (row : KeyRow) (known : List (MemberView T)) (count : ℕ) : Type 0 where
   pub layout : layout_in mark ≡ f
   pub named : AreKeys mark before

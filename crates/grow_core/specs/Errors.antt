@@ -15,7 +15,7 @@ grow_error_text (Moved size back) = codes "the size has moved to " ++ decimal si
 grow_error_text (Refused run made cause) = codes "a value was refused after " ++ decimal made.run.n ++ codes " were made"
 grow_error_text (Taken place found) = codes "place " ++ decimal place ++ codes " is taken"
 
--- why no value was answered
+-- why no value was returned
 abbrev pub at_error_text : AtError → List ℕ
 at_error_text (OutOfRange size) = codes "not below size " ++ decimal size
 at_error_text Pending = codes "not filled yet"

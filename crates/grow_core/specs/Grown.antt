@@ -1,5 +1,6 @@
 -- The token of a run.
 use Rattle.std.specs.Prelude.{◌≡◌, ℕ, ◌+◌, List, All, Some, length, map, slice_get}
+use Rattle.std.specs.List.{FoldsTo}
 use base.Stored.{Coded, coded×, coded_ℕ, coded_list, coded_via}
 use Rattle.claim_core.specs.declared.run.Run.{Run}
 use Rattle.grow_core.specs.Token.{PlacedView, placed_coded}
@@ -32,3 +33,12 @@ IsGrownOf vector grown = All (IsPlacedOf vector) grown.tokens
 -- the values of the run's places, in order
 abbrev pub values_of : {T : Type 0} → GrownView T → List T
 values_of grown = map (λ token. token.value) grown.tokens
+
+-- the tokens of a run's places were kept one by one, in order, and the places have these values: each step of the keeper has it
+-- before, a token, and it after
+pub record IsKeptRun {K T : Type 0} (step : K → PlacedView T → Unit {0} → K → Type 0) (old new : K) (vector : VectorView T) (run : Run) (values : List T) : Type 0 where
+  pub tokens : List (PlacedView T)
+  pub kept : FoldsTo (λ k token next. step k token tt next) old tokens new
+  pub of : All (IsPlacedOf vector) tokens
+  pub places : AreInOrder run.from tokens
+  pub hold : map (λ token. token.value) tokens ≡ values

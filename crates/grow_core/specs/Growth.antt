@@ -35,7 +35,7 @@ pub record WonRun {T : Type 0} (vector : VectorView T) (given : List T) (old new
   pub tokens : IsGrownOf vector grown
   pub values : values_of grown ≡ given
 
--- a growth of so many places won without tokens: the run is the hand's own
+-- a growth of `wanted` places won without tokens: the run is the hand's own
 pub record WonPlaces (wanted : ℕ) (old new : HandView) (won : Run) : Type 0 where
   pub n : won.n ≡ wanted
   pub run : Grows old new won
@@ -43,7 +43,7 @@ pub record WonPlaces (wanted : ℕ) (old new : HandView) (won : Run) : Type 0 wh
   pub not_below : seen_size old ≤ won.from
   pub alone : IsWholeHand old → won.from ≡ seen_size old
 
--- what stood at the place
+-- what a call found at the place
 abbrev pub IsFoundAt : {T : Type 0} → VectorView T → ℕ → Found T → Type 0
 IsFoundAt vector place (found.Busy begun) = IsBegunOf vector begun × (begun.place ≡ place)
 IsFoundAt vector place (found.Filled placed) = IsPlacedOf vector placed × (placed.place ≡ place)
@@ -58,10 +58,13 @@ pub record LosesPlace {T : Type 0} (vector : VectorView T) (n : ℕ) (old new : 
   pub before : place < run.from + n
   pub there : IsFoundAt vector place found
 
--- the hand owns one more run, of n places, and the first of them have the values that were made
+-- the hand owns one more run, of n places, and the first of them have the values that were made. The run begins at or above the size
+-- that the hand had seen, and there when the hand is whole
 pub record KeepsMade {T : Type 0} (vector : VectorView T) (n : ℕ) (old new : HandView) (run : Run) (made : GrownView T) : Type 0 where
   pub claimed : AddsRun old new run
   pub all : run.n ≡ n
+  pub not_below : seen_size old ≤ run.from
+  pub alone : IsWholeHand old → run.from ≡ seen_size old
   pub first : made.run.from ≡ run.from
   pub fewer : made.run.n < n
   pub tokens : IsGrownOf vector made

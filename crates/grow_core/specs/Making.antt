@@ -1,5 +1,5 @@
--- What a maker answers, and what a growth leaves whose values a maker makes.
-use Rattle.std.specs.Prelude.{◌≡◌, ℕ, ◌+◌, ◌<◌, ◌≤◌, List, [], All, Result, Ok, Err, length, replicate, vec_capacity}
+-- What a maker returns, and what a growth leaves whose values a maker makes.
+use Rattle.std.specs.Prelude.{◌≡◌, ℕ, ◌+◌, ◌<◌, ◌≤◌, List, [], All, Result, Ok, Err, Some, slice_get, length, replicate, vec_capacity}
 use Rattle.std.specs.List.{FoldsTo}
 use Rattle.claim_core.specs.declared.run.Run.{Run}
 use Rattle.claim_core.specs.Hand.{HandView, OwnsRun, IsWholeHand, seen_size}
@@ -18,29 +18,45 @@ abbrev pub Makes : {F T E : Type 0} → (F → ℕ → Result T E → F → Type
 Makes {F} step maker values last =
     FoldsTo {P = ℕ × F} (λ p x q. (q.0 ≡ p.0 + 1) × step p.1 p.0 (Ok x) q.1) (0, maker) values (length values, last)
 
+-- the first of the values that a maker made is its answer for 0
+abbrev pub FirstIsForZero : {F T E : Type 0} → (F → ℕ → Result T E → F → Type 0) → Type 0
+FirstIsForZero {F} {T} step =
+    (maker : F) (values : List T) (last : F) (x : T) → Makes step maker values last → slice_get values 0 ≡ Some x → (next : F) × step maker 0 (Ok x) next
+
+-- the maker made these values, its next answer was the cause, and it is then `end`: it was not asked again
+abbrev pub StopsAt : {F T E : Type 0} → (F → ℕ → Result T E → F → Type 0) → F → List T → E → F → Type 0
+StopsAt {F} step maker values cause end = (last : F) × Makes step maker values last × step last (length values) (Err cause) end
+
 -- the maker made these values, and its next answer was the cause
 abbrev pub StopsAfter : {F T E : Type 0} → (F → ℕ → Result T E → F → Type 0) → F → List T → E → Type 0
 StopsAfter {F} step maker values cause = (last : F) × Makes step maker values last × ((end : F) × step last (length values) (Err cause) end)
 
--- a growth of so many places won: its values are what the maker answered for 0, 1, .. in turn
+-- what a refused growth leaves of its maker: it was asked up to its refusal, or not at all. Nothing is said when a place was taken
+abbrev pub LeavesMaker : {F T V E : Type 0} → (F → ℕ → Result T E → F → Type 0) → F → F → GrowError T V E → Type 0
+LeavesMaker step maker end (Refused run made cause) = StopsAt step maker (values_of made) cause end
+LeavesMaker step maker end (Taken place found) = Unit {0}
+LeavesMaker step maker end refusal = end ≡ maker
+
+-- a growth of `wanted` places won: its values are what the maker returned for 0, 1, 2 and so on
 pub record WonMade {F T E : Type 0} (step : F → ℕ → Result T E → F → Type 0) (maker : F) (vector : VectorView T) (wanted : ℕ) (old new : HandView) (grown : GrownView T) : Type 0 where
   pub won : WonRun vector (values_of grown) old new grown
   pub n : grown.run.n ≡ wanted
   pub made : (last : F) × Makes step maker (values_of grown) last
 
--- a growth of so many places won: its values are clones of the given one, and so they are the given one where a clone equals its original
+-- a growth of `wanted` places won: its values are clones of the given one, and they are the given one if a
+-- clone equals its original
 pub record WonClones {T : Type 0} (is_clone : T → T → Type 0) (given : T) (vector : VectorView T) (wanted : ℕ) (old new : HandView) (grown : GrownView T) : Type 0 where
   pub won : WonRun vector (values_of grown) old new grown
   pub n : grown.run.n ≡ wanted
   pub clones : All (is_clone given) (values_of grown)
   pub same : ((x : T) → is_clone given x → x ≡ given) → values_of grown ≡ replicate wanted given
 
--- a refused construction is told by the values that were made before it, and its cause
+-- a refused construction carries the values that were made before it, and its cause
 abbrev pub IsRefusedBy : {T V E : Type 0} → (List T → E → Type 0) → GrowError T V E → Type 0
 IsRefusedBy is_end (Refused run made cause) = is_end (values_of made) cause
 IsRefusedBy is_end refusal = Unit {0}
 
--- the hand has claimed a run of so many places, or has none to claim, and there is room for so many tokens
+-- the hand has claimed a run of `wanted` places, or has none to claim, and there is room for `tokens` tokens
 pub record IsClaimed {T : Type 0} (vector : VectorView T) (wanted tokens : ℕ) (old new : HandView) (claimed : Claimed T) : Type 0 where
   pub n : claimed.run.n ≡ wanted
   pub run : Grows old new claimed.run
@@ -52,7 +68,7 @@ pub record IsClaimed {T : Type 0} (vector : VectorView T) (wanted tokens : ℕ) 
   pub none : claimed.tokens.items ≡ []
   pub room : tokens ≤ vec_capacity claimed.tokens
 
--- a place of the run was taken, and this stood there
+-- a place of the run was taken, and this was found there
 abbrev pub IsTakenIn : {T : Type 0} → VectorView T → Run → ℕ → Found T → Type 0
 IsTakenIn vector run place found = (run.from ≤ place) × (place < run.from + run.n) × IsFoundAt vector place found
 

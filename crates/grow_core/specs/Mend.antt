@@ -1,7 +1,7 @@
--- What `mend` answers.
+-- What `mend` returns.
 use Rattle.std.specs.Prelude.{◌≡◌, ℕ, ◌<◌, ◌≤◌}
 use Rattle.claim_core.specs.Hand.{HandView, SeesSize, seen_size}
-use Rattle.cell_core.specs.Block.{PenView, IsPenAt, block_len}
+use Rattle.cell_core.specs.Block.{PenView, IsPenAt, IsMending, block_len}
 use Rattle.table_core.specs.Table.{TableView, KeyView, IsKeyIn, IsBlockOf}
 use Rattle.grow_core.specs.declared.errors.MendError.{MendError}
 use Rattle.grow_core.specs.declared.errors.MendError.TheVariants.{OutOfRange, Pending, Filled}
@@ -20,7 +20,7 @@ IsMendDue vector place old new (OutOfRange size) = (size ≤ place) × SeesSize 
 IsMendDue vector place old new Pending = place < seen_size new
 IsMendDue vector place old new (Filled placed) = (place < seen_size new) × IsPlacedOf vector placed × (placed.place ≡ place)
 
--- the refusal is another one than that the place is not below the size
+-- the refusal does not say that the place is not below the size
 abbrev pub IsSeen : {T : Type 0} → MendError T → Type 0
 IsSeen (OutOfRange size) = ⊥
 IsSeen refusal = Unit {0}
@@ -30,10 +30,11 @@ abbrev pub TellsValue : {T : Type 0} → T → MendError T → Type 0
 TellsValue x (Filled placed) = placed.value ≡ x
 TellsValue x other = ⊥
 
--- the right to write the place, with the key of its segment
+-- the right to write the place, which was broken, with the key of its segment
 pub record IsTakenAt (segments : TableView) (place : ℕ) (taken : KeyView × PenView) : Type 0 where
   pub key : IsKeyIn segments taken.0
   pub long : IsBlockOf segments.layout taken.0.entry taken.0.block
   pub within : taken.1.place < block_len taken.0.block
   pub pen : IsPenAt taken.0.block taken.1.place taken.1
+  pub broken : IsMending taken.1
   pub here : place ≡ place_in segments.layout taken.0.entry taken.1.place

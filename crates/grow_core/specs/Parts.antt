@@ -10,8 +10,9 @@ use Rattle.table_core.specs.Table.{KeyView, IsBlockOf}
 use Rattle.grow_core.specs.Keys.{KeyRow, AreKeys, key_at}
 use Rattle.grow_core.specs.Token.{place_in}
 
--- each member is a value or broken (`None`); the greatest length; the layout of the segments, and how many are there, from the first
--- on; and, where it was closed from a vector and is as it was then, the mark of that vector's segments
+-- each member is a value or broken (`None`); the greatest length; the layout of the segments, and the number
+-- of installed ones, from the first on; and, if the list was closed from a vector and is unchanged since, the
+-- mark of that vector's segments
 pub record PartsView (T : Type 0) : Type 0 where
   pub members : List (Option T)
   pub limit : ℕ
@@ -42,7 +43,7 @@ values_in row = map (λ m. m.value) row
 abbrev pub AreLong : ℕ → KeyRow → Type 0
 AreLong f row = (segment : ℕ) (key : KeyView) → segment < 40 → key_at row segment ≡ Some key → IsBlockOf f segment key.block
 
--- the row has the keys of the first segments, so many
+-- the row has the keys of the first n segments
 abbrev pub HasFirstKeys : KeyRow → ℕ → Type 0
 HasFirstKeys row count = (segment : ℕ) → segment < count → IsSome (key_at row segment)
 

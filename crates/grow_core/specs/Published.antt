@@ -5,7 +5,7 @@ use Rattle.std.specs.Option.{option_copied}
 use base.Stored.{Coded, coded×, coded_ℕ, coded_via}
 use Rattle.grow_core.specs.Vector.{VectorView, vector_coded, IsOpenedAt}
 
--- the vector, the next place, and the place before which the walk ends
+-- the vector, the next place, and the place at which the walk ends
 pub record PublishedView (T : Type 0) : Type 0 where
   pub vector : VectorView T
   pub place : ℕ

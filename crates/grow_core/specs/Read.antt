@@ -1,4 +1,4 @@
--- What `at` answers.
+-- What `at` returns.
 use Rattle.std.specs.Prelude.{◌≡◌, ℕ, ◌<◌, ◌≤◌}
 use Rattle.claim_core.specs.Hand.{HandView, SeesSize, seen_size}
 use Rattle.grow_core.specs.declared.errors.AtError.{AtError}
@@ -31,7 +31,7 @@ IsDueAt vector place old new (OutOfRange size) = (size ≤ place) × SeesSize ol
 IsDueAt vector place old new Pending = place < seen_size new
 IsDueAt vector place old new (Broken spoilt) = (place < seen_size new) × IsSpoiltOf vector spoilt × (spoilt.place ≡ place)
 
--- the refusal is another one than that the place is not below the size
+-- the refusal does not say that the place is not below the size
 abbrev pub IsInRange : AtError → Type 0
 IsInRange (OutOfRange size) = ⊥
 IsInRange refusal = Unit {0}

@@ -39,8 +39,8 @@ pub(crate) struct Claimed<T> {
 }
 
 impl<T: Drop> Shared<T> {
-    // One try to win `n` places at the size now, with room for so many tokens, which is asked for before the claim. What was
-    // moved in is handed on. Of no places there is an empty run at that size.
+    // Tries once to win `n` places at the size now, with room for `room` tokens, allocated before the claim.
+    // `value` is passed through. A claim of no places is an empty run at that size.
     pub(crate) fn claim_run<V, E>(
         &self,
         hand: &mut Hand<T>,
@@ -254,7 +254,7 @@ impl<T: Drop> Shared<T> {
         }
     }
 
-    // What stood in a cell of the segment that has this key.
+    // What a cell of the segment with this key held.
     #[cold]
     #[tactic(auto, using(crate::proofs::Cells::small_cell))]
     fn found(&self, key: Key, offset: u64, found: block::Found<T>) -> Found<T>

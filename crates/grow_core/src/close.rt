@@ -21,7 +21,7 @@ use std::marker::Model;
 use table_core::{Key, Table};
 
 // The key of a segment: that of the opened list, or the hand's, or else one of a look at the table.
-fn key_now<T>(table: &Table<T>, opened: &Keys, own: &Keys, segment: u32) -> Option<Key>
+fn find_key<T>(table: &Table<T>, opened: &Keys, own: &Keys, segment: u32) -> Option<Key>
     requires layout { IsLayout table.now.layout }
     requires within { segment < segment_count table.now.layout }
     requires opened { AreKeys (mark_of table.now) opened.now }
@@ -59,7 +59,7 @@ fn first_keys<T>(table: &Table<T>, opened: &Keys, own: &Keys) -> (Keys, u32)
     let _f = layout.f();
     let mut keys = no_keys();
     for segment in 0..layout.segments() {
-        let Some(key) = key_now(table, opened, own, segment) else {
+        let Some(key) = find_key(table, opened, own, segment) else {
             return (keys, segment)
         };
         keys[segment as usize] = Some(key);
@@ -67,7 +67,7 @@ fn first_keys<T>(table: &Table<T>, opened: &Keys, own: &Keys) -> (Keys, u32)
     (keys, layout.segments())
 }
 
-// What is known of the cell for good: one without a value is broken. A value that it is known to have is its value still.
+// What is known of the cell from now on: without a value it is broken, and a known value stays.
 fn settle<T>(
     block: &mut Block<T>,
     offset: u64,
@@ -89,7 +89,7 @@ fn settle<T>(
     }
 }
 
-// What is known of a place, where the opened list has a member there.
+// What is known of a place, if the opened list has a member there.
 fn known_at<T>(opened: &Row<T>, base: u64, place: u64) -> Option<Member<T>>
     requires { length opened.now ≡ base }
     ensures { MatchOption result (base ≤ place) (λ m. slice_get opened.now place ≡ Some m) }
@@ -101,7 +101,7 @@ fn known_at<T>(opened: &Row<T>, base: u64, place: u64) -> Option<Member<T>>
     }
 }
 
-// A vector of which the first `len` places are members of a list already.
+// A vector whose first `len` places are members of a list already.
 #[derive(Drop)]
 struct Closing<T> {
     table: Table<T>,
@@ -183,7 +183,7 @@ impl<T: Drop> Closing<T> {
         }
     }
 
-    // Whether there are places that are no members yet.
+    // Tests whether there are places that are not members yet.
     fn is_open(&self) -> bool
         ensures open_still { IsTrue result → length self.now.members < self.now.size }
         ensures done { IsFalse result → length self.now.members ≡ self.now.size }
@@ -249,9 +249,9 @@ impl<T: Drop> Closing<T> {
 }
 
 impl<T: Drop> Shared<T> {
-    /// The list that the vector is once nobody else has it: as long as its size, with what each place holds. A place that was claimed
-    /// and never filled is broken. No value is moved, and it takes no memory; its time is linear in the size. The capacity is
-    /// that of the segments that are there.
+    /// Closes the vector into the list of its values, as long as its size. A place that was claimed but never
+    /// filled is broken. It moves no value and takes no memory; its time is linear in the size. The capacity
+    /// is that of the installed segments.
     pub fn into_parts(self, hand: Hand<T>) -> Parts<T>
         requires ours { IsHandOf self hand }
         requires whole { IsWholeHand hand }

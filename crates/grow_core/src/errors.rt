@@ -16,21 +16,21 @@ pub enum GrowError<T, V, E> {
     NoMemory { back: V },
     /// The size and the new places are together above the limit. Nothing was claimed.
     Full { size: u64, back: V },
-    /// Another caller claimed first, so that the size was another one. Nothing was claimed.
+    /// Another caller claimed first, so the size differed. Nothing was claimed.
     Moved { size: u64, back: V },
     /// A value could not be made. The run is claimed: its first places have the values that were
     /// made, and the others are broken.
     Refused { run: Run, made: Grown<T>, cause: E },
-    /// Something stood at a place of the run. The run is claimed, and the values that were not placed are dropped.
+    /// A place of the run was not empty. The run is claimed, and the values that were not placed are dropped.
     Taken { place: u64, found: Found<T> },
 }
 
-/// Why `at` answers no value.
+/// Why `at` returns no value.
 #[derive(Debug, Drop)]
 pub enum AtError {
     /// The place is not below the size.
     OutOfRange { size: u64 },
-    /// The place is claimed, and not filled yet.
+    /// The place is claimed, but not filled yet.
     Pending,
     /// The place is broken.
     Broken(Spoilt),
@@ -41,7 +41,7 @@ pub enum AtError {
 pub enum MendError<T> {
     /// The place is not below the size.
     OutOfRange { size: u64 },
-    /// The place is claimed, and not finished yet; or another caller is mending it.
+    /// The place is claimed but not finished yet, or another caller is mending it.
     Pending,
     /// The place has a value.
     Filled(Placed<T>),

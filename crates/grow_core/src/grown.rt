@@ -8,7 +8,7 @@ use claim_core::Run;
 use std::fmt;
 use std::marker::Model;
 
-/// Shows that each place of a run holds its value.
+/// Evidence that each place of a run holds its value.
 #[derive(Drop)]
 pub struct Grown<T> {
     pub(crate) run: Run,
@@ -36,21 +36,21 @@ impl<T> fmt::Debug for Grown<T> {
 }
 
 impl<T> Grown<T> {
-    /// The places of the run.
+    /// Returns the places of the run.
     pub fn run(&self) -> Run
         ensures { result ≡ self.now.run }
     {
         self.run
     }
 
-    /// What every one keeps: a token of each place of the run, in order. It does nothing.
+    /// Shows a proof that there is a token of each place of the run, in order. The call does nothing.
     pub fn laws(&self)
         ensures { IsInOrder self.now.run self.now.tokens }
     {
         let _run = self.run;
     }
 
-    /// The token of place `i` of the run.
+    /// Returns the token of place `i` of the run.
     pub fn placed(&self, i: u64) -> Placed<T>
         requires { i < self.now.run.n }
         ensures place { result.place ≡ self.now.run.from + i }

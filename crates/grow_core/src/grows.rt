@@ -1,7 +1,7 @@
 //! How many values are appended at once.
 ghost use Rattle.std.specs.Prelude.{◌≡◌, ◌+◌, ◌≤◌, [], IfOk, IfErr, IsErrAnd, vec_len, vec_capacity};
 ghost use Rattle.grow_core.specs.Vector.{IsHandOf, limit_of};
-ghost use Rattle.grow_core.specs.Grown.{IsGrownOf, values_of};
+ghost use Rattle.grow_core.specs.Grown.{IsGrownOf, IsKeptRun, values_of};
 ghost use Rattle.grow_core.specs.Keys.{OwnsPlacesOf};
 ghost use Rattle.grow_core.specs.Growth.{WonRun, WonPlaces, Refuses, HasNoRoom, SaysFull, IsNotMoved};
 ghost use Rattle.grow_core.specs.Making.{StopsIn};
@@ -10,13 +10,14 @@ use crate::claims::Claimed;
 use crate::errors::{GrowError, Never};
 use crate::grown::Grown;
 use crate::hand::Hand;
+use crate::token::Placed;
 use crate::vector::Shared;
 use claim_core::Run;
 use std::sync::Wait;
 
 impl<T: Drop> Shared<T> {
-    /// Appends the values in one run. It tries once, and waits for nobody. The exchange that wins the run is its
-    /// linearization point, or, where there is no value, the load of the size.
+    /// Appends the values in one run. It tries once, and waits for nobody. The exchange that wins the run is
+    /// its linearization point, or, if there is no value, the load of the size.
     pub fn try_grow_vec(
         &self,
         hand: &mut Hand<T>,
@@ -25,7 +26,7 @@ impl<T: Drop> Shared<T> {
         requires ours { IsHandOf self.now hand.old }
         ensures won { IfOk result (WonRun self.now values.items hand.old hand.new) }
         ensures refused { IfErr result (Refuses self.now (vec_len values) values hand.old hand.new) }
-        // No room is told by what the hand has seen, before memory is asked for.
+        // Room that is missing by what the hand has seen is reported before memory is asked for.
         ensures full { HasNoRoom self.now (vec_len values) hand.old → IsErrAnd result SaysFull }
     {
         let n = values.len() as u64;
@@ -33,7 +34,7 @@ impl<T: Drop> Shared<T> {
         self.fill_run(hand, claimed, values)
     }
 
-    /// As `try_grow_vec`, and it tries again where another caller was first.
+    /// Appends the values like `try_grow_vec`, and retries if another caller was first.
     pub fn grow_vec<R: Wait>(
         &self,
         rt: &R,
@@ -43,7 +44,7 @@ impl<T: Drop> Shared<T> {
         requires ours { IsHandOf self.now hand.old }
         ensures won { IfOk result (WonRun self.now values.items hand.old hand.new) }
         ensures refused { IfErr result (Refuses self.now (vec_len values) values hand.old hand.new) }
-        // No room is told by what the hand has seen, before memory is asked for.
+        // Room that is missing by what the hand has seen is reported before memory is asked for.
         ensures full { HasNoRoom self.now (vec_len values) hand.old → IsErrAnd result SaysFull }
         ensures not_moved { IfErr result IsNotMoved }
     {
@@ -63,13 +64,33 @@ impl<T: Drop> Shared<T> {
         requires ours { IsHandOf self.now hand.old }
         ensures won { IfOk result (WonPlaces (vec_len values) hand.old hand.new) }
         ensures refused { IfErr result (Refuses self.now (vec_len values) values hand.old hand.new) }
-        // No room is told by what the hand has seen, before memory is asked for.
+        // Room that is missing by what the hand has seen is reported before memory is asked for.
+        ensures full { HasNoRoom self.now (vec_len values) hand.old → IsErrAnd result SaysFull }
+        ensures not_moved { IfErr result IsNotMoved }
+    {
+        self.append_by(rt, hand, values, &mut |_placed: Placed<T>| {})
+    }
+
+    // As `append`. The token of each place goes to `keep` as the place is filled: the places have the
+    // values in order.
+    fn append_by<R: Wait, K: FnMut(Placed<T>)>(
+        &self,
+        rt: &R,
+        hand: &mut Hand<T>,
+        values: Vec<T>,
+        keep: &mut K,
+    ) -> Result<Run, GrowError<T, Vec<T>, Never>>
+        requires ours { IsHandOf self.now hand.old }
+        requires callable { K.IsAlwaysCallable keep.old }
+        ensures won { IfOk result (WonPlaces (vec_len values) hand.old hand.new) }
+        ensures kept { IfOk result (λ run. IsKeptRun K.step keep.old keep.new self.now run values.items) }
+        ensures refused { IfErr result (Refuses self.now (vec_len values) values hand.old hand.new) }
         ensures full { HasNoRoom self.now (vec_len values) hand.old → IsErrAnd result SaysFull }
         ensures not_moved { IfErr result IsNotMoved }
     {
         let n = values.len() as u64;
         let (claimed, values) = self.claim_again(rt, hand, n, 0, values)?;
-        self.place_run(hand, claimed.run, values)
+        self.place_run(hand, claimed.run, values, keep)
     }
 
     // Fills the places of a run of the hand's with the values. It stops at a place that was taken.
@@ -107,18 +128,21 @@ impl<T: Drop> Shared<T> {
         Ok(Grown { run, tokens })
     }
 
-    // As `fill_run`, without tokens.
-    fn place_run(
+    // As `fill_run`, with each token given to `keep`.
+    fn place_run<K: FnMut(Placed<T>)>(
         &self,
         hand: &Hand<T>,
         run: Run,
         values: Vec<T>,
+        keep: &mut K,
     ) -> Result<Run, GrowError<T, Vec<T>, Never>>
         requires ours { IsHandOf self.now hand.now }
         requires owned { OwnsPlacesOf hand.now run }
         requires within { run.from + run.n ≤ limit_of self.now }
         requires values { vec_len values ≡ run.n }
+        requires callable { K.IsAlwaysCallable keep.old }
         ensures run { IfOk result (λ filled. filled ≡ run) }
+        ensures kept { IfOk result (λ _. IsKeptRun K.step keep.old keep.new self.now run values.items) }
         ensures stopped { IfErr result (StopsIn self.now run) }
     {
         self.laws();
@@ -129,8 +153,12 @@ impl<T: Drop> Shared<T> {
         let mut place = run.from;
         for value in values {
             part = self.part_on(hand, part, place);
-            if let Err(found) = self.fill(&part, place, value) {
-                return Err(GrowError::Taken { place, found });
+            match self.fill(&part, place, value) {
+                Ok(placed) => keep(placed),
+                Err(there) => return Err(GrowError::Taken {
+                    place,
+                    found: there,
+                }),
             }
             place += 1;
         }

@@ -12,8 +12,8 @@ use std::fmt;
 use std::marker::{Model, PhantomData};
 use table_core::Key;
 
-/// What a caller has seen of the vector's size, and its part of the right to end the vector. It may be lost: the vector
-/// is then dropped, and never ended.
+/// What a caller has seen of the vector's size, and its shares. Closing needs all shares, so once a hand is
+/// dropped the vector can only be dropped.
 #[derive(Drop)]
 pub struct Hand<T> {
     pub(crate) claims: ClaimHand,
@@ -83,28 +83,28 @@ impl<T> Hand<T> {
         }
     }
 
-    /// Its part of the right to end the vector.
+    /// Returns the hand's shares.
     pub fn share(&self) -> u32
         ensures { result ≡ self.now.shares }
     {
         self.claims.share()
     }
 
-    /// Whether it has all shares.
+    /// Tests whether the hand has all shares.
     pub fn is_whole(&self) -> bool
         ensures { IsTrue result ↔ IsWholeHand self.now }
     {
         self.claims.is_whole()
     }
 
-    /// The size that it has seen.
+    /// Returns the size that the hand has seen.
     pub fn seen(&self) -> u64
         ensures { result ≡ seen_size self.now }
     {
         self.claims.seen()
     }
 
-    /// What every hand keeps. It does nothing.
+    /// Shows a proof what every hand keeps. The call does nothing.
     pub fn laws(&self)
         ensures positive { All (λ n. 0 < n) self.now.seen }
         ensures within { seen_size self.now ≤ self.now.of.limit }
@@ -119,8 +119,8 @@ impl<T> Hand<T> {
         self.claims.laws();
     }
 
-    /// What a whole hand keeps: it has seen all that was claimed, and owns it. The size is the base and the places of
-    /// all its runs. It does nothing.
+    /// Shows a proof what a whole hand keeps: it has seen all that was claimed, and owns it. The size is the
+    /// base plus the places of all its runs. The call does nothing.
     pub fn whole_laws(&self)
         requires whole { IsWholeHand self.now }
         ensures all { (k : ℕ) → k < length self.now.seen → Contains self.now.mine k }

@@ -7,7 +7,7 @@ use std::alloc::AllocError;
 use std::array;
 use table_core::{Key, Table};
 
-// A key for each segment, where the hand has it: room for the segments of every layout.
+// An optional key per segment, with room for the segments of every layout.
 pub(crate) type Keys = [Option<Key>; 40];
 
 // No key.
@@ -21,7 +21,7 @@ pub(crate) fn no_keys() -> Keys
     )
 }
 
-// The key of a segment, once more, where the row has it.
+// A duplicate of the segment's key, if the row has it.
 pub(crate) fn key_of(row: &Keys, segment: u32) -> Option<Key>
     requires { segment < 40 }
     ensures { result ≡ key_at row.now segment }
@@ -32,7 +32,7 @@ pub(crate) fn key_of(row: &Keys, segment: u32) -> Option<Key>
     }
 }
 
-// The same keys once more.
+// Duplicates of the keys.
 pub(crate) fn keys_again(row: &Keys) -> Keys
     ensures { (segment : ℕ) → segment < 40 → key_at result segment ≡ key_at row.now segment }
 {
@@ -54,7 +54,7 @@ fn put_key(row: &mut Keys, segment: u32, key: Key)
     row[segment as usize] = Some(key);
 }
 
-// Puts the other row's key of a segment into the row, where it has none.
+// Copies the other row's key of a segment into the row, if the row has none.
 fn put_other(row: &mut Keys, other: &Keys, segment: u32)
     requires { segment < 40 }
     ensures keys { (mark : List ℕ) → AreKeys mark row.old → AreKeys mark other.now → AreKeys mark row.new }
@@ -68,7 +68,7 @@ fn put_other(row: &mut Keys, other: &Keys, segment: u32)
     }
 }
 
-// Puts the other row's keys into the row, where it has none.
+// Copies the other row's keys into the row, if the row lacks them.
 pub(crate) fn put_keys(row: &mut Keys, other: &Keys)
     ensures keys { (mark : List ℕ) → AreKeys mark row.old → AreKeys mark other.now → AreKeys mark row.new }
     ensures kept { KeepsKeys row.old row.new }

@@ -1,24 +1,23 @@
-//! The shared vector: many callers append to it and read it beside each other, and no element
-//! moves.
+//! The shared vector: many callers append to it and read it concurrently, and no element moves.
 //!
-//! Contracts see a `Shared` as which vector it is, with its limit, layout and base
-//! (`specs/Vector.antt`); a `Hand` as what its caller has seen of the size (the lengths of all runs
-//! up to then), the indices of its own runs and its shares; a `Placed` as a place and its value;
-//! and a `Grown` as a run with the token of each place (`specs/Grown.antt`). What a growth leaves,
-//! won or refused, is `specs/Growth.antt`, and what `at` answers is `specs/Read.antt`.
+//! Contracts see a `Shared` as which vector it is, with its limit, layout and base (`specs/Vector.antt`); a
+//! `Hand` as what its caller has seen of the size (the lengths of all runs up to then), the indices of its
+//! own runs and its shares; a `Placed` as a place and its value; and a `Grown` as a run with the token of
+//! each place (`specs/Grown.antt`). `specs/Growth.antt` says what a growth leaves, won or refused, and
+//! `specs/Read.antt` what `at` returns.
 //!
-//! A caller can prove which places it won and that nobody else did, that a token's value is read
-//! back in any thread, what each refusal says and gives back, and that the runs of joined hands
-//! tile the size. It can't prove what a reader without a token finds, that a try wins, or anything
-//! of the order of callers that never met.
+//! A caller can prove which places it won and that nobody else did, that a token's value is read back in any
+//! thread, what each refusal says and gives back, and that the runs of joined hands tile the size. A caller
+//! cannot prove what a reader without a token finds, that a try wins, or anything about the order of callers
+//! that never met.
 //!
-//! The code is safe, over `claim_core`, `table_core` and `cell_core`: the segments of the wanted places
-//! are installed, the places are won by one exchange of the claim word, and each is filled by one
-//! exchange and one store of its cell's state. A hand carries the keys of its runs' segments
-//! (`specs/Keys.antt`). Only `push_back` and `grow_vec` may wait.
+//! The code is safe, over `claim_core`, `table_core` and `cell_core`: the segments of the wanted places are
+//! installed, the places are won by one exchange of the claim word, and each is filled by one exchange and
+//! one store of its cell's state. A hand carries the keys of its runs' segments (`specs/Keys.antt`). Only
+//! `push_back`, `grow_vec`, `append`, `grow_with` and `grow_by` may wait.
 //!
-//! A `Parts` is what an exclusive owner holds of a vector. Contracts see it as a list of values and broken members
-//! (`specs/Parts.antt`): exactly what was appended is read, and moved out.
+//! A `Parts` is what an exclusive owner holds of a vector. Contracts see it as a list of values and broken
+//! members (`specs/Parts.antt`): exactly what was appended is read, and moved out.
 #![tactic(auto)]
 
 mod claims;
@@ -28,6 +27,7 @@ mod grown;
 mod grows;
 mod hand;
 mod keys;
+pub mod makers;
 mod makes;
 mod mends;
 mod open;

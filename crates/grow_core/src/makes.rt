@@ -4,7 +4,8 @@ ghost use Rattle.grow_core.specs.Vector.{IsHandOf, IsPlacedOf, limit_of};
 ghost use Rattle.grow_core.specs.Grown.{IsGrownOf, AreInOrder, values_of};
 ghost use Rattle.grow_core.specs.Keys.{OwnsPlacesOf};
 ghost use Rattle.grow_core.specs.Growth.{Refuses, HasNoRoom, SaysFull, IsNotMoved};
-ghost use Rattle.grow_core.specs.Making.{Makes, StopsAfter, StopsIn, WonMade, WonClones, IsRefusedBy, IsTakenIn, IsTakenFrom};
+ghost use Rattle.grow_core.specs.Making.{Makes, StopsAfter, StopsIn, LeavesMaker, IsRefusedBy, IsTakenIn, IsTakenFrom};
+ghost use Rattle.grow_core.specs.Making.{WonMade, WonClones};
 
 use crate::claims::Claimed;
 use crate::errors::GrowError;
@@ -17,42 +18,82 @@ use std::alloc::AllocError;
 use std::sync::Wait;
 
 impl<T: Drop> Shared<T> {
-    /// Appends `n` values in one run, which `make` makes: it is asked for 0, 1, .. in turn, once the run is won, and outside of
-    /// every step, so it may look at the vector and grow it by another hand. After its first refusal it is not asked again, and
-    /// the places from there on are broken. It tries once, and waits for nobody. The exchange that wins the run is its
-    /// linearization point, or, where n is 0, the load of the size.
+    /// Appends `n` values that `make` makes, in one run. `make` is called with 0, 1, 2 and so on once the run
+    /// is won, outside every step, so it may look at the vector and grow it by another hand. After its first
+    /// refusal it is not called again, and the places from there on are broken. It tries once, and waits for
+    /// nobody. The exchange that wins the run is its linearization point, or, if n is 0, the load of the
+    /// size.
     pub fn try_grow_with<E: Drop, F: FnMut(u64) -> Result<T, E>>(
         &self,
         hand: &mut Hand<T>,
         n: u64,
-        make: F,
+        mut make: F,
     ) -> Result<Grown<T>, GrowError<T, (), E>>
         requires ours { IsHandOf self.now hand.old }
         requires callable { F.IsAlwaysCallable make }
         ensures won { IfOk result (WonMade F.step make self.now n hand.old hand.new) }
         ensures refused { IfErr result (Refuses self.now n tt hand.old hand.new) }
-        // The cause of a refused construction is what the maker answered after the values of `made`.
+        // The cause of a refused construction is what the maker returned after the values of `made`.
         ensures cause { IfErr result (IsRefusedBy (StopsAfter F.step make)) }
-        // No room is told by what the hand has seen, before memory is asked for.
+        // Room that is missing by what the hand has seen is reported before memory is asked for.
+        ensures full { HasNoRoom self.now n hand.old → IsErrAnd result SaysFull }
+    {
+        self.try_make(hand, n, &mut make)
+    }
+
+    // As `try_grow_with`. What the maker is afterwards says that it was asked for these values alone.
+    fn try_make<E: Drop, F: FnMut(u64) -> Result<T, E>>(
+        &self,
+        hand: &mut Hand<T>,
+        n: u64,
+        make: &mut F,
+    ) -> Result<Grown<T>, GrowError<T, (), E>>
+        requires ours { IsHandOf self.now hand.old }
+        requires callable { F.IsAlwaysCallable make.old }
+        ensures won { IfOk result (WonMade F.step make.old self.now n hand.old hand.new) }
+        ensures made { IfOk result (λ grown. Makes F.step make.old (values_of grown) make.new) }
+        ensures refused { IfErr result (Refuses self.now n tt hand.old hand.new) }
+        ensures asked { IfErr result (LeavesMaker F.step make.old make.new) }
         ensures full { HasNoRoom self.now n hand.old → IsErrAnd result SaysFull }
     {
         let (claimed, ()) = self.claim_run(hand, n, n, ())?;
         self.make_run(hand, claimed, make)
     }
 
-    /// As `try_grow_with`, and it tries again where another caller was first. The maker is asked once the run is won.
+    /// Appends values like `try_grow_with`, and retries if another caller was first. The maker is called once
+    /// the run is won.
     pub fn grow_with<R: Wait, E: Drop, F: FnMut(u64) -> Result<T, E>>(
         &self,
         rt: &R,
         hand: &mut Hand<T>,
         n: u64,
-        make: F,
+        mut make: F,
     ) -> Result<Grown<T>, GrowError<T, (), E>>
         requires ours { IsHandOf self.now hand.old }
         requires callable { F.IsAlwaysCallable make }
         ensures won { IfOk result (WonMade F.step make self.now n hand.old hand.new) }
         ensures refused { IfErr result (Refuses self.now n tt hand.old hand.new) }
         ensures cause { IfErr result (IsRefusedBy (StopsAfter F.step make)) }
+        ensures full { HasNoRoom self.now n hand.old → IsErrAnd result SaysFull }
+        ensures not_moved { IfErr result IsNotMoved }
+    {
+        self.make_again(rt, hand, n, &mut make)
+    }
+
+    // As `try_make`, and it tries again when another caller was first.
+    fn make_again<R: Wait, E: Drop, F: FnMut(u64) -> Result<T, E>>(
+        &self,
+        rt: &R,
+        hand: &mut Hand<T>,
+        n: u64,
+        make: &mut F,
+    ) -> Result<Grown<T>, GrowError<T, (), E>>
+        requires ours { IsHandOf self.now hand.old }
+        requires callable { F.IsAlwaysCallable make.old }
+        ensures won { IfOk result (WonMade F.step make.old self.now n hand.old hand.new) }
+        ensures made { IfOk result (λ grown. Makes F.step make.old (values_of grown) make.new) }
+        ensures refused { IfErr result (Refuses self.now n tt hand.old hand.new) }
+        ensures asked { IfErr result (LeavesMaker F.step make.old make.new) }
         ensures full { HasNoRoom self.now n hand.old → IsErrAnd result SaysFull }
         ensures not_moved { IfErr result IsNotMoved }
     {
@@ -66,20 +107,20 @@ impl<T: Drop> Shared<T> {
         &self,
         hand: &Hand<T>,
         claimed: Claimed<T>,
-        mut make: F,
+        make: &mut F,
     ) -> Result<Grown<T>, GrowError<T, (), E>>
         requires ours { IsHandOf self.now hand.now }
         requires owned { OwnsPlacesOf hand.now claimed.run }
         requires within { claimed.run.from + claimed.run.n ≤ limit_of self.now }
         requires tokens { claimed.tokens.items ≡ [] }
         requires capacity { claimed.run.n ≤ vec_capacity claimed.tokens }
-        requires callable { F.IsAlwaysCallable make }
+        requires callable { F.IsAlwaysCallable make.old }
         ensures run { IfOk result (λ grown. grown.run ≡ claimed.run) }
         ensures n { IfOk result (λ grown. length (values_of grown) ≡ claimed.run.n) }
         ensures tokens { IfOk result (IsGrownOf self.now) }
-        ensures made { IfOk result (λ grown. (last : F) × Makes F.step make (values_of grown) last) }
+        ensures made { IfOk result (λ grown. Makes F.step make.old (values_of grown) make.new) }
         ensures stopped { IfErr result (StopsIn self.now claimed.run) }
-        ensures cause { IfErr result (IsRefusedBy (StopsAfter F.step make)) }
+        ensures asked { IfErr result (LeavesMaker F.step make.old make.new) }
     {
         self.laws();
         let Claimed { run, mut tokens } = claimed;
@@ -136,7 +177,8 @@ impl<T: Drop> Shared<T> {
         }
     }
 
-    // Breaks the places of a run of the hand's, but for the first `made` of them. It stops at a place that was taken.
+    // Breaks the places of a run of the hand's, except the first `made` of them. It stops at a place that was
+    // taken.
     fn break_rest(&self, hand: &Hand<T>, run: Run, made: u64) -> Result<(), (u64, Found<T>)>
         requires ours { IsHandOf self.now hand.now }
         requires owned { OwnsPlacesOf hand.now run }
@@ -159,8 +201,9 @@ impl<T: Drop> Shared<T> {
 }
 
 impl<T: Clone> Shared<T> {
-    /// Appends `n` clones of the value in one run, each made once the run is won. A clone that finds no memory is a refused
-    /// construction: the places from there on are broken. It tries once, and waits for nobody.
+    /// Appends `n` clones of the value in one run, each made once the run is won. A clone that finds no
+    /// memory is a refused construction: the places from there on are broken. It tries once, and waits for
+    /// nobody.
     pub fn try_grow_by(
         &self,
         hand: &mut Hand<T>,
@@ -179,7 +222,7 @@ impl<T: Clone> Shared<T> {
         self.try_grow_with(hand, n, make)
     }
 
-    /// As `try_grow_by`, and it tries again where another caller was first.
+    /// Appends clones like `try_grow_by`, and retries if another caller was first.
     pub fn grow_by<R: Wait>(
         &self,
         rt: &R,

@@ -1,7 +1,7 @@
 //! How a broken place is filled after all.
 ghost use Rattle.std.specs.Prelude.{◌≡◌, ◌≢◌, ◌<◌, IfOk, IfErr, IsErrAnd};
 ghost use Rattle.claim_core.specs.Hand.{seen_size};
-ghost use Rattle.cell_core.specs.Block.{block_len};
+ghost use Rattle.cell_core.specs.Block.{IsMended, block_len};
 ghost use Rattle.cell_core.specs.Shown.{IsFoundIn, ShowsFilled};
 ghost use Rattle.table_core.specs.Table.{IsBlockOf, IsKeyIn};
 ghost use Rattle.grow_core.specs.Token.{place_in};
@@ -17,9 +17,9 @@ use cell_core::block::{self, Pen};
 use table_core::Key;
 
 impl<T> Shared<T> {
-    /// Fills a broken place: one load of the size, and one exchange of the place's state from broken to busy (at a place that was
-    /// broken when the vector was opened, at most two), which is where it takes the place. It waits for nobody, and takes no
-    /// memory.
+    /// Fills a broken place, by one load of the size and one exchange of the place's state from broken to
+    /// busy (at most two at a place that was broken when the vector was opened); that exchange takes the
+    /// place. It waits for nobody, and takes no memory.
     #[tactic(auto, using(crate::proofs::Cells::small_cell))]
     pub fn mend(
         &self,
@@ -31,6 +31,8 @@ impl<T> Shared<T> {
         ensures token { IfOk result (IsPlacedOf self.now) }
         ensures here { IfOk result (λ placed. placed.place ≡ place) }
         ensures value { IfOk result (λ placed. placed.value ≡ value) }
+        // The exchange found the place broken.
+        ensures mended { IfOk result (λ placed. IsMended placed.cell) }
         ensures below { IfOk result (λ _. place < seen_size hand.new) }
         ensures refused { IfErr result (λ (error, _). IsMendDue self.now place hand.old hand.new error) }
         ensures value_back { IfErr result (λ (_, back). back ≡ value) }
@@ -99,8 +101,8 @@ impl<T> Shared<T> {
         }
     }
 
-    // Why a cell of the segment that has this key was not taken. It is found broken where an owner broke it, and none is so
-    // where the opened list ends.
+    // Why a cell of the segment with this key was not taken. It is found broken only if an owner broke it,
+    // which no place past the opened list is.
     #[cold]
     #[tactic(auto, using(crate::proofs::Cells::small_cell))]
     fn unmended(&self, key: Key, offset: u64, found: block::Found<T>) -> MendError<T>

@@ -19,9 +19,9 @@ impl<T> Marks<Table<T>> for Segments {
 }
 
 impl<T> Shared<T> {
-    /// The vector that begins with the members of the list, and the hand that has all shares. No member is moved, and none is looked
-    /// at: it takes the two small allocations of the claim word, whatever the length. A refusal is that there is no memory, and
-    /// gives the list back.
+    /// Opens a vector that begins with the members of the list, with the hand that has all shares. It moves
+    /// no member and looks at none: it takes the two small allocations of the claim word, at any length. The
+    /// only refusal is out of memory, and it gives the list back.
     pub fn of_parts(parts: Parts<T>) -> Result<(Shared<T>, Hand<T>), (Parts<T>, OpenError)>
         ensures opened { IfOk result (λ (vector, _). vector.opened ≡ parts.members) }
         ensures limit { IfOk result (λ (vector, _). limit_of vector ≡ parts.limit) }

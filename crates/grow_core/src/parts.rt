@@ -14,8 +14,9 @@ use std::alloc::{AllocError, Global};
 use std::marker::Model;
 use table_core::{Key, Table};
 
-/// What an exclusive owner holds of a vector. It lends no cell, so nothing of it changes beside a `&`. Contracts see it as a
-/// list of values and broken members (`None`), with its limit and how many segments are there.
+/// What an exclusive owner holds of a vector. It lends no cell, so nothing of it changes through a `&`.
+/// Contracts see it as a list of values and broken members (`None`), with its limit and the number of its
+/// segments.
 #[derive(Drop)]
 pub struct Parts<T> {
     pub(crate) table: Table<T>,
@@ -54,7 +55,7 @@ impl<T> Model for Parts<T> {
         × AreShutIn p.epoch p.row };
 }
 
-// Where a place of the segments that are there lies: its segment, the cell there, and the segment's key.
+// The position of a place of the installed segments: its segment, the cell there, and the segment's key.
 pub(crate) fn cell_of<T>(table: &Table<T>, keys: &Keys, count: u32, place: u64) -> (u32, u64, Key)
     requires few { count ≤ segment_count table.now.layout }
     requires there { HasFirstKeys keys.now count }
@@ -74,7 +75,8 @@ pub(crate) fn cell_of<T>(table: &Table<T>, keys: &Keys, count: u32, place: u64) 
     }
 }
 
-// Puts a value into the cell, or breaks it. It answers what is then known of the cell, and the value that it held.
+// Writes a value into the cell, or breaks it. It returns what is then known of the cell, and the value that
+// it held.
 fn write<T>(
     block: &mut Block<T>,
     offset: u64,
@@ -98,7 +100,7 @@ fn write<T>(
 }
 
 impl<T> Parts<T> {
-    /// The empty list, whose first segment has two places. It takes no memory yet.
+    /// Makes an empty list whose first segment has two places. It takes no memory yet.
     pub fn new(alloc: Global, limit: u64) -> Parts<T>
         requires { IsLimit limit }
         ensures members { result.members ≡ [] }
@@ -109,7 +111,7 @@ impl<T> Parts<T> {
         Parts::new_in(alloc, Layout::default(), limit)
     }
 
-    /// The empty list, whose segments are those of the layout. It takes no memory yet.
+    /// Makes an empty list with the segments of the layout. It takes no memory yet.
     pub fn new_in(alloc: Global, layout: Layout, limit: u64) -> Parts<T>
         requires { IsLimit limit }
         ensures members { result.members ≡ [] }
@@ -132,7 +134,7 @@ impl<T> Parts<T> {
         }
     }
 
-    /// How many members there are.
+    /// Returns the number of members.
     pub fn len(&self) -> u64
         ensures value { result ≡ length self.now.members }
         ensures within { result ≤ self.now.limit }
@@ -140,7 +142,7 @@ impl<T> Parts<T> {
         self.len
     }
 
-    /// The greatest length that the list may reach.
+    /// Returns the greatest length that the list may reach.
     pub fn limit(&self) -> u64
         ensures value { result ≡ self.now.limit }
         ensures range { IsLimit result }
@@ -148,14 +150,14 @@ impl<T> Parts<T> {
         self.limit
     }
 
-    /// How its places are cut into segments.
+    /// Returns how the vector's places are divided into segments.
     pub fn layout(&self) -> Layout
         ensures { result ≡ self.now.layout }
     {
         self.table.layout()
     }
 
-    /// The places of the segments that are there, which is how many members it can have without more memory.
+    /// Returns the places of the installed segments: the number of members that fit without more memory.
     pub fn capacity(&self) -> u64
         ensures value { result ≡ capacity_of self.now }
         ensures room { length self.now.members ≤ result }
@@ -168,7 +170,7 @@ impl<T> Parts<T> {
         layout.first(last) + layout.len(last)
     }
 
-    /// The member at the place, or nothing where it is broken.
+    /// Returns the member at the place, or `None` if it is broken.
     pub fn get(&self, place: u64) -> Option<&T>
         requires { place < length self.now.members }
         ensures { MatchOption result (slice_get self.now.members place ≡ Some None)
@@ -184,7 +186,7 @@ impl<T> Parts<T> {
 }
 
 impl<T: Drop> Parts<T> {
-    // Whether there is no room for n members.
+    // Tests whether there is no room for n members.
     #[tactic(auto, using(crate::proofs::Places::few_below))]
     fn lacks_room(&self, n: u64) -> bool
         requires { n ≤ self.now.limit }
@@ -195,7 +197,7 @@ impl<T: Drop> Parts<T> {
         self.capacity() < n
     }
 
-    // Whether the last segment lies wholly above the members.
+    // Tests whether the last segment lies wholly above the members.
     fn has_spare(&self) -> bool
         ensures spare { IsTrue result → IsSpare self.now }
         ensures none { IsFalse result → ¬ IsSpare self.now }
@@ -219,15 +221,15 @@ impl<T: Drop> Parts<T> {
         Ok(())
     }
 
-    /// Makes room for n members in all: the capacity is then that of the fewest segments that have it, or what it was. After a
-    /// refusal nothing else has changed, and it may be larger.
+    /// Makes room for n members in all: the capacity is then that of the fewest segments that hold them, or
+    /// stays if it was larger. After a refusal nothing else has changed, and the capacity may be larger.
     pub fn room(&mut self, n: u64) -> Result<(), AllocError>
         requires { n ≤ self.old.limit }
         ensures members { self.new.members ≡ self.old.members }
         ensures limit { self.new.limit ≡ self.old.limit }
         ensures layout { self.new.layout ≡ self.old.layout }
         ensures room { IfOk result (λ _. n ≤ capacity_of self.new) }
-        // Where there is room, no memory is asked for.
+        // If there is room, no memory is asked for.
         ensures spare { n ≤ capacity_of self.old → IsOk result }
         ensures kept { self.old.segments ≤ self.new.segments }
         ensures least { (k : ℕ) → self.old.segments ≤ k → k < self.new.segments → segment_start self.old.layout k < n }
@@ -252,7 +254,7 @@ impl<T: Drop> Parts<T> {
         self.keys[self.count as usize] = None;
     }
 
-    /// Gives up each segment that lies wholly above the members. It takes no memory.
+    /// Drops each segment that lies wholly above the members. It takes no memory.
     pub fn cut(&mut self)
         ensures members { self.new.members ≡ self.old.members }
         ensures limit { self.new.limit ≡ self.old.limit }
@@ -284,7 +286,7 @@ impl<T: Drop> Parts<T> {
         self.len += 1;
     }
 
-    /// The last member, moved out, or nothing where it is broken. It takes no memory.
+    /// Moves the last member out, or returns `None` if it was broken. It takes no memory.
     pub fn pop(&mut self) -> Option<T>
         requires { 0 < length self.old.members }
         ensures member { self.old.members ≡ self.new.members ++ result ∷ [] }
@@ -302,8 +304,8 @@ impl<T: Drop> Parts<T> {
         value
     }
 
-    /// The member at the place is another one from now on: a value or, with `None`, broken. It answers the value that was there, or
-    /// nothing where it was broken. It takes no memory.
+    /// Replaces the member at the place by a value or, with `None`, breaks it, and returns the value that was
+    /// there, or `None` if it was broken. It takes no memory.
     pub fn replace(&mut self, place: u64, value: Option<T>) -> Option<T>
         requires { place < length self.old.members }
         ensures members { self.new.members ≡ slice_set self.old.members place value }

@@ -7,7 +7,8 @@ use crate::vector::Shared;
 use std::iter::FusedIterator;
 use std::marker::Model;
 
-/// What the places of a vector show, in order. An item is `None` where its place shows no value: not yet, or since it is broken.
+/// What the places of a vector show, in order. An item is `None` if its place shows no value: not yet, or
+/// because it is broken.
 #[derive(Drop)]
 pub struct Published<'a, T> {
     vector: &'a Shared<T>,
@@ -30,8 +31,8 @@ impl<'a, T> Model for Published<'a, T> {
 }
 
 impl<T> Shared<T> {
-    /// What each place shows, from place 0 to the size that one load finds now, for a caller without a hand. Each item is
-    /// one look, taken when it is asked for.
+    /// Walks over what each place shows, from place 0 to the size that one load finds now, for a caller
+    /// without a hand. Each item is one look, taken when it is asked for.
     pub fn published(&self) -> Published<'_, T>
         ensures vector { result.vector ≡ self.now }
         ensures from { result.place ≡ 0 }

@@ -25,7 +25,7 @@ impl<T: Drop> Shared<T> {
         requires ours { IsHandOf self.now hand.old }
         ensures won { IfOk result (WonPlace self.now value hand.old hand.new) }
         ensures refused { IfErr result (Refuses self.now 1 value hand.old hand.new) }
-        // No room is told by what the hand has seen, before memory is asked for.
+        // Room that is missing by what the hand has seen is reported before memory is asked for.
         ensures full { HasNoRoom self.now 1 hand.old → IsErrAnd result SaysFull }
     {
         let from = self.size(hand);
@@ -76,8 +76,8 @@ impl<T: Drop> Shared<T> {
         }
     }
 
-    /// As `try_push_back`, but it begins at the size that the hand has seen, and tries again where another caller was
-    /// first.
+    /// Appends a value like `try_push_back`, but begins at the size that the hand has seen, and retries if
+    /// another caller was first.
     #[inline(always)]
     pub fn push_back<R: Wait>(
         &self,

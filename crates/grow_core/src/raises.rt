@@ -3,8 +3,8 @@ ghost use Rattle.std.specs.Prelude.{◌≡◌, ◌+◌, ◌<◌, ◌≤◌, [], 
 ghost use Rattle.claim_core.specs.Hand.{seen_size};
 ghost use Rattle.grow_core.specs.Vector.{IsHandOf, limit_of};
 ghost use Rattle.grow_core.specs.Growth.{SaysFull, ClaimsNothing};
-ghost use Rattle.grow_core.specs.Making.{StopsAfter, IsRefusedBy};
-ghost use Rattle.grow_core.specs.AtLeast.{WonAtLeast, RefusesAtLeast, SaysEnough, ReachesSize, IsSpared};
+ghost use Rattle.grow_core.specs.Making.{StopsAfter, IsRefusedBy, LeavesMaker};
+ghost use Rattle.grow_core.specs.AtLeast.{WonAtLeast, MadeUpTo, RefusesAtLeast, SaysEnough, ReachesSize, IsSpared};
 
 use crate::claims::Claimed;
 use crate::errors::GrowError;
@@ -15,7 +15,7 @@ use crate::token::Placed;
 use crate::vector::Shared;
 use claim_core::{Enough, laws};
 
-/// What a growth up to a size came to.
+/// The result of a growth up to a size.
 #[derive(Debug, Drop)]
 pub enum AtLeast<T> {
     /// It appended this run, which ends at the size that was asked for.
@@ -32,21 +32,41 @@ pub(crate) enum Reached<T> {
 }
 
 impl<T: Drop> Shared<T> {
-    /// Appends the fewest values with which the size is at least `size`, in one run that `make` makes, as in `try_grow_with`: it
-    /// is asked for 0, 1, .. once the run is won. Where the size is large enough nothing is appended, and it is told. It claims
-    /// by one greatest-value step, its linearization point, waits for nobody, and never answers `Moved`.
+    /// Appends the fewest values that make the size at least `size`, in one run that `make` makes as in
+    /// `try_grow_with`: it is called with 0, 1, 2 and so on once the run is won. If the size is large enough,
+    /// nothing is appended and that size is returned. It claims by one greatest-value step, its linearization
+    /// point, waits for nobody, and never returns `Moved`.
     pub fn grow_to_at_least<E: Drop, F: FnMut(u64) -> Result<T, E>>(
         &self,
         hand: &mut Hand<T>,
         size: u64,
-        make: F,
+        mut make: F,
     ) -> Result<AtLeast<T>, GrowError<T, (), E>>
         requires ours { IsHandOf self.now hand.old }
         requires callable { F.IsAlwaysCallable make }
         ensures won { IfOk result (WonAtLeast F.step make self.now size hand.old hand.new) }
         ensures refused { IfErr result (RefusesAtLeast self.now size hand.old hand.new) }
         ensures cause { IfErr result (IsRefusedBy (StopsAfter F.step make)) }
-        // What the hand has seen, or the limit, tells before memory is asked for.
+        // The hand's size or the limit decides before memory is asked for.
+        ensures enough { size ≤ seen_size hand.old → IsOkAnd result SaysEnough }
+        ensures full { limit_of self.now < size → IsErrAnd result SaysFull }
+    {
+        self.make_up_to(hand, size, &mut make)
+    }
+
+    // As `grow_to_at_least`. What the maker is afterwards says that it was asked for these values alone.
+    fn make_up_to<E: Drop, F: FnMut(u64) -> Result<T, E>>(
+        &self,
+        hand: &mut Hand<T>,
+        size: u64,
+        make: &mut F,
+    ) -> Result<AtLeast<T>, GrowError<T, (), E>>
+        requires ours { IsHandOf self.now hand.old }
+        requires callable { F.IsAlwaysCallable make.old }
+        ensures won { IfOk result (WonAtLeast F.step make.old self.now size hand.old hand.new) }
+        ensures made { IfOk result (MadeUpTo F.step make.old make.new) }
+        ensures refused { IfErr result (RefusesAtLeast self.now size hand.old hand.new) }
+        ensures asked { IfErr result (LeavesMaker F.step make.old make.new) }
         ensures enough { size ≤ seen_size hand.old → IsOkAnd result SaysEnough }
         ensures full { limit_of self.now < size → IsErrAnd result SaysFull }
     {

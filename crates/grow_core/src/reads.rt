@@ -31,7 +31,7 @@ pub enum Shown<'a, T> {
 }
 
 impl<T> Shared<T> {
-    /// The value at the place. With a token it is one look at the place, and without one a load of the
+    /// Returns the value at the place. With a token this is one look at the place; without one, a load of the
     /// size comes first.
     #[inline(always)]
     pub fn at<'a>(
@@ -72,8 +72,8 @@ impl<T> Shared<T> {
         }
     }
 
-    /// What the place shows now, by one look and without a hand. Nothing is shown yet of a place that nobody claimed, or
-    /// that is past the limit.
+    /// Looks once at what the place shows now, without a hand. A place that nobody claimed, or past the
+    /// limit, shows nothing yet.
     #[inline]
     pub fn look(&self, place: u64) -> Shown<'_, T>
         ensures shown { IsShownAt self.now place result }
@@ -107,7 +107,7 @@ impl<T> Shared<T> {
         })
     }
 
-    // A token of a place where the opened list has a value has that value. It tells a proof so.
+    // Shows a proof that a token has the value of the opened list, if that has one at its place.
     fn opened_agrees(&self, placed: &Placed<T>)
         requires { IsPlacedOf self.now placed.now }
         ensures { (x : T) → IsOpenedAt self.now placed.now.place x → placed.now.value ≡ x }
@@ -141,7 +141,7 @@ impl<T> Shared<T> {
         }
     }
 
-    /// The token's value, by one look at its place.
+    /// Returns the token's value, by one look at its place.
     #[inline(always)]
     pub fn get<'a>(&'a self, placed: &Placed<T>) -> &'a T
         requires { IsPlacedOf self.now placed.now }
@@ -150,7 +150,7 @@ impl<T> Shared<T> {
         self.table.known(&placed.key).value(&placed.cell)
     }
 
-    /// Two tokens of one place have one value. It tells a proof so.
+    /// Shows a proof that two tokens of one place have one value.
     pub fn agree(&self, a: &Placed<T>, b: &Placed<T>)
         requires ours { IsPlacedOf self.now a.now }
         requires also_ours { IsPlacedOf self.now b.now }

@@ -8,8 +8,9 @@ use crate::token::Placed;
 use seg_core::laws::places;
 
 impl<T> Parts<T> {
-    /// The token's value, which is the list's member at its place. The token is of the vector that the list was closed from, and
-    /// the list is as it was then. That the place is below the length is known to whoever has seen it claimed.
+    /// Returns the token's value, which is the list's member at its place. The list must have been closed
+    /// from the token's vector and be unchanged since. A caller knows that the place is below the length if
+    /// it has seen the place claimed.
     pub fn recall(&self, placed: &Placed<T>) -> &T
         requires { IsOfClosed self.now.closed placed.now }
         ensures value { result.now ≡ placed.now.value }

@@ -10,7 +10,7 @@ use crate::vector::Shared;
 use claim_core::laws;
 
 impl<T> Shared<T> {
-    /// Gives some of the shares to a new hand, which has seen the same. It tells nothing of the size.
+    /// Splits shares off into a new hand, which has seen the same. It shows no size.
     pub fn split(&self, hand: &mut Hand<T>, shares: u32) -> Hand<T>
         requires ours { IsHandOf self.now hand.old }
         requires some_shares { 0 < shares }
@@ -23,7 +23,8 @@ impl<T> Shared<T> {
         Hand::of(self.word.split(&mut hand.claims, shares))
     }
 
-    /// Puts the other hand's runs and shares into the hand, which has then seen the more of what the two had seen.
+    /// Joins the other hand's runs and shares into the hand, which has then seen whichever is more of what
+    /// the two had seen.
     pub fn join(&self, hand: &mut Hand<T>, other: Hand<T>)
         requires ours { IsHandOf self.now hand.old }
         requires also_ours { IsHandOf self.now other }

@@ -15,7 +15,7 @@ fn place_of(key: &Key, offset: u64) -> u64
     key.layout().first(key.entry()) + offset
 }
 
-/// Shows that a place holds a value, for good. It crosses threads, and takes 16 bytes.
+/// Evidence that a place holds a value, which it keeps. It crosses threads, and takes 16 bytes.
 #[derive(Drop)]
 pub struct Placed<T> {
     pub(crate) key: Key,
@@ -43,14 +43,14 @@ impl<T> fmt::Debug for Placed<T> {
 }
 
 impl<T> Placed<T> {
-    /// The place in the vector.
+    /// Returns the place in the vector.
     pub fn place(&self) -> u64
         ensures { result ≡ self.now.place }
     {
         place_of(&self.key, self.cell.place())
     }
 
-    /// The token once more.
+    /// Duplicates the token.
     pub fn again(&self) -> Placed<T>
         ensures { result ≡ self.now }
     {
@@ -61,7 +61,8 @@ impl<T> Placed<T> {
     }
 }
 
-/// Shows that a place was broken. It crosses threads, and takes 16 bytes. The place may have been mended since.
+/// Evidence that a place was broken. It crosses threads, and takes 16 bytes. The place may have been mended
+/// since.
 #[derive(Drop)]
 pub struct Spoilt {
     pub(crate) key: Key,
@@ -89,14 +90,14 @@ impl fmt::Debug for Spoilt {
 }
 
 impl Spoilt {
-    /// The place in the vector.
+    /// Returns the place in the vector.
     pub fn place(&self) -> u64
         ensures { result ≡ self.now.place }
     {
         place_of(&self.key, self.cell.place())
     }
 
-    /// The token once more.
+    /// Duplicates the token.
     pub fn again(&self) -> Spoilt
         ensures { result ≡ self.now }
     {
@@ -107,7 +108,7 @@ impl Spoilt {
     }
 }
 
-/// Shows that another caller began a place. It takes 16 bytes.
+/// Evidence that another caller began a place. It takes 16 bytes.
 #[derive(Drop)]
 pub struct Begun {
     pub(crate) key: Key,
@@ -135,7 +136,7 @@ impl fmt::Debug for Begun {
 }
 
 impl Begun {
-    /// The place in the vector.
+    /// Returns the place in the vector.
     pub fn place(&self) -> u64
         ensures { result ≡ self.now.place }
     {
@@ -143,7 +144,7 @@ impl Begun {
     }
 }
 
-/// What stood at a place that another caller began.
+/// What a call found at a place that another caller began.
 #[derive(Debug, Drop)]
 pub enum Found<T> {
     /// Nothing yet: it is being filled.

@@ -14,8 +14,8 @@ use std::fmt;
 use std::marker::Model;
 use table_core::Table;
 
-/// A vector that many callers share. Contracts see which vector it is, its limit and its base, and the list that it was opened
-/// from.
+/// A vector that many callers share. Contracts see which vector it is, its limit and its base, and the list
+/// that it was opened on.
 #[derive(Drop)]
 pub struct Shared<T> {
     pub(crate) word: Word<Global>,
@@ -52,21 +52,21 @@ impl<T> fmt::Debug for Shared<T> {
 }
 
 impl<T> Shared<T> {
-    /// The greatest size that it may have.
+    /// Returns the greatest size that the vector may have.
     pub fn limit(&self) -> u64
         ensures { result ≡ limit_of self.now }
     {
         self.word.limit()
     }
 
-    /// How its places are cut into segments.
+    /// Returns how the vector's places are divided into segments.
     pub fn layout(&self) -> Layout
         ensures { result ≡ layout_of self.now }
     {
         self.table.layout()
     }
 
-    /// What every vector keeps: it began with the list that it was opened from. It does nothing.
+    /// Shows a proof that the vector began with the list that it was opened on. The call does nothing.
     pub fn laws(&self)
         ensures bounds { AreBounds (limit_of self.now) (base_of self.now) }
         ensures opened { length self.now.opened ≡ base_of self.now }
@@ -74,7 +74,7 @@ impl<T> Shared<T> {
         let _table = &self.table;
     }
 
-    /// The size now, by one load.
+    /// Returns the size now, by one load.
     pub fn size(&self, hand: &mut Hand<T>) -> u64
         requires ours { IsHandOf self.now hand.old }
         ensures seen { SeesSize hand.old hand.new result }

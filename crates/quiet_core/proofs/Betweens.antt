@@ -22,7 +22,7 @@ module _ {X : Type 0} where
   pub drop_set : (xs : List X) (i : ℕ) (x : X) → drop (i + 1) (slice_set xs i x) ≡ drop (i + 1) xs
   drop_set xs i x = subst (λ n. drop n (slice_set xs i x) ≡ drop n xs) (sym (add-one i)) (drop_set_suc xs i x)
 
-  -- what is left from a place on, where the last one is given up
+  -- what is left from a place on, when the last one is removed
   pub drop_last : (xs : List X) (i : ℕ) (x : X) → i ≤ length xs → drop i (xs ++ x ∷ []) ≡ drop i xs ++ x ∷ []
   drop_last xs zero x within = refl
   drop_last [] (suc i) x within = absurd (omega (arith, within))

@@ -15,7 +15,7 @@ starts_whole f (suc k) = inr (k, refl)
 whole_start : (f places : ℕ) → IsWhole f places → (j : ℕ) × (places ≡ segment_start f j)
 whole_start f places whole = ⊎_elim (λ none. (0, none)) (λ some. (suc some.0, some.1)) whole
 
--- where each segment but the last is needed for n members, no fewer have room for them
+-- if each segment except the last is needed for n members, no fewer have room for them
 no_fewer : (f n segments other : ℕ) → ((k : ℕ) → k < segments → segment_start f k < n) → IsWhole f other → n ≤ other → segment_start f segments ≤ other
 no_fewer f n segments other least whole room =
     let start = whole_start f other whole in let j : ℕ = start.0 in let is = start.1 in

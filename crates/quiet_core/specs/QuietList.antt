@@ -7,8 +7,9 @@ use Rattle.std.specs.declared.cmp.Ordering.{Ordering}
 use Rattle.seg_core.specs.Segment.{segment_end}
 use Rattle.grow_core.specs.Parts.{PartsView, capacity_of}
 
--- each member is a value or broken (`None`); the greatest length; the layout of the segments; the places of those that are there; and,
--- where it was closed from a vector and is as it was then, the mark of that vector's segments
+-- each member is a value or broken (`None`); the greatest length; the layout of the segments; the places of
+-- the installed ones; and, if the list was closed from a vector and is unchanged since, the mark of that
+-- vector's segments
 pub record QuietList (T : Type 0) : Type 0 where
   pub members : List (Option T)
   pub limit : ℕ
@@ -61,7 +62,7 @@ module _ {T : Type 0} where
   abbrev pub same_members : (T → T → Bool) → QuietList T → QuietList T → Bool
   same_members eq a b = pointwise (option_eq eq) a.members b.members
 
-  -- the order of the first members that differ, broken below every value; else the shorter list is less
+  -- the order of the first members that differ, broken below every value; otherwise the shorter list is less
   abbrev pub partial_order : (T → T → Option Ordering) → QuietList T → QuietList T → Option Ordering
   partial_order cmp a b = slice_partial_cmp (option_partial_cmp cmp) a.members b.members
 

@@ -20,17 +20,17 @@ module _ {F T E : Type 0} (step : F → ℕ → Result T E → F → Type 0) (ma
   abbrev pub IsMade : ℕ → List (Option T) → List (Option T) → Type 0
   IsMade n old new = (values : List T) × (last : F) × Makes step maker values last × (length values ≡ n) × (new ≡ old ++ map Some values)
 
-  -- so many values that it made were appended, and its next answer was a refusal
+  -- n values that the maker made were appended, and its next result was a refusal
   abbrev pub IsStopped : ℕ → List (Option T) → List (Option T) → Type 0
   IsStopped made old new =
       (values : List T) × (cause : E) × StopsAfter step maker values cause × (length values ≡ made) × (new ≡ old ++ map Some values)
 
-  -- the first members are left, or what the maker answered for 0, 1, .. in turn was appended
+  -- the first members are left, or what the maker returned for 0, 1, 2 and so on was appended
   pub record IsResized (n : ℕ) (old new : List (Option T)) : Type 0 where
     pub cut : n ≤ length old → new ≡ take n old
     pub grown : length old < n → IsMade (n - length old) old new
 
-  -- the values that the maker made before it refused were appended, so many, and then broken members
+  -- the `made` values that the maker made before it refused were appended, and then broken members
   pub record IsBrokenOff (n made : ℕ) (old new : List (Option T)) : Type 0 where
     pub fewer : length old + made < n
     pub middle : List (Option T)

@@ -10,7 +10,7 @@ use crate::iter::Members;
 use crate::quiet::Quiet;
 use std::cmp::Ordering;
 
-// Whether there are as many members on both sides, and each two at one place are equal.
+// Tests whether both sides have equally many members, equal at each place.
 fn are_same<T: PartialEq>(mut mine: Members<'_, T>, mut theirs: Members<'_, T>) -> bool
     ensures { result ≡ pointwise (option_eq T.eq) mine.entry theirs.entry }
 {

@@ -9,8 +9,8 @@ pub enum QuietError {
     NoMemory,
     /// The length would be above the limit. Nothing is changed, and no memory was asked for.
     TooLong,
-    /// A value could not be made, after so many were. The list is as long as was asked for, and the members from there on are
-    /// broken.
+    /// A value could not be made, after `made` values were. The list has the length that was asked for, and
+    /// its members from there on are broken.
     Refused { made: u64 },
 }
 
@@ -34,7 +34,7 @@ impl Error for QuietError {}
 /// Why a place has no value to lend.
 #[derive(Clone, Copy, Debug, PartialEq, Eq)]
 pub enum QuietAt {
-    /// The place is not below the length, which is told.
+    /// The place is not below the length, `size`.
     OutOfRange { size: u64 },
     /// The member is broken.
     Broken,
@@ -59,7 +59,7 @@ impl Error for QuietAt {}
 /// Why a member was not mended.
 #[derive(Clone, Copy, Debug, PartialEq, Eq)]
 pub enum QuietMendError {
-    /// The place is not below the length, which is told.
+    /// The place is not below the length, `size`.
     OutOfRange { size: u64 },
     /// The member has a value.
     Filled,

@@ -8,8 +8,8 @@ use grow_core::Parts;
 use std::iter::FusedIterator;
 use std::marker::Model;
 
-/// The members that are left, in order of place. An item is `None` for a broken member. It takes no memory, and drops what is left
-/// when it is dropped.
+/// The members that are left, in order of place. An item is `None` for a broken member. The iterator takes no
+/// memory, and dropping it drops the members that are left.
 #[derive(Drop)]
 pub struct IntoMembers<T> {
     parts: Parts<T>,

@@ -34,7 +34,7 @@ impl<'a, T> Model for Members<'a, T> {
 }
 
 impl<T> Quiet<T> {
-    /// The members in order of place.
+    /// Iterates over the members in order of place.
     pub fn iter(&self) -> Members<'_, T>
         ensures { result ≡ self.now.members }
     {

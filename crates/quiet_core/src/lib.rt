@@ -1,4 +1,4 @@
-//! What one owner does with a vector when nobody else has it: a list of values and broken members with a limit.
+//! The list that one owner has of a vector, when nobody else has it: values and broken members, with a limit.
 //!
 //! Contracts see a `Quiet<T>` as its members, its limit and its capacity (`specs/QuietList.antt`). A member is a value,
 //! or broken (`None`). The capacity counts the places of whole segments, also past the limit.
@@ -7,8 +7,9 @@
 //! refusal gives back what was moved in. Up to the capacity no call asks for memory. Equality and order look at the
 //! members alone, and a broken member is less than every value.
 //!
-//! A list opens into a vector that many threads share, and a vector closes into a list: `Quiet::open`, `close`, `recall`. A broken
-//! member comes from a vector: a place that was claimed and never filled.
+//! A list opens into a vector that many threads share, and a vector closes into a list: `Quiet::open`,
+//! `close`, `recall`. Broken members come from a vector (places that were claimed but never filled, and
+//! refused constructions) and from a refused `resize`.
 #![tactic(auto)]
 
 mod compare;

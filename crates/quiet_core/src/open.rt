@@ -8,9 +8,9 @@ use crate::quiet::Quiet;
 use grow_core::{Hand, OpenError, Placed, Shared};
 
 impl<T> Quiet<T> {
-    /// The vector that begins with the members of the list, and the hand that has all shares. No member is moved, and none is
-    /// looked at: it takes two small allocations, whatever the length. A refusal is that there is no memory, and gives the list
-    /// back as it was.
+    /// Opens the list into a vector that begins with its members, with the hand that has all shares. It moves
+    /// no member and looks at none: it takes two small allocations, at any length. The only refusal is out of
+    /// memory, and it gives the list back unchanged.
     pub fn open(self) -> Result<(Shared<T>, Hand<T>), (Quiet<T>, OpenError)>
         ensures opened { IfOk result (λ (vector, _). vector.opened ≡ self.members) }
         ensures limit { IfOk result (λ (vector, _). limit_of vector ≡ self.limit) }
@@ -27,8 +27,9 @@ impl<T> Quiet<T> {
         }
     }
 
-    /// The token's value, which is the list's member at its place. The token is of the vector that the list was closed from, and
-    /// no call has changed the list since. That the place is below the length is known to whoever has seen it claimed.
+    /// Returns the token's value, which is the list's member at its place. The list must have been closed
+    /// from the token's vector and be unchanged since. A caller knows that the place is below the length if
+    /// it has seen the place claimed.
     pub fn recall(&self, placed: &Placed<T>) -> &T
         requires { IsOfClosed self.now.closed placed.now }
         ensures value { result.now ≡ placed.now.value }
@@ -40,10 +41,10 @@ impl<T> Quiet<T> {
 }
 
 impl<T: Drop> Quiet<T> {
-    /// The list that the vector is once nobody else has it: as long as its size, with what each place holds. A place that was
-    /// claimed and never filled is broken. No value is moved, and it takes no memory; its time is linear in the size. The
-    /// capacity is that of the segments that are there. A vector of which a hand was lost can't be closed: it is dropped with
-    /// its values.
+    /// Closes the vector into the list of its values, as long as its size. A place that was claimed but never
+    /// filled is broken. It moves no value and takes no memory; its time is linear in the size. The capacity
+    /// is that of the installed segments. A vector that lost a hand cannot be closed; it is dropped with its
+    /// values.
     pub fn close(vector: Shared<T>, hand: Hand<T>) -> Quiet<T>
         requires ours { IsHandOf vector hand }
         requires whole { IsWholeHand hand }

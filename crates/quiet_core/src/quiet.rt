@@ -36,7 +36,7 @@ impl<T: fmt::Debug> fmt::Debug for Quiet<T> {
 }
 
 impl<T> Quiet<T> {
-    /// The empty list, whose first segment has two places. It takes no memory yet.
+    /// Makes an empty list whose first segment has two places. It takes no memory yet.
     pub fn new(alloc: Global, limit: u64) -> Self
         requires { IsLimit limit }
         ensures members { result.members ≡ [] }
@@ -47,7 +47,7 @@ impl<T> Quiet<T> {
         Quiet::new_in(alloc, Layout::default(), limit)
     }
 
-    /// The empty list, whose segments are those of the layout. It takes no memory yet.
+    /// Makes an empty list with the segments of the layout. It takes no memory yet.
     pub fn new_in(alloc: Global, layout: Layout, limit: u64) -> Self
         requires { IsLimit limit }
         ensures members { result.members ≡ [] }
@@ -60,14 +60,14 @@ impl<T> Quiet<T> {
         }
     }
 
-    /// How its places are cut into segments.
+    /// Returns how the list's places are divided into segments.
     pub fn layout(&self) -> Layout
         ensures { result ≡ self.now.layout }
     {
         self.parts.layout()
     }
 
-    /// How many members there are.
+    /// Returns the number of members.
     pub fn len(&self) -> u64
         ensures value { result ≡ length self.now.members }
         ensures within { result ≤ self.now.limit }
@@ -77,7 +77,7 @@ impl<T> Quiet<T> {
         self.parts.len()
     }
 
-    /// The greatest length that the list may reach.
+    /// Returns the greatest length that the list may reach.
     pub fn limit(&self) -> u64
         ensures value { result ≡ self.now.limit }
         ensures range { IsLimit result }
@@ -87,7 +87,8 @@ impl<T> Quiet<T> {
         self.parts.limit()
     }
 
-    /// The places of the segments that are there, also past the limit. Up to it no call asks for memory.
+    /// Returns the places of the installed segments, also past the limit. Up to this capacity no call asks
+    /// for memory.
     pub fn capacity(&self) -> u64
         ensures value { result ≡ self.now.capacity }
         ensures whole { IsWhole self.now.layout result }
@@ -96,7 +97,8 @@ impl<T> Quiet<T> {
         self.parts.capacity()
     }
 
-    /// The value at a place. A refusal says that the place is not below the length, or that its member is broken.
+    /// Returns the value at a place, or says that the place is not below the length, or that its member is
+    /// broken.
     pub fn get(&self, place: u64) -> Result<&T, QuietAt>
         ensures value { IfOk result (λ x. slice_get self.now.members place ≡ Some (Some x.now)) }
         ensures refused { IfErr result (IsRefusalAt self.now.members place) }
@@ -135,7 +137,7 @@ impl<T: Drop> Quiet<T> {
         }
     }
 
-    /// The list of these values.
+    /// Makes a list of these values.
     ///
     /// Its time and memory are linear in the values. It takes memory of its own for them.
     pub fn from_vec(
@@ -160,9 +162,10 @@ impl<T: Drop> Quiet<T> {
         }
     }
 
-    /// Appends a value and answers its place.
+    /// Appends a value and returns its place.
     ///
-    /// Where a segment has to be added, its time and memory are linear in the members; else they are constant.
+    /// If a segment has to be added, its time and memory are linear in the members; otherwise they are
+    /// constant.
     pub fn push(&mut self, value: T) -> Result<u64, (QuietError, T)>
         ensures place { IfOk result (λ place. place ≡ length self.old.members) }
         ensures appended { OnOk result (self.new.members ≡ self.old.members ++ Some value ∷ []) }
@@ -191,7 +194,7 @@ impl<T: Drop> Quiet<T> {
 
     /// Replaces the members by these values, and drops the members that were there.
     ///
-    /// Its time is linear in both. It takes memory where there are more values than the capacity.
+    /// Its time is linear in both. It takes memory if there are more values than the capacity.
     pub fn assign(&mut self, values: Vec<T>) -> Result<(), (QuietError, Vec<T>)>
         ensures members { OnOk result (self.new.members ≡ map Some values.items) }
         ensures limit { self.new.limit ≡ self.old.limit }
@@ -228,9 +231,9 @@ impl<T: Drop> Quiet<T> {
         cut_to(&mut self.parts, 0);
     }
 
-    /// Drops the members from place n on, or appends values that `make` makes until there are n: it is asked for 0, 1, .. in turn. After
-    /// its first refusal it is not asked again, and the list is as long as was asked for, with broken members from there on; the
-    /// cause is dropped.
+    /// Drops the members from place n on, or appends values that `make` makes until there are n: it is called
+    /// with 0, 1, 2 and so on. After its first refusal it is not called again, and the list has the length
+    /// that was asked for, with broken members from there on; the cause is dropped.
     ///
     /// Its time is linear in the members that go or come.
     pub fn resize<E: Drop, F: FnMut(u64) -> Result<T, E>>(
@@ -263,7 +266,7 @@ impl<T: Drop> Quiet<T> {
         }
     }
 
-    /// Gives up every segment that lies wholly above the length.
+    /// Drops every segment that lies wholly above the length.
     pub fn shrink_to_fit(&mut self)
         ensures members { self.new.members ≡ self.old.members }
         ensures limit { self.new.limit ≡ self.old.limit }
@@ -274,7 +277,7 @@ impl<T: Drop> Quiet<T> {
         let _room = self.parts.capacity();
     }
 
-    /// The value is the member at the place from now on. It answers the value that was there. A refusal says, as `get` does, that
+    /// Replaces the value at the place, and returns the one that was there. A refusal says, like `get`, that
     /// the place is not below the length, or that its member is broken, and gives the value back.
     pub fn replace(&mut self, place: u64, value: T) -> Result<T, (QuietAt, T)>
         ensures value { IfOk result (λ x. slice_get self.old.members place ≡ Some (Some x)) }

@@ -43,7 +43,8 @@ pub(crate) fn cut_to<T: Drop>(parts: &mut Parts<T>, n: u64)
     }
 }
 
-// Appends n values that the maker makes, or, where it refuses, those before: the answer is then how many. There is room for them.
+// Appends n values that the maker makes, or, if it refuses, those before, and then returns how many. There is
+// room for them.
 pub(crate) fn append_made<T: Drop, E: Drop, F: FnMut(u64) -> Result<T, E>>(
     parts: &mut Parts<T>,
     n: u64,

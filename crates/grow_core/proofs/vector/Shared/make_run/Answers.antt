@@ -1,20 +1,19 @@
 use Rattle.std.proofs.Common.{of_calls, ◌≡◌, ◌+◌, map, length, subst, sym, arith}
 use Rattle.grow_core.specs.Making.{Makes}
 use Rattle.grow_core.proofs.Filling.{IsFilled, filled_more, filled_self}
-use Rattle.grow_core.proofs.Made.{token_values, made_none, made_more, stops_after, refused_by_map}
+use Rattle.grow_core.proofs.Made.{token_values, made_none, made_more, stops_at, left_by_stop}
 use Rattle.grow_core.proofs.vector.Shared.make_run.Goals as goal
 
 pub returns-then-run-eq0-clause-made : goal.returns-then-run-eq0-clause-made
-returns-then-run-eq0-clause-made g c = made_none {E = g.row.E.Denot} (goal.F-step g) c.args.make c.args.claimed.tokens.items c.requires.tokens
+returns-then-run-eq0-clause-made g c = made_none {E = g.row.E.Denot} (goal.F-step g) c.args.make.now c.args.claimed.tokens.items c.requires.tokens
 
-pub returns-in-Err-clause-cause : goal.returns-in-Err-clause-cause
-returns-in-Err-clause-cause g c =
+pub returns-in-Err-clause-asked : goal.returns-in-Err-clause-asked
+returns-in-Err-clause-asked g c =
     let at = c.loop-i in
     let n : length at.tokens.items ≡ at.i = omega (arith, at.tokens.ok, at.invariant.2) in
-    refused_by_map _ _ c.stop.result
-    (stops_after (goal.F-step g) c.args.make at.tokens.items at.make c.make.new.self c.in-Err.cause at.i at.invariant.1 n
+    left_by_stop (goal.F-step g) c.args.make.now c.args.self.now c.args.claimed.run _ _ c.make.new.self c.stop.result c.stop.ensures.stopped c.stop.ensures.cause
+    (stops_at (goal.F-step g) c.args.make.now at.tokens.items at.make c.make.new.self c.in-Err.cause at.i at.invariant.1 n
     (subst (λ r. goal.F-step g at.make at.i r c.make.new.self) c.in-Err.is c.make.ensures))
-    c.stop.ensures.cause
 
 pub part_on-part-requires : goal.part_on-part-requires
 part_on-part-requires g c =
@@ -30,8 +29,8 @@ loop-i-preserved g c =
     let filled = filled_self _ _ _ _ (filled_more c.args.self.now c.args.claimed.run _ at.tokens.items c.in-Ok.value token at.invariant.0
     c.in-Ok-fill.ensures.token here c.in-Ok-fill.ensures.value) in (
       subst (λ ts. IsFilled c.args.self.now c.args.claimed.run (map (λ token. token.value) ts) ts) (sym c.push_reserved.ensures.items) filled,
-      subst (λ ts. Makes (goal.F-step g) c.args.make (token_values ts) c.make.new.self) (sym c.push_reserved.ensures.items)
-          (made_more (goal.F-step g) c.args.make at.tokens.items token at.make c.make.new.self c.in-Ok.value at.i at.invariant.1 n
+      subst (λ ts. Makes (goal.F-step g) c.args.make.now (token_values ts) c.make.new.self) (sym c.push_reserved.ensures.items)
+          (made_more (goal.F-step g) c.args.make.now at.tokens.items token at.make c.make.new.self c.in-Ok.value at.i at.invariant.1 n
           (subst (λ r. goal.F-step g at.make at.i r c.make.new.self) c.in-Ok.is c.make.ensures) c.in-Ok-fill.ensures.value),
       omega (arith, c.push_reserved.ensures.len, at.invariant.2),
       omega (arith, c.push_reserved.ensures.capacity, at.invariant.3),

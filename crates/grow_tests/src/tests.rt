@@ -1,3 +1,4 @@
+mod asked;
 mod callers;
 mod drops;
 mod first;
@@ -16,6 +17,7 @@ mod says;
 mod shown;
 mod tokens;
 mod uses;
+mod ways;
 
 use callers::{Callers, list, on_two};
 use grow_core::Run;
@@ -56,7 +58,7 @@ fn a_try_looks_at_the_size_anew(rt: HostRuntime) {
     assert!(rt; on_two(&rt, 8, |two| tries_in_turn(&rt, two)));
 }
 
-// What both have seen, once one of them has appended and they have met.
+// The sizes that both have seen, once one of them has appended and they have met.
 fn meets(two: &mut Callers<u64>) -> bool {
     let shares = (two.a.share(), two.b.share());
     let _placed = two.push_b(5);

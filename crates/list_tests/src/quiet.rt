@@ -1,6 +1,7 @@
-//! What no clause says: that the calls succeed where there is memory, and what the worked rows say.
+//! Facts that no clause states: that the calls succeed if there is memory, and the worked examples.
 ghost use Rattle.seg_core.specs.Segment.{IsLimit};
 
+mod drops;
 mod layouts;
 mod lives;
 mod memory;
@@ -32,7 +33,7 @@ fn list_of<R: AllocGlobal + Abort>(rt: &R, values: &[u64]) -> Quiet<u64> {
     listed(rt, 16, vec_of(rt, values))
 }
 
-// Whether a new list has the value and then a broken member.
+// Tests whether a new list has the value and then a broken member.
 fn breaks_the_second(list: &mut Quiet<u64>, value: u64) -> bool {
     let make = |i: u64| -> Result<u64, u64> { if i == 0 { Ok(value) } else { Err(i) } };
     list.resize(2, make) == Err(QuietError::Refused { made: 1 })
@@ -45,7 +46,7 @@ fn broken_after<R: AllocGlobal + Abort>(rt: &R, value: u64) -> Quiet<u64> {
     list
 }
 
-// Whether a list has the value at a place.
+// Tests whether a list has the value at a place.
 fn has(list: &Quiet<u64>, place: u64, value: u64) -> bool {
     list.get(place) == Ok(&value)
 }
@@ -54,7 +55,7 @@ fn is_broken(list: &Quiet<u64>, place: u64) -> bool {
     list.get(place) == Err(QuietAt::Broken)
 }
 
-// Whether a list has this length and this capacity.
+// Tests whether a list has this length and this capacity.
 fn measures(list: &Quiet<u64>, len: u64, capacity: u64) -> bool {
     list.len() == len && list.capacity() == capacity
 }
@@ -84,7 +85,7 @@ fn capacities_follow_the_segments(rt: HostRuntime) {
     assert!(rt; follows_the_segments(&mut list));
 }
 
-// Whether a list with a broken member is less than one with a zero there, and equal to its like.
+// Tests whether a list with a broken member is less than one with a zero there, and equal to its like.
 fn is_less(broken: &Quiet<u64>, zero: &Quiet<u64>, same: &Quiet<u64>) -> bool {
     *broken < *zero && *broken != *zero && *broken == *same
 }
@@ -135,13 +136,13 @@ fn members_come_from_both_ends(rt: HostRuntime) {
     assert!(rt; gives_from_both_ends(&list) && sum(&list) == 6);
 }
 
-// Whether three values of a limit of 16 and none of a limit of five are exchanged.
+// Tests whether three values of a limit of 16 and none of a limit of five are exchanged.
 fn are_exchanged(list: &mut Quiet<u64>, other: &mut Quiet<u64>) -> bool {
     list.swap(other);
     list.len() == 0 && list.limit() == 5 && other.len() == 3 && other.limit() == 16
 }
 
-// Whether a list with a limit of five refuses six values and takes five.
+// Tests whether a list with a limit of five refuses six values and takes five.
 fn assigns_five(list: &mut Quiet<u64>, six: Vec<u64>, five: Vec<u64>) -> bool {
     matches!(list.assign(six), Err((QuietError::TooLong, _)))
         && list.assign(five).is_ok()
@@ -165,7 +166,7 @@ fn pushes_on(list: &mut Quiet<u64>) -> bool {
     measures(list, 1_048_577, 1 << 21) && list.reserve(3_000_000) == Ok(())
 }
 
-// Whether five values stand where a million did. The capacity stays.
+// Tests whether five values stand where a million did. The capacity stays.
 fn assigns_after_a_million(list: &mut Quiet<u64>, five: Vec<u64>) -> bool {
     list.assign(five).is_ok() && measures(list, 5, 1 << 22) && has(list, 4, 9)
 }

@@ -1,8 +1,10 @@
-//! What no clause says: that the loops answer where there is memory, that two threads really run at once, and the
-//! gate's order.
+//! Facts that no clause states: that the loops return if there is memory, that two threads really run at
+//! once, and the gate's order.
 ghost use Rattle.std.specs.Prelude.{◌<◌};
 
+mod all_come;
 mod hands;
+mod many_hands;
 mod memory;
 mod refusals;
 mod stuck;
@@ -25,7 +27,7 @@ fn bounds_of(alloc: Global, span: Span) -> Result<Vec<(u64, u64)>, Fail> {
     Ok(bounds)
 }
 
-// Whether a span is cut into leaves with these bounds.
+// Tests whether a span is cut into leaves with these bounds.
 fn is_cut(alloc: Global, span: Span, bounds: &[(u64, u64)]) -> Result<bool, Fail> {
     let cut = bounds_of(alloc, span)?;
     Ok(cut.as_slice() == bounds)
@@ -83,7 +85,7 @@ fn leaves_are_cut_in_the_middle(rt: HostRuntime) -> Result<(), Fail> {
 
 const THREE: [(u64, Option<u64>); 3] = [(2, Some(4)), (3, Some(9)), (4, Some(16))];
 
-// Whether so many workers answer with the squares of 2, 3 and 4 and their places.
+// Tests whether `workers` workers return the squares of 2, 3 and 4 with their places.
 fn maps_three<R: Threads + Wait + Sync>(
     rt: &R,
     alloc: Global,
@@ -94,11 +96,11 @@ fn maps_three<R: Threads + Wait + Sync>(
         return Ok(false);
     }
     let f = |place: u64, value: Option<&u64>| (place, value.copied());
-    let all = par_map(rt, alloc, list, Span::new(2, 5, 1), workers, &f, &Free)?;
+    let all = par_map(rt, alloc, list, Span::new(2, 5, 1), workers, f, &Free)?;
     Ok(all.as_slice() == THREE.as_slice())
 }
 
-// The sum of the values by so many workers.
+// The sum of the values by `workers` workers.
 fn sum_of<R: Threads + Wait + Sync>(
     rt: &R,
     alloc: Global,
@@ -108,7 +110,7 @@ fn sum_of<R: Threads + Wait + Sync>(
     let f = |_place: u64, value: Option<&u64>| value.copied().unwrap_or(0);
     let join = |a: u64, b: u64| a.wrapping_add(b);
     let span = Span::new(0, list.len(), 3);
-    par_reduce(rt, alloc, list, span, workers, &f, 0u64, &join, &Free)
+    par_reduce(rt, alloc, list, span, workers, f, 0u64, join, &Free)
 }
 
 fn every_number_of_workers_answers_the_same<R: Threads + Wait + Sync>(
@@ -137,10 +139,10 @@ fn refusal_of<R: Threads + Wait + Sync, G: Gate + Sync>(
 {
     let f = |place: u64, _value: Option<&u64>| place;
     let span = Span::new(0, list.len(), grain);
-    par_map(rt, alloc, list, span, workers, &f, gate).err()
+    par_map(rt, alloc, list, span, workers, f, gate).err()
 }
 
-// What refuses a map in four leaves by so many workers, where two of them wait for each other.
+// The refusal of a map in four leaves by `workers` workers, if two of them wait for each other.
 fn pair_refusal_of<R: Threads + Wait + Sync>(
     rt: &R,
     alloc: Global,

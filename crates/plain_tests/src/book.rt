@@ -1,4 +1,5 @@
-//! What no clause says: that the calls succeed where there is memory, and that the table is the one that was meant.
+//! Facts that no clause states: that the calls succeed if there is memory, and that the table is the intended
+//! one.
 mod memory;
 
 use book_core::{BookError, Cell, CellVec, Event, Reply, Sequence, check};

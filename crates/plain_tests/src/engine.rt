@@ -6,6 +6,7 @@ mod memory;
 mod streams;
 
 use engine_core::{Engine, RunError, run_calls, run_steps, run_steps_counted};
+use script_core::ScriptError;
 use std::alloc::Global;
 use std::io::{Read, Write};
 
@@ -20,5 +21,18 @@ fn run<R: Read, W: Write>(
         Engine::Calls => run_calls(alloc, reader, writer),
         Engine::Steps => run_steps(alloc, reader, writer),
         Engine::Counted => run_steps_counted(alloc, reader, writer),
+    }
+}
+
+#[rattlefmt::skip]
+const NUMBERS: [(RunError, u8); 4] = [
+    (RunError::Script(ScriptError::Empty { line: 1 }), 1), (RunError::NoMemory, 2), (RunError::Read, 3),
+    (RunError::Write, 4),
+];
+
+#[test]
+fn each_error_has_its_number(rt: HostRuntime) {
+    for (error, number) in NUMBERS.as_slice() {
+        assert!(rt; error.number() == *number, "{error:?}");
     }
 }

@@ -1,4 +1,4 @@
-//! What no clause says: that the intervals are those that were meant.
+//! A fact that no clause states: that the intervals are the intended ones.
 use seg_core::{Layout, MOST_PLACES, capacity_for, first, len, locate, segments_of};
 
 #[test]
@@ -68,7 +68,7 @@ fn a_layout_is_from_1_to_8(rt: HostRuntime) {
     }
 }
 
-// Whether the place lies there in this layout.
+// Tests whether the place lies there in this layout.
 fn lies_in(f: u32, place: u64, there: (u32, u64)) -> bool {
     match Layout::new(f) {
         Some(layout) => place < MOST_PLACES && layout.locate(place) == there,

@@ -1,5 +1,6 @@
-ghost use Rattle.std.specs.Prelude.{◌≡◌, ◌<◌, IfSome};
+ghost use Rattle.std.specs.Prelude.{◌≡◌, ◌<◌, Some, IfSome};
 ghost use Rattle.cell_core.specs.Block.{block_len};
+ghost use Rattle.seg_core.specs.Segment.{segment_count};
 ghost use Rattle.table_core.specs.Table.{IsKeyIn};
 
 use cell_core::block::{Block, Look};
@@ -25,7 +26,7 @@ fn fill<T: Drop>(block: &Block<T>, place: u64, value: T) -> bool {
     }
 }
 
-// Whether the cell at a place shows the value.
+// Tests whether the cell at a place shows the value.
 fn shows(block: &Block<u64>, place: u64, value: u64) -> bool {
     place < block.len() && matches!(block.look(place), Look::Filled(there, _) if *there == value)
 }
@@ -41,7 +42,7 @@ fn len_of(table: &Table<u64>, k: u32) -> Option<u64>
     }
 }
 
-// Whether an entry's block takes the value at a place, if there is memory for it.
+// Tests whether an entry's block takes the value at a place, if there is memory for it.
 fn takes<T: Drop>(table: &Table<T>, k: u32, place: u64, value: T) -> bool
     requires { k < 33 }
 {
@@ -52,7 +53,7 @@ fn takes<T: Drop>(table: &Table<T>, k: u32, place: u64, value: T) -> bool
     }
 }
 
-// Whether an entry's block shows the value at a place, to a caller that would install it.
+// Tests whether an entry's block shows the value at a place, to a caller that would install it.
 fn has(table: &Table<u64>, k: u32, place: u64, value: u64) -> bool
     requires { k < 33 }
 {
@@ -63,7 +64,7 @@ fn has(table: &Table<u64>, k: u32, place: u64, value: u64) -> bool
     }
 }
 
-// Whether a caller that installs nothing is shown it.
+// Tests whether a caller that installs nothing is shown it.
 fn is_seen(table: &Table<u64>, k: u32, place: u64, value: u64) -> bool
     requires { k < 33 }
 {
@@ -96,7 +97,7 @@ fn an_entry_is_set_once(rt: HostRuntime) {
     );
 }
 
-// Whether two keys of one entry are of one block.
+// Tests whether two keys of one entry are of one block.
 fn is_one_block(table: &Table<u64>, a: &Key, b: &Key) -> bool
     requires first { IsKeyIn table.now a.now }
     requires second { IsKeyIn table.now b.now }
@@ -105,7 +106,7 @@ fn is_one_block(table: &Table<u64>, a: &Key, b: &Key) -> bool
     (a.entry(), b.entry()) == (2, 2) && shows(table.known(a), 0, 6) && shows(table.known(b), 0, 6)
 }
 
-// Whether a caller that looks has the block of this key, and a key of its own that is as good.
+// Tests whether a caller that looks has the block of this key, and a key of its own that is as good.
 fn has_another_key(table: &Table<u64>, key: &Key) -> bool
     requires { IsKeyIn table.now key.now }
 {
@@ -130,7 +131,8 @@ fn keys_of_one_entry_have_one_block(rt: HostRuntime) {
     assert!(rt; table.scout_key(2).is_none() && has_keys_of_one_block(&table));
 }
 
-// Whether an entry's block is there, at the second try if need be. A refused try leaves this many entries.
+// Tests whether an entry's block is there, at the second try if need be. A refused try leaves this many
+// entries.
 fn is_there_at_last(table: &Table<u64>, k: u32, installed: u32) -> bool
     requires { k < 33 }
 {
@@ -154,7 +156,7 @@ fn a_refused_install_sets_nothing(rt: HostRuntime) {
     );
 }
 
-// Whether an entry's block is lent, and shows the value at its first place.
+// Tests whether an entry's block is lent, and shows the value at its first place.
 fn lends(table: &mut Table<u64>, k: u32, value: u64) -> bool
     requires { k < 33 }
 {
@@ -193,7 +195,7 @@ fn an_exclusive_owner_has_the_blocks(rt: HostRuntime) {
     assert!(rt; lends_two(&mut table) && has_two(&mut table) && gives_one_up(&mut table));
 }
 
-// Puts another block where the one of an entry was lent, and answers whether one was.
+// Puts another block into an entry whose block was lent, and returns whether one was.
 fn puts_another(table: &mut Table<u64>, other: Block<u64>) -> bool {
     let _layout = table.layout();
     match table.block_mut(1) {
@@ -225,7 +227,7 @@ fn is_lent(table: &mut Table<u64>) -> bool {
     table.block_mut(1).is_some()
 }
 
-// Whether an entry whose block was lent has none once it is given up.
+// Tests whether an entry whose block was lent has none once it is given up.
 fn gives_it_up(table: &mut Table<u64>) -> bool {
     let _layout = table.layout();
     table.give_up(1);
@@ -254,7 +256,7 @@ fn counts_entries(table: &Table<u64>) -> bool {
     true
 }
 
-// Whether the value is there by the key.
+// Tests whether the value is there by the key.
 fn has_by_key(table: &Table<u64>, k: u32, place: u64, value: u64) -> bool
     requires { k < 33 }
 {
@@ -313,7 +315,57 @@ fn key_of<T: Drop>(table: &Table<T>, k: u32) -> Option<Key>
     }
 }
 
-// Takes the block of a key out, and attaches it again with one value more. The other key is of an entry that keeps its block.
+// Returns whether an owner gets the key of an entry, and then its block.
+fn is_held(table: &mut Table<u64>, key: &Key, k: u32) -> bool
+    requires key { IsKeyIn table.old key.now }
+    requires entry { key.now.entry ≡ k }
+{
+    let _layout = table.layout();
+    let Some(now) = table.key_now(k) else {
+        return false;
+    };
+    table.agree(key, &now);
+    let is_one = shows(table.known(&now), 1, 7) && table.scout(k).is_some();
+    table.holds_now(&now);
+    is_one && shows(lent(table, k), 1, 7)
+}
+
+// Returns the block of an entry that is known to be set.
+fn lent(table: &mut Table<u64>, k: u32) -> &Block<u64>
+    requires within { k < segment_count table.old.layout }
+    requires held { table.old.held ≡ Some k }
+{
+    match table.block_mut(k) {
+        Some(block) => &*block,
+        None => unreachable!(),
+    }
+}
+
+fn holds_one(table: &mut Table<u64>) -> bool {
+    let _layout = table.layout();
+    match key_of(table, 2) {
+        Some(key) => is_held(table, &key, 2),
+        None => false,
+    }
+}
+
+// Returns whether the owner gets a key of the entry.
+fn has_key_now(table: &mut Table<u64>, k: u32) -> bool
+    requires { k < 33 }
+{
+    let _layout = table.layout();
+    table.key_now(k).is_some()
+}
+
+#[test]
+fn an_owner_has_the_key_of_an_entry_that_is_set(rt: HostRuntime) {
+    let mut table = Table::new(rt.alloc());
+    assert!(rt; !has_key_now(&mut table, 2) && takes(&table, 2, 1, 7) && holds_one(&mut table));
+    assert!(rt; has_key_now(&mut table, 2) && !has_key_now(&mut table, 3));
+}
+
+// Takes the block of a key out, and attaches it again with an added value. The other key is of an entry that
+// keeps its block.
 fn is_attached_again(table: &mut Table<u64>, key: &Key, other: &Key) -> bool
     requires key { IsKeyIn table.old key.now }
     requires other { IsKeyIn table.old other.now }
@@ -338,7 +390,7 @@ fn attaches_again(table: &mut Table<u64>) -> bool {
     }
 }
 
-// Whether the block of a key comes back in the place of one that was installed meanwhile.
+// Tests whether the block of a key comes back in the place of one that was installed meanwhile.
 fn comes_back(table: &mut Table<u64>, key: &Key) -> bool
     requires key { IsKeyIn table.old key.now }
     requires third { key.now.entry ≡ 2 }
@@ -428,7 +480,7 @@ fn each_block_is_dropped_once(rt: HostRuntime) {
     assert!(rt; drops_one_so_far(Table::new(rt.alloc()), &drops) && drops_so_far(&drops) == 4);
 }
 
-// Whether the first segments of this layout are as long as they should be, and the last is not there.
+// Tests whether the first segments of this layout are as long as they should be, and the last is not there.
 fn has_segments_of(alloc: Global, f: u32) -> bool {
     let Some(layout) = Layout::new(f) else {
         return false;

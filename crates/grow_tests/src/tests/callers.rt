@@ -1,11 +1,12 @@
-// A vector and two callers of it. Each call keeps both hands the vector's own and answers plain values, so that a test
-// has nothing to prove of them and few values to drop.
+// A vector and two callers of it. Each call keeps both hands the vector's own and returns plain values, so
+// that a test has nothing to prove of them and few values to drop.
 ghost use Rattle.std.specs.Prelude.{◌≡◌, IfOk};
 ghost use Rattle.seg_core.specs.Segment.{IsLimit};
 ghost use Rattle.claim_core.specs.Hand.{IsNewHand};
 ghost use Rattle.grow_core.specs.Vector.{IsHandOf, limit_of, base_of};
 
 use grow_core::{AtError, GrowError, Hand, OpenError, Parts, Placed, Run, Shared};
+use seg_core::Layout;
 use std::alloc::{AllocGlobal, Global};
 use std::process::Abort;
 use std::sync::Wait;
@@ -17,7 +18,21 @@ pub(super) fn empty<T: Drop>(alloc: Global, limit: u64) -> Result<(Shared<T>, Ha
     ensures base { IfOk result (λ (vector, _). base_of vector ≡ 0) }
     ensures hand { IfOk result (λ (vector, hand). IsNewHand vector.word hand) }
 {
-    match Shared::of_parts(Parts::new(alloc, limit)) {
+    empty_in(alloc, Layout::default(), limit)
+}
+
+// The same with the segments of a layout.
+fn empty_in<T: Drop>(
+    alloc: Global,
+    layout: Layout,
+    limit: u64,
+) -> Result<(Shared<T>, Hand<T>), OpenError>
+    requires { IsLimit limit }
+    ensures limit { IfOk result (λ (vector, _). limit_of vector ≡ limit) }
+    ensures base { IfOk result (λ (vector, _). base_of vector ≡ 0) }
+    ensures hand { IfOk result (λ (vector, hand). IsNewHand vector.word hand) }
+{
+    match Shared::of_parts(Parts::new_in(alloc, layout, limit)) {
         Ok(opened) => Ok(opened),
         Err((_back, error)) => Err(error),
     }
@@ -38,7 +53,18 @@ impl<T: Drop> Callers<T> {
     pub(super) fn try_new(alloc: Global, limit: u64) -> Result<Callers<T>, OpenError>
         requires { IsLimit limit }
     {
-        let (vector, mut a) = empty(alloc, limit)?;
+        Callers::try_new_in(alloc, Layout::default(), limit)
+    }
+
+    // The same with the segments of a layout.
+    pub(super) fn try_new_in(
+        alloc: Global,
+        layout: Layout,
+        limit: u64,
+    ) -> Result<Callers<T>, OpenError>
+        requires { IsLimit limit }
+    {
+        let (vector, mut a) = empty_in(alloc, layout, limit)?;
         let b = vector.split(&mut a, 100);
         Ok(Callers { vector, a, b })
     }
@@ -110,7 +136,7 @@ impl<T: Drop> Callers<T> {
         Some(parts.len())
     }
 
-    // The size at which a full vector refuses a value, and the value.
+    // Pushes to a full vector, and returns the size that it reports, and the value.
     pub(super) fn refused_push(&mut self, value: T) -> Option<(u64, T)> {
         full(self.vector.try_push_back(&mut self.a, value))
     }
@@ -119,14 +145,14 @@ impl<T: Drop> Callers<T> {
         full(self.vector.push_back(rt, &mut self.a, value))
     }
 
-    // The size at which a full vector refuses values, and the values.
+    // Appends to a full vector, and returns the size that it reports, and the values.
     pub(super) fn refused_growth(&mut self, values: Vec<T>) -> Option<(u64, Vec<T>)> {
         full(self.vector.try_grow_vec(&mut self.a, values))
     }
 }
 
-// Whether the steps hold on a new vector with two callers. The steps have a loan of it, so that neither they nor the test
-// have it to drop.
+// Tests whether the steps hold on a new vector with two callers. The steps have a loan of it, so that neither
+// they nor the test have it to drop.
 pub(super) fn on_two<T: Drop, R: AllocGlobal + Abort, F: FnOnce(&mut Callers<T>) -> bool>(
     rt: &R,
     limit: u64,
@@ -137,6 +163,25 @@ pub(super) fn on_two<T: Drop, R: AllocGlobal + Abort, F: FnOnce(&mut Callers<T>)
 {
     let mut two = Callers::new(rt, limit);
     steps(&mut two)
+}
+
+// The same on a vector whose first segment has 2^f places.
+pub(super) fn on_two_in<T: Drop, R: AllocGlobal, F: FnOnce(&mut Callers<T>) -> bool>(
+    rt: &R,
+    f: u32,
+    limit: u64,
+    steps: F,
+) -> bool
+    requires limit { IsLimit limit }
+    requires callable { F.IsAlwaysCallable steps }
+{
+    let Some(layout) = Layout::new(f) else {
+        return false;
+    };
+    match Callers::try_new_in(rt.alloc(), layout, limit) {
+        Ok(mut two) => steps(&mut two),
+        Err(_refused) => false,
+    }
 }
 
 pub(super) fn place_of<T: Drop, V: Drop, E: Drop>(

@@ -53,7 +53,7 @@ fn try_push(seat: &mut Seat, value: u64) -> bool {
     seat.vector.try_push_back(&mut seat.hand, value).is_ok()
 }
 
-// Pushes once more where the other thread was first.
+// Pushes, and again if the other thread was first.
 fn push<R: Abort>(rt: &R, seat: &mut Seat, value: u64) {
     let pushed = try_push(seat, value) || try_push(seat, value);
     assert!(rt; pushed, "{value}");
@@ -106,7 +106,7 @@ fn push_by_both<R: Threads + Abort + Sync>(rt: &R, a: Vec<Seat>, b: Vec<Seat>) -
     a
 }
 
-// Whether both values are on each vector.
+// Tests whether both values are on each vector.
 fn have_both(seats: &mut [Seat]) -> bool {
     for seat in seats {
         if sum_of_two(seat) != Some(11) {

@@ -34,12 +34,12 @@ impl<T: Drop> Life<T> {
         Some(placed.place())
     }
 
-    // Whether a try appends the values.
+    // Tests whether a try appends the values.
     fn grow(&mut self, values: Vec<T>) -> bool {
         self.vector.try_grow_vec(&mut self.hand, values).is_ok()
     }
 
-    // Whether a value fills a broken place.
+    // Tests whether a value fills a broken place.
     pub(super) fn mend(&mut self, place: u64, value: T) -> bool {
         self.vector.mend(&mut self.hand, place, value).is_ok()
     }
@@ -55,13 +55,13 @@ impl<T: Drop> Life<T> {
 }
 
 impl<T: Clone> Life<T> {
-    // Whether clones of the value are appended.
+    // Tests whether clones of the value are appended.
     pub(super) fn grow_by<R: Wait>(&mut self, rt: &R, n: u64, value: &T) -> bool {
         self.vector.grow_by(rt, &mut self.hand, n, value).is_ok()
     }
 }
 
-// The life of a list in which these steps hold, and the list that it is closed into.
+// Opens a list, takes these steps, and returns the list into which it is closed.
 pub(super) fn live<T: Drop, F: FnOnce(&mut Life<T>) -> bool>(
     parts: Option<Parts<T>>,
     steps: F,
@@ -72,7 +72,7 @@ pub(super) fn live<T: Drop, F: FnOnce(&mut Life<T>) -> bool>(
     if steps(&mut life) { life.close() } else { None }
 }
 
-// The list after a life in which nothing happens.
+// The list, opened and closed without any call in between.
 fn reopened<T: Drop>(parts: Parts<T>) -> Option<Parts<T>> {
     Life::open(parts)?.close()
 }
@@ -88,12 +88,12 @@ pub(super) fn read(life: &mut Life<u64>, place: u64) -> Option<u64> {
     look(life, place).ok()
 }
 
-// Whether a place is broken.
-fn is_broken(life: &mut Life<u64>, place: u64) -> bool {
+// Tests whether a place is broken.
+pub(super) fn is_broken(life: &mut Life<u64>, place: u64) -> bool {
     matches!(look(life, place), Err(AtError::Broken(_)))
 }
 
-// A list of three members, of which the second is broken.
+// A list of three members; the second is broken.
 fn three(alloc: Global, limit: u64) -> Option<Parts<u64>>
     requires { IsLimit limit }
 {
@@ -173,7 +173,7 @@ fn tokens_are_recalled_in_the_closed_list(rt: HostRuntime) {
     assert!(rt; recall_both(rt.alloc()) == Some((30, 40)));
 }
 
-// A life in which a value is appended twice.
+// Opens the list, appends a value twice, and closes it.
 fn push_twice(parts: Parts<u64>, value: u64) -> Option<Parts<u64>> {
     let mut life = Life::open(parts)?;
     let _first = life.push(value)?;
@@ -188,7 +188,7 @@ fn live_ten_times(mut parts: Parts<u64>) -> Option<Parts<u64>> {
     Some(parts)
 }
 
-// Whether each of ten values stands there twice.
+// Tests whether each of ten values is there twice.
 fn has_ten_twice(parts: &Parts<u64>) -> bool {
     for place in 0..20u64 {
         if member(parts, place) != Some(Some(place / 2)) {
@@ -204,7 +204,7 @@ fn ten_lives_lose_nothing(rt: HostRuntime) {
     assert!(rt; shows(parts, has_ten_twice));
 }
 
-// A life in which two threads append.
+// Opens the list, lets two threads append, and closes it.
 fn grow_by_threads<R: Threads + Wait + Abort + Sync>(
     rt: &R,
     parts: Parts<u64>,
@@ -238,7 +238,7 @@ fn count_in_order(parts: &Parts<u64>, from: u64) -> [u64; 2] {
     next
 }
 
-// The list after a life in which two threads append to three members.
+// The list after two threads have appended to three members.
 fn grow_three_by_threads<R: AllocGlobal + Threads + Wait + Abort + Sync>(
     rt: &R,
 ) -> Option<Parts<u64>> {
@@ -256,7 +256,7 @@ fn what_two_threads_append_is_in_the_closed_list(rt: HostRuntime) {
     assert!(rt; shows(grow_three_by_threads(&rt), has_both_orders));
 }
 
-// Ten lives in turn, in each of which two threads append the same values.
+// Ten lives in turn; in each, two threads append the same values.
 fn live_by_threads<R: Threads + Wait + Abort + Sync>(
     rt: &R,
     mut parts: Parts<u64>,
@@ -267,7 +267,8 @@ fn live_by_threads<R: Threads + Wait + Abort + Sync>(
     Some(parts)
 }
 
-// Whether each life's values are there in order. A count of a life's values stops where the next life's begin.
+// Tests whether each life's values are there in order. A count of a life's values stops where the next life's
+// begin.
 fn has_ten_orders(parts: &Parts<u64>) -> bool {
     for life in 0..10u64 {
         if count_in_order(parts, 2 * life * EACH) != [EACH; 2] {
@@ -291,7 +292,7 @@ fn open_counted<'a>(alloc: Global, drops: &'a AtomicU64) -> Option<Life<Counted<
     Life::open(parts)
 }
 
-// The list after a life in which two values are appended.
+// The list after a life with two appended values.
 fn push_counted<'a>(alloc: Global, drops: &'a AtomicU64) -> Option<Parts<Counted<'a>>> {
     let mut life = open_counted(alloc, drops)?;
     let both = (life.push(Counted(drops)), life.push(Counted(drops)));
@@ -329,7 +330,8 @@ fn lose_a_hand<T: Drop>(life: &mut Life<T>) {
     }
 }
 
-// Whether a vector without one of its hands can't be closed, and how many values were dropped before it ends.
+// Tests whether a vector without one of its hands can't be closed, and how many values were dropped before it
+// ends.
 fn end_without_a_hand<'a>(mut life: Life<Counted<'a>>, drops: &'a AtomicU64) -> Option<u64> {
     lose_a_hand(&mut life);
     let pushed = life.push(Counted(drops));
@@ -360,7 +362,7 @@ fn break_one(life: &mut Life<u64>) -> bool {
     life.vector.try_grow_with(&mut life.hand, 1, make).is_err()
 }
 
-// Exchanges a member, where there is one.
+// Exchanges a member, if there is one.
 fn replace(parts: &mut Parts<u64>, place: u64, value: Option<u64>) -> Option<Option<u64>> {
     if place >= parts.len() {
         return None;
@@ -368,12 +370,12 @@ fn replace(parts: &mut Parts<u64>, place: u64, value: Option<u64>) -> Option<Opt
     Some(parts.replace(place, value))
 }
 
-// Whether a place breaks alone.
+// Tests whether a place breaks alone.
 fn breaks_and_appends(life: &mut Life<u64>) -> bool {
     break_one(life) && life.push(50) == Some(4) && is_broken(life, 3)
 }
 
-// Whether the place is broken in the list, and gets a value.
+// Tests whether the place is broken in the list, and gets a value.
 fn is_mended(parts: &mut Parts<u64>) -> bool {
     has_members(parts, &[Some(10), None, Some(30), None, Some(50)])
         && replace(parts, 3, Some(40)) == Some(None)
@@ -405,7 +407,7 @@ fn exchanges_each(parts: &mut Parts<u64>) -> bool {
         && has_members(parts, &[Some(11), Some(20), None])
 }
 
-// Whether each member of a list of three is exchanged, if there is memory for it.
+// Tests whether each member of a list of three is exchanged, if there is memory for it.
 fn exchanges_three(alloc: Global) -> bool {
     match three(alloc, 8) {
         Some(mut parts) => exchanges_each(&mut parts),
@@ -505,7 +507,7 @@ fn append_texts(alloc: Global) -> Option<Parts<String>> {
     Some(parts)
 }
 
-// Whether the texts come back, the last first.
+// Tests whether the texts come back, the last first.
 fn pop_texts(parts: &mut Parts<String>) -> bool {
     for value in (0..MANY).rev() {
         match pop(parts) {
@@ -516,7 +518,7 @@ fn pop_texts(parts: &mut Parts<String>) -> bool {
     parts.len() == 0
 }
 
-// Whether the texts come back after a life.
+// Tests whether the texts come back after a life.
 fn lives_with_texts(alloc: Global) -> Option<bool> {
     let mut parts = reopened(append_texts(alloc)?)?;
     Some(parts.len() == MANY && pop_texts(&mut parts))

@@ -6,13 +6,14 @@ ghost use Rattle.grow_core.specs.Grown.{IsGrownOf, values_of};
 use super::callers::{Callers, full, on_two, place_of};
 use super::parts::{has_members, member, shows};
 use super::race::look;
-use grow_core::{AtError, AtLeast, GrowError, Grown, Hand, Never, Parts, Run, Shared};
+use grow_core::{AtError, AtLeast, GrowError, Grown, Hand, MendError, Never, Parts, Run, Shared};
 use std::alloc::{AllocError, AllocGlobal};
 use std::process::Abort;
 use std::sync::Wait;
 use std::sync::atomic::{AtomicU64, Ordering};
 
-// What comes of three sevens, of which the one of number `at` is refused for the cause 9: the run, how many were made, and why.
+// Grows by three sevens, refused at number `at` for the cause 9: the run, how many were made, and why it
+// ended.
 pub(super) fn grow_refused(two: &mut Callers<u64>, at: u64) -> Option<(Run, u64, u64)> {
     let make = |i: u64| -> Result<u64, u64> { if i == at { Err(9) } else { Ok(7) } };
     match two.vector.try_grow_with(&mut two.a, 3, make) {
@@ -35,7 +36,7 @@ fn sevens(two: Callers<u64>) -> Option<u64> {
     Some(made)
 }
 
-// Whether the next value stands behind a broken run.
+// Tests whether the next value is behind a broken run.
 fn breaks_three(two: &mut Callers<u64>, at: u64) -> bool {
     grow_refused(two, at) == Some((Run { from: 0, n: 3 }, at, 9))
         && two.push_a(5) == Some(3)
@@ -58,7 +59,7 @@ fn a_refused_construction_breaks_its_own_places_alone(rt: HostRuntime) {
     }
 }
 
-// Whether a look without a token shows a broken place.
+// Tests whether a look without a token shows a broken place.
 pub(super) fn is_broken(two: &mut Callers<u64>, place: u64) -> bool {
     matches!(
         two.vector.at(&mut two.b, place, None),
@@ -95,7 +96,7 @@ fn grow_up_to(two: &mut Callers<u64>, size: u64) -> Option<Result<Run, u64>> {
     }
 }
 
-// The size at which a growth up to a size finds no room.
+// The size that a growth up to a size reports if it finds no room.
 fn full_up_to(two: &mut Callers<u64>, size: u64) -> Option<u64> {
     let make = |_: u64| -> Result<u64, Never> { Ok(7) };
     let (size, ()) = full(two.vector.grow_to_at_least(&mut two.a, size, make))?;
@@ -118,7 +119,7 @@ fn a_growth_up_to_a_size_appends_what_is_wanted(rt: HostRuntime) {
     assert!(rt; on_two(&rt, 8, |two| grows_to_sizes(&rt, two)));
 }
 
-// A value whose clones find memory only so many times.
+// A value whose clones find memory only a given number of times.
 #[derive(Drop)]
 struct Scarce<'a>(&'a AtomicU64);
 
@@ -133,7 +134,7 @@ impl Clone for Scarce<'_> {
     }
 }
 
-// How many of four clones were made where only so many find memory.
+// The number of clones made of four, if only some find memory.
 fn clones<'a>(two: &mut Callers<Scarce<'a>>, value: &Scarce<'a>) -> Option<u64> {
     match two.vector.try_grow_by(&mut two.a, 4, value) {
         Ok(grown) => Some(grown.run().n),
@@ -148,7 +149,7 @@ fn clones<'a>(two: &mut Callers<Scarce<'a>>, value: &Scarce<'a>) -> Option<u64> 
     }
 }
 
-// Whether so many clones were made, and all four places were claimed.
+// Tests whether `made` clones were made, and all four places were claimed.
 fn makes_clones<'a>(two: &mut Callers<Scarce<'a>>, value: &Scarce<'a>, made: u64) -> bool {
     clones(two, value) == Some(made) && two.size_b() == 4
 }
@@ -176,7 +177,7 @@ impl Other<'_> {
         Some(*at.value)
     }
 
-    // Whether a place was claimed, and is not filled yet.
+    // Tests whether a place was claimed, and is not filled yet.
     fn is_pending(&mut self, place: u64) -> bool {
         matches!(
             self.vector.at(&mut self.hand, place, None),
@@ -186,6 +187,14 @@ impl Other<'_> {
 
     fn push(&mut self, value: u64) -> Option<u64> {
         place_of(self.vector.try_push_back(&mut self.hand, value))
+    }
+
+    // Tests whether a mend is refused since the place is pending, and gives the value back.
+    fn mends_nothing(&mut self, place: u64, value: u64) -> bool {
+        match self.vector.mend(&mut self.hand, place, value) {
+            Err((MendError::Pending, back)) => back == value,
+            _ => false,
+        }
     }
 }
 
@@ -227,7 +236,41 @@ fn a_maker_may_look_at_the_vector_and_append_to_it(rt: HostRuntime) {
     assert!(rt; read == (Some(Run { from: 0, n: 3 }), Some(18)));
 }
 
-// The value at the first place of a run, of which all have the value, if it has a place.
+// The run of a growth whose maker tries to mend its own place and those after it, which are pending.
+fn grow_and_mend(vector: &Shared<u64>, hand: &mut Hand<u64>, mut other: Other<'_>) -> Option<Run>
+    requires ours { IsHandOf vector.now hand.old }
+    ensures of { hand.new.of ≡ hand.old.of }
+{
+    let make = |i: u64| -> Result<u64, u64> {
+        for place in i..3 {
+            if !other.mends_nothing(place, 90) {
+                return Err(place);
+            }
+        }
+        Ok(i.wrapping_add(70))
+    };
+    let grown = vector.try_grow_with(hand, 3, make).ok()?;
+    Some(grown.run())
+}
+
+// Such a run, and the value at its last place.
+fn grow_and_try_to_mend(two: Callers<u64>) -> (Option<Run>, Option<u64>) {
+    let Callers { vector, mut a, b } = two;
+    let other = Other {
+        vector: &vector,
+        hand: b,
+    };
+    let run = grow_and_mend(&vector, &mut a, other);
+    (run, look(&vector, &mut a, 2))
+}
+
+#[test]
+fn a_maker_that_mends_its_own_place_finds_it_pending(rt: HostRuntime) {
+    let read = grow_and_try_to_mend(Callers::new(&rt, 8));
+    assert!(rt; read == (Some(Run { from: 0, n: 3 }), Some(72)));
+}
+
+// The value at the first place of a run whose places all have the value, if it has a place.
 fn first_read(vector: &Shared<u64>, grown: &Grown<u64>, value: u64) -> Option<u64>
     requires tokens { IsGrownOf vector.now grown.now }
     requires values { All (λ x. x ≡ value) (values_of grown.now) }

@@ -48,7 +48,7 @@ fn mend_b(two: &mut Callers<u64>, place: u64, value: u64) -> Mended {
     mend(&two.vector, &mut two.b, place, value)
 }
 
-// Places 0 to 2, of which the last two are broken.
+// Claims places 0 to 2; the last two are broken.
 fn breaks_two(two: &mut Callers<u64>) -> bool {
     grow_refused(two, 1) == Some((Run { from: 0, n: 3 }, 1, 9))
 }
@@ -107,7 +107,7 @@ fn is_broken_to(vector: &Shared<u64>, hand: &mut Hand<u64>, place: u64) -> bool
     )
 }
 
-// Whether a place that was broken in the opened list is mended, and another one beside it stays broken.
+// Tests whether a place that was broken in the opened list is mended, and its neighbour stays broken.
 fn mends_an_opened_place(vector: &Shared<u64>, hand: &mut Hand<u64>) -> bool
     requires ours { IsHandOf vector.now hand.old }
     ensures { hand.new.of ≡ hand.old.of }
@@ -121,7 +121,7 @@ fn mends_an_opened_place(vector: &Shared<u64>, hand: &mut Hand<u64>) -> bool
         && mend(vector, hand, 0, 30) == Mended::Filled(7, 30)
 }
 
-// The list after one more life, in which its second member is mended.
+// The list after a further life, which mends its second member.
 fn mended_while_open(parts: Parts<u64>) -> Option<Parts<u64>> {
     let (vector, mut hand) = opened(parts)?;
     if mends_an_opened_place(&vector, &mut hand) && hand.is_whole() {
@@ -131,7 +131,7 @@ fn mended_while_open(parts: Parts<u64>) -> Option<Parts<u64>> {
     }
 }
 
-// The list of places of which the last two were broken in one life, and the second mended in the next.
+// The list after a life that broke the last two places, and a second life that mended the second.
 fn mended_in_the_next_life(mut two: Callers<u64>) -> Option<Parts<u64>> {
     if breaks_two(&mut two) {
         mended_while_open(two.close()?)
@@ -185,7 +185,8 @@ fn break_all(vector: &Shared<u64>, hand: &mut Hand<u64>) -> bool
     )
 }
 
-// Mends all places with a value, and answers how many it won. A value that another was before comes back.
+// Mends all places with a value, and returns how many it won. If another value was first, the value comes
+// back.
 fn mend_each<R: Abort>(
     rt: &R,
     vector: &Shared<u64>,
@@ -249,7 +250,7 @@ fn count(vector: &Shared<u64>, hand: &mut Hand<u64>, value: u64) -> u64
     found
 }
 
-// A third thread finds what each of the two won, and no other value.
+// A third thread finds exactly what the two won.
 #[test]
 fn two_threads_that_mend_one_place_leave_one_value(rt: HostRuntime) -> Result<(), Fail> {
     let (vector, mut a) = empty(rt.alloc(), PLACES)?;

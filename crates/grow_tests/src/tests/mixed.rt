@@ -15,7 +15,8 @@ use std::thread::{Threads, join};
 // How many calls each of eight threads makes.
 const CALLS: u64 = 1_000;
 
-// What calls were told: how many places they won, how many of these are broken, and a sum over the others' places and values.
+// What calls returned: the number of places that they won, the number of these that are broken, and a sum
+// over the others' places and values.
 #[derive(Clone, Copy, PartialEq, Debug)]
 struct Tally {
     places: u64,
@@ -32,7 +33,7 @@ impl Tally {
         }
     }
 
-    // The places of a run, of which the first have the value and the others are broken.
+    // The places of a run; the first have the value and the others are broken.
     fn of(run: Run, made: u64, value: u64) -> Tally {
         let mut sum = 0u64;
         for i in 0..made {
@@ -114,7 +115,7 @@ fn call<R: AllocGlobal + Wait + Abort>(
     }
 }
 
-// The calls of one thread, with what they were told.
+// Makes the calls of one thread, and returns what they returned.
 fn call_each<R: AllocGlobal + Wait + Abort>(
     rt: &R,
     vector: &Shared<u64>,
@@ -222,7 +223,7 @@ fn tally_in(parts: &Parts<u64>) -> Tally {
     tally
 }
 
-// What the list tells that a vector is closed into.
+// The tally of the list into which a vector is closed.
 fn closed_tally(vector: Shared<u64>, hand: Hand<u64>) -> Option<Tally>
     requires ours { IsHandOf vector hand }
 {

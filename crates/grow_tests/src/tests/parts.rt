@@ -37,7 +37,7 @@ pub(super) fn room<T: Drop>(parts: &mut Parts<T>, n: u64) -> Result<bool, AllocE
     Ok(true)
 }
 
-// Whether the members are these, in order.
+// Tests whether the members are these, in order.
 pub(super) fn has_members(parts: &Parts<u64>, members: &[Option<u64>]) -> bool {
     let mut place = 0u64;
     for wanted in members {
@@ -49,7 +49,7 @@ pub(super) fn has_members(parts: &Parts<u64>, members: &[Option<u64>]) -> bool {
     parts.len() == place && member(parts, place) == None
 }
 
-// Whether a list is there, of which this holds.
+// Tests whether there is a list with this property.
 pub(super) fn shows<T: Drop, F: FnOnce(&Parts<T>) -> bool>(
     parts: Option<Parts<T>>,
     is_so: F,
@@ -62,7 +62,7 @@ pub(super) fn shows<T: Drop, F: FnOnce(&Parts<T>) -> bool>(
     }
 }
 
-// Whether room is made, and the capacity is then this.
+// Tests whether room is made, and the capacity is then this.
 fn has_room(parts: &mut Parts<u64>, n: u64, capacity: u64) -> bool {
     room(parts, n) == Ok(true) && parts.capacity() == capacity
 }
@@ -102,7 +102,7 @@ fn members_stand_in_order(rt: HostRuntime) {
 
 const ROOM: [(u64, u64); 6] = [(0, 0), (1, 2), (3, 4), (2, 4), (5, 8), (17, 32)];
 
-// Whether each room has its capacity, and there is none above the limit.
+// Tests whether each room has its capacity, and there is none above the limit.
 fn has_room_in_turn(parts: &mut Parts<u64>) -> bool {
     for (n, capacity) in ROOM.as_slice() {
         if !has_room(parts, *n, *capacity) {
@@ -112,7 +112,7 @@ fn has_room_in_turn(parts: &mut Parts<u64>) -> bool {
     room(parts, 101) == Ok(false)
 }
 
-// Whether the list has so many members and this capacity, once it is cut.
+// Tests whether the list has `len` members and this capacity, once it is cut.
 fn is_cut_to(parts: &mut Parts<u64>, len: u64, capacity: u64) -> bool {
     parts.cut();
     (parts.len(), parts.capacity()) == (len, capacity)
@@ -177,7 +177,7 @@ fn a_million_members_come_and_go(rt: HostRuntime) {
     );
 }
 
-// Whether five members are appended. Each counts its drop.
+// Tests whether five members are appended. Each counts its drop.
 fn appends_five<'a>(parts: &mut Parts<Counted<'a>>, drops: &'a AtomicU64) -> bool {
     for _each in 0..5 {
         if !append(parts, Some(Counted(drops))) {
@@ -187,7 +187,8 @@ fn appends_five<'a>(parts: &mut Parts<Counted<'a>>, drops: &'a AtomicU64) -> boo
     true
 }
 
-// Whether one member is dropped where it is taken out, and none where the list is cut.
+// Tests whether one member is dropped when it is taken out, and none when the list is cut, which gives three
+// segments up.
 fn drops_one<'a>(parts: &mut Parts<Counted<'a>>, drops: &'a AtomicU64) -> bool {
     let before = drops.load(Ordering::SeqCst);
     drop(pop(parts));
@@ -195,14 +196,16 @@ fn drops_one<'a>(parts: &mut Parts<Counted<'a>>, drops: &'a AtomicU64) -> bool {
     let has_broken = append(parts, None);
     parts.cut();
     (before, after, has_broken) == (0, 1, true)
+        && drops.load(Ordering::SeqCst) == 1
+        && parts.capacity() == 8
 }
 
 #[test]
 fn each_member_is_dropped_once(rt: HostRuntime) {
     let drops = AtomicU64::new(0);
-    let mut parts = Parts::new(rt.alloc(), 8);
+    let mut parts = Parts::new(rt.alloc(), 64);
     assert!(rt;
-        room(&mut parts, 8) == Ok(true)
+        room(&mut parts, 64) == Ok(true)
             && appends_five(&mut parts, &drops)
             && drops_one(&mut parts, &drops)
     );
@@ -210,13 +213,14 @@ fn each_member_is_dropped_once(rt: HostRuntime) {
     assert!(rt; drops.load(Ordering::SeqCst) == 5);
 }
 
-// Whether the first room is made, by a second call where memory was refused to the first, which made none.
+// Tests whether the first room is made, by a second call if memory was refused to the first, which made none.
 fn has_first_room_again(parts: &mut Parts<u64>) -> bool {
     room(parts, 2).is_ok()
         || ((parts.len(), parts.capacity()) == (0, 0) && room(parts, 2) == Ok(true))
 }
 
-// Whether more room is made, by a second call where memory was refused to the first, which kept the member.
+// Tests whether more room is made, by a second call if memory was refused to the first, which kept the
+// member.
 fn has_more_room_again(parts: &mut Parts<u64>) -> bool {
     room(parts, 64).is_ok() || (member(parts, 0) == Some(Some(7)) && room(parts, 64) == Ok(true))
 }

@@ -47,7 +47,7 @@ fn push_and_read<R: Wait + Abort>(rt: &R, vector: &Shared<u64>, hand: &mut Hand<
     }
 }
 
-// Appends a value, where it is not refused.
+// Appends a value, if it is not refused.
 fn append<R: Wait + Abort>(
     rt: &R,
     vector: &Shared<u64>,
@@ -64,7 +64,7 @@ fn append<R: Wait + Abort>(
     }
 }
 
-// The value at a place, where there is one.
+// The value at a place, if there is one.
 pub(super) fn look(vector: &Shared<u64>, hand: &mut Hand<u64>, place: u64) -> Option<u64>
     requires ours { IsHandOf vector.now hand.old }
     ensures { hand.new.of ≡ hand.old.of }
@@ -155,7 +155,7 @@ fn count_in_order(vector: &Shared<u64>, hand: &mut Hand<u64>) -> [u64; 4]
     next
 }
 
-// Whether nothing was lost, and each thread's values are in its order.
+// Tests whether nothing was lost, and each thread's values are in its order.
 fn keeps_all(vector: &Shared<u64>, hand: &mut Hand<u64>) -> bool
     requires ours { IsHandOf vector.now hand.old }
     ensures { hand.new.of ≡ hand.old.of }
@@ -237,7 +237,7 @@ fn a_thread_reads_what_another_appends(rt: HostRuntime) -> Result<(), Fail> {
 // How many runs of three values each of two threads appends.
 const RUNS: u64 = 10_000;
 
-// Appends three equal values, where they are not refused.
+// Appends three equal values, if they are not refused.
 fn grow_three<R: AllocGlobal + Wait + Abort>(
     rt: &R,
     vector: &Shared<u64>,
@@ -314,7 +314,7 @@ fn count_runs(vector: &Shared<u64>, hand: &mut Hand<u64>) -> u64
     runs
 }
 
-// Two threads append runs to a vector that has just room for them, and none is refused.
+// Two threads append runs to a vector with just enough room, and both succeed.
 #[test]
 fn two_threads_append_runs_that_stay_whole(rt: HostRuntime) {
     let Callers { vector, a, b, .. } = Callers::new(&rt, 6 * RUNS);

@@ -1,11 +1,13 @@
 // What a refusal gives back.
+ghost use Rattle.seg_core.specs.Segment.{IsLimit};
+
 use super::callers::{Callers, list, on_two};
 use grow_core::{GrowError, Run};
 use std::alloc::{AllocGlobal, Global};
 use std::process::Abort;
 use std::sync::Wait;
 
-// Whether a vector that two values fill refuses a third.
+// Tests whether a vector that two values fill refuses a third.
 fn is_full_with_two<R: AllocGlobal + Wait + Abort>(rt: &R, two: &mut Callers<u64>) -> bool {
     let _both = two.grow_b(list(rt, &[5, 6]));
     two.refused_push(7) == Some((2, 7))
@@ -18,7 +20,7 @@ fn a_full_vector_gives_the_value_back(rt: HostRuntime) {
     assert!(rt; on_two(&rt, 2, |two| is_full_with_two(&rt, two)));
 }
 
-// Whether the values are refused at the size, and come back.
+// Tests whether the values are refused at the size, and come back.
 fn is_refused(two: &mut Callers<u64>, values: Vec<u64>, size: u64, same: &[u64]) -> bool {
     match two.refused_growth(values) {
         Some((at, back)) => at == size && back.as_slice() == same,
@@ -26,7 +28,7 @@ fn is_refused(two: &mut Callers<u64>, values: Vec<u64>, size: u64, same: &[u64])
     }
 }
 
-// Whether a vector with one value and room for three refuses four.
+// Tests whether a vector with one value and room for three refuses four.
 fn refuses_four<R: AllocGlobal + Abort>(rt: &R, two: &mut Callers<u64>) -> bool {
     let _first = two.push_a(5);
     let values = [6, 7, 8, 9].as_slice();
@@ -38,7 +40,7 @@ fn a_whole_vec_comes_back(rt: HostRuntime) {
     assert!(rt; on_two(&rt, 4, |two| refuses_four(&rt, two)));
 }
 
-// Whether a full vector answers an empty run to both growths of nothing.
+// Tests whether a full vector returns an empty run to both growths of nothing.
 fn takes_nothing<R: AllocGlobal + Wait>(rt: &R, two: &mut Callers<u64>) -> bool {
     let _only = two.push_a(5);
     two.grow_a(Vec::new(rt.alloc())) == Some(Run { from: 1, n: 0 })
@@ -60,14 +62,16 @@ fn a_place_at_the_size_is_out_of_range(rt: HostRuntime) {
 }
 
 // A new vector, by a second call where memory was refused to the first.
-pub(super) fn fresh_again<R: AllocGlobal + Abort>(rt: &R) -> Callers<u64> {
-    match Callers::try_new(rt.alloc(), 8) {
+pub(super) fn fresh_again<T: Drop, R: AllocGlobal + Abort>(rt: &R, limit: u64) -> Callers<T>
+    requires { IsLimit limit }
+{
+    match Callers::try_new(rt.alloc(), limit) {
         Ok(two) => two,
-        Err(_refused) => Callers::new(rt, 8),
+        Err(_refused) => Callers::new(rt, limit),
     }
 }
 
-// Whether a value is appended, by a second call where memory was refused to the first.
+// Tests whether a value is appended, by a second call if memory was refused to the first.
 fn push_again(two: &mut Callers<u64>, value: u64) -> bool {
     match two.vector.try_push_back(&mut two.a, value) {
         Ok(placed) => *two.vector.get(&placed) == value,
@@ -93,14 +97,14 @@ fn grow_same(two: &mut Callers<u64>, values: Vec<u64>, same: &[u64]) -> Option<R
 }
 
 // Values in a `Vec`, by a second call where memory was refused to the first.
-fn list_again(alloc: Global, values: &[u64]) -> Option<Vec<u64>> {
+pub(super) fn list_again(alloc: Global, values: &[u64]) -> Option<Vec<u64>> {
     match Vec::from_slice(alloc, values) {
         Ok(made) => Some(made),
         Err(_refused) => Vec::from_slice(alloc, values).ok(),
     }
 }
 
-// Whether a value and then two more are appended.
+// Tests whether a value and then two more are appended.
 fn appends_again(two: &mut Callers<u64>, alloc: Global) -> bool {
     if !push_again(two, 5) {
         return false;
@@ -115,6 +119,6 @@ fn appends_again(two: &mut Callers<u64>, alloc: Global) -> bool {
 // succeeds when it is called again.
 #[test]
 fn a_refused_allocation_gives_the_values_back(rt: HostRuntime) {
-    let mut two = fresh_again(&rt);
+    let mut two = fresh_again(&rt, 8);
     assert!(rt; appends_again(&mut two, rt.alloc()) && two.size_b() == 3);
 }

@@ -1,4 +1,4 @@
-// What each refusal says, in plain numbers: each function stands on one definition of the contracts.
+// Each refusal in plain numbers: each function depends on one definition of the contracts.
 ghost use Rattle.std.specs.Prelude.{◌≡◌, ◌+◌, ◌<◌, ◌≤◌, IfSome, vec_len};
 ghost use Rattle.grow_core.specs.Hand.{seen_size};
 ghost use Rattle.grow_core.specs.Vector.{IsHandOf, limit_of};
@@ -8,7 +8,7 @@ use grow_core::{Found, GrowError, Hand, Shared};
 use std::alloc::AllocGlobal;
 use std::process::Abort;
 
-// Values for which what the hand has seen leaves no room come back, and the size is told.
+// If what the hand has seen leaves no room, the values come back with the size.
 fn refused(vector: &Shared<u64>, hand: &mut Hand<u64>, values: Vec<u64>) -> (u64, Vec<u64>)
     requires ours { IsHandOf vector.now hand.old }
     requires no_room { limit_of vector.now < seen_size hand.old + vec_len values }
@@ -60,7 +60,7 @@ fn taken(vector: &Shared<u64>, hand: &mut Hand<u64>, values: Vec<u64>) -> Option
     }
 }
 
-// A place that was taken and holds nothing yet is the place that is told.
+// A taken place that holds nothing yet is the place that is reported.
 fn busy(vector: &Shared<u64>, hand: &mut Hand<u64>, value: u64) -> Option<(u64, u64)>
     requires ours { IsHandOf vector.now hand.old }
     ensures of { hand.new.of ≡ hand.old.of }
@@ -77,7 +77,7 @@ fn busy(vector: &Shared<u64>, hand: &mut Hand<u64>, value: u64) -> Option<(u64, 
     }
 }
 
-// A growth of nothing claims nothing, and answers the size that the hand has then seen.
+// A growth of nothing claims nothing, and returns the size that the hand has then seen.
 fn nothing(vector: &Shared<u64>, hand: &mut Hand<u64>, values: Vec<u64>) -> u64
     requires ours { IsHandOf vector.now hand.old }
     requires nothing { vec_len values ≡ 0 }
@@ -103,7 +103,7 @@ fn seen_value(vector: &Shared<u64>, hand: &mut Hand<u64>, place: u64) -> Option<
     }
 }
 
-// Whether no refusal comes, where one caller is at work and there is room for four values.
+// Tests whether no refusal comes, if one caller is at work and there is room for four values.
 fn is_not_refused(two: &mut Callers<u64>, five: Vec<u64>, six: Vec<u64>) -> bool {
     overtaken(&two.vector, &mut two.a, five).is_none()
         && taken(&two.vector, &mut two.a, six).is_none()
@@ -112,7 +112,7 @@ fn is_not_refused(two: &mut Callers<u64>, five: Vec<u64>, six: Vec<u64>) -> bool
         && seen_value(&two.vector, &mut two.a, 3) == Some(8)
 }
 
-// The size that a growth of nothing answers.
+// The size that a growth of nothing returns.
 fn size_by_nothing(two: &mut Callers<u64>, none: Vec<u64>) -> Option<u64> {
     if none.len() == 0 {
         Some(nothing(&two.vector, &mut two.b, none))
@@ -121,7 +121,7 @@ fn size_by_nothing(two: &mut Callers<u64>, none: Vec<u64>) -> Option<u64> {
     }
 }
 
-// Whether neither a growth is refused nor a push, and a growth of nothing answers the size after them.
+// Tests whether neither a growth is refused nor a push, and a growth of nothing then returns the size.
 fn is_alone<R: AllocGlobal + Abort>(rt: &R, two: &mut Callers<u64>) -> bool {
     is_not_refused(two, list(rt, &[5]), list(rt, &[6]))
         && size_by_nothing(two, Vec::new(rt.alloc())) == Some(4)
@@ -132,7 +132,7 @@ fn a_caller_alone_is_not_refused(rt: HostRuntime) {
     assert!(rt; on_two(&rt, 8, |two| is_alone(&rt, two)));
 }
 
-// The size at which values are refused, where they are more than the limit.
+// The size that is reported if values exceed the limit.
 fn refused_size(two: &mut Callers<u64>, values: Vec<u64>) -> Option<u64> {
     if (values.len() as u64) > two.vector.limit() {
         Some(refused(&two.vector, &mut two.b, values).0)

@@ -1,4 +1,4 @@
-// What a caller without a hand is shown, and values that are appended without tokens.
+// Looks of a caller without a hand, and values that are appended without tokens.
 use super::callers::{Callers, full, list, on_two};
 use super::made::grow_refused;
 use grow_core::{Run, Shared, Shown};
@@ -6,7 +6,7 @@ use std::alloc::AllocGlobal;
 use std::process::Abort;
 use std::sync::Wait;
 
-// Whether the places show these values in order, 0 where none is shown, and there are no other places.
+// Tests whether the places show these values in order, 0 where none is shown, and there are no other places.
 fn shows(vector: &Shared<u64>, wanted: &[u64]) -> bool {
     let mut left = wanted.iter();
     for item in vector.published() {
@@ -32,7 +32,7 @@ fn append<R: Wait>(rt: &R, two: &mut Callers<u64>, values: Vec<u64>) -> Option<R
     two.vector.append(rt, &mut two.b, values).ok()
 }
 
-// Whether a walk shows values, broken places and no others, none at first.
+// Tests whether a walk shows values, broken places and no others, none at first.
 fn walks<R: AllocGlobal + Wait + Abort>(rt: &R, two: &mut Callers<u64>) -> bool {
     let is_empty = shows(&two.vector, &[]);
     let _first = two.push_a(5);
@@ -46,7 +46,8 @@ fn a_walk_shows_each_place_below_the_size(rt: HostRuntime) {
     assert!(rt; on_two(&rt, 8, |two| walks(&rt, two)));
 }
 
-// Whether a look without a hand tells values, broken places, and those that nobody claimed or can claim.
+// Tests whether a look without a hand tells values, broken places, and those that nobody claimed or can
+// claim.
 fn looks(two: &mut Callers<u64>) -> bool {
     let _first = two.push_a(5);
     let _made = grow_refused(two, 1);
@@ -63,7 +64,7 @@ fn a_look_needs_no_hand(rt: HostRuntime) {
     assert!(rt; on_two(&rt, 8, looks));
 }
 
-// The size at which a full vector refuses values without tokens, and how many it gives back.
+// The size that a full vector reports for values without tokens, and how many it gives back.
 fn refused_append<R: Wait>(
     rt: &R,
     two: &mut Callers<u64>,
@@ -73,7 +74,7 @@ fn refused_append<R: Wait>(
     Some((size, back.len()))
 }
 
-// Whether a vector with room for one more value gives two back, and takes one, and none.
+// Tests whether a vector with room for one more value gives two back, and takes one, and none.
 fn gives_back<R: AllocGlobal + Wait + Abort>(rt: &R, two: &mut Callers<u64>) -> bool {
     let _first = two.push_a(5);
     refused_append(rt, two, list(rt, &[6, 7])) == Some((1, 2))
@@ -109,7 +110,7 @@ fn sum_of(vector: &Shared<u64>) -> (u64, u64) {
     (sum, places)
 }
 
-// Whether a million values come to their places.
+// Tests whether a million values come to their places.
 fn appends_a_million<R: AllocGlobal + Wait + Abort>(rt: &R, two: &mut Callers<u64>) -> bool {
     let run = append(rt, two, numbers(rt, 1_000_000));
     run == Some(Run {

@@ -9,7 +9,7 @@ use std::alloc::AllocGlobal;
 use std::process::Abort;
 use std::sync::Wait;
 
-// A token's value: by the token, by the token had once more, and by a look at its place.
+// A token's value: by the token, by its duplicate, and by a look at its place.
 fn read(vector: &Shared<u64>, hand: &mut Hand<u64>, token: &Placed<u64>) -> Option<[u64; 3]>
     requires ours { IsHandOf vector.now hand.old }
     requires of { IsPlacedOf vector.now token.now }
@@ -63,7 +63,7 @@ fn grow_and_read<R: Wait>(
     }
 }
 
-// Whether three values are appended, and the second one is read.
+// Tests whether three values are appended, and the second one is read.
 fn reads_a_run<R: AllocGlobal + Wait + Abort>(rt: &R, two: &mut Callers<u64>) -> bool {
     let read = grow_and_read(rt, two, list(rt, &[7, 8, 9]));
     read == Some((Run { from: 0, n: 3 }, 1, [8; 3])) && two.vector.limit() == 8

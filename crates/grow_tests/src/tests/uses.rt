@@ -150,7 +150,7 @@ fn push_and_close(vector: Shared<u64>, mut hand: Hand<u64>, value: u64) -> Optio
     Some((parts, place))
 }
 
-// A value of a list is its member still after a life in which another value is appended.
+// A value of a list is still its member after a life with another appended value.
 fn live_once(parts: Parts<u64>, value: u64) -> Option<Parts<u64>>
     ensures { IfSome result (λ after. KeepsValues parts.members after.members) }
 {
@@ -191,7 +191,7 @@ fn a_value_is_read_in_another_thread(rt: HostRuntime) {
     assert_eq!(rt; push_here_read_there(&rt, &vector, a, 7), Some(7));
 }
 
-// The size at which both hands end the vector.
+// Closes the vector by both hands, and returns its size.
 fn end_by_both(two: Callers<u64>) -> Option<u64> {
     let Callers { vector, a, b } = two;
     if u64::from(a.share()) + u64::from(b.share()) == 65_536 {
@@ -209,7 +209,7 @@ fn hands_that_were_joined_end_the_vector(rt: HostRuntime) {
     assert_eq!(rt; end_by_both(two), Some(2));
 }
 
-// What is read at the first place of a list that has lived twice.
+// The first member of a list that was opened and closed twice.
 fn read_after_two_lives(alloc: Global) -> Option<Option<u64>> {
     let parts = live_once(Parts::new(alloc, 8), 5)?;
     let parts = live_once(parts, 6)?;

@@ -14,7 +14,7 @@ fn two(alloc: Global, f: u32, first: u64, second: u64) -> Option<Quiet<u64>> {
     }
 }
 
-// Whether the capacity follows the layout's segments.
+// Tests whether the capacity follows the layout's segments.
 fn follows_its_segments(list: &mut Quiet<u64>, layout: Layout) -> bool {
     list.layout() == layout
         && list.capacity() == layout.capacity_for(2)
@@ -35,12 +35,12 @@ fn capacities_follow_the_layout(rt: HostRuntime) {
     assert!(rt; (1..9u32).all(|f: u32| -> bool { is_of(rt.alloc(), f) }));
 }
 
-// Whether the first two lists are equal, and both less than the third.
+// Tests whether the first two lists are equal, and both less than the third.
 fn are_in_order(a: &Quiet<u64>, b: &Quiet<u64>, c: &Quiet<u64>) -> bool {
     *a == *b && *a < *c && *b < *c
 }
 
-// Whether lists of two layouts compare by their members alone.
+// Tests whether lists of two layouts compare by their members alone.
 fn compare(alloc: Global, f: u32, g: u32) -> bool {
     match (
         two(alloc, f, 1, 2),

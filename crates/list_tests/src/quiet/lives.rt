@@ -3,13 +3,15 @@ ghost use Rattle.std.specs.Prelude.{◌≡◌, ◌+◌, IfSome, length};
 ghost use Rattle.grow_core.specs.Hand.{IsNewHand};
 ghost use Rattle.grow_core.specs.Vector.{IsHandOf};
 
-use super::{broken_after, has, list_of, measures};
+use super::{broken_after, has, is_broken, list_of, measures};
+use grow_core::{At, AtError, GrowError};
 use quiet_core::{Hand, Quiet, QuietAt, QuietMendError, Shared};
 use std::alloc::AllocGlobal;
 use std::process::Abort;
 use std::test::Fail;
 
-// The list that comes of one life in which a value is appended, if there is memory and room; and what is recalled by its token.
+// Opens the list, appends a value, closes it, and recalls the value by its token, if there is memory and
+// room.
 fn pushed_while_open(list: Quiet<u64>, value: u64) -> Option<(Quiet<u64>, u64)>
     ensures read { IfSome result (λ (_, read). read ≡ value) }
     ensures more { IfSome result (λ (new, _). length new.members ≡ length list.members + 1) }
@@ -22,7 +24,7 @@ fn pushed_while_open(list: Quiet<u64>, value: u64) -> Option<(Quiet<u64>, u64)>
     Some((closed, read))
 }
 
-// The list after ten lives, in each of which a value is appended and read.
+// The list after ten lives; each appends a value and reads it.
 fn live_ten_times(mut list: Quiet<u64>) -> Option<Quiet<u64>> {
     for value in 10..20u64 {
         let (closed, read) = pushed_while_open(list, value)?;
@@ -34,7 +36,7 @@ fn live_ten_times(mut list: Quiet<u64>) -> Option<Quiet<u64>> {
     Some(list)
 }
 
-// Whether the old members are there, and the new ones from ten on.
+// Tests whether the old members are there, and the new ones from ten on.
 fn has_all(list: &Quiet<u64>) -> bool {
     for place in 3..13u64 {
         if !has(list, place, place + 7) {
@@ -65,6 +67,17 @@ fn look(vector: &Shared<u64>, hand: &mut Hand<u64>, place: u64) -> Option<u64>
     Some(*at.value)
 }
 
+// The size that a look without a token reports, if the place is not below it.
+fn size_told(vector: &Shared<u64>, hand: &mut Hand<u64>, place: u64) -> Option<u64>
+    requires ours { IsHandOf vector.now hand.old }
+    ensures of { hand.new.of ≡ hand.old.of }
+{
+    match vector.at(hand, place, None) {
+        Err(AtError::OutOfRange { size }) => Some(size),
+        _ => None,
+    }
+}
+
 // The place of a value that is appended.
 fn place_of(vector: &Shared<u64>, hand: &mut Hand<u64>, value: u64) -> Option<u64>
     requires ours { IsHandOf vector.now hand.old }
@@ -74,7 +87,7 @@ fn place_of(vector: &Shared<u64>, hand: &mut Hand<u64>, value: u64) -> Option<u6
     Some(placed.place())
 }
 
-// Whether one hand appends a value, and two others that were there before it see it.
+// Tests whether one hand appends a value, and two others that were there before it see it.
 fn are_told(vector: &Shared<u64>, h: &mut Hand<u64>, g: &mut Hand<u64>, k: &mut Hand<u64>) -> bool
     requires ours { IsHandOf vector.now h.old }
     requires second { IsHandOf vector.now g.old }
@@ -82,7 +95,7 @@ fn are_told(vector: &Shared<u64>, h: &mut Hand<u64>, g: &mut Hand<u64>, k: &mut 
 {
     place_of(vector, h, 5) == Some(0)
         && look(vector, g, 0) == Some(5)
-        && look(vector, g, 1).is_none()
+        && size_told(vector, g, 1) == Some(1)
         && vector.size(k) == 1
 }
 
@@ -106,7 +119,80 @@ fn three_hands_see_one_push(rt: HostRuntime) {
     assert!(rt; tells_its_hands(Quiet::new(rt.alloc(), 8)));
 }
 
-// Whether the values of a list are these, without its broken members.
+// Grows by three values, refused at the second: the run, the number of values made, and the cause.
+fn grow_refused(vector: &Shared<u64>, hand: &mut Hand<u64>) -> Option<(u64, u64, u64, u64)>
+    requires ours { IsHandOf vector.now hand.old }
+    ensures of { hand.new.of ≡ hand.old.of }
+    ensures shares { hand.new.shares ≡ hand.old.shares }
+{
+    let make = |i: u64| -> Result<u64, u64> { if i == 1 { Err(9) } else { Ok(7) } };
+    match vector.try_grow_with(hand, 3, make) {
+        Err(GrowError::Refused { run, made, cause }) => Some((
+            run.from,
+            run.n,
+            made.run().n,
+            cause,
+        )),
+        _ => None,
+    }
+}
+
+// What such a growth reports, and the list that the vector is closed into.
+fn closed_after_refusal(list: Quiet<u64>) -> Option<((u64, u64, u64, u64), Quiet<u64>)> {
+    let (vector, mut hand) = list.open().ok()?;
+    let refused = grow_refused(&vector, &mut hand);
+    Some((refused?, Quiet::close(vector, hand)))
+}
+
+fn is_broken_from_the_second(list: &Quiet<u64>) -> bool {
+    measures(list, 3, 4) && has(list, 0, 7) && is_broken(list, 1) && is_broken(list, 2)
+}
+
+#[test]
+fn a_refused_value_breaks_the_places_of_the_closed_list(rt: HostRuntime) {
+    match closed_after_refusal(Quiet::new(rt.alloc(), 8)) {
+        Some((refused, list)) => {
+            assert!(rt; refused == (0, 3, 1, 9) && is_broken_from_the_second(&list));
+        }
+        None => panic!(rt; "no list"),
+    }
+}
+
+// The values at the four places of a list of three members, which is opened and read, gets a fourth, and is closed: as read while
+// it was open, and as recalled.
+fn recalled(list: Quiet<u64>, value: u64) -> Option<([u64; 4], [u64; 4])> {
+    let (vector, mut hand) = list.open().ok()?;
+    let At {
+        value: a,
+        placed: first,
+    } = vector.at(&mut hand, 0, None).ok()?;
+    let At {
+        value: b,
+        placed: second,
+    } = vector.at(&mut hand, 1, None).ok()?;
+    let At {
+        value: c,
+        placed: third,
+    } = vector.at(&mut hand, 2, None).ok()?;
+    let fourth = vector.try_push_back(&mut hand, value).ok()?;
+    let read = [*a, *b, *c, *vector.get(&fourth)];
+    let list = Quiet::close(vector, hand);
+    let recalled = [
+        *list.recall(&first),
+        *list.recall(&second),
+        *list.recall(&third),
+        *list.recall(&fourth),
+    ];
+    Some((read, recalled))
+}
+
+#[test]
+fn old_and_new_places_are_recalled(rt: HostRuntime) {
+    let all = [1, 2, 3, 4];
+    assert!(rt; recalled(list_of(&rt, &[1, 2, 3]), 4) == Some((all, all)));
+}
+
+// Tests whether the values of a list are these, without its broken members.
 fn has_values<R: AllocGlobal + Abort>(rt: &R, list: Quiet<u64>, wanted: &[u64]) -> bool {
     match list.into_iter().flatten().collect::<Vec<u64>>(rt.alloc()) {
         Ok(values) => values.as_slice() == wanted,
@@ -114,7 +200,7 @@ fn has_values<R: AllocGlobal + Abort>(rt: &R, list: Quiet<u64>, wanted: &[u64]) 
     }
 }
 
-// Whether the members of three come from both ends.
+// Tests whether the members of three come from both ends.
 fn comes_from_both_ends(list: Quiet<u64>) -> bool {
     let mut members = list.into_iter();
     members.next_back() == Some(Some(3))

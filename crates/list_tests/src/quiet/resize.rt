@@ -2,8 +2,8 @@
 use super::{has, is_broken, list_of, measures};
 use quiet_core::{Quiet, QuietError};
 
-// Whether a list that is made so long answers this, and the maker was asked so often. The maker's value of number `refused` is
-// refused, the others are ten and their number.
+// Tests whether a list that is made n long returns this, and the maker is called this many times, for 0, 1, 2
+// and so on. The maker refuses number `refused`; its other values are ten and their number.
 fn resizes(
     list: &mut Quiet<u64>,
     n: u64,
@@ -12,7 +12,9 @@ fn resizes(
     times: u64,
 ) -> bool {
     let mut asked = 0u64;
+    let mut is_in_turn = true;
     let make = |i: u64| -> Result<u64, u64> {
+        is_in_turn = is_in_turn && i == asked;
         asked = asked.wrapping_add(1);
         if i == refused {
             Err(i)
@@ -20,7 +22,7 @@ fn resizes(
             Ok(i.wrapping_add(10))
         }
     };
-    list.resize(n, make) == answer && asked == times
+    list.resize(n, make) == answer && asked == times && is_in_turn
 }
 
 fn grows_to_five(list: &mut Quiet<u64>) -> bool {
@@ -32,7 +34,8 @@ fn grows_to_five(list: &mut Quiet<u64>) -> bool {
 }
 
 fn is_cut_to_two(list: &mut Quiet<u64>) -> bool {
-    resizes(list, 2, 0, Ok(()), 0)
+    resizes(list, 5, 0, Ok(()), 0)
+        && resizes(list, 2, 0, Ok(()), 0)
         && measures(list, 2, 8)
         && has(list, 1, 2)
         && resizes(list, 17, 9, Err(QuietError::TooLong), 0)

@@ -43,7 +43,7 @@ fn zeros(alloc: Global, n: u64) -> Result<Quiet<u64>, QuietError>
     Ok(list)
 }
 
-// Whether three values give this at a place.
+// Tests whether three values give this at a place.
 fn gives<R: AllocGlobal + Abort>(rt: &R, place: u64, value: Option<u64>) -> bool {
     value_at(rt.alloc(), vec_of(rt, &[5, 6, 7]), 100, place) == Ok(value)
 }

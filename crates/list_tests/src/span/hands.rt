@@ -22,7 +22,7 @@ impl From<GrowError<u64, u64, Never>> for Stop {
     }
 }
 
-// A worker appends ten values, and answers its number. It stops after five where it is to.
+// Appends ten values by one worker, and returns its number. It stops after five if `stops` says so.
 fn append_ten<R: Wait>(
     rt: &R,
     vector: &Shared<u64>,
@@ -45,7 +45,8 @@ fn append_ten<R: Wait>(
 
 const NUMBERS: [u32; 8] = [0, 1, 2, 3, 4, 5, 6, 7];
 
-// Whether eight workers, of which one may stop, answer in order, and the length of the list that the vector is closed into.
+// Tests whether eight workers, one of which may stop, return in order; and returns the length of the closed
+// list.
 fn append_by_eight<R: Threads + Wait + Sync, G: Gate + Sync>(
     rt: &R,
     alloc: Global,
@@ -94,20 +95,34 @@ fn the_vector_closes_where_growths_or_workers_are_refused(rt: HostRuntime) {
     assert!(rt; stuck == Some((Err(Refusal::Stuck), 60)));
 }
 
-// The shares of each of so many hands, and of what is left of one that had 10, if the parts are even.
-fn even_shares(alloc: Global, n: u32) -> Option<(u32, u32)>
-    requires { n < 10 }
-{
+// The shares of each of `n` hands, and of what is left of one that had 10, if the parts are even.
+fn even_shares(alloc: Global, shares: u32, n: u32) -> Option<(u32, u32)> {
+    if n >= shares || shares > 65_535 {
+        return None;
+    }
     let (vector, mut rest) = Quiet::<u64>::new(alloc, 8).open().ok()?;
-    let mut hand = vector.split(&mut rest, 10);
+    let mut hand = vector.split(&mut rest, shares);
     let hands = split_even(alloc, &vector, &mut hand, n).ok()?;
-    let each = hands.first().map_or(0, |first| first.share());
+    let each = hands.last().map_or(0, |last| last.share());
     Some((each, hand.share()))
 }
 
+// Shares, how many hands are split off, the shares of each, and those that are left.
+const EVEN: [(u32, u32, u32, u32); 6] = [
+    (10, 3, 2, 4),
+    (10, 9, 1, 1),
+    (10, 0, 0, 10),
+    (1000, 10, 90, 100),
+    (65_535, 300, 217, 435),
+    (65_535, 65_534, 1, 1),
+];
+
 #[test]
 fn what_is_left_of_even_shares_stays(rt: HostRuntime) {
-    assert!(rt; even_shares(rt.alloc(), 3) == Some((2, 4)));
-    assert!(rt; even_shares(rt.alloc(), 9) == Some((1, 1)));
-    assert!(rt; even_shares(rt.alloc(), 0) == Some((0, 10)));
+    for (shares, n, each, left) in EVEN.as_slice() {
+        assert!(rt;
+            even_shares(rt.alloc(), *shares, *n) == Some((*each, *left)),
+            "{shares} {n}"
+        );
+    }
 }

@@ -7,14 +7,14 @@ use std::thread::Threads;
 
 // A digit for each worker, the lowest first, to the base 3: 0 works, 1 is refused by the gate, 2 has no memory.
 #[derive(Drop)]
-struct Fates {
+pub(super) struct Fates {
     digits: u32,
     before: AtomicU64,
     after: AtomicU64,
 }
 
 impl Fates {
-    fn new(digits: u32) -> Fates {
+    pub(super) fn new(digits: u32) -> Fates {
         Fates {
             digits,
             before: AtomicU64::new(0),
@@ -70,25 +70,47 @@ impl Gate for Fates {
     }
 }
 
-// Whether the refusal of the lowest of four workers is answered, and all of them pass the gate twice.
-fn answers_lowest<R: Threads + Wait + Sync>(rt: &R, alloc: Global, digits: u32) -> bool {
+// Tests whether the refusal of the lowest worker is returned, and all of them pass the gate twice.
+fn returns_lowest<R: Threads + Wait + Sync>(
+    rt: &R,
+    alloc: Global,
+    workers: u32,
+    digits: u32,
+) -> bool {
     let fates = Fates::new(digits);
-    run_workers(rt, alloc, &fates, &fates, 4).err() == fates.lowest(4)
-        && fates.before.load(Ordering::SeqCst) == 4
-        && fates.after.load(Ordering::SeqCst) == 4
+    run_workers(rt, alloc, &fates, &fates, workers).err() == fates.lowest(workers)
+        && fates.before.load(Ordering::SeqCst) == u64::from(workers)
+        && fates.after.load(Ordering::SeqCst) == u64::from(workers)
 }
 
-// The numbers of five workers, each of which answers with its own.
+// The numbers of five workers, each returning its own.
 fn numbers<R: Threads + Wait + Sync>(rt: &R, alloc: Global) -> Result<bool, ParError> {
     let fates = Fates::new(0);
     let answers = run_workers(rt, alloc, &fates, &fates, 5)?;
     Ok(answers.as_slice() == [0, 1, 2, 3, 4].as_slice())
 }
 
+// Workers, and a digit for each: of 9 the last, of 16 the last, and of 64 those of numbers 20 and 19.
+const MANY: [(u32, u32); 7] = [
+    (9, 6561),
+    (9, 13_122),
+    (16, 14_348_907),
+    (16, 28_697_814),
+    (64, 3_486_784_401),
+    (64, 2_324_522_934),
+    (64, 0),
+];
+
 #[test]
 fn the_refusal_of_the_lowest_worker_and_the_answers_in_order_come(rt: HostRuntime) {
     for digits in 0..81 {
-        assert!(rt; answers_lowest(&rt, rt.alloc(), digits), "{digits}");
+        assert!(rt; returns_lowest(&rt, rt.alloc(), 4, digits), "{digits}");
+    }
+    for (workers, digits) in MANY.as_slice() {
+        assert!(rt;
+            returns_lowest(&rt, rt.alloc(), *workers, *digits),
+            "{workers} {digits}"
+        );
     }
     assert!(rt; numbers(&rt, rt.alloc()) == Ok(true));
 }

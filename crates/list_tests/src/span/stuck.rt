@@ -1,4 +1,4 @@
-// A gate that refuses one worker of three, whichever it is: the loop is stuck, and each worker passed the gate twice.
+// A gate that refuses one worker: the loop is stuck, and each worker passed the gate twice.
 use crate::span::{numbered, refusal_of};
 use quiet_core::Quiet;
 use span_core::{Gate, ParError, Span, par_reduce};
@@ -24,7 +24,7 @@ impl RefusesOne {
         }
     }
 
-    // Whether so many workers have passed the gate, each of them twice.
+    // Tests whether `workers` workers have passed the gate, each of them twice.
     fn is_passed(&self, workers: u64) -> bool {
         self.before.load(Ordering::SeqCst) == workers
             && self.after.load(Ordering::SeqCst) == workers
@@ -50,34 +50,43 @@ fn map_is_stuck<R: Threads + Wait + Sync>(
     rt: &R,
     alloc: Global,
     list: &Quiet<u64>,
+    workers: u32,
     refused: u32,
 ) -> bool {
     let gate = RefusesOne::new(refused);
-    refusal_of(rt, alloc, list, 2, 3, &gate) == Some(ParError::Stuck) && gate.is_passed(3)
+    refusal_of(rt, alloc, list, 2, workers, &gate) == Some(ParError::Stuck)
+        && gate.is_passed(u64::from(workers))
 }
 
 fn reduction_is_stuck<R: Threads + Wait + Sync>(
     rt: &R,
     alloc: Global,
     list: &Quiet<u64>,
+    workers: u32,
     refused: u32,
 ) -> bool {
     let gate = RefusesOne::new(refused);
     let f = |place: u64, _value: Option<&u64>| place;
     let join = |a: u64, b: u64| a.wrapping_add(b);
     let span = Span::new(0, list.len(), 2);
-    let sum = par_reduce(rt, alloc, list, span, 3, &f, 0u64, &join, &gate);
-    sum == Err(ParError::Stuck) && gate.is_passed(3)
+    let sum = par_reduce(rt, alloc, list, span, workers, f, 0u64, join, &gate);
+    sum == Err(ParError::Stuck) && gate.is_passed(u64::from(workers))
 }
+
+// How many workers there are, and which one is refused.
+const REFUSED: [(u32, u32); 6] = [(3, 0), (3, 1), (3, 2), (9, 8), (16, 7), (64, 63)];
 
 #[test]
 fn loops_are_stuck_whichever_worker_is_refused(rt: HostRuntime) -> Result<(), Fail> {
     let list = numbered(rt.alloc(), 12)?;
-    for refused in 0..3u32 {
-        assert!(rt; map_is_stuck(&rt, rt.alloc(), &list, refused), "{refused}");
+    for (workers, refused) in REFUSED.as_slice() {
         assert!(rt;
-            reduction_is_stuck(&rt, rt.alloc(), &list, refused),
-            "{refused}"
+            map_is_stuck(&rt, rt.alloc(), &list, *workers, *refused),
+            "{workers} {refused}"
+        );
+        assert!(rt;
+            reduction_is_stuck(&rt, rt.alloc(), &list, *workers, *refused),
+            "{workers} {refused}"
         );
     }
     Ok(())

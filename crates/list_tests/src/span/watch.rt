@@ -18,7 +18,7 @@ const ENDED: u64 = 3;
 
 // A worker is at 0, and then at each of the states above in turn. Work in a loop leaves it where it is.
 #[derive(Drop)]
-struct Watch {
+pub(super) struct Watch {
     refused_from: u32,
     states: Vec<AtomicU64>,
     wrong: AtomicU64,
@@ -27,7 +27,7 @@ struct Watch {
 }
 
 impl Watch {
-    fn new(
+    pub(super) fn new(
         alloc: Global,
         workers: u32,
         refused_from: u32,
@@ -57,7 +57,13 @@ impl Watch {
         }
     }
 
-    // A call for a place of a leaf of two, by one of so many workers.
+    // Notes that a worker works.
+    pub(super) fn note_work(&self, worker: u32) {
+        self.calls.fetch_add(1, Ordering::SeqCst);
+        self.step(worker, ASKED, WORKED);
+    }
+
+    // Notes a call for a place of a leaf of two, by one of `workers` workers.
     fn visit(&self, place: u64, workers: u64) -> u64 {
         self.calls.fetch_add(1, Ordering::SeqCst);
         let worker = (place / 2).checked_rem(workers).unwrap_or(0);
@@ -65,8 +71,8 @@ impl Watch {
         place
     }
 
-    // Whether all workers have ended, after so many calls and no wrong step.
-    fn has_ended(&self, calls: u64) -> bool {
+    // Tests whether all workers have ended, after `calls` calls and no wrong step.
+    pub(super) fn has_ended(&self, calls: u64) -> bool {
         for state in &self.states {
             if state.load(Ordering::SeqCst) != ENDED {
                 return false;
@@ -84,8 +90,7 @@ impl Job<u32> for Watch {
     ghost gives = { λ _ worker answer. answer ≡ worker };
 
     fn work(&self, worker: u32) -> Result<u32, AllocError> {
-        self.calls.fetch_add(1, Ordering::SeqCst);
-        self.step(worker, ASKED, WORKED);
+        self.note_work(worker);
         Ok(worker)
     }
 }
@@ -108,7 +113,7 @@ impl Gate for Watch {
     }
 }
 
-// The number of answers by so many workers.
+// The number of results of `workers` workers.
 fn pass<R: Threads + Wait + Sync>(
     rt: &R,
     alloc: Global,
@@ -131,23 +136,38 @@ fn all_pass<R: Threads + Wait + Sync>(
     )
 }
 
-fn three_of_five_pass<R: Threads + Wait + Sync>(rt: &R, alloc: Global) -> Result<bool, AllocError> {
-    let watch = Watch::new(alloc, 5, 3, false)?;
+// Tests whether the gate makes the workers stuck, and only those below a number work.
+fn some_pass<R: Threads + Wait + Sync>(
+    rt: &R,
+    alloc: Global,
+    workers: u32,
+    refused_from: u32,
+) -> Result<bool, AllocError> {
+    let watch = Watch::new(alloc, workers, refused_from, false)?;
+    let calls = u64::from(refused_from);
     Ok(
-        pass(rt, alloc, &watch, 5) == Err(ParError::Stuck)
-            && watch.has_ended(3)
+        pass(rt, alloc, &watch, workers) == Err(ParError::Stuck)
+            && watch.has_ended(calls)
             && pass(rt, alloc, &watch, 0) == Err(ParError::BadWorkers)
             && pass(rt, alloc, &watch, 65) == Err(ParError::BadWorkers)
-            && watch.has_ended(3),
+            && watch.has_ended(calls),
     )
 }
+
+// The number of workers, and the first one that the gate refuses.
+const STUCK: [(u32, u32); 5] = [(5, 3), (9, 8), (16, 0), (64, 1), (64, 63)];
 
 #[test]
 fn each_worker_asks_works_and_ends_in_turn(rt: HostRuntime) -> Result<(), Fail> {
     for workers in [1, 2, 7, 64].as_slice() {
         assert!(rt; all_pass(&rt, rt.alloc(), *workers)?, "{workers}");
     }
-    assert!(rt; three_of_five_pass(&rt, rt.alloc())?);
+    for (workers, refused_from) in STUCK.as_slice() {
+        assert!(rt;
+            some_pass(&rt, rt.alloc(), *workers, *refused_from)?,
+            "{workers} {refused_from}"
+        );
+    }
     Ok(())
 }
 
@@ -167,7 +187,7 @@ fn map_by<R: Threads + Wait + Sync>(
         list,
         Span::new(0, places, 2),
         workers,
-        &visit,
+        visit,
         watch,
     )?;
     Ok(
@@ -193,7 +213,7 @@ fn fold_by<R: Threads + Wait + Sync>(
         a.wrapping_add(b)
     };
     let span = Span::new(0, places, 2);
-    let sum = par_reduce(rt, alloc, list, span, workers, &visit, 0, &join, watch)?;
+    let sum = par_reduce(rt, alloc, list, span, workers, visit, 0, join, watch)?;
     Ok(
         sum == places.wrapping_mul(places.wrapping_sub(1)) / 2
             && joins.load(Ordering::SeqCst) == places

@@ -43,6 +43,16 @@ const STEPS: [Row; 6] = [
     ("limit 8\nactor a push 5\nactor b fail 2 7 2\nsteps a b", BAD_COMMAND, ""),
 ];
 
+#[rattlefmt::skip]
+const COUNTED: [Row; 3] = [
+    ("limit 8\nactor a push 5\nactor b push 6\nsteps a b a a b a b b b b b a a", Ok(()),
+        "b1 push at 1\na1 push at 0\nsize 2: 5 6\nb1 lost 1 steps 7\na1 lost 0 steps 6\n"),
+    ("limit 8\nfirst 2\nactor a fail 3 7 1\nactor b mend 1 9, size\nsteps a a a a a a a a a a b b b b", Ok(()),
+        "a1 fail broken 0 3 1\nb1 mend at 1\nb2 size 3\nsize 3: 7 9 x\na1 lost 0 steps 10\nb1 lost 0 steps 3\n\
+        b2 lost 0 steps 1\n"),
+    ("limit 8\nactor a push 5\nactor b fail 2 7 2\nsteps a b", BAD_COMMAND, ""),
+];
+
 // Room for a text, at the second try if need be.
 fn room(alloc: Global) -> Vec<u8> {
     match Vec::with_capacity(alloc, 200) {
@@ -51,7 +61,8 @@ fn room(alloc: Global) -> Vec<u8> {
     }
 }
 
-// Whether a run ends as its row says, at the second try where the first had no memory and wrote nothing.
+// Tests whether a run ends as its row says, at the second try where the first had no memory and wrote
+// nothing.
 fn ends(alloc: Global, engine: Engine, row: &Row) -> bool {
     let (script, want, written) = row;
     let mut text = room(alloc);
@@ -73,5 +84,12 @@ fn whole_calls_are_run_again(rt: HostRuntime) {
 fn atomic_steps_are_run_again(rt: HostRuntime) {
     for row in STEPS.as_slice() {
         assert!(rt; ends(rt.alloc(), Engine::Steps, row), "{}", row.0);
+    }
+}
+
+#[test]
+fn counted_steps_are_run_again(rt: HostRuntime) {
+    for row in COUNTED.as_slice() {
+        assert!(rt; ends(rt.alloc(), Engine::Counted, row), "{}", row.0);
     }
 }

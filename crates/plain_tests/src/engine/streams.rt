@@ -3,7 +3,7 @@
 use super::run;
 use engine_core::{Engine, RunError};
 use script_core::ScriptError;
-use std::alloc::Global;
+use std::alloc::{AllocError, Global};
 use std::io::{self, ErrorKind, Read, Write};
 
 const SCRIPT: &[u8] = b"limit 8\nactor a push 5, size\nactor b push 6\nsteps a b a\n";
@@ -13,16 +13,16 @@ const TEXT: &[u8] = b"a1 push at 0\nb1 push at 1\na2 size 2\nsize 2: 5 6\n";
 // An engine, a script and the text of its play.
 type Row = (Engine, &'static [u8], &'static [u8]);
 
-const PLAYS: [Row; 2] = [
+const STEPS: &[u8] = b"limit 8\nactor a push 5\nactor b push 6\nsteps a b a a b a b b b b b a a";
+
+#[rattlefmt::skip]
+const PLAYS: [Row; 3] = [
     (Engine::Calls, SCRIPT, TEXT),
-    (
-        Engine::Steps,
-        b"limit 8\nactor a push 5\nactor b push 6\nsteps a b a a b a b b b b b a a",
-        b"b1 push at 1\na1 push at 0\nsize 2: 5 6\n",
-    ),
+    (Engine::Steps, STEPS, b"b1 push at 1\na1 push at 0\nsize 2: 5 6\n"),
+    (Engine::Counted, STEPS, b"b1 push at 1\na1 push at 0\nsize 2: 5 6\nb1 lost 1 steps 7\na1 lost 0 steps 6\n"),
 ];
 
-// Gives a byte at a time, and is interrupted before each; fails after the last where it is told to.
+// Gives a byte at a time, and is interrupted before each; may fail after the last.
 #[derive(Drop)]
 pub(super) struct Slow {
     pub rest: &'static [u8],
@@ -79,17 +79,105 @@ impl Write for Interrupted {
     }
 }
 
-// One line that never ends; counts the bytes that were taken.
+// One line of a length, and an interruption before each read; counts the bytes that were taken.
 #[derive(Drop)]
-struct Endless {
+struct LongLine {
+    rest: usize,
     given: usize,
+    interrupted: bool,
 }
 
-impl Read for Endless {
+impl Read for LongLine {
     fn read(&mut self, buf: &mut [u8]) -> io::Result<usize> {
-        buf.fill(b'x');
-        self.given = self.given.wrapping_add(buf.len());
-        Ok(buf.len())
+        self.interrupted = !self.interrupted;
+        if self.interrupted {
+            return Err(io::Error::from(ErrorKind::Interrupted));
+        }
+        let n = buf.len().min(self.rest);
+        buf[..n].fill(b'x');
+        self.rest -= n;
+        self.given = self.given.wrapping_add(n);
+        Ok(n)
+    }
+}
+
+// Interruptions that come before each byte until there have been enough.
+#[derive(Drop)]
+struct Interruptions {
+    now: usize,
+    all: usize,
+}
+
+impl Interruptions {
+    fn comes(&mut self) -> bool {
+        if self.now == 0 || self.all == 0 {
+            self.now = 30_000;
+            return false;
+        }
+        self.now -= 1;
+        self.all -= 1;
+        true
+    }
+}
+
+// Gives or takes a byte at a time, after its interruptions.
+#[derive(Drop)]
+struct Patient {
+    rest: &'static [u8],
+    text: Vec<u8>,
+    interruptions: Interruptions,
+}
+
+impl Read for Patient {
+    fn read(&mut self, buf: &mut [u8]) -> io::Result<usize> {
+        if self.interruptions.comes() {
+            return Err(io::Error::from(ErrorKind::Interrupted));
+        }
+        let most = buf.len().min(1);
+        self.rest.read(&mut buf[..most])
+    }
+}
+
+impl Write for Patient {
+    fn write(&mut self, buf: &[u8]) -> io::Result<usize> {
+        if self.interruptions.comes() {
+            return Err(io::Error::from(ErrorKind::Interrupted));
+        }
+        let most = buf.len().min(1);
+        self.text.extend_from_slice(&buf[..most])?;
+        Ok(most)
+    }
+
+    fn flush(&mut self) -> io::Result<()> {
+        Ok(())
+    }
+}
+
+// Takes a page at a time, and is interrupted before each; counts its bytes, and fails where it has no room.
+#[derive(Drop)]
+struct Pages {
+    taken: usize,
+    room: usize,
+    interrupted: bool,
+}
+
+impl Write for Pages {
+    fn write(&mut self, buf: &[u8]) -> io::Result<usize> {
+        self.interrupted = !self.interrupted;
+        if self.interrupted {
+            return Err(io::Error::from(ErrorKind::Interrupted));
+        }
+        let n = buf.len().min(4_096).min(self.room);
+        if n == 0 {
+            return Err(io::Error::from(ErrorKind::StorageFull));
+        }
+        self.taken = self.taken.wrapping_add(n);
+        self.room -= n;
+        Ok(n)
+    }
+
+    fn flush(&mut self) -> io::Result<()> {
+        Ok(())
     }
 }
 
@@ -153,9 +241,9 @@ impl Write for Unflushed {
     }
 }
 
-const ENGINES: [Engine; 2] = [Engine::Calls, Engine::Steps];
+const ENGINES: [Engine; 3] = [Engine::Calls, Engine::Steps, Engine::Counted];
 
-// Whether a play that is read a byte at a time is whole, and nothing is left of it for another.
+// Tests whether a play that is read a byte at a time is whole, and its input is used up.
 fn is_read_slowly(alloc: Global, row: &Row) -> bool {
     let (engine, rest, written) = *row;
     let mut text = Vec::new(alloc);
@@ -177,7 +265,7 @@ fn a_reader_may_give_a_byte_at_a_time(rt: HostRuntime) {
     }
 }
 
-// Whether a reader that fails after any number of bytes has no text.
+// Tests whether a reader that fails after any number of bytes has no text.
 fn fails_without_text(alloc: Global, row: &Row) -> bool {
     let (engine, script, _text) = *row;
     for given in 0..script.len() + 1 {
@@ -223,19 +311,130 @@ fn a_write_may_be_interrupted_less_than_1_048_576_times(rt: HostRuntime) {
     }
 }
 
-#[test]
-fn of_an_endless_line_one_byte_too_many_is_read(rt: HostRuntime) {
-    for engine in ENGINES.as_slice() {
-        let mut text = Vec::new(rt.alloc());
-        let mut reader = Endless { given: 0 };
-        let ended = run(rt.alloc(), *engine, &mut reader, &mut text);
-        let fault = RunError::Script(ScriptError::TooMany { line: 1 });
-        assert!(rt; ended == Err(fault), "{engine:?}");
-        assert!(rt; reader.given == 1_048_577 && text.is_empty(), "{engine:?}");
+const MOST_INTERRUPTIONS: usize = 1_048_576;
+
+// How a play ends whose reader, or otherwise its writer, is interrupted this many times in all, and whether its text is
+// whole.
+fn ended_after(
+    alloc: Global,
+    row: &Row,
+    times: usize,
+    reads: bool,
+) -> (Result<(), RunError>, bool) {
+    let (engine, rest, text) = *row;
+    let interruptions = Interruptions {
+        now: 30_000,
+        all: times,
+    };
+    let mut slow = Patient {
+        rest,
+        text: Vec::new(alloc),
+        interruptions,
+    };
+    let mut whole = Vec::new(alloc);
+    let mut reader = rest;
+    if reads {
+        let ended = run(alloc, engine, &mut slow, &mut whole);
+        (ended, whole.as_slice() == text)
+    } else {
+        let ended = run(alloc, engine, &mut reader, &mut slow);
+        (ended, slow.text.as_slice() == text)
     }
 }
 
-// Whether a play is written whole where few bytes are taken at a time.
+#[test]
+fn interruptions_are_counted_over_all_reads_and_writes(rt: HostRuntime) {
+    for row in PLAYS.as_slice() {
+        for (reads, fault) in [(true, RunError::Read), (false, RunError::Write)].as_slice() {
+            let passed = ended_after(rt.alloc(), row, MOST_INTERRUPTIONS - 1, *reads);
+            assert!(rt; passed == (Ok(()), true), "{:?}", row.0);
+            let failed = ended_after(rt.alloc(), row, MOST_INTERRUPTIONS, *reads);
+            assert!(rt; failed == (Err(*fault), false), "{:?}", row.0);
+        }
+    }
+}
+
+// The length of a line that is no script, its fault, and how many bytes of it are read.
+#[rattlefmt::skip]
+const LONG_LINES: [(usize, ScriptError, usize); 3] = [
+    (1_048_576, ScriptError::BadLine { line: 1 }, 1_048_576),
+    (1_048_577, ScriptError::TooMany { line: 1 }, 1_048_577),
+    (usize::MAX, ScriptError::TooMany { line: 1 }, 1_048_577),
+];
+
+// Tests whether a long line has its fault, and only this many bytes of it are read.
+fn is_read_to_its_fault(alloc: Global, engine: Engine, line: &(usize, ScriptError, usize)) -> bool {
+    let (rest, fault, given) = *line;
+    let mut text = Vec::new(alloc);
+    let mut reader = LongLine {
+        rest,
+        given: 0,
+        interrupted: false,
+    };
+    let ended = run(alloc, engine, &mut reader, &mut text);
+    ended == Err(RunError::Script(fault)) && reader.given == given && text.is_empty()
+}
+
+#[test]
+fn of_an_endless_line_one_byte_too_many_is_read(rt: HostRuntime) {
+    for engine in ENGINES.as_slice() {
+        for line in LONG_LINES.as_slice() {
+            assert!(rt;
+                is_read_to_its_fault(rt.alloc(), *engine, line),
+                "{engine:?} {line:?}"
+            );
+        }
+    }
+}
+
+// A script whose play fills 49,000 places.
+fn long_script(alloc: Global) -> Result<Vec<u8>, AllocError> {
+    let mut script = Vec::new(alloc);
+    script.extend_from_slice(b"limit 65536\nactor a grow 49000 18446744073709551615\nsteps")?;
+    for _step in 0..98_034 {
+        script.extend_from_slice(b" a")?;
+    }
+    Ok(script)
+}
+
+// An engine, and how long the text of that play is: a line of the growth, one of the cells with 21 bytes a place, and
+// one of counts.
+#[rattlefmt::skip]
+const LONG_TEXTS: [(Engine, usize); 3] = [
+    (Engine::Calls, 1_029_032), (Engine::Steps, 1_029_032), (Engine::Counted, 1_029_054),
+];
+
+// Tests whether a writer with that much room ends a long play in this way, with this many bytes of its text.
+fn ends_late(
+    alloc: Global,
+    engine: Engine,
+    script: &[u8],
+    room: usize,
+    want: Result<(), RunError>,
+) -> bool {
+    let mut reader = script;
+    let mut writer = Pages {
+        taken: 0,
+        room,
+        interrupted: false,
+    };
+    run(alloc, engine, &mut reader, &mut writer) == want && writer.taken == room
+}
+
+#[test]
+fn a_long_text_is_written_to_its_end_or_to_a_late_fault(rt: HostRuntime) -> Result<(), AllocError> {
+    let script = long_script(rt.alloc())?;
+    for (engine, length) in LONG_TEXTS.as_slice() {
+        let whole = ends_late(rt.alloc(), *engine, &script, *length, Ok(()));
+        assert!(rt; whole, "{engine:?}");
+        let fault = Err(RunError::Write);
+        let part = ends_late(rt.alloc(), *engine, &script, *length - 1, fault);
+        assert!(rt; part, "{engine:?}");
+    }
+    Ok(())
+}
+
+// Tests whether a play is written whole if few bytes are taken at a time.
 fn is_written_slowly(alloc: Global, row: &Row) -> bool {
     let (engine, script, text) = *row;
     let mut reader = script;
@@ -250,7 +449,7 @@ fn a_writer_may_take_a_few_bytes_at_a_time(rt: HostRuntime) {
     }
 }
 
-// Whether a writer that fails has exactly the first bytes of the text, however many it has room for.
+// Tests whether a writer that fails has exactly the first bytes of the text, however many it has room for.
 fn fails_at_a_prefix(alloc: Global, row: &Row) -> bool {
     let (engine, script, text) = *row;
     for room in 0..text.len() {

@@ -52,14 +52,14 @@ pub(crate) fn is_broken<T>(block: &Block<T>, place: u64) -> bool
     matches!(block.look(place), Look::Broken(_))
 }
 
-// Whether a value goes into the cell.
+// Tests whether a value goes into the cell.
 pub(crate) fn is_filled<T: Drop>(block: &Block<T>, place: u64, value: T) -> bool
     requires { place < block_len block.now }
 {
     fill(block, place, value).is_some()
 }
 
-// The place of the token that a lost begin gives, where another call is at the cell.
+// The place of the token that a lost begin gives, if another call is at the cell.
 fn busy_place<T>(block: &Block<T>, place: u64) -> Option<u64>
     requires { place < block_len block.now }
 {
@@ -86,7 +86,7 @@ fn seen(block: &Block<u64>, placed: &Placed<u64>) -> Option<(u64, u64)>
     }
 }
 
-// What is seen of a cell that was filled, and that another call tries to fill.
+// What a look and a second begin find at a filled cell.
 fn stays_filled(block: &Block<u64>, placed: &Placed<u64>) -> bool
     requires { IsPlacedIn block.now placed.now × (2 < block_len block.now) }
 {
@@ -115,7 +115,7 @@ fn a_cell_is_filled_once(rt: HostRuntime) {
     assert!(rt; block.len() == 4 && is_filled_once(&block));
 }
 
-// Whether the cell is busy until its pen is spent.
+// Tests whether the cell is busy until its pen is spent.
 fn is_busy_until_filled(block: &Block<u64>) -> bool
     requires { 1 < block_len block.now }
 {
@@ -134,7 +134,7 @@ fn a_cell_is_busy_while_its_pen_is_out(rt: HostRuntime) {
     assert!(rt; is_busy_until_filled(&block));
 }
 
-// The places of the token of a cell that is broken now, and of the token once more.
+// The places of the token of a cell that is broken now, and of the token's duplicate.
 fn spoilt_places(block: &Block<u64>, place: u64) -> Option<(u64, u64)>
     requires { place < block_len block.now }
 {
@@ -157,7 +157,7 @@ fn a_broken_cell_is_not_begun(rt: HostRuntime) {
     assert!(rt; stays_broken(&block));
 }
 
-// Whether the first cell is filled, and its value is taken.
+// Tests whether the first cell is filled, and its value is taken.
 fn gives_up(block: &mut Block<u64>, value: u64) -> bool
     requires { 0 < block_len block.old }
     ensures len { block_len block.new ≡ block_len block.old }
@@ -166,7 +166,7 @@ fn gives_up(block: &mut Block<u64>, value: u64) -> bool
     is_filled(block, 0, value) && block.take(0) == Some(value)
 }
 
-// Whether nothing is taken of the first cell, which is empty then.
+// Tests whether nothing is taken of the first cell, which is empty then.
 fn gives_up_nothing(block: &mut Block<u64>) -> bool
     requires { 0 < block_len block.old }
     ensures len { block_len block.new ≡ block_len block.old }
@@ -175,7 +175,7 @@ fn gives_up_nothing(block: &mut Block<u64>) -> bool
     block.take(0).is_none() && is_empty(block, 0)
 }
 
-// Whether the first cell is empty each time that it was taken.
+// Tests whether the first cell is empty each time that it was taken.
 fn is_empty_once_taken(block: &mut Block<u64>) -> bool
     requires { 0 < block_len block.old }
     ensures len { block_len block.new ≡ block_len block.old }
@@ -205,7 +205,7 @@ fn a_taken_cell_is_empty(rt: HostRuntime) {
     assert!(rt; is_taken_alone(&mut block));
 }
 
-// Whether the value is taken of the second cell, which is empty then.
+// Tests whether the value is taken of the second cell, which is empty then.
 fn gives_up_by_token(block: &mut Block<u64>) -> bool
     requires { 1 < block_len block.old }
     ensures len { block_len block.new ≡ block_len block.old }
@@ -290,7 +290,7 @@ fn count_taken(block: &mut Block<Counted<'_>>, place: u64, drops: &AtomicU64) ->
     count(drops)
 }
 
-// Whether a value that is refused and two that are taken are dropped.
+// Tests whether a value that is refused and two that are taken are dropped.
 fn drops_three<'a>(block: &mut Block<Counted<'a>>, drops: &'a AtomicU64) -> bool
     requires { 3 < block_len block.old }
 {
@@ -330,7 +330,7 @@ fn ends<T: Copy>(block: &Block<T>, a: T, b: T) -> Option<(T, T)>
     Some((*block.value(&first), *block.value(&last)))
 }
 
-// Whether they are the values that were put into a new block.
+// Tests whether they are the values that were put into a new block.
 fn lie_apart<T: Copy + PartialEq>(alloc: Global, a: T, b: T) -> bool {
     match Block::new(alloc, 3) {
         Ok(block) => ends(&block, a, b) == Some((a, b)),
@@ -345,7 +345,7 @@ fn values_of_each_size_lie_apart(rt: HostRuntime) {
     assert!(rt; lie_apart(alloc, [1u64; 3], [2; 3]) && lie_apart(alloc, [1u64; 32], [2; 32]));
 }
 
-// Whether the cells of a new block are empty.
+// Tests whether the cells of a new block are empty.
 fn is_made_empty(alloc: Global) -> Result<bool, AllocError> {
     let block = Block::<u64>::new(alloc, 3)?;
     Ok(is_empty(&block, 2))
@@ -361,10 +361,28 @@ fn a_refused_allocation_makes_no_block(rt: HostRuntime) {
     assert!(rt; made == Ok(true));
 }
 
+// A row of 2^63 bytes or more is refused before memory is requested.
 #[test]
 fn too_many_cells_are_refused(rt: HostRuntime) {
-    let made = Block::<u64>::new(rt.alloc(), 1 << 40);
-    assert!(rt; matches!(made, Err(AllocError)));
+    for n in [1 << 59, 1 << 60, u64::MAX].as_slice() {
+        let made = Block::<u64>::new(rt.alloc(), *n);
+        assert!(rt; matches!(made, Err(AllocError)));
+    }
+}
+
+// Lays `n` cells of 16 MiB, and returns whether all are empty. The block is freed without dropping its cells, since
+// a value of this size does not fit on the stack.
+fn are_laid(alloc: Global, n: u64) -> Result<bool, AllocError> {
+    let block = Block::<[u64; 1 << 21]>::new(alloc, n)?;
+    let is_laid = block.len() == n && empty_cells(&block) == n;
+    block.free();
+    Ok(is_laid)
+}
+
+#[test]
+fn cells_of_any_size_are_laid(rt: HostRuntime) {
+    assert!(rt; matches!(are_laid(rt.alloc(), 2), Ok(true)));
+    assert!(rt; matches!(are_laid(rt.alloc(), 1 << 40), Err(AllocError)));
 }
 
 fn is_sent<X: Send>() {}

@@ -7,7 +7,7 @@ use cell_core::block::{Block, Ended, Epoch, Look, Member, Placed};
 use std::sync::atomic::{AtomicU64, Ordering};
 use std::thread::{Threads, join};
 
-// Mends the cell with a value, where it is broken.
+// Mends the cell with a value, if it is broken.
 fn mend<T: Drop>(block: &Block<T>, place: u64, value: T) -> Option<Placed<T>>
     requires { place < block_len block.now }
     ensures token { IfSome result (IsPlacedAt block.now place) }
@@ -16,14 +16,14 @@ fn mend<T: Drop>(block: &Block<T>, place: u64, value: T) -> Option<Placed<T>>
     Some(block.mend(place).ok()?.fill(value))
 }
 
-// Breaks the cell, where it is empty.
+// Breaks the cell, if it is empty.
 fn spoil<T>(block: &Block<T>, place: u64) -> bool
     requires { place < block_len block.now }
 {
     number(block.begin(place)) == 5
 }
 
-// Whether a mend finds the first cell busy while its pen is out, which breaks it.
+// Tests whether a mend finds the first cell busy while its pen is out, which breaks it.
 fn is_busy_to_a_mend(block: &Block<u64>) -> bool
     requires { 0 < block_len block.now }
 {
@@ -35,7 +35,25 @@ fn is_busy_to_a_mend(block: &Block<u64>) -> bool
     found == 1
 }
 
-// What a mend finds before a cell is begun, while its pen is out, once it is broken, and once it is filled.
+// Returns whether the writer of the first cell fills it although another call tries to mend it meanwhile.
+fn is_filled_by_its_writer(block: &Block<u64>) -> bool
+    requires { 0 < block_len block.now }
+{
+    let Some(pen) = block.begin(0).ok() else {
+        return false;
+    };
+    let found = number(block.mend(0));
+    let placed = pen.fill(6);
+    found == 1 && *block.value(&placed) == 6 && matches!(block.look(0), Look::Filled(6, _))
+}
+
+#[test]
+fn a_cell_with_a_writer_is_not_mended(rt: HostRuntime) {
+    let block = made(&rt, 1);
+    assert!(rt; number(block.mend(0)) == 0 && is_filled_by_its_writer(&block));
+}
+
+// A mend before a cell is begun, while its pen is out, once it is broken, and once it is filled.
 fn is_mended_only_where_broken(block: &Block<u64>) -> bool
     requires { 0 < block_len block.now }
 {
@@ -53,7 +71,7 @@ fn a_broken_cell_is_mended_and_no_other(rt: HostRuntime) {
     assert!(rt; is_mended_only_where_broken(&block));
 }
 
-// What is known of the first cell in a new epoch, where it is broken.
+// Settles the first cell in a new epoch, if it is broken.
 fn broken_in(block: &mut Block<u64>, epoch: &Epoch) -> Member<u64>
     requires { 0 < block_len block.old }
     ensures member { IsMemberAt block.new 0 result }
@@ -81,7 +99,7 @@ fn number_after(block: &Block<u64>, broken: &Member<u64>, ended: &Ended) -> u64
     number(block.mend_member(0, broken, ended))
 }
 
-// What they find once it has ended.
+// The same once the epoch has ended.
 fn is_mended_after(block: &Block<u64>, broken: &Member<u64>, ended: &Ended) -> bool
     requires { IsMemberAt block.now 0 broken.now × (broken.now.epoch ≡ ended.now) }
 {
@@ -120,7 +138,7 @@ fn a_broken_cell_is_settled_anew_in_each_epoch(rt: HostRuntime) {
     assert!(rt; is_settled_anew(&mut block));
 }
 
-// Whether a cell that was mended is settled as one with its value.
+// Tests whether a cell that was mended is settled as one with its value.
 fn is_settled_mended(block: &mut Block<u64>) -> bool
     requires { 0 < block_len block.old }
 {
@@ -180,7 +198,7 @@ fn mend_by_two<R: Threads + Sync>(
     )
 }
 
-// Whether one of two threads mends the cell, and its value is seen.
+// Tests whether one of two threads mends the cell, and its value is seen.
 fn is_mended_by_one<R: Threads + Sync>(rt: &R, block: &Block<u64>, place: u64) -> bool
     requires { place < block_len block.now }
 {

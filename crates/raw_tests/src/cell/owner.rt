@@ -5,7 +5,7 @@ use super::block::{Counted, count, fill, is_broken, is_empty, is_filled, made};
 use cell_core::block::{Block, Ended, Epoch, Look, Member, Row};
 use std::sync::atomic::AtomicU64;
 
-// The value of a cell of which so much is known.
+// The value of a cell by what is known of it.
 fn value_of(block: &Block<u64>, place: u64, member: &Member<u64>, epoch: &Epoch) -> Option<u64>
     requires member { IsMemberAt block.now place member.now }
     requires epoch { member.now.value ≡ None → member.now.epoch ≡ epoch.now }
@@ -24,7 +24,7 @@ fn settled_value(block: &mut Block<u64>, place: u64, epoch: &Epoch) -> Option<u6
     value_of(block, place, &member, epoch)
 }
 
-// What is known of a cell that was filled, and is settled.
+// Settles a filled cell, and returns what is then known of it.
 fn settled_filled(block: &mut Block<u64>, epoch: &Epoch) -> Option<Member<u64>>
     requires { 1 < block_len block.old }
     ensures member { IfSome result (IsMemberAt block.new 1) }
@@ -37,7 +37,7 @@ fn settled_filled(block: &mut Block<u64>, epoch: &Epoch) -> Option<Member<u64>>
     Some(filled)
 }
 
-// Whether the first cell is broken once it is settled, and stays so.
+// Tests whether the first cell is broken once it is settled, and stays so.
 fn is_settled_broken(block: &mut Block<u64>, epoch: &Epoch) -> bool
     requires { 0 < block_len block.old }
     ensures len { block_len block.new ≡ block_len block.old }
@@ -49,7 +49,7 @@ fn is_settled_broken(block: &mut Block<u64>, epoch: &Epoch) -> bool
         && settled_value(block, 0, epoch).is_none()
 }
 
-// Whether one cell is settled with its value, and one without.
+// Tests whether one cell is settled with its value, and one without.
 fn is_settled(block: &mut Block<u64>, epoch: &Epoch) -> bool
     requires { 1 < block_len block.old }
     ensures { block_len block.new ≡ block_len block.old }
@@ -121,7 +121,7 @@ fn spoil(block: &mut Block<u64>, place: u64, epoch: &Epoch) -> Option<u64>
     block.spoil_now(place, epoch).1
 }
 
-// Whether the second cell takes a value where it is empty, filled or broken.
+// Tests whether the second cell takes a value where it is empty, filled or broken.
 fn takes_any_value(block: &mut Block<u64>, epoch: &Epoch) -> bool
     requires { 1 < block_len block.old }
     ensures { block_len block.new ≡ block_len block.old }
@@ -134,7 +134,7 @@ fn takes_any_value(block: &mut Block<u64>, epoch: &Epoch) -> bool
         && put(block, 1, 7) == (7, 1, None)
 }
 
-// Whether the second cell alone of three has the value.
+// Tests whether the second cell alone of three has the value.
 fn has_one_value(block: &Block<u64>) -> bool
     requires { 2 < block_len block.now }
 {
@@ -160,7 +160,7 @@ fn take_members(block: &mut Block<u64>, epoch: &Epoch) -> (Option<u64>, Option<u
     (first, block.take_member(0, &broken, epoch))
 }
 
-// Whether both cells are empty then.
+// Tests whether both cells are empty then.
 fn is_empty_once_taken(block: &mut Block<u64>, epoch: &Epoch) -> bool
     requires { 2 < block_len block.old }
     ensures { block_len block.new ≡ block_len block.old }
@@ -196,7 +196,7 @@ fn pop(row: &mut Row<u64>, a: &Member<u64>, b: &Member<u64>, c: &Member<u64>)
     row.pop();
 }
 
-// Whether a row of three has its members in order: the second is broken.
+// Tests whether a row of three has its members in order: the second is broken.
 fn has_three(
     block: &Block<u64>,
     row: &Row<u64>,
@@ -215,7 +215,7 @@ fn has_three(
         && value_of(block, 2, &row.at(2), epoch) == Some(6)
 }
 
-// Whether a row of two has another second member, once it is set.
+// Tests whether a row of two has another second member, once it is set.
 fn has_another(block: &mut Block<u64>, row: &mut Row<u64>, a: &Member<u64>, epoch: &Epoch) -> bool
     requires len { length row.old ≡ 2 }
     requires row { slice_get row.old 0 ≡ Some a.now }
@@ -228,7 +228,7 @@ fn has_another(block: &mut Block<u64>, row: &mut Row<u64>, a: &Member<u64>, epoc
         && value_of(block, 0, &row.at(0), epoch) == Some(5)
 }
 
-// Whether a row has what is pushed to it and set in it.
+// Tests whether a row has what is pushed to it and set in it.
 fn has_members(
     block: &mut Block<u64>,
     a: &Member<u64>,
@@ -248,7 +248,7 @@ fn has_members(
     value_of(block, 1, &row.at(1), epoch).is_none() && has_another(block, &mut row, a, epoch)
 }
 
-// The same of three cells, of which the second is broken.
+// The same of three cells; the second is broken.
 fn has_row(block: &mut Block<u64>, epoch: &Epoch) -> bool
     requires { 2 < block_len block.old }
 {
@@ -313,7 +313,7 @@ fn count_taken(
     (settled, count(drops))
 }
 
-// Whether the first four cells get values, and none is dropped.
+// Tests whether the first four cells get values, without any drop.
 fn drops_none<'a>(block: &mut Block<Counted<'a>>, drops: &'a AtomicU64) -> bool
     requires { 3 < block_len block.old }
     ensures { block_len block.new ≡ block_len block.old }
@@ -324,7 +324,7 @@ fn drops_none<'a>(block: &mut Block<Counted<'a>>, drops: &'a AtomicU64) -> bool
         && count_put(block, 3, drops) == 0
 }
 
-// Whether each that leaves its cell is dropped then.
+// Tests whether each that leaves its cell is dropped then.
 fn drops_three<'a>(block: &mut Block<Counted<'a>>, epoch: &Epoch, drops: &'a AtomicU64) -> bool
     requires { 3 < block_len block.old }
 {
@@ -342,6 +342,40 @@ fn an_owner_drops_no_value_twice(rt: HostRuntime) {
     assert!(rt; drops_three(&mut block, &epoch, &drops));
     drop(block);
     assert_eq!(rt; count(&drops), 5);
+}
+
+// Returns the value of a cell's token, after the cell gave two.
+fn value_now(block: &mut Block<u64>, place: u64) -> Option<u64>
+    requires { place < block_len block.old }
+    ensures { block_len block.new ≡ block_len block.old }
+{
+    let first = block.token_now(place)?;
+    let second = block.token_now(place)?;
+    block.agree(&first, &second);
+    Some(*block.value(&second))
+}
+
+// Returns whether a cell gives its token while it is filled, and none while it is empty, broken or taken.
+fn has_a_token_where_filled(block: &mut Block<u64>, epoch: &Epoch) -> bool
+    requires { 1 < block_len block.old }
+{
+    value_now(block, 1).is_none()
+        && is_filled(block, 1, 5)
+        && value_now(block, 1) == Some(5)
+        && spoil(block, 1, epoch) == Some(5)
+        && value_now(block, 1).is_none()
+        && put(block, 1, 6) == (6, 1, None)
+        && value_now(block, 1) == Some(6)
+        && value_now(block, 0).is_none()
+        && block.take(1) == Some(6)
+        && value_now(block, 1).is_none()
+}
+
+#[test]
+fn an_owner_has_the_token_of_a_filled_cell(rt: HostRuntime) {
+    let epoch = Epoch::new();
+    let mut block = made(&rt, 2);
+    assert!(rt; has_a_token_where_filled(&mut block, &epoch));
 }
 
 fn is_shared<X: Send + Sync>() {}

@@ -29,7 +29,7 @@ fn fill_by_two<R: Threads + Sync>(
     )
 }
 
-// Whether one of two threads fills the cell, and its token has its value.
+// Tests whether one of two threads fills the cell, and its token has its value.
 fn is_begun_by_one<R: Threads + Sync>(rt: &R, block: &Block<u64>, place: u64) -> bool
     requires { place < block_len block.now }
 {

@@ -107,7 +107,7 @@ impl CountingHand {
     }
 }
 
-// What two hands have won and seen before they are joined, and what is then closed.
+// The wins and sizes of two hands before they are joined, and then the size at the close.
 fn count_by_two<A: Allocator>(
     word: Word<A>,
     mut a: CountingHand,

@@ -1,5 +1,5 @@
-// A word and up to two hands of it, which make steps. Each step keeps both hands the word's own and answers plain
-// values, so that a test is a table of steps and has nothing to prove of them.
+// A word and up to two hands of it, which make steps. Each step keeps both hands the word's own and returns
+// plain values, so that a test is a table of steps and has nothing to prove of them.
 ghost use Rattle.std.specs.Prelude.{◌≡◌};
 ghost use Rattle.std.specs.Option.{ForSome};
 ghost use Rattle.claim_core.specs.Hand.{IsHandOf};
@@ -23,7 +23,7 @@ pub(super) enum Call {
 pub(super) enum Step {
     A(Call),
     B(Call),
-    // The second hand is cut from the first, with so many shares.
+    // Splits the second hand off the first, with this number of shares.
     Split(u32),
     // The second hand is lost.
     Lose,
@@ -34,7 +34,7 @@ pub(super) enum Step {
     Base,
 }
 
-// What a step answers. A step whose conditions do not hold is not made.
+// The result of a step. A step whose conditions do not hold is not made.
 #[derive(Clone, Copy, Debug, PartialEq, Eq)]
 pub(super) enum Answer {
     Done,

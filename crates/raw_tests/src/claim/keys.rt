@@ -87,7 +87,7 @@ impl KeyedHand {
         Some(run)
     }
 
-    // Whether it has the keys of the first three blocks alone.
+    // Tests whether it has the keys of the first three blocks alone.
     fn has_first_keys(&self) -> bool {
         self.row[..3] == [Some(Key); 3] && self.row[3].is_none()
     }
@@ -129,7 +129,7 @@ impl KeyedHand {
         word.meet(&mut self.hand, &mut other.hand);
     }
 
-    // The key of a place's block, where the hand owns a run that has the place.
+    // The key of a place's block, if the hand owns a run that has the place.
     fn key<A: Allocator>(&self, word: &Word<A>, run: Run, place: u64) -> Key
         requires ours { IsHandOf word.now self.now }
         requires owned { OwnsRun self.now run }
@@ -165,7 +165,7 @@ fn claim_and_look<A: Allocator>(
     Some((run, first, hand.key(word, run, run.from + (run.n - 1))))
 }
 
-// The runs of two hands, where the row of keys has those of both once they are one.
+// The runs of two hands, if the row of keys has those of both once they are joined.
 fn claim_by_two<A: Allocator>(word: &Word<A>, mut a: KeyedHand) -> Option<(Run, Run)>
     requires ours { IsHandOf word.now a }
     requires some_shares { 1 < a.shares }

@@ -1,11 +1,11 @@
-// Tables of steps: the answers of each call, and that a call looks at the word. For the latter a third hand has claimed
-// since, so that a body which answers what its hand had seen is found out.
+// Tables of steps: the results of each call, and that a call looks at the word. For the latter a third hand
+// has claimed since, so that a body which returns what its hand had seen is found out.
 use super::hands::{Answer, Call, Hands, Step};
 use claim_core::{Enough, Moved, Run};
 use std::alloc::AllocGlobal;
 use std::process::Abort;
 
-// A limit, a base, steps with their answers, and the size at the end, where one hand then has all shares.
+// A limit, a base, steps with their results, and the size at the end, if one hand then has all shares.
 struct Story {
     name: &'static str,
     limit: u64,
@@ -30,7 +30,7 @@ const STORIES: [Story; 9] = [
         name: "two hands claim in turn",
         limit: 8, base: 0,
         steps: &[
-            (Step::A(Call::Raise(2)), Answer::Claims(Run { from: 0, n: 2 })),
+            (Step::A(Call::Exchange(0, 2)), Answer::Claims(Run { from: 0, n: 2 })),
             (Step::Split(1), Answer::Done),
             (Step::A(Call::Share), Answer::Is(65_535)),
             (Step::B(Call::Seen), Answer::Is(2)),

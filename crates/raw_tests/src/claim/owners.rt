@@ -6,7 +6,7 @@ use claim_core::{Hand, Run, Word, laws};
 use std::alloc::Allocator;
 use std::test::Fail;
 
-// Claims one place, where there is room: the hand has then seen the place's end, and owns one place more.
+// Claims one place, if there is room: the hand has then seen the place's end, and owns one more place.
 fn claim_one<A: Allocator>(word: &Word<A>, hand: &mut Hand) -> Option<u64>
     requires ours { IsHandOf word.now hand.old }
     ensures of { hand.new.of ≡ hand.old.of }
@@ -45,7 +45,7 @@ fn differ<A: Allocator>(word: &Word<A>, a: &mut Hand, b: &mut Hand, x: u64, y: u
     laws::single_places_differ();
 }
 
-// A joined hand owns the runs of both, and as many places as both together.
+// A joined hand owns the runs of both hands, and the sum of their places.
 fn join<A: Allocator>(word: &Word<A>, a: &mut Hand, b: Hand, x: u64, y: u64)
     requires ours { IsHandOf word.now a.old }
     requires also_ours { IsHandOf word.now b }

@@ -7,7 +7,7 @@ use claim_core::{Hand, Run, Word, laws};
 use std::alloc::Allocator;
 use std::test::Fail;
 
-// Claims one place, where there is room.
+// Claims one place, if there is room.
 fn claim_one<A: Allocator>(word: &Word<A>, hand: &mut Hand) -> Option<Run>
     requires ours { IsHandOf word.now hand.old }
     ensures of { hand.new.of ≡ hand.old.of }
@@ -73,7 +73,7 @@ fn claim_all<A: Allocator>(word: Word<A>, mut hand: Hand) -> (u64, Hand)
 
 type Two = Option<(Run, Run)>;
 
-// What two hands claim and have then seen, and what they claim before they become one.
+// The claims of two hands and what they have then seen, and their claims before they are joined.
 fn claim_by_two<A: Allocator>(word: &Word<A>, a: &mut Hand) -> (Two, (u64, u64), Two)
     requires ours { IsHandOf word.now a.old }
     requires some_shares { 1 < a.old.shares }

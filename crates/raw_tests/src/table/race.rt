@@ -24,7 +24,7 @@ fn meet(mine: &AtomicU64, other: &AtomicU64, turn: u64) {
     }
 }
 
-// Installs the first entry of each table, and answers how often it was the first to fill a cell of its block.
+// Installs the first entry of each table, and returns how often it was the first to fill a cell of its block.
 fn install_each<'a>(
     tables: &[Table<Counted<'a>>],
     drops: &'a AtomicU64,
@@ -104,7 +104,7 @@ fn sees(table: &Table<u64>, key: &Key) -> bool
     shows(table.known(key), 0, 9)
 }
 
-// Whether two threads have the block, one by the key and one by a key like it.
+// Tests whether two threads have the block, one by the key and one by a key like it.
 fn is_seen_by_two<R: Threads>(rt: &R, table: &Table<u64>, key: &Key) -> bool
     requires { IsKeyIn table.now key.now }
 {

@@ -1,6 +1,6 @@
 use Rattle.std.proofs.Common.{ℕ, List, sym, subst}
 use Rattle.span_core.specs.Span.{Interval}
-use Rattle.span_core.proofs.Tiles.{Tiles, leaves-tile}
+use Rattle.list_tests.proofs.Leaves.{Tiles, leaves-tile}
 use Rattle.list_tests.proofs.span.uses.walk_leaves.Goals as goal
 
 pub loop-leaf-init : goal.loop-leaf-init

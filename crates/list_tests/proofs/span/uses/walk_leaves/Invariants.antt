@@ -1,5 +1,5 @@
 use Rattle.std.proofs.Common.{drop}
-use Rattle.span_core.proofs.Tiles.{Tiles}
+use Rattle.list_tests.proofs.Leaves.{Tiles}
 use Rattle.list_tests.proofs.span.uses.walk_leaves.Given as goal
 
 abbrev pub invariant-loop-leaf : goal.invariant-loop-leaf

@@ -1,4 +1,4 @@
--- What the program does with its three streams, and its exit status.
+-- The program's use of its three streams, and its exit status.
 use Rattle.std.specs.Prelude.{◌≡◌, ◌≢◌, ◌⊎◌, ℕ, ◌*◌, List, Option, Result, Ok, Err, OnOk, IfErr, IsErrOf}
 use Rattle.std.specs.Io.KnownBytes.{Appends, Keeps}
 use Rattle.script_core.specs.Text.{AppendsPrefix}
@@ -17,7 +17,7 @@ abbrev pub EndsAs : Result (Unit {0}) ProgramError → ℕ → Option (List ℕ)
 EndsAs (Ok done) status old new = (status ≡ 0) × Keeps old new
 EndsAs (Err e) status old new = (status ≡ status_of e) × AppendsPrefix old new (error_line e)
 
--- a race is held of workers with so many values each: what the writer gets, and how it ends
+-- a race is held of `workers` workers with `each` values each: what the writer gets, and how it ends
 pub record Races (workers each : ℕ) (ended : Result (Unit {0}) ProgramError) (old new : Option (List ℕ)) : Type 0 where
   pub written : OnOk ended (Appends old new (race_text (workers * each)))
   pub prefix : IsErrOf ended (Run Write) → AppendsPrefix old new (race_text (workers * each))

@@ -30,11 +30,11 @@ StartsThreads (Show text) = ⊥
 StartsThreads (Refuse text) = ⊥
 StartsThreads NoMemory = ⊥
 
--- a sweep may have so many schedules, with so many items each
+-- a sweep may have these numbers of schedules and of items
 abbrev pub IsSweep : ℕ → ℕ → Type 0
 IsSweep count len = ((1 ≤ count) × (count ≤ 10000)) × ((1 ≤ len) × (len ≤ 1000))
 
--- where a sweep is asked for, it is one that there may be
+-- if a sweep is asked for, its numbers are allowed
 abbrev pub IsInRange : Request → Type 0
 IsInRange (Play engine) = ⊤
 IsInRange (Race workers each) = ⊤

@@ -19,9 +19,9 @@ use sweep_core::{MOST_ITEMS, MOST_SCHEDULES};
 pub enum Request {
     /// To play the script on standard input.
     Play(Engine),
-    /// To hold a race of so many workers, each with so many values.
+    /// To hold a race of `workers` workers with `each` values each.
     Race { workers: u32, each: u32 },
-    /// To sweep so many schedules from a seed on, each of `len` items.
+    /// To sweep `count` schedules of `len` items each, from a seed on.
     Sweep { seed: u64, count: u32, len: u32 },
     /// To show this text: help, or the version.
     Show(String),
@@ -39,7 +39,7 @@ const STEPS: &str = "Plays each item of the script on standard input as one atom
 
 const RACE: &str = "Lets threads append to one shared vector, and checks what they won";
 
-const SWEEP: &str = "Plays schedules of atomic steps that a seed gives, and checks each";
+const SWEEP: &str = "Plays schedules of atomic steps sampled from a seed, and checks each";
 
 const MORE: &str = "\
 Example:
@@ -63,27 +63,27 @@ Exit status, with the line on standard error:
   5  the command line is refused    the reason
   6  a race is refused              race: fault N
 
-The grammar of scripts, the answers and the faults are in docs/SCRIPTS.md.";
+docs/SCRIPTS.md has the grammar of scripts, the answer lines and the faults.";
 
 fn sweep_command<'a>(alloc: Global) -> Result<Command<'a>, AllocError> {
     let seed = Arg::new(alloc, "seed")
         .long("seed")
         .value_name("S")
-        .help("The seed of the first schedule; each next one has the seed after it")
+        .help("The seed of the first schedule; schedule i has the seed S + i")
         .required(true)
         .action(ArgAction::Set)
         .value_parser(clap::value_parser!(u64));
     let count = Arg::new(alloc, "count")
         .long("count")
         .value_name("N")
-        .help("How many schedules, from 1 to 10000")
+        .help("The number of schedules, from 1 to 10000")
         .required(true)
         .action(ArgAction::Set)
         .value_parser(clap::value_parser!(u32).range(1..=i64::from(MOST_SCHEDULES)));
     let len = Arg::new(alloc, "len")
         .long("len")
         .value_name("L")
-        .help("How many items each has, from 1 to 1000")
+        .help("The number of items of each schedule, from 1 to 1000")
         .required(true)
         .action(ArgAction::Set)
         .value_parser(clap::value_parser!(u32).range(1..=i64::from(MOST_ITEMS)));
@@ -99,20 +99,20 @@ fn cvec<'a>(alloc: Global) -> Result<Command<'a>, AllocError> {
     let calls = Command::new(alloc, "calls").about(CALLS);
     let counted = Arg::new(alloc, "count")
         .long("count")
-        .help("Says then what each call took that ended: lost exchanges and steps")
+        .help("Also prints, for each ended call, its lost exchanges and its steps")
         .action(ArgAction::SetTrue);
     let steps = Command::new(alloc, "steps").about(STEPS).arg(counted)?;
     let workers = Arg::new(alloc, "workers")
         .long("workers")
         .value_name("W")
-        .help("How many threads append, from 1 to 64")
+        .help("The number of threads that append, from 1 to 64")
         .required(true)
         .action(ArgAction::Set)
         .value_parser(clap::value_parser!(u32).range(1..=i64::from(MOST_WORKERS)));
     let each = Arg::new(alloc, "each")
         .long("each")
         .value_name("E")
-        .help("How many values each appends, from 1 to 100000")
+        .help("The number of values that each appends, from 1 to 100000")
         .required(true)
         .action(ArgAction::Set)
         .value_parser(clap::value_parser!(u32).range(1..=i64::from(MOST_EACH)));
@@ -165,7 +165,7 @@ fn race_of(alloc: Global, matches: &ArgMatches<'_>) -> Result<Request, Error>
     }
 }
 
-// Whether a sweep may have these numbers.
+// Tests whether a sweep may have these numbers.
 fn is_sweep(count: u32, len: u32) -> bool
     ensures { IsTrue result ↔ IsSweep count len }
 {
@@ -209,14 +209,14 @@ pub(crate) fn named(alloc: Global, words: &[String]) -> Result<Request, Error>
     }
 }
 
-// Whether the parser was out of memory.
+// Tests whether the parser was out of memory.
 pub(crate) fn is_memory(error: &Error) -> bool
     ensures { IsTrue result ↔ (kind_of error.now ≡ ErrorKind.OutOfMemory) }
 {
     matches!(error.kind(), ErrorKind::OutOfMemory)
 }
 
-// What becomes of a command line at which the parser stopped.
+// The request of a command line that stopped the parser.
 pub(crate) fn stopped(alloc: Global, error: &Error) -> Request
     ensures memory { kind_of error.now ≡ ErrorKind.OutOfMemory → result ≡ Request.NoMemory }
     ensures shown { (kind_of error.now ≡ ErrorKind.DisplayHelp)
@@ -258,7 +258,7 @@ pub(crate) fn not_given(alloc: Global, error: &io::Error) -> Request
     stopped(alloc, &mistake(alloc, ErrorKind::Io, message))
 }
 
-// The words of the command line, of which the first is the program's name.
+// The words of the command line; the first is the program's name.
 fn words<R: Env + AllocGlobal>(rt: &R) -> io::Result<Vec<String>> {
     let mut words = Vec::new(rt.alloc());
     for word in env::args(rt)? {

@@ -140,9 +140,10 @@ fn refuse<E: Write>(errors: &mut E, text: &str) -> u8
     REFUSED
 }
 
-/// Does what a command line asks for, but for races and sweeps, and returns the exit status of the program.
+/// Does what a command line asks for, except races and sweeps, and returns the exit status of the program.
 ///
-/// The writer of errors may fail too: clauses allow any prefix of its line, and the status alone tells.
+/// The writer of errors may fail too: clauses allow any prefix of its line, and then the status alone reports
+/// the error.
 pub fn serve<R: Read, W: Write, E: Write>(
     alloc: Global,
     request: &Request,

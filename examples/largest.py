@@ -9,6 +9,8 @@ PART is a number above 0 and up to 1; with none it is 1. SHAPE is one of:
     items    100,000 items of one actor that has one call
     cells    16 actors that each grow by all the places there may be: 65,536 for one, refused for the others
     bytes    1,048,576 bytes: 16,000 calls of the longest numbers, and items with marks
+    text     the longest texts, above 1.5 MB with the counts of steps: 65,536 places of the longest values by whole calls, and
+             42,000 by steps, and then a line or two for each of 15,960 reads past the size
 
 A part of a shape has that fraction of its calls, items and places.
 """
@@ -53,7 +55,20 @@ def bytes_(part):
     return script(65_536, program, marked)
 
 
-SHAPES = {"pushes": pushes, "items": items, "cells": cells, "bytes": bytes_}
+def text(part):
+    number = 2**64 - 1
+    first, second = round(42_000 * part), round(23_536 * part)
+    programs = [f"grow {first} {number}, grow {second} {number}"]
+    programs += [", ".join([f"read {number}"] * round(1_000 * part))] * (len(LETTERS) - 1)
+    lines = ["limit 65536"]
+    lines += [f"actor {letter} {program}" for letter, program in zip(LETTERS, programs)]
+    # A load, two steps for each of sixteen segments, an exchange, and two steps for each place.
+    by_steps = ["a"] * (1 + 2 * (first - 1).bit_length() + 1 + 2 * first)
+    lines.append(" ".join(["steps"] + by_steps + list(LETTERS[1:]) * round(1_064 * part)))
+    return "\n".join(lines)
+
+
+SHAPES = {"pushes": pushes, "items": items, "cells": cells, "bytes": bytes_, "text": text}
 
 
 def main(words):

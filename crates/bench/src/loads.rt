@@ -19,7 +19,7 @@ use std::time::Duration;
 // The values that all threads append together on a new vector.
 const FRESH: u64 = 10_000_000;
 
-// What a vector has before the time of the other loads starts: the last place is the first of its segment.
+// The size of a vector before the other loads are timed: the last place is the first of its segment.
 const FILLED: u64 = (1 << 23) + 1;
 
 // The values that are then appended, all in that segment, or looked at.
@@ -28,7 +28,7 @@ const MORE: u64 = 8_000_000;
 // The values of a growth.
 const LIST: u64 = 64;
 
-/// What each thread does again and again.
+/// The call that each thread repeats.
 #[derive(Clone, Copy)]
 pub enum Work {
     /// Appends a value.
@@ -57,7 +57,7 @@ pub struct Load {
     pub layout: Layout,
 }
 
-/// A first segment of 256 places, where the name asks for it, and else one of two.
+/// Returns the layout that the name asks for: a first segment of 256 places, or otherwise of two.
 pub fn layout_of(name: &str) -> Layout {
     if name.ends_with("-256") {
         Layout::new(8).unwrap_or_default()
@@ -161,7 +161,7 @@ fn make_once<R: Wait>(rt: &R, vector: &Shared<u64>, hand: &mut Hand<u64>, from: 
     vector.grow_with(rt, hand, LIST, make).is_ok()
 }
 
-// Grows the vector up to so many places above what the hand has seen: whether that was done.
+// Grows the vector up to 64 places above what the hand has seen, and returns whether that was done.
 fn raise_once(vector: &Shared<u64>, hand: &mut Hand<u64>, from: u64) -> bool
     requires ours { IsHandOf vector.now hand.old }
     ensures of { hand.new.of ≡ hand.old.of }
@@ -171,7 +171,7 @@ fn raise_once(vector: &Shared<u64>, hand: &mut Hand<u64>, from: u64) -> bool
     vector.grow_to_at_least(hand, size, make).is_ok()
 }
 
-// How many values were appended by so many calls, each with a maker for 64.
+// Appends values by calls with a maker for 64 each, and returns how many were appended.
 fn make<R: Wait>(
     rt: &R,
     vector: &Shared<u64>,

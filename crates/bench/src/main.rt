@@ -3,8 +3,9 @@
 //!
 //! - Without an argument it runs each thing shortly and prints that all of its wins were counted: the same whatever the
 //!   machine does. With the argument `figures` it measures for some seconds and prints times.
-//! - With `stress SECONDS` threads make random calls on shared vectors, which are compared with what was answered.
-//! - Each measured thing has a file of its own with one function that runs its tries in threads and answers a `Trial`.
+//! - With `stress SECONDS` threads make random calls on shared vectors, and the results are compared.
+//! - Each measured thing has a file of its own with one function that runs its tries in threads and returns a
+//!   `Trial`.
 //!
 //! Contracts say that each hand and each token is used with its own word or vector. No clause says what a run costs.
 #![tactic(auto)]

@@ -13,7 +13,7 @@ use std::rt::Clock;
 use std::sync::Wait;
 use std::thread::Threads;
 
-/// An empty vector that may have so many values, and the hand that has all shares.
+/// Makes an empty vector with this limit, and the hand that has all shares.
 pub fn empty<T: Drop>(alloc: Global, limit: u64) -> Result<(Shared<T>, Hand<T>), OpenError>
     ensures hand { IfOk result (λ (vector, hand). IsHandOf vector hand × IsWholeHand hand) }
 {
@@ -80,7 +80,7 @@ pub fn push<R: Wait>(rt: &R, vector: &Shared<u64>, mut hand: Hand<u64>, tries: u
     won
 }
 
-/// New hands of so many shares each, cut from this one for as long as it has more.
+/// Splits hands of `each` shares off the given hand for as long as it has more.
 pub fn hands_for(
     alloc: Global,
     vector: &Shared<u64>,

@@ -1,5 +1,5 @@
-//! The stress: on one small vector after another, threads with many hands each make random calls, and then each place
-//! is compared with what the answers said.
+//! The stress: on one small vector after another, threads with many hands each make random calls, and then
+//! each place is compared with what the calls returned.
 ghost use Rattle.std.specs.Prelude.{◌≡◌, All, IfOk};
 ghost use Rattle.std.specs.Thread.{IsSync};
 ghost use Rattle.grow_core.specs.Vector.{IsHandOf};
@@ -57,7 +57,7 @@ fn jobs_for(
     Ok(jobs)
 }
 
-// Joins the threads' hands to the hand, and gives what the threads were answered.
+// Joins the threads' hands to the hand, and returns what the threads' calls returned.
 fn join_outcomes(
     alloc: Global,
     vector: &Shared<u64>,
@@ -80,7 +80,7 @@ fn join_outcomes(
     Ok(records)
 }
 
-// All threads' calls by hands that are cut from this one, and what they were answered.
+// Runs all threads' calls by hands that are split off this one, and returns what they returned.
 fn records_of<R: Threads + Wait + AllocGlobal + Sync>(
     rt: &R,
     number: u64,

@@ -64,7 +64,7 @@ impl Thing {
         }
     }
 
-    /// What it is called in the output.
+    /// Returns its name in the output.
     pub fn name(self) -> &'static str {
         match self {
             Thing::ClaimWord => "claim word",

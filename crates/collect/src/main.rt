@@ -24,7 +24,7 @@ use std::thread::Threads;
 
 const LIMIT: u64 = 1 << 32;
 
-// Lets the workers append what they find, and answers how many contacts each appended or saw.
+// Lets the workers append what they find, and returns how many contacts each appended or saw.
 fn find_all<R: Threads + Wait + Sync>(
     rt: &R,
     alloc: Global,
@@ -92,7 +92,7 @@ fn print_totals<R: Print>(rt: &R, contacts: &[Contact]) -> Result<()> {
     Ok(())
 }
 
-// The number that a word says, or another one where there is no word.
+// Parses an argument, or returns the default.
 fn number(word: Option<String>, otherwise: u32) -> Result<u32> {
     match word {
         Some(word) => Ok(word.as_str().parse()?),

@@ -4,7 +4,7 @@ use rand_core::utils::NextWord;
 use rand_pcg::Pcg32;
 use std::alloc::{AllocError, Global};
 
-/// Where a particle is, in units of which the side of the box has 65,536.
+/// A position; the box is 65,536 units wide.
 #[derive(Clone, Copy, Debug)]
 pub struct Particle {
     x: u16,

@@ -1,4 +1,4 @@
-//! What each worker does: four find contacts, and a fifth reads along.
+//! The work of each worker: four find contacts, and a fifth reads along.
 ghost use Rattle.grow_core.specs.Vector.{IsHandOf};
 ghost use Rattle.span_core.specs.Hands.{KeepsShares};
 

@@ -25,11 +25,11 @@ ended_line names ended = answer_line (slice_index names ended.actor) ended
 abbrev pub played_text : List ℕ → Played → List ℕ
 played_text names played = flat_map (ended_line names) played.ended ++ cells_line played.cells
 
--- the line of what a call took that ended, with its actor's letter
+-- the line of what an ended call took, with its actor's letter
 abbrev pub work_line_in : List ℕ → Work → List ℕ
 work_line_in names work = work_line (slice_index names work.actor) work
 
--- what an engine writes of a play: its text; with the counts, and then a line of what each call took that ended, in order
+-- what an engine writes of a play: its text; with the counts, and then a line of what each ended call took, in order
 abbrev pub text_by : Engine → List ℕ → Played → List ℕ
 text_by Calls names played = played_text names played
 text_by Steps names played = played_text names played

@@ -15,14 +15,14 @@ use std::alloc::{AllocError, Global};
 use std::io::{Read, Write};
 use step_core::{PlayError, Played, play_calls, play_in};
 
-/// What the items of a script are.
+/// What an item of a script plays.
 #[derive(Clone, Copy, Debug, PartialEq, Eq)]
 pub enum Engine {
     /// Each item is one whole call.
     Calls,
     /// Each item is one atomic step.
     Steps,
-    /// Each item is one atomic step, and what each call took that ended is written too.
+    /// Each item is one atomic step, and what each ended call took is written too.
     Counted,
 }
 
@@ -90,7 +90,8 @@ pub fn run_calls<R: Read, W: Write>(
     run(alloc, Engine::Calls, reader, writer)
 }
 
-/// Runs a script whose items are atomic steps, in segments of the script's layout. It is `run_calls` but for what an item plays.
+/// Runs a script whose items are atomic steps, in segments of the script's layout. Otherwise it is
+/// `run_calls`.
 pub fn run_steps<R: Read, W: Write>(
     alloc: Global,
     reader: &mut R,
@@ -102,8 +103,8 @@ pub fn run_steps<R: Read, W: Write>(
     run(alloc, Engine::Steps, reader, writer)
 }
 
-/// Runs a script whose items are atomic steps, and counts what its calls take. It is `run_steps`, and then a line for each call
-/// that ended, in order: its lost exchanges and its steps.
+/// Runs a script whose items are atomic steps, like `run_steps`, and adds a line for each ended call, in
+/// order: its lost exchanges and its steps.
 pub fn run_steps_counted<R: Read, W: Write>(
     alloc: Global,
     reader: &mut R,

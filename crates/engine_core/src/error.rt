@@ -1,5 +1,6 @@
 //! Why a run ends without its whole text.
 ghost use Rattle.std.specs.Prelude.{◌≡◌};
+ghost use Rattle.engine_core.specs.RunError.{number_of};
 
 use script_core::{ScriptError, WriteFault};
 use std::alloc::AllocError;
@@ -16,6 +17,20 @@ pub enum RunError {
     Read,
     /// The writer failed, took no byte, or was interrupted too often.
     Write,
+}
+
+impl RunError {
+    /// Returns the error's number, from 1 to 4.
+    pub fn number(&self) -> u8
+        ensures { result ≡ number_of self.now }
+    {
+        match self {
+            RunError::Script(_) => 1,
+            RunError::NoMemory => 2,
+            RunError::Read => 3,
+            RunError::Write => 4,
+        }
+    }
 }
 
 impl fmt::Display for RunError {

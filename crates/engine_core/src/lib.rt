@@ -1,12 +1,13 @@
-//! From the bytes of a script to the bytes of its answers.
+//! From the bytes of a script to the bytes of its answer lines.
 //!
-//! `run_calls` reads a script from any reader, plays each item as one whole call, and writes the answers and the cells to
-//! any writer. `run_steps` does the same with each item as one atomic step, and
-//! `run_steps_counted` says then what each call took.
+//! `run_calls` reads a script from any reader, plays each item as one whole call, and writes the answer lines
+//! and the cells to any writer. `run_steps` does the same with each item as one atomic step, and
+//! `run_steps_counted` also writes what each call took.
 //!
-//! Contracts see a reader as the bytes that it has left, and a writer as the bytes that it holds, where these are known.
-//! A caller can prove what was written, or why it was not, over whole bytes: `IsTextOf` of `specs/Output.antt`, and the
-//! lines of `specs/RunError.antt`. No clause says when memory is refused, nor why a reader fails.
+//! Contracts see a reader as the bytes that it has left, and a writer as the bytes that it holds, if these
+//! are known. A caller can prove what was written, or why it was not, over whole bytes: `IsTextOf` of
+//! `specs/Output.antt`, and the lines of `specs/RunError.antt`. No clause says when memory is refused, nor
+//! why a reader fails.
 #![tactic(auto)]
 
 mod engine;

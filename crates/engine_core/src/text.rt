@@ -55,7 +55,7 @@ fn push_works(text: &mut Vec<u8>, names: &[u8], works: &[Work]) -> Result<(), Al
     Ok(())
 }
 
-// What the engine writes of a play whose actors have these letters.
+// The engine's text for a play whose actors have these letters.
 fn whole_text(
     alloc: Global,
     engine: Engine,

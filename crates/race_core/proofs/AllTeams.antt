@@ -1,4 +1,4 @@
--- What workers have won in turn, as one team.
+-- The wins of workers in turn, as one team.
 use Rattle.std.proofs.Common.{◌≡◌, ℕ, suc, ◌+◌, ◌*◌, ◌<◌, List, [], ◌∷◌, ◌++◌, length, arith, subst, sym, refl, ap, ◌∙◌}
 use Rattle.std.proofs.lemmas.List.{append-nil}
 use Rattle.std.proofs.lemmas.List.Elements.{Contains-append_right}
@@ -12,7 +12,7 @@ use Rattle.race_core.specs.declared.team.Win.{Win}
 use Rattle.race_core.specs.Race.{Team, IsTeam, IsTeamOf, HasWin, team_of, sum_below}
 use Rattle.race_core.proofs.Teams.{teams_joined, team_new}
 
--- the hand with these runs alone, and so many shares
+-- the hand with these runs alone, and `shares` shares
 abbrev part_with : HandView → List ℕ → ℕ → HandView
 part_with all mine shares = record all { mine = mine; shares = shares }
 

@@ -1,4 +1,4 @@
--- What a team has after one more value, and what two teams have together. The premises are public laws and clauses.
+-- A team's wins after an added value, and two teams' wins together. The premises are public laws and clauses.
 use Rattle.std.proofs.Common.{◌≡◌, ◌≢◌, ℕ, zero, suc, ◌+◌, ◌*◌, ◌≤◌, List, [], ◌∷◌, ◌++◌, refl, sym, ap, ◌∙◌, subst, ⊎_elim, arith, add-one}
 use Rattle.std.specs.Prelude.{slice_index}
 use Rattle.std.specs.List.{Contains, sum_by}
@@ -31,7 +31,7 @@ wins_more stay old new index wins win of gain had k own =
     (has.0, Contains-append_left wins (win ∷ []) has.0 has.1, stay old new k (single has.0.place) of gain.seen has.2))
     (cases_eq index k)
 
--- so it owns one place more
+-- so it owns one more place than before
 places_more : PlacesStay → (old new : HandView) (index place : ℕ) → GainsRun old new index (single place) → SeesOwn old
     → own_places new ≡ own_places old + 1
 places_more law old new index place gain below =
@@ -62,7 +62,7 @@ team_more last places stay word shares from old new win team below adds more =
       sum = let was = team.sum in let is = ap (sum_by (λ (w : Win). w.value)) more in omega arith;
     }
 
--- the same of the place and the value that were told
+-- the same of the place and the value that were reported
 pub team_told : AddedRunsAreLast → PlacesStay → SeenRunsStay
     → (word : WordView) (shares from value place : ℕ) (old new : Team) (win : Win) → win.place ≡ place → win.value ≡ value
     → IsTeam word shares from value old → SeesOwn old.hand → AddsRun old.hand new.hand (single place)
@@ -121,7 +121,7 @@ team_new from team mine wins =
       sum = omega arith;
     }
 
--- where the runs of a team tile all places, each place was won
+-- if the runs of a team tile all places, each place was won
 pub all_won : (hand : HandView) (wins : List Win) → hand.of.base ≡ 0 → Tiles hand.of.base hand.seen hand.mine
     → ((k : ℕ) → Contains hand.mine k → HasWin hand wins k) → AreAllPlaces (seen_size hand) wins
 all_won hand wins base tiles won place below =

@@ -40,7 +40,7 @@ IsBadSize workers each = IsBadNumber workers ⊎ ((each ≡ 0) ⊎ (100000 < eac
 abbrev pub IsGrowth : ℕ → Type 0
 IsGrowth number = (number ≡ 2) ⊎ (number ≡ 5)
 
--- what is told of each refusal of a growth that tries until it wins
+-- what a race reports of each refusal of a growth that tries until it wins
 abbrev pub IsToldAs : {T V E : Type 0} → GrowError T V E → RaceError → Type 0
 IsToldAs (grows.NoMemory back) told = told ≡ NoMemory
 IsToldAs (grows.Full size back) told = told ≡ Grow 2
@@ -91,7 +91,7 @@ pub record IsTeam (word : WordView) (shares from to : ℕ) (team : Team) : Type 
 abbrev pub IsTeamOf : WordView → ℕ → ℕ → Team → Type 0
 IsTeamOf word each worker = IsTeam word 1 (worker * each) ((worker + 1) * each)
 
--- what is told of a range of workers that has no answer
+-- what a race reports of a range of workers that has no result
 abbrev pub race_refusal : Refusal RaceError → RaceError
 race_refusal refusals.NoMemory = NoMemory
 race_refusal refusals.Stuck = Stuck
@@ -101,7 +101,7 @@ race_refusal (refusals.Worker e) = e
 abbrev pub IsUnusedHand : VectorView ℕ → HandView → Type 0
 IsUnusedHand vector hand = IsHandOf vector hand × (hand.mine ≡ [])
 
--- there may be workers up to this number, with so many values each
+-- the number of workers is at most this one, and so is that of their values
 abbrev pub AreFew : ℕ → ℕ → Type 0
 AreFew workers each = (workers ≤ 64) × (each ≤ 100000)
 
@@ -122,7 +122,7 @@ AreInOrder size slots = (length slots ≡ size) × ((place : ℕ) → place < si
 abbrev pub events_of_win : Win → List (Event × Reply)
 events_of_win win = (Claim win.worker 1, replies.Run win.place 1) ∷ (Finish win.worker win.place win.value, replies.Done) ∷ []
 
--- how it is told whether a history is legal
+-- the text that says whether a history is legal
 abbrev pub verdict_of : Bool → List ℕ
 verdict_of true = codes "legal"
 verdict_of false = codes "not legal"

@@ -1,4 +1,4 @@
-//! Workers that append to one shared vector beside each other, and whether what they won is a history.
+//! Workers that append to one shared vector concurrently, and the check that their wins are a history.
 ghost use Rattle.std.specs.Prelude.{◌≡◌, ℕ, ◌+◌, ◌*◌, ◌↔◌, true, Err, IfOk, IfErr, IsErrOf};
 ghost use Rattle.claim_core.specs.Hand.{SeesOwn};
 ghost use Rattle.span_core.specs.Hands.{KeepsShares};
@@ -21,7 +21,7 @@ pub const MOST_WORKERS: u32 = 64;
 /// The most values of each worker.
 pub const MOST_EACH: u32 = 100_000;
 
-/// Workers append to one shared vector beside each other, and what they won is checked.
+/// Runs workers that append to one shared vector concurrently, and checks what they won.
 ///
 /// Worker w appends w * each + j for j from 0 to each - 1. It passes the gate before its first value and after its
 /// last. They are started by `with_hands`. Time and memory are linear in the number of values.

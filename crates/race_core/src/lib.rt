@@ -1,6 +1,6 @@
 //! A race of several threads that append to one shared vector.
 //!
-//! `race` starts workers, each of which appends its values through a gate, and checks what they won against the plain
+//! `race` starts workers that append their values through a gate, and checks what they won against the plain
 //! list of cells. `RaceReport` is what it found, `RaceError` why there is no report.
 //!
 //! A caller can prove the whole report, and what each refusal means: `specs/Race.antt`. No clause says that a race returns,

@@ -11,22 +11,23 @@ use thiserror::Error;
 /// Why a race has no report. All workers that were started have ended.
 #[derive(Clone, Copy, Debug, PartialEq, Eq, Error)]
 pub enum RaceError {
-    /// There was no memory, or a thread couldn't be started.
+    /// Memory was refused, or a thread could not be started.
     #[error("out of memory, or a thread could not be started")]
     NoMemory,
-    /// There are not 1 to 64 workers, or not 1 to 100,000 values of each. Nothing was started.
+    /// The number of workers is not from 1 to 64, or that of values not from 1 to 100,000. Nothing was
+    /// started.
     #[error("a race has 1 to 64 workers, and 1 to 100000 values of each")]
     BadSize,
     /// The gate refused a worker.
     #[error("the gate refused a worker")]
     Stuck,
-    /// A growth was refused: 2 where the vector was full, 5 where a place was taken.
+    /// A growth was refused: number 2 if the vector was full, 5 if a place was taken.
     #[error("growth refusal {number}")]
     Grow { number: u8 },
 }
 
 impl RaceError {
-    /// The number that the program tells.
+    /// Returns the number that the program prints.
     pub fn number(&self) -> u8
         ensures { result ≡ race_number self.now }
     {
@@ -63,7 +64,8 @@ impl From<Refusal<RaceError>> for RaceError {
     }
 }
 
-/// What a race tells of a growth that was refused: a full vector by number 2, a taken place by 5, and else that memory was refused.
+/// Returns what a race reports of a refused growth: number 2 for a full vector, 5 for a taken place, and
+/// otherwise out of memory.
 pub fn refused(error: GrowError<u64, u64, Never>) -> RaceError
     requires { IsNotMoved error }
     ensures told { IsToldAs error result }

@@ -13,11 +13,11 @@ use std::fmt;
 /// What a race found.
 #[derive(Clone, Copy, Debug, PartialEq, Eq)]
 pub struct RaceReport {
-    /// The size at which the vector ended.
+    /// The size of the vector at the end.
     pub size: u64,
     /// The sum of the values that were appended.
     pub sum: u64,
-    /// Whether what the workers won is a history of the sequential vector.
+    /// Whether the workers' wins are a history of the sequential vector.
     pub legal: bool,
 }
 

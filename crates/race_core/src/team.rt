@@ -1,4 +1,4 @@
-//! What workers have won together.
+//! The wins of several workers together.
 ghost use Rattle.std.specs.Prelude.{◌≡◌, ℕ, ◌+◌, ◌≤◌, [], IfErr, OnOk};
 ghost use Rattle.grow_core.specs.Vector.{IsHandOf};
 ghost use Rattle.race_core.specs.Race.{IsWorkers, IsPushRefusal, IsTeam, team_of};

@@ -11,10 +11,10 @@ use span_core::Gate;
 use std::alloc::{AllocError, Global};
 use std::sync::Wait;
 
-// What a worker answers.
+// A worker's wins, or why it has none.
 pub(crate) type Won = Result<Vec<Win>, RaceError>;
 
-// One worker appends its values, and answers its wins. It came through the gate.
+// Appends one worker's values and returns its wins. The worker has come through the gate.
 pub(crate) fn append_each<R: Wait, G: Gate>(
     rt: &R,
     alloc: Global,

@@ -4,7 +4,8 @@ ghost use Rattle.grow_core.specs.Vector.{IsPlacedOf};
 
 use grow_core::{Placed, Shared};
 
-/// A vector, and a place of it that has a value. Its ghost field ties them, so that whoever gets it can read the value.
+/// A vector, and a place of it that has a value. Its ghost field ties the two, so that its receiver can read
+/// the value.
 #[derive(Drop)]
 pub struct Note<'a> {
     pub vector: &'a Shared<u64>,

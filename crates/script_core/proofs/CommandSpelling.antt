@@ -157,7 +157,7 @@ command_again (Mend place value) h = rw (two_words place value h.0 h.1, number_a
 command_again (Read place) h = rw (split_whole 32 (decimal place) (decimal_lacks 32 place (omega arith) h), number_again BadCommand place h) refl
 command_again Size h = refl
 
--- the bytes that stand in no number and are no space stand in no arguments
+-- bytes that occur in no number and are no space occur in no arguments
 two_lack : (b n v : ℕ) → b < 48 → lacks b (32 ∷ []) ≡ true → n < 2 ^ 64 → v < 2 ^ 64
     → lacks b ((decimal n ++ 32 ∷ []) ++ decimal v) ≡ true
 two_lack b n v low space small-n small-v =

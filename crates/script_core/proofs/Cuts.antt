@@ -1,4 +1,4 @@
--- What a cut is, byte by byte, and the lines, words and pieces that it takes off.
+-- Cuts, byte by byte, and the lines, words and pieces that they take off.
 use Rattle.std.proofs.Common.{◌≡◌, ℕ, zero, suc, ◌-◌, ◌+◌, ◌<◌, Bool, true, false, ◌&&◌, eqb, List, [], ◌∷◌, length, take, drop, Option, Some, None, Bor, refl, sym, ap, ◌∙◌, arith, inl, inr}
 use Rattle.std.specs.Option.{option_copied, is_some}
 use Rattle.std.specs.List.{starts_with, slice_split}
@@ -46,7 +46,7 @@ cut_none separator (b ∷ bs) before =
     let rest = cut_none separator bs (λ k h. before (suc k) (omega arith)) in
     cond-false (starts_with eqb (b ∷ bs) separator) _ _ (before 0 (omega arith)) ∙ ap (λ (p : List ℕ × Option (List ℕ)). (b ∷ p.0, p.1)) rest
 
--- where there is no separator, the front is all
+-- if there is no separator, the front is the whole text
 cut_whole : (separator text : List ℕ) → (cut separator text).1 ≡ None → (cut separator text).0 ≡ text
 unfolding cut
 cut_whole separator [] none = refl
@@ -105,7 +105,7 @@ module _ (by text : List ℕ) (r : Bor (List ℕ) × Option (Bor (List ℕ))) (e
   cut_after rest is = ap (λ (p : List ℕ × Option (List ℕ)). p.1) (sym e) ∙ ap option_copied is
 
 module _ (text : List ℕ) (r : Bor (List ℕ) × Option (Bor (List ℕ))) where
-  -- where no separator is left, one word is
+  -- if no separator is left, one word is
   pub words_last : (r.0.now, option_copied r.1) ≡ cut (32 ∷ []) text → r.1 ≡ None → words text ≡ r.0.now ∷ []
   unfolding words
   words_last e none = rw (split_cut 32 text, cut_after (32 ∷ []) text r e None none, cut_front (32 ∷ []) text r e) refl
@@ -122,13 +122,13 @@ module _ (text : List ℕ) (r : Bor (List ℕ) × Option (Bor (List ℕ))) where
   unfolding words
   words_first e = (parts_after (λ b. eqb b 32) (cut (32 ∷ []) text).1, rw (split_cut 32 text, cut_front (32 ∷ []) text r e) refl)
 
--- the words of any bytes are one or more
+-- any bytes have at least one word
 pub some_words : (text : List ℕ) → 0 < length (words text)
 unfolding words
 some_words text = rw (split_cut 32 text) (omega arith)
 
 module _ (text : List ℕ) (r : Bor (List ℕ) × Option (Bor (List ℕ))) where
-  -- where no end of a line is left, one line is
+  -- if no end of a line is left, one line is
   pub line_last : 0 < length text → (r.0.now, option_copied r.1) ≡ cut (10 ∷ []) text → r.1 ≡ None
       → lines text ≡ r.0.now ∷ lines []
   unfolding lines
@@ -204,6 +204,6 @@ pieces_first text r e =
     let front : (cut (44 ∷ 32 ∷ []) text).0 ≡ r.0.now = ap (λ (p : List ℕ × Option (List ℕ)). p.0) (sym e) in
     (pieces_after (cut (44 ∷ 32 ∷ []) text).1, rw (pieces_cut text, front) refl)
 
--- the pieces of any bytes are one or more
+-- any bytes have at least one piece
 pub some_pieces : (text : List ℕ) → 0 < length (pieces text)
 some_pieces text = rw (pieces_cut text) (omega arith)

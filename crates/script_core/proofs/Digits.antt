@@ -18,7 +18,7 @@ digit_at_place [] i all lt = absurd (omega arith)
 digit_at_place (d ∷ ds) zero all lt = (and_parts (is_ascii_digit d) (list_all is_ascii_digit ds) all).0
 digit_at_place (d ∷ ds) (suc i) all lt = digit_at_place ds i (and_parts (is_ascii_digit d) (list_all is_ascii_digit ds) all).1 (omega arith)
 
--- a digit stands for its distance from 0
+-- a digit's value is its distance from the digit 0
 pub digit_is : (c : ℕ) → is_ascii_digit c ≡ true → (digit_value c ≡ c - 48) × (48 ≤ c) × (c ≤ 57)
 digit_is c h =
     let p = and_parts (leb 48 c) (leb c 57) h in

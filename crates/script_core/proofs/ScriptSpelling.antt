@@ -446,7 +446,7 @@ script_again s with_layout last is =
     first_found (text_of s with_layout last) (limit_line s.limit) (lines rest) s.limit (omega arith) is.bytes split limit
     ∙ rest_again s with_layout last is
 
--- ---- What the reader answers
+-- ---- Results of the reader
 
 memory_or : (e : ScriptError) → (e ≡ errors.NoMemory) ⊎ (e ≡ errors.NoMemory → ⊥)
 memory_or errors.NoMemory = inl refl

@@ -23,7 +23,7 @@ abbrev pub ◌>>=◌ : {A B E : Type 0} → Result A E → (A → Result B E) �
 
 -- ---- Lines, words and pieces
 
--- the parts between LFs, where an LF that ends the bytes begins no line
+-- the parts between LFs; an LF at the end of the bytes begins no line
 abbrev pub lines_of_parts : List (List ℕ) → List (List ℕ)
 lines_of_parts [] = []
 lines_of_parts (part ∷ []) = if length part == 0 then [] else part ∷ []
@@ -43,7 +43,7 @@ pieces [] = [] ∷ []
 pieces (b ∷ []) = (b ∷ []) ∷ []
 pieces (b ∷ c ∷ bs) = if (b == 44) && (c == 32) then [] ∷ pieces bs else onto_first b (pieces (c ∷ bs))
 
--- the bytes before the first separator, and those after it, where there is one
+-- the bytes before the first separator, and those after it, if there is one
 unfoldable pub cut : List ℕ → List ℕ → List ℕ × Option (List ℕ)
 cut separator [] = ([], None)
 cut separator (b ∷ bs) =
@@ -205,7 +205,7 @@ body_of limit first line names programs (text ∷ rest) =
     closed (line + 1) (script limit first names programs items) rest)
     else Err (errors.BadLine line)
 
--- the lines from line 2 on. Line 2 may be a layout line; where it is none, the layout is 1
+-- the lines from line 2 on. Line 2 may be a layout line; otherwise the layout is 1
 unfoldable pub after_limit : ℕ → List (List ℕ) → Result Script ScriptError
 after_limit limit [] = body_of limit 1 2 [] [] []
 after_limit limit (text ∷ rest) =

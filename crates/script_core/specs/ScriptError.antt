@@ -5,7 +5,7 @@ use Rattle.script_core.specs.declared.error.ScriptError.TheVariants.{NoMemory, E
 use Rattle.script_core.specs.declared.error.Fault.{Fault}
 use Rattle.script_core.specs.declared.error.Fault.TheVariants as faults
 
--- the number that stands for each fault
+-- the number of each fault
 abbrev pub number_of : ScriptError → ℕ
 number_of NoMemory = 1
 number_of (Empty line) = 2

@@ -34,7 +34,7 @@ limit_line limit = codes "limit " ++ decimal limit
 abbrev pub layout_line : ℕ → List ℕ
 layout_line first = codes "first " ++ decimal first
 
--- the layout line with its LF, where the text has one
+-- the layout line with its LF, if the text has one
 abbrev pub layout_text : ℕ → Bool → List ℕ
 layout_text first with_layout = if with_layout then layout_line first ++ codes "\n" else []
 

@@ -40,7 +40,7 @@ abbrev pub answer_line : ℕ → Ended → List ℕ
 answer_line name ended =
     name ∷ decimal ended.number ++ codes " " ++ word_of ended.command ++ codes " " ++ answer_text ended.answer ++ codes "\n"
 
--- the line of what a call took that ended: the actor's name with the call's number, its lost exchanges, and its steps
+-- the line of what an ended call took: the actor's name with the call's number, its lost exchanges, and its steps
 abbrev pub work_line : ℕ → Work → List ℕ
 work_line name work =
     name ∷ decimal work.number ++ codes " lost " ++ decimal work.lost ++ codes " steps " ++ decimal work.steps ++ codes "\n"

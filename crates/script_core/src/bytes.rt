@@ -7,7 +7,7 @@ use std::error::Error;
 use std::fmt;
 use std::io::{self, ErrorKind, Write};
 
-/// A writer failed, for this reason. A `Vec` fails only where it is out of memory.
+/// A writer failed, for this reason. A `Vec` fails only if it is out of memory.
 #[derive(Clone, Copy, Debug, PartialEq, Eq)]
 pub struct WriteFault {
     pub kind: ErrorKind,
@@ -27,7 +27,7 @@ impl From<io::Error> for WriteFault {
     }
 }
 
-// The number of interruptions at which a call gives up.
+// A call gives up at this number of interruptions.
 const MOST_INTERRUPTIONS: usize = 1_048_576;
 
 /// Writes all the bytes; it does not flush.

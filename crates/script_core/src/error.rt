@@ -34,7 +34,7 @@ pub enum ScriptError {
 }
 
 impl ScriptError {
-    /// The fault's number, from 1 to 11.
+    /// Returns the fault's number, from 1 to 11.
     pub fn number(&self) -> u8
         ensures { result ≡ number_of self.now }
     {
@@ -53,7 +53,7 @@ impl ScriptError {
         }
     }
 
-    /// The line of the fault. `NoMemory` has none.
+    /// Returns the line of the fault. `NoMemory` has none.
     pub fn line(&self) -> Option<u64>
         ensures { result ≡ line_of self.now }
     {

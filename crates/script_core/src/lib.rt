@@ -2,13 +2,14 @@
 //!
 //! - `read` reads a script: a limit, a layout, the actors with their programs, and the items of a schedule. Contracts see
 //!   what it returns as `script_of` of `specs/Grammar.antt`: the script, or the first fault with its line.
-//! - `specs/Spelling.antt` says the same in the grammar's own words: `text_of` is a script's spelling, with a layout line
-//!   or without one, and a text is read exactly where it is the spelling of a script (`IsScript`).
+//! - `specs/Spelling.antt` says the same in the grammar's own words: `text_of` is a script's spelling, with
+//!   or without a layout line, and a text is read exactly if it is the spelling of a script (`IsScript`).
 //! - `write_reply` and `write_cells` write the answer lines and the last line, as `specs/Text.antt` has them.
 //!   `write_bytes` is the one loop that writes, and `Line` a line on the stack.
 //!
-//! A caller can prove which script a text is, which fault it has at which line, and every byte that is written. `read`
-//! may be out of memory for any text. Nothing here knows what a call does. No proof is by hand over memory.
+//! A caller can prove which script a text is, which fault it has at which line, and every byte that is
+//! written. `read` may be out of memory for any text. Nothing here knows what a call does. No proof is by
+//! hand over memory.
 #![tactic(auto)]
 
 mod actor;

@@ -25,7 +25,7 @@ impl Model for Line {
 }
 
 impl Line {
-    /// An empty line.
+    /// Makes an empty line.
     pub fn new() -> Line
         ensures { result ≡ [] }
     {
@@ -35,7 +35,7 @@ impl Line {
         }
     }
 
-    /// The bytes so far.
+    /// Lends the bytes so far.
     pub fn as_slice(&self) -> &[u8]
         ensures { result.now ≡ self.now }
     {
@@ -48,7 +48,7 @@ impl Write for Line {
 
     ghost contents = { λ l. Some l };
 
-    /// Takes one byte at a time, and none where there is no room.
+    /// Takes one byte at a time, and none if there is no room.
     fn write(&mut self, buf: &[u8]) -> io::Result<usize> {
         match buf {
             [byte, ..] if self.len < MOST => {

@@ -7,7 +7,7 @@ use crate::cut::cut_at;
 use crate::error::Fault;
 use crate::number::number;
 
-// What a line after the first is, and what stands after its word.
+// The kind of a line after the first, with the text after its word.
 pub(crate) enum LineKind<'a> {
     Actor(&'a [u8]),
     Items(&'a [u8]),

@@ -20,7 +20,7 @@ use std::alloc::Global;
 // The most bytes of a script.
 const MOST_BYTES: usize = 1_048_576;
 
-/// Reads a script: its first fault comes with its line, and `NoMemory` may come in place of any answer.
+/// Reads a script, or reports its first fault with its line. `NoMemory` may come in place of any result.
 ///
 /// Time and memory are linear in the length of the text.
 pub fn read(alloc: Global, text: &[u8]) -> Result<Script, ScriptError>
@@ -146,7 +146,7 @@ fn after_limit(alloc: Global, limit: u64, text: &[u8]) -> Result<Script, ScriptE
     body(alloc, limit, first, 3, rest)
 }
 
-// The actor lines and the items line, of which the first has this number.
+// Reads the actor lines and the items line; `line` is the number of the first of them.
 fn body(
     alloc: Global,
     limit: u64,

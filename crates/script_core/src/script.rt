@@ -1,4 +1,4 @@
-//! What a text says.
+//! The parts of a script.
 
 use book_core::{Command, Item, Sequence};
 
@@ -6,7 +6,7 @@ use book_core::{Command, Item, Sequence};
 #[derive(Debug, Drop)]
 pub struct Script {
     pub limit: u64,
-    /// The layout, from 1 to 8: the first segment has 2^`first` places. It is 1 where the text doesn't say it.
+    /// The layout, from 1 to 8: the first segment has 2^`first` places. It is 1 if the text does not give it.
     pub first: u32,
     /// One letter for each actor.
     pub names: Sequence<u8>,

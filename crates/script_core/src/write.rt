@@ -54,7 +54,7 @@ fn write_line<W: Write>(w: &mut W, name: u8, ended: &Ended) -> Result<(), WriteF
     Ok(())
 }
 
-/// Writes the answer line of a call that ended. It takes no memory.
+/// Writes the answer line of an ended call. It takes no memory.
 pub fn write_reply<W: Write>(w: &mut W, name: u8, ended: &Ended) -> Result<(), WriteFault>
     ensures ok { OnOk result
         (Appends (W.contents w.old) (W.contents w.new) (answer_line name ended.now)) }
@@ -75,7 +75,7 @@ fn write_counts<W: Write>(w: &mut W, name: u8, work: &Work) -> Result<(), WriteF
     Ok(())
 }
 
-/// Writes the line of what a call took that ended. It takes no memory.
+/// Writes the line of what an ended call took. It takes no memory.
 pub fn write_work<W: Write>(w: &mut W, name: u8, work: &Work) -> Result<(), WriteFault>
     ensures ok { OnOk result
         (Appends (W.contents w.old) (W.contents w.new) (work_line name work.now)) }

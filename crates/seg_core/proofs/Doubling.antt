@@ -43,7 +43,7 @@ one_segment f j k place in_j in_k =
       ]
     ]
 
--- the search finds the segment, where it begins no later and goes far enough
+-- the search finds the segment, if it begins no later and goes far enough
 first_ending_after-has : (f further segment place : ℕ) → segment_start f segment ≤ place
     → place < segment_end f (segment + further) → HasPlace f (first_ending_after f further segment place) place
 first_ending_after-has f zero segment place begins ends =
@@ -89,7 +89,7 @@ segments_in_order f j k p q has_p has_q before =
 pub next_power : (e : ℕ) → 2 * 2 ^ e ≡ 2 ^ (e + 1)
 next_power e = let next : 2 ^ (e + 1) ≡ 2 ^ suc e = ap (λ i. 2 ^ i) (add-one e) in omega (arith, next, pow-suc 2 e)
 
--- a power of two below another one has the lower exponent
+-- the smaller of two powers of two has the lower exponent
 pub exponent_below : (j k : ℕ) → 2 ^ j < 2 ^ k → j < k
 exponent_below j k below =
     elim (cases_lt j k) [

@@ -44,6 +44,6 @@ most_places = 1099511627776
 abbrev pub segment_count : ℕ → ℕ
 segment_count f = 41 - f
 
--- a limit: there may be so many places
+-- a limit: a vector may have this number of places
 abbrev pub IsLimit : ℕ → Type 0
 IsLimit limit = (1 ≤ limit) × (limit ≤ most_places)

@@ -1,7 +1,8 @@
 //! Laws over the definitions alone, each the contract of a call without a body.
 ghost use Rattle.seg_core.specs.Laws.{IsInItsSegment, OneSegment, OnePlace};
 
-/// Each pair of a segment and an offset below its length is one place, and each place one such pair.
+/// States that each pair of a segment and an offset below its length is one place, and each place one such
+/// pair.
 pub fn places()
     ensures located { IsInItsSegment }
     ensures one_segment { OneSegment }

@@ -4,11 +4,11 @@ ghost use Rattle.seg_core.specs.Segment.{IsLayout, most_places, segment_count, s
 
 use std::marker::Model;
 
-/// The most places that a vector may have.
+/// The greatest number of places that a vector may have.
 pub const MOST_PLACES: u64 = 1 << 40;
 
-/// How the places are cut: the first segment has 2^f of them, with an f from 1 to 8, and each other segment as many as all those
-/// before it.
+/// How places are divided into segments: the first has 2^f places, with f from 1 to 8, and each other segment
+/// as many as all those before it.
 #[derive(Clone, Copy, Debug, PartialEq, Eq)]
 pub struct Layout {
     f: u8,
@@ -28,7 +28,7 @@ impl Model for Layout {
 }
 
 impl Default for Layout {
-    /// A first segment of two places.
+    /// Returns the layout whose first segment has two places.
     fn default() -> Layout
         ensures { result ≡ 1 }
     {
@@ -37,7 +37,7 @@ impl Default for Layout {
 }
 
 impl Layout {
-    /// A first segment of 2^f places. `None` where `f` is not from 1 to 8.
+    /// Makes the layout whose first segment has 2^f places, or returns `None` if `f` is not from 1 to 8.
     pub fn new(f: u32) -> Option<Layout>
         ensures some { IsLayout f → result ≡ Some f }
         ensures none { IsNone result ↔ (IsLayout f → ⊥) }
@@ -48,7 +48,7 @@ impl Layout {
         Some(Layout { f: f as u8 })
     }
 
-    /// The number f: the first segment has 2^f places.
+    /// Returns the number f: the first segment has 2^f places.
     pub fn f(self) -> u32
         ensures value { result ≡ self }
         ensures layout { IsLayout self }
@@ -56,14 +56,14 @@ impl Layout {
         self.f as u32
     }
 
-    /// How many segments the places below 2^40 are cut into.
+    /// Returns the number of segments of the places below 2^40.
     pub fn segments(self) -> u32
         ensures { result ≡ segment_count self }
     {
         41 - self.f()
     }
 
-    /// The segment of a place, and its offset there. It takes a few instructions.
+    /// Returns the segment of a place, and its offset there. It takes a few instructions.
     pub fn locate(self, place: u64) -> (u32, u64)
         requires { place < most_places }
         ensures segment { HasPlace self result.0 place }
@@ -75,7 +75,7 @@ impl Layout {
         (segment, place - self.first(segment))
     }
 
-    /// The first place of a segment.
+    /// Returns the first place of a segment.
     pub fn first(self, k: u32) -> u64
         requires { k < segment_count self }
         ensures { result ≡ segment_start self k }
@@ -83,7 +83,7 @@ impl Layout {
         if k == 0 { 0 } else { 1 << (k + self.f() - 1) }
     }
 
-    /// How many places a segment has.
+    /// Returns the number of places of a segment.
     pub fn len(self, k: u32) -> u64
         requires { k < segment_count self }
         ensures { segment_start self k + result ≡ segment_end self k }
@@ -92,7 +92,7 @@ impl Layout {
         if k == 0 { 1 << self.f() } else { first }
     }
 
-    /// The first segment that a run of places touches, and one past the last.
+    /// Returns the first segment that a run of places touches, and one past the last.
     pub fn segments_of(self, from: u64, n: u64) -> (u32, u32)
         requires some { 0 < n }
         requires places { from + n ≤ most_places }
@@ -106,7 +106,7 @@ impl Layout {
         (first, last + 1)
     }
 
-    /// The places of the fewest whole segments from the first on that have room for `n`.
+    /// Returns the number of places of the fewest whole segments, from the first on, that have room for `n`.
     pub fn capacity_for(self, n: u64) -> u64
         requires { n ≤ most_places }
         ensures none { n ≡ 0 → result ≡ 0 }

@@ -4,7 +4,7 @@ ghost use Rattle.seg_core.specs.Segment.{segment_start, segment_end, HasPlace, s
 
 use crate::layout::Layout;
 
-/// The segment of a place, and its offset there. It takes a few instructions.
+/// Returns the segment of a place, and its offset there. It takes a few instructions.
 pub fn locate(place: u64) -> (u32, u64)
     requires { place < 2 ^ 32 }
     ensures segment { HasPlace 1 result.0 place }
@@ -15,7 +15,7 @@ pub fn locate(place: u64) -> (u32, u64)
     Layout::default().locate(place)
 }
 
-/// The first place of a segment.
+/// Returns the first place of a segment.
 pub fn first(k: u32) -> u64
     requires { k < 32 }
     ensures { result ≡ segment_start 1 k }
@@ -23,7 +23,7 @@ pub fn first(k: u32) -> u64
     Layout::default().first(k)
 }
 
-/// How many places a segment has.
+/// Returns the number of places of a segment.
 pub fn len(k: u32) -> u64
     requires { k < 32 }
     ensures { segment_start 1 k + result ≡ segment_end 1 k }
@@ -31,7 +31,7 @@ pub fn len(k: u32) -> u64
     Layout::default().len(k)
 }
 
-/// The first segment that a run of places touches, and one past the last.
+/// Returns the first segment that a run of places touches, and one past the last.
 pub fn segments_of(from: u64, n: u64) -> (u32, u32)
     requires some { 0 < n }
     requires places { from + n ≤ 2 ^ 32 }
@@ -43,7 +43,7 @@ pub fn segments_of(from: u64, n: u64) -> (u32, u32)
     Layout::default().segments_of(from, n)
 }
 
-/// The places of the fewest whole segments from the first on that have room for `n`.
+/// Returns the number of places of the fewest whole segments, from the first on, that have room for `n`.
 pub fn capacity_for(n: u64) -> u64
     requires { n ≤ 2 ^ 32 }
     ensures none { n ≡ 0 → result ≡ 0 }

@@ -10,7 +10,7 @@ module _ {X : Type 0} (P : ℕ → X → Type 0) where
   EachFrom-append first next [] ys meets p q = let same : next ≡ first = omega (arith, meets) in let M : ℕ → Type 0 = λ n. EachFrom P n ys in subst M same q
   EachFrom-append first next (x ∷ xs) ys meets p q = (p.0, EachFrom-append (first + 1) next xs ys (omega (arith, meets)) p.1 q)
 
-  -- one item more
+  -- an added item
   pub EachFrom-push : (first next : ℕ) (xs ys : List X) (x : X) → ys ≡ xs ++ x ∷ [] → P next x
       → EachFrom P first xs × (first + length xs ≡ next) → EachFrom P first ys × (first + length ys ≡ next + 1)
   EachFrom-push first next xs ys x more p each =
@@ -18,7 +18,7 @@ module _ {X : Type 0} (P : ℕ → X → Type 0) where
       subst Q (sym more) (EachFrom-append first next xs (x ∷ []) each.1 each.0 (p, tt), omega (arith, each.1, length-append xs (x ∷ [])))
 
 module _ {X : Type 0} where
-  -- another fact, at the indices from another one on
+  -- a different fact, at indices from a different one on
   pub EachFrom-weaker : (P Q : ℕ → X → Type 0) (i j : ℕ) (xs : List X) → ((k : ℕ) (x : X) → P (i + k) x → Q (j + k) x)
       → EachFrom P i xs → EachFrom Q j xs
   EachFrom-weaker P Q i j [] weaker p = tt

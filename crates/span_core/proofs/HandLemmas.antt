@@ -95,14 +95,14 @@ module _ {A E : Type 0} (gives : ℕ → HandView → A → Type 0) (refuses : �
       (is.0, each-all (SaysOfPart gives a) (SaysOfPart gives b) (says-more gives a b part) first is.0 is.1, is.2, says-more refuses a b part (first + length is.0) e is.3)
 
 module _ {A V E : Type 0} (items : V → List A) (gives : ℕ → HandView → A → Type 0) (refuses : ℕ → HandView → E → Type 0) (may_refuse : ℕ → Type 0) where
-  -- the answers of a range whose own runs are all those of the hand
+  -- the results of a range whose own runs are all those of the hand
   abbrev pub AreAnswers : HandView → ℕ → ℕ → V → Type 0
   AreAnswers all first count v = SayInTurn gives all first (items v) all.mine × (length (items v) ≡ count)
 
   abbrev pub AreRefused : HandView → ℕ → ℕ → Refusal E → Type 0
   AreRefused all first count e = IsOfRange (SaysOfPart gives all) (SaysOfPart refuses all) may_refuse first count e
 
-  -- the answers of both halves, in order
+  -- the results of both halves, in order
   pub both-answer : (a b c : HandView) (first low middle high : ℕ) (lower upper all : Result V (Refusal E)) → first + low ≡ middle
       → IsPartOf a c → IsPartOf b c → c.mine ≡ a.mine ++ b.mine
       → IfOk lower (AreAnswers a first low) → IfOk upper (AreAnswers b middle high)

@@ -1,4 +1,4 @@
--- The answers of a function that a caller knows.
+-- The results of a function that a caller knows.
 use Rattle.std.proofs.Common.{◌≡◌, ℕ, ◌+◌, Option, None, List, length, map, get_or, subst, ap, ◌∙◌, arith}
 use Rattle.std.specs.Option.{option_copied}
 use Rattle.std.specs.Borrow.{Bor}
@@ -8,7 +8,7 @@ use Rattle.span_core.specs.Loops.{AnswersAt, AnswersOver}
 use Rattle.span_core.proofs.Each.{EachFrom-weaker, EachFrom-map}
 
 module _ {T U : Type 0} (post : ℕ → Option (Bor T) → U → Type 0) (v : Option T → U) where
-  -- a function that answers v of a member answers v of all members in order
+  -- a function that returns v of a member returns v of all members in order
   pub answers-mapped : ((place : ℕ) (item : Option (Bor T)) (answer : U) → post place item answer → answer ≡ v (option_copied item))
       → (members : List (Option T)) (span : Interval) (all : List U) → span.from ≡ 0 → span.to ≡ length members
       → AnswersOver post members span all → all ≡ map v members

@@ -6,7 +6,7 @@ use Rattle.quiet_core.specs.QuietAt.{IsRefusalAt}
 use Rattle.quiet_core.specs.declared.errors.QuietAt.{QuietAt}
 use Rattle.quiet_core.specs.declared.errors.QuietAt.TheVariants.{OutOfRange, Broken}
 
--- where a place was refused, there is no value
+-- if a place was refused, there is no value
 pub refused-none : {T : Type 0} (members : List (Option T)) (place : ℕ) (error : QuietAt)
     → IsRefusalAt members place error → get_or members place None ≡ None
 refused-none members place (OutOfRange size) refused = get_or_past members place None refused.1

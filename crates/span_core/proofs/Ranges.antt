@@ -6,7 +6,7 @@ use Rattle.span_core.specs.declared.errors.Refusal.{Refusal}
 use Rattle.span_core.specs.declared.errors.Refusal.TheVariants.{NoMemory, Stuck, Worker}
 use Rattle.span_core.proofs.Each.{EachFrom-append}
 
--- the answers of both halves, in order
+-- the results of both halves, in order
 pub halves-give : {A : Type 0} (gives : ℕ → A → Type 0) (first low middle high : ℕ) (xs ys all : List A)
     → first + low ≡ middle → EachGives gives first low xs → EachGives gives middle high ys → all ≡ xs ++ ys
     → EachGives gives first (low + high) all
@@ -28,7 +28,7 @@ module _ {A : Type 0} (gives : ℕ → A → Type 0) (may_refuse : ℕ → Type 
   pub lower-refused : (first low high : ℕ) → RefusesLowest gives may_refuse first low → RefusesLowest gives may_refuse first (low + high)
   lower-refused first low high one = (one.0, one.1, omega (arith, one.2), one.3)
 
-  -- where the lower half has answered, the lowest one of the upper half is the lowest of the whole
+  -- if the lower half has returned, the lowest worker of the upper half is the lowest of the whole
   pub upper-refused : (first low middle high : ℕ) (xs : List A) → first + low ≡ middle → EachGives gives first low xs
       → RefusesLowest gives may_refuse middle high → RefusesLowest gives may_refuse first (low + high)
   upper-refused first low middle high xs meets answers one =
@@ -65,7 +65,7 @@ module _ {A V E : Type 0} (items : V → List A) (gives : ℕ → A → Type 0) 
   lower-of-range first low high Stuck is = lower-refused gives may_refuse first low high is
   lower-of-range first low high (Worker e) is = lower-refused gives (λ worker. refuses worker e) first low high is
 
-  -- the same of the upper half, where the lower one has answered
+  -- the same of the upper half, if the lower one has returned
   upper-of-range : (first low middle high : ℕ) (xs : List A) (e : Refusal E) → first + low ≡ middle → EachGives gives first low xs
       → IsOfRange gives refuses may_refuse middle high e → IsOfRange gives refuses may_refuse first (low + high) e
   upper-of-range first low middle high xs NoMemory meets answers is = is

@@ -7,7 +7,7 @@ use Rattle.span_core.specs.Shares.{GivesLeaf, IsShare}
 use Rattle.span_core.specs.Span.{Interval}
 use Rattle.span_core.proofs.Each.{EachFrom-append, EachFrom-weaker}
 
--- one round more
+-- a further round
 rounds : (k workers : ℕ) → (1 + k) * workers ≡ workers + k * workers
 rounds k workers = omega (arith, mul_comm (1 + k) workers, mul_comm k workers, mul-suc workers k, more k workers)
   where
@@ -78,7 +78,7 @@ module _ {A : Type 0} (gives : Interval → A → Type 0) (leaves : List Interva
       further : (k : ℕ) → slice_get leaves (i + 1 + k) ≡ slice_get leaves (i + suc k)
       further k = let e : i + 1 + k ≡ i + suc k = omega arith in ap (λ n. slice_get leaves n) e
 
--- a share with one answer more
+-- a share with an added result
 pub share-grown : {A : Type 0} (P : ℕ → A → Type 0) (workers first next : ℕ) (xs ys : List A) (x : A)
     → ys ≡ xs ++ x ∷ [] → P next x
     → (next ≡ first + length xs * workers) × EachFrom (λ turn. P (first + turn * workers)) 0 xs
@@ -94,7 +94,7 @@ share-grown {A} P workers first next xs ys x grown gives share =
     longer : length (xs ++ x ∷ []) * workers ≡ (1 + length xs) * workers
     longer = let same : length (xs ++ x ∷ []) ≡ 1 + length xs = omega (arith, length-append xs (x ∷ [])) in ap (λ n. n * workers) same
 
--- one step of putting the answers in order
+-- one step of putting the results in order
 pub gather-step : {A V : Type 0} (items : V → List A) (P : ℕ → A → Type 0) (count workers next : ℕ) (olds rest news : List V) (share left : V) (x : A) (all more : List A)
     → olds ≡ share ∷ rest → items share ≡ x ∷ items left → news ≡ rest ++ left ∷ [] → more ≡ all ++ x ∷ []
     → EachFrom (λ worker s. IsShare P count workers worker (items s)) next olds × (length olds ≡ workers) × EachFrom P 0 all × (length all ≡ next)

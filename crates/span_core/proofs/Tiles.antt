@@ -1,4 +1,4 @@
--- Leaves tile their span, and so do what is answered to them.
+-- Leaves tile their span, and so do their results.
 use Rattle.std.proofs.Common.{◌≡◌, ℕ, ◌+◌, List, [], ◌∷◌, ◌++◌, length, subst, sym, refl, arith, length-append}
 use Rattle.std.specs.List.{AllZip}
 use Rattle.span_core.specs.Each.{EachFrom}
@@ -25,7 +25,7 @@ module _ {U V : Type 0} (items : V → List U) (P : ℕ → U → Type 0) where
   abbrev pub Covers : Interval → V → Type 0
   Covers leaf part = EachFrom P leaf.from (items part) × (leaf.from + length (items part) ≡ leaf.to)
 
-  -- what is answered so far reaches up to the leaves that are left
+  -- the results so far reach up to the leaves that are left
   abbrev pub Reaches : ℕ → ℕ → List U → List V → Type 0
   Reaches from to all parts =
       (leaves : List Interval) × AllZip Covers leaves parts × Tiles (from + length all) to leaves × EachFrom P from all
@@ -55,7 +55,7 @@ module _ {U V : Type 0} (items : V → List U) (P : ℕ → U → Type 0) where
       → EachFrom P from all × (from + length all ≡ to)
   reaches-all from to all olds none reached = let Q : List V → Type 0 = λ vs. Reaches from to all vs in reaches-end from to all (subst Q none reached)
 
-  -- before anything is answered
+  -- before there is any result
   pub reaches-none : (span : Interval) (all : List U) (olds parts : List V) → all ≡ [] → olds ≡ parts
       → (leaves : List Interval) × AreLeaves span leaves × AllZip Covers leaves olds
       → Reaches span.from span.to all parts

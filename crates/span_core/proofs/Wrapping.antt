@@ -8,7 +8,7 @@ sum_assoc a b c =
     let m = 2 ^ 64 in
     mod-add-mod (a + b) m c ∙ ap (λ n. n % m) (add_assoc a b c) ∙ sym (add-mod-mod a (b + c) m)
 
--- a function that answers that sum joins by it
+-- a function that returns that sum joins by it
 pub sums_wrap : (post : ℕ → ℕ → ℕ → Type 0) → SumsWrap post
 sums_wrap post does = record {
   inside = lit< tt;

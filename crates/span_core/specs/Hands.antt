@@ -1,4 +1,4 @@
--- What workers leave that each have a hand of their own.
+-- What workers with a hand each leave.
 use Rattle.std.specs.Prelude.{◌≡◌, ℕ, ◌+◌, ◌/◌, ◌<◌, List, [], ◌∷◌, ◌++◌, Result, Ok, Err, Vec, IfOk, IfErr, length}
 use Rattle.std.specs.List.{Contains}
 use Rattle.std.specs.Borrow.{Bor, MutBor}
@@ -20,7 +20,7 @@ pub record IsNewHandOf (word : WordView) (hand : HandView) : Type 0 where
 abbrev pub even_share : HandView → ℕ → ℕ
 even_share hand n = hand.shares / (n + 1)
 
--- a hand with so many shares that is split off another: it has seen the same, and owns nothing
+-- a hand with `shares` shares that is split off another: it has seen the same, and owns nothing
 abbrev pub split_off : HandView → ℕ → HandView
 split_off hand shares = record hand { mine = []; shares = shares }
 
@@ -29,7 +29,7 @@ pub record KeepsShares (old new : HandView) : Type 0 where
   pub of : new.of ≡ old.of
   pub shares : new.shares ≡ old.shares
 
--- each of so many workers that was let through may be called with this vector and such a hand
+-- each worker that was let through may be called with this vector and such a hand
 abbrev pub AreCallable : {T : Type 0} → (Bor (VectorView T) → ℕ → MutBor HandView → Type 0) → (ℕ → Type 0) → VectorView T → ℕ → Type 0
 AreCallable {T} pre through vector workers =
     (shown : Bor (VectorView T)) (worker : ℕ) (hand : MutBor HandView) → shown.now ≡ vector → worker < workers → through worker
@@ -64,7 +64,7 @@ SayInTurn says all worker (x ∷ xs) mine =
     (own : HandView) × (rest : List ℕ) × says worker own x × IsPartOf own all × (mine ≡ own.mine ++ rest)
     × SayInTurn says all (worker + 1) xs rest
 
--- so many workers answered in turn, and the hand owns their runs after those that it had
+-- the workers returned in turn, and the hand owns their runs after those that it had
 abbrev pub HaveAnswered : {A : Type 0} → (ℕ → HandView → A → Type 0) → HandView → HandView → ℕ → List A → Type 0
 HaveAnswered gives old new workers answers =
     (mine : List ℕ) × (new.mine ≡ old.mine ++ mine) × SayInTurn gives new 0 answers mine × (length answers ≡ workers)
@@ -76,7 +76,8 @@ of_answer says worker own answer = says worker own (Ok answer)
 abbrev pub of_refusal : {A E : Type 0} → (ℕ → HandView → Result A E → Type 0) → ℕ → HandView → E → Type 0
 of_refusal says worker own e = says worker own (Err e)
 
--- what a range of workers leaves: one hand of all its runs, with a share of each; and the answers, or why there are none
+-- what a range of workers leaves: one hand of all its runs, with a share of each; and the results, or why
+-- there are none
 pub record IsLeft {A E : Type 0} (says : ℕ → HandView → Result A E → Type 0) (may_refuse : ℕ → Type 0) (word : WordView) (first count : ℕ) (hand : HandView) (answers : Result (Vec A Global) (Refusal E)) : Type 0 where
   pub of : hand.of ≡ word
   pub shares : hand.shares ≡ count

@@ -16,11 +16,11 @@ module _ {T U : Type 0} where
   AnswersOver post members span answers =
       EachFrom (AnswersAt post members) span.from answers × (span.from + length answers ≡ span.to)
 
--- the function answers v of each member
+-- the function returns v for each member
 abbrev pub Computes : {T U : Type 0} → (ℕ → Option (Bor T) → U → Type 0) → (Option T → U) → Type 0
 Computes {T} {U} post v = (place : ℕ) (item : Option (Bor T)) (answer : U) → post place item answer → answer ≡ v (option_copied item)
 
--- where the span is the whole list, one answer to each place is the map of the members
+-- if the span is the whole list, one result for each place is the map of the members
 abbrev pub AnswersAreMap : {T U : Type 0} → (ℕ → Option (Bor T) → U → Type 0) → Type 0
 AnswersAreMap {T} {U} post =
     (v : Option T → U) (members : List (Option T)) (span : Interval) (all : List U) → Computes post v
@@ -39,11 +39,11 @@ pub record Joins {U : Type 0} (post : U → U → U → Type 0) (is_in : U → T
   pub from_left : (a : U) → is_in a → op unit a ≡ a
   pub from_right : (a : U) → is_in a → op a unit ≡ a
 
--- a function that answers that sum joins numbers by it, from 0
+-- a function that returns that sum joins numbers by it, from 0
 abbrev pub SumsWrap : (ℕ → ℕ → ℕ → Type 0) → Type 0
 SumsWrap post = ((a b r : ℕ) → post a b r → r ≡ wrapping_sum a b) → Joins post (λ n. n < 2 ^ 64) 0 wrapping_sum
 
--- the fold of these answers, for every operation that join computes
+-- the fold of these results, for every operation that join computes
 abbrev pub IsFold : {U : Type 0} → (U → U → U → Type 0) → (U → Type 0) → U → List U → U → Type 0
 IsFold {U} post is_in unit answers result = (op : U → U → U) → Joins post is_in unit op → result ≡ fold op unit answers
 
@@ -60,7 +60,7 @@ module _ {U : Type 0} (post : U → U → U → Type 0) (is_in : U → Type 0) w
   Within [] = Unit {0}
   Within (x ∷ xs) = is_in x × Within xs
 
-  -- no sum of no answers, or else their fold
+  -- no sum of no results, or otherwise their fold
   abbrev pub Sums : List U → Option U → Type 0
   Sums answers sum =
       MatchOption sum (answers ≡ []) (λ x. is_in x × ((unit : U) → IsFold post is_in unit answers x))

@@ -7,7 +7,7 @@ use Rattle.span_core.specs.Span.{Interval}
 abbrev pub GivesLeaf : {A : Type 0} → (Interval → A → Type 0) → List Interval → ℕ → A → Type 0
 GivesLeaf gives leaves index answer = (leaf : Interval) × (slice_get leaves index ≡ Some leaf) × gives leaf answer
 
--- one item for each number that is left of so many, in steps of the number of workers
+-- one item for each number that is left below `count`, in steps of the number of workers
 abbrev pub IsShare : {A : Type 0} → (ℕ → A → Type 0) → ℕ → ℕ → ℕ → List A → Type 0
 IsShare P count workers next items =
     EachFrom (λ turn. P (next + turn * workers)) 0 items × (count ≤ next + length items * workers)

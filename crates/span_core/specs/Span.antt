@@ -20,7 +20,7 @@ size_of span = span.to - span.from
 abbrev pub IsDivisible : Interval → Type 0
 IsDivisible span = span.grain < size_of span
 
--- where it is cut, rounded down
+-- the middle at which it is divided, rounded down
 abbrev pub middle_of : Interval → ℕ
 middle_of span = span.from + size_of span / 2
 
@@ -32,7 +32,7 @@ lower_half span = record span { to = middle_of span }
 abbrev pub upper_half : Interval → Interval
 upper_half span = record span { from = middle_of span }
 
--- the leaves of a span: itself where it is not divisible, else the leaves of its two halves in order
+-- the leaves of a span: itself if it is not divisible, otherwise the leaves of its two halves in order
 pub data AreLeaves : Interval → List Interval → Type 0 where
   itself : (span : Interval) → size_of span ≤ span.grain → AreLeaves span (span ∷ [])
   halves : (span : Interval) (lower upper : List Interval) → IsDivisible span → AreLeaves (lower_half span) lower

@@ -1,4 +1,4 @@
--- What a range of workers answers.
+-- The results of a range of workers.
 use Rattle.std.specs.Prelude.{◌≡◌, ℕ, ◌+◌, ◌<◌, ◌≤◌, ◌⊎◌, List, length}
 use Rattle.span_core.specs.declared.errors.Refusal.{Refusal}
 use Rattle.span_core.specs.declared.errors.Refusal.TheVariants.{NoMemory, Stuck, Worker}
@@ -16,12 +16,12 @@ EachGives gives first count answers = EachFrom gives first answers × (length an
 abbrev pub MayRefuseOne : (ℕ → Type 0) → ℕ → ℕ → Type 0
 MayRefuseOne may_refuse first count = (worker : ℕ) × (first ≤ worker) × (worker < first + count) × may_refuse worker
 
--- the workers of the range gave these answers up to one that the gate may refuse
+-- the workers of the range returned these results up to one that the gate may refuse
 abbrev pub RefusesLowest : {A : Type 0} → (ℕ → A → Type 0) → (ℕ → Type 0) → ℕ → ℕ → Type 0
 RefusesLowest {A} gives may_refuse first count =
     (lower : List A) × EachFrom gives first lower × (length lower < count) × may_refuse (first + length lower)
 
--- why a range of workers has no answer, where each may refuse so, and the gate may refuse these
+-- why a range of workers has no result, if each may refuse in this way and the gate may refuse these
 abbrev pub IsOfRange : {A E : Type 0} → (ℕ → A → Type 0) → (ℕ → E → Type 0) → (ℕ → Type 0) → ℕ → ℕ → Refusal E → Type 0
 IsOfRange gives refuses may_refuse first count NoMemory = Unit {0}
 IsOfRange gives refuses may_refuse first count Stuck = RefusesLowest gives may_refuse first count

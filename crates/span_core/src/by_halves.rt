@@ -9,10 +9,10 @@ use std::sync::atomic::{AtomicBool, Ordering};
 use std::thread;
 use std::thread::{Promise, Threads};
 
-/// What workers do together: one alone, and a range by its halves. A range of workers brings an `S`, and gives an
-/// answer `A`, or `E` where it has none.
+/// What workers do together: one alone, and a range by its halves. A range of workers brings an `S`, and
+/// gives a result `A`, or `E` if it has none.
 pub trait ForkJoin<S, A, E> {
-    /// What a range, of so many workers from the first on, may bring.
+    /// What a range may bring, by its first worker and its number of workers.
     ghost brings: { Self → ℕ → ℕ → S → Type 0 };
 
     /// What a range may answer.
@@ -27,13 +27,13 @@ pub trait ForkJoin<S, A, E> {
         ensures answer { IfOk result (gives self.now worker 1) }
         ensures refused { IfErr result (refuses self.now worker 1) };
 
-    /// Cuts what a range brings in two, for its `low` lowest workers and for the `high` others.
+    /// Divides what a range brings, for its `low` lowest workers and for the `high` others.
     fn cut(&self, brought: S, first: u32, low: u32, high: u32) -> (S, S)
         requires { brings self.now first (low + high) brought × (0 < low) × (0 < high) }
         ensures lower { brings self.now first low result.0 }
         ensures upper { brings self.now (first + low) high result.1 };
 
-    /// Puts together what the two halves of a range answered.
+    /// Combines the results of the two halves of a range.
     fn both(
         &self,
         first: u32,
@@ -49,14 +49,14 @@ pub trait ForkJoin<S, A, E> {
         ensures answer { IfOk result (gives self.now first (low + high)) }
         ensures refused { IfErr result (refuses self.now first (low + high)) };
 
-    /// What a range answers that is not to work, since a thread could not be started.
+    /// Returns the result of a range that does not work, because a thread could not be started.
     fn unstarted(&self, brought: S, first: u32, count: u32) -> Result<A, E>
         requires { brings self.now first count brought × (0 < count) }
         ensures answer { IfOk result (gives self.now first count) }
         ensures refused { IfErr result (refuses self.now first count) };
 }
 
-// What the upper half of a range is to answer.
+// The pending result of the upper half of a range.
 #[derive(Drop)]
 struct Upper<S, J> {
     brought: PhantomData<S>,
@@ -74,9 +74,9 @@ impl<S, A, E, J: ForkJoin<S, A, E>> Promise<Result<A, E>> for Upper<S, J> {
 
 /// Does the work of a range of workers.
 ///
-/// A range of one is the worker; a larger one starts a thread for its upper half, does its lower half itself, and
-/// joins. Where that thread can't be started, nobody of the range works, and each half answers by `unstarted` with
-/// what it brought. Every thread that was started has ended then.
+/// A range of one is the worker; a larger one starts a thread for its upper half, does its lower half itself,
+/// and joins. If that thread cannot be started, nobody of the range works, and each half returns its
+/// `unstarted` result with what it brought. By then, every thread that was started has ended.
 #[cycle(halves)]
 pub fn fork_join<
     R: Threads + Wait + Sync,

@@ -1,4 +1,4 @@
-//! A place of a list, to which one can add and from which one can take away.
+//! A place of a list that moves forward and back.
 ghost use Rattle.std.specs.Prelude.{◌≡◌, ◌+◌, ◌-◌, ◌≤◌, ◌+ℤ◌, pos, length, slice_get, Some, IfOk, IfErr};
 ghost use Rattle.quiet_core.specs.QuietAt.{IsRefusalAt};
 
@@ -26,7 +26,7 @@ impl<'a, T> Model for Cursor<'a, T> {
 }
 
 impl<'a, T> Cursor<'a, T> {
-    /// The cursor at a place of the list, or at its end.
+    /// Makes a cursor at a place of the list, or at its end.
     pub fn new(list: &'a Quiet<T>, place: u64) -> Self
         requires { place ≤ length list.now.members }
         ensures { result ≡ record { list = list.now; place = place } }
@@ -34,7 +34,7 @@ impl<'a, T> Cursor<'a, T> {
         Cursor { list, place }
     }
 
-    /// Where the cursor is.
+    /// Returns the cursor's place.
     pub fn place(&self) -> u64
         ensures value { result ≡ self.now.place }
         ensures bound { result ≤ length self.now.list.members }
@@ -42,7 +42,7 @@ impl<'a, T> Cursor<'a, T> {
         self.place
     }
 
-    /// Goes n places on. The end is as far as it goes.
+    /// Moves n places forward. The end is as far as it goes.
     pub fn forward(&mut self, n: u64)
         requires { self.old.place + n ≤ length self.old.list.members }
         ensures { self.new ≡ record self.old { place = self.old.place + n } }
@@ -51,7 +51,7 @@ impl<'a, T> Cursor<'a, T> {
         self.place += n;
     }
 
-    /// Goes n places back.
+    /// Moves n places back.
     pub fn back(&mut self, n: u64)
         requires { n ≤ self.old.place }
         ensures { self.new ≡ record self.old { place = self.old.place - n } }
@@ -59,7 +59,7 @@ impl<'a, T> Cursor<'a, T> {
         self.place -= n;
     }
 
-    /// The other's place less this one's.
+    /// Returns the other's place minus this one's.
     pub fn distance(&self, other: &Cursor<'_, T>) -> i64
         ensures { pos self.now.place +ℤ result ≡ pos other.now.place }
     {
@@ -67,7 +67,7 @@ impl<'a, T> Cursor<'a, T> {
         other.place as i64 - self.place as i64
     }
 
-    /// The value at the cursor, refused at the end and at a broken member.
+    /// Returns the value at the cursor, or a refusal at the end and at a broken member.
     pub fn item(&self) -> Result<&'a T, QuietAt>
         ensures value { IfOk result (λ x.
             slice_get self.now.list.members self.now.place ≡ Some (Some x.now)) }

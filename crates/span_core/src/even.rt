@@ -6,8 +6,8 @@ ghost use Rattle.span_core.specs.Hands.{even_share, split_off};
 use grow_core::{Hand, Shared};
 use std::alloc::{AllocError, Global};
 
-/// Splits `n` hands off one, each with an even part of the shares, rounded down, which leaves it a part at least as large.
-/// Each has seen the same, and owns nothing. It tells nothing of the size.
+/// Splits `n` hands off, each with an equal part of the shares, rounded down, so that the hand keeps at least
+/// as many. Each has seen the same as the hand, and owns nothing. It shows no size.
 pub fn split_even<T>(
     alloc: Global,
     vector: &Shared<T>,

@@ -5,7 +5,7 @@ ghost use Rattle.std.specs.Bool.{OnTrue, OnFalse};
 use std::marker::Model;
 use std::sync::atomic::{AtomicBool, Ordering};
 
-/// What a worker asks before its first piece of work, and tells after its last.
+/// A gate that each worker passes before it starts and after it finishes.
 pub trait Gate {
     /// Whether this gate may refuse this worker.
     ghost may_refuse: { Self → ℕ → Type 0 };
@@ -13,12 +13,12 @@ pub trait Gate {
     /// What is known of a worker that this gate let through. Work asks for it, so that none is done without the gate.
     ghost lets_through: { Self → ℕ → Type 0 } = { λ _ _. ⊤ };
 
-    /// Whether the worker may work.
+    /// Called by each worker before its first piece of work. Returns whether the worker may work.
     fn before(&self, worker: u32) -> bool
         ensures refused { OnFalse result (may_refuse self.now worker) }
         ensures through { OnTrue result (lets_through self.now worker) };
 
-    /// The worker has ended its work, or was refused.
+    /// Called by each worker after its last piece of work, or after its refusal.
     fn after(&self, worker: u32);
 }
 
@@ -38,7 +38,7 @@ impl Gate for Free {
     fn after(&self, _worker: u32) {}
 }
 
-/// The gate that lets workers 0 and 1 through only once both have come, so that they run at once.
+/// The gate that lets workers 0 and 1 through only once both have come, so that they run at the same time.
 #[derive(Drop)]
 pub struct PairGate {
     turns: u64,
@@ -55,7 +55,7 @@ impl Model for PairGate {
 }
 
 impl PairGate {
-    /// A worker of the pair looks at most `turns` times whether the other came.
+    /// Makes a gate whose workers 0 and 1 each look at most `turns` times whether the other has come.
     pub fn new(turns: u64) -> PairGate
         ensures { result.turns ≡ turns }
     {
@@ -66,7 +66,7 @@ impl PairGate {
         }
     }
 
-    // Whether the other one of the pair came, looked at as often as the gate says.
+    // Tests whether the other one of the pair came, looked at as often as the gate says.
     fn waits_for(&self, other: &AtomicBool) -> bool
         ensures { IsTrue result → 0 < self.now.turns }
     {

@@ -24,7 +24,7 @@ struct Crew<'a, T, F, G> {
     workers: u32,
 }
 
-// What a range of workers leaves: one hand, and their answers.
+// What a range of workers leaves: one hand, and their results.
 #[derive(Drop)]
 struct Left<T, A, E> {
     hand: Hand<T>,
@@ -135,7 +135,7 @@ impl<
     }
 }
 
-// What one worker answered, as that of a range.
+// The result of one worker as that of a range.
 fn told<A: Drop, E>(alloc: Global, answer: Result<A, E>) -> Result<Vec<A>, Refusal<E>>
     ensures answer { (a : A) → answer ≡ Ok a → IfOk result (λ all. all.items ≡ a ∷ []) }
     ensures memory { (a : A) → answer ≡ Ok a → IfErr result (λ e. e ≡ Refusal.NoMemory) }
@@ -147,11 +147,13 @@ fn told<A: Drop, E>(alloc: Global, answer: Result<A, E>) -> Result<Vec<A>, Refus
     }
 }
 
-/// Lets workers append to one vector, each in a thread of its own but the first, and answers what each gave, in order.
+/// Lets workers append to one vector, all except the first in a thread of their own, and returns their
+/// results in order.
 ///
-/// Each has a hand with one of the shares of `hand`, which is lent to it, and passes the gate before its work and after
-/// it. All hands are joined again, whatever the workers answer, and where a thread can't be started, so that `hand` has
-/// its shares again. They are started by `fork_join`. The refusal of the worker with the lowest number is answered.
+/// Each worker borrows a hand with one of the shares of `hand`, and passes the gate before its work and after
+/// it. All hands are joined again, whatever the workers return and also if a thread cannot be started, so
+/// that `hand` has its shares again. `fork_join` starts the workers. The refusal of the worker with the
+/// lowest number is returned.
 pub fn with_hands<
     R: Threads + Wait + Sync,
     T: Send + Sync,

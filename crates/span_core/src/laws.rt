@@ -1,14 +1,14 @@
 //! What callers of the loops know of a function that they pass in, each the contract of a call without a body.
 ghost use Rattle.span_core.specs.Loops.{AnswersAreMap, SumsWrap};
 
-/// What `par_map` answers over a whole list is the map of its members.
+/// States that `par_map` over a whole list returns the map of its members.
 pub fn answers_are_the_map<T, U, F: Fn(u64, Option<&T>) -> U>(f: &F)
     ensures { AnswersAreMap (F.post f.now) }
 {
     let _f = f;
 }
 
-/// Joining by wrapping addition may be grouped in any way, and 0 changes nothing.
+/// States that wrapping addition may be grouped in any way, and that adding 0 changes nothing.
 #[tactic(auto, using(crate::proofs::Wrapping::sums_wrap))]
 pub fn sums_wrap<J: Fn(u64, u64) -> u64>(join: &J)
     ensures { SumsWrap (J.post join.now) }

@@ -1,16 +1,17 @@
-//! Spans of places, cursors over an exclusive list, loops that share a span out among threads, and workers on one
+//! Spans of places, cursors over an exclusive list, loops that share a span among threads, and workers on one
 //! shared vector.
 //!
-//! Contracts see a `Span` as where it begins, where it ends and its grain, and what it is cut into as `AreLeaves`
+//! Contracts see a `Span` as its begin, its end and its grain, and its division as `AreLeaves`
 //! (`specs/Span.antt`); a `Cursor` as its list and its place (`specs/Cursor.antt`).
 //!
-//! A caller can prove that `par_map` answers what the function answers to each place, in order, and that `par_reduce`
-//! answers the fold of that (`specs/Loops.antt`), whatever the number of workers; `laws` has what it needs to know of
-//! the functions that it passes in. Each worker passes a `Gate` before and after its work, and none works that the gate
-//! did not let through. `with_hands` lends each worker on a vector a hand, and the caller's hand has its shares again in
-//! the end (`specs/Hands.antt`). `run_workers` starts any `Job`, and `run_gated` any `Work`, whose workers bring something
-//! and may refuse; where one is refused, those below it have answered (`specs/Workers.antt`). Under them is `fork_join`,
-//! which starts any range of workers by halves. Nothing is said of which worker took a leaf, nor that a loop returns.
+//! A caller can prove that `par_map` returns what the function returns for each place, in order, and that
+//! `par_reduce` returns the fold of that (`specs/Loops.antt`), for any number of workers; `laws` has what it
+//! needs to know of the functions that it passes in. Each worker passes a `Gate` before and after its work,
+//! and works only if the gate let it through. `with_hands` lends each worker on a vector a hand, and in the
+//! end the caller's hand has its shares again (`specs/Hands.antt`). `run_workers` starts any `Job`, and
+//! `run_gated` any `Work`, whose workers bring something and may refuse; if one is refused, those below it
+//! have returned (`specs/Workers.antt`). Under them is `fork_join`, which starts any range of workers by
+//! halves. Nothing is said about which worker took a leaf, nor that a loop returns.
 #![tactic(auto)]
 
 mod by_halves;

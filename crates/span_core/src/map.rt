@@ -1,4 +1,4 @@
-//! The answers of a function to each member of a span, by several workers.
+//! The results of a function for each member of a span, by several workers.
 ghost use Rattle.std.specs.Prelude.{◌≡◌, ◌≤◌, ◌↔◌, None, List, length, slice_index_or, IfOk, IsErrOf};
 ghost use Rattle.std.specs.Option.{option_copied};
 ghost use Rattle.std.specs.List.{AllZip};
@@ -15,7 +15,7 @@ use std::alloc::{AllocError, Global};
 use std::sync::Wait;
 use std::thread::Threads;
 
-// Asks a function for its answers to the members of a leaf.
+// Calls a function for each member of a leaf.
 #[derive(Drop)]
 struct MapLeaf<'a, T, F> {
     alloc: Global,
@@ -38,7 +38,7 @@ impl<'a, T, U: Drop, F: Fn(u64, Option<&T>) -> U> LeafJob<Vec<U>> for MapLeaf<'a
     }
 }
 
-// What a function answers to a place and the member there.
+// The result of a function for a place and the member there.
 pub(crate) fn answer_at<T, U, F: Fn(u64, Option<&T>) -> U>(list: &Quiet<T>, f: &F, place: u64) -> U
     requires { F.IsAlwaysCallable f.now }
     ensures { AnswersAt (F.post f.now) list.now.members place result }
@@ -57,7 +57,7 @@ fn member_at<T>(list: &Quiet<T>, place: u64) -> Option<&T>
 }
 
 impl<'a, T, F> MapLeaf<'a, T, F> {
-    // The answers to all leaves, in one list.
+    // The results for all leaves, in one list.
     fn flat<U: Drop>(&self, span: Span, parts: Vec<Vec<U>>) -> Result<Vec<U>, AllocError>
     where
         F: Fn(u64, Option<&T>) -> U,
@@ -76,11 +76,12 @@ impl<'a, T, F> MapLeaf<'a, T, F> {
     }
 }
 
-/// The answers of `f` to the places of a span and their members, in order of place, by a number of workers.
+/// Calls `f` for the places of a span and their members, by a number of workers, and returns the results in
+/// order of place.
 ///
-/// A member is `None` where it is broken. Leaf i of the span is the work of worker i mod the number of workers. The
-/// answers are those of a single thread. Its work is linear in the places; it takes memory for the leaves and, twice,
-/// for the answers.
+/// A member is `None` if it is broken. Leaf i of the span is the work of worker i mod the number of workers.
+/// The results are those of a single thread. Its work is linear in the places; it takes memory for the leaves
+/// and, twice, for the results.
 pub fn par_map<
     R: Threads + Wait + Sync,
     T: Send + Sync,
@@ -93,18 +94,18 @@ pub fn par_map<
     list: &Quiet<T>,
     span: Span,
     workers: u32,
-    f: &F,
+    f: F,
     gate: &G,
 ) -> Result<Vec<U>, ParError>
-    requires callable { F.IsAlwaysCallable f.now }
+    requires callable { F.IsAlwaysCallable f }
     requires inside { span.to ≤ length list.now.members }
     ensures answers { IfOk result (λ all.
-        AnswersOver (F.post f.now) list.now.members span all.items) }
+        AnswersOver (F.post f) list.now.members span all.items) }
     // The number is looked at before anything is started.
     ensures bad_workers { IsErrOf result ParError.BadWorkers ↔ IsBadNumber workers }
     ensures stuck { IsErrOf result ParError.Stuck → MayRefuseOne (G.may_refuse gate.now) 0 workers }
 {
-    let each = MapLeaf { alloc, list, f };
+    let each = MapLeaf { alloc, list, f: &f };
     let parts = each_leaf(rt, alloc, span, workers, &each, gate)?;
     match each.flat(span, parts) {
         Ok(all) => Ok(all),

@@ -1,4 +1,4 @@
-//! The fold of the answers of a function to each member of a span, by several workers.
+//! The fold of a function's results for each member of a span, by several workers.
 ghost use Rattle.std.specs.Prelude.{◌≤◌, ◌+◌, ◌<◌, ◌^◌, ◌↔◌, Some, List, length, IfOk, IsErrOf};
 ghost use Rattle.std.specs.List.{AllZip};
 ghost use Rattle.span_core.specs.Loops.{AnswersAt, FoldsOver, Merges, SumsUpTo};
@@ -15,11 +15,11 @@ use std::alloc::{AllocError, Global};
 use std::sync::Wait;
 use std::thread::Threads;
 
-/// Values with a fact that holds of each value in hand, as that a number fits its type.
+/// Types with a fact that holds for each of their values, such as that a number fits its type.
 pub trait Domain {
     ghost is_in: { Self → Type 0 };
 
-    /// Tells that this value is one of the domain. It does nothing.
+    /// Shows a proof that this value is one of the domain. It does nothing.
     fn tell(&self)
         ensures { is_in self.now };
 }
@@ -32,7 +32,7 @@ impl Domain for u64 {
     }
 }
 
-// Joins two sums, where there are both.
+// Joins two sums, if there are two.
 fn merged<U: Domain, J: Fn(U, U) -> U>(join: &J, sum: Option<U>, part: Option<U>) -> Option<U>
     requires { J.IsAlwaysCallable join.now }
     ensures { Merges (J.post join.now) U.is_in sum part result }
@@ -50,7 +50,7 @@ fn merged<U: Domain, J: Fn(U, U) -> U>(join: &J, sum: Option<U>, part: Option<U>
     }
 }
 
-// The sum of the answers to a leaf.
+// The sum of the results for a leaf.
 #[derive(Drop)]
 struct ReduceLeaf<'a, T, F, J> {
     list: &'a Quiet<T>,
@@ -99,12 +99,12 @@ impl<'a, T, F, J> ReduceLeaf<'a, T, F, J> {
     }
 }
 
-/// The fold by `join`, from `unit`, of the answers of `f` to the places of a span and their members, by a number of
+/// Folds the results of `f` for the places of a span and their members by `join`, from `unit`, by a number of
 /// workers.
 ///
-/// A member is `None` where it is broken. Each leaf has a sum of its own, and these are joined in order, so the answer
-/// is the one of a single thread where `join` may be grouped in any way. Its work is linear in the places, and it takes
-/// memory for the leaves.
+/// A member is `None` if it is broken. Each leaf has a sum of its own, and these are joined in order, so the
+/// result is that of a single thread if `join` may be grouped in any way. Its work is linear in the places,
+/// and it takes memory for the leaves.
 pub fn par_reduce<
     R: Threads + Wait + Sync,
     T: Send + Sync,
@@ -118,20 +118,24 @@ pub fn par_reduce<
     list: &Quiet<T>,
     span: Span,
     workers: u32,
-    f: &F,
+    f: F,
     unit: U,
-    join: &J,
+    join: J,
     gate: &G,
 ) -> Result<U, ParError>
-    requires callable { F.IsAlwaysCallable f.now × J.IsAlwaysCallable join.now }
+    requires callable { F.IsAlwaysCallable f × J.IsAlwaysCallable join }
     requires inside { span.to ≤ length list.now.members }
-    ensures fold { IfOk result (λ sum. FoldsOver (F.post f.now) (J.post join.now) U.is_in
+    ensures fold { IfOk result (λ sum. FoldsOver (F.post f) (J.post join) U.is_in
         list.now.members span unit sum) }
     // The number is looked at before anything is started.
     ensures bad_workers { IsErrOf result ParError.BadWorkers ↔ IsBadNumber workers }
     ensures stuck { IsErrOf result ParError.Stuck → MayRefuseOne (G.may_refuse gate.now) 0 workers }
 {
-    let each = ReduceLeaf { list, f, join };
+    let each = ReduceLeaf {
+        list,
+        f: &f,
+        join: &join,
+    };
     let parts = each_leaf(rt, alloc, span, workers, &each, gate)?;
     match each.total(span, parts) {
         Some(sum) => Ok(sum),

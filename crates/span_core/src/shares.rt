@@ -1,4 +1,4 @@
-//! The leaves of a span, shared out among workers, and their answers put in order again.
+//! The leaves of a span, distributed among workers, and their results put in order again.
 ghost use Rattle.std.specs.Prelude.{◌≡◌, ◌<◌, ◌↔◌, List, IfOk, IsErrOf, length};
 ghost use Rattle.std.specs.List.{AllZip};
 ghost use Rattle.span_core.specs.Each.{EachFrom};
@@ -20,7 +20,7 @@ pub(crate) trait LeafJob<A> {
     // When leaves may be asked for.
     ghost ready: { Self → Type 0 };
 
-    // What may be answered to a leaf.
+    // What may be returned for a leaf.
     ghost gives: { Self → Interval → A → Type 0 };
 
     fn leaf(&self, leaf: Span) -> Result<A, AllocError>
@@ -61,7 +61,7 @@ impl<'a, A: Drop, L: LeafJob<A>, G: Gate> Job<VecDeque<A>> for Shares<'a, L, G> 
 }
 
 impl<'a, L, G> Shares<'a, L, G> {
-    // The answers in order of their leaves: each share in turn gives its next.
+    // The results in order of their leaves: each share in turn gives its next.
     fn gather<A: Drop>(&self, mut shares: VecDeque<VecDeque<A>>) -> Result<Vec<A>, AllocError>
     where
         L: LeafJob<A>,
@@ -86,7 +86,7 @@ impl<'a, L, G> Shares<'a, L, G> {
     }
 }
 
-// What is answered to each leaf of the span, in order.
+// The result for each leaf of the span, in order.
 pub(crate) fn each_leaf<
     R: Threads + Wait + Sync,
     A: Send + Drop,

@@ -5,7 +5,8 @@ ghost use Rattle.span_core.specs.Span.{IsDivisible, IsSpan, AreLeaves, size_of, 
 use std::alloc::{AllocError, Global};
 use std::marker::Model;
 
-/// The places from one on and before another, with a grain: how many places are not worth cutting.
+/// The places from one on and before another, with a grain: a span of at most that many places is not
+/// divided.
 #[derive(Clone, Copy, Debug, PartialEq, Eq)]
 pub struct Span {
     from: u64,
@@ -26,7 +27,7 @@ impl Model for Span {
 }
 
 impl Span {
-    /// The places from `from` on and before `to`.
+    /// Makes the span of the places from `from` on and before `to`.
     pub fn new(from: u64, to: u64, grain: u64) -> Span
         requires ordered { from ≤ to }
         requires positive { 0 < grain }
@@ -35,7 +36,7 @@ impl Span {
         Span { from, to, grain }
     }
 
-    /// The first place, if there is one.
+    /// Returns the first place, if there is one.
     pub fn from(&self) -> u64
         ensures value { result ≡ self.now.from }
         ensures span { IsSpan self.now }
@@ -43,7 +44,7 @@ impl Span {
         self.from
     }
 
-    /// The place after the last.
+    /// Returns the place after the last.
     pub fn to(&self) -> u64
         ensures value { result ≡ self.now.to }
         ensures ordered { self.now.from ≤ result }
@@ -51,21 +52,21 @@ impl Span {
         self.to
     }
 
-    /// How many places there are.
+    /// Returns the number of places.
     pub fn size(&self) -> u64
         ensures { result ≡ size_of self.now }
     {
         self.to - self.from
     }
 
-    /// Whether there are more places than the grain.
+    /// Tests whether there are more places than the grain.
     pub fn is_divisible(&self) -> bool
         ensures { IsTrue result ↔ IsDivisible self.now }
     {
         self.size() > self.grain
     }
 
-    /// Keeps the places before the middle, and answers those from the middle on.
+    /// Keeps the places before the middle, and returns those from the middle on.
     pub fn split(&mut self) -> Span
         requires { IsDivisible self.old }
         ensures kept { self.new ≡ lower_half self.old }
@@ -81,7 +82,7 @@ impl Span {
         upper
     }
 
-    /// The span itself where it is not divisible, else the leaves of its two halves in order.
+    /// Returns the span itself if it is not divisible, and otherwise the leaves of its two halves in order.
     ///
     /// Its time and memory are linear in the number of leaves.
     pub fn leaves(&self, alloc: Global) -> Result<Vec<Span>, AllocError>

@@ -11,7 +11,7 @@ use std::alloc::{AllocError, Global};
 use std::sync::Wait;
 use std::thread::Threads;
 
-/// What each worker of a team does.
+/// The work of each worker of a team.
 pub trait Job<A> {
     /// When this worker may begin: mostly once a gate let it through.
     ghost ready: { Self → ℕ → Type 0 };
@@ -25,12 +25,12 @@ pub trait Job<A> {
         ensures { IfOk result (gives self.now worker) };
 }
 
-/// What each worker of a range does with what it brings.
+/// The work of each worker of a range, with what the range brings.
 pub trait Work<S, A, E> {
     /// When this worker may begin: mostly once a gate let it through.
     ghost ready: { Self → ℕ → Type 0 };
 
-    /// What a range, of so many workers from the first on, may bring.
+    /// What a range may bring, by its first worker and its number of workers.
     ghost brings: { Self → ℕ → ℕ → S → Type 0 };
 
     /// What this worker may answer.
@@ -46,14 +46,14 @@ pub trait Work<S, A, E> {
         ensures answer { IfOk result (gives self.now worker) }
         ensures refused { IfErr result (refuses self.now worker) };
 
-    /// Cuts what a range brings in two, for its `low` lowest workers and for the `high` others.
+    /// Divides what a range brings, for its `low` lowest workers and for the `high` others.
     fn cut(&self, brought: S, first: u32, low: u32, high: u32) -> (S, S)
         requires { brings self.now first (low + high) brought × (0 < low) × (0 < high) }
         ensures lower { brings self.now first low result.0 }
         ensures upper { brings self.now (first + low) high result.1 };
 }
 
-// The answers of both halves, or why there are none.
+// The results of both halves, or why there are none.
 pub(crate) fn both<A: Drop, E: Drop>(
     lower: Result<Vec<A>, Refusal<E>>,
     upper: Result<Vec<A>, Refusal<E>>,
@@ -170,11 +170,12 @@ pub(crate) fn alone<A: Drop, E>(alloc: Global, answer: A) -> Result<Vec<A>, Refu
     }
 }
 
-/// Runs the work of each worker in a thread of its own, but the first, and answers what each gave, in order.
+/// Runs the work of each worker, all except the first in a thread of their own, and returns their results in
+/// order.
 ///
-/// Each passes the gate before its work and after it. They are started by `fork_join`; where a range's thread can't be
-/// started, none of it passes the gate. The refusal of the worker with the lowest number is answered. Every thread
-/// that was started has ended then.
+/// Each worker passes the gate before its work and after it. `fork_join` starts them; if a range's thread
+/// cannot be started, nobody of the range passes the gate. The refusal of the worker with the lowest number
+/// is returned. By then, every thread that was started has ended.
 pub fn run_gated<
     R: Threads + Wait + Sync,
     S: Send + Drop,
@@ -195,7 +196,7 @@ pub fn run_gated<
     fork_join(rt, &crew, brought, 0, workers)
 }
 
-// A job as work for which nothing is brought.
+// A job as work that brings nothing.
 #[derive(Drop)]
 struct Plain<'a, J> {
     job: &'a J,
@@ -225,7 +226,8 @@ impl<'a, A, J: Job<A>> Work<(), A, AllocError> for Plain<'a, J> {
     }
 }
 
-/// Runs the job of each worker in a thread of its own, but the first, and answers what each gave, in order.
+/// Runs the job of each worker, all except the first in a thread of their own, and returns their results in
+/// order.
 ///
 /// They are started by `run_gated`.
 pub fn run_workers<R: Threads + Wait + Sync, A: Send + Drop, J: Job<A> + Sync, G: Gate + Sync>(
@@ -253,7 +255,7 @@ pub fn run_workers<R: Threads + Wait + Sync, A: Send + Drop, J: Job<A> + Sync, G
     }
 }
 
-// Whether there may be this number of workers.
+// Tests whether there may be this number of workers.
 pub(crate) fn are_workers(workers: u32) -> bool
     ensures { MatchBool result (workers ≢ 0 × workers ≤ 64) (IsBadNumber workers) }
 {

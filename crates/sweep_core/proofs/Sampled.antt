@@ -55,7 +55,7 @@ unfolding first_words
 length-first_words zero g = refl
 length-first_words (suc n) g = ap suc (length-first_words n (pcg32 g).1)
 
--- there are as many items as words
+-- each word gives one item
 length-items_from : (n : ℕ) (g : Lcg) → length (items_from n g) ≡ n
 length-items_from n g = length-map (first_words pcg32 n g) item_of ∙ length-first_words n g
 

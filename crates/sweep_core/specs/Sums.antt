@@ -18,7 +18,7 @@ report_of len seed = record {
   ended = length (sampled_play seed len).ended;
 }
 
--- of two lots together, where each number wraps
+-- of two reports together; each number wraps
 abbrev pub plus : SweepReport → SweepReport → SweepReport
 plus a b = record {
   schedules = (a.schedules + b.schedules) % 2 ^ 64;
@@ -33,7 +33,7 @@ both (Ok a) (Ok b) = Ok (plus a b)
 both (Ok a) (Err e) = Err e
 both (Err e) b = Err e
 
--- of all these, where each number wraps
+-- of all these reports; each number wraps
 abbrev pub total_of : List SweepReport → SweepReport
 total_of reports = record {
   schedules = sum_by (λ (report : SweepReport). report.schedules) reports % 2 ^ 64;
@@ -42,6 +42,6 @@ total_of reports = record {
   ended = sum_by (λ (report : SweepReport). report.ended) reports % 2 ^ 64;
 }
 
--- of so many schedules from a seed on
+-- of `count` schedules from a seed on
 abbrev pub reports_of : ℕ → ℕ → ℕ → List SweepReport
 reports_of seed count len = map (λ number. report_of len (seed_of seed number)) (range_with_len 0 count)

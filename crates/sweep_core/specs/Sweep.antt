@@ -35,7 +35,7 @@ generator_of seed = pcg32_of_seed (pcg32_seed 16 seed)
 abbrev pub items_from : ℕ → Lcg → List Item
 items_from len generator = map item_of (first_words pcg32 len generator)
 
--- the schedule of a seed, with so many items
+-- the schedule of a seed, with `len` items
 abbrev pub items_of : ℕ → ℕ → List Item
 items_of seed len = items_from len (generator_of seed)
 

@@ -8,13 +8,13 @@ use std::fmt;
 /// What a sweep found.
 #[derive(Clone, Copy, Debug, PartialEq, Eq)]
 pub struct SweepReport {
-    /// How many schedules were played.
+    /// The number of schedules that were played.
     pub schedules: u64,
-    /// The events of how many are a history of the sequential vector.
+    /// The number of schedules whose events are a history of the sequential vector.
     pub legal: u64,
-    /// How many events there were in all.
+    /// The number of events in all.
     pub events: u64,
-    /// How many calls ended in all.
+    /// The number of ended calls in all.
     pub ended: u64,
 }
 

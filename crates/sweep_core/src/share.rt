@@ -9,10 +9,10 @@ use rayon::prelude::*;
 use std::alloc::{AllocError, Global};
 use std::thread::Threads;
 
-/// The most schedules of a sweep.
+/// The greatest number of schedules of a sweep.
 pub const MOST_SCHEDULES: u32 = 10_000;
 
-/// The most items of each schedule.
+/// The greatest number of items of a schedule.
 pub const MOST_ITEMS: u32 = 1_000;
 
 // How few schedules are worth a thread of their own.
@@ -28,7 +28,7 @@ const NOTHING: SweepReport = SweepReport {
 // A report, unless memory was refused.
 type Outcome = Result<SweepReport, AllocError>;
 
-// The reports of all schedules together, whoever played them.
+// The reports of all schedules together, from all threads.
 fn total<R: Threads + Sync>(
     rt: &R,
     alloc: Global,
@@ -57,10 +57,10 @@ fn total<R: Threads + Sync>(
         )
 }
 
-/// Plays as many schedules as `count` says, each of `len` items, and checks the events of each.
+/// Plays `count` schedules of `len` items each, and checks the events of each.
 ///
-/// Schedule i has the items of the seed `seed + i`, which wraps. Schedules are shared out among threads; memory does not
-/// grow with their number.
+/// Schedule i has the items of the seed `seed + i`, which wraps. The schedules are distributed among threads;
+/// memory does not grow with their number.
 pub fn sweep<R: Threads + Sync>(
     rt: &R,
     alloc: Global,

@@ -43,7 +43,7 @@ fn played(alloc: Global, seed: u64, len: u32) -> Result<Played, AllocError>
     play_sound(alloc, programs, &items)
 }
 
-// Whether events are a history of the sequential vector: `check` tells.
+// Tests whether events are a history of the sequential vector, by `check`.
 fn is_legal(alloc: Global, events: &[(Event, Reply)]) -> Result<bool, AllocError>
     ensures { IfOk result (λ yes. IsTrue yes ↔ IsLegalFrom (empty_list sampled_limit) events.now) }
 {

@@ -48,7 +48,7 @@ const KINDS: [Kind; 12] = [
     Kind::Share,
 ];
 
-/// A thread that makes calls, and what it was answered.
+/// A thread that makes calls, with their results.
 #[derive(Drop)]
 pub struct Caller {
     random: Random,
@@ -82,7 +82,7 @@ impl Caller {
         self.random.below(bound as u64) as usize
     }
 
-    /// The first of so many values that no call has appended yet.
+    /// Reserves `n` values that no call has appended yet, and returns the first.
     pub fn take_values(&mut self, n: u64) -> u64 {
         let first = self.next;
         self.next = first.wrapping_add(n);

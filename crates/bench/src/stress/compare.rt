@@ -1,4 +1,4 @@
-//! Whether a vector has what the answers said.
+//! The comparison of a vector with the results of the calls.
 ghost use Rattle.std.specs.Prelude.{◌≡◌};
 ghost use Rattle.grow_core.specs.Vector.{IsHandOf};
 
@@ -19,7 +19,7 @@ fn write_one(places: &mut [Option<Option<u64>>], said: Said) -> Result<()> {
     Ok(())
 }
 
-// The same for each place that was answered.
+// Writes down each place that a call returned.
 fn write_down(places: &mut [Option<Option<u64>>], placed: &[Said]) -> Result<()> {
     for said in placed {
         write_one(places, *said)?;
@@ -27,7 +27,7 @@ fn write_down(places: &mut [Option<Option<u64>>], placed: &[Said]) -> Result<()>
     Ok(())
 }
 
-// The value at each place below the size, as the answers said it.
+// The value at each place below the size, by the calls' results.
 fn places_of<R: AllocGlobal>(
     rt: &R,
     size: u64,
@@ -40,7 +40,7 @@ fn places_of<R: AllocGlobal>(
     Ok(places)
 }
 
-// What is said of a place that has no value and is not broken.
+// The error for a place that has no value and is not broken.
 fn not_filled<P: Display>(place: u64, error: &P) -> Error {
     anyhow!("place {place}: {error}")
 }
@@ -79,7 +79,7 @@ fn compare_places(
     Ok(())
 }
 
-// What was read while others appended is what is there.
+// Compares what was read while others appended with what is there.
 fn compare_read(places: &[Option<Option<u64>>], read: &[Said]) -> Result<()> {
     for Said { place, value } in read {
         let Some(said) = places.get(*place as usize).copied().flatten() else {
@@ -107,7 +107,7 @@ fn compare_with(
     Ok(())
 }
 
-/// Compares each place with what the answers said, by a hand that all other hands were joined to.
+/// Compares each place with the calls' results, by one hand that all other hands have joined.
 pub fn compare_all<R: AllocGlobal>(
     rt: &R,
     vector: &Shared<u64>,

@@ -57,7 +57,7 @@ fn note_growth<V: Drop, E: Drop>(
     }
 }
 
-/// A growth by at most so many values, which are moved in.
+/// Grows by at most `most` values, which are moved in.
 pub fn grow(
     alloc: Global,
     vector: &Shared<u64>,
@@ -75,7 +75,7 @@ pub fn grow(
     note_growth(&mut caller.record, first, 1, answer)
 }
 
-/// A growth by at most so many clones of one value.
+/// Grows by at most `most` clones of one value.
 pub fn grow_by(
     vector: &Shared<u64>,
     hand: &mut Hand<u64>,
@@ -92,7 +92,7 @@ pub fn grow_by(
     note_growth(&mut caller.record, value, 0, answer)
 }
 
-/// A growth by at most so many values that are made in place, of which one may be refused.
+/// Grows by at most `most` values that are made in place, one of them perhaps refused.
 pub fn grow_with(
     vector: &Shared<u64>,
     hand: &mut Hand<u64>,
@@ -121,8 +121,8 @@ pub fn grow_with(
     )
 }
 
-/// A growth up to at most so many places above the size that the hand has seen, of values that are made in place, of which one
-/// may be refused.
+/// Grows up to at most `most` places above the size that the hand has seen, by values that are made in place,
+/// one of them perhaps refused.
 pub fn grow_to_at_least(
     vector: &Shared<u64>,
     hand: &mut Hand<u64>,

@@ -27,7 +27,7 @@ pub struct Job {
     pub hand: Hand<u64>,
 }
 
-/// What a thread leaves: a hand with all of its shares and runs, and what its calls were answered.
+/// What a thread leaves: a hand with all of its shares and runs, and the results of its calls.
 #[derive(Drop)]
 pub struct Outcome {
     pub hand: Hand<u64>,

@@ -1,4 +1,4 @@
-//! What the calls of one thread were answered.
+//! The results of one thread's calls.
 use anyhow::{Result, bail};
 use grow_core::GrowError;
 use std::alloc::Global;
@@ -11,7 +11,7 @@ pub struct Said {
     pub value: Option<u64>,
 }
 
-/// The answers that are compared, and how many calls were refused.
+/// The results that are compared, and the number of refused calls.
 #[derive(Drop)]
 pub struct Record {
     /// What was appended.

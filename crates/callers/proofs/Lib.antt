@@ -1,5 +1,6 @@
 mod CallSteps
 mod ClaimedPlaces
+mod FirstMade
 mod LaterRuns
 mod NextSteps
 mod PlacesLater

@@ -1,5 +1,6 @@
-//! Facts that no clause states: which scripts, events and lines are the intended ones, and that calls succeed
-//! if there is memory. The texts of plays are rows of the program, in `crates/cvec/rows`.
+//! What callers prove by public clauses alone (`uses`, `every_play`, `vector_uses`), and tests of what no
+//! clause states: which scripts, events and lines are the intended ones, and that calls succeed if there is
+//! memory. The texts of plays are rows of the program, in `crates/cvec/rows`.
 
 ghost use Rattle.std.specs.Prelude.{◌≡◌, IfOk, length};
 
@@ -12,6 +13,7 @@ mod memory;
 mod running;
 mod scripts;
 mod uses;
+mod vector_uses;
 mod whole_calls;
 mod work;
 

@@ -1,5 +1,5 @@
 -- The exclusive list: what one owner has when nobody else has the vector.
-use Rattle.std.specs.Prelude.{◌≡◌, ℕ, ◌≤◌, ◌⊎◌, max, Bool, Option, List, length, refl}
+use Rattle.std.specs.Prelude.{◌≡◌, ℕ, ◌≤◌, ◌⊎◌, max, Bool, true, Option, List, length, refl}
 use Rattle.std.specs.Option.{option_eq, option_partial_cmp, option_cmp}
 use Rattle.std.specs.Cmp.Lexicographic.{pointwise, slice_partial_cmp, slice_cmp}
 use Rattle.std.specs.Coded.{Coded, code_by, coded×, coded_ℕ, coded_list, coded_option}
@@ -61,6 +61,10 @@ module _ {T : Type 0} where
   -- two members are equal where both are broken, or both are equal values
   abbrev pub same_members : (T → T → Bool) → QuietList T → QuietList T → Bool
   same_members eq a b = pointwise (option_eq eq) a.members b.members
+
+  -- lists with the same members are equal
+  abbrev pub EqualMembersAreEqual : (T → T → Bool) → Type 0
+  EqualMembersAreEqual eq = (a b : QuietList T) → a.members ≡ b.members → same_members eq a b ≡ true
 
   -- the order of the first members that differ, broken below every value; otherwise the shorter list is less
   abbrev pub partial_order : (T → T → Option Ordering) → QuietList T → QuietList T → Option Ordering

@@ -16,6 +16,7 @@ mod compare;
 mod errors;
 mod into_iter;
 mod iter;
+pub mod laws;
 mod open;
 mod quiet;
 mod room;

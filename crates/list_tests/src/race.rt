@@ -108,7 +108,7 @@ fn each_refusal_has_its_number(rt: HostRuntime) {
 }
 
 #[test]
-fn a_growth_that_is_refused_is_told(rt: HostRuntime) {
+fn a_refused_growth_is_reported(rt: HostRuntime) {
     let full = refused(GrowError::Full { size: 1, back: 5 });
     assert!(rt; full == RaceError::Grow { number: 2 });
     let memory = refused(GrowError::NoMemory { back: 5 });

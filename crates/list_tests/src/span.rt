@@ -179,7 +179,7 @@ fn counted<R: Threads + Wait + Sync>(
 }
 
 #[test]
-fn loops_over_ten_squares_answer_and_pass_the_gate(rt: HostRuntime) -> Result<(), Fail> {
+fn loops_over_ten_squares_return_and_pass_the_gate(rt: HostRuntime) -> Result<(), Fail> {
     let list = squares(rt.alloc())?;
     assert!(rt; list.len() == 10);
     assert!(rt; every_number_of_workers_answers_the_same(&rt, rt.alloc(), &list) == Ok(true));

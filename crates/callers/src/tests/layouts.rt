@@ -102,7 +102,7 @@ fn seen(alloc: Global, f: u32, text: &str) -> Result<Seen, Fail> {
 }
 
 #[test]
-fn a_growth_of_three_has_one_segment_but_in_the_shortest_layout(
+fn a_growth_of_three_has_one_segment_except_in_the_shortest_layout(
     rt: HostRuntime,
 ) -> Result<(), Fail> {
     for (f, granted, refused) in PLAYS.as_slice() {

@@ -150,7 +150,7 @@ const REFUSED: [(u64, MakeError); 5] = [
 ];
 
 #[test]
-fn a_machine_that_cannot_be_is_refused(rt: HostRuntime) -> Result<(), Fail> {
+fn a_machine_with_a_bad_limit_or_program_is_refused(rt: HostRuntime) -> Result<(), Fail> {
     for (limit, want) in REFUSED.as_slice() {
         let made = Machine::new(rt.alloc(), *limit, one_call(rt.alloc(), UNSOUND)?);
         assert!(rt; made.err() == Some(*want), "{limit}");

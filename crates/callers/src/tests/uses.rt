@@ -68,7 +68,7 @@ const SCRIPT: &[u8] =
     b"limit 8\nactor a push 5\nactor b push 6, read 0\nsteps a a a a a a a b b b b b b b";
 
 #[test]
-fn callers_know_whose_each_place_and_value_is(rt: HostRuntime) -> Result<(), Fail> {
+fn callers_know_who_owns_each_place_and_value(rt: HostRuntime) -> Result<(), Fail> {
     let text = b"limit 8\nactor a push 5\nactor b push 6, read 0\nsteps a a a a a a b b b b b b b";
     let Script {
         limit,

@@ -85,7 +85,7 @@ pub(super) fn played(alloc: Global, by_steps: bool, text: &str) -> Result<Played
 }
 
 #[test]
-fn a_call_takes_what_its_steps_are(rt: HostRuntime) -> Result<(), Fail> {
+fn the_work_of_each_call_is_counted(rt: HostRuntime) -> Result<(), Fail> {
     for (script, works) in ROWS.as_slice() {
         let played = played(rt.alloc(), true, script)?;
         assert!(rt; played.work.as_slice() == *works, "{script}");
@@ -94,7 +94,7 @@ fn a_call_takes_what_its_steps_are(rt: HostRuntime) -> Result<(), Fail> {
 }
 
 #[test]
-fn of_whole_calls_no_work_is_known(rt: HostRuntime) -> Result<(), Fail> {
+fn whole_calls_have_no_counts(rt: HostRuntime) -> Result<(), Fail> {
     for (script, _) in ROWS.as_slice() {
         let played = played(rt.alloc(), false, script)?;
         assert!(rt; played.work.is_empty(), "{script}");

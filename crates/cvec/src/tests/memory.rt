@@ -36,7 +36,7 @@ fn status_again(rt: &impl Abort, alloc: Global, text: &mut Vec<u8>, errors: &mut
 }
 
 #[test]
-fn a_run_without_memory_is_told_and_run_again(rt: HostRuntime) {
+fn a_run_without_memory_is_reported_and_runs_again(rt: HostRuntime) {
     let mut text = room(rt.alloc());
     let mut errors = room(rt.alloc());
     let status = status_again(&rt, rt.alloc(), &mut text, &mut errors);

@@ -89,7 +89,7 @@ fn a_text_that_is_shown_to_a_writer_that_fails_has_a_prefix(
 }
 
 #[test]
-fn no_memory_for_a_command_line_is_told(rt: HostRuntime) {
+fn no_memory_for_a_command_line_is_reported(rt: HostRuntime) {
     let mut text = Vec::new(rt.alloc());
     let mut reader = SCRIPT;
     ends(
@@ -105,7 +105,7 @@ fn no_memory_for_a_command_line_is_told(rt: HostRuntime) {
 }
 
 #[test]
-fn the_status_tells_where_standard_error_fails(rt: HostRuntime) {
+fn the_status_reports_the_error_if_standard_error_fails(rt: HostRuntime) {
     let mut reader = b"".as_slice();
     let mut text = Vec::new(rt.alloc());
     let mut errors = Narrow::new(rt.alloc(), 4, Some(ErrorKind::BrokenPipe));

@@ -157,7 +157,7 @@ fn grows_by_nothing<R: AllocGlobal + Wait>(rt: &R, two: &mut Callers<u64>) -> bo
 
 // A growth of nothing looks at the size, which another caller has moved.
 #[test]
-fn a_growth_of_nothing_answers_the_size_that_it_finds(rt: HostRuntime) {
+fn a_growth_of_nothing_returns_the_size_that_it_finds(rt: HostRuntime) {
     assert!(rt; on_two(&rt, 8, |two| grows_by_nothing(&rt, two)));
 }
 
@@ -337,7 +337,7 @@ fn lives_with_bytes<R: AllocGlobal + Wait>(rt: &R, mut two: Callers<u8>) -> bool
 }
 
 #[test]
-fn four_million_places_are_shown_and_as_many_are_broken(rt: HostRuntime) {
+fn four_million_places_are_shown_and_four_million_are_broken(rt: HostRuntime) {
     let two = Callers::new(&rt, 1 << 36);
     assert!(rt; lives_with_bytes(&rt, two));
 }

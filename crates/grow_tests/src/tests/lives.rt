@@ -474,7 +474,7 @@ fn has_two_segments(parts: &Parts<u64>) -> bool {
 
 // The capacity of a list is that of the segments that its vector had.
 #[test]
-fn the_capacity_is_of_the_segments_that_are_there(rt: HostRuntime) {
+fn the_capacity_is_that_of_the_installed_segments(rt: HostRuntime) {
     let parts = live(
         Some(Parts::new(rt.alloc(), 8)),
         |life| life.grow(list(&rt, &[5, 6, 7])),

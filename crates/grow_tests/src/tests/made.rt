@@ -115,7 +115,7 @@ fn grows_to_sizes<R: Wait>(rt: &R, two: &mut Callers<u64>) -> bool {
 }
 
 #[test]
-fn a_growth_up_to_a_size_appends_what_is_wanted(rt: HostRuntime) {
+fn a_growth_up_to_a_size_appends_what_is_missing(rt: HostRuntime) {
     assert!(rt; on_two(&rt, 8, |two| grows_to_sizes(&rt, two)));
 }
 
@@ -342,6 +342,6 @@ fn goes_on_behind(two: &mut Callers<u64>) -> bool {
 }
 
 #[test]
-fn the_next_growth_goes_on_behind_a_broken_run(rt: HostRuntime) {
+fn the_next_growth_begins_after_a_broken_run(rt: HostRuntime) {
     assert!(rt; on_two(&rt, 8, goes_on_behind));
 }

@@ -90,7 +90,7 @@ fn gives_three_members_back(parts: &mut Parts<u64>) -> bool {
 }
 
 #[test]
-fn members_stand_in_order(rt: HostRuntime) {
+fn members_are_in_order(rt: HostRuntime) {
     let mut parts = Parts::new(rt.alloc(), 8);
     assert!(rt;
         takes_no_member(&mut parts)

@@ -48,7 +48,7 @@ fn takes_nothing<R: AllocGlobal + Wait>(rt: &R, two: &mut Callers<u64>) -> bool 
 }
 
 #[test]
-fn an_empty_growth_answers_an_empty_run(rt: HostRuntime) {
+fn an_empty_growth_returns_an_empty_run(rt: HostRuntime) {
     assert!(rt; on_two(&rt, 1, |two| takes_nothing(&rt, two)));
 }
 

@@ -71,13 +71,13 @@ fn append_by_eight<R: Threads + Wait + Sync, G: Gate + Sync>(
 }
 
 #[test]
-fn eight_workers_answer_in_order(rt: HostRuntime) {
+fn the_results_of_eight_workers_are_in_order(rt: HostRuntime) {
     let ended = append_by_eight(&rt, rt.alloc(), 80, 8, &Free);
     assert!(rt; ended == Some((Ok(true), 80)));
 }
 
 #[test]
-fn the_vector_closes_where_a_worker_stops(rt: HostRuntime) {
+fn the_vector_closes_if_a_worker_stops(rt: HostRuntime) {
     for stops in 0..8 {
         let ended = append_by_eight(&rt, rt.alloc(), 80, stops, &Free);
         assert!(rt;
@@ -88,7 +88,7 @@ fn the_vector_closes_where_a_worker_stops(rt: HostRuntime) {
 }
 
 #[test]
-fn the_vector_closes_where_growths_or_workers_are_refused(rt: HostRuntime) {
+fn the_vector_closes_if_growths_or_workers_are_refused(rt: HostRuntime) {
     let full = append_by_eight(&rt, rt.alloc(), 30, 8, &Free);
     assert!(rt; full == Some((Err(Refusal::Worker(Stop::Growth)), 30)));
     let stuck = append_by_eight(&rt, rt.alloc(), 80, 8, &PairGate::new(0));

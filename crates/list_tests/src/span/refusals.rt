@@ -102,7 +102,7 @@ const MANY: [(u32, u32); 7] = [
 ];
 
 #[test]
-fn the_refusal_of_the_lowest_worker_and_the_answers_in_order_come(rt: HostRuntime) {
+fn the_lowest_refusal_or_the_results_in_order_are_returned(rt: HostRuntime) {
     for digits in 0..81 {
         assert!(rt; returns_lowest(&rt, rt.alloc(), 4, digits), "{digits}");
     }

@@ -376,7 +376,7 @@ fn is_read_to_its_fault(alloc: Global, engine: Engine, line: &(usize, ScriptErro
 }
 
 #[test]
-fn of_an_endless_line_one_byte_too_many_is_read(rt: HostRuntime) {
+fn one_byte_too_many_is_read_of_an_endless_line(rt: HostRuntime) {
     for engine in ENGINES.as_slice() {
         for line in LONG_LINES.as_slice() {
             assert!(rt;

@@ -159,7 +159,7 @@ fn tell<R: AllocGlobal + Abort>(rt: &R, story: &Story) {
 }
 
 #[test]
-fn each_step_of_a_story_answers_as_it_says(rt: HostRuntime) {
+fn each_step_of_a_story_has_its_stated_result(rt: HostRuntime) {
     for story in STORIES.as_slice() {
         tell(&rt, story);
     }

@@ -133,7 +133,7 @@ fn print_head<R: Print>(rt: &R) -> Result<()> {
     Ok(())
 }
 
-/// The nanoseconds that a try takes a thread, for one thread, two and four.
+/// Prints the nanoseconds per try and thread, for one, two and four threads.
 pub fn print_figures<R: Threads + Wait + Clock + Print + AllocGlobal + Sync>(rt: &R) -> Result<()> {
     print_head(rt)?;
     for group in GROUPS.as_slice() {

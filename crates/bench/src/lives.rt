@@ -12,7 +12,7 @@ use std::time::{Duration, Instant};
 
 const VALUES: u64 = 10_000_000;
 
-/// Which of the two is timed.
+/// The one of the two that is timed.
 #[derive(Clone, Copy)]
 pub enum Turn {
     /// The list is opened.

@@ -53,7 +53,7 @@ pub struct Load {
     pub values: u64,
     /// Whether the vector lies in an `Arc`.
     pub is_in_arc: bool,
-    /// How long its first segment is.
+    /// The layout of its segments.
     pub layout: Layout,
 }
 
@@ -92,7 +92,7 @@ fn row_of(name: &str) -> Option<(Work, u64, u64)> {
     None
 }
 
-/// The load of this name.
+/// Returns the load with this name.
 pub fn load_of(name: &str) -> Result<Load> {
     let Some((work, filled, values)) = row_of(name) else {
         bail!("no load has the name {name}")

@@ -38,7 +38,7 @@ pub fn run_locked<R: Threads + Wait + Clock + AllocGlobal + Sync>(
     Ok(Trial { took, wins, size })
 }
 
-/// How many of the pushes appended a value.
+/// Pushes values and returns how many were appended.
 pub fn push_boxcar<R: Wait>(rt: &R, list: &boxcar::Vec<u64>, tries: u64) -> u64 {
     count_pushes(tries, &|value| list.push(rt, value).is_ok())
 }

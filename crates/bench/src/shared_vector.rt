@@ -20,7 +20,7 @@ pub fn empty<T: Drop>(alloc: Global, limit: u64) -> Result<(Shared<T>, Hand<T>),
     empty_in(alloc, Layout::default(), limit)
 }
 
-/// The same in segments of this layout.
+/// Makes an empty vector like `empty`, with this layout.
 pub fn empty_in<T: Drop>(
     alloc: Global,
     layout: Layout,
@@ -54,7 +54,7 @@ fn call_push<R: Wait>(rt: &R, vector: &Shared<u64>, hand: &mut Hand<u64>, value:
     push_once(rt, vector, hand, value)
 }
 
-/// As `push`, with a call for each value.
+/// Pushes like `push`, with one call that is not inlined per value.
 pub fn push_by_calls<R: Wait>(rt: &R, vector: &Shared<u64>, mut hand: Hand<u64>, tries: u64) -> u64
     requires ours { IsHandOf vector.now hand }
 {
@@ -67,7 +67,7 @@ pub fn push_by_calls<R: Wait>(rt: &R, vector: &Shared<u64>, mut hand: Hand<u64>,
     won
 }
 
-/// How many of the pushes appended a value.
+/// Pushes values and returns how many were appended.
 pub fn push<R: Wait>(rt: &R, vector: &Shared<u64>, mut hand: Hand<u64>, tries: u64) -> u64
     requires ours { IsHandOf vector.now hand }
 {

@@ -148,7 +148,7 @@ fn stress_one<R: Threads + Wait + AllocGlobal + Sync>(
     Ok(())
 }
 
-/// One vector after another, for as long as it is said.
+/// Stresses one vector after another for this number of seconds, and prints the counts.
 pub fn print_stress<R: Threads + Wait + Clock + Print + AllocGlobal + Sync>(
     rt: &R,
     seconds: u64,

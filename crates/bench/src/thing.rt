@@ -10,7 +10,7 @@ use std::rt::Clock;
 use std::sync::Wait;
 use std::thread::Threads;
 
-/// What is measured.
+/// A measured thing.
 #[derive(Clone, Copy)]
 pub enum Thing {
     /// An exchange on the claim word by a hand that begins from what it has seen.
@@ -34,7 +34,7 @@ pub struct Group {
     pub tries: u64,
 }
 
-/// All of them.
+/// The groups of measured things.
 pub const GROUPS: [Group; 2] = [
     Group {
         things: [Thing::ClaimWord, Thing::BareExchange, Thing::BareAddition],

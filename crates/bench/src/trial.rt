@@ -8,7 +8,8 @@ use std::thread;
 use std::thread::Threads;
 use std::time::{Duration, Instant};
 
-/// How long the tries took, how many of them won, and the size that they left: the two are the same where no win is lost.
+/// The time of the tries, the number of wins, and the size that they left; the last two are equal if no win
+/// is lost.
 #[derive(Clone, Copy)]
 pub struct Trial {
     pub took: Duration,
@@ -25,7 +26,7 @@ fn sum_of(wins: &[u64]) -> u64 {
     sum
 }
 
-/// Runs the tries in this many threads: how long they took, and how many of them won.
+/// Runs the tries in this many threads, and returns their time and the number of wins.
 pub fn time_threads<R: Threads + Clock + AllocGlobal + Sync, F: Fn(usize) -> u64 + Sync>(
     rt: &R,
     threads: usize,
@@ -39,7 +40,7 @@ pub fn time_threads<R: Threads + Clock + AllocGlobal + Sync, F: Fn(usize) -> u64
     Ok((took, sum_of(wins.as_slice())))
 }
 
-/// The same in a thread for each hand, which it uses.
+/// Times the tries like `time_threads`, with one thread per hand.
 pub fn time_hands<R: Threads + Clock + Sync, H: Send + Drop, F: Fn(H) -> u64 + Sync>(
     rt: &R,
     hands: Vec<H>,

@@ -19,7 +19,7 @@ pub enum Command {
     Size,
 }
 
-/// How a call ended.
+/// The answer of an ended call.
 #[derive(Clone, Copy, Debug, PartialEq, Eq)]
 pub enum Answer {
     /// The value was appended at this place, or the broken place was filled with it.
@@ -58,15 +58,15 @@ pub struct Ended {
     pub answer: Answer,
 }
 
-/// What an ended call took.
+/// The work that an ended call took.
 #[derive(Clone, Copy, Debug, PartialEq, Eq)]
 pub struct Work {
     pub actor: u32,
     /// Its number among its actor's calls, which begin at 1.
     pub number: u64,
-    /// How many exchanges it lost: they found another size, and the call went on from there.
+    /// The number of exchanges that it lost: they found another size, and the call went on from there.
     pub lost: u64,
-    /// How many atomic steps it took.
+    /// The number of atomic steps that it took.
     pub steps: u64,
     /// The greatest number of segments that the places of one of its rounds touched.
     pub segments: u64,

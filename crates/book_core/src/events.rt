@@ -23,7 +23,7 @@ pub enum Event {
     RefusedMemory { actor: u32 },
 }
 
-/// What the vector replies to an event. Each size is the length at that moment.
+/// The reply of the vector to an event. Each size is the length at that moment.
 #[derive(Clone, Copy, Debug, PartialEq, Eq)]
 pub enum Reply {
     /// The places from `from` on, `n` of them, are the actor's.

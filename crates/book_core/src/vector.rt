@@ -11,12 +11,12 @@ use std::error::Error;
 use std::fmt;
 use std::marker::Model;
 
-/// Why an event was not applied. The list is unchanged after both.
+/// The reason why an event was not applied. The list is unchanged after both.
 #[derive(Clone, Copy, Debug, PartialEq, Eq)]
 pub enum BookError {
     /// There was no memory for the appended places.
     NoMemory = 1,
-    /// The event isn't legal where it stands.
+    /// The event isn't legal at its turn.
     NotLegal = 2,
 }
 

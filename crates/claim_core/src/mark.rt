@@ -4,7 +4,7 @@ ghost use base.Fml.{ftrue};
 
 use std::marker::{Model, PhantomData};
 
-/// Reads a mark off a value.
+/// A way to read a mark off a value.
 pub trait Marks<X> {
     ghost numbers: { X → List ℕ };
 }

@@ -80,7 +80,7 @@ impl Split<SeatView> for Blank {
     ghost right = { λ v. spent_view };
 }
 
-/// What a split keeps and what it gives away, chosen by each call.
+/// The parts that a split keeps and gives away, chosen by each call.
 pub trait Parts {
     ghost use Rattle.std.specs.Prelude.{ℕ, List};
 

@@ -33,7 +33,7 @@ fn words_around(size: u64) -> [u64; WORDS]
     words
 }
 
-/// Why a word was not opened.
+/// The reason why a word was not opened.
 #[derive(Clone, Copy, Debug, PartialEq, Eq)]
 pub enum OpenError {
     /// Out of memory.

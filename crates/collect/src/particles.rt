@@ -43,7 +43,7 @@ fn distance(a: Particle, b: Particle) -> u64 {
     x * x + y * y
 }
 
-/// The contact of two particles, if they touch.
+/// Returns the contact of two particles, if they touch.
 pub fn touch(particles: &[Particle], first: usize, second: usize) -> Option<Contact> {
     let distance = distance(*particles.get(first)?, *particles.get(second)?);
     if distance > REACH {

@@ -7,14 +7,14 @@ use anyhow::{Result, bail};
 use grow_core::{GrowError, Hand, Shared};
 use std::sync::Wait;
 
-/// How many workers find contacts.
+/// The number of workers that find contacts.
 pub const FINDERS: u32 = 4;
 
 // How often the reader walks over what is there.
 const WALKS: u32 = 20;
 
-/// Worker `number` finds the contacts of every fourth particle, and the last worker reads what is there so far. The answer is
-/// how many contacts it appended, or saw.
+/// Does the work of worker `number`: finds the contacts of every fourth particle, or, for the last worker,
+/// reads those that are there. Returns how many it appended or saw.
 pub fn work<R: Wait>(
     rt: &R,
     vector: &Shared<Contact>,

@@ -14,20 +14,20 @@ use std::env::{self, Env};
 use std::io;
 use sweep_core::{MOST_ITEMS, MOST_SCHEDULES};
 
-/// What a command line asks for.
+/// The request of a command line.
 #[derive(Debug, Drop)]
 pub enum Request {
-    /// To play the script on standard input.
+    /// Play the script on standard input.
     Play(Engine),
-    /// To hold a race of `workers` workers with `each` values each.
+    /// Hold a race of `workers` workers with `each` values each.
     Race { workers: u32, each: u32 },
-    /// To sweep `count` schedules of `len` items each, from a seed on.
+    /// Sweep `count` schedules of `len` items each, from a seed on.
     Sweep { seed: u64, count: u32, len: u32 },
-    /// To show this text: help, or the version.
+    /// Show this text: help, or the version.
     Show(String),
-    /// Nothing that there is. The text says why.
+    /// Refuse the command line; the text says why.
     Refuse(String),
-    /// There was no memory to read it.
+    /// Report that memory ran out while the command line was read.
     NoMemory,
 }
 
@@ -267,7 +267,7 @@ fn words<R: Env + AllocGlobal>(rt: &R) -> io::Result<Vec<String>> {
     Ok(words)
 }
 
-/// What the command line of this process asks for.
+/// Returns what the command line of this process asks for.
 pub fn requested<R: Env + AllocGlobal>(rt: &R) -> Request
     ensures { IsInRange result }
 {

@@ -7,7 +7,7 @@ use race_core::RaceError;
 use std::error::Error;
 use std::fmt;
 
-/// Why the program has not done what it was asked for.
+/// The reason why the program has not done what it was asked for.
 #[derive(Clone, Copy, Debug, PartialEq, Eq)]
 pub enum ProgramError {
     /// A script was not run, or a text was not written.
@@ -17,7 +17,7 @@ pub enum ProgramError {
 }
 
 impl ProgramError {
-    /// The program's exit status.
+    /// Returns the program's exit status.
     pub fn status(&self) -> u8
         ensures { result ≡ status_of self.now }
     {

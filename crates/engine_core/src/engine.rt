@@ -1,4 +1,4 @@
-//! From the bytes of a script to the bytes of its play: one engine with two plays.
+//! From the bytes of a script to the bytes of its play: one engine with three plays.
 ghost use Rattle.std.specs.Prelude.{◌≡◌, length, Some, IfOk};
 ghost use Rattle.book_core.specs.Commands.{HaveActors};
 ghost use Rattle.step_core.specs.machine.Work.{AreOfActors};
@@ -15,7 +15,7 @@ use std::alloc::{AllocError, Global};
 use std::io::{Read, Write};
 use step_core::{PlayError, Played, play_calls, play_in};
 
-/// What an item of a script plays.
+/// An engine, by what an item of a script plays.
 #[derive(Clone, Copy, Debug, PartialEq, Eq)]
 pub enum Engine {
     /// Each item is one whole call.

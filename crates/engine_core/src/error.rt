@@ -7,7 +7,7 @@ use std::alloc::AllocError;
 use std::error::Error;
 use std::fmt;
 
-/// Why a run ended without its whole text. `NoMemory` and `Read` may come for any input.
+/// The reason why a run ended without its whole text. `NoMemory` and `Read` may come for any input.
 #[derive(Clone, Copy, Debug, PartialEq, Eq)]
 pub enum RunError {
     /// The input is not a script. The fault is never `NoMemory`.

@@ -9,7 +9,7 @@ use std::fmt;
 #[derive(Clone, Copy)]
 pub enum Never {}
 
-/// Why a growth was refused. `V` is what was moved in, and `E` the cause of a refused construction.
+/// The reason why a growth was refused. `V` is what was moved in, and `E` the cause of a refused construction.
 #[derive(Drop)]
 pub enum GrowError<T, V, E> {
     /// There was no memory. Nothing was claimed.
@@ -25,7 +25,7 @@ pub enum GrowError<T, V, E> {
     Taken { place: u64, found: Found<T> },
 }
 
-/// Why `at` returns no value.
+/// The reason why `at` returns no value.
 #[derive(Debug, Drop)]
 pub enum AtError {
     /// The place is not below the size.
@@ -36,7 +36,7 @@ pub enum AtError {
     Broken(Spoilt),
 }
 
-/// Why a place was not mended.
+/// The reason why a place was not mended.
 #[derive(Drop)]
 pub enum MendError<T> {
     /// The place is not below the size.

@@ -12,7 +12,7 @@ use std::fmt;
 use std::marker::{Model, PhantomData};
 use table_core::Key;
 
-/// What a caller has seen of the vector's size, and its shares. Closing needs all shares, so once a hand is
+/// A caller's knowledge of the vector's size, and its shares. Closing needs all shares, so once a hand is
 /// dropped the vector can only be dropped.
 #[derive(Drop)]
 pub struct Hand<T> {

@@ -14,7 +14,7 @@ use std::alloc::{AllocError, Global};
 use std::marker::Model;
 use table_core::{Key, Table};
 
-/// What an exclusive owner holds of a vector. It lends no cell, so nothing of it changes through a `&`.
+/// The parts of a vector that an exclusive owner holds. It lends no cell, so nothing of it changes through a `&`.
 /// Contracts see it as a list of values and broken members (`None`), with its limit and the number of its
 /// segments.
 #[derive(Drop)]

@@ -7,7 +7,7 @@ use crate::vector::Shared;
 use std::iter::FusedIterator;
 use std::marker::Model;
 
-/// What the places of a vector show, in order. An item is `None` if its place shows no value: not yet, or
+/// The values that the places of a vector show, in order. An item is `None` if its place shows no value: not yet, or
 /// because it is broken.
 #[derive(Drop)]
 pub struct Published<'a, T> {

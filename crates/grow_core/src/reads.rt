@@ -19,7 +19,7 @@ pub struct At<'a, T> {
     pub placed: Placed<T>,
 }
 
-/// What a place shows to a look.
+/// The state of a place, as a look shows it.
 #[derive(Debug, Drop)]
 pub enum Shown<'a, T> {
     /// Nothing yet: it is not filled, and maybe not claimed.

@@ -144,7 +144,7 @@ impl Begun {
     }
 }
 
-/// What a call found at a place that another caller began.
+/// The state of a place that another caller began, as a call found it.
 #[derive(Debug, Drop)]
 pub enum Found<T> {
     /// Nothing yet: it is being filled.

@@ -1,6 +1,6 @@
 //! Tests of `seg_core`, `book_core`, `engine_core` and `sweep_core`, a module each.
 //!
-//! A crate with tests is proved once without and once with them. Here nothing is proved twice but a few lines.
+//! A crate with tests is proved once without and once with them. Here only a few lines are proved twice.
 #![tactic(auto)]
 
 #[cfg(test)]

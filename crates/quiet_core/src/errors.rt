@@ -2,7 +2,7 @@
 use std::error::Error;
 use std::fmt;
 
-/// Why the list did not grow. What was moved in comes back.
+/// The reason why the list did not grow. What was moved in comes back.
 #[derive(Clone, Copy, Debug, PartialEq, Eq)]
 pub enum QuietError {
     /// There was no memory. The members are unchanged.
@@ -31,7 +31,7 @@ impl fmt::Display for QuietError {
 
 impl Error for QuietError {}
 
-/// Why a place has no value to lend.
+/// The reason why a place has no value to lend.
 #[derive(Clone, Copy, Debug, PartialEq, Eq)]
 pub enum QuietAt {
     /// The place is not below the length, `size`.
@@ -56,7 +56,7 @@ impl fmt::Display for QuietAt {
 
 impl Error for QuietAt {}
 
-/// Why a member was not mended.
+/// The reason why a member was not mended.
 #[derive(Clone, Copy, Debug, PartialEq, Eq)]
 pub enum QuietMendError {
     /// The place is not below the length, `size`.

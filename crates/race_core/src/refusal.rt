@@ -8,7 +8,7 @@ use span_core::Refusal;
 use std::alloc::AllocError;
 use thiserror::Error;
 
-/// Why a race has no report. All workers that were started have ended.
+/// The reason why a race has no report. All workers that were started have ended.
 #[derive(Clone, Copy, Debug, PartialEq, Eq, Error)]
 pub enum RaceError {
     /// Memory was refused, or a thread could not be started.

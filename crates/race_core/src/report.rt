@@ -10,7 +10,7 @@ use quiet_core::Quiet;
 use std::alloc::{AllocError, Global};
 use std::fmt;
 
-/// What a race found.
+/// The findings of a race.
 #[derive(Clone, Copy, Debug, PartialEq, Eq)]
 pub struct RaceReport {
     /// The size of the vector at the end.

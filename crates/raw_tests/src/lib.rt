@@ -1,6 +1,6 @@
 //! Tests of `claim_core`, `cell_core` and `table_core`, a module each.
 //!
-//! A crate with tests is proved once without and once with them. Here nothing is proved twice but a few lines.
+//! A crate with tests is proved once without and once with them. Here only a few lines are proved twice.
 #![tactic(auto)]
 
 #[cfg(test)]

@@ -1,4 +1,4 @@
-//! A place of a vector, as one thread tells another of it.
+//! A place of a vector, as one thread reports it to another.
 ghost use Rattle.std.specs.Prelude.{◌≡◌};
 ghost use Rattle.grow_core.specs.Vector.{IsPlacedOf};
 
@@ -14,7 +14,7 @@ pub struct Note<'a> {
 }
 
 impl<'a> Note<'a> {
-    /// The value at the place.
+    /// Returns the value at the place.
     pub fn value(&self) -> &'a u64
         ensures { result.now ≡ self.now.placed.value }
     {

@@ -7,7 +7,7 @@ use std::alloc::{AllocError, AllocFailed};
 use std::error::Error;
 use std::fmt;
 
-/// Why a text was not read: its first fault, with the number of its line from 1, or out of memory.
+/// The reason why a text was not read: its first fault, with the number of its line from 1, or out of memory.
 #[derive(Clone, Copy, Debug, PartialEq, Eq)]
 pub enum ScriptError {
     NoMemory,

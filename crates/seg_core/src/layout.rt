@@ -7,7 +7,7 @@ use std::marker::Model;
 /// The greatest number of places that a vector may have.
 pub const MOST_PLACES: u64 = 1 << 40;
 
-/// How places are divided into segments: the first has 2^f places, with f from 1 to 8, and each other segment
+/// The division of places into segments: the first has 2^f places, with f from 1 to 8, and each other segment
 /// as many as all those before it.
 #[derive(Clone, Copy, Debug, PartialEq, Eq)]
 pub struct Layout {

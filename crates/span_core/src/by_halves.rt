@@ -9,7 +9,7 @@ use std::sync::atomic::{AtomicBool, Ordering};
 use std::thread;
 use std::thread::{Promise, Threads};
 
-/// What workers do together: one alone, and a range by its halves. A range of workers brings an `S`, and
+/// Work that workers do together: one alone, and a range by its halves. A range of workers brings an `S`, and
 /// gives a result `A`, or `E` if it has none.
 pub trait ForkJoin<S, A, E> {
     /// What a range may bring, by its first worker and its number of workers.

@@ -6,7 +6,7 @@ use std::alloc::AllocError;
 use std::error::Error;
 use std::fmt;
 
-/// Why a loop has no result. All workers that were started have ended.
+/// The reason why a loop has no result. All workers that were started have ended.
 #[derive(Clone, Copy, Debug, PartialEq, Eq)]
 pub enum ParError {
     /// There was no memory, or a thread couldn't be started.
@@ -34,7 +34,7 @@ impl fmt::Display for ParError {
 
 impl Error for ParError {}
 
-/// Why a range of workers has no result. All workers that were started have ended.
+/// The reason why a range of workers has no result. All workers that were started have ended.
 #[derive(Clone, Copy, Debug, PartialEq, Eq)]
 pub enum Refusal<E> {
     /// There was no memory, or a thread couldn't be started.

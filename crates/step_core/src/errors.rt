@@ -2,7 +2,7 @@
 use std::error::Error;
 use std::fmt;
 
-/// Why a schedule was not played. Refusals 2, 3 and 4 are looked for in this order, before anything is
+/// The reason why a schedule was not played. Refusals 2, 3 and 4 are looked for in this order, before anything is
 /// played; 1 comes last.
 #[derive(Clone, Copy, Debug, PartialEq, Eq)]
 pub enum PlayError {
@@ -36,7 +36,7 @@ impl fmt::Display for PlayError {
 
 impl Error for PlayError {}
 
-/// Why a machine was not made. Refusal 2 is looked for before 3, and 1 comes last.
+/// The reason why a machine was not made. Refusal 2 is looked for before 3, and 1 comes last.
 #[derive(Clone, Copy, Debug, PartialEq, Eq)]
 pub enum MakeError {
     NoMemory = 1,

@@ -54,7 +54,7 @@ pub fn stepping()
     ensures layout { PlaysKeepTheLayout }
 {}
 
-/// No call of any play takes more than it may, whether it has ended or is under way.
+/// States that no call of any play takes more than it may, ended or under way.
 ///
 /// It loses no more exchanges than others made the size larger since its first step. A round touches at most 40
 /// segments, and no more than the most that its places touch anywhere within the limit. A growth of n places takes a step, then two at each segment of a round and one at the round's end, and

@@ -5,7 +5,7 @@ ghost use Rattle.sweep_core.specs.Sums.{both, plus};
 use std::alloc::AllocError;
 use std::fmt;
 
-/// What a sweep found.
+/// The findings of a sweep.
 #[derive(Clone, Copy, Debug, PartialEq, Eq)]
 pub struct SweepReport {
     /// The number of schedules that were played.

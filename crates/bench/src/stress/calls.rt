@@ -57,7 +57,7 @@ pub struct Caller {
 }
 
 impl Caller {
-    /// The calls of a thread on the vector of this number.
+    /// Begins the calls of a thread on the vector with this number.
     pub fn new(alloc: Global, vector: u64, thread: u64) -> Caller {
         Caller {
             random: Random::new(vector, thread),
@@ -66,7 +66,7 @@ impl Caller {
         }
     }
 
-    /// A number up to this one.
+    /// Returns a random number up to this one.
     pub fn up_to(&mut self, most: u64) -> u64
         requires { most < 2 ^ 32 }
         ensures { result ≤ most }
@@ -74,7 +74,7 @@ impl Caller {
         self.random.below(most + 1)
     }
 
-    /// A number below the bound.
+    /// Returns a random number below the bound.
     pub fn below(&mut self, bound: usize) -> usize
         requires { 0 < bound }
         ensures { result < bound }
@@ -227,7 +227,7 @@ fn make_plain_call(
     Ok(())
 }
 
-/// One random call by the hand, in some kinds with the other one. The token is that of the thread's last push.
+/// Makes one random call with the hand, and for some kinds with `other` too. `token` is that of the thread's last push.
 pub fn make_call<R: Wait>(
     rt: &R,
     alloc: Global,

@@ -19,7 +19,7 @@ const SHARES: u32 = 1_000;
 // How many calls a thread makes.
 const CALLS: u64 = 2_000;
 
-/// What a thread begins with: the number of its vector, its own, and a hand.
+/// The start of a thread: the number of its vector, its own, and a hand.
 #[derive(Drop)]
 pub struct Job {
     pub vector: u64,
@@ -27,7 +27,7 @@ pub struct Job {
     pub hand: Hand<u64>,
 }
 
-/// What a thread leaves: a hand with all of its shares and runs, and the results of its calls.
+/// The outcome of a thread: a hand with all of its shares and runs, and the results of its calls.
 #[derive(Drop)]
 pub struct Outcome {
     pub hand: Hand<u64>,
@@ -110,7 +110,7 @@ fn call_by_many<R: Wait>(
     called
 }
 
-/// The calls of one thread.
+/// Runs the calls of one thread.
 pub fn run_job<R: Wait + AllocGlobal>(rt: &R, vector: &Shared<u64>, job: Job) -> Result<Outcome>
     requires ours { IsHandOf vector.now job.hand }
     ensures ours { IfOk result (λ outcome. IsHandOf vector.now outcome.hand) }

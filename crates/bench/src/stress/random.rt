@@ -9,11 +9,12 @@ use rand_pcg::Pcg32;
 pub struct Random(Pcg32);
 
 impl Random {
+    /// Makes the generator of a seed and a stream.
     pub fn new(seed: u64, stream: u64) -> Random {
         Random(Pcg32::new(seed, stream))
     }
 
-    /// A number below the bound.
+    /// Returns a random number below the bound.
     pub fn below(&mut self, bound: u64) -> u64
         requires { 0 < bound }
         ensures { result < bound }

@@ -18,9 +18,9 @@ pub struct Record {
     pub placed: Vec<Said>,
     /// What was read while others appended.
     pub read: Vec<Said>,
-    /// How many exchanges were lost.
+    /// The number of lost exchanges.
     pub lost: u64,
-    /// How many growths found no room.
+    /// The number of growths that found no room.
     pub full: u64,
 }
 
@@ -31,7 +31,7 @@ fn note(list: &mut Vec<Said>, place: u64, value: Option<u64>) -> Result<()> {
 }
 
 impl Record {
-    /// Of no call.
+    /// Makes an empty record.
     pub fn new(alloc: Global) -> Record {
         Record {
             placed: Vec::new(alloc),
@@ -41,17 +41,17 @@ impl Record {
         }
     }
 
-    /// A value was appended, or its construction refused.
+    /// Notes an appended value or a refused construction.
     pub fn note_placed(&mut self, place: u64, value: Option<u64>) -> Result<()> {
         note(&mut self.placed, place, value)
     }
 
-    /// A value was read, or a broken place.
+    /// Notes a value that was read, or a broken place.
     pub fn note_read(&mut self, place: u64, value: Option<u64>) -> Result<()> {
         note(&mut self.read, place, value)
     }
 
-    /// A growth was refused, for a reason that may come, and claimed nothing.
+    /// Notes a growth that was refused for an allowed reason and claimed nothing.
     pub fn note_refused<V: Drop, E: Drop>(&mut self, error: &GrowError<u64, V, E>) -> Result<()> {
         match error {
             GrowError::Moved { .. } => self.lost = self.lost.wrapping_add(1),
@@ -62,7 +62,7 @@ impl Record {
     }
 }
 
-/// How much there was of each kind, on all vectors together.
+/// The counts of each kind, on all vectors together.
 #[derive(Clone, Copy, Default)]
 pub struct Counts {
     vectors: u64,

@@ -7,7 +7,7 @@ use crate::slot::member;
 use std::marker::Model;
 use std::mem::replace;
 
-/// What an exclusive owner knows of a cell: the value that it always keeps, or its epoch, if it is broken
+/// An exclusive owner's knowledge of a cell: the value that it always keeps, or its epoch, if it is broken
 /// until that ends. It has no bytes.
 #[derive(Drop)]
 pub struct Member<T> {
@@ -52,7 +52,7 @@ impl<T> Member<T> {
     }
 }
 
-/// What is known of each cell of a row, in order. It has no bytes, at any length.
+/// The knowledge of each cell of a row, in order. It has no bytes, at any length.
 #[derive(Drop)]
 pub struct Row<T> {
     row: member::Row<T>,

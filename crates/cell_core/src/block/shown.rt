@@ -3,7 +3,7 @@ use crate::block::begun::Begun;
 use crate::block::placed::Placed;
 use crate::block::spoilt::Spoilt;
 
-/// What a call found in a cell that it did not get.
+/// The state of a cell that a call did not get.
 #[derive(Debug, Drop)]
 pub enum Found<T> {
     /// Nothing: nobody began it.
@@ -16,7 +16,7 @@ pub enum Found<T> {
     Broken(Spoilt),
 }
 
-/// What a cell shows.
+/// The state of a cell, as a look shows it.
 #[derive(Debug, Drop)]
 pub enum Look<'a, T> {
     /// Nothing: nobody began it.

@@ -39,7 +39,7 @@ pub enum Phase {
     Look { place: u64 },
 }
 
-/// What follows a step: the actor goes on to a phase, or its call ends.
+/// The continuation after a step: the actor goes on to a phase, or its call ends.
 #[derive(Clone, Copy, Debug, PartialEq, Eq)]
 pub enum Next {
     Goes(Phase),

@@ -115,7 +115,7 @@ fn list_from<R: AllocGlobal>(rt: &R, from: u64) -> Result<Vec<u64>, AllocError> 
     Ok(list)
 }
 
-// Appends a list of values: whether that was done, or nothing where there is no memory for the list.
+// Appends a list of values: whether that was done, or nothing if there is no memory for the list.
 fn grow_once<R: Wait + AllocGlobal>(
     rt: &R,
     vector: &Shared<u64>,
@@ -282,7 +282,7 @@ impl Load {
         print_nanoseconds(rt, took)
     }
 
-    /// Runs it in this many threads, and prints the nanoseconds that it took. The vector stands until they are
+    /// Runs it in this many threads, and prints the nanoseconds that it took. The vector is kept until they are
     /// printed, so that its memory can be seen from outside.
     pub fn print_time<R: Threads + Wait + Clock + Print + AllocGlobal + Sync>(
         self,

@@ -1,4 +1,4 @@
-//! Measures what calls cost, each beside a yardstick that does the least that the call could do, and puts the shared
+//! Measures what calls cost, each next to a yardstick that does the least that the call could do, and puts the shared
 //! vector under stress.
 //!
 //! - Without an argument it runs each thing shortly and prints that all of its wins were counted: the same whatever the

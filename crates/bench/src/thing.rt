@@ -27,7 +27,7 @@ pub enum Thing {
     Boxcar,
 }
 
-/// Things that are measured beside each other, the one in question first, and how often a thread tries.
+/// Things that are measured next to each other, the one in question first, and how often a thread tries.
 #[derive(Clone, Copy)]
 pub struct Group {
     pub things: [Thing; 3],

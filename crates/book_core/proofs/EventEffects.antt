@@ -33,7 +33,7 @@ IsWriteOf actor at (Pending mender) event reply = (mender ≡ actor) × (event �
 IsWriteOf actor at (Filled value) event reply = (event ≡ Finish actor at value) × (reply ≡ replies.Done)
 IsWriteOf actor at Broken event reply = (event ≡ Break actor at) × (reply ≡ replies.Done)
 
--- what an actor finds where it writes this cell: a broken place that it mends, or its own pending one
+-- what an actor finds when it writes this cell: a broken place that it mends, or its own pending one
 abbrev pub found_by : ℕ → Cell → Cell
 found_by actor (Pending mender) = Broken
 found_by actor (Filled value) = Pending actor
@@ -138,7 +138,7 @@ row_of v (RefusedFull actor n) =
     [ true ↦ not_legal v (RefusedFull actor n) | false ↦ same_row v (RefusedFull actor n) (replies.Full (length v.cells)) refl (λ _. refl) ]
 row_of v (RefusedMemory actor) = same_row v (RefusedMemory actor) replies.NoMemory refl (λ _. refl)
 
--- what an event does where it is legal
+-- what an event does if it is legal
 pub event_does : (v : CellList) (event : Event) (w : CellList) (reply : Reply)
     → apply_event v event ≡ Some (w, reply) → Does v event w reply
 unfolding Row

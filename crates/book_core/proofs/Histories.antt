@@ -29,7 +29,7 @@ same_after : (o : Option (CellList × Reply)) (mid other : CellList) (reply : Re
     → o ≡ Some (other, reply) → other ≡ mid
 same_after o mid other reply here there = ap (λ (after : CellList × Reply). after.0) (same_Some (other, reply) (mid, reply) (sym there ∙ here))
 
--- after the next event, what is left is legal exactly where it was with that event
+-- after the next event, what is left is legal exactly if it was with that event
 pub after_next : (old mid : CellList) (es : List (Event × Reply)) (i : ℕ) (d : Event × Reply) (whole : Type 0)
     → i < length es → (IsLegalFrom old (drop i es) ↔ whole)
     → apply_event old (get_or es i d).0 ≡ Some (mid, (get_or es i d).1)
@@ -110,7 +110,7 @@ runs_are_apart old mid new es fs run later first second is_first is_later =
 
 -- ---- Filled and broken cells
 
--- a cell stays where the event doesn't write its place
+-- a cell stays if the event doesn't write its place
 pub untouched : (v : CellList) (event : Event) (w : CellList) (reply : Reply) (place : ℕ) (cell : Cell)
     → Does v event w reply → ((write : WritesCell v event w reply) → write.at ≡ place → ⊥)
     → slice_get v.cells place ≡ Some cell → slice_get w.cells place ≡ Some cell

@@ -45,7 +45,7 @@ reply_of_look size (Some (Filled value)) = replies.Value value
 reply_of_look size (Some Broken) = replies.Broken
 reply_of_look size None = replies.OutOfRange size
 
--- The table of events: the list after the event and the reply, or nothing where the event isn't legal.
+-- The table of events: the list after the event and the reply, or nothing if the event isn't legal.
 abbrev pub apply_event : CellList → Event → Option (CellList × Reply)
 apply_event v (Claim actor n) =
     if nat_le (length v.cells + n) v.limit

@@ -1,4 +1,4 @@
--- Conditions under which programs and a schedule can be played.
+-- Conditions for playing programs and a schedule.
 use Rattle.std.specs.Prelude.{ℕ, ◌<◌, ◌==◌, List, length, filter, All}
 use Rattle.book_core.specs.declared.commands.Command.{Command}
 use Rattle.book_core.specs.declared.commands.Command.TheVariants.{Push, Grow, AtLeast, Fail, Mend, Read, Size}

@@ -88,7 +88,7 @@ pub record IsFilledOnce (es : List (Event × Reply)) (place value : ℕ) : Type 
   pub its : IsItsToFinish es place writer before
   pub once : finishers_of (writes_of place es) ≡ writer ∷ []
 
--- a cell that holds a value was filled with it once, by the owner of its place, or by who mended it
+-- a cell that holds a value was filled with it once, by the owner of its place, or by its mender
 abbrev pub ValuesHaveOneWriter : Type 0
 ValuesHaveOneWriter =
     (limit : ℕ) (new : CellList) (es : List (Event × Reply)) (place value : ℕ) → IsHistory (empty_list limit) es new

@@ -5,7 +5,7 @@
 pub enum Event {
     /// Appends `n` pending places.
     Claim { actor: u32, n: u64 },
-    /// Appends pending places up to the length `to`, none where the length is that already.
+    /// Appends pending places up to the length `to`, none if the length is that already.
     Raise { actor: u32, to: u64 },
     /// Fills one of the actor's pending places.
     Finish { actor: u32, place: u64, value: u64 },

@@ -106,7 +106,7 @@ EndedCallsLeaveNoDebt p =
 abbrev pub next_step : Play → Item → Step
 next_step p item = step_of p.at item.actor item.memory
 
--- the item's actor has this call under way, and stands so
+-- the item's actor has this call under way, and is in this state
 pub record IsUnderWay (p : Play) (item : Item) (state : Actor) (command : Command) : Type 0 where
   pub there : slice_get p.at.actors item.actor ≡ Some state
   pub call : slice_get state.program state.ended ≡ Some command
@@ -145,7 +145,7 @@ abbrev pub HasWholeRecords : List (List Command) → Play → ℕ → Type 0
 HasWholeRecords programs p actor =
     AreCalls actor (program_of programs actor) 0 (calls_of actor p.ended) (events_of actor p.events)
 
--- so it is while the actor stands at Load
+-- so it is while the actor is at Load
 abbrev pub HaveWholeRecordsAtLoad : List (List Command) → Play → Type 0
 HaveWholeRecordsAtLoad programs p =
     (actor : ℕ) (state : Actor) → slice_get p.at.actors actor ≡ Some state → state.phase ≡ Load

@@ -26,7 +26,7 @@ use Rattle.cell_core.specs.contracts.slot.steps.Crack as Crack
 abbrev pub token_val : Val
 token_val = vstruct (vcons (vstruct vnil) vnil)
 
--- a pointer beside a field that has no bytes
+-- a pointer next to a field that has no bytes
 abbrev pub pointer_val : Ptr → Val
 pointer_val p = vstruct (vcons (ptr_val p) (vcons (vstruct vnil) vnil))
 

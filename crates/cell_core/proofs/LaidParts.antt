@@ -126,7 +126,7 @@ module _ {M : Type 1} {𝓤 : Ura M} (𝓛 : Logic 𝓤) (R : RattleType) (token
       use2 𝓛 (‵ (along R (owned R b) (cs ++ c ∷ []) o)) (along_more (owned R b) cs c o e is) $ rewrite ! 1 (λ (i : ℕ). ‵ (froom (ty_array τ left) b i)) next refl $ rewrite ! 2 (λ (z : ℕ). ‵ (token (row_ty R z) p)) same refl $
       fjoin3 ! $ nothing ! $ fpack ! (InBlock p × FitsMemory R (m + left)) (λ _. ftrue) (so.0, subst (FitsMemory R) same so.1) $ done !))
 
-  -- the last cell, which leaves room where it is given back empty
+  -- the last cell, which leaves room if it is given back empty
   pub last_cell : (p : Ptr) (cs : List Names) (c : Names) (left e : ℕ) → e ≡ length cs * s + count_of p
       → ⟦ laid R token p (cs ++ c ∷ []) left ⟧
       ⊢ guard 𝓤 (length cs * s < 2 ^ 63) (⟦ still R (block_of p) c e ⟧ ∗ (⟦ rooms R (block_of p) e ⟧ -∗ ⟦ laid R token p cs (suc left) ⟧))

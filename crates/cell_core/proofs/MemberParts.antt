@@ -109,7 +109,7 @@ module _ {M : Type 1} {𝓤 : Ura M} (𝓛 : Logic 𝓤) (R : RattleType) where
       by ! (monad.fact_i 𝓤 (Some z ≡ Some x) (emp 𝓤) (ap Some same)))
   value_agrees None γ x = qed 𝓛 (‵ (unfilled γ) ∷ ‵ (written R γ x) ∷ []) ∵ updating ! $ use2 𝓛 (later (given ⊥ (raw (emp 𝓤)))) (never_filled γ x) $ await ! tt $ learn ! (λ z. absurd z)
 
-  -- the same, of any token: it says something where the names are one
+  -- the same, of any token: it says something if the names are one
   pub value_agrees_if : (v : Option R.Denot) (γ γ' : ℕ) (x : R.Denot) → ⟦ known_as R v γ ⟧ ∗ ⟦ written R γ' x ⟧ ⊢ H.⇛ (monad.fact 𝓤 (γ ≡ γ' → v ≡ Some x))
   value_agrees_if v γ γ' x = dite (ℕ_discrete γ γ')
       (λ same. subst (λ (k : ℕ). ⟦ known_as R v γ ⟧ ∗ ⟦ written R k x ⟧ ⊢ H.⇛ (monad.fact 𝓤 (γ ≡ k → v ≡ Some x))) same

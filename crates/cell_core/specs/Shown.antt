@@ -1,4 +1,4 @@
--- What the calls of a block answer of a cell.
+-- What the calls of a block return about a cell.
 use Rattle.std.specs.Prelude.{◌≡◌, ℕ}
 use Rattle.cell_core.specs.declared.block.shown.Found.{Found}
 use Rattle.cell_core.specs.declared.block.shown.Found.TheVariants as found

@@ -17,7 +17,7 @@ use denote.RattleType.{RattleType}
 use denote.Memory.{lone, part_at, shared_of}
 use denote.RawPtr.{Ptr, block_ptr, null_ptr}
 
--- the names of a cell: one gets the value that fills it, another is set where it breaks; and its epoch
+-- the names of a cell: one gets the value that fills it, another is set when it breaks; and its epoch
 pub record Names : Type 0 where
   pub value : GName
   pub breach : GName
@@ -142,7 +142,7 @@ module _ (R : RattleType) where
     known (Some x) = written γ.value x
     known None = ffalse
 
-    -- what the word shows: at 2 a value, above it that the cell is broken, and else nothing
+    -- what the word shows: at 2 a value, above it that the cell is broken, otherwise nothing
     abbrev pub sighted : ℕ → Option R.Denot → Fml
     sighted zero v = ftrue
     sighted (suc zero) v = ftrue
@@ -154,7 +154,7 @@ module _ (R : RattleType) where
     sights n = fex (Option R.Denot) (sighted n)
 
     module _ (t : Turn) (b o : ℕ) where
-      -- the room, with what it holds told to the turn
+      -- the room, with what it holds passed to the turn
       abbrev pub inside : Option R.Denot → Fml
       inside v = fsep (place v b (at o)) (fauth t.1 (content.code v))
 
@@ -202,7 +202,7 @@ module _ (R : RattleType) where
       abbrev pub Right : Fml
       Right = fsep settable (fsep empty (fbor t.0 Room))
 
-      -- what an exchange gains where it found n: the right to write, if it found what it sought; else what n shows
+      -- what an exchange gains if it found n: the right to write, if it found what it sought; otherwise what n shows
       abbrev pub gained : Bool → ℕ → Fml
       gained true n = Right
       gained false n = sights n

@@ -38,7 +38,7 @@ each_one : (F : SeatView → Type 0) (w : SeatView) → F w → (j : ℕ) (v : S
 each_one F w new zero v at = subst F (some-injective w v at) new
 each_one F w new (suc j) v at = absurd (some-ne-none v (sym at))
 
--- one hand with all shares fits where nothing was claimed
+-- one hand with all shares fits if nothing was claimed
 pub begins : (terms : Terms) → terms.base ≤ terms.limit
     → Fits terms.limit terms.base terms.base [] (first_view terms ∷ [])
 begins terms room =

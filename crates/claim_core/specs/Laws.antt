@@ -54,7 +54,7 @@ SeenRunsAreWithin =
     (hand : HandView) (index : ℕ) (run : Run) → SeesRun hand index run
     → (hand.of.base ≤ run.from) × (run.from + run.n ≤ seen_size hand)
 
--- a place is one of a run that was seen exactly where it lies in the run of that index
+-- a place is one of a run that was seen exactly if it lies in the run of that index
 abbrev pub SeenRunsHavePlaces : Type 0
 SeenRunsHavePlaces =
     (hand : HandView) (index : ℕ) (run : Run) (place : ℕ) → SeesRun hand index run

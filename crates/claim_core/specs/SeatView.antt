@@ -1,4 +1,4 @@
--- What one step tells the seat that makes it. Only proofs use it.
+-- What one step shows the seat that makes it. Only proofs use it.
 use Rattle.std.specs.Prelude.{◌≡◌, ℕ, ◌+◌, ◌-◌, ◌<◌, ◌≤◌, ◌==◌, nat_lt, nat_le, if◌then◌else◌, List, [], ◌∷◌, ◌++◌, length, MatchBool}
 use Rattle.std.specs.List.{All}
 use mathlib.Core.List.{IsPrefix}
@@ -16,11 +16,11 @@ first_view terms =
 abbrev pub spent_view : SeatView
 spent_view = record { limit = 0; base = 0; mark = []; seen = []; mine = []; shares = 0; one = []; other = [] }
 
--- the longer of two lists, and the first where both have one length
+-- the longer of two lists, and the first if both have one length
 abbrev pub longer : List ℕ → List ℕ → List ℕ
 longer xs ys = if nat_le (length ys) (length xs) then xs else ys
 
--- two views as one. It keeps both lists that were seen, until a load tells that both are prefixes of the longer
+-- two views as one. It keeps both lists that were seen, until a load shows that both are prefixes of the longer
 abbrev pub joined_view : SeatView → SeatView → SeatView
 joined_view v w =
     record {
@@ -93,12 +93,12 @@ loaded step v found w = Looks v.0 found w.0 × (w.1 ≡ v.1)
 abbrev pub settled : Step (Unit {0}) → Seated → ℕ → Seated → Type 0
 settled step v found w = Settles v.0 w.0 × (w.1 ≡ v.1)
 
--- an exchange: it wins where it finds what it expected
+-- an exchange: it wins if it finds what it expected
 abbrev pub exchanged : Step (Unit {0}) → Seated → ℕ → Seated → Type 0
 exchanged step v found w =
     MatchBool (found == step.first) (Claims v.0 found (step.second - step.first) w.0) (Looks v.0 found w.0) × (w.1 ≡ v.1)
 
--- a greatest-value step: it grows the size where it finds less
+-- a greatest-value step: it grows the size if it finds less
 abbrev pub raised : Step (Unit {0}) → Seated → ℕ → Seated → Type 0
 raised step v found w =
     MatchBool (nat_lt found step.first) (Claims v.0 found (step.first - found) w.0) (Looks v.0 found w.0) × (w.1 ≡ v.1)

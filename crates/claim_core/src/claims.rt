@@ -22,7 +22,7 @@ impl<A: Allocator> Word<A> {
         // Lost: nothing is claimed, and the hand has seen the size that comes with the refusal.
         ensures moved { IfErr result (λ lost. from < lost.size) }
         ensures seen { IfErr result (λ lost. SeesSize hand.old hand.new lost.size) }
-        // Nobody else can claim beside a whole hand.
+        // Nobody else can claim while one hand has all shares.
         ensures whole { IsWholeHand hand.old → from ≡ seen_size hand.old → IsOk result }
     {
         let shared = &self.table.shared;
@@ -48,7 +48,7 @@ impl<A: Allocator> Word<A> {
         // refusal.
         ensures enough { IfErr result (λ enough. to ≤ enough.size) }
         ensures seen { IfErr result (λ enough. SeesSize hand.old hand.new enough.size) }
-        // Nobody else can claim beside a whole hand.
+        // Nobody else can claim while one hand has all shares.
         ensures whole { IsWholeHand hand.old → IfOk result (λ run. run.from ≡ seen_size hand.old) }
         ensures whole_enough { IsWholeHand hand.old
             → IfErr result (λ enough. enough.size ≡ seen_size hand.old) }

@@ -157,7 +157,7 @@ impl<A: Allocator> Word<A> {
         requires ours { IsHandOf self.now hand.old }
         ensures seen { SeesSize hand.old hand.new result }
         ensures grows { seen_size hand.old ≤ result }
-        // Nobody else can claim beside a whole hand.
+        // Nobody else can claim while one hand has all shares.
         ensures whole { IsWholeHand hand.old → result ≡ seen_size hand.old }
     {
         let shared = &self.table.shared;

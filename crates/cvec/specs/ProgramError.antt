@@ -9,14 +9,14 @@ use Rattle.race_core.specs.Race.{race_number, IsFreeRefusal}
 use Rattle.cvec.specs.declared.error.ProgramError.{ProgramError}
 use Rattle.cvec.specs.declared.error.ProgramError.TheVariants.{Run, Race}
 
--- the exit status where a script is not run, or a text is not written
+-- the exit status if a script is not run, or a text is not written
 abbrev pub run_status : RunError → ℕ
 run_status (runs.Script fault) = 2
 run_status runs.NoMemory = 3
 run_status runs.Read = 4
 run_status runs.Write = 4
 
--- the exit status where a race is refused
+-- the exit status if a race is refused
 abbrev pub race_status : RaceError → ℕ
 race_status races.NoMemory = 3
 race_status races.BadSize = 6

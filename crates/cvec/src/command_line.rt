@@ -245,7 +245,7 @@ pub(crate) fn asked(alloc: Global, words: &[String]) -> Request
     }
 }
 
-// What becomes of a command line that the system did not give, as it does where a word is not UTF-8.
+// What becomes of a command line that the system did not give, as it does if a word is not UTF-8.
 pub(crate) fn not_given(alloc: Global, error: &io::Error) -> Request
     ensures memory { error_kind error.now ≡ io_kinds.OutOfMemory → result ≡ Request.NoMemory }
     ensures refused { IsRefused result }

@@ -36,7 +36,7 @@ fn tell<E: Write>(errors: &mut E, error: ProgramError) -> Result<(), WriteFault>
     write_bytes(errors, line.as_slice())
 }
 
-// Standard error may be closed or full. Then the status alone tells.
+// Standard error may be closed or full. Then only the status reports the error.
 pub(crate) fn told<E: Write>(errors: &mut E, ended: Result<(), ProgramError>) -> u8
     ensures { EndsAs ended result (E.contents errors.old) (E.contents errors.new) }
 {

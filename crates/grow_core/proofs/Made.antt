@@ -31,7 +31,7 @@ refused_by_map P Q (Moved size back) on it = tt
 refused_by_map P Q (Refused run made cause) on it = on (values_of made) cause it
 refused_by_map P Q (Taken place found) on it = tt
 
--- the first value is the answer for 0
+-- the first value is the result for 0
 pub first_made : {F T E : Type 0} (step : F → ℕ → Result T E → F → Type 0) → FirstIsForZero step
 first_made step maker [] last x made h = absurd (cc)
 first_made step maker (y ∷ ys) last x made h = let same : y ≡ x = cc in (made.0.1, subst (λ z. step maker 0 (Ok z) made.0.1) same made.1.1)
@@ -87,7 +87,7 @@ module _ {F T E : Type 0} (step : F → ℕ → Result T E → F → Type 0) (ma
   left_by_none (Refused run made cause) none = absurd none
   left_by_none (Taken place found) none = tt
 
-  -- the cause of a refused construction is the last answer of the maker
+  -- the cause of a refused construction is the last result of the maker
   pub cause_of_left : {X V : Type 0} (end : F) (result : Result X (GrowError T V E))
       → IfErr result (LeavesMaker step maker end) → IfErr result (IsRefusedBy (StopsAfter step maker))
   cause_of_left end (Ok x) left = tt
@@ -135,7 +135,7 @@ same_all P given on (x ∷ xs) all =
 
 module _ {F T E : Type 0} (step : F → ℕ → Result T E → F → Type 0) (P : T → Type 0) (maker : F)
     (each : (i : ℕ) (x : T) (next : F) → step maker i (Ok x) next → P x × (next ≡ maker)) where
-  -- what holds of each answer of a maker that stays as it is holds of all that it made
+  -- what holds of each result of a maker that stays as it is holds of all that it made
   pub all_made : (values : List T) (last : F) → Makes step maker values last → All P values × (last ≡ maker)
   all_made values last made =
       chained_keeps (λ (p : ℕ × F) x q. (q.0 ≡ p.0 + 1) × step p.1 p.0 (Ok x) q.1) (λ xs q. All P xs × (q.1 ≡ maker))

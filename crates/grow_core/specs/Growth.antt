@@ -96,7 +96,7 @@ IsDue vector n old (Moved size back) = IsOvertaken vector n old size
 IsDue vector n old (Refused run made cause) = Unit {0}
 IsDue vector n old (Taken place found) = Unit {0}
 
--- what each refusal leaves of the hand, and tells of the vector
+-- what each refusal leaves of the hand, and shows of the vector
 abbrev pub Leaves : {T V E : Type 0} → VectorView T → ℕ → HandView → HandView → GrowError T V E → Type 0
 Leaves vector n old new (NoMemory back) = LacksMemory vector n old new
 Leaves vector n old new (Full size back) = SeesSize old new size

@@ -16,12 +16,12 @@ key_at row segment = slice_index_or row segment None
 abbrev pub mark_of : TableView → List ℕ
 mark_of table = table.layout ∷ table.names
 
--- the layout that a mark tells
+-- the layout that a mark gives
 abbrev pub layout_in : List ℕ → ℕ
 layout_in [] = 0
 layout_in (f ∷ names) = f
 
--- the names that a mark tells
+-- the names that a mark gives
 abbrev pub names_in : List ℕ → List ℕ
 names_in [] = []
 names_in (f ∷ names) = names

@@ -13,21 +13,21 @@ use Rattle.grow_core.specs.Grown.{GrownView, IsGrownOf, values_of}
 use Rattle.grow_core.specs.Growth.{Grows, WonRun, IsFoundAt}
 
 -- asked for 0, 1, .. in turn, the maker made these values, and is then the last one. A step of it has the maker before, the number,
--- the answer and the maker after
+-- the result and the maker after
 abbrev pub Makes : {F T E : Type 0} → (F → ℕ → Result T E → F → Type 0) → F → List T → F → Type 0
 Makes {F} step maker values last =
     FoldsTo {P = ℕ × F} (λ p x q. (q.0 ≡ p.0 + 1) × step p.1 p.0 (Ok x) q.1) (0, maker) values (length values, last)
 
--- the first of the values that a maker made is its answer for 0
+-- the first of the values that a maker made is its result for 0
 abbrev pub FirstIsForZero : {F T E : Type 0} → (F → ℕ → Result T E → F → Type 0) → Type 0
 FirstIsForZero {F} {T} step =
     (maker : F) (values : List T) (last : F) (x : T) → Makes step maker values last → slice_get values 0 ≡ Some x → (next : F) × step maker 0 (Ok x) next
 
--- the maker made these values, its next answer was the cause, and it is then `end`: it was not asked again
+-- the maker made these values, its next result was the cause, and it is then `end`: it was not asked again
 abbrev pub StopsAt : {F T E : Type 0} → (F → ℕ → Result T E → F → Type 0) → F → List T → E → F → Type 0
 StopsAt {F} step maker values cause end = (last : F) × Makes step maker values last × step last (length values) (Err cause) end
 
--- the maker made these values, and its next answer was the cause
+-- the maker made these values, and its next result was the cause
 abbrev pub StopsAfter : {F T E : Type 0} → (F → ℕ → Result T E → F → Type 0) → F → List T → E → Type 0
 StopsAfter {F} step maker values cause = (last : F) × Makes step maker values last × ((end : F) × step last (length values) (Err cause) end)
 

@@ -76,7 +76,7 @@ impl<T: Drop> Shared<T> {
         Ok((Claimed { run, tokens }, value))
     }
 
-    // As `claim_run`, and it tries again where another caller was first.
+    // Like `claim_run`, and it retries if another caller was first.
     pub(crate) fn claim_again<R: Wait, V, E>(
         &self,
         rt: &R,
@@ -104,8 +104,8 @@ impl<T: Drop> Shared<T> {
         unreachable!()
     }
 
-    // One try to win `n` places from the size that the hand has seen, whose segments it installs first. What was moved
-    // in is handed on.
+    // One try to win `n` places from the size that the hand has seen, whose segments it installs first. `value` is
+    // passed through.
     pub(crate) fn claim<V, E>(
         &self,
         hand: &mut Hand<T>,

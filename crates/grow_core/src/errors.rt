@@ -66,7 +66,7 @@ impl<T, V, E> fmt::Display for GrowError<T, V, E> {
     }
 }
 
-// Shows the refusal by name, and neither the values nor the cause, which need not be such as can be shown.
+// Shows the refusal by name, and neither the values nor the cause, which need not implement `Debug`.
 impl<T, V, E> fmt::Debug for GrowError<T, V, E> {
     fn fmt<W: fmt::Write>(&self, f: &mut fmt::Formatter<W>) -> fmt::Result {
         match self {

@@ -71,7 +71,7 @@ impl<T: Drop> Shared<T> {
         self.append_by(rt, hand, values, &mut |_placed: Placed<T>| {})
     }
 
-    // As `append`. The token of each place goes to `keep` as the place is filled: the places have the
+    // Like `append`. The token of each place goes to `keep` as the place is filled: the places have the
     // values in order.
     fn append_by<R: Wait, K: FnMut(Placed<T>)>(
         &self,
@@ -128,7 +128,7 @@ impl<T: Drop> Shared<T> {
         Ok(Grown { run, tokens })
     }
 
-    // As `fill_run`, with each token given to `keep`.
+    // Like `fill_run`, with each token given to `keep`.
     fn place_run<K: FnMut(Placed<T>)>(
         &self,
         hand: &Hand<T>,

@@ -79,7 +79,7 @@ pub(crate) fn put_keys(row: &mut Keys, other: &Keys)
     }
 }
 
-// The key of the segment, which is then in the row. Where it is not there yet, the segment is installed first.
+// The key of the segment, which is then in the row. If it is not there yet, the segment is installed first.
 #[inline(always)]
 pub(crate) fn key_for<T: Drop>(
     table: &Table<T>,
@@ -100,7 +100,7 @@ pub(crate) fn key_for<T: Drop>(
     }
 }
 
-// Sees to it that the segment is installed, and puts its key into the row.
+// Installs the segment unless it is there, and puts its key into the row.
 #[cold]
 fn install_one<T: Drop>(table: &Table<T>, keys: &mut Keys, segment: u32) -> Result<Key, AllocError>
     requires layout { IsLayout table.now.layout }
@@ -116,7 +116,7 @@ fn install_one<T: Drop>(table: &Table<T>, keys: &mut Keys, segment: u32) -> Resu
     Ok(key)
 }
 
-// Sees to it that the segments of a run are installed, and puts their keys into the row.
+// Installs the segments of a run unless they are there, and puts their keys into the row.
 pub(crate) fn install<T: Drop>(
     table: &Table<T>,
     keys: &mut Keys,

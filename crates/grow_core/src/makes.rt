@@ -41,7 +41,7 @@ impl<T: Drop> Shared<T> {
         self.try_make(hand, n, &mut make)
     }
 
-    // As `try_grow_with`. What the maker is afterwards says that it was asked for these values alone.
+    // Like `try_grow_with`. What the maker is afterwards says that it was asked for these values alone.
     fn try_make<E: Drop, F: FnMut(u64) -> Result<T, E>>(
         &self,
         hand: &mut Hand<T>,
@@ -80,7 +80,7 @@ impl<T: Drop> Shared<T> {
         self.make_again(rt, hand, n, &mut make)
     }
 
-    // As `try_make`, and it tries again when another caller was first.
+    // Like `try_make`, and it retries if another caller was first.
     fn make_again<R: Wait, E: Drop, F: FnMut(u64) -> Result<T, E>>(
         &self,
         rt: &R,

@@ -1,4 +1,4 @@
-//! How a broken place is filled after all.
+//! Mending: filling a broken place.
 ghost use Rattle.std.specs.Prelude.{◌≡◌, ◌≢◌, ◌<◌, IfOk, IfErr, IsErrAnd};
 ghost use Rattle.claim_core.specs.Hand.{seen_size};
 ghost use Rattle.cell_core.specs.Block.{IsMended, block_len};
@@ -84,7 +84,7 @@ impl<T> Shared<T> {
         }
     }
 
-    // The same of a place that was claimed, or not even that. Nothing is there yet where its segment is not.
+    // The same of a place that was claimed, or not even that. Nothing is there yet if its segment is not.
     fn take_claimed(&self, place: u64) -> Result<(Key, Pen<'_, T>), MendError<T>>
         requires { place < limit_of self.now }
         ensures taken { IfOk result (IsTakenAt self.now.segments place) }

@@ -54,7 +54,7 @@ impl<T: Drop> Shared<T> {
         self.make_up_to(hand, size, &mut make)
     }
 
-    // As `grow_to_at_least`. What the maker is afterwards says that it was asked for these values alone.
+    // Like `grow_to_at_least`. What the maker is afterwards says that it was asked for these values alone.
     fn make_up_to<E: Drop, F: FnMut(u64) -> Result<T, E>>(
         &self,
         hand: &mut Hand<T>,

@@ -121,7 +121,7 @@ impl<T> Shared<T> {
         }
     }
 
-    // What the cell of a place shows: nothing either where its segment is not installed yet.
+    // What the cell of a place shows: nothing either if its segment is not installed yet.
     fn look_into(&self, place: u64) -> Shown<'_, T>
         requires { place < limit_of self.now }
         ensures { IsShownAt self.now place result }

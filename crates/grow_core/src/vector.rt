@@ -80,7 +80,7 @@ impl<T> Shared<T> {
         ensures seen { SeesSize hand.old hand.new result }
         ensures grows { seen_size hand.old ≤ result }
         ensures opened { length self.now.opened ≤ result }
-        // Nobody else can append beside a whole hand.
+        // Nobody else can append while one hand has all shares.
         ensures whole { IsWholeHand hand.old → result ≡ seen_size hand.old }
     {
         self.laws();

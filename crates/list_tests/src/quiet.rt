@@ -166,7 +166,7 @@ fn pushes_on(list: &mut Quiet<u64>) -> bool {
     measures(list, 1_048_577, 1 << 21) && list.reserve(3_000_000) == Ok(())
 }
 
-// Tests whether five values stand where a million did. The capacity stays.
+// Tests whether five values are where a million were. The capacity stays.
 fn assigns_after_a_million(list: &mut Quiet<u64>, five: Vec<u64>) -> bool {
     list.assign(five).is_ok() && measures(list, 5, 1 << 22) && has(list, 4, 9)
 }

@@ -68,7 +68,7 @@ fn each_event_has_its_reply(rt: HostRuntime) -> Result<(), Fail> {
     Ok(())
 }
 
-// None of them is legal where actor 0 has claimed two places of a list with a limit of 3.
+// None of them is legal if actor 0 has claimed two places of a list with a limit of 3.
 const REFUSED: [Event; 8] = [
     Event::Claim { actor: 0, n: 2 },
     Event::Claim {
@@ -300,7 +300,7 @@ fn check_refuses_each_event_that_is_not_legal(rt: HostRuntime) -> Result<(), Fai
     Ok(())
 }
 
-// Claims of one place each, and then the places are finished, the last one by another actor where `owned` is false.
+// Claims of one place each, and then the places are finished, the last one by another actor if `owned` is false.
 fn long_history(
     alloc: Global,
     places: u64,

@@ -58,7 +58,7 @@ module _ {T : Type 0} where
     pub layout : new.layout ≡ old.layout
     pub capacity : old.capacity ≤ new.capacity
 
-  -- two members are equal where both are broken, or both are equal values
+  -- two members are equal if both are broken, or both are equal values
   abbrev pub same_members : (T → T → Bool) → QuietList T → QuietList T → Bool
   same_members eq a b = pointwise (option_eq eq) a.members b.members
 
@@ -70,6 +70,6 @@ module _ {T : Type 0} where
   abbrev pub partial_order : (T → T → Option Ordering) → QuietList T → QuietList T → Option Ordering
   partial_order cmp a b = slice_partial_cmp (option_partial_cmp cmp) a.members b.members
 
-  -- the same where any two values can be compared
+  -- the same if any two values can be compared
   abbrev pub order : (T → T → Ordering) → QuietList T → QuietList T → Ordering
   order cmp a b = slice_cmp (option_cmp cmp) a.members b.members

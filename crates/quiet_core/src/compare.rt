@@ -45,7 +45,7 @@ fn partial_order_of<T: PartialOrd>(
     }
 }
 
-// The same where any two values can be compared.
+// The same if any two values can be compared.
 fn order_of<T: Ord>(mut mine: Members<'_, T>, mut theirs: Members<'_, T>) -> Ordering
     ensures { result ≡ slice_cmp (option_cmp T.cmp) mine.entry theirs.entry }
 {

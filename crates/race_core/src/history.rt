@@ -74,7 +74,7 @@ fn push_events(history: &mut Vec<(Event, Reply)>, win: Win) -> Result<(), AllocE
     Ok(())
 }
 
-// Tests whether what was won is a history of the sequential vector: `check` tells.
+// Tests whether what was won is a history of the sequential vector, by `check`.
 pub(crate) fn is_legal(
     alloc: Global,
     size: u64,

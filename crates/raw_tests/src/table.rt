@@ -147,7 +147,7 @@ fn has_a_key_at_last(table: &Table<u64>, k: u32, installed: u32) -> bool
     table.install_key(k).is_ok() || table.installed() == installed && table.install_key(k).is_ok()
 }
 
-// It passes too where any one allocation is made to fail.
+// It passes too if any one allocation is made to fail.
 #[test]
 fn a_refused_install_sets_nothing(rt: HostRuntime) {
     let table = Table::new(rt.alloc());

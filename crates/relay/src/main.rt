@@ -17,7 +17,7 @@ use std::thread;
 
 const COUNT: u64 = 1000;
 
-// Appends the squares from 1 on, and sends a note of each. It ends early where the vector is full or nobody listens.
+// Appends the squares from 1 on, and sends a note of each. It ends early if the vector is full or nobody listens.
 fn send_squares<'a, R: Wait>(
     rt: &R,
     vector: &'a Shared<u64>,

@@ -64,7 +64,7 @@ abbrev pub is_number : List ℕ → Bool
 is_number [] = false
 is_number (d ∷ ds) = if d == 48 then length ds == 0 else (is_ascii_digit d && list_all is_ascii_digit ds)
 
--- the number below 2^64 that the bytes spell; otherwise says what it is where they spell none
+-- the number below 2^64 that the bytes spell; `otherwise` is the fault if they spell none
 unfoldable pub number_or : Fault → List ℕ → Result ℕ Fault
 number_or otherwise word =
     if is_number word

@@ -1,4 +1,4 @@
--- What the parts of the reader answer: only its own functions and proofs cite these.
+-- What the parts of the reader return: only its own functions and proofs cite these.
 use Rattle.std.specs.Prelude.{◌≡◌, ℕ, ◌<◌, true, false, List, [], ◌∷◌, length, drop, Result, Ok, Err}
 use Rattle.script_core.specs.declared.command.Words.{Words}
 use Rattle.script_core.specs.declared.command.Words.TheVariants.{One, Two, Three, Four, More}

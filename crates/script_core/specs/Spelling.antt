@@ -48,7 +48,7 @@ actors_text [] programs = []
 actors_text (name ∷ names) [] = []
 actors_text (name ∷ names) (program ∷ programs) = actor_line name program ++ (codes "\n" ++ actors_text names programs)
 
--- an item after a space: the actor's name, and a mark where its memory is refused
+-- an item after a space: the actor's name, and a mark if its memory is refused
 abbrev pub item_text : List ℕ → Item → List ℕ
 item_text names item = codes " " ++ slice_index names item.actor ∷ (if item.memory then [] else codes "!")
 
@@ -80,7 +80,7 @@ IsProgram program = (1 ≤ length program) × (length program ≤ 1000) × All I
 abbrev pub IsName : ℕ → Type 0
 IsName name = (97 ≤ name) × (name ≤ 122)
 
--- what a script has to be, in a text with a layout line, or without one where the layout is 1, and with a last LF or without
+-- what a script has to be, in a text with a layout line, or without one if the layout is 1, and with a last LF or without
 pub record IsScript (s : Script) (with_layout last_lf : Bool) : Type 0 where
   pub limit : (1 ≤ s.limit) × (s.limit ≤ 65536)
   pub first : (1 ≤ s.first) × (s.first ≤ 8) × (with_layout ≡ false → s.first ≡ 1)

@@ -1,4 +1,4 @@
--- The lines that are printed, and what a writer holds where one was written in part.
+-- The lines that are printed, and what a writer holds if one was written in part.
 use Rattle.std.specs.Prelude.{ℕ, List, ◌∷◌, ◌++◌, length, take, Option, codes, decimal}
 use Rattle.std.specs.Io.KnownBytes.{Appends}
 use Rattle.std.specs.List.{flat_map}

@@ -15,7 +15,7 @@ pub enum ScriptError {
     Empty { line: u64 },
     /// The limit is not a number, or not from 1 to 65,536.
     BadLimit { line: u64 },
-    /// The line is of no kind that may stand here.
+    /// The line is of no kind that is allowed here.
     BadLine { line: u64 },
     /// A name is not one letter from a to z, or an item names no actor of the script.
     BadName { line: u64 },

@@ -8,7 +8,7 @@ ghost use Rattle.script_core.specs.Grammar.{is_number, number_or};
 use crate::error::Fault;
 
 #[tactic(auto, unfolding(crate::specs::Grammar::number_or))]
-// The number that the bytes spell, below 2^64. Where they spell none, the fault is `otherwise`.
+// The number that the bytes spell, below 2^64. If they spell none, the fault is `otherwise`.
 pub(crate) fn number(word: &[u8], otherwise: Fault) -> Result<u64, Fault>
     ensures { result ≡ number_or otherwise word.now }
 {

@@ -27,7 +27,7 @@ pub fn read(alloc: Global, text: &[u8]) -> Result<Script, ScriptError>
     ensures ok { IfOk result (λ s. script_of text.now ≡ Ok s) }
     ensures fault { IfErr result (λ e. e ≢ ScriptError.NoMemory → script_of text.now ≡ Err e) }
 
-    // In the grammar's own words: a text is read exactly where it is the spelling of a script.
+    // In the grammar's own words: a text is read exactly if it is the spelling of a script.
     ensures found { IfOk result (λ s.
         (with_layout last_lf : Bool) × IsScript s with_layout last_lf
         × (text.now ≡ text_of s with_layout last_lf)) }

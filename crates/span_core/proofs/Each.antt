@@ -40,7 +40,7 @@ module _ {X : Type 0} where
       one_back R n k y r = let same : n + 1 + k ≡ n + suc k = omega arith in let M : ℕ → Type 0 = λ m. R m y in subst M same r
 
 module _ {X Y : Type 0} (v : X → Y) (none : X) (xs : List X) where
-  -- one answer to each item from this index on, and it is what v makes of the item
+  -- one result for each item from this index on, and it is what v makes of the item
   pub EachFrom-map : (i : ℕ) (ys : List Y) → EachFrom (λ k y. y ≡ v (get_or xs k none)) i ys → i + length ys ≡ length xs
       → ys ≡ map v (drop i xs)
   EachFrom-map i [] each long = let end = drop_all i xs (omega (arith, long)) in ap (map v) (sym end)

@@ -42,12 +42,12 @@ module _ {U : Type 0} (post : U → U → U → Type 0) (is_in : U → Type 0) (
       ∙ ap (λ y. op (fold op unit xs) y) (right op joins)
       ∙ sym (fold-append op unit xs ys ∙ fold-from op joins (fold op unit xs) ys joins.inside (fold-stays op joins unit xs joins.inside xs-in) ys-in)
 
-  -- one answer is the fold of itself
+  -- one result is the fold of itself
   pub folds-one : (x : U) → is_in x → IsFold post is_in unit (x ∷ []) x
   folds-one x inside op joins = sym (joins.from_left x inside)
 
 module _ {U : Type 0} (post : U → U → U → Type 0) (is_in : U → Type 0) (P : ℕ → U → Type 0) where
-  -- one answer is a sum of its place
+  -- one result is a sum of its place
   pub sums-one : (place : ℕ) (x : U) → P place x → is_in x → SumsUpTo post is_in P place (place + 1) (Some x)
   sums-one place x p inside = (x ∷ [], (p, tt), omega arith, (inside, tt), (inside, λ unit. folds-one post is_in unit x inside))
 

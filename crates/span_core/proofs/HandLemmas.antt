@@ -84,7 +84,7 @@ each-all P Q more i [] each = tt
 each-all P Q more i (x ∷ xs) each = (more i x each.0, each-all P Q more (i + 1) xs each.1)
 
 module _ {A E : Type 0} (gives : ℕ → HandView → A → Type 0) (refuses : ℕ → HandView → E → Type 0) (may_refuse : ℕ → Type 0) where
-  -- why a range has no answer, of a larger hand
+  -- why a range has no result, of a larger hand
   pub range-more : (a b : HandView) (first count : ℕ) (e : Refusal E) → IsPartOf a b
       → IsOfRange (SaysOfPart gives a) (SaysOfPart refuses a) may_refuse first count e
       → IsOfRange (SaysOfPart gives b) (SaysOfPart refuses b) may_refuse first count e

@@ -58,7 +58,7 @@ module _ {A V E : Type 0} (items : V → List A) where
       both
 
 module _ {A V E : Type 0} (items : V → List A) (gives : ℕ → A → Type 0) (refuses : ℕ → E → Type 0) (may_refuse : ℕ → Type 0) where
-  -- why the lower half has no answer is why the whole has none
+  -- why the lower half has no result is why the whole has none
   lower-of-range : (first low high : ℕ) (e : Refusal E) → IsOfRange gives refuses may_refuse first low e
       → IsOfRange gives refuses may_refuse first (low + high) e
   lower-of-range first low high NoMemory is = is
@@ -73,7 +73,7 @@ module _ {A V E : Type 0} (items : V → List A) (gives : ℕ → A → Type 0) 
   upper-of-range first low middle high xs (Worker e) meets answers is =
       upper-refused gives (λ worker. refuses worker e) first low middle high xs meets answers is
 
-  -- why both halves together have no answer
+  -- why both halves together have no result
   pub both-refused : (first low middle high : ℕ) (lower upper all : Result V (Refusal E)) → first + low ≡ middle
       → IfOk lower (λ v. EachGives gives first low (items v))
       → IfErr lower (IsOfRange gives refuses may_refuse first low)

@@ -55,7 +55,7 @@ module _ {A V : Type 0} (items : V → List A) (P : ℕ → A → Type 0) (count
       share-gives P count workers next x (items left) (subst Q taken row.0)
 
 module _ {A : Type 0} (gives : Interval → A → Type 0) (leaves : List Interval) where
-  -- one answer of each number of the leaves is one answer to each leaf
+  -- one result of each number of the leaves is one result for each leaf
   pub zip-given : (i : ℕ) (rest : List Interval) (answers : List A)
       → ((k : ℕ) → slice_get leaves (i + k) ≡ slice_get rest k) → length answers ≡ length rest
       → EachFrom (GivesLeaf gives leaves) i answers → AllZip gives rest answers

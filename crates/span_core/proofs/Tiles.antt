@@ -21,7 +21,7 @@ leaves-tile s xs (halves span lower upper cut p q) =
     tiles-append span.from (middle_of span) span.to lower upper (leaves-tile (lower_half span) lower p) (leaves-tile (upper_half span) upper q)
 
 module _ {U V : Type 0} (items : V → List U) (P : ℕ → U → Type 0) where
-  -- one answer for each place of the leaf
+  -- one result for each place of the leaf
   abbrev pub Covers : Interval → V → Type 0
   Covers leaf part = EachFrom P leaf.from (items part) × (leaf.from + length (items part) ≡ leaf.to)
 

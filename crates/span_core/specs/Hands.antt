@@ -41,7 +41,7 @@ KeepHands {T} {R} post vector workers =
     (shown : Bor (VectorView T)) (worker : ℕ) (old : MutBor HandView) (result : R) (new : MutBor HandView) → shown.now ≡ vector
     → worker < workers → IsNewHandOf shown.now.word old.now → post shown worker old result new → KeepsShares old.now new.now
 
--- a worker may answer so, and leave this hand
+-- a worker may return this, and leave this hand
 abbrev pub Leaves : {T R : Type 0} → (Bor (VectorView T) → ℕ → MutBor HandView → R → MutBor HandView → Type 0) → VectorView T → ℕ → HandView → R → Type 0
 Leaves {T} {R} post vector worker own result =
     (shown : Bor (VectorView T)) × (old : MutBor HandView) × (new : MutBor HandView) × (shown.now ≡ vector)
@@ -69,7 +69,7 @@ abbrev pub HaveAnswered : {A : Type 0} → (ℕ → HandView → A → Type 0) �
 HaveAnswered gives old new workers answers =
     (mine : List ℕ) × (new.mine ≡ old.mine ++ mine) × SayInTurn gives new 0 answers mine × (length answers ≡ workers)
 
--- what is said of an answer, and of a refusal
+-- what is said of a result, and of a refusal
 abbrev pub of_answer : {A E : Type 0} → (ℕ → HandView → Result A E → Type 0) → ℕ → HandView → A → Type 0
 of_answer says worker own answer = says worker own (Ok answer)
 

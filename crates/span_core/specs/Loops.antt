@@ -1,4 +1,4 @@
--- What loops over a span answer.
+-- What loops over a span return.
 use Rattle.std.specs.Prelude.{◌≡◌, ℕ, ◌+◌, ◌%◌, ◌^◌, ◌<◌, Option, None, Some, List, [], ◌∷◌, length, map, fold, slice_index_or}
 use Rattle.std.specs.Option.{option_copied, MatchOption}
 use Rattle.std.specs.Borrow.{Bor}
@@ -6,12 +6,12 @@ use Rattle.span_core.specs.Each.{EachFrom}
 use Rattle.span_core.specs.Span.{Interval}
 
 module _ {T U : Type 0} where
-  -- an answer to a place and the member there
+  -- a result for a place and the member there
   abbrev pub AnswersAt : (ℕ → Option (Bor T) → U → Type 0) → List (Option T) → ℕ → U → Type 0
   AnswersAt post members place answer =
       (item : Option (Bor T)) × (option_copied item ≡ slice_index_or members place None) × post place item answer
 
-  -- one answer to each place of the span, in order
+  -- one result for each place of the span, in order
   abbrev pub AnswersOver : (ℕ → Option (Bor T) → U → Type 0) → List (Option T) → Interval → List U → Type 0
   AnswersOver post members span answers =
       EachFrom (AnswersAt post members) span.from answers × (span.from + length answers ≡ span.to)
@@ -48,7 +48,7 @@ abbrev pub IsFold : {U : Type 0} → (U → U → U → Type 0) → (U → Type 
 IsFold {U} post is_in unit answers result = (op : U → U → U) → Joins post is_in unit op → result ≡ fold op unit answers
 
 module _ {T U : Type 0} where
-  -- the fold of one answer to each place of the span, in order
+  -- the fold of one result for each place of the span, in order
   abbrev pub FoldsOver : (ℕ → Option (Bor T) → U → Type 0) → (U → U → U → Type 0) → (U → Type 0) → List (Option T)
       → Interval → U → U → Type 0
   FoldsOver f_post join_post is_in members span unit result =
@@ -71,7 +71,7 @@ module _ {U : Type 0} (post : U → U → U → Type 0) (is_in : U → Type 0) w
   Merges (Some a) None result = result ≡ Some a
   Merges (Some a) (Some b) result = (r : U) × (result ≡ Some r) × post a b r × is_in r
 
-  -- the sum of one answer to each place from one on and before another
+  -- the sum of one result for each place from one on and before another
   abbrev pub SumsUpTo : (ℕ → U → Type 0) → ℕ → ℕ → Option U → Type 0
   SumsUpTo P from to sum =
       (answers : List U) × EachFrom P from answers × (from + length answers ≡ to) × Within answers × Sums answers sum

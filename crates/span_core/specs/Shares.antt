@@ -3,7 +3,7 @@ use Rattle.std.specs.Prelude.{◌≡◌, ℕ, ◌+◌, ◌*◌, ◌≤◌, Some,
 use Rattle.span_core.specs.Each.{EachFrom}
 use Rattle.span_core.specs.Span.{Interval}
 
--- there is a leaf of this number, and the answer is one that it may have
+-- there is a leaf of this number, and the result is one that it may have
 abbrev pub GivesLeaf : {A : Type 0} → (Interval → A → Type 0) → List Interval → ℕ → A → Type 0
 GivesLeaf gives leaves index answer = (leaf : Interval) × (slice_get leaves index ≡ Some leaf) × gives leaf answer
 

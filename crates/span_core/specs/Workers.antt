@@ -8,7 +8,7 @@ use Rattle.span_core.specs.Each.{EachFrom}
 abbrev pub AreReadyBy : (ℕ → Type 0) → (ℕ → Type 0) → Type 0
 AreReadyBy through ready = (worker : ℕ) → through worker → ready worker
 
--- one answer of each worker of the range, in order
+-- one result of each worker of the range, in order
 abbrev pub EachGives : {A : Type 0} → (ℕ → A → Type 0) → ℕ → ℕ → List A → Type 0
 EachGives gives first count answers = EachFrom gives first answers × (length answers ≡ count)
 

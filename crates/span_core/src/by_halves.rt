@@ -15,10 +15,10 @@ pub trait ForkJoin<S, A, E> {
     /// What a range may bring, by its first worker and its number of workers.
     ghost brings: { Self → ℕ → ℕ → S → Type 0 };
 
-    /// What a range may answer.
+    /// What a range may return.
     ghost gives: { Self → ℕ → ℕ → A → Type 0 };
 
-    /// Why a range may have no answer.
+    /// Why a range may have no result.
     ghost refuses: { Self → ℕ → ℕ → E → Type 0 };
 
     /// Does the work of one worker.

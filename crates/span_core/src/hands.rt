@@ -183,7 +183,7 @@ pub fn with_hands<
     ensures answers { IfOk result (λ answers.
         HaveAnswered (of_answer (Leaves (F.post work.now) vector.now))
         hand.old hand.new workers answers.items) }
-    // Each worker below the one that was refused has given an answer.
+    // Each worker below the one that was refused has returned.
     ensures refused { IfErr result (IsOfRange
         (SaysOfPart (of_answer (Leaves (F.post work.now) vector.now)) hand.new)
         (SaysOfPart (of_refusal (Leaves (F.post work.now) vector.now)) hand.new)

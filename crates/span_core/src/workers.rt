@@ -1,4 +1,4 @@
-//! Workers that each pass a gate before and after their work, and give one answer each.
+//! Workers that each pass a gate before and after their work, and return one result each.
 ghost use Rattle.std.specs.Prelude.{◌≡◌, ◌≢◌, ℕ, ◌+◌, ◌<◌, ◌≤◌, [], ◌∷◌, ◌++◌, ◌⊎◌, ◌↔◌};
 ghost use Rattle.std.specs.Prelude.{Vec, Ok, IfOk, IfErr, IsErrOf, Err};
 ghost use Rattle.std.specs.Bool.{MatchBool};
@@ -16,7 +16,7 @@ pub trait Job<A> {
     /// When this worker may begin: mostly once a gate let it through.
     ghost ready: { Self → ℕ → Type 0 };
 
-    /// What this worker may answer.
+    /// What this worker may return.
     ghost gives: { Self → ℕ → A → Type 0 };
 
     /// Does the work of one worker.
@@ -33,10 +33,10 @@ pub trait Work<S, A, E> {
     /// What a range may bring, by its first worker and its number of workers.
     ghost brings: { Self → ℕ → ℕ → S → Type 0 };
 
-    /// What this worker may answer.
+    /// What this worker may return.
     ghost gives: { Self → ℕ → A → Type 0 };
 
-    /// Why this worker may have no answer.
+    /// Why this worker may have no result.
     ghost refuses: { Self → ℕ → E → Type 0 };
 
     /// Does the work of one worker.
@@ -158,7 +158,7 @@ impl<'a, S: Drop, A: Drop, E: Drop, W: Work<S, A, E>, G: Gate> ForkJoin<S, Vec<A
     }
 }
 
-// The answer of one worker.
+// The result of one worker.
 pub(crate) fn alone<A: Drop, E>(alloc: Global, answer: A) -> Result<Vec<A>, Refusal<E>>
     ensures answer { IfOk result (λ answers. answers.items ≡ answer ∷ []) }
     ensures memory { IfErr result (λ e. e ≡ Refusal.NoMemory) }
@@ -188,7 +188,7 @@ pub fn run_gated<
     requires brought { W.brings work.now 0 workers brought }
     requires some { 0 < workers }
     ensures answers { IfOk result (λ answers. EachGives (W.gives work.now) 0 workers answers.items) }
-    // Each worker below the one that was refused has given an answer.
+    // Each worker below the one that was refused has returned.
     ensures refused { IfErr result (IsOfRange (W.gives work.now) (W.refuses work.now)
         (G.may_refuse gate.now) 0 workers) }
 {
@@ -241,7 +241,7 @@ pub fn run_workers<R: Threads + Wait + Sync, A: Send + Drop, J: Job<A> + Sync, G
     ensures answers { IfOk result (λ answers. EachGives (J.gives job.now) 0 workers answers.items) }
     // The number is looked at before anything is started.
     ensures bad_workers { IsErrOf result ParError.BadWorkers ↔ IsBadNumber workers }
-    // Each worker below the one that was refused has given an answer.
+    // Each worker below the one that was refused has returned.
     ensures stuck { IsErrOf result ParError.Stuck
         → RefusesLowest (J.gives job.now) (G.may_refuse gate.now) 0 workers }
 {

@@ -27,7 +27,7 @@ plus a b = record {
   ended = (a.ended + b.ended) % 2 ^ 64;
 }
 
--- the same where memory may have been refused to either
+-- the same if memory may have been refused to either
 abbrev pub both : Result SweepReport AllocError → Result SweepReport AllocError → Result SweepReport AllocError
 both (Ok a) (Ok b) = Ok (plus a b)
 both (Ok a) (Err e) = Err e

@@ -45,7 +45,7 @@ fn plus(a: SweepReport, b: SweepReport) -> SweepReport
     }
 }
 
-// The same where memory may have been refused to either.
+// The same if memory may have been refused to either.
 pub(crate) fn both(
     a: Result<SweepReport, AllocError>,
     b: Result<SweepReport, AllocError>,

@@ -42,7 +42,7 @@ module _ (R : RattleType) (measure : R.Denot → ℕ) where
   abbrev pub Fit : ℕ → RattleType
   Fit n = ByFields R R.Denot R.coded (λ x. x) (fits n) (λ x b o. said (fits n x))
 
-  -- what an entry owns, beside its fields
+  -- what an entry owns, besides its fields
   abbrev pub entry_owned : EntryView → (Ptr → Fml) → Fml
   entry_owned e fields = once.owned (Fit (length_of e)) e.0 (name_of e) fields
 

@@ -90,7 +90,7 @@ impl Caller {
     }
 }
 
-// Notes the answer to a push.
+// Notes the result of a push.
 fn note_push(
     vector: &Shared<u64>,
     caller: &mut Caller,

@@ -8,7 +8,7 @@ use grow_core::{AtError, Hand, Shared};
 use std::alloc::AllocGlobal;
 use std::fmt::Display;
 
-// Writes down which value an answer said to be at a place, or that it is broken.
+// Writes down the value at a place by a call's result, or that it is broken.
 fn write_one(places: &mut [Option<Option<u64>>], said: Said) -> Result<()> {
     let place = said.place;
     match places.get_mut(place as usize) {
@@ -45,7 +45,7 @@ fn not_filled<P: Display>(place: u64, error: &P) -> Error {
     anyhow!("place {place}: {error}")
 }
 
-// The value at a place, or nothing where it is broken. It must be one of the two.
+// The value at a place, or nothing if it is broken. It must be one of the two.
 fn value_at(vector: &Shared<u64>, hand: &mut Hand<u64>, place: u64) -> Result<Option<u64>>
     requires ours { IsHandOf vector.now hand.old }
     ensures of { hand.new.of ≡ hand.old.of }
@@ -57,7 +57,7 @@ fn value_at(vector: &Shared<u64>, hand: &mut Hand<u64>, place: u64) -> Result<Op
     }
 }
 
-// Each place has the value that an answer said.
+// Each place has the value that a call's result gives.
 fn compare_places(
     vector: &Shared<u64>,
     hand: &mut Hand<u64>,
@@ -90,7 +90,7 @@ fn compare_read(places: &[Option<Option<u64>>], read: &[Said]) -> Result<()> {
     Ok(())
 }
 
-// Each place has the value that an answer said, and what was read is there.
+// Each place has the value that a call's result gives, and what was read is there.
 fn compare_with(
     vector: &Shared<u64>,
     hand: &mut Hand<u64>,

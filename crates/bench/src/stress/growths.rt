@@ -40,7 +40,7 @@ fn note_broken(record: &mut Record, run: Run, made: u64) -> Result<()> {
     Ok(())
 }
 
-// Notes the answer to a growth.
+// Notes the result of a growth.
 fn note_growth<V: Drop, E: Drop>(
     record: &mut Record,
     first: u64,

@@ -4,7 +4,7 @@ use grow_core::GrowError;
 use std::alloc::Global;
 use std::fmt;
 
-/// A place and its value, or nothing where it is broken.
+/// A place and its value, or nothing if it is broken.
 #[derive(Clone, Copy)]
 pub struct Said {
     pub place: u64,

@@ -76,7 +76,7 @@ fn script_again(alloc: Global, text: &str) -> Result<Script, ScriptError>
     }
 }
 
-// The machine of a script, by `new_in`, or by `new` where no layout is named.
+// The machine of a script, by `new_in`, or by `new` if no layout is named.
 fn machine_of(alloc: Global, first: Option<u32>, text: &str) -> Result<Machine, MakeError> {
     let Ok(script) = script_again(alloc, text) else {
         return Err(MakeError::BadLimit);

@@ -47,7 +47,7 @@ pub(super) const ROWS: [Row; 8] = [
         Work { actor: 0, number: 7, lost: 0, steps: 1, segments: 0 },
         Work { actor: 0, number: 8, lost: 0, steps: 1, segments: 0 },
     ]),
-    // The same where the first eight places are one segment, and then a call that is refused its second.
+    // The same if the first eight places are one segment, and then a call that is refused its second.
     ("limit 16\nfirst 3\nactor a fail 1 7 0, mend 0 9, read 0, size, atleast 3 1, grow 6 5\n\
         steps a a a a a a a a a a a a a a a a a a a a a a a!", &[
         Work { actor: 0, number: 1, lost: 0, steps: 6, segments: 1 },

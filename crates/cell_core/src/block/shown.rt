@@ -1,4 +1,4 @@
-// What the calls of a block answer of a cell.
+// What the calls of a block return about a cell.
 use crate::block::begun::Begun;
 use crate::block::placed::Placed;
 use crate::block::spoilt::Spoilt;

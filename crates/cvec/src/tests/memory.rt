@@ -1,4 +1,4 @@
-// Any one request for memory may be refused: then the program tells so and writes nothing, and the next run has its text.
+// Any one request for memory may be refused: then the program says so and writes nothing, and the next run has its text.
 // `bin/refusals` refuses each request in turn.
 use crate::command_line::Request;
 use crate::program::serve;
@@ -25,7 +25,7 @@ fn status(alloc: Global, text: &mut Vec<u8>, errors: &mut Vec<u8>) -> u8 {
     serve(alloc, &calls, &mut reader, text, errors)
 }
 
-// Runs it again where it told that there was no memory.
+// Runs it again if it was out of memory.
 fn status_again(rt: &impl Abort, alloc: Global, text: &mut Vec<u8>, errors: &mut Vec<u8>) -> u8 {
     let first = status(alloc, text, errors);
     if first != 3 {

@@ -191,7 +191,7 @@ pub(super) fn place_of<T: Drop, V: Drop, E: Drop>(
     Some(placed.place())
 }
 
-// What a full vector tells and gives back.
+// What a full vector reports and gives back.
 pub(super) fn full<P: Drop, T: Drop, V: Drop, E: Drop>(
     answer: Result<P, GrowError<T, V, E>>,
 ) -> Option<(u64, V)> {

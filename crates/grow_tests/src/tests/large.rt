@@ -146,7 +146,7 @@ fn segments_are_installed_as_they_are_needed(rt: HostRuntime) {
     }
 }
 
-// Tests whether both growths of nothing answer the size that the other caller moved.
+// Tests whether both growths of nothing return the size that the other caller moved.
 fn grows_by_nothing<R: AllocGlobal + Wait>(rt: &R, two: &mut Callers<u64>) -> bool {
     let _first = two.push_b(5);
     let one = two.grow_a(Vec::new(rt.alloc()));

@@ -420,7 +420,7 @@ fn a_member_is_exchanged(rt: HostRuntime) {
     assert!(rt; exchanges_three(rt.alloc()));
 }
 
-// The vector of a list, by a second call where memory was refused to the first, which gives the list back.
+// The vector of a list, by a second call if memory was refused to the first, which gives the list back.
 fn open_again(parts: Parts<u64>) -> Option<Life<u64>> {
     let back = match Shared::of_parts(parts) {
         Ok((vector, hand)) => return Some(Life { vector, hand }),
@@ -435,7 +435,7 @@ fn open_again(parts: Parts<u64>) -> Option<Life<u64>> {
     }
 }
 
-// A list of three, by a second call where memory was refused to the first.
+// A list of three, by a second call if memory was refused to the first.
 fn three_again(alloc: Global) -> Option<Parts<u64>> {
     match three(alloc, 8) {
         Some(parts) => Some(parts),
@@ -457,7 +457,7 @@ fn len_after_again(alloc: Global) -> Option<u64> {
     }
 }
 
-// It passes too where any one allocation is made to fail.
+// It passes too if any one allocation is made to fail.
 #[test]
 fn a_refused_open_gives_the_list_back(rt: HostRuntime) {
     assert!(rt; len_after_again(rt.alloc()) == Some(3));

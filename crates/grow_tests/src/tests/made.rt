@@ -22,7 +22,7 @@ pub(super) fn grow_refused(two: &mut Callers<u64>, at: u64) -> Option<(Run, u64,
     }
 }
 
-// How many of the first three places of the closed list have a seven, where all after those are broken.
+// How many of the first three places of the closed list have a seven, if all after those are broken.
 fn sevens(two: Callers<u64>) -> Option<u64> {
     let parts = two.close()?;
     let mut made = 0u64;
@@ -198,7 +198,7 @@ impl Other<'_> {
     }
 }
 
-// The run of a growth whose maker looks at the place that it made before, and appends beside its own, which is pending.
+// The run of a growth whose maker looks at the place that it made before, and appends besides its own, which is pending.
 fn grow_beside(vector: &Shared<u64>, hand: &mut Hand<u64>, mut other: Other<'_>) -> Option<Run>
     requires ours { IsHandOf vector.now hand.old }
     ensures of { hand.new.of ≡ hand.old.of }

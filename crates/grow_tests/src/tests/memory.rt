@@ -173,7 +173,7 @@ fn each_growth_is_tried_again(rt: HostRuntime) {
     }
 }
 
-// A text, by a second call where memory was refused to the first.
+// A text, by a second call if memory was refused to the first.
 fn text_again(alloc: Global) -> Option<String> {
     match format!(in alloc; "a text of {} bytes", 18) {
         Ok(made) => Some(made),

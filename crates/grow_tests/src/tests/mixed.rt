@@ -54,7 +54,7 @@ const NONE: Tally = Tally {
     sum: 0,
 };
 
-// What a growth of equal values told. Only a construction may be refused.
+// What a growth of equal values reported. Only a construction may be refused.
 fn told<V: Drop, E: Drop>(
     answer: Result<Grown<u64>, GrowError<u64, V, E>>,
     value: u64,
@@ -212,7 +212,7 @@ fn call_by_eight<R: AllocGlobal + Threads + Wait + Abort + Sync>(
     (all, first.and(second))
 }
 
-// What the closed list tells.
+// What the closed list shows.
 fn tally_in(parts: &Parts<u64>) -> Tally {
     let mut tally = NONE;
     for place in 0..parts.len() {

@@ -225,7 +225,7 @@ fn has_more_room_again(parts: &mut Parts<u64>) -> bool {
     room(parts, 64).is_ok() || (member(parts, 0) == Some(Some(7)) && room(parts, 64) == Ok(true))
 }
 
-// It passes too where any one allocation is made to fail.
+// It passes too if any one allocation is made to fail.
 #[test]
 fn a_refused_room_keeps_the_members(rt: HostRuntime) {
     let mut parts = Parts::new(rt.alloc(), 64);

@@ -1,4 +1,4 @@
-// Threads that append and read beside each other.
+// Threads that append and read concurrently.
 ghost use Rattle.std.specs.Prelude.{◌≡◌, ◌+◌, ◌*◌, ◌^◌, ◌<◌};
 ghost use Rattle.std.specs.Thread.{IsSync};
 ghost use Rattle.grow_core.specs.Vector.{IsHandOf, IsPlacedOf};

@@ -61,7 +61,7 @@ fn a_place_at_the_size_is_out_of_range(rt: HostRuntime) {
     assert!(rt; on_two(&rt, 4, has_no_place));
 }
 
-// A new vector, by a second call where memory was refused to the first.
+// A new vector, by a second call if memory was refused to the first.
 pub(super) fn fresh_again<T: Drop, R: AllocGlobal + Abort>(rt: &R, limit: u64) -> Callers<T>
     requires { IsLimit limit }
 {
@@ -80,7 +80,7 @@ fn push_again(two: &mut Callers<u64>, value: u64) -> bool {
     }
 }
 
-// The run of values, by a second call where memory was refused to the first.
+// The run of values, by a second call if memory was refused to the first.
 fn grow_again(two: &mut Callers<u64>, values: Vec<u64>, same: &[u64]) -> Option<Run> {
     match two.vector.try_grow_vec(&mut two.a, values) {
         Ok(grown) => Some(grown.run()),
@@ -96,7 +96,7 @@ fn grow_same(two: &mut Callers<u64>, values: Vec<u64>, same: &[u64]) -> Option<R
     if is_same { Some(run) } else { None }
 }
 
-// Values in a `Vec`, by a second call where memory was refused to the first.
+// Values in a `Vec`, by a second call if memory was refused to the first.
 pub(super) fn list_again(alloc: Global, values: &[u64]) -> Option<Vec<u64>> {
     match Vec::from_slice(alloc, values) {
         Ok(made) => Some(made),
@@ -115,7 +115,7 @@ fn appends_again(two: &mut Callers<u64>, alloc: Global) -> bool {
     }
 }
 
-// It passes too where any one allocation is made to fail: the call that asked for it gives back what it was given, and
+// It passes too if any one allocation is made to fail: the call that asked for it gives back what it was given, and
 // succeeds when it is called again.
 #[test]
 fn a_refused_allocation_gives_the_values_back(rt: HostRuntime) {

@@ -46,7 +46,7 @@ fn a_walk_shows_each_place_below_the_size(rt: HostRuntime) {
     assert!(rt; on_two(&rt, 8, |two| walks(&rt, two)));
 }
 
-// Tests whether a look without a hand tells values, broken places, and those that nobody claimed or can
+// Tests whether a look without a hand shows values, broken places, and those that nobody claimed or can
 // claim.
 fn looks(two: &mut Callers<u64>) -> bool {
     let _first = two.push_a(5);

@@ -94,7 +94,7 @@ fn makes<R: Wait>(rt: &R, two: &mut Callers<u64>, way: Way, n: u64) -> bool {
     }
 }
 
-// Tests whether n values are appended from place 1 on: each is the number of its place, or 7 where they are
+// Tests whether n values are appended from place 1 on: each is the number of its place, or 7 if they are
 // clones.
 fn appends<R: AllocGlobal + Wait>(rt: &R, two: &mut Callers<u64>, way: Way, n: u64) -> bool {
     match way {

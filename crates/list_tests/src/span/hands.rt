@@ -1,4 +1,4 @@
-// Workers that append to one vector, each by a hand of its own: the hand is whole again, whatever they answer.
+// Workers that append to one vector, each by a hand of its own: the hand is whole again, whatever they return.
 ghost use Rattle.std.specs.Prelude.{◌≡◌, ◌<◌, ◌≤◌};
 ghost use Rattle.grow_core.specs.Vector.{IsHandOf};
 

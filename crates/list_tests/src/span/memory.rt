@@ -49,7 +49,7 @@ fn reduces<R: Threads + Wait + Sync>(
     Ok(sum == 55)
 }
 
-// The loops are tried again where they had no memory, and answer.
+// The loops are tried again if they had no memory, and then return.
 fn try_again<R: Threads + Wait + Sync + Abort>(rt: &R, alloc: Global, list: &Quiet<u64>) {
     let mut mapped = maps(rt, alloc, list);
     if mapped == Err(ParError::NoMemory) {
@@ -71,7 +71,7 @@ fn a_map_and_a_reduction_are_tried_again(rt: HostRuntime) {
     }
 }
 
-// Three workers append a value each, and answer its place.
+// Three workers append a value each, and return its place.
 fn three_append<R: Threads + Wait + Sync>(
     rt: &R,
     alloc: Global,
@@ -97,7 +97,7 @@ fn three_append<R: Threads + Wait + Sync>(
     Ok(places.len())
 }
 
-// What three workers answer, tried again where they had no memory, and the length of the closed list.
+// The results of three workers, tried again if they had no memory, and the length of the closed list.
 fn append_again<R: Threads + Wait + Sync>(rt: &R, alloc: Global) -> Option<(bool, u64)> {
     let (vector, mut hand) = Quiet::new(alloc, 100).open().ok()?;
     let mut answered = three_append(rt, alloc, &vector, &mut hand);

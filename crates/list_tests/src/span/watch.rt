@@ -46,7 +46,7 @@ impl Watch {
         })
     }
 
-    // A worker goes on from one state to another. Where it is not in that state, that is wrong.
+    // A worker goes on from one state to another. If it is not in that state, that is wrong.
     fn step(&self, worker: u32, from: u64, to: u64) {
         let found = match self.states.get(worker as usize) {
             Some(state) => state.swap(to, Ordering::SeqCst),

@@ -2,7 +2,7 @@
 use super::EVENTS;
 use book_core::{BookError, CellVec, Event, Reply, check};
 
-// The reply to an event, at the second try where memory was refused to the first.
+// The reply to an event, at the second try if memory was refused to the first.
 fn applied(list: &mut CellVec, event: Event) -> Option<Reply> {
     let len = list.cells().len();
     match list.apply(event) {

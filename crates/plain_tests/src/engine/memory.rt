@@ -61,7 +61,7 @@ fn room(alloc: Global) -> Vec<u8> {
     }
 }
 
-// Tests whether a run ends as its row says, at the second try where the first had no memory and wrote
+// Tests whether a run ends as its row says, at the second try if the first had no memory and wrote
 // nothing.
 fn ends(alloc: Global, engine: Engine, row: &Row) -> bool {
     let (script, want, written) = row;

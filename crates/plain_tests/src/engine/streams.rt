@@ -153,7 +153,7 @@ impl Write for Patient {
     }
 }
 
-// Takes a page at a time, and is interrupted before each; counts its bytes, and fails where it has no room.
+// Takes a page at a time, and is interrupted before each; counts its bytes, and fails if it has no room.
 #[derive(Drop)]
 struct Pages {
     taken: usize,
@@ -181,7 +181,7 @@ impl Write for Pages {
     }
 }
 
-// Takes up to three bytes at a time, and is interrupted before each; fails where it has no room.
+// Takes up to three bytes at a time, and is interrupted before each; fails if it has no room.
 #[derive(Drop)]
 pub(super) struct Narrow {
     pub text: Vec<u8>,

@@ -351,7 +351,7 @@ fn is_made_empty(alloc: Global) -> Result<bool, AllocError> {
     Ok(is_empty(&block, 2))
 }
 
-// It passes too where any one request for memory is refused.
+// It passes too if any one request for memory is refused.
 #[test]
 fn a_refused_allocation_makes_no_block(rt: HostRuntime) {
     let mut made = is_made_empty(rt.alloc());

@@ -121,7 +121,7 @@ fn spoil(block: &mut Block<u64>, place: u64, epoch: &Epoch) -> Option<u64>
     block.spoil_now(place, epoch).1
 }
 
-// Tests whether the second cell takes a value where it is empty, filled or broken.
+// Tests whether the second cell takes a value if it is empty, filled or broken.
 fn takes_any_value(block: &mut Block<u64>, epoch: &Epoch) -> bool
     requires { 1 < block_len block.old }
     ensures { block_len block.new ≡ block_len block.old }

@@ -140,7 +140,7 @@ const STORIES: [Story; 9] = [
     },
 ];
 
-// The steps of a story answer as it says.
+// The steps of a story have their stated results.
 fn follow<R: Abort>(rt: &R, hands: &mut Hands, story: &Story) {
     for (step, answer) in story.steps {
         assert_eq!(rt; hands.make(*step), *answer, "{}", story.name);

@@ -1,4 +1,4 @@
-// Four threads claim beside each other.
+// Four threads claim concurrently.
 ghost use Rattle.std.specs.Prelude.{◌≡◌, ◌<◌};
 ghost use Rattle.std.specs.Thread.{IsSync};
 ghost use Rattle.claim_core.specs.Hand.{IsHandOf};

@@ -22,7 +22,7 @@ fn a_bad_limit_is_refused(rt: HostRuntime) {
     }
 }
 
-// It passes too where any one request for memory is refused.
+// It passes too if any one request for memory is refused.
 #[test]
 fn a_refused_allocation_is_no_memory(rt: HostRuntime) {
     let mut made = opened(rt.alloc(), 8, 3);

@@ -8,7 +8,7 @@ use Rattle.book_core.specs.History.{IsHistory}
 use Rattle.step_core.specs.declared.programs.Played.{Played}
 use Rattle.step_core.specs.calls.Play.{calls_played}
 
--- each event of each call is legal where it stands, so that a play always gives something
+-- each event of each call is legal at its turn, so that a play always gives something
 abbrev pub CallsPlay : Type 0
 CallsPlay = (limit : ℕ) (programs : List (List Command)) (items : List Item) → AreSound programs → IsSome (calls_played limit programs items)
 

@@ -23,7 +23,7 @@ abbrev pub empty_call_play : ℕ → List (List Command) → CallPlay
 empty_call_play limit programs =
     record { list = empty_list limit; counts = replicate (length programs) 0; events = []; ended = [] }
 
--- one event happens, and the list replies; nothing where the event isn't legal
+-- one event happens, and the list replies; nothing if the event isn't legal
 abbrev pub with_event : CallPlay → Event → Option CallPlay
 with_event s event =
     option_map

@@ -55,7 +55,7 @@ StaysWithin f limit command (Ends answer) = Unit {0}
 abbrev pub given : Storage → Given → Outcome
 given m outcome = record { storage = m; event = outcome.event; next = outcome.next }
 
--- an actor with a call under way stands within the limit
+-- an actor with a call under way is within the limit
 abbrev pub IsPlaced : ℕ → ℕ → Actor → Type 0
 IsPlaced f limit state = IfSome (slice_get state.program state.ended) (λ command. IsWithin f limit command state.phase)
 

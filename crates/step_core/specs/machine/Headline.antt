@@ -23,7 +23,7 @@ pub record IsSequential (limit : ℕ) (programs : List (List Command)) (p : Play
   pub own_claims : MovesAreOwnClaims p
   -- and a growth of nothing is claimed at its load
   pub nothing_at_load : NothingIsClaimedAtLoad p
-  -- runs tile the claimed size; each place is its owner's, who fills or breaks it; a broken one is filled by who mends it, and
+  -- runs tile the claimed size; each place is its owner's, who fills or breaks it; a broken one is filled by its mender, and
   -- no place is filled twice; a refusal breaks its own cells alone
   pub tiled : IsTiled p
   -- a published cell keeps its value

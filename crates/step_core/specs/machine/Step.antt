@@ -94,7 +94,7 @@ load_at_least limit m actor to =
     then goes_on m (Scout m.size (to - m.size) (segment_of m.layout m.size))
     else ends m (events.RefusedFull actor (to - m.size)) (replies.Full m.size) (answers.Full m.size)
 
--- a call of one place goes on to a phase where the place is claimed
+-- a call of one place goes on to a phase if the place is claimed
 abbrev pub load_place : Storage → ℕ → ℕ → Phase → Outcome
 load_place m actor place phase =
     if nat_lt place m.size
@@ -290,7 +290,7 @@ pub record Step : Type 0 where
 abbrev pub no_step : Configuration → Step
 no_step c = record { to = c; event = None; ended = None }
 
--- the actor stands so now
+-- the actor is in this state now
 abbrev with_actor : Configuration → Storage → ℕ → Actor → Configuration
 with_actor c m actor state = record { limit = c.limit; storage = m; actors = slice_set c.actors actor state }
 

@@ -1,4 +1,4 @@
--- What the program keeps beside a play, to count what its calls take.
+-- What the program keeps next to a play, to count what its calls take.
 use Rattle.std.specs.Prelude.{ℕ, ◌+◌, ◌<◌, ◌≤◌, Bool, true, false, List, [], ◌∷◌, ◌++◌, map, All, Option, Some, None, slice_get, slice_set, unwrap_or, refl}
 use Rattle.std.specs.Coded.{Coded, code_by, coded×, coded_list}
 use Rattle.seg_core.specs.Segment.{most_places}

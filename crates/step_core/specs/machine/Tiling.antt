@@ -63,7 +63,7 @@ abbrev pub PlacesAreOwned : Play → Type 0
 PlacesAreOwned p = (place : ℕ) → place < p.at.storage.size → (owner : ℕ) × (owner_of (runs_of p.events) place ≡ Some owner)
 
 -- what was done at a place, in order: its owner's Finish; or its owner's Break, then at most one Mend, and then at most a
--- Finish by who mended it
+-- Finish by its mender
 abbrev pub IsWrittenFor : ℕ → ℕ → List Event → Type 0
 IsWrittenFor owner place events =
     ((value : ℕ) × (events ≡ Finish owner place value ∷ []))
@@ -96,8 +96,8 @@ abbrev pub DebtsArePending : Play → Type 0
 DebtsArePending p =
     (place : ℕ) → ((place < p.at.storage.size) × IsUnfinished (get p.at.storage.slots place)) ↔ ((actor : ℕ) × Owes p.at actor place)
 
--- an actor owes exactly the places that are its to finish by the history: that it owns, and at which nothing
--- was done; or whose last write is its Mend
+-- an actor owes exactly the places that the history leaves it to finish: it owns them, and nothing was done
+-- there; or their last write is its Mend
 abbrev pub DebtsAreOfHistory : Play → Type 0
 DebtsAreOfHistory p =
     (actor place : ℕ) → Owes p.at actor place ↔ IsItsToFinish p.events place actor (writes_of place p.events)

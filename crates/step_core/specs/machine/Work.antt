@@ -39,7 +39,7 @@ looks (Mend place) = false
 looks (FillMended place) = false
 looks (Look place) = false
 
--- a round begins where Load, or an exchange, leads to the look at a segment
+-- a round begins if Load, or an exchange, leads to the look at a segment
 abbrev pub begins_round : Phase → Phase → Bool
 begins_round Load after = looks after
 begins_round (Exchange from n) after = looks after
@@ -53,7 +53,7 @@ begins_round (Mend place) after = false
 begins_round (FillMended place) after = false
 begins_round (Look place) after = false
 
--- an exchange is lost where it leads to the look at a segment; one that ends its call is not
+-- an exchange is lost if it leads to the look at a segment; one that ends its call is not
 abbrev pub is_lost : Phase → Phase → Bool
 is_lost (Exchange from n) after = looks after
 is_lost Load after = false
@@ -118,7 +118,7 @@ pub record Count : Type 0 where
 abbrev pub no_count : Count
 no_count = record { tally = no_tally; wanted = 0; begun = 0 }
 
--- the count after a further step, before which there were `now` events
+-- the count after a further step, if `events` events came earlier
 abbrev pub count_after : ℕ → Count → Phase → Phase → ℕ → Count
 count_after f count before after events = record {
   tally = tally_after f count.tally before after;
@@ -178,7 +178,7 @@ abbrev pub next_count : Counted → ℕ → Step → Count
 next_count k actor step =
     count_after k.play.at.storage.layout (unwrap_or (slice_get k.counts actor) no_count) (phase_at k.play.at actor) (phase_at step.to actor) (length k.play.events)
 
--- with one step: it counts where its actor has a call left or under way
+-- with one step: it counts if its actor has a call left or under way
 abbrev pub count_step : Counted → ℕ → Step → Bool → Counted
 count_step k actor step false = record { play = with_step k.play step; counts = k.counts; calls = k.calls }
 count_step k actor step true = with_count k actor (with_step k.play step) (next_count k actor step) step.ended

@@ -160,7 +160,7 @@ fn set_in(entry: &mut Option<Block>, offset: u64, slot: Slot)
     }
 }
 
-// The entry has an empty block of this length; where memory runs out, it is as it was.
+// The entry has an empty block of this length; if memory runs out, it is as it was.
 fn make_in(entry: &mut Option<Block>, alloc: Global, len: u64) -> Result<(), AllocError>
     ensures ok { OnOk result (entry.new ≡ Some (replicate len None)) }
     ensures err { OnErr result (entry.new ≡ entry.old) }

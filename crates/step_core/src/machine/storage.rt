@@ -38,7 +38,7 @@ impl Model for Storage {
     } };
 }
 
-// What a step gives beside what it leaves: at most one event with its reply, and what follows.
+// What a step gives besides what it leaves: at most one event with its reply, and what follows.
 #[derive(Clone, Copy)]
 pub(crate) struct Outcome {
     pub(crate) event: Option<(Event, Reply)>,

@@ -1,4 +1,4 @@
-// The raw steps on one entry, each a few lines round one atomic step. The word is null, or points to a block that the
+// The raw steps on one entry, each a few lines around one atomic step. The word is null, or points to a block that the
 // entry owns.
 ghost use Rattle.std.specs.Prelude.{◌≡◌, ◌≢◌, ℕ, MatchOption, IfSome};
 ghost use denote.RawPtr.{null_ptr};
@@ -77,7 +77,7 @@ impl<B: Measured> Entry<B> {
         }
     }
 
-    // The look: one load. It shows nothing only to a sight that knows nothing, and else the one block ever seen.
+    // The look: one load. It shows nothing only to a sight that knows nothing, otherwise it shows the one block ever seen.
     pub(crate) fn look<'a>(&'a self, sight: &mut Sight<B>) -> Option<&'a B>
         requires { sight.old.of ≡ name_of self.now }
         ensures same { sight.new.of ≡ sight.old.of }
@@ -93,7 +93,7 @@ impl<B: Measured> Entry<B> {
         }
     }
 
-    // The setting once: one exchange of null. It gives the entry's block, and `block` back where another came first.
+    // The setting once: one exchange of null. It gives the entry's block, and `block` back if another came first.
     fn offer<'a>(
         &'a self,
         block: Loose<B, Global>,

@@ -1,3 +1,4 @@
+-- In each turn, the hand is one of the word.
 use Rattle.claim_core.specs.Hand.{IsHandOf}
 use Rattle.bench.proofs.claim_word.claim.Given as goal
 

@@ -1,3 +1,4 @@
+-- In each turn, the hand and all hands so far are the word's.
 use Rattle.std.specs.List.{All}
 use Rattle.claim_core.specs.Hand.{IsHandOf}
 use Rattle.bench.proofs.claim_word.hands_for.Given as goal

@@ -1,3 +1,4 @@
+-- In each turn, the hand is one of the vector.
 use Rattle.grow_core.specs.Vector.{IsHandOf}
 use Rattle.bench.proofs.loads.look.Given as goal
 

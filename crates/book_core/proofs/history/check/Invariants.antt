@@ -1,4 +1,4 @@
--- the list so far, with what is left, is legal exactly where the whole is from the empty list
+-- the list so far, with what is left, is legal exactly if the whole is from the empty list
 use Rattle.std.proofs.Common.{◌↔◌, drop}
 use Rattle.book_core.specs.Cells.{empty_list}
 use Rattle.book_core.specs.History.{IsLegalFrom}

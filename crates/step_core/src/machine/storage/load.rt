@@ -76,7 +76,7 @@ impl Storage {
         self.refuse(actor, to - size)
     }
 
-    // A call of one place goes on to this phase where the place is claimed.
+    // A call of one place goes on to this phase if the place is claimed.
     fn load_place(&self, actor: u32, place: u64, phase: Phase) -> Outcome
         ensures gives { given self.now result ≡ load_place self.now actor place phase }
     {

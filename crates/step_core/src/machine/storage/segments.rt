@@ -1,4 +1,4 @@
-//! Scout and Put: a growth sees to it that the segments of its places are installed.
+//! Scout and Put: a growth installs the segments of its places unless they are there.
 ghost use Rattle.std.specs.Prelude.{◌≡◌, ◌+◌, ◌≤◌, ◌<◌, true, false, IfOk, OnErr};
 ghost use Rattle.std.specs.FinSet as set;
 ghost use Rattle.seg_core.specs.Segment.{IsLayout, most_places, segment_count};

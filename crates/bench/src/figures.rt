@@ -45,7 +45,8 @@ fn round_of<R: Threads + Wait + Clock + AllocGlobal + Sync>(
     ])
 }
 
-// The times of a group's things, in each round. The things take turns, so that other work on the machine meets all.
+// The times of a group's things, in each round. The things take turns, so that other work on the machine
+// meets all.
 fn rounds_of<R: Threads + Wait + Clock + AllocGlobal + Sync>(
     rt: &R,
     group: Group,

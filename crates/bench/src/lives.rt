@@ -1,4 +1,5 @@
-//! How long it takes to open a list of ten million values as a shared vector, and to close it into a list again.
+//! How long it takes to open a list of ten million values as a shared vector, and to close it into a list
+//! again.
 ghost use Rattle.claim_core.specs.Hand.{IsWholeHand};
 ghost use Rattle.grow_core.specs.Vector.{IsHandOf};
 

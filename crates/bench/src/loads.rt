@@ -1,5 +1,5 @@
-//! Loads of millions of calls, one in each run of the program. `bench/compare` runs them in turns with the same loads
-//! on other libraries.
+//! Loads of millions of calls, one in each run of the program. `bench/compare` runs them in turns with the
+//! same loads on other libraries.
 ghost use Rattle.std.specs.Prelude.{◌≡◌, ◌<◌};
 ghost use Rattle.std.specs.Thread.{IsSync};
 ghost use Rattle.grow_core.specs.Vector.{IsHandOf};
@@ -66,7 +66,8 @@ pub fn layout_of(name: &str) -> Layout {
     }
 }
 
-// The name of a load, what is done, how many values there are before its time starts, and how many while it runs.
+// The name of a load, what is done, how many values there are before its time starts, and how many while it
+// runs.
 const ROWS: [(&'static str, Work, u64, u64); 12] = [
     ("push", Work::Push, 0, FRESH),
     ("push-256", Work::Push, 0, FRESH),
@@ -282,8 +283,8 @@ impl Load {
         print_nanoseconds(rt, took)
     }
 
-    /// Runs it in this many threads, and prints the nanoseconds that it took. The vector is kept until they are
-    /// printed, so that its memory can be seen from outside.
+    /// Runs it in this many threads, and prints the nanoseconds that it took. The vector is kept until they
+    /// are printed, so that its memory can be seen from outside.
     pub fn print_time<R: Threads + Wait + Clock + Print + AllocGlobal + Sync>(
         self,
         rt: &R,

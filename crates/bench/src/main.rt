@@ -1,13 +1,14 @@
-//! Measures what calls cost, each next to a yardstick that does the least that the call could do, and puts the shared
-//! vector under stress.
+//! Measures what calls cost, each next to a yardstick that does the least that the call could do, and puts
+//! the shared vector under stress.
 //!
-//! - Without an argument it runs each thing shortly and prints that all of its wins were counted: the same whatever the
-//!   machine does. With the argument `figures` it measures for some seconds and prints times.
+//! - Without an argument it runs each thing shortly and prints that all of its wins were counted: the same
+//!   whatever the machine does. With the argument `figures` it measures for some seconds and prints times.
 //! - With `stress SECONDS` threads make random calls on shared vectors, and the results are compared.
 //! - Each measured thing has a file of its own with one function that runs its tries in threads and returns a
 //!   `Trial`.
 //!
-//! Contracts say that each hand and each token is used with its own word or vector. No clause says what a run costs.
+//! Contracts say that each hand and each token is used with its own word or vector. No clause says what a run
+//! costs.
 #![tactic(auto)]
 
 mod bare_number;

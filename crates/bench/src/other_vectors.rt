@@ -1,5 +1,5 @@
-//! The yardsticks of a push: a `Vec` under a lock, and `boxcar`, the kit's vector that threads push on without one.
-//! Each has room for all values before the time starts.
+//! The yardsticks of a push: a `Vec` under a lock, and `boxcar`, the kit's vector that threads push on
+//! without one. Each has room for all values before the time starts.
 use crate::trial::{Trial, time_threads};
 use anyhow::Result;
 use std::alloc::AllocGlobal;

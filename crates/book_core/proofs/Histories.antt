@@ -1,4 +1,5 @@
--- Histories in parts; and what every history keeps, since each event does: the limit, tiling runs, finished cells.
+-- Histories in parts; and what every history keeps, since each event does: the limit, tiling runs, finished
+-- cells.
 use Rattle.std.proofs.Common.{arith, ◌≡◌, ◌↔◌, ℕ, ◌+◌, ◌<◌, ◌==◌, true, false, zero, suc, if◌then◌else◌, List, [], ◌∷◌, ◌++◌, length, replicate, drop, get_or, drop-cons, add-one, slice_get, ap, refl, sym, ◌∙◌, subst, Option, Some, None, inl, inr}
 use Rattle.std.specs.List.{Contains}
 use Rattle.std.proofs.lemmas.Bool.Decides.{nat_tests}

@@ -7,7 +7,8 @@ use Rattle.book_core.specs.declared.events.Reply.TheVariants as replies
 use Rattle.book_core.specs.Cells.{CellList, apply_event}
 use Rattle.book_core.specs.Events.{actor_of, write_in}
 
--- Each event is legal at its turn, and its reply is the list's; the list before the first is old, after the last new.
+-- Each event is legal at its turn, and its reply is the list's; the list before the first is old, after the
+-- last new.
 abbrev pub IsHistory : CellList → List (Event × Reply) → CellList → Type 0
 IsHistory old [] new = new ≡ old
 IsHistory old (e ∷ es) new = (mid : CellList) × (apply_event old e.0 ≡ Some (mid, e.1)) × IsHistory mid es new

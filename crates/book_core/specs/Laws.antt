@@ -26,7 +26,8 @@ RunsAreApart =
     (old mid new : CellList) (es fs : List (Event × Reply)) (run later : OwnedRun) → IsHistory old es mid → IsHistory mid fs new
     → Contains (runs_of es) run → Contains (runs_of fs) later → run.from + run.n ≤ later.from
 
--- what was done at a place in a history in two parts is what was done in the first, and then what was done in the second
+-- what was done at a place in a history in two parts is what was done in the first, and then what was done in
+-- the second
 abbrev pub WritesSplit : Type 0
 WritesSplit =
     (place : ℕ) (es fs : List (Event × Reply)) → writes_of place (es ++ fs) ≡ writes_of place es ++ writes_of place fs
@@ -72,14 +73,15 @@ BrokenCellsStay =
     → ((actor : ℕ) → Contains (writes_of place es) (Mend actor place) → ⊥)
     → slice_get old.cells place ≡ Some Broken → slice_get new.cells place ≡ Some Broken
 
--- The actor may finish the place, by what was done there: it owns the place and nothing was done there, or it was the last to
--- mend it.
+-- The actor may finish the place, by what was done there: it owns the place and nothing was done there, or it
+-- was the last to mend it.
 abbrev pub IsItsToFinish : List (Event × Reply) → ℕ → ℕ → List Event → Type 0
 IsItsToFinish es place actor writes =
     ((owner_of (runs_of es) place ≡ Some actor) × (writes ≡ []))
     ⊎ ((before : List Event) × (writes ≡ before ++ Mend actor place ∷ []))
 
--- one actor filled the place with this value, when it was its to finish; nothing was done there since, and nobody else filled it
+-- one actor filled the place with this value, when it was its to finish; nothing was done there since, and
+-- nobody else filled it
 pub record IsFilledOnce (es : List (Event × Reply)) (place value : ℕ) : Type 0 where
   pub writer : ℕ
   pub filled : Contains es (Finish writer place value, replies.Done)

@@ -49,7 +49,8 @@ pub struct Item {
     pub memory: bool,
 }
 
-/// A call that ended: whose it was, its number among the actor's calls (from 1), what it was and how it ended.
+/// A call that ended: whose it was, its number among the actor's calls (from 1), what it was and how it
+/// ended.
 #[derive(Clone, Copy, Debug, PartialEq, Eq)]
 pub struct Ended {
     pub actor: u32,

@@ -16,8 +16,8 @@ pub record IsBrief (count : Count) (most : ℕ) : Type 0 where
   pub segments : count.tally.segments ≡ 0
   pub steps : count.tally.steps ≤ most
 
--- A growth by n places loses at most one exchange for each growth of others. If no n places within the limit touch
--- more than q segments, it takes at most 1 + (growths + 1)(2q + 1) + 2n steps.
+-- A growth by n places loses at most one exchange for each growth of others. If no n places within the limit
+-- touch more than q segments, it takes at most 1 + (growths + 1)(2q + 1) + 2n steps.
 pub record IsGrowthWithin (f limit n : ℕ) (count : Count) (growths : ℕ) : Type 0 where
   pub lost : count.tally.lost ≤ growths
   pub segments : count.tally.segments ≤ 40
@@ -30,7 +30,8 @@ pub record IsPushWithin (count : Count) (growths : ℕ) : Type 0 where
   pub segments : count.tally.segments ≤ 1
   pub steps : count.tally.steps ≤ 3 + 3 * (growths + 1)
 
--- the call is within its bounds, among this many growths of others; a growth to a size claims once, however many
+-- the call is within its bounds, among this many growths of others; a growth to a size claims once, however
+-- many
 abbrev pub IsWithin : ℕ → ℕ → Command → Count → ℕ → Type 0
 IsWithin f limit (commands.Push value) count growths = IsPushWithin count growths
 IsWithin f limit (commands.Grow n value) count growths = IsGrowthWithin f limit n count growths

@@ -1,4 +1,5 @@
--- What users of plays want to know of claimed places: who still has to finish them, and what they hold later on.
+-- What users of plays want to know of claimed places: who still has to finish them, and what they hold later
+-- on.
 use Rattle.std.specs.Prelude.{◌≡◌, ◌≢◌, ◌+◌, ◌<◌, ◌↔◌, ◌⊎◌, ℕ, true, List, [], ◌∷◌, length, Some, slice_get}
 use Rattle.std.specs.List.{Contains, sum_by}
 use Rattle.std.specs.FinMap.{get}
@@ -166,7 +167,8 @@ OfEveryRecord Holds =
 
 -- ---- What places hold later on
 
--- The owner broke the place, this actor mended it, and since then at most this actor did anything there: it filled it.
+-- The owner broke the place, this actor mended it, and since then at most this actor did anything there: it
+-- filled it.
 pub record IsMendedOnce (writes : List Event) (mender place : ℕ) : Type 0 where
   pub owner : ℕ
   pub after : List Event

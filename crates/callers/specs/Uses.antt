@@ -17,7 +17,8 @@ PushesAreApart calls =
     (i j place : ℕ) (a b : Ended) → slice_get calls i ≡ Some a → slice_get calls j ≡ Some b
     → a.answer ≡ At place → b.answer ≡ At place → i ≡ j
 
--- the look of a read is an event of the history, and before it the place was filled with the value, once, by its owner or by its mender
+-- the look of a read is an event of the history, and before it the place was filled with the value, once, by
+-- its owner or by its mender
 pub record IsReadOfWriters (events : List (Event × Reply)) (actor place value : ℕ) : Type 0 where
   pub before : List (Event × Reply)
   pub after : List (Event × Reply)

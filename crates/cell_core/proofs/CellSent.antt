@@ -1,4 +1,5 @@
--- A `&` to a cell may go to another thread where its value may go there and be shared. Its tokens hold names alone.
+-- A `&` to a cell may go to another thread where its value may go there and be shared. Its tokens hold names
+-- alone.
 use Rattle.std.proofs.Common.{Bool, true, false, eqb, ℕ, zero, suc, List, [], ◌∷◌}
 use Rattle.std.specs.Prelude.{Option, Some, None}
 use base.Fraction.{full_share}

@@ -1,4 +1,5 @@
--- The parts of a row of raw cells: a cell more, a cell less, and what a `&` to the row shows. Assumes `Logic`.
+-- The parts of a row of raw cells: a cell more, a cell less, and what a `&` to the row shows. Assumes
+-- `Logic`.
 use Rattle.std.proofs.Common.{Bool, true, false, not, T, eqb, eqb→eq, ◌≡◌, ℕ, zero, suc, ◌+◌, ◌*◌, ◌^◌, ◌<◌, ◌≤◌, ◌≢◌, mul-le-mul_right, length-append, List, [], ◌∷◌, ◌++◌, length, set, length-set, sym, refl, ap, ◌∙◌, subst, arith, suc-mul, zero-mul, w64}
 use seplogic.Ra.Ura.{Ura}
 use mir.Syntax.{Ty, ty_int, ty_array}
@@ -315,7 +316,8 @@ module _ {M : Type 1} {𝓤 : Ura M} (𝓛 : Logic 𝓤) (R : RattleType) (token
   cracks δ false = qed 𝓛 (‵ (breached δ false) ∷ []) ∵ updating ! $ fsplit ! $ use2 𝓛 (later (‵ (fobs δ cross) ⊛ ‵ (fauth δ cross))) (𝓛.names.name_set δ gnil gnil cross) $ await ! tt $ split ! $
       use1 𝓛 (‵ (spoilt δ)) (𝓛.names.obs-res δ cross) $ res_dup ! $ move ! (0 ∷ 2 ∷ []) $ fjoin ! $ now ! $ done !
 
-  -- one whose word is 4, and whose room is empty, is broken for the epoch under new names; its old ones stay as they are
+  -- one whose word is 4, and whose room is empty, is broken for the epoch under new names; its old ones stay
+  -- as they are
   abbrev pub Respoilt : Names → Phase R.Denot → Lft → ℕ → ℕ → Fml
   Respoilt γ s epoch b e = fex Names (λ γ'. fsep (fact (IsNew γ epoch γ')) (fsep (still R b γ' e) (auths R γ s)))
 

@@ -24,8 +24,8 @@ abbrev pub pen_coded : Coded PenView
 pen_coded = coded_via (coded× coded_ℕ (coded× names_coded coded_ℕ)) (λ (p : PenView). (p.place, (p.cell, p.found)))
     (λ x y e i. record { place = (e i).0; cell = (e i).1.0; found = (e i).1.1 })
 
--- the token of a filled cell: its place, its value, and the name that the value has; and in the writer's own token the
--- word that its exchange found there
+-- the token of a filled cell: its place, its value, and the name that the value has; and in the writer's own
+-- token the word that its exchange found there
 pub record PlacedView (T : Type 0) : Type 0 where
   pub place : ℕ
   pub value : T

@@ -59,8 +59,8 @@ MayBeWordOf None word = Unit {0}
 abbrev pub IsEpochOf : {T : Type 0} → Option T → Lft → Lft → Type 0
 IsEpochOf value own epoch = value ≡ None → own ≡ epoch
 
--- what settling the cell at an index leaves: a cell with a value stays, and any other is broken for the epoch, under new
--- names
+-- what settling the cell at an index leaves: a cell with a value stays, and any other is broken for the
+-- epoch, under new names
 abbrev pub Settles : {T : Type 0} → List Names → ℕ → List Names → Option T → Lft → Type 0
 Settles old i new (Some x) epoch = new ≡ old
 Settles old i new None epoch = (c : Names) × IsAnother (cell_in old i) c × (new ≡ slice_set old i c) × (epoch ≡ c.epoch)

@@ -1,8 +1,7 @@
--- What a raw cell owns and lends.
--- Each time the cell is lent it takes a turn: a lifetime, and a name that tracks what its room holds. One invariant
--- holds the word, with the right to write or the shared value.
--- A cell has an epoch too, a lifetime. It has ended for all cells but those that an owner broke: such a cell stays
--- broken as long as its epoch lasts.
+-- What a raw cell owns and lends. Each time the cell is lent it takes a turn: a lifetime, and a name that
+-- tracks what its room holds. One invariant holds the word, with the right to write or the shared value. A
+-- cell has an epoch too, a lifetime. It has ended for all cells but those that an owner broke: such a cell
+-- stays broken as long as its epoch lasts.
 use Rattle.std.specs.Prelude.{◌≡◌, ℕ, zero, suc, ◌+◌, Bool, true, false, eqb, Option, Some, None}
 use Rattle.std.specs.Coded.{coded_option}
 use mir.Syntax.{w64, ty_int}
@@ -202,7 +201,8 @@ module _ (R : RattleType) where
       abbrev pub Right : Fml
       Right = fsep settable (fsep empty (fbor t.0 Room))
 
-      -- what an exchange gains if it found n: the right to write, if it found what it sought; otherwise what n shows
+      -- what an exchange gains if it found n: the right to write, if it found what it sought; otherwise what
+      -- n shows
       abbrev pub gained : Bool → ℕ → Fml
       gained true n = Right
       gained false n = sights n

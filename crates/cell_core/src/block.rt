@@ -50,8 +50,8 @@ impl<T, A: Allocator> Model for Block<T, A> {
 }
 
 impl<T, A: Allocator> Block<T, A> {
-    /// Makes a block of `n` empty cells, in time and memory linear in `n`. Cells of 2^63 bytes or more are refused
-    /// before memory is requested, since no allocator can give them.
+    /// Makes a block of `n` empty cells, in time and memory linear in `n`. Cells of 2^63 bytes or more are
+    /// refused before memory is requested, since no allocator can give them.
     pub fn new(alloc: A, n: u64) -> Result<Block<T, A>, AllocError>
         ensures { IfOk result (λ block. block_len block ≡ n) }
     {

@@ -58,7 +58,8 @@ longer_picks : (xs ys : List ℕ) (b : Bool) → nat_le (length ys) (length xs) 
 longer_picks xs ys true is = inl (grind (arith, nat_tests), rw is refl)
 longer_picks xs ys false is = inr (grind (arith, nat_tests), rw is refl)
 
--- where two lists are prefixes of one list, both are prefixes of the longer of them, which is a prefix of it too
+-- where two lists are prefixes of one list, both are prefixes of the longer of them, which is a prefix of it
+-- too
 pub longer_begins : (xs ys zs : List ℕ) → IsPrefix xs zs → IsPrefix ys zs
     → IsPrefix xs (longer xs ys) × IsPrefix ys (longer xs ys) × IsPrefix (longer xs ys) zs
 longer_begins xs ys zs p q =

@@ -6,7 +6,8 @@ use Rattle.claim_core.specs.declared.run.Run.{Run}
 use Rattle.claim_core.specs.Lengths.{InRun, run_start, runs_end, places_in}
 use Rattle.claim_core.specs.Word.{WordView}
 
--- the word that it belongs to, the lengths of all runs that it has seen, the indices of its own runs among them, and its shares
+-- the word that it belongs to, the lengths of all runs that it has seen, the indices of its own runs among
+-- them, and its shares
 pub record HandView : Type 0 where
   pub of : WordView
   pub seen : List ℕ
@@ -39,7 +40,8 @@ pub record KeepsOwn (old new : HandView) : Type 0 where
   pub mine : new.mine ≡ old.mine
   pub shares : new.shares ≡ old.shares
 
--- the hand has one more run. It begins where the runs before it end, all that the hand had seen is a prefix of them, and the size that the hand has seen is then where the run ends
+-- the hand has one more run. It begins where the runs before it end, all that the hand had seen is a prefix
+-- of them, and the size that the hand has seen is then where the run ends
 pub record AddsRun (old new : HandView) (run : Run) : Type 0 where
   pub between : List ℕ
   pub begins : run.from ≡ runs_end old.of.base (old.seen ++ between)

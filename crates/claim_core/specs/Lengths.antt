@@ -1,4 +1,5 @@
--- Runs of places, kept as the list of their lengths: the first begins at a base, and each other one where the one before it ends.
+-- Runs of places, kept as the list of their lengths: the first begins at a base, and each other one where the
+-- one before it ends.
 use Rattle.std.specs.Prelude.{ℕ, ◌+◌, ◌-◌, ◌<◌, ◌≤◌, ◌==◌, ◌≡◌, min, if◌then◌else◌, List, [], ◌∷◌, length, take, slice_index}
 use Rattle.std.specs.List.{sum, sum_by, Contains}
 
@@ -29,7 +30,8 @@ times k (x ∷ xs) = (if x == k then 1 else 0) + times k xs
 abbrev pub once_below : ℕ → ℕ → ℕ
 once_below k n = min (n - k) 1
 
--- the runs of these indices tile the places from the base to the end: each place lies in one of them, and no place in two runs
+-- the runs of these indices tile the places from the base to the end: each place lies in one of them, and no
+-- place in two runs
 pub record Tiles (base : ℕ) (lengths indices : List ℕ) : Type 0 where
   pub covers : (place : ℕ) → base ≤ place → place < runs_end base lengths
       → (k : ℕ) × Contains indices k × InRun base lengths k place

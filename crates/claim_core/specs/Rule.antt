@@ -14,7 +14,8 @@ abbrev pub total : (SeatView → ℕ) → List SeatView → ℕ
 total f [] = 0
 total f (v ∷ vs) = f v + total f vs
 
--- what a seat has seen is a prefix of the list of all lengths. It owns runs that it has seen, each once. With no share it has nothing
+-- what a seat has seen is a prefix of the list of all lengths. It owns runs that it has seen, each once. With
+-- no share it has nothing
 pub record Suits (lengths : List ℕ) (v : SeatView) : Type 0 where
   pub seen : IsPrefix v.seen lengths
   pub one : IsPrefix v.one lengths
@@ -22,7 +23,8 @@ pub record Suits (lengths : List ℕ) (v : SeatView) : Type 0 where
   pub own : (k : ℕ) → times k v.mine ≤ once_below k (length v.seen)
   pub spent : v.shares ≡ 0 → (v.seen ≡ []) × (v.mine ≡ [])
 
--- the size is where the lengths end, at most the limit. All seats together own each run once, and have 65536 shares
+-- the size is where the lengths end, at most the limit. All seats together own each run once, and have 65536
+-- shares
 pub record Fits (limit base size : ℕ) (lengths : List ℕ) (views : List SeatView) : Type 0 where
   pub ends : size ≡ runs_end base lengths
   pub within : size ≤ limit

@@ -54,7 +54,8 @@ pub record IsPair (table : TableId) (key : Terms) (seat other : ClaimSeat) : Typ
   pub part : 0 < seat.me.0.shares
   pub other_part : 0 < other.me.0.shares
 
--- two seats, while they were one, saw a list that ends at the size found. Each has the runs and shares that it had
+-- two seats, while they were one, saw a list that ends at the size found. Each has the runs and shares that
+-- it had
 pub record SeesAsOne (old_seat old_other : ClaimSeat) (found : ℕ) (seat other : ClaimSeat) : Type 0 where
   pub both : SeatView
   pub looks : Looks (joined_view old_seat.me.0 old_other.me.0) found both

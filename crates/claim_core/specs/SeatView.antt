@@ -20,7 +20,8 @@ spent_view = record { limit = 0; base = 0; mark = []; seen = []; mine = []; shar
 abbrev pub longer : List ℕ → List ℕ → List ℕ
 longer xs ys = if nat_le (length ys) (length xs) then xs else ys
 
--- two views as one. It keeps both lists that were seen, until a load shows that both are prefixes of the longer
+-- two views as one. It keeps both lists that were seen, until a load shows that both are prefixes of the
+-- longer
 abbrev pub joined_view : SeatView → SeatView → SeatView
 joined_view v w =
     record {

@@ -4,7 +4,8 @@ use base.Stored.{Coded, coded×, coded_ℕ, coded_list, coded_via}
 use Rattle.seg_core.specs.Segment.{most_places}
 use Rattle.atomic_table.specs.Seated.{TableId, table_id_coded}
 
--- which word it is, the greatest size that it may have, the size that it began with, and the numbers that its opener marked it with
+-- which word it is, the greatest size that it may have, the size that it began with, and the numbers that its
+-- opener marked it with
 pub record WordView : Type 0 where
   pub table : TableId
   pub limit : ℕ

@@ -1,8 +1,8 @@
 //! The claim word: one shared number, the size, that callers move to claim places; and the hands that they
 //! hold.
 //!
-//! Contracts see a `Word` as which word it is, its limit and its base (`specs/Word.antt`), and a `Hand` as its word,
-//! the lengths of all runs that it has seen, the indices of its own runs among them, and its shares
+//! Contracts see a `Word` as which word it is, its limit and its base (`specs/Word.antt`), and a `Hand` as
+//! its word, the lengths of all runs that it has seen, the indices of its own runs among them, and its shares
 //! (`specs/Hand.antt`, `specs/Lengths.antt`). Each call says what its hand knows before and after it.
 //!
 //! A caller can prove that a run begins at the end of all runs before it; that every size it learns is a true
@@ -10,9 +10,9 @@
 //! tile the places from the base to the size. `laws` has what follows from these definitions alone. Nothing
 //! is said about the order of callers that never met, nor that a try wins.
 //!
-//! The code is safe, over `atomic_table`. Its rule is `specs/Rule.antt`: there is one list of lengths, and what each
-//! hand has seen is a prefix of it. That each kind of step keeps the rule is `proofs/Kept.antt`, over
-//! `proofs/Fits.antt`.
+//! The code is safe, over `atomic_table`. Its rule is `specs/Rule.antt`: there is one list of lengths, and
+//! what each hand has seen is a prefix of it. That each kind of step keeps the rule is `proofs/Kept.antt`,
+//! over `proofs/Fits.antt`.
 #![tactic(auto)]
 
 mod claims;

@@ -1,5 +1,6 @@
-//! Four threads find which particles of a box touch, and collect the contacts in one vector, while a fifth reads those that are
-//! there. The owner closes the vector, sorts the list, and prints totals that no schedule can change.
+//! Four threads find which particles of a box touch, and collect the contacts in one vector, while a fifth
+//! reads those that are there. The owner closes the vector, sorts the list, and prints totals that no
+//! schedule can change.
 //!
 //!   collect [PARTICLES [SEED]]
 #![tactic(auto)]

@@ -11,8 +11,8 @@ use Rattle.cvec.specs.declared.error.ProgramError.{ProgramError}
 use Rattle.cvec.specs.declared.error.ProgramError.TheVariants.{Run, Race}
 use Rattle.cvec.specs.ProgramError.{status_of, error_line, IsRaceEnd}
 
--- a run that succeeds has status 0 and adds nothing to standard error; any other has the status of its error, and adds
--- a prefix of the error's line: the whole line, unless standard error fails too
+-- a run that succeeds has status 0 and adds nothing to standard error; any other has the status of its error,
+-- and adds a prefix of the error's line: the whole line, unless standard error fails too
 abbrev pub EndsAs : Result (Unit {0}) ProgramError → ℕ → Option (List ℕ) → Option (List ℕ) → Type 0
 EndsAs (Ok done) status old new = (status ≡ 0) × Keeps old new
 EndsAs (Err e) status old new = (status ≡ status_of e) × AppendsPrefix old new (error_line e)

@@ -44,8 +44,8 @@ program_error_text (Race refusal) = race_error_text refusal
 abbrev pub error_line : ProgramError → List ℕ
 error_line e = program_error_text e ++ codes "\n"
 
--- how the program ends that holds a race and has no whole text: its race was refused, or there was no memory for the
--- text, or it was not written
+-- how the program ends that holds a race and has no whole text: its race was refused, or there was no memory
+-- for the text, or it was not written
 abbrev pub IsRaceEnd : ℕ → ℕ → ProgramError → Type 0
 IsRaceEnd workers each (Run error) = (error ≡ runs.NoMemory) ⊎ (error ≡ runs.Write)
 IsRaceEnd workers each (Race refusal) = IsFreeRefusal workers each refusal

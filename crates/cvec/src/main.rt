@@ -1,11 +1,13 @@
-//! Runs scripts of calls on a vector that several actors grow, races of threads that do, and sweeps of sampled schedules.
+//! Runs scripts of calls on a vector that several actors grow, races of threads that do, and sweeps of
+//! sampled schedules.
 //!
-//! `serve`, `serve_race` and `serve_sweep` are the program: what a command line asks for, over any reader and two writers.
-//! Their clauses say the exit status, and what each of the two writers gets, by `specs/Program.antt`. `main` hands them the
-//! system's streams. Only a race may wait. The engines are `engine_core`'s, the race is `race_core`'s, the sweep
-//! `sweep_core`'s.
+//! `serve`, `serve_race` and `serve_sweep` are the program: what a command line asks for, over any reader and
+//! two writers. Their clauses say the exit status, and what each of the two writers gets, by
+//! `specs/Program.antt`. `main` hands them the system's streams. Only a race may wait. The engines are
+//! `engine_core`'s, the race is `race_core`'s, the sweep `sweep_core`'s.
 //!
-//! No clause says which words ask for what, nor what reaches the system's streams: tests and `bin/test` show both.
+//! No clause says which words ask for what, nor what reaches the system's streams: tests and `bin/test` show
+//! both.
 #![tactic(auto)]
 
 mod command_line;

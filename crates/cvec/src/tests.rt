@@ -1,5 +1,5 @@
-//! What no row of the program shows: readers and writers that fail, memory that is refused, and the status of each
-//! error.
+//! What no row of the program shows: readers and writers that fail, memory that is refused, and the status of
+//! each error.
 
 mod memory;
 mod program;

@@ -29,7 +29,8 @@ played_text names played = flat_map (ended_line names) played.ended ++ cells_lin
 abbrev pub work_line_in : List ℕ → Work → List ℕ
 work_line_in names work = work_line (slice_index names work.actor) work
 
--- what an engine writes of a play: its text; with the counts, and then a line of what each ended call took, in order
+-- what an engine writes of a play: its text; with the counts, and then a line of what each ended call took,
+-- in order
 abbrev pub text_by : Engine → List ℕ → Played → List ℕ
 text_by Calls names played = played_text names played
 text_by Steps names played = played_text names played

@@ -4,7 +4,8 @@ use Rattle.seg_core.specs.Segment.{IsLayout, IsLimit}
 use Rattle.book_core.specs.Commands.{AreSound, HavePrograms}
 use Rattle.script_core.specs.declared.script.Script.{Script}
 
--- the script can be played: it has a layout and a limit, each actor has a letter, commands are sound, and items are of its actors
+-- the script can be played: it has a layout and a limit, each actor has a letter, commands are sound, and
+-- items are of its actors
 pub record IsPlayable (s : Script) : Type 0 where
   pub layout : IsLayout s.first
   pub limit : IsLimit s.limit

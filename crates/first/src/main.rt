@@ -1,4 +1,5 @@
-//! The smallest program: a list opens into a vector, a value is appended, and the closed list returns it by its token.
+//! The smallest program: a list opens into a vector, a value is appended, and the closed list returns it by
+//! its token.
 #![tactic(auto)]
 
 use anyhow::{Result, bail};

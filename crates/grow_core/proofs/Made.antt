@@ -110,7 +110,8 @@ module _ {F T E : Type 0} (step : F → ℕ → Result T E → F → Type 0) (ma
   }
   won_made vector wanted room old new claimed (Err e) end it run n tokens made = tt
 
-  -- a run up to a size that was claimed and then filled with what the maker made is a growth up to that size that won
+  -- a run up to a size that was claimed and then filled with what the maker made is a growth up to that size
+  -- that won
   pub won_up_to : (vector : VectorView T) (to : ℕ) (old new : HandView) (claimed : Claimed T) (grown : GrownView T) (end : F)
       → (claimed.run.from + claimed.run.n ≡ to) × (0 < claimed.run.n) × IsClaimed vector claimed.run.n claimed.run.n old new claimed
       → grown.run ≡ claimed.run → length (values_of grown) ≡ claimed.run.n → IsGrownOf vector grown → Makes step maker (values_of grown) end

@@ -188,7 +188,8 @@ segment_ends_later : (f k : ℕ) → segment_start f k < segment_end f k
 segment_ends_later f zero = pow_pos (0 + f)
 segment_ends_later f (suc k) = pow-lt (let e : k + f < suc k + f = omega arith in e)
 
--- the first segments have all places that were claimed: the opened list has the keys of those below the base, and the hand of the others
+-- the first segments have all places that were claimed: the opened list has the keys of those below the base,
+-- and the hand of the others
 pub keys_enough : (f : ℕ) (opened own : KeyRow) (base size count first : ℕ) → HasFirstKeys opened first → base ≤ segment_start f first → HasKeysOfPlaces f own base size → f ≤ 8 → 1 ≤ f → count ≤ segment_count f
     → (count < segment_count f → (key_at opened count ≡ None) × (key_at own count ≡ None)) → size ≤ most_places → size ≤ segment_start f count
 keys_enough f opened own base size count first there inside has most some few end small =

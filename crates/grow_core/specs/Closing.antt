@@ -43,8 +43,8 @@ abbrev pub IsKept : {T : Type 0} → ℕ → Option (List ℕ) → KeyRow → Li
 IsKept f None before names row known count = Unit {0}
 IsKept f (Some mark) before names row known count = IsKeptOf f mark before names row known count
 
--- a vector that is being closed: the list that it was opened from, the members of the new one so far, the greatest length, how
--- many there will be, the layout of its segments, and the mark that they had
+-- a vector that is being closed: the list that it was opened from, the members of the new one so far, the
+-- greatest length, how many there will be, the layout of its segments, and the mark that they had
 pub record ClosingView (T : Type 0) : Type 0 where
   pub opened : List (Option T)
   pub members : List (Option T)

@@ -58,8 +58,8 @@ pub record LosesPlace {T : Type 0} (vector : VectorView T) (n : ℕ) (old new : 
   pub before : place < run.from + n
   pub there : IsFoundAt vector place found
 
--- the hand owns one more run, of n places, and the first of them have the values that were made. The run begins at or above the size
--- that the hand had seen, and there when the hand is whole
+-- the hand owns one more run, of n places, and the first of them have the values that were made. The run
+-- begins at or above the size that the hand had seen, and there when the hand is whole
 pub record KeepsMade {T : Type 0} (vector : VectorView T) (n : ℕ) (old new : HandView) (run : Run) (made : GrownView T) : Type 0 where
   pub claimed : AddsRun old new run
   pub all : run.n ≡ n
@@ -73,7 +73,8 @@ pub record KeepsMade {T : Type 0} (vector : VectorView T) (n : ℕ) (old new : H
 abbrev pub HasNoRoom : {T : Type 0} → VectorView T → ℕ → HandView → Type 0
 HasNoRoom vector n hand = limit_of vector < seen_size hand + n
 
--- another caller claimed first: the size is above what the hand had seen, and there is still room. A whole hand is alone
+-- another caller claimed first: the size is above what the hand had seen, and there is still room. A whole
+-- hand is alone
 pub record IsOvertaken {T : Type 0} (vector : VectorView T) (n : ℕ) (old : HandView) (size : ℕ) : Type 0 where
   pub further : seen_size old < size
   pub room : size + n ≤ limit_of vector

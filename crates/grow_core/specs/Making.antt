@@ -12,8 +12,8 @@ use Rattle.grow_core.specs.Keys.{OwnsPlacesOf}
 use Rattle.grow_core.specs.Grown.{GrownView, IsGrownOf, values_of}
 use Rattle.grow_core.specs.Growth.{Grows, WonRun, IsFoundAt}
 
--- asked for 0, 1, .. in turn, the maker made these values, and is then the last one. A step of it has the maker before, the number,
--- the result and the maker after
+-- asked for 0, 1, .. in turn, the maker made these values, and is then the last one. A step of it has the
+-- maker before, the number, the result and the maker after
 abbrev pub Makes : {F T E : Type 0} → (F → ℕ → Result T E → F → Type 0) → F → List T → F → Type 0
 Makes {F} step maker values last =
     FoldsTo {P = ℕ × F} (λ p x q. (q.0 ≡ p.0 + 1) × step p.1 p.0 (Ok x) q.1) (0, maker) values (length values, last)
@@ -31,7 +31,8 @@ StopsAt {F} step maker values cause end = (last : F) × Makes step maker values 
 abbrev pub StopsAfter : {F T E : Type 0} → (F → ℕ → Result T E → F → Type 0) → F → List T → E → Type 0
 StopsAfter {F} step maker values cause = (last : F) × Makes step maker values last × ((end : F) × step last (length values) (Err cause) end)
 
--- what a refused growth leaves of its maker: it was asked up to its refusal, or not at all. Nothing is said when a place was taken
+-- what a refused growth leaves of its maker: it was asked up to its refusal, or not at all. Nothing is said
+-- when a place was taken
 abbrev pub LeavesMaker : {F T V E : Type 0} → (F → ℕ → Result T E → F → Type 0) → F → F → GrowError T V E → Type 0
 LeavesMaker step maker end (Refused run made cause) = StopsAt step maker (values_of made) cause end
 LeavesMaker step maker end (Taken place found) = Unit {0}

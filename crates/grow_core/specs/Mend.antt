@@ -14,7 +14,8 @@ IsUnmendedAt vector place (OutOfRange size) = ⊥
 IsUnmendedAt vector place Pending = Unit {0}
 IsUnmendedAt vector place (Filled placed) = IsPlacedOf vector placed × (placed.place ≡ place)
 
--- when each refusal comes, by what the hand had seen, and sees now: a place is pending or filled below the size alone
+-- when each refusal comes, by what the hand had seen, and sees now: a place is pending or filled below the
+-- size alone
 abbrev pub IsMendDue : {T : Type 0} → VectorView T → ℕ → HandView → HandView → MendError T → Type 0
 IsMendDue vector place old new (OutOfRange size) = (size ≤ place) × SeesSize old new size
 IsMendDue vector place old new Pending = place < seen_size new

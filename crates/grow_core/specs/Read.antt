@@ -25,7 +25,8 @@ abbrev pub ShowsValue : {T : Type 0} → T → Shown T → Type 0
 ShowsValue x (shown.Filled at) = at.value.now ≡ x
 ShowsValue x other = ⊥
 
--- when each refusal comes, by what the hand had seen, and sees now: a place is pending or broken below the size alone
+-- when each refusal comes, by what the hand had seen, and sees now: a place is pending or broken below the
+-- size alone
 abbrev pub IsDueAt : {T : Type 0} → VectorView T → ℕ → HandView → HandView → AtError → Type 0
 IsDueAt vector place old new (OutOfRange size) = (size ≤ place) × SeesSize old new size
 IsDueAt vector place old new Pending = place < seen_size new

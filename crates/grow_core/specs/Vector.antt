@@ -13,8 +13,8 @@ use Rattle.grow_core.specs.Keys.{KeyRow, mark_of}
 use Rattle.grow_core.specs.Parts.{AreWhole, AreShutIn}
 use Rattle.grow_core.specs.Token.{PlacedView, SpoiltView, BegunView, place_in}
 
--- which vector it is: its claim word, with its limit and its base, and its segments; and the list that it was opened from, each
--- member a value or broken (`None`)
+-- which vector it is: its claim word, with its limit and its base, and its segments; and the list that it was
+-- opened from, each member a value or broken (`None`)
 pub record VectorView (T : Type 0) : Type 0 where
   pub word : WordView
   pub segments : TableView
@@ -42,8 +42,9 @@ base_of vector = vector.word.base
 abbrev pub IsOpenedAt : {T : Type 0} → VectorView T → ℕ → T → Type 0
 IsOpenedAt vector place x = slice_get vector.opened place ≡ Some (Some x)
 
--- what holds of a vector at all times: what is known of the list that it was opened from, by the keys of its first segments; the
--- epoch of that list has ended; and the word and its hands are marked with the layout and the names of the segments
+-- what holds of a vector at all times: what is known of the list that it was opened from, by the keys of its
+-- first segments; the epoch of that list has ended; and the word and its hands are marked with the layout and
+-- the names of the segments
 pub record IsShared {T : Type 0} (word : WordView) (segments : TableView) (keys : KeyRow) (known : List (MemberView T)) (ended : Lft) (count : ℕ) : Type 0 where
   pub whole : AreWhole segments.layout segments.names keys known word.base word.limit count
   pub shut : AreShutIn ended known

@@ -104,8 +104,8 @@ impl<T: Drop> Shared<T> {
         unreachable!()
     }
 
-    // One try to win `n` places from the size that the hand has seen, whose segments it installs first. `value` is
-    // passed through.
+    // One try to win `n` places from the size that the hand has seen, whose segments it installs first.
+    // `value` is passed through.
     pub(crate) fn claim<V, E>(
         &self,
         hand: &mut Hand<T>,

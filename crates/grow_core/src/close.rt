@@ -20,7 +20,8 @@ use std::alloc::Global;
 use std::marker::Model;
 use table_core::{Key, Table};
 
-// The key of a segment: that of the opened list, or the hand's, or otherwise one found by a look at the table.
+// The key of a segment: that of the opened list, or the hand's, or otherwise one found by a look at the
+// table.
 fn find_key<T>(table: &Table<T>, opened: &Keys, own: &Keys, segment: u32) -> Option<Key>
     requires layout { IsLayout table.now.layout }
     requires within { segment < segment_count table.now.layout }

@@ -9,7 +9,8 @@ use std::fmt;
 #[derive(Clone, Copy)]
 pub enum Never {}
 
-/// The reason why a growth was refused. `V` is what was moved in, and `E` the cause of a refused construction.
+/// The reason why a growth was refused. `V` is what was moved in, and `E` the cause of a refused
+/// construction.
 #[derive(Drop)]
 pub enum GrowError<T, V, E> {
     /// There was no memory. Nothing was claimed.

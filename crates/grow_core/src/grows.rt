@@ -53,8 +53,8 @@ impl<T: Drop> Shared<T> {
         self.fill_run(hand, claimed, values)
     }
 
-    /// Appends the values like `grow_vec`, without tokens and without memory for them. A look shows the values,
-    /// and the closed list has them.
+    /// Appends the values like `grow_vec`, without tokens and without memory for them. A look shows the
+    /// values, and the closed list has them.
     pub fn append<R: Wait>(
         &self,
         rt: &R,

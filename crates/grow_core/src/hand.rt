@@ -51,15 +51,16 @@ impl<T> Hand<T> {
         }
     }
 
-    // What every hand keeps: it has the key of each segment that its own runs touch. It does nothing but show the row.
+    // What every hand keeps: it has the key of each segment that its own runs touch. It does nothing but show
+    // the row.
     pub(crate) fn keys(&self) -> &Keys
         ensures { IsKeyed self.now result.now }
     {
         &self.keys
     }
 
-    // What a whole hand keeps: it has the key of the segment of each place that was claimed. It does nothing but show
-    // the row.
+    // What a whole hand keeps: it has the key of the segment of each place that was claimed. It does nothing
+    // but show the row.
     pub(crate) fn whole_keys(&self) -> &Keys
         requires whole { IsWholeHand self.now }
         ensures keys { AreKeys self.now.of.mark result.now }

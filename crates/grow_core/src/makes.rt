@@ -101,8 +101,8 @@ impl<T: Drop> Shared<T> {
         self.make_run(hand, claimed, make)
     }
 
-    // Fills the places of a run of the hand's with what the maker makes. It stops at a place that was taken, and after a refusal
-    // it breaks the places that are left.
+    // Fills the places of a run of the hand's with what the maker makes. It stops at a place that was taken,
+    // and after a refusal it breaks the places that are left.
     pub(crate) fn make_run<E: Drop, F: FnMut(u64) -> Result<T, E>>(
         &self,
         hand: &Hand<T>,

@@ -14,9 +14,9 @@ use std::alloc::{AllocError, Global};
 use std::marker::Model;
 use table_core::{Key, Table};
 
-/// The parts of a vector that an exclusive owner holds. It lends no cell, so nothing of it changes through a `&`.
-/// Contracts see it as a list of values and broken members (`None`), with its limit and the number of its
-/// segments.
+/// The parts of a vector that an exclusive owner holds. It lends no cell, so nothing of it changes through a
+/// `&`. Contracts see it as a list of values and broken members (`None`), with its limit and the number of
+/// its segments.
 #[derive(Drop)]
 pub struct Parts<T> {
     pub(crate) table: Table<T>,
@@ -28,7 +28,8 @@ pub struct Parts<T> {
     pub(crate) limit: u64,
     pub(crate) count: u32,
     pub(crate) alloc: Global,
-    // Of the vector that the list was closed from: the keys of its first segments as they were before, and its segments' mark.
+    // Of the vector that the list was closed from: the keys of its first segments as they were before, and
+    // its segments' mark.
     pub(crate) before: Keys,
     pub(crate) closed: Option<Mark>,
 }

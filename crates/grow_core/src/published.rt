@@ -7,8 +7,8 @@ use crate::vector::Shared;
 use std::iter::FusedIterator;
 use std::marker::Model;
 
-/// The values that the places of a vector show, in order. An item is `None` if its place shows no value: not yet, or
-/// because it is broken.
+/// The values that the places of a vector show, in order. An item is `None` if its place shows no value: not
+/// yet, or because it is broken.
 #[derive(Drop)]
 pub struct Published<'a, T> {
     vector: &'a Shared<T>,

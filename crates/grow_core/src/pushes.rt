@@ -32,8 +32,8 @@ impl<T: Drop> Shared<T> {
         self.push_at(hand, from, value)
     }
 
-    // One try to append a value at the size that the hand has seen. All that it reads of the segment it reads before the
-    // exchange: what comes after a locked step waits for it.
+    // One try to append a value at the size that the hand has seen. All that it reads of the segment it reads
+    // before the exchange: what comes after a locked step waits for it.
     #[inline(always)]
     fn push_at(
         &self,

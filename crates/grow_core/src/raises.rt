@@ -108,8 +108,9 @@ impl<T: Drop> Shared<T> {
         self.raise(hand, size, tokens)
     }
 
-    // One step that makes the size at least this one, with the segments up to there installed first. A run that it wins begins at
-    // or above what the hand had seen, so the room for tokens and the segments are enough.
+    // One step that makes the size at least this one, with the segments up to there installed first. A run
+    // that it wins begins at or above what the hand had seen, so the room for tokens and the segments are
+    // enough.
     fn raise<E>(
         &self,
         hand: &mut Hand<T>,

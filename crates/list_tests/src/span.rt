@@ -163,7 +163,8 @@ fn two_workers_run_at_once<R: Threads + Wait + Sync>(
         && pair_refusal_of(rt, alloc, list, 1, 1000) == Some(ParError::Stuck)
 }
 
-// What refuses a map in two leaves by five workers, so that three of them have no work; and what the gate counted.
+// What refuses a map in two leaves by five workers, so that three of them have no work; and what the gate
+// counted.
 fn counted<R: Threads + Wait + Sync>(
     rt: &R,
     alloc: Global,

@@ -152,7 +152,8 @@ fn check_refuses_two_equal_starts(rt: HostRuntime) -> Result<(), Fail> {
     Ok(())
 }
 
-// The events with the replies of the rows, and with the last entry of the row in the place of the reply of one of them.
+// The events with the replies of the rows, and with the last entry of the row in the place of the reply of
+// one of them.
 fn with_wrong_reply(
     alloc: Global,
     rows: &[(Event, Reply, Reply)],
@@ -300,7 +301,8 @@ fn check_refuses_each_event_that_is_not_legal(rt: HostRuntime) -> Result<(), Fai
     Ok(())
 }
 
-// Claims of one place each, and then the places are finished, the last one by another actor if `owned` is false.
+// Claims of one place each, and then the places are finished, the last one by another actor if `owned` is
+// false.
 fn long_history(
     alloc: Global,
     places: u64,

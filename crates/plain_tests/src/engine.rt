@@ -1,5 +1,5 @@
-//! What no row of the program shows: readers and writers that give or take little, fail, or are interrupted, and memory
-//! that is refused.
+//! What no row of the program shows: readers and writers that give or take little, fail, or are interrupted,
+//! and memory that is refused.
 
 mod lines;
 mod memory;

@@ -1,11 +1,11 @@
 //! The list that one owner has of a vector, when nobody else has it: values and broken members, with a limit.
 //!
-//! Contracts see a `Quiet<T>` as its members, its limit and its capacity (`specs/QuietList.antt`). A member is a value,
-//! or broken (`None`). The capacity counts the places of whole segments, also past the limit.
+//! Contracts see a `Quiet<T>` as its members, its limit and its capacity (`specs/QuietList.antt`). A member
+//! is a value, or broken (`None`). The capacity counts the places of whole segments, also past the limit.
 //!
-//! A caller can prove what each call does to the members and to the capacity, when a call is refused, and that a
-//! refusal gives back what was moved in. Up to the capacity no call asks for memory. Equality and order look at the
-//! members alone, and a broken member is less than every value.
+//! A caller can prove what each call does to the members and to the capacity, when a call is refused, and
+//! that a refusal gives back what was moved in. Up to the capacity no call asks for memory. Equality and
+//! order look at the members alone, and a broken member is less than every value.
 //!
 //! A list opens into a vector that many threads share, and a vector closes into a list: `Quiet::open`,
 //! `close`, `recall`. Broken members come from a vector (places that were claimed but never filled, and

@@ -298,8 +298,8 @@ impl<T: Drop> Quiet<T> {
         }
     }
 
-    /// Fills a broken member with the value. A refusal says that the place is not below the length, or that it has a value, and
-    /// gives the value back. It takes no memory.
+    /// Fills a broken member with the value. A refusal says that the place is not below the length, or that
+    /// it has a value, and gives the value back. It takes no memory.
     pub fn mend(&mut self, place: u64, value: T) -> Result<(), (QuietMendError, T)>
         ensures mended { OnOk result (self.new.members ≡ slice_set self.old.members place (Some value)) }
         ensures broken { OnOk result (slice_get self.old.members place ≡ Some None) }

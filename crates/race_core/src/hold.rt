@@ -23,8 +23,8 @@ pub const MOST_EACH: u32 = 100_000;
 
 /// Runs workers that append to one shared vector concurrently, and checks what they won.
 ///
-/// Worker w appends w * each + j for j from 0 to each - 1. It passes the gate before its first value and after its
-/// last. They are started by `with_hands`. Time and memory are linear in the number of values.
+/// Worker w appends w * each + j for j from 0 to each - 1. It passes the gate before its first value and
+/// after its last. They are started by `with_hands`. Time and memory are linear in the number of values.
 pub fn race<R: Threads + Wait + Sync, G: Gate + Sync>(
     rt: &R,
     alloc: Global,

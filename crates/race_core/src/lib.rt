@@ -3,8 +3,8 @@
 //! `race` starts workers that append their values through a gate, and checks what they won against the plain
 //! list of cells. `RaceReport` is what it found, `RaceError` why there is no report.
 //!
-//! A caller can prove the whole report, and what each refusal means: `specs/Race.antt`. No clause says that a race returns,
-//! nor that its threads run at once.
+//! A caller can prove the whole report, and what each refusal means: `specs/Race.antt`. No clause says that a
+//! race returns, nor that its threads run at once.
 #![tactic(auto)]
 
 mod history;

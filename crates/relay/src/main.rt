@@ -1,5 +1,5 @@
-//! Tokens that travel: one thread appends squares to a vector and sends a note of each place, and another reads the values by
-//! the notes while more are appended.
+//! Tokens that travel: one thread appends squares to a vector and sends a note of each place, and another
+//! reads the values by the notes while more are appended.
 #![tactic(auto)]
 
 ghost use Rattle.grow_core.specs.Vector.{IsHandOf};
@@ -17,7 +17,8 @@ use std::thread;
 
 const COUNT: u64 = 1000;
 
-// Appends the squares from 1 on, and sends a note of each. It ends early if the vector is full or nobody listens.
+// Appends the squares from 1 on, and sends a note of each. It ends early if the vector is full or nobody
+// listens.
 fn send_squares<'a, R: Wait>(
     rt: &R,
     vector: &'a Shared<u64>,

@@ -51,7 +51,8 @@ cut separator (b ∷ bs) =
     then ([], Some (drop (length separator) (b ∷ bs)))
     else (b ∷ (cut separator bs).0, (cut separator bs).1)
 
--- what the step gives for each of the list, after what is done; one more than the most is a fault before its step
+-- what the step gives for each of the list, after what is done; one more than the most is a fault before its
+-- step
 unfoldable pub try_each : {X Y : Type 0} → (X → Result Y Fault) → ℕ → List Y → List X → Result (List Y) Fault
 try_each step most done [] = Ok done
 try_each step most done (x ∷ xs) =

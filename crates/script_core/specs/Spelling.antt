@@ -80,7 +80,8 @@ IsProgram program = (1 ≤ length program) × (length program ≤ 1000) × All I
 abbrev pub IsName : ℕ → Type 0
 IsName name = (97 ≤ name) × (name ≤ 122)
 
--- what a script has to be, in a text with a layout line, or without one if the layout is 1, and with a last LF or without
+-- what a script has to be, in a text with a layout line, or without one if the layout is 1, and with a last
+-- LF or without
 pub record IsScript (s : Script) (with_layout last_lf : Bool) : Type 0 where
   pub limit : (1 ≤ s.limit) × (s.limit ≤ 65536)
   pub first : (1 ≤ s.first) × (s.first ≤ 8) × (with_layout ≡ false → s.first ≡ 1)

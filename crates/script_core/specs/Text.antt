@@ -35,12 +35,14 @@ answer_text answers.Broken = codes "broken"
 answer_text (answers.OutOfRange size) = codes "outofrange " ++ decimal size
 answer_text (answers.Size size) = decimal size
 
--- the answer line of a call that ended: the actor's name with the call's number, the command's word, and the answer
+-- the answer line of a call that ended: the actor's name with the call's number, the command's word, and the
+-- answer
 abbrev pub answer_line : ℕ → Ended → List ℕ
 answer_line name ended =
     name ∷ decimal ended.number ++ codes " " ++ word_of ended.command ++ codes " " ++ answer_text ended.answer ++ codes "\n"
 
--- the line of what an ended call took: the actor's name with the call's number, its lost exchanges, and its steps
+-- the line of what an ended call took: the actor's name with the call's number, its lost exchanges, and its
+-- steps
 abbrev pub work_line : ℕ → Work → List ℕ
 work_line name work =
     name ∷ decimal work.number ++ codes " lost " ++ decimal work.lost ++ codes " steps " ++ decimal work.steps ++ codes "\n"

@@ -1,7 +1,8 @@
 //! Scripts and answer lines as text.
 //!
-//! - `read` reads a script: a limit, a layout, the actors with their programs, and the items of a schedule. Contracts see
-//!   what it returns as `script_of` of `specs/Grammar.antt`: the script, or the first fault with its line.
+//! - `read` reads a script: a limit, a layout, the actors with their programs, and the items of a schedule.
+//!   Contracts see what it returns as `script_of` of `specs/Grammar.antt`: the script, or the first fault
+//!   with its line.
 //! - `specs/Spelling.antt` says the same in the grammar's own words: `text_of` is a script's spelling, with
 //!   or without a layout line, and a text is read exactly if it is the spelling of a script (`IsScript`).
 //! - `write_reply` and `write_cells` write the answer lines and the last line, as `specs/Text.antt` has them.

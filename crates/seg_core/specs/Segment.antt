@@ -1,4 +1,5 @@
--- Segments: the intervals into which a layout cuts the places. With a first one of 2^f places they are [0, 2^f),
+-- Segments: the intervals into which a layout cuts the places. With a first one of 2^f places they are [0,
+-- 2^f),
 -- [2^f, 2^(f+1)), [2^(f+1), 2^(f+2)), ..
 use Rattle.std.specs.Prelude.{ℕ, ◌+◌, ◌-◌, ◌^◌, ◌<◌, ◌≤◌, nat_lt, true, false, zero, suc}
 

@@ -5,8 +5,8 @@
 //! [4, 8), [8, 16), and so on. `specs/Segment.antt` says so, and contracts cite nothing else: no bit of an
 //! index occurs in them.
 //!
-//! A caller can prove that each place is one segment and one offset, which segments a run touches, and how many
-//! places a number of them needs in whole segments. No call takes memory or refuses.
+//! A caller can prove that each place is one segment and one offset, which segments a run touches, and how
+//! many places a number of them needs in whole segments. No call takes memory or refuses.
 #![tactic(auto)]
 
 pub mod laws;

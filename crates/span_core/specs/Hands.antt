@@ -57,7 +57,8 @@ pub record IsPartOf (own all : HandView) : Type 0 where
 abbrev pub SaysOfPart : {X : Type 0} → (ℕ → HandView → X → Type 0) → HandView → ℕ → X → Type 0
 SaysOfPart says all worker x = (own : HandView) × says worker own x × IsPartOf own all
 
--- what workers from this one on said, each of a hand that is part of this one; their own runs together are these
+-- what workers from this one on said, each of a hand that is part of this one; their own runs together are
+-- these
 abbrev pub SayInTurn : {X : Type 0} → (ℕ → HandView → X → Type 0) → HandView → ℕ → List X → List ℕ → Type 0
 SayInTurn says all worker [] mine = mine ≡ []
 SayInTurn says all worker (x ∷ xs) mine =

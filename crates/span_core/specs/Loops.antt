@@ -30,7 +30,8 @@ AnswersAreMap {T} {U} post =
 abbrev pub wrapping_sum : ℕ → ℕ → ℕ
 wrapping_sum a b = (a + b) % 2 ^ 64
 
--- over the values of a domain, op is what join does; it may be grouped in any way, and the unit changes nothing
+-- over the values of a domain, op is what join does; it may be grouped in any way, and the unit changes
+-- nothing
 pub record Joins {U : Type 0} (post : U → U → U → Type 0) (is_in : U → Type 0) (unit : U) (op : U → U → U) : Type 0 where
   pub inside : is_in unit
   pub computes : (a b r : U) → is_in a → is_in b → post a b r → r ≡ op a b

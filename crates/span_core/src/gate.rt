@@ -10,7 +10,8 @@ pub trait Gate {
     /// Whether this gate may refuse this worker.
     ghost may_refuse: { Self → ℕ → Type 0 };
 
-    /// What is known of a worker that this gate let through. Work asks for it, so that none is done without the gate.
+    /// What is known of a worker that this gate let through. Work asks for it, so that none is done without
+    /// the gate.
     ghost lets_through: { Self → ℕ → Type 0 } = { λ _ _. ⊤ };
 
     /// Called by each worker before its first piece of work. Returns whether the worker may work.

@@ -1,4 +1,5 @@
-//! What callers of the loops know of a function that they pass in, each the contract of a call without a body.
+//! What callers of the loops know of a function that they pass in, each the contract of a call without a
+//! body.
 ghost use Rattle.span_core.specs.Loops.{AnswersAreMap, SumsWrap};
 
 /// States that `par_map` over a whole list returns the map of its members.

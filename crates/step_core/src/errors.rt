@@ -2,8 +2,8 @@
 use std::error::Error;
 use std::fmt;
 
-/// The reason why a schedule was not played. Refusals 2, 3 and 4 are looked for in this order, before anything is
-/// played; 1 comes last.
+/// The reason why a schedule was not played. Refusals 2, 3 and 4 are looked for in this order, before
+/// anything is played; 1 comes last.
 #[derive(Clone, Copy, Debug, PartialEq, Eq)]
 pub enum PlayError {
     NoMemory = 1,

@@ -56,9 +56,10 @@ pub fn stepping()
 
 /// States that no call of any play takes more than it may, ended or under way.
 ///
-/// It loses no more exchanges than others made the size larger since its first step. A round touches at most 40
-/// segments, and no more than the most that its places touch anywhere within the limit. A growth of n places takes a step, then two at each segment of a round and one at the round's end, and
-/// two at each place; a mend takes at most three steps, a read two, and a look at the size one.
+/// It loses no more exchanges than others made the size larger since its first step. A round touches at most
+/// 40 segments, and no more than the most that its places touch anywhere within the limit. A growth of n
+/// places takes a step, then two at each segment of a round and one at the round's end, and two at each
+/// place; a mend takes at most three steps, a read two, and a look at the size one.
 pub fn work()
     ensures { EveryCallIsBounded }
 {}

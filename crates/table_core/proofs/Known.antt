@@ -27,7 +27,8 @@ module _ (R : RattleType) (measure : R.Denot → ℕ) (n : ℕ) (a : Global) (γ
   F = Fit R measure n
 
   module _ {M : Type 1} {𝓤 : Ura M} {𝓛 : Logic 𝓤} {K : Type 0} {Γ : List (Item 𝓤)} {G : Goal 𝓤 𝓛.H} where
-    -- the word is null only to a sight that knows nothing, otherwise the box is that of the block that is known
+    -- the word is null only to a sight that knows nothing, otherwise the box is that of the block that is
+    -- known
     pub either_known : K → Soaks G → (p : Ptr) (k : Option R.Denot) → (p ≡ null_ptr → k ≡ None → Seq K 𝓛 Γ G)
         → ((b o : ℕ) (x : R.Denot) → p ≡ block_ptr b o → Testable (block_ptr b o) → Agrees k x → Seq K 𝓛 (‵ (boxed F a (block_ptr b o) x) ∷ Γ) G)
         → Seq K 𝓛 (‵ (kept F a γ p) ∷ ‵ (noted R γ k) ∷ Γ) G

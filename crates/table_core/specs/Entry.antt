@@ -1,4 +1,5 @@
--- What an entry owns, and what a `&` to it holds: what a `OnceBox` does, of blocks that are as long as the entry says.
+-- What an entry owns, and what a `&` to it holds: what a `OnceBox` does, of blocks that are as long as the
+-- entry says.
 use Rattle.std.specs.Prelude.{◌≡◌, ℕ, ◌+◌, IfSome}
 use base.Stored.{gnil, gcons}
 use base.Fml.{Lft, Fml, ftrue, ffalse, fex, fbor, fres}

@@ -8,8 +8,8 @@ use Rattle.seg_core.specs.Segment.{segment_start, segment_end, segment_count}
 use Rattle.cell_core.specs.Block.{BlockView, block_coded, block_len}
 use Rattle.table_core.specs.Entry.{EntryView, length_of}
 
--- a table: the layout of its segments, the name of each entry, the entry whose block is lent, if one is, and the
--- entry that `holds_now` last named, if no entry changed since
+-- a table: the layout of its segments, the name of each entry, the entry whose block is lent, if one is, and
+-- the entry that `holds_now` last named, if no entry changed since
 pub record TableView : Type 0 where
   pub layout : ℕ
   pub names : List ℕ

@@ -1,7 +1,8 @@
 //! The segment table: entries that are each set once, to a block of cells.
 //!
-//! A `Table` has an entry for each segment of a layout. Contracts see it as the names of its entries, a block as the names of its cells, and a
-//! `Key` as its entry's number, its block, and the entry's name (`specs/Table.antt`).
+//! A `Table` has an entry for each segment of a layout. Contracts see it as the names of its entries, a block
+//! as the names of its cells, and a `Key` as its entry's number, its block, and the entry's name
+//! (`specs/Table.antt`).
 //!
 //! A caller can prove that the block of entry k has as many cells as segment k has places; that a key's block
 //! is there, at any time and in any thread; and that two keys of one entry have one block. A caller cannot

@@ -227,7 +227,8 @@ fn make_plain_call(
     Ok(())
 }
 
-/// Makes one random call with the hand, and for some kinds with `other` too. `token` is that of the thread's last push.
+/// Makes one random call with the hand, and for some kinds with `other` too. `token` is that of the thread's
+/// last push.
 pub fn make_call<R: Wait>(
     rt: &R,
     alloc: Global,

@@ -7,8 +7,8 @@ use std::alloc::Global;
 use std::test::Fail;
 use step_core::{Machine, Played, Slot, play_in};
 
-// The number of a layout, and how many steps a growth by 300 takes up to its claim: a load, two for each segment of its
-// places, and an exchange.
+// The number of a layout, and how many steps a growth by 300 takes up to its claim: a load, two for each
+// segment of its places, and an exchange.
 #[rattlefmt::skip]
 const STEPS: [(u32, u32); 8] = [
     (1, 20), (2, 18), (3, 16), (4, 14), (5, 12), (6, 10), (7, 8), (8, 6),
@@ -37,7 +37,8 @@ fn a_growth_looks_for_the_segments_of_its_layout(rt: HostRuntime) -> Result<(), 
     Ok(())
 }
 
-// The number of a layout, and how many steps a growth by 65,536 takes: those up to its claim, and two for each place.
+// The number of a layout, and how many steps a growth by 65,536 takes: those up to its claim, and two for
+// each place.
 #[rattlefmt::skip]
 const FILLED: [(u32, u32); 8] = [
     (1, 131_106), (2, 131_104), (3, 131_102), (4, 131_100), (5, 131_098), (6, 131_096), (7, 131_094), (8, 131_092),

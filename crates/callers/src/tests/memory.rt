@@ -95,7 +95,8 @@ fn machine_again(alloc: Global, first: Option<u32>, text: &str) -> Result<Machin
     }
 }
 
-// The step of an actor. If memory runs out in it, the machine is as before, and the same step is asked for again.
+// The step of an actor. If memory runs out in it, the machine is as before, and the same step is asked for
+// again.
 fn step_again(machine: &mut Machine, actor: u32) -> Option<Stepped> {
     let (size, slot) = (machine.size(), machine.slot(0));
     match machine.step(actor, true) {

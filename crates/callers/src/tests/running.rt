@@ -1,5 +1,5 @@
-//! Sampled schedules of whole calls, played on the running vector: each answer and the closed list are those that
-//! `play_calls` gives on the plain list of cells.
+//! Sampled schedules of whole calls, played on the running vector: each answer and the closed list are those
+//! that `play_calls` gives on the plain list of cells.
 ghost use Rattle.std.specs.Prelude.{◌≡◌};
 ghost use Rattle.seg_core.specs.Segment.{IsLimit};
 ghost use Rattle.grow_core.specs.Vector.{IsHandOf};

@@ -24,8 +24,8 @@ fn grow_refused(vector: &Shared<u64>, hand: &mut Hand<u64>, n: u64, at: u64) -> 
     }
 }
 
-// Grows by `n` values, of which the first is 70; the maker refuses number `at`. If the construction is refused
-// after the first value, returns that value.
+// Grows by `n` values, of which the first is 70; the maker refuses number `at`. If the construction is
+// refused after the first value, returns that value.
 fn first_of_refused(vector: &Shared<u64>, hand: &mut Hand<u64>, n: u64, at: u64) -> Option<u64>
     requires ours { IsHandOf vector.now hand.old }
     ensures { IfSome result (λ first. first ≡ 70) }
@@ -77,7 +77,8 @@ fn first_published(list: Quiet<u64>) -> Option<Option<u64>>
     }
 }
 
-// The place of the token that a look at a broken place gives is that place, and so is the one that `at` gives.
+// The place of the token that a look at a broken place gives is that place, and so is the one that `at`
+// gives.
 fn broken_places(vector: &Shared<u64>, hand: &mut Hand<u64>, place: u64) -> Option<(u64, u64)>
     requires ours { IsHandOf vector.now hand.old }
     ensures { IfSome result (λ (looked, read). (looked ≡ place) × (read ≡ place)) }
@@ -177,7 +178,8 @@ fn equals_with_room(list: &mut Quiet<u64>, other: &Quiet<u64>, n: u64) -> bool
     *list == *other
 }
 
-// The list of `n` numbers from 0 on. Number `refused` is refused, and its place is broken, as are those after it.
+// The list of `n` numbers from 0 on. Number `refused` is refused, and its place is broken, as are those after
+// it.
 fn numbers<R: AllocGlobal>(rt: &R, n: u64, refused: u64) -> Quiet<u64> {
     let mut list = Quiet::new(rt.alloc(), 8);
     let make = |i: u64| -> Result<u64, u64> { if i == refused { Err(i) } else { Ok(i) } };

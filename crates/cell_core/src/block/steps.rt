@@ -155,7 +155,8 @@ impl<T, A: Allocator> Laid<T, A> {
         }
     }
 
-    // Writes a value. What the cell held is forgotten: a value that is still there is not dropped. The cell has new names.
+    // Writes a value. What the cell held is forgotten: a value that is still there is not dropped. The cell
+    // has new names.
     pub(crate) fn fill(&mut self, link: Link<T>, index: usize, value: T) -> Written<T>
         requires { IsLinked self.old.at link.ptr × (index < length self.old.cells) }
         ensures { (self.new.heap ≡ self.old.heap) × (self.new.at ≡ self.old.at)
@@ -172,8 +173,8 @@ impl<T, A: Allocator> Laid<T, A> {
         }
     }
 
-    // Breaks the cell for the epoch. What it held is forgotten: a value that is still there is not dropped. The cell has
-    // new names.
+    // Breaks the cell for the epoch. What it held is forgotten: a value that is still there is not dropped.
+    // The cell has new names.
     pub(crate) fn spoil(&mut self, link: Link<T>, index: usize, epoch: &Epoch) -> Member<T>
         requires { IsLinked self.old.at link.ptr × (index < length self.old.cells) }
         ensures { (self.new.heap ≡ self.old.heap) × (self.new.at ≡ self.old.at)

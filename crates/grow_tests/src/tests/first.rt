@@ -59,7 +59,8 @@ fn push<R: Abort>(rt: &R, seat: &mut Seat, value: u64) {
     assert!(rt; pushed, "{value}");
 }
 
-// Pushes on each vector together with the other thread. Both want the first segment, and one of them installs it.
+// Pushes on each vector together with the other thread. Both want the first segment, and one of them installs
+// it.
 fn push_each<R: Abort>(
     rt: &R,
     mut seats: Vec<Seat>,

@@ -222,7 +222,8 @@ fn grow_by_threads<R: Threads + Wait + Abort + Sync>(
     }
 }
 
-// How far each thread's values have come, in order of place. It stops at a value that is out of its thread's order.
+// How far each thread's values have come, in order of place. It stops at a value that is out of its thread's
+// order.
 fn count_in_order(parts: &Parts<u64>, from: u64) -> [u64; 2] {
     let mut next = [0; 2];
     for place in from..parts.len() {

@@ -198,7 +198,8 @@ impl Other<'_> {
     }
 }
 
-// The run of a growth whose maker looks at the place that it made before, and appends besides its own, which is pending.
+// The run of a growth whose maker looks at the place that it made before, and appends besides its own, which
+// is pending.
 fn grow_beside(vector: &Shared<u64>, hand: &mut Hand<u64>, mut other: Other<'_>) -> Option<Run>
     requires ours { IsHandOf vector.now hand.old }
     ensures of { hand.new.of ≡ hand.old.of }
@@ -283,7 +284,8 @@ fn first_read(vector: &Shared<u64>, grown: &Grown<u64>, value: u64) -> Option<u6
     Some(*vector.get(&first))
 }
 
-// A clone that was made is read as the value, whether the growth won or was refused after it, by the clauses alone.
+// A clone that was made is read as the value, whether the growth won or was refused after it, by the clauses
+// alone.
 fn clone_read(vector: &Shared<u64>, hand: &mut Hand<u64>, value: u64) -> Option<u64>
     requires ours { IsHandOf vector.now hand.old }
     ensures of { hand.new.of ≡ hand.old.of }
@@ -302,7 +304,8 @@ fn clone_read(vector: &Shared<u64>, hand: &mut Hand<u64>, value: u64) -> Option<
     }
 }
 
-// What a refused construction leaves, by the clauses alone: the next growth of a caller alone goes on behind the whole run.
+// What a refused construction leaves, by the clauses alone: the next growth of a caller alone goes on behind
+// the whole run.
 fn next_after(vector: &Shared<u64>, hand: &mut Hand<u64>) -> Option<(Run, u64)>
     requires ours { IsHandOf vector.now hand.old }
     ensures of { hand.new.of ≡ hand.old.of }

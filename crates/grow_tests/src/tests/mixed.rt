@@ -78,7 +78,8 @@ fn told_at_least<E: Drop>(
     }
 }
 
-// One call, of a form that the number names: a push, clones, moved values, or a maker that may refuse, for a growth or up to a size.
+// One call, of a form that the number names: a push, clones, moved values, or a maker that may refuse, for a
+// growth or up to a size.
 fn call<R: AllocGlobal + Wait + Abort>(
     rt: &R,
     vector: &Shared<u64>,

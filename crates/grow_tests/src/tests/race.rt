@@ -136,7 +136,8 @@ fn push_by_four<R: Threads + Wait + Abort + Sync>(
     all
 }
 
-// How far each thread's values have come, in order of place. It stops at a value that is out of its thread's order.
+// How far each thread's values have come, in order of place. It stops at a value that is out of its thread's
+// order.
 fn count_in_order(vector: &Shared<u64>, hand: &mut Hand<u64>) -> [u64; 4]
     requires ours { IsHandOf vector.now hand.old }
     ensures { hand.new.of ≡ hand.old.of }

@@ -115,8 +115,8 @@ fn appends_again(two: &mut Callers<u64>, alloc: Global) -> bool {
     }
 }
 
-// It passes too if any one allocation is made to fail: the call that asked for it gives back what it was given, and
-// succeeds when it is called again.
+// It passes too if any one allocation is made to fail: the call that asked for it gives back what it was
+// given, and succeeds when it is called again.
 #[test]
 fn a_refused_allocation_gives_the_values_back(rt: HostRuntime) {
     let mut two = fresh_again(&rt, 8);

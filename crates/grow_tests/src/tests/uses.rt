@@ -87,7 +87,8 @@ fn push_here_read_there<R: Threads + Sync>(
     Some(read)
 }
 
-// Once two hands that have all shares are joined, their runs tile the length of the list that the vector is closed into.
+// Once two hands that have all shares are joined, their runs tile the length of the list that the vector is
+// closed into.
 fn end_of_both(vector: Shared<u64>, mut a: Hand<u64>, b: Hand<u64>) -> u64
     requires ours { IsHandOf vector a }
     requires also_ours { IsHandOf vector b }

@@ -158,8 +158,8 @@ fn a_refused_value_breaks_the_places_of_the_closed_list(rt: HostRuntime) {
     }
 }
 
-// The values at the four places of a list of three members, which is opened and read, gets a fourth, and is closed: as read while
-// it was open, and as recalled.
+// The values at the four places of a list of three members, which is opened and read, gets a fourth, and is
+// closed: as read while it was open, and as recalled.
 fn recalled(list: Quiet<u64>, value: u64) -> Option<([u64; 4], [u64; 4])> {
     let (vector, mut hand) = list.open().ok()?;
     let At {

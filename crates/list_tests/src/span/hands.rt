@@ -1,4 +1,5 @@
-// Workers that append to one vector, each by a hand of its own: the hand is whole again, whatever they return.
+// Workers that append to one vector, each by a hand of its own: the hand is whole again, whatever they
+// return.
 ghost use Rattle.std.specs.Prelude.{◌≡◌, ◌<◌, ◌≤◌};
 ghost use Rattle.grow_core.specs.Vector.{IsHandOf};
 

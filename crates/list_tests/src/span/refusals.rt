@@ -5,7 +5,8 @@ use std::sync::Wait;
 use std::sync::atomic::{AtomicU64, Ordering};
 use std::thread::Threads;
 
-// A digit for each worker, the lowest first, to the base 3: 0 works, 1 is refused by the gate, 2 has no memory.
+// A digit for each worker, the lowest first, to the base 3: 0 works, 1 is refused by the gate, 2 has no
+// memory.
 #[derive(Drop)]
 pub(super) struct Fates {
     digits: u32,

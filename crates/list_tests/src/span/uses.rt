@@ -152,7 +152,8 @@ impl Matrix {
     }
 }
 
-// The product of the steps by all members, in order, by whatever number of workers: these joins do not commute.
+// The product of the steps by all members, in order, by whatever number of workers: these joins do not
+// commute.
 fn product<R: Threads + Wait + Sync>(
     rt: &R,
     alloc: Global,

@@ -313,8 +313,8 @@ fn a_write_may_be_interrupted_less_than_1_048_576_times(rt: HostRuntime) {
 
 const MOST_INTERRUPTIONS: usize = 1_048_576;
 
-// How a play ends whose reader, or otherwise its writer, is interrupted this many times in all, and whether its text is
-// whole.
+// How a play ends whose reader, or otherwise its writer, is interrupted this many times in all, and whether
+// its text is whole.
 fn ended_after(
     alloc: Global,
     row: &Row,
@@ -397,8 +397,8 @@ fn long_script(alloc: Global) -> Result<Vec<u8>, AllocError> {
     Ok(script)
 }
 
-// An engine, and how long the text of that play is: a line of the growth, one of the cells with 21 bytes a place, and
-// one of counts.
+// An engine, and how long the text of that play is: a line of the growth, one of the cells with 21 bytes a
+// place, and one of counts.
 #[rattlefmt::skip]
 const LONG_TEXTS: [(Engine, usize); 3] = [
     (Engine::Calls, 1_029_032), (Engine::Steps, 1_029_032), (Engine::Counted, 1_029_054),

@@ -370,8 +370,8 @@ fn too_many_cells_are_refused(rt: HostRuntime) {
     }
 }
 
-// Lays `n` cells of 16 MiB, and returns whether all are empty. The block is freed without dropping its cells, since
-// a value of this size does not fit on the stack.
+// Lays `n` cells of 16 MiB, and returns whether all are empty. The block is freed without dropping its cells,
+// since a value of this size does not fit on the stack.
 fn are_laid(alloc: Global, n: u64) -> Result<bool, AllocError> {
     let block = Block::<[u64; 1 << 21]>::new(alloc, n)?;
     let is_laid = block.len() == n && empty_cells(&block) == n;

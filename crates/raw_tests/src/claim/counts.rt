@@ -1,5 +1,5 @@
-// A layer above, in small: each hand counts the places that it won. When the word is closed, its size is the base and
-// the count of the one hand that is left, by the public clauses alone.
+// A layer above, in small: each hand counts the places that it won. When the word is closed, its size is the
+// base and the count of the one hand that is left, by the public clauses alone.
 ghost use Rattle.std.specs.Prelude.{◌≡◌, ◌+◌, ◌-◌, ◌<◌, []};
 ghost use Rattle.claim_core.specs.Hand.{IsHandOf, IsWholeHand, KeepsOwn, own_places};
 

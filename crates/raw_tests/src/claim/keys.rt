@@ -1,5 +1,6 @@
-// A layer above, in small: places lie in 32 blocks, and a hand carries the key of each block that one of its runs
-// touches. That every key is there is kept through claim, split, join and meet, by the public clauses alone.
+// A layer above, in small: places lie in 32 blocks, and a hand carries the key of each block that one of its
+// runs touches. That every key is there is kept through claim, split, join and meet, by the public clauses
+// alone.
 ghost use Rattle.std.specs.Prelude.{◌≡◌, ◌+◌, ◌-◌, ◌<◌, ◌≤◌, ◌++◌, [], ℕ, IsSome, IfSome, slice_index_or, None};
 ghost use Rattle.claim_core.specs.Hand.{IsHandOf, KeepsOwn, OwnsRun};
 

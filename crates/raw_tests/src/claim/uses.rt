@@ -41,7 +41,8 @@ fn claim_two<A: Allocator>(word: &Word<A>, a: &mut Hand, b: &mut Hand) -> Option
     Some((first, second))
 }
 
-// Two hands claim a place each, and become one without a meeting: their runs are disjoint, and it has seen both.
+// Two hands claim a place each, and become one without a meeting: their runs are disjoint, and it has seen
+// both.
 fn claim_joined<A: Allocator>(word: &Word<A>, a: &mut Hand, mut b: Hand) -> Option<(Run, Run)>
     requires ours { IsHandOf word.now a.old }
     requires also_ours { IsHandOf word.now b }

@@ -1,4 +1,5 @@
--- Every play is recorded: the events of each actor are the records of its ended calls, and a beginning of one more.
+-- Every play is recorded: the events of each actor are the records of its ended calls, and a beginning of one
+-- more.
 pub mod Settled
 pub mod Rows
 use Rattle.std.proofs.Common.{◌≡◌, ◌≢◌, ℕ, ◌+◌, ◌==◌, Bool, List, [], ◌∷◌, ◌++◌, length, All, Option, Some, None, IfSome, unwrap_or, slice_get, slice_set, refl, ap, sym, ◌∙◌, subst, arith, inl, inr, append_assoc, eq-eqb}

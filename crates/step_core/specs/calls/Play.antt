@@ -11,7 +11,8 @@ use Rattle.book_core.specs.Cells.{CellList, empty_list, apply_event}
 use Rattle.step_core.specs.declared.programs.Played.{Played}
 use Rattle.step_core.specs.calls.WholeCall.{call_on}
 
--- A play so far: the list, how many calls each actor has ended, the events with their replies, and the ended calls.
+-- A play so far: the list, how many calls each actor has ended, the events with their replies, and the ended
+-- calls.
 pub record CallPlay : Type 0 where
   pub list : CellList
   pub counts : List ℕ

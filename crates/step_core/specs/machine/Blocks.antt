@@ -55,7 +55,8 @@ abbrev pub slot_in : Option Slots → ℕ → Option Slot
 slot_in None offset = None
 slot_in (Some block) offset = flattened (slice_get block offset)
 
--- what the slot of a place holds: it lies in the block of its segment, as far from the front as the place from the segment's first
+-- what the slot of a place holds: it lies in the block of its segment, as far from the front as the place
+-- from the segment's first
 abbrev pub slot_at : ℕ → Entries → ℕ → Option Slot
 slot_at f entries place = slot_in (block_of entries (segment_of f place)) (place - segment_start f (segment_of f place))
 
@@ -86,7 +87,8 @@ shown f entries = record {
   slots = map_below (slot_at f entries) most_places;
 }
 
--- each segment of the layout has an entry, no other entry has a block, and a block has as many slots as its segment has places
+-- each segment of the layout has an entry, no other entry has a block, and a block has as many slots as its
+-- segment has places
 pub record AreBlocks (f : ℕ) (entries : Entries) : Type 0 where
   pub layout : IsLayout f
   pub count : length entries ≡ entry_count

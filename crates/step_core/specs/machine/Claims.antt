@@ -23,8 +23,8 @@ claim_of actor (commands.Mend place value) = None
 claim_of actor (commands.Read place) = None
 claim_of actor commands.Size = None
 
--- The step is the claim of the actor's call under way: its event is that call's own, with the run from the old size to the
--- new one.
+-- The step is the claim of the actor's call under way: its event is that call's own, with the run from the
+-- old size to the new one.
 pub record IsOwnClaim (c : Configuration) (actor : ℕ) (step : Step) : Type 0 where
   pub state : Actor
   pub there : slice_get c.actors actor ≡ Some state

@@ -13,7 +13,8 @@ use Rattle.step_core.specs.machine.Kept.{FilledCellsAreKept, BrokenCellsAreKept}
 
 -- what holds of a play of these programs
 pub record IsSequential (limit : ℕ) (programs : List (List Command)) (p : Play) : Type 0 where
-  -- every reply is the one that a sequential vector of cells gives in one legal history, which leads to the cells seen
+  -- every reply is the one that a sequential vector of cells gives in one legal history, which leads to the
+  -- cells seen
   pub legal : IsLegal limit p
   -- the history holds each call that claimed once, in its caller's order, with its answer
   pub recorded : AreRecorded programs p
@@ -23,8 +24,8 @@ pub record IsSequential (limit : ℕ) (programs : List (List Command)) (p : Play
   pub own_claims : MovesAreOwnClaims p
   -- and a growth of nothing is claimed at its load
   pub nothing_at_load : NothingIsClaimedAtLoad p
-  -- runs tile the claimed size; each place is its owner's, who fills or breaks it; a broken one is filled by its mender, and
-  -- no place is filled twice; a refusal breaks its own cells alone
+  -- runs tile the claimed size; each place is its owner's, who fills or breaks it; a broken one is filled by
+  -- its mender, and no place is filled twice; a refusal breaks its own cells alone
   pub tiled : IsTiled p
   -- a published cell keeps its value
   pub kept : FilledCellsAreKept p

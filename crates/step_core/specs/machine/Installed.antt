@@ -8,7 +8,8 @@ use Rattle.step_core.specs.declared.machine.phase.Actor.{Actor}
 use Rattle.step_core.specs.machine.Storage.{Storage}
 use Rattle.step_core.specs.machine.Step.{Configuration}
 
--- in this phase real memory may run out: it is Put of a segment that is not installed, and the mark grants memory
+-- in this phase real memory may run out: it is Put of a segment that is not installed, and the mark grants
+-- memory
 pub record TakesMemory (m : Storage) (phase : Phase) (memory : Bool) : Type 0 where
   pub from : ℕ
   pub n : ℕ

@@ -1,4 +1,5 @@
--- What a reader finds at a filled place, it finds there from then on; what it finds at a broken one, until it is mended.
+-- What a reader finds at a filled place, it finds there from then on; what it finds at a broken one, until it
+-- is mended.
 use Rattle.std.specs.Prelude.{◌≡◌, ℕ, List, Some, slice_get}
 use Rattle.std.specs.List.{Contains}
 use Rattle.book_core.specs.declared.cells.Cell.TheVariants.{Filled, Broken}

@@ -11,7 +11,8 @@ use Rattle.step_core.specs.machine.Play.{Play, play_of, played_of}
 abbrev pub list_seen : ℕ → Play → CellList
 list_seen limit p = record { limit = limit; cells = (played_of p).cells }
 
--- the events with their replies are a legal history from the empty list, and it leads to the cells that a reader sees
+-- the events with their replies are a legal history from the empty list, and it leads to the cells that a
+-- reader sees
 abbrev pub IsLegal : ℕ → Play → Type 0
 IsLegal limit p = IsHistory (empty_list limit) p.events (list_seen limit p)
 

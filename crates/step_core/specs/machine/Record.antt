@@ -19,7 +19,8 @@ use Rattle.step_core.specs.declared.machine.phase.Phase.{Phase}
 use Rattle.step_core.specs.declared.machine.phase.Phase.TheVariants as phases
 use Rattle.step_core.specs.machine.Play.{Play, play_of}
 
--- The claim won n places from one on; those before made were filled in ascending order, and then the others broken.
+-- The claim won n places from one on; those before made were filled in ascending order, and then the others
+-- broken.
 abbrev run_record : Event → ℕ → ℕ → ℕ → ℕ → ℕ → List (Event × Reply)
 run_record claim actor from n value made =
     (claim, replies.Run from n) ∷ map (λ event. (event, replies.Done)) (finishes actor from made value ++ breaks actor (from + made) (n - made))
@@ -119,14 +120,16 @@ IsRecord actor (commands.Mend place value) es answer = IsMended actor place valu
 IsRecord actor (commands.Read place) es answer = IsLook actor place es answer
 IsRecord actor commands.Size es answer = IsSize actor es answer
 
--- a call of an actor that ended is the one of this number in its program, counted from 0, and these events are its record
+-- a call of an actor that ended is the one of this number in its program, counted from 0, and these events
+-- are its record
 pub record IsCall (actor : ℕ) (program : List Command) (number : ℕ) (ended : Ended) (es : List (Event × Reply)) : Type 0 where
   pub command : Command
   pub there : slice_get program number ≡ Some command
   pub is : ended ≡ record { actor = actor; number = number + 1; command = command; answer = ended.answer }
   pub recorded : IsRecord actor command es ended.answer
 
--- the ended calls of an actor are those of its program from a number on, in order, and the events are their records
+-- the ended calls of an actor are those of its program from a number on, in order, and the events are their
+-- records
 abbrev pub AreCalls : ℕ → List Command → ℕ → List Ended → List (Event × Reply) → Type 0
 AreCalls actor program number [] es = es ≡ []
 AreCalls actor program number (ended ∷ others) es =
@@ -167,7 +170,8 @@ AreSoFar (phases.Mend place) es = es ≡ []
 AreSoFar (phases.FillMended place) es = (actor : ℕ) × (es ≡ (Mend actor place, replies.Done) ∷ [])
 AreSoFar (phases.Look place) es = es ≡ []
 
--- The events of an actor are the records of its ended calls, in its program's order, and a proper prefix of one more.
+-- The events of an actor are the records of its ended calls, in its program's order, and a proper prefix of
+-- one more.
 pub record IsRecorded (p : Play) (actor : ℕ) (program : List Command) : Type 0 where
   pub done : List (Event × Reply)
   pub begun : List (Event × Reply)

@@ -38,7 +38,8 @@ configuration_code =
     (λ p. record { limit = p.0; storage = p.1.0; actors = p.1.1 })
     (λ _. refl)
 
--- what a step of an actor leaves and gives: the shared storage, at most one event with its reply, and what follows
+-- what a step of an actor leaves and gives: the shared storage, at most one event with its reply, and what
+-- follows
 pub record Outcome : Type 0 where
   pub storage : Storage
   pub event : Option (Event × Reply)

@@ -46,8 +46,8 @@ IsWonOrMended (phases.Mend place) q = ⊥
 IsWonOrMended (phases.FillMended place) q = q ≡ place
 IsWonOrMended (phases.Look place) q = ⊥
 
--- the actor owes the place: it is of the run that it has won, and the actor has neither filled nor broken it; or the actor
--- has mended it, and not filled it
+-- the actor owes the place: it is of the run that it has won, and the actor has neither filled nor broken it;
+-- or the actor has mended it, and not filled it
 pub record Owes (c : Configuration) (actor place : ℕ) : Type 0 where
   pub state : Actor
   pub there : slice_get c.actors actor ≡ Some state
@@ -62,8 +62,8 @@ RunsTile p = Tile 0 (runs_of p.events) p.at.storage.size
 abbrev pub PlacesAreOwned : Play → Type 0
 PlacesAreOwned p = (place : ℕ) → place < p.at.storage.size → (owner : ℕ) × (owner_of (runs_of p.events) place ≡ Some owner)
 
--- what was done at a place, in order: its owner's Finish; or its owner's Break, then at most one Mend, and then at most a
--- Finish by its mender
+-- what was done at a place, in order: its owner's Finish; or its owner's Break, then at most one Mend, and
+-- then at most a Finish by its mender
 abbrev pub IsWrittenFor : ℕ → ℕ → List Event → Type 0
 IsWrittenFor owner place events =
     ((value : ℕ) × (events ≡ Finish owner place value ∷ []))
@@ -71,8 +71,8 @@ IsWrittenFor owner place events =
     ⊎ (((mender : ℕ) × (events ≡ Break owner place ∷ Mend mender place ∷ []))
     ⊎ ((mender : ℕ) × (value : ℕ) × (events ≡ Break owner place ∷ Mend mender place ∷ Finish mender place value ∷ []))))
 
--- nothing was done at a place, or it has an owner, who filled it; or who broke it, and then at most one actor mended it, and
--- that one may have filled it
+-- nothing was done at a place, or it has an owner, who filled it; or who broke it, and then at most one actor
+-- mended it, and that one may have filled it
 abbrev pub FilledOnce : Play → Type 0
 FilledOnce p =
     (place : ℕ) → (writes_of place p.events ≡ []) ⊎ ((owner : ℕ) × (owner_of (runs_of p.events) place ≡ Some owner) × IsWrittenFor owner place (writes_of place p.events))

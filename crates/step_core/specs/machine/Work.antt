@@ -154,7 +154,8 @@ pub record CallWork : Type 0 where
   pub count : Count
   pub until : ℕ
 
--- a play so far, with the count of each actor's call under way, and the ended calls in the order of its ended calls
+-- a play so far, with the count of each actor's call under way, and the ended calls in the order of its ended
+-- calls
 pub record Counted : Type 0 where
   pub play : Play
   pub counts : List Count
@@ -250,14 +251,14 @@ losses_allowed (commands.Mend place value) growths = 0
 losses_allowed (commands.Read place) growths = 0
 losses_allowed commands.Size growths = 0
 
--- it is at most the greatest number of segments that n places within the limit touch: it is at most each number that
--- no n places pass, wherever they begin
+-- it is at most the greatest number of segments that n places within the limit touch: it is at most each
+-- number that no n places pass, wherever they begin
 abbrev pub IsTouchable : ℕ → ℕ → ℕ → ℕ → Type 0
 IsTouchable f limit n segments =
     (most : ℕ) → ((from : ℕ) → from + n ≤ limit → segments_touched f from n ≤ most) → segments ≤ most
 
--- how many segments a round of the call may touch: those of the places that it wants; a call that claims no place has
--- no round
+-- how many segments a round of the call may touch: those of the places that it wants; a call that claims no
+-- place has no round
 abbrev pub MayTouch : ℕ → ℕ → Command → ℕ → ℕ → Type 0
 MayTouch f limit (commands.Push value) wanted segments = IsTouchable f limit 1 segments
 MayTouch f limit (commands.Grow n value) wanted segments = IsTouchable f limit n segments
@@ -267,8 +268,8 @@ MayTouch f limit (commands.Mend place value) wanted segments = segments ≡ 0
 MayTouch f limit (commands.Read place) wanted segments = segments ≡ 0
 MayTouch f limit commands.Size wanted segments = segments ≡ 0
 
--- a call took no more than it may, in segments of this layout and up to this limit, among these events from its first
--- step on
+-- a call took no more than it may, in segments of this layout and up to this limit, among these events from
+-- its first step on
 pub record IsBounded (f limit actor : ℕ) (command : Command) (count : Count) (events : List (Event × Reply))
     : Type 0 where
   pub lost : count.tally.lost ≤ losses_allowed command (growths_of_others actor events)

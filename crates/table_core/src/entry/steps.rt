@@ -1,5 +1,5 @@
-// The raw steps on one entry, each a few lines around one atomic step. The word is null, or points to a block that the
-// entry owns.
+// The raw steps on one entry, each a few lines around one atomic step. The word is null, or points to a block
+// that the entry owns.
 ghost use Rattle.std.specs.Prelude.{◌≡◌, ◌≢◌, ℕ, MatchOption, IfSome};
 ghost use denote.RawPtr.{null_ptr};
 ghost use denote.Sharing.{said};
@@ -77,7 +77,8 @@ impl<B: Measured> Entry<B> {
         }
     }
 
-    // The look: one load. It shows nothing only to a sight that knows nothing, otherwise it shows the one block ever seen.
+    // The look: one load. It shows nothing only to a sight that knows nothing, otherwise it shows the one
+    // block ever seen.
     pub(crate) fn look<'a>(&'a self, sight: &mut Sight<B>) -> Option<&'a B>
         requires { sight.old.of ≡ name_of self.now }
         ensures same { sight.new.of ≡ sight.old.of }
@@ -93,7 +94,8 @@ impl<B: Measured> Entry<B> {
         }
     }
 
-    // The setting once: one exchange of null. It gives the entry's block, and `block` back if another came first.
+    // The setting once: one exchange of null. It gives the entry's block, and `block` back if another came
+    // first.
     fn offer<'a>(
         &'a self,
         block: Loose<B, Global>,
@@ -165,8 +167,8 @@ impl<B: Measured> Entry<B> {
 }
 
 impl<B: Measured + Drop> Entry<B> {
-    // Sets the entry to the block, unless another came first. It gives the entry's block, and back the one that came too
-    // late.
+    // Sets the entry to the block, unless another came first. It gives the entry's block, and back the one
+    // that came too late.
     pub(crate) fn set<'a>(&'a self, block: Box<B>, sight: &mut Sight<B>) -> (&'a B, Option<Box<B>>)
         requires of { sight.old.of ≡ name_of self.now }
         requires length { B.measure block.value ≡ length_of self.now }

@@ -57,8 +57,8 @@ impl<T: Drop> Table<T> {
         }
     }
 
-    // Makes the entry a new one, and gives the block that it had, or that was lent of it: for a sight of it that knows a block,
-    // that one.
+    // Makes the entry a new one, and gives the block that it had, or that was lent of it: for a sight of it
+    // that knows a block, that one.
     #[tactic(auto, using(crate::proofs::Names::names_kept, crate::proofs::Names::renamed_there))]
     fn take_out(&mut self, k: u32, sight: &Sight<Block<T>>) -> Option<Box<Block<T>>>
         requires within { k < segment_count self.old.layout }
@@ -107,7 +107,8 @@ impl<T: Drop> Table<T> {
         }
     }
 
-    /// Returns the key of the entry if it is set. It puts back what `block_mut` lent, and changes nothing else.
+    /// Returns the key of the entry if it is set. It puts back what `block_mut` lent, and changes nothing
+    /// else.
     pub fn key_now(&mut self, k: u32) -> Option<Key>
         requires { k < segment_count self.old.layout }
         ensures key { IfSome result (λ key. IsKeyIn self.new key × (key.entry ≡ k)) }
@@ -123,8 +124,8 @@ impl<T: Drop> Table<T> {
         }
     }
 
-    /// Records that the key's entry is set: `block_mut` then lends its block, unless another call changes an entry
-    /// first.
+    /// Records that the key's entry is set: `block_mut` then lends its block, unless another call changes an
+    /// entry first.
     pub fn holds_now(&mut self, key: &Key)
         requires { IsKeyIn self.old key.now }
         ensures held { self.new.held ≡ Some key.now.entry }

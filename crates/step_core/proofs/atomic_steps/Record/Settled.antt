@@ -1,4 +1,5 @@
--- The events of a call that won its places: those so far are a beginning of the whole, and the whole is a record.
+-- The events of a call that won its places: those so far are a beginning of the whole, and the whole is a
+-- record.
 use Rattle.std.proofs.Common.{◌≡◌, ℕ, ◌+◌, ◌-◌, ◌<◌, ◌≤◌, nat_le, true, false, if◌then◌else◌, List, [], ◌∷◌, ◌++◌, map, refl, ap, sym, ◌∙◌, subst, arith, inl}
 use Rattle.std.proofs.Math.Nat.{sub_self}
 use Rattle.std.proofs.lemmas.Bool.Decides.{nat_tests}

@@ -20,7 +20,8 @@ use Rattle.step_core.specs.machine.Step.{with_size, with_slot}
 use Rattle.step_core.specs.machine.Tiling.{IsUnfinished, IsUnfinishedFor, IsWonOrMended}
 use Rattle.step_core.proofs.atomic_steps.Tiling.Invariant.{get_set_same, get_set_other, IsOpen, one_open, Knows, Settlement, Holds, Effect, knows_kept}
 
--- an unfinished place after the step: the stepping actor owes it now; or its slot stays, and the actor didn't owe it before
+-- an unfinished place after the step: the stepping actor owes it now; or its slot stays, and the actor didn't
+-- owe it before
 abbrev pub Covered : ℕ → Storage → Storage → Phase → Phase → ℕ → Type 0
 Covered actor m m' old next q =
     (IsWonOrMended next q × IsUnfinishedFor actor (map.get m'.slots q))
@@ -109,8 +110,8 @@ module _ {m : Storage} {actors : List Actor} {runs : List OwnedRun} {writes : �
     gives = λ q o apart its_own. refl;
   }
 
-  -- The slot of a place is set that the actor may fill, or that was broken; it is no other's to fill then, and what was done
-  -- at other places stays.
+  -- The slot of a place is set that the actor may fill, or that was broken; it is no other's to fill then,
+  -- and what was done at other places stays.
   pub set_effect : (place : ℕ) (slot : Slot) (writes' : ℕ → List Event) → place < m.size
       → (IsOpen runs actor place (map.get m.slots place) ⊎ (map.get m.slots place ≡ Some Broken))
       → ((other : ℕ) → IsOpen runs other place (Some slot) → other ≡ actor)

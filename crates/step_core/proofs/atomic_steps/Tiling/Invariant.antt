@@ -143,8 +143,8 @@ pub record Holds (m : Storage) (actors : List Actor) (runs : List OwnedRun) (wri
   pub knows : (actor : ℕ) (state : Actor) → slice_get actors actor ≡ Some state → Knows m runs writes actor state.phase
   pub owed : (q : ℕ) → q < m.size → IsUnfinished (map.get m.slots q) → IsOwedBySome m actors q
 
--- what a step of an actor does to what is storage, as the others see it: it leaves the places that are theirs to fill, and
--- makes no place theirs
+-- what a step of an actor does to what is storage, as the others see it: it leaves the places that are theirs
+-- to fill, and makes no place theirs
 pub record Effect (actor : ℕ) (m m' : Storage) (runs runs' : List OwnedRun) (writes writes' : ℕ → List Event) : Type 0 where
   pub tile : Tile 0 runs' m'.size
   pub taken : (q : ℕ) (slot : Slot) → map.get m'.slots q ≡ Some slot → q < m'.size

@@ -65,9 +65,11 @@ fill_spec 𝓤 𝓛 𝓜 𝓡 wired T L =
     fpick ! (λ t. let α : Lft = t.0 in let V : Fml = Room R γ t b o in fsplit ! $ fsplit ! $ move ! (2 ∷ []) $ fsplit ! $ move ! (1 ∷ []) $ fsplit ! $
     -- [empty; the room's borrow; unset; before; the invariant; the value; the token; T's token; the rest]
     move ! (3 ∷ 6 ∷ []) $ use2 𝓛 (later (some (λ (s : Share). ‵ (flft α s) ⊛ raw (wand 𝓤 (A.lft α s) (H.⇛ (A.lft β q)))))) (Lends-one 𝓛 𝓜 𝓡 β α q) $ await ! tt $ pick ! (λ s. split ! $
-    -- [the turn's token; the way back; empty; the borrow; unset; the invariant; the value; T's token; the rest]
+    -- [the turn's token; the way back; empty; the borrow; unset; the invariant; the value; T's token; the
+    -- rest]
     move ! (3 ∷ 0 ∷ []) $ bor_open ! tt $ move ! (1 ∷ []) $ fpick ! (λ v. fsplit ! $ move ! (4 ∷ 1 ∷ []) $ name_agree ! (content R) {x = None} {y = v} (λ none.
-    -- [empty; what the room holds; the room; open; the way back; unset; the invariant; the value; T's token; the rest]
+    -- [empty; what the room holds; the room; open; the way back; unset; the invariant; the value; T's token;
+    -- the rest]
     rewrite ! 2 (λ (u : Option T.Denot). ‵ (place R u b e)) (sym none) refl $ name_set ! tt ((content R).code (Some x)) $ move ! (2 ∷ []) $ use1 𝓛 (‵ (froom (layout T) b e)) (𝓛.laws.raw-room (layout T) b e) $
     sets ! (is ! (of_opd ! (get_in ! (fld ! refl (stop !)) (sub ! 0 refl (whole !)))) (ap ptr_val is_at)) refl (tt, tt) $ first ! $ blocks ! $ sets ! (addr ! (through ! refl (fld ! refl (stop !)))) refl (tt, tt) $
     sets ! (of_opd ! (get ! refl)) refl fy $ assigns_last ! (of_opd ! (get ! refl)) (through ! refl (stop !)) (init ! 0 refl fy) $ exec ! 𝓣.C 𝓣.Λ Ev (tail (tail fn.body)) (at_ret Ev Post) $

@@ -1,4 +1,5 @@
--- Nobody has a cell by value, so there is no borrow of one; and what a `&` to one holds can be had twice. Assumes `Logic`.
+-- Nobody has a cell by value, so there is no borrow of one; and what a `&` to one holds can be had twice.
+-- Assumes `Logic`.
 use Rattle.std.proofs.Common.{ℕ, [], ◌∷◌}
 use seplogic.Ra.Ura.{Ura}
 use base.Fraction.{full_share}

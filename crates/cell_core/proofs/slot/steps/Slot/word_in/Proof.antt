@@ -51,14 +51,18 @@ word_in_spec 𝓤 𝓛 𝓜 𝓡 wired T L =
     let others : Fml = fsep (flft κs.1.1.1.0 qs.1.1.1.0) ftrue in
     qed 𝓛 (((‵ (flft κ q) ⊛ ‵ (flft κs.1.0 qs.1.0) ⊛ ‵ (flft κ' q') ⊛ ‵ others) ⊛ ‵ (owns (types_at En.signature.params κs) a y.0.4)) ∷ raw (fact 𝓤 _) ∷ raw (fact 𝓤 Asked) ∷ []) ∵
     keep ! (2 ∷ 0 ∷ []) $ heard ! Asked (λ asked. split ! $ split3 ! $ move ! (2 ∷ []) $ split ! $ move ! (4 ∷ []) $ fsplit3 ! $ move ! (2 ∷ []) $ fsplit ! $ fsplit ! $ move ! (3 ∷ []) $ fsplit ! $ move ! (5 ∷ []) $ fsplit ! $ keep ! (5 ∷ 1 ∷ 3 ∷ 7 ∷ 8 ∷ 9 ∷ 10 ∷ []) $
-    -- [the epoch; what is known; the cell; the epoch's token; the others; the cell's token; the member's token]
+    -- [the epoch; what is known; the cell; the epoch's token; the others; the cell's token; the member's
+    -- token]
     unhide ! $ fsplit ! $ drop ! $ move ! (1 ∷ []) $ unhide ! $ fsplit ! $ drop ! $ move ! (2 ∷ []) $ unhide ! $ fpick ! (λ t. let α : Lft = t.0 in fsplit ! $
     enter ! 𝓣.C 𝓣.Λ fn (vptr b o ∷ p ∷ p' ∷ []) Post $ alloc_all ! (λ l. pass_all ! refl ((tt, tt), ((tt, tt), ((tt, tt), tt))) $ let Ev = env fn.locals l in
-    -- [before; the invariant; what is known; the epoch; the epoch's token; the others; the cell's token; the member's token]
+    -- [before; the invariant; what is known; the epoch; the epoch's token; the others; the cell's token; the
+    -- member's token]
     move ! (0 ∷ 6 ∷ []) $ use2 𝓛 (later (some (λ (s : Share). ‵ (flft α s) ⊛ raw (wand 𝓤 (A.lft α s) (H.⇛ (A.lft κ q)))))) (Lends-one 𝓛 𝓜 𝓡 κ α q) $ await ! tt $ pick ! (λ s. split ! $
-    -- [the turn's token; the way back; the invariant; what is known; the epoch; the epoch's token; the others; the member's token]
+    -- [the turn's token; the way back; the invariant; what is known; the epoch; the epoch's token; the
+    -- others; the member's token]
     move ! (4 ∷ 5 ∷ []) $ use2 𝓛 (later (some (λ (r : Share). ‵ (flft ε r) ⊛ raw (wand 𝓤 (A.lft ε r) (H.⇛ (A.lft κ' q')))))) (Lends-one 𝓛 𝓜 𝓡 κ' ε q') $ await ! tt $ pick ! (λ r. split ! $
-    -- [the epoch is alive; the way back; the turn's token; the way back; the invariant; what is known; the others; the member's token]
+    -- [the epoch is alive; the way back; the turn's token; the way back; the invariant; what is known; the
+    -- others; the member's token]
     let out : ℕ → Fml = λ n. fsep (flft α s) (steps.Lasting 𝓛 R γ t b o m.value ε r n) in
     first ! $ blocks ! $ sets ! (addr ! (through ! refl (fld ! refl (stop !)))) refl (tt, tt) $ move ! (5 ∷ 0 ∷ []) $ join ! $ move ! (4 ∷ 2 ∷ 0 ∷ []) $
     use3 𝓛 (raw (𝓣.C _ (vptr b (o + 0) ∷ seq_cst ∷ []) (λ u. mean 𝓛 (found out u))))

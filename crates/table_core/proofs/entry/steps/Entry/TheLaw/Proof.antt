@@ -1,4 +1,5 @@
--- A `&` to an entry is made of a borrow of it: the word goes into an invariant, and the block is shared. Assumes `Logic`.
+-- A `&` to an entry is made of a borrow of it: the word goes into an invariant, and the block is shared.
+-- Assumes `Logic`.
 use Rattle.std.proofs.Common.{ℕ, ◌+◌, List, [], ◌∷◌, ◌++◌}
 use seplogic.Ra.Ura.{Ura}
 use mir.Val.{Val}

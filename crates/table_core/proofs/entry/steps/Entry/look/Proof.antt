@@ -1,4 +1,5 @@
--- `look` loads the word, takes a part of what keeps the block shared, and holds the sight to the entry's name.
+-- `look` loads the word, takes a part of what keeps the block shared, and holds the sight to the entry's
+-- name.
 use Rattle.std.proofs.Common.{◌≡◌, ℕ, ◌+◌, List, [], ◌∷◌, ◌++◌, refl, sym, subst, lit<}
 use mir.Syntax.{dcons, dnil, Body, seq, assign, place, rv_opd, copy, aggregate, int, w8, a_type, named}
 use mir.Val.{Val, vptr, vcons, vnil}
@@ -80,7 +81,8 @@ look_spec 𝓤 𝓛 𝓜 𝓡 wired T L g d _ =
     move ! (0 ∷ 3 ∷ []) $ use2 𝓛 (later (‵ (noted R m.now.of k) ⊛ raw (all 𝓤 Shuts))) (sights.sight_opens 𝓛 R κ' q' nb₀ no₀ ν₀ m.now) $ await ! tt $ split ! $ rewrite ! 0 (λ (n : ℕ). ‵ (noted R n k)) same refl $ use1 𝓛 (‵ (once.noted F γ k)) (fit_noted R g.measure long 𝓛 γ k) $ move ! (2 ∷ []) $ fsplit ! $ drop ! $ unhide ! $ fsplit ! $ fpick ! (λ α. fsplit ! $
     use1 𝓛 (‵ (before κ α) ⊛ ‵ (before κ α)) (before_dup 𝓛 κ α) $ split ! $ move ! (6 ∷ []) $ use1 𝓛 (‵ (flft κ (left q)) ⊛ ‵ (flft κ (right q))) (𝓛.lfts.lft_split κ q) $ split ! $ move ! (2 ∷ 1 ∷ []) $
     use2 𝓛 (later (some (λ (s : Share). ‵ (flft α s) ⊛ raw (wand 𝓤 (𝓛.A.lft α s) Again)))) (Lends-one 𝓛 𝓜 𝓡 κ α (right q)) $ await ! tt $ pick ! (λ s. split ! $
-    -- [α's token; the way back; the left half; before; the invariant; what the field's `&` holds; the note; its way back; μ's token]
+    -- [α's token; the way back; the left half; before; the invariant; what the field's `&` holds; the note;
+    -- its way back; μ's token]
     let none : Fml = moves.unknown 𝓛 F LF a γ k α in let out₀ : Ptr → Fml = λ p. fsep (flft α s) (moves.glimpse 𝓛 F LF a γ k α none p) in let out : Ptr → Fml = λ p. fsep (flft κ (left q)) (out₀ p) in
     first ! $ blocks ! $ sets ! (addr ! (through ! refl (fld ! refl (stop !)))) refl (tt, tt) $ sets ! (agg ! (and_then ! (lit ! tt) (no_more !))) refl seq_cst_good $ move ! (4 ∷ 0 ∷ 6 ∷ []) $
     use3 𝓛 (raw (asks_ptr 𝓛 (block_ptr b (o + 0)) (λ p. p) out₀)) (moves.reads 𝓛 F LF a γ k α b (o + 0) s) $ move ! (2 ∷ 4 ∷ 0 ∷ []) $

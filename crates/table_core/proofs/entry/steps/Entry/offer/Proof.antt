@@ -86,7 +86,8 @@ offer_spec 𝓤 𝓛 𝓜 𝓡 wired T L g d _ =
     move ! (2 ∷ 5 ∷ []) $ use2 𝓛 (later (‵ (noted R m.now.of k) ⊛ raw (all 𝓤 Shuts))) (sights.sight_opens 𝓛 R κ' q' nb₀ no₀ ν₀ m.now) $ await ! tt $ split ! $ rewrite ! 0 (λ (n : ℕ). ‵ (noted R n k)) same refl $ use1 𝓛 (‵ (once.noted F γ k)) (fit_noted R g.measure long 𝓛 γ k) $ move ! (4 ∷ []) $ fsplit ! $ drop ! $ unhide ! $ fsplit ! $ fpick ! (λ α. fsplit ! $
     use1 𝓛 (‵ (before κ α) ⊛ ‵ (before κ α)) (before_dup 𝓛 κ α) $ split ! $ move ! (8 ∷ []) $ use1 𝓛 (‵ (flft κ (left q)) ⊛ ‵ (flft κ (right q))) (𝓛.lfts.lft_split κ q) $ split ! $ move ! (2 ∷ 1 ∷ []) $
     use2 𝓛 (later (some (λ (s : Share). ‵ (flft α s) ⊛ raw (wand 𝓤 (𝓛.A.lft α s) Again)))) (Lends-one 𝓛 𝓜 𝓡 κ α (right q)) $ await ! tt $ pick ! (λ s. split ! $
-    -- [α's token; the way back; the left half; before; the invariant; what the field's `&` holds; the note; its way back; the box; the handle; μ's token]
+    -- [α's token; the way back; the left half; before; the invariant; what the field's `&` holds; the note;
+    -- its way back; the box; the handle; μ's token]
     move ! (8 ∷ 0 ∷ 10 ∷ []) $ use3 𝓛 (later (moves.Out 𝓛 F LF a α s μ r new x)) (moves.lend_out 𝓛 F LF a α s μ r within new x) $ await ! tt $ pick ! (λ ν. split3 ! $
     let won₀ : Ptr → Fml = λ p. fsep (flft α s) (moves.won 𝓛 F LF a γ k α b (o + 0) s nb no' ν x t p) in let lost₀ : Ptr → Fml = λ p. fsep (flft α s) (moves.lost 𝓛 F LF a γ k α b (o + 0) s nb no' ν x t p) in
     let won : Ptr → Fml = λ p. fsep (flft κ (left q)) (won₀ p) in let lost : Ptr → Fml = λ p. fsep (flft κ (left q)) (lost₀ p) in

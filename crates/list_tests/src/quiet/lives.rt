@@ -1,13 +1,14 @@
 // Lists that were opened and closed, and what comes out of them.
 ghost use Rattle.std.specs.Prelude.{◌≡◌, ◌+◌, IfSome, length};
 ghost use Rattle.grow_core.specs.Hand.{IsNewHand};
-ghost use Rattle.grow_core.specs.Vector.{IsHandOf};
+ghost use Rattle.grow_core.specs.Vector.{IsHandOf, IsPlacedOf};
 
 use super::{broken_after, has, is_broken, list_of, measures};
-use grow_core::{At, AtError, GrowError};
+use grow_core::{AtError, GrowError, Placed};
 use quiet_core::{Hand, Quiet, QuietAt, QuietMendError, Shared};
 use std::alloc::AllocGlobal;
 use std::process::Abort;
+use std::sync::Wait;
 use std::test::Fail;
 
 // Opens the list, appends a value, closes it, and recalls the value by its token, if there is memory and
@@ -68,7 +69,7 @@ fn look(vector: &Shared<u64>, hand: &mut Hand<u64>, place: u64) -> Option<u64>
 }
 
 // The size that a look without a token reports, if the place is not below it.
-fn size_told(vector: &Shared<u64>, hand: &mut Hand<u64>, place: u64) -> Option<u64>
+fn size_seen(vector: &Shared<u64>, hand: &mut Hand<u64>, place: u64) -> Option<u64>
     requires ours { IsHandOf vector.now hand.old }
     ensures of { hand.new.of ≡ hand.old.of }
 {
@@ -79,44 +80,52 @@ fn size_told(vector: &Shared<u64>, hand: &mut Hand<u64>, place: u64) -> Option<u
 }
 
 // The place of a value that is appended.
-fn place_of(vector: &Shared<u64>, hand: &mut Hand<u64>, value: u64) -> Option<u64>
+fn place_of<R: Wait>(rt: &R, vector: &Shared<u64>, hand: &mut Hand<u64>, value: u64) -> Option<u64>
     requires ours { IsHandOf vector.now hand.old }
     ensures of { hand.new.of ≡ hand.old.of }
 {
-    let placed = vector.try_push_back(hand, value).ok()?;
-    Some(placed.place())
+    match vector.push_back(rt, hand, value) {
+        Ok(placed) => Some(placed.place()),
+        Err(_refused) => None,
+    }
 }
 
 // Tests whether one hand appends a value, and two others that were there before it see it.
-fn are_told(vector: &Shared<u64>, h: &mut Hand<u64>, g: &mut Hand<u64>, k: &mut Hand<u64>) -> bool
+fn see_one_push<R: Wait>(
+    rt: &R,
+    vector: &Shared<u64>,
+    h: &mut Hand<u64>,
+    g: &mut Hand<u64>,
+    k: &mut Hand<u64>,
+) -> bool
     requires ours { IsHandOf vector.now h.old }
     requires second { IsHandOf vector.now g.old }
     requires third { IsHandOf vector.now k.old }
 {
-    place_of(vector, h, 5) == Some(0)
+    place_of(rt, vector, h, 5) == Some(0)
         && look(vector, g, 0) == Some(5)
-        && size_told(vector, g, 1) == Some(1)
+        && size_seen(vector, g, 1) == Some(1)
         && vector.size(k) == 1
 }
 
-fn tells_three(vector: &Shared<u64>, mut h: Hand<u64>) -> bool
+fn three_see_one_push<R: Wait>(rt: &R, vector: &Shared<u64>, mut h: Hand<u64>) -> bool
     requires new { IsNewHand vector.now.word h }
 {
     let mut g = vector.split(&mut h, 1);
     let mut k = vector.split(&mut h, 1);
-    are_told(vector, &mut h, &mut g, &mut k)
+    see_one_push(rt, vector, &mut h, &mut g, &mut k)
 }
 
-fn tells_its_hands(list: Quiet<u64>) -> bool {
+fn shows_its_hands<R: Wait>(rt: &R, list: Quiet<u64>) -> bool {
     match list.open() {
-        Ok((vector, hand)) => tells_three(&vector, hand),
+        Ok((vector, hand)) => three_see_one_push(rt, &vector, hand),
         Err(_refused) => false,
     }
 }
 
 #[test]
 fn three_hands_see_one_push(rt: HostRuntime) {
-    assert!(rt; tells_its_hands(Quiet::new(rt.alloc(), 8)));
+    assert!(rt; shows_its_hands(&rt, Quiet::new(rt.alloc(), 8)));
 }
 
 // Grows by three values, refused at the second: the run, the number of values made, and the cause.
@@ -158,38 +167,46 @@ fn a_refused_value_breaks_the_places_of_the_closed_list(rt: HostRuntime) {
     }
 }
 
-// The values at the four places of a list of three members, which is opened and read, gets a fourth, and is
-// closed: as read while it was open, and as recalled.
-fn recalled(list: Quiet<u64>, value: u64) -> Option<([u64; 4], [u64; 4])> {
+// The token of the value at a place, read without one.
+fn token_at(vector: &Shared<u64>, hand: &mut Hand<u64>, place: u64) -> Option<Placed<u64>>
+    requires ours { IsHandOf vector.now hand.old }
+    ensures of { hand.new.of ≡ hand.old.of }
+    ensures shares { hand.new.shares ≡ hand.old.shares }
+    ensures token { IfSome result (IsPlacedOf vector.now) }
+{
+    match vector.at(hand, place, None) {
+        Ok(at) => Some(at.placed),
+        Err(_refused) => None,
+    }
+}
+
+// The token of a value that is appended.
+fn pushed(vector: &Shared<u64>, hand: &mut Hand<u64>, value: u64) -> Option<Placed<u64>>
+    requires ours { IsHandOf vector.now hand.old }
+    ensures of { hand.new.of ≡ hand.old.of }
+    ensures shares { hand.new.shares ≡ hand.old.shares }
+    ensures token { IfSome result (IsPlacedOf vector.now) }
+{
+    vector.try_push_back(hand, value).ok()
+}
+
+// Opens a list, reads one of its places, appends a value, and closes it. Returns what was read, and what the
+// closed list recalls by the two tokens.
+fn recalled(list: Quiet<u64>, place: u64, value: u64) -> Option<[u64; 3]> {
     let (vector, mut hand) = list.open().ok()?;
-    let At {
-        value: a,
-        placed: first,
-    } = vector.at(&mut hand, 0, None).ok()?;
-    let At {
-        value: b,
-        placed: second,
-    } = vector.at(&mut hand, 1, None).ok()?;
-    let At {
-        value: c,
-        placed: third,
-    } = vector.at(&mut hand, 2, None).ok()?;
-    let fourth = vector.try_push_back(&mut hand, value).ok()?;
-    let read = [*a, *b, *c, *vector.get(&fourth)];
+    let old = token_at(&vector, &mut hand, place)?;
+    let new = pushed(&vector, &mut hand, value)?;
+    let read = *vector.get(&old);
     let list = Quiet::close(vector, hand);
-    let recalled = [
-        *list.recall(&first),
-        *list.recall(&second),
-        *list.recall(&third),
-        *list.recall(&fourth),
-    ];
-    Some((read, recalled))
+    Some([read, *list.recall(&old), *list.recall(&new)])
 }
 
 #[test]
 fn old_and_new_places_are_recalled(rt: HostRuntime) {
-    let all = [1, 2, 3, 4];
-    assert!(rt; recalled(list_of(&rt, &[1, 2, 3]), 4) == Some((all, all)));
+    for place in 0..3u64 {
+        let value = place + 1;
+        assert!(rt; recalled(list_of(&rt, &[1, 2, 3]), place, 4) == Some([value, value, 4]));
+    }
 }
 
 // Tests whether the values of a list are these, without its broken members.

@@ -1,5 +1,5 @@
 -- Products of matrices may be grouped in any way.
-use Rattle.std.proofs.Common.{◌≡◌, ℕ, ◌+◌, ◌*◌, ◌%◌, ◌^◌, ◌<◌, sym, ap, ◌∙◌, arith, lit<}
+use Rattle.std.proofs.Common.{◌≡◌, ℕ, ◌+◌, ◌*◌, ◌%◌, ◌^◌, ◌<◌, sym, ap, ◌∙◌, subst, arith, lit<}
 use Rattle.std.proofs.Math.Nat.{add-mod-mod, mod-add-mod, mod-lt, mod-eq_of_lt, add-mul, mul-add, mul_assoc}
 use Rattle.std.proofs.lemmas.Nat.{mul-mod_first, mul-mod_second}
 use Rattle.span_core.specs.Loops.{Joins}
@@ -80,13 +80,15 @@ from_right : (m : MatrixView) → IsMatrix m → times m identity ≡ m
 from_right m is = same (of_first m.a m.b is.a) (of_second m.a m.b is.b) (of_first m.c m.d is.c) (of_second m.c m.d is.d)
 
 -- a function that returns the product joins matrices by it, from the identity
-pub products_join : (post : MatrixView → MatrixView → MatrixView → Type 0) → ((m n r : MatrixView) → post m n r → r ≡ times m n)
-    → Joins post IsMatrix identity times
-products_join post does = record {
-  inside = record { a = lit< tt; b = lit< tt; c = lit< tt; d = lit< tt };
-  computes = λ m n r _ _ made. does m n r made;
-  stays = λ m n _ _. fits m n;
-  associative = λ m n k _ _ _. grouped m n k;
-  from_left = λ m is. from_left m is;
-  from_right = λ m is. from_right m is;
-}
+pub products_join : (post : MatrixView → MatrixView → MatrixView → Type 0) (unit : MatrixView) → unit ≡ identity
+    → ((m n r : MatrixView) → post m n r → r ≡ times m n) → Joins post IsMatrix unit times
+products_join post unit is does =
+    subst (λ (u : MatrixView). Joins post IsMatrix u times) (sym is)
+    (record {
+      inside = record { a = lit< tt; b = lit< tt; c = lit< tt; d = lit< tt };
+      computes = λ m n r _ _ made. does m n r made;
+      stays = λ m n _ _. fits m n;
+      associative = λ m n k _ _ _. grouped m n k;
+      from_left = λ m is. from_left m is;
+      from_right = λ m is. from_right m is;
+    })

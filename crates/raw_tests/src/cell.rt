@@ -1,4 +1,4 @@
-mod block;
+pub(crate) mod block;
 mod mend;
-mod owner;
+pub(crate) mod owner;
 mod race;

@@ -5,4 +5,5 @@ mod looks;
 mod owners;
 mod race;
 mod shown;
+mod unfinished;
 mod uses;

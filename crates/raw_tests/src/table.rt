@@ -293,6 +293,29 @@ fn large_entries_are_counted_and_given_up(rt: HostRuntime) {
     );
 }
 
+// Tests whether these two entries are counted, without any below them, and one of them once the other is
+// given up. Cells without a value take a word each.
+fn counts_two(table: &mut Table<()>, a: u32, b: u32) -> bool
+    requires first { a < 33 }
+    requires second { b < 33 }
+{
+    let _layout = table.layout();
+    if !takes(table, a, 0, ()) || table.installed() != 1 {
+        return false;
+    }
+    if !takes(table, b, 0, ()) || table.installed() != 2 {
+        return false;
+    }
+    table.give_up(a);
+    table.installed() == 1
+}
+
+#[test]
+fn entries_23_and_24_are_counted_alone(rt: HostRuntime) {
+    let mut table = Table::new(rt.alloc());
+    assert!(rt; counts_two(&mut table, 23, 24));
+}
+
 // Puts a value into a cell of a block that is owned, if there is such a cell.
 fn put(block: &mut Block<u64>, place: u64, value: u64)
     ensures { block_len block.new ≡ block_len block.old }

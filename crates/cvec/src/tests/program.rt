@@ -16,6 +16,8 @@ const CALLS: Request = Request::Play(Engine::Calls);
 
 const STEPS: Request = Request::Play(Engine::Steps);
 
+const COUNTED: Request = Request::Play(Engine::Counted);
+
 // Serves a request, and compares the status and what standard error gets.
 fn ends<X: Abort, R: Read, W: Write>(
     rt: &X,
@@ -36,14 +38,16 @@ fn ends<X: Abort, R: Read, W: Write>(
     );
 }
 
-#[test]
-fn a_reader_that_fails_is_a_read_fault(rt: HostRuntime) {
+// Serves a request whose reader fails.
+fn ends_at_a_read_fault<X: Abort>(rt: &X, alloc: Global, request: &Request)
+    requires { StartsThreads request.now → ⊥ }
+{
     let mut reader = Broken { rest: SCRIPT };
-    let mut text = Vec::new(rt.alloc());
+    let mut text = Vec::new(alloc);
     ends(
-        &rt,
-        rt.alloc(),
-        &CALLS,
+        rt,
+        alloc,
+        request,
         &mut reader,
         &mut text,
         4,
@@ -53,19 +57,35 @@ fn a_reader_that_fails_is_a_read_fault(rt: HostRuntime) {
 }
 
 #[test]
-fn a_writer_that_fails_is_a_write_fault(rt: HostRuntime) {
+fn a_reader_that_fails_is_a_read_fault(rt: HostRuntime) {
+    ends_at_a_read_fault(&rt, rt.alloc(), &CALLS);
+    ends_at_a_read_fault(&rt, rt.alloc(), &STEPS);
+    ends_at_a_read_fault(&rt, rt.alloc(), &COUNTED);
+}
+
+// Serves a request whose writer fails after five bytes.
+fn ends_at_a_write_fault<X: Abort>(rt: &X, alloc: Global, request: &Request, written: &str)
+    requires { StartsThreads request.now → ⊥ }
+{
     let mut reader = SCRIPT;
-    let mut narrow = Narrow::new(rt.alloc(), 5, Some(ErrorKind::StorageFull));
+    let mut narrow = Narrow::new(alloc, 5, Some(ErrorKind::StorageFull));
     ends(
-        &rt,
-        rt.alloc(),
-        &STEPS,
+        rt,
+        alloc,
+        request,
         &mut reader,
         &mut narrow,
         4,
         "write fault\n",
     );
-    assert!(rt; narrow.text.as_slice() == b"size ".as_slice());
+    assert!(rt; narrow.text.as_slice() == written.as_bytes());
+}
+
+#[test]
+fn a_writer_that_fails_is_a_write_fault(rt: HostRuntime) {
+    ends_at_a_write_fault(&rt, rt.alloc(), &CALLS, "a1 pu");
+    ends_at_a_write_fault(&rt, rt.alloc(), &STEPS, "size ");
+    ends_at_a_write_fault(&rt, rt.alloc(), &COUNTED, "size ");
 }
 
 #[test]

@@ -15,7 +15,7 @@ fn value_of(block: &Block<u64>, place: u64, member: &Member<u64>, epoch: &Epoch)
 }
 
 // The same of a cell that is settled.
-fn settled_value(block: &mut Block<u64>, place: u64, epoch: &Epoch) -> Option<u64>
+pub(crate) fn settled_value(block: &mut Block<u64>, place: u64, epoch: &Epoch) -> Option<u64>
     requires { place < block_len block.old }
     ensures len { block_len block.new ≡ block_len block.old }
     ensures others { KeepsOtherCells block.old block.new place }

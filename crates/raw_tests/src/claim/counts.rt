@@ -48,8 +48,8 @@ impl CountingHand {
         word.laws();
         self.hand.laws();
         let to = self.hand.seen().saturating_add(n).min(word.limit());
-        laws::added_runs_are_last();
-        laws::places_stay();
+        laws::added_places_add_up();
+        laws::own_counts_stay();
         if let Ok(run) = word.raise(&mut self.hand, to) {
             self.hand.laws();
             self.won += run.n;
@@ -91,7 +91,7 @@ impl CountingHand {
     {
         self.hand.laws();
         other.hand.laws();
-        laws::places_stay();
+        laws::own_counts_stay();
         word.meet(&mut self.hand, &mut other.hand);
     }
 

@@ -18,7 +18,9 @@ fn closes_at_three(word: Word<Global>, mut hand: Hand, block: &Block<u64>) -> bo
     requires room { block_len block.now ≡ 3 }
 {
     match word.raise(&mut hand, 3) {
-        Ok(_run) => fill(block, 0, 5).is_some() && fill(block, 2, 7).is_some() && word.close(hand) == 3,
+        Ok(_run) => fill(block, 0, 5).is_some()
+            && fill(block, 2, 7).is_some()
+            && word.close(hand) == 3,
         Err(_enough) => false,
     }
 }
@@ -34,7 +36,9 @@ fn lacks_the_second(block: &mut Block<u64>, epoch: &Epoch) -> bool
 }
 
 #[test]
-fn a_claimed_place_that_was_never_begun_is_broken_once_settled(rt: HostRuntime) -> Result<(), Fail> {
+fn a_claimed_place_that_was_never_begun_is_broken_once_settled(
+    rt: HostRuntime,
+) -> Result<(), Fail> {
     let (word, hand) = Word::open(rt.alloc(), 3, 0)?;
     let mut block = made(&rt, 3);
     let epoch = Epoch::new();

@@ -1,4 +1,4 @@
-use Rattle.std.proofs.Common.{◌≡◌, List, rules, map, fold, subst}
+use Rattle.std.proofs.Common.{◌≡◌, List, rules, fold, subst}
 use Rattle.std.proofs.lemmas.Result.{IfOk-weaker}
 use Rattle.list_tests.specs.Matrix.{MatrixView, identity, step_of, times}
 use Rattle.list_tests.proofs.Matrix.{products_join}

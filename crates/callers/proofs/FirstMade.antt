@@ -1,5 +1,5 @@
 -- The first value of a growth that was refused.
-use Rattle.std.proofs.Common.{◌≡◌, ℕ, Some, Result, Err, IfOk, IfErr, slice_get, subst}
+use Rattle.std.proofs.Common.{◌≡◌, ℕ, Some, Result, Ok, Err, IfOk, IfErr, slice_get, subst}
 use Rattle.grow_core.specs.declared.errors.GrowError.{GrowError}
 use Rattle.grow_core.specs.declared.errors.GrowError.TheVariants.{Refused}
 use Rattle.grow_core.specs.Hand.{HandView}

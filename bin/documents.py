@@ -9,6 +9,8 @@ CLAUSE = re.compile(r" *(?:ensures\*?|requires) (\w+) \{")
 VARIANT = re.compile(r"    ([A-Z]\w*)(?:[ ({,]|$)")
 TYPE = re.compile(r"(?:pub |pub\(crate\) )?(?:struct|enum|trait) (\w+)")
 DEFINITION = re.compile(r"^ *(?:abbrev |unfoldable |recursive )*pub (?:record |data )?(\w+)", re.MULTILINE)
+BLOCK = re.compile(r"^ *``` *(\w*).*\n((?:.*\n)*?) *```.*$", re.MULTILINE)
+ITEM = re.compile(r"^.*\S.*(?:\n(?! *(?:-|\d+\.) |\||#).*\S.*)*", re.MULTILINE)
 UNSAFE = re.compile(r"^(?! *//).*\bunsafe\b", re.MULTILINE)
 
 
@@ -54,35 +56,20 @@ class Crate:
 
 
 class Document:
-    """A Markdown file: its blocks of code, the rows of its tables and its paragraphs, each with its line number."""
+    """A Markdown file: its blocks of code, the rows of its tables and its paragraphs, with line numbers; `text` lacks blocks."""
 
     def __init__(self, path):
-        self.path, self.folder = path, os.path.dirname(path)
-        self.lines, self.blocks, self.prose = text_of(path).split("\n"), [], []
-        language = None
-        for number, line in enumerate(self.lines, 1):
-            if line.lstrip().startswith("```"):
-                language = None if language is not None else line.strip("` ")
-                self.blocks += [] if language is None else [(number, language, [])]
-            elif language is not None:
-                self.blocks[-1][2].append(line)
-            else:
-                self.prose.append((number, line))
+        self.path, self.folder, text = path, os.path.dirname(path), text_of(path)
+        self.blocks = [(1 + text.count("\n", 0, it.start()), it[1], it[2]) for it in BLOCK.finditer(text)]
+        self.text = BLOCK.sub(lambda it: "\n" * it[0].count("\n"), text)
+        self.prose = [*enumerate(self.text.split("\n"), 1)]
 
     def paragraphs(self):
         """Each heading, paragraph, item of a list and row of a table, with the whole text of its section."""
-        sections = [[]]
-        for number, line in self.prose:
-            if line.startswith("#"):
-                sections.append([])
-            is_more = re.match(r"(?! *(?:-|\d+\.) |\||#) *\S", line) and sections[-1] and sections[-1][-1][1]
-            if is_more and number == sections[-1][-1][0] + len(sections[-1][-1][1].split("\n")):
-                number, before = sections[-1].pop()
-                line = f"{before}\n{line}"
-            sections[-1].append((number, line))
-        for section in sections:
-            whole = "\n".join(text for _, text in section)
-            yield from ((number, text, whole) for number, text in section if text.strip())
+        number = 1
+        for section in re.split(r"^(?=#)", self.text, flags=re.MULTILINE):
+            yield from ((number + section.count("\n", 0, it.start()), it[0], section) for it in ITEM.finditer(section))
+            number += section.count("\n")
 
     def rows(self):
         """The rows of the tables, each as a dictionary from the heads of its columns."""

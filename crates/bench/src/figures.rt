@@ -1,12 +1,12 @@
 //! The figures, which are printed only when they are asked for.
-use crate::thing::{GROUPS, Group, Thing};
+use crate::operation::{GROUPS, Group, Operation};
 use anyhow::Result;
 use std::alloc::AllocGlobal;
 use std::rt::Clock;
 use std::sync::Wait;
 use std::thread::Threads;
 
-// How often each thing is measured.
+// How often each operation is measured.
 const ROUNDS: usize = 7;
 
 // How many threads there are.
@@ -23,21 +23,21 @@ struct Spread {
 // The picoseconds that a try takes a thread.
 fn time_of<R: Threads + Wait + Clock + AllocGlobal + Sync>(
     rt: &R,
-    thing: Thing,
+    operation: Operation,
     threads: usize,
     tries: u64,
 ) -> Result<u64> {
-    let took = thing.run(rt, threads, tries)?.took.as_nanos();
+    let took = operation.run(rt, threads, tries)?.took.as_nanos();
     Ok(u64::try_from(took.saturating_mul(1000) / u128::from(tries.max(1))).unwrap_or(u64::MAX))
 }
 
-// The times of a group's things.
+// The times of a group's operations.
 fn round_of<R: Threads + Wait + Clock + AllocGlobal + Sync>(
     rt: &R,
     group: Group,
     threads: usize,
 ) -> Result<[u64; 3]> {
-    let [first, second, third] = group.things;
+    let [first, second, third] = group.operations;
     Ok([
         time_of(rt, first, threads, group.tries)?,
         time_of(rt, second, threads, group.tries)?,
@@ -45,8 +45,8 @@ fn round_of<R: Threads + Wait + Clock + AllocGlobal + Sync>(
     ])
 }
 
-// The times of a group's things, in each round. The things take turns, so that other work on the machine
-// meets all.
+// The times of a group's operations, in each round. The operations take turns, so that other work on the
+// machine meets all.
 fn rounds_of<R: Threads + Wait + Clock + AllocGlobal + Sync>(
     rt: &R,
     group: Group,
@@ -64,7 +64,7 @@ fn time_at(times: &[u64], index: usize) -> u64 {
     times.get(index).copied().unwrap_or(0)
 }
 
-// How the times of the thing at this index of its group are spread.
+// How the times of the operation at this index of its group are spread.
 fn spread_of<R: AllocGlobal>(rt: &R, rounds: &[[u64; 3]], index: usize) -> Result<Spread> {
     let mut times = Vec::new(rt.alloc());
     for round in rounds {
@@ -84,15 +84,15 @@ fn print_time<R: Print>(rt: &R, time: u64) -> Result<()> {
     Ok(())
 }
 
-// One row. The ratio is the middle time of the group's first thing to this one's.
+// One row. The ratio is the middle time of the group's first operation to this one's.
 fn print_row<R: Print>(
     rt: &R,
     threads: usize,
-    thing: Thing,
+    operation: Operation,
     time: Spread,
     first: Spread,
 ) -> Result<()> {
-    let name = thing.name();
+    let name = operation.name();
     print!(rt; "{threads:<8} {name:<15}")?;
     print_time(rt, time.least)?;
     print_time(rt, time.middle)?;
@@ -109,14 +109,14 @@ fn print_group<R: Threads + Wait + Clock + Print + AllocGlobal + Sync>(
 ) -> Result<()> {
     let rounds = rounds_of(rt, group, threads)?;
     let first = spread_of(rt, rounds.as_slice(), 0)?;
-    for index in 0..group.things.len() {
+    for index in 0..group.operations.len() {
         let time = spread_of(rt, rounds.as_slice(), index)?;
-        print_row(rt, threads, group.things[index], time, first)?;
+        print_row(rt, threads, group.operations[index], time, first)?;
     }
     Ok(())
 }
 
-fn print_things<R: Threads + Wait + Clock + Print + AllocGlobal + Sync>(
+fn print_operations<R: Threads + Wait + Clock + Print + AllocGlobal + Sync>(
     rt: &R,
     group: Group,
 ) -> Result<()> {
@@ -128,7 +128,7 @@ fn print_things<R: Threads + Wait + Clock + Print + AllocGlobal + Sync>(
 
 fn print_head<R: Print>(rt: &R) -> Result<()> {
     println!(rt;
-        "nanoseconds a try, of {ROUNDS} rounds; the ratio of a group's first thing to each"
+        "nanoseconds a try, of {ROUNDS} rounds; the ratio of a group's first operation to each"
     )?;
     println!(rt; "threads  what               least   middle     most    ratio")?;
     Ok(())
@@ -138,7 +138,7 @@ fn print_head<R: Print>(rt: &R) -> Result<()> {
 pub fn print_figures<R: Threads + Wait + Clock + Print + AllocGlobal + Sync>(rt: &R) -> Result<()> {
     print_head(rt)?;
     for group in GROUPS.as_slice() {
-        print_things(rt, *group)?;
+        print_operations(rt, *group)?;
     }
     Ok(())
 }

@@ -1,5 +1,5 @@
 //! Many vectors of a hundred values each, one after another.
-use crate::shared_vector::{empty_in, push};
+use crate::shared_vector::{open_empty_in, push};
 use crate::trial::print_nanoseconds;
 use anyhow::{Result, ensure};
 use grow_core::OpenError;
@@ -15,7 +15,7 @@ const VECTORS: u64 = 100_000;
 
 // Makes a vector, appends its values, and drops it: how many it had.
 fn fill_one<R: Wait + AllocGlobal>(rt: &R, layout: Layout) -> Result<u64, OpenError> {
-    let (vector, hand) = empty_in(rt.alloc(), layout, VALUES)?;
+    let (vector, hand) = open_empty_in(rt.alloc(), layout, VALUES)?;
     Ok(push(rt, &vector, hand, VALUES))
 }
 

@@ -32,7 +32,7 @@ fn append_all(parts: &mut Parts<u64>) {
 }
 
 // A list of all values.
-fn filled(alloc: Global) -> Result<Parts<u64>, AllocError> {
+fn fill_list(alloc: Global) -> Result<Parts<u64>, AllocError> {
     let mut parts = Parts::new(alloc, VALUES);
     parts.room(VALUES)?;
     append_all(&mut parts);
@@ -73,7 +73,7 @@ fn time_both<R: Clock>(rt: &R, parts: Parts<u64>) -> Result<(Duration, Duration)
 
 /// Opens a list and closes it, and prints the nanoseconds that one of the two took.
 pub fn print_turn<R: Clock + Print + AllocGlobal>(rt: &R, turn: Turn) -> Result<()> {
-    let (opened, closed) = time_both(rt, filled(rt.alloc())?)?;
+    let (opened, closed) = time_both(rt, fill_list(rt.alloc())?)?;
     let took = match turn {
         Turn::Open => opened,
         Turn::Close => closed,

@@ -5,7 +5,7 @@ ghost use Rattle.std.specs.Thread.{IsSync};
 ghost use Rattle.grow_core.specs.Vector.{IsHandOf};
 
 use crate::other_vectors::push_boxcar;
-use crate::shared_vector::{empty_in, hands_for, push, push_by_calls};
+use crate::shared_vector::{open_empty_in, hands_for, push, push_by_calls};
 use crate::trial::{print_nanoseconds, time_hands, time_threads};
 use anyhow::{Result, bail};
 use grow_core::{Hand, Never, Shared};
@@ -290,7 +290,7 @@ impl Load {
         rt: &R,
         threads: usize,
     ) -> Result<()> {
-        let (vector, mut hand) = empty_in(
+        let (vector, mut hand) = open_empty_in(
             rt.alloc(),
             self.layout,
             self.filled.saturating_add(self.values),

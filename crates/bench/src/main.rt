@@ -1,11 +1,12 @@
 //! Measures what calls cost, each next to a yardstick that does the least that the call could do, and puts
 //! the shared vector under stress.
 //!
-//! - Without an argument it runs each thing shortly and prints that all of its wins were counted: the same
-//!   whatever the machine does. With the argument `figures` it measures for some seconds and prints times.
+//! - Without an argument it runs each operation shortly and prints that all of its wins were counted: the
+//!   same whatever the machine does. With the argument `figures` it measures for some seconds and prints
+//!   times.
 //! - With `stress SECONDS` threads make random calls on shared vectors, and the results are compared.
-//! - Each measured thing has a file of its own with one function that runs its tries in threads and returns a
-//!   `Trial`.
+//! - Each measured operation has a file of its own with one function that runs its tries in threads and
+//!   returns a `Trial`.
 //!
 //! Contracts say that each hand and each token is used with its own word or vector. No clause says what a run
 //! costs.
@@ -20,7 +21,7 @@ mod loads;
 mod other_vectors;
 mod shared_vector;
 mod stress;
-mod thing;
+mod operation;
 mod trial;
 
 use crate::figures::print_figures;
@@ -28,7 +29,7 @@ use crate::hundreds::print_hundreds;
 use crate::lives::{Turn, print_turn};
 use crate::loads::{layout_of, load_of, print_boxcar_time};
 use crate::stress::print_stress;
-use crate::thing::{GROUPS, Group, Thing};
+use crate::operation::{GROUPS, Group, Operation};
 use anyhow::{Result, bail, ensure};
 use std::alloc::AllocGlobal;
 use std::env::{self, Env};
@@ -41,30 +42,30 @@ const THREADS: usize = 2;
 
 const TRIES: u64 = 500;
 
-// Says that every win of a thing was counted.
+// Says that every win of an operation was counted.
 fn print_counted<R: Print>(rt: &R, name: &str) -> Result<()> {
     println!(rt; "{name}: {TRIES} tries by each of {THREADS} threads, every win counted")?;
     Ok(())
 }
 
-// Runs a thing shortly.
+// Runs an operation shortly.
 fn print_count<R: Threads + Wait + Clock + Print + AllocGlobal + Sync>(
     rt: &R,
-    thing: Thing,
+    operation: Operation,
 ) -> Result<()> {
-    let trial = thing.run(rt, THREADS, TRIES)?;
-    let name = thing.name();
+    let trial = operation.run(rt, THREADS, TRIES)?;
+    let name = operation.name();
     ensure!(trial.wins == trial.size, "{name} lost a win");
     print_counted(rt, name)
 }
 
-// Runs each thing of a group shortly.
+// Runs each operation of a group shortly.
 fn print_counts_of<R: Threads + Wait + Clock + Print + AllocGlobal + Sync>(
     rt: &R,
     group: Group,
 ) -> Result<()> {
-    for thing in group.things.as_slice() {
-        print_count(rt, *thing)?;
+    for operation in group.operations.as_slice() {
+        print_count(rt, *operation)?;
     }
     Ok(())
 }

@@ -14,14 +14,14 @@ use std::sync::Wait;
 use std::thread::Threads;
 
 /// Makes an empty vector with this limit, and the hand that has all shares.
-pub fn empty<T: Drop>(alloc: Global, limit: u64) -> Result<(Shared<T>, Hand<T>), OpenError>
+pub fn open_empty<T: Drop>(alloc: Global, limit: u64) -> Result<(Shared<T>, Hand<T>), OpenError>
     ensures hand { IfOk result (λ (vector, hand). IsHandOf vector hand × IsWholeHand hand) }
 {
-    empty_in(alloc, Layout::default(), limit)
+    open_empty_in(alloc, Layout::default(), limit)
 }
 
 /// Makes an empty vector like `empty`, with this layout.
-pub fn empty_in<T: Drop>(
+pub fn open_empty_in<T: Drop>(
     alloc: Global,
     layout: Layout,
     limit: u64,
@@ -134,6 +134,6 @@ pub fn run_pushes<R: Threads + Wait + Clock + AllocGlobal + Sync>(
     tries: u64,
 ) -> Result<Trial> {
     let limit = (threads as u64).saturating_mul(tries);
-    let (vector, mut hand) = empty(rt.alloc(), limit)?;
+    let (vector, mut hand) = open_empty(rt.alloc(), limit)?;
     push_on(rt, &vector, &mut hand, threads, tries)
 }

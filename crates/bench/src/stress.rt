@@ -11,7 +11,7 @@ mod job;
 mod random;
 mod record;
 
-use crate::shared_vector::empty;
+use crate::shared_vector::open_empty;
 use crate::stress::compare::compare_all;
 use crate::stress::job::{Job, Outcome, run_job};
 use crate::stress::random::Random;
@@ -118,8 +118,8 @@ fn stress_on<R: Threads + Wait + AllocGlobal + Sync>(
     compare_all(rt, vector, hand, records.as_slice())
 }
 
-// Ends the vector by a hand, if that has all shares.
-fn end(vector: Shared<u64>, hand: Hand<u64>) -> bool
+// Closes the vector with a hand, if that has all shares.
+fn close_vector(vector: Shared<u64>, hand: Hand<u64>) -> bool
     requires ours { IsHandOf vector hand }
 {
     if !hand.is_whole() {
@@ -134,17 +134,17 @@ fn limit_of(number: u64) -> u64 {
     1 + Random::new(number, THREADS).below(MOST)
 }
 
-// The vector of this number: all threads' calls, the comparison, and its end.
+// The vector of this number: all threads' calls, the comparison, and the close.
 fn stress_one<R: Threads + Wait + AllocGlobal + Sync>(
     rt: &R,
     number: u64,
     counts: &mut Counts,
 ) -> Result<()> {
-    let (vector, mut hand) = empty(rt.alloc(), limit_of(number))?;
+    let (vector, mut hand) = open_empty(rt.alloc(), limit_of(number))?;
     let compared = stress_on(rt, number, &vector, &mut hand, counts);
-    let is_ended = end(vector, hand);
+    let is_closed = close_vector(vector, hand);
     compared?;
-    ensure!(is_ended, "shares were lost");
+    ensure!(is_closed, "shares were lost");
     Ok(())
 }
 

@@ -1,4 +1,4 @@
-//! What one run of a measured thing gives, and the time that its threads take.
+//! What one run of a measured operation gives, and the time that its threads take.
 ghost use Rattle.std.specs.Fork.{AcceptsJobs};
 
 use anyhow::Result;

@@ -19,6 +19,10 @@ IsSound Size = Unit {0}
 abbrev pub AreSound : List (List Command) → Type 0
 AreSound programs = All (λ program. All IsSound program) programs
 
+-- the most programs that a play may have
+abbrev pub most_programs : ℕ
+most_programs = 65536
+
 -- each item's actor has a program
 abbrev pub HavePrograms : List (List Command) → List Item → Type 0
 HavePrograms programs items = All (λ item. item.actor < length programs) items

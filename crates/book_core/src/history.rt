@@ -9,7 +9,7 @@ use crate::vector::{BookError, CellVec};
 use std::alloc::{AllocError, Global};
 
 // Tests whether the event is legal and has this reply. A legal event happens, with another reply too.
-fn replies(list: &mut CellVec, event: Event, reply: Reply) -> Result<bool, AllocError>
+fn apply_with_reply(list: &mut CellVec, event: Event, reply: Reply) -> Result<bool, AllocError>
     ensures yes { IfOk result (λ yes. IsTrue yes → apply_event list.old event ≡ Some (list.new, reply)) }
     ensures no { IfOk result (λ yes. yes ≡ false → IfSome (apply_event list.old event) (λ after. after.1 ≢ reply)) }
 {
@@ -31,8 +31,8 @@ pub fn check(alloc: Global, limit: u64, history: &[(Event, Reply)]) -> Result<bo
     ensures exact { IfOk result (λ yes. IsTrue yes ↔ IsLegalFrom (empty_list limit) history.now) }
 {
     let mut list = CellVec::new(alloc, limit);
-    for told in history {
-        if !replies(&mut list, told.0, told.1)? {
+    for row in history {
+        if !apply_with_reply(&mut list, row.0, row.1)? {
             return Ok(false);
         }
     }

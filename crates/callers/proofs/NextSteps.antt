@@ -14,8 +14,8 @@ use Rattle.book_core.specs.declared.commands.Command.TheVariants as commands
 use Rattle.book_core.specs.declared.commands.Item.{Item}
 use Rattle.book_core.specs.History.{OwnedRun, run_of, runs_of, Tile}
 use Rattle.step_core.specs.declared.machine.phase.Actor.{Actor}
-use Rattle.step_core.specs.declared.machine.phase.Slot.{Slot}
-use Rattle.step_core.specs.declared.machine.phase.Slot.TheVariants.{Busy}
+use Rattle.step_core.specs.declared.machine.phase.CellSlot.{CellSlot}
+use Rattle.step_core.specs.declared.machine.phase.CellSlot.TheVariants.{Busy}
 use Rattle.step_core.specs.machine.Claims.{claim_of, IsOwnClaim, MovesAtClaims, MovesAreOwnClaims, NothingIsClaimedAtLoad}
 use Rattle.step_core.specs.machine.Headline.{EveryInterleavingIsSequential}
 use Rattle.step_core.specs.machine.Step.{Step, begin_at, outcome_of, step_to, step_in, step_as}
@@ -32,7 +32,7 @@ step_is p item state command under =
     ap (step_as p.at item.actor item.memory) under.there ∙ ap (step_in p.at item.actor item.memory state) under.call
 
 -- a key that was inserted has its value
-inserted : (m : map.FinMap nat_cmp Slot) (place : ℕ) (slot : Slot) → map.get (map.insert m place slot) place ≡ Some slot
+inserted : (m : map.FinMap nat_cmp CellSlot) (place : ℕ) (slot : CellSlot) → map.get (map.insert m place slot) place ≡ Some slot
 inserted m place slot =
     let key : eq_by_cmp nat_cmp place place ≡ true = unsigned_tied place place ∙ (let e : (place == place) ≡ true = grind (arith, nat_tests) in e) in
     map.get-insert nat_cmp_total m place slot place ∙ ap (λ b. cond b (Some slot) (map.get m place)) key

@@ -19,7 +19,7 @@ use Rattle.book_core.specs.History.{OwnedRun, runs_of, owner_of, events_of, writ
 use Rattle.book_core.specs.Laws.{IsItsToFinish}
 use Rattle.step_core.specs.declared.machine.phase.Actor.{Actor}
 use Rattle.step_core.specs.declared.machine.phase.Phase.TheVariants.{Load, Begin}
-use Rattle.step_core.specs.declared.machine.phase.Slot.TheVariants.{Busy}
+use Rattle.step_core.specs.declared.machine.phase.CellSlot.TheVariants.{Busy}
 use Rattle.step_core.specs.declared.programs.Played.{Played}
 use Rattle.step_core.specs.calls.Play.{calls_played}
 use Rattle.step_core.specs.machine.Claims.{claim_of}

@@ -1,6 +1,6 @@
 //! What callers prove by public clauses alone (`uses`, `every_play`, `vector_uses`), and tests of what no
 //! clause states: which scripts, events and lines are the intended ones, and that calls succeed if there is
-//! memory. The texts of plays are rows of the program, in `crates/cvec/rows`.
+//! memory. The texts of plays are rows of the program, in `tests/program`.
 
 ghost use Rattle.std.specs.Prelude.{◌≡◌, IfOk, length};
 

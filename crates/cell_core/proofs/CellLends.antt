@@ -19,7 +19,7 @@ use denote.Param.Laws.{Laws}
 use denote.Struct.Lending.{Lends}
 use contract.Monad as monad
 use Rattle.core.proofs.cell.Borrows.{by_one}
-use Rattle.cell_core.specs.Slot.{Names, Phase, free, busy, full, broken, shut, Rest, Turn, content, Lies, at, inside, Room, tie, lent, tied, standing, Cell, kept, shared_at}
+use Rattle.cell_core.specs.Slot.{Names, Phase, free, busy, full, broken, broken_by_owner, Rest, Turn, content, Lies, at, inside, Room, tie, lent, tied, standing, Cell, kept, shared_at}
 use Rattle.cell_core.specs.Laid.{rests, still}
 use Rattle.cell_core.proofs.CellSteps.{pins}
 
@@ -76,7 +76,7 @@ module _ (T : RattleType) (L : Laws T) (γ : Names) {M : Type 1} {𝓤 : Ura M} 
     lies free v = qed 𝓛 (‵ (fobs η (code None)) ∷ ‵ (fauth η (code v)) ∷ []) ∵ name_agree ! (content T) {x = None} {y = v} (λ z. by ! (monad.fact_i 𝓤 (v ≡ None) _ (sym z)))
     lies busy v = monad.fact_i 𝓤 (Unit {0}) _ tt
     lies (full x) v = qed 𝓛 (‵ (fres η (code (Some x))) ∷ ‵ (fauth η (code v)) ∷ []) ∵ res_agree ! (content T) {x = Some x} {y = v} (λ z. by ! (monad.fact_i 𝓤 (v ≡ Some x) _ (sym z)))
-    lies shut v = qed 𝓛 (‵ (fobs η (code None)) ∷ ‵ (fauth η (code v)) ∷ []) ∵ name_agree ! (content T) {x = None} {y = v} (λ z. by ! (monad.fact_i 𝓤 (v ≡ None) _ (sym z)))
+    lies broken_by_owner v = qed 𝓛 (‵ (fobs η (code None)) ∷ ‵ (fauth η (code v)) ∷ []) ∵ name_agree ! (content T) {x = None} {y = v} (λ z. by ! (monad.fact_i 𝓤 (v ≡ None) _ (sym z)))
     lies broken v = qed 𝓛 (‵ (fobs η (code None)) ∷ ‵ (fauth η (code v)) ∷ []) ∵ name_agree ! (content T) {x = None} {y = v} (λ z. by ! (monad.fact_i 𝓤 (v ≡ None) _ (sym z)))
 
     way_back : emp 𝓤 ⊢ ⟦ fwand (fsep (fdead κ) (fseps (Tied ∷ V ∷ []))) (fupd P) ⟧
@@ -90,13 +90,13 @@ module _ (T : RattleType) (L : Laws T) (γ : Names) {M : Type 1} {𝓤 : Ura M} 
     ties free v so = subst (λ (u : X). A.obs η (code v) ⊢ A.obs η (code u)) so (id⊢ 𝓤 _)
     ties busy v so = qed 𝓛 (‵ (fobs η (code v)) ∷ []) ∵ drop ! $ done !
     ties (full x) v so = subst (λ (u : X). A.obs η (code v) ⊢ A.res η (code u)) so (𝓛.names.obs-res η (code v))
-    ties shut v so = subst (λ (u : X). A.obs η (code v) ⊢ A.obs η (code u)) so (id⊢ 𝓤 _)
+    ties broken_by_owner v so = subst (λ (u : X). A.obs η (code v) ⊢ A.obs η (code u)) so (id⊢ 𝓤 _)
     ties broken v so = subst (λ (u : X). A.obs η (code v) ⊢ A.obs η (code u)) so (id⊢ 𝓤 _)
 
     lends : (ts : Toks) → Incl (span ts) T.lives → Incl (span ts) κ → (s : Phase T.Denot)
         → ⟦ tie T γ t b o s ⟧ ∗ A.bor κ V ∗ lfts 𝓛 ts ⊢ H.⇛ (⟦ tie T γ t b o s ⟧ ∗ ⟦ lent T γ t b o s ⟧ ∗ lfts 𝓛 ts)
     lends ts inc sp free = 𝓛.laws.⇛_intro _
-    lends ts inc sp shut = 𝓛.laws.⇛_intro _
+    lends ts inc sp broken_by_owner = 𝓛.laws.⇛_intro _
     lends ts inc sp broken = 𝓛.laws.⇛_intro _
     lends ts inc sp busy = qed 𝓛 (‵ ftrue ∷ ‵ (fbor κ V) ∷ raw (lfts 𝓛 ts) ∷ []) ∵ updating ! $ now ! $ nothing ! $ keep ! (0 ∷ 1 ∷ 3 ∷ []) $ done !
     lends ts inc sp (full y) = let Q : Fml = part_at T full_share y b e in let c = code (Some y) in
@@ -113,13 +113,13 @@ module _ (T : RattleType) (L : Laws T) (γ : Names) {M : Type 1} {𝓤 : Ura M} 
         → (A.bor κ Tied ∗ A.bor κ V) ∗ A.lft μ q ⊢ H.⇛ (⟦ kept T γ t b o κ ⟧ ∗ A.lft μ q)
     unfolding fseps
     guarded μ q inc sp = let l : Share = Share.left q in let r : Share = Share.right q in let Way : Fml = fwand (fsep (fdead κ) (fseps (I ∷ []))) (fupd Tied) in
-        let Shut : Pr = H.⇛ ((A.bor κ I ∗ emp 𝓤) ∗ A.lft μ l ∗ (A.dead κ -∗ A.bor κ Tied)) in let Asks : Pr = ⟦ fseps (I ∷ []) ⟧ ∗ ⟦ Way ⟧ ∗ (A.dead κ -∗ A.dead κ) in
+        let Closed : Pr = H.⇛ ((A.bor κ I ∗ emp 𝓤) ∗ A.lft μ l ∗ (A.dead κ -∗ A.bor κ Tied)) in let Asks : Pr = ⟦ fseps (I ∷ []) ⟧ ∗ ⟦ Way ⟧ ∗ (A.dead κ -∗ A.dead κ) in
         qed 𝓛 ((‵ (fbor κ Tied) ⊛ ‵ (fbor κ V)) ∷ ‵ (flft μ q) ∷ []) ∵ updating ! $ split ! $ move ! (2 ∷ []) $ use1 𝓛 (‵ (flft μ l) ⊛ ‵ (flft μ r)) (𝓛.lfts.lft_split μ q) $ split ! $ move ! (2 ∷ 0 ∷ []) $
-        use2 𝓛 (later (‵ Tied ⊛ raw (Asks -∗ Shut))) (𝓛.more.bor_acc_to κ κ ((μ, l) ∷ []) Tied (I ∷ []) sp) $ await ! tt $ split ! $ fpick ! (λ s. fsplit3 ! $ move ! (2 ∷ 5 ∷ 4 ∷ []) $
+        use2 𝓛 (later (‵ Tied ⊛ raw (Asks -∗ Closed))) (𝓛.more.bor_acc_to κ κ ((μ, l) ∷ []) Tied (I ∷ []) sp) $ await ! tt $ split ! $ fpick ! (λ s. fsplit3 ! $ move ! (2 ∷ 5 ∷ 4 ∷ []) $
         use3 𝓛 (later (‵ (tie T γ t b o s.1) ⊛ ‵ (lent T γ t b o s.1) ⊛ ‵ (flft μ r))) (lends ((μ, r) ∷ []) inc sp s.1) $ await ! tt $ split3 ! $ move ! (3 ∷ 4 ∷ 0 ∷ []) $ fjoin3 ! $ fjoin ! $
         fpack ! W (standing T γ t b o) s $ nothing ! $ move ! (1 ∷ 0 ∷ []) $ fjoin ! $ use0 𝓛 (raw (A.dead κ -∗ A.dead κ)) (wand_i 𝓤 (emp 𝓤) (A.dead κ) (A.dead κ) (snd∗ 𝓤 (emp 𝓤) (A.dead κ))) $
         use0 𝓛 (‵ Way) cell_back $ join ! $ move ! (1 ∷ 0 ∷ []) $ join ! $ move ! (0 ∷ 2 ∷ []) $
-        use2 𝓛 (later ((‵ (fbor κ I) ⊛ ‵ ftrue) ⊛ ‵ (flft μ l) ⊛ raw (A.dead κ -∗ A.bor κ Tied))) (apply∗ 𝓤 Asks Shut) $ await ! tt $ split3 ! $ split ! $
+        use2 𝓛 (later ((‵ (fbor κ I) ⊛ ‵ ftrue) ⊛ ‵ (flft μ l) ⊛ raw (A.dead κ -∗ A.bor κ Tied))) (apply∗ 𝓤 Asks Closed) $ await ! tt $ split3 ! $ split ! $
         use1 𝓛 (later (‵ (finv (fbor κ I)))) (𝓛.invs.inv_new (fbor κ I)) $ await ! tt $ use0 𝓛 (‵ (before κ κ)) (before-Incl 𝓛 κ κ (Incl-refl κ)) $ fjoin ! $
         move ! (2 ∷ 4 ∷ []) $ use2 𝓛 (‵ (flft μ q)) (𝓛.lfts.lft_join μ q) $ now ! $ keep ! (1 ∷ 0 ∷ []) $ done !)
 

@@ -13,18 +13,18 @@ use denote.Param.Send.{IsSend, IsSync, part_keyless, sendable}
 use denote.Struct.Owning
 use denote.Struct.Struct
 use Rattle.core.proofs.atomic.Sent.{chain-Keyless}
-use Rattle.cell_core.specs.Slot.{Names, breached, Phase, free, busy, full, broken, shut, Turn, at, place, told, tie, lent, kept, known, sighted, gained, claimed}
+use Rattle.cell_core.specs.Slot.{Names, broken_once, Phase, free, busy, full, broken, broken_by_owner, Turn, at, place, told, tie, lent, kept, known, sighted, gained, pen_owned}
 use Rattle.cell_core.specs.Slot.{Rest, resting}
 use Rattle.cell_core.specs.Laid.{owned, along, along_lent, laid, laid_lent}
 use Rattle.cell_core.specs.Member.{MemberView, known_as, members}
-use Rattle.cell_core.specs.contracts.slot.epoch.Epoch as Epoch
-use Rattle.cell_core.specs.contracts.slot.epoch.Ended as Ended
-use Rattle.cell_core.specs.contracts.slot.member.Member as Member
-use Rattle.cell_core.specs.contracts.slot.member.Row as Row
-use Rattle.cell_core.specs.contracts.slot.steps.Slot as Slot
-use Rattle.cell_core.specs.contracts.slot.steps.Claim as Claim
+use Rattle.cell_core.specs.contracts.slot.epoch.RawEpoch as RawEpoch
+use Rattle.cell_core.specs.contracts.slot.epoch.RawEnded as RawEnded
+use Rattle.cell_core.specs.contracts.slot.member.RawMember as RawMember
+use Rattle.cell_core.specs.contracts.slot.member.RawRow as RawRow
+use Rattle.cell_core.specs.contracts.slot.steps.RawSlot as RawSlot
+use Rattle.cell_core.specs.contracts.slot.steps.RawPen as RawPen
 use Rattle.cell_core.specs.contracts.slot.steps.Written as Written
-use Rattle.cell_core.specs.contracts.slot.steps.Crack as Crack
+use Rattle.cell_core.specs.contracts.slot.steps.RawBroken as RawBroken
 
 module _ (R : RattleType) (γ : Names) where
   told_keyless : (n : ℕ) (s : Phase R.Denot) → Keyless (told R γ n s)
@@ -32,14 +32,14 @@ module _ (R : RattleType) (γ : Names) where
   told_keyless n busy = (tt, tt)
   told_keyless n (full x) = (tt, (tt, tt))
   told_keyless n broken = (tt, (tt, (tt, tt)))
-  told_keyless n shut = (tt, (tt, tt))
+  told_keyless n broken_by_owner = (tt, (tt, tt))
 
   tie_keyless : (t : Turn) (b o : ℕ) (s : Phase R.Denot) → Keyless (tie R γ t b o s)
   tie_keyless t b o free = tt
   tie_keyless t b o busy = tt
   tie_keyless t b o (full x) = tt
   tie_keyless t b o broken = tt
-  tie_keyless t b o shut = tt
+  tie_keyless t b o broken_by_owner = tt
 
   known_keyless : (v : Option R.Denot) → Keyless (known R γ v)
   known_keyless (Some x) = tt
@@ -51,9 +51,9 @@ module _ (R : RattleType) (γ : Names) where
   sighted_keyless (suc (suc zero)) v = known_keyless v
   sighted_keyless (suc (suc (suc n))) v = tt
 
-  breached_keyless : (once : Bool) → Keyless (breached γ.breach once)
-  breached_keyless true = (tt, tt)
-  breached_keyless false = (tt, tt)
+  broken_once_keyless : (once : Bool) → Keyless (broken_once γ.broken_name once)
+  broken_once_keyless true = (tt, tt)
+  broken_once_keyless false = (tt, tt)
 
   module _ (s : IsSend R) (y : IsSync R) where
     place_keyless : (v : Option R.Denot) (b e : ℕ) → Keyless (place R v b e)
@@ -65,27 +65,27 @@ module _ (R : RattleType) (γ : Names) where
     lent_keyless t b o busy = tt
     lent_keyless t b o (full x) = y.shared x b (at R o) t.0
     lent_keyless t b o broken = λ u. (place_keyless u b (at R o), tt)
-    lent_keyless t b o shut = λ u. (place_keyless u b (at R o), tt)
+    lent_keyless t b o broken_by_owner = λ u. (place_keyless u b (at R o), tt)
 
     kept_keyless : (t : Turn) (b o : ℕ) (κ : Lft) → Keyless (kept R γ t b o κ)
-    kept_keyless t b o κ = ((λ νs. chain-Keyless νs κ t.0), λ u. ((tt, (((tt, breached_keyless), told_keyless u.0 u.1), tie_keyless t b o u.1)), lent_keyless t b o u.1))
+    kept_keyless t b o κ = ((λ νs. chain-Keyless νs κ t.0), λ u. ((tt, (((tt, broken_once_keyless), told_keyless u.0 u.1), tie_keyless t b o u.1)), lent_keyless t b o u.1))
 
     gained_keyless : (t : Turn) (b o : ℕ) (won : Bool) (n : ℕ) → Keyless (gained R γ t b o won n)
     gained_keyless t b o true n = ((tt, tt), (tt, λ u. (place_keyless u b (at R o), tt)))
     gained_keyless t b o false n = sighted_keyless n
 
-    claimed_keyless : (β : Lft) (p : Ptr) (sought found : ℕ) → Keyless (claimed R γ β p sought found)
-    claimed_keyless β (block_ptr b o) sought found = λ t. (kept_keyless t b o β, gained_keyless t b o (eqb found sought) found)
-    claimed_keyless β null_ptr sought found = tt
+    pen_owned_keyless : (β : Lft) (p : Ptr) (sought found : ℕ) → Keyless (pen_owned R γ β p sought found)
+    pen_owned_keyless β (block_ptr b o) sought found = λ t. (kept_keyless t b o β, gained_keyless t b o (eqb found sought) found)
+    pen_owned_keyless β null_ptr sought found = tt
 
-pub slot_send : (R : RattleType) → IsSend (Slot.the_row R)
+pub slot_send : (R : RattleType) → IsSend (RawSlot.the_row R)
 slot_send R = record { owned = λ d vs. ((λ _. tt), tt); leaving = λ k d w. tt }
 
-pub slot_sync : (R : RattleType) → IsSend R → IsSync R → IsSync (Slot.the_row R)
+pub slot_sync : (R : RattleType) → IsSend R → IsSync R → IsSync (RawSlot.the_row R)
 slot_sync R s y = record { shared = λ d b o κ t. kept_keyless R d s y t b o κ }
 
-pub claim_send : (a : NamedLft) (R : RattleType) → IsSend R → IsSync R → IsSend (Claim.the_row a R)
-claim_send a R s y = record { owned = λ d vs. ((λ vss. (tt, (tt, ((λ uss. (tt, tt)), tt)))), claimed_keyless R d.of s y a.lft d.slot d.sought d.found); leaving = λ k d w. tt }
+pub pen_send : (a : NamedLft) (R : RattleType) → IsSend R → IsSync R → IsSend (RawPen.the_row a R)
+pen_send a R s y = record { owned = λ d vs. ((λ vss. (tt, (tt, ((λ uss. (tt, tt)), tt)))), pen_owned_keyless R d.of s y a.lft d.slot d.sought d.found); leaving = λ k d w. tt }
 
 pub written_send : (R : RattleType) → IsSend (Written.the_row R)
 written_send R = record { owned = λ d vs. ((λ vss. (tt, ((λ uss. (tt, tt)), tt))), tt); leaving = λ k f vs. tt }
@@ -94,11 +94,11 @@ pub written_sync : (R : RattleType) → IsSync (Written.the_row R)
 written_sync R = let fields : IsSync (denote.Struct.Struct.Struct (denote.Struct.Owning.shape (Written.the_type R))) = search sendable depth 20 in
     record { shared = λ d b o κ. (fields.shared (tt, tt) b o κ, tt) }
 
-pub crack_send : IsSend Crack.the_row
-crack_send = record { owned = λ d vs. ((λ vss. (tt, ((λ uss. (tt, tt)), tt))), tt); leaving = λ k f vs. tt }
+pub broken_send : IsSend RawBroken.the_row
+broken_send = record { owned = λ d vs. ((λ vss. (tt, ((λ uss. (tt, tt)), tt))), tt); leaving = λ k f vs. tt }
 
-pub crack_sync : IsSync Crack.the_row
-crack_sync = let fields : IsSync (denote.Struct.Struct.Struct (denote.Struct.Owning.shape Crack.the_type)) = search sendable depth 20 in
+pub broken_sync : IsSync RawBroken.the_row
+broken_sync = let fields : IsSync (denote.Struct.Struct.Struct (denote.Struct.Owning.shape RawBroken.the_type)) = search sendable depth 20 in
     record { shared = λ d b o κ. (fields.shared (tt, tt) b o κ, tt) }
 
 known_as_keyless : (R : RattleType) (v : Option R.Denot) (γ : ℕ) → Keyless (known_as R v γ)
@@ -109,23 +109,23 @@ members_keyless : (R : RattleType) (ms : List (MemberView R.Denot)) → Keyless 
 members_keyless R [] = tt
 members_keyless R (m ∷ ms) = (known_as_keyless R m.value m.name, members_keyless R ms)
 
-pub member_send : (R : RattleType) → IsSend (Member.the_row R)
+pub member_send : (R : RattleType) → IsSend (RawMember.the_row R)
 member_send R = record { owned = λ d vs. ((λ vss. (tt, ((λ uss. (tt, tt)), tt))), known_as_keyless R d.of.value d.of.name); leaving = λ k f vs. tt }
 
-pub member_sync : (R : RattleType) → IsSync (Member.the_row R)
-member_sync R = let fields : IsSync (denote.Struct.Struct.Struct (denote.Struct.Owning.shape (Member.the_type R))) = search sendable depth 20 in
+pub member_sync : (R : RattleType) → IsSync (RawMember.the_row R)
+member_sync R = let fields : IsSync (denote.Struct.Struct.Struct (denote.Struct.Owning.shape (RawMember.the_type R))) = search sendable depth 20 in
     record { shared = λ d b o κ. (fields.shared (tt, tt) b o κ, known_as_keyless R d.of.value d.of.name) }
 
-pub row_send : (R : RattleType) → IsSend (Row.the_row R)
+pub row_send : (R : RattleType) → IsSend (RawRow.the_row R)
 row_send R = record { owned = λ d vs. ((λ vss. (tt, ((λ uss. (tt, tt)), tt))), members_keyless R d.of); leaving = λ k f vs. tt }
 
-pub row_sync : (R : RattleType) → IsSync (Row.the_row R)
-row_sync R = let fields : IsSync (denote.Struct.Struct.Struct (denote.Struct.Owning.shape (Row.the_type R))) = search sendable depth 20 in
+pub row_sync : (R : RattleType) → IsSync (RawRow.the_row R)
+row_sync R = let fields : IsSync (denote.Struct.Struct.Struct (denote.Struct.Owning.shape (RawRow.the_type R))) = search sendable depth 20 in
     record { shared = λ d b o κ. (fields.shared (tt, tt) b o κ, members_keyless R d.of) }
 
 module _ (R : RattleType) (s : IsSend R) (y : IsSync R) where
   resting_keyless : (γ : Names) (u : Rest R.Denot) → Keyless (resting R γ u)
-  resting_keyless γ u = (((tt, breached_keyless R γ), told_keyless R γ u.0 u.2), λ _. tt)
+  resting_keyless γ u = (((tt, broken_once_keyless R γ), told_keyless R γ u.0 u.2), λ _. tt)
 
   along_keyless : (b : ℕ) (γs : List Names) (e : ℕ) → Keyless (along R (owned R b) γs e)
   along_keyless b [] e = tt
@@ -142,16 +142,16 @@ module _ (R : RattleType) (s : IsSend R) (y : IsSync R) where
   pub laid_lent_keyless : (p : Ptr) (γs : List Names) (left : ℕ) (κ : Lft) → Keyless (laid_lent R p γs left κ)
   laid_lent_keyless p γs left κ = ((λ _. tt), lent_along_keyless _ γs _ κ)
 
-pub epoch_send : IsSend Epoch.the_row
+pub epoch_send : IsSend RawEpoch.the_row
 epoch_send = record { owned = λ d vs. ((λ vss. (tt, ((λ uss. (tt, tt)), tt))), tt); leaving = λ k f vs. tt }
 
-pub epoch_sync : IsSync Epoch.the_row
-epoch_sync = let fields : IsSync (denote.Struct.Struct.Struct (denote.Struct.Owning.shape Epoch.the_type)) = search sendable depth 20 in
+pub epoch_sync : IsSync RawEpoch.the_row
+epoch_sync = let fields : IsSync (denote.Struct.Struct.Struct (denote.Struct.Owning.shape RawEpoch.the_type)) = search sendable depth 20 in
     record { shared = λ d b o κ. (fields.shared (tt, tt) b o κ, λ νs. chain-Keyless νs κ (d.of ∷ [])) }
 
-pub ended_send : IsSend Ended.the_row
+pub ended_send : IsSend RawEnded.the_row
 ended_send = record { owned = λ d vs. ((λ vss. (tt, ((λ uss. (tt, tt)), tt))), tt); leaving = λ k f vs. tt }
 
-pub ended_sync : IsSync Ended.the_row
-ended_sync = let fields : IsSync (denote.Struct.Struct.Struct (denote.Struct.Owning.shape Ended.the_type)) = search sendable depth 20 in
+pub ended_sync : IsSync RawEnded.the_row
+ended_sync = let fields : IsSync (denote.Struct.Struct.Struct (denote.Struct.Owning.shape RawEnded.the_type)) = search sendable depth 20 in
     record { shared = λ d b o κ. (fields.shared (tt, tt) b o κ, tt) }

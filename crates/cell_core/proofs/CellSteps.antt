@@ -26,7 +26,7 @@ use Rattle.core.proofs.cell.Borrows.{by_one}
 use Rattle.core.specs.Sync.RawAtomic.{asks, always}
 use Rattle.core.proofs.raw_atomic.Asked.{borrowed, Lies, Again}
 use Rattle.cell_core.specs.Member.{HasNames, IsWordOf, MayBeWordOf, IsEpochOf, unfilled, known_as}
-use Rattle.cell_core.specs.Slot.{Names, Phase, fact, free, busy, full, broken, shut, Turn, word, cross, spoilt, breached, content, mark, written, place, at, auths, unset, over, settable, cracked, told, inside, Room, tie, lent, standing, Cell, kept, Right, gained, won, sighted, sights, shared_at}
+use Rattle.cell_core.specs.Slot.{Names, Phase, fact, free, busy, full, broken, broken_by_owner, Turn, word, broken_mark, was_broken, broken_once, content, mark, written, place, at, auths, unset, over, settable, broken_unset, told, inside, Room, tie, lent, standing, Cell, kept, Right, gained, won, sighted, sights, shared_at}
 
 abbrev head : Gv → Gv
 head (gcons a b) = a
@@ -100,14 +100,14 @@ module _ {M : Type 1} {𝓤 : Ura M} (𝓛 : Logic 𝓤) (R : RattleType) (γ : 
   word_of busy = 1
   word_of (full x) = 2
   word_of broken = 3
-  word_of shut = 4
+  word_of broken_by_owner = 4
 
   abbrev told_with : S → Fml
   told_with free = settable R γ
   told_with busy = over R γ
-  told_with (full x) = fsep (over R γ) (written R γ.value x)
-  told_with broken = fsep (over R γ) (cracked R γ)
-  told_with shut = cracked R γ
+  told_with (full x) = fsep (over R γ) (written R γ.value_name x)
+  told_with broken = fsep (over R γ) (broken_unset R γ)
+  told_with broken_by_owner = broken_unset R γ
 
   abbrev Told : ℕ → S → Fml
   Told n s = fsep (feq ℕ n (word_of s)) (told_with s)
@@ -120,17 +120,17 @@ module _ {M : Type 1} {𝓤 : Ura M} (𝓛 : Logic 𝓤) (R : RattleType) (γ : 
   opened n busy = id⊢ 𝓤 _
   opened n (full x) = id⊢ 𝓤 _
   opened n broken = id⊢ 𝓤 _
-  opened n shut = id⊢ 𝓤 _
+  opened n broken_by_owner = id⊢ 𝓤 _
 
-  shut_again : (n : ℕ) (s : S) → ⟦ Beside n s ⟧ ⊢ ⟦ beside n s ⟧
-  shut_again n free = id⊢ 𝓤 _
-  shut_again n busy = id⊢ 𝓤 _
-  shut_again n (full x) = id⊢ 𝓤 _
-  shut_again n broken = id⊢ 𝓤 _
-  shut_again n shut = id⊢ 𝓤 _
+  closed_again : (n : ℕ) (s : S) → ⟦ Beside n s ⟧ ⊢ ⟦ beside n s ⟧
+  closed_again n free = id⊢ 𝓤 _
+  closed_again n busy = id⊢ 𝓤 _
+  closed_again n (full x) = id⊢ 𝓤 _
+  closed_again n broken = id⊢ 𝓤 _
+  closed_again n broken_by_owner = id⊢ 𝓤 _
 
   word_is : (n : ℕ) (s : S) → ⟦ beside n s ⟧ ⊢ guard 𝓤 (n ≡ word_of s) ⟦ beside n s ⟧
-  word_is n s = qed 𝓛 (‵ (beside n s) ∷ []) ∵ use1 𝓛 (‵ (Beside n s)) (opened n s) $ fsplit3 ! $ move ! (1 ∷ []) $ fsplit ! $ feq_l ! (λ e. check ! e $ feq_i ! ℕ n (word_of s) e $ fjoin ! $ move ! (1 ∷ 0 ∷ 2 ∷ []) $ fjoin3 ! $ by ! (shut_again n s))
+  word_is n s = qed 𝓛 (‵ (beside n s) ∷ []) ∵ use1 𝓛 (‵ (Beside n s)) (opened n s) $ fsplit3 ! $ move ! (1 ∷ []) $ fsplit ! $ feq_l ! (λ e. check ! e $ feq_i ! ℕ n (word_of s) e $ fjoin ! $ move ! (1 ∷ 0 ∷ 2 ∷ []) $ fjoin3 ! $ by ! (closed_again n s))
 
   -- what the word shows can be had next to the invariant
   abbrev Sights : ℕ → Fml
@@ -141,20 +141,20 @@ module _ {M : Type 1} {𝓤 : Ura M} (𝓛 : Logic 𝓤) (R : RattleType) (γ : 
   seen_of busy = None
   seen_of (full x) = Some x
   seen_of broken = None
-  seen_of shut = None
+  seen_of broken_by_owner = None
 
   shows_with : (s : S) → ⟦ told_with s ⟧ ⊢ ⟦ told_with s ⟧ ∗ ⟦ sighted R γ (word_of s) (seen_of s) ⟧
   shows_with free = qed 𝓛 (‵ (settable R γ) ∷ []) ∵ nothing ! $ move ! (1 ∷ []) $ done !
   shows_with busy = qed 𝓛 (‵ (over R γ) ∷ []) ∵ nothing ! $ move ! (1 ∷ []) $ done !
-  shows_with (full x) = qed 𝓛 (‵ (fsep (over R γ) (written R γ.value x)) ∷ []) ∵ fsplit ! $ move ! (1 ∷ []) $ res_dup ! $ move ! (2 ∷ 0 ∷ []) $ fjoin ! $ done !
-  shows_with broken = qed 𝓛 (‵ (fsep (over R γ) (cracked R γ)) ∷ []) ∵ fsplit ! $ move ! (1 ∷ []) $ fsplit ! $ res_dup ! $ move ! (0 ∷ 2 ∷ []) $ fjoin ! $ move ! (2 ∷ 0 ∷ []) $ fjoin ! $ done !
-  shows_with shut = qed 𝓛 (‵ (cracked R γ) ∷ []) ∵ fsplit ! $ res_dup ! $ move ! (0 ∷ 2 ∷ []) $ fjoin ! $ done !
+  shows_with (full x) = qed 𝓛 (‵ (fsep (over R γ) (written R γ.value_name x)) ∷ []) ∵ fsplit ! $ move ! (1 ∷ []) $ res_dup ! $ move ! (2 ∷ 0 ∷ []) $ fjoin ! $ done !
+  shows_with broken = qed 𝓛 (‵ (fsep (over R γ) (broken_unset R γ)) ∷ []) ∵ fsplit ! $ move ! (1 ∷ []) $ fsplit ! $ res_dup ! $ move ! (0 ∷ 2 ∷ []) $ fjoin ! $ move ! (2 ∷ 0 ∷ []) $ fjoin ! $ done !
+  shows_with broken_by_owner = qed 𝓛 (‵ (broken_unset R γ) ∷ []) ∵ fsplit ! $ res_dup ! $ move ! (0 ∷ 2 ∷ []) $ fjoin ! $ done !
 
   looked : (n : ℕ) (s : S) → ⟦ beside n s ⟧ ⊢ ⟦ beside n s ⟧ ∗ ⟦ Sights n ⟧
   looked n s = qed 𝓛 (‵ (beside n s) ∷ []) ∵ use1 𝓛 (‵ (Beside n s)) (opened n s) $ fsplit3 ! $ move ! (1 ∷ []) $ fsplit ! $ feq_l ! (λ e.
       use1 𝓛 (‵ (told_with s) ⊛ ‵ (sighted R γ (word_of s) (seen_of s))) (shows_with s) $ split ! $ feq_i ! ℕ n (word_of s) e $ fjoin ! $
       -- [the word; what it shows; the names; the room]
-      move ! (2 ∷ 0 ∷ 3 ∷ []) $ fjoin3 ! $ use1 𝓛 (‵ (beside n s)) (shut_again n s) $ frame ! $ rewrite ! 0 (λ (k : ℕ). ‵ (sighted R γ k (seen_of s))) (sym e) refl $ fpack ! (Option R.Denot) (sighted R γ n) (seen_of s) $ done !)
+      move ! (2 ∷ 0 ∷ 3 ∷ []) $ fjoin3 ! $ use1 𝓛 (‵ (beside n s)) (closed_again n s) $ frame ! $ rewrite ! 0 (λ (k : ℕ). ‵ (sighted R γ k (seen_of s))) (sym e) refl $ fpack ! (Option R.Denot) (sighted R γ n) (seen_of s) $ done !)
 
   -- an exchange from the word m to busy
   abbrev pub exchanged : ℕ → ℕ → ℕ
@@ -183,8 +183,8 @@ module _ {M : Type 1} {𝓤 : Ura M} (𝓛 : Logic 𝓤) (R : RattleType) (γ : 
       -- [the right to set; the epoch has ended; the names; the room]
       move ! (2 ∷ 1 ∷ 0 ∷ []) $ by ! seized
 
-  unshuts : (n : ℕ) → ⟦ beside n shut ⟧ ∗ ⟦ over R γ ⟧ ⊢ ⟦ beside 1 busy ⟧ ∗ ⟦ Right R γ t b o ⟧
-  unshuts n = qed 𝓛 (‵ (beside n shut) ∷ ‵ (over R γ) ∷ []) ∵ fsplit3 ! $ move ! (1 ∷ []) $ fsplit ! $ drop ! $ fsplit ! $ drop ! $
+  unbreaks_owned : (n : ℕ) → ⟦ beside n broken_by_owner ⟧ ∗ ⟦ over R γ ⟧ ⊢ ⟦ beside 1 busy ⟧ ∗ ⟦ Right R γ t b o ⟧
+  unbreaks_owned n = qed 𝓛 (‵ (beside n broken_by_owner) ∷ ‵ (over R γ) ∷ []) ∵ fsplit3 ! $ move ! (1 ∷ []) $ fsplit ! $ drop ! $ fsplit ! $ drop ! $
       -- [the right to set; the names; the room; the epoch has ended]
       move ! (1 ∷ 3 ∷ 0 ∷ []) $ by ! seized
 
@@ -200,28 +200,28 @@ module _ {M : Type 1} {𝓤 : Ura M} (𝓛 : Logic 𝓤) (R : RattleType) (γ : 
   hit_by : (m n : ℕ) (s : S) (P : Pr) → eqb (word_of s) m ≡ true → n ≡ word_of s → P ⊢ ⟦ beside 1 busy ⟧ ∗ ⟦ Right R γ t b o ⟧ → P ⊢ Exchanged m n
   hit_by m n s P hit e gain = qed 𝓛 (raw P ∷ []) ∵ show ! (Next (exchanged m) (Won m) n) busy $ by ! (hits m n P (ap (λ (k : ℕ). eqb k m) e ∙ hit) gain)
 
-  claims_at : (n : ℕ) (s : S) → n ≡ word_of s → ⟦ beside n s ⟧ ⊢ Exchanged 0 n
-  claims_at n free e = hit_by 0 n free ⟦ beside n free ⟧ refl e (frees n)
-  claims_at n busy e = missed 0 n busy refl e
-  claims_at n (full x) e = missed 0 n (full x) refl e
-  claims_at n broken e = missed 0 n broken refl e
-  claims_at n shut e = missed 0 n shut refl e
+  begins_at : (n : ℕ) (s : S) → n ≡ word_of s → ⟦ beside n s ⟧ ⊢ Exchanged 0 n
+  begins_at n free e = hit_by 0 n free ⟦ beside n free ⟧ refl e (frees n)
+  begins_at n busy e = missed 0 n busy refl e
+  begins_at n (full x) e = missed 0 n (full x) refl e
+  begins_at n broken e = missed 0 n broken refl e
+  begins_at n broken_by_owner e = missed 0 n broken_by_owner refl e
 
   mends_at : (n : ℕ) (s : S) → n ≡ word_of s → ⟦ beside n s ⟧ ⊢ Exchanged 3 n
   mends_at n free e = missed 3 n free refl e
   mends_at n busy e = missed 3 n busy refl e
   mends_at n (full x) e = missed 3 n (full x) refl e
   mends_at n broken e = hit_by 3 n broken ⟦ beside n broken ⟧ refl e (unbreaks n)
-  mends_at n shut e = missed 3 n shut refl e
+  mends_at n broken_by_owner e = missed 3 n broken_by_owner refl e
 
   exchange_of : (m : ℕ) → ((n : ℕ) (s : S) → n ≡ word_of s → ⟦ beside n s ⟧ ⊢ Exchanged m n) → (q : Share)
       → A.inv (fbor α I) ∗ (A.lft α q ∗ emp 𝓤) ⊢ asks 𝓛 (block_ptr b (o + 0)) (exchanged m) always (λ n. fsep (flft α q) (Won m n))
   exchange_of m law q = stepped q (exchanged m) (Won m) (emp 𝓤) (λ n s. qed 𝓛 (‵ (beside n s) ∷ raw (emp 𝓤) ∷ []) ∵ suffices ! _ (upd_i 𝓤 (Exchanged m n)) $ keep ! (0 ∷ []) $
       use1 𝓛 (given (n ≡ word_of s) (‵ (beside n s))) (word_is n s) $ learn ! (λ e. by ! (law n s e)))
 
-  pub claims : (q : Share)
+  pub begins : (q : Share)
       → A.inv (fbor α I) ∗ (A.lft α q ∗ emp 𝓤) ⊢ asks 𝓛 (block_ptr b (o + 0)) (exchanged 0) always (λ n. fsep (flft α q) (Won 0 n))
-  claims = exchange_of 0 claims_at
+  begins = exchange_of 0 begins_at
 
   pub mends : (q : Share)
       → A.inv (fbor α I) ∗ (A.lft α q ∗ emp 𝓤) ⊢ asks 𝓛 (block_ptr b (o + 0)) (exchanged 3) always (λ n. fsep (flft α q) (Won 3 n))
@@ -254,29 +254,29 @@ module _ {M : Type 1} {𝓤 : Ura M} (𝓛 : Logic 𝓤) (R : RattleType) (γ : 
       use1 𝓛 (later (‵ (shared_of R x b c₀ α) ⊛ raw (lfts 𝓛 ts))) (shares x α ts b c₀ inc sp) $ await ! tt $ split ! $ move ! (2 ∷ 0 ∷ []) $ fjoin ! $ now ! $ done !
 
   pub publishes : (q : Share) (x : R.Denot)
-      → A.inv (fbor α I) ∗ (A.lft α q ∗ (⟦ settable R γ ⟧ ∗ ⟦ frozen x ⟧)) ⊢ asks 𝓛 (block_ptr b (o + 0)) (λ _. 2) always (λ _. fsep (flft α q) (written R γ.value x))
-  publishes q x = let c : Gv = mark R (full x) in let N = Next (λ _. 2) (λ _. written R γ.value x) in stepped q (λ _. 2) (λ _. written R γ.value x) (⟦ settable R γ ⟧ ∗ ⟦ frozen x ⟧) (λ n s. let Z : Pr = ex 𝓤 (N n) in
+      → A.inv (fbor α I) ∗ (A.lft α q ∗ (⟦ settable R γ ⟧ ∗ ⟦ frozen x ⟧)) ⊢ asks 𝓛 (block_ptr b (o + 0)) (λ _. 2) always (λ _. fsep (flft α q) (written R γ.value_name x))
+  publishes q x = let c : Gv = mark R (full x) in let N = Next (λ _. 2) (λ _. written R γ.value_name x) in stepped q (λ _. 2) (λ _. written R γ.value_name x) (⟦ settable R γ ⟧ ∗ ⟦ frozen x ⟧) (λ n s. let Z : Pr = ex 𝓤 (N n) in
       qed 𝓛 (‵ (beside n s) ∷ ‵ (settable R γ) ∷ ‵ (frozen x) ∷ []) ∵ fsplit ! $ fsplit ! $ move ! (3 ∷ []) $ fsplit ! $ keep ! (1 ∷ 2 ∷ 3 ∷ 0 ∷ 5 ∷ []) $
-      -- [the right to set; the value's name; the breach's; the epoch has ended; the room]
-      use2 𝓛 (raw (upd 𝓤 (A.obs γ.value c ∗ A.auth γ.value c))) (𝓛.names.name_set_upd γ.value gnil (mark R s) c) $ settle 𝓛 Z (‵ (fobs γ.value c) ⊛ ‵ (fauth γ.value c)) $ split ! $
-      suffices ! _ (upd_i 𝓤 Z) $ use1 𝓛 (‵ (fres γ.value c)) (𝓛.names.obs-res γ.value c) $ res_dup ! $ show ! (N n) (full x) $
+      -- [the right to set; the value's name; the broken_name's; the epoch has ended; the room]
+      use2 𝓛 (raw (upd 𝓤 (A.obs γ.value_name c ∗ A.auth γ.value_name c))) (𝓛.names.name_set_upd γ.value_name gnil (mark R s) c) $ settle 𝓛 Z (‵ (fobs γ.value_name c) ⊛ ‵ (fauth γ.value_name c)) $ split ! $
+      suffices ! _ (upd_i 𝓤 Z) $ use1 𝓛 (‵ (fres γ.value_name c)) (𝓛.names.obs-res γ.value_name c) $ res_dup ! $ show ! (N n) (full x) $
       move ! (2 ∷ 3 ∷ []) $ fjoin ! $ move ! (3 ∷ 1 ∷ []) $ fjoin ! $ feq_i ! ℕ 2 2 refl $ fjoin ! $ move ! (1 ∷ 0 ∷ 3 ∷ []) $ fjoin3 ! $ done !)
 
   -- the second name says from now on that the cell was broken
-  cracks : (δ : GName) (once : Bool) → ⟦ breached δ once ⟧ ⊢ upd 𝓤 (⟦ breached δ true ⟧ ∗ ⟦ spoilt δ ⟧)
-  cracks δ true = let Z : Pr = ⟦ breached δ true ⟧ ∗ ⟦ spoilt δ ⟧ in qed 𝓛 (‵ (breached δ true) ∷ []) ∵ suffices ! _ (upd_i 𝓤 Z) $ fsplit ! $ res_dup ! $ move ! (0 ∷ 2 ∷ []) $ fjoin ! $ done !
-  cracks δ false = let Z : Pr = ⟦ breached δ true ⟧ ∗ ⟦ spoilt δ ⟧ in qed 𝓛 (‵ (breached δ false) ∷ []) ∵ fsplit ! $
-      use2 𝓛 (raw (upd 𝓤 (A.obs δ cross ∗ A.auth δ cross))) (𝓛.names.name_set_upd δ gnil gnil cross) $ settle 𝓛 Z (‵ (fobs δ cross) ⊛ ‵ (fauth δ cross)) $ split ! $
-      suffices ! _ (upd_i 𝓤 Z) $ use1 𝓛 (‵ (spoilt δ)) (𝓛.names.obs-res δ cross) $ res_dup ! $ move ! (0 ∷ 2 ∷ []) $ fjoin ! $ done !
+  sets_broken : (δ : GName) (once : Bool) → ⟦ broken_once δ once ⟧ ⊢ upd 𝓤 (⟦ broken_once δ true ⟧ ∗ ⟦ was_broken δ ⟧)
+  sets_broken δ true = let Z : Pr = ⟦ broken_once δ true ⟧ ∗ ⟦ was_broken δ ⟧ in qed 𝓛 (‵ (broken_once δ true) ∷ []) ∵ suffices ! _ (upd_i 𝓤 Z) $ fsplit ! $ res_dup ! $ move ! (0 ∷ 2 ∷ []) $ fjoin ! $ done !
+  sets_broken δ false = let Z : Pr = ⟦ broken_once δ true ⟧ ∗ ⟦ was_broken δ ⟧ in qed 𝓛 (‵ (broken_once δ false) ∷ []) ∵ fsplit ! $
+      use2 𝓛 (raw (upd 𝓤 (A.obs δ broken_mark ∗ A.auth δ broken_mark))) (𝓛.names.name_set_upd δ gnil gnil broken_mark) $ settle 𝓛 Z (‵ (fobs δ broken_mark) ⊛ ‵ (fauth δ broken_mark)) $ split ! $
+      suffices ! _ (upd_i 𝓤 Z) $ use1 𝓛 (‵ (was_broken δ)) (𝓛.names.obs-res δ broken_mark) $ res_dup ! $ move ! (0 ∷ 2 ∷ []) $ fjoin ! $ done !
 
   pub breaks : (q : Share)
-      → A.inv (fbor α I) ∗ (A.lft α q ∗ ⟦ Right R γ t b o ⟧) ⊢ asks 𝓛 (block_ptr b (o + 0)) (λ _. 3) always (λ _. fsep (flft α q) (spoilt γ.breach))
-  breaks q = let N = Next (λ _. 3) (λ _. spoilt γ.breach) in stepped q (λ _. 3) (λ _. spoilt γ.breach) ⟦ Right R γ t b o ⟧ (λ n s. let Z : Pr = ex 𝓤 (N n) in let δ : GName = γ.breach in
+      → A.inv (fbor α I) ∗ (A.lft α q ∗ ⟦ Right R γ t b o ⟧) ⊢ asks 𝓛 (block_ptr b (o + 0)) (λ _. 3) always (λ _. fsep (flft α q) (was_broken γ.broken_name))
+  breaks q = let N = Next (λ _. 3) (λ _. was_broken γ.broken_name) in stepped q (λ _. 3) (λ _. was_broken γ.broken_name) ⟦ Right R γ t b o ⟧ (λ n s. let Z : Pr = ex 𝓤 (N n) in let δ : GName = γ.broken_name in
       qed 𝓛 (‵ (beside n s) ∷ ‵ (Right R γ t b o) ∷ []) ∵ fsplit ! $ fsplit ! $ move ! (3 ∷ []) $ fsplit ! $ fsplit ! $ keep ! (1 ∷ 3 ∷ 4 ∷ 0 ∷ 2 ∷ []) $
-      -- [the right to set; the value's name; the breach's; the epoch has ended; the room]
-      use2 𝓛 (raw (upd 𝓤 (A.obs γ.value gnil ∗ A.auth γ.value gnil))) (𝓛.names.name_set_upd γ.value gnil (mark R s) gnil) $ settle 𝓛 Z (‵ (fobs γ.value gnil) ⊛ ‵ (fauth γ.value gnil)) $ split ! $ move ! (2 ∷ []) $ fpick ! (λ once.
-      use1 𝓛 (raw (upd 𝓤 (⟦ breached δ true ⟧ ∗ ⟦ spoilt δ ⟧))) (cracks δ once) $ settle 𝓛 Z (‵ (breached δ true) ⊛ ‵ (spoilt δ)) $ split ! $ suffices ! _ (upd_i 𝓤 Z) $ show ! (N n) broken $ fpack ! Bool (breached δ) true $
-      -- [the breach's name; broken; the right to set; the value's name; the epoch has ended; the room]
+      -- [the right to set; the value's name; the broken_name's; the epoch has ended; the room]
+      use2 𝓛 (raw (upd 𝓤 (A.obs γ.value_name gnil ∗ A.auth γ.value_name gnil))) (𝓛.names.name_set_upd γ.value_name gnil (mark R s) gnil) $ settle 𝓛 Z (‵ (fobs γ.value_name gnil) ⊛ ‵ (fauth γ.value_name gnil)) $ split ! $ move ! (2 ∷ []) $ fpick ! (λ once.
+      use1 𝓛 (raw (upd 𝓤 (⟦ broken_once δ true ⟧ ∗ ⟦ was_broken δ ⟧))) (sets_broken δ once) $ settle 𝓛 Z (‵ (broken_once δ true) ⊛ ‵ (was_broken δ)) $ split ! $ suffices ! _ (upd_i 𝓤 Z) $ show ! (N n) broken $ fpack ! Bool (broken_once δ) true $
+      -- [the broken_name's name; broken; the right to set; the value's name; the epoch has ended; the room]
       move ! (3 ∷ 0 ∷ []) $ fjoin ! $ move ! (1 ∷ []) $ res_dup ! $ move ! (0 ∷ 3 ∷ []) $ fjoin ! $ move ! (3 ∷ 0 ∷ []) $ fjoin ! $ feq_i ! ℕ 3 3 refl $ fjoin ! $ move ! (2 ∷ 0 ∷ 3 ∷ []) $ fjoin3 ! $ done !))
 
   pub looks : (q : Share)
@@ -290,11 +290,11 @@ module _ {M : Type 1} {𝓤 : Ura M} (𝓛 : Logic 𝓤) (R : RattleType) (γ : 
   is_full x busy e = absurd (let z : 1 ≡ 0 = ap paired e in omega arith)
   is_full x (full y) e = refl
   is_full x broken e = absurd (let z : 1 ≡ 0 = ap paired e in omega arith)
-  is_full x shut e = absurd (let z : 1 ≡ 0 = ap paired e in omega arith)
+  is_full x broken_by_owner e = absurd (let z : 1 ≡ 0 = ap paired e in omega arith)
 
-  full_at : (x : R.Denot) (n : ℕ) (s : S) → ⟦ beside n s ⟧ ∗ ⟦ written R γ.value x ⟧ ⊢ guard 𝓤 (word_of s ≡ 2) ⟦ beside n s ⟧
-  full_at x n s = qed 𝓛 (‵ (beside n s) ∷ ‵ (written R γ.value x) ∷ []) ∵ fsplit ! $ fsplit ! $ move ! (3 ∷ 0 ∷ []) $
-      use2 𝓛 (given (mark R (full x) ≡ mark R s) (‵ (written R γ.value x) ⊛ ‵ (fauth γ.value (mark R s)))) (𝓛.names.res_agree γ.value (mark R (full x)) (mark R s)) $ learn ! (λ e. check ! (is_full x s e) $ split ! $ drop ! $ move ! (0 ∷ 1 ∷ []) $ fjoin ! $ fjoin ! $ done !)
+  full_at : (x : R.Denot) (n : ℕ) (s : S) → ⟦ beside n s ⟧ ∗ ⟦ written R γ.value_name x ⟧ ⊢ guard 𝓤 (word_of s ≡ 2) ⟦ beside n s ⟧
+  full_at x n s = qed 𝓛 (‵ (beside n s) ∷ ‵ (written R γ.value_name x) ∷ []) ∵ fsplit ! $ fsplit ! $ move ! (3 ∷ 0 ∷ []) $
+      use2 𝓛 (given (mark R (full x) ≡ mark R s) (‵ (written R γ.value_name x) ⊛ ‵ (fauth γ.value_name (mark R s)))) (𝓛.names.res_agree γ.value_name (mark R (full x)) (mark R s)) $ learn ! (λ e. check ! (is_full x s e) $ split ! $ drop ! $ move ! (0 ∷ 1 ∷ []) $ fjoin ! $ fjoin ! $ done !)
 
   -- what is known of a cell tells its word
   word_at : (v : Option R.Denot) (name : ℕ) (epoch : Lft) → HasNames γ v name epoch → (n : ℕ) (s : S)
@@ -313,7 +313,7 @@ module _ {M : Type 1} {𝓤 : Ura M} (𝓛 : Logic 𝓤) (R : RattleType) (γ : 
       use2 𝓛 (given (MayBeWordOf v n) (‵ (beside n s))) (word_at v name epoch same n s) $ learn ! (λ so. use1 𝓛 (‵ (beside n s) ⊛ ‵ (Sights n)) (looked n s) $ split ! $ frame ! $
       nothing ! $ fpack ! (MayBeWordOf v n) (λ _. ftrue) so $ move ! (1 ∷ 0 ∷ []) $ fjoin ! $ done !))
 
-  -- a cell that is not shut shows that its epoch has ended; so it is shut, as long as that lasts
+  -- a cell that is not broken_by_owner shows that its epoch has ended; so it is broken_by_owner, as long as that lasts
   ends_at : (q : Share) (n : ℕ) (s : S) → ⟦ told_with s ⟧ ⊢ ⟦ over R γ ⟧ → ⟦ beside n s ⟧ ∗ A.lft γ.epoch q ⊢ guard 𝓤 (n ≡ 4) (⟦ beside n s ⟧ ∗ A.lft γ.epoch q)
   ends_at q n s has = qed 𝓛 (‵ (beside n s) ∷ ‵ (flft γ.epoch q) ∷ []) ∵ use1 𝓛 (‵ (Beside n s)) (opened n s) $ fsplit3 ! $ move ! (1 ∷ []) $ fsplit ! $ drop ! $ use1 𝓛 (‵ (over R γ)) has $ keep ! (3 ∷ 0 ∷ []) $
       use2 𝓛 (raw (never 𝓤)) (𝓛.lfts.lft-dead γ.epoch q) $ by ! (never_e 𝓤 _)
@@ -324,9 +324,9 @@ module _ {M : Type 1} {𝓤 : Ura M} (𝓛 : Logic 𝓤) (R : RattleType) (γ : 
   lasts_at : (q : Share) (n : ℕ) (s : S) → ⟦ beside n s ⟧ ∗ A.lft γ.epoch q ⊢ guard 𝓤 (n ≡ 4) (⟦ beside n s ⟧ ∗ A.lft γ.epoch q)
   lasts_at q n free = ends_at q n free (first_of (over R γ) (unset R γ))
   lasts_at q n busy = ends_at q n busy (id⊢ 𝓤 _)
-  lasts_at q n (full x) = ends_at q n (full x) (first_of (over R γ) (written R γ.value x))
-  lasts_at q n broken = ends_at q n broken (first_of (over R γ) (cracked R γ))
-  lasts_at q n shut = qed 𝓛 (‵ (beside n shut) ∷ ‵ (flft γ.epoch q) ∷ []) ∵ use1 𝓛 (given (n ≡ 4) (‵ (beside n shut))) (word_is n shut) $ learn ! (λ e. check ! e $ done !)
+  lasts_at q n (full x) = ends_at q n (full x) (first_of (over R γ) (written R γ.value_name x))
+  lasts_at q n broken = ends_at q n broken (first_of (over R γ) (broken_unset R γ))
+  lasts_at q n broken_by_owner = qed 𝓛 (‵ (beside n broken_by_owner) ∷ ‵ (flft γ.epoch q) ∷ []) ∵ use1 𝓛 (given (n ≡ 4) (‵ (beside n broken_by_owner))) (word_is n broken_by_owner) $ learn ! (λ e. check ! e $ done !)
 
   abbrev pub Lasting : Option R.Denot → Lft → Share → ℕ → Fml
   Lasting v e r n = fsep (flft e r) (fact (IsWordOf v n))
@@ -345,12 +345,12 @@ module _ {M : Type 1} {𝓤 : Ura M} (𝓛 : Logic 𝓤) (R : RattleType) (γ : 
       use3 𝓛 (given (IsWordOf v n) (‵ (beside n s) ⊛ ‵ (flft e r))) (word_in v name epoch e same of r n s) $ learn ! (λ so. split ! $ frame ! $
       nothing ! $ fpack ! (IsWordOf v n) (λ _. ftrue) so $ move ! (1 ∷ 0 ∷ []) $ fjoin ! $ done !))
 
-  -- the exchange from shut to busy, if the epoch has ended
+  -- the exchange from broken_by_owner to busy, if the epoch has ended
   abbrev pub Reopened : Option R.Denot → ℕ → Fml
   Reopened v n = fsep (Won 4 n) (fact (MayBeWordOf v n))
 
   reopens_at : (n : ℕ) (s : S) → n ≡ word_of s → ⟦ beside n s ⟧ ∗ ⟦ over R γ ⟧ ⊢ Exchanged 4 n
-  reopens_at n shut e = hit_by 4 n shut (⟦ beside n shut ⟧ ∗ ⟦ over R γ ⟧) refl e (unshuts n)
+  reopens_at n broken_by_owner e = hit_by 4 n broken_by_owner (⟦ beside n broken_by_owner ⟧ ∗ ⟦ over R γ ⟧) refl e (unbreaks_owned n)
   reopens_at n free e = qed 𝓛 (‵ (beside n free) ∷ ‵ (over R γ) ∷ []) ∵ keep ! (0 ∷ []) $ by ! (missed 4 n free refl e)
   reopens_at n busy e = qed 𝓛 (‵ (beside n busy) ∷ ‵ (over R γ) ∷ []) ∵ keep ! (0 ∷ []) $ by ! (missed 4 n busy refl e)
   reopens_at n (full x) e = qed 𝓛 (‵ (beside n (full x)) ∷ ‵ (over R γ) ∷ []) ∵ keep ! (0 ∷ []) $ by ! (missed 4 n (full x) refl e)
@@ -383,14 +383,14 @@ module _ {M : Type 1} {𝓤 : Ura M} (𝓛 : Logic 𝓤) (R : RattleType) (γ : 
     there_at x n free e = absurd (let z : 1 ≡ 0 = ap paired e in omega arith)
     there_at x n busy e = absurd (let z : 1 ≡ 0 = ap paired e in omega arith)
     there_at x n broken e = absurd (let z : 1 ≡ 0 = ap paired e in omega arith)
-    there_at x n shut e = absurd (let z : 1 ≡ 0 = ap paired e in omega arith)
+    there_at x n broken_by_owner e = absurd (let z : 1 ≡ 0 = ap paired e in omega arith)
     there_at x n (full y) e = subst (λ (u : R.Denot). ⟦ beside n (full y) ⟧ ⊢ ⟦ beside n (full y) ⟧ ∗ ⟦ there u ⟧) (sym (R.coded.inj x y (ap head e))) (shows n y)
 
     pub finds_written : (q : Share) (x : R.Denot)
-        → A.inv (fbor α I) ∗ (A.lft α q ∗ ⟦ written R γ.value x ⟧) ⊢ asks 𝓛 (block_ptr b (o + 0)) (λ n. n) always (λ n. fsep (flft α q) (there x))
-    finds_written q x = stepped q (λ n. n) (λ _. there x) ⟦ written R γ.value x ⟧ (λ n s. let N : S → Pr = Next (λ m. m) (λ _. there x) n in
-        qed 𝓛 (‵ (beside n s) ∷ ‵ (written R γ.value x) ∷ []) ∵ suffices ! _ (upd_i 𝓤 (ex 𝓤 N)) $ fsplit ! $ fsplit ! $ move ! (3 ∷ 0 ∷ []) $
-        use2 𝓛 (given (mark R (full x) ≡ mark R s) (‵ (written R γ.value x) ⊛ ‵ (fauth γ.value (mark R s)))) (𝓛.names.res_agree γ.value (mark R (full x)) (mark R s)) $ learn ! (λ e. split ! $ drop ! $ move ! (0 ∷ 1 ∷ []) $ fjoin ! $ fjoin ! $ show ! N s $ by ! (there_at x n s e)))
+        → A.inv (fbor α I) ∗ (A.lft α q ∗ ⟦ written R γ.value_name x ⟧) ⊢ asks 𝓛 (block_ptr b (o + 0)) (λ n. n) always (λ n. fsep (flft α q) (there x))
+    finds_written q x = stepped q (λ n. n) (λ _. there x) ⟦ written R γ.value_name x ⟧ (λ n s. let N : S → Pr = Next (λ m. m) (λ _. there x) n in
+        qed 𝓛 (‵ (beside n s) ∷ ‵ (written R γ.value_name x) ∷ []) ∵ suffices ! _ (upd_i 𝓤 (ex 𝓤 N)) $ fsplit ! $ fsplit ! $ move ! (3 ∷ 0 ∷ []) $
+        use2 𝓛 (given (mark R (full x) ≡ mark R s) (‵ (written R γ.value_name x) ⊛ ‵ (fauth γ.value_name (mark R s)))) (𝓛.names.res_agree γ.value_name (mark R (full x)) (mark R s)) $ learn ! (λ e. split ! $ drop ! $ move ! (0 ∷ 1 ∷ []) $ fjoin ! $ fjoin ! $ show ! N s $ by ! (there_at x n s e)))
 
 pub one_written : {M : Type 1} {𝓤 : Ura M} (𝓛 : Logic 𝓤) (R : RattleType) (γ : GName) (x y : R.Denot)
     → ent 𝓤 (sep 𝓤 (sem 𝓛 (written R γ x)) (sem 𝓛 (written R γ y))) (monad.fact 𝓤 (x ≡ y))

@@ -16,8 +16,8 @@ use denote.Shadow.{makes_shadow}
 use denote.Struct.Lending.{Lends}
 use denote.Struct.Struct.{Struct}
 use denote.Struct.Owning.{shape}
-use Rattle.cell_core.specs.contracts.slot.epoch.Epoch as Epoch
-use Rattle.cell_core.specs.contracts.slot.epoch.Ended as Ended
+use Rattle.cell_core.specs.contracts.slot.epoch.RawEpoch as RawEpoch
+use Rattle.cell_core.specs.contracts.slot.epoch.RawEnded as RawEnded
 use Rattle.cell_core.proofs.CellMade.{token_val}
 
 module _ {M : Type 1} {𝓤 : Ura M} (𝓛 : Logic 𝓤) where
@@ -26,13 +26,13 @@ module _ {M : Type 1} {𝓤 : Ura M} (𝓛 : Logic 𝓤) where
   epoch_lends e l κ ts inc sp = qed 𝓛 (‵ (fbor κ (flft e full_share)) ∷ raw (lfts 𝓛 ts) ∷ []) ∵ updating ! $ bor_fracture ! tt (λ q. flft e q) full_share $
       use0 𝓛 (‵ (before (e ++ κ) e)) (before-Incl 𝓛 (e ++ κ) e (meet_⊑_left e κ)) $ move ! (1 ∷ 0 ∷ []) $ use2 𝓛 (‵ (before κ e)) (before_lent 𝓛 κ e e) $ now ! $ done !
 
-  pub epoch_made : (e : ℕ) → ent 𝓤 (sem 𝓛 (flft (e ∷ []) full_share)) (sem 𝓛 (Epoch.the_row.own_val (record { marker = record {}; of = e }) (token_val ∷ [])))
-  epoch_made e = let F = (Struct (shape Epoch.the_type)).own_val (tt, tt) (token_val ∷ []) in
+  pub epoch_made : (e : ℕ) → ent 𝓤 (sem 𝓛 (flft (e ∷ []) full_share)) (sem 𝓛 (RawEpoch.the_row.own_val (record { marker = record {}; of = e }) (token_val ∷ [])))
+  epoch_made e = let F = (Struct (shape RawEpoch.the_type)).own_val (tt, tt) (token_val ∷ []) in
       qed 𝓛 (‵ (flft (e ∷ []) full_share) ∷ []) ∵ use0 𝓛 (‵ F) (makes_shadow 𝓛 F (λ vss. (tt, ((λ uss. (tt, tt)), tt))) ((vstruct vnil ∷ [], tt), (refl, ((tt, (refl, tt)), tt)))) $ done !
 
-  pub ended_made : (e : ℕ) → ent 𝓤 (sem 𝓛 (fdead (e ∷ []))) (sem 𝓛 (Ended.the_row.own_val (record { marker = record {}; of = e }) (token_val ∷ [])))
-  ended_made e = let F = (Struct (shape Ended.the_type)).own_val (tt, tt) (token_val ∷ []) in
+  pub ended_made : (e : ℕ) → ent 𝓤 (sem 𝓛 (fdead (e ∷ []))) (sem 𝓛 (RawEnded.the_row.own_val (record { marker = record {}; of = e }) (token_val ∷ [])))
+  ended_made e = let F = (Struct (shape RawEnded.the_type)).own_val (tt, tt) (token_val ∷ []) in
       qed 𝓛 (‵ (fdead (e ∷ [])) ∷ []) ∵ use0 𝓛 (‵ F) (makes_shadow 𝓛 F (λ vss. (tt, ((λ uss. (tt, tt)), tt))) ((vstruct vnil ∷ [], tt), (refl, ((tt, (refl, tt)), tt)))) $ done !
 
-pub epoch_told : (vs : List Val) → Is (Struct (shape Epoch.the_type)) (tt, tt) vs → vs ≡ token_val ∷ []
+pub epoch_told : (vs : List Val) → Is (Struct (shape RawEpoch.the_type)) (tt, tt) vs → vs ≡ token_val ∷ []
 epoch_told vs is = is.1.0 ∙ ap (λ (ws : List Val). vstruct (of_list (ws ++ [])) ∷ []) is.1.1.0.1.0

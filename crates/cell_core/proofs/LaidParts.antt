@@ -33,7 +33,7 @@ use denote.Param.Laws.{Laws, param_laws}
 use denote.Struct.Members.{Member}
 use Rattle.core.proofs.cell.Inside.{spread}
 use denote.Struct.Lending.{Lends, Lends-both, Lends-nothing, Lends-said, Lends-first}
-use Rattle.cell_core.specs.Slot.{Names, Phase, Lies, shared_at, Rest, fact, word, place, resting, free, busy, full, broken, shut, mark, cross, breached, auths, unset, settable, written, spoilt, at}
+use Rattle.cell_core.specs.Slot.{Names, Phase, Lies, shared_at, Rest, fact, word, place, resting, free, busy, full, broken, broken_by_owner, mark, broken_mark, broken_once, auths, unset, settable, written, was_broken, at}
 use Rattle.cell_core.specs.Laid.{cell_ty, stride, row_ty, FitsMemory, IsAnother, rooms, rim, rests, still, owned, along, along_lent, lies, laid, laid_lent, cell_in}
 use types.Tokens.{lft_new, lft_end, name_new, res_dup}
 use Rattle.cell_core.proofs.CellLends.{lends_cell}
@@ -180,8 +180,8 @@ module _ {M : Type 1} {𝓤 : Ura M} (𝓛 : Logic 𝓤) (R : RattleType) (token
   -- a borrow of the row makes a `&` to it
   pub lends_laid : (L : Laws R) (l : Lft) → Incl l R.lives → (p : Ptr) (γs : List Names) (left : ℕ)
       → Lends 𝓛 (laid R token p γs left) (laid_lent R p γs left) l
-  lends_laid L l inc p γs left = let b : ℕ = block_of p in let o : ℕ = count_of p in let n : ℕ = length γs + left in let Row : Fml = along R (owned R b) γs o in let Rest : Fml = fsep (froom (ty_array τ left) b (length γs * s + o)) (token (row_ty R n) p) in
-      Lends-both 𝓛 (lies R p n) (fsep Row Rest) (said (lies R p n)) (along_lent R b γs o) l (Lends-said 𝓛 (lies R p n) (λ _. tt) l) (Lends-first 𝓛 Row Rest (along_lent R b γs o) l (lends_along L l inc b γs o))
+  lends_laid L l inc p γs left = let b : ℕ = block_of p in let o : ℕ = count_of p in let n : ℕ = length γs + left in let RawRow : Fml = along R (owned R b) γs o in let Rest : Fml = fsep (froom (ty_array τ left) b (length γs * s + o)) (token (row_ty R n) p) in
+      Lends-both 𝓛 (lies R p n) (fsep RawRow Rest) (said (lies R p n)) (along_lent R b γs o) l (Lends-said 𝓛 (lies R p n) (λ _. tt) l) (Lends-first 𝓛 RawRow Rest (along_lent R b γs o) l (lends_along L l inc b γs o))
 
   -- what a `&` to the row shows of the cell at an index
   pub cell_shown : (b : ℕ) (κ : Lft) (γs : List Names) (i e e' : ℕ) → e' ≡ i * s + e → i < length γs
@@ -195,7 +195,7 @@ module _ {M : Type 1} {𝓤 : Ura M} (𝓛 : Logic 𝓤) (R : RattleType) (token
       → ⟦ place R r.1 b e ⟧ ∗ ⟦ resting R γ r ⟧ ⊢ ⟦ fex R.Denot (λ x. part_at R full_share x b e) ⟧ ∗ ⟦ auths R γ r.2 ⟧
   filled_at γ b e (n, v, free) two = qed 𝓛 (‵ (place R v b e) ∷ ‵ (resting R γ (n, v, free)) ∷ []) ∵ move ! (1 ∷ []) $ fsplit ! $ fsplit ! $ move ! (1 ∷ []) $ fsplit ! $ feq_l ! (λ z. absurd (omega arith))
   filled_at γ b e (n, v, busy) two = qed 𝓛 (‵ (place R v b e) ∷ ‵ (resting R γ (n, v, busy)) ∷ []) ∵ move ! (1 ∷ []) $ fsplit ! $ fsplit ! $ move ! (1 ∷ []) $ fsplit ! $ feq_l ! (λ z. absurd (omega arith))
-  filled_at γ b e (n, v, shut) two = qed 𝓛 (‵ (place R v b e) ∷ ‵ (resting R γ (n, v, shut)) ∷ []) ∵ move ! (1 ∷ []) $ fsplit ! $ fsplit ! $ move ! (1 ∷ []) $ fsplit ! $ feq_l ! (λ z. absurd (omega arith))
+  filled_at γ b e (n, v, broken_by_owner) two = qed 𝓛 (‵ (place R v b e) ∷ ‵ (resting R γ (n, v, broken_by_owner)) ∷ []) ∵ move ! (1 ∷ []) $ fsplit ! $ fsplit ! $ move ! (1 ∷ []) $ fsplit ! $ feq_l ! (λ z. absurd (omega arith))
   filled_at γ b e (n, v, broken) two = qed 𝓛 (‵ (place R v b e) ∷ ‵ (resting R γ (n, v, broken)) ∷ []) ∵ move ! (1 ∷ []) $ fsplit ! $ fsplit ! $ move ! (1 ∷ []) $ fsplit ! $ feq_l ! (λ z. absurd (omega arith))
   filled_at γ b e (n, v, full x) two = qed 𝓛 (‵ (place R v b e) ∷ ‵ (resting R γ (n, v, full x)) ∷ []) ∵ move ! (1 ∷ []) $ fsplit ! $ fsplit ! $ move ! (2 ∷ []) $ fpick ! (λ so.
       -- [true; the names; the word; the room]
@@ -206,17 +206,17 @@ module _ {M : Type 1} {𝓤 : Ura M} (𝓛 : Logic 𝓤) (R : RattleType) (token
 
   -- a cell that holds a value by a token holds that value
   pub held_at : (γ : Names) (b e : ℕ) (r : Rest R.Denot) (x : R.Denot)
-      → ⟦ place R r.1 b e ⟧ ∗ ⟦ resting R γ r ⟧ ∗ ⟦ written R γ.value x ⟧ ⊢ ⟦ part_at R full_share x b e ⟧ ∗ ⟦ auths R γ r.2 ⟧
-  held_at γ b e (n, v, free) x = let w : Gv = mark R (full x) in qed 𝓛 (‵ (place R v b e) ∷ ‵ (resting R γ (n, v, free)) ∷ ‵ (written R γ.value x) ∷ []) ∵ move ! (1 ∷ []) $ fsplit ! $ fsplit ! $ fsplit ! $ move ! (5 ∷ 0 ∷ []) $
-      use2 𝓛 (given (w ≡ gnil) (‵ (fres γ.value w) ⊛ ‵ (fauth γ.value gnil))) (𝓛.names.res_agree γ.value w gnil) $ learn ! (λ z. absurd (full_is_not_nil (R.coded.code x) gnil z))
-  held_at γ b e (n, v, busy) x = let w : Gv = mark R (full x) in qed 𝓛 (‵ (place R v b e) ∷ ‵ (resting R γ (n, v, busy)) ∷ ‵ (written R γ.value x) ∷ []) ∵ move ! (1 ∷ []) $ fsplit ! $ fsplit ! $ fsplit ! $ move ! (5 ∷ 0 ∷ []) $
-      use2 𝓛 (given (w ≡ gnil) (‵ (fres γ.value w) ⊛ ‵ (fauth γ.value gnil))) (𝓛.names.res_agree γ.value w gnil) $ learn ! (λ z. absurd (full_is_not_nil (R.coded.code x) gnil z))
-  held_at γ b e (n, v, broken) x = let w : Gv = mark R (full x) in qed 𝓛 (‵ (place R v b e) ∷ ‵ (resting R γ (n, v, broken)) ∷ ‵ (written R γ.value x) ∷ []) ∵ move ! (1 ∷ []) $ fsplit ! $ fsplit ! $ fsplit ! $ move ! (5 ∷ 0 ∷ []) $
-      use2 𝓛 (given (w ≡ gnil) (‵ (fres γ.value w) ⊛ ‵ (fauth γ.value gnil))) (𝓛.names.res_agree γ.value w gnil) $ learn ! (λ z. absurd (full_is_not_nil (R.coded.code x) gnil z))
-  held_at γ b e (n, v, shut) x = let w : Gv = mark R (full x) in qed 𝓛 (‵ (place R v b e) ∷ ‵ (resting R γ (n, v, shut)) ∷ ‵ (written R γ.value x) ∷ []) ∵ move ! (1 ∷ []) $ fsplit ! $ fsplit ! $ fsplit ! $ move ! (5 ∷ 0 ∷ []) $
-      use2 𝓛 (given (w ≡ gnil) (‵ (fres γ.value w) ⊛ ‵ (fauth γ.value gnil))) (𝓛.names.res_agree γ.value w gnil) $ learn ! (λ z. absurd (full_is_not_nil (R.coded.code x) gnil z))
-  held_at γ b e (n, v, full y) x = qed 𝓛 (‵ (place R v b e) ∷ ‵ (resting R γ (n, v, full y)) ∷ ‵ (written R γ.value x) ∷ []) ∵ move ! (1 ∷ []) $ fsplit ! $ fsplit ! $ move ! (1 ∷ []) $ fsplit ! $ move ! (1 ∷ []) $ fsplit ! $ keep ! (6 ∷ 1 ∷ 3 ∷ 4 ∷ 5 ∷ []) $
-      use2 𝓛 (Kit.raw (monad.fact 𝓤 (x ≡ y))) (one_written 𝓛 R γ.value x y) $ heard ! (x ≡ y) (λ same. move ! (1 ∷ []) $ fpick ! (λ so.
+      → ⟦ place R r.1 b e ⟧ ∗ ⟦ resting R γ r ⟧ ∗ ⟦ written R γ.value_name x ⟧ ⊢ ⟦ part_at R full_share x b e ⟧ ∗ ⟦ auths R γ r.2 ⟧
+  held_at γ b e (n, v, free) x = let w : Gv = mark R (full x) in qed 𝓛 (‵ (place R v b e) ∷ ‵ (resting R γ (n, v, free)) ∷ ‵ (written R γ.value_name x) ∷ []) ∵ move ! (1 ∷ []) $ fsplit ! $ fsplit ! $ fsplit ! $ move ! (5 ∷ 0 ∷ []) $
+      use2 𝓛 (given (w ≡ gnil) (‵ (fres γ.value_name w) ⊛ ‵ (fauth γ.value_name gnil))) (𝓛.names.res_agree γ.value_name w gnil) $ learn ! (λ z. absurd (full_is_not_nil (R.coded.code x) gnil z))
+  held_at γ b e (n, v, busy) x = let w : Gv = mark R (full x) in qed 𝓛 (‵ (place R v b e) ∷ ‵ (resting R γ (n, v, busy)) ∷ ‵ (written R γ.value_name x) ∷ []) ∵ move ! (1 ∷ []) $ fsplit ! $ fsplit ! $ fsplit ! $ move ! (5 ∷ 0 ∷ []) $
+      use2 𝓛 (given (w ≡ gnil) (‵ (fres γ.value_name w) ⊛ ‵ (fauth γ.value_name gnil))) (𝓛.names.res_agree γ.value_name w gnil) $ learn ! (λ z. absurd (full_is_not_nil (R.coded.code x) gnil z))
+  held_at γ b e (n, v, broken) x = let w : Gv = mark R (full x) in qed 𝓛 (‵ (place R v b e) ∷ ‵ (resting R γ (n, v, broken)) ∷ ‵ (written R γ.value_name x) ∷ []) ∵ move ! (1 ∷ []) $ fsplit ! $ fsplit ! $ fsplit ! $ move ! (5 ∷ 0 ∷ []) $
+      use2 𝓛 (given (w ≡ gnil) (‵ (fres γ.value_name w) ⊛ ‵ (fauth γ.value_name gnil))) (𝓛.names.res_agree γ.value_name w gnil) $ learn ! (λ z. absurd (full_is_not_nil (R.coded.code x) gnil z))
+  held_at γ b e (n, v, broken_by_owner) x = let w : Gv = mark R (full x) in qed 𝓛 (‵ (place R v b e) ∷ ‵ (resting R γ (n, v, broken_by_owner)) ∷ ‵ (written R γ.value_name x) ∷ []) ∵ move ! (1 ∷ []) $ fsplit ! $ fsplit ! $ fsplit ! $ move ! (5 ∷ 0 ∷ []) $
+      use2 𝓛 (given (w ≡ gnil) (‵ (fres γ.value_name w) ⊛ ‵ (fauth γ.value_name gnil))) (𝓛.names.res_agree γ.value_name w gnil) $ learn ! (λ z. absurd (full_is_not_nil (R.coded.code x) gnil z))
+  held_at γ b e (n, v, full y) x = qed 𝓛 (‵ (place R v b e) ∷ ‵ (resting R γ (n, v, full y)) ∷ ‵ (written R γ.value_name x) ∷ []) ∵ move ! (1 ∷ []) $ fsplit ! $ fsplit ! $ move ! (1 ∷ []) $ fsplit ! $ move ! (1 ∷ []) $ fsplit ! $ keep ! (6 ∷ 1 ∷ 3 ∷ 4 ∷ 5 ∷ []) $
+      use2 𝓛 (Kit.raw (monad.fact 𝓤 (x ≡ y))) (one_written 𝓛 R γ.value_name x y) $ heard ! (x ≡ y) (λ same. move ! (1 ∷ []) $ fpick ! (λ so.
       -- [true; the names; the room]
       keep ! (2 ∷ 1 ∷ []) $ rewrite ! 0 (λ (u : Option R.Denot). ‵ (place R u b e)) so refl $ rewrite ! 0 (λ (z : R.Denot). ‵ (part_at R full_share z b e)) (sym same) refl $ done !))
 
@@ -245,11 +245,11 @@ module _ {M : Type 1} {𝓤 : Ura M} (𝓛 : Logic 𝓤) (R : RattleType) (token
       (λ other. qed 𝓛 (‵ (fobs δ gnil) ∷ ‵ (fauth δ gnil) ∷ ‵ (fauth γ d) ∷ []) ∵ updating ! $ now ! $ check ! other $ done !)
 
   -- the same of the name that says that a cell was broken
-  breach_is_new : (γ δ : GName) (once : Bool) → A.obs δ gnil ∗ A.auth δ gnil ∗ ⟦ breached γ once ⟧ ⊢ H.⇛ (guard 𝓤 (δ ≢ γ) (A.obs δ gnil ∗ A.auth δ gnil ∗ ⟦ breached γ once ⟧))
-  breach_is_new γ δ true = qed 𝓛 (‵ (fobs δ gnil) ∷ ‵ (fauth δ gnil) ∷ ‵ (breached γ true) ∷ []) ∵ updating ! $ move ! (2 ∷ []) $ fsplit ! $ move ! (2 ∷ 3 ∷ 1 ∷ []) $
-      use3 𝓛 (later (given (δ ≢ γ) (‵ (fobs δ gnil) ⊛ ‵ (fauth δ gnil) ⊛ ‵ (fauth γ cross)))) (is_new γ δ cross) $ await ! tt $ learn ! (λ apart. split3 ! $ now ! $ check ! apart $
+  broken_name_is_new : (γ δ : GName) (once : Bool) → A.obs δ gnil ∗ A.auth δ gnil ∗ ⟦ broken_once γ once ⟧ ⊢ H.⇛ (guard 𝓤 (δ ≢ γ) (A.obs δ gnil ∗ A.auth δ gnil ∗ ⟦ broken_once γ once ⟧))
+  broken_name_is_new γ δ true = qed 𝓛 (‵ (fobs δ gnil) ∷ ‵ (fauth δ gnil) ∷ ‵ (broken_once γ true) ∷ []) ∵ updating ! $ move ! (2 ∷ []) $ fsplit ! $ move ! (2 ∷ 3 ∷ 1 ∷ []) $
+      use3 𝓛 (later (given (δ ≢ γ) (‵ (fobs δ gnil) ⊛ ‵ (fauth δ gnil) ⊛ ‵ (fauth γ broken_mark)))) (is_new γ δ broken_mark) $ await ! tt $ learn ! (λ apart. split3 ! $ now ! $ check ! apart $
       move ! (3 ∷ 2 ∷ []) $ fjoin ! $ move ! (1 ∷ 2 ∷ 0 ∷ []) $ done !)
-  breach_is_new γ δ false = qed 𝓛 (‵ (fobs δ gnil) ∷ ‵ (fauth δ gnil) ∷ ‵ (breached γ false) ∷ []) ∵ updating ! $ move ! (2 ∷ []) $ fsplit ! $ move ! (2 ∷ 3 ∷ 1 ∷ []) $
+  broken_name_is_new γ δ false = qed 𝓛 (‵ (fobs δ gnil) ∷ ‵ (fauth δ gnil) ∷ ‵ (broken_once γ false) ∷ []) ∵ updating ! $ move ! (2 ∷ []) $ fsplit ! $ move ! (2 ∷ 3 ∷ 1 ∷ []) $
       use3 𝓛 (later (given (δ ≢ γ) (‵ (fobs δ gnil) ⊛ ‵ (fauth δ gnil) ⊛ ‵ (fauth γ gnil)))) (is_new γ δ gnil) $ await ! tt $ learn ! (λ apart. split3 ! $ now ! $ check ! apart $
       move ! (3 ∷ 2 ∷ []) $ fjoin ! $ move ! (1 ∷ 2 ∷ 0 ∷ []) $ done !)
 
@@ -262,11 +262,11 @@ module _ {M : Type 1} {𝓤 : Ura M} (𝓛 : Logic 𝓤) (R : RattleType) (token
 
   pub new_names : (γ : Names) (s : Phase R.Denot) (epoch : Lft) → ⟦ auths R γ s ⟧ ⊢ H.⇛ ⟦ NewNames γ s epoch ⟧
   new_names γ s epoch = qed 𝓛 (‵ (auths R γ s) ∷ []) ∵ updating ! $ fsplit ! $
-      name_new ! tt gnil (λ γv. use3 𝓛 (later (given (γv ≢ γ.value) (‵ (fobs γv gnil) ⊛ ‵ (fauth γv gnil) ⊛ ‵ (fauth γ.value (mark R s))))) (is_new γ.value γv (mark R s)) $ await ! tt $ learn ! (λ nv. split3 ! $ move ! (3 ∷ []) $ fpick ! (λ once.
-      name_new ! tt gnil (λ γb. use3 𝓛 (later (given (γb ≢ γ.breach) (‵ (fobs γb gnil) ⊛ ‵ (fauth γb gnil) ⊛ ‵ (breached γ.breach once)))) (breach_is_new γ.breach γb once) $ await ! tt $ learn ! (λ nb. split3 ! $
-      let γ' : Names = record { value = γv; breach = γb; epoch = epoch } in now ! $
+      name_new ! tt gnil (λ γv. use3 𝓛 (later (given (γv ≢ γ.value_name) (‵ (fobs γv gnil) ⊛ ‵ (fauth γv gnil) ⊛ ‵ (fauth γ.value_name (mark R s))))) (is_new γ.value_name γv (mark R s)) $ await ! tt $ learn ! (λ nv. split3 ! $ move ! (3 ∷ []) $ fpick ! (λ once.
+      name_new ! tt gnil (λ γb. use3 𝓛 (later (given (γb ≢ γ.broken_name) (‵ (fobs γb gnil) ⊛ ‵ (fauth γb gnil) ⊛ ‵ (broken_once γ.broken_name once)))) (broken_name_is_new γ.broken_name γb once) $ await ! tt $ learn ! (λ nb. split3 ! $
+      let γ' : Names = record { value_name = γv; broken_name = γb; epoch = epoch } in now ! $
       -- [the right to break; its name; the old one; the right to fill; its name; the old one]
-      move ! (0 ∷ 1 ∷ []) $ fjoin ! $ fpack ! Bool (breached γb) false $ move ! (1 ∷ []) $ fpack ! Bool (breached γ.breach) once $ move ! (4 ∷ 0 ∷ []) $ fjoin ! $
+      move ! (0 ∷ 1 ∷ []) $ fjoin ! $ fpack ! Bool (broken_once γb) false $ move ! (1 ∷ []) $ fpack ! Bool (broken_once γ.broken_name) once $ move ! (4 ∷ 0 ∷ []) $ fjoin ! $
       -- [the old names; its name that says that it is broken; the right to fill; its name]
       move ! (3 ∷ 1 ∷ []) $ fjoin ! $ move ! (2 ∷ 0 ∷ 1 ∷ []) $ fjoin3 ! $ nothing ! $ fpack ! (IsNew γ epoch γ') (λ _. ftrue) ((nv, nb), refl) $ fjoin ! $
       fpack ! Names (λ c. fsep (fact (IsNew γ epoch c)) (fsep (unset R c) (fsep (auths R c free) (auths R γ s)))) γ' $ done !)))))
@@ -296,52 +296,52 @@ module _ {M : Type 1} {𝓤 : Ura M} (𝓛 : Logic 𝓤) (R : RattleType) (token
 
   -- one whose word is 2, and whose room holds a value, is filled under new names
   abbrev pub Refilled : Names → R.Denot → ℕ → ℕ → Fml
-  Refilled γ x b e = fex Names (λ γ'. fsep (fact (IsAnother γ γ')) (fsep (still R b γ' e) (written R γ'.value x)))
+  Refilled γ x b e = fex Names (λ γ'. fsep (fact (IsAnother γ γ')) (fsep (still R b γ' e) (written R γ'.value_name x)))
 
   pub refilled : (γ : Names) (x : R.Denot) (b e : ℕ) (s : Phase R.Denot)
       → ⟦ auths R γ s ⟧ ∗ ⟦ word b (e + 0) 2 ⟧ ∗ ⟦ place R (Some x) b (at R e) ⟧ ⊢ H.⇛ ⟦ Refilled γ x b e ⟧
   refilled γ x b e s = let c : Gv = mark R (full x) in qed 𝓛 (‵ (auths R γ s) ∷ ‵ (word b (e + 0) 2) ∷ ‵ (place R (Some x) b (at R e)) ∷ []) ∵ updating ! $
       use1 𝓛 (later (‵ (FreeNames γ s))) (free_names γ s) $ await ! tt $ fpick ! (λ γ'. fsplit ! $ fpick ! (λ apart. drop ! $ fsplit ! $
       -- [the right to set; the names; the word; the room]
-      fsplit ! $ move ! (2 ∷ []) $ fsplit ! $ move ! (3 ∷ 0 ∷ []) $ use2 𝓛 (later (‵ (fobs γ'.value c) ⊛ ‵ (fauth γ'.value c))) (𝓛.names.name_set γ'.value gnil gnil c) $ await ! tt $ split ! $ now ! $
-      use1 𝓛 (‵ (fres γ'.value c)) (𝓛.names.obs-res γ'.value c) $ res_dup ! $
-      -- [written, twice; the value's name; the breach's name; the epoch has ended; the word; the room]
+      fsplit ! $ move ! (2 ∷ []) $ fsplit ! $ move ! (3 ∷ 0 ∷ []) $ use2 𝓛 (later (‵ (fobs γ'.value_name c) ⊛ ‵ (fauth γ'.value_name c))) (𝓛.names.name_set γ'.value_name gnil gnil c) $ await ! tt $ split ! $ now ! $
+      use1 𝓛 (‵ (fres γ'.value_name c)) (𝓛.names.obs-res γ'.value_name c) $ res_dup ! $
+      -- [written, twice; the value's name; the broken_name's name; the epoch has ended; the word; the room]
       move ! (4 ∷ 0 ∷ []) $ fjoin ! $ feq_i ! ℕ 2 2 refl $ fjoin ! $ move ! (2 ∷ 3 ∷ []) $ fjoin ! $ move ! (0 ∷ 1 ∷ []) $ fjoin ! $ nothing ! $ fpack ! (Lies R (Some x) (full x)) (λ _. ftrue) refl $ move ! (1 ∷ 0 ∷ []) $ fjoin ! $
       move ! (2 ∷ 3 ∷ 0 ∷ []) $ fjoin3 ! $ fpack ! (Rest R.Denot) (rests R b γ' e) (2, Some x, full x) $ fjoin ! $ nothing ! $ fpack ! (IsAnother γ γ') (λ _. ftrue) apart $ fjoin ! $
-      fpack ! Names (λ n. fsep (fact (IsAnother γ n)) (fsep (still R b n e) (written R n.value x))) γ' $ done !))
+      fpack ! Names (λ n. fsep (fact (IsAnother γ n)) (fsep (still R b n e) (written R n.value_name x))) γ' $ done !))
 
   -- the second name says from now on that the cell was broken
-  cracks : (δ : GName) (once : Bool) → ⟦ breached δ once ⟧ ⊢ H.⇛ (⟦ breached δ true ⟧ ∗ ⟦ spoilt δ ⟧)
-  cracks δ true = qed 𝓛 (‵ (breached δ true) ∷ []) ∵ updating ! $ fsplit ! $ res_dup ! $ move ! (0 ∷ 2 ∷ []) $ fjoin ! $ now ! $ done !
-  cracks δ false = qed 𝓛 (‵ (breached δ false) ∷ []) ∵ updating ! $ fsplit ! $ use2 𝓛 (later (‵ (fobs δ cross) ⊛ ‵ (fauth δ cross))) (𝓛.names.name_set δ gnil gnil cross) $ await ! tt $ split ! $
-      use1 𝓛 (‵ (spoilt δ)) (𝓛.names.obs-res δ cross) $ res_dup ! $ move ! (0 ∷ 2 ∷ []) $ fjoin ! $ now ! $ done !
+  sets_broken : (δ : GName) (once : Bool) → ⟦ broken_once δ once ⟧ ⊢ H.⇛ (⟦ broken_once δ true ⟧ ∗ ⟦ was_broken δ ⟧)
+  sets_broken δ true = qed 𝓛 (‵ (broken_once δ true) ∷ []) ∵ updating ! $ fsplit ! $ res_dup ! $ move ! (0 ∷ 2 ∷ []) $ fjoin ! $ now ! $ done !
+  sets_broken δ false = qed 𝓛 (‵ (broken_once δ false) ∷ []) ∵ updating ! $ fsplit ! $ use2 𝓛 (later (‵ (fobs δ broken_mark) ⊛ ‵ (fauth δ broken_mark))) (𝓛.names.name_set δ gnil gnil broken_mark) $ await ! tt $ split ! $
+      use1 𝓛 (‵ (was_broken δ)) (𝓛.names.obs-res δ broken_mark) $ res_dup ! $ move ! (0 ∷ 2 ∷ []) $ fjoin ! $ now ! $ done !
 
   -- one whose word is 4, and whose room is empty, is broken for the epoch under new names; its old ones stay
   -- as they are
-  abbrev pub Respoilt : Names → Phase R.Denot → Lft → ℕ → ℕ → Fml
-  Respoilt γ s epoch b e = fex Names (λ γ'. fsep (fact (IsNew γ epoch γ')) (fsep (still R b γ' e) (auths R γ s)))
+  abbrev pub Rebroken : Names → Phase R.Denot → Lft → ℕ → ℕ → Fml
+  Rebroken γ s epoch b e = fex Names (λ γ'. fsep (fact (IsNew γ epoch γ')) (fsep (still R b γ' e) (auths R γ s)))
 
-  pub respoilt : (γ : Names) (epoch : Lft) (b e : ℕ) (s : Phase R.Denot)
-      → ⟦ auths R γ s ⟧ ∗ ⟦ word b (e + 0) 4 ⟧ ∗ ⟦ place R None b (at R e) ⟧ ⊢ H.⇛ ⟦ Respoilt γ s epoch b e ⟧
-  respoilt γ epoch b e s = qed 𝓛 (‵ (auths R γ s) ∷ ‵ (word b (e + 0) 4) ∷ ‵ (place R None b (at R e)) ∷ []) ∵ updating ! $
+  pub rebroken : (γ : Names) (epoch : Lft) (b e : ℕ) (s : Phase R.Denot)
+      → ⟦ auths R γ s ⟧ ∗ ⟦ word b (e + 0) 4 ⟧ ∗ ⟦ place R None b (at R e) ⟧ ⊢ H.⇛ ⟦ Rebroken γ s epoch b e ⟧
+  rebroken γ epoch b e s = qed 𝓛 (‵ (auths R γ s) ∷ ‵ (word b (e + 0) 4) ∷ ‵ (place R None b (at R e)) ∷ []) ∵ updating ! $
       use1 𝓛 (later (‵ (NewNames γ s epoch))) (new_names γ s epoch) $ await ! tt $ fpick ! (λ γ'. fsplit ! $ fpick ! (λ new. drop ! $ fsplit3 ! $
       -- [the right to set; the names; the old ones; the word; the room]
-      move ! (1 ∷ []) $ fsplit ! $ move ! (1 ∷ []) $ fpick ! (λ once. use1 𝓛 (later (‵ (breached γ'.breach true) ⊛ ‵ (spoilt γ'.breach))) (cracks γ'.breach once) $ await ! tt $ split ! $ now ! $ fpack ! Bool (breached γ'.breach) true $
-      -- [the breach's name; broken; the value's name; the right to set; the old ones; the word; the room]
-      move ! (2 ∷ 0 ∷ []) $ fjoin ! $ move ! (1 ∷ 2 ∷ []) $ fjoin ! $ feq_i ! ℕ 4 4 refl $ fjoin ! $ move ! (1 ∷ 0 ∷ []) $ fjoin ! $ nothing ! $ fpack ! (Lies R None shut) (λ _. ftrue) refl $ move ! (1 ∷ 0 ∷ []) $ fjoin ! $
+      move ! (1 ∷ []) $ fsplit ! $ move ! (1 ∷ []) $ fpick ! (λ once. use1 𝓛 (later (‵ (broken_once γ'.broken_name true) ⊛ ‵ (was_broken γ'.broken_name))) (sets_broken γ'.broken_name once) $ await ! tt $ split ! $ now ! $ fpack ! Bool (broken_once γ'.broken_name) true $
+      -- [the broken_name's name; broken; the value's name; the right to set; the old ones; the word; the room]
+      move ! (2 ∷ 0 ∷ []) $ fjoin ! $ move ! (1 ∷ 2 ∷ []) $ fjoin ! $ feq_i ! ℕ 4 4 refl $ fjoin ! $ move ! (1 ∷ 0 ∷ []) $ fjoin ! $ nothing ! $ fpack ! (Lies R None broken_by_owner) (λ _. ftrue) refl $ move ! (1 ∷ 0 ∷ []) $ fjoin ! $
       -- [what rests; the old ones; the word; the room]
-      move ! (2 ∷ 3 ∷ 0 ∷ []) $ fjoin3 ! $ fpack ! (Rest R.Denot) (rests R b γ' e) (4, None, shut) $ fjoin ! $ nothing ! $ fpack ! (IsNew γ epoch γ') (λ _. ftrue) new $ fjoin ! $
+      move ! (2 ∷ 3 ∷ 0 ∷ []) $ fjoin3 ! $ fpack ! (Rest R.Denot) (rests R b γ' e) (4, None, broken_by_owner) $ fjoin ! $ nothing ! $ fpack ! (IsNew γ epoch γ') (λ _. ftrue) new $ fjoin ! $
       fpack ! Names (λ n. fsep (fact (IsNew γ epoch n)) (fsep (still R b n e) (auths R γ s))) γ' $ done !)))
 
   -- a cell whose word is 2 shows its value
-  pub full_shown : (γ : Names) (r : Rest R.Denot) → r.0 ≡ 2 → ⟦ resting R γ r ⟧ ⊢ ⟦ resting R γ r ⟧ ∗ ⟦ fex R.Denot (written R γ.value) ⟧
+  pub full_shown : (γ : Names) (r : Rest R.Denot) → r.0 ≡ 2 → ⟦ resting R γ r ⟧ ⊢ ⟦ resting R γ r ⟧ ∗ ⟦ fex R.Denot (written R γ.value_name) ⟧
   full_shown γ (n, v, free) two = qed 𝓛 (‵ (resting R γ (n, v, free)) ∷ []) ∵ fsplit ! $ fsplit ! $ move ! (1 ∷ []) $ fsplit ! $ feq_l ! (λ z. absurd (omega arith))
   full_shown γ (n, v, busy) two = qed 𝓛 (‵ (resting R γ (n, v, busy)) ∷ []) ∵ fsplit ! $ fsplit ! $ move ! (1 ∷ []) $ fsplit ! $ feq_l ! (λ z. absurd (omega arith))
-  full_shown γ (n, v, shut) two = qed 𝓛 (‵ (resting R γ (n, v, shut)) ∷ []) ∵ fsplit ! $ fsplit ! $ move ! (1 ∷ []) $ fsplit ! $ feq_l ! (λ z. absurd (omega arith))
+  full_shown γ (n, v, broken_by_owner) two = qed 𝓛 (‵ (resting R γ (n, v, broken_by_owner)) ∷ []) ∵ fsplit ! $ fsplit ! $ move ! (1 ∷ []) $ fsplit ! $ feq_l ! (λ z. absurd (omega arith))
   full_shown γ (n, v, broken) two = qed 𝓛 (‵ (resting R γ (n, v, broken)) ∷ []) ∵ fsplit ! $ fsplit ! $ move ! (1 ∷ []) $ fsplit ! $ feq_l ! (λ z. absurd (omega arith))
   full_shown γ (n, v, full x) two = qed 𝓛 (‵ (resting R γ (n, v, full x)) ∷ []) ∵ fsplit ! $ fsplit ! $ move ! (1 ∷ []) $ fsplit ! $ move ! (1 ∷ []) $ fsplit ! $ move ! (1 ∷ []) $ res_dup ! $
       -- [written, twice; the epoch has ended; the word; the names; the room]
-      move ! (2 ∷ 0 ∷ []) $ fjoin ! $ move ! (2 ∷ 0 ∷ []) $ fjoin ! $ move ! (2 ∷ 0 ∷ []) $ fjoin ! $ move ! (0 ∷ 2 ∷ []) $ fjoin ! $ frame ! $ fpack ! R.Denot (written R γ.value) x $ done !
+      move ! (2 ∷ 0 ∷ []) $ fjoin ! $ move ! (2 ∷ 0 ∷ []) $ fjoin ! $ move ! (2 ∷ 0 ∷ []) $ fjoin ! $ move ! (0 ∷ 2 ∷ []) $ fjoin ! $ frame ! $ fpack ! R.Denot (written R γ.value_name) x $ done !
 
   -- of one with another word the first name has no value
   abbrev pub Blank : Names → Phase R.Denot → Fml
@@ -351,7 +351,7 @@ module _ {M : Type 1} {𝓤 : Ura M} (𝓛 : Logic 𝓤) (R : RattleType) (token
   blank_at γ (n, v, free) other = qed 𝓛 (‵ (resting R γ (n, v, free)) ∷ []) ∵ fsplit ! $ fsplit ! $ keep ! (0 ∷ []) $ nothing ! $ fpack ! (mark R free ≡ gnil) (λ _. ftrue) refl $ move ! (1 ∷ 0 ∷ []) $ fjoin ! $ done !
   blank_at γ (n, v, busy) other = qed 𝓛 (‵ (resting R γ (n, v, busy)) ∷ []) ∵ fsplit ! $ fsplit ! $ keep ! (0 ∷ []) $ nothing ! $ fpack ! (mark R busy ≡ gnil) (λ _. ftrue) refl $ move ! (1 ∷ 0 ∷ []) $ fjoin ! $ done !
   blank_at γ (n, v, broken) other = qed 𝓛 (‵ (resting R γ (n, v, broken)) ∷ []) ∵ fsplit ! $ fsplit ! $ keep ! (0 ∷ []) $ nothing ! $ fpack ! (mark R broken ≡ gnil) (λ _. ftrue) refl $ move ! (1 ∷ 0 ∷ []) $ fjoin ! $ done !
-  blank_at γ (n, v, shut) other = qed 𝓛 (‵ (resting R γ (n, v, shut)) ∷ []) ∵ fsplit ! $ fsplit ! $ keep ! (0 ∷ []) $ nothing ! $ fpack ! (mark R shut ≡ gnil) (λ _. ftrue) refl $ move ! (1 ∷ 0 ∷ []) $ fjoin ! $ done !
+  blank_at γ (n, v, broken_by_owner) other = qed 𝓛 (‵ (resting R γ (n, v, broken_by_owner)) ∷ []) ∵ fsplit ! $ fsplit ! $ keep ! (0 ∷ []) $ nothing ! $ fpack ! (mark R broken_by_owner ≡ gnil) (λ _. ftrue) refl $ move ! (1 ∷ 0 ∷ []) $ fjoin ! $ done !
   blank_at γ (n, v, full x) other = qed 𝓛 (‵ (resting R γ (n, v, full x)) ∷ []) ∵ fsplit ! $ fsplit ! $ move ! (1 ∷ []) $ fsplit ! $ feq_l ! (λ z. absurd (other z))
 
 not_twice : (b : Bool) → T (not (not b)) → T b

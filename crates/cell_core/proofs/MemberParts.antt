@@ -20,12 +20,12 @@ use contract.Monad as monad
 use base.Fml.{fex}
 use Rattle.cell_core.specs.Slot.{fact, written, mark, full}
 use Rattle.cell_core.specs.Member.{MemberView, unfilled, known_as, member, members}
-use Rattle.cell_core.specs.contracts.slot.member.Member as Member
-use Rattle.cell_core.specs.contracts.slot.member.Row as Row
+use Rattle.cell_core.specs.contracts.slot.member.RawMember as RawMember
+use Rattle.cell_core.specs.contracts.slot.member.RawRow as RawRow
 use Rattle.cell_core.proofs.CellMade.{token_val}
 use Rattle.cell_core.proofs.CellSteps.{one_written}
 
-pub row_told : (R : RattleType) (vs : List Val) → Is (Struct (shape (Row.the_type R))) (tt, tt) vs → vs ≡ token_val ∷ []
+pub row_told : (R : RattleType) (vs : List Val) → Is (Struct (shape (RawRow.the_type R))) (tt, tt) vs → vs ≡ token_val ∷ []
 row_told R vs is = is.1.0 ∙ ap (λ (ws : List Val). vstruct (of_list (ws ++ [])) ∷ []) is.1.1.0.1.0
 
 -- a list that is not empty has a last member
@@ -123,10 +123,10 @@ module _ {M : Type 1} {𝓤 : Ura M} (𝓛 : Logic 𝓤) (R : RattleType) where
   members_set (h ∷ ms) zero m = qed 𝓛 (‵ (members R (h ∷ ms)) ∷ ‵ (member R m) ∷ []) ∵ fsplit ! $ keep ! (2 ∷ 1 ∷ []) $ fjoin ! $ done !
   members_set (h ∷ ms) (suc i) m = qed 𝓛 (‵ (members R (h ∷ ms)) ∷ ‵ (member R m) ∷ []) ∵ fsplit ! $ move ! (1 ∷ 2 ∷ []) $ use2 𝓛 (‵ (members R (slice_set ms i m))) (members_set ms i m) $ move ! (1 ∷ 0 ∷ []) $ fjoin ! $ done !
 
-  pub member_made : (m : View) → ⟦ member R m ⟧ ⊢ ⟦ (Member.the_row R).own_val (record { marker = record {}; of = m }) (token_val ∷ []) ⟧
-  member_made m = let F = (Struct (shape (Member.the_type R))).own_val (tt, tt) (token_val ∷ []) in
+  pub member_made : (m : View) → ⟦ member R m ⟧ ⊢ ⟦ (RawMember.the_row R).own_val (record { marker = record {}; of = m }) (token_val ∷ []) ⟧
+  member_made m = let F = (Struct (shape (RawMember.the_type R))).own_val (tt, tt) (token_val ∷ []) in
       qed 𝓛 (‵ (member R m) ∷ []) ∵ use0 𝓛 (‵ F) (makes_shadow 𝓛 F (λ vss. (tt, ((λ uss. (tt, tt)), tt))) ((vstruct vnil ∷ [], tt), (refl, ((tt, (refl, tt)), tt)))) $ done !
 
-  pub row_made : (ms : List View) → ⟦ members R ms ⟧ ⊢ ⟦ (Row.the_row R).own_val (record { marker = record {}; of = ms }) (token_val ∷ []) ⟧
-  row_made ms = let F = (Struct (shape (Row.the_type R))).own_val (tt, tt) (token_val ∷ []) in
+  pub row_made : (ms : List View) → ⟦ members R ms ⟧ ⊢ ⟦ (RawRow.the_row R).own_val (record { marker = record {}; of = ms }) (token_val ∷ []) ⟧
+  row_made ms = let F = (Struct (shape (RawRow.the_type R))).own_val (tt, tt) (token_val ∷ []) in
       qed 𝓛 (‵ (members R ms) ∷ []) ∵ use0 𝓛 (‵ F) (makes_shadow 𝓛 F (λ vss. (tt, ((λ uss. (tt, tt)), tt))) ((vstruct vnil ∷ [], tt), (refl, ((tt, (refl, tt)), tt)))) $ done !

@@ -13,21 +13,21 @@ pub record BlockView : Type 0 where
 abbrev pub block_coded : Coded BlockView
 block_coded = coded_via (coded_list names_coded) (λ (b : BlockView). b.cells) (λ x y e i. record { cells = e i })
 
--- the right to write a cell: its place, the names of the cell, and the word that the exchange found there
+-- the right to write a cell: its offset, the names of the cell, and the word that the exchange found there
 pub record PenView : Type 0 where
-  pub place : ℕ
+  pub offset : ℕ
   pub cell : Names
   pub found : ℕ
 
 -- how a pen is stored
 abbrev pub pen_coded : Coded PenView
-pen_coded = coded_via (coded× coded_ℕ (coded× names_coded coded_ℕ)) (λ (p : PenView). (p.place, (p.cell, p.found)))
-    (λ x y e i. record { place = (e i).0; cell = (e i).1.0; found = (e i).1.1 })
+pen_coded = coded_via (coded× coded_ℕ (coded× names_coded coded_ℕ)) (λ (p : PenView). (p.offset, (p.cell, p.found)))
+    (λ x y e i. record { offset = (e i).0; cell = (e i).1.0; found = (e i).1.1 })
 
--- the token of a filled cell: its place, its value, and the name that the value has; and in the writer's own
+-- the token of a filled cell: its offset, its value, and the name that the value has; and in the writer's own
 -- token the word that its exchange found there
 pub record PlacedView (T : Type 0) : Type 0 where
-  pub place : ℕ
+  pub offset : ℕ
   pub value : T
   pub name : ℕ
   pub found : ℕ
@@ -36,36 +36,36 @@ pub record PlacedView (T : Type 0) : Type 0 where
 abbrev pub placed_coded : {T : Type 0} → Coded T → Coded (PlacedView T)
 placed_coded {T} c =
     coded_via (coded× coded_ℕ (coded× c (coded× coded_ℕ coded_ℕ)))
-    (λ (p : PlacedView T). (p.place, (p.value, (p.name, p.found))))
-    (λ x y e i. record { place = (e i).0; value = (e i).1.0; name = (e i).1.1.0; found = (e i).1.1.1 })
+    (λ (p : PlacedView T). (p.offset, (p.value, (p.name, p.found))))
+    (λ x y e i. record { offset = (e i).0; value = (e i).1.0; name = (e i).1.1.0; found = (e i).1.1.1 })
 
--- the token of a broken cell: its place, and the name that says so
+-- the token of a broken cell: its offset, and the name that says so
 pub record SpoiltView : Type 0 where
-  pub place : ℕ
+  pub offset : ℕ
   pub name : ℕ
 
--- the token of a cell that another call began: its place, and the names of the cell
+-- the token of a cell that another call began: its offset, and the names of the cell
 pub record BegunView : Type 0 where
-  pub place : ℕ
+  pub offset : ℕ
   pub cell : Names
 
 -- how it is stored
 abbrev pub begun_coded : Coded BegunView
-begun_coded = coded_via (coded× coded_ℕ names_coded) (λ (b : BegunView). (b.place, b.cell))
-    (λ x y e i. record { place = (e i).0; cell = (e i).1 })
+begun_coded = coded_via (coded× coded_ℕ names_coded) (λ (b : BegunView). (b.offset, b.cell))
+    (λ x y e i. record { offset = (e i).0; cell = (e i).1 })
 
 -- how many cells the block has
 abbrev pub block_len : BlockView → ℕ
 block_len block = length block.cells
 
--- the names of the cell at the place
+-- the names of the cell at the offset
 abbrev pub cell_at : BlockView → ℕ → Names
-cell_at block place = cell_in block.cells place
+cell_at block offset = cell_in block.cells offset
 
--- the pen is for the cell at the place
-pub record IsPenAt (block : BlockView) (place : ℕ) (pen : PenView) : Type 0 where
-  pub at : pen.place ≡ place
-  pub cell : pen.cell ≡ cell_at block place
+-- the pen is for the cell at the offset
+pub record IsPenAt (block : BlockView) (offset : ℕ) (pen : PenView) : Type 0 where
+  pub at : pen.offset ≡ offset
+  pub cell : pen.cell ≡ cell_at block offset
 
 -- the word is that of a broken cell
 abbrev pub IsBrokenWord : ℕ → Type 0
@@ -85,43 +85,43 @@ IsMended placed = IsBrokenWord placed.found
 
 -- the token is of a cell of the block
 pub record IsPlacedIn {T : Type 0} (block : BlockView) (placed : PlacedView T) : Type 0 where
-  pub within : placed.place < block_len block
-  pub named : placed.name ≡ (cell_at block placed.place).value
+  pub within : placed.offset < block_len block
+  pub named : placed.name ≡ (cell_at block placed.offset).value_name
 
 -- the same for a broken cell
 pub record IsSpoiltIn (block : BlockView) (spoilt : SpoiltView) : Type 0 where
-  pub within : spoilt.place < block_len block
-  pub named : spoilt.name ≡ (cell_at block spoilt.place).breach
+  pub within : spoilt.offset < block_len block
+  pub named : spoilt.name ≡ (cell_at block spoilt.offset).broken_name
 
 -- the same for a cell that another call began
 pub record IsBegunIn (block : BlockView) (begun : BegunView) : Type 0 where
-  pub within : begun.place < block_len block
-  pub named : begun.cell ≡ cell_at block begun.place
+  pub within : begun.offset < block_len block
+  pub named : begun.cell ≡ cell_at block begun.offset
 
--- the token is of the cell at the place
-pub record IsPlacedAt {T : Type 0} (block : BlockView) (place : ℕ) (placed : PlacedView T) : Type 0 where
+-- the token is of the cell at the offset
+pub record IsPlacedAt {T : Type 0} (block : BlockView) (offset : ℕ) (placed : PlacedView T) : Type 0 where
   pub of : IsPlacedIn block placed
-  pub at : placed.place ≡ place
+  pub at : placed.offset ≡ offset
 
 -- the same for a broken cell
-pub record IsSpoiltAt (block : BlockView) (place : ℕ) (spoilt : SpoiltView) : Type 0 where
+pub record IsSpoiltAt (block : BlockView) (offset : ℕ) (spoilt : SpoiltView) : Type 0 where
   pub of : IsSpoiltIn block spoilt
-  pub at : spoilt.place ≡ place
+  pub at : spoilt.offset ≡ offset
 
 -- the same for a cell that another call began
-pub record IsBegunAt (block : BlockView) (place : ℕ) (begun : BegunView) : Type 0 where
+pub record IsBegunAt (block : BlockView) (offset : ℕ) (begun : BegunView) : Type 0 where
   pub of : IsBegunIn block begun
-  pub at : begun.place ≡ place
+  pub at : begun.offset ≡ offset
 
--- this is known of the cell at the place
-pub record IsMemberAt {T : Type 0} (block : BlockView) (place : ℕ) (m : MemberView T) : Type 0 where
-  pub within : place < block_len block
-  pub known : HasNames (cell_at block place) m.value m.name m.epoch
+-- this is known of the cell at the offset
+pub record IsMemberAt {T : Type 0} (block : BlockView) (offset : ℕ) (m : MemberView T) : Type 0 where
+  pub within : offset < block_len block
+  pub known : HasNames (cell_at block offset) m.value m.name m.epoch
 
--- the cell at the place has fresh names: no older token applies to it
+-- the cell at the offset has fresh names: no older token applies to it
 abbrev pub RenewsCell : BlockView → BlockView → ℕ → Type 0
-RenewsCell old new place = IsAnother (cell_at old place) (cell_at new place)
+RenewsCell old new offset = IsAnother (cell_at old offset) (cell_at new offset)
 
--- each cell but the one at the place keeps its names
+-- each cell but the one at the offset keeps its names
 abbrev pub KeepsOtherCells : BlockView → BlockView → ℕ → Type 0
-KeepsOtherCells old new place = (q : ℕ) → q ≢ place → cell_at new q ≡ cell_at old q
+KeepsOtherCells old new offset = (q : ℕ) → q ≢ offset → cell_at new q ≡ cell_at old q

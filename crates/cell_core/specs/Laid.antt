@@ -20,11 +20,11 @@ HasOneMore old new = (n : Names) × (new ≡ old ++ n ∷ [])
 
 -- the names of the cell at an index
 abbrev pub cell_in : List Names → ℕ → Names
-cell_in γs i = get_or γs i (record { value = 0; breach = 0; epoch = [] })
+cell_in γs i = get_or γs i (record { value_name = 0; broken_name = 0; epoch = [] })
 
 -- a cell that has none of the names of the other
 abbrev pub IsAnother : Names → Names → Type 0
-IsAnother old new = (new.value ≢ old.value) × (new.breach ≢ old.breach)
+IsAnother old new = (new.value_name ≢ old.value_name) × (new.broken_name ≢ old.broken_name)
 
 -- the cell at the index has fresh names, and each other cell keeps its names
 abbrev pub HasOneRenamed : List Names → ℕ → List Names → Type 0

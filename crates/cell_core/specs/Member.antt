@@ -42,7 +42,7 @@ module _ (R : RattleType) where
 
 -- what is known by these names is known of the cell
 abbrev pub HasNames : {T : Type 0} → Names → Option T → ℕ → Lft → Type 0
-HasNames γ (Some x) name epoch = name ≡ γ.value
+HasNames γ (Some x) name epoch = name ≡ γ.value_name
 HasNames γ None name epoch = epoch ≡ γ.epoch
 
 -- the word of a cell by what is known of it, while its epoch lasts

@@ -6,12 +6,12 @@ use Rattle.cell_core.specs.declared.block.shown.Look.{Look}
 use Rattle.cell_core.specs.declared.block.shown.Look.TheVariants as look
 use Rattle.cell_core.specs.Block.{BlockView, IsPlacedAt, IsSpoiltAt, IsBegunAt}
 
--- what a call found in the cell at the place
+-- what a call found in the cell at the offset
 abbrev pub IsFoundIn : {T : Type 0} → BlockView → ℕ → Found T → Type 0
-IsFoundIn block place found.Empty = Unit {0}
-IsFoundIn block place (found.Busy begun) = IsBegunAt block place begun
-IsFoundIn block place (found.Filled placed) = IsPlacedAt block place placed
-IsFoundIn block place (found.Broken spoilt) = IsSpoiltAt block place spoilt
+IsFoundIn block offset found.Empty = Unit {0}
+IsFoundIn block offset (found.Busy begun) = IsBegunAt block offset begun
+IsFoundIn block offset (found.Filled placed) = IsPlacedAt block offset placed
+IsFoundIn block offset (found.Broken spoilt) = IsSpoiltAt block offset spoilt
 
 -- the call found a value, and it is this one
 abbrev pub ShowsFilled : {T : Type 0} → T → Found T → Type 0
@@ -27,9 +27,9 @@ IsNotEmpty (found.Busy begun) = Unit {0}
 IsNotEmpty (found.Filled placed) = Unit {0}
 IsNotEmpty (found.Broken spoilt) = Unit {0}
 
--- what the cell at the place may show: a value with a token of that value
+-- what the cell at the offset may show: a value with a token of that value
 abbrev pub IsLookAt : {T : Type 0} → BlockView → ℕ → Look T → Type 0
-IsLookAt block place look.Empty = Unit {0}
-IsLookAt block place look.Busy = Unit {0}
-IsLookAt block place (look.Filled value placed) = IsPlacedAt block place placed × (placed.value ≡ value.now)
-IsLookAt block place (look.Broken spoilt) = IsSpoiltAt block place spoilt
+IsLookAt block offset look.Empty = Unit {0}
+IsLookAt block offset look.Busy = Unit {0}
+IsLookAt block offset (look.Filled value placed) = IsPlacedAt block offset placed × (placed.value ≡ value.now)
+IsLookAt block offset (look.Broken spoilt) = IsSpoiltAt block offset spoilt

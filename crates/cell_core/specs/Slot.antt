@@ -18,23 +18,23 @@ use denote.RawPtr.{Ptr, block_ptr, null_ptr}
 
 -- the names of a cell: one gets the value that fills it, another is set when it breaks; and its epoch
 pub record Names : Type 0 where
-  pub value : GName
-  pub breach : GName
+  pub value_name : GName
+  pub broken_name : GName
   pub epoch : Lft
 
 -- how the names are stored
 abbrev pub names_coded : Coded Names
 names_coded =
-    coded_via (coded× coded_ℕ (coded× coded_ℕ (coded_list coded_ℕ))) (λ (n : Names). (n.value, (n.breach, n.epoch)))
-    (λ x y e i. record { value = (e i).0; breach = (e i).1.0; epoch = (e i).1.1 })
+    coded_via (coded× coded_ℕ (coded× coded_ℕ (coded_list coded_ℕ))) (λ (n : Names). (n.value_name, (n.broken_name, n.epoch)))
+    (λ x y e i. record { value_name = (e i).0; broken_name = (e i).1.0; epoch = (e i).1.1 })
 
--- a cell is free, busy with one writer, full, broken, or broken and shut for its epoch
+-- a cell is free, busy with one writer, full, broken, or broken by an owner for its epoch
 pub data Phase (X : Type 0) : Type 0 where
   free : Phase X
   busy : Phase X
   full : X → Phase X
   broken : Phase X
-  shut : Phase X
+  broken_by_owner : Phase X
 
 -- the word, what the room holds, and the phase
 abbrev pub Rest : Type 0 → Type 0
@@ -53,17 +53,17 @@ abbrev pub word : ℕ → ℕ → ℕ → Fml
 word b o n = fat full_share (ty_int w64) b o (vint w64 n)
 
 -- what the second name has once the cell was broken
-abbrev pub cross : Gv
-cross = gcons gnil gnil
+abbrev pub broken_mark : Gv
+broken_mark = gcons gnil gnil
 
 -- what shows that a cell was once broken
-abbrev pub spoilt : GName → Fml
-spoilt δ = fres δ cross
+abbrev pub was_broken : GName → Fml
+was_broken δ = fres δ broken_mark
 
 -- the second name of a cell that was broken once, and of one that never was
-abbrev pub breached : GName → Bool → Fml
-breached δ true = fsep (spoilt δ) (fauth δ cross)
-breached δ false = fsep (fobs δ gnil) (fauth δ gnil)
+abbrev pub broken_once : GName → Bool → Fml
+broken_once δ true = fsep (was_broken δ) (fauth δ broken_mark)
+broken_once δ false = fsep (fobs δ gnil) (fauth δ gnil)
 
 module _ (R : RattleType) where
   -- how what the room holds is stored
@@ -76,7 +76,7 @@ module _ (R : RattleType) where
   mark busy = gnil
   mark (full x) = gcons (R.coded.code x) gnil
   mark broken = gnil
-  mark shut = gnil
+  mark broken_by_owner = gnil
 
   -- what shows that a cell holds a value
   abbrev pub written : GName → R.Denot → Fml
@@ -93,7 +93,7 @@ module _ (R : RattleType) where
   Lies v busy = Unit {0}
   Lies v (full x) = v ≡ Some x
   Lies v broken = v ≡ None
-  Lies v shut = v ≡ None
+  Lies v broken_by_owner = v ≡ None
 
   -- the offset of the room, after the word
   abbrev pub at : ℕ → ℕ
@@ -102,11 +102,11 @@ module _ (R : RattleType) where
   module _ (γ : Names) where
     -- both names, as the phase has them
     abbrev pub auths : Phase R.Denot → Fml
-    auths s = fsep (fauth γ.value (mark s)) (fex Bool (breached γ.breach))
+    auths s = fsep (fauth γ.value_name (mark s)) (fex Bool (broken_once γ.broken_name))
 
     -- the right to set the first name
     abbrev pub unset : Fml
-    unset = fobs γ.value gnil
+    unset = fobs γ.value_name gnil
 
     -- the cell's epoch has ended
     abbrev pub over : Fml
@@ -117,16 +117,16 @@ module _ (R : RattleType) where
     settable = fsep over unset
 
     -- what a broken cell has: what shows that it is, and the right to set the first name
-    abbrev pub cracked : Fml
-    cracked = fsep (spoilt γ.breach) unset
+    abbrev pub broken_unset : Fml
+    broken_unset = fsep (was_broken γ.broken_name) unset
 
     -- the word of each phase, with what goes with it
     abbrev pub told : ℕ → Phase R.Denot → Fml
     told n free = fsep (feq ℕ n 0) settable
     told n busy = fsep (feq ℕ n 1) over
-    told n (full x) = fsep (feq ℕ n 2) (fsep over (written γ.value x))
-    told n broken = fsep (feq ℕ n 3) (fsep over cracked)
-    told n shut = fsep (feq ℕ n 4) cracked
+    told n (full x) = fsep (feq ℕ n 2) (fsep over (written γ.value_name x))
+    told n broken = fsep (feq ℕ n 3) (fsep over broken_unset)
+    told n broken_by_owner = fsep (feq ℕ n 4) broken_unset
 
     -- the names and the word
     abbrev pub named : ℕ → Phase R.Denot → Fml
@@ -138,7 +138,7 @@ module _ (R : RattleType) where
 
     -- a value that is known to be there
     abbrev pub known : Option R.Denot → Fml
-    known (Some x) = written γ.value x
+    known (Some x) = written γ.value_name x
     known None = ffalse
 
     -- what the word shows: at 2 a value, above it that the cell is broken, otherwise nothing
@@ -146,7 +146,7 @@ module _ (R : RattleType) where
     sighted zero v = ftrue
     sighted (suc zero) v = ftrue
     sighted (suc (suc zero)) v = known v
-    sighted (suc (suc (suc n))) v = spoilt γ.breach
+    sighted (suc (suc (suc n))) v = was_broken γ.broken_name
 
     -- the same, for some value
     abbrev pub sights : ℕ → Fml
@@ -171,7 +171,7 @@ module _ (R : RattleType) where
       tie busy = ftrue
       tie (full x) = fres t.1 (content.code (Some x))
       tie broken = empty
-      tie shut = empty
+      tie broken_by_owner = empty
 
       -- what the invariant has of the room in each phase
       abbrev pub lent : Phase R.Denot → Fml
@@ -179,7 +179,7 @@ module _ (R : RattleType) where
       lent busy = ftrue
       lent (full x) = shared_of R x b (at o) t.0
       lent broken = fbor t.0 Room
-      lent shut = fbor t.0 Room
+      lent broken_by_owner = fbor t.0 Room
 
       -- the word, the names, and what is known of the room
       abbrev pub tied : ℕ × Phase R.Denot → Fml
@@ -219,7 +219,7 @@ module _ (R : RattleType) where
     shared (block_ptr b o) κ = shared_at b o κ
     shared null_ptr κ = ffalse
 
-    -- what a claim owns, in a cell that is lent for β
-    abbrev pub claimed : Lft → Ptr → ℕ → ℕ → Fml
-    claimed β (block_ptr b o) sought found = fex Turn (λ t. fsep (kept t b o β) (won t b o sought found))
-    claimed β null_ptr sought found = ffalse
+    -- what a pen owns, in a cell that is lent for β
+    abbrev pub pen_owned : Lft → Ptr → ℕ → ℕ → Fml
+    pen_owned β (block_ptr b o) sought found = fex Turn (λ t. fsep (kept t b o β) (won t b o sought found))
+    pen_owned β null_ptr sought found = ffalse

@@ -13,9 +13,9 @@ mod shown;
 mod spoilt;
 mod steps;
 
-use crate::slot::steps::{Claim, Slot};
+use crate::slot::steps::{RawPen, RawSlot};
 pub use begun::Begun;
-pub use epoch::{Ended, Epoch};
+pub use epoch::{EndedEpoch, Epoch};
 pub use member::{Member, Row};
 pub use pen::Pen;
 pub use placed::Placed;
@@ -74,108 +74,108 @@ impl<T, A: Allocator> Block<T, A> {
         self.len
     }
 
-    fn cell(&self, place: u64) -> &Slot<T>
-        requires { place < block_len self.now }
-        ensures { result.now ≡ cell_at self.now place }
+    fn cell(&self, offset: u64) -> &RawSlot<T>
+        requires { offset < block_len self.now }
+        ensures { result.now ≡ cell_at self.now offset }
     {
-        self.laid.cell(self.link, place as usize)
+        self.laid.cell(self.link, offset as usize)
     }
 
     // What an exchange that lost a cell found there.
-    fn lost(&self, place: u64, found: u64, claim: Claim<'_, T>) -> Found<T>
-        requires { (place < block_len self.now) × (claim.of ≡ cell_at self.now place)
-            × (claim.found ≡ found) × (found ≢ claim.sought) }
-        ensures found { IsFoundIn self.now place result }
+    fn lost(&self, offset: u64, found: u64, pen: RawPen<'_, T>) -> Found<T>
+        requires { (offset < block_len self.now) × (pen.of ≡ cell_at self.now offset)
+            × (pen.found ≡ found) × (found ≢ pen.sought) }
+        ensures found { IsFoundIn self.now offset result }
         ensures not_empty { found ≢ 0 → IsNotEmpty result }
     {
         match found {
             0 => {
-                claim.unused();
+                pen.unused();
                 Found::Empty
             }
             1 => {
-                let begun = claim.begun();
-                Found::Busy(Begun { place, begun })
+                let begun = pen.begun();
+                Found::Busy(Begun { offset, begun })
             }
             2 => {
-                let written = claim.written();
-                Found::Filled(Placed { place, written })
+                let written = pen.written();
+                Found::Filled(Placed { offset, written })
             }
             _ => {
-                let crack = claim.crack();
-                Found::Broken(Spoilt { place, crack })
+                let broken = pen.broken();
+                Found::Broken(Spoilt { offset, broken })
             }
         }
     }
 
     /// Begins a cell by one exchange from empty to busy. The pen is the right to fill or break the cell.
-    pub fn begin(&self, place: u64) -> Result<Pen<'_, T>, Found<T>>
-        requires { place < block_len self.now }
-        ensures pen { IfOk result (IsPenAt self.now place) }
+    pub fn begin(&self, offset: u64) -> Result<Pen<'_, T>, Found<T>>
+        requires { offset < block_len self.now }
+        ensures pen { IfOk result (IsPenAt self.now offset) }
         ensures fresh { IfOk result IsFresh }
-        ensures found { IfErr result (IsFoundIn self.now place) }
+        ensures found { IfErr result (IsFoundIn self.now offset) }
         ensures not_empty { IfErr result IsNotEmpty }
     {
-        let (found, claim) = self.cell(place).claim();
+        let (found, pen) = self.cell(offset).begin();
         if found == 0 {
-            Ok(Pen { place, claim })
+            Ok(Pen { offset, pen })
         } else {
-            Err(self.lost(place, found, claim))
+            Err(self.lost(offset, found, pen))
         }
     }
 
     /// Takes a broken cell by one exchange from broken to busy. If an owner broke the cell, this returns
     /// `Found::Broken`; `mend_member` mends such a cell.
-    pub fn mend(&self, place: u64) -> Result<Pen<'_, T>, Found<T>>
-        requires { place < block_len self.now }
-        ensures pen { IfOk result (IsPenAt self.now place) }
+    pub fn mend(&self, offset: u64) -> Result<Pen<'_, T>, Found<T>>
+        requires { offset < block_len self.now }
+        ensures pen { IfOk result (IsPenAt self.now offset) }
         ensures broken { IfOk result IsMending }
-        ensures found { IfErr result (IsFoundIn self.now place) }
+        ensures found { IfErr result (IsFoundIn self.now offset) }
     {
-        let (found, claim) = self.cell(place).mend();
+        let (found, pen) = self.cell(offset).mend();
         if found == 3 {
-            Ok(Pen { place, claim })
+            Ok(Pen { offset, pen })
         } else {
-            Err(self.lost(place, found, claim))
+            Err(self.lost(offset, found, pen))
         }
     }
 
     /// Takes a broken cell like `mend`, also one that an owner broke in an epoch that has ended.
     pub fn mend_member(
         &self,
-        place: u64,
+        offset: u64,
         member: &Member<T>,
-        ended: &Ended,
+        ended: &EndedEpoch,
     ) -> Result<Pen<'_, T>, Found<T>>
-        requires member { IsMemberAt self.now place member.now }
+        requires member { IsMemberAt self.now offset member.now }
         requires epoch { member.now.value ≡ None → member.now.epoch ≡ ended.now }
-        ensures pen { IfOk result (IsPenAt self.now place) }
+        ensures pen { IfOk result (IsPenAt self.now offset) }
         ensures broken { IfOk result IsMending }
-        ensures found { IfErr result (IsFoundIn self.now place) }
+        ensures found { IfErr result (IsFoundIn self.now offset) }
         ensures filled { (x : T) → member.now.value ≡ Some x → IsErrAnd result (ShowsFilled x) }
     {
-        let (found, claim) = self.cell(place).reopen(&member.member, &ended.ended);
+        let (found, pen) = self.cell(offset).reopen(&member.member, &ended.ended);
         match found {
-            4 => Ok(Pen { place, claim }),
+            4 => Ok(Pen { offset, pen }),
             3 => {
-                claim.unused();
-                self.mend(place)
+                pen.unused();
+                self.mend(offset)
             }
             2 => {
-                let written = claim.written();
+                let written = pen.written();
                 member.member.agrees(&written);
-                Err(Found::Filled(Placed { place, written }))
+                Err(Found::Filled(Placed { offset, written }))
             }
-            _ => Err(self.lost(place, found, claim)),
+            _ => Err(self.lost(offset, found, pen)),
         }
     }
 
     /// Looks at what the cell shows now, by one load.
-    pub fn look(&self, place: u64) -> Look<'_, T>
-        requires { place < block_len self.now }
-        ensures { IsLookAt self.now place result }
+    pub fn look(&self, offset: u64) -> Look<'_, T>
+        requires { offset < block_len self.now }
+        ensures { IsLookAt self.now offset result }
     {
-        let cell = self.cell(place);
+        let cell = self.cell(offset);
         match cell.sight() {
             (0, sight) => {
                 sight.unused();
@@ -187,11 +187,11 @@ impl<T, A: Allocator> Block<T, A> {
             }
             (2, sight) => {
                 let written = sight.written();
-                Look::Filled(cell.value(&written), Placed { place, written })
+                Look::Filled(cell.value(&written), Placed { offset, written })
             }
             (_, sight) => {
-                let crack = sight.crack();
-                Look::Broken(Spoilt { place, crack })
+                let broken = sight.broken();
+                Look::Broken(Spoilt { offset, broken })
             }
         }
     }
@@ -201,35 +201,35 @@ impl<T, A: Allocator> Block<T, A> {
         requires { IsPlacedIn self.now placed.now }
         ensures { result.now ≡ placed.now.value }
     {
-        self.cell(placed.place).value(&placed.written)
+        self.cell(placed.offset).value(&placed.written)
     }
 
-    /// Shows a proof that two tokens of one place have one value.
+    /// Shows a proof that two tokens of one offset have one value.
     pub fn agree(&self, a: &Placed<T>, b: &Placed<T>)
         requires a { IsPlacedIn self.now a.now }
         requires b { IsPlacedIn self.now b.now }
-        ensures { a.now.place ≡ b.now.place → a.now.value ≡ b.now.value }
+        ensures { a.now.offset ≡ b.now.offset → a.now.value ≡ b.now.value }
     {
-        if a.place == b.place {
+        if a.offset == b.offset {
             a.written.agrees(&b.written);
         }
     }
 
     /// Returns the value of a cell with its token, by one load. A cell that `member` knows to be filled shows
     /// its value; any other cell shows nothing, or the value that mended it.
-    pub fn known<'a>(&'a self, place: u64, member: &Member<T>) -> Option<(&'a T, Placed<T>)>
-        requires { IsMemberAt self.now place member.now }
+    pub fn known<'a>(&'a self, offset: u64, member: &Member<T>) -> Option<(&'a T, Placed<T>)>
+        requires { IsMemberAt self.now offset member.now }
         ensures value { (x : T) → member.now.value ≡ Some x
             → IsSomeAnd result (λ (value, _). value.now ≡ x) }
         ensures placed { IfSome result (λ (value, placed).
-            IsPlacedAt self.now place placed × (placed.value ≡ value.now)) }
+            IsPlacedAt self.now offset placed × (placed.value ≡ value.now)) }
     {
-        let cell = self.cell(place);
+        let cell = self.cell(offset);
         match cell.word(&member.member) {
             (2, sight) => {
                 let written = sight.written();
                 member.member.agrees(&written);
-                Some((cell.value(&written), Placed { place, written }))
+                Some((cell.value(&written), Placed { offset, written }))
             }
             (_, sight) => {
                 sight.unused();

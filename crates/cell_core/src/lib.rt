@@ -1,7 +1,7 @@
 //! Cells that are filled at most once and keep their value; a broken one may be mended.
 //!
 //! A `block::Block` is one row of raw cells, each a state word and room for one value. Contracts see it as
-//! the names of its cells, a pen as its place and the names of its cell, and a token as its place, its value
+//! the names of its cells, a pen as its offset and the names of its cell, and a token as its offset, its value
 //! and a name of its cell (`specs/Block.antt`). `specs/Shown.antt` says what calls return of a cell.
 //!
 //! A caller can prove that a token's value is what its cell holds, at any time and in any thread; that two

@@ -12,6 +12,7 @@ use std::marker::Model;
 // The shares of a whole hand.
 pub(crate) const WHOLE: u32 = 65536;
 
+// `grow_core` has a `Hand` too: this one, with the keys of its runs' segments.
 /// A caller's knowledge of the size, and its shares. Closing the word needs all shares, so once a hand is
 /// dropped the word can only be dropped. It takes 16 bytes.
 #[derive(Drop)]

@@ -22,7 +22,7 @@ mod mark;
 mod rule;
 mod run;
 mod seat_view;
-mod shares;
+mod split_and_join;
 mod terms;
 mod word;
 

@@ -81,7 +81,7 @@ impl Split<SeatView> for Blank {
 }
 
 /// The parts that a split keeps and gives away, chosen by each call.
-pub trait Parts {
+pub trait Divides {
     ghost use Rattle.std.specs.Prelude.{ℕ, List};
 
     ghost kept_runs: { List ℕ };
@@ -93,7 +93,7 @@ pub trait Parts {
     ghost given_shares: { ℕ };
 }
 
-impl Parts for Brand {
+impl Divides for Brand {
     ghost use Rattle.std.specs.Prelude.{[]};
 
     ghost kept_runs = { [] };
@@ -106,11 +106,11 @@ impl Parts for Brand {
 }
 
 /// The step that splits a seat in two that have seen the same.
-pub struct Cut<P: Parts> {
-    parts: PhantomData<P>,
+pub struct Cut<P: Divides> {
+    division: PhantomData<P>,
 }
 
-impl<P: Parts> Split<SeatView> for Cut<P> {
+impl<P: Divides> Split<SeatView> for Cut<P> {
     ghost use Rattle.claim_core.specs.SeatView.{with_own};
 
     ghost left = { λ v. with_own v P.kept_runs P.kept_shares };

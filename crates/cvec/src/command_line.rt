@@ -65,7 +65,7 @@ Exit status, with the line on standard error:
 
 docs/SCRIPTS.md has the grammar of scripts, the answer lines and the faults.";
 
-fn sweep_command<'a>(alloc: Global) -> Result<Command<'a>, AllocError> {
+fn make_sweep_command<'a>(alloc: Global) -> Result<Command<'a>, AllocError> {
     let seed = Arg::new(alloc, "seed")
         .long("seed")
         .value_name("S")
@@ -95,7 +95,7 @@ fn sweep_command<'a>(alloc: Global) -> Result<Command<'a>, AllocError> {
     Ok(sweep)
 }
 
-fn cvec<'a>(alloc: Global) -> Result<Command<'a>, AllocError> {
+fn make_command<'a>(alloc: Global) -> Result<Command<'a>, AllocError> {
     let calls = Command::new(alloc, "calls").about(CALLS);
     let counted = Arg::new(alloc, "count")
         .long("count")
@@ -120,7 +120,7 @@ fn cvec<'a>(alloc: Global) -> Result<Command<'a>, AllocError> {
         .about(RACE)
         .arg(workers)?
         .arg(each)?;
-    let sweep = sweep_command(alloc)?;
+    let sweep = make_sweep_command(alloc)?;
     let command = Command::new(alloc, "cvec")
         .bin_name("cvec")?
         .version("0.1.0")
@@ -136,10 +136,10 @@ fn cvec<'a>(alloc: Global) -> Result<Command<'a>, AllocError> {
 }
 
 // An error of the command line's own, in the parser's form.
-fn mistake(alloc: Global, kind: ErrorKind, message: &str) -> Error
+fn make_error(alloc: Global, kind: ErrorKind, message: &str) -> Error
     ensures { (kind_of result ≡ kind) ⊎ (kind_of result ≡ ErrorKind.OutOfMemory) }
 {
-    match cvec(alloc) {
+    match make_command(alloc) {
         Ok(mut command) => match command.error(kind, message) {
             Ok(error) => error,
             Err(error) => Error::from(error),
@@ -157,7 +157,7 @@ fn race_of(alloc: Global, matches: &ArgMatches<'_>) -> Result<Request, Error>
         matches.get_one::<u32>("each"),
     ) {
         (Some(workers), Some(each)) => Ok(Request::Race { workers, each }),
-        _ => Err(mistake(
+        _ => Err(make_error(
             alloc,
             ErrorKind::MissingRequiredArgument,
             "both numbers are required",
@@ -184,7 +184,7 @@ fn sweep_of(alloc: Global, matches: &ArgMatches<'_>) -> Result<Request, Error>
         (Some(seed), Some(count), Some(len)) if is_sweep(count, len) => {
             Ok(Request::Sweep { seed, count, len })
         }
-        _ => Err(mistake(
+        _ => Err(make_error(
             alloc,
             ErrorKind::MissingRequiredArgument,
             "all three numbers are required",
@@ -193,10 +193,10 @@ fn sweep_of(alloc: Global, matches: &ArgMatches<'_>) -> Result<Request, Error>
 }
 
 // What the words name. Help and the version are errors, too.
-pub(crate) fn named(alloc: Global, words: &[String]) -> Result<Request, Error>
+pub(crate) fn parse_words(alloc: Global, words: &[String]) -> Result<Request, Error>
     ensures { IfOk result IsInRange }
 {
-    let matches = cvec(alloc)?.try_get_matches_from(words)?;
+    let matches = make_command(alloc)?.try_get_matches_from(words)?;
     match matches.subcommand() {
         Some(("calls", _)) => Ok(Request::Play(Engine::Calls)),
         Some(("steps", matches)) if matches.get_flag("count") => {
@@ -205,7 +205,7 @@ pub(crate) fn named(alloc: Global, words: &[String]) -> Result<Request, Error>
         Some(("steps", _)) => Ok(Request::Play(Engine::Steps)),
         Some(("race", matches)) => race_of(alloc, matches),
         Some(("sweep", matches)) => sweep_of(alloc, matches),
-        _ => Err(mistake(alloc, ErrorKind::MissingSubcommand, "a command is required")),
+        _ => Err(make_error(alloc, ErrorKind::MissingSubcommand, "a command is required")),
     }
 }
 
@@ -217,7 +217,7 @@ pub(crate) fn is_memory(error: &Error) -> bool
 }
 
 // The request of a command line that stopped the parser.
-pub(crate) fn stopped(alloc: Global, error: &Error) -> Request
+pub(crate) fn request_of_error(alloc: Global, error: &Error) -> Request
     ensures memory { kind_of error.now ≡ ErrorKind.OutOfMemory → result ≡ Request.NoMemory }
     ensures shown { (kind_of error.now ≡ ErrorKind.DisplayHelp)
         ⊎ (kind_of error.now ≡ ErrorKind.DisplayVersion) → IsShown result }
@@ -236,17 +236,17 @@ pub(crate) fn stopped(alloc: Global, error: &Error) -> Request
 }
 
 // What the words ask for.
-pub(crate) fn asked(alloc: Global, words: &[String]) -> Request
+pub(crate) fn request_of_words(alloc: Global, words: &[String]) -> Request
     ensures { IsInRange result }
 {
-    match named(alloc, words) {
+    match parse_words(alloc, words) {
         Ok(request) => request,
-        Err(error) => stopped(alloc, &error),
+        Err(error) => request_of_error(alloc, &error),
     }
 }
 
 // What becomes of a command line that the system did not give, as it does if a word is not UTF-8.
-pub(crate) fn not_given(alloc: Global, error: &io::Error) -> Request
+pub(crate) fn request_without_words(alloc: Global, error: &io::Error) -> Request
     ensures memory { error_kind error.now ≡ io_kinds.OutOfMemory → result ≡ Request.NoMemory }
     ensures refused { IsRefused result }
     ensures range { IsInRange result }
@@ -255,11 +255,11 @@ pub(crate) fn not_given(alloc: Global, error: &io::Error) -> Request
         return Request::NoMemory;
     }
     let message = "invalid UTF-8 was detected in one or more arguments";
-    stopped(alloc, &mistake(alloc, ErrorKind::Io, message))
+    request_of_error(alloc, &make_error(alloc, ErrorKind::Io, message))
 }
 
 // The words of the command line; the first is the program's name.
-fn words<R: Env + AllocGlobal>(rt: &R) -> io::Result<Vec<String>> {
+fn read_words<R: Env + AllocGlobal>(rt: &R) -> io::Result<Vec<String>> {
     let mut words = Vec::new(rt.alloc());
     for word in env::args(rt)? {
         words.push(word)?;
@@ -268,11 +268,11 @@ fn words<R: Env + AllocGlobal>(rt: &R) -> io::Result<Vec<String>> {
 }
 
 /// Returns what the command line of this process asks for.
-pub fn requested<R: Env + AllocGlobal>(rt: &R) -> Request
+pub fn read_request<R: Env + AllocGlobal>(rt: &R) -> Request
     ensures { IsInRange result }
 {
-    match words(rt) {
-        Ok(words) => asked(rt.alloc(), &words),
-        Err(error) => not_given(rt.alloc(), &error),
+    match read_words(rt) {
+        Ok(words) => request_of_words(rt.alloc(), &words),
+        Err(error) => request_without_words(rt.alloc(), &error),
     }
 }

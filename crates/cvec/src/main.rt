@@ -16,13 +16,13 @@ mod program;
 #[cfg(test)]
 mod tests;
 
-use crate::command_line::{Request, requested};
+use crate::command_line::{Request, read_request};
 use crate::program::{serve, serve_race, serve_sweep};
 use std::io;
 use std::process::ExitCode;
 
 fn main(rt: HostRuntime) -> ExitCode {
-    let request = requested(&rt);
+    let request = read_request(&rt);
     let mut writer = io::writer(&rt);
     let mut errors = rt.stderr();
     let status = match request {

@@ -25,7 +25,7 @@ use sweep_core::sweep;
 const REFUSED: u8 = 5;
 
 // The line is made before it is written, so that one write can take it.
-fn tell<E: Write>(errors: &mut E, error: ProgramError) -> Result<(), WriteFault>
+fn write_error<E: Write>(errors: &mut E, error: ProgramError) -> Result<(), WriteFault>
     ensures ok { OnOk result
         (Appends (E.contents errors.old) (E.contents errors.new) (error_line error)) }
     ensures fault { OnErr result
@@ -37,30 +37,30 @@ fn tell<E: Write>(errors: &mut E, error: ProgramError) -> Result<(), WriteFault>
 }
 
 // Standard error may be closed or full. Then only the status reports the error.
-pub(crate) fn told<E: Write>(errors: &mut E, ended: Result<(), ProgramError>) -> u8
+pub(crate) fn report_error<E: Write>(errors: &mut E, ended: Result<(), ProgramError>) -> u8
     ensures { EndsAs ended result (E.contents errors.old) (E.contents errors.new) }
 {
     match ended {
         Ok(()) => 0,
         Err(error) => {
-            let _unseen = tell(errors, error);
+            let _unseen = write_error(errors, error);
             error.status()
         }
     }
 }
 
 // The same of a run, or of a text that is shown.
-fn run_told<E: Write>(errors: &mut E, ended: Result<(), RunError>) -> u8
+fn report_run_error<E: Write>(errors: &mut E, ended: Result<(), RunError>) -> u8
     ensures { EndsAs (by_run ended) result (E.contents errors.old) (E.contents errors.new) }
 {
     match ended {
-        Ok(()) => told(errors, Ok(())),
-        Err(error) => told(errors, Err(ProgramError::Run(error))),
+        Ok(()) => report_error(errors, Ok(())),
+        Err(error) => report_error(errors, Err(ProgramError::Run(error))),
     }
 }
 
 // The text of a race that goes through the free gate.
-fn raced<X: Threads + Wait + Sync>(
+fn run_race<X: Threads + Wait + Sync>(
     rt: &X,
     alloc: Global,
     workers: u32,
@@ -72,14 +72,13 @@ fn raced<X: Threads + Wait + Sync>(
     ensures bad_size { IsBadSize workers each → result ≡ Err (ProgramError.Race RaceError.BadSize) }
 {
     let report = race(rt, alloc, workers, each, &Free)?;
-    match report.to_string(alloc) {
-        Ok(text) => Ok(text),
-        Err(_) => Err(ProgramError::Run(RunError::NoMemory)),
-    }
+    report
+        .to_string(alloc)
+        .map_err(|_| ProgramError::Run(RunError::NoMemory))
 }
 
 // Nothing is written before the race has ended.
-fn hold_race<X: Threads + Wait + Sync, W: Write>(
+fn show_race<X: Threads + Wait + Sync, W: Write>(
     rt: &X,
     alloc: Global,
     workers: u32,
@@ -88,13 +87,13 @@ fn hold_race<X: Threads + Wait + Sync, W: Write>(
 ) -> Result<(), ProgramError>
     ensures { Races workers each result (W.contents writer.old) (W.contents writer.new) }
 {
-    let text = raced(rt, alloc, workers, each)?;
+    let text = run_race(rt, alloc, workers, each)?;
     show(writer, text.as_str())?;
     Ok(())
 }
 
 // The text of a sweep.
-fn swept<X: Threads + Sync>(
+fn run_sweep<X: Threads + Sync>(
     rt: &X,
     alloc: Global,
     seed: u64,
@@ -120,7 +119,7 @@ fn show_sweep<X: Threads + Sync, W: Write>(
     requires { IsSweep count len }
     ensures { Sweeps seed count len result (W.contents writer.old) (W.contents writer.new) }
 {
-    let text = swept(rt, alloc, seed, count, len)?;
+    let text = run_sweep(rt, alloc, seed, count, len)?;
     show(writer, text.as_str())
 }
 
@@ -169,15 +168,15 @@ pub fn serve<R: Read, W: Write, E: Write>(
         × Keeps (W.contents writer.old) (W.contents writer.new) }
 {
     match request {
-        Request::Play(Engine::Calls) => run_told(errors, run_calls(alloc, reader, writer)),
-        Request::Play(Engine::Steps) => run_told(errors, run_steps(alloc, reader, writer)),
+        Request::Play(Engine::Calls) => report_run_error(errors, run_calls(alloc, reader, writer)),
+        Request::Play(Engine::Steps) => report_run_error(errors, run_steps(alloc, reader, writer)),
         Request::Play(Engine::Counted) => {
-            run_told(errors, run_steps_counted(alloc, reader, writer))
+            report_run_error(errors, run_steps_counted(alloc, reader, writer))
         }
         Request::Race { .. } | Request::Sweep { .. } => unreachable!(),
-        Request::Show(text) => run_told(errors, show(writer, text)),
+        Request::Show(text) => report_run_error(errors, show(writer, text)),
         Request::Refuse(text) => refuse(errors, text),
-        Request::NoMemory => run_told(errors, Err(RunError::NoMemory)),
+        Request::NoMemory => report_run_error(errors, Err(RunError::NoMemory)),
     }
 }
 
@@ -194,7 +193,7 @@ pub fn serve_race<X: Threads + Wait + Sync, W: Write, E: Write>(
         × Races workers each ended (W.contents writer.old) (W.contents writer.new)
         × EndsAs ended result (E.contents errors.old) (E.contents errors.new) }
 {
-    told(errors, hold_race(rt, alloc, workers, each, writer))
+    report_error(errors, show_race(rt, alloc, workers, each, writer))
 }
 
 /// Sweeps schedules, and returns the exit status of the program.
@@ -212,5 +211,5 @@ pub fn serve_sweep<X: Threads + Sync, W: Write, E: Write>(
         × Sweeps seed count len ended (W.contents writer.old) (W.contents writer.new)
         × EndsAs (by_run ended) result (E.contents errors.old) (E.contents errors.new) }
 {
-    run_told(errors, show_sweep(rt, alloc, seed, count, len, writer))
+    report_run_error(errors, show_sweep(rt, alloc, seed, count, len, writer))
 }

@@ -8,7 +8,7 @@ use std::io::{ErrorKind, Read};
 
 // Why one read gave nothing.
 #[derive(Clone, Copy, PartialEq, Eq)]
-enum Stop {
+enum InputStop {
     Interrupted,
     Failed,
     NoMemory,
@@ -24,24 +24,24 @@ const MOST_INTERRUPTIONS: usize = 1_048_576;
 const CHUNK: usize = 65_536;
 
 // One read, whose bytes are appended.
-fn read_once<R: Read>(reader: &mut R, chunk: &mut [u8], bytes: &mut Vec<u8>) -> Result<usize, Stop>
+fn read_once<R: Read>(reader: &mut R, chunk: &mut [u8], bytes: &mut Vec<u8>) -> Result<usize, InputStop>
     ensures bound { IfOk result (λ n. n ≤ length chunk.old) }
     ensures appended { IfOk result (λ n. bytes.new.items ≡ bytes.old.items ++ take n chunk.new) }
     ensures consumed { IfOk result (λ n.
         Consumes (R.remaining reader.old) (R.remaining reader.new) (take n chunk.new)) }
     ensures end { IfOk result (λ n.
         n ≡ 0 → 0 < length chunk.old → IsAtEnd (R.remaining reader.new)) }
-    ensures interrupted { IsErrOf result Stop.Interrupted
+    ensures interrupted { IsErrOf result InputStop.Interrupted
         → Keeps (R.remaining reader.old) (R.remaining reader.new) }
-    ensures nothing { IsErrOf result Stop.Interrupted → bytes.new.items ≡ bytes.old.items }
+    ensures nothing { IsErrOf result InputStop.Interrupted → bytes.new.items ≡ bytes.old.items }
 {
     match reader.read(chunk) {
         Ok(n) => match bytes.extend_from_slice(&chunk[..n]) {
             Ok(()) => Ok(n),
-            Err(_) => Err(Stop::NoMemory),
+            Err(_) => Err(InputStop::NoMemory),
         },
-        Err(error) if error.kind() == ErrorKind::Interrupted => Err(Stop::Interrupted),
-        Err(_) => Err(Stop::Failed),
+        Err(error) if error.kind() == ErrorKind::Interrupted => Err(InputStop::Interrupted),
+        Err(_) => Err(InputStop::Failed),
     }
 }
 
@@ -63,9 +63,9 @@ fn read_up_to<R: Read>(
         match read_once(reader, &mut chunk[..room], &mut bytes) {
             Ok(0) => return Ok(bytes),
             Ok(_) => {}
-            Err(Stop::Interrupted) if patience > 1 => patience -= 1,
-            Err(Stop::Interrupted | Stop::Failed) => return Err(RunError::Read),
-            Err(Stop::NoMemory) => return Err(RunError::NoMemory),
+            Err(InputStop::Interrupted) if patience > 1 => patience -= 1,
+            Err(InputStop::Interrupted | InputStop::Failed) => return Err(RunError::Read),
+            Err(InputStop::NoMemory) => return Err(RunError::NoMemory),
         }
     }
     Ok(bytes)

@@ -11,7 +11,7 @@ use std::alloc::Global;
 use std::io::Read;
 
 // The script that the bytes are.
-pub(crate) fn script_in(alloc: Global, bytes: &[u8]) -> Result<Script, RunError>
+pub(crate) fn parse_script(alloc: Global, bytes: &[u8]) -> Result<Script, RunError>
     ensures read { IfOk result (λ s. script_of bytes.now ≡ Ok s) }
     ensures script { (fault : ScriptError) → result ≡ Err (RunError.Script fault)
         → (fault ≢ ScriptError.NoMemory) × (script_of bytes.now ≡ Err fault) }
@@ -36,6 +36,7 @@ pub(crate) fn read_script<R: Read>(alloc: Global, reader: &mut R) -> Result<Scri
     ensures playable { IfOk result (λ s. IsPlayable s) }
 {
     let bytes = read_input(alloc, reader)?;
+    // For the proof: one byte more than a script may have is enough to read.
     long_texts();
-    script_in(alloc, &bytes)
+    parse_script(alloc, &bytes)
 }

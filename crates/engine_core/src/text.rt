@@ -20,28 +20,19 @@ use step_core::Played;
 fn push_answer(text: &mut Vec<u8>, name: u8, ended: &Ended) -> Result<(), AllocError>
     ensures { OnOk result (text.new.items ≡ text.old.items ++ answer_line name ended.now) }
 {
-    match write_reply(text, name, ended) {
-        Ok(()) => Ok(()),
-        Err(_) => Err(AllocError),
-    }
+    write_reply(text, name, ended).map_err(|_| AllocError)
 }
 
 fn push_cells(text: &mut Vec<u8>, cells: &[Cell]) -> Result<(), AllocError>
     ensures { OnOk result (text.new.items ≡ text.old.items ++ cells_line cells.now) }
 {
-    match write_cells(text, cells) {
-        Ok(()) => Ok(()),
-        Err(_) => Err(AllocError),
-    }
+    write_cells(text, cells).map_err(|_| AllocError)
 }
 
 fn push_work(text: &mut Vec<u8>, name: u8, work: &Work) -> Result<(), AllocError>
     ensures { OnOk result (text.new.items ≡ text.old.items ++ work_line name work.now) }
 {
-    match write_work(text, name, work) {
-        Ok(()) => Ok(()),
-        Err(_) => Err(AllocError),
-    }
+    write_work(text, name, work).map_err(|_| AllocError)
 }
 
 // The lines of what the calls of actors with these letters took.
@@ -56,7 +47,7 @@ fn push_works(text: &mut Vec<u8>, names: &[u8], works: &[Work]) -> Result<(), Al
 }
 
 // The engine's text for a play whose actors have these letters.
-fn whole_text(
+fn make_text(
     alloc: Global,
     engine: Engine,
     names: &[u8],
@@ -112,7 +103,7 @@ pub(crate) fn write_play<W: Write>(
         (e ≡ RunError.NoMemory × Keeps (W.contents writer.old) (W.contents writer.new))
         ⊎ (e ≡ RunError.Write)) }
 {
-    let text = whole_text(alloc, engine, names, played)?;
+    let text = make_text(alloc, engine, names, played)?;
     write_output(writer, &text)?;
     Ok(())
 }

@@ -15,7 +15,7 @@ use Rattle.cell_core.specs.Slot.{Names}
 use Rattle.table_core.specs.Table.{TableView, KeyView, IsKeyOf, IsBlockOf}
 use Rattle.grow_core.specs.Keys.{KeyRow, IsKeyAt, key_at, mark_of}
 use Rattle.grow_core.specs.Token.{place_in}
-use Rattle.grow_core.specs.Parts.{AreMembers, AreWhole, AreShutIn, IsShutIn, values_in}
+use Rattle.grow_core.specs.Parts.{AreMembers, AreWhole, AreBrokenIn, IsBrokenIn, values_in}
 
 -- a segment that does not come later begins no later
 pub starts_le : (f j k : ℕ) → j ≤ k → segment_start f j ≤ segment_start f k
@@ -72,26 +72,26 @@ values_set (h ∷ known) zero m = refl
 values_set (h ∷ known) (suc i) m = ap (λ xs. h.value ∷ xs) (values_set known i m)
 
 -- members that are broken for an epoch stay so when one is added, removed or replaced
-pub shut_more : {T : Type 0} (epoch : Lft) (known : List (MemberView T)) (m : MemberView T) → AreShutIn epoch known → IsShutIn epoch m
-    → AreShutIn epoch (known ++ m ∷ [])
-shut_more epoch [] m all is = (is, tt)
-shut_more epoch (h ∷ known) m all is = (all.0, shut_more epoch known m all.1 is)
+pub broken_more : {T : Type 0} (epoch : Lft) (known : List (MemberView T)) (m : MemberView T) → AreBrokenIn epoch known → IsBrokenIn epoch m
+    → AreBrokenIn epoch (known ++ m ∷ [])
+broken_more epoch [] m all is = (is, tt)
+broken_more epoch (h ∷ known) m all is = (all.0, broken_more epoch known m all.1 is)
 
-pub shut_fewer : {T : Type 0} (epoch : Lft) (known : List (MemberView T)) (m : MemberView T) → AreShutIn epoch (known ++ m ∷ []) → AreShutIn epoch known
-shut_fewer epoch [] m all = tt
-shut_fewer epoch (h ∷ known) m all = (all.0, shut_fewer epoch known m all.1)
+pub broken_fewer : {T : Type 0} (epoch : Lft) (known : List (MemberView T)) (m : MemberView T) → AreBrokenIn epoch (known ++ m ∷ []) → AreBrokenIn epoch known
+broken_fewer epoch [] m all = tt
+broken_fewer epoch (h ∷ known) m all = (all.0, broken_fewer epoch known m all.1)
 
-pub shut_set : {T : Type 0} (epoch : Lft) (known : List (MemberView T)) (i : ℕ) (m : MemberView T) → AreShutIn epoch known → IsShutIn epoch m
-    → AreShutIn epoch (slice_set known i m)
-shut_set epoch [] i m all is = tt
-shut_set epoch (h ∷ known) zero m all is = (is, all.1)
-shut_set epoch (h ∷ known) (suc i) m all is = (all.0, shut_set epoch known i m all.1 is)
+pub broken_set : {T : Type 0} (epoch : Lft) (known : List (MemberView T)) (i : ℕ) (m : MemberView T) → AreBrokenIn epoch known → IsBrokenIn epoch m
+    → AreBrokenIn epoch (slice_set known i m)
+broken_set epoch [] i m all is = tt
+broken_set epoch (h ∷ known) zero m all is = (is, all.1)
+broken_set epoch (h ∷ known) (suc i) m all is = (all.0, broken_set epoch known i m all.1 is)
 
-pub shut_at : {T : Type 0} (epoch : Lft) (known : List (MemberView T)) (i : ℕ) (m : MemberView T) → AreShutIn epoch known → slice_get known i ≡ Some m
-    → IsShutIn epoch m
-shut_at epoch [] i m all is = absurd (let z = is in cc)
-shut_at epoch (h ∷ known) zero m all is = let same : h ≡ m = (let z = is in cc) in subst (IsShutIn epoch) same all.0
-shut_at epoch (h ∷ known) (suc i) m all is = shut_at epoch known i m all.1 is
+pub broken_at : {T : Type 0} (epoch : Lft) (known : List (MemberView T)) (i : ℕ) (m : MemberView T) → AreBrokenIn epoch known → slice_get known i ≡ Some m
+    → IsBrokenIn epoch m
+broken_at epoch [] i m all is = absurd (let z = is in cc)
+broken_at epoch (h ∷ known) zero m all is = let same : h ≡ m = (let z = is in cc) in subst (IsBrokenIn epoch) same all.0
+broken_at epoch (h ∷ known) (suc i) m all is = broken_at epoch known i m all.1 is
 
 -- a place with a member is one of the list
 pub within_length : {X : Type 0} (xs : List X) (i : ℕ) (x : X) → slice_get xs i ≡ Some x → i < length xs

@@ -16,7 +16,7 @@ use Rattle.cell_core.specs.Member.{MemberView, HasNames}
 use Rattle.table_core.specs.Table.{KeyView, IsBlockOf}
 use Rattle.grow_core.specs.Keys.{KeyRow, IsKeyAt, AreKeys, HasKeysOfPlaces, key_at, mark_of, layout_in, names_in}
 use Rattle.grow_core.specs.Token.{PlacedView, place_in}
-use Rattle.grow_core.specs.Parts.{AreLong, AreMembers, AreWhole, HasFirstKeys, AreShutIn, values_in}
+use Rattle.grow_core.specs.Parts.{AreLong, AreMembers, AreWhole, HasFirstKeys, AreBrokenIn, values_in}
 use Rattle.grow_core.specs.Vector.{VectorView, IsPlacedOf, layout_of}
 use Rattle.grow_core.specs.Closing.{IsClosing, IsKept, IsKeptOf, KeepsValuesBelow}
 use Rattle.grow_core.proofs.Places.{value_at, pushed_there, pushed_elsewhere, within_length, kept_at, segment_below, all_places}
@@ -67,20 +67,20 @@ kept_of f closed mark before names row known count is kept = subst (λ (c : Opti
 
 -- the cell of a token at a place that lies there
 pub token_cell : {T : Type 0} (f : ℕ) → OnePlace → (segment offset : ℕ) (vector : VectorView T) (placed : PlacedView T) → layout_of vector ≡ f → IsPlacedOf vector placed
-    → place_in f segment offset ≡ placed.place → placed.place < segment_end f segment → (placed.key.entry ≡ segment) × (placed.cell.place ≡ offset)
+    → place_in f segment offset ≡ placed.place → placed.place < segment_end f segment → (placed.key.segment ≡ segment) × (placed.cell.offset ≡ offset)
 token_cell f law segment offset vector placed same of here within =
-    let long = subst (λ (l : ℕ). IsBlockOf l placed.key.entry placed.key.block) same of.long in let inside = of.cell.within in
-    let at = of.place ∙ ap (λ (l : ℕ). place_in l placed.key.entry placed.cell.place) same in
-    law f placed.key.entry segment placed.cell.place offset (omega (arith, long, inside)) (omega (arith, here, within)) (sym at ∙ sym here)
+    let long = subst (λ (l : ℕ). IsBlockOf l placed.key.segment placed.key.block) same of.long in let inside = of.cell.within in
+    let at = of.place ∙ ap (λ (l : ℕ). place_in l placed.key.segment placed.cell.offset) same in
+    law f placed.key.segment segment placed.cell.offset offset (omega (arith, long, inside)) (omega (arith, here, within)) (sym at ∙ sym here)
 
 module _ {T : Type 0} (f : ℕ) (mark : List ℕ) (before : KeyRow) (names : List ℕ) (row : KeyRow) (known : List (MemberView T)) (count : ℕ) (kept : IsKeptOf f mark before names row known count) where
   -- the name of a member is that of the token of its place
   pub name_of_token : (segment offset : ℕ) (old : KeyView) (vector : VectorView T) (placed : PlacedView T) (m : MemberView T) → segment < 40 → key_at before segment ≡ Some old
-      → place_in f segment offset ≡ placed.place → placed.place < segment_end f segment → placed.cell.place ≡ offset → old.block ≡ placed.key.block → IsPlacedOf vector placed
+      → place_in f segment offset ≡ placed.place → placed.place < segment_end f segment → placed.cell.offset ≡ offset → old.block ≡ placed.key.block → IsPlacedOf vector placed
       → slice_get known placed.place ≡ Some m → m.name ≡ placed.cell.name
   name_of_token segment offset old vector placed m small at here within cell same of is =
       kept.of segment offset old m small at (subst (λ (p : ℕ). p < segment_end f segment) (sym here) within) (ap (slice_get known) here ∙ is)
-      ∙ (λ i. (cell_at (same i) (sym cell i)).value) ∙ sym of.cell.named
+      ∙ (λ i. (cell_at (same i) (sym cell i)).value_name) ∙ sym of.cell.named
 
   module _ (segment offset : ℕ) (old key : KeyView) (small : segment < 40) (first : segment < count) (has : key_at before segment ≡ Some old) (has' : key_at row segment ≡ Some key) (here : length known ≡ place_in f segment offset) where
     -- the next cell is the one that it was
@@ -98,7 +98,7 @@ module _ {T : Type 0} (f : ℕ) (mark : List ℕ) (before : KeyRow) (names : Lis
 
     -- the next place is a member
     pub kept_settled : (names' : List ℕ) (key' : KeyView) (m : MemberView T) → length row ≡ 40 → place_in f segment offset < segment_end f segment
-        → ((j : ℕ) → j ≢ segment → slice_index names' j ≡ slice_index names j) → m.name ≡ (cell_at key.block offset).value → KeepsOtherCells key.block key'.block offset
+        → ((j : ℕ) → j ≢ segment → slice_index names' j ≡ slice_index names j) → m.name ≡ (cell_at key.block offset).value_name → KeepsOtherCells key.block key'.block offset
         → IsKeptOf f mark before names' (slice_set row segment (Some key')) (known ++ m ∷ []) count
     kept_settled names' key' m rows inside others name cells =
         let row' : KeyRow = slice_set row segment (Some key') in
@@ -116,7 +116,7 @@ module _ {T : Type 0} (f : ℕ) (mark : List ℕ) (before : KeyRow) (names : Lis
               let seg : s ≡ segment = one_segment f s segment (place_in f s o) (record { from = omega arith; before = within }) (record { from = omega (arith, e); before = subst (λ (p : ℕ). p < segment_end f segment) (sym e) inside }) in
               let off : o ≡ offset = (let starts = ap (segment_start f) seg in omega (arith, e, starts)) in
               let key_is : Some k ≡ Some old = sym at ∙ ap (key_at before) seg ∙ has in let old_is : k ≡ old = (let z = key_is in cc) in
-              ap (λ (u : MemberView T). u.name) (sym one) ∙ name ∙ ap (λ c. c.value) same_cell_still ∙ (λ i. (cell_at (sym old_is i).block (sym off i)).value))
+              ap (λ (u : MemberView T). u.name) (sym one) ∙ name ∙ ap (λ c. c.value_name) same_cell_still ∙ (λ i. (cell_at (sym old_is i).block (sym off i)).value_name))
               (λ other. kept.of s o k n low at within (sym (pushed_elsewhere known m (place_in f s o) other) ∙ is));
           later = λ s o a b low at at' past. dite (ℕ_discrete s segment)
               (λ same. let new_is : Some b ≡ Some key' = sym at' ∙ ap (key_at row') same ∙ is_there in let b_is : b ≡ key' = (let z = new_is in cc) in
@@ -160,9 +160,9 @@ values_more {T} opened known base k m all is kept values p x below there =
 
 -- what is known of a cell where the opened list has a value is what a token of it says
 pub opened_is : {T : Type 0} (block : BlockView) (offset : ℕ) (m : MemberView T) (name : ℕ) (value x : T) → IsMemberAt block offset m → m.value ≡ Some x
-    → name ≡ (cell_at block offset).value → (m.name ≡ name → m.value ≡ Some value) → value ≡ x
+    → name ≡ (cell_at block offset).value_name → (m.name ≡ name → m.value ≡ Some value) → value ≡ x
 opened_is block offset m name value x known is named agree =
-    let same : m.name ≡ (cell_at block offset).value = subst (λ v. HasNames (cell_at block offset) v m.name m.epoch) is known.known in
+    let same : m.name ≡ (cell_at block offset).value_name = subst (λ v. HasNames (cell_at block offset) v m.name m.epoch) is known.known in
     let both : Some value ≡ Some x = sym (agree (same ∙ sym named)) ∙ is in let z : value ≡ x = (let w = both in cc) in z
 
 module _ {T : Type 0} (f : ℕ) (law : OnePlace) (vector : VectorView T) (placed : PlacedView T) (of : IsPlacedOf vector placed) (closed : Option (List ℕ)) (before : KeyRow) (names : List ℕ) (row : KeyRow) (known : List (MemberView T)) (count : ℕ)
@@ -171,7 +171,7 @@ module _ {T : Type 0} (f : ℕ) (law : OnePlace) (vector : VectorView T) (placed
   abbrev the : IsKeptOf f (mark_of vector.segments) before names row known count
   the = kept_of f closed (mark_of vector.segments) before names row known count is kept
 
-  abbrev cell : (placed.key.entry ≡ segment) × (placed.cell.place ≡ offset)
+  abbrev cell : (placed.key.segment ≡ segment) × (placed.cell.offset ≡ offset)
   cell = token_cell f law segment offset vector placed the.layout of here within
 
   -- the key of the segment of a token, as it was before, has the name of the token's key
@@ -226,7 +226,7 @@ closing_starts {T} f mark names opened own before again row none epoch base limi
         there = λ s low. subst IsSome (sym (twice s (omega (arith, low, few, small)))) (there s low);
         of = λ s o k m low at inside is. absurd (gone (place_in f s o) m is);
       };
-      shut = subst (AreShutIn epoch) (sym empty) tt;
+      broken = subst (AreBrokenIn epoch) (sym empty) tt;
       kept = record {
         layout = ap layout_in same;
         named = subst (λ (xs : List ℕ). AreKeys xs before) (sym same) named;

@@ -2,7 +2,7 @@
 use Rattle.std.proofs.Common.{◌≡◌, ℕ, ◌+◌, ◌<◌, ◌≤◌, List, length, refl, sym, ap, ◌∙◌, subst, arith}
 use Rattle.claim_core.specs.declared.run.Run.{Run}
 use Rattle.claim_core.specs.Hand.{HandView, AddsRun, OwnsRun, seen_size}
-use Rattle.grow_core.specs.declared.claims.Claimed.{Claimed}
+use Rattle.grow_core.specs.declared.claim.Claimed.{Claimed}
 use Rattle.grow_core.specs.declared.errors.GrowError.{GrowError}
 use Rattle.grow_core.specs.declared.errors.GrowError.TheVariants.{NoMemory, Full, Moved, Refused, Taken}
 use Rattle.grow_core.specs.Vector.{VectorView}

@@ -4,10 +4,10 @@ use Rattle.claim_core.specs.Hand.{HandView, SeesSize, seen_size}
 use Rattle.grow_core.specs.declared.token.Found.{Found}
 use Rattle.grow_core.specs.declared.errors.GrowError.{GrowError}
 use Rattle.grow_core.specs.declared.errors.GrowError.TheVariants.{NoMemory, Full, Moved, Refused, Taken}
-use Rattle.grow_core.specs.declared.raises.AtLeast.{AtLeast}
-use Rattle.grow_core.specs.declared.raises.AtLeast.TheVariants.{Ran, Enough}
-use Rattle.grow_core.specs.declared.raises.Reached.{Reached}
-use Rattle.grow_core.specs.declared.raises.Reached.TheVariants as reached
+use Rattle.grow_core.specs.declared.grow_to_at_least.AtLeast.{AtLeast}
+use Rattle.grow_core.specs.declared.grow_to_at_least.AtLeast.TheVariants.{Ran, Enough}
+use Rattle.grow_core.specs.declared.grow_to_at_least.Reached.{Reached}
+use Rattle.grow_core.specs.declared.grow_to_at_least.Reached.TheVariants as reached
 use Rattle.grow_core.specs.Vector.{VectorView, SeesMore, limit_of}
 use Rattle.grow_core.specs.Growth.{KeepsMade, LosesPlace}
 use Rattle.grow_core.specs.Grown.{values_of}

@@ -9,7 +9,7 @@ use Rattle.cell_core.specs.Member.{MemberView}
 use Rattle.table_core.specs.Table.{KeyView}
 use Rattle.grow_core.specs.Keys.{KeyRow, AreKeys, key_at, mark_of, layout_in, names_in}
 use Rattle.grow_core.specs.Token.{PlacedView, place_in}
-use Rattle.grow_core.specs.Parts.{AreLong, AreMembers, AreWhole, HasFirstKeys, AreShutIn, values_in}
+use Rattle.grow_core.specs.Parts.{AreLong, AreMembers, AreWhole, HasFirstKeys, AreBrokenIn, values_in}
 use Rattle.grow_core.specs.Vector.{VectorView, IsPlacedOf}
 
 -- the list, by what is known of it, was closed from the vector, and is as it was then
@@ -33,7 +33,7 @@ pub record IsKeptOf {T : Type 0} (f : ℕ) (mark : List ℕ) (before : KeyRow) (
   pub long : AreLong f before
   pub there : HasFirstKeys before count
   pub of : (segment offset : ℕ) (key : KeyView) (m : MemberView T) → segment < 40 → key_at before segment ≡ Some key
-      → place_in f segment offset < segment_end f segment → slice_get known (place_in f segment offset) ≡ Some m → m.name ≡ (cell_at key.block offset).value
+      → place_in f segment offset < segment_end f segment → slice_get known (place_in f segment offset) ≡ Some m → m.name ≡ (cell_at key.block offset).value_name
   pub later : (segment offset : ℕ) (old new : KeyView) → segment < 40 → key_at before segment ≡ Some old → key_at row segment ≡ Some new
       → length known ≤ place_in f segment offset → cell_at new.block offset ≡ cell_at old.block offset
   pub after : (segment : ℕ) → segment < 40 → count ≤ segment → slice_index names segment ≡ slice_index (names_in mark) segment
@@ -66,7 +66,7 @@ KeepsValuesBelow {T} n old new = (place : ℕ) (x : T) → place < n → slice_g
 -- what holds while a vector is being closed
 pub record IsClosing {T : Type 0} (f : ℕ) (mark : List ℕ) (before : KeyRow) (names : List ℕ) (row : KeyRow) (opened known : List (MemberView T)) (epoch : Lft) (base len limit count size : ℕ) : Type 0 where
   pub whole : AreWhole f names row known len limit count
-  pub shut : AreShutIn epoch known
+  pub broken : AreBrokenIn epoch known
   pub kept : IsKeptOf f mark before names row known count
   pub first : AreMembers f before opened
   pub all : length opened ≡ base

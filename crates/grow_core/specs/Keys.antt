@@ -29,7 +29,7 @@ names_in (f ∷ names) = names
 -- the key is that of the segment, among the segments with this mark
 pub record IsKeyAt (mark : List ℕ) (segment : ℕ) (key : KeyView) : Type 0 where
   pub layout : key.layout ≡ layout_in mark
-  pub at : key.entry ≡ segment
+  pub at : key.segment ≡ segment
   pub within : segment < segment_count (layout_in mark)
   pub named : slice_index (names_in mark) segment ≡ key.name
 

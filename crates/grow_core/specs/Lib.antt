@@ -10,7 +10,7 @@ pub mod Published
 pub mod Growth
 pub mod Making
 pub mod AtLeast
-pub mod Part
+pub mod Segment
 pub mod Errors
 pub use Rattle.claim_core.specs.Hand
 pub use Rattle.claim_core.specs.Lengths

@@ -3,7 +3,7 @@ use Rattle.std.specs.Prelude.{◌≡◌, ℕ, ◌+◌, ◌<◌, ◌≤◌, List,
 use Rattle.std.specs.List.{FoldsTo}
 use Rattle.claim_core.specs.declared.run.Run.{Run}
 use Rattle.claim_core.specs.Hand.{HandView, OwnsRun, IsWholeHand, seen_size}
-use Rattle.grow_core.specs.declared.claims.Claimed.{Claimed}
+use Rattle.grow_core.specs.declared.claim.Claimed.{Claimed}
 use Rattle.grow_core.specs.declared.token.Found.{Found}
 use Rattle.grow_core.specs.declared.errors.GrowError.{GrowError}
 use Rattle.grow_core.specs.declared.errors.GrowError.TheVariants.{Refused, Taken}

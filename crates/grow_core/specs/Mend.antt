@@ -34,8 +34,8 @@ TellsValue x other = ⊥
 -- the right to write the place, which was broken, with the key of its segment
 pub record IsTakenAt (segments : TableView) (place : ℕ) (taken : KeyView × PenView) : Type 0 where
   pub key : IsKeyIn segments taken.0
-  pub long : IsBlockOf segments.layout taken.0.entry taken.0.block
-  pub within : taken.1.place < block_len taken.0.block
-  pub pen : IsPenAt taken.0.block taken.1.place taken.1
+  pub long : IsBlockOf segments.layout taken.0.segment taken.0.block
+  pub within : taken.1.offset < block_len taken.0.block
+  pub pen : IsPenAt taken.0.block taken.1.offset taken.1
   pub broken : IsMending taken.1
-  pub here : place ≡ place_in segments.layout taken.0.entry taken.1.place
+  pub here : place ≡ place_in segments.layout taken.0.segment taken.1.offset

@@ -54,13 +54,13 @@ AreMembers {T} f row known =
     → place_in f segment offset < segment_end f segment → slice_get known (place_in f segment offset) ≡ Some m → IsMemberAt key.block offset m
 
 -- a member without a value is broken for as long as this epoch lasts
-abbrev pub IsShutIn : {T : Type 0} → Lft → MemberView T → Type 0
-IsShutIn epoch m = m.value ≡ None → m.epoch ≡ epoch
+abbrev pub IsBrokenIn : {T : Type 0} → Lft → MemberView T → Type 0
+IsBrokenIn epoch m = m.value ≡ None → m.epoch ≡ epoch
 
 -- so it is of each of these members
-abbrev pub AreShutIn : {T : Type 0} → Lft → List (MemberView T) → Type 0
-AreShutIn epoch [] = Unit {0}
-AreShutIn epoch (m ∷ known) = IsShutIn epoch m × AreShutIn epoch known
+abbrev pub AreBrokenIn : {T : Type 0} → Lft → List (MemberView T) → Type 0
+AreBrokenIn epoch [] = Unit {0}
+AreBrokenIn epoch (m ∷ known) = IsBrokenIn epoch m × AreBrokenIn epoch known
 
 -- what holds of the parts of a vector at all times
 pub record AreWhole {T : Type 0} (f : ℕ) (names : List ℕ) (row : KeyRow) (known : List (MemberView T)) (len limit count : ℕ) : Type 0 where

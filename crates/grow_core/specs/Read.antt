@@ -3,9 +3,9 @@ use Rattle.std.specs.Prelude.{◌≡◌, ℕ, ◌<◌, ◌≤◌}
 use Rattle.claim_core.specs.Hand.{HandView, SeesSize, seen_size}
 use Rattle.grow_core.specs.declared.errors.AtError.{AtError}
 use Rattle.grow_core.specs.declared.errors.AtError.TheVariants.{OutOfRange, Pending, Broken}
-use Rattle.grow_core.specs.declared.reads.At.{At}
-use Rattle.grow_core.specs.declared.reads.Shown.{Shown}
-use Rattle.grow_core.specs.declared.reads.Shown.TheVariants as shown
+use Rattle.grow_core.specs.declared.read.At.{At}
+use Rattle.grow_core.specs.declared.read.Shown.{Shown}
+use Rattle.grow_core.specs.declared.read.Shown.TheVariants as shown
 use Rattle.grow_core.specs.Vector.{VectorView, IsPlacedOf, IsSpoiltOf}
 
 -- the value is that of the token, which is of this place of the vector
@@ -16,7 +16,7 @@ pub record IsAt {T : Type 0} (vector : VectorView T) (place : ℕ) (at : At T) :
 
 -- what a place of the vector shows
 abbrev pub IsShownAt : {T : Type 0} → VectorView T → ℕ → Shown T → Type 0
-IsShownAt vector place shown.NotYet = Unit {0}
+IsShownAt vector place shown.Pending = Unit {0}
 IsShownAt vector place (shown.Filled at) = IsAt vector place at
 IsShownAt vector place (shown.Broken spoilt) = IsSpoiltOf vector spoilt × (spoilt.place ≡ place)
 

@@ -25,8 +25,8 @@ pub record SpoiltView : Type 0 where
 
 abbrev pub spoilt_coded : Coded SpoiltView
 spoilt_coded =
-    coded_via (coded× coded_ℕ (coded× key_coded (coded× coded_ℕ coded_ℕ))) (λ (s : SpoiltView). (s.place, (s.key, (s.cell.place, s.cell.name))))
-    (λ x y e i. record { place = (e i).0; key = (e i).1.0; cell = record { place = (e i).1.1.0; name = (e i).1.1.1 } })
+    coded_via (coded× coded_ℕ (coded× key_coded (coded× coded_ℕ coded_ℕ))) (λ (s : SpoiltView). (s.place, (s.key, (s.cell.offset, s.cell.name))))
+    (λ x y e i. record { place = (e i).0; key = (e i).1.0; cell = record { offset = (e i).1.1.0; name = (e i).1.1.1 } })
 
 -- the token of a place that another caller began: the place, the key of its segment, and its cell there
 pub record BegunView : Type 0 where
@@ -44,13 +44,13 @@ place_in f segment offset = segment_start f segment + offset
 
 -- the token that a key and a cell's token are together
 abbrev pub placed_view : {T : Type 0} → KeyView → block.PlacedView T → PlacedView T
-placed_view key cell = record { place = place_in key.layout key.entry cell.place; value = cell.value; key = key; cell = cell }
+placed_view key cell = record { offset = place_in key.layout key.segment cell.offset; value = cell.value; key = key; cell = cell }
 
 abbrev pub spoilt_view : KeyView → block.SpoiltView → SpoiltView
-spoilt_view key cell = record { place = place_in key.layout key.entry cell.place; key = key; cell = cell }
+spoilt_view key cell = record { offset = place_in key.layout key.segment cell.offset; key = key; cell = cell }
 
 abbrev pub begun_view : KeyView → block.BegunView → BegunView
-begun_view key cell = record { place = place_in key.layout key.entry cell.place; key = key; cell = cell }
+begun_view key cell = record { offset = place_in key.layout key.segment cell.offset; key = key; cell = cell }
 
 -- the numbers of a segment of a layout and of a cell there
 pub record AreSmall (f segment offset : ℕ) : Type 0 where

@@ -10,7 +10,7 @@ use Rattle.cell_core.specs.Block.{IsPlacedIn, IsSpoiltIn, IsBegunIn}
 use Rattle.cell_core.specs.Member.{MemberView}
 use Rattle.table_core.specs.Table.{TableView, table_coded, IsKeyIn, IsBlockOf}
 use Rattle.grow_core.specs.Keys.{KeyRow, mark_of}
-use Rattle.grow_core.specs.Parts.{AreWhole, AreShutIn}
+use Rattle.grow_core.specs.Parts.{AreWhole, AreBrokenIn}
 use Rattle.grow_core.specs.Token.{PlacedView, SpoiltView, BegunView, place_in}
 
 -- which vector it is: its claim word, with its limit and its base, and its segments; and the list that it was
@@ -47,7 +47,7 @@ IsOpenedAt vector place x = slice_get vector.opened place ≡ Some (Some x)
 -- the names of the segments
 pub record IsShared {T : Type 0} (word : WordView) (segments : TableView) (keys : KeyRow) (known : List (MemberView T)) (ended : Lft) (count : ℕ) : Type 0 where
   pub whole : AreWhole segments.layout segments.names keys known word.base word.limit count
-  pub shut : AreShutIn ended known
+  pub broken : AreBrokenIn ended known
   pub mark : word.mark ≡ mark_of segments
 
 -- the hand belongs to the vector
@@ -57,24 +57,24 @@ IsHandOf vector hand = hand.of ≡ vector.word
 -- the token belongs to the vector: its cell is one of the segment whose key it has
 pub record IsPlacedOf {T : Type 0} (vector : VectorView T) (placed : PlacedView T) : Type 0 where
   pub key : IsKeyIn vector.segments placed.key
-  pub long : IsBlockOf (layout_of vector) placed.key.entry placed.key.block
+  pub long : IsBlockOf (layout_of vector) placed.key.segment placed.key.block
   pub cell : IsPlacedIn placed.key.block placed.cell
-  pub place : placed.place ≡ place_in (layout_of vector) placed.key.entry placed.cell.place
+  pub place : placed.place ≡ place_in (layout_of vector) placed.key.segment placed.cell.offset
   pub value : placed.value ≡ placed.cell.value
 
 -- the same for the token of a broken place
 pub record IsSpoiltOf {T : Type 0} (vector : VectorView T) (spoilt : SpoiltView) : Type 0 where
   pub key : IsKeyIn vector.segments spoilt.key
-  pub long : IsBlockOf (layout_of vector) spoilt.key.entry spoilt.key.block
+  pub long : IsBlockOf (layout_of vector) spoilt.key.segment spoilt.key.block
   pub cell : IsSpoiltIn spoilt.key.block spoilt.cell
-  pub place : spoilt.place ≡ place_in (layout_of vector) spoilt.key.entry spoilt.cell.place
+  pub place : spoilt.place ≡ place_in (layout_of vector) spoilt.key.segment spoilt.cell.offset
 
 -- the same for the token of a place that another caller began
 pub record IsBegunOf {T : Type 0} (vector : VectorView T) (begun : BegunView) : Type 0 where
   pub key : IsKeyIn vector.segments begun.key
-  pub long : IsBlockOf (layout_of vector) begun.key.entry begun.key.block
+  pub long : IsBlockOf (layout_of vector) begun.key.segment begun.key.block
   pub cell : IsBegunIn begun.key.block begun.cell
-  pub place : begun.place ≡ place_in (layout_of vector) begun.key.entry begun.cell.place
+  pub place : begun.place ≡ place_in (layout_of vector) begun.key.segment begun.cell.offset
 
 -- the hand may have seen more, and nothing else of it has changed
 pub record SeesMore (old new : HandView) : Type 0 where

@@ -5,7 +5,7 @@ ghost use Rattle.cell_core.specs.Block.{block_len, cell_at, IsMemberAt, KeepsOth
 ghost use Rattle.seg_core.specs.Segment.{IsLayout, segment_count};
 ghost use Rattle.table_core.specs.Table.{IsBlockOf};
 ghost use Rattle.grow_core.specs.Keys.{IsKeyAt, AreKeys, key_at, mark_of};
-ghost use Rattle.grow_core.specs.Parts.{AreLong, HasFirstKeys, IsShutIn};
+ghost use Rattle.grow_core.specs.Parts.{AreLong, HasFirstKeys, IsBrokenIn};
 ghost use Rattle.grow_core.specs.Vector.{IsHandOf, layout_of, limit_of};
 ghost use Rattle.grow_core.specs.Closing.{IsClosedFrom, KeepsValues};
 
@@ -78,9 +78,9 @@ fn settle<T>(
     requires within { offset < block_len block.old }
     requires known { IfSome known.now (IsMemberAt block.old offset) }
     ensures member { IsMemberAt block.new offset result }
-    ensures name { result.name ≡ (cell_at block.old offset).value }
+    ensures name { result.name ≡ (cell_at block.old offset).value_name }
     ensures kept { IfSome known.now (λ k. k.value ≢ None → result.value ≡ k.value) }
-    ensures shut { IsShutIn epoch.now result }
+    ensures broken { IsBrokenIn epoch.now result }
     ensures len { block_len block.new ≡ block_len block.old }
     ensures others { KeepsOtherCells block.old block.new offset }
 {
@@ -213,7 +213,7 @@ impl<T: Drop> Closing<T> {
     }
 
     // The list.
-    fn end(self) -> Parts<T>
+    fn into_parts(self) -> Parts<T>
         requires { length self.members ≡ self.size }
         ensures length { length result.members ≡ self.size }
         ensures limit { result.limit ≡ self.limit }
@@ -266,6 +266,6 @@ impl<T: Drop> Shared<T> {
         while closing.is_open() {
             closing.settle_next();
         }
-        closing.end()
+        closing.into_parts()
     }
 }

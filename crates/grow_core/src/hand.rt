@@ -12,6 +12,7 @@ use std::fmt;
 use std::marker::{Model, PhantomData};
 use table_core::Key;
 
+// The `Hand` of `claim_core`, with the keys of its runs' segments.
 /// A caller's knowledge of the vector's size, and its shares. Closing needs all shares, so once a hand is
 /// dropped the vector can only be dropped.
 #[derive(Drop)]

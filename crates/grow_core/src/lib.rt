@@ -20,34 +20,35 @@
 //! members (`specs/Parts.antt`): exactly what was appended is read, and moved out.
 #![tactic(auto)]
 
-mod claims;
+mod claim;
 mod close;
 mod errors;
+mod fill;
+mod grow_to_at_least;
+mod grow_vec;
+mod grow_with;
 mod grown;
-mod grows;
 mod hand;
 mod keys;
 pub mod makers;
-mod makes;
-mod mends;
+mod mend;
 mod open;
 mod parts;
 mod published;
-mod pushes;
-mod raises;
-mod reads;
+mod push;
+mod read;
 mod recall;
-mod shares;
+mod split_and_join;
 mod token;
 mod vector;
 
 pub use claim_core::{OpenError, Run, laws};
 pub use errors::{AtError, GrowError, MendError, Never};
+pub use grow_to_at_least::AtLeast;
 pub use grown::Grown;
 pub use hand::Hand;
 pub use parts::Parts;
 pub use published::Published;
-pub use raises::AtLeast;
-pub use reads::{At, Shown};
-pub use token::{Begun, Found, Placed, Spoilt};
+pub use read::{At, Shown};
+pub use token::{BegunPlace, Found, Placed, Spoilt};
 pub use vector::Shared;

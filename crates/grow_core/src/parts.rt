@@ -4,7 +4,7 @@ ghost use Rattle.seg_core.specs.Segment.{IsLimit, segment_start, segment_end, se
 ghost use Rattle.cell_core.specs.Block.{block_len, IsMemberAt, KeepsOtherCells};
 ghost use Rattle.grow_core.specs.Keys.{key_at};
 ghost use Rattle.grow_core.specs.Token.{place_in};
-ghost use Rattle.grow_core.specs.Parts.{HasFirstKeys, IsShutIn, IsSpare, capacity_of};
+ghost use Rattle.grow_core.specs.Parts.{HasFirstKeys, IsBrokenIn, IsSpare, capacity_of};
 
 use crate::keys::{Keys, key_of, no_keys};
 use cell_core::block::{Block, Epoch, Member, Row};
@@ -36,7 +36,7 @@ pub struct Parts<T> {
 
 impl<T> Model for Parts<T> {
     ghost use Rattle.std.specs.Prelude.{option_map};
-    ghost use Rattle.grow_core.specs.Parts.{PartsView, parts_coded, values_in, AreWhole, AreShutIn};
+    ghost use Rattle.grow_core.specs.Parts.{PartsView, parts_coded, values_in, AreWhole, AreBrokenIn};
     ghost use Rattle.grow_core.specs.Closing.{IsKept};
 
     ghost Value = { PartsView T };
@@ -53,7 +53,7 @@ impl<T> Model for Parts<T> {
 
     ghost invariant = { λ p. AreWhole p.table.layout p.table.names p.keys p.row p.len p.limit p.count
         × IsKept p.table.layout (option_map (λ m. m.numbers) p.closed) p.before p.table.names p.keys p.row p.count
-        × AreShutIn p.epoch p.row };
+        × AreBrokenIn p.epoch p.row };
 }
 
 // The position of a place of the installed segments: its segment, the cell there, and the segment's key.
@@ -87,7 +87,7 @@ fn write<T>(
     requires { offset < block_len block.old }
     ensures member { IsMemberAt block.new offset result.0 }
     ensures value { result.0.value ≡ value }
-    ensures shut { IsShutIn epoch.now result.0 }
+    ensures broken { IsBrokenIn epoch.now result.0 }
     ensures len { block_len block.new ≡ block_len block.old }
     ensures others { KeepsOtherCells block.old block.new offset }
 {

@@ -2,7 +2,7 @@
 ghost use Rattle.std.specs.Prelude.{◌≡◌, ◌≤◌};
 ghost use Rattle.grow_core.specs.Vector.{base_of, limit_of};
 
-use crate::reads::Shown;
+use crate::read::Shown;
 use crate::vector::Shared;
 use std::iter::FusedIterator;
 use std::marker::Model;
@@ -68,7 +68,7 @@ impl<'a, T> Iterator for Published<'a, T> {
         self.place += 1;
         match shown {
             Shown::Filled(at) => Some(Some(at.value)),
-            Shown::NotYet | Shown::Broken(_) => Some(None),
+            Shown::Pending | Shown::Broken(_) => Some(None),
         }
     }
 }

@@ -50,7 +50,7 @@ impl<T> Parts<T> {
         requires past { length self.now.members ≤ placed.now.place }
         ensures { result.now ≡ placed.now.value }
     {
-        let segment = placed.key.entry();
+        let segment = placed.key.segment();
         if segment >= self.count {
             return self.table.known(&placed.key).value(&placed.cell);
         }

@@ -9,12 +9,13 @@ use table_core::Key;
 
 // The place of a cell in the segment of a key.
 fn place_of(key: &Key, offset: u64) -> u64
-    requires { AreSmall key.now.layout key.now.entry offset }
-    ensures { result ≡ place_in key.now.layout key.now.entry offset }
+    requires { AreSmall key.now.layout key.now.segment offset }
+    ensures { result ≡ place_in key.now.layout key.now.segment offset }
 {
-    key.layout().first(key.entry()) + offset
+    key.layout().first(key.segment()) + offset
 }
 
+// The `Placed` of `cell_core`, with the key of its segment.
 /// Evidence that a place holds a value, which it keeps. It crosses threads, and takes 16 bytes.
 #[derive(Drop)]
 pub struct Placed<T> {
@@ -31,7 +32,7 @@ impl<T> Model for Placed<T> {
 
     ghost view = { λ p. placed_view p.key p.cell };
 
-    ghost invariant = { λ p. AreSmall p.key.layout p.key.entry p.cell.place };
+    ghost invariant = { λ p. AreSmall p.key.layout p.key.segment p.cell.offset };
 }
 
 impl<T> fmt::Debug for Placed<T> {
@@ -47,7 +48,7 @@ impl<T> Placed<T> {
     pub fn place(&self) -> u64
         ensures { result ≡ self.now.place }
     {
-        place_of(&self.key, self.cell.place())
+        place_of(&self.key, self.cell.offset())
     }
 
     /// Duplicates the token.
@@ -61,6 +62,7 @@ impl<T> Placed<T> {
     }
 }
 
+// The `Spoilt` of `cell_core`, with the key of its segment.
 /// Evidence that a place was broken. It crosses threads, and takes 16 bytes. The place may have been mended
 /// since.
 #[derive(Drop)]
@@ -78,7 +80,7 @@ impl Model for Spoilt {
 
     ghost view = { λ s. spoilt_view s.key s.cell };
 
-    ghost invariant = { λ s. AreSmall s.key.layout s.key.entry s.cell.place };
+    ghost invariant = { λ s. AreSmall s.key.layout s.key.segment s.cell.offset };
 }
 
 impl fmt::Debug for Spoilt {
@@ -94,7 +96,7 @@ impl Spoilt {
     pub fn place(&self) -> u64
         ensures { result ≡ self.now.place }
     {
-        place_of(&self.key, self.cell.place())
+        place_of(&self.key, self.cell.offset())
     }
 
     /// Duplicates the token.
@@ -110,12 +112,12 @@ impl Spoilt {
 
 /// Evidence that another caller began a place. It takes 16 bytes.
 #[derive(Drop)]
-pub struct Begun {
+pub struct BegunPlace {
     pub(crate) key: Key,
     pub(crate) cell: block::Begun,
 }
 
-impl Model for Begun {
+impl Model for BegunPlace {
     ghost use Rattle.grow_core.specs.Token.{BegunView, begun_coded, begun_view, AreSmall};
 
     ghost Value = { BegunView };
@@ -124,31 +126,32 @@ impl Model for Begun {
 
     ghost view = { λ b. begun_view b.key b.cell };
 
-    ghost invariant = { λ b. AreSmall b.key.layout b.key.entry b.cell.place };
+    ghost invariant = { λ b. AreSmall b.key.layout b.key.segment b.cell.offset };
 }
 
-impl fmt::Debug for Begun {
+impl fmt::Debug for BegunPlace {
     fn fmt<W: fmt::Write>(&self, f: &mut fmt::Formatter<W>) -> fmt::Result {
-        f.debug_struct("Begun")
+        f.debug_struct("BegunPlace")
             .field("place", &self.place())
             .finish_non_exhaustive()
     }
 }
 
-impl Begun {
+impl BegunPlace {
     /// Returns the place in the vector.
     pub fn place(&self) -> u64
         ensures { result ≡ self.now.place }
     {
-        place_of(&self.key, self.cell.place())
+        place_of(&self.key, self.cell.offset())
     }
 }
 
+// The `Found` of `cell_core`, with tokens of the vector, and never empty.
 /// The state of a place that another caller began, as a call found it.
 #[derive(Debug, Drop)]
 pub enum Found<T> {
     /// Nothing yet: it is being filled.
-    Busy(Begun),
+    Busy(BegunPlace),
     /// A value.
     Filled(Placed<T>),
     /// None: it is broken.

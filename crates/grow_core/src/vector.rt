@@ -6,7 +6,7 @@ ghost use Rattle.grow_core.specs.Vector.{IsHandOf, limit_of, layout_of, base_of}
 
 use crate::hand::Hand;
 use crate::keys::Keys;
-use cell_core::block::{Ended, Row};
+use cell_core::block::{EndedEpoch, Row};
 use claim_core::{Word, laws};
 use seg_core::Layout;
 use std::alloc::Global;
@@ -25,7 +25,7 @@ pub struct Shared<T> {
     pub(crate) count: u32,
     pub(crate) row: Row<T>,
     // The epoch of the list has ended: its broken members may be mended.
-    pub(crate) ended: Ended,
+    pub(crate) ended: EndedEpoch,
     pub(crate) alloc: Global,
 }
 

@@ -67,11 +67,11 @@ fn meets(two: &mut Callers<u64>) -> bool {
 }
 
 // The length of the list that two callers close, once they have met.
-fn met_and_ended(mut two: Callers<u64>) -> Option<u64> {
+fn met_and_closed(mut two: Callers<u64>) -> Option<u64> {
     if meets(&mut two) { two.end() } else { None }
 }
 
 #[test]
 fn hands_meet_and_join(rt: HostRuntime) {
-    assert!(rt; met_and_ended(Callers::new(&rt, 8)) == Some(1));
+    assert!(rt; met_and_closed(Callers::new(&rt, 8)) == Some(1));
 }

@@ -3,7 +3,7 @@
 mod memory;
 
 use grow_core::GrowError;
-use race_core::{RaceError, RaceReport, race, refused};
+use race_core::{RaceError, RaceReport, race, race_error_of};
 use span_core::{Free, Gate, PairGate};
 use std::sync::atomic::{AtomicU64, Ordering};
 
@@ -109,8 +109,8 @@ fn each_refusal_has_its_number(rt: HostRuntime) {
 
 #[test]
 fn a_refused_growth_is_reported(rt: HostRuntime) {
-    let full = refused(GrowError::Full { size: 1, back: 5 });
+    let full = race_error_of(GrowError::Full { size: 1, back: 5 });
     assert!(rt; full == RaceError::Grow { number: 2 });
-    let memory = refused(GrowError::NoMemory { back: 5 });
+    let memory = race_error_of(GrowError::NoMemory { back: 5 });
     assert!(rt; memory == RaceError::NoMemory);
 }

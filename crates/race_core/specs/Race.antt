@@ -41,12 +41,12 @@ abbrev pub IsGrowth : ℕ → Type 0
 IsGrowth number = (number ≡ 2) ⊎ (number ≡ 5)
 
 -- what a race reports of each refusal of a growth that tries until it wins
-abbrev pub IsToldAs : {T V E : Type 0} → GrowError T V E → RaceError → Type 0
-IsToldAs (grows.NoMemory back) told = told ≡ NoMemory
-IsToldAs (grows.Full size back) told = told ≡ Grow 2
-IsToldAs (grows.Moved size back) told = ⊥
-IsToldAs (grows.Refused run made cause) told = ⊥
-IsToldAs (grows.Taken place found) told = told ≡ Grow 5
+abbrev pub IsReportedAs : {T V E : Type 0} → GrowError T V E → RaceError → Type 0
+IsReportedAs (grows.NoMemory back) reported = reported ≡ NoMemory
+IsReportedAs (grows.Full size back) reported = reported ≡ Grow 2
+IsReportedAs (grows.Moved size back) reported = ⊥
+IsReportedAs (grows.Refused run made cause) reported = ⊥
+IsReportedAs (grows.Taken place found) reported = reported ≡ Grow 5
 
 -- why a worker that passed the gate was refused
 abbrev pub IsWorkers : RaceError → Type 0
@@ -57,8 +57,8 @@ IsWorkers (Grow number) = IsGrowth number
 
 -- why a value was not appended: its growth was refused when that was due, or there was no memory for the win
 abbrev pub IsPushRefusal : VectorView ℕ → HandView → RaceError → Type 0
-IsPushRefusal vector hand told =
-    (told ≡ NoMemory) ⊎ ((error : GrowError ℕ ℕ Never) × IsDue vector 1 hand error × IsToldAs error told)
+IsPushRefusal vector hand reported =
+    (reported ≡ NoMemory) ⊎ ((error : GrowError ℕ ℕ Never) × IsDue vector 1 hand error × IsReportedAs error reported)
 
 -- why a race is refused whose gate refuses nobody
 abbrev pub IsFreeRefusal : ℕ → ℕ → RaceError → Type 0

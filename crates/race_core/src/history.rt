@@ -10,7 +10,7 @@ use book_core::{Event, Reply, check, laws};
 use std::alloc::{AllocError, Global};
 
 // The wins in order of place.
-pub(crate) fn in_order(
+pub(crate) fn sort_wins(
     alloc: Global,
     size: u64,
     wins: &[Win],
@@ -37,6 +37,7 @@ pub(crate) fn history_of(
     requires places { AreInOrder (length slots.now) slots.now }
     ensures { IfOk result (λ h. IsLegalFrom (empty_list (length slots.now)) h.items) }
 {
+    // For the proof: a claim and then the fill of its place are legal, and they go on a legal history.
     laws::histories_split();
     laws::claims_append();
     laws::owners_write();

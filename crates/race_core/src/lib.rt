@@ -8,13 +8,13 @@
 #![tactic(auto)]
 
 mod history;
-mod hold;
+mod contest;
 mod refusal;
 mod report;
 mod team;
 mod workers;
 
-pub use hold::{MOST_EACH, MOST_WORKERS, race};
-pub use refusal::{RaceError, refused};
+pub use contest::{MOST_EACH, MOST_WORKERS, race};
+pub use refusal::{RaceError, race_error_of};
 pub use report::RaceReport;
 pub use span_core::{Free, Gate, PairGate};

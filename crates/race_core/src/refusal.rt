@@ -1,7 +1,7 @@
 //! Why a race is refused.
 ghost use Rattle.std.specs.Prelude.{◌≡◌};
 ghost use Rattle.grow_core.specs.Growth.{IsNotMoved};
-ghost use Rattle.race_core.specs.Race.{IsToldAs, IsWorkers, race_number};
+ghost use Rattle.race_core.specs.Race.{IsReportedAs, IsWorkers, race_number};
 
 use grow_core::{GrowError, Never};
 use span_core::Refusal;
@@ -66,9 +66,9 @@ impl From<Refusal<RaceError>> for RaceError {
 
 /// Returns what a race reports of a refused growth: number 2 for a full vector, 5 for a taken place, and
 /// otherwise out of memory.
-pub fn refused(error: GrowError<u64, u64, Never>) -> RaceError
+pub fn race_error_of(error: GrowError<u64, u64, Never>) -> RaceError
     requires { IsNotMoved error }
-    ensures told { IsToldAs error result }
+    ensures reported { IsReportedAs error result }
     ensures workers { IsWorkers result }
 {
     match error {

@@ -3,7 +3,7 @@ ghost use Rattle.std.specs.Prelude.{◌≡◌, ◌^◌, ◌<◌, ◌≤◌, true
 ghost use Rattle.grow_core.specs.Vector.{IsHandOf, base_of};
 ghost use Rattle.race_core.specs.Race.{sum_below, IsTeam, team_of, verdict_of};
 
-use crate::history::{history_of, in_order, is_legal};
+use crate::history::{history_of, sort_wins, is_legal};
 use crate::team::Win;
 use grow_core::{Hand, Shared};
 use quiet_core::Quiet;
@@ -73,9 +73,10 @@ pub(crate) fn report_of(
     ensures sum { IfOk result (λ report. report.sum ≡ sum_below size) }
     ensures legal { IfOk result (λ report. report.legal ≡ true) }
 {
+    // For the proof: a whole hand knows every place.
     hand.whole_laws();
     let size = Quiet::close(vector, hand).len();
-    let slots = in_order(alloc, size, wins)?;
+    let slots = sort_wins(alloc, size, wins)?;
     let history = history_of(alloc, &slots)?;
     Ok(RaceReport {
         size,

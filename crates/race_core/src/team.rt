@@ -3,7 +3,7 @@ ghost use Rattle.std.specs.Prelude.{◌≡◌, ℕ, ◌+◌, ◌≤◌, [], IfEr
 ghost use Rattle.grow_core.specs.Vector.{IsHandOf};
 ghost use Rattle.race_core.specs.Race.{IsWorkers, IsPushRefusal, IsTeam, team_of};
 
-use crate::refusal::{RaceError, refused};
+use crate::refusal::{RaceError, race_error_of};
 use grow_core::{Hand, Shared, laws};
 use span_core::Gate;
 use std::alloc::Global;
@@ -18,16 +18,17 @@ pub(crate) struct Win {
 }
 
 // Nothing is won yet.
-pub(crate) fn no_wins(alloc: Global, hand: &Hand<u64>) -> Vec<Win>
+pub(crate) fn begin_wins(alloc: Global, hand: &Hand<u64>) -> Vec<Win>
     requires { hand.now.mine ≡ [] }
     ensures { (from : ℕ) → IsTeam hand.now.of hand.now.shares from from (team_of hand.now result.items) }
 {
+    // For the proof: the promise speaks of the hand.
     let _hand = hand;
     Vec::new(alloc)
 }
 
 // A worker appends a value, and reads it back by its token.
-fn push<R: Wait>(
+fn push_value<R: Wait>(
     rt: &R,
     vector: &Shared<u64>,
     worker: u32,
@@ -44,13 +45,14 @@ fn push<R: Wait>(
         → IsTeam vector.now.word shares from value (team_of hand.old wins.old.items)
         → OnOk result (IsTeam vector.now.word shares from (value + 1) (team_of hand.new wins.new.items)) }
 {
+    // For the proof: the new place is the last of those that the hand knows, and its others stay.
     hand.laws();
     laws::added_runs_are_last();
     laws::places_stay();
     laws::seen_runs_stay();
     let placed = match vector.push_back(rt, hand, value) {
         Ok(placed) => placed,
-        Err(error) => return Err(refused(error)),
+        Err(error) => return Err(race_error_of(error)),
     };
     let win = Win {
         worker,
@@ -83,9 +85,10 @@ pub(crate) fn push_all<R: Wait, G: Gate>(
     ensures team { (shares : ℕ) → IsTeam vector.now.word shares from from (team_of hand.old wins.old.items)
         → OnOk result (IsTeam vector.now.word shares from to (team_of hand.new wins.new.items)) }
 {
+    // For the proof: the condition speaks of the gate.
     let _gate = gate;
     for value in from..to {
-        push(rt, vector, worker, hand, wins, value)?;
+        push_value(rt, vector, worker, hand, wins, value)?;
     }
     Ok(())
 }

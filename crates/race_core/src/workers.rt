@@ -5,7 +5,7 @@ ghost use Rattle.claim_core.specs.Hand.{SeesOwn};
 ghost use Rattle.race_core.specs.Race.{IsTeamOf, IsUnusedHand, IsWorkers, AreFew, team_of};
 
 use crate::refusal::RaceError;
-use crate::team::{Win, no_wins, push_all};
+use crate::team::{Win, begin_wins, push_all};
 use grow_core::{Hand, Shared};
 use span_core::Gate;
 use std::alloc::{AllocError, Global};
@@ -35,15 +35,16 @@ pub(crate) fn append_each<R: Wait, G: Gate>(
 {
     let from = u64::from(worker) * each;
     let to = (u64::from(worker) + 1) * each;
-    let mut wins = no_wins(alloc, hand);
+    let mut wins = begin_wins(alloc, hand);
     let pushed = push_all(rt, gate, vector, worker, hand, &mut wins, from, to);
+    // For the proof: the hand has seen its own places.
     hand.laws();
     pushed?;
     Ok(wins)
 }
 
 // The wins of all workers, in order.
-pub(crate) fn all_wins(alloc: Global, teams: Vec<Vec<Win>>) -> Result<Vec<Win>, AllocError>
+pub(crate) fn join_wins(alloc: Global, teams: Vec<Vec<Win>>) -> Result<Vec<Win>, AllocError>
     ensures { IfOk result (λ all. all.items ≡ flat_map (λ wins. wins.items) teams.items) }
 {
     let mut all = Vec::new(alloc);

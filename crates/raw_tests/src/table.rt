@@ -12,12 +12,12 @@ use table_core::{Key, Table};
 
 mod race;
 
-// Fills the cell at a place, unless another came first.
-fn fill<T: Drop>(block: &Block<T>, place: u64, value: T) -> bool {
-    if place >= block.len() {
+// Fills the cell at an offset, unless another came first.
+fn fill<T: Drop>(block: &Block<T>, offset: u64, value: T) -> bool {
+    if offset >= block.len() {
         return false;
     }
-    match block.begin(place) {
+    match block.begin(offset) {
         Ok(pen) => {
             let _placed = pen.fill(value);
             true
@@ -26,9 +26,9 @@ fn fill<T: Drop>(block: &Block<T>, place: u64, value: T) -> bool {
     }
 }
 
-// Tests whether the cell at a place shows the value.
-fn shows(block: &Block<u64>, place: u64, value: u64) -> bool {
-    place < block.len() && matches!(block.look(place), Look::Filled(there, _) if *there == value)
+// Tests whether the cell at an offset shows the value.
+fn shows(block: &Block<u64>, offset: u64, value: u64) -> bool {
+    offset < block.len() && matches!(block.look(offset), Look::Filled(there, _) if *there == value)
 }
 
 // The length of an entry's block, which is installed if it is not there.
@@ -42,35 +42,35 @@ fn len_of(table: &Table<u64>, k: u32) -> Option<u64>
     }
 }
 
-// Tests whether an entry's block takes the value at a place, if there is memory for it.
-fn takes<T: Drop>(table: &Table<T>, k: u32, place: u64, value: T) -> bool
+// Tests whether an entry's block takes the value at an offset, if there is memory for it.
+fn takes<T: Drop>(table: &Table<T>, k: u32, offset: u64, value: T) -> bool
     requires { k < 33 }
 {
     let _layout = table.layout();
     match table.install(k) {
-        Ok(block) => fill(block, place, value),
+        Ok(block) => fill(block, offset, value),
         Err(_no_memory) => false,
     }
 }
 
-// Tests whether an entry's block shows the value at a place, to a caller that would install it.
-fn has(table: &Table<u64>, k: u32, place: u64, value: u64) -> bool
+// Tests whether an entry's block shows the value at an offset, to a caller that would install it.
+fn has(table: &Table<u64>, k: u32, offset: u64, value: u64) -> bool
     requires { k < 33 }
 {
     let _layout = table.layout();
     match table.install(k) {
-        Ok(block) => shows(block, place, value),
+        Ok(block) => shows(block, offset, value),
         Err(_no_memory) => false,
     }
 }
 
 // Tests whether a caller that installs nothing is shown it.
-fn is_seen(table: &Table<u64>, k: u32, place: u64, value: u64) -> bool
+fn is_seen(table: &Table<u64>, k: u32, offset: u64, value: u64) -> bool
     requires { k < 33 }
 {
     let _layout = table.layout();
     match table.scout(k) {
-        Some(block) => shows(block, place, value),
+        Some(block) => shows(block, offset, value),
         None => false,
     }
 }
@@ -103,7 +103,9 @@ fn is_one_block(table: &Table<u64>, a: &Key, b: &Key) -> bool
     requires second { IsKeyIn table.now b.now }
 {
     table.agree(a, b);
-    (a.entry(), b.entry()) == (2, 2) && shows(table.known(a), 0, 6) && shows(table.known(b), 0, 6)
+    (a.segment(), b.segment()) == (2, 2)
+        && shows(table.known(a), 0, 6)
+        && shows(table.known(b), 0, 6)
 }
 
 // Tests whether a caller that looks has the block of this key, and a key of its own that is as good.
@@ -257,12 +259,12 @@ fn counts_entries(table: &Table<u64>) -> bool {
 }
 
 // Tests whether the value is there by the key.
-fn has_by_key(table: &Table<u64>, k: u32, place: u64, value: u64) -> bool
+fn has_by_key(table: &Table<u64>, k: u32, offset: u64, value: u64) -> bool
     requires { k < 33 }
 {
     let _layout = table.layout();
     match table.install_key(k) {
-        Ok((block, _key)) => shows(block, place, value),
+        Ok((block, _key)) => shows(block, offset, value),
         Err(_no_memory) => false,
     }
 }
@@ -317,11 +319,11 @@ fn entries_23_and_24_are_counted_alone(rt: HostRuntime) {
 }
 
 // Puts a value into a cell of a block that is owned, if there is such a cell.
-fn put(block: &mut Block<u64>, place: u64, value: u64)
+fn put(block: &mut Block<u64>, offset: u64, value: u64)
     ensures { block_len block.new ≡ block_len block.old }
 {
-    if place < block.len() {
-        drop(block.put_now(place, value));
+    if offset < block.len() {
+        drop(block.put_now(offset, value));
     }
 }
 
@@ -329,7 +331,7 @@ fn put(block: &mut Block<u64>, place: u64, value: u64)
 fn key_of<T: Drop>(table: &Table<T>, k: u32) -> Option<Key>
     requires { k < 33 }
     ensures of { IfSome result (λ key. IsKeyIn table.now key) }
-    ensures entry { IfSome result (λ key. key.entry ≡ k) }
+    ensures entry { IfSome result (λ key. key.segment ≡ k) }
 {
     let _layout = table.layout();
     match table.install_key(k) {
@@ -341,7 +343,7 @@ fn key_of<T: Drop>(table: &Table<T>, k: u32) -> Option<Key>
 // Returns whether an owner gets the key of an entry, and then its block.
 fn is_held(table: &mut Table<u64>, key: &Key, k: u32) -> bool
     requires key { IsKeyIn table.old key.now }
-    requires entry { key.now.entry ≡ k }
+    requires entry { key.now.segment ≡ k }
 {
     let _layout = table.layout();
     let Some(now) = table.key_now(k) else {
@@ -392,15 +394,15 @@ fn an_owner_has_the_key_of_an_entry_that_is_set(rt: HostRuntime) {
 fn is_attached_again(table: &mut Table<u64>, key: &Key, other: &Key) -> bool
     requires key { IsKeyIn table.old key.now }
     requires other { IsKeyIn table.old other.now }
-    requires third { key.now.entry ≡ 2 }
-    requires first { other.now.entry ≡ 0 }
+    requires third { key.now.segment ≡ 2 }
+    requires first { other.now.segment ≡ 0 }
 {
     let mut block = table.detach(key);
     let is_out = table.scout(2).is_none() && table.installed() == 1;
     put(&mut block, 3, 9);
     let again = table.attach(2, block);
     is_out
-        && again.entry() == 2
+        && again.segment() == 2
         && shows(table.known(&again), 1, 7)
         && shows(table.known(&again), 3, 9)
         && shows(table.known(other), 1, 6)
@@ -416,7 +418,7 @@ fn attaches_again(table: &mut Table<u64>) -> bool {
 // Tests whether the block of a key comes back in the place of one that was installed meanwhile.
 fn comes_back(table: &mut Table<u64>, key: &Key) -> bool
     requires key { IsKeyIn table.old key.now }
-    requires third { key.now.entry ≡ 2 }
+    requires third { key.now.segment ≡ 2 }
 {
     let block = table.detach(key);
     let is_new = len_of(table, 2) == Some(4) && !has(table, 2, 3, 9);
@@ -475,7 +477,7 @@ fn drops_what_is_given_up(table: &mut Table<Counted<'_>>, drops: &AtomicU64) -> 
 
 fn keeps_what_is_detached(table: &mut Table<Counted<'_>>, drops: &AtomicU64, key: &Key) -> bool
     requires key { IsKeyIn table.old key.now }
-    requires fourth { key.now.entry ≡ 3 }
+    requires fourth { key.now.segment ≡ 3 }
 {
     let block = table.detach(key);
     let is_kept = drops_so_far(drops) == 1;

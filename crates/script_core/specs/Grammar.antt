@@ -13,6 +13,7 @@ use Rattle.script_core.specs.declared.error.ScriptError.TheVariants as errors
 use Rattle.script_core.specs.declared.error.Fault.{Fault}
 use Rattle.script_core.specs.declared.error.Fault.TheVariants.{BadLimit, BadLine, BadName, TwiceNamed, BadCommand, NumberTooLarge, TooMany, BadFirst}
 use Rattle.script_core.specs.declared.script.Script.{Script}
+use Rattle.script_core.specs.Spelling.{most_limit}
 use Rattle.script_core.specs.ScriptError.{error_at}
 
 -- one step after another; a fault ends them
@@ -117,9 +118,9 @@ parsed_program text = try_each (λ piece. parsed_command (words piece)) 1000 [] 
 
 -- ---- Lines
 
--- the limit: a number from 1 to 65,536
+-- the limit: a number from 1 to the greatest
 unfoldable pub limit_in : List ℕ → Result ℕ Fault
-limit_in text = number_or BadLimit text >>= λ limit. (if nat_le 1 limit && nat_le limit 65536 then Ok limit else Err BadLimit)
+limit_in text = number_or BadLimit text >>= λ limit. (if nat_le 1 limit && nat_le limit most_limit then Ok limit else Err BadLimit)
 
 -- the first line
 unfoldable pub parsed_limit : List ℕ → Result ℕ Fault

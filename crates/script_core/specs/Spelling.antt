@@ -80,10 +80,14 @@ IsProgram program = (1 ≤ length program) × (length program ≤ 1000) × All I
 abbrev pub IsName : ℕ → Type 0
 IsName name = (97 ≤ name) × (name ≤ 122)
 
+-- the greatest limit of a script
+abbrev pub most_limit : ℕ
+most_limit = 65536
+
 -- what a script has to be, in a text with a layout line, or without one if the layout is 1, and with a last
 -- LF or without
 pub record IsScript (s : Script) (with_layout last_lf : Bool) : Type 0 where
-  pub limit : (1 ≤ s.limit) × (s.limit ≤ 65536)
+  pub limit : (1 ≤ s.limit) × (s.limit ≤ most_limit)
   pub first : (1 ≤ s.first) × (s.first ≤ 8) × (with_layout ≡ false → s.first ≡ 1)
   pub actors : (length s.names ≤ 16) × (length s.names ≡ length s.programs)
   pub names : All IsName s.names × AllPairs (λ a b. a ≢ b) s.names

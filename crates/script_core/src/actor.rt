@@ -3,7 +3,7 @@ ghost use Rattle.std.specs.Prelude.{◌≡◌, ◌<◌, length, OnOk};
 ghost use Rattle.script_core.specs.Reading.{Gives};
 ghost use Rattle.script_core.specs.Grammar.{parsed_name, parsed_actor};
 
-use crate::command::program;
+use crate::command::parse_program;
 use crate::cut::cut_at;
 use crate::error::{Fault, Stop};
 use book_core::{Command, Sequence};
@@ -13,7 +13,7 @@ use std::alloc::Global;
 const MOST_ACTORS: usize = 16;
 
 #[tactic(auto, unfolding(crate::specs::Grammar::parsed_name))]
-fn name(word: &[u8]) -> Result<u8, Fault>
+fn parse_name(word: &[u8]) -> Result<u8, Fault>
     ensures { result ≡ parsed_name word.now }
 {
     match word {
@@ -24,7 +24,7 @@ fn name(word: &[u8]) -> Result<u8, Fault>
 
 // The name and the program of an actor line, read after its word. `names` are those of the lines before it.
 #[tactic(auto, unfolding(crate::specs::Grammar::parsed_actor))]
-pub(crate) fn actor(
+pub(crate) fn parse_actor(
     alloc: Global,
     names: &[u8],
     text: &[u8],
@@ -36,12 +36,12 @@ pub(crate) fn actor(
         return Err(Stop::Fault(Fault::TooMany));
     }
     let (word, rest) = cut_at(text, b" ");
-    let name = name(word)?;
+    let name = parse_name(word)?;
     if names.contains(&name) {
         return Err(Stop::Fault(Fault::TwiceNamed));
     }
     let Some(rest) = rest else {
         return Err(Stop::Fault(Fault::BadCommand));
     };
-    Ok((name, program(alloc, rest)?))
+    Ok((name, parse_program(alloc, rest)?))
 }

@@ -7,7 +7,7 @@ ghost use Rattle.script_core.specs.Grammar.{command_with_three, parsed_command, 
 
 use crate::cut::cut_at;
 use crate::error::{Fault, Stop};
-use crate::number::number;
+use crate::number::parse_number;
 use book_core::{Command, Sequence};
 use std::alloc::Global;
 
@@ -23,7 +23,7 @@ pub(crate) enum Words<'a> {
     More,
 }
 
-fn words_of(piece: &[u8]) -> Words<'_>
+fn split_words(piece: &[u8]) -> Words<'_>
     ensures { AreWords (words piece.now) result }
 {
     let (first, rest) = cut_at(piece, b" ");
@@ -45,23 +45,23 @@ fn words_of(piece: &[u8]) -> Words<'_>
     Words::Four(first, second, third, fourth)
 }
 
-fn argument(word: &[u8]) -> Result<u64, Fault>
+fn parse_argument(word: &[u8]) -> Result<u64, Fault>
     ensures { result ≡ argument word.now }
 {
-    number(word, Fault::BadCommand)
+    parse_number(word, Fault::BadCommand)
 }
 
-fn is(word: &[u8], name: &str) -> bool
+fn is_word(word: &[u8], name: &str) -> bool
     ensures { result ≡ bytes_eq word.now name.now }
 {
     word == name.as_bytes()
 }
 
 #[tactic(auto, unfolding(crate::specs::Grammar::command_alone))]
-fn command_alone(word: &[u8]) -> Result<Command, Fault>
+fn parse_command_alone(word: &[u8]) -> Result<Command, Fault>
     ensures { result ≡ command_alone word.now }
 {
-    if is(word, "size") {
+    if is_word(word, "size") {
         Ok(Command::Size)
     } else {
         Err(Fault::BadCommand)
@@ -69,14 +69,14 @@ fn command_alone(word: &[u8]) -> Result<Command, Fault>
 }
 
 #[tactic(auto, unfolding(crate::specs::Grammar::command_with_one))]
-fn command_with_one(word: &[u8], a: &[u8]) -> Result<Command, Fault>
+fn parse_command_with_one(word: &[u8], a: &[u8]) -> Result<Command, Fault>
     ensures { result ≡ command_with_one word.now a.now }
 {
-    if is(word, "push") {
-        let value = argument(a)?;
+    if is_word(word, "push") {
+        let value = parse_argument(a)?;
         Ok(Command::Push { value })
-    } else if is(word, "read") {
-        let place = argument(a)?;
+    } else if is_word(word, "read") {
+        let place = parse_argument(a)?;
         Ok(Command::Read { place })
     } else {
         Err(Fault::BadCommand)
@@ -84,20 +84,20 @@ fn command_with_one(word: &[u8], a: &[u8]) -> Result<Command, Fault>
 }
 
 #[tactic(auto, unfolding(crate::specs::Grammar::command_with_two))]
-fn command_with_two(word: &[u8], a: &[u8], b: &[u8]) -> Result<Command, Fault>
+fn parse_command_with_two(word: &[u8], a: &[u8], b: &[u8]) -> Result<Command, Fault>
     ensures { result ≡ command_with_two word.now a.now b.now }
 {
-    if is(word, "grow") {
-        let n = argument(a)?;
-        let value = argument(b)?;
+    if is_word(word, "grow") {
+        let n = parse_argument(a)?;
+        let value = parse_argument(b)?;
         Ok(Command::Grow { n, value })
-    } else if is(word, "atleast") {
-        let to = argument(a)?;
-        let value = argument(b)?;
+    } else if is_word(word, "atleast") {
+        let to = parse_argument(a)?;
+        let value = parse_argument(b)?;
         Ok(Command::AtLeast { to, value })
-    } else if is(word, "mend") {
-        let place = argument(a)?;
-        let value = argument(b)?;
+    } else if is_word(word, "mend") {
+        let place = parse_argument(a)?;
+        let value = parse_argument(b)?;
         Ok(Command::Mend { place, value })
     } else {
         Err(Fault::BadCommand)
@@ -105,15 +105,15 @@ fn command_with_two(word: &[u8], a: &[u8], b: &[u8]) -> Result<Command, Fault>
 }
 
 #[tactic(auto, unfolding(crate::specs::Grammar::command_with_three))]
-fn command_with_three(word: &[u8], a: &[u8], b: &[u8], c: &[u8]) -> Result<Command, Fault>
+fn parse_command_with_three(word: &[u8], a: &[u8], b: &[u8], c: &[u8]) -> Result<Command, Fault>
     ensures { result ≡ command_with_three word.now a.now b.now c.now }
 {
-    if !is(word, "fail") {
+    if !is_word(word, "fail") {
         return Err(Fault::BadCommand);
     }
-    let n = argument(a)?;
-    let value = argument(b)?;
-    let at = argument(c)?;
+    let n = parse_argument(a)?;
+    let value = parse_argument(b)?;
+    let at = parse_argument(c)?;
     if at < n {
         Ok(Command::Fail { n, value, at })
     } else {
@@ -122,20 +122,20 @@ fn command_with_three(word: &[u8], a: &[u8], b: &[u8], c: &[u8]) -> Result<Comma
 }
 
 #[tactic(auto, unfolding(crate::specs::Grammar::parsed_command))]
-fn command(piece: &[u8]) -> Result<Command, Fault>
+fn parse_command(piece: &[u8]) -> Result<Command, Fault>
     ensures { result ≡ parsed_command (words piece.now) }
 {
-    match words_of(piece) {
-        Words::One(word) => command_alone(word),
-        Words::Two(word, a) => command_with_one(word, a),
-        Words::Three(word, a, b) => command_with_two(word, a, b),
-        Words::Four(word, a, b, c) => command_with_three(word, a, b, c),
+    match split_words(piece) {
+        Words::One(word) => parse_command_alone(word),
+        Words::Two(word, a) => parse_command_with_one(word, a),
+        Words::Three(word, a, b) => parse_command_with_two(word, a, b),
+        Words::Four(word, a, b, c) => parse_command_with_three(word, a, b, c),
         Words::More => Err(Fault::BadCommand),
     }
 }
 
 // A command for each piece of the text.
-pub(crate) fn program(alloc: Global, text: &[u8]) -> Result<Sequence<Command>, Stop>
+pub(crate) fn parse_program(alloc: Global, text: &[u8]) -> Result<Sequence<Command>, Stop>
     ensures { Gives result (parsed_program text.now) }
 {
     let mut commands = Vec::new(alloc);
@@ -145,7 +145,7 @@ pub(crate) fn program(alloc: Global, text: &[u8]) -> Result<Sequence<Command>, S
             return Err(Stop::Fault(Fault::TooMany));
         }
         let (piece, rest) = cut_at(text, b", ");
-        commands.push(command(piece)?)?;
+        commands.push(parse_command(piece)?)?;
         let Some(rest) = rest else {
             return Ok(Sequence::from_vec(commands));
         };

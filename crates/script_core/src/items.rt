@@ -32,7 +32,7 @@ fn item_of_actor(names: &[u8], name: u8, memory: bool) -> Result<Item, Fault>
 }
 
 #[tactic(auto, unfolding(crate::specs::Grammar::parsed_item))]
-fn item(names: &[u8], word: &[u8]) -> Result<Item, Fault>
+fn parse_item(names: &[u8], word: &[u8]) -> Result<Item, Fault>
     requires { length names.now ≤ 16 }
     ensures { result ≡ parsed_item names.now word.now }
 {
@@ -44,7 +44,7 @@ fn item(names: &[u8], word: &[u8]) -> Result<Item, Fault>
 }
 
 // An item for each word of the text.
-fn some_items(alloc: Global, names: &[u8], text: &[u8]) -> Result<Sequence<Item>, Stop>
+fn parse_some_items(alloc: Global, names: &[u8], text: &[u8]) -> Result<Sequence<Item>, Stop>
     requires { length names.now ≤ 16 }
     ensures { Gives result (try_each (parsed_item names.now) 100000 [] (words text.now)) }
 {
@@ -55,7 +55,7 @@ fn some_items(alloc: Global, names: &[u8], text: &[u8]) -> Result<Sequence<Item>
             return Err(Stop::Fault(Fault::TooMany));
         }
         let (word, rest) = cut_at(text, b" ");
-        items.push(item(names, word)?)?;
+        items.push(parse_item(names, word)?)?;
         let Some(rest) = rest else {
             return Ok(Sequence::from_vec(items));
         };
@@ -65,12 +65,12 @@ fn some_items(alloc: Global, names: &[u8], text: &[u8]) -> Result<Sequence<Item>
 
 // The items of an items line, read after its word.
 #[tactic(auto, unfolding(crate::specs::Grammar::parsed_items))]
-pub(crate) fn items(alloc: Global, names: &[u8], text: &[u8]) -> Result<Sequence<Item>, Stop>
+pub(crate) fn parse_items(alloc: Global, names: &[u8], text: &[u8]) -> Result<Sequence<Item>, Stop>
     requires { length names.now ≤ 16 }
     ensures { Gives result (parsed_items names.now text.now) }
 {
     match text {
         [] => Ok(Sequence::from_vec(Vec::new(alloc))),
-        [_, text @ ..] => some_items(alloc, names, text),
+        [_, text @ ..] => parse_some_items(alloc, names, text),
     }
 }

@@ -5,7 +5,10 @@ ghost use Rattle.script_core.specs.Reading.{IsKind};
 
 use crate::cut::cut_at;
 use crate::error::Fault;
-use crate::number::number;
+use crate::number::parse_number;
+
+// The greatest limit of a script.
+const MOST_LIMIT: u64 = 65_536;
 
 // The kind of a line after the first, with the text after its word.
 pub(crate) enum LineKind<'a> {
@@ -44,7 +47,7 @@ fn is_items_line(line: &[u8]) -> bool
 }
 
 #[tactic(auto, unfolding(crate::specs::Grammar::is_actor_line))]
-pub(crate) fn kind(line: &[u8]) -> LineKind<'_>
+pub(crate) fn kind_of(line: &[u8]) -> LineKind<'_>
     ensures { IsKind line.now result }
 {
     if line.starts_with(b"actor ") {
@@ -58,11 +61,11 @@ pub(crate) fn kind(line: &[u8]) -> LineKind<'_>
 
 // The layout of a layout line.
 #[tactic(auto, unfolding(crate::specs::Grammar::layout_in))]
-pub(crate) fn layout(line: &[u8]) -> Result<u32, Fault>
+pub(crate) fn parse_layout(line: &[u8]) -> Result<u32, Fault>
     requires { 6 ≤ length line.now }
     ensures { result ≡ layout_in (drop 6 line.now) }
 {
-    let first = number(&line[6..], Fault::BadFirst)?;
+    let first = parse_number(&line[6..], Fault::BadFirst)?;
     if (1..=8).contains(&first) {
         Ok(first as u32)
     } else {
@@ -72,14 +75,14 @@ pub(crate) fn layout(line: &[u8]) -> Result<u32, Fault>
 
 // The limit of a first line.
 #[tactic(auto, unfolding(crate::specs::Grammar::parsed_limit, crate::specs::Grammar::limit_in))]
-pub(crate) fn limit(line: &[u8]) -> Result<u64, Fault>
+pub(crate) fn parse_limit(line: &[u8]) -> Result<u64, Fault>
     ensures { result ≡ parsed_limit line.now }
 {
     if !line.starts_with(b"limit ") {
         return Err(Fault::BadLine);
     }
-    let limit = number(&line[6..], Fault::BadLimit)?;
-    if (1..=65_536).contains(&limit) {
+    let limit = parse_number(&line[6..], Fault::BadLimit)?;
+    if (1..=MOST_LIMIT).contains(&limit) {
         Ok(limit)
     } else {
         Err(Fault::BadLimit)

@@ -9,7 +9,7 @@ use crate::error::Fault;
 
 #[tactic(auto, unfolding(crate::specs::Grammar::number_or))]
 // The number that the bytes spell, below 2^64. If they spell none, the fault is `otherwise`.
-pub(crate) fn number(word: &[u8], otherwise: Fault) -> Result<u64, Fault>
+pub(crate) fn parse_number(word: &[u8], otherwise: Fault) -> Result<u64, Fault>
     ensures { result ≡ number_or otherwise word.now }
 {
     if is_number(word) {

@@ -7,12 +7,12 @@ ghost use Rattle.script_core.specs.declared.script.Script.{Script};
 ghost use Rattle.script_core.specs.Reading.{GivesLines};
 ghost use Rattle.script_core.specs.Grammar.{lines, parsed_limit, layout_in, parsed_actor, parsed_items, at_line};
 ghost use Rattle.script_core.specs.Grammar.{closed, body_of, after_limit, script_of};
-ghost use Rattle.script_core.specs.Spelling.{IsScript, text_of};
+ghost use Rattle.script_core.specs.Spelling.{IsScript, most_limit, text_of};
 
-use crate::actor::actor;
+use crate::actor::parse_actor;
 use crate::error::ScriptError;
-use crate::items::items;
-use crate::lines::{LineKind, first_line, is_layout_line, kind, layout, limit};
+use crate::items::parse_items;
+use crate::lines::{LineKind, first_line, is_layout_line, kind_of, parse_layout, parse_limit};
 use crate::script::Script;
 use book_core::{Command, Item, Sequence};
 use std::alloc::Global;
@@ -36,16 +36,16 @@ pub fn read(alloc: Global, text: &[u8]) -> Result<Script, ScriptError>
         → (result ≡ Ok s) ⊎ IsErrOf result ScriptError.NoMemory }
 
     // So it can be played.
-    ensures limit { IfOk result (λ s. IsLimit s.limit × (s.limit ≤ 65536)) }
+    ensures limit { IfOk result (λ s. IsLimit s.limit × (s.limit ≤ most_limit)) }
     ensures first { IfOk result (λ s. IsLayout s.first) }
     ensures names { IfOk result (λ s. length s.names ≡ length s.programs) }
     ensures sound { IfOk result (λ s. AreSound s.programs) }
     ensures actors { IfOk result (λ s. HavePrograms s.programs s.items) }
 {
-    whole(alloc, text)
+    read_whole(alloc, text)
 }
 
-fn whole(alloc: Global, text: &[u8]) -> Result<Script, ScriptError>
+fn read_whole(alloc: Global, text: &[u8]) -> Result<Script, ScriptError>
     ensures { GivesLines result (script_of text.now) }
 {
     if text.is_empty() {
@@ -56,8 +56,8 @@ fn whole(alloc: Global, text: &[u8]) -> Result<Script, ScriptError>
         return Err(ScriptError::TooMany { line });
     }
     let (first, rest) = first_line(text);
-    let limit = limit_at(first)?;
-    after_limit(alloc, limit, rest)
+    let limit = read_limit(first)?;
+    read_after_limit(alloc, limit, rest)
 }
 
 // The line of the last byte that a script may have.
@@ -76,20 +76,20 @@ fn line_ends(bytes: &[u8]) -> usize
     bytes.iter().filter(|b| **b == b'\n').count()
 }
 
-fn limit_at(line: &[u8]) -> Result<u64, ScriptError>
+fn read_limit(line: &[u8]) -> Result<u64, ScriptError>
     ensures { result ≡ at_line 1 (parsed_limit line.now) }
 {
-    limit(line).map_err(|fault| fault.at(1))
+    parse_limit(line).map_err(|fault| fault.at(1))
 }
 
-fn layout_at(line: &[u8]) -> Result<u32, ScriptError>
+fn read_layout(line: &[u8]) -> Result<u32, ScriptError>
     requires { 6 ≤ length line.now }
     ensures { result ≡ at_line 2 (layout_in (drop 6 line.now)) }
 {
-    layout(line).map_err(|fault| fault.at(2))
+    parse_layout(line).map_err(|fault| fault.at(2))
 }
 
-fn actor_at(
+fn read_actor(
     alloc: Global,
     line: u64,
     names: &[u8],
@@ -98,13 +98,10 @@ fn actor_at(
     ensures given { GivesLines result (at_line line (parsed_actor names.now text.now)) }
     ensures room { OnOk result (length names.now < 16) }
 {
-    match actor(alloc, names, text) {
-        Ok(found) => Ok(found),
-        Err(stop) => Err(stop.at(line)),
-    }
+    parse_actor(alloc, names, text).map_err(|stop| stop.at(line))
 }
 
-fn items_at(
+fn read_items(
     alloc: Global,
     line: u64,
     names: &[u8],
@@ -113,14 +110,11 @@ fn items_at(
     requires { length names.now ≤ 16 }
     ensures { GivesLines result (at_line line (parsed_items names.now text.now)) }
 {
-    match items(alloc, names, text) {
-        Ok(found) => Ok(found),
-        Err(stop) => Err(stop.at(line)),
-    }
+    parse_items(alloc, names, text).map_err(|stop| stop.at(line))
 }
 
 // The script, if nothing is left after its items line.
-fn closed(line: u64, script: Script, rest: &[u8]) -> Result<Script, ScriptError>
+fn end_script(line: u64, script: Script, rest: &[u8]) -> Result<Script, ScriptError>
     ensures { result ≡ closed line script (lines rest.now) }
 {
     if rest.is_empty() {
@@ -131,7 +125,7 @@ fn closed(line: u64, script: Script, rest: &[u8]) -> Result<Script, ScriptError>
 }
 
 // The lines from line 2 on: a layout line or none, and then the others.
-fn after_limit(alloc: Global, limit: u64, text: &[u8]) -> Result<Script, ScriptError>
+fn read_after_limit(alloc: Global, limit: u64, text: &[u8]) -> Result<Script, ScriptError>
     requires { length text.now ≤ 1048576 }
     ensures { GivesLines result (after_limit limit (lines text.now)) }
 {
@@ -140,14 +134,14 @@ fn after_limit(alloc: Global, limit: u64, text: &[u8]) -> Result<Script, ScriptE
     }
     let (second, rest) = first_line(text);
     if !is_layout_line(second) {
-        return body(alloc, limit, 1, 2, text);
+        return read_body(alloc, limit, 1, 2, text);
     }
-    let first = layout_at(second)?;
-    body(alloc, limit, first, 3, rest)
+    let first = read_layout(second)?;
+    read_body(alloc, limit, first, 3, rest)
 }
 
 // Reads the actor lines and the items line; `line` is the number of the first of them.
-fn body(
+fn read_body(
     alloc: Global,
     limit: u64,
     first: u32,
@@ -163,14 +157,14 @@ fn body(
     let mut text = text;
     while !text.is_empty() {
         let (next, rest) = first_line(text);
-        match kind(next) {
+        match kind_of(next) {
             LineKind::Actor(words) => {
-                let (name, program) = actor_at(alloc, line, &names, words)?;
+                let (name, program) = read_actor(alloc, line, &names, words)?;
                 names.push(name)?;
                 programs.push(program)?;
             }
             LineKind::Items(words) => {
-                let items = items_at(alloc, line, &names, words)?;
+                let items = read_items(alloc, line, &names, words)?;
                 let names = Sequence::from_vec(names);
                 let programs = Sequence::from_vec(programs);
                 let script = Script {
@@ -180,7 +174,7 @@ fn body(
                     programs,
                     items,
                 };
-                return closed(line + 1, script, rest);
+                return end_script(line + 1, script, rest);
             }
             LineKind::Other => return Err(ScriptError::BadLine { line }),
         }

@@ -41,6 +41,10 @@ pub record Touches (f segment from n : ℕ) : Type 0 where
 abbrev pub most_places : ℕ
 most_places = 1099511627776
 
+-- the most segments that they are cut into: those of the shortest first segment
+abbrev pub most_segments : ℕ
+most_segments = 40
+
 -- how many segments they are cut into
 abbrev pub segment_count : ℕ → ℕ
 segment_count f = 41 - f

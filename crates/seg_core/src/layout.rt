@@ -7,6 +7,9 @@ use std::marker::Model;
 /// The greatest number of places that a vector may have.
 pub const MOST_PLACES: u64 = 1 << 40;
 
+/// The greatest number of segments, which is that of the shortest first segment.
+pub const MOST_SEGMENTS: usize = 40;
+
 /// The division of places into segments: the first has 2^f places, with f from 1 to 8, and each other segment
 /// as many as all those before it.
 #[derive(Clone, Copy, Debug, PartialEq, Eq)]

@@ -13,5 +13,5 @@ pub mod laws;
 mod layout;
 mod segments;
 
-pub use layout::{Layout, MOST_PLACES};
+pub use layout::{Layout, MOST_PLACES, MOST_SEGMENTS};
 pub use segments::{capacity_for, first, len, locate, segments_of};

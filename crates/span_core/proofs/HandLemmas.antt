@@ -8,7 +8,7 @@ use mathlib.Core.List.{IsPrefix}
 use Rattle.claim_core.specs.Hand.{HandView}
 use Rattle.span_core.specs.Each.{EachFrom}
 use Rattle.span_core.specs.Workers.{EachGives, IsOfRange}
-use Rattle.span_core.specs.Hands.{IsPartOf, SaysOfPart, SayInTurn, HaveAnswered, of_answer, of_refusal}
+use Rattle.span_core.specs.Hands.{IsWithinHand, SaysOfPart, SayInTurn, HaveAnswered, of_answer, of_refusal}
 use Rattle.span_core.specs.declared.errors.Refusal.{Refusal}
 use Rattle.span_core.specs.declared.errors.Refusal.TheVariants.{NoMemory, Stuck, Worker}
 use Rattle.span_core.proofs.Ranges.{both-refused}
@@ -17,10 +17,10 @@ prefix_trans : {A : Type 0} (xs ys zs : List A) → IsPrefix xs ys → IsPrefix 
 prefix_trans xs ys zs p q = (p.0 ++ q.0, sym (append_assoc xs p.0 q.0) ∙ (ap (λ w. w ++ q.0) p.1 ∙ q.1))
 
 -- each hand is part of itself
-pub part_self : (a : HandView) → IsPartOf a a
+pub part_self : (a : HandView) → IsWithinHand a a
 part_self a = record { of = refl; seen = ([], append-nil a.seen); mine = λ k own. own }
 
-part_trans : (a b c : HandView) → IsPartOf a b → IsPartOf b c → IsPartOf a c
+part_trans : (a b c : HandView) → IsWithinHand a b → IsWithinHand b c → IsWithinHand a c
 part_trans a b c p q =
     record {
       of = p.of ∙ q.of;
@@ -29,11 +29,11 @@ part_trans a b c p q =
     }
 
 -- two hands that were joined are parts of what they are now
-pub part_left : (a b c : HandView) → c.of ≡ a.of → IsPrefix a.seen c.seen → c.mine ≡ a.mine ++ b.mine → IsPartOf a c
+pub part_left : (a b c : HandView) → c.of ≡ a.of → IsPrefix a.seen c.seen → c.mine ≡ a.mine ++ b.mine → IsWithinHand a c
 part_left a b c of seen mine =
     record { of = sym of; seen = seen; mine = λ k own. subst (λ m. Contains m k) (sym mine) (Contains-append_left a.mine b.mine k own) }
 
-pub part_right : (a b c : HandView) → c.of ≡ b.of → IsPrefix b.seen c.seen → c.mine ≡ a.mine ++ b.mine → IsPartOf b c
+pub part_right : (a b c : HandView) → c.of ≡ b.of → IsPrefix b.seen c.seen → c.mine ≡ a.mine ++ b.mine → IsWithinHand b c
 part_right a b c of seen mine =
     record { of = sym of; seen = seen; mine = λ k own. subst (λ m. Contains m k) (sym mine) (Contains-append_right a.mine b.mine k own) }
 
@@ -47,10 +47,10 @@ rest_mine old rest own new shares kept mine = mine ∙ ap (λ (h : HandView). h.
 
 module _ {X : Type 0} (says : ℕ → HandView → X → Type 0) where
   -- what is said of a part of a part
-  says-more : (a b : HandView) → IsPartOf a b → (worker : ℕ) (x : X) → SaysOfPart says a worker x → SaysOfPart says b worker x
+  says-more : (a b : HandView) → IsWithinHand a b → (worker : ℕ) (x : X) → SaysOfPart says a worker x → SaysOfPart says b worker x
   says-more a b part worker x said = (said.0, said.1, part_trans said.0 a b said.2 part)
 
-  turn-more : (a b : HandView) (worker : ℕ) (xs : List X) (mine : List ℕ) → IsPartOf a b → SayInTurn says a worker xs mine
+  turn-more : (a b : HandView) (worker : ℕ) (xs : List X) (mine : List ℕ) → IsWithinHand a b → SayInTurn says a worker xs mine
       → SayInTurn says b worker xs mine
   turn-more a b worker [] mine part said = said
   turn-more a b worker (x ∷ xs) mine part (own, rest, one, within, all, others) =
@@ -85,7 +85,7 @@ each-all P Q more i (x ∷ xs) each = (more i x each.0, each-all P Q more (i + 1
 
 module _ {A E : Type 0} (gives : ℕ → HandView → A → Type 0) (refuses : ℕ → HandView → E → Type 0) (may_refuse : ℕ → Type 0) where
   -- why a range has no result, of a larger hand
-  pub range-more : (a b : HandView) (first count : ℕ) (e : Refusal E) → IsPartOf a b
+  pub range-more : (a b : HandView) (first count : ℕ) (e : Refusal E) → IsWithinHand a b
       → IsOfRange (SaysOfPart gives a) (SaysOfPart refuses a) may_refuse first count e
       → IsOfRange (SaysOfPart gives b) (SaysOfPart refuses b) may_refuse first count e
   range-more a b first count NoMemory part is = is
@@ -104,7 +104,7 @@ module _ {A V E : Type 0} (items : V → List A) (gives : ℕ → HandView → A
 
   -- the results of both halves, in order
   pub both-answer : (a b c : HandView) (first low middle high : ℕ) (lower upper all : Result V (Refusal E)) → first + low ≡ middle
-      → IsPartOf a c → IsPartOf b c → c.mine ≡ a.mine ++ b.mine
+      → IsWithinHand a c → IsWithinHand b c → c.mine ≡ a.mine ++ b.mine
       → IfOk lower (AreAnswers a first low) → IfOk upper (AreAnswers b middle high)
       → IfOk all (λ v. (xs : V) × (ys : V) × (lower ≡ Ok xs) × (upper ≡ Ok ys) × (items v ≡ items xs ++ items ys))
       → IfOk all (AreAnswers c first (low + high))
@@ -124,7 +124,7 @@ module _ {A V E : Type 0} (items : V → List A) (gives : ℕ → HandView → A
 
   -- why they have none together
   pub both-refuse : (a b c : HandView) (first low middle high : ℕ) (lower upper all : Result V (Refusal E)) → first + low ≡ middle
-      → IsPartOf a c → IsPartOf b c
+      → IsWithinHand a c → IsWithinHand b c
       → IfOk lower (AreAnswers a first low) → IfErr lower (AreRefused a first low) → IfErr upper (AreRefused b middle high)
       → IfErr all (λ e. (e ≡ NoMemory) ⊎ ((lower ≡ Err e) ⊎ ((xs : V) × (lower ≡ Ok xs) × (upper ≡ Err e))))
       → IfErr all (AreRefused c first (low + high))
@@ -136,12 +136,12 @@ module _ {A V E : Type 0} (items : V → List A) (gives : ℕ → HandView → A
       ends
 
   -- the caller's hand is joined with that of all workers
-  pub all-answer : (old b c : HandView) (workers : ℕ) (all : Result V (Refusal E)) → IsPartOf b c → c.mine ≡ old.mine ++ b.mine
+  pub all-answer : (old b c : HandView) (workers : ℕ) (all : Result V (Refusal E)) → IsWithinHand b c → c.mine ≡ old.mine ++ b.mine
       → IfOk all (AreAnswers b 0 workers) → IfOk all (λ v. HaveAnswered gives old c workers (items v))
   all-answer old b c workers all part mine answered =
       IfOk-weaker all (AreAnswers b 0 workers) (λ v. HaveAnswered gives old c workers (items v)) (λ v x. (b.mine, mine, turn-more gives b c 0 (items v) b.mine part x.0, x.1)) answered
 
-  pub all-refuse : (b c : HandView) (workers : ℕ) (all : Result V (Refusal E)) → IsPartOf b c
+  pub all-refuse : (b c : HandView) (workers : ℕ) (all : Result V (Refusal E)) → IsWithinHand b c
       → IfErr all (AreRefused b 0 workers) → IfErr all (AreRefused c 0 workers)
   all-refuse b c workers all part refused =
       IfErr-weaker all (AreRefused b 0 workers) (AreRefused c 0 workers) (λ e is. range-more gives refuses may_refuse b c 0 workers e part is) refused

@@ -48,21 +48,21 @@ Leaves {T} {R} post vector worker own result =
     × IsNewHandOf shown.now.word old.now × post shown worker old result new × (new.now ≡ own)
 
 -- all that a hand owns and has seen is the other one's too
-pub record IsPartOf (own all : HandView) : Type 0 where
+pub record IsWithinHand (own all : HandView) : Type 0 where
   pub of : own.of ≡ all.of
   pub seen : IsPrefix own.seen all.seen
   pub mine : (k : ℕ) → Contains own.mine k → Contains all.mine k
 
 -- a worker said so of a hand that is part of this one
 abbrev pub SaysOfPart : {X : Type 0} → (ℕ → HandView → X → Type 0) → HandView → ℕ → X → Type 0
-SaysOfPart says all worker x = (own : HandView) × says worker own x × IsPartOf own all
+SaysOfPart says all worker x = (own : HandView) × says worker own x × IsWithinHand own all
 
 -- what workers from this one on said, each of a hand that is part of this one; their own runs together are
 -- these
 abbrev pub SayInTurn : {X : Type 0} → (ℕ → HandView → X → Type 0) → HandView → ℕ → List X → List ℕ → Type 0
 SayInTurn says all worker [] mine = mine ≡ []
 SayInTurn says all worker (x ∷ xs) mine =
-    (own : HandView) × (rest : List ℕ) × says worker own x × IsPartOf own all × (mine ≡ own.mine ++ rest)
+    (own : HandView) × (rest : List ℕ) × says worker own x × IsWithinHand own all × (mine ≡ own.mine ++ rest)
     × SayInTurn says all (worker + 1) xs rest
 
 -- the workers returned in turn, and the hand owns their runs after those that it had

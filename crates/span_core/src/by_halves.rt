@@ -34,7 +34,7 @@ pub trait ForkJoin<S, A, E> {
         ensures upper { brings self.now (first + low) high result.1 };
 
     /// Combines the results of the two halves of a range.
-    fn both(
+    fn join_halves(
         &self,
         first: u32,
         low: u32,
@@ -157,7 +157,7 @@ fn halves<
                     (job.unstarted(for_lower, first, low), upper)
                 }
             };
-            job.both(first, low, high, lower, upper)
+            job.join_halves(first, low, high, lower, upper)
         },
     )
 }

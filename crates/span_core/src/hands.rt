@@ -8,7 +8,7 @@ ghost use Rattle.span_core.specs.Hands.{AreCallable, KeepHands, Leaves, SaysOfPa
 use crate::by_halves::{ForkJoin, fork_join};
 use crate::errors::Refusal;
 use crate::gate::Gate;
-use crate::workers::{alone, both};
+use crate::workers::{join_results, list_answer};
 use grow_core::{Hand, Never, Shared};
 use std::alloc::Global;
 use std::sync::Wait;
@@ -16,7 +16,7 @@ use std::thread::Threads;
 
 // What workers do with their hands, and the gate that they pass.
 #[derive(Drop)]
-struct Crew<'a, T, F, G> {
+struct HandWorkers<'a, T, F, G> {
     alloc: Global,
     vector: &'a Shared<T>,
     work: &'a F,
@@ -38,7 +38,7 @@ impl<
     E: Drop,
     F: Fn(&Shared<T>, u32, &mut Hand<T>) -> Result<A, E>,
     G: Gate,
-> ForkJoin<Hand<T>, Left<T, A, E>, Never> for Crew<'a, T, F, G> {
+> ForkJoin<Hand<T>, Left<T, A, E>, Never> for HandWorkers<'a, T, F, G> {
     ghost use Rattle.std.specs.Prelude.{◌≡◌, ◌+◌, ◌<◌, ◌≤◌, [], IfOk, IfErr};
     ghost use Rattle.span_core.specs.Hands.{AreCallable, KeepHands, Leaves, IsLeft};
 
@@ -69,7 +69,7 @@ impl<
         }
         let answer = (self.work)(self.vector, worker, &mut hand);
         self.gate.after(worker);
-        let answers = told(self.alloc, answer);
+        let answers = list_result(self.alloc, answer);
         Ok(Left { hand, answers })
     }
 
@@ -90,7 +90,7 @@ impl<
         (lower, upper)
     }
 
-    fn both(
+    fn join_halves(
         &self,
         first: u32,
         low: u32,
@@ -114,7 +114,7 @@ impl<
             answers: more,
         } = upper?;
         self.vector.join(&mut hand, other);
-        let answers = both(answers, more);
+        let answers = join_results(answers, more);
         Ok(Left { hand, answers })
     }
 
@@ -136,13 +136,13 @@ impl<
 }
 
 // The result of one worker as that of a range.
-fn told<A: Drop, E>(alloc: Global, answer: Result<A, E>) -> Result<Vec<A>, Refusal<E>>
+fn list_result<A: Drop, E>(alloc: Global, answer: Result<A, E>) -> Result<Vec<A>, Refusal<E>>
     ensures answer { (a : A) → answer ≡ Ok a → IfOk result (λ all. all.items ≡ a ∷ []) }
     ensures memory { (a : A) → answer ≡ Ok a → IfErr result (λ e. e ≡ Refusal.NoMemory) }
     ensures refused { (e : E) → answer ≡ Err e → result ≡ Err (Refusal.Worker e) }
 {
     match answer {
-        Ok(answer) => alone(alloc, answer),
+        Ok(answer) => list_answer(alloc, answer),
         Err(error) => Err(Refusal::Worker(error)),
     }
 }
@@ -190,14 +190,14 @@ pub fn with_hands<
         (G.may_refuse gate.now) 0 workers) }
 {
     let theirs = vector.split(hand, workers);
-    let crew = Crew {
+    let job = HandWorkers {
         alloc,
         vector,
         work,
         gate,
         workers,
     };
-    match fork_join(rt, &crew, theirs, 0, workers) {
+    match fork_join(rt, &job, theirs, 0, workers) {
         Ok(left) => {
             let Left { hand: own, answers } = left;
             vector.join(hand, own);

@@ -9,7 +9,7 @@
 //! needs to know of the functions that it passes in. Each worker passes a `Gate` before and after its work,
 //! and works only if the gate let it through. `with_hands` lends each worker on a vector a hand, and in the
 //! end the caller's hand has its shares again (`specs/Hands.antt`). `run_workers` starts any `Job`, and
-//! `run_gated` any `Work`, whose workers bring something and may refuse; if one is refused, those below it
+//! `run_gated` any `Gated`, whose workers bring something and may refuse; if one is refused, those below it
 //! have returned (`specs/Workers.antt`). Under them is `fork_join`, which starts any range of workers by
 //! halves. Nothing is said about which worker took a leaf, nor that a loop returns.
 #![tactic(auto)]
@@ -21,9 +21,9 @@ mod even;
 mod gate;
 mod hands;
 pub mod laws;
+mod leaf_shares;
 mod map;
 mod reduce;
-mod shares;
 mod span;
 mod workers;
 
@@ -36,4 +36,4 @@ pub use hands::with_hands;
 pub use map::par_map;
 pub use reduce::{Domain, par_reduce};
 pub use span::Span;
-pub use workers::{Job, Work, run_gated, run_workers};
+pub use workers::{Gated, Job, run_gated, run_workers};

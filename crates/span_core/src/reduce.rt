@@ -7,8 +7,8 @@ ghost use Rattle.span_core.specs.Workers.{MayRefuseOne, IsBadNumber};
 
 use crate::errors::ParError;
 use crate::gate::Gate;
+use crate::leaf_shares::{LeafJob, each_leaf};
 use crate::map::answer_at;
-use crate::shares::{LeafJob, each_leaf};
 use crate::span::Span;
 use quiet_core::Quiet;
 use std::alloc::{AllocError, Global};

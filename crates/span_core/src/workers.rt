@@ -26,7 +26,7 @@ pub trait Job<A> {
 }
 
 /// The work of each worker of a range, with what the range brings.
-pub trait Work<S, A, E> {
+pub trait Gated<S, A, E> {
     /// When this worker may begin: mostly once a gate let it through.
     ghost ready: { Self → ℕ → Type 0 };
 
@@ -54,7 +54,7 @@ pub trait Work<S, A, E> {
 }
 
 // The results of both halves, or why there are none.
-pub(crate) fn both<A: Drop, E: Drop>(
+pub(crate) fn join_results<A: Drop, E: Drop>(
     lower: Result<Vec<A>, Refusal<E>>,
     upper: Result<Vec<A>, Refusal<E>>,
 ) -> Result<Vec<A>, Refusal<E>>
@@ -75,14 +75,14 @@ pub(crate) fn both<A: Drop, E: Drop>(
 
 // What workers do, and the gate that they pass.
 #[derive(Drop)]
-struct Crew<'a, W, G> {
+struct GatedWorkers<'a, W, G> {
     alloc: Global,
     work: &'a W,
     gate: &'a G,
 }
 
-impl<'a, S: Drop, A: Drop, E: Drop, W: Work<S, A, E>, G: Gate> ForkJoin<S, Vec<A>, Refusal<E>>
-    for Crew<'a, W, G> {
+impl<'a, S: Drop, A: Drop, E: Drop, W: Gated<S, A, E>, G: Gate> ForkJoin<S, Vec<A>, Refusal<E>>
+    for GatedWorkers<'a, W, G> {
     ghost use Rattle.std.specs.Prelude.{ℕ, ◌+◌, ◌<◌, IfOk, IfErr, Result};
     ghost use Rattle.span_core.specs.Workers.{AreReadyBy, EachGives, IsOfRange};
 
@@ -109,7 +109,7 @@ impl<'a, S: Drop, A: Drop, E: Drop, W: Work<S, A, E>, G: Gate> ForkJoin<S, Vec<A
         let answer = self.work.work(worker, brought);
         self.gate.after(worker);
         match answer {
-            Ok(answer) => alone(self.alloc, answer),
+            Ok(answer) => list_answer(self.alloc, answer),
             Err(error) => Err(Refusal::Worker(error)),
         }
     }
@@ -126,7 +126,7 @@ impl<'a, S: Drop, A: Drop, E: Drop, W: Work<S, A, E>, G: Gate> ForkJoin<S, Vec<A
         self.work.cut(brought, first, low, high)
     }
 
-    fn both(
+    fn join_halves(
         &self,
         first: u32,
         low: u32,
@@ -144,7 +144,7 @@ impl<'a, S: Drop, A: Drop, E: Drop, W: Work<S, A, E>, G: Gate> ForkJoin<S, Vec<A
         ensures refused { IfErr result (IsOfRange (W.gives self.now.work.now)
             (W.refuses self.now.work.now) (G.may_refuse self.now.gate.now) first (low + high)) }
     {
-        both(lower, upper)
+        join_results(lower, upper)
     }
 
     fn unstarted(&self, _brought: S, _first: u32, _count: u32) -> Result<Vec<A>, Refusal<E>>
@@ -159,7 +159,7 @@ impl<'a, S: Drop, A: Drop, E: Drop, W: Work<S, A, E>, G: Gate> ForkJoin<S, Vec<A
 }
 
 // The result of one worker.
-pub(crate) fn alone<A: Drop, E>(alloc: Global, answer: A) -> Result<Vec<A>, Refusal<E>>
+pub(crate) fn list_answer<A: Drop, E>(alloc: Global, answer: A) -> Result<Vec<A>, Refusal<E>>
     ensures answer { IfOk result (λ answers. answers.items ≡ answer ∷ []) }
     ensures memory { IfErr result (λ e. e ≡ Refusal.NoMemory) }
 {
@@ -181,7 +181,7 @@ pub fn run_gated<
     S: Send + Drop,
     A: Send + Drop,
     E: Send + Drop,
-    W: Work<S, A, E> + Sync,
+    W: Gated<S, A, E> + Sync,
     G: Gate + Sync,
 >(rt: &R, alloc: Global, work: &W, gate: &G, brought: S, workers: u32) -> Result<Vec<A>, Refusal<E>>
     requires ready { AreReadyBy (G.lets_through gate.now) (W.ready work.now) }
@@ -192,8 +192,8 @@ pub fn run_gated<
     ensures refused { IfErr result (IsOfRange (W.gives work.now) (W.refuses work.now)
         (G.may_refuse gate.now) 0 workers) }
 {
-    let crew = Crew { alloc, work, gate };
-    fork_join(rt, &crew, brought, 0, workers)
+    let job = GatedWorkers { alloc, work, gate };
+    fork_join(rt, &job, brought, 0, workers)
 }
 
 // A job as work that brings nothing.
@@ -202,7 +202,7 @@ struct Plain<'a, J> {
     job: &'a J,
 }
 
-impl<'a, A, J: Job<A>> Work<(), A, AllocError> for Plain<'a, J> {
+impl<'a, A, J: Job<A>> Gated<(), A, AllocError> for Plain<'a, J> {
     ghost use Rattle.std.specs.Prelude.{IfOk, IfErr, ⊤};
 
     ghost ready = { λ p. J.ready p.job.now };

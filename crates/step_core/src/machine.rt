@@ -3,7 +3,7 @@ ghost use Rattle.std.specs.Prelude.{◌≡◌, ◌≤◌, ◌<◌, ◌↔◌, le
 ghost use Rattle.std.specs.Prelude.{map as list_map};
 ghost use Rattle.std.specs.FinMap as map;
 ghost use Rattle.seg_core.specs.Segment.{IsLayout, IsLimit};
-ghost use Rattle.book_core.specs.Commands.{AreSound};
+ghost use Rattle.book_core.specs.Commands.{AreSound, most_programs};
 ghost use Rattle.step_core.specs.machine.Step.{step_of, IsStepped};
 ghost use Rattle.step_core.specs.machine.Bounds.{IsInLimit};
 ghost use Rattle.step_core.specs.machine.Installed.{HasSegments, MayRunOut};
@@ -20,7 +20,7 @@ use crate::errors::MakeError;
 use crate::machine::storage::Storage;
 use crate::programs::check_programs;
 use book_core::{Command, Ended, Event, Reply, Sequence};
-pub use phase::{Actor, Next, Phase, Slot};
+pub use phase::{Actor, Next, Phase, CellSlot};
 pub use schedule::{play, play_in};
 use seg_core::Layout;
 use std::alloc::{AllocError, Global};
@@ -75,7 +75,7 @@ impl Machine {
         limit: u64,
         programs: Sequence<Sequence<Command>>,
     ) -> Result<Machine, MakeError>
-        requires { length programs ≤ 65536 }
+        requires { length programs ≤ most_programs }
         ensures made { IfOk result (λ machine. machine ≡ first_configuration 1 limit programs) }
         // What the laws ask for.
         ensures limit { OnOk result (IsLimit limit) }
@@ -94,7 +94,7 @@ impl Machine {
         limit: u64,
         programs: Sequence<Sequence<Command>>,
     ) -> Result<Machine, MakeError>
-        requires { length programs ≤ 65536 }
+        requires { length programs ≤ most_programs }
         ensures made { IfOk result (λ machine. machine ≡ first_configuration layout limit programs) }
         // What the laws ask for.
         ensures layout { OnOk result (IsLayout layout) }
@@ -130,7 +130,7 @@ impl Machine {
     }
 
     /// Returns what the slot of a place holds, or `None` if it is empty.
-    pub fn slot(&self, place: u64) -> Option<Slot>
+    pub fn slot(&self, place: u64) -> Option<CellSlot>
         ensures { result ≡ map.get self.now.storage.slots place }
     {
         self.storage.slot(place)

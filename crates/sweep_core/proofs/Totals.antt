@@ -9,7 +9,7 @@ use Rattle.std.specs.Prelude.{⊤}
 use Rattle.std.specs.declared.alloc.AllocError.{AllocError}
 use Rattle.sweep_core.specs.declared.report.SweepReport.{SweepReport}
 use Rattle.sweep_core.specs.Sweep.{seed_of, all_events, all_ended}
-use Rattle.sweep_core.specs.Sums.{no_report, report_of, plus, both, total_of, reports_of}
+use Rattle.sweep_core.specs.Sums.{no_report, report_of, plus, sum_of_results, total_of, reports_of}
 use Rattle.sweep_core.proofs.Sampled.{is_short}
 
 abbrev Outcome : Type 0
@@ -51,7 +51,7 @@ pub none_total : (e : Outcome) → e ≡ Ok no_report → IsTotal [] e
 none_total e is = subst (IsTotal []) (sym is) ([], refl, refl)
 
 -- of one more
-pub more_total : (xs : List Outcome) (a x r : Outcome) → IsTotal xs a → r ≡ both a x → IsTotal (xs ++ x ∷ []) r
+pub more_total : (xs : List Outcome) (a x r : Outcome) → IsTotal xs a → r ≡ sum_of_results a x → IsTotal (xs ++ x ∷ []) r
 more_total xs (Ok a) (Ok x) r h is =
     subst (IsTotal (xs ++ Ok x ∷ [])) (sym is)
     (h.0 ++ x ∷ [], ap (λ l. l ++ Ok x ∷ []) h.1 ∙ sym (map-append Ok h.0 (x ∷ [])), ap (λ t. plus t x) h.2 ∙ total_more h.0 x)
@@ -59,7 +59,7 @@ more_total xs (Ok a) (Err e) r h is = subst (IsTotal (xs ++ Err e ∷ [])) (sym 
 more_total xs (Err e) x r h is = subst (IsTotal (xs ++ x ∷ [])) (sym is) tt
 
 -- of two lots
-pub join_total : (xs ys : List Outcome) (a b r : Outcome) → IsTotal xs a → IsTotal ys b → r ≡ both a b → IsTotal (xs ++ ys) r
+pub join_total : (xs ys : List Outcome) (a b r : Outcome) → IsTotal xs a → IsTotal ys b → r ≡ sum_of_results a b → IsTotal (xs ++ ys) r
 join_total xs ys (Ok a) (Ok b) r h k is =
     subst (IsTotal (xs ++ ys)) (sym is)
     (h.0 ++ k.0, (λ i. h.1 i ++ k.1 i) ∙ sym (map-append Ok h.0 k.0), (λ i. plus (h.2 i) (k.2 i)) ∙ total_join h.0 k.0)

@@ -28,10 +28,10 @@ plus a b = record {
 }
 
 -- the same if memory may have been refused to either
-abbrev pub both : Result SweepReport AllocError → Result SweepReport AllocError → Result SweepReport AllocError
-both (Ok a) (Ok b) = Ok (plus a b)
-both (Ok a) (Err e) = Err e
-both (Err e) b = Err e
+abbrev pub sum_of_results : Result SweepReport AllocError → Result SweepReport AllocError → Result SweepReport AllocError
+sum_of_results (Ok a) (Ok b) = Ok (plus a b)
+sum_of_results (Ok a) (Err e) = Err e
+sum_of_results (Err e) b = Err e
 
 -- of all these reports; each number wraps
 abbrev pub total_of : List SweepReport → SweepReport

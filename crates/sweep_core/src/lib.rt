@@ -10,8 +10,8 @@
 
 mod report;
 mod schedule;
-mod share;
+mod schedule_shares;
 mod single;
 
 pub use report::SweepReport;
-pub use share::{MOST_ITEMS, MOST_SCHEDULES, sweep};
+pub use schedule_shares::{MOST_ITEMS, MOST_SCHEDULES, sweep};

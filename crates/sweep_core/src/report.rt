@@ -1,6 +1,6 @@
 //! What a sweep found.
 ghost use Rattle.std.specs.Prelude.{◌≡◌};
-ghost use Rattle.sweep_core.specs.Sums.{both, plus};
+ghost use Rattle.sweep_core.specs.Sums.{sum_of_results, plus};
 
 use std::alloc::AllocError;
 use std::fmt;
@@ -34,7 +34,7 @@ impl fmt::Display for SweepReport {
 }
 
 // Both together. The numbers of a sweep are small, and do not wrap.
-fn plus(a: SweepReport, b: SweepReport) -> SweepReport
+fn add_reports(a: SweepReport, b: SweepReport) -> SweepReport
     ensures { result ≡ plus a b }
 {
     SweepReport {
@@ -46,11 +46,11 @@ fn plus(a: SweepReport, b: SweepReport) -> SweepReport
 }
 
 // The same if memory may have been refused to either.
-pub(crate) fn both(
+pub(crate) fn add_results(
     a: Result<SweepReport, AllocError>,
     b: Result<SweepReport, AllocError>,
 ) -> Result<SweepReport, AllocError>
-    ensures { result ≡ both a b }
+    ensures { result ≡ sum_of_results a b }
 {
-    Ok(plus(a?, b?))
+    Ok(add_reports(a?, b?))
 }

@@ -9,7 +9,7 @@ use rand_pcg::Pcg32;
 use std::alloc::{AllocError, Global};
 
 // The programs of the three actors, as a machine takes them.
-pub(crate) fn programs(alloc: Global) -> Result<Sequence<Sequence<Command>>, AllocError>
+pub(crate) fn make_programs(alloc: Global) -> Result<Sequence<Sequence<Command>>, AllocError>
     ensures { IfOk result (λ programs. programs ≡ sampled_programs) }
 {
     let first = vec![in alloc;

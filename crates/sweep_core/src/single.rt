@@ -1,14 +1,14 @@
 //! One schedule: its play, checked and counted.
 ghost use Rattle.std.specs.Prelude.{◌≡◌, ◌≤◌, ◌↔◌, IsTrue, IfOk, length};
 ghost use Rattle.book_core.specs.Cells.{empty_list};
-ghost use Rattle.book_core.specs.Commands.{AreSound, HavePrograms};
+ghost use Rattle.book_core.specs.Commands.{AreSound, HavePrograms, most_programs};
 ghost use Rattle.book_core.specs.History.{IsLegalFrom};
 ghost use Rattle.step_core.specs.machine.Work.{play_shown};
 ghost use Rattle.sweep_core.specs.Sweep.{sampled_limit, sampled_play};
 ghost use Rattle.sweep_core.specs.Sums.{report_of};
 
 use crate::report::SweepReport;
-use crate::schedule::{items_of, programs};
+use crate::schedule::{items_of, make_programs};
 use book_core::{Command, Event, Item, Reply, Sequence, check};
 use std::alloc::{AllocError, Global};
 use step_core::{PlayError, Played, laws, play};
@@ -21,7 +21,7 @@ fn play_sound(
     programs: Sequence<Sequence<Command>>,
     items: &[Item],
 ) -> Result<Played, AllocError>
-    requires few { length programs ≤ 65536 }
+    requires few { length programs ≤ most_programs }
     requires sound { AreSound programs }
     requires programs { HavePrograms programs items.now }
     ensures { IfOk result (λ played. played ≡ play_shown 1 sampled_limit programs items.now) }
@@ -34,12 +34,12 @@ fn play_sound(
 }
 
 // The play of the schedule of a seed.
-fn played(alloc: Global, seed: u64, len: u32) -> Result<Played, AllocError>
+fn play_seed(alloc: Global, seed: u64, len: u32) -> Result<Played, AllocError>
     ensures events { IfOk result (λ played. played.events ≡ (sampled_play seed len).events) }
     ensures ended { IfOk result (λ played. played.ended ≡ (sampled_play seed len).ended) }
 {
     let items = items_of(alloc, seed, len)?;
-    let programs = programs(alloc)?;
+    let programs = make_programs(alloc)?;
     play_sound(alloc, programs, &items)
 }
 
@@ -54,8 +54,9 @@ fn is_legal(alloc: Global, events: &[(Event, Reply)]) -> Result<bool, AllocError
 pub(crate) fn report_of(alloc: Global, seed: u64, len: u32) -> Result<SweepReport, AllocError>
     ensures { IfOk result (λ report. report ≡ report_of len seed) }
 {
+    // For the proof: every play is legal.
     laws::legal();
-    let played = played(alloc, seed, len)?;
+    let played = play_seed(alloc, seed, len)?;
     let legal = is_legal(alloc, played.events.as_slice())?;
     Ok(SweepReport {
         schedules: 1,

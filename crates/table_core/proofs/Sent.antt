@@ -18,7 +18,7 @@ use Rattle.table_core.specs.Entry.{length_of, name_of, noted, Fit}
 use Rattle.table_core.specs.declared.entry.steps.Measured.{Ghosts}
 use Rattle.table_core.specs.contracts.entry.steps.Entry as Entry
 use Rattle.table_core.specs.contracts.entry.steps.Entry.TheInside as inside
-use Rattle.table_core.specs.contracts.entry.steps.Sight as Sight
+use Rattle.table_core.specs.contracts.entry.steps.EntrySight as EntrySight
 
 -- a block of the length goes where a block goes
 fit_send : (R : RattleType) (measure : R.Denot → ℕ) (n : ℕ) → IsSend R → IsSend (Fit R measure n)
@@ -48,9 +48,9 @@ noted_keyless : (R : RattleType) (γ : ℕ) (k : Option R.Denot) → Keyless (no
 noted_keyless R γ None = tt
 noted_keyless R γ (Some x) = tt
 
-pub sight_send : (R : RattleType) → IsSend (Sight.the_row R)
+pub sight_send : (R : RattleType) → IsSend (EntrySight.the_row R)
 sight_send R = record { owned = λ d vs. ((λ vss. (tt, ((λ uss. (tt, tt)), tt))), noted_keyless R d.of d.known); leaving = λ k f vs. tt }
 
-pub sight_sync : (R : RattleType) → IsSync (Sight.the_row R)
-sight_sync R = let fields : IsSync (denote.Struct.Struct.Struct (denote.Struct.Owning.shape (Sight.the_type R))) = search sendable depth 20 in
+pub sight_sync : (R : RattleType) → IsSync (EntrySight.the_row R)
+sight_sync R = let fields : IsSync (denote.Struct.Struct.Struct (denote.Struct.Owning.shape (EntrySight.the_type R))) = search sendable depth 20 in
     record { shared = λ d b o κ. (fields.shared (tt, tt) b o κ, noted_keyless R d.of d.known) }

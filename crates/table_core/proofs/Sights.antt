@@ -1,4 +1,4 @@
--- The machine value of a `Sight`, and one behind a `&mut` opened and shut. Assumes `Logic`.
+-- The machine value of an `EntrySight`, and one behind a `&mut` opened and closed. Assumes `Logic`.
 use Rattle.std.proofs.Common.{◌≡◌, ℕ, [], ◌∷◌, refl, ap, IfSome}
 use seplogic.Ra.Ura.{Ura}
 use mir.Val.{Val, vstruct, vcons, vnil}
@@ -21,21 +21,21 @@ use Rattle.std.specs.declared.option.Option.{Option}
 use Rattle.std.specs.declared.option.Option.TheVariants.{None, Some}
 use Rattle.once_cell.proofs.Moves.{second}
 use Rattle.table_core.specs.Entry.{Agrees, noted}
-use Rattle.table_core.specs.contracts.entry.steps.Sight as sight
+use Rattle.table_core.specs.contracts.entry.steps.EntrySight as sight
 
 abbrev pub token : Val
 token = vstruct (vcons (vstruct vnil) vnil)
 
 module _ {M : Type 1} {𝓤 : Ura M} (𝓛 : Logic 𝓤) (R : RattleType) where
-  abbrev pub Sight : RattleType
-  Sight = sight.the_row R
+  abbrev pub EntrySight : RattleType
+  EntrySight = sight.the_row R
 
   abbrev Data : Fml
   Data = (Struct (shape (sight.the_type R))).own_val (tt, tt) (token ∷ [])
 
   -- a sight is made of what it knows
   pub sight_made : (γ : ℕ) (k : Option R.Denot)
-      → ent 𝓤 (sem 𝓛 (noted R γ k)) (sem 𝓛 (Sight.own_val (record { marker = record {}; of = γ; known = k }) (token ∷ [])))
+      → ent 𝓤 (sem 𝓛 (noted R γ k)) (sem 𝓛 (EntrySight.own_val (record { marker = record {}; of = γ; known = k }) (token ∷ [])))
   sight_made γ k = qed 𝓛 (‵ (noted R γ k) ∷ []) ∵ use0 𝓛 (‵ Data) (makes_shadow 𝓛 Data (λ vss. (tt, ((λ uss. (tt, tt)), tt))) ((vstruct vnil ∷ [], tt), (refl, ((tt, (refl, tt)), tt)))) $ fjoin ! $ done !
 
   -- what is known is known twice
@@ -58,14 +58,14 @@ module _ {M : Type 1} {𝓤 : Ura M} (𝓛 : Logic 𝓤) (R : RattleType) where
       use2 𝓛 (later (‵ (fbor κ P) ⊛ raw (lfts 𝓛 ts))) (apply∗ 𝓤 (sem 𝓛 P) Back) $ await ! tt $ split ! $ drop ! $ move ! (1 ∷ 0 ∷ []) $ now ! $ done !
 
   module _ (κ : Lft) (q : Share) (b o ν : ℕ) where
-    abbrev pub lent : Sight.Denot → Fml
-    lent n = fsep (fobs ν (Sight.coded.code n)) (fbor κ (Body (mem Sight) b o ν))
+    abbrev pub lent : EntrySight.Denot → Fml
+    lent n = fsep (fobs ν (EntrySight.coded.code n)) (fbor κ (Body (mem EntrySight) b o ν))
 
-    abbrev pub Shuts : Sight.Denot → SProp 𝓤
-    Shuts n = wand 𝓤 (sem 𝓛 (noted R n.of n.known)) (𝓛.H.⇛ (sep 𝓤 (sem 𝓛 (lent n)) (𝓛.A.lft κ q)))
+    abbrev pub Closes : EntrySight.Denot → SProp 𝓤
+    Closes n = wand 𝓤 (sem 𝓛 (noted R n.of n.known)) (𝓛.H.⇛ (sep 𝓤 (sem 𝓛 (lent n)) (𝓛.A.lft κ q)))
 
-    -- a `&mut` to a sight opens to what it knows, and shuts on what it then knows
-    pub sight_opens : (n : Sight.Denot)
-        → ent 𝓤 (sep 𝓤 (sem 𝓛 (lent n)) (𝓛.A.lft κ q)) (𝓛.H.⇛ (sep 𝓤 (sem 𝓛 (noted R n.of n.known)) (all 𝓤 Shuts)))
-    sight_opens n = qed 𝓛 (‵ (lent n) ∷ ‵ (flft κ q) ∷ []) ∵ updating ! $ fsplit ! $ opens ! tt Sight b o (λ vs. move ! (1 ∷ []) $ fsplit ! $ now ! $ move ! (1 ∷ []) $ frame ! $
-        each ! Shuts (λ m. assume ! (‵ (noted R m.of m.known)) $ updating ! $ move ! (1 ∷ 0 ∷ []) $ fjoin ! $ move ! (1 ∷ 0 ∷ []) $ closes ! tt Sight m vs b o $ fjoin ! $ now ! $ done !))
+    -- a `&mut` to a sight opens to what it knows, and closes on what it then knows
+    pub sight_opens : (n : EntrySight.Denot)
+        → ent 𝓤 (sep 𝓤 (sem 𝓛 (lent n)) (𝓛.A.lft κ q)) (𝓛.H.⇛ (sep 𝓤 (sem 𝓛 (noted R n.of n.known)) (all 𝓤 Closes)))
+    sight_opens n = qed 𝓛 (‵ (lent n) ∷ ‵ (flft κ q) ∷ []) ∵ updating ! $ fsplit ! $ opens ! tt EntrySight b o (λ vs. move ! (1 ∷ []) $ fsplit ! $ now ! $ move ! (1 ∷ []) $ frame ! $
+        each ! Closes (λ m. assume ! (‵ (noted R m.of m.known)) $ updating ! $ move ! (1 ∷ 0 ∷ []) $ fjoin ! $ move ! (1 ∷ 0 ∷ []) $ closes ! tt EntrySight m vs b o $ fjoin ! $ now ! $ done !))

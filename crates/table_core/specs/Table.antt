@@ -23,17 +23,17 @@ table_coded =
     (λ (t : TableView). (t.layout, (t.names, (t.lent, t.held))))
     (λ x y e i. record { layout = (e i).0; names = (e i).1.0; lent = (e i).1.1.0; held = (e i).1.1.1 })
 
--- the key of an entry: the table's layout, the entry's number, its block, and its name
+-- the key of an entry: the table's layout, the entry's segment, its block, and its name
 pub record KeyView : Type 0 where
   pub layout : ℕ
-  pub entry : ℕ
+  pub segment : ℕ
   pub block : BlockView
   pub name : ℕ
 
 abbrev pub key_coded : Coded KeyView
 key_coded =
-    coded_via (coded× coded_ℕ (coded× coded_ℕ (coded× block_coded coded_ℕ))) (λ (k : KeyView). (k.layout, (k.entry, (k.block, k.name))))
-    (λ x y e i. record { layout = (e i).0; entry = (e i).1.0; block = (e i).1.1.0; name = (e i).1.1.1 })
+    coded_via (coded× coded_ℕ (coded× coded_ℕ (coded× block_coded coded_ℕ))) (λ (k : KeyView). (k.layout, (k.segment, (k.block, k.name))))
+    (λ x y e i. record { layout = (e i).0; segment = (e i).1.0; block = (e i).1.1.0; name = (e i).1.1.1 })
 
 -- the number of places of a segment
 abbrev pub IsLengthOf : ℕ → ℕ → ℕ → Type 0
@@ -46,13 +46,13 @@ IsBlockOf f k block = IsLengthOf f k (block_len block)
 -- the key is of an entry of the table
 pub record IsKeyIn (table : TableView) (key : KeyView) : Type 0 where
   pub layout : key.layout ≡ table.layout
-  pub within : key.entry < segment_count table.layout
-  pub named : slice_index table.names key.entry ≡ key.name
+  pub within : key.segment < segment_count table.layout
+  pub named : slice_index table.names key.segment ≡ key.name
 
 -- the key is of this entry, and of this block
 pub record IsKeyOf (table : TableView) (k : ℕ) (block : BlockView) (key : KeyView) : Type 0 where
   pub inside : IsKeyIn table key
-  pub at : key.entry ≡ k
+  pub at : key.segment ≡ k
   pub of : key.block ≡ block
 
 -- all entries but this one are those that they were

@@ -2,4 +2,4 @@
 mod loose;
 mod steps;
 
-pub(crate) use steps::{Entry, Measured, Sight};
+pub(crate) use steps::{Entry, EntrySight, Measured};

@@ -7,7 +7,7 @@ ghost use Rattle.table_core.specs.Entry.{length_of};
 mod key;
 mod owner;
 
-use crate::entry::{Entry, Measured, Sight};
+use crate::entry::{Entry, EntrySight, Measured};
 use cell_core::block::Block;
 pub use key::Key;
 use owner::{Held, Lent};
@@ -48,19 +48,19 @@ impl<T> Model for Table<T> {
     ghost view = { λ t. record {
       layout = t.layout;
       names = map name_of t.entries;
-      lent = option_map (λ l. l.entry) t.lent;
-      held = option_map (λ h. h.entry) t.held;
+      lent = option_map (λ l. l.segment) t.lent;
+      held = option_map (λ h. h.segment) t.held;
     } };
 
     ghost invariant = { λ t. IsLayout t.layout × AllFit t.layout t.entries
-        × ForSome t.held (λ h. slice_index (map name_of t.entries) h.entry ≡ h.sight.of) };
+        × ForSome t.held (λ h. slice_index (map name_of t.entries) h.segment ≡ h.sight.of) };
 }
 
-fn empty_entry<T>(alloc: Global, layout: Layout, k: u32) -> Entry<Block<T>>
-    ensures { k < segment_count layout → IsLengthOf layout k (length_of result) }
+fn empty_entry<T>(alloc: Global, layout: Layout, segment: u32) -> Entry<Block<T>>
+    ensures { segment < segment_count layout → IsLengthOf layout segment (length_of result) }
 {
-    let len = if k < layout.segments() {
-        layout.len(k)
+    let len = if segment < layout.segments() {
+        layout.len(segment)
     } else {
         0
     };
@@ -83,10 +83,10 @@ impl<T> Table<T> {
         // It is one from 1 to 8: the entries are enough.
         let _f = layout.f();
         let entries = array::from_fn(
-            |k: usize| -> Entry<Block<T>>
-                requires { k < 40 }
-                ensures { k < segment_count layout → IsLengthOf layout k (length_of result) }
-            { empty_entry(alloc, layout, k as u32) },
+            |segment: usize| -> Entry<Block<T>>
+                requires { segment < 40 }
+                ensures { segment < segment_count layout → IsLengthOf layout segment (length_of result) }
+            { empty_entry(alloc, layout, segment as u32) },
         );
         Table {
             layout,
@@ -106,28 +106,28 @@ impl<T> Table<T> {
     }
 
     /// Returns the entry's block if it is set now, by one load.
-    pub fn scout(&self, k: u32) -> Option<&Block<T>>
-        requires { k < segment_count self.now.layout }
-        ensures { IfSome result (λ block. IsBlockOf self.now.layout k block.now) }
+    pub fn scout(&self, segment: u32) -> Option<&Block<T>>
+        requires { segment < segment_count self.now.layout }
+        ensures { IfSome result (λ block. IsBlockOf self.now.layout segment block.now) }
     {
-        let entry = &self.entries[k as usize];
+        let entry = &self.entries[segment as usize];
         entry.look(&mut entry.sight())
     }
 
     /// Returns the entry's block like `scout`, with the entry's key.
-    pub fn scout_key(&self, k: u32) -> Option<(&Block<T>, Key)>
-        requires { k < segment_count self.now.layout }
-        ensures length { IfSome result (λ (block, _). IsBlockOf self.now.layout k block.now) }
-        ensures key { IfSome result (λ (block, key). IsKeyOf self.now k block.now key) }
+    pub fn scout_key(&self, segment: u32) -> Option<(&Block<T>, Key)>
+        requires { segment < segment_count self.now.layout }
+        ensures length { IfSome result (λ (block, _). IsBlockOf self.now.layout segment block.now) }
+        ensures key { IfSome result (λ (block, key). IsKeyOf self.now segment block.now key) }
     {
-        let entry = &self.entries[k as usize];
+        let entry = &self.entries[segment as usize];
         let mut sight = entry.sight();
         match entry.look(&mut sight) {
             Some(block) => Some((
                 block,
                 Key {
                     layout: self.layout,
-                    entry: k as u8,
+                    segment: segment as u8,
                     sight: sight.again(),
                 },
             )),
@@ -140,8 +140,8 @@ impl<T> Table<T> {
         ensures { result ≤ segment_count self.now.layout }
     {
         let mut count = 0;
-        for k in 0..self.layout.segments() {
-            if self.scout(k).is_some() {
+        for segment in 0..self.layout.segments() {
+            if self.scout(segment).is_some() {
                 count += 1;
             }
         }
@@ -152,10 +152,10 @@ impl<T> Table<T> {
     pub fn known<'a>(&'a self, key: &Key) -> &'a Block<T>
         requires { IsKeyIn self.now key.now }
         ensures block { result.now ≡ key.now.block }
-        ensures length { IsBlockOf self.now.layout key.now.entry result.now }
+        ensures length { IsBlockOf self.now.layout key.now.segment result.now }
     {
         let mut sight = key.sight.again::<T>();
-        match self.entries[key.entry as usize].look(&mut sight) {
+        match self.entries[key.segment as usize].look(&mut sight) {
             Some(block) => block,
             None => unreachable!(),
         }
@@ -165,9 +165,9 @@ impl<T> Table<T> {
     pub fn agree(&self, a: &Key, b: &Key)
         requires a { IsKeyIn self.now a.now }
         requires b { IsKeyIn self.now b.now }
-        ensures { a.now.entry ≡ b.now.entry → a.now.block ≡ b.now.block }
+        ensures { a.now.segment ≡ b.now.segment → a.now.block ≡ b.now.block }
     {
-        if a.entry == b.entry {
+        if a.segment == b.segment {
             a.sight.agrees(&b.sight);
         }
     }
@@ -175,18 +175,22 @@ impl<T> Table<T> {
 
 impl<T: Drop> Table<T> {
     // The entry's block: a new one, unless the entry is set.
-    fn set<'a>(&'a self, k: u32, sight: &mut Sight<Block<T>>) -> Result<&'a Block<T>, AllocError>
-        requires within { k < segment_count self.now.layout }
-        requires of { slice_index self.now.names k ≡ sight.old.of }
+    fn set<'a>(
+        &'a self,
+        segment: u32,
+        sight: &mut EntrySight<Block<T>>,
+    ) -> Result<&'a Block<T>, AllocError>
+        requires within { segment < segment_count self.now.layout }
+        requires of { slice_index self.now.names segment ≡ sight.old.of }
         ensures same { sight.new.of ≡ sight.old.of }
         ensures known { IfOk result (λ block. sight.new.known ≡ Some block.now) }
-        ensures length { IfOk result (λ block. IsBlockOf self.now.layout k block.now) }
+        ensures length { IfOk result (λ block. IsBlockOf self.now.layout segment block.now) }
     {
-        let entry = &self.entries[k as usize];
+        let entry = &self.entries[segment as usize];
         match entry.look(sight) {
             Some(block) => Ok(block),
             None => {
-                let block = Block::new(self.alloc, self.layout.len(k))?;
+                let block = Block::new(self.alloc, self.layout.len(segment))?;
                 let (first, back) = entry.set(Box::new(self.alloc, block)?, sight);
                 if let Some(back) = back {
                     Box::into_inner(back).free();
@@ -198,26 +202,26 @@ impl<T: Drop> Table<T> {
 
     /// Returns the entry's block, and makes and sets it if there is none. If another call comes first, this
     /// call frees its own block at once and returns the other's. A refused call never sets an entry.
-    pub fn install(&self, k: u32) -> Result<&Block<T>, AllocError>
-        requires { k < segment_count self.now.layout }
-        ensures { IfOk result (λ block. IsBlockOf self.now.layout k block.now) }
+    pub fn install(&self, segment: u32) -> Result<&Block<T>, AllocError>
+        requires { segment < segment_count self.now.layout }
+        ensures { IfOk result (λ block. IsBlockOf self.now.layout segment block.now) }
     {
-        self.set(k, &mut self.entries[k as usize].sight())
+        self.set(segment, &mut self.entries[segment as usize].sight())
     }
 
     /// Returns the entry's block like `install`, with the entry's key.
-    pub fn install_key(&self, k: u32) -> Result<(&Block<T>, Key), AllocError>
-        requires { k < segment_count self.now.layout }
-        ensures length { IfOk result (λ (block, _). IsBlockOf self.now.layout k block.now) }
-        ensures key { IfOk result (λ (block, key). IsKeyOf self.now k block.now key) }
+    pub fn install_key(&self, segment: u32) -> Result<(&Block<T>, Key), AllocError>
+        requires { segment < segment_count self.now.layout }
+        ensures length { IfOk result (λ (block, _). IsBlockOf self.now.layout segment block.now) }
+        ensures key { IfOk result (λ (block, key). IsKeyOf self.now segment block.now key) }
     {
-        let mut sight = self.entries[k as usize].sight();
-        let block = self.set(k, &mut sight)?;
+        let mut sight = self.entries[segment as usize].sight();
+        let block = self.set(segment, &mut sight)?;
         Ok((
             block,
             Key {
                 layout: self.layout,
-                entry: k as u8,
+                segment: segment as u8,
                 sight: sight.again(),
             },
         ))

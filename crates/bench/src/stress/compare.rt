@@ -41,7 +41,7 @@ fn places_of<R: AllocGlobal>(
 }
 
 // The error for a place that has no value and is not broken.
-fn not_filled<P: Display>(place: u64, error: &P) -> Error {
+fn error_at<P: Display>(place: u64, error: &P) -> Error {
     anyhow!("place {place}: {error}")
 }
 
@@ -53,7 +53,7 @@ fn value_at(vector: &Shared<u64>, hand: &mut Hand<u64>, place: u64) -> Result<Op
     match vector.at(hand, place, None) {
         Ok(at) => Ok(Some(*at.value)),
         Err(AtError::Broken(_spoilt)) => Ok(None),
-        Err(error) => Err(not_filled(place, &error)),
+        Err(error) => Err(error_at(place, &error)),
     }
 }
 

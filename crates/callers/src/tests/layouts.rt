@@ -5,7 +5,7 @@ use script_core::{Script, read};
 use seg_core::Layout;
 use std::alloc::Global;
 use std::test::Fail;
-use step_core::{Machine, Played, Slot, play_in};
+use step_core::{Machine, Played, CellSlot, play_in};
 
 // The number of a layout, and how many steps a growth by 300 takes up to its claim: a load, two for each
 // segment of its places, and an exchange.
@@ -51,10 +51,10 @@ fn is_filled_by(alloc: Global, f: u32, steps: u32) -> Result<bool, Fail> {
     for _step in 1..steps {
         machine.step(0, true)?;
     }
-    let is_busy = machine.slot(65_535) == Some(Slot::Busy(0));
+    let is_busy = machine.slot(65_535) == Some(CellSlot::Busy(0));
     machine.step(0, true)?;
-    let is_filled = machine.slot(65_535) == Some(Slot::Filled(7))
-        && machine.slot(0) == Some(Slot::Filled(7));
+    let is_filled = machine.slot(65_535) == Some(CellSlot::Filled(7))
+        && machine.slot(0) == Some(CellSlot::Filled(7));
     Ok(is_busy && is_filled && machine.size() == 65_536 && machine.slot(65_536).is_none())
 }
 

@@ -5,7 +5,7 @@ use book_core::{Answer, Command, Event, Reply, Sequence};
 use script_core::read;
 use std::alloc::{AllocError, Global};
 use std::test::Fail;
-use step_core::{Machine, MakeError, Slot, Stepped};
+use step_core::{Machine, MakeError, CellSlot, Stepped};
 
 // An actor's step with memory, the size after it, and whether it is an event.
 pub(super) type Row = (u32, u64, bool);
@@ -76,13 +76,13 @@ fn refused_step(machine: &mut Machine, actor: u32) -> Stepped {
 
 const PUSHES: &str = "limit 8\nactor a push 5\nactor b push 6\nsteps";
 
-const SLOTS: [Option<Slot>; 6] = [
+const SLOTS: [Option<CellSlot>; 6] = [
     None,
     None,
     None,
     None,
-    Some(Slot::Busy(1)),
-    Some(Slot::Filled(6)),
+    Some(CellSlot::Busy(1)),
+    Some(CellSlot::Filled(6)),
 ];
 
 #[test]
@@ -135,7 +135,7 @@ fn the_most_programs_are_played(rt: HostRuntime) -> Result<(), Fail> {
         }
     }
     assert!(rt; machine.actors() == 65_536 && machine.size() == 65_536);
-    assert!(rt; machine.slot(65_535) == Some(Slot::Filled(9)));
+    assert!(rt; machine.slot(65_535) == Some(CellSlot::Filled(9)));
     Ok(())
 }
 

@@ -1,4 +1,4 @@
-//! Any one request for memory may be refused: then a call says so, and the next one succeeds. `bin/refusals`
+//! Any one request for memory may be refused: then a call says so, and the next one succeeds. `tests/refuse-memory`
 //! refuses each request in turn.
 
 ghost use Rattle.std.specs.Prelude.{◌≤◌, IfOk, length};

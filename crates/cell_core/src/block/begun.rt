@@ -5,11 +5,11 @@ use crate::slot::steps;
 use std::fmt;
 use std::marker::Model;
 
-/// Evidence that another call began the cell at a place. It has no bytes except its place.
+/// Evidence that another call began the cell at an offset. It has no bytes except its offset.
 #[derive(Drop)]
 pub struct Begun {
-    pub(crate) place: u64,
-    pub(crate) begun: steps::Begun,
+    pub(crate) offset: u64,
+    pub(crate) begun: steps::RawBegun,
 }
 
 impl Model for Begun {
@@ -19,22 +19,22 @@ impl Model for Begun {
 
     ghost coded = { begun_coded };
 
-    ghost view = { λ b. record { place = b.place; cell = b.begun.of } };
+    ghost view = { λ b. record { offset = b.offset; cell = b.begun.of } };
 }
 
 impl fmt::Debug for Begun {
     fn fmt<W: fmt::Write>(&self, f: &mut fmt::Formatter<W>) -> fmt::Result {
         f.debug_struct("Begun")
-            .field("place", &self.place)
+            .field("offset", &self.offset)
             .finish_non_exhaustive()
     }
 }
 
 impl Begun {
-    /// Returns the cell's place in its block.
-    pub fn place(&self) -> u64
-        ensures { result ≡ self.now.place }
+    /// Returns the cell's offset in its block.
+    pub fn offset(&self) -> u64
+        ensures { result ≡ self.now.offset }
     {
-        self.place
+        self.offset
     }
 }

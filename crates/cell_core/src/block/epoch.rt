@@ -7,7 +7,7 @@ use std::marker::Model;
 /// A period: until it ends, the cells that an exclusive owner broke stay broken. It has no bytes.
 #[derive(Drop)]
 pub struct Epoch {
-    pub(crate) epoch: epoch::Epoch,
+    pub(crate) epoch: epoch::RawEpoch,
 }
 
 impl Model for Epoch {
@@ -26,26 +26,26 @@ impl Epoch {
     /// Begins an epoch.
     pub fn new() -> Epoch {
         Epoch {
-            epoch: epoch::Epoch::begin(),
+            epoch: epoch::RawEpoch::begin(),
         }
     }
 
     /// Ends the epoch. Others may then mend what was broken in it.
-    pub fn end(self) -> Ended
+    pub fn end(self) -> EndedEpoch
         ensures { result ≡ self }
     {
         let Epoch { epoch } = self;
-        Ended { ended: epoch.end() }
+        EndedEpoch { ended: epoch.end() }
     }
 }
 
 /// Evidence that an epoch has ended. It has no bytes.
 #[derive(Drop)]
-pub struct Ended {
-    pub(crate) ended: epoch::Ended,
+pub struct EndedEpoch {
+    pub(crate) ended: epoch::RawEnded,
 }
 
-impl Model for Ended {
+impl Model for EndedEpoch {
     ghost use Rattle.std.specs.Prelude.{[], ◌∷◌};
     ghost use base.Stored.{coded_list, coded_ℕ};
     ghost use base.Fml.{Lft};
@@ -57,12 +57,12 @@ impl Model for Ended {
     ghost view = { λ e. e.ended.of ∷ [] };
 }
 
-impl Ended {
-    /// Duplicates the member.
-    pub fn again(&self) -> Ended
+impl EndedEpoch {
+    /// Duplicates the evidence.
+    pub fn again(&self) -> EndedEpoch
         ensures { result ≡ self.now }
     {
-        Ended {
+        EndedEpoch {
             ended: self.ended.again(),
         }
     }

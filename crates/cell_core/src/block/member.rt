@@ -11,7 +11,7 @@ use std::mem::replace;
 /// until that ends. It has no bytes.
 #[derive(Drop)]
 pub struct Member<T> {
-    pub(crate) member: member::Member<T>,
+    pub(crate) member: member::RawMember<T>,
 }
 
 impl<T> Model for Member<T> {
@@ -31,7 +31,7 @@ impl<T> Member<T> {
         ensures name { result.name ≡ placed.now.name }
     {
         Member {
-            member: member::Member::filled(&placed.written),
+            member: member::RawMember::filled(&placed.written),
         }
     }
 
@@ -55,7 +55,7 @@ impl<T> Member<T> {
 /// The knowledge of each cell of a row, in order. It has no bytes, at any length.
 #[derive(Drop)]
 pub struct Row<T> {
-    row: member::Row<T>,
+    row: member::RawRow<T>,
 }
 
 impl<T> Model for Row<T> {
@@ -76,7 +76,7 @@ impl<T> Row<T> {
         ensures { result ≡ [] }
     {
         Row {
-            row: member::Row::empty(),
+            row: member::RawRow::empty(),
         }
     }
 
@@ -84,7 +84,7 @@ impl<T> Row<T> {
     pub fn push(&mut self, member: &Member<T>)
         ensures { self.new ≡ self.old ++ member.now ∷ [] }
     {
-        self.row = replace(&mut self.row, member::Row::empty()).longer(&member.member);
+        self.row = replace(&mut self.row, member::RawRow::empty()).longer(&member.member);
     }
 
     /// Removes the last cell.
@@ -92,24 +92,24 @@ impl<T> Row<T> {
         requires { 0 < length self.old }
         ensures { HasOneLess self.old self.new }
     {
-        self.row = replace(&mut self.row, member::Row::empty()).shorter();
+        self.row = replace(&mut self.row, member::RawRow::empty()).shorter();
     }
 
-    /// Replaces what is known of the cell at a place of the row.
-    pub fn set(&mut self, place: u64, member: &Member<T>)
-        requires { place < length self.old }
-        ensures { self.new ≡ slice_set self.old place member.now }
+    /// Replaces what is known of the cell at an offset of the row.
+    pub fn set(&mut self, offset: u64, member: &Member<T>)
+        requires { offset < length self.old }
+        ensures { self.new ≡ slice_set self.old offset member.now }
     {
-        self.row = replace(&mut self.row, member::Row::empty()).with(place, &member.member);
+        self.row = replace(&mut self.row, member::RawRow::empty()).with(offset, &member.member);
     }
 
-    /// Returns what is known of the cell at a place of the row.
-    pub fn at(&self, place: u64) -> Member<T>
-        requires { place < length self.now }
-        ensures { slice_get self.now place ≡ Some result }
+    /// Returns what is known of the cell at an offset of the row.
+    pub fn at(&self, offset: u64) -> Member<T>
+        requires { offset < length self.now }
+        ensures { slice_get self.now offset ≡ Some result }
     {
         Member {
-            member: self.row.at(place),
+            member: self.row.at(offset),
         }
     }
 }

@@ -3,14 +3,14 @@ ghost use Rattle.std.specs.Prelude.{◌≡◌};
 
 use crate::block::placed::Placed;
 use crate::block::spoilt::Spoilt;
-use crate::slot::steps::Claim;
+use crate::slot::steps::RawPen;
 use std::marker::Model;
 
-/// The right to fill or break the cell at a place, which is busy until then. A pen must be spent by one of
+/// The right to fill or break the cell at an offset, which is busy until then. A pen must be spent by one of
 /// the two.
 pub struct Pen<'a, T> {
-    pub(crate) place: u64,
-    pub(crate) claim: Claim<'a, T>,
+    pub(crate) offset: u64,
+    pub(crate) pen: RawPen<'a, T>,
 }
 
 impl<'a, T> Model for Pen<'a, T> {
@@ -21,31 +21,31 @@ impl<'a, T> Model for Pen<'a, T> {
 
     ghost coded = { pen_coded };
 
-    ghost view = { λ p. record { place = p.place; cell = p.claim.of; found = p.claim.found } };
+    ghost view = { λ p. record { offset = p.offset; cell = p.pen.of; found = p.pen.found } };
 
-    ghost invariant = { λ p. p.claim.found ≡ p.claim.sought };
+    ghost invariant = { λ p. p.pen.found ≡ p.pen.sought };
 }
 
 impl<'a, T> Pen<'a, T> {
     /// Writes the value, and then the state, which publishes it.
     pub fn fill(self, value: T) -> Placed<T>
-        ensures place { result.place ≡ self.entry.place }
+        ensures offset { result.offset ≡ self.entry.offset }
         ensures value { result.value ≡ value }
-        ensures name { result.name ≡ self.entry.cell.value }
+        ensures name { result.name ≡ self.entry.cell.value_name }
         ensures found { result.found ≡ self.entry.found }
     {
-        let Pen { place, claim } = self;
-        let written = claim.fill(value);
-        Placed { place, written }
+        let Pen { offset, pen } = self;
+        let written = pen.fill(value);
+        Placed { offset, written }
     }
 
     /// Breaks the cell: it holds no value until somebody mends it.
     pub fn spoil(self) -> Spoilt
-        ensures place { result.place ≡ self.entry.place }
-        ensures name { result.name ≡ self.entry.cell.breach }
+        ensures offset { result.offset ≡ self.entry.offset }
+        ensures name { result.name ≡ self.entry.cell.broken_name }
     {
-        let Pen { place, claim } = self;
-        let crack = claim.spoil();
-        Spoilt { place, crack }
+        let Pen { offset, pen } = self;
+        let broken = pen.break_cell();
+        Spoilt { offset, broken }
     }
 }

@@ -5,10 +5,11 @@ use crate::slot::steps::Written;
 use std::fmt;
 use std::marker::Model;
 
-/// Evidence that the cell at a place holds a value, which it keeps. It has no bytes except its place.
+// `grow_core` has a `Placed` too: this one, with the key of its segment.
+/// Evidence that the cell at an offset holds a value, which it keeps. It has no bytes except its offset.
 #[derive(Drop)]
 pub struct Placed<T> {
-    pub(crate) place: u64,
+    pub(crate) offset: u64,
     pub(crate) written: Written<T>,
 }
 
@@ -20,7 +21,7 @@ impl<T> Model for Placed<T> {
     ghost coded = { placed_coded T.code };
 
     ghost view = { λ p. record {
-      place = p.place;
+      offset = p.offset;
       value = p.written.value;
       name = p.written.of;
       found = p.written.found;
@@ -30,17 +31,17 @@ impl<T> Model for Placed<T> {
 impl<T> fmt::Debug for Placed<T> {
     fn fmt<W: fmt::Write>(&self, f: &mut fmt::Formatter<W>) -> fmt::Result {
         f.debug_struct("Placed")
-            .field("place", &self.place)
+            .field("offset", &self.offset)
             .finish_non_exhaustive()
     }
 }
 
 impl<T> Placed<T> {
-    /// Returns the cell's place in its block.
-    pub fn place(&self) -> u64
-        ensures { result ≡ self.now.place }
+    /// Returns the cell's offset in its block.
+    pub fn offset(&self) -> u64
+        ensures { result ≡ self.now.offset }
     {
-        self.place
+        self.offset
     }
 
     /// Duplicates the token.
@@ -48,7 +49,7 @@ impl<T> Placed<T> {
         ensures { result ≡ self.now }
     {
         Placed {
-            place: self.place,
+            offset: self.offset,
             written: self.written.again(),
         }
     }

@@ -3,6 +3,7 @@ use crate::block::begun::Begun;
 use crate::block::placed::Placed;
 use crate::block::spoilt::Spoilt;
 
+// `grow_core` has a `Found` too: this one, with tokens of the vector, and never empty.
 /// The state of a cell that a call did not get.
 #[derive(Debug, Drop)]
 pub enum Found<T> {

@@ -1,15 +1,16 @@
 // The token of a cell that was broken.
 ghost use Rattle.std.specs.Prelude.{◌≡◌};
 
-use crate::slot::steps::Crack;
+use crate::slot::steps::RawBroken;
 use std::fmt;
 use std::marker::Model;
 
-/// Evidence that the cell at a place was once broken. It has no bytes except its place.
+// `grow_core` has a `Spoilt` too: this one, with the key of its segment.
+/// Evidence that the cell at an offset was once broken. It has no bytes except its offset.
 #[derive(Drop)]
 pub struct Spoilt {
-    pub(crate) place: u64,
-    pub(crate) crack: Crack,
+    pub(crate) offset: u64,
+    pub(crate) broken: RawBroken,
 }
 
 impl Model for Spoilt {
@@ -17,23 +18,23 @@ impl Model for Spoilt {
 
     ghost Value = { SpoiltView };
 
-    ghost view = { λ s. record { place = s.place; name = s.crack.of } };
+    ghost view = { λ s. record { offset = s.offset; name = s.broken.of } };
 }
 
 impl fmt::Debug for Spoilt {
     fn fmt<W: fmt::Write>(&self, f: &mut fmt::Formatter<W>) -> fmt::Result {
         f.debug_struct("Spoilt")
-            .field("place", &self.place)
+            .field("offset", &self.offset)
             .finish_non_exhaustive()
     }
 }
 
 impl Spoilt {
-    /// Returns the cell's place in its block.
-    pub fn place(&self) -> u64
-        ensures { result ≡ self.now.place }
+    /// Returns the cell's offset in its block.
+    pub fn offset(&self) -> u64
+        ensures { result ≡ self.now.offset }
     {
-        self.place
+        self.offset
     }
 
     /// Duplicates the token.
@@ -41,8 +42,8 @@ impl Spoilt {
         ensures { result ≡ self.now }
     {
         Spoilt {
-            place: self.place,
-            crack: self.crack.again(),
+            offset: self.offset,
+            broken: self.broken.again(),
         }
     }
 }

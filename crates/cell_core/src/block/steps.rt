@@ -7,16 +7,16 @@ ghost use Rattle.cell_core.specs.Slot.{Names, names_coded};
 ghost use Rattle.cell_core.specs.Laid.{laid, laid_lent, stride, FitsMemory, IsLinked, HasOneMore, HasOneRenamed, cell_in};
 ghost use Rattle.cell_core.specs.Member.{Settles};
 
-use crate::slot::epoch::Epoch;
-use crate::slot::member::Member;
-use crate::slot::steps::{Slot, Written};
+use crate::slot::epoch::RawEpoch;
+use crate::slot::member::RawMember;
+use crate::slot::steps::{RawSlot, Written};
 use std::alloc::{AllocError, Allocator};
 use std::marker::{Model, PhantomData};
 use std::mem::{align_of, size_of};
 
 // The address of a row. It owns nothing.
 pub(crate) struct Link<T> {
-    pub(crate) ptr: *mut Slot<T>,
+    pub(crate) ptr: *mut RawSlot<T>,
     marker: PhantomData<T>,
 }
 
@@ -55,7 +55,7 @@ impl<T, A: Allocator> Model for Laid<T, A> {
 fn cell_size<T>() -> usize
     ensures { result ≡ capped (stride T.row) }
 {
-    size_of::<Slot<T>>()
+    size_of::<RawSlot<T>>()
 }
 
 // Returns whether `len` cells take fewer than 2^63 bytes.
@@ -75,9 +75,9 @@ impl<T, A: Allocator> Laid<T, A> {
         ensures { IfOk result (λ l. (l.1.heap ≡ alloc.now) × IsLinked l.1.at l.0.ptr
             × (l.1.cells ≡ []) × (l.1.left ≡ len)) }
     {
-        match alloc.allocate(len * size_of::<Slot<T>>(), align_of::<Slot<T>>()) {
+        match alloc.allocate(len * size_of::<RawSlot<T>>(), align_of::<RawSlot<T>>()) {
             Ok(room) => {
-                let ptr = room as *mut Slot<T>;
+                let ptr = room as *mut RawSlot<T>;
                 let marker = PhantomData;
                 let link = Link {
                     ptr,
@@ -113,7 +113,7 @@ impl<T, A: Allocator> Laid<T, A> {
     }
 
     // The cell at an index.
-    pub(crate) fn cell(&self, link: Link<T>, index: usize) -> &Slot<T>
+    pub(crate) fn cell(&self, link: Link<T>, index: usize) -> &RawSlot<T>
         requires { (self.now.at ≡ link.ptr) × (index < length self.now.cells) }
         ensures { result.now ≡ cell_in self.now.cells index }
     {
@@ -143,7 +143,7 @@ impl<T, A: Allocator> Laid<T, A> {
     // has fresh names.
     pub(crate) fn take_written(&mut self, link: Link<T>, index: usize, written: &Written<T>) -> T
         requires { IsLinked self.old.at link.ptr × (index < length self.old.cells)
-            × (written.now.of ≡ (cell_in self.old.cells index).value) }
+            × (written.now.of ≡ (cell_in self.old.cells index).value_name) }
         ensures { (self.new.heap ≡ self.old.heap) × (self.new.at ≡ self.old.at)
             × HasOneRenamed self.old.cells index self.new.cells × (self.new.left ≡ self.old.left)
             × (result ≡ written.now.value) }
@@ -161,7 +161,7 @@ impl<T, A: Allocator> Laid<T, A> {
         requires { IsLinked self.old.at link.ptr × (index < length self.old.cells) }
         ensures { (self.new.heap ≡ self.old.heap) × (self.new.at ≡ self.old.at)
             × HasOneRenamed self.old.cells index self.new.cells × (self.new.left ≡ self.old.left)
-            × (result.of ≡ (cell_in self.new.cells index).value) × (result.value ≡ value) }
+            × (result.of ≡ (cell_in self.new.cells index).value_name) × (result.value ≡ value) }
     {
         unsafe {
             let cell = link.ptr.add(index);
@@ -175,7 +175,12 @@ impl<T, A: Allocator> Laid<T, A> {
 
     // Breaks the cell for the epoch. What it held is forgotten: a value that is still there is not dropped.
     // The cell has new names.
-    pub(crate) fn spoil(&mut self, link: Link<T>, index: usize, epoch: &Epoch) -> Member<T>
+    pub(crate) fn break_cell(
+        &mut self,
+        link: Link<T>,
+        index: usize,
+        epoch: &RawEpoch,
+    ) -> RawMember<T>
         requires { IsLinked self.old.at link.ptr × (index < length self.old.cells) }
         ensures { (self.new.heap ≡ self.old.heap) × (self.new.at ≡ self.old.at)
             × HasOneRenamed self.old.cells index self.new.cells × (self.new.left ≡ self.old.left)
@@ -186,16 +191,16 @@ impl<T, A: Allocator> Laid<T, A> {
             let cell = link.ptr.add(index);
             (&raw mut (*cell).state).write(4);
         }
-        Member {
+        RawMember {
             marker: PhantomData,
         }
     }
 
     // What is known of the cell. One without a value is broken then for the epoch, and has new names.
-    pub(crate) fn settle(&mut self, link: Link<T>, index: usize, epoch: &Epoch) -> Member<T>
+    pub(crate) fn settle(&mut self, link: Link<T>, index: usize, epoch: &RawEpoch) -> RawMember<T>
         requires { IsLinked self.old.at link.ptr × (index < length self.old.cells) }
         ensures { (self.new.heap ≡ self.old.heap) × (self.new.at ≡ self.old.at) × (self.new.left ≡ self.old.left)
-            × (result.of.name ≡ (cell_in self.old.cells index).value)
+            × (result.of.name ≡ (cell_in self.old.cells index).value_name)
             × Settles self.old.cells index self.new.cells result.of.value result.of.epoch
             × (result.of.epoch ≡ epoch.now.of ∷ []) }
     {
@@ -207,7 +212,7 @@ impl<T, A: Allocator> Laid<T, A> {
                 state.write(4);
             }
         }
-        Member {
+        RawMember {
             marker: PhantomData,
         }
     }
@@ -238,8 +243,8 @@ impl<T, A: Allocator> Laid<T, A> {
         unsafe {
             alloc.deallocate(
                 link.ptr as *mut u8,
-                len * size_of::<Slot<T>>(),
-                align_of::<Slot<T>>(),
+                len * size_of::<RawSlot<T>>(),
+                align_of::<RawSlot<T>>(),
             );
         }
     }

@@ -9,72 +9,72 @@ ghost use denote.Sharing.{said};
 use std::marker::{Model, PhantomData};
 
 // The whole of the lifetime's token, which is the right to end the lifetime.
-pub(crate) struct Epoch {
+pub(crate) struct RawEpoch {
     marker: PhantomData<u8>,
     pub(crate) ghost of: { ℕ },
 }
 
-impl Model for Epoch {
+impl Model for RawEpoch {
     ghost also_owns = { λ e. flft (e.of ∷ []) full_share };
 
     ghost also_shares = { λ e _ κ. before κ (e.of ∷ []) };
 }
 
 // Evidence that the lifetime has ended.
-pub(crate) struct Ended {
+pub(crate) struct RawEnded {
     marker: PhantomData<u8>,
     pub(crate) ghost of: { ℕ },
 }
 
-impl Model for Ended {
+impl Model for RawEnded {
     ghost also_owns = { λ e. fdead (e.of ∷ []) };
 
     ghost also_shares = { λ e _ κ. said (fdead (e.of ∷ [])) κ };
 }
 
-impl Epoch {
-    pub(crate) fn begin() -> Epoch {
-        Epoch {
+impl RawEpoch {
+    pub(crate) fn begin() -> RawEpoch {
+        RawEpoch {
             marker: PhantomData,
         }
     }
 
-    pub(crate) fn end(self) -> Ended
+    pub(crate) fn end(self) -> RawEnded
         ensures { result.of ≡ self.of }
     {
-        let Epoch { marker: _ } = self;
-        Ended {
+        let RawEpoch { marker: _ } = self;
+        RawEnded {
             marker: PhantomData,
         }
     }
 }
 
-impl Ended {
-    pub(crate) fn again(&self) -> Ended
+impl RawEnded {
+    pub(crate) fn again(&self) -> RawEnded
         ensures { result.of ≡ self.now.of }
     {
-        Ended {
+        RawEnded {
             marker: PhantomData,
         }
     }
 }
 
-impl Drop for Epoch {
+impl Drop for RawEpoch {
     fn drop(self) {
         let Self { marker: _ } = self;
     }
 }
 
-impl Drop for Ended {
+impl Drop for RawEnded {
     fn drop(self) {
         let Self { marker: _ } = self;
     }
 }
 
-unsafe impl Send for Epoch {}
+unsafe impl Send for RawEpoch {}
 
-unsafe impl Sync for Epoch {}
+unsafe impl Sync for RawEpoch {}
 
-unsafe impl Send for Ended {}
+unsafe impl Send for RawEnded {}
 
-unsafe impl Sync for Ended {}
+unsafe impl Sync for RawEnded {}

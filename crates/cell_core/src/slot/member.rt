@@ -8,31 +8,31 @@ use crate::slot::steps::Written;
 use std::marker::{Model, PhantomData};
 
 // Evidence that a cell has its value, or that its former name never gets one.
-pub(crate) struct Member<T> {
+pub(crate) struct RawMember<T> {
     pub(crate) marker: PhantomData<T>,
     pub(crate) ghost of: { MemberView T } by { member_coded T.code },
 }
 
-impl<T> Model for Member<T> {
+impl<T> Model for RawMember<T> {
     ghost also_owns = { λ m. member T.row m.of };
 
     ghost also_shares = { λ m _ κ. said (member T.row m.of) κ };
 }
 
-impl<T> Member<T> {
+impl<T> RawMember<T> {
     // Of a cell with a value, by its token.
-    pub(crate) fn filled(written: &Written<T>) -> Member<T>
+    pub(crate) fn filled(written: &Written<T>) -> RawMember<T>
         ensures { (result.of.value ≡ Some written.now.value) × (result.of.name ≡ written.now.of) }
     {
-        Member {
+        RawMember {
             marker: PhantomData,
         }
     }
 
-    pub(crate) fn again(&self) -> Member<T>
+    pub(crate) fn again(&self) -> RawMember<T>
         ensures { result.of ≡ self.now.of }
     {
-        Member {
+        RawMember {
             marker: PhantomData,
         }
     }
@@ -54,85 +54,85 @@ impl<T> Member<T> {
 }
 
 // What is known of each cell of a row.
-pub(crate) struct Row<T> {
+pub(crate) struct RawRow<T> {
     marker: PhantomData<T>,
     pub(crate) ghost of: { List (MemberView T) } by { coded_list (member_coded T.code) },
 }
 
-impl<T> Model for Row<T> {
+impl<T> Model for RawRow<T> {
     ghost also_owns = { λ r. members T.row r.of };
 
     ghost also_shares = { λ r _ κ. said (members T.row r.of) κ };
 }
 
-impl<T> Row<T> {
+impl<T> RawRow<T> {
     // Of no cell.
-    pub(crate) fn empty() -> Row<T>
+    pub(crate) fn empty() -> RawRow<T>
         ensures { result.of ≡ [] }
     {
-        Row {
+        RawRow {
             marker: PhantomData,
         }
     }
 
     // One cell more.
-    pub(crate) fn longer(self, member: &Member<T>) -> Row<T>
+    pub(crate) fn longer(self, member: &RawMember<T>) -> RawRow<T>
         ensures { result.of ≡ self.of ++ member.now.of ∷ [] }
     {
-        let Row { marker: _ } = self;
-        Row {
+        let RawRow { marker: _ } = self;
+        RawRow {
             marker: PhantomData,
         }
     }
 
     // The last cell given up.
-    pub(crate) fn shorter(self) -> Row<T>
+    pub(crate) fn shorter(self) -> RawRow<T>
         requires { 0 < length self.of }
         ensures { HasOneLess self.of result.of }
     {
-        let Row { marker: _ } = self;
-        Row {
+        let RawRow { marker: _ } = self;
+        RawRow {
             marker: PhantomData,
         }
     }
 
     // Replaces what is known of the cell at an index.
-    pub(crate) fn with(self, index: u64, member: &Member<T>) -> Row<T>
+    pub(crate) fn with(self, index: u64, member: &RawMember<T>) -> RawRow<T>
         ensures { result.of ≡ slice_set self.of index member.now.of }
     {
-        let Row { marker: _ } = self;
-        Row {
+        let RawRow { marker: _ } = self;
+        RawRow {
             marker: PhantomData,
         }
     }
 
     // What is known of the cell at an index.
-    pub(crate) fn at(&self, index: u64) -> Member<T>
+    pub(crate) fn at(&self, index: u64) -> RawMember<T>
         requires { index < length self.now.of }
         ensures { slice_get self.now.of index ≡ Some result.of }
     {
-        Member {
+        RawMember {
             marker: PhantomData,
         }
     }
 }
 
-impl<T> Drop for Member<T> {
+impl<T> Drop for RawMember<T> {
     fn drop(self) {
         let Self { marker: _ } = self;
     }
 }
 
-impl<T> Drop for Row<T> {
+impl<T> Drop for RawRow<T> {
     fn drop(self) {
         let Self { marker: _ } = self;
     }
 }
 
-unsafe impl<T> Send for Member<T> {}
+unsafe impl<T> Send for RawMember<T> {}
 
-unsafe impl<T> Sync for Member<T> {}
+unsafe impl<T> Sync for RawMember<T> {}
 
-unsafe impl<T> Send for Row<T> {}
+unsafe impl<T> Send for RawRow<T> {}
 
-unsafe impl<T> Sync for Row<T> {}
+unsafe impl<T> Sync for RawRow<T> {}

@@ -5,23 +5,23 @@ ghost use Rattle.std.specs.Prelude.{◌≡◌, ◌≢◌, ℕ, ◌<◌, [], ◌�
 ghost use base.Fml.{ftrue, ffalse};
 ghost use denote.Sharing.{said};
 ghost use Rattle.std.specs.Coded.{coded_option};
-ghost use Rattle.cell_core.specs.Slot.{Names, names_coded, shared, claimed, sighted, written, spoilt};
+ghost use Rattle.cell_core.specs.Slot.{Names, names_coded, shared, pen_owned, sighted, written, was_broken};
 ghost use Rattle.cell_core.specs.Member.{HasNames, IsWordOf, MayBeWordOf, IsEpochOf};
 
-use crate::slot::epoch::{Ended, Epoch};
-use crate::slot::member::Member;
+use crate::slot::epoch::{RawEnded, RawEpoch};
+use crate::slot::member::RawMember;
 use atomic_table::exchange;
 use std::marker::{Brand, Model, Move, Owns, PhantomData};
 use std::sync::atomic::Ordering::SeqCst;
 use std::sync::atomic::raw;
 
 // A cell in its row. Nobody has one by value: its room may hold none.
-pub(crate) struct Slot<T> {
+pub(crate) struct RawSlot<T> {
     pub(crate) state: u64,
     pub(crate) room: T,
 }
 
-impl<T> Owns for Slot<T> {
+impl<T> Owns for RawSlot<T> {
     ghost Value = { Names };
 
     ghost coded = { names_coded };
@@ -29,32 +29,32 @@ impl<T> Owns for Slot<T> {
     ghost shr_at = { λ n p κ. shared T.row n p κ };
 }
 
-impl<T> Move for Slot<T> {
+impl<T> Move for RawSlot<T> {
     ghost own_val = { λ n vs. ffalse };
 }
 
 // What an exchange from the word `sought` to busy gained when it found the word `found`. It must be spent.
-pub(crate) struct Claim<'a, T> {
-    slot: *const Slot<T>,
+pub(crate) struct RawPen<'a, T> {
+    slot: *const RawSlot<T>,
     marker: PhantomData<&'a T>,
     pub(crate) ghost of: { Names } by { names_coded },
     pub(crate) ghost sought: { ℕ },
     pub(crate) ghost found: { ℕ },
 }
 
-impl<'a, T> Model for Claim<'a, T> {
-    ghost also_owns = { λ c. claimed T.row c.of 'a c.slot c.sought c.found };
+impl<'a, T> Model for RawPen<'a, T> {
+    ghost also_owns = { λ c. pen_owned T.row c.of 'a c.slot c.sought c.found };
 }
 
 // What a load of the word `found` showed. It has no bytes.
-pub(crate) struct Sight<T> {
+pub(crate) struct RawSight<T> {
     marker: PhantomData<T>,
     pub(crate) ghost of: { Names } by { names_coded },
     pub(crate) ghost found: { ℕ },
     pub(crate) ghost value: { Option T } by { coded_option T.code },
 }
 
-impl<T> Model for Sight<T> {
+impl<T> Model for RawSight<T> {
     ghost also_owns = { λ s. sighted T.row s.of s.found s.value };
 }
 
@@ -74,73 +74,73 @@ impl<T> Model for Written<T> {
 }
 
 // Evidence that a cell was once broken. It has no bytes.
-pub(crate) struct Crack {
+pub(crate) struct RawBroken {
     marker: PhantomData<u8>,
     pub(crate) ghost of: { ℕ },
 }
 
-impl Model for Crack {
-    ghost also_owns = { λ c. spoilt c.of };
+impl Model for RawBroken {
+    ghost also_owns = { λ c. was_broken c.of };
 
-    ghost also_shares = { λ c _ κ. said (spoilt c.of) κ };
+    ghost also_shares = { λ c _ κ. said (was_broken c.of) κ };
 }
 
 // What shows that another call began a cell. It has no bytes, and a lost exchange alone makes one.
-pub(crate) struct Begun {
+pub(crate) struct RawBegun {
     marker: PhantomData<()>,
     pub(crate) ghost of: { Names } by { names_coded },
 }
 
-impl Model for Begun {
+impl Model for RawBegun {
     ghost also_owns = { λ _. ftrue };
 }
 
-impl<T> Slot<T> {
+impl<T> RawSlot<T> {
     // The exchange from empty to busy, which returns the word as it was.
-    pub(crate) fn claim(&self) -> (u64, Claim<'_, T>)
+    pub(crate) fn begin(&self) -> (u64, RawPen<'_, T>)
         ensures { (result.1.of ≡ self.now) × (result.1.sought ≡ 0) × (result.1.found ≡ result.0) }
     {
         let found = unsafe { exchange::<Brand>(&raw const self.state, 0, 1) };
-        let claim = Claim {
+        let pen = RawPen {
             slot: self,
             marker: PhantomData,
         };
-        (found, claim)
+        (found, pen)
     }
 
     // The exchange from broken to busy, of a cell whose epoch has ended.
-    pub(crate) fn mend(&self) -> (u64, Claim<'_, T>)
+    pub(crate) fn mend(&self) -> (u64, RawPen<'_, T>)
         ensures { (result.1.of ≡ self.now) × (result.1.sought ≡ 3) × (result.1.found ≡ result.0) }
     {
         let found = unsafe { exchange::<Brand>(&raw const self.state, 3, 1) };
-        let claim = Claim {
+        let pen = RawPen {
             slot: self,
             marker: PhantomData,
         };
-        (found, claim)
+        (found, pen)
     }
 
     // Takes a cell that an owner broke, by evidence that the epoch has ended.
-    pub(crate) fn reopen(&self, member: &Member<T>, ended: &Ended) -> (u64, Claim<'_, T>)
+    pub(crate) fn reopen(&self, member: &RawMember<T>, ended: &RawEnded) -> (u64, RawPen<'_, T>)
         requires { HasNames self.now member.now.of.value member.now.of.name member.now.of.epoch
             × IsEpochOf member.now.of.value member.now.of.epoch (ended.now.of ∷ []) }
         ensures { (result.1.of ≡ self.now) × (result.1.sought ≡ 4) × (result.1.found ≡ result.0)
             × MayBeWordOf member.now.of.value result.0 }
     {
         let found = unsafe { exchange::<Brand>(&raw const self.state, 4, 1) };
-        let claim = Claim {
+        let pen = RawPen {
             slot: self,
             marker: PhantomData,
         };
-        (found, claim)
+        (found, pen)
     }
 
     // The word, and what it shows.
-    pub(crate) fn sight(&self) -> (u64, Sight<T>)
+    pub(crate) fn sight(&self) -> (u64, RawSight<T>)
         ensures { (result.1.of ≡ self.now) × (result.1.found ≡ result.0) }
     {
         let found = unsafe { raw::load::<Brand>(&raw const self.state, SeqCst) };
-        let sight = Sight {
+        let sight = RawSight {
             marker: PhantomData,
         };
         (found, sight)
@@ -148,10 +148,10 @@ impl<T> Slot<T> {
 
     // Returns the value, by evidence that there is one.
     pub(crate) fn value<'a>(&'a self, written: &Written<T>) -> &'a T
-        requires { written.now.of ≡ self.now.value }
+        requires { written.now.of ≡ self.now.value_name }
         ensures { result.now ≡ written.now.value }
     {
-        let slot = self as *const Slot<T>;
+        let slot = self as *const RawSlot<T>;
         unsafe {
             // The word is 2. At this load the proof finds the shared value.
             raw::load::<Brand>(&raw const (*slot).state, SeqCst);
@@ -160,20 +160,20 @@ impl<T> Slot<T> {
     }
 
     // Loads the word, by what is known of the cell.
-    pub(crate) fn word(&self, member: &Member<T>) -> (u64, Sight<T>)
+    pub(crate) fn word(&self, member: &RawMember<T>) -> (u64, RawSight<T>)
         requires { HasNames self.now member.now.of.value member.now.of.name member.now.of.epoch }
         ensures { (result.1.of ≡ self.now) × (result.1.found ≡ result.0)
             × MayBeWordOf member.now.of.value result.0 }
     {
         let found = unsafe { raw::load::<Brand>(&raw const self.state, SeqCst) };
-        let sight = Sight {
+        let sight = RawSight {
             marker: PhantomData,
         };
         (found, sight)
     }
 
     // Loads the word, by evidence that the epoch lasts.
-    pub(crate) fn word_in(&self, member: &Member<T>, epoch: &Epoch) -> u64
+    pub(crate) fn word_in(&self, member: &RawMember<T>, epoch: &RawEpoch) -> u64
         requires { HasNames self.now member.now.of.value member.now.of.name member.now.of.epoch
             × IsEpochOf member.now.of.value member.now.of.epoch (epoch.now.of ∷ []) }
         ensures { IsWordOf member.now.of.value result }
@@ -182,13 +182,13 @@ impl<T> Slot<T> {
     }
 }
 
-impl<'a, T> Claim<'a, T> {
+impl<'a, T> RawPen<'a, T> {
     // Writes the value and then the word 2.
     pub(crate) fn fill(self, value: T) -> Written<T>
         requires { self.found ≡ self.sought }
-        ensures { (result.of ≡ self.entry.of.value) × (result.value ≡ value) × (result.found ≡ self.entry.found) }
+        ensures { (result.of ≡ self.entry.of.value_name) × (result.value ≡ value) × (result.found ≡ self.entry.found) }
     {
-        let Claim { slot, marker: _ } = self;
+        let RawPen { slot, marker: _ } = self;
         unsafe { (&raw const (*slot).room as *mut T).write(value) };
         unsafe { raw::store::<Brand>(&raw const (*slot).state, 2, SeqCst) };
         Written {
@@ -197,13 +197,13 @@ impl<'a, T> Claim<'a, T> {
     }
 
     // Writes the word 3.
-    pub(crate) fn spoil(self) -> Crack
+    pub(crate) fn break_cell(self) -> RawBroken
         requires { self.found ≡ self.sought }
-        ensures { result.of ≡ self.entry.of.breach }
+        ensures { result.of ≡ self.entry.of.broken_name }
     {
-        let Claim { slot, marker: _ } = self;
+        let RawPen { slot, marker: _ } = self;
         unsafe { raw::store::<Brand>(&raw const (*slot).state, 3, SeqCst) };
-        Crack {
+        RawBroken {
             marker: PhantomData,
         }
     }
@@ -211,31 +211,31 @@ impl<'a, T> Claim<'a, T> {
     // The token of what a lost exchange found.
     pub(crate) fn written(self) -> Written<T>
         requires { (self.found ≡ 2) × (self.found ≢ self.sought) }
-        ensures { result.of ≡ self.entry.of.value }
+        ensures { result.of ≡ self.entry.of.value_name }
     {
-        let Claim { slot: _, marker: _ } = self;
+        let RawPen { slot: _, marker: _ } = self;
         Written {
             marker: PhantomData,
         }
     }
 
-    pub(crate) fn crack(self) -> Crack
+    pub(crate) fn broken(self) -> RawBroken
         requires { (2 < self.found) × (self.found ≢ self.sought) }
-        ensures { result.of ≡ self.entry.of.breach }
+        ensures { result.of ≡ self.entry.of.broken_name }
     {
-        let Claim { slot: _, marker: _ } = self;
-        Crack {
+        let RawPen { slot: _, marker: _ } = self;
+        RawBroken {
             marker: PhantomData,
         }
     }
 
     // What a lost exchange shows of a cell that another call began.
-    pub(crate) fn begun(self) -> Begun
+    pub(crate) fn begun(self) -> RawBegun
         requires { (self.found ≡ 1) × (self.found ≢ self.sought) }
         ensures { result.of ≡ self.entry.of }
     {
-        let Claim { slot: _, marker: _ } = self;
-        Begun {
+        let RawPen { slot: _, marker: _ } = self;
+        RawBegun {
             marker: PhantomData,
         }
     }
@@ -243,33 +243,33 @@ impl<'a, T> Claim<'a, T> {
     pub(crate) fn unused(self)
         requires { self.found ≢ self.sought }
     {
-        let Claim { slot: _, marker: _ } = self;
+        let RawPen { slot: _, marker: _ } = self;
     }
 }
 
-impl<T> Sight<T> {
+impl<T> RawSight<T> {
     pub(crate) fn written(self) -> Written<T>
         requires { self.found ≡ 2 }
-        ensures { result.of ≡ self.of.value }
+        ensures { result.of ≡ self.of.value_name }
     {
-        let Sight { marker: _ } = self;
+        let RawSight { marker: _ } = self;
         Written {
             marker: PhantomData,
         }
     }
 
-    pub(crate) fn crack(self) -> Crack
+    pub(crate) fn broken(self) -> RawBroken
         requires { 2 < self.found }
-        ensures { result.of ≡ self.of.breach }
+        ensures { result.of ≡ self.of.broken_name }
     {
-        let Sight { marker: _ } = self;
-        Crack {
+        let RawSight { marker: _ } = self;
+        RawBroken {
             marker: PhantomData,
         }
     }
 
     pub(crate) fn unused(self) {
-        let Sight { marker: _ } = self;
+        let RawSight { marker: _ } = self;
     }
 }
 
@@ -289,11 +289,11 @@ impl<T> Written<T> {
     {}
 }
 
-impl Crack {
-    pub(crate) fn again(&self) -> Crack
+impl RawBroken {
+    pub(crate) fn again(&self) -> RawBroken
         ensures { result.of ≡ self.now.of }
     {
-        Crack {
+        RawBroken {
             marker: PhantomData,
         }
     }
@@ -305,32 +305,32 @@ impl<T> Drop for Written<T> {
     }
 }
 
-impl Drop for Crack {
+impl Drop for RawBroken {
     fn drop(self) {
         let Self { marker: _ } = self;
     }
 }
 
-impl Drop for Begun {
+impl Drop for RawBegun {
     fn drop(self) {
         let Self { marker: _ } = self;
     }
 }
 
-unsafe impl<T: Send> Send for Slot<T> {}
+unsafe impl<T: Send> Send for RawSlot<T> {}
 
-unsafe impl<T: Send + Sync> Sync for Slot<T> {}
+unsafe impl<T: Send + Sync> Sync for RawSlot<T> {}
 
-unsafe impl<'a, T: Send + Sync> Send for Claim<'a, T> {}
+unsafe impl<'a, T: Send + Sync> Send for RawPen<'a, T> {}
 
 unsafe impl<T> Send for Written<T> {}
 
 unsafe impl<T> Sync for Written<T> {}
 
-unsafe impl Send for Crack {}
+unsafe impl Send for RawBroken {}
 
-unsafe impl Sync for Crack {}
+unsafe impl Sync for RawBroken {}
 
-unsafe impl Send for Begun {}
+unsafe impl Send for RawBegun {}
 
-unsafe impl Sync for Begun {}
+unsafe impl Sync for RawBegun {}

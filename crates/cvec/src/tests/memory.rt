@@ -1,5 +1,5 @@
 // Any one request for memory may be refused: then the program says so and writes nothing, and the next run
-// has its text. `bin/refusals` refuses each request in turn.
+// has its text. `tests/refuse-memory` refuses each request in turn.
 use crate::command_line::Request;
 use crate::program::serve;
 use engine_core::Engine;

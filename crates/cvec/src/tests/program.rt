@@ -26,14 +26,14 @@ fn ends<X: Abort, R: Read, W: Write>(
     reader: &mut R,
     writer: &mut W,
     status: u8,
-    told: &str,
+    line: &str,
 )
     requires { StartsThreads request.now → ⊥ }
 {
     let mut errors = Vec::new(alloc);
     let got = serve(alloc, request, reader, writer, &mut errors);
     assert!(rt;
-        got == status && errors.as_slice() == told.as_bytes(),
+        got == status && errors.as_slice() == line.as_bytes(),
         "{got}"
     );
 }

@@ -2,7 +2,7 @@
 
 use crate::error::ProgramError;
 use crate::error::ProgramError::{Race, Run};
-use crate::program::told;
+use crate::program::report_error;
 use engine_core::RunError;
 use race_core::RaceError;
 use script_core::ScriptError;
@@ -36,7 +36,7 @@ const ENDS: [Row; 18] = [
 fn each_error_has_its_status_and_line(rt: HostRuntime) {
     for (error, status, line) in ENDS.as_slice() {
         let mut errors = Vec::new(rt.alloc());
-        assert!(rt; told(&mut errors, Err(*error)) == *status, "{line}");
+        assert!(rt; report_error(&mut errors, Err(*error)) == *status, "{line}");
         assert!(rt; errors.as_slice() == line.as_bytes(), "{line}");
     }
 }

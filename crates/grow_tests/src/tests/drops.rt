@@ -23,8 +23,8 @@ fn push_three<'a>(two: &mut Callers<Counted<'a>>, drops: &'a AtomicU64, alloc: G
     two.push_a(Counted(drops)).is_some() && two.grow_b(others).is_some()
 }
 
-// How many of three values were dropped before the vector is ended, and the length that it then has.
-fn end_of_three<'a>(
+// How many of three values were dropped before the vector is closed, and the length that it then has.
+fn close_three<'a>(
     mut two: Callers<Counted<'a>>,
     drops: &'a AtomicU64,
     alloc: Global,
@@ -37,9 +37,9 @@ fn end_of_three<'a>(
 }
 
 #[test]
-fn an_ended_vector_drops_each_value_once(rt: HostRuntime) {
+fn a_closed_vector_drops_each_value_once(rt: HostRuntime) {
     let drops = AtomicU64::new(0);
-    let ended = end_of_three(Callers::new(&rt, 4), &drops, rt.alloc());
+    let ended = close_three(Callers::new(&rt, 4), &drops, rt.alloc());
     assert!(rt; ended == Some((0, 3)) && drops.load(Ordering::SeqCst) == 3);
 }
 

@@ -46,7 +46,7 @@ fn sizes_at_end(two: Callers<u64>) -> Option<(u64, u64)> {
 }
 
 // These after both.
-fn end_of_two_growths(mut two: Callers<u64>, alloc: Global) -> Option<(u64, u64)> {
+fn close_two_growths(mut two: Callers<u64>, alloc: Global) -> Option<(u64, u64)> {
     if grows_twice(&mut two, alloc) {
         sizes_at_end(two)
     } else {
@@ -57,11 +57,11 @@ fn end_of_two_growths(mut two: Callers<u64>, alloc: Global) -> Option<(u64, u64)
 #[test]
 fn two_growths_are_appended_over_twelve_segments(rt: HostRuntime) {
     let two = Callers::new(&rt, 1 << 40);
-    assert!(rt; end_of_two_growths(two, rt.alloc()) == Some((2_100, 4_096)));
+    assert!(rt; close_two_growths(two, rt.alloc()) == Some((2_100, 4_096)));
 }
 
 // These after the first alone.
-fn end_of_one_growth(mut two: Callers<u64>, alloc: Global) -> Option<(u64, u64)> {
+fn close_one_growth(mut two: Callers<u64>, alloc: Global) -> Option<(u64, u64)> {
     let _first = grow_numbers(&mut two, alloc, 7, 1_000)?;
     sizes_at_end(two)
 }
@@ -69,7 +69,7 @@ fn end_of_one_growth(mut two: Callers<u64>, alloc: Global) -> Option<(u64, u64)>
 #[test]
 fn a_thousand_values_are_appended_over_ten_segments(rt: HostRuntime) {
     let two = Callers::new(&rt, 1 << 40);
-    assert!(rt; end_of_one_growth(two, rt.alloc()) == Some((1_000, 1_024)));
+    assert!(rt; close_one_growth(two, rt.alloc()) == Some((1_000, 1_024)));
 }
 
 fn has_limit(two: &mut Callers<u64>, limit: u64) -> bool {
@@ -124,7 +124,7 @@ fn values_may_be_large(rt: HostRuntime) {
 }
 
 // The same after `n` pushes, by either caller in turn.
-fn end_of_pushes(mut two: Callers<u64>, n: u64) -> Option<(u64, u64)> {
+fn close_pushes(mut two: Callers<u64>, n: u64) -> Option<(u64, u64)> {
     for j in 0..n {
         let _place = if j % 2 == 0 {
             two.push_a(j)
@@ -140,7 +140,7 @@ fn end_of_pushes(mut two: Callers<u64>, n: u64) -> Option<(u64, u64)> {
 fn segments_are_installed_as_they_are_needed(rt: HostRuntime) {
     for (n, capacity) in [(0, 0), (1, 2), (2, 2), (3, 4)].as_slice() {
         assert!(rt;
-            end_of_pushes(Callers::new(&rt, 1_000), *n) == Some((*n, *capacity)),
+            close_pushes(Callers::new(&rt, 1_000), *n) == Some((*n, *capacity)),
             "{n}"
         );
     }

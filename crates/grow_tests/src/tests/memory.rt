@@ -1,5 +1,5 @@
 // Any one request for memory may be refused to a growth: then nothing is claimed, no maker is asked, what
-// was moved in comes back, and the next growth goes on. `bin/refusals` refuses each request in turn, and
+// was moved in comes back, and the next growth goes on. `tests/refuse-memory` refuses each request in turn, and
 // counts the requests.
 use super::callers::Callers;
 use super::parts::{append, member, pop};
@@ -124,7 +124,7 @@ fn grow<R: AllocGlobal + Wait>(
 
 // Tests whether nothing was claimed or filled from a place on.
 fn is_as_it_was(two: &mut Callers<u64>, from: u64) -> bool {
-    two.a.seen() == from && two.size_b() == from && matches!(two.vector.look(from), Shown::NotYet)
+    two.a.seen() == from && two.size_b() == from && matches!(two.vector.look(from), Shown::Pending)
 }
 
 // Tests whether a growth wins this run, at the second try if memory was refused to the first.
@@ -187,7 +187,7 @@ fn shows_clones(vector: &Shared<String>, text: &String, made: u64) -> bool {
         let is_so = match vector.look(place) {
             Shown::Filled(at) => place < made && at.value == text,
             Shown::Broken(_) => place >= made,
-            Shown::NotYet => false,
+            Shown::Pending => false,
         };
         if !is_so {
             return false;

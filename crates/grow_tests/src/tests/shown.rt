@@ -21,7 +21,7 @@ fn shows(vector: &Shared<u64>, wanted: &[u64]) -> bool {
 // What a place shows: a value, broken, or nothing yet.
 fn look_at(vector: &Shared<u64>, place: u64) -> Result<u64, &'static str> {
     match vector.look(place) {
-        Shown::NotYet => Err("not yet"),
+        Shown::Pending => Err("not yet"),
         Shown::Filled(at) => Ok(*at.value),
         Shown::Broken(_) => Err("broken"),
     }

@@ -89,7 +89,7 @@ fn push_here_read_there<R: Threads + Sync>(
 
 // Once two hands that have all shares are joined, their runs tile the length of the list that the vector is
 // closed into.
-fn end_of_both(vector: Shared<u64>, mut a: Hand<u64>, b: Hand<u64>) -> u64
+fn close_both(vector: Shared<u64>, mut a: Hand<u64>, b: Hand<u64>) -> u64
     requires ours { IsHandOf vector a }
     requires also_ours { IsHandOf vector b }
     requires whole { a.shares + b.shares ≡ 65536 }
@@ -196,14 +196,14 @@ fn a_value_is_read_in_another_thread(rt: HostRuntime) {
 fn end_by_both(two: Callers<u64>) -> Option<u64> {
     let Callers { vector, a, b } = two;
     if u64::from(a.share()) + u64::from(b.share()) == 65_536 {
-        Some(end_of_both(vector, a, b))
+        Some(close_both(vector, a, b))
     } else {
         None
     }
 }
 
 #[test]
-fn hands_that_were_joined_end_the_vector(rt: HostRuntime) {
+fn hands_that_were_joined_close_the_vector(rt: HostRuntime) {
     let mut two = Callers::new(&rt, 8);
     let _first = two.push_a(5);
     let _second = two.push_b(6);

@@ -1,5 +1,5 @@
 // Any one allocation may be refused: then the call gives back what it took, and the next one goes on.
-// `bin/refusals` refuses each request in turn.
+// `tests/refuse-memory` refuses each request in turn.
 ghost use Rattle.std.specs.Prelude.{◌≡◌};
 ghost use Rattle.grow_core.specs.Vector.{IsHandOf};
 

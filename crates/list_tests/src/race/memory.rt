@@ -1,5 +1,5 @@
 // Any one request for memory may be refused: then the race says so, and the next one has its report.
-// `bin/refusals` refuses each request in turn.
+// `tests/refuse-memory` refuses each request in turn.
 use race_core::{RaceError, RaceReport, race};
 use span_core::Free;
 

@@ -1,4 +1,4 @@
-// Any one allocation may be refused: then the loop says so, and the next one succeeds. `bin/refusals` refuses
+// Any one allocation may be refused: then the loop says so, and the next one succeeds. `tests/refuse-memory` refuses
 // each request in turn.
 ghost use Rattle.std.specs.Prelude.{◌≡◌};
 ghost use Rattle.grow_core.specs.Vector.{IsHandOf};

@@ -1,5 +1,5 @@
 // Any one request for memory may be refused: then a run says so and writes nothing, and the next one writes
-// its whole text. `bin/refusals` refuses each request in turn.
+// its whole text. `tests/refuse-memory` refuses each request in turn.
 use super::run;
 use engine_core::{Engine, RunError};
 use script_core::ScriptError;

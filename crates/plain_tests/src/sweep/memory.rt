@@ -1,5 +1,5 @@
 // Any one request for memory may be refused: then a sweep has no report, and the next one has the whole.
-// `bin/refusals` refuses each request in turn.
+// `tests/refuse-memory` refuses each request in turn.
 use sweep_core::{SweepReport, sweep};
 
 const REPORT: SweepReport = SweepReport {

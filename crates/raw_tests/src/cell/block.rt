@@ -17,13 +17,13 @@ pub(crate) fn made<T, R: AllocGlobal + Abort>(rt: &R, n: u64) -> Block<T>
 }
 
 // Fills the cell, unless another call began it.
-pub(crate) fn fill<T: Drop>(block: &Block<T>, place: u64, value: T) -> Option<Placed<T>>
-    requires { place < block_len block.now }
+pub(crate) fn fill<T: Drop>(block: &Block<T>, offset: u64, value: T) -> Option<Placed<T>>
+    requires { offset < block_len block.now }
     ensures token { IfSome result (IsPlacedIn block.now) }
-    ensures place { IfSome result (λ placed. placed.place ≡ place) }
+    ensures offset { IfSome result (λ placed. placed.offset ≡ offset) }
     ensures value { IfSome result (λ placed. placed.value ≡ value) }
 {
-    Some(block.begin(place).ok()?.fill(value))
+    Some(block.begin(offset).ok()?.fill(value))
 }
 
 // A number for what a call got or found: 5 is a pen, which breaks the cell.
@@ -40,47 +40,47 @@ pub(crate) fn number<T>(tried: Result<Pen<'_, T>, Found<T>>) -> u64 {
     }
 }
 
-pub(crate) fn is_empty<T>(block: &Block<T>, place: u64) -> bool
-    requires { place < block_len block.now }
+pub(crate) fn is_empty<T>(block: &Block<T>, offset: u64) -> bool
+    requires { offset < block_len block.now }
 {
-    matches!(block.look(place), Look::Empty)
+    matches!(block.look(offset), Look::Empty)
 }
 
-pub(crate) fn is_broken<T>(block: &Block<T>, place: u64) -> bool
-    requires { place < block_len block.now }
+pub(crate) fn is_broken<T>(block: &Block<T>, offset: u64) -> bool
+    requires { offset < block_len block.now }
 {
-    matches!(block.look(place), Look::Broken(_))
+    matches!(block.look(offset), Look::Broken(_))
 }
 
 // Tests whether a value goes into the cell.
-pub(crate) fn is_filled<T: Drop>(block: &Block<T>, place: u64, value: T) -> bool
-    requires { place < block_len block.now }
+pub(crate) fn is_filled<T: Drop>(block: &Block<T>, offset: u64, value: T) -> bool
+    requires { offset < block_len block.now }
 {
-    fill(block, place, value).is_some()
+    fill(block, offset, value).is_some()
 }
 
-// The place of the token that a lost begin gives, if another call is at the cell.
-fn busy_place<T>(block: &Block<T>, place: u64) -> Option<u64>
-    requires { place < block_len block.now }
+// The offset of the token that a lost begin gives, if another call is at the cell.
+fn busy_place<T>(block: &Block<T>, offset: u64) -> Option<u64>
+    requires { offset < block_len block.now }
 {
-    match block.begin(place) {
+    match block.begin(offset) {
         Ok(pen) => {
             pen.spoil();
             None
         }
-        Err(Found::Busy(begun)) => Some(begun.place()),
+        Err(Found::Busy(begun)) => Some(begun.offset()),
         Err(_found) => None,
     }
 }
 
-// The value that a look shows and the place of its token, which agrees with the token of the fill.
+// The value that a look shows and the offset of its token, which agrees with the token of the fill.
 fn seen(block: &Block<u64>, placed: &Placed<u64>) -> Option<(u64, u64)>
     requires { IsPlacedIn block.now placed.now × (2 < block_len block.now) }
 {
     match block.look(2) {
         Look::Filled(value, again) => {
             block.agree(placed, &again);
-            Some((*value, again.place()))
+            Some((*value, again.offset()))
         }
         _ => None,
     }
@@ -90,7 +90,7 @@ fn seen(block: &Block<u64>, placed: &Placed<u64>) -> Option<(u64, u64)>
 fn stays_filled(block: &Block<u64>, placed: &Placed<u64>) -> bool
     requires { IsPlacedIn block.now placed.now × (2 < block_len block.now) }
 {
-    placed.place() == 2
+    placed.offset() == 2
         && *block.value(placed) == 5
         && number(block.begin(2)) == 2
         && seen(block, placed) == Some((5, 2))
@@ -135,17 +135,17 @@ fn a_cell_is_busy_while_its_pen_is_out(rt: HostRuntime) {
 }
 
 // The places of the token of a cell that is broken now, and of the token's duplicate.
-fn spoilt_places(block: &Block<u64>, place: u64) -> Option<(u64, u64)>
-    requires { place < block_len block.now }
+fn broken_offsets(block: &Block<u64>, offset: u64) -> Option<(u64, u64)>
+    requires { offset < block_len block.now }
 {
-    let spoilt = block.begin(place).ok()?.spoil();
-    Some((spoilt.place(), spoilt.again().place()))
+    let spoilt = block.begin(offset).ok()?.spoil();
+    Some((spoilt.offset(), spoilt.again().offset()))
 }
 
 fn stays_broken(block: &Block<u64>) -> bool
     requires { 1 < block_len block.now }
 {
-    spoilt_places(block, 1) == Some((1, 1))
+    broken_offsets(block, 1) == Some((1, 1))
         && !is_filled(block, 1, 6)
         && number(block.begin(1)) == 3
         && is_broken(block, 1)
@@ -235,8 +235,8 @@ fn the_value_of_a_token_is_taken(rt: HostRuntime) {
 // How many cells show that nobody began them.
 fn empty_cells<T>(block: &Block<T>) -> u64 {
     let mut count: u64 = 0;
-    for place in 0..block.len() {
-        if is_empty(block, place) {
+    for offset in 0..block.len() {
+        if is_empty(block, offset) {
             count = count.wrapping_add(1);
         }
     }
@@ -247,8 +247,8 @@ fn empty_cells<T>(block: &Block<T>) -> u64 {
 fn a_million_cells_are_empty_and_filled(rt: HostRuntime) {
     let block = made(&rt, 1 << 20);
     assert_eq!(rt; empty_cells(&block), 1 << 20);
-    for place in 0..block.len() {
-        assert!(rt; is_filled(&block, place, place));
+    for offset in 0..block.len() {
+        assert!(rt; is_filled(&block, offset, offset));
     }
     assert_eq!(rt; empty_cells(&block), 0);
     assert!(rt;
@@ -273,8 +273,8 @@ pub(crate) fn count(drops: &AtomicU64) -> u64 {
 fn fills_four<'a>(block: &Block<Counted<'a>>, drops: &'a AtomicU64) -> bool
     requires { 3 < block_len block.now }
 {
-    for place in 0..4 {
-        if !is_filled(block, place, Counted(drops)) {
+    for offset in 0..4 {
+        if !is_filled(block, offset, Counted(drops)) {
             return false;
         }
     }
@@ -282,11 +282,11 @@ fn fills_four<'a>(block: &Block<Counted<'a>>, drops: &'a AtomicU64) -> bool
 }
 
 // How many values were dropped once the value of the cell is taken.
-fn count_taken(block: &mut Block<Counted<'_>>, place: u64, drops: &AtomicU64) -> u64
-    requires { place < block_len block.old }
+fn count_taken(block: &mut Block<Counted<'_>>, offset: u64, drops: &AtomicU64) -> u64
+    requires { offset < block_len block.old }
     ensures { block_len block.new ≡ block_len block.old }
 {
-    drop(block.take(place));
+    drop(block.take(offset));
     count(drops)
 }
 

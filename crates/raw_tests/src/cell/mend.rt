@@ -3,24 +3,24 @@ ghost use Rattle.std.specs.Prelude.{◌≡◌, ◌≢◌, ◌<◌, None, IfSome}
 ghost use Rattle.cell_core.specs.Block.{block_len, IsPlacedIn, IsPlacedAt, IsMemberAt};
 
 use crate::cell::block::{Counted, fill, made, number};
-use cell_core::block::{Block, Ended, Epoch, Look, Member, Placed};
+use cell_core::block::{Block, EndedEpoch, Epoch, Look, Member, Placed};
 use std::sync::atomic::{AtomicU64, Ordering};
 use std::thread::{Threads, join};
 
 // Mends the cell with a value, if it is broken.
-fn mend<T: Drop>(block: &Block<T>, place: u64, value: T) -> Option<Placed<T>>
-    requires { place < block_len block.now }
-    ensures token { IfSome result (IsPlacedAt block.now place) }
+fn mend<T: Drop>(block: &Block<T>, offset: u64, value: T) -> Option<Placed<T>>
+    requires { offset < block_len block.now }
+    ensures token { IfSome result (IsPlacedAt block.now offset) }
     ensures value { IfSome result (λ placed. placed.value ≡ value) }
 {
-    Some(block.mend(place).ok()?.fill(value))
+    Some(block.mend(offset).ok()?.fill(value))
 }
 
 // Breaks the cell, if it is empty.
-fn spoil<T>(block: &Block<T>, place: u64) -> bool
-    requires { place < block_len block.now }
+fn break_cell<T>(block: &Block<T>, offset: u64) -> bool
+    requires { offset < block_len block.now }
 {
-    number(block.begin(place)) == 5
+    number(block.begin(offset)) == 5
 }
 
 // Tests whether a mend finds the first cell busy while its pen is out, which breaks it.
@@ -82,7 +82,7 @@ fn broken_in(block: &mut Block<u64>, epoch: &Epoch) -> Member<u64>
 }
 
 // What calls find in a cell that an owner broke, while its epoch lasts.
-fn is_shut(block: &Block<u64>, broken: &Member<u64>, epoch: &Epoch) -> bool
+fn is_kept_broken(block: &Block<u64>, broken: &Member<u64>, epoch: &Epoch) -> bool
     requires { IsMemberAt block.now 0 broken.now × (broken.now.epoch ≡ epoch.now) }
 {
     number(block.mend(0)) == 3
@@ -93,14 +93,14 @@ fn is_shut(block: &Block<u64>, broken: &Member<u64>, epoch: &Epoch) -> bool
 }
 
 // The number of a mend by what was known in an epoch that has ended.
-fn number_after(block: &Block<u64>, broken: &Member<u64>, ended: &Ended) -> u64
+fn number_after(block: &Block<u64>, broken: &Member<u64>, ended: &EndedEpoch) -> u64
     requires { IsMemberAt block.now 0 broken.now × (broken.now.epoch ≡ ended.now) }
 {
     number(block.mend_member(0, broken, ended))
 }
 
 // The same once the epoch has ended.
-fn is_mended_after(block: &Block<u64>, broken: &Member<u64>, ended: &Ended) -> bool
+fn is_mended_after(block: &Block<u64>, broken: &Member<u64>, ended: &EndedEpoch) -> bool
     requires { IsMemberAt block.now 0 broken.now × (broken.now.epoch ≡ ended.now) }
 {
     number(block.mend(0)) == 3
@@ -116,7 +116,7 @@ fn what_an_owner_broke_is_mended_after_its_epoch(rt: HostRuntime) {
     let mut block = made(&rt, 1);
     let epoch = Epoch::new();
     let broken = broken_in(&mut block, &epoch);
-    assert!(rt; is_shut(&block, &broken, &epoch));
+    assert!(rt; is_kept_broken(&block, &broken, &epoch));
     let ended = epoch.end();
     assert!(rt; is_mended_after(&block, &broken, &ended));
 }
@@ -166,7 +166,7 @@ fn a_mended_cell_is_settled_with_its_value(rt: HostRuntime) {
 fn a_mended_value_is_dropped_once(rt: HostRuntime) {
     let drops = AtomicU64::new(0);
     let block = made(&rt, 2);
-    assert!(rt; spoil(&block, 0) && mend(&block, 0, Counted(&drops)).is_some());
+    assert!(rt; break_cell(&block, 0) && mend(&block, 0, Counted(&drops)).is_some());
     assert!(rt;
         fill(&block, 1, Counted(&drops)).is_some() && mend(&block, 1, Counted(&drops)).is_none()
     );
@@ -179,35 +179,35 @@ fn a_mended_value_is_dropped_once(rt: HostRuntime) {
 fn mend_by_two<R: Threads + Sync>(
     rt: &R,
     block: &Block<u64>,
-    place: u64,
+    offset: u64,
 ) -> (Option<Placed<u64>>, Option<Placed<u64>>)
-    requires { place < block_len block.now }
-    ensures first { IfSome result.0 (λ a. IsPlacedAt block.now place a × (a.value ≡ 5)) }
-    ensures second { IfSome result.1 (λ b. IsPlacedAt block.now place b × (b.value ≡ 6)) }
+    requires { offset < block_len block.now }
+    ensures first { IfSome result.0 (λ a. IsPlacedAt block.now offset a × (a.value ≡ 5)) }
+    ensures second { IfSome result.1 (λ b. IsPlacedAt block.now offset b × (b.value ≡ 6)) }
 {
     join(
         rt,
         || -> Option<Placed<u64>>
-            requires { place < block_len block.now }
-            ensures { IfSome result (λ a. IsPlacedAt block.entry.now place a × (a.value ≡ 5)) }
-        { mend(block, place, 5) },
+            requires { offset < block_len block.now }
+            ensures { IfSome result (λ a. IsPlacedAt block.entry.now offset a × (a.value ≡ 5)) }
+        { mend(block, offset, 5) },
         || -> Option<Placed<u64>>
-            requires { place < block_len block.now }
-            ensures { IfSome result (λ b. IsPlacedAt block.entry.now place b × (b.value ≡ 6)) }
-        { mend(block, place, 6) },
+            requires { offset < block_len block.now }
+            ensures { IfSome result (λ b. IsPlacedAt block.entry.now offset b × (b.value ≡ 6)) }
+        { mend(block, offset, 6) },
     )
 }
 
 // Tests whether one of two threads mends the cell, and its value is seen.
-fn is_mended_by_one<R: Threads + Sync>(rt: &R, block: &Block<u64>, place: u64) -> bool
-    requires { place < block_len block.now }
+fn is_mended_by_one<R: Threads + Sync>(rt: &R, block: &Block<u64>, offset: u64) -> bool
+    requires { offset < block_len block.now }
 {
-    spoil(block, place)
-        && match mend_by_two(rt, block, place) {
+    break_cell(block, offset)
+        && match mend_by_two(rt, block, offset) {
             (Some(a), None) => *block.value(&a) == 5
-                && matches!(block.look(place), Look::Filled(5, _)),
+                && matches!(block.look(offset), Look::Filled(5, _)),
             (None, Some(b)) => *block.value(&b) == 6
-                && matches!(block.look(place), Look::Filled(6, _)),
+                && matches!(block.look(offset), Look::Filled(6, _)),
             _other => false,
         }
 }
@@ -215,7 +215,7 @@ fn is_mended_by_one<R: Threads + Sync>(rt: &R, block: &Block<u64>, place: u64) -
 #[test]
 fn one_of_two_threads_mends_a_cell(rt: HostRuntime) {
     let block = made(&rt, 1000);
-    for place in 0..1000 {
-        assert!(rt; is_mended_by_one(&rt, &block, place));
+    for offset in 0..1000 {
+        assert!(rt; is_mended_by_one(&rt, &block, offset));
     }
 }

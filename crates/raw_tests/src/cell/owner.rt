@@ -2,26 +2,26 @@ ghost use Rattle.std.specs.Prelude.{◌≡◌, ◌≢◌, ◌<◌, ◌∷◌, []
 ghost use Rattle.cell_core.specs.Block.{block_len, IsMemberAt, KeepsOtherCells};
 
 use super::block::{Counted, count, fill, is_broken, is_empty, is_filled, made};
-use cell_core::block::{Block, Ended, Epoch, Look, Member, Row};
+use cell_core::block::{Block, EndedEpoch, Epoch, Look, Member, Row};
 use std::sync::atomic::AtomicU64;
 
 // The value of a cell by what is known of it.
-fn value_of(block: &Block<u64>, place: u64, member: &Member<u64>, epoch: &Epoch) -> Option<u64>
-    requires member { IsMemberAt block.now place member.now }
+fn value_of(block: &Block<u64>, offset: u64, member: &Member<u64>, epoch: &Epoch) -> Option<u64>
+    requires member { IsMemberAt block.now offset member.now }
     requires epoch { member.now.value ≡ None → member.now.epoch ≡ epoch.now }
 {
-    let (value, _placed) = block.member(place, member, epoch)?;
+    let (value, _placed) = block.member(offset, member, epoch)?;
     Some(*value)
 }
 
 // The same of a cell that is settled.
-pub(crate) fn settled_value(block: &mut Block<u64>, place: u64, epoch: &Epoch) -> Option<u64>
-    requires { place < block_len block.old }
+pub(crate) fn settled_value(block: &mut Block<u64>, offset: u64, epoch: &Epoch) -> Option<u64>
+    requires { offset < block_len block.old }
     ensures len { block_len block.new ≡ block_len block.old }
-    ensures others { KeepsOtherCells block.old block.new place }
+    ensures others { KeepsOtherCells block.old block.new offset }
 {
-    let member = block.settle_now(place, epoch);
-    value_of(block, place, &member, epoch)
+    let member = block.settle_now(offset, epoch);
+    value_of(block, offset, &member, epoch)
 }
 
 // Settles a filled cell, and returns what is then known of it.
@@ -104,21 +104,21 @@ fn a_value_that_is_known_stays_when_its_cell_is_settled(rt: HostRuntime) {
     assert!(rt; is_settled_as_known(&mut block, &epoch));
 }
 
-// The value and the place of the token that a put gives, and the value that the cell held.
-fn put(block: &mut Block<u64>, place: u64, value: u64) -> (u64, u64, Option<u64>)
-    requires { place < block_len block.old }
+// The value and the offset of the token that a put gives, and the value that the cell held.
+fn put(block: &mut Block<u64>, offset: u64, value: u64) -> (u64, u64, Option<u64>)
+    requires { offset < block_len block.old }
     ensures { block_len block.new ≡ block_len block.old }
 {
-    let (placed, held) = block.put_now(place, value);
-    (*block.value(&placed), placed.place(), held)
+    let (placed, held) = block.put_now(offset, value);
+    (*block.value(&placed), placed.offset(), held)
 }
 
 // The value that a cell held before it is broken.
-fn spoil(block: &mut Block<u64>, place: u64, epoch: &Epoch) -> Option<u64>
-    requires { place < block_len block.old }
+fn break_cell(block: &mut Block<u64>, offset: u64, epoch: &Epoch) -> Option<u64>
+    requires { offset < block_len block.old }
     ensures { block_len block.new ≡ block_len block.old }
 {
-    block.spoil_now(place, epoch).1
+    block.spoil_now(offset, epoch).1
 }
 
 // Tests whether the second cell takes a value if it is empty, filled or broken.
@@ -128,9 +128,9 @@ fn takes_any_value(block: &mut Block<u64>, epoch: &Epoch) -> bool
 {
     put(block, 1, 5) == (5, 1, None)
         && put(block, 1, 6) == (6, 1, Some(5))
-        && spoil(block, 1, epoch) == Some(6)
+        && break_cell(block, 1, epoch) == Some(6)
         && is_broken(block, 1)
-        && spoil(block, 1, epoch).is_none()
+        && break_cell(block, 1, epoch).is_none()
         && put(block, 1, 7) == (7, 1, None)
 }
 
@@ -272,44 +272,49 @@ fn a_row_has_its_members_in_order(rt: HostRuntime) {
 }
 
 // The value that a cell held before it has another.
-fn put_over<T>(block: &mut Block<T>, place: u64, value: T) -> Option<T>
-    requires { place < block_len block.old }
+fn put_over<T>(block: &mut Block<T>, offset: u64, value: T) -> Option<T>
+    requires { offset < block_len block.old }
     ensures { block_len block.new ≡ block_len block.old }
 {
-    block.put_now(place, value).1
+    block.put_now(offset, value).1
 }
 
 // How many values were dropped once a cell has a new one.
-fn count_put<'a>(block: &mut Block<Counted<'a>>, place: u64, drops: &'a AtomicU64) -> u64
-    requires { place < block_len block.old }
+fn count_put<'a>(block: &mut Block<Counted<'a>>, offset: u64, drops: &'a AtomicU64) -> u64
+    requires { offset < block_len block.old }
     ensures { block_len block.new ≡ block_len block.old }
 {
-    drop(put_over(block, place, Counted(drops)));
+    drop(put_over(block, offset, Counted(drops)));
     count(drops)
 }
 
 // How many once it is broken.
-fn count_spoilt(block: &mut Block<Counted<'_>>, place: u64, epoch: &Epoch, drops: &AtomicU64) -> u64
-    requires { place < block_len block.old }
+fn count_broken(
+    block: &mut Block<Counted<'_>>,
+    offset: u64,
+    epoch: &Epoch,
+    drops: &AtomicU64,
+) -> u64
+    requires { offset < block_len block.old }
     ensures { block_len block.new ≡ block_len block.old }
 {
-    drop(block.spoil_now(place, epoch));
+    drop(block.spoil_now(offset, epoch));
     count(drops)
 }
 
 // How many once it is settled, and once its value is taken.
 fn count_taken(
     block: &mut Block<Counted<'_>>,
-    place: u64,
+    offset: u64,
     epoch: &Epoch,
     drops: &AtomicU64,
 ) -> (u64, u64)
-    requires { place < block_len block.old }
+    requires { offset < block_len block.old }
     ensures { block_len block.new ≡ block_len block.old }
 {
-    let member = block.settle_now(place, epoch);
+    let member = block.settle_now(offset, epoch);
     let settled = count(drops);
-    drop(block.take_member(place, &member, epoch));
+    drop(block.take_member(offset, &member, epoch));
     (settled, count(drops))
 }
 
@@ -330,7 +335,7 @@ fn drops_three<'a>(block: &mut Block<Counted<'a>>, epoch: &Epoch, drops: &'a Ato
 {
     drops_none(block, drops)
         && count_put(block, 0, drops) == 1
-        && count_spoilt(block, 1, epoch, drops) == 2
+        && count_broken(block, 1, epoch, drops) == 2
         && count_taken(block, 2, epoch, drops) == (2, 3)
 }
 
@@ -345,12 +350,12 @@ fn an_owner_drops_no_value_twice(rt: HostRuntime) {
 }
 
 // Returns the value of a cell's token, after the cell gave two.
-fn value_now(block: &mut Block<u64>, place: u64) -> Option<u64>
-    requires { place < block_len block.old }
+fn value_now(block: &mut Block<u64>, offset: u64) -> Option<u64>
+    requires { offset < block_len block.old }
     ensures { block_len block.new ≡ block_len block.old }
 {
-    let first = block.token_now(place)?;
-    let second = block.token_now(place)?;
+    let first = block.token_now(offset)?;
+    let second = block.token_now(offset)?;
     block.agree(&first, &second);
     Some(*block.value(&second))
 }
@@ -362,7 +367,7 @@ fn has_a_token_where_filled(block: &mut Block<u64>, epoch: &Epoch) -> bool
     value_now(block, 1).is_none()
         && is_filled(block, 1, 5)
         && value_now(block, 1) == Some(5)
-        && spoil(block, 1, epoch) == Some(5)
+        && break_cell(block, 1, epoch) == Some(5)
         && value_now(block, 1).is_none()
         && put(block, 1, 6) == (6, 1, None)
         && value_now(block, 1) == Some(6)
@@ -385,5 +390,5 @@ fn members_rows_and_epochs_cross_threads(_rt: HostRuntime) {
     is_shared::<Member<u64>>();
     is_shared::<Row<u64>>();
     is_shared::<Epoch>();
-    is_shared::<Ended>();
+    is_shared::<EndedEpoch>();
 }

@@ -10,38 +10,38 @@ use Rattle.std.specs.Ordering.{nat_cmp}
 use Rattle.std.specs.Cmp.{nat_cmp_total}
 use Rattle.std.specs.FinMap as map
 use Rattle.std.specs.FinSet as set
-use Rattle.seg_core.specs.Segment.{IsLayout, most_places, segment_count, HasPlace, segment_start, segment_end, segment_of}
+use Rattle.seg_core.specs.Segment.{IsLayout, most_places, most_segments, segment_count, HasPlace, segment_start, segment_end, segment_of}
 use Rattle.seg_core.proofs.Doubling.{segment_of_has, is_segment_of, segment_end-le}
 use Rattle.book_core.proofs.Lists.{get_other, get_set}
-use Rattle.step_core.specs.declared.machine.phase.Slot.{Slot}
+use Rattle.step_core.specs.declared.machine.phase.CellSlot.{CellSlot}
 use Rattle.step_core.proofs.atomic_steps.Keys.{same_key, other_key}
-use Rattle.step_core.specs.machine.Blocks.{Shown, Slots, Entries, flattened, block_of, slot_in, slot_at, with_value, map_below, set_below, entry_count, shown, AreBlocks}
+use Rattle.step_core.specs.machine.Blocks.{Shown, Slots, Entries, flattened, block_of, slot_in, slot_at, with_value, map_below, set_below, shown, AreBlocks}
 
 -- ---- The map and the set below a bound
 
 -- at another key nothing changes
-given_elsewhere : (m : map.FinMap nat_cmp Slot) (key : ℕ) (o : Option Slot) (q : ℕ) → q ≢ key
+given_elsewhere : (m : map.FinMap nat_cmp CellSlot) (key : ℕ) (o : Option CellSlot) (q : ℕ) → q ≢ key
     → map.get (with_value m key o) q ≡ map.get m q
 given_elsewhere m key None q apart = refl
 given_elsewhere m key (Some v) q apart =
     map.get-insert nat_cmp_total m key v q ∙ ap (λ b. cond b (Some v) (map.get m q)) (other_key q key apart)
 
 -- at a new key there is what was given
-given_here : (m : map.FinMap nat_cmp Slot) (key : ℕ) (o : Option Slot) → map.get m key ≡ None
+given_here : (m : map.FinMap nat_cmp CellSlot) (key : ℕ) (o : Option CellSlot) → map.get m key ≡ None
     → map.get (with_value m key o) key ≡ o
 given_here m key None none = none
 given_here m key (Some v) none =
     map.get-insert nat_cmp_total m key v key ∙ ap (λ b. cond b (Some v) (map.get m key)) (same_key key)
 
 -- the map has nothing from its bound on
-none_past : (f : ℕ → Option Slot) (n q : ℕ) → n ≤ q → map.get (map_below f n) q ≡ None
+none_past : (f : ℕ → Option CellSlot) (n q : ℕ) → n ≤ q → map.get (map_below f n) q ≡ None
 unfolding map_below
 none_past f zero q past = map.get-empty nat_cmp q
 none_past f (suc n) q past =
     given_elsewhere (map_below f n) n (f n) q (λ same. omega arith) ∙ none_past f n q (omega arith)
 
 -- below its bound it has what the function has
-given_within : (f : ℕ → Option Slot) (n q : ℕ) → q < n → map.get (map_below f n) q ≡ f q
+given_within : (f : ℕ → Option CellSlot) (n q : ℕ) → q < n → map.get (map_below f n) q ≡ f q
 unfolding map_below
 given_within f zero q inside = absurd (omega arith)
 given_within f (suc n) q inside =
@@ -51,7 +51,7 @@ given_within f (suc n) q inside =
     ]
 
 -- if a function has nothing from the bound on, the map has what the function has
-get_map_below : (f : ℕ → Option Slot) (n : ℕ) → ((q : ℕ) → n ≤ q → f q ≡ None) → (q : ℕ)
+get_map_below : (f : ℕ → Option CellSlot) (n : ℕ) → ((q : ℕ) → n ≤ q → f q ≡ None) → (q : ℕ)
     → map.get (map_below f n) q ≡ f q
 get_map_below f n nothing q =
     elim (cases_lt q n) [ inl inside ↦ given_within f n q inside | inr past ↦ none_past f n q past ∙ sym (nothing q past) ]
@@ -135,7 +135,7 @@ get_shown f entries ends place =
 
 -- entries show what has the same segments and slots
 shown_is : (f : ℕ) (entries : Entries) → EndsAt f entries
-    → (segments : set.FinSet nat_cmp) (slots : map.FinMap nat_cmp Slot)
+    → (segments : set.FinSet nat_cmp) (slots : map.FinMap nat_cmp CellSlot)
     → ((k : ℕ) → is_some (block_of entries k) ≡ set.contains segments k)
     → ((q : ℕ) → slot_at f entries q ≡ map.get slots q)
     → shown f entries ≡ record { layout = f; installed = segments; slots = slots }
@@ -153,7 +153,7 @@ shows_nothing f entries none =
     (λ q. ap (λ b. slot_in b (q - segment_start f (segment_of f q))) (none (segment_of f q)) ∙ sym (map.get-empty nat_cmp q))
 
 -- entries without a block are whole
-pub nothing_is_blocks : (f : ℕ) (entries : Entries) → IsLayout f → length entries ≡ entry_count
+pub nothing_is_blocks : (f : ℕ) (entries : Entries) → IsLayout f → length entries ≡ most_segments
     → ((k : ℕ) → block_of entries k ≡ None) → AreBlocks f entries
 nothing_is_blocks f entries is_layout long none = record {
   layout = is_layout;
@@ -165,7 +165,7 @@ nothing_is_blocks f entries is_layout long none = record {
 -- each segment of the layout has an entry
 entry_inside : (f : ℕ) (entries : Entries) → AreBlocks f entries → (k : ℕ) → k < segment_count f → k < length entries
 entry_inside f entries blocks k inside =
-    let low : 1 ≤ f = blocks.layout.0 in let count : length entries ≡ entry_count = blocks.count in omega arith
+    let low : 1 ≤ f = blocks.layout.0 in let count : length entries ≡ most_segments = blocks.count in omega arith
 
 -- ---- An entry that is set
 
@@ -228,7 +228,7 @@ shows_block f entries k n blocks inside none =
     ])
 
 -- at another offset, or in another block, the slot is as it was
-slot_elsewhere : (f : ℕ) (entries entries' : Entries) (k o : ℕ) (block : Slots) (slot : Slot) (q : ℕ)
+slot_elsewhere : (f : ℕ) (entries entries' : Entries) (k o : ℕ) (block : Slots) (slot : CellSlot) (q : ℕ)
     → (segment_of f q ≢ k → block_of entries' (segment_of f q) ≡ block_of entries (segment_of f q))
     → block_of entries' k ≡ Some (slice_set block o (Some slot)) → block_of entries k ≡ Some block
     → (segment_of f q ≡ k → q - segment_start f (segment_of f q) ≢ o) → slot_at f entries' q ≡ slot_at f entries q
@@ -242,7 +242,7 @@ slot_elsewhere f entries entries' k o block slot q elsewhere new old other =
     ]
 
 -- a slot that is set in the block of a place shows one slot changed
-shows_slot : (f : ℕ) (entries : Entries) (k o place : ℕ) (block : Slots) (slot : Slot) → AreBlocks f entries
+shows_slot : (f : ℕ) (entries : Entries) (k o place : ℕ) (block : Slots) (slot : CellSlot) → AreBlocks f entries
     → k < segment_count f → HasPlace f k place → segment_start f k + o ≡ place → block_of entries k ≡ Some block → o < length block
     → shown f (slice_set entries k (Some (slice_set block o (Some slot)))) ≡ record { layout = f; installed = (shown f entries).installed; slots = map.insert (shown f entries).slots place slot }
 shows_slot f entries k o place block slot blocks inside has lies is room =
@@ -297,7 +297,7 @@ module _ {f : ℕ} {entries : Entries} {seen : Shown} (view : shown f entries �
   segment_inside k inside = subst (λ l. k < segment_count l) (sym layout_is) inside
 
   -- and it has an entry
-  pub index_inside : (k : ℕ) → k < segment_count seen.layout → k < entry_count
+  pub index_inside : (k : ℕ) → k < segment_count seen.layout → k < most_segments
   index_inside k inside =
       let low : 1 ≤ f = blocks.layout.0 in let within : k < segment_count f = segment_inside k inside in omega arith
 
@@ -365,7 +365,7 @@ module _ {f : ℕ} {entries : Entries} {seen : Shown} (view : shown f entries �
         (entry_is k inside is ∙ is)
 
     -- the entries stay whole where the slot is set
-    pub set_is_blocks : (slot : Slot) → set.contains seen.installed (segment_of seen.layout place) ≡ true
+    pub set_is_blocks : (slot : CellSlot) → set.contains seen.installed (segment_of seen.layout place) ≡ true
         → AreBlocks f (slice_set entries k (option_map (λ block. slice_set block o (Some slot)) (slice_index_or entries k read)))
     set_is_blocks slot there =
         elim (slice_index_or entries k read) as (λ r. block_of entries k ≡ r → is_some r ≡ true → AreBlocks f (slice_set entries k (option_map (λ block. slice_set block o (Some slot)) r))) [
@@ -377,7 +377,7 @@ module _ {f : ℕ} {entries : Entries} {seen : Shown} (view : shown f entries �
         (entry_is k inside is ∙ is) (entry_there there)
 
     -- they show one slot changed
-    pub set_shows : (slot : Slot) → set.contains seen.installed (segment_of seen.layout place) ≡ true
+    pub set_shows : (slot : CellSlot) → set.contains seen.installed (segment_of seen.layout place) ≡ true
         → shown f (slice_set entries k (option_map (λ block. slice_set block o (Some slot)) (slice_index_or entries k read))) ≡ record { layout = seen.layout; installed = seen.installed; slots = map.insert seen.slots place slot }
     set_shows slot there =
         elim (slice_index_or entries k read) as (λ r. block_of entries k ≡ r → is_some r ≡ true → IfSome r (λ block. o < length block) → shown f (slice_set entries k (option_map (λ block. slice_set block o (Some slot)) r)) ≡ record { layout = seen.layout; installed = seen.installed; slots = map.insert seen.slots place slot }) [
@@ -389,8 +389,8 @@ module _ {f : ℕ} {entries : Entries} {seen : Shown} (view : shown f entries �
         (entry_is k inside is ∙ is) (entry_there there) entry_reaches
 
 -- entries that are all read empty are no blocks
-pub none_read : (entries : Entries) → length entries ≡ entry_count
-    → ((i : ℕ) (e : Option Slots) → i < entry_count → slice_index_or entries i e ≡ None) → (k : ℕ)
+pub none_read : (entries : Entries) → length entries ≡ most_segments
+    → ((i : ℕ) (e : Option Slots) → i < most_segments → slice_index_or entries i e ≡ None) → (k : ℕ)
     → block_of entries k ≡ None
 none_read entries long none k =
     elim (cases_lt k (length entries)) [

@@ -11,8 +11,8 @@ use Rattle.book_core.specs.declared.commands.Command.{Command}
 use Rattle.book_core.specs.declared.commands.Command.TheVariants as commands
 use Rattle.book_core.specs.declared.events.Event.{Event}
 use Rattle.book_core.specs.declared.events.Reply.{Reply}
-use Rattle.step_core.specs.declared.machine.phase.Slot.{Slot}
-use Rattle.step_core.specs.declared.machine.phase.Slot.TheVariants.{Busy, Filled, Broken}
+use Rattle.step_core.specs.declared.machine.phase.CellSlot.{CellSlot}
+use Rattle.step_core.specs.declared.machine.phase.CellSlot.TheVariants.{Busy, Filled, Broken}
 use Rattle.step_core.specs.declared.machine.phase.Phase.{Phase}
 use Rattle.step_core.specs.declared.machine.phase.Phase.TheVariants.{Load, Scout, Put, Exchange, Raise, Begin, Fill, Spoil, Mend, FillMended, Look}
 use Rattle.step_core.specs.declared.machine.phase.Next.{Next}
@@ -135,20 +135,20 @@ module _ (limit : ℕ) (is_limit : limit ≤ most_places) (m : Storage) (is_layo
       raise_cases (Stays m.layout limit command) m actor to (λ _. same_size command _ _ tt)
       (λ more. record { size = omega arith; next = (le_refl m.size, omega arith, omega arith) })
 
-  begin_stays : (from n place : ℕ) (command : Command) (slot : Option Slot) → IsWithin m.layout limit command (Begin from n place)
+  begin_stays : (from n place : ℕ) (command : Command) (slot : Option CellSlot) → IsWithin m.layout limit command (Begin from n place)
       → Stays m.layout limit command (begin_at m actor command from n place slot)
   begin_stays from n place command None within =
       begin_cases (Stays m.layout limit command) m actor command from n place
       (λ _. record { size = size; next = within }) (λ _. record { size = size; next = within })
   begin_stays from n place command (Some slot) within = same_size command _ _ within
 
-  look_stays : (place : ℕ) (command : Command) (slot : Option Slot) → Stays m.layout limit command (look_at m actor place slot)
+  look_stays : (place : ℕ) (command : Command) (slot : Option CellSlot) → Stays m.layout limit command (look_at m actor place slot)
   look_stays place command None = same_size command _ _ tt
   look_stays place command (Some (Busy owner)) = same_size command _ _ tt
   look_stays place command (Some (Filled value)) = same_size command _ _ tt
   look_stays place command (Some Broken) = same_size command _ _ tt
 
-  mend_stays : (place : ℕ) (command : Command) (slot : Option Slot) → place < limit
+  mend_stays : (place : ℕ) (command : Command) (slot : Option CellSlot) → place < limit
       → Stays m.layout limit command (mend_at m actor place slot)
   mend_stays place command None within = look_stays place command None
   mend_stays place command (Some (Busy owner)) within = look_stays place command (Some (Busy owner))

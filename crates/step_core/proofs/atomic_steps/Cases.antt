@@ -10,7 +10,7 @@ use Rattle.book_core.specs.declared.events.Reply.TheVariants as replies
 use Rattle.book_core.specs.declared.commands.Command.{Command}
 use Rattle.book_core.specs.declared.commands.Command.TheVariants as commands
 use Rattle.book_core.specs.declared.commands.Answer.TheVariants as answers
-use Rattle.step_core.specs.declared.machine.phase.Slot.TheVariants.{Busy}
+use Rattle.step_core.specs.declared.machine.phase.CellSlot.TheVariants.{Busy}
 use Rattle.step_core.specs.declared.machine.phase.Phase.{Phase}
 use Rattle.step_core.specs.declared.machine.phase.Phase.TheVariants.{Scout, Put, Exchange, Raise, Begin, Fill, Spoil}
 use Rattle.step_core.specs.declared.machine.phase.Next.{Next}

@@ -12,8 +12,8 @@ use Rattle.book_core.specs.declared.commands.Item.{Item}
 use Rattle.seg_core.specs.Segment.{IsLayout, IsLimit}
 use Rattle.book_core.specs.Commands.{AreSound, calls_of}
 use Rattle.book_core.specs.History.{OwnedRun, runs_of, Tile, events_of}
-use Rattle.step_core.specs.declared.machine.phase.Slot.{Slot}
-use Rattle.step_core.specs.declared.machine.phase.Slot.TheVariants.{Busy, Filled, Broken}
+use Rattle.step_core.specs.declared.machine.phase.CellSlot.{CellSlot}
+use Rattle.step_core.specs.declared.machine.phase.CellSlot.TheVariants.{Busy, Filled, Broken}
 use Rattle.step_core.specs.declared.machine.phase.Phase.{Phase}
 use Rattle.step_core.specs.declared.machine.phase.Phase.TheVariants.{Load, Scout, Put, Exchange, Raise, Begin, Fill, Spoil, Mend, FillMended, Look}
 use Rattle.step_core.specs.declared.machine.phase.Actor.{Actor}
@@ -73,17 +73,17 @@ module _ (m : Storage) (actor : ℕ) (command : Command) where
       load_place_cases (StaysOrClaims m actor command) m actor place (Look place) (λ _. inl refl) (λ _. inl refl)
   load_stays limit commands.Size = inl refl
 
-  begin_stays : (from n place : ℕ) (slot : Option Slot) → StaysOrClaims m actor command (begin_at m actor command from n place slot)
+  begin_stays : (from n place : ℕ) (slot : Option CellSlot) → StaysOrClaims m actor command (begin_at m actor command from n place slot)
   begin_stays from n place None = inl refl
   begin_stays from n place (Some slot) = inl refl
 
-  look_stays : (place : ℕ) (slot : Option Slot) → StaysOrClaims m actor command (look_at m actor place slot)
+  look_stays : (place : ℕ) (slot : Option CellSlot) → StaysOrClaims m actor command (look_at m actor place slot)
   look_stays place None = inl refl
   look_stays place (Some (Busy owner)) = inl refl
   look_stays place (Some (Filled value)) = inl refl
   look_stays place (Some Broken) = inl refl
 
-  mend_stays : (place : ℕ) (slot : Option Slot) → StaysOrClaims m actor command (mend_at m actor place slot)
+  mend_stays : (place : ℕ) (slot : Option CellSlot) → StaysOrClaims m actor command (mend_at m actor place slot)
   mend_stays place None = inl refl
   mend_stays place (Some (Busy owner)) = inl refl
   mend_stays place (Some (Filled value)) = inl refl

@@ -16,8 +16,8 @@ use Rattle.book_core.specs.declared.commands.Command.TheVariants as commands
 use Rattle.book_core.specs.declared.events.Event.{Event}
 use Rattle.book_core.specs.declared.events.Reply.{Reply}
 use Rattle.book_core.specs.declared.commands.Answer.{Answer}
-use Rattle.step_core.specs.declared.machine.phase.Slot.{Slot}
-use Rattle.step_core.specs.declared.machine.phase.Slot.TheVariants.{Busy, Filled, Broken}
+use Rattle.step_core.specs.declared.machine.phase.CellSlot.{CellSlot}
+use Rattle.step_core.specs.declared.machine.phase.CellSlot.TheVariants.{Busy, Filled, Broken}
 use Rattle.step_core.specs.declared.machine.phase.Phase.{Phase}
 use Rattle.step_core.specs.declared.machine.phase.Phase.TheVariants.{Load, Scout, Put, Exchange, Raise, Begin, Fill, Spoil, Mend, FillMended, Look}
 use Rattle.step_core.specs.declared.machine.phase.Next.{Next}
@@ -137,7 +137,7 @@ module _ (m : Storage) (ready : (q : ℕ) → q < m.size → IsReady m q) where
   load_passes limit actor commands.Size = ends_passes _ _ _
 
   -- Begin
-  begin_passes : (actor from n place : ℕ) (command : Command) (slot : Option Slot)
+  begin_passes : (actor from n place : ℕ) (command : Command) (slot : Option CellSlot)
       → HasPassed m (Begin from n place) → Passes m (begin_at m actor command from n place slot)
   begin_passes actor from n place command None passed =
       begin_cases (Passes m) m actor command from n place
@@ -146,7 +146,7 @@ module _ (m : Storage) (ready : (q : ℕ) → q < m.size → IsReady m q) where
   begin_passes actor from n place command (Some slot) passed = goes_passes (Begin from n place) passed
 
   -- Fill and Spoil: a slot is set, and after a place of the run come its other places
-  set_passes : (command : Command) (from n place : ℕ) (slot : Slot) (event : Event × Reply)
+  set_passes : (command : Command) (from n place : ℕ) (slot : CellSlot) (event : Event × Reply)
       → ((q : ℕ) → q < from + n → IsReady m q)
       → Passes m (record { storage = with_slot m place slot; event = Some event; next = after_place command from n place })
   set_passes command from n place slot event passed = record {
@@ -156,14 +156,14 @@ module _ (m : Storage) (ready : (q : ℕ) → q < m.size → IsReady m q) where
   }
 
   -- Look
-  look_passes : (actor place : ℕ) (slot : Option Slot) → Passes m (look_at m actor place slot)
+  look_passes : (actor place : ℕ) (slot : Option CellSlot) → Passes m (look_at m actor place slot)
   look_passes actor place None = ends_passes _ _ _
   look_passes actor place (Some (Busy owner)) = ends_passes _ _ _
   look_passes actor place (Some (Filled value)) = ends_passes _ _ _
   look_passes actor place (Some Broken) = ends_passes _ _ _
 
   -- Mend
-  mend_passes : (actor place : ℕ) (slot : Option Slot) → IsReady m place → Passes m (mend_at m actor place slot)
+  mend_passes : (actor place : ℕ) (slot : Option CellSlot) → IsReady m place → Passes m (mend_at m actor place slot)
   mend_passes actor place None passed = ends_passes _ _ _
   mend_passes actor place (Some (Busy owner)) passed = ends_passes _ _ _
   mend_passes actor place (Some (Filled value)) passed = ends_passes _ _ _

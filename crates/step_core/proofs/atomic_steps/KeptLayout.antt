@@ -4,8 +4,8 @@ use Rattle.std.specs.FinMap as map
 use Rattle.book_core.specs.declared.commands.Command.{Command}
 use Rattle.book_core.specs.declared.commands.Command.TheVariants as commands
 use Rattle.book_core.specs.declared.commands.Item.{Item}
-use Rattle.step_core.specs.declared.machine.phase.Slot.{Slot}
-use Rattle.step_core.specs.declared.machine.phase.Slot.TheVariants.{Busy, Filled, Broken}
+use Rattle.step_core.specs.declared.machine.phase.CellSlot.{CellSlot}
+use Rattle.step_core.specs.declared.machine.phase.CellSlot.TheVariants.{Busy, Filled, Broken}
 use Rattle.step_core.specs.declared.machine.phase.Phase.{Phase}
 use Rattle.step_core.specs.declared.machine.phase.Phase.TheVariants.{Load, Scout, Put, Exchange, Raise, Begin, Fill, Spoil, Mend, FillMended, Look}
 use Rattle.step_core.specs.machine.Storage.{Storage}
@@ -31,17 +31,17 @@ module _ (limit : ℕ) (m : Storage) (actor : ℕ) where
   load_keeps (commands.Read place) = load_place_cases (Keeps m) m actor place (Look place) (λ _. refl) (λ _. refl)
   load_keeps commands.Size = refl
 
-  begin_keeps : (command : Command) (from n place : ℕ) (slot : Option Slot) → Keeps m (begin_at m actor command from n place slot)
+  begin_keeps : (command : Command) (from n place : ℕ) (slot : Option CellSlot) → Keeps m (begin_at m actor command from n place slot)
   begin_keeps command from n place None = refl
   begin_keeps command from n place (Some slot) = refl
 
-  look_keeps : (place : ℕ) (slot : Option Slot) → Keeps m (look_at m actor place slot)
+  look_keeps : (place : ℕ) (slot : Option CellSlot) → Keeps m (look_at m actor place slot)
   look_keeps place None = refl
   look_keeps place (Some (Busy owner)) = refl
   look_keeps place (Some (Filled value)) = refl
   look_keeps place (Some Broken) = refl
 
-  mend_keeps : (place : ℕ) (slot : Option Slot) → Keeps m (mend_at m actor place slot)
+  mend_keeps : (place : ℕ) (slot : Option CellSlot) → Keeps m (mend_at m actor place slot)
   mend_keeps place None = refl
   mend_keeps place (Some (Busy owner)) = refl
   mend_keeps place (Some (Filled value)) = refl

@@ -10,7 +10,7 @@ use Rattle.book_core.specs.declared.commands.Item.{Item}
 use Rattle.book_core.specs.declared.commands.Ended.{Ended}
 use Rattle.book_core.specs.Commands.{HavePrograms, HaveActors}
 use Rattle.book_core.specs.History.{OwnedRun, runs_of, owner_of, Tile}
-use Rattle.step_core.specs.declared.machine.phase.Slot.{Slot}
+use Rattle.step_core.specs.declared.machine.phase.CellSlot.{CellSlot}
 use Rattle.step_core.specs.declared.machine.phase.Next.{Next}
 use Rattle.step_core.specs.declared.machine.phase.Next.TheVariants.{Goes, Ends}
 use Rattle.step_core.specs.declared.machine.phase.Actor.{Actor}
@@ -27,7 +27,7 @@ AreOwners owner place [] = Unit {0}
 AreOwners owner place (o ∷ os) = (owner place ≡ Some o) × AreOwners owner (place + 1) os
 
 -- cells by their owners
-by_owners : (owner : ℕ → Option ℕ) (slot : ℕ → Option Slot) (place : ℕ) (owners : List ℕ)
+by_owners : (owner : ℕ → Option ℕ) (slot : ℕ → Option CellSlot) (place : ℕ) (owners : List ℕ)
     → AreOwners owner place owners
     → cells_from slot place owners ≡ map (λ p. cell_of (owner p) (slot p)) (range_with_len place (length owners))
 by_owners owner slot place [] are = refl

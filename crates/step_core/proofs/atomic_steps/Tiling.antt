@@ -17,8 +17,8 @@ use Rattle.book_core.specs.declared.commands.Command.{Command}
 use Rattle.book_core.specs.declared.commands.Item.{Item}
 use Rattle.book_core.specs.History.{OwnedRun, runs_of, owner_of, Tile, writes_of}
 use Rattle.book_core.specs.Laws.{IsItsToFinish}
-use Rattle.step_core.specs.declared.machine.phase.Slot.{Slot}
-use Rattle.step_core.specs.declared.machine.phase.Slot.TheVariants.{Busy, Filled, Broken}
+use Rattle.step_core.specs.declared.machine.phase.CellSlot.{CellSlot}
+use Rattle.step_core.specs.declared.machine.phase.CellSlot.TheVariants.{Busy, Filled, Broken}
 use Rattle.step_core.specs.declared.machine.phase.Phase.{Phase}
 use Rattle.step_core.specs.declared.machine.phase.Phase.TheVariants.{Load, Scout, Put, Exchange, Raise, Begin, Fill, Spoil, Mend, FillMended, Look}
 use Rattle.step_core.specs.declared.machine.phase.Actor.{Actor}
@@ -131,7 +131,7 @@ owes_open m runs writes actor (FillMended place) q (inside, busy, by) same its_o
 owes_open m runs writes actor (Look place) q knows its its_own = absurd its
 
 -- what was done at a place is as its slot says
-filled_once_settled : (runs : List OwnedRun) (writes : List Event) (q : ℕ) (slot : Option Slot)
+filled_once_settled : (runs : List OwnedRun) (writes : List Event) (q : ℕ) (slot : Option CellSlot)
     → Settlement runs writes q slot
     → (writes ≡ []) ⊎ ((owner : ℕ) × (owner_of runs q ≡ Some owner) × IsWrittenFor owner q writes)
 filled_once_settled runs writes q None is = inl is
@@ -181,7 +181,7 @@ its_finisher es place actor writes its = elim its [
 ]
 
 -- a place that is an actor's to finish by what was done there is its own to fill by its slot
-finisher_open : (runs : List OwnedRun) (writes : List Event) (place actor : ℕ) (slot : Option Slot)
+finisher_open : (runs : List OwnedRun) (writes : List Event) (place actor : ℕ) (slot : Option CellSlot)
     → Settlement runs writes place slot → finisher_after (owner_of runs place) writes ≡ Some actor
     → IsOpen runs actor place slot
 unfolding finisher_after after_write
@@ -198,7 +198,7 @@ finisher_open runs writes place actor (Some Broken) is finishes =
     absurd (none-some actor (sym (ap (finisher_after (owner_of runs place)) is.is) ∙ finishes))
 
 -- a place that is an actor's own to fill by its slot is its to finish by what was done there
-open_finisher : (es : List (Event × Reply)) (writes : List Event) (place actor : ℕ) (slot : Option Slot)
+open_finisher : (es : List (Event × Reply)) (writes : List Event) (place actor : ℕ) (slot : Option CellSlot)
     → Settlement (runs_of es) writes place slot → IsOpen (runs_of es) actor place slot
     → IsItsToFinish es place actor writes
 open_finisher es writes place actor None is its_own = inl (its_own, is)
@@ -209,7 +209,7 @@ open_finisher es writes place actor (Some (Filled value)) is its_own = absurd it
 open_finisher es writes place actor (Some Broken) is its_own = absurd its_own
 
 -- a slot that is somebody's to fill is unfinished
-open_unfinished : (runs : List OwnedRun) (actor place : ℕ) (slot : Option Slot) → IsOpen runs actor place slot
+open_unfinished : (runs : List OwnedRun) (actor place : ℕ) (slot : Option CellSlot) → IsOpen runs actor place slot
     → IsUnfinished slot
 open_unfinished runs actor place None its_own = tt
 open_unfinished runs actor place (Some (Busy other)) its_own = tt
@@ -217,7 +217,7 @@ open_unfinished runs actor place (Some (Filled value)) its_own = its_own
 open_unfinished runs actor place (Some Broken) its_own = its_own
 
 -- so is one that is unfinished for an actor
-unfinished_for_one : (actor : ℕ) (slot : Option Slot) → IsUnfinishedFor actor slot → IsUnfinished slot
+unfinished_for_one : (actor : ℕ) (slot : Option CellSlot) → IsUnfinishedFor actor slot → IsUnfinished slot
 unfinished_for_one actor None is = tt
 unfinished_for_one actor (Some (Busy other)) is = tt
 unfinished_for_one actor (Some (Filled value)) is = is

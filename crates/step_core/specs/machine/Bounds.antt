@@ -6,7 +6,7 @@ use Rattle.step_core.specs.declared.machine.phase.Phase.{Phase}
 use Rattle.step_core.specs.declared.machine.phase.Phase.TheVariants.{Load, Scout, Put, Exchange, Raise, Begin, Fill, Spoil, Mend, FillMended, Look}
 use Rattle.step_core.specs.declared.machine.phase.Next.{Next}
 use Rattle.step_core.specs.declared.machine.phase.Next.TheVariants.{Goes, Ends}
-use Rattle.step_core.specs.declared.machine.storage.Outcome.{Outcome as Given}
+use Rattle.step_core.specs.declared.machine.storage.StepOutcome.{StepOutcome as Given}
 use Rattle.step_core.specs.machine.Storage.{Storage}
 use Rattle.step_core.specs.declared.machine.phase.Actor.{Actor}
 use Rattle.seg_core.specs.Segment.{IsLayout, segment_count, IsLimit}

@@ -3,7 +3,7 @@ use Rattle.std.specs.Prelude.{ℕ, ◌+◌, List, [], ◌∷◌, ◌++◌, repli
 use Rattle.std.specs.FinMap.{get}
 use Rattle.book_core.specs.declared.cells.Cell.{Cell}
 use Rattle.book_core.specs.History.{OwnedRun, runs_of}
-use Rattle.step_core.specs.declared.machine.phase.Slot.{Slot}
+use Rattle.step_core.specs.declared.machine.phase.CellSlot.{CellSlot}
 use Rattle.step_core.specs.declared.programs.Played.{Played}
 use Rattle.book_core.specs.declared.commands.Work.{Work}
 use Rattle.step_core.specs.machine.Play.{Play, cell_of}
@@ -14,7 +14,7 @@ owners_of [] = []
 owners_of (run ∷ runs) = replicate run.n run.owner ++ owners_of runs
 
 -- the cells of places from one on, by their owners
-abbrev pub cells_from : (ℕ → Option Slot) → ℕ → List ℕ → List Cell
+abbrev pub cells_from : (ℕ → Option CellSlot) → ℕ → List ℕ → List Cell
 cells_from slot place [] = []
 cells_from slot place (owner ∷ owners) = cell_of (Some owner) (slot place) ∷ cells_from slot (place + 1) owners
 

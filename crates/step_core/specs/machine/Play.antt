@@ -12,8 +12,8 @@ use Rattle.book_core.specs.declared.commands.Command.{Command}
 use Rattle.book_core.specs.declared.commands.Item.{Item}
 use Rattle.book_core.specs.declared.commands.Ended.{Ended}
 use Rattle.book_core.specs.History.{OwnedRun, runs_of, owner_of}
-use Rattle.step_core.specs.declared.machine.phase.Slot.{Slot}
-use Rattle.step_core.specs.declared.machine.phase.Slot.TheVariants.{Busy, Filled, Broken}
+use Rattle.step_core.specs.declared.machine.phase.CellSlot.{CellSlot}
+use Rattle.step_core.specs.declared.machine.phase.CellSlot.TheVariants.{Busy, Filled, Broken}
 use Rattle.step_core.specs.declared.programs.Played.{Played}
 use Rattle.step_core.specs.machine.Storage.{Storage}
 use Rattle.step_core.specs.machine.Step.{Configuration, configuration_code, Step, step_of, first_configuration}
@@ -59,7 +59,7 @@ play_of f limit programs items = after_items (empty_play f limit programs) items
 
 -- a place as a reader sees it: a busy slot is pending for the actor that is writing it, and an empty one for
 -- the place's owner
-abbrev pub cell_of : Option ℕ → Option Slot → Cell
+abbrev pub cell_of : Option ℕ → Option CellSlot → Cell
 cell_of owner (Some (Filled value)) = cells.Filled value
 cell_of owner (Some Broken) = cells.Broken
 cell_of owner (Some (Busy actor)) = cells.Pending actor

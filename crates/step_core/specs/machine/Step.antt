@@ -16,8 +16,8 @@ use Rattle.std.specs.Coded.{Coded, code_by, coded×, coded_ℕ, coded_list}
 use Rattle.step_core.specs.contracts.machine.phase.Actor as actor
 use Rattle.step_core.specs.declared.machine.Stepped.{Stepped}
 use Rattle.step_core.specs.machine.Storage.{Storage, storage_code}
-use Rattle.step_core.specs.declared.machine.phase.Slot.{Slot}
-use Rattle.step_core.specs.declared.machine.phase.Slot.TheVariants.{Busy, Filled, Broken}
+use Rattle.step_core.specs.declared.machine.phase.CellSlot.{CellSlot}
+use Rattle.step_core.specs.declared.machine.phase.CellSlot.TheVariants.{Busy, Filled, Broken}
 use Rattle.step_core.specs.declared.machine.phase.Phase.{Phase}
 use Rattle.step_core.specs.declared.machine.phase.Phase.TheVariants.{Load, Scout, Put, Exchange, Raise, Begin, Fill, Spoil, Mend, FillMended, Look}
 use Rattle.step_core.specs.declared.machine.phase.Next.{Next}
@@ -67,7 +67,7 @@ with_segment m segment = record {
 }
 
 -- the slot of the place holds this now
-abbrev pub with_slot : Storage → ℕ → Slot → Storage
+abbrev pub with_slot : Storage → ℕ → CellSlot → Storage
 with_slot m place slot = record {
   layout = m.layout;
   size = m.size;
@@ -199,7 +199,7 @@ answer_of_run (commands.Read place) from n = answers.Run from n
 answer_of_run commands.Size from n = answers.Run from n
 
 -- an empty slot is taken; at one that isn't empty nothing changes
-abbrev pub begin_at : Storage → ℕ → Command → ℕ → ℕ → ℕ → Option Slot → Outcome
+abbrev pub begin_at : Storage → ℕ → Command → ℕ → ℕ → ℕ → Option CellSlot → Outcome
 begin_at m actor command from n place None =
     goes_on (with_slot m place (Busy actor)) (if is_refused command from place then Spoil from n place else Fill from n place)
 begin_at m actor command from n place (Some slot) = goes_on m (Begin from n place)
@@ -225,7 +225,7 @@ spoil m actor command from n place = record {
 
 -- ---- Look
 
-abbrev pub look_at : Storage → ℕ → ℕ → Option Slot → Outcome
+abbrev pub look_at : Storage → ℕ → ℕ → Option CellSlot → Outcome
 look_at m actor place None = ends m (events.Look actor place) replies.Pending answers.Pending
 look_at m actor place (Some (Busy owner)) = ends m (events.Look actor place) replies.Pending answers.Pending
 look_at m actor place (Some (Filled value)) = ends m (events.Look actor place) (replies.Value value) (answers.Value value)
@@ -234,7 +234,7 @@ look_at m actor place (Some Broken) = ends m (events.Look actor place) replies.B
 -- ---- Mend
 
 -- a broken slot is taken; at any other the call ends as a read of it does
-abbrev pub mend_at : Storage → ℕ → ℕ → Option Slot → Outcome
+abbrev pub mend_at : Storage → ℕ → ℕ → Option CellSlot → Outcome
 mend_at m actor place None = look_at m actor place None
 mend_at m actor place (Some (Busy owner)) = look_at m actor place (Some (Busy owner))
 mend_at m actor place (Some (Filled value)) = look_at m actor place (Some (Filled value))

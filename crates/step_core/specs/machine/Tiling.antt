@@ -10,8 +10,8 @@ use Rattle.book_core.specs.declared.commands.Item.{Item}
 use Rattle.seg_core.specs.Segment.{IsLayout, IsLimit}
 use Rattle.book_core.specs.History.{runs_of, owner_of, writes_of, Tile}
 use Rattle.book_core.specs.Laws.{IsItsToFinish}
-use Rattle.step_core.specs.declared.machine.phase.Slot.{Slot}
-use Rattle.step_core.specs.declared.machine.phase.Slot.TheVariants.{Busy, Filled, Broken}
+use Rattle.step_core.specs.declared.machine.phase.CellSlot.{CellSlot}
+use Rattle.step_core.specs.declared.machine.phase.CellSlot.TheVariants.{Busy, Filled, Broken}
 use Rattle.step_core.specs.declared.machine.phase.Phase.{Phase}
 use Rattle.step_core.specs.declared.machine.phase.Phase.TheVariants as phases
 use Rattle.step_core.specs.declared.machine.phase.Actor.{Actor}
@@ -19,14 +19,14 @@ use Rattle.step_core.specs.machine.Step.{Configuration}
 use Rattle.step_core.specs.machine.Play.{Play, play_of}
 
 -- the slot is empty or busy: a reader sees the place as pending
-abbrev pub IsUnfinished : Option Slot → Type 0
+abbrev pub IsUnfinished : Option CellSlot → Type 0
 IsUnfinished None = Unit {0}
 IsUnfinished (Some (Busy actor)) = Unit {0}
 IsUnfinished (Some (Filled value)) = ⊥
 IsUnfinished (Some Broken) = ⊥
 
 -- the slot is empty, or busy for this actor
-abbrev pub IsUnfinishedFor : ℕ → Option Slot → Type 0
+abbrev pub IsUnfinishedFor : ℕ → Option CellSlot → Type 0
 IsUnfinishedFor actor None = Unit {0}
 IsUnfinishedFor actor (Some (Busy other)) = other ≡ actor
 IsUnfinishedFor actor (Some (Filled value)) = ⊥

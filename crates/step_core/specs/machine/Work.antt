@@ -2,7 +2,7 @@
 -- how they are bounded.
 use Rattle.std.specs.Prelude.{◌≡◌, ℕ, ◌+◌, ◌-◌, ◌*◌, ◌<◌, ◌≤◌, ◌==◌, ◌&&◌, nat_lt, max, not, is_some, Bool, true, false, if◌then◌else◌, List, [], ◌∷◌, ◌++◌, length, map, replicate, take, drop, All, Option, Some, None, slice_get, slice_set, unwrap_or}
 use Rattle.std.specs.List.{filter}
-use Rattle.seg_core.specs.Segment.{IsLayout, IsLimit, segment_of}
+use Rattle.seg_core.specs.Segment.{IsLayout, IsLimit, most_segments, segment_of}
 use Rattle.book_core.specs.declared.events.Event.{Event}
 use Rattle.book_core.specs.declared.events.Reply.{Reply}
 use Rattle.book_core.specs.declared.commands.Command.{Command}
@@ -274,7 +274,7 @@ pub record IsBounded (f limit actor : ℕ) (command : Command) (count : Count) (
     : Type 0 where
   pub lost : count.tally.lost ≤ losses_allowed command (growths_of_others actor events)
   pub steps : count.tally.steps ≤ steps_allowed command count.wanted count.tally.lost count.tally.segments
-  pub segments : count.tally.segments ≤ 40
+  pub segments : count.tally.segments ≤ most_segments
   pub touched : MayTouch f limit command count.wanted count.tally.segments
 
 -- each call that has ended, and each under way

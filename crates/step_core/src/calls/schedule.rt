@@ -2,7 +2,7 @@
 ghost use Rattle.std.specs.Prelude.{◌≡◌, ◌+◌, ◌≤◌, ◌<◌, ◌^◌, ◌↔◌, length, IfOk, OnOk, IfSome, OnSome, IsSome, Some};
 ghost use Rattle.std.specs.Prelude.{IsErrOf, slice_index};
 ghost use Rattle.seg_core.specs.Segment.{IsLimit};
-ghost use Rattle.book_core.specs.Commands.{IsSound, AreSound, HavePrograms, HaveActors};
+ghost use Rattle.book_core.specs.Commands.{IsSound, AreSound, HavePrograms, HaveActors, most_programs};
 ghost use Rattle.step_core.specs.calls.Play.{calls_played};
 
 use crate::calls::whole_call::whole_call;
@@ -51,7 +51,7 @@ impl CallPlay {
         })
     }
 
-    fn happen(&mut self, event: Event) -> Result<(), AllocError>
+    fn record_event(&mut self, event: Event) -> Result<(), AllocError>
         requires { IsSome (with_event self.old event) }
         ensures ok { OnOk result (with_event self.old event ≡ Some self.new) }
         ensures kept { (self.new.counts ≡ self.old.counts) × (self.new.ended ≡ self.old.ended) }
@@ -63,19 +63,19 @@ impl CallPlay {
         }
     }
 
-    fn happen_all(&mut self, events: &[Event]) -> Result<(), AllocError>
+    fn record_events(&mut self, events: &[Event]) -> Result<(), AllocError>
         requires { IsSome (with_events self.old events.now) }
         ensures ok { OnOk result (with_events self.old events.now ≡ Some self.new) }
         ensures kept { (self.new.counts ≡ self.old.counts) × (self.new.ended ≡ self.old.ended) }
     {
         for event in events {
-            self.happen(*event)?;
+            self.record_event(*event)?;
         }
         Ok(())
     }
 
     // The actor's next call, if one is left.
-    fn next(&self, programs: &[Sequence<Command>], actor: u32) -> Option<Command>
+    fn next_call(&self, programs: &[Sequence<Command>], actor: u32) -> Option<Command>
         requires program { actor < length programs.now }
         requires counted { length self.now.counts ≡ length programs.now }
         requires sound { AreSound programs.now }
@@ -90,7 +90,7 @@ impl CallPlay {
             .copied()
     }
 
-    fn call(&mut self, alloc: Global, actor: u32, command: Command) -> Result<(), AllocError>
+    fn play_call(&mut self, alloc: Global, actor: u32, command: Command) -> Result<(), AllocError>
         requires counted { actor < length self.old.counts }
         requires another { slice_index self.old.counts actor + 1 < 2 ^ 64 }
         requires sound { IsSound command }
@@ -100,7 +100,7 @@ impl CallPlay {
             → HaveActors (length self.old.counts) self.new.ended) }
     {
         let call = whole_call(alloc, &self.list, actor, command)?;
-        self.happen_all(&call.events)?;
+        self.record_events(&call.events)?;
         let number = self.counts[actor as usize] + 1;
         self.counts[actor as usize] = number;
         self.ended.push(Ended {
@@ -112,7 +112,7 @@ impl CallPlay {
         Ok(())
     }
 
-    fn turn(
+    fn play_item(
         &mut self,
         alloc: Global,
         programs: &[Sequence<Command>],
@@ -127,13 +127,13 @@ impl CallPlay {
             (with_call self.old actor (next_call programs.now self.old.counts actor) ≡ Some self.new) }
         ensures counted { OnOk result (length self.new.counts ≡ length self.old.counts) }
     {
-        match self.next(programs, actor) {
-            Some(command) => self.call(alloc, actor, command),
+        match self.next_call(programs, actor) {
+            Some(command) => self.play_call(alloc, actor, command),
             None => Ok(()),
         }
     }
 
-    fn play(
+    fn play_items(
         &mut self,
         alloc: Global,
         programs: &[Sequence<Command>],
@@ -147,7 +147,7 @@ impl CallPlay {
         ensures actors { OnOk result (HaveActors (length programs.now) self.new.ended) }
     {
         for item in items {
-            self.turn(alloc, programs, item.actor)?;
+            self.play_item(alloc, programs, item.actor)?;
         }
         Ok(())
     }
@@ -177,7 +177,7 @@ fn play_sound(
     ensures actors { IfOk result (λ played. HaveActors (length programs.now) played.ended) }
 {
     let mut play = CallPlay::new(alloc, limit, programs)?;
-    play.play(alloc, programs, items)?;
+    play.play_items(alloc, programs, items)?;
     Ok(play.into_played(alloc))
 }
 
@@ -191,7 +191,7 @@ pub fn play_calls(
     programs: Sequence<Sequence<Command>>,
     items: &[Item],
 ) -> Result<Played, PlayError>
-    requires { length programs ≤ 65536 }
+    requires { length programs ≤ most_programs }
     ensures played { IfOk result (λ played. calls_played limit programs items.now ≡ Some played) }
     ensures actors { IfOk result (λ played. HaveActors (length programs) played.ended) }
     // What the laws ask for.

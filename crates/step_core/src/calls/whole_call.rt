@@ -46,7 +46,7 @@ fn push_breaks(events: &mut Vec<Event>, actor: u32, from: u64, n: u64) -> Result
     Ok(())
 }
 
-fn single(alloc: Global, event: Event, answer: Answer) -> Result<WholeCall, AllocError>
+fn call_of_one_event(alloc: Global, event: Event, answer: Answer) -> Result<WholeCall, AllocError>
     ensures events { IfOk result (λ call. call.events.items ≡ event ∷ []) }
     ensures answer { IfOk result (λ call. call.answer ≡ answer) }
 {
@@ -61,7 +61,7 @@ fn refused_call(alloc: Global, list: &CellVec, actor: u32, n: u64) -> Result<Who
     ensures { IfOk result (λ call. Is (refused list.now actor n) call) }
 {
     let size = list.cells().len() as u64;
-    single(
+    call_of_one_event(
         alloc,
         Event::RefusedFull { actor, n },
         Answer::Full { size },
@@ -95,7 +95,7 @@ impl Growth {
 }
 
 // The claiming event, and then what the owner does at its places.
-fn grown(
+fn call_of_growth(
     alloc: Global,
     claim: Event,
     growth: Growth,
@@ -136,7 +136,7 @@ fn push_call(alloc: Global, list: &CellVec, actor: u32, value: u64) -> Result<Wh
         return refused_call(alloc, list, actor, 1);
     }
     let from = list.cells().len() as u64;
-    grown(
+    call_of_growth(
         alloc,
         Event::Claim { actor, n: 1 },
         Growth::filled(actor, from, 1, value),
@@ -157,7 +157,7 @@ fn grow_call(
         return refused_call(alloc, list, actor, n);
     }
     let from = list.cells().len() as u64;
-    grown(
+    call_of_growth(
         alloc,
         Event::Claim { actor, n },
         Growth::filled(actor, from, n, value),
@@ -177,14 +177,14 @@ fn at_least_call(
     let from = list.cells().len() as u64;
     let claim = Event::Raise { actor, to };
     if to <= from {
-        return single(alloc, claim, Answer::Enough { size: from });
+        return call_of_one_event(alloc, claim, Answer::Enough { size: from });
     }
     let n = to - from;
     if room(list) < n {
         return refused_call(alloc, list, actor, n);
     }
     let growth = Growth::filled(actor, from, n, value);
-    grown(alloc, claim, growth, Answer::Run { from, n })
+    call_of_growth(alloc, claim, growth, Answer::Run { from, n })
 }
 
 fn fail_call(alloc: Global, list: &CellVec, growth: Growth) -> Result<WholeCall, AllocError>
@@ -203,7 +203,7 @@ fn fail_call(alloc: Global, list: &CellVec, growth: Growth) -> Result<WholeCall,
     if room(list) < n {
         return refused_call(alloc, list, actor, n);
     }
-    grown(
+    call_of_growth(
         alloc,
         Event::Claim { actor, n },
         growth,
@@ -222,7 +222,7 @@ fn read_call(alloc: Global, list: &CellVec, actor: u32, place: u64) -> Result<Wh
             size: list.cells().len() as u64,
         },
     };
-    single(alloc, Event::Look { actor, place }, answer)
+    call_of_one_event(alloc, Event::Look { actor, place }, answer)
 }
 
 fn mend_call(
@@ -281,7 +281,7 @@ pub(crate) fn whole_call(
         Command::Read { place } => read_call(alloc, list, actor, place),
         Command::Size => {
             let size = list.cells().len() as u64;
-            single(alloc, Event::Size { actor }, Answer::Size { size })
+            call_of_one_event(alloc, Event::Size { actor }, Answer::Size { size })
         }
     }
 }

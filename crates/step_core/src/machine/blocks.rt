@@ -7,44 +7,44 @@ ghost use Rattle.std.specs.FinSet as set;
 ghost use Rattle.seg_core.specs.Segment.{IsLayout, most_places, segment_count, segment_of};
 ghost use Rattle.step_core.specs.machine.Blocks.{flattened};
 
-use crate::machine::phase::Slot;
-use seg_core::{Layout, MOST_PLACES};
+use crate::machine::phase::CellSlot;
+use seg_core::{Layout, MOST_PLACES, MOST_SEGMENTS};
 use std::alloc::{AllocError, Global};
 use std::array;
 use std::marker::Model;
 
 // The slots of one segment, in the order of its places; `None` is an empty one.
 #[derive(Drop)]
-struct Block {
-    slots: Vec<Option<Slot>>,
+struct CellBlock {
+    slots: Vec<Option<CellSlot>>,
 }
 
-impl Model for Block {
+impl Model for CellBlock {
     ghost use Rattle.std.specs.Prelude.{List, Option};
-    ghost use Rattle.step_core.specs.declared.machine.phase.Slot.{Slot};
+    ghost use Rattle.step_core.specs.declared.machine.phase.CellSlot.{CellSlot};
 
-    ghost Value = { List (Option Slot) };
+    ghost Value = { List (Option CellSlot) };
 
     ghost view = { λ b. b.slots.items };
 }
 
-impl Block {
+impl CellBlock {
     // A block of empty slots, made in one pass.
     fn new(alloc: Global, len: u64) -> Result<Self, AllocError>
         ensures { IfOk result (λ block. block ≡ replicate len None) }
     {
-        Ok(Block {
+        Ok(CellBlock {
             slots: vec![in alloc; None; len as usize]?,
         })
     }
 
-    fn get(&self, offset: u64) -> Option<Slot>
+    fn get(&self, offset: u64) -> Option<CellSlot>
         ensures { result ≡ flattened (slice_get self.now offset) }
     {
         self.slots.get(offset as usize).copied().flatten()
     }
 
-    fn set(&mut self, offset: u64, slot: Slot)
+    fn set(&mut self, offset: u64, slot: CellSlot)
         requires { offset < length self.old }
         ensures { self.new ≡ slice_set self.old offset (Some slot) }
     {
@@ -52,12 +52,12 @@ impl Block {
     }
 }
 
-// The entries of the segments: 40 of them, the number of segments with the shortest first segment.
+// The entries of the segments, as many as the shortest first segment needs.
 #[derive(Drop)]
 pub(crate) struct Blocks {
     alloc: Global,
     layout: Layout,
-    entries: [Option<Block>; 40],
+    entries: [Option<CellBlock>; MOST_SEGMENTS],
 }
 
 impl Model for Blocks {
@@ -79,7 +79,7 @@ impl Blocks {
         ensures empty { result ≡ record { layout = layout; installed = set.empty; slots = map.empty } }
         ensures layout { IsLayout layout }
     {
-        // Its f is that of a layout.
+        // For the proof: its f is that of a layout.
         let _f = layout.f();
         Blocks {
             alloc,
@@ -105,7 +105,7 @@ impl Blocks {
     }
 
     // What the slot of a place holds; nothing past all segments.
-    pub(crate) fn get(&self, place: u64) -> Option<Slot>
+    pub(crate) fn get(&self, place: u64) -> Option<CellSlot>
         ensures { result ≡ map.get self.now.slots place }
     {
         let entries = &self.entries;
@@ -120,7 +120,7 @@ impl Blocks {
     }
 
     // Sets the slot of a place whose segment is installed. It takes no memory.
-    pub(crate) fn set(&mut self, place: u64, slot: Slot)
+    pub(crate) fn set(&mut self, place: u64, slot: CellSlot)
         requires place { place < most_places }
         requires there { set.contains self.old.installed (segment_of self.old.layout place) ≡ true }
         ensures { self.new ≡ shown_with_slot self.old place slot }
@@ -149,7 +149,7 @@ impl Blocks {
 }
 
 // The slot at this offset of the block holds this now.
-fn set_in(entry: &mut Option<Block>, offset: u64, slot: Slot)
+fn set_in(entry: &mut Option<CellBlock>, offset: u64, slot: CellSlot)
     requires there { IsSome entry.old }
     requires inside { IfSome entry.old (λ block. offset < length block) }
     ensures { entry.new ≡ option_map (λ block. slice_set block offset (Some slot)) entry.old }
@@ -161,10 +161,10 @@ fn set_in(entry: &mut Option<Block>, offset: u64, slot: Slot)
 }
 
 // The entry has an empty block of this length; if memory runs out, it is as it was.
-fn make_in(entry: &mut Option<Block>, alloc: Global, len: u64) -> Result<(), AllocError>
+fn make_in(entry: &mut Option<CellBlock>, alloc: Global, len: u64) -> Result<(), AllocError>
     ensures ok { OnOk result (entry.new ≡ Some (replicate len None)) }
     ensures err { OnErr result (entry.new ≡ entry.old) }
 {
-    *entry = Some(Block::new(alloc, len)?);
+    *entry = Some(CellBlock::new(alloc, len)?);
     Ok(())
 }

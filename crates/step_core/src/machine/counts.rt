@@ -74,7 +74,7 @@ impl Tally {
     ghost use Rattle.step_core.specs.machine.Tallies.{work_by};
 
     // Counts one more step, from a phase to the one after it.
-    fn after(self, layout: Layout, before: Phase, after: Phase) -> Tally
+    fn count_step(self, layout: Layout, before: Phase, after: Phase) -> Tally
         requires lost { self.lost ≤ self.steps }
         requires steps { self.steps + 1 < 2 ^ 64 }
         requires room { HasRoom after }
@@ -184,7 +184,7 @@ impl CountedPlay {
         Ok(())
     }
 
-    fn item(&mut self, item: &Item) -> Result<(), AllocError>
+    fn play_item(&mut self, item: &Item) -> Result<(), AllocError>
         requires { AreWithin (2 ^ 64 - 2) self.old.tallies }
         ensures { OnOk result (self.new ≡ tally_step self.old item.now.actor
             (step_of self.old.play.at item.now.actor item.now.memory) (has_call self.old.play.at item.now.actor)) }
@@ -192,10 +192,10 @@ impl CountedPlay {
         let layout = self.play.layout();
         let counts = self.play.has_call(item.actor);
         let before = self.play.phase(item.actor);
-        let ended = self.play.item(item)?;
+        let ended = self.play.play_item(item)?;
         if counts {
             let after = self.play.phase(item.actor);
-            let tally = self.tally(item.actor).after(layout, before, after);
+            let tally = self.tally(item.actor).count_step(layout, before, after);
             self.count(item.actor, tally, ended)?;
         }
         Ok(())
@@ -206,7 +206,7 @@ impl CountedPlay {
         ensures { OnOk result (self.new ≡ tally_items self.old items.now) }
     {
         for item in items {
-            self.item(item)?;
+            self.play_item(item)?;
         }
         Ok(())
     }

@@ -5,7 +5,7 @@ use book_core::{Answer, Command, Ended, Sequence};
 
 /// The state of a slot of the machine; a slot without an entry is empty.
 #[derive(Clone, Copy, Debug, PartialEq, Eq)]
-pub enum Slot {
+pub enum CellSlot {
     /// An actor has taken it, and constructs a value in it.
     Busy(u32),
     Filled(u64),

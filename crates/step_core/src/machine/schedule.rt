@@ -2,7 +2,7 @@
 ghost use Rattle.std.specs.Prelude.{◌≡◌, ◌≤◌, ◌↔◌, ◌++◌, length, replicate, IfOk, OnOk, Some, IsErrOf};
 ghost use Rattle.std.specs.FinMap as map;
 ghost use Rattle.seg_core.specs.Segment.{IsLayout, IsLimit};
-ghost use Rattle.book_core.specs.Commands.{AreSound, HavePrograms, HaveActors};
+ghost use Rattle.book_core.specs.Commands.{AreSound, HavePrograms, HaveActors, most_programs};
 ghost use Rattle.book_core.specs.History.{run_of};
 ghost use Rattle.step_core.specs.machine.Owners.{owners_of};
 ghost use Rattle.step_core.specs.machine.Work.{AreOfActors, play_shown};
@@ -10,7 +10,7 @@ ghost use Rattle.step_core.specs.machine.Work.{AreOfActors, play_shown};
 use crate::errors::{MakeError, PlayError};
 use crate::machine::Machine;
 use crate::machine::counts::CountedPlay;
-use crate::machine::phase::{Phase, Slot};
+use crate::machine::phase::{Phase, CellSlot};
 use crate::programs::{Played, check_schedule};
 use book_core::{Cell, Command, Ended, Event, Item, Reply, Sequence, Work};
 use seg_core::Layout;
@@ -63,13 +63,13 @@ impl MachinePlay {
     }
 
     // One step, and the call that ended with it, if one did.
-    pub(crate) fn item(&mut self, item: &Item) -> Result<Option<Ended>, AllocError>
+    pub(crate) fn play_item(&mut self, item: &Item) -> Result<Option<Ended>, AllocError>
         ensures step { OnOk result (self.new ≡ with_step self.old (step_of self.old.at item.now.actor item.now.memory)) }
         ensures ended { IfOk result (λ ended. ended ≡ (step_of self.old.at item.now.actor item.now.memory).ended) }
     {
         let stepped = self.machine.step(item.actor, item.memory)?;
-        if let Some(told) = stepped.event {
-            self.events.push(told)?;
+        if let Some(row) = stepped.event {
+            self.events.push(row)?;
         }
         if let Some(ended) = stepped.ended {
             self.ended.push(ended)?;
@@ -82,8 +82,8 @@ impl MachinePlay {
         ensures { IfOk result (λ owners. owners.items ≡ owners_of (runs_of self.now.events)) }
     {
         let mut owners = Vec::new(alloc);
-        for told in &self.events {
-            push_run(&mut owners, told)?;
+        for row in &self.events {
+            push_run(&mut owners, row)?;
         }
         Ok(owners)
     }
@@ -93,9 +93,9 @@ impl MachinePlay {
     {
         match self.machine.slot(place) {
             None => Cell::Pending(owner),
-            Some(Slot::Busy(actor)) => Cell::Pending(actor),
-            Some(Slot::Filled(value)) => Cell::Filled(value),
-            Some(Slot::Broken) => Cell::Broken,
+            Some(CellSlot::Busy(actor)) => Cell::Pending(actor),
+            Some(CellSlot::Filled(value)) => Cell::Filled(value),
+            Some(CellSlot::Broken) => Cell::Broken,
         }
     }
 
@@ -134,10 +134,10 @@ fn push_owner(owners: &mut Vec<u32>, owner: u32, n: u64) -> Result<(), AllocErro
 }
 
 // The owner of the run that an event won, once for each of its places.
-fn push_run(owners: &mut Vec<u32>, told: &(Event, Reply)) -> Result<(), AllocError>
-    ensures { OnOk result (owners.new.items ≡ owners.old.items ++ owners_of (run_of told.now.0 told.now.1)) }
+fn push_run(owners: &mut Vec<u32>, row: &(Event, Reply)) -> Result<(), AllocError>
+    ensures { OnOk result (owners.new.items ≡ owners.old.items ++ owners_of (run_of row.now.0 row.now.1)) }
 {
-    match *told {
+    match *row {
         (Event::Claim { actor, .. } | Event::Raise { actor, .. }, Reply::Run { n, .. }) => {
             push_owner(owners, actor, n)
         }
@@ -152,7 +152,7 @@ fn play_sound(
     programs: Sequence<Sequence<Command>>,
     items: &[Item],
 ) -> Result<Played, AllocError>
-    requires few { length programs ≤ 65536 }
+    requires few { length programs ≤ most_programs }
     requires limit { IsLimit limit }
     requires sound { AreSound programs }
     requires programs { HavePrograms programs items.now }
@@ -188,7 +188,7 @@ pub fn play(
     programs: Sequence<Sequence<Command>>,
     items: &[Item],
 ) -> Result<Played, PlayError>
-    requires { length programs ≤ 65536 }
+    requires { length programs ≤ most_programs }
     ensures played { IfOk result (λ played. played ≡ play_shown 1 limit programs items.now) }
     ensures actors { IfOk result (λ played. HaveActors (length programs) played.ended) }
     ensures work { IfOk result (λ played. AreOfActors (length programs) played.work) }
@@ -212,7 +212,7 @@ pub fn play_in(
     programs: Sequence<Sequence<Command>>,
     items: &[Item],
 ) -> Result<Played, PlayError>
-    requires { length programs ≤ 65536 }
+    requires { length programs ≤ most_programs }
     ensures played { IfOk result (λ played. played ≡ play_shown layout limit programs items.now) }
     ensures actors { IfOk result (λ played. HaveActors (length programs) played.ended) }
     ensures work { IfOk result (λ played. AreOfActors (length programs) played.work) }

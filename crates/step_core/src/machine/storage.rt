@@ -10,7 +10,7 @@ mod places;
 mod segments;
 
 use crate::machine::blocks::Blocks;
-use crate::machine::phase::{Next, Phase, Slot};
+use crate::machine::phase::{Next, Phase, CellSlot};
 use book_core::{Answer, Command, Event, Reply};
 use seg_core::Layout;
 use std::alloc::{AllocError, Global};
@@ -40,24 +40,24 @@ impl Model for Storage {
 
 // What a step gives besides what it leaves: at most one event with its reply, and what follows.
 #[derive(Clone, Copy)]
-pub(crate) struct Outcome {
+pub(crate) struct StepOutcome {
     pub(crate) event: Option<(Event, Reply)>,
     pub(crate) next: Next,
 }
 
-pub(crate) fn goes(phase: Phase) -> Outcome
+pub(crate) fn go_on_to(phase: Phase) -> StepOutcome
     ensures { (result.event ≡ None) × (result.next ≡ Next.Goes phase) }
 {
-    Outcome {
+    StepOutcome {
         event: None,
         next: Next::Goes(phase),
     }
 }
 
-pub(crate) fn ends(event: Event, reply: Reply, answer: Answer) -> Outcome
+pub(crate) fn end_call(event: Event, reply: Reply, answer: Answer) -> StepOutcome
     ensures { (result.event ≡ Some (event, reply)) × (result.next ≡ Next.Ends answer) }
 {
-    Outcome {
+    StepOutcome {
         event: Some((event, reply)),
         next: Next::Ends(answer),
     }
@@ -93,7 +93,7 @@ impl Storage {
     }
 
     // What the slot of a place holds.
-    pub(crate) fn slot(&self, place: u64) -> Option<Slot>
+    pub(crate) fn slot(&self, place: u64) -> Option<CellSlot>
         ensures { result ≡ map.get self.now.slots place }
     {
         self.blocks.get(place)
@@ -107,7 +107,7 @@ impl Storage {
         command: &Command,
         memory: bool,
         phase: Phase,
-    ) -> Result<Outcome, AllocError>
+    ) -> Result<StepOutcome, AllocError>
         requires limit { limit ≤ most_places }
         requires size { self.old.size ≤ limit }
         requires phase { IsWithin self.old.layout limit command.now phase }

@@ -41,13 +41,13 @@ impl<B: Measured> Move for Entry<B> {
 }
 
 // What was seen of an entry: nothing yet, or the block that it always has from then on. It has no bytes.
-pub(crate) struct Sight<B> {
+pub(crate) struct EntrySight<B> {
     marker: PhantomData<B>,
     pub(crate) ghost of: { ℕ },
     pub(crate) ghost known: { Option B } by { coded_option B.code },
 }
 
-impl<B> Model for Sight<B> {
+impl<B> Model for EntrySight<B> {
     ghost also_owns = { λ s. noted B.row s.of s.known };
 
     ghost also_shares = { λ s _ κ. said (noted B.row s.of s.known) κ };
@@ -69,17 +69,17 @@ impl<B: Measured> Entry<B> {
     }
 
     // A sight that knows nothing yet.
-    pub(crate) fn sight(&self) -> Sight<B>
+    pub(crate) fn sight(&self) -> EntrySight<B>
         ensures { (result.of ≡ name_of self.now) × (result.known ≡ None) }
     {
-        Sight {
+        EntrySight {
             marker: PhantomData,
         }
     }
 
     // The look: one load. It shows nothing only to a sight that knows nothing, otherwise it shows the one
     // block ever seen.
-    pub(crate) fn look<'a>(&'a self, sight: &mut Sight<B>) -> Option<&'a B>
+    pub(crate) fn look<'a>(&'a self, sight: &mut EntrySight<B>) -> Option<&'a B>
         requires { sight.old.of ≡ name_of self.now }
         ensures same { sight.new.of ≡ sight.old.of }
         ensures block { MatchOption result ((sight.old.known ≡ None) × (sight.new.known ≡ None))
@@ -99,7 +99,7 @@ impl<B: Measured> Entry<B> {
     fn offer<'a>(
         &'a self,
         block: Loose<B, Global>,
-        sight: &mut Sight<B>,
+        sight: &mut EntrySight<B>,
     ) -> (&'a B, Option<Loose<B, Global>>)
         requires of { sight.old.of ≡ name_of self.now }
         requires length { B.measure block.value ≡ length_of self.now }
@@ -137,21 +137,21 @@ impl<B: Measured> Entry<B> {
     }
 
     // An entry that is set to the block, which the sight knows.
-    fn full(word: AtomicPtr<B>, block: Loose<B, Global>) -> (Entry<B>, Sight<B>)
+    fn full(word: AtomicPtr<B>, block: Loose<B, Global>) -> (Entry<B>, EntrySight<B>)
         requires { atomic_ptr_value word ≡ block.at }
         ensures length { length_of result.0 ≡ B.measure block.value }
         ensures of { result.1.of ≡ name_of result.0 }
         ensures known { result.1.known ≡ Some block.value }
     {
         let Loose { at: _, alloc } = block;
-        let sight = Sight {
+        let sight = EntrySight {
             marker: PhantomData,
         };
         (Entry { word, alloc }, sight)
     }
 
     // The block of an entry that is owned whole, if it is set: for a sight that knows a block, that one.
-    fn into_loose(self, sight: &Sight<B>) -> Option<Loose<B, Global>>
+    fn into_loose(self, sight: &EntrySight<B>) -> Option<Loose<B, Global>>
         requires { sight.now.of ≡ name_of self }
         ensures length { IfSome result (λ l. B.measure l.value ≡ length_of self) }
         ensures block { MatchOption result (sight.now.known ≡ None) (λ l. Agrees sight.now.known l.value) }
@@ -169,7 +169,11 @@ impl<B: Measured> Entry<B> {
 impl<B: Measured + Drop> Entry<B> {
     // Sets the entry to the block, unless another came first. It gives the entry's block, and back the one
     // that came too late.
-    pub(crate) fn set<'a>(&'a self, block: Box<B>, sight: &mut Sight<B>) -> (&'a B, Option<Box<B>>)
+    pub(crate) fn set<'a>(
+        &'a self,
+        block: Box<B>,
+        sight: &mut EntrySight<B>,
+    ) -> (&'a B, Option<Box<B>>)
         requires of { sight.old.of ≡ name_of self.now }
         requires length { B.measure block.value ≡ length_of self.now }
         ensures same { sight.new.of ≡ sight.old.of }
@@ -186,7 +190,7 @@ impl<B: Measured + Drop> Entry<B> {
     }
 
     // An entry that is set to the block, which the sight knows.
-    pub(crate) fn filled(block: Box<B>) -> (Entry<B>, Sight<B>)
+    pub(crate) fn filled(block: Box<B>) -> (Entry<B>, EntrySight<B>)
         ensures length { length_of result.0 ≡ B.measure block.value }
         ensures of { result.1.of ≡ name_of result.0 }
         ensures known { result.1.known ≡ Some block.value }
@@ -196,7 +200,7 @@ impl<B: Measured + Drop> Entry<B> {
     }
 
     // Takes the block out of an entry that the caller has whole: the sight's block, if it knows one.
-    pub(crate) fn into_box(self, sight: &Sight<B>) -> Option<Box<B>>
+    pub(crate) fn into_box(self, sight: &EntrySight<B>) -> Option<Box<B>>
         requires { sight.now.of ≡ name_of self }
         ensures length { IfSome result (λ b. B.measure b.value ≡ length_of self) }
         ensures block { MatchOption result (sight.now.known ≡ None) (λ b. Agrees sight.now.known b.value) }
@@ -215,28 +219,28 @@ impl<B: Measured + Drop> Drop for Entry<B> {
     }
 }
 
-impl<B> Sight<B> {
+impl<B> EntrySight<B> {
     // Two sights of one entry that know a block know the same one.
-    pub(crate) fn agrees(&self, other: &Sight<B>)
+    pub(crate) fn agrees(&self, other: &EntrySight<B>)
         requires { self.now.of ≡ other.now.of }
         ensures { IfSome other.now.known (Agrees self.now.known) }
     {}
 }
 
-impl<T> Sight<Block<T>> {
+impl<T> EntrySight<Block<T>> {
     // Duplicates the sight. What is known of an entry says nothing of the type of the values.
-    pub(crate) fn again<U>(&self) -> Sight<Block<U>>
+    pub(crate) fn again<U>(&self) -> EntrySight<Block<U>>
         ensures { (result.of ≡ self.now.of) × (result.known ≡ self.now.known) }
     {
-        Sight {
+        EntrySight {
             marker: PhantomData,
         }
     }
 }
 
-impl<B> Drop for Sight<B> {
+impl<B> Drop for EntrySight<B> {
     fn drop(self) {
-        let Sight { marker: _ } = self;
+        let EntrySight { marker: _ } = self;
     }
 }
 
@@ -244,6 +248,6 @@ unsafe impl<B: Measured + Send> Send for Entry<B> {}
 
 unsafe impl<B: Measured + Send + Sync> Sync for Entry<B> {}
 
-unsafe impl<B> Send for Sight<B> {}
+unsafe impl<B> Send for EntrySight<B> {}
 
-unsafe impl<B> Sync for Sight<B> {}
+unsafe impl<B> Sync for EntrySight<B> {}

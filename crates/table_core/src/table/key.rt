@@ -1,19 +1,19 @@
 // The key of an entry.
 ghost use Rattle.std.specs.Prelude.{◌≡◌};
 
-use crate::entry::Sight;
+use crate::entry::EntrySight;
 use cell_core::block::Block;
 use seg_core::Layout;
 use std::fmt;
 use std::marker::Model;
 
-/// Evidence that an entry is set, and stays so. It has no bytes except the entry's number and the layout, and
+/// Evidence that an entry is set, and stays so. It has no bytes except its segment and the layout, and
 /// says nothing of the type of the values.
 #[derive(Drop)]
 pub struct Key {
     pub(crate) layout: Layout,
-    pub(crate) entry: u8,
-    pub(crate) sight: Sight<Block<()>>,
+    pub(crate) segment: u8,
+    pub(crate) sight: EntrySight<Block<()>>,
 }
 
 impl Model for Key {
@@ -24,7 +24,12 @@ impl Model for Key {
 
     ghost coded = { key_coded };
 
-    ghost view = { λ k. record { layout = k.layout; entry = k.entry; block = block_or_empty k.sight.known; name = k.sight.of } };
+    ghost view = { λ k. record {
+      layout = k.layout;
+      segment = k.segment;
+      block = block_or_empty k.sight.known;
+      name = k.sight.of;
+    } };
 
     ghost invariant = { λ k. k.sight.known ≡ Some (block_or_empty k.sight.known) };
 }
@@ -32,18 +37,18 @@ impl Model for Key {
 impl fmt::Debug for Key {
     fn fmt<W: fmt::Write>(&self, f: &mut fmt::Formatter<W>) -> fmt::Result {
         f.debug_struct("Key")
-            .field("entry", &self.entry())
+            .field("segment", &self.segment())
             .finish_non_exhaustive()
     }
 }
 
 impl Key {
-    /// Returns the entry's number.
-    pub fn entry(&self) -> u32
-        ensures { result ≡ self.now.entry }
+    /// Returns the entry's segment.
+    pub fn segment(&self) -> u32
+        ensures { result ≡ self.now.segment }
     {
-        let Key { entry, .. } = self;
-        *entry as u32
+        let Key { segment, .. } = self;
+        *segment as u32
     }
 
     /// Returns how the places are divided into segments.
@@ -68,7 +73,7 @@ impl Key {
     {
         Key {
             layout: self.layout,
-            entry: self.entry,
+            segment: self.segment,
             sight: self.sight.again(),
         }
     }

@@ -4,7 +4,7 @@ ghost use Rattle.table_core.specs.Entry.{Agrees};
 ghost use Rattle.table_core.specs.Table.{IsBlockOf, IsKeyIn, IsKeyOf, KeepsOtherEntries, RenewsEntry};
 ghost use Rattle.seg_core.specs.Segment.{segment_count};
 
-use crate::entry::{Entry, Sight};
+use crate::entry::{Entry, EntrySight};
 use crate::table::{Key, Table, empty_entry};
 use cell_core::block::Block;
 use seg_core::Layout;
@@ -13,27 +13,27 @@ use std::mem::replace;
 // A block that was taken out of its entry, and is not back.
 #[derive(Drop)]
 pub(crate) struct Lent<T> {
-    pub(crate) entry: u32,
+    pub(crate) segment: u32,
     pub(crate) block: Box<Block<T>>,
-    ghost within: { entry < 40 },
+    ghost within: { segment < 40 },
 }
 
 // An entry that is known to be set.
 #[derive(Drop)]
 pub(crate) struct Held {
-    pub(crate) entry: u32,
-    pub(crate) sight: Sight<Block<()>>,
+    pub(crate) segment: u32,
+    pub(crate) sight: EntrySight<Block<()>>,
     ghost set: { sight.known ≢ None },
 }
 
 // Tests whether the entry's block is lent, and as long as its segment.
-fn is_out<T>(lent: &Option<Lent<T>>, layout: Layout, k: u32) -> bool
-    requires { k < segment_count layout }
-    ensures length { IsTrue result → IfSome lent.now (λ l. IsBlockOf layout k l.block.value) }
+fn is_out<T>(lent: &Option<Lent<T>>, layout: Layout, segment: u32) -> bool
+    requires { segment < segment_count layout }
+    ensures length { IsTrue result → IfSome lent.now (λ l. IsBlockOf layout segment l.block.value) }
     ensures some { IsTrue result → IsSome lent.now }
 {
     match lent {
-        Some(lent) => lent.entry == k && lent.block.len() == layout.len(k),
+        Some(lent) => lent.segment == segment && lent.block.len() == layout.len(segment),
         None => false,
     }
 }
@@ -49,9 +49,9 @@ impl<T: Drop> Table<T> {
         ensures names { self.new.names ≡ self.old.names }
         ensures back { self.new.lent ≡ None }
     {
-        if let Some(Lent { entry: k, block }) = self.lent.take() {
-            if k < self.layout.segments() && block.len() == self.layout.len(k) {
-                let entry = &self.entries[k as usize];
+        if let Some(Lent { segment, block }) = self.lent.take() {
+            if segment < self.layout.segments() && block.len() == self.layout.len(segment) {
+                let entry = &self.entries[segment as usize];
                 drop(entry.set(block, &mut entry.sight()));
             }
         }
@@ -60,65 +60,65 @@ impl<T: Drop> Table<T> {
     // Makes the entry a new one, and gives the block that it had, or that was lent of it: for a sight of it
     // that knows a block, that one.
     #[tactic(auto, using(crate::proofs::Names::names_kept, crate::proofs::Names::renamed_there))]
-    fn take_out(&mut self, k: u32, sight: &Sight<Block<T>>) -> Option<Box<Block<T>>>
-        requires within { k < segment_count self.old.layout }
-        requires of { slice_index self.old.names k ≡ sight.now.of }
+    fn take_out(&mut self, segment: u32, sight: &EntrySight<Block<T>>) -> Option<Box<Block<T>>>
+        requires within { segment < segment_count self.old.layout }
+        requires of { slice_index self.old.names segment ≡ sight.now.of }
         ensures layout { self.new.layout ≡ self.old.layout }
-        ensures others { KeepsOtherEntries self.old self.new k }
-        ensures another { RenewsEntry self.old self.new k }
+        ensures others { KeepsOtherEntries self.old self.new segment }
+        ensures another { RenewsEntry self.old self.new segment }
         ensures none_lent { self.new.lent ≡ None }
-        ensures length { IfSome result (λ block. IsBlockOf self.old.layout k block.value) }
+        ensures length { IfSome result (λ block. IsBlockOf self.old.layout segment block.value) }
         ensures block { MatchOption result (sight.now.known ≡ None) (λ block. Agrees sight.now.known block.value) }
     {
         self.put_back();
         self.held = None;
-        let mut new = empty_entry(self.alloc, self.layout, k);
-        new.rename(&mut self.entries[k as usize]);
-        replace(&mut self.entries[k as usize], new).into_box(sight)
+        let mut new = empty_entry(self.alloc, self.layout, segment);
+        new.rename(&mut self.entries[segment as usize]);
+        replace(&mut self.entries[segment as usize], new).into_box(sight)
     }
 
     // Returns a sight of the entry. After `holds_now` it knows the entry's block.
-    fn sight(&self, k: u32) -> Sight<Block<T>>
-        requires { k < segment_count self.now.layout }
-        ensures of { slice_index self.now.names k ≡ result.of }
-        ensures known { self.now.held ≡ Some k → result.known ≢ None }
+    fn sight(&self, segment: u32) -> EntrySight<Block<T>>
+        requires { segment < segment_count self.now.layout }
+        ensures of { slice_index self.now.names segment ≡ result.of }
+        ensures known { self.now.held ≡ Some segment → result.known ≢ None }
     {
         match &self.held {
-            Some(held) if held.entry == k => held.sight.again(),
-            _ => self.entries[k as usize].sight(),
+            Some(held) if held.segment == segment => held.sight.again(),
+            _ => self.entries[segment as usize].sight(),
         }
     }
 
     // The block of the entry, taken out of it or out before.
-    fn lend(&mut self, k: u32) -> Option<Lent<T>>
-        requires { k < segment_count self.old.layout }
+    fn lend(&mut self, segment: u32) -> Option<Lent<T>>
+        requires { segment < segment_count self.old.layout }
         ensures layout { self.new.layout ≡ self.old.layout }
-        ensures others { KeepsOtherEntries self.old self.new k }
-        ensures there { self.old.held ≡ Some k → IsSome result }
-        ensures length { IfSome result (λ l. IsBlockOf self.old.layout k l.block.value) }
+        ensures others { KeepsOtherEntries self.old self.new segment }
+        ensures there { self.old.held ≡ Some segment → IsSome result }
+        ensures length { IfSome result (λ l. IsBlockOf self.old.layout segment l.block.value) }
     {
-        if is_out(&self.lent, self.layout, k) {
+        if is_out(&self.lent, self.layout, segment) {
             return self.lent.take();
         }
-        let sight = self.sight(k);
-        match self.take_out(k, &sight) {
-            Some(block) => Some(Lent { entry: k, block }),
+        let sight = self.sight(segment);
+        match self.take_out(segment, &sight) {
+            Some(block) => Some(Lent { segment, block }),
             None => None,
         }
     }
 
     /// Returns the key of the entry if it is set. It puts back what `block_mut` lent, and changes nothing
     /// else.
-    pub fn key_now(&mut self, k: u32) -> Option<Key>
-        requires { k < segment_count self.old.layout }
-        ensures key { IfSome result (λ key. IsKeyIn self.new key × (key.entry ≡ k)) }
-        ensures length { IfSome result (λ key. IsBlockOf self.old.layout k key.block) }
+    pub fn key_now(&mut self, segment: u32) -> Option<Key>
+        requires { segment < segment_count self.old.layout }
+        ensures key { IfSome result (λ key. IsKeyIn self.new key × (key.segment ≡ segment)) }
+        ensures length { IfSome result (λ key. IsBlockOf self.old.layout segment key.block) }
         ensures layout { self.new.layout ≡ self.old.layout }
         ensures names { self.new.names ≡ self.old.names }
         ensures back { self.new.lent ≡ None }
     {
         self.put_back();
-        match self.scout_key(k) {
+        match self.scout_key(segment) {
             Some((_, key)) => Some(key),
             None => None,
         }
@@ -128,26 +128,26 @@ impl<T: Drop> Table<T> {
     /// entry first.
     pub fn holds_now(&mut self, key: &Key)
         requires { IsKeyIn self.old key.now }
-        ensures held { self.new.held ≡ Some key.now.entry }
+        ensures held { self.new.held ≡ Some key.now.segment }
         ensures layout { self.new.layout ≡ self.old.layout }
         ensures names { self.new.names ≡ self.old.names }
         ensures lent { self.new.lent ≡ self.old.lent }
     {
         self.held = Some(Held {
-            entry: key.entry(),
+            segment: key.segment(),
             sight: key.sight.again(),
         });
     }
 
     /// Lends the entry's block if it is set. The entry then has a fresh name, and shows its block to shared
     /// calls only from the next exclusive call on.
-    pub fn block_mut(&mut self, k: u32) -> Option<&mut Block<T>>
-        requires { k < segment_count self.old.layout }
-        ensures* others { sem 𝓛 (LendsBlock T.row self.entry k result) }
-        ensures length { IfSome result (λ block. IsBlockOf self.old.layout k block.now) }
-        ensures there { self.old.held ≡ Some k → IsSome result }
+    pub fn block_mut(&mut self, segment: u32) -> Option<&mut Block<T>>
+        requires { segment < segment_count self.old.layout }
+        ensures* others { sem 𝓛 (LendsBlock T.row self.entry segment result) }
+        ensures length { IfSome result (λ block. IsBlockOf self.old.layout segment block.now) }
+        ensures there { self.old.held ≡ Some segment → IsSome result }
     {
-        self.lent = self.lend(k);
+        self.lent = self.lend(segment);
         match &mut self.lent {
             Some(lent) => Some(&mut *lent.block),
             None => None,
@@ -159,14 +159,14 @@ impl<T: Drop> Table<T> {
     pub fn detach(&mut self, key: &Key) -> Box<Block<T>>
         requires { IsKeyIn self.old key.now }
         ensures block { result.value ≡ key.now.block }
-        ensures length { IsBlockOf self.old.layout key.now.entry result.value }
+        ensures length { IsBlockOf self.old.layout key.now.segment result.value }
         ensures layout { self.new.layout ≡ self.old.layout }
-        ensures others { KeepsOtherEntries self.old self.new key.now.entry }
-        ensures another { RenewsEntry self.old self.new key.now.entry }
+        ensures others { KeepsOtherEntries self.old self.new key.now.segment }
+        ensures another { RenewsEntry self.old self.new key.now.segment }
         ensures none_lent { self.new.lent ≡ None }
     {
         let sight = key.sight.again();
-        match self.take_out(key.entry(), &sight) {
+        match self.take_out(key.segment(), &sight) {
             Some(block) => block,
             None => unreachable!(),
         }
@@ -175,33 +175,33 @@ impl<T: Drop> Table<T> {
     /// Sets the entry to the block and returns the entry's key. A block that it was set to before is dropped.
     /// It takes no memory.
     #[tactic(auto, using(crate::proofs::Names::names_kept, crate::proofs::Names::name_there))]
-    pub fn attach(&mut self, k: u32, block: Box<Block<T>>) -> Key
-        requires within { k < segment_count self.old.layout }
-        requires length { IsBlockOf self.old.layout k block.value }
-        ensures key { IsKeyOf self.new k block.value result }
+    pub fn attach(&mut self, segment: u32, block: Box<Block<T>>) -> Key
+        requires within { segment < segment_count self.old.layout }
+        requires length { IsBlockOf self.old.layout segment block.value }
+        ensures key { IsKeyOf self.new segment block.value result }
         ensures layout { self.new.layout ≡ self.old.layout }
-        ensures others { KeepsOtherEntries self.old self.new k }
+        ensures others { KeepsOtherEntries self.old self.new segment }
         ensures lent { self.new.lent ≡ self.old.lent }
     {
         let (entry, sight) = Entry::filled(block);
         self.held = None;
-        self.entries[k as usize] = entry;
+        self.entries[segment as usize] = entry;
         Key {
             layout: self.layout,
-            entry: k as u8,
+            segment: segment as u8,
             sight: sight.again(),
         }
     }
 
     /// Drops the entry's block. The entry is then not set and has a fresh name.
-    pub fn give_up(&mut self, k: u32)
-        requires { k < segment_count self.old.layout }
+    pub fn give_up(&mut self, segment: u32)
+        requires { segment < segment_count self.old.layout }
         ensures layout { self.new.layout ≡ self.old.layout }
-        ensures others { KeepsOtherEntries self.old self.new k }
-        ensures another { RenewsEntry self.old self.new k }
+        ensures others { KeepsOtherEntries self.old self.new segment }
+        ensures another { RenewsEntry self.old self.new segment }
         ensures none_lent { self.new.lent ≡ None }
     {
-        let sight = self.entries[k as usize].sight();
-        drop(self.take_out(k, &sight));
+        let sight = self.entries[segment as usize].sight();
+        drop(self.take_out(segment, &sight));
     }
 }

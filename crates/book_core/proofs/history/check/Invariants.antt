@@ -4,7 +4,7 @@ use Rattle.book_core.specs.Cells.{empty_list}
 use Rattle.book_core.specs.History.{IsLegalFrom}
 use Rattle.book_core.proofs.history.check.Given as goal
 
-abbrev pub invariant-loop-told : goal.invariant-loop-told
-invariant-loop-told l = record {
-  so_far : IsLegalFrom l.list (drop l.told-index l.history) ↔ IsLegalFrom (empty_list l.fn.limit) l.fn.history;
+abbrev pub invariant-loop-row : goal.invariant-loop-row
+invariant-loop-row l = record {
+  so_far : IsLegalFrom l.list (drop l.row-index l.history) ↔ IsLegalFrom (empty_list l.fn.limit) l.fn.history;
 }

@@ -6,11 +6,11 @@ use Rattle.engine_core.proofs.script.read_script.Goals as goal
 
 pub returns-clause-read : goal.returns-clause-read
 returns-clause-read g c =
-    IfOk-weaker c.script_in.result _ _
+    IfOk-weaker c.parse_script.result _ _
     (λ s read. of_take c.long_texts.ensures (λ answer. answer ≡ Ok s) _ _ c.in_ok-bytes.ensures.bytes (ap script_of (sym c.deref.ensures.value) ∙ read))
-    c.script_in.ensures.read
+    c.parse_script.ensures.read
 
 pub returns-clause-script : goal.returns-clause-script
 returns-clause-script g c = λ fault is.
-    let found = c.script_in.ensures.script fault is in
+    let found = c.parse_script.ensures.script fault is in
     (found.0, of_take c.long_texts.ensures (λ answer. answer ≡ Err fault) _ _ c.in_ok-bytes.ensures.bytes (ap script_of (sym c.deref.ensures.value) ∙ found.1))

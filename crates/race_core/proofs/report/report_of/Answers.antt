@@ -4,8 +4,8 @@ use Rattle.race_core.specs.Race.{AreAllPlaces}
 use Rattle.race_core.proofs.Teams.{all_won, sum_is_small}
 use Rattle.race_core.proofs.report.report_of.Goals as goal
 
-pub in_order-requires : goal.in_order-requires
-in_order-requires c =
+pub sort_wins-requires : goal.sort_wins-requires
+sort_wins-requires c =
     let team = c.requires.team in
     let base = ap (λ (w : WordView). w.base) team.of in
     subst (λ n. AreAllPlaces n c.args.wins.now) (sym (c.len-size.ensures.value ∙ c.close.ensures.length))

@@ -4,10 +4,10 @@ use Rattle.race_core.proofs.team.push_all.Goals as goal
 
 pub loop-value-preserved : goal.loop-value-preserved
 loop-value-preserved g c = (
-  c.push.ensures.of ∙ c.loop-value.invariant.0,
-  c.push.ensures.of ∙ c.loop-value.invariant.1,
-  c.push.ensures.shares ∙ c.loop-value.invariant.2,
-  λ shares start. c.in_ok-push.ensures.team shares c.args.from (c.loop-value.invariant.3 shares start),
+  c.push_value.ensures.of ∙ c.loop-value.invariant.0,
+  c.push_value.ensures.of ∙ c.loop-value.invariant.1,
+  c.push_value.ensures.shares ∙ c.loop-value.invariant.2,
+  λ shares start. c.in_ok-push_value.ensures.team shares c.args.from (c.loop-value.invariant.3 shares start),
 )
 
 pub returns-clause-team : goal.returns-clause-team

@@ -9,11 +9,11 @@ returns-clause-answer g c =
     let hand = c.args.hand.now in
     let each = c.args.each in
     let from = c.from.result * each in
-    let none : Team = team_of hand c.no_wins-wins.result.items in
+    let none : Team = team_of hand c.begin_wins-wins.result.items in
     let new : Team = team_of c.push_all-pushed.new.hand c.push_all-pushed.new.wins.items in
     let starts : IsTeam word 1 from from none =
     subst (λ n. IsTeam word n from from none) c.requires.unused.1
-    (subst (λ (w : WordView). IsTeam w hand.shares from from none) c.requires.unused.0.0 (c.no_wins-wins.ensures from))
+    (subst (λ (w : WordView). IsTeam w hand.shares from from none) c.requires.unused.0.0 (c.begin_wins-wins.ensures from))
     in
     let done : IsTeam word 1 from ((c.from-2.result + 1) * each) new = c.in_ok-pushed.ensures.team 1 starts in
     let first : c.from.result ≡ c.args.worker = search rules in

@@ -12,8 +12,8 @@ use Rattle.book_core.specs.declared.commands.Command.{Command}
 use Rattle.book_core.specs.declared.commands.Command.TheVariants as commands
 use Rattle.book_core.specs.History.{OwnedRun, runs_of}
 use Rattle.book_core.proofs.Runs.{runs_of-append}
-use Rattle.step_core.specs.declared.machine.phase.Slot.{Slot}
-use Rattle.step_core.specs.declared.machine.phase.Slot.TheVariants.{Busy, Filled, Broken}
+use Rattle.step_core.specs.declared.machine.phase.CellSlot.{CellSlot}
+use Rattle.step_core.specs.declared.machine.phase.CellSlot.TheVariants.{Busy, Filled, Broken}
 use Rattle.step_core.specs.declared.machine.phase.Phase.{Phase}
 use Rattle.step_core.specs.declared.machine.phase.Phase.TheVariants.{Load, Scout, Put, Exchange, Raise, Begin, Fill, Spoil, Mend, FillMended, Look}
 use Rattle.step_core.specs.machine.Storage.{Storage}
@@ -62,17 +62,17 @@ module _ (limit : ℕ) (m : Storage) (actor : ℕ) where
       load_place_cases (Moves m actor) m actor place (Look place) (λ _. inl refl) (λ _. inl refl)
   load_moves commands.Size = inl refl
 
-  begin_moves : (command : Command) (from n place : ℕ) (slot : Option Slot) → Moves m actor (begin_at m actor command from n place slot)
+  begin_moves : (command : Command) (from n place : ℕ) (slot : Option CellSlot) → Moves m actor (begin_at m actor command from n place slot)
   begin_moves command from n place None = inl refl
   begin_moves command from n place (Some slot) = inl refl
 
-  look_moves : (place : ℕ) (slot : Option Slot) → Moves m actor (look_at m actor place slot)
+  look_moves : (place : ℕ) (slot : Option CellSlot) → Moves m actor (look_at m actor place slot)
   look_moves place None = inl refl
   look_moves place (Some (Busy owner)) = inl refl
   look_moves place (Some (Filled value)) = inl refl
   look_moves place (Some Broken) = inl refl
 
-  mend_moves : (place : ℕ) (slot : Option Slot) → Moves m actor (mend_at m actor place slot)
+  mend_moves : (place : ℕ) (slot : Option CellSlot) → Moves m actor (mend_at m actor place slot)
   mend_moves place None = inl refl
   mend_moves place (Some (Busy owner)) = inl refl
   mend_moves place (Some (Filled value)) = inl refl

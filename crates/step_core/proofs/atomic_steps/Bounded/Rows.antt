@@ -8,8 +8,8 @@ use Rattle.seg_core.specs.Segment.{IsLayout, most_places, segment_end, segment_o
 use Rattle.seg_core.proofs.Doubling.{segment_of_has, segment_end-le}
 use Rattle.book_core.specs.declared.commands.Command.{Command}
 use Rattle.book_core.specs.declared.commands.Command.TheVariants as commands
-use Rattle.step_core.specs.declared.machine.phase.Slot.{Slot}
-use Rattle.step_core.specs.declared.machine.phase.Slot.TheVariants.{Busy, Filled, Broken}
+use Rattle.step_core.specs.declared.machine.phase.CellSlot.{CellSlot}
+use Rattle.step_core.specs.declared.machine.phase.CellSlot.TheVariants.{Busy, Filled, Broken}
 use Rattle.step_core.specs.declared.machine.phase.Phase.{Phase}
 use Rattle.step_core.specs.declared.machine.phase.Phase.TheVariants.{Load, Scout, Put, Exchange, Raise, Begin, Fill, Spoil, Mend, FillMended, Look}
 use Rattle.step_core.specs.declared.machine.phase.Next.{Next}
@@ -218,7 +218,7 @@ module _ (limit : ℕ) (m : Storage) (is_layout : IsLayout m.layout) (is_limit :
         })
 
     -- Begin
-    begin_leaves : (from n place : ℕ) (slot : Option Slot) → slot ≡ None → Writes m.layout limit command count growths from n place 1
+    begin_leaves : (from n place : ℕ) (slot : Option CellSlot) → slot ≡ None → Writes m.layout limit command count growths from n place 1
         → Leaves m.layout limit command count growths events (Begin from n place) (begin_at m actor command from n place slot)
     begin_leaves from n place slot empty was =
         let begun : Writes m.layout limit command (stepped count events) growths from n place 2 =
@@ -241,7 +241,7 @@ module _ (limit : ℕ) (m : Storage) (is_layout : IsLayout m.layout) (is_limit :
         (λ _. stops (growth_ends was.most was.steady was.grows (let b = was.few in omega arith)))
 
     -- Look
-    look_leaves : (before : Phase) (place : ℕ) (slot : Option Slot)
+    look_leaves : (before : Phase) (place : ℕ) (slot : Option CellSlot)
         → Stops m.layout limit command (count_after m.layout count before Load events) growths
         → Leaves m.layout limit command count growths events before (look_at m actor place slot)
     look_leaves before place None stops = stops
@@ -267,7 +267,7 @@ module _ (limit : ℕ) (m : Storage) (is_layout : IsLayout m.layout) (is_limit :
     }
 
     -- Mend
-    mend_leaves : (place : ℕ) (slot : Option Slot) → Steady m.layout limit command count growths → IsMend command → count.tally.steps ≤ 1
+    mend_leaves : (place : ℕ) (slot : Option CellSlot) → Steady m.layout limit command count growths → IsMend command → count.tally.steps ≤ 1
         → Leaves m.layout limit command count growths events (Mend place) (mend_at m actor place slot)
     mend_leaves place slot steady is few =
         let stops = mend_ends steady is (omega arith) in

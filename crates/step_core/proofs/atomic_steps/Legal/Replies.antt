@@ -20,8 +20,8 @@ use Rattle.book_core.specs.declared.commands.Answer.{Answer}
 use Rattle.book_core.specs.declared.commands.Answer.TheVariants as answers
 use Rattle.book_core.specs.Cells.{CellList, with_pending, with_cell, reply_of_look, apply_event}
 use Rattle.book_core.specs.History.{IsHistory, OwnedRun, runs_of, owner_of, Tile}
-use Rattle.step_core.specs.declared.machine.phase.Slot.{Slot}
-use Rattle.step_core.specs.declared.machine.phase.Slot.TheVariants.{Busy, Filled, Broken}
+use Rattle.step_core.specs.declared.machine.phase.CellSlot.{CellSlot}
+use Rattle.step_core.specs.declared.machine.phase.CellSlot.TheVariants.{Busy, Filled, Broken}
 use Rattle.step_core.specs.declared.machine.phase.Phase.{Phase}
 use Rattle.step_core.specs.declared.machine.phase.Phase.TheVariants.{Load, Scout, Put, Exchange, Raise, Begin, Fill, Spoil, Mend, FillMended, Look}
 use Rattle.step_core.specs.machine.Storage.{Storage}
@@ -51,7 +51,7 @@ Replies limit m runs o =
 pub record Sees (limit : ℕ) (m : Storage) (runs : List OwnedRun) : Type 0 where
   pub room : m.size ≤ limit
   pub tile : Tile 0 runs m.size
-  pub taken : (q : ℕ) (slot : Slot) → finite.get m.slots q ≡ Some slot → q < m.size
+  pub taken : (q : ℕ) (slot : CellSlot) → finite.get m.slots q ≡ Some slot → q < m.size
 
 one_event : (old new : CellList) (event : Event) (reply : Reply) → apply_event old event ≡ Some (new, reply)
     → IsHistory old ((event, reply) ∷ []) new
@@ -190,15 +190,15 @@ module _ (limit : ℕ) (m : Storage) (runs : List OwnedRun) (actor : ℕ) (sees 
   -- ---- Begin, Fill and Spoil
 
   -- a cell that is seen of a slot that was set
-  seen_set : (place : ℕ) (slot : Slot)
+  seen_set : (place : ℕ) (slot : CellSlot)
       → seen_at (with_slot m place slot) runs place ≡ cell_of (owner_of runs place) (Some slot)
   seen_set place slot = ap (λ s. cell_of (owner_of runs place) s) (get_set_same m place slot)
 
-  seen_other : (place : ℕ) (slot : Slot) (q : ℕ) → q ≢ place
+  seen_other : (place : ℕ) (slot : CellSlot) (q : ℕ) → q ≢ place
       → seen_at m runs q ≡ seen_at (with_slot m place slot) runs q
   seen_other place slot q apart = ap (λ s. cell_of (owner_of runs q) s) (sym (get_set_other m place slot q apart))
 
-  begin_told : (command : Command) (from n place : ℕ) (slot : Option Slot) → finite.get m.slots place ≡ slot
+  begin_told : (command : Command) (from n place : ℕ) (slot : Option CellSlot) → finite.get m.slots place ≡ slot
       → owner_of runs place ≡ Some actor → Replies limit m runs (begin_at m actor command from n place slot)
   begin_told command from n place (Some slot) is ours = silent m (Begin from n place) refl
   begin_told command from n place None is ours =
@@ -216,7 +216,7 @@ module _ (limit : ℕ) (m : Storage) (runs : List OwnedRun) (actor : ℕ) (sees 
       (λ _. silent (with_slot m place (Busy actor)) (Fill from n place) same)
 
   -- the cells where a slot of a place is finished
-  settled : (place : ℕ) (slot : Slot) → place < m.size
+  settled : (place : ℕ) (slot : CellSlot) → place < m.size
       → cells_of (with_slot m place slot) runs ≡ slice_set (cells_of m runs) place (cell_of (owner_of runs place) (Some slot))
   settled place slot inside =
       let here : 0 + place ≡ place = omega arith in
@@ -225,7 +225,7 @@ module _ (limit : ℕ) (m : Storage) (runs : List OwnedRun) (actor : ℕ) (sees 
       ∙ ap (λ c. slice_set (cells_of m runs) place c) (seen_set place slot)
 
   -- what a reader sees at a place
-  seen_there : (place : ℕ) (slot : Option Slot) → place < m.size → finite.get m.slots place ≡ slot
+  seen_there : (place : ℕ) (slot : Option CellSlot) → place < m.size → finite.get m.slots place ≡ slot
       → slice_get (cells_of m runs) place ≡ Some (cell_of (owner_of runs place) slot)
   seen_there place slot inside is =
       let here : 0 + place ≡ place = omega arith in
@@ -237,7 +237,7 @@ module _ (limit : ℕ) (m : Storage) (runs : List OwnedRun) (actor : ℕ) (sees 
   pending_there place inside busy = seen_there place (Some (Busy actor)) inside busy
 
   -- what is seen where the slot of a cell is set
-  finished : (place : ℕ) (slot : Slot) (cell : Cell) (event : Event) → place < m.size
+  finished : (place : ℕ) (slot : CellSlot) (cell : Cell) (event : Event) → place < m.size
       → cell_of (owner_of runs place) (Some slot) ≡ cell → runs_of ((event, replies.Done) ∷ []) ≡ []
       → seen limit (with_slot m place slot)
       (runs ++ runs_of ((event, replies.Done) ∷ [])) ≡ with_cell (seen limit m runs) place cell
@@ -264,7 +264,7 @@ module _ (limit : ℕ) (m : Storage) (runs : List OwnedRun) (actor : ℕ) (sees 
 
   -- ---- Look
 
-  looks : (place : ℕ) (slot : Option Slot) (reply : Reply) (answer : Answer) → place < m.size
+  looks : (place : ℕ) (slot : Option CellSlot) (reply : Reply) (answer : Answer) → place < m.size
       → finite.get m.slots place ≡ slot
       → reply_of_look (length (cells_of m runs)) (Some (cell_of (owner_of runs place) slot)) ≡ reply
       → Replies limit m runs (ends m (events.Look actor place) reply answer)
@@ -272,7 +272,7 @@ module _ (limit : ℕ) (m : Storage) (runs : List OwnedRun) (actor : ℕ) (sees 
       tells (events.Look actor place) reply answer refl
       (look_applies (seen limit m runs) actor place (Some (cell_of (owner_of runs place) slot)) (seen_there place slot inside is) ∙ ap (λ r. Some (seen limit m runs, r)) told)
 
-  look_told : (place : ℕ) (slot : Option Slot) → place < m.size → finite.get m.slots place ≡ slot
+  look_told : (place : ℕ) (slot : Option CellSlot) → place < m.size → finite.get m.slots place ≡ slot
       → Replies limit m runs (look_at m actor place slot)
   look_told place None inside is = looks place None replies.Pending answers.Pending inside is refl
   look_told place (Some (Busy owner)) inside is = looks place (Some (Busy owner)) replies.Pending answers.Pending inside is refl
@@ -281,7 +281,7 @@ module _ (limit : ℕ) (m : Storage) (runs : List OwnedRun) (actor : ℕ) (sees 
 
   -- ---- Mend
 
-  mend_told : (place : ℕ) (slot : Option Slot) → place < m.size → finite.get m.slots place ≡ slot
+  mend_told : (place : ℕ) (slot : Option CellSlot) → place < m.size → finite.get m.slots place ≡ slot
       → Replies limit m runs (mend_at m actor place slot)
   mend_told place None inside is = look_told place None inside is
   mend_told place (Some (Busy owner)) inside is = look_told place (Some (Busy owner)) inside is

@@ -15,8 +15,8 @@ use Rattle.book_core.specs.declared.commands.Command.{Command}
 use Rattle.book_core.specs.declared.commands.Command.TheVariants as commands
 use Rattle.book_core.specs.declared.commands.Answer.TheVariants as answers
 use Rattle.book_core.specs.Commands.{IsSound}
-use Rattle.step_core.specs.declared.machine.phase.Slot.{Slot}
-use Rattle.step_core.specs.declared.machine.phase.Slot.TheVariants.{Busy, Filled, Broken}
+use Rattle.step_core.specs.declared.machine.phase.CellSlot.{CellSlot}
+use Rattle.step_core.specs.declared.machine.phase.CellSlot.TheVariants.{Busy, Filled, Broken}
 use Rattle.step_core.specs.declared.machine.phase.Phase.{Phase}
 use Rattle.step_core.specs.declared.machine.phase.Phase.TheVariants.{Load, Scout, Put, Exchange, Raise, Begin, Fill, Spoil, Mend, FillMended, Look}
 use Rattle.step_core.specs.declared.machine.phase.Next.{Next}
@@ -229,7 +229,7 @@ module _ (m : Storage) (actor : ℕ) where
   raise_told commands.Size to is = absurd is
 
   -- a read ends by what the slot holds
-  read_looked : (place : ℕ) (slot : Option Slot) → Tells actor (commands.Read place) [] (look_at m actor place slot)
+  read_looked : (place : ℕ) (slot : Option CellSlot) → Tells actor (commands.Read place) [] (look_at m actor place slot)
   read_looked place None =
       record { its = refl; told = record { reply = replies.Pending; events = refl; answered = refl } }
   read_looked place (Some (Busy owner)) =
@@ -240,7 +240,7 @@ module _ (m : Storage) (actor : ℕ) where
       record { its = refl; told = record { reply = replies.Broken; events = refl; answered = refl } }
 
   -- only a read looks
-  look_told : (command : Command) (place : ℕ) (slot : Option Slot) → IsReadOf command place
+  look_told : (command : Command) (place : ℕ) (slot : Option CellSlot) → IsReadOf command place
       → Tells actor command [] (look_at m actor place slot)
   look_told (commands.Push value) place slot is = absurd is
   look_told (commands.Grow n value) place slot is = absurd is
@@ -252,7 +252,7 @@ module _ (m : Storage) (actor : ℕ) where
   look_told commands.Size place slot is = absurd is
 
   -- a mend takes a broken slot, or ends by what the slot holds
-  slot_mended : (place value : ℕ) (slot : Option Slot)
+  slot_mended : (place value : ℕ) (slot : Option CellSlot)
       → Tells actor (commands.Mend place value) [] (mend_at m actor place slot)
   slot_mended place value None =
       record { its = refl; told = inr (record { reply = replies.Pending; events = refl; answered = refl }) }
@@ -263,7 +263,7 @@ module _ (m : Storage) (actor : ℕ) where
   slot_mended place value (Some Broken) = record { its = refl; told = (refl, refl) }
 
   -- only a mend mends
-  mend_told : (command : Command) (place : ℕ) (slot : Option Slot) → IsMendOf command place
+  mend_told : (command : Command) (place : ℕ) (slot : Option CellSlot) → IsMendOf command place
       → Tells actor command [] (mend_at m actor place slot)
   mend_told (commands.Push value) place slot is = absurd is
   mend_told (commands.Grow n value) place slot is = absurd is
@@ -290,7 +290,7 @@ module _ (m : Storage) (actor : ℕ) where
 -- ---- Steps of a call that won its places
 
 -- an empty slot is taken, or the step changes nothing
-begin_told : (m : Storage) (actor : ℕ) (command : Command) (from n place : ℕ) (slot : Option Slot) → Asks command n
+begin_told : (m : Storage) (actor : ℕ) (command : Command) (from n place : ℕ) (slot : Option CellSlot) → Asks command n
     → Tells actor command (run_so_far actor command from n (place - from)) (begin_at m actor command from n place slot)
 begin_told m actor command from n place None asks =
     let now = run_so_far actor command from n (place - from) in

@@ -11,8 +11,8 @@ use Rattle.book_core.specs.declared.events.Event.{Event}
 use Rattle.book_core.specs.History.{OwnedRun, owner_of}
 use Rattle.book_core.proofs.Lists.{get_set, get_other}
 use Rattle.book_core.proofs.Runs.{owner_kept, tile-append}
-use Rattle.step_core.specs.declared.machine.phase.Slot.{Slot}
-use Rattle.step_core.specs.declared.machine.phase.Slot.TheVariants.{Busy, Filled, Broken}
+use Rattle.step_core.specs.declared.machine.phase.CellSlot.{CellSlot}
+use Rattle.step_core.specs.declared.machine.phase.CellSlot.TheVariants.{Busy, Filled, Broken}
 use Rattle.step_core.specs.declared.machine.phase.Phase.{Phase}
 use Rattle.step_core.specs.declared.machine.phase.Actor.{Actor}
 use Rattle.step_core.specs.machine.Storage.{Storage}
@@ -36,7 +36,7 @@ abbrev pub with_installed : Storage → set.FinSet nat_cmp → Storage
 with_installed m segments = record { layout = m.layout; size = m.size; installed = segments; slots = m.slots }
 
 -- what was done at a place is the same where runs follow
-settlement_kept : (runs more : List OwnedRun) (writes : List Event) (place : ℕ) (slot : Option Slot)
+settlement_kept : (runs more : List OwnedRun) (writes : List Event) (place : ℕ) (slot : Option CellSlot)
     → Settlement runs writes place slot → Settlement (runs ++ more) writes place slot
 settlement_kept runs more writes place None is = is
 settlement_kept runs more writes place (Some (Busy actor)) is = elim is [
@@ -112,7 +112,7 @@ module _ {m : Storage} {actors : List Actor} {runs : List OwnedRun} {writes : �
 
   -- The slot of a place is set that the actor may fill, or that was broken; it is no other's to fill then,
   -- and what was done at other places stays.
-  pub set_effect : (place : ℕ) (slot : Slot) (writes' : ℕ → List Event) → place < m.size
+  pub set_effect : (place : ℕ) (slot : CellSlot) (writes' : ℕ → List Event) → place < m.size
       → (IsOpen runs actor place (map.get m.slots place) ⊎ (map.get m.slots place ≡ Some Broken))
       → ((other : ℕ) → IsOpen runs other place (Some slot) → other ≡ actor)
       → Settlement runs (writes' place) place (Some slot) → ((q : ℕ) → q ≢ place → writes' q ≡ writes q)
@@ -154,7 +154,7 @@ module _ {m : Storage} {actors : List Actor} {runs : List OwnedRun} {writes : �
       (inl (ours, subst (Settlement runs (writes place) place) empty (holds.settled place))) (λ q apart. refl)
 
   -- an event is the first or the next at a place whose slot is set, and no event at any other
-  pub write_effect : (place : ℕ) (slot : Slot) (event : Event) (gained : ℕ → List Event) → place < m.size
+  pub write_effect : (place : ℕ) (slot : CellSlot) (event : Event) (gained : ℕ → List Event) → place < m.size
       → (IsOpen runs actor place (map.get m.slots place) ⊎ (map.get m.slots place ≡ Some Broken))
       → ((other : ℕ) → IsOpen runs other place (Some slot) → other ≡ actor)
       → Settlement runs (writes place ++ event ∷ []) place (Some slot) → gained place ≡ event ∷ []

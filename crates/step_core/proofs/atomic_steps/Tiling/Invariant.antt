@@ -6,8 +6,8 @@ use Rattle.std.specs.FinMap as map
 use Rattle.book_core.specs.declared.events.Event.{Event}
 use Rattle.book_core.specs.declared.events.Event.TheVariants as events
 use Rattle.book_core.specs.History.{OwnedRun, owner_of, Tile}
-use Rattle.step_core.specs.declared.machine.phase.Slot.{Slot}
-use Rattle.step_core.specs.declared.machine.phase.Slot.TheVariants.{Busy, Filled, Broken}
+use Rattle.step_core.specs.declared.machine.phase.CellSlot.{CellSlot}
+use Rattle.step_core.specs.declared.machine.phase.CellSlot.TheVariants.{Busy, Filled, Broken}
 use Rattle.step_core.specs.declared.machine.phase.Phase.{Phase}
 use Rattle.step_core.specs.declared.machine.phase.Phase.TheVariants.{Load, Scout, Put, Exchange, Raise, Begin, Fill, Spoil, Mend, FillMended, Look}
 use Rattle.step_core.specs.declared.machine.phase.Actor.{Actor}
@@ -19,20 +19,20 @@ use Rattle.step_core.proofs.atomic_steps.Keys.{same_key, other_key}
 -- ---- Slots after a change
 
 -- the slot that was set holds what it was set to
-pub get_set_same : (m : Storage) (place : ℕ) (slot : Slot) → map.get (with_slot m place slot).slots place ≡ Some slot
+pub get_set_same : (m : Storage) (place : ℕ) (slot : CellSlot) → map.get (with_slot m place slot).slots place ≡ Some slot
 get_set_same m place slot =
     map.get-insert nat_cmp_total m.slots place slot place
     ∙ ap (λ b. cond b (Some slot) (map.get m.slots place)) (same_key place)
 
 -- any other slot is as it was
-pub get_set_other : (m : Storage) (place : ℕ) (slot : Slot) (q : ℕ) → q ≢ place
+pub get_set_other : (m : Storage) (place : ℕ) (slot : CellSlot) (q : ℕ) → q ≢ place
     → map.get (with_slot m place slot).slots q ≡ map.get m.slots q
 get_set_other m place slot q other =
     map.get-insert nat_cmp_total m.slots place slot q
     ∙ ap (λ b. cond b (Some slot) (map.get m.slots q)) (other_key q place other)
 
 -- where what is taken lies below the size, no slot at or past the size is taken
-pub empty_past : (m : Storage) → ((q : ℕ) (slot : Slot) → map.get m.slots q ≡ Some slot → q < m.size)
+pub empty_past : (m : Storage) → ((q : ℕ) (slot : CellSlot) → map.get m.slots q ≡ Some slot → q < m.size)
     → (q : ℕ) → m.size ≤ q → map.get m.slots q ≡ None
 empty_past m taken q past =
     elim (map.get m.slots q) as (λ o. map.get m.slots q ≡ o → o ≡ None)
@@ -42,14 +42,14 @@ empty_past m taken q past =
 -- ---- Whose a place is to fill
 
 -- the place is the actor's to fill: it owns the place, whose slot is empty; or the slot is busy for it
-abbrev pub IsOpen : List OwnedRun → ℕ → ℕ → Option Slot → Type 0
+abbrev pub IsOpen : List OwnedRun → ℕ → ℕ → Option CellSlot → Type 0
 IsOpen runs actor place None = owner_of runs place ≡ Some actor
 IsOpen runs actor place (Some (Busy other)) = other ≡ actor
 IsOpen runs actor place (Some (Filled value)) = ⊥
 IsOpen runs actor place (Some Broken) = ⊥
 
 -- it is so for one actor alone
-pub one_open : (runs : List OwnedRun) (a b place : ℕ) (slot : Option Slot) → IsOpen runs a place slot
+pub one_open : (runs : List OwnedRun) (a b place : ℕ) (slot : Option CellSlot) → IsOpen runs a place slot
     → IsOpen runs b place slot → a ≡ b
 one_open runs a b place None for_a for_b = same_Some a b (sym for_a ∙ for_b)
 one_open runs a b place (Some (Busy other)) for_a for_b = sym for_a ∙ for_b
@@ -57,7 +57,7 @@ one_open runs a b place (Some (Filled value)) for_a for_b = absurd for_a
 one_open runs a b place (Some Broken) for_a for_b = absurd for_a
 
 -- an owner's unfinished place is its own to fill
-pub open_for_owner : (runs : List OwnedRun) (actor place : ℕ) (slot : Option Slot) → owner_of runs place ≡ Some actor
+pub open_for_owner : (runs : List OwnedRun) (actor place : ℕ) (slot : Option CellSlot) → owner_of runs place ≡ Some actor
     → IsUnfinishedFor actor slot → IsOpen runs actor place slot
 open_for_owner runs actor place None owns is = owns
 open_for_owner runs actor place (Some (Busy other)) owns is = is
@@ -92,7 +92,7 @@ pub record FilledByMender (runs : List OwnedRun) (writes : List Event) (place va
   pub is : writes ≡ events.Break owner place ∷ events.Mend mender place ∷ events.Finish mender place value ∷ []
 
 -- what was done at a place, by what its slot holds
-abbrev pub Settlement : List OwnedRun → List Event → ℕ → Option Slot → Type 0
+abbrev pub Settlement : List OwnedRun → List Event → ℕ → Option CellSlot → Type 0
 Settlement runs writes place None = writes ≡ []
 Settlement runs writes place (Some (Busy actor)) =
     ((owner_of runs place ≡ Some actor) × (writes ≡ [])) ⊎ MendedBy runs writes place actor
@@ -138,7 +138,7 @@ pub record IsOwedBySome (m : Storage) (actors : List Actor) (place : ℕ) : Type
 -- what holds between two steps
 pub record Holds (m : Storage) (actors : List Actor) (runs : List OwnedRun) (writes : ℕ → List Event) : Type 0 where
   pub tile : Tile 0 runs m.size
-  pub taken : (q : ℕ) (slot : Slot) → map.get m.slots q ≡ Some slot → q < m.size
+  pub taken : (q : ℕ) (slot : CellSlot) → map.get m.slots q ≡ Some slot → q < m.size
   pub settled : (q : ℕ) → Settlement runs (writes q) q (map.get m.slots q)
   pub knows : (actor : ℕ) (state : Actor) → slice_get actors actor ≡ Some state → Knows m runs writes actor state.phase
   pub owed : (q : ℕ) → q < m.size → IsUnfinished (map.get m.slots q) → IsOwedBySome m actors q
@@ -147,7 +147,7 @@ pub record Holds (m : Storage) (actors : List Actor) (runs : List OwnedRun) (wri
 -- to fill, and makes no place theirs
 pub record Effect (actor : ℕ) (m m' : Storage) (runs runs' : List OwnedRun) (writes writes' : ℕ → List Event) : Type 0 where
   pub tile : Tile 0 runs' m'.size
-  pub taken : (q : ℕ) (slot : Slot) → map.get m'.slots q ≡ Some slot → q < m'.size
+  pub taken : (q : ℕ) (slot : CellSlot) → map.get m'.slots q ≡ Some slot → q < m'.size
   pub settled : (q : ℕ) → Settlement runs' (writes' q) q (map.get m'.slots q)
   pub grows : m.size ≤ m'.size
   pub stays_owned : (q owner : ℕ) → owner_of runs q ≡ Some owner → owner_of runs' q ≡ Some owner
@@ -156,7 +156,7 @@ pub record Effect (actor : ℕ) (m m' : Storage) (runs runs' : List OwnedRun) (w
 
 module _ {actor : ℕ} {m m' : Storage} {runs runs' : List OwnedRun} {writes writes' : ℕ → List Event} (effect : Effect actor m m' runs runs' writes writes') (other : ℕ) (apart : other ≢ actor) where
   -- a slot that is known to be the other's to fill stays, and nothing is done there
-  slot_kept : (q : ℕ) (slot : Option Slot) → map.get m.slots q ≡ slot → IsOpen runs other q slot
+  slot_kept : (q : ℕ) (slot : Option CellSlot) → map.get m.slots q ≡ slot → IsOpen runs other q slot
       → (map.get m'.slots q ≡ slot) × (writes' q ≡ writes q)
   slot_kept q slot is its_own =
       let stays = effect.others q other apart (subst (IsOpen runs other q) (sym is) its_own) in

@@ -20,8 +20,8 @@ use Rattle.book_core.specs.declared.commands.Answer.{Answer}
 use Rattle.book_core.specs.declared.commands.Answer.TheVariants as answers
 use Rattle.book_core.specs.History.{OwnedRun, runs_of, owner_of, writes_of}
 use Rattle.book_core.proofs.Runs.{owner_new, none_past, has_place-true}
-use Rattle.step_core.specs.declared.machine.phase.Slot.{Slot}
-use Rattle.step_core.specs.declared.machine.phase.Slot.TheVariants.{Busy, Filled, Broken}
+use Rattle.step_core.specs.declared.machine.phase.CellSlot.{CellSlot}
+use Rattle.step_core.specs.declared.machine.phase.CellSlot.TheVariants.{Busy, Filled, Broken}
 use Rattle.step_core.specs.declared.machine.phase.Phase.{Phase}
 use Rattle.step_core.specs.declared.machine.phase.Phase.TheVariants.{Load, Scout, Put, Exchange, Raise, Begin, Fill, Spoil, Mend, FillMended, Look}
 use Rattle.step_core.specs.declared.machine.phase.Next.{Next}
@@ -159,7 +159,7 @@ module _ {m : Storage} {actors : List Actor} {runs : List OwnedRun} {writes : �
         | inr after ↦ inl ((after, inside), subst (IsUnfinishedFor actor) (sym (empty q after)) tt)
       ])
 
-  looked : (place : ℕ) (slot : Option Slot) → Kept actors runs writes actor state (look_at m actor place slot)
+  looked : (place : ℕ) (slot : Option CellSlot) → Kept actors runs writes actor state (look_at m actor place slot)
   looked place None = ended (events.Look actor place) replies.Pending answers.Pending refl (λ q. refl)
   looked place (Some (Busy owner)) = ended (events.Look actor place) replies.Pending answers.Pending refl (λ q. refl)
   looked place (Some (Filled value)) = ended (events.Look actor place) (replies.Value value) (answers.Value value) refl (λ q. refl)
@@ -190,7 +190,7 @@ module _ {m : Storage} {actors : List Actor} {runs : List OwnedRun} {writes : �
         | inr apart ↦ inr (below, get_set_other m place (Busy actor) q apart.1, λ its _. free q its)
       ])
 
-  mend_kept : (place : ℕ) (slot : Option Slot) → place < m.size → map.get m.slots place ≡ slot
+  mend_kept : (place : ℕ) (slot : Option CellSlot) → place < m.size → map.get m.slots place ≡ slot
       → Kept actors runs writes actor state (mend_at m actor place slot)
   mend_kept place None inside is = looked place None
   mend_kept place (Some (Busy owner)) inside is = looked place (Some (Busy owner))
@@ -212,7 +212,7 @@ in_run from n q =
     ]
 
 -- a slot is unfinished for an actor, or it is not
-unfinished_for : (actor : ℕ) (slot : Option Slot) → IsUnfinishedFor actor slot ⊎ (IsUnfinishedFor actor slot → ⊥)
+unfinished_for : (actor : ℕ) (slot : Option CellSlot) → IsUnfinishedFor actor slot ⊎ (IsUnfinishedFor actor slot → ⊥)
 unfinished_for actor None = inl tt
 unfinished_for actor (Some (Busy other)) =
     elim (eqb_tells other actor) [ inl same ↦ inl same.1 | inr apart ↦ inr apart.1 ]
@@ -232,7 +232,7 @@ begun m runs actor from n place won = record {
 }
 
 -- what a finished slot leaves of a won run that has one more place
-finished_one : (m : Storage) (runs : List OwnedRun) (writes : ℕ → List Event) (actor from n place : ℕ) (slot : Slot)
+finished_one : (m : Storage) (runs : List OwnedRun) (writes : ℕ → List Event) (actor from n place : ℕ) (slot : CellSlot)
     → (IsUnfinishedFor actor (Some slot) → ⊥) → Won m runs actor from n place → place + 1 < from + n
     → Knows (with_slot m place slot) runs writes actor (Begin from n (place + 1))
 finished_one m runs writes actor from n place slot final won more = (
@@ -260,7 +260,7 @@ module _ {m : Storage} {actors : List Actor} {runs : List OwnedRun} {writes : �
   ours = won.owned place won.within won.before
 
   -- a different place is covered as it was, if the actor goes on in its run
-  elsewhere : (slot : Slot) (next : Phase) → ((q : ℕ) → InRun from n q → IsWonOrMended next q) → (q : ℕ) → q ≢ place
+  elsewhere : (slot : CellSlot) (next : Phase) → ((q : ℕ) → InRun from n q → IsWonOrMended next q) → (q : ℕ) → q ≢ place
       → q < m.size → Covered actor m (with_slot m place slot) phase next q
   elsewhere slot next stays q apart below =
       let same = get_set_other m place slot q apart in
@@ -291,7 +291,7 @@ module _ {m : Storage} {actors : List Actor} {runs : List OwnedRun} {writes : �
         | inr apart ↦ elsewhere (Busy actor) next stays q apart.1 below
       ])
 
-  began : (slot : Option Slot) → slot ≡ map.get m.slots place → map.get m.slots place ≡ None
+  began : (slot : Option CellSlot) → slot ≡ map.get m.slots place → map.get m.slots place ≡ None
       → Kept actors runs writes actor state (begin_at m actor command from n place slot)
   began (Some slot) is empty = absurd (none-some slot (sym empty ∙ sym is))
   began None is empty =
@@ -303,7 +303,7 @@ module _ {m : Storage} {actors : List Actor} {runs : List OwnedRun} {writes : �
       (λ _. taken (Spoil from n place) empty knows (λ q mine. mine)) (λ _. taken (Fill from n place) empty knows (λ q mine. mine))
 
   -- the owner finishes its place: an event of that place by that actor
-  finished : (slot : Slot) (event : Event) → (IsUnfinished (Some slot) → ⊥)
+  finished : (slot : CellSlot) (event : Event) → (IsUnfinished (Some slot) → ⊥)
       → ((other : ℕ) → IsOpen runs other place (Some slot) → ⊥)
       → (IsUnfinishedFor actor (Some slot) → ⊥)
       → map.get m.slots place ≡ Some (Busy actor) → writes place ≡ [] → runs_of ((event, replies.Done) ∷ []) ≡ []

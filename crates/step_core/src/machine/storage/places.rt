@@ -4,8 +4,8 @@ ghost use Rattle.std.specs.FinMap as map;
 ghost use Rattle.seg_core.specs.Segment.{most_places};
 ghost use Rattle.step_core.specs.machine.Step.{is_refused, value_of, answer_of_run, after_place};
 
-use crate::machine::phase::{Next, Phase, Slot};
-use crate::machine::storage::{Outcome, Storage, ends, goes};
+use crate::machine::phase::{Next, Phase, CellSlot};
+use crate::machine::storage::{StepOutcome, Storage, end_call, go_on_to};
 use book_core::{Answer, Command, Event, Reply};
 
 impl Storage {
@@ -20,7 +20,7 @@ impl Storage {
         from: u64,
         n: u64,
         place: u64,
-    ) -> Outcome
+    ) -> StepOutcome
         requires low { from ≤ place }
         requires place { place < most_places }
         requires there { IsReady self.old place }
@@ -28,13 +28,13 @@ impl Storage {
             ≡ begin_at self.old actor command.now from n place (map.get self.old.slots place) }
     {
         if self.blocks.get(place).is_some() {
-            return goes(Phase::Begin { from, n, place });
+            return go_on_to(Phase::Begin { from, n, place });
         }
-        self.blocks.set(place, Slot::Busy(actor));
+        self.blocks.set(place, CellSlot::Busy(actor));
         if is_refused(command, from, place) {
-            goes(Phase::Spoil { from, n, place })
+            go_on_to(Phase::Spoil { from, n, place })
         } else {
-            goes(Phase::Fill { from, n, place })
+            go_on_to(Phase::Fill { from, n, place })
         }
     }
 
@@ -45,20 +45,20 @@ impl Storage {
         from: u64,
         n: u64,
         place: u64,
-    ) -> Outcome
+    ) -> StepOutcome
         requires place { place < from + n }
         requires places { from + n ≤ most_places }
         requires there { IsReady self.old place }
         ensures gives { given self.new result ≡ fill self.old actor command.now from n place }
     {
         let value = value_of(command);
-        self.blocks.set(place, Slot::Filled(value));
+        self.blocks.set(place, CellSlot::Filled(value));
         let event = Event::Finish {
             actor,
             place,
             value,
         };
-        Outcome {
+        StepOutcome {
             event: Some((event, Reply::Done)),
             next: after_place(command, from, n, place),
         }
@@ -71,63 +71,63 @@ impl Storage {
         from: u64,
         n: u64,
         place: u64,
-    ) -> Outcome
+    ) -> StepOutcome
         requires place { place < from + n }
         requires places { from + n ≤ most_places }
         requires there { IsReady self.old place }
         ensures gives { given self.new result ≡ spoil self.old actor command.now from n place }
     {
-        self.blocks.set(place, Slot::Broken);
-        Outcome {
+        self.blocks.set(place, CellSlot::Broken);
+        StepOutcome {
             event: Some((Event::Break { actor, place }, Reply::Done)),
             next: after_place(command, from, n, place),
         }
     }
 
-    pub(crate) fn mend(&mut self, actor: u32, place: u64) -> Outcome
+    pub(crate) fn mend(&mut self, actor: u32, place: u64) -> StepOutcome
         requires place { place < most_places }
         requires there { IsReady self.old place }
         ensures gives { given self.new result ≡ mend_at self.old actor place (map.get self.old.slots place) }
     {
         match self.blocks.get(place) {
-            Some(Slot::Broken) => {
-                self.blocks.set(place, Slot::Busy(actor));
-                Outcome {
+            Some(CellSlot::Broken) => {
+                self.blocks.set(place, CellSlot::Busy(actor));
+                StepOutcome {
                     event: Some((Event::Mend { actor, place }, Reply::Done)),
                     next: Next::Goes(Phase::FillMended { place }),
                 }
             }
-            None | Some(Slot::Busy(_)) | Some(Slot::Filled(_)) => self.look(actor, place),
+            None | Some(CellSlot::Busy(_)) | Some(CellSlot::Filled(_)) => self.look(actor, place),
         }
     }
 
-    pub(crate) fn fill_mended(&mut self, actor: u32, command: &Command, place: u64) -> Outcome
+    pub(crate) fn fill_mended(&mut self, actor: u32, command: &Command, place: u64) -> StepOutcome
         requires place { place < most_places }
         requires there { IsReady self.old place }
         ensures gives { given self.new result ≡ fill_mended self.old actor command.now place }
     {
         let value = value_of(command);
-        self.blocks.set(place, Slot::Filled(value));
+        self.blocks.set(place, CellSlot::Filled(value));
         let event = Event::Finish {
             actor,
             place,
             value,
         };
-        ends(event, Reply::Done, Answer::At { place })
+        end_call(event, Reply::Done, Answer::At { place })
     }
 
-    pub(crate) fn look(&self, actor: u32, place: u64) -> Outcome
+    pub(crate) fn look(&self, actor: u32, place: u64) -> StepOutcome
         ensures gives { given self.now result ≡ look_at self.now actor place (map.get self.now.slots place) }
     {
         let event = Event::Look { actor, place };
         match self.blocks.get(place) {
-            None | Some(Slot::Busy(_)) => ends(event, Reply::Pending, Answer::Pending),
-            Some(Slot::Filled(value)) => ends(
+            None | Some(CellSlot::Busy(_)) => end_call(event, Reply::Pending, Answer::Pending),
+            Some(CellSlot::Filled(value)) => end_call(
                 event,
                 Reply::Value { value },
                 Answer::Value { value },
             ),
-            Some(Slot::Broken) => ends(event, Reply::Broken, Answer::Broken),
+            Some(CellSlot::Broken) => end_call(event, Reply::Broken, Answer::Broken),
         }
     }
 }

@@ -5,7 +5,7 @@ ghost use Rattle.seg_core.specs.Segment.{IsLayout, most_places, segment_count};
 ghost use Rattle.step_core.specs.machine.Step.{claiming, after_segment};
 
 use crate::machine::phase::Phase;
-use crate::machine::storage::{Outcome, Storage, ends, goes};
+use crate::machine::storage::{StepOutcome, Storage, end_call, go_on_to};
 use book_core::{Answer, Command, Event, Reply};
 use seg_core::Layout;
 use std::alloc::AllocError;
@@ -14,15 +14,15 @@ impl Storage {
     ghost use Rattle.step_core.specs.machine.Step.{scout, put};
     ghost use Rattle.step_core.specs.machine.Bounds.{given};
 
-    pub(crate) fn scout(&self, command: &Command, from: u64, n: u64, segment: u32) -> Outcome
+    pub(crate) fn scout(&self, command: &Command, from: u64, n: u64, segment: u32) -> StepOutcome
         requires segment { segment < segment_count self.now.layout }
         requires places { from + n ≤ most_places }
         ensures gives { given self.now result ≡ scout self.now command.now from n segment }
     {
         if self.blocks.has(segment) {
-            return goes(after_segment(self.blocks.layout(), command, from, n, segment));
+            return go_on_to(after_segment(self.blocks.layout(), command, from, n, segment));
         }
-        goes(Phase::Put { from, n, segment })
+        go_on_to(Phase::Put { from, n, segment })
     }
 
     pub(crate) fn put(
@@ -33,7 +33,7 @@ impl Storage {
         from: u64,
         n: u64,
         segment: u32,
-    ) -> Result<Outcome, AllocError>
+    ) -> Result<StepOutcome, AllocError>
         requires segment { segment < segment_count self.old.layout }
         requires places { from + n ≤ most_places }
         ensures gives { IfOk result (λ outcome. given self.new outcome
@@ -44,10 +44,10 @@ impl Storage {
     {
         if !memory {
             let event = Event::RefusedMemory { actor };
-            return Ok(ends(event, Reply::NoMemory, Answer::NoMemory));
+            return Ok(end_call(event, Reply::NoMemory, Answer::NoMemory));
         }
         self.blocks.install(segment)?;
-        Ok(goes(after_segment(self.blocks.layout(), command, from, n, segment)))
+        Ok(go_on_to(after_segment(self.blocks.layout(), command, from, n, segment)))
     }
 }
 

@@ -8,9 +8,9 @@ use Rattle.cell_core.specs.Member.{MemberView}
 use Rattle.table_core.specs.Table.{KeyView, IsKeyOf}
 use Rattle.grow_core.specs.Keys.{KeyRow, key_at}
 use Rattle.grow_core.specs.Token.{place_in}
-use Rattle.grow_core.specs.Parts.{AreMembers, AreShutIn, values_in}
+use Rattle.grow_core.specs.Parts.{AreMembers, AreBrokenIn, values_in}
 use Rattle.grow_core.specs.Closing.{ClosingView, IsKeptOf, KeepsValuesBelow}
-use Rattle.grow_core.proofs.Places.{written_whole, segment_below, shut_more, pushed_there, pushed_elsewhere}
+use Rattle.grow_core.proofs.Places.{written_whole, segment_below, broken_more, pushed_there, pushed_elsewhere}
 use Rattle.grow_core.proofs.Settled.{Known, known_there, kept_settled, values_more}
 use Rattle.grow_core.proofs.close.Closing.settle_next.Goals as goal
 
@@ -55,7 +55,7 @@ invariant_of-self g c =
     let one : twin.result.0 ≡ segment = one_segment f twin.result.0 segment inside.len (record { from = omega (arith, at_twin); before = twin.ensures.within }) there in
     let has_before : key_at inside.before segment ≡ Some twin.result.2 = ap (key_at inside.before) (sym one) ∙ twin.ensures.key in
     let cells : KeepsOtherCells key.block block offset = subst (λ (b : BlockView). KeepsOtherCells b block offset) start c.settle-member.ensures.others in
-    let name : m.name ≡ (cell_at key.block offset).value = c.settle-member.ensures.name ∙ ap (λ (b : BlockView). (cell_at b offset).value) start in
+    let name : m.name ≡ (cell_at key.block offset).value_name = c.settle-member.ensures.name ∙ ap (λ (b : BlockView). (cell_at b offset).value_name) start in
     let same_layout : c.attach.new.self.layout ≡ f = c.attach.ensures.layout ∙ c.detach-block.ensures.layout in
     record {
       whole = written_whole f names c.attach.new.self row known c.push.new.self segment offset len (len + 1) inside.limit inside.count key key' block whole same_layout small c.cell_of-segment.ensures.segment within c.cell_of-segment.ensures.key others of
@@ -65,7 +65,7 @@ invariant_of-self g c =
           let both : Some m ≡ Some n = sym last ∙ ap (λ (xs : List (MemberView _)). slice_get xs (place_in f segment offset)) (sym pushed) ∙ is in
           subst (λ (u : MemberView _). IsMemberAt block offset u) (let z = both in cc) c.settle-member.ensures.member)
           (ap length pushed ∙ length-append known (m ∷ []) ∙ ap (λ (n : ℕ). n + 1) whole.all) (omega (arith, below, most)) (omega (arith, below, enough));
-      shut = subst (AreShutIn inside.epoch) (sym pushed) (shut_more inside.epoch known m inv.shut c.settle-member.ensures.shut);
+      broken = subst (AreBrokenIn inside.epoch) (sym pushed) (broken_more inside.epoch known m inv.broken c.settle-member.ensures.broken);
       kept = subst (λ (u : ℕ × List (MemberView _)). IsKeptOf u.0 inside.mark.numbers inside.before c.attach.new.self.names (slice_set row segment (Some key')) u.1 inside.count) (λ i. (sym same_layout i, sym pushed i))
           (kept_settled f inside.mark.numbers inside.before names row known inside.count inv.kept segment offset c.cell_of-before.result.2 key small first has_before c.cell_of-segment.ensures.key here
           c.attach.new.self.names key' m whole.rows within others name (subst (λ (b : BlockView). KeepsOtherCells key.block b offset) (sym of.of) cells));

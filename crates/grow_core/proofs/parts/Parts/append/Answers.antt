@@ -7,8 +7,8 @@ use Rattle.cell_core.specs.Member.{MemberView}
 use Rattle.table_core.specs.Table.{KeyView, IsKeyOf}
 use Rattle.grow_core.specs.Keys.{KeyRow}
 use Rattle.grow_core.specs.Token.{place_in}
-use Rattle.grow_core.specs.Parts.{PartsView, AreShutIn, values_in, capacity_of}
-use Rattle.grow_core.proofs.Places.{written_whole, shut_more, pushed_there, pushed_elsewhere}
+use Rattle.grow_core.specs.Parts.{PartsView, AreBrokenIn, values_in, capacity_of}
+use Rattle.grow_core.proofs.Places.{written_whole, broken_more, pushed_there, pushed_elsewhere}
 use Rattle.grow_core.proofs.parts.Parts.append.Goals as goal
 
 pub invariant_of-self : goal.invariant_of-self
@@ -34,5 +34,5 @@ invariant_of-self g c =
           subst (λ (u : MemberView _). IsMemberAt block offset u) (let z = both in cc) c.write-member.ensures.member)
           (ap length pushed ∙ length-append known (m ∷ []) ∙ ap (λ (n : ℕ). n + 1) whole.all) (omega (arith, below)) (omega (arith, room)),
       tt,
-      subst (AreShutIn c.self.inside.epoch) (sym pushed) (shut_more c.self.inside.epoch known m c.self.invariant.2 c.write-member.ensures.shut),
+      subst (AreBrokenIn c.self.inside.epoch) (sym pushed) (broken_more c.self.inside.epoch known m c.self.invariant.2 c.write-member.ensures.broken),
     )

@@ -7,8 +7,8 @@ use Rattle.cell_core.specs.Member.{MemberView}
 use Rattle.table_core.specs.Table.{KeyView, IsKeyOf}
 use Rattle.grow_core.specs.Keys.{KeyRow}
 use Rattle.grow_core.specs.Token.{place_in}
-use Rattle.grow_core.specs.Parts.{PartsView, AreShutIn}
-use Rattle.grow_core.proofs.Places.{written_whole, shut_at, shut_fewer, pushed_there, pushed_elsewhere, none_past}
+use Rattle.grow_core.specs.Parts.{PartsView, AreBrokenIn}
+use Rattle.grow_core.proofs.Places.{written_whole, broken_at, broken_fewer, pushed_there, pushed_elsewhere, none_past}
 use Rattle.grow_core.proofs.parts.Parts.pop.Goals as goal
 
 pub invariant_of-self : goal.invariant_of-self
@@ -32,11 +32,11 @@ invariant_of-self g c =
           (λ n is. let none = sym (none_past known') ∙ ap (slice_get known') here ∙ is in absurd (let z = none in cc))
           (omega (arith, fewer)) (omega (arith, fewer, within)) (omega (arith, fewer, inner)),
       tt,
-      shut_fewer c.self.inside.epoch known' last (subst (AreShutIn c.self.inside.epoch) popped c.self.invariant.2),
+      broken_fewer c.self.inside.epoch known' last (subst (AreBrokenIn c.self.inside.epoch) popped c.self.invariant.2),
     )
 
 pub take_member-value-requires-clause-epoch : goal.take_member-value-requires-clause-epoch
-take_member-value-requires-clause-epoch g c = shut_at c.self.inside.epoch c.self.inside.row (c.self.inside.len - 1) c.at.result c.self.invariant.2 c.at.ensures
+take_member-value-requires-clause-epoch g c = broken_at c.self.inside.epoch c.self.inside.row (c.self.inside.len - 1) c.at.result c.self.invariant.2 c.at.ensures
 
 pub returns-clause-member : goal.returns-clause-member
 returns-clause-member g c =

@@ -4,7 +4,7 @@ use Rattle.seg_core.specs.Segment.{segment_end}
 use Rattle.grow_core.specs.Token.{PlacedView}
 use Rattle.grow_core.specs.Parts.{PartsView}
 use Rattle.grow_core.specs.Vector.{IsPlacedOf}
-use Rattle.grow_core.proofs.Places.{value_at, shut_at}
+use Rattle.grow_core.proofs.Places.{value_at, broken_at}
 use Rattle.grow_core.proofs.Settled.{same_name, same_member}
 use Rattle.grow_core.proofs.parts.Parts.recall_member.Goals as goal
 
@@ -17,7 +17,7 @@ agree-requires g c =
     (first.ensures.place ∙ c.place-place.ensures ∙ sym at) (subst (λ (p : ℕ). p < segment_end c.self.inside.table.layout first.result.0) (c.place-place.ensures ∙ sym at) first.ensures.within)
 
 pub member-requires-clause-epoch : goal.member-requires-clause-epoch
-member-requires-clause-epoch g c = shut_at c.self.inside.epoch c.self.inside.row c.place-place.result c.at-member.result c.self.invariant.2 c.at-member.ensures
+member-requires-clause-epoch g c = broken_at c.self.inside.epoch c.self.inside.row c.place-place.result c.at-member.result c.self.invariant.2 c.at-member.ensures
 
 pub unreachable-requires : goal.unreachable-requires
 unreachable-requires g c =

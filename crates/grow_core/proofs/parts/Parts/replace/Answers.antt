@@ -7,8 +7,8 @@ use Rattle.cell_core.specs.Member.{MemberView}
 use Rattle.table_core.specs.Table.{KeyView, IsKeyOf}
 use Rattle.grow_core.specs.Keys.{KeyRow}
 use Rattle.grow_core.specs.Token.{place_in}
-use Rattle.grow_core.specs.Parts.{PartsView, AreShutIn, values_in}
-use Rattle.grow_core.proofs.Places.{written_whole, shut_at, shut_set, set_there, set_elsewhere, value_at, values_set}
+use Rattle.grow_core.specs.Parts.{PartsView, AreBrokenIn, values_in}
+use Rattle.grow_core.proofs.Places.{written_whole, broken_at, broken_set, set_there, set_elsewhere, value_at, values_set}
 use Rattle.grow_core.proofs.parts.Parts.replace.Goals as goal
 
 pub invariant_of-self : goal.invariant_of-self
@@ -36,11 +36,11 @@ invariant_of-self g c =
           subst (λ (u : MemberView _). IsMemberAt block offset u) (let z = both in cc) c.write-member.ensures.member)
           (ap length changed ∙ length-set known place m ∙ whole.all) whole.within whole.inside,
       tt,
-      subst (AreShutIn c.self.inside.epoch) (sym changed) (shut_set c.self.inside.epoch known place m c.self.invariant.2 c.write-member.ensures.shut),
+      subst (AreBrokenIn c.self.inside.epoch) (sym changed) (broken_set c.self.inside.epoch known place m c.self.invariant.2 c.write-member.ensures.broken),
     )
 
 pub take_member-held-requires-clause-epoch : goal.take_member-held-requires-clause-epoch
-take_member-held-requires-clause-epoch g c = shut_at c.self.inside.epoch c.self.inside.row c.args.place c.at.result c.self.invariant.2 c.at.ensures
+take_member-held-requires-clause-epoch g c = broken_at c.self.inside.epoch c.self.inside.row c.args.place c.at.result c.self.invariant.2 c.at.ensures
 
 pub returns-clause-members : goal.returns-clause-members
 returns-clause-members g c =

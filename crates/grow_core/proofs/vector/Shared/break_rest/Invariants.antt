@@ -1,6 +1,6 @@
 use Rattle.std.proofs.Common.{◌≤◌}
-use Rattle.grow_core.specs.Part.{IsPartOf}
+use Rattle.grow_core.specs.Segment.{IsSegmentOf}
 use Rattle.grow_core.proofs.vector.Shared.break_rest.Given as goal
 
 abbrev pub invariant-loop-place : goal.invariant-loop-place
-invariant-loop-place g l = IsPartOf l.self l.part × (l.part.from ≤ l.place) × (l.place ≤ l.part.end)
+invariant-loop-place g l = IsSegmentOf l.self l.segment × (l.segment.from ≤ l.place) × (l.place ≤ l.segment.end)

@@ -15,7 +15,7 @@ loop-value-preserved g c =
       append_assoc at.yielded (c.in-Some.value ∷ []) _ ∙ rw (← steps) at.invariant.1,
       omega (arith, ap length steps, c.push_reserved.ensures.len, at.invariant.2),
       omega (arith, c.push_reserved.ensures.capacity, at.invariant.3),
-      c.part_on-part.ensures.part,
+      c.next_segment-segment.ensures.segment,
       omega arith,
       omega arith,
     )

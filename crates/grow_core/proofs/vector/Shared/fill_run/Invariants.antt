@@ -1,6 +1,6 @@
 use Rattle.std.proofs.Common.{◌≡◌, ◌+◌, ◌≤◌, ◌++◌, length, vec_len, vec_capacity}
 use Rattle.std.specs.Vec.Iter.{into_iter_items}
-use Rattle.grow_core.specs.Part.{IsPartOf}
+use Rattle.grow_core.specs.Segment.{IsSegmentOf}
 use Rattle.grow_core.proofs.Filling.{IsFilled}
 use Rattle.grow_core.proofs.vector.Shared.fill_run.Given as goal
 
@@ -10,6 +10,6 @@ invariant-loop-value g l =
     × (l.yielded ++ into_iter_items l.value-iterator ≡ into_iter_items l.initial.value-iterator)
     × (vec_len l.tokens + length (into_iter_items l.value-iterator) ≡ l.run.n)
     × (l.run.n ≤ vec_capacity l.tokens)
-    × IsPartOf l.self l.part
-    × (l.part.from ≤ l.run.from + vec_len l.tokens)
-    × (l.run.from + vec_len l.tokens ≤ l.part.end)
+    × IsSegmentOf l.self l.segment
+    × (l.segment.from ≤ l.run.from + vec_len l.tokens)
+    × (l.run.from + vec_len l.tokens ≤ l.segment.end)

@@ -15,8 +15,8 @@ returns-in-Err-clause-asked g c =
     (stops_at (goal.F-step g) c.args.make.now at.tokens.items at.make c.make.new.self c.in-Err.cause at.i at.invariant.1 n
     (subst (λ r. goal.F-step g at.make at.i r c.make.new.self) c.in-Err.is c.make.ensures))
 
-pub part_on-part-requires : goal.part_on-part-requires
-part_on-part-requires g c =
+pub next_segment-segment-requires : goal.next_segment-segment-requires
+next_segment-segment-requires g c =
     let at = c.loop-i in
     (omega arith, (c.requires.ours, (c.requires.owned _ (omega arith, omega arith), (omega arith, (at.invariant.4, (at.invariant.5, at.invariant.6))))))
 
@@ -34,7 +34,7 @@ loop-i-preserved g c =
           (subst (λ r. goal.F-step g at.make at.i r c.make.new.self) c.in-Ok.is c.make.ensures) c.in-Ok-fill.ensures.value),
       omega (arith, c.push_reserved.ensures.len, at.invariant.2),
       omega (arith, c.push_reserved.ensures.capacity, at.invariant.3),
-      c.part_on-part.ensures.part,
+      c.next_segment-segment.ensures.segment,
       omega arith,
       omega arith,
       search of_calls,

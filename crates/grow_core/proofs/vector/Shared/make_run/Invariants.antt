@@ -1,6 +1,6 @@
 use Rattle.std.proofs.Common.{◌≡◌, ◌+◌, ◌≤◌, map, vec_len, vec_capacity}
 use Rattle.grow_core.specs.Making.{Makes}
-use Rattle.grow_core.specs.Part.{IsPartOf}
+use Rattle.grow_core.specs.Segment.{IsSegmentOf}
 use Rattle.grow_core.proofs.Filling.{IsFilled}
 use Rattle.grow_core.proofs.vector.Shared.make_run.Given as goal
 
@@ -10,7 +10,7 @@ invariant-loop-i g l =
     × Makes (goal.F-step g) l.fn.make (map (λ token. token.value) l.tokens.items) l.make
     × (vec_len l.tokens ≡ l.i)
     × (l.run.n ≤ vec_capacity l.tokens)
-    × IsPartOf l.self l.part
-    × (l.part.from ≤ l.run.from + l.i)
-    × (l.run.from + l.i ≤ l.part.end)
+    × IsSegmentOf l.self l.segment
+    × (l.segment.from ≤ l.run.from + l.i)
+    × (l.run.from + l.i ≤ l.segment.end)
     × goal.F-IsAlwaysCallable g l.make

@@ -27,7 +27,7 @@ returns-then-place-base g c = λ x there.
     let opened : Some m.value ≡ Some (Some x) = sym (value_at c.self.inside.row c.place-place.result m c.at.ensures) ∙ ap (slice_get (values_in c.self.inside.row)) c.place-place.ensures
     ∙ ap (λ (v : VectorView g.row.T.Denot). slice_get v.opened c.args.placed.now.place) c.self.view_is ∙ there in
     let is : m.value ≡ Some x = (let z = opened in cc) in
-    let named : placed.cell.name ≡ (cell_at key.block offset).value = token.cell.named ∙ (λ i. (cell_at (sym same i) (cell.1 i)).value) in
+    let named : placed.cell.name ≡ (cell_at key.block offset).value_name = token.cell.named ∙ (λ i. (cell_at (sym same i) (cell.1 i)).value_name) in
     sym (ap (λ (p : PlacedView g.row.T.Denot). p.value) c.placed.view_is) ∙ opened_is key.block offset m placed.cell.name placed.cell.value x member is named c.agree-then-place-base-2.ensures
 
 pub returns-else-place-base : goal.returns-else-place-base

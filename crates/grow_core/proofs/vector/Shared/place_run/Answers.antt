@@ -10,7 +10,7 @@ returns-then-run-eq0-clause-kept g c = kept_none (goal.K-step g) c.args.self.now
 pub loop-value-init : goal.loop-value-init
 loop-value-init g c =
     let items = ap length c.into_iter-value-iterator.ensures.into_iter_gives.0 in
-    (([], filled_none c.args.self.now c.args.run, refl, omega arith), refl, omega (arith, items), omega arith, c.part-part.ensures.part, omega arith, omega arith, search of_calls)
+    (([], filled_none c.args.self.now c.args.run, refl, omega arith), refl, omega (arith, items), omega arith, c.find_segment-segment.ensures.segment, omega arith, omega arith, search of_calls)
 
 pub loop-value-preserved : goal.loop-value-preserved
 loop-value-preserved g c =
@@ -28,7 +28,7 @@ loop-value-preserved g c =
       append_assoc at.yielded (c.in-Some.value ∷ []) _ ∙ rw (← steps) at.invariant.1,
       omega (arith, ap length steps, at.invariant.2),
       omega arith,
-      c.part_on-part.ensures.part,
+      c.next_segment-segment.ensures.segment,
       omega arith,
       omega arith,
       search of_calls,

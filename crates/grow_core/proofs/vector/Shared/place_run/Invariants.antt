@@ -2,7 +2,7 @@ use Rattle.std.proofs.Common.{◌≡◌, ◌+◌, ◌≤◌, ◌++◌, List, len
 use Rattle.std.specs.List.{FoldsTo}
 use Rattle.std.specs.Vec.Iter.{into_iter_items}
 use Rattle.grow_core.specs.Token.{PlacedView}
-use Rattle.grow_core.specs.Part.{IsPartOf}
+use Rattle.grow_core.specs.Segment.{IsSegmentOf}
 use Rattle.grow_core.proofs.Filling.{IsFilled}
 use Rattle.grow_core.proofs.vector.Shared.place_run.Given as goal
 
@@ -13,7 +13,7 @@ invariant-loop-value g l =
     × (l.yielded ++ into_iter_items l.value-iterator ≡ into_iter_items l.initial.value-iterator)
     × (l.place + length (into_iter_items l.value-iterator) ≡ l.run.from + l.run.n)
     × (l.run.from ≤ l.place)
-    × IsPartOf l.self l.part
-    × (l.part.from ≤ l.place)
-    × (l.place ≤ l.part.end)
+    × IsSegmentOf l.self l.segment
+    × (l.segment.from ≤ l.place)
+    × (l.place ≤ l.segment.end)
     × goal.K-IsAlwaysCallable g l.keep

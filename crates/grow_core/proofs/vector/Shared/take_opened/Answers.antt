@@ -2,11 +2,11 @@ use Rattle.std.proofs.Common.{◌≡◌, Some, ap, ◌∙◌, subst}
 use Rattle.std.specs.Prelude.{IsErrAnd, slice_get}
 use Rattle.cell_core.specs.Shown.{ShowsFilled}
 use Rattle.grow_core.specs.Vector.{VectorView}
-use Rattle.grow_core.proofs.Places.{shut_at, known_value}
+use Rattle.grow_core.proofs.Places.{broken_at, known_value}
 use Rattle.grow_core.proofs.vector.Shared.take_opened.Goals as goal
 
 pub mend_member-requires-clause-epoch : goal.mend_member-requires-clause-epoch
-mend_member-requires-clause-epoch g c = shut_at c.self.inside.ended c.self.inside.row c.args.place c.at.result c.self.invariant.shut c.at.ensures
+mend_member-requires-clause-epoch g c = broken_at c.self.inside.ended c.self.inside.row c.args.place c.at.result c.self.invariant.broken c.at.ensures
 
 pub returns-in-Ok-clause-opened : goal.returns-in-Ok-clause-opened
 returns-in-Ok-clause-opened g c = λ x there.

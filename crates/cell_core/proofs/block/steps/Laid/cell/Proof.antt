@@ -33,7 +33,7 @@ use Rattle.cell_core.proofs.LaidMade.{link_told, uncapped}
 use Rattle.cell_core.proofs.LaidParts as parts
 use denote.Opens.{hide, unhide}
 use denote.Memory.{shared_of}
-use Rattle.cell_core.specs.contracts.slot.steps.Slot as cell
+use Rattle.cell_core.specs.contracts.slot.steps.RawSlot as cell
 use Rattle.cell_core.specs.contracts.block.steps.Laid.cell.{ended, clauses}
 use Rattle.cell_core.specs.contracts.block.steps.Laid.cell.Key.{name as #self}
 use Rattle.cell_core.proofs.block.steps.Laid.cell.Statement.{statement}
@@ -43,7 +43,7 @@ pub cell_spec : {M : Type 1} → statement M
 cell_spec 𝓤 𝓛 𝓜 𝓡 wired T Al L _ ga da dd _ _ =
     let H = 𝓛.H in let 𝓣 = tables 𝓤 H 𝓜 𝓡 𝓡.env in let R : RattleType = param 0 T in let Z : RattleType = param 1 Al in let Lk : RattleType = link.the_row R in let Lo : RattleType = loose.the_row R Z ga in let En = ended T Al ga da dd in let c = clauses T Al ga da dd 𝓛 𝓜.mem 𝓡.returns in
     let inst = bounded (a_type ∷ a_type ∷ []) (T, (Al, tt)) (dcons da (dcons dd dnil)) in let fn = inst_fn inst code.function in
-    let self = RefOf (0 ∷ []) tt (plain (λ _. Lo)) (λ _. tt) in let Row : RattleType = cell.the_row R in
+    let self = RefOf (0 ∷ []) tt (plain (λ _. Lo)) (λ _. tt) in let RawRow : RattleType = cell.the_row R in
     let hs : Stays En.signature.params En.kept = (stay_dropped self yes, (stay_dropped (plain (λ _. Lk)) no, (stay_dropped (plain (λ _. usize)) yes, tt))) in
     proved 𝓛 En hs c 𝓜 𝓡 (Goes-dropped 𝓛 3 self yes (λ κs x f. refl), (Goes-dropped 𝓛 3 (plain (λ _. Lk)) no (λ κs x f. refl), (Goes-dropped 𝓛 3 (plain (λ _. usize)) yes (λ κs x f. refl), tt))) (#self inst) fn (code.unfolded 𝓤 H 𝓜 𝓡 wired (T, (Al, tt)) da dd)
     (λ κs. (shr_vals, ((λ x. pointer_val x.ptr ∷ []), (uint_vals w64, tt)))) (λ κs. (shr_Tells (named 0) κs.0 Lo, (link_told R, (uint_Tells w64, tt)))) (λ κs qs bounds a gh are.
@@ -61,7 +61,7 @@ cell_spec 𝓤 𝓛 𝓜 𝓡 wired T Al L _ ga da dd _ _ =
     enter ! 𝓣.C 𝓣.Λ fn (us p') Post $ alloc_all ! (λ l. pass_all ! refl ((tt, tt), (pointer_good p', ((tt, record { fits = are.1.1.0.1 }), tt))) $ let Ev = env fn.locals l in first ! $ blocks ! $
     sets ! (is ! (bin ! (get ! refl) (size_word !) (record { fits = subst (λ (j : ℕ). j < 2 ^ 64) (sym (uncapped j (stride R) small)) small })) (ap (vint w64) (uncapped j (stride R) small))) refl (tt, record { fits = small }) $
     sets ! (bin ! (get_in ! (fld ! refl (stop !)) (sub ! 0 refl (all_of_it !))) (get ! refl) tt) refl (tt, tt) $
-    use1 𝓛 (‵ (shared_of Row γ b e κ)) (id⊢ 𝓤 _) $ hide ! $ feq_i ! (List Val) (vptr b e ∷ []) (vptr b e ∷ []) refl $ fjoin ! $
+    use1 𝓛 (‵ (shared_of RawRow γ b e κ)) (id⊢ 𝓤 _) $ hide ! $ feq_i ! (List Val) (vptr b e ∷ []) (vptr b e ∷ []) refl $ fjoin ! $
     sets_last ! (addr ! (through ! refl (stop !))) refl (tt, tt) $ exec ! 𝓣.C 𝓣.Λ Ev (tail fn.body) (at_ret Ev Post) $ sets ! (of_opd ! (get ! refl)) refl (tt, tt) $
     move ! (1 ∷ 2 ∷ []) $ join ! $ move ! (1 ∷ 0 ∷ []) $ use0 𝓛 (raw (fact 𝓤 (γ ≡ γ))) (fact_i 𝓤 (γ ≡ γ) (emp 𝓤) refl) $ nothing ! $ nothing ! $ fjoin ! $ nothing ! $ fjoin ! $ nothing ! $ fjoin ! $
     returns ! (look_at ! 0 refl) $ free_all ! refl $ keep ! (3 ∷ 0 ∷ 2 ∷ 1 ∷ []) $ by ! (leaves 𝓛 En hs c y (vptr b e) (record { ref_ptr = (b, e); now = γ }) (tt, (tt, (tt, tt))) (tt, (tt, (tt, tt))))))))

@@ -78,15 +78,15 @@ fill_spec 𝓤 𝓛 𝓜 𝓡 wired T Al L _ ga da dd _ _ =
     use1 𝓛 (‵ (fat full_share (bare (layout T)) b i vy)) (𝓛.laws.at_raw full_share (layout T) b i vy) $ move ! (0 ∷ 10 ∷ []) $ gather m ! x vy b i $
     move ! (2 ∷ []) $ fsplit ! $ fsplit ! $ move ! (1 ∷ []) $ drop ! $ move ! (1 ∷ []) $ drop ! $ move ! (0 ∷ 2 ∷ 1 ∷ []) $
     use3 𝓛 (later (‵ (parts.Refilled 𝓛 R token γ x b e))) (parts.refilled 𝓛 R token γ x b e r.2) $ await ! tt $ fpick ! (λ γ'. fsplit ! $ fpick ! (λ apart. drop ! $ fsplit ! $
-    let made : W.Denot = record { marker = record {}; of = γ'.value; value = x; found = 0 } in
-    move ! (1 ∷ []) $ use1 𝓛 (‵ (W.own_val made (token_val ∷ []))) (written_made 𝓛 R γ'.value x 0) $ sets ! (agg ! (no_more !)) refl (tt, tt) $ sets ! (agg ! (and_then ! (get ! refl) (no_more !))) refl (tt, (tt, tt)) $
+    let made : W.Denot = record { marker = record {}; of = γ'.value_name; value = x; found = 0 } in
+    move ! (1 ∷ []) $ use1 𝓛 (‵ (W.own_val made (token_val ∷ []))) (written_made 𝓛 R γ'.value_name x 0) $ sets ! (agg ! (no_more !)) refl (tt, tt) $ sets ! (agg ! (and_then ! (get ! refl) (no_more !))) refl (tt, (tt, tt)) $
     move ! (1 ∷ 2 ∷ 0 ∷ []) $
     let h' : Lo.Denot = record { marker = h.marker; heap = h.heap; at = p; cells = set cs j γ'; left = h.left } in
-    let there : cell_in h'.cells j ≡ γ' = get_or-set_same cs j γ' (record { value = 0; breach = 0; epoch = [] }) asked.1 in
-    let Kept : Type 0 = (h.heap ≡ h.heap) × (p ≡ h.at) × HasOneRenamed cs j h'.cells × (h.left ≡ h.left) × (γ'.value ≡ (cell_in h'.cells j).value) × (x ≡ x) in
+    let there : cell_in h'.cells j ≡ γ' = get_or-set_same cs j γ' (record { value_name = 0; broken_name = 0; epoch = [] }) asked.1 in
+    let Kept : Type 0 = (h.heap ≡ h.heap) × (p ≡ h.at) × HasOneRenamed cs j h'.cells × (h.left ≡ h.left) × (γ'.value_name ≡ (cell_in h'.cells j).value_name) × (x ≡ x) in
     -- [the new cell; the way back; ..]
     move ! (1 ∷ []) $ use1 𝓛 (raw (Back γ')) (all_e 𝓤 Back γ') $ move ! (1 ∷ 0 ∷ []) $
     use2 𝓛 (‵ (laid R token p h'.cells h.left)) (apply∗ 𝓤 (sem 𝓛 (still R b γ' e)) (sem 𝓛 (laid R token p h'.cells h.left))) $
     move ! (2 ∷ 0 ∷ []) $ fjoin ! $ move ! (2 ∷ 0 ∷ 3 ∷ 4 ∷ 5 ∷ []) $ closes ! tt Lo h' ts b' o' $ feq_i ! (List Val) (vptr b' o' ∷ []) (vptr b' o' ∷ []) refl $ fjoin3 ! $ nothing ! $ nothing ! $ fjoin ! $ nothing ! $ fjoin ! $ nothing ! $ fjoin ! $ move ! (1 ∷ 0 ∷ []) $ fjoin ! $ move ! (1 ∷ 3 ∷ []) $ join ! $
-    use0 𝓛 (raw (fact 𝓤 Kept)) (fact_i 𝓤 Kept (emp 𝓤) (refl, sym asked.0.0, (γ', apart, refl), refl, ap (λ (n : Names). n.value) (sym there), refl)) $
+    use0 𝓛 (raw (fact 𝓤 Kept)) (fact_i 𝓤 Kept (emp 𝓤) (refl, sym asked.0.0, (γ', apart, refl), refl, ap (λ (n : Names). n.value_name) (sym there), refl)) $
     returns ! (look_at ! 0 refl) $ free_all ! refl $ keep ! (1 ∷ 2 ∷ 3 ∷ 0 ∷ []) $ by ! (leaves 𝓛 En hs c y token_val made (h', (tt, (tt, (tt, tt)))) (tt, (tt, (tt, (tt, tt))))))))))))))

@@ -26,7 +26,7 @@ use denote.Plain.{uint_vals, uint_Tells}
 use denote.Triple.Walked.{Stays, stay_dropped, stay_ref, walk_of, Goes-dropped, Goes-ref}
 use Rattle.core.proofs.atomic.Steps.{tail}
 use Rattle.atomic_table.proofs.Walks.{proved, leaves}
-use Rattle.cell_core.specs.Slot.{Names, Rest, breached, free, Lies}
+use Rattle.cell_core.specs.Slot.{Names, Rest, broken_once, free, Lies}
 use Rattle.cell_core.specs.Laid.{laid, stride, rooms, still, rests, IsLinked, HasOneMore}
 use Rattle.cell_core.specs.contracts.block.steps.Link as link
 use Rattle.cell_core.specs.contracts.block.steps.Laid as loose
@@ -63,10 +63,10 @@ push_spec 𝓤 𝓛 𝓜 𝓡 wired T Al L _ ga da dd _ _ =
     first ! $ blocks ! $ sets ! (is ! (bin ! (get ! refl) (size_word !) (record { fits = subst (λ (j : ℕ). j < 2 ^ 64) (sym (uncapped j (stride R) small)) small })) (ap (vint w64) (uncapped j (stride R) small))) refl (tt, record { fits = small }) $
     sets ! (bin ! (get_in ! (fld ! refl (stop !)) (sub ! 0 refl (all_of_it !))) (get ! refl) tt) refl (tt, tt) $
     sets ! (addr ! (through ! refl (fld ! refl (stop !)))) refl (tt, tt) $ assigns_last ! (of_opd ! (lit ! tt)) (through ! refl (stop !)) (init ! 0 refl (tt, record { fits = lit< tt })) $ exec ! 𝓣.C 𝓣.Λ Ev (tail fn.body) (at_ret Ev Post) $ sets ! (of_opd ! (unit_lit !)) refl (tt, tt) $
-    name_new ! tt gnil (λ γv. name_new ! tt gnil (λ γb. lft_new ! tt (λ ν. lft_end ! tt $ let γ : Names = record { value = γv; breach = γb; epoch = ν ∷ [] } in
+    name_new ! tt gnil (λ γv. name_new ! tt gnil (λ γb. lft_new ! tt (λ ν. lft_end ! tt $ let γ : Names = record { value_name = γv; broken_name = γb; epoch = ν ∷ [] } in
     -- [the epoch has ended; the right to break; its name; the right to fill; its name; the word; the room;
     -- the rest of the row; ..]
-    move ! (1 ∷ 2 ∷ []) $ fjoin ! $ fpack ! Bool (breached γb) false $ move ! (3 ∷ 0 ∷ []) $ fjoin ! $ move ! (1 ∷ 2 ∷ []) $ fjoin ! $ feq_i ! ℕ 0 0 refl $ fjoin ! $ move ! (1 ∷ 0 ∷ []) $ fjoin ! $ nothing ! $ fpack ! (Lies R None free) (λ _. ftrue) refl $ move ! (1 ∷ 0 ∷ []) $ fjoin ! $
+    move ! (1 ∷ 2 ∷ []) $ fjoin ! $ fpack ! Bool (broken_once γb) false $ move ! (3 ∷ 0 ∷ []) $ fjoin ! $ move ! (1 ∷ 2 ∷ []) $ fjoin ! $ feq_i ! ℕ 0 0 refl $ fjoin ! $ move ! (1 ∷ 0 ∷ []) $ fjoin ! $ nothing ! $ fpack ! (Lies R None free) (λ _. ftrue) refl $ move ! (1 ∷ 0 ∷ []) $ fjoin ! $
     move ! (1 ∷ 2 ∷ 0 ∷ []) $ fjoin3 ! $ fpack ! (Rest R.Denot) (rests R b γ e) (0, None, free) $ move ! (1 ∷ []) $ use1 𝓛 (raw (Again γ)) (all_e 𝓤 Again γ) $ move ! (1 ∷ 0 ∷ []) $
     use2 𝓛 (‵ (laid R token p (h.cells ++ γ ∷ []) left)) (apply∗ 𝓤 (sem 𝓛 (still R b γ e)) (sem 𝓛 (laid R token p (h.cells ++ γ ∷ []) left))) $
     let h' : Lo.Denot = record { marker = h.marker; heap = h.heap; at = p; cells = h.cells ++ γ ∷ []; left = left } in move ! (1 ∷ 0 ∷ []) $ fjoin ! $ move ! (1 ∷ 0 ∷ []) $

@@ -31,8 +31,8 @@ use Rattle.core.proofs.atomic.Steps.{tail}
 use Rattle.atomic_table.proofs.Walks.{proved, leaves}
 use Rattle.cell_core.specs.Slot.{Names, word, written, resting, at}
 use Rattle.cell_core.specs.Member.{MemberView, Settles, unfilled}
-use Rattle.cell_core.specs.contracts.slot.epoch.Epoch as Epoch
-use Rattle.cell_core.specs.contracts.slot.member.Member as member
+use Rattle.cell_core.specs.contracts.slot.epoch.RawEpoch as RawEpoch
+use Rattle.cell_core.specs.contracts.slot.member.RawMember as member
 use Rattle.cell_core.specs.Slot.{Rest}
 use Rattle.cell_core.specs.Laid.{laid, stride, rests, still, cell_in, IsLinked}
 use Rattle.cell_core.specs.contracts.block.steps.Link as link
@@ -51,10 +51,10 @@ pub settle_spec : {M : Type 1} → statement M
 settle_spec 𝓤 𝓛 𝓜 𝓡 wired T Al L _ ga da dd _ _ =
     let H = 𝓛.H in let 𝓣 = tables 𝓤 H 𝓜 𝓡 𝓡.env in let R : RattleType = param 0 T in let Z : RattleType = param 1 Al in let Lk : RattleType = link.the_row R in let Lo : RattleType = loose.the_row R Z ga in let En = ended T Al ga da dd in let c = clauses T Al ga da dd 𝓛 𝓜.mem 𝓡.returns in
     let inst = bounded (a_type ∷ a_type ∷ []) (T, (Al, tt)) (dcons da (dcons dd dnil)) in let fn = inst_fn inst code.function in
-    let Mb : RattleType = member.the_row R in let time = RefOf (1 ∷ []) tt (plain (λ _. Epoch.the_row)) (λ _. tt) in
+    let Mb : RattleType = member.the_row R in let time = RefOf (1 ∷ []) tt (plain (λ _. RawEpoch.the_row)) (λ _. tt) in
     let hs : Stays En.signature.params En.kept = (stay_ref (0 ∷ []) tt (plain (λ _. Lo)), (stay_dropped (plain (λ _. Lk)) no, (stay_dropped (plain (λ _. usize)) yes, (stay_dropped time yes, tt)))) in
     proved 𝓛 En hs c 𝓜 𝓡 (Goes-ref 𝓛 4 0 tt (plain (λ _. Lo)), (Goes-dropped 𝓛 4 (plain (λ _. Lk)) no (λ κs x f. refl), (Goes-dropped 𝓛 4 (plain (λ _. usize)) yes (λ κs x f. refl), (Goes-dropped 𝓛 4 time yes (λ κs x f. refl), tt)))) (#self inst) fn (code.unfolded 𝓤 H 𝓜 𝓡 wired (T, (Al, tt)) da dd)
-    (λ κs. (mut_vals, ((λ x. pointer_val x.ptr ∷ []), (uint_vals w64, (shr_vals, tt))))) (λ κs. (mut_Tells (named 0) κs.0 (Lo), (link_told R, (uint_Tells w64, (shr_Tells (named 1) κs.1.0 Epoch.the_row, tt))))) (λ κs qs bounds a gh are.
+    (λ κs. (mut_vals, ((λ x. pointer_val x.ptr ∷ []), (uint_vals w64, (shr_vals, tt))))) (λ κs. (mut_Tells (named 0) κs.0 (Lo), (link_told R, (uint_Tells w64, (shr_Tells (named 1) κs.1.0 RawEpoch.the_row, tt))))) (λ κs qs bounds a gh are.
     let shown : Val = vptr a.1.1.1.0.ref_ptr.0 a.1.1.1.0.ref_ptr.1 in let ε : Lft = a.1.1.1.0.now.of ∷ [] in
     let y : (walk_of 𝓛 En hs c).Ghost = ((κs, qs, bounds, a, (vptr a.0.ref_ptr.0 a.0.ref_ptr.1 ∷ [], (pointer_val a.1.0.ptr ∷ [], (vint w64 a.1.1.0 ∷ [], (shown ∷ [], tt))))), gh) in let Post : Val → SProp 𝓤 = (walk_of 𝓛 En hs c).post y in
     let b' : ℕ = a.0.ref_ptr.0 in let o' : ℕ = a.0.ref_ptr.1 in let h : Lo.Denot = a.0.now in let token : Ty → Ptr → Fml = ga.dealloc_token h.heap in let p : Ptr = a.1.0.ptr in let j : ℕ = a.1.1.0 in
@@ -78,15 +78,15 @@ settle_spec 𝓤 𝓛 𝓜 𝓡 wired T Al L _ ga da dd _ _ =
     (λ hit. assigns_last ! (of_opd ! (lit ! tt)) (through ! refl (stop !)) (store ! 0 refl (tt, record { fits = lit< tt })) $ exec ! 𝓣.C 𝓣.Λ Ev (tail fn.body) (at_ret Ev Post) $
     -- [the word; the room; the names; the way back; ..]
     move ! (1 ∷ []) $ use1 𝓛 (‵ (froom (bare (layout T)) b i)) (parts.emptied T L 𝓛 b i r.1) $ move ! (2 ∷ []) $ use1 𝓛 (‵ (parts.Blank 𝓛 R token γ r.2)) (parts.blank_at 𝓛 R token γ r (parts.is_not_two n hit)) $ fsplit ! $ move ! (1 ∷ []) $ fpick ! (λ blank. drop ! $ move ! (0 ∷ 2 ∷ 1 ∷ []) $
-    use3 𝓛 (later (‵ (parts.Respoilt 𝓛 R token γ r.2 ε b e))) (parts.respoilt 𝓛 R token γ ε b e r.2) $ await ! tt $ fpick ! (λ γ'. fsplit ! $ fpick ! (λ new. drop ! $ fsplit ! $
+    use3 𝓛 (later (‵ (parts.Rebroken 𝓛 R token γ r.2 ε b e))) (parts.rebroken 𝓛 R token γ ε b e r.2) $ await ! tt $ fpick ! (λ γ'. fsplit ! $ fpick ! (λ new. drop ! $ fsplit ! $
     -- [the new cell; the old names; the way back; ..]
-    move ! (1 ∷ []) $ fsplit ! $ rewrite ! 0 (λ (v : Gv). ‵ (fauth γ.value v)) blank refl $ use1 𝓛 (later (‵ (unfilled γ.value))) (𝓛.invs.inv_new (fauth γ.value gnil)) $ await ! tt $
+    move ! (1 ∷ []) $ fsplit ! $ rewrite ! 0 (λ (v : Gv). ‵ (fauth γ.value_name v)) blank refl $ use1 𝓛 (later (‵ (unfilled γ.value_name))) (𝓛.invs.inv_new (fauth γ.value_name gnil)) $ await ! tt $
     -- [never filled; the old name; the new cell; the way back; ..]
-    let m : MemberView T.Denot = record { value = None; name = γ.value; epoch = γ'.epoch } in let made : Mb.Denot = record { marker = record {}; of = m } in
+    let m : MemberView T.Denot = record { value = None; name = γ.value_name; epoch = γ'.epoch } in let made : Mb.Denot = record { marker = record {}; of = m } in
     use1 𝓛 (‵ (Mb.own_val made (token_val ∷ []))) (member_made 𝓛 R m) $ sets ! (agg ! (no_more !)) refl (tt, tt) $ sets ! (agg ! (and_then ! (get ! refl) (no_more !))) refl (tt, (tt, tt)) $
     move ! (1 ∷ []) $ drop ! $ move ! (1 ∷ 2 ∷ 0 ∷ []) $
     let h' : Lo.Denot = record { marker = h.marker; heap = h.heap; at = p; cells = set cs j γ'; left = h.left } in
-    let Kept : Type 0 = (h.heap ≡ h.heap) × (p ≡ h.at) × (h.left ≡ h.left) × (γ.value ≡ γ.value) × Settles cs j h'.cells m.value m.epoch × (m.epoch ≡ ε) in
+    let Kept : Type 0 = (h.heap ≡ h.heap) × (p ≡ h.at) × (h.left ≡ h.left) × (γ.value_name ≡ γ.value_name) × Settles cs j h'.cells m.value m.epoch × (m.epoch ≡ ε) in
     -- [the new cell; the way back; ..]
     move ! (1 ∷ []) $ use1 𝓛 (raw (Back γ')) (all_e 𝓤 Back γ') $ move ! (1 ∷ 0 ∷ []) $
     use2 𝓛 (‵ (laid R token p h'.cells h.left)) (apply∗ 𝓤 (sem 𝓛 (still R b γ' e)) (sem 𝓛 (laid R token p h'.cells h.left))) $
@@ -95,15 +95,15 @@ settle_spec 𝓤 𝓛 𝓜 𝓡 wired T Al L _ ga da dd _ _ =
     returns ! (look_at ! 0 refl) $ free_all ! refl $ keep ! (1 ∷ 2 ∷ 3 ∷ 0 ∷ []) $ by ! (leaves 𝓛 En hs c y token_val made (h', (tt, (tt, (tt, tt)))) (tt, (tt, (tt, (tt, tt)))))))))
     (λ miss. skips ! $ exec ! 𝓣.C 𝓣.Λ Ev (tail fn.body) (at_ret Ev Post) $
     -- [the word; the room; the names; the way back; ..]
-    move ! (2 ∷ []) $ use1 𝓛 (‵ (resting R γ r) ⊛ ‵ (fex R.Denot (written R γ.value))) (parts.full_shown 𝓛 R token γ r (parts.is_two n miss)) $ split ! $ move ! (2 ∷ 3 ∷ 0 ∷ []) $ fjoin3 ! $ fpack ! (Rest R.Denot) (rests R b γ e) r $
+    move ! (2 ∷ []) $ use1 𝓛 (‵ (resting R γ r) ⊛ ‵ (fex R.Denot (written R γ.value_name))) (parts.full_shown 𝓛 R token γ r (parts.is_two n miss)) $ split ! $ move ! (2 ∷ 3 ∷ 0 ∷ []) $ fjoin3 ! $ fpack ! (Rest R.Denot) (rests R b γ e) r $
     -- [the cell; its value; the way back; ..]
-    move ! (1 ∷ []) $ fpick ! (λ x. let m : MemberView T.Denot = record { value = Some x; name = γ.value; epoch = ε } in let made : Mb.Denot = record { marker = record {}; of = m } in
+    move ! (1 ∷ []) $ fpick ! (λ x. let m : MemberView T.Denot = record { value = Some x; name = γ.value_name; epoch = ε } in let made : Mb.Denot = record { marker = record {}; of = m } in
     use1 𝓛 (‵ (Mb.own_val made (token_val ∷ []))) (member_made 𝓛 R m) $ sets ! (agg ! (no_more !)) refl (tt, tt) $ sets ! (agg ! (and_then ! (get ! refl) (no_more !))) refl (tt, (tt, tt)) $ move ! (1 ∷ 2 ∷ 0 ∷ []) $
     let h' : Lo.Denot = record { marker = h.marker; heap = h.heap; at = p; cells = cs; left = h.left } in
-    let Kept : Type 0 = (h.heap ≡ h.heap) × (p ≡ h.at) × (h.left ≡ h.left) × (γ.value ≡ γ.value) × Settles cs j h'.cells m.value m.epoch × (m.epoch ≡ ε) in
+    let Kept : Type 0 = (h.heap ≡ h.heap) × (p ≡ h.at) × (h.left ≡ h.left) × (γ.value_name ≡ γ.value_name) × Settles cs j h'.cells m.value m.epoch × (m.epoch ≡ ε) in
     -- [the cell; the way back; ..]
     move ! (1 ∷ []) $ use1 𝓛 (raw (Back γ)) (all_e 𝓤 Back γ) $ move ! (1 ∷ 0 ∷ []) $
-    use2 𝓛 (‵ (laid R token p (set cs j γ) h.left)) (apply∗ 𝓤 (sem 𝓛 (still R b γ e)) (sem 𝓛 (laid R token p (set cs j γ) h.left))) $ rewrite ! 0 (λ (u : List Names). ‵ (laid R token p u h.left)) (set-get_or cs j (record { value = 0; breach = 0; epoch = [] })) refl $
+    use2 𝓛 (‵ (laid R token p (set cs j γ) h.left)) (apply∗ 𝓤 (sem 𝓛 (still R b γ e)) (sem 𝓛 (laid R token p (set cs j γ) h.left))) $ rewrite ! 0 (λ (u : List Names). ‵ (laid R token p u h.left)) (set-get_or cs j (record { value_name = 0; broken_name = 0; epoch = [] })) refl $
     move ! (2 ∷ 0 ∷ []) $ fjoin ! $ move ! (2 ∷ 0 ∷ 3 ∷ 4 ∷ 5 ∷ []) $ closes ! tt Lo h' ts b' o' $ feq_i ! (List Val) (vptr b' o' ∷ []) (vptr b' o' ∷ []) refl $ fjoin3 ! $ nothing ! $ nothing ! $ fjoin ! $ nothing ! $ fjoin ! $ nothing ! $ fjoin ! $ move ! (1 ∷ 0 ∷ []) $ fjoin ! $ move ! (1 ∷ 3 ∷ []) $ join ! $
     use0 𝓛 (raw (fact 𝓤 Kept)) (fact_i 𝓤 Kept (emp 𝓤) (refl, sym asked.0.0, refl, refl, refl, refl)) $
     returns ! (look_at ! 0 refl) $ free_all ! refl $ keep ! (1 ∷ 2 ∷ 3 ∷ 0 ∷ []) $ by ! (leaves 𝓛 En hs c y token_val made (h', (tt, (tt, (tt, tt)))) (tt, (tt, (tt, (tt, tt))))))))))))))

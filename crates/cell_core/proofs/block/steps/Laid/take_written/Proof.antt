@@ -58,7 +58,7 @@ take_written_spec 𝓤 𝓛 𝓜 𝓡 wired T Al L _ ga da dd _ _ =
     let b' : ℕ = a.0.ref_ptr.0 in let o' : ℕ = a.0.ref_ptr.1 in let h : Lo.Denot = a.0.now in let token : Ty → Ptr → Fml = ga.dealloc_token h.heap in let p : Ptr = a.1.0.ptr in let j : ℕ = a.1.1.0 in
     let b : ℕ = block_of p in let e : ℕ = j * stride R + count_of p in let i : ℕ = at R e in let LR = (param_laws 0 T L).lawful 𝓛 in let m : Member = record { row = R; ty = layout T } in
     let cs : List Names = h.cells in let γ : Names = cell_in cs j in
-    let Asked : Type 0 = IsLinked h.at p × (j < length h.cells) × (a.1.1.1.0.now.of ≡ γ.value) in let others : Fml = fsep (flft κs.1.0 qs.1.0) (fsep (flft κs.1.1.0 qs.1.1.0) (fsep (flft κs.1.1.1.0 qs.1.1.1.0) (ftrue))) in
+    let Asked : Type 0 = IsLinked h.at p × (j < length h.cells) × (a.1.1.1.0.now.of ≡ γ.value_name) in let others : Fml = fsep (flft κs.1.0 qs.1.0) (fsep (flft κs.1.1.0 qs.1.1.0) (fsep (flft κs.1.1.1.0 qs.1.1.1.0) (ftrue))) in
     qed 𝓛 (((‵ (flft κs.0 qs.0) ⊛ ‵ others) ⊛ ‵ (owns (types_at En.signature.params κs) a y.0.4)) ∷ raw (fact 𝓤 _) ∷ raw (fact 𝓤 _) ∷ raw (fact 𝓤 Asked) ∷ []) ∵
     keep ! (3 ∷ 0 ∷ []) $ heard ! Asked (λ asked. split ! $ split ! $ move ! (2 ∷ []) $ fsplit ! $ fsplit3 ! $ keep ! (3 ∷ 1 ∷ 2 ∷ 4 ∷ 5 ∷ []) $
     fsplit3 ! $ keep ! (2 ∷ 3 ∷ 4 ∷ 5 ∷ 6 ∷ []) $ fsplit ! $ fsplit ! $ keep ! (1 ∷ 3 ∷ 4 ∷ 5 ∷ 6 ∷ []) $ unhide ! $ fsplit ! $ drop ! $

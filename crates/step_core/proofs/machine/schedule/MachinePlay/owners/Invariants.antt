@@ -4,5 +4,5 @@ use Rattle.book_core.specs.History.{runs_of}
 use Rattle.step_core.specs.machine.Owners.{owners_of}
 use Rattle.step_core.proofs.machine.schedule.MachinePlay.owners.Given as goal
 
-abbrev pub invariant-loop-told : goal.invariant-loop-told
-invariant-loop-told l = l.owners.items ++ owners_of (runs_of (drop l.told-index l.self.events)) ≡ owners_of (runs_of l.self.events)
+abbrev pub invariant-loop-row : goal.invariant-loop-row
+invariant-loop-row l = l.owners.items ++ owners_of (runs_of (drop l.row-index l.self.events)) ≡ owners_of (runs_of l.self.events)

@@ -40,7 +40,7 @@ use Rattle.std.proofs.raw_atomic.Walks.{proved_at, leaves}
 use Rattle.table_core.proofs.Values.{both, Loose, loose_good, loose_out, two_in, pair_in}
 use Rattle.table_core.proofs.Known.{kept_made}
 use Rattle.table_core.proofs.Sights.{sight_made, token}
-use Rattle.table_core.specs.contracts.entry.steps.Sight as sight
+use Rattle.table_core.specs.contracts.entry.steps.EntrySight as sight
 use Rattle.table_core.specs.contracts.entry.steps.Entry as entry
 use Rattle.std.specs.contracts.impls.GlobalAllocator.TheImpl.{ghosts}
 use Rattle.std.specs.declared.option.Option.TheVariants.{Some}

@@ -41,7 +41,7 @@ use Rattle.std_alloc.proofs.ResultValues.{and_tt}
 use Rattle.table_core.specs.contracts.entry.steps.Entry as entry
 use Rattle.std.proofs.raw_atomic.Walks.{proved_at, leaves}
 use Rattle.table_core.proofs.Values.{both, Loose, loose_good, loose_in, two_out}
-use Rattle.table_core.specs.contracts.entry.steps.Sight as sight
+use Rattle.table_core.specs.contracts.entry.steps.EntrySight as sight
 use denote.Opens.{unhide}
 use denote.Ref.{shr_Tells}
 use Rattle.core.specs.contracts.atomic.ptr.AtomicPtr.into_inner as callee

@@ -53,7 +53,7 @@ use Rattle.std.proofs.raw_atomic.Calls.{seq_cst}
 use Rattle.std.proofs.raw_atomic.PtrCalls.{seq_cst_good}
 use Rattle.once_cell.proofs.Moves as moves
 use Rattle.table_core.proofs.Sights as sights
-use Rattle.table_core.proofs.Sights.{Sight}
+use Rattle.table_core.proofs.Sights.{EntrySight}
 use Rattle.core.specs.Sync.RawAtomic.Pointer.{asks_ptr}
 use Rattle.table_core.specs.contracts.entry.steps.Entry.look.{ended, clauses}
 use Rattle.table_core.specs.contracts.entry.steps.Entry.look.Key.{name as #self}
@@ -68,17 +68,17 @@ pub look_spec : {M : Type 1} → statement M
 look_spec 𝓤 𝓛 𝓜 𝓡 wired T L g d _ =
     let H = 𝓛.H in let 𝓣 = tables 𝓤 H 𝓜 𝓡 𝓡.env in let R : RattleType = param 0 T in let LR = param_laws 0 T L in let En = ended T g d in let c = clauses T g d 𝓛 𝓜.mem 𝓡.returns in
     let inst = bounded (a_type ∷ []) (T, tt) (dcons d dnil) in let fn = inst_fn inst code.function in let Z : RattleType = heap.the_row in let LZ = heap_laws.the_row_laws in let P : RattleType = atomic.the_row R in let LP = atomic_laws.the_row_laws R LR in
-    let hs : Stays En.signature.params En.kept = (stay_dropped (RefOf (0 ∷ []) tt (plain (λ _. entry.the_row R g)) (λ _. tt)) yes, (stay_ref (1 ∷ []) tt (plain (λ _. Sight 𝓛 R)), tt)) in
-    proved_at 𝓛 En hs c 𝓜 𝓡 (Goes-dropped 𝓛 3 (RefOf (0 ∷ []) tt (plain (λ _. entry.the_row R g)) (λ _. tt)) yes (λ κs x f. refl), (Goes-ref 𝓛 3 1 tt (plain (λ _. Sight 𝓛 R)), tt)) (#self inst) fn (code.unfolded 𝓤 H 𝓜 𝓡 wired (T, tt) d) (λ z are.
+    let hs : Stays En.signature.params En.kept = (stay_dropped (RefOf (0 ∷ []) tt (plain (λ _. entry.the_row R g)) (λ _. tt)) yes, (stay_ref (1 ∷ []) tt (plain (λ _. EntrySight 𝓛 R)), tt)) in
+    proved_at 𝓛 En hs c 𝓜 𝓡 (Goes-dropped 𝓛 3 (RefOf (0 ∷ []) tt (plain (λ _. entry.the_row R g)) (λ _. tt)) yes (λ κs x f. refl), (Goes-ref 𝓛 3 1 tt (plain (λ _. EntrySight 𝓛 R)), tt)) (#self inst) fn (code.unfolded 𝓤 H 𝓜 𝓡 wired (T, tt) d) (λ z are.
     let κs = z.0.0 in let qs = z.0.1 in let Post : Val → SProp 𝓤 = (walk_of 𝓛 En hs c).post z in let Run : List Val → SProp 𝓤 = λ ws. WpFn 𝓤 H 𝓣.C 𝓣.Λ fn ws Post in let Out : RattleType = type_at En.signature.result κs in
     let b : ℕ = z.0.3.0.ref_ptr.0 in let o : ℕ = z.0.3.0.ref_ptr.1 in let a = z.0.3.0.now.0 in let long : ℕ = z.0.3.0.now.1 in let γ : ℕ = z.0.3.0.now.2 in let F : RattleType = Fit R g.measure long in let LF = fit_laws R g.measure long LR in let κ : Lft = κs.0 in let q : Share = qs.0 in let μ : Lft = κs.1.1.0 in let r : Share = qs.1.1.0 in
     let κ' : Lft = κs.1.0 in let q' : Share = qs.1.0 in let m = z.0.3.1.0 in let nb₀ : ℕ = m.ref_ptr.0 in let no₀ : ℕ = m.ref_ptr.1 in let ν₀ : ℕ = m.ghost_name in let k = m.now.known in
-    let Shuts = sights.Shuts 𝓛 R κ' q' nb₀ no₀ ν₀ in let Ref : RattleType = ShrRef (named 0) κ R in let Again : SProp 𝓤 = H.⇛ (𝓛.A.lft κ (right q)) in
+    let Closes = sights.Closes 𝓛 R κ' q' nb₀ no₀ ν₀ in let Ref : RattleType = ShrRef (named 0) κ R in let Again : SProp 𝓤 = H.⇛ (𝓛.A.lft κ (right q)) in
     qed 𝓛 (((‵ (flft κ q) ⊛ ‵ (flft κ' q') ⊛ ‵ (flft μ r) ⊛ ‵ ftrue) ⊛ ‵ (owns (types_at En.signature.params κs) z.0.3 z.0.4)) ∷ raw (fact 𝓤 (μ ⊑ T.lives)) ∷ raw (fact 𝓤 (m.now.of ≡ γ)) ∷ []) ∵
     move ! (2 ∷ []) $ heard ! (m.now.of ≡ γ) (λ same. keep ! (0 ∷ []) $ split ! $ split3 ! $ move ! (2 ∷ []) $ split ! $ move ! (4 ∷ []) $ fsplit3 ! $ move ! (1 ∷ []) $ fsplit ! $ keep ! (1 ∷ 2 ∷ 6 ∷ 7 ∷ 4 ∷ []) $
     suffices ! (Run (vptr b o ∷ vptr nb₀ no₀ ∷ [])) (subst (λ (us : List Val). ent 𝓤 (Run (vptr b o ∷ vptr nb₀ no₀ ∷ [])) (Run us)) (sym (λ i. are.0.0 i ++ (are.1.0.0 i ++ []))) (id⊢ 𝓤 (Run (vptr b o ∷ vptr nb₀ no₀ ∷ [])))) $
     enter ! 𝓣.C 𝓣.Λ fn (vptr b o ∷ vptr nb₀ no₀ ∷ []) Post $ alloc_all ! (λ l. pass_all ! refl ((tt, tt), ((tt, tt), tt)) $ let Ev = env fn.locals l in
-    move ! (0 ∷ 3 ∷ []) $ use2 𝓛 (later (‵ (noted R m.now.of k) ⊛ raw (all 𝓤 Shuts))) (sights.sight_opens 𝓛 R κ' q' nb₀ no₀ ν₀ m.now) $ await ! tt $ split ! $ rewrite ! 0 (λ (n : ℕ). ‵ (noted R n k)) same refl $ use1 𝓛 (‵ (once.noted F γ k)) (fit_noted R g.measure long 𝓛 γ k) $ move ! (2 ∷ []) $ fsplit ! $ drop ! $ unhide ! $ fsplit ! $ fpick ! (λ α. fsplit ! $
+    move ! (0 ∷ 3 ∷ []) $ use2 𝓛 (later (‵ (noted R m.now.of k) ⊛ raw (all 𝓤 Closes))) (sights.sight_opens 𝓛 R κ' q' nb₀ no₀ ν₀ m.now) $ await ! tt $ split ! $ rewrite ! 0 (λ (n : ℕ). ‵ (noted R n k)) same refl $ use1 𝓛 (‵ (once.noted F γ k)) (fit_noted R g.measure long 𝓛 γ k) $ move ! (2 ∷ []) $ fsplit ! $ drop ! $ unhide ! $ fsplit ! $ fpick ! (λ α. fsplit ! $
     use1 𝓛 (‵ (before κ α) ⊛ ‵ (before κ α)) (before_dup 𝓛 κ α) $ split ! $ move ! (6 ∷ []) $ use1 𝓛 (‵ (flft κ (left q)) ⊛ ‵ (flft κ (right q))) (𝓛.lfts.lft_split κ q) $ split ! $ move ! (2 ∷ 1 ∷ []) $
     use2 𝓛 (later (some (λ (s : Share). ‵ (flft α s) ⊛ raw (wand 𝓤 (𝓛.A.lft α s) Again)))) (Lends-one 𝓛 𝓜 𝓡 κ α (right q)) $ await ! tt $ pick ! (λ s. split ! $
     -- [α's token; the way back; the left half; before; the invariant; what the field's `&` holds; the note;
@@ -89,7 +89,7 @@ look_spec 𝓤 𝓛 𝓜 𝓡 wired T L g d _ =
     use3 𝓛 (raw (𝓣.C _ (vptr b (o + 0) ∷ seq_cst ∷ []) (λ u. mean 𝓛 (calls.found 𝓛 out u)))) (methods.loads 𝓛 𝓜 𝓡 T L κ (left q) b (o + 0) (code.calls-core::atomic::ptr::AtomicPtr::load 𝓡.env wired) out₀) $
     Calls-last ! (fm 𝓛 𝓜 𝓡) (calls.found 𝓛 out) (and_then ! (get ! refl) (and_then ! (get ! refl) (no_more !))) (λ u. calls.finds_either ! out
     (lands_last ! refl (Ptr-Good null_ptr) $ exec ! 𝓣.C 𝓣.Λ Ev (after 1 fn.body) (at_ret Ev Post) $ fsplit3 ! $ move ! (1 ∷ 3 ∷ []) $ use2 𝓛 (later (‵ (flft κ (right q)))) (apply∗ 𝓤 (𝓛.A.lft α s) Again) $ await ! tt $ move ! (1 ∷ 0 ∷ []) $ use2 𝓛 (‵ (flft κ q)) (𝓛.lfts.lft_join κ q) $ move ! (1 ∷ []) $
-    fpick ! (λ e. let n : (Sight 𝓛 R).Denot = record { marker = m.now.marker; of = γ; known = None } in move ! (3 ∷ []) $ use1 𝓛 (raw (Shuts n)) (all_e 𝓤 Shuts n) $ move ! (1 ∷ 0 ∷ []) $ use2 𝓛 (later (‵ (sights.lent 𝓛 R κ' q' nb₀ no₀ ν₀ n) ⊛ ‵ (flft κ' q'))) (apply∗ 𝓤 (sem 𝓛 (noted R γ n.known)) _) $ await ! tt $ split ! $
+    fpick ! (λ e. let n : (EntrySight 𝓛 R).Denot = record { marker = m.now.marker; of = γ; known = None } in move ! (3 ∷ []) $ use1 𝓛 (raw (Closes n)) (all_e 𝓤 Closes n) $ move ! (1 ∷ 0 ∷ []) $ use2 𝓛 (later (‵ (sights.lent 𝓛 R κ' q' nb₀ no₀ ν₀ n) ⊛ ‵ (flft κ' q'))) (apply∗ 𝓤 (sem 𝓛 (noted R γ n.known)) _) $ await ! tt $ split ! $
     feq_i ! (List Val) z.0.4.1.0 (vptr nb₀ no₀ ∷ []) are.1.0.0 $ fjoin ! $
     sets ! (of_opd ! (get ! refl)) refl (Ptr-Good null_ptr) $ sets ! (of_opd ! (get ! refl)) refl (Ptr-Good null_ptr) $ sets ! (bin ! (get ! refl) (lit ! tt) tt) refl (tt, tt) $ first ! $ branches ! (get ! refl)
     (λ _. sets_last ! (agg ! (and_then ! (lit ! tt) (no_more !))) refl (tt, (record { fits = lit< tt }, tt)) $ exec ! 𝓣.C 𝓣.Λ Ev (after 5 fn.body) (at_ret Ev Post) $ sets ! (of_opd ! (get ! refl)) refl (tt, (record { fits = lit< tt }, tt)) $
@@ -99,7 +99,7 @@ look_spec 𝓤 𝓛 𝓜 𝓡 wired T L g d _ =
     (λ pb po. lands_last ! refl (tt, tt) $ exec ! 𝓣.C 𝓣.Λ Ev (after 1 fn.body) (at_ret Ev Post) $ fsplit3 ! $ move ! (1 ∷ 3 ∷ []) $ use2 𝓛 (later (‵ (flft κ (right q)))) (apply∗ 𝓤 (𝓛.A.lft α s) Again) $ await ! tt $ move ! (1 ∷ 0 ∷ []) $ use2 𝓛 (‵ (flft κ q)) (𝓛.lfts.lft_join κ q) $ move ! (1 ∷ []) $
     fsplit ! $ fpick ! (λ t. drop ! $ fpick ! (λ y. fsplit3 ! $ move ! (2 ∷ []) $ fpick ! (λ so. drop ! $ move ! (0 ∷ 3 ∷ []) $
     use2 𝓛 (later (‵ (lent_at F (block_ptr pb po) y.0 κ))) (moves.reaches 𝓛 F LF a κ α (block_ptr pb po) y) $ await ! tt $ use1 𝓛 (given (g.measure y.0 ≡ long) (‵ (shared_of R y.0 pb po κ))) (fit_lent R g.measure long 𝓛 a pb po y.0 κ) $ learn ! (λ so_long. hide ! $ move ! (1 ∷ []) $
-    let n : (Sight 𝓛 R).Denot = record { marker = m.now.marker; of = γ; known = Some y.0 } in move ! (3 ∷ []) $ use1 𝓛 (raw (Shuts n)) (all_e 𝓤 Shuts n) $ move ! (1 ∷ 0 ∷ []) $ use2 𝓛 (later (‵ (sights.lent 𝓛 R κ' q' nb₀ no₀ ν₀ n) ⊛ ‵ (flft κ' q'))) (apply∗ 𝓤 (sem 𝓛 (noted R γ n.known)) _) $ await ! tt $ split ! $
+    let n : (EntrySight 𝓛 R).Denot = record { marker = m.now.marker; of = γ; known = Some y.0 } in move ! (3 ∷ []) $ use1 𝓛 (raw (Closes n)) (all_e 𝓤 Closes n) $ move ! (1 ∷ 0 ∷ []) $ use2 𝓛 (later (‵ (sights.lent 𝓛 R κ' q' nb₀ no₀ ν₀ n) ⊛ ‵ (flft κ' q'))) (apply∗ 𝓤 (sem 𝓛 (noted R γ n.known)) _) $ await ! tt $ split ! $
     feq_i ! (List Val) z.0.4.1.0 (vptr nb₀ no₀ ∷ []) are.1.0.0 $ fjoin ! $
     sets ! (of_opd ! (get ! refl)) refl (tt, tt) $ sets ! (of_opd ! (get ! refl)) refl (tt, tt) $ sets ! (bin ! (get ! refl) (lit ! tt) (tests_null (block_ptr pb po) t)) refl (tt, tt) $ first ! $ branches ! (get ! refl) (λ wrong. absurd wrong) (λ _.
     let Then = any_q (after_seq 𝓤 H (Wp 𝓤 H 𝓣.C 𝓣.Λ Ev (after 5 fn.body) (at_return 𝓤 H Ev Post)) (at_return 𝓤 H Ev Post)) in

@@ -59,7 +59,7 @@ use Rattle.std.proofs.raw_atomic.PtrCalls.{seq_cst_good}
 use Rattle.once_cell.proofs.Moves as moves
 use Rattle.table_core.proofs.Values.{both, Loose, loose_good, loose_out, loose_in, pair_in}
 use Rattle.table_core.proofs.Sights as sights
-use Rattle.table_core.proofs.Sights.{Sight}
+use Rattle.table_core.proofs.Sights.{EntrySight}
 use Rattle.core.specs.Sync.RawAtomic.Pointer.{compares}
 use Rattle.table_core.specs.contracts.entry.steps.Entry.offer.{ended, clauses}
 use Rattle.table_core.specs.contracts.entry.steps.Entry.offer.Key.{name as #self}
@@ -70,12 +70,12 @@ pub offer_spec : {M : Type 1} → statement M
 offer_spec 𝓤 𝓛 𝓜 𝓡 wired T L g d _ =
     let H = 𝓛.H in let 𝓣 = tables 𝓤 H 𝓜 𝓡 𝓡.env in let R : RattleType = param 0 T in let LR = param_laws 0 T L in let En = ended T g d in let c = clauses T g d 𝓛 𝓜.mem 𝓡.returns in
     let inst = bounded (a_type ∷ []) (T, tt) (dcons d dnil) in let fn = inst_fn inst code.function in let Z : RattleType = heap.the_row in let LZ = heap_laws.the_row_laws in let P : RattleType = atomic.the_row R in let LP = atomic_laws.the_row_laws R LR in
-    let Lr : RattleType = Loose R Z LZ ghosts in let hs : Stays En.signature.params En.kept = (stay_dropped (RefOf (0 ∷ []) tt (plain (λ _. entry.the_row R g)) (λ _. tt)) yes, (stay_dropped (plain (λ _. Lr)) no, (stay_ref (1 ∷ []) tt (plain (λ _. Sight 𝓛 R)), tt))) in
-    proved_at 𝓛 En hs c 𝓜 𝓡 (Goes-dropped 𝓛 3 (RefOf (0 ∷ []) tt (plain (λ _. entry.the_row R g)) (λ _. tt)) yes (λ κs x f. refl), (Goes-blank 𝓛 3 (plain (λ _. Lr)) no (λ κs x f. tt), (Goes-ref 𝓛 3 1 tt (plain (λ _. Sight 𝓛 R)), tt))) (#self inst) fn (code.unfolded 𝓤 H 𝓜 𝓡 wired (T, tt) d) (λ z are.
+    let Lr : RattleType = Loose R Z LZ ghosts in let hs : Stays En.signature.params En.kept = (stay_dropped (RefOf (0 ∷ []) tt (plain (λ _. entry.the_row R g)) (λ _. tt)) yes, (stay_dropped (plain (λ _. Lr)) no, (stay_ref (1 ∷ []) tt (plain (λ _. EntrySight 𝓛 R)), tt))) in
+    proved_at 𝓛 En hs c 𝓜 𝓡 (Goes-dropped 𝓛 3 (RefOf (0 ∷ []) tt (plain (λ _. entry.the_row R g)) (λ _. tt)) yes (λ κs x f. refl), (Goes-blank 𝓛 3 (plain (λ _. Lr)) no (λ κs x f. tt), (Goes-ref 𝓛 3 1 tt (plain (λ _. EntrySight 𝓛 R)), tt))) (#self inst) fn (code.unfolded 𝓤 H 𝓜 𝓡 wired (T, tt) d) (λ z are.
     let κs = z.0.0 in let qs = z.0.1 in let Post : Val → SProp 𝓤 = (walk_of 𝓛 En hs c).post z in let Run : List Val → SProp 𝓤 = λ ws. WpFn 𝓤 H 𝓣.C 𝓣.Λ fn ws Post in let Out : RattleType = type_at En.signature.result κs in
     let b : ℕ = z.0.3.0.ref_ptr.0 in let o : ℕ = z.0.3.0.ref_ptr.1 in let a = z.0.3.0.now.0 in let long : ℕ = z.0.3.0.now.1 in let γ : ℕ = z.0.3.0.now.2 in let F : RattleType = Fit R g.measure long in let LF = fit_laws R g.measure long LR in let κ : Lft = κs.0 in let q : Share = qs.0 in let μ : Lft = κs.1.1.0 in let r : Share = qs.1.1.0 in
     let κ' : Lft = κs.1.0 in let q' : Share = qs.1.0 in let m = z.0.3.1.1.0 in let nb₀ : ℕ = m.ref_ptr.0 in let no₀ : ℕ = m.ref_ptr.1 in let ν₀ : ℕ = m.ghost_name in let k = m.now.known in
-    let Shuts = sights.Shuts 𝓛 R κ' q' nb₀ no₀ ν₀ in let Ref : RattleType = ShrRef (named 0) κ R in let Again : SProp 𝓤 = H.⇛ (𝓛.A.lft κ (right q)) in
+    let Closes = sights.Closes 𝓛 R κ' q' nb₀ no₀ ν₀ in let Ref : RattleType = ShrRef (named 0) κ R in let Again : SProp 𝓤 = H.⇛ (𝓛.A.lft κ (right q)) in
     let d = z.0.3.1.0 in let x = d.value in let Back : RattleType = option.the_row Lr in
     qed 𝓛 (((‵ (flft κ q) ⊛ ‵ (flft κ' q') ⊛ ‵ (flft μ r) ⊛ ‵ ftrue) ⊛ ‵ (owns (types_at En.signature.params κs) z.0.3 z.0.4)) ∷ raw (fact 𝓤 (μ ⊑ T.lives)) ∷ (raw (fact 𝓤 (m.now.of ≡ γ)) ⊛ raw (fact 𝓤 (g.measure x ≡ long))) ∷ []) ∵
     move ! (1 ∷ 2 ∷ []) $ heard ! (μ ⊑ T.lives) (λ within. split ! $ heard ! (m.now.of ≡ γ) (λ same. heard ! (g.measure x ≡ long) (λ fits_in. split ! $ split3 ! $ move ! (2 ∷ []) $ split ! $ move ! (4 ∷ []) $ fsplit3 ! $ move ! (2 ∷ []) $ fsplit ! $ fsplit ! $ keep ! (4 ∷ 1 ∷ 3 ∷ 7 ∷ 8 ∷ 5 ∷ []) $
@@ -83,7 +83,7 @@ offer_spec 𝓤 𝓛 𝓜 𝓡 wired T L g d _ =
     use1 𝓛 (given (Testable new) (‵ (boxed R a new x))) (moves.tested 𝓛 R LR a new x) $ learn ! (λ t. use1 𝓛 (‵ (boxed F a new x)) (fit_in R g.measure long 𝓛 a new x fits_in) $
     suffices ! (Run (vptr b o ∷ w ∷ vptr nb₀ no₀ ∷ [])) (subst (λ (us : List Val). ent 𝓤 (Run (vptr b o ∷ w ∷ vptr nb₀ no₀ ∷ [])) (Run us)) (sym (λ i. are.0.0 i ++ (ws i ++ (are.1.1.0.0 i ++ [])))) (id⊢ 𝓤 (Run (vptr b o ∷ w ∷ vptr nb₀ no₀ ∷ [])))) $
     enter ! 𝓣.C 𝓣.Λ fn (vptr b o ∷ w ∷ vptr nb₀ no₀ ∷ []) Post $ alloc_all ! (λ l. pass_all ! refl ((tt, tt), (typed, ((tt, tt), tt))) $ let Ev = env fn.locals l in
-    move ! (2 ∷ 5 ∷ []) $ use2 𝓛 (later (‵ (noted R m.now.of k) ⊛ raw (all 𝓤 Shuts))) (sights.sight_opens 𝓛 R κ' q' nb₀ no₀ ν₀ m.now) $ await ! tt $ split ! $ rewrite ! 0 (λ (n : ℕ). ‵ (noted R n k)) same refl $ use1 𝓛 (‵ (once.noted F γ k)) (fit_noted R g.measure long 𝓛 γ k) $ move ! (4 ∷ []) $ fsplit ! $ drop ! $ unhide ! $ fsplit ! $ fpick ! (λ α. fsplit ! $
+    move ! (2 ∷ 5 ∷ []) $ use2 𝓛 (later (‵ (noted R m.now.of k) ⊛ raw (all 𝓤 Closes))) (sights.sight_opens 𝓛 R κ' q' nb₀ no₀ ν₀ m.now) $ await ! tt $ split ! $ rewrite ! 0 (λ (n : ℕ). ‵ (noted R n k)) same refl $ use1 𝓛 (‵ (once.noted F γ k)) (fit_noted R g.measure long 𝓛 γ k) $ move ! (4 ∷ []) $ fsplit ! $ drop ! $ unhide ! $ fsplit ! $ fpick ! (λ α. fsplit ! $
     use1 𝓛 (‵ (before κ α) ⊛ ‵ (before κ α)) (before_dup 𝓛 κ α) $ split ! $ move ! (8 ∷ []) $ use1 𝓛 (‵ (flft κ (left q)) ⊛ ‵ (flft κ (right q))) (𝓛.lfts.lft_split κ q) $ split ! $ move ! (2 ∷ 1 ∷ []) $
     use2 𝓛 (later (some (λ (s : Share). ‵ (flft α s) ⊛ raw (wand 𝓤 (𝓛.A.lft α s) Again)))) (Lends-one 𝓛 𝓜 𝓡 κ α (right q)) $ await ! tt $ pick ! (λ s. split ! $
     -- [α's token; the way back; the left half; before; the invariant; what the field's `&` holds; the note;
@@ -101,7 +101,7 @@ offer_spec 𝓤 𝓛 𝓜 𝓡 wired T L g d _ =
     (λ p. lands_last ! refl (calls.answer_good (Ok p)) $ exec ! 𝓣.C 𝓣.Λ Ev (after 2 fn.body) (at_ret Ev Post) $ sets ! (of_opd ! (get ! refl)) refl (calls.answer_good (Ok p)) $ fsplit3 ! $ move ! (1 ∷ 3 ∷ []) $ use2 𝓛 (later (‵ (flft κ (right q)))) (apply∗ 𝓤 (𝓛.A.lft α s) Again) $ await ! tt $ move ! (1 ∷ 0 ∷ []) $ use2 𝓛 (‵ (flft κ q)) (𝓛.lfts.lft_join κ q) $ move ! (1 ∷ []) $
     fsplit3 ! $ move ! (2 ∷ []) $ fpick ! (λ so. drop ! $ move ! (0 ∷ 3 ∷ []) $
     use2 𝓛 (later (‵ (lent_at F new x κ))) (moves.reaches 𝓛 F LF a κ α new (x, ν, right full_share)) $ await ! tt $ use1 𝓛 (given (g.measure x ≡ long) (‵ (shared_of R x nb no' κ))) (fit_lent R g.measure long 𝓛 a nb no' x κ) $ learn ! (λ so_long. hide ! $ move ! (1 ∷ []) $
-    let n : (Sight 𝓛 R).Denot = record { marker = m.now.marker; of = γ; known = Some x } in move ! (3 ∷ []) $ use1 𝓛 (raw (Shuts n)) (all_e 𝓤 Shuts n) $ move ! (1 ∷ 0 ∷ []) $ use2 𝓛 (later (‵ (sights.lent 𝓛 R κ' q' nb₀ no₀ ν₀ n) ⊛ ‵ (flft κ' q'))) (apply∗ 𝓤 (sem 𝓛 (noted R γ n.known)) _) $ await ! tt $ split ! $
+    let n : (EntrySight 𝓛 R).Denot = record { marker = m.now.marker; of = γ; known = Some x } in move ! (3 ∷ []) $ use1 𝓛 (raw (Closes n)) (all_e 𝓤 Closes n) $ move ! (1 ∷ 0 ∷ []) $ use2 𝓛 (later (‵ (sights.lent 𝓛 R κ' q' nb₀ no₀ ν₀ n) ⊛ ‵ (flft κ' q'))) (apply∗ 𝓤 (sem 𝓛 (noted R γ n.known)) _) $ await ! tt $ split ! $
     feq_i ! (List Val) z.0.4.1.1.0 (vptr nb₀ no₀ ∷ []) are.1.1.0.0 $ fjoin ! $
     let v : Val = both (vptr nb no') (live 0 vnil) in let good : Good (layout Out) v = (tt, (tt, ((record { fits = lit< tt }, tt), tt))) in let ref : Ref.Denot = record { ref_ptr = (nb, no'); now = x } in
     first ! $ switches_on ! (get_tag ! (vrt ! refl (fld ! refl (stop !))) (whole !)) $ exec ! 𝓣.C 𝓣.Λ Ev (arm_body 0 arms) Then $ first ! $ blocks ! $ sets_last ! (addr ! (through ! refl (stop !))) refl (tt, tt) $ exec ! 𝓣.C 𝓣.Λ Ev (after 1 (arm_body 0 arms)) Then $
@@ -114,7 +114,7 @@ offer_spec 𝓤 𝓛 𝓜 𝓡 wired T L g d _ =
     fsplit ! $ use1 𝓛 (later (‵ (boxed F a new x))) (moves.take_back 𝓛 F LF a α new x ν) $ await ! tt $ use1 𝓛 (given (g.measure x ≡ long) (‵ (boxed R a new x))) (fit_out R g.measure long 𝓛 a new x) $ learn ! (λ _. move ! (0 ∷ 6 ∷ []) $ loose_in R Z LZ ghosts ! nb no' h d.alloc x $ move ! (1 ∷ 2 ∷ 3 ∷ 4 ∷ 5 ∷ []) $
     in_a_block ! p (moves.glimpse 𝓛 F LF a γ k α ffalse) (id⊢ 𝓤 (never 𝓤)) (λ pb po is. fsplit ! $ drop ! $ fpick ! (λ y. fsplit3 ! $ move ! (2 ∷ []) $ fpick ! (λ so. drop ! $ move ! (0 ∷ 3 ∷ []) $
     use2 𝓛 (later (‵ (lent_at F (block_ptr pb po) y.0 κ))) (moves.reaches 𝓛 F LF a κ α (block_ptr pb po) y) $ await ! tt $ use1 𝓛 (given (g.measure y.0 ≡ long) (‵ (shared_of R y.0 pb po κ))) (fit_lent R g.measure long 𝓛 a pb po y.0 κ) $ learn ! (λ so_long. hide ! $ move ! (1 ∷ []) $
-    let n : (Sight 𝓛 R).Denot = record { marker = m.now.marker; of = γ; known = Some y.0 } in move ! (3 ∷ []) $ use1 𝓛 (raw (Shuts n)) (all_e 𝓤 Shuts n) $ move ! (1 ∷ 0 ∷ []) $ use2 𝓛 (later (‵ (sights.lent 𝓛 R κ' q' nb₀ no₀ ν₀ n) ⊛ ‵ (flft κ' q'))) (apply∗ 𝓤 (sem 𝓛 (noted R γ n.known)) _) $ await ! tt $ split ! $
+    let n : (EntrySight 𝓛 R).Denot = record { marker = m.now.marker; of = γ; known = Some y.0 } in move ! (3 ∷ []) $ use1 𝓛 (raw (Closes n)) (all_e 𝓤 Closes n) $ move ! (1 ∷ 0 ∷ []) $ use2 𝓛 (later (‵ (sights.lent 𝓛 R κ' q' nb₀ no₀ ν₀ n) ⊛ ‵ (flft κ' q'))) (apply∗ 𝓤 (sem 𝓛 (noted R γ n.known)) _) $ await ! tt $ split ! $
     feq_i ! (List Val) z.0.4.1.1.0 (vptr nb₀ no₀ ∷ []) are.1.1.0.0 $ fjoin ! $
     let back : Val = live 1 (vcons w vnil) in let v : Val = both (vptr pb po) back in let l₀ : Lr.Denot = record { at = new; alloc = d.alloc; value = x } in let ref : Ref.Denot = record { ref_ptr = (pb, po); now = y.0 } in
     let held : Good (layout Back) back = (and_tt _ typed.0, (record { fits = lit< tt }, (typed.1, tt))) in let good : Good (layout Out) v = (and_tt _ held.0, (tt, (held.1, tt))) in

@@ -28,7 +28,7 @@ use Rattle.table_core.specs.contracts.entry.steps.Entry as entry
 use Rattle.std.proofs.raw_atomic.Walks.{proved_at, leaves}
 use denote.Triple.Entry.{alive}
 use Rattle.table_core.proofs.Sights as sights
-use Rattle.table_core.proofs.Sights.{Sight, token}
+use Rattle.table_core.proofs.Sights.{EntrySight, token}
 use Rattle.table_core.specs.contracts.entry.steps.Entry.sight.{ended, clauses}
 use Rattle.table_core.specs.contracts.entry.steps.Entry.sight.Key.{name as #self}
 use Rattle.table_core.proofs.entry.steps.Entry.sight.Statement.{statement}
@@ -44,6 +44,6 @@ sight_spec 𝓤 𝓛 𝓜 𝓡 wired T L g d _ =
     let at : Val = vptr z.0.3.0.ref_ptr.0 z.0.3.0.ref_ptr.1 in let γ : ℕ = z.0.3.0.now.2 in let n : Out.Denot = record { marker = record {}; of = γ; known = None } in let Told : Type 0 = (γ ≡ γ) × (n.known ≡ None) in
     qed 𝓛 ((raw (alive 𝓛 En.signature κs qs) ⊛ ‵ (owns (types_at En.signature.params κs) z.0.3 z.0.4)) ∷ raw ((c κs z.0.3).requires z.1) ∷ []) ∵ split ! $ keep ! (0 ∷ []) $
     suffices ! (Run (at ∷ [])) (subst (λ (us : List Val). ent 𝓤 (Run (at ∷ [])) (Run us)) (sym (λ i. are.0.0 i ++ [])) (id⊢ 𝓤 (Run (at ∷ [])))) $
-    enter ! 𝓣.C 𝓣.Λ fn (at ∷ []) Post $ alloc_all ! (λ l. pass_all ! refl ((tt, tt), tt) $ nothing ! $ sets ! (agg ! (no_more !)) refl (tt, tt) $ sets ! (agg ! (and_then ! (get ! refl) (no_more !))) refl (tt, (tt, tt)) $ use1 𝓛 (‵ ((Sight 𝓛 R).own_val n (token ∷ []))) (sights.sight_made 𝓛 R γ None) $
+    enter ! 𝓣.C 𝓣.Λ fn (at ∷ []) Post $ alloc_all ! (λ l. pass_all ! refl ((tt, tt), tt) $ nothing ! $ sets ! (agg ! (no_more !)) refl (tt, tt) $ sets ! (agg ! (and_then ! (get ! refl) (no_more !))) refl (tt, (tt, tt)) $ use1 𝓛 (‵ ((EntrySight 𝓛 R).own_val n (token ∷ []))) (sights.sight_made 𝓛 R γ None) $
     use0 𝓛 (raw (fact 𝓤 Told)) (fact_i 𝓤 Told (emp 𝓤) (refl, refl)) $ nothing ! $ nothing ! $ fjoin ! $
     returns ! (look_at ! 0 refl) $ free_all ! refl $ keep ! (3 ∷ 0 ∷ 2 ∷ 1 ∷ []) $ by ! (leaves 𝓛 En hs c z token n (tt, tt) (tt, tt))))

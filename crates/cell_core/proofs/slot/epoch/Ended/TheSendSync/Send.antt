@@ -1,6 +1,0 @@
-use denote.Param.Send.{IsSend}
-use Rattle.cell_core.proofs.CellSent as sent
-use Rattle.cell_core.specs.contracts.slot.epoch.Ended.{the_row}
-
-pub send : IsSend the_row
-send = sent.ended_send

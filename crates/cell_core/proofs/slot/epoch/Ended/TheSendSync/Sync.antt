@@ -1,6 +1,0 @@
-use denote.Param.Send.{IsSync}
-use Rattle.cell_core.proofs.CellSent as sent
-use Rattle.cell_core.specs.contracts.slot.epoch.Ended.{the_row}
-
-pub sync : IsSync the_row
-sync = sent.ended_sync

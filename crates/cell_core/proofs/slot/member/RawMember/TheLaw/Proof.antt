@@ -1,0 +1,21 @@
+-- A `&` to a `Member` holds what it knows, which can be had twice. Assumes `Logic`.
+use base.Logic.{snd∗}
+use base.Before.{before}
+use types.Logic.{sem}
+use denote.RattleType.{RattleType}
+use denote.Param.Laws.{Laws}
+use denote.Param.Shared.{copy_shared}
+use denote.Struct.Laws.{field_copy}
+use denote.Struct.Lending.{of_Lends}
+use Rattle.core.specs.contracts.marker.PhantomData as P
+use Rattle.cell_core.specs.Member.{member}
+use Rattle.cell_core.specs.contracts.slot.member.RawMember as C
+use Rattle.cell_core.proofs.MemberParts.{known_twice}
+use Rattle.cell_core.proofs.Twice.{lends_twice}
+use Rattle.cell_core.proofs.slot.member.RawMember.TheLaw.Statement.{statement}
+
+pub shares : (T : RattleType) (L : Laws T) → statement T L
+shares T L = of_Lends (C.struct T) (C.the_codes T.Denot T.coded (P.the_row T).coded) (C.the_heap T) (C.the_lent T)
+    (λ d p. record { contraction = λ M 𝓤 𝓛 κ. known_twice 𝓛 T d.of.value d.of.name; mono = λ M 𝓤 𝓛 κ' κ. snd∗ 𝓤 (sem 𝓛 (before κ' κ)) (sem 𝓛 (member T d.of)) })
+    (copy_shared (P.the_field T) (field_copy (P.the_type T) tt), tt)
+    (λ M 𝓤 𝓛 d p. lends_twice 𝓛 (member T d.of) (known_twice 𝓛 T d.of.value d.of.name) (C.the_row T).lives)

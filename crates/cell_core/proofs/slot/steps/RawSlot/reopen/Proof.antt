@@ -1,0 +1,83 @@
+-- `reopen` takes the right to write, if it finds a cell that an owner broke and the epoch has ended.
+use Rattle.std.proofs.Common.{ℕ, ◌+◌, ◌^◌, List, [], ◌∷◌, refl, lit<, w64, ◌≡◌, ◌++◌}
+use mir.Syntax.{a_type, named}
+use mir.Val.{Val, vint, vptr, vstruct, vcons, vnil, of_list}
+use mir.MapTy.{inst_fn}
+use base.Logic.{SProp, wand, emp, via, apply∗}
+use base.Fml.{Lft, Share, Fml, ftrue, fsep, flft, finv, fbor, feq}
+use types.Kit.{mean, ‵, raw, ◌⊛◌, some, later, at_ret, ◌$◌, ◌∵◌, !, qed, by, move, keep, drop, use0, use2, use3, split, join, fsplit, fsplit3, fjoin, fpick, pick, await, feq_i, flt_i, use1, fjoin3, fpack}
+use types.Run.{stop, fld, addr, lit, of_opd, no_more, and_then, first, blocks, exec, Calls-last, returns, enter}
+use types.ByLocal.{alloc_all, pass_all, free_all, look_at, get, through, sets, lands_last, env}
+use types.Part.{agg}
+use contract.Running.{tables}
+use contract.Monad.{fact, fact_i}
+use contract.Shared.{Lends-one}
+use denote.Exit.{yes}
+use denote.RattleType.{RattleType, owns, Valss}
+use denote.Signature.{types_at, plain, named_lft}
+use denote.RawPtr.{block_ptr, Ptr}
+use denote.Steps.{nothing, heard}
+use denote.Opens.{unhide}
+use denote.Param.{param, layouts}
+use denote.Builtin.{RefOf, u64}
+use denote.Ref.{shr_vals, shr_Tells}
+use denote.Triple.Walked.{Stays, stay_dropped, walk_of, Goes-dropped}
+use Rattle.atomic_table.proofs.Walks.{proved, leaves}
+use Rattle.atomic_table.proofs.Calls.{fm, found, finds, exchanges}
+use Rattle.core.proofs.atomic.Steps.{tail}
+use Rattle.cell_core.specs.Slot.{Names, Turn, Cell, kept, won}
+use Rattle.cell_core.specs.Member.{MemberView, HasNames, MayBeWordOf, IsEpochOf}
+use Rattle.cell_core.specs.contracts.slot.steps.RawSlot as cell
+use Rattle.cell_core.specs.contracts.slot.member.RawMember as RawMember
+use Rattle.cell_core.specs.contracts.slot.epoch.RawEnded as RawEnded
+use base.Before.{before}
+use types.Na.{before_dup}
+use Rattle.cell_core.proofs.CellMade.{pointer_val, Words, pen_made}
+use Rattle.cell_core.specs.contracts.slot.steps.RawPen as RawPen
+use Rattle.cell_core.proofs.CellSteps as steps
+use Rattle.cell_core.specs.contracts.slot.steps.RawSlot.reopen.{ended, clauses}
+use Rattle.cell_core.specs.contracts.slot.steps.RawSlot.reopen.Key.{name as #self}
+use Rattle.cell_core.proofs.slot.steps.RawSlot.reopen.Statement.{statement}
+use Rattle.cell_core.proofs.slot.steps.RawSlot.reopen.Code as code
+
+pub reopen_spec : {M : Type 1} → statement M
+reopen_spec 𝓤 𝓛 𝓜 𝓡 wired T L =
+    let H = 𝓛.H in let A = 𝓛.A in let 𝓣 = tables 𝓤 H 𝓜 𝓡 𝓡.env in let R : RattleType = param 0 T in let En = ended T in
+    let inst = layouts (a_type ∷ []) (T, tt) in let fn = inst_fn inst code.function in let c = clauses T 𝓛 𝓜.mem 𝓡.returns in let RawRow : RattleType = cell.the_row R in
+    let self = RefOf (0 ∷ []) tt (plain (λ _. RawRow)) (λ _. tt) in let token = RefOf (1 ∷ []) tt (plain (λ _. RawMember.the_row R)) (λ _. tt) in let time = RefOf (2 ∷ []) tt (plain (λ _. RawEnded.the_row)) (λ _. tt) in
+    let hs : Stays En.signature.params En.kept = (stay_dropped self yes, (stay_dropped token yes, (stay_dropped time yes, tt))) in
+    proved 𝓛 En hs c 𝓜 𝓡 (Goes-dropped 𝓛 4 self yes (λ κs x f. refl), (Goes-dropped 𝓛 4 token yes (λ κs x f. refl), (Goes-dropped 𝓛 4 time yes (λ κs x f. refl), tt))) (#self inst) fn (code.unfolded 𝓤 H 𝓜 𝓡 wired (T, tt))
+    (λ κs. (shr_vals, (shr_vals, (shr_vals, tt)))) (λ κs. (shr_Tells (named 0) κs.0 RawRow, (shr_Tells (named 1) κs.1.0 (RawMember.the_row R), (shr_Tells (named 2) κs.1.1.0 RawEnded.the_row, tt)))) (λ κs qs bounds a gh are.
+    let b : ℕ = a.0.ref_ptr.0 in let o : ℕ = a.0.ref_ptr.1 in let γ : Names = a.0.now in let κ : Lft = κs.0 in let q : Share = qs.0 in
+    let m : MemberView T.Denot = a.1.0.now.of in let p : Val = vptr a.1.0.ref_ptr.0 a.1.0.ref_ptr.1 in let p' : Val = vptr a.1.1.0.ref_ptr.0 a.1.1.0.ref_ptr.1 in let ε : Lft = a.1.1.0.now.of ∷ [] in
+    let Asked : Type 0 = HasNames γ m.value m.name m.epoch × IsEpochOf m.value m.epoch ε in
+    let y : (walk_of 𝓛 En hs c).Ghost = ((κs, qs, bounds, a, (vptr b o ∷ [], (p ∷ [], (p' ∷ [], tt)))), gh) in let Post : Val → SProp 𝓤 = (walk_of 𝓛 En hs c).post y in
+    let others : Fml = fsep (flft κs.1.0 qs.1.0) (fsep (flft κs.1.1.0 qs.1.1.0) (fsep (flft κs.1.1.1.0 qs.1.1.1.0) ftrue)) in let here : Ptr = block_ptr b o in let ℓ = named_lft 4 0 tt κs in let Hr : RattleType = RawPen.the_row ℓ R in
+    qed 𝓛 (((‵ (flft κ q) ⊛ ‵ others) ⊛ ‵ (owns (types_at En.signature.params κs) a y.0.4)) ∷ raw (fact 𝓤 _) ∷ raw (fact 𝓤 Asked) ∷ []) ∵
+    keep ! (2 ∷ 0 ∷ []) $ heard ! Asked (λ asked. split ! $ split ! $ move ! (2 ∷ []) $ fsplit3 ! $ move ! (2 ∷ []) $ fsplit ! $ fsplit ! $ move ! (3 ∷ []) $ fsplit ! $ move ! (5 ∷ []) $ fsplit ! $ keep ! (5 ∷ 1 ∷ 3 ∷ 7 ∷ 8 ∷ []) $
+    -- [what has ended; what is known; the cell; its token; the others]
+    unhide ! $ fsplit ! $ drop ! $ move ! (1 ∷ []) $ unhide ! $ fsplit ! $ drop ! $ move ! (2 ∷ []) $ unhide ! $ fpick ! (λ t. let α : Lft = t.0 in let J : Fml = fbor α (Cell R γ t b o) in fsplit ! $
+    enter ! 𝓣.C 𝓣.Λ fn (vptr b o ∷ p ∷ p' ∷ []) Post $ alloc_all ! (λ l. pass_all ! refl ((tt, tt), ((tt, tt), ((tt, tt), tt))) $ let Ev = env fn.locals l in
+    use1 𝓛 (‵ (before κ α) ⊛ ‵ (before κ α)) (before_dup 𝓛 κ α) $ split ! $ move ! (2 ∷ []) $ use1 𝓛 (‵ (finv J) ⊛ ‵ (finv J)) (𝓛.invs.inv_dup J) $ split ! $ move ! (2 ∷ 0 ∷ []) $ fjoin ! $
+    -- [kept; the invariant; before; what is known; what has ended; the token; the others]
+    move ! (2 ∷ 5 ∷ []) $ use2 𝓛 (later (some (λ (s : Share). ‵ (flft α s) ⊛ raw (wand 𝓤 (A.lft α s) (H.⇛ (A.lft κ q)))))) (Lends-one 𝓛 𝓜 𝓡 κ α q) $ await ! tt $ pick ! (λ s. split ! $
+    -- [the turn's token; the way back; kept; the invariant; what is known; what has ended; the others]
+    let after : ℕ → Fml = λ n. fsep (flft α s) (steps.Reopened 𝓛 R γ t b o m.value n) in
+    first ! $ blocks ! $ sets ! (addr ! (through ! refl (fld ! refl (stop !)))) refl (tt, tt) $ move ! (4 ∷ 5 ∷ []) $ join ! $ move ! (4 ∷ 1 ∷ 0 ∷ []) $
+    use3 𝓛 (raw (𝓣.C _ (vptr b (o + 0) ∷ vint w64 4 ∷ vint w64 1 ∷ []) (λ u. mean 𝓛 (found after u))))
+    (via 𝓤 _ (steps.reopens 𝓛 R γ t b o s m.value m.name m.epoch ε asked.0 asked.1) (exchanges 𝓛 𝓜 𝓡 (code.calls-atomic_table::exchange 𝓡.env wired) (block_ptr b (o + 0)) 4 1 (lit< tt) (lit< tt) after)) $
+    Calls-last ! (fm 𝓛 𝓜 𝓡) (found after) (and_then ! (get ! refl) (and_then ! (lit ! tt) (and_then ! (lit ! tt) (no_more !)))) (λ u. finds ! after (λ n fits.
+    lands_last ! refl (tt, record { fits = fits }) $ exec ! 𝓣.C 𝓣.Λ Ev (tail fn.body) (at_ret Ev Post) $ sets ! (of_opd ! (get ! refl)) refl (tt, record { fits = fits }) $
+    sets ! (addr ! (through ! refl (stop !))) refl (tt, tt) $ sets ! (agg ! (no_more !)) refl (tt, tt) $ sets ! (agg ! (and_then ! (get ! refl) (and_then ! (get ! refl) (no_more !)))) refl (tt, (tt, (tt, tt))) $
+    sets ! (of_opd ! (get ! refl)) refl (tt, (tt, (tt, tt))) $ sets ! (agg ! (and_then ! (get ! refl) (and_then ! (get ! refl) (no_more !)))) refl (tt, (record { fits = fits }, ((tt, (tt, tt)), tt))) $
+    -- [the exchange's; the way back; kept; the others]
+    fsplit3 ! $ move ! (2 ∷ []) $ fpick ! (λ so. drop ! $
+    -- [the turn's token; what was won; the way back; kept; the others]
+    move ! (0 ∷ 2 ∷ []) $ use2 𝓛 (later (‵ (flft κ q))) (apply∗ 𝓤 (A.lft α s) (H.⇛ (A.lft κ q))) $ await ! tt $ move ! (0 ∷ 3 ∷ []) $ join ! $ move ! (2 ∷ 1 ∷ []) $
+    fjoin ! $ fpack ! Turn (λ z. fsep (kept R γ z b o κ) (won R γ z b o 4 n)) t $
+    let h : Hr.Denot = record { slot = here; marker = record {}; of = γ; sought = 4; found = n } in let r : Val = vstruct (vcons (vint w64 n) (vcons (pointer_val here) vnil)) in let Told : Type 0 = (γ ≡ γ) × (4 ≡ 4) × (n ≡ n) × MayBeWordOf m.value n in
+    use0 𝓛 (‵ ((Words ℓ R).own_val (here, (tt, tt)) (pointer_val here ∷ []))) (pen_made ℓ R 𝓛 here) $ fjoin ! $ nothing ! $ flt_i ! n (2 ^ 64) fits $ feq_i ! (List Val) (vint w64 n ∷ []) (vint w64 n ∷ []) refl $ fjoin ! $
+    move ! (0 ∷ 2 ∷ 1 ∷ []) $ fjoin3 ! $ feq_i ! (List Val) (r ∷ []) (r ∷ []) refl $ fjoin ! $
+    fpack ! (Valss (u64 ∷ Hr ∷ [])) (λ uss. fsep (feq (List Val) (r ∷ []) (vstruct (of_list (uss.0 ++ (uss.1.0 ++ []))) ∷ [])) (owns (u64 ∷ Hr ∷ []) (n, (h, tt)) uss)) (vint w64 n ∷ [], (pointer_val here ∷ [], tt)) $
+    use0 𝓛 (raw (fact 𝓤 Told)) (fact_i 𝓤 Told (emp 𝓤) (refl, refl, refl, so)) $ nothing ! $ nothing ! $ fjoin ! $ nothing ! $ fjoin ! $ nothing ! $ fjoin ! $
+    returns ! (look_at ! 0 refl) $ free_all ! refl $ keep ! (3 ∷ 0 ∷ 2 ∷ 1 ∷ []) $ by ! (leaves 𝓛 En hs c y r (n, h) (tt, (tt, (tt, tt))) (tt, (tt, (tt, tt))))))))))))

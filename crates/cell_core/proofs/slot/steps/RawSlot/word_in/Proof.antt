@@ -1,0 +1,78 @@
+-- `word_in` loads the word of a cell by what is known of it, while its epoch lasts.
+use Rattle.std.proofs.Common.{ℕ, ◌+◌, ◌^◌, List, [], ◌∷◌, refl, lit<, w64}
+use mir.Syntax.{a_type, named}
+use mir.Val.{Val, vint, vptr}
+use mir.MapTy.{inst_fn}
+use base.Logic.{SProp, wand, emp, via, apply∗}
+use base.Fml.{Lft, Share, Fml, ftrue, fsep, flft}
+use types.Kit.{mean, ‵, raw, ◌⊛◌, some, later, at_ret, ◌$◌, ◌∵◌, !, qed, by, move, keep, drop, use0, use2, use3, split, split3, join, fsplit, fsplit3, fjoin, fpick, pick, await, feq_i, flt_i}
+use types.Run.{stop, fld, addr, lit, of_opd, no_more, and_then, first, blocks, exec, Calls-last, returns, enter}
+use types.ByLocal.{alloc_all, pass_all, free_all, look_at, get, through, sets, lands_last, env}
+use types.Part.{agg}
+use contract.Running.{tables}
+use contract.Monad.{fact, fact_i}
+use contract.Shared.{Lends-one}
+use denote.Exit.{yes}
+use denote.RattleType.{RattleType, owns}
+use denote.Signature.{types_at, plain}
+use denote.RawPtr.{block_ptr}
+use denote.Steps.{nothing, heard}
+use denote.Opens.{unhide}
+use denote.Param.{param, layouts}
+use denote.Builtin.{RefOf}
+use denote.Ref.{shr_vals, shr_Tells}
+use denote.Triple.Walked.{Stays, stay_dropped, walk_of, Goes-dropped}
+use Rattle.atomic_table.proofs.Walks.{proved, leaves}
+use Rattle.atomic_table.proofs.Calls.{fm, seq_cst, found, loads, finds}
+use Rattle.core.proofs.atomic.Steps.{tail}
+use Rattle.cell_core.specs.Slot.{Names}
+use Rattle.cell_core.specs.Member.{MemberView, HasNames, IsWordOf, IsEpochOf}
+use Rattle.cell_core.specs.contracts.slot.steps.RawSlot as cell
+use Rattle.cell_core.specs.contracts.slot.member.RawMember as RawMember
+use Rattle.cell_core.specs.contracts.slot.epoch.RawEpoch as RawEpoch
+use Rattle.cell_core.proofs.CellSteps as steps
+use Rattle.cell_core.specs.contracts.slot.steps.RawSlot.word_in.{ended, clauses}
+use Rattle.cell_core.specs.contracts.slot.steps.RawSlot.word_in.Key.{name as #self}
+use Rattle.cell_core.proofs.slot.steps.RawSlot.word_in.Statement.{statement}
+use Rattle.cell_core.proofs.slot.steps.RawSlot.word_in.Code as code
+
+pub word_in_spec : {M : Type 1} → statement M
+word_in_spec 𝓤 𝓛 𝓜 𝓡 wired T L =
+    let H = 𝓛.H in let A = 𝓛.A in let 𝓣 = tables 𝓤 H 𝓜 𝓡 𝓡.env in let R : RattleType = param 0 T in let En = ended T in
+    let inst = layouts (a_type ∷ []) (T, tt) in let fn = inst_fn inst code.function in let c = clauses T 𝓛 𝓜.mem 𝓡.returns in let RawRow : RattleType = cell.the_row R in
+    let self = RefOf (0 ∷ []) tt (plain (λ _. RawRow)) (λ _. tt) in let token = RefOf (1 ∷ []) tt (plain (λ _. RawMember.the_row R)) (λ _. tt) in let time = RefOf (2 ∷ []) tt (plain (λ _. RawEpoch.the_row)) (λ _. tt) in
+    let hs : Stays En.signature.params En.kept = (stay_dropped self yes, (stay_dropped token yes, (stay_dropped time yes, tt))) in
+    proved 𝓛 En hs c 𝓜 𝓡 (Goes-dropped 𝓛 4 self yes (λ κs x f. refl), (Goes-dropped 𝓛 4 token yes (λ κs x f. refl), (Goes-dropped 𝓛 4 time yes (λ κs x f. refl), tt))) (#self inst) fn (code.unfolded 𝓤 H 𝓜 𝓡 wired (T, tt))
+    (λ κs. (shr_vals, (shr_vals, (shr_vals, tt)))) (λ κs. (shr_Tells (named 0) κs.0 RawRow, (shr_Tells (named 1) κs.1.0 (RawMember.the_row R), (shr_Tells (named 2) κs.1.1.0 RawEpoch.the_row, tt)))) (λ κs qs bounds a gh are.
+    let b : ℕ = a.0.ref_ptr.0 in let o : ℕ = a.0.ref_ptr.1 in let γ : Names = a.0.now in let κ : Lft = κs.0 in let q : Share = qs.0 in
+    let m : MemberView T.Denot = a.1.0.now.of in let p : Val = vptr a.1.0.ref_ptr.0 a.1.0.ref_ptr.1 in let p' : Val = vptr a.1.1.0.ref_ptr.0 a.1.1.0.ref_ptr.1 in let ε : Lft = a.1.1.0.now.of ∷ [] in let κ' : Lft = κs.1.1.0 in let q' : Share = qs.1.1.0 in
+    let Asked : Type 0 = HasNames γ m.value m.name m.epoch × IsEpochOf m.value m.epoch ε in
+    let y : (walk_of 𝓛 En hs c).Ghost = ((κs, qs, bounds, a, (vptr b o ∷ [], (p ∷ [], (p' ∷ [], tt)))), gh) in let Post : Val → SProp 𝓤 = (walk_of 𝓛 En hs c).post y in
+    let others : Fml = fsep (flft κs.1.1.1.0 qs.1.1.1.0) ftrue in
+    qed 𝓛 (((‵ (flft κ q) ⊛ ‵ (flft κs.1.0 qs.1.0) ⊛ ‵ (flft κ' q') ⊛ ‵ others) ⊛ ‵ (owns (types_at En.signature.params κs) a y.0.4)) ∷ raw (fact 𝓤 _) ∷ raw (fact 𝓤 Asked) ∷ []) ∵
+    keep ! (2 ∷ 0 ∷ []) $ heard ! Asked (λ asked. split ! $ split3 ! $ move ! (2 ∷ []) $ split ! $ move ! (4 ∷ []) $ fsplit3 ! $ move ! (2 ∷ []) $ fsplit ! $ fsplit ! $ move ! (3 ∷ []) $ fsplit ! $ move ! (5 ∷ []) $ fsplit ! $ keep ! (5 ∷ 1 ∷ 3 ∷ 7 ∷ 8 ∷ 9 ∷ 10 ∷ []) $
+    -- [the epoch; what is known; the cell; the epoch's token; the others; the cell's token; the member's
+    -- token]
+    unhide ! $ fsplit ! $ drop ! $ move ! (1 ∷ []) $ unhide ! $ fsplit ! $ drop ! $ move ! (2 ∷ []) $ unhide ! $ fpick ! (λ t. let α : Lft = t.0 in fsplit ! $
+    enter ! 𝓣.C 𝓣.Λ fn (vptr b o ∷ p ∷ p' ∷ []) Post $ alloc_all ! (λ l. pass_all ! refl ((tt, tt), ((tt, tt), ((tt, tt), tt))) $ let Ev = env fn.locals l in
+    -- [before; the invariant; what is known; the epoch; the epoch's token; the others; the cell's token; the
+    -- member's token]
+    move ! (0 ∷ 6 ∷ []) $ use2 𝓛 (later (some (λ (s : Share). ‵ (flft α s) ⊛ raw (wand 𝓤 (A.lft α s) (H.⇛ (A.lft κ q)))))) (Lends-one 𝓛 𝓜 𝓡 κ α q) $ await ! tt $ pick ! (λ s. split ! $
+    -- [the turn's token; the way back; the invariant; what is known; the epoch; the epoch's token; the
+    -- others; the member's token]
+    move ! (4 ∷ 5 ∷ []) $ use2 𝓛 (later (some (λ (r : Share). ‵ (flft ε r) ⊛ raw (wand 𝓤 (A.lft ε r) (H.⇛ (A.lft κ' q')))))) (Lends-one 𝓛 𝓜 𝓡 κ' ε q') $ await ! tt $ pick ! (λ r. split ! $
+    -- [the epoch is alive; the way back; the turn's token; the way back; the invariant; what is known; the
+    -- others; the member's token]
+    let out : ℕ → Fml = λ n. fsep (flft α s) (steps.Lasting 𝓛 R γ t b o m.value ε r n) in
+    first ! $ blocks ! $ sets ! (addr ! (through ! refl (fld ! refl (stop !)))) refl (tt, tt) $ move ! (5 ∷ 0 ∷ []) $ join ! $ move ! (4 ∷ 2 ∷ 0 ∷ []) $
+    use3 𝓛 (raw (𝓣.C _ (vptr b (o + 0) ∷ seq_cst ∷ []) (λ u. mean 𝓛 (found out u))))
+    (via 𝓤 _ (steps.finds_lasting 𝓛 R γ t b o s m.value m.name m.epoch ε r asked.0 asked.1) (loads 𝓛 𝓜 𝓡 (code.calls-core::raw_atomic::load 𝓡.env wired) (block_ptr b (o + 0)) out)) $
+    sets ! (agg ! (and_then ! (lit ! tt) (no_more !))) refl (tt, (record { fits = lit< tt }, tt)) $
+    Calls-last ! (fm 𝓛 𝓜 𝓡) (found out) (and_then ! (get ! refl) (and_then ! (get ! refl) (no_more !))) (λ u. finds ! out (λ n fits.
+    lands_last ! refl (tt, record { fits = fits }) $ exec ! 𝓣.C 𝓣.Λ Ev (tail fn.body) (at_ret Ev Post) $ sets ! (of_opd ! (get ! refl)) refl (tt, record { fits = fits }) $
+    fsplit3 ! $ move ! (0 ∷ 4 ∷ []) $ use2 𝓛 (later (‵ (flft κ q))) (apply∗ 𝓤 (A.lft α s) (H.⇛ (A.lft κ q))) $ await ! tt $
+    move ! (1 ∷ 3 ∷ []) $ use2 𝓛 (later (‵ (flft κ' q'))) (apply∗ 𝓤 (A.lft ε r) (H.⇛ (A.lft κ' q'))) $ await ! tt $
+    -- [the epoch's token; the cell's; the word; the others; the member's token]
+    move ! (0 ∷ 3 ∷ []) $ join ! $ move ! (3 ∷ 0 ∷ []) $ join ! $ move ! (1 ∷ 0 ∷ []) $ join ! $ move ! (1 ∷ []) $ fpick ! (λ told. drop ! $
+    let Told : Type 0 = IsWordOf m.value n in use0 𝓛 (raw (fact 𝓤 Told)) (fact_i 𝓤 Told (emp 𝓤) told) $ flt_i ! n (2 ^ 64) fits $ feq_i ! (List Val) (vint w64 n ∷ []) (vint w64 n ∷ []) refl $ fjoin ! $ nothing ! $ nothing ! $ fjoin ! $ nothing ! $ fjoin ! $ nothing ! $ fjoin ! $
+    returns ! (look_at ! 0 refl) $ free_all ! refl $ keep ! (3 ∷ 0 ∷ 1 ∷ 2 ∷ []) $ by ! (leaves 𝓛 En hs c y (vint w64 n) n (tt, (tt, (tt, tt))) (tt, (tt, (tt, tt)))))))))))))

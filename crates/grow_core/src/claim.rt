@@ -1,0 +1,126 @@
+// How every growth claims its run, once it has its memory.
+ghost use Rattle.std.specs.Prelude.{◌≡◌, ◌+◌, ◌<◌, ◌≤◌, IfOk, IfErr, IsErrAnd};
+ghost use Rattle.claim_core.specs.Hand.{AddsRun, seen_size};
+ghost use Rattle.grow_core.specs.Vector.{IsHandOf, limit_of};
+ghost use Rattle.grow_core.specs.Keys.{OwnsPlacesOf};
+ghost use Rattle.grow_core.specs.Growth.{Refuses, HasNoRoom, SaysFull, IsNotMoved, ClaimsNothing};
+ghost use Rattle.grow_core.specs.Making.{IsClaimed};
+
+use crate::errors::GrowError;
+use crate::hand::Hand;
+use crate::keys::install;
+use crate::token::Placed;
+use crate::vector::Shared;
+use claim_core::{Moved, Run, laws};
+use std::sync::Wait;
+
+// A run that a hand has claimed, and room for the tokens of its places.
+#[derive(Drop)]
+pub(crate) struct Claimed<T> {
+    pub(crate) run: Run,
+    pub(crate) tokens: Vec<Placed<T>>,
+}
+
+impl<T: Drop> Shared<T> {
+    // Tries once to win `n` places at the size now, with room for `room` tokens, allocated before the claim.
+    // `value` is passed through. A claim of no places is an empty run at that size.
+    pub(crate) fn claim_run<V, E>(
+        &self,
+        hand: &mut Hand<T>,
+        n: u64,
+        room: u64,
+        value: V,
+    ) -> Result<(Claimed<T>, V), GrowError<T, V, E>>
+        requires ours { IsHandOf self.now hand.old }
+        requires room { room ≤ n }
+        ensures claimed { IfOk result (λ (claimed, _). IsClaimed self.now n room hand.old hand.new claimed) }
+        ensures value { IfOk result (λ (_, on). on ≡ value) }
+        ensures refused { IfErr result (Refuses self.now n value hand.old hand.new) }
+        ensures unclaimed { IfErr result ClaimsNothing }
+        ensures full { HasNoRoom self.now n hand.old → IsErrAnd result SaysFull }
+    {
+        laws::added_runs_are_owned();
+        let from = self.size(hand);
+        let run = Run { from, n };
+        if n == 0 {
+            let tokens = Vec::new(self.alloc);
+            return Ok((Claimed { run, tokens }, value));
+        }
+        if self.limit() - from < n {
+            return Err(GrowError::Full {
+                size: from,
+                back: value,
+            });
+        }
+        let Ok(tokens) = Vec::with_capacity(self.alloc, room as usize) else {
+            return Err(GrowError::NoMemory { back: value });
+        };
+        let value = self.claim(hand, from, n, value)?;
+        Ok((Claimed { run, tokens }, value))
+    }
+
+    // Like `claim_run`, and it retries if another caller was first.
+    pub(crate) fn claim_again<R: Wait, V, E>(
+        &self,
+        rt: &R,
+        hand: &mut Hand<T>,
+        n: u64,
+        room: u64,
+        mut value: V,
+    ) -> Result<(Claimed<T>, V), GrowError<T, V, E>>
+        requires ours { IsHandOf self.now hand.old }
+        requires room { room ≤ n }
+        ensures claimed { IfOk result (λ (claimed, _). IsClaimed self.now n room hand.old hand.new claimed) }
+        ensures value { IfOk result (λ (_, on). on ≡ value) }
+        ensures refused { IfErr result (Refuses self.now n value hand.old hand.new) }
+        ensures unclaimed { IfErr result ClaimsNothing }
+        ensures full { HasNoRoom self.now n hand.old → IsErrAnd result SaysFull }
+        ensures not_moved { IfErr result IsNotMoved }
+    {
+        for _try in rt.forever() {
+            match self.claim_run(hand, n, room, value) {
+                Ok(claimed) => return Ok(claimed),
+                Err(GrowError::Moved { size: _, back }) => value = back,
+                Err(refused) => return Err(refused),
+            }
+        }
+        unreachable!()
+    }
+
+    // One try to win `n` places from the size that the hand has seen, whose segments it installs first.
+    // `value` is passed through.
+    pub(crate) fn claim<V, E>(
+        &self,
+        hand: &mut Hand<T>,
+        from: u64,
+        n: u64,
+        value: V,
+    ) -> Result<V, GrowError<T, V, E>>
+        requires ours { IsHandOf self.now hand.old }
+        requires some_places { 0 < n }
+        requires within_limit { from + n ≤ limit_of self.now }
+        requires seen { from ≡ seen_size hand.old }
+        ensures run { IfOk result (λ _. AddsRun hand.old hand.new record { from = from; n = n }) }
+        ensures owned { IfOk result (λ _. OwnsPlacesOf hand.new record { from = from; n = n }) }
+        ensures value { IfOk result (λ on. on ≡ value) }
+        ensures refused { IfErr result (Refuses self.now n value hand.old hand.new) }
+        ensures unclaimed { IfErr result ClaimsNothing }
+    {
+        self.laws();
+        hand.claims.laws();
+        laws::own_places_stay();
+        laws::added_places_are_of_the_run();
+        laws::added_places_are_owned();
+        let Ok(()) = install(&self.table, &mut hand.keys, from, n) else {
+            return Err(GrowError::NoMemory { back: value });
+        };
+        match self.word.exchange(&mut hand.claims, from, n) {
+            Ok(_run) => Ok(value),
+            Err(Moved { size }) if self.limit() - size < n => Err(GrowError::Full {
+                size,
+                back: value,
+            }),
+            Err(Moved { size }) => Err(GrowError::Moved { size, back: value }),
+        }
+    }
+}

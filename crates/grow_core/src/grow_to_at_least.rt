@@ -1,0 +1,144 @@
+//! How the vector is grown up to a size.
+ghost use Rattle.std.specs.Prelude.{◌≡◌, ◌+◌, ◌<◌, ◌≤◌, [], vec_capacity, IfOk, IfErr, IsOkAnd, IsErrAnd};
+ghost use Rattle.claim_core.specs.Hand.{seen_size};
+ghost use Rattle.grow_core.specs.Vector.{IsHandOf, limit_of};
+ghost use Rattle.grow_core.specs.Growth.{SaysFull, ClaimsNothing};
+ghost use Rattle.grow_core.specs.Making.{StopsAfter, IsRefusedBy, LeavesMaker};
+ghost use Rattle.grow_core.specs.AtLeast.{WonAtLeast, MadeUpTo, RefusesAtLeast, SaysEnough, ReachesSize, IsSpared};
+
+use crate::claim::Claimed;
+use crate::errors::GrowError;
+use crate::grown::Grown;
+use crate::hand::Hand;
+use crate::keys::install;
+use crate::token::Placed;
+use crate::vector::Shared;
+use claim_core::{Enough, laws};
+
+/// The result of a growth up to a size.
+#[derive(Debug, Drop)]
+pub enum AtLeast<T> {
+    /// It appended this run, which ends at the size that was asked for.
+    Ran(Grown<T>),
+    /// The size was large enough already. Nothing was appended.
+    Enough { size: u64 },
+}
+
+// What a claim up to a size came to.
+#[derive(Drop)]
+pub(crate) enum Reached<T> {
+    Won(Claimed<T>),
+    Enough { size: u64 },
+}
+
+impl<T: Drop> Shared<T> {
+    /// Appends the fewest values that make the size at least `size`, in one run that `make` makes as in
+    /// `try_grow_with`: it is called with 0, 1, 2 and so on once the run is won. If the size is large enough,
+    /// nothing is appended and that size is returned. It claims by one greatest-value step, its linearization
+    /// point, waits for nobody, and never returns `Moved`.
+    pub fn grow_to_at_least<E: Drop, F: FnMut(u64) -> Result<T, E>>(
+        &self,
+        hand: &mut Hand<T>,
+        size: u64,
+        mut make: F,
+    ) -> Result<AtLeast<T>, GrowError<T, (), E>>
+        requires ours { IsHandOf self.now hand.old }
+        requires callable { F.IsAlwaysCallable make }
+        ensures won { IfOk result (WonAtLeast F.step make self.now size hand.old hand.new) }
+        ensures refused { IfErr result (RefusesAtLeast self.now size hand.old hand.new) }
+        ensures cause { IfErr result (IsRefusedBy (StopsAfter F.step make)) }
+        // The hand's size or the limit decides before memory is asked for.
+        ensures enough { size ≤ seen_size hand.old → IsOkAnd result SaysEnough }
+        ensures full { limit_of self.now < size → IsErrAnd result SaysFull }
+    {
+        self.make_up_to(hand, size, &mut make)
+    }
+
+    // Like `grow_to_at_least`. What the maker is afterwards says that it was asked for these values alone.
+    fn make_up_to<E: Drop, F: FnMut(u64) -> Result<T, E>>(
+        &self,
+        hand: &mut Hand<T>,
+        size: u64,
+        make: &mut F,
+    ) -> Result<AtLeast<T>, GrowError<T, (), E>>
+        requires ours { IsHandOf self.now hand.old }
+        requires callable { F.IsAlwaysCallable make.old }
+        ensures won { IfOk result (WonAtLeast F.step make.old self.now size hand.old hand.new) }
+        ensures made { IfOk result (MadeUpTo F.step make.old make.new) }
+        ensures refused { IfErr result (RefusesAtLeast self.now size hand.old hand.new) }
+        ensures asked { IfErr result (LeavesMaker F.step make.old make.new) }
+        ensures enough { size ≤ seen_size hand.old → IsOkAnd result SaysEnough }
+        ensures full { limit_of self.now < size → IsErrAnd result SaysFull }
+    {
+        match self.claim_up_to(hand, size)? {
+            Reached::Enough { size } => Ok(AtLeast::Enough { size }),
+            Reached::Won(claimed) => match self.make_run(hand, claimed, make) {
+                Ok(grown) => Ok(AtLeast::Ran(grown)),
+                Err(refused) => Err(refused),
+            },
+        }
+    }
+
+    // A claim of the places from the size now up to this one, with room for their tokens.
+    fn claim_up_to<E>(
+        &self,
+        hand: &mut Hand<T>,
+        size: u64,
+    ) -> Result<Reached<T>, GrowError<T, (), E>>
+        requires ours { IsHandOf self.now hand.old }
+        ensures reached { IfOk result (ReachesSize self.now size hand.old hand.new) }
+        ensures refused { IfErr result (RefusesAtLeast self.now size hand.old hand.new) }
+        ensures unclaimed { IfErr result ClaimsNothing }
+        ensures enough { size ≤ seen_size hand.old → IsOkAnd result IsSpared }
+        ensures full { limit_of self.now < size → IsErrAnd result SaysFull }
+    {
+        let from = self.size(hand);
+        if size <= from {
+            return Ok(Reached::Enough { size: from });
+        }
+        if size > self.limit() {
+            return Err(GrowError::Full {
+                size: from,
+                back: (),
+            });
+        }
+        let Ok(tokens) = Vec::with_capacity(self.alloc, (size - from) as usize) else {
+            return Err(GrowError::NoMemory { back: () });
+        };
+        self.raise(hand, size, tokens)
+    }
+
+    // One step that makes the size at least this one, with the segments up to there installed first. A run
+    // that it wins begins at or above what the hand had seen, so the room for tokens and the segments are
+    // enough.
+    fn raise<E>(
+        &self,
+        hand: &mut Hand<T>,
+        size: u64,
+        tokens: Vec<Placed<T>>,
+    ) -> Result<Reached<T>, GrowError<T, (), E>>
+        requires ours { IsHandOf self.now hand.old }
+        requires further { seen_size hand.old < size }
+        requires within_limit { size ≤ limit_of self.now }
+        requires none { tokens.items ≡ [] }
+        requires room { size ≤ seen_size hand.old + vec_capacity tokens }
+        ensures reached { IfOk result (ReachesSize self.now size hand.old hand.new) }
+        ensures refused { IfErr result (RefusesAtLeast self.now size hand.old hand.new) }
+        ensures unclaimed { IfErr result ClaimsNothing }
+    {
+        self.laws();
+        hand.claims.laws();
+        laws::own_places_stay();
+        laws::added_places_are_of_the_run();
+        laws::added_places_are_owned();
+        laws::added_runs_are_owned();
+        let from = hand.seen();
+        let Ok(()) = install(&self.table, &mut hand.keys, from, size - from) else {
+            return Err(GrowError::NoMemory { back: () });
+        };
+        match self.word.raise(&mut hand.claims, size) {
+            Ok(run) => Ok(Reached::Won(Claimed { run, tokens })),
+            Err(Enough { size }) => Ok(Reached::Enough { size }),
+        }
+    }
+}

@@ -1,0 +1,167 @@
+//! How many values are appended at once.
+ghost use Rattle.std.specs.Prelude.{◌≡◌, ◌+◌, ◌≤◌, [], IfOk, IfErr, IsErrAnd, vec_len, vec_capacity};
+ghost use Rattle.grow_core.specs.Vector.{IsHandOf, limit_of};
+ghost use Rattle.grow_core.specs.Grown.{IsGrownOf, IsKeptRun, values_of};
+ghost use Rattle.grow_core.specs.Keys.{OwnsPlacesOf};
+ghost use Rattle.grow_core.specs.Growth.{WonRun, WonPlaces, Refuses, HasNoRoom, SaysFull, IsNotMoved};
+ghost use Rattle.grow_core.specs.Making.{StopsIn};
+
+use crate::claim::Claimed;
+use crate::errors::{GrowError, Never};
+use crate::grown::Grown;
+use crate::hand::Hand;
+use crate::token::Placed;
+use crate::vector::Shared;
+use claim_core::Run;
+use std::sync::Wait;
+
+impl<T: Drop> Shared<T> {
+    /// Appends the values in one run. It tries once, and waits for nobody. The exchange that wins the run is
+    /// its linearization point, or, if there is no value, the load of the size.
+    pub fn try_grow_vec(
+        &self,
+        hand: &mut Hand<T>,
+        values: Vec<T>,
+    ) -> Result<Grown<T>, GrowError<T, Vec<T>, Never>>
+        requires ours { IsHandOf self.now hand.old }
+        ensures won { IfOk result (WonRun self.now values.items hand.old hand.new) }
+        ensures refused { IfErr result (Refuses self.now (vec_len values) values hand.old hand.new) }
+        // Room that is missing by what the hand has seen is reported before memory is asked for.
+        ensures full { HasNoRoom self.now (vec_len values) hand.old → IsErrAnd result SaysFull }
+    {
+        let n = values.len() as u64;
+        let (claimed, values) = self.claim_run(hand, n, n, values)?;
+        self.fill_run(hand, claimed, values)
+    }
+
+    /// Appends the values like `try_grow_vec`, and retries if another caller was first.
+    pub fn grow_vec<R: Wait>(
+        &self,
+        rt: &R,
+        hand: &mut Hand<T>,
+        values: Vec<T>,
+    ) -> Result<Grown<T>, GrowError<T, Vec<T>, Never>>
+        requires ours { IsHandOf self.now hand.old }
+        ensures won { IfOk result (WonRun self.now values.items hand.old hand.new) }
+        ensures refused { IfErr result (Refuses self.now (vec_len values) values hand.old hand.new) }
+        // Room that is missing by what the hand has seen is reported before memory is asked for.
+        ensures full { HasNoRoom self.now (vec_len values) hand.old → IsErrAnd result SaysFull }
+        ensures not_moved { IfErr result IsNotMoved }
+    {
+        let n = values.len() as u64;
+        let (claimed, values) = self.claim_again(rt, hand, n, n, values)?;
+        self.fill_run(hand, claimed, values)
+    }
+
+    /// Appends the values like `grow_vec`, without tokens and without memory for them. A look shows the
+    /// values, and the closed list has them.
+    pub fn append<R: Wait>(
+        &self,
+        rt: &R,
+        hand: &mut Hand<T>,
+        values: Vec<T>,
+    ) -> Result<Run, GrowError<T, Vec<T>, Never>>
+        requires ours { IsHandOf self.now hand.old }
+        ensures won { IfOk result (WonPlaces (vec_len values) hand.old hand.new) }
+        ensures refused { IfErr result (Refuses self.now (vec_len values) values hand.old hand.new) }
+        // Room that is missing by what the hand has seen is reported before memory is asked for.
+        ensures full { HasNoRoom self.now (vec_len values) hand.old → IsErrAnd result SaysFull }
+        ensures not_moved { IfErr result IsNotMoved }
+    {
+        self.append_by(rt, hand, values, &mut |_placed: Placed<T>| {})
+    }
+
+    // Like `append`. The token of each place goes to `keep` as the place is filled: the places have the
+    // values in order.
+    fn append_by<R: Wait, K: FnMut(Placed<T>)>(
+        &self,
+        rt: &R,
+        hand: &mut Hand<T>,
+        values: Vec<T>,
+        keep: &mut K,
+    ) -> Result<Run, GrowError<T, Vec<T>, Never>>
+        requires ours { IsHandOf self.now hand.old }
+        requires callable { K.IsAlwaysCallable keep.old }
+        ensures won { IfOk result (WonPlaces (vec_len values) hand.old hand.new) }
+        ensures kept { IfOk result (λ run. IsKeptRun K.step keep.old keep.new self.now run values.items) }
+        ensures refused { IfErr result (Refuses self.now (vec_len values) values hand.old hand.new) }
+        ensures full { HasNoRoom self.now (vec_len values) hand.old → IsErrAnd result SaysFull }
+        ensures not_moved { IfErr result IsNotMoved }
+    {
+        let n = values.len() as u64;
+        let (claimed, values) = self.claim_again(rt, hand, n, 0, values)?;
+        self.place_run(hand, claimed.run, values, keep)
+    }
+
+    // Fills the places of a run of the hand's with the values. It stops at a place that was taken.
+    fn fill_run(
+        &self,
+        hand: &Hand<T>,
+        claimed: Claimed<T>,
+        values: Vec<T>,
+    ) -> Result<Grown<T>, GrowError<T, Vec<T>, Never>>
+        requires ours { IsHandOf self.now hand.now }
+        requires owned { OwnsPlacesOf hand.now claimed.run }
+        requires within { claimed.run.from + claimed.run.n ≤ limit_of self.now }
+        requires values { vec_len values ≡ claimed.run.n }
+        requires tokens { claimed.tokens.items ≡ [] }
+        requires capacity { claimed.run.n ≤ vec_capacity claimed.tokens }
+        ensures run { IfOk result (λ grown. grown.run ≡ claimed.run) }
+        ensures tokens { IfOk result (IsGrownOf self.now) }
+        ensures values { IfOk result (λ grown. values_of grown ≡ values.items) }
+        ensures stopped { IfErr result (StopsIn self.now claimed.run) }
+    {
+        self.laws();
+        let Claimed { run, mut tokens } = claimed;
+        if run.n == 0 {
+            return Ok(Grown { run, tokens });
+        }
+        let mut segment = self.find_segment(hand, run.from);
+        for value in values {
+            let place = run.from + tokens.len() as u64;
+            segment = self.next_segment(hand, segment, place);
+            match self.fill(&segment, place, value) {
+                Ok(placed) => tokens.push_reserved(placed),
+                Err(found) => return Err(GrowError::Taken { place, found }),
+            }
+        }
+        Ok(Grown { run, tokens })
+    }
+
+    // Like `fill_run`, with each token given to `keep`.
+    fn place_run<K: FnMut(Placed<T>)>(
+        &self,
+        hand: &Hand<T>,
+        run: Run,
+        values: Vec<T>,
+        keep: &mut K,
+    ) -> Result<Run, GrowError<T, Vec<T>, Never>>
+        requires ours { IsHandOf self.now hand.now }
+        requires owned { OwnsPlacesOf hand.now run }
+        requires within { run.from + run.n ≤ limit_of self.now }
+        requires values { vec_len values ≡ run.n }
+        requires callable { K.IsAlwaysCallable keep.old }
+        ensures run { IfOk result (λ filled. filled ≡ run) }
+        ensures kept { IfOk result (λ _. IsKeptRun K.step keep.old keep.new self.now run values.items) }
+        ensures stopped { IfErr result (StopsIn self.now run) }
+    {
+        self.laws();
+        if run.n == 0 {
+            return Ok(run);
+        }
+        let mut segment = self.find_segment(hand, run.from);
+        let mut place = run.from;
+        for value in values {
+            segment = self.next_segment(hand, segment, place);
+            match self.fill(&segment, place, value) {
+                Ok(placed) => keep(placed),
+                Err(there) => return Err(GrowError::Taken {
+                    place,
+                    found: there,
+                }),
+            }
+            place += 1;
+        }
+        Ok(run)
+    }
+}

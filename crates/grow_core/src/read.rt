@@ -1,0 +1,165 @@
+//! How the vector is read.
+ghost use Rattle.std.specs.Prelude.{◌≡◌, ◌<◌, IfOk, IfErr, IfSome, IsOkAnd, IsSomeAnd, None};
+ghost use Rattle.claim_core.specs.Hand.{seen_size};
+ghost use Rattle.grow_core.specs.Vector.{IsHandOf, IsPlacedOf, IsOpenedAt, SeesMore, limit_of};
+ghost use Rattle.grow_core.specs.Read.{IsAt, IsShownAt, ShowsValue, IsDueAt, IsInRange};
+
+use crate::errors::AtError;
+use crate::hand::Hand;
+use crate::parts::cell_of;
+use crate::token::{Placed, Spoilt};
+use crate::vector::Shared;
+use cell_core::block::Look;
+use seg_core::laws::places;
+
+/// The value at a place, and the token that shows it.
+#[derive(Debug, Drop)]
+pub struct At<'a, T> {
+    pub value: &'a T,
+    pub placed: Placed<T>,
+}
+
+/// The state of a place, as a look shows it.
+#[derive(Debug, Drop)]
+pub enum Shown<'a, T> {
+    /// Nothing yet: it is not filled, and maybe not claimed.
+    Pending,
+    /// A value.
+    Filled(At<'a, T>),
+    /// None: it is broken.
+    Broken(Spoilt),
+}
+
+impl<T> Shared<T> {
+    /// Returns the value at the place. With a token this is one look at the place; without one, a load of the
+    /// size comes first.
+    #[inline(always)]
+    pub fn at<'a>(
+        &'a self,
+        hand: &mut Hand<T>,
+        place: u64,
+        known: Option<&Placed<T>>,
+    ) -> Result<At<'a, T>, AtError>
+        requires ours { IsHandOf self.now hand.old }
+        requires known { IfSome known (λ p. IsPlacedOf self.now p.now × (p.now.place ≡ place)) }
+        ensures at { IfOk result (IsAt self.now place) }
+        // Without a token it is a place that the hand has then seen.
+        ensures below { known.entry ≡ None → IfOk result (λ _. place < seen_size hand.new) }
+        ensures refused { IfErr result (IsDueAt self.now place hand.old hand.new) }
+        // A caller with a token reads the token's value.
+        ensures known { IfSome known.entry (λ p. IsOkAnd result (λ a. a.value.now ≡ p.now.value)) }
+        // A value of the opened list is read by everybody, token or not.
+        ensures opened { (x : T) → IsOpenedAt self.now place x → IsOkAnd result (λ a. a.value.now ≡ x) }
+        // A place that was claimed stays claimed.
+        ensures in_range { place < seen_size hand.old → IfErr result IsInRange }
+        ensures hand { SeesMore hand.old hand.new }
+    {
+        if let Some(token) = known {
+            self.opened_agrees(token);
+            return Ok(At {
+                value: self.get(token),
+                placed: token.again(),
+            });
+        }
+        let size = self.size(hand);
+        if place >= size {
+            return Err(AtError::OutOfRange { size });
+        }
+        match self.look(place) {
+            Shown::Pending => Err(AtError::Pending),
+            Shown::Filled(at) => Ok(at),
+            Shown::Broken(spoilt) => Err(AtError::Broken(spoilt)),
+        }
+    }
+
+    /// Looks once at what the place shows now, without a hand. A place that nobody claimed, or past the
+    /// limit, shows nothing yet.
+    #[inline]
+    pub fn look(&self, place: u64) -> Shown<'_, T>
+        ensures shown { IsShownAt self.now place result }
+        // A value of the opened list is shown to everybody.
+        ensures opened { (x : T) → IsOpenedAt self.now place x → ShowsValue x result }
+    {
+        self.laws();
+        if place >= self.limit() {
+            return Shown::Pending;
+        }
+        match self.opened_at(place) {
+            Some(at) => Shown::Filled(at),
+            None => self.look_into(place),
+        }
+    }
+
+    // The value that the opened list has at the place, if it has one there.
+    fn opened_at(&self, place: u64) -> Option<At<'_, T>>
+        requires { place < limit_of self.now }
+        ensures at { IfSome result (IsAt self.now place) }
+        ensures opened { (x : T) → IsOpenedAt self.now place x → IsSomeAnd result (λ a. a.value.now ≡ x) }
+    {
+        if place >= self.word.base() {
+            return None;
+        }
+        let (_, offset, key) = cell_of(&self.table, &self.keys, self.count, place);
+        let (value, cell) = self.table.known(&key).known(offset, &self.row.at(place))?;
+        Some(At {
+            value,
+            placed: Placed { key, cell },
+        })
+    }
+
+    // Shows a proof that a token has the value of the opened list, if that has one at its place.
+    fn opened_agrees(&self, placed: &Placed<T>)
+        requires { IsPlacedOf self.now placed.now }
+        ensures { (x : T) → IsOpenedAt self.now placed.now.place x → placed.now.value ≡ x }
+    {
+        let place = placed.place();
+        if place < self.word.base() {
+            places();
+            let (_, _, key) = cell_of(&self.table, &self.keys, self.count, place);
+            self.table.agree(&key, &placed.key);
+            self.row.at(place).agree(&placed.cell);
+        }
+    }
+
+    // What the cell of a place shows: nothing either if its segment is not installed yet.
+    fn look_into(&self, place: u64) -> Shown<'_, T>
+        requires { place < limit_of self.now }
+        ensures { IsShownAt self.now place result }
+    {
+        self.laws();
+        let (segment, offset) = self.table.layout().locate(place);
+        let Some((block, key)) = self.table.scout_key(segment) else {
+            return Shown::Pending;
+        };
+        match block.look(offset) {
+            Look::Empty | Look::Busy => Shown::Pending,
+            Look::Filled(value, cell) => Shown::Filled(At {
+                value,
+                placed: Placed { key, cell },
+            }),
+            Look::Broken(cell) => Shown::Broken(Spoilt { key, cell }),
+        }
+    }
+
+    /// Returns the token's value, by one look at its place.
+    #[inline(always)]
+    pub fn get<'a>(&'a self, placed: &Placed<T>) -> &'a T
+        requires { IsPlacedOf self.now placed.now }
+        ensures { result.now ≡ placed.now.value }
+    {
+        self.table.known(&placed.key).value(&placed.cell)
+    }
+
+    /// Shows a proof that two tokens of one place have one value.
+    pub fn agree(&self, a: &Placed<T>, b: &Placed<T>)
+        requires ours { IsPlacedOf self.now a.now }
+        requires also_ours { IsPlacedOf self.now b.now }
+        ensures { a.now.place ≡ b.now.place → a.now.value ≡ b.now.value }
+    {
+        if a.place() == b.place() {
+            places();
+            self.table.agree(&a.key, &b.key);
+            self.table.known(&a.key).agree(&a.cell, &b.cell);
+        }
+    }
+}

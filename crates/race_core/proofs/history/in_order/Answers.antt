@@ -1,5 +1,0 @@
-use Rattle.race_core.proofs.Wins.{all_put}
-use Rattle.race_core.proofs.history.in_order.Goals as goal
-
-pub returns : goal.returns
-returns c = all_put c.args.size c.args.wins.now c.loop-win.win-index c.loop-win.slots.items c.loop-win-test.false c.requires c.loop-win.invariant

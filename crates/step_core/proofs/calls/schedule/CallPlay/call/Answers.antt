@@ -1,5 +1,0 @@
-use Rattle.step_core.proofs.whole_calls.Legal.{call_legal}
-use Rattle.step_core.proofs.calls.schedule.CallPlay.call.Goals as goal
-
-pub happen_all-requires : goal.happen_all-requires
-happen_all-requires c = rw (c.deref.ensures.value, c.in_ok-call.ensures.0, ← c.self.view_is) (call_legal _ _ _ c.requires.sound)

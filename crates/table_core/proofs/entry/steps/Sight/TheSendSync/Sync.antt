@@ -1,7 +1,0 @@
-use denote.RattleType.{RattleType}
-use denote.Param.Send.{IsSync}
-use Rattle.table_core.proofs.Sent as sent
-use Rattle.table_core.specs.contracts.entry.steps.Sight.{the_row}
-
-pub sync : (T : RattleType) → IsSync (the_row T)
-sync = sent.sight_sync

@@ -5,7 +5,7 @@ ghost use Rattle.std.specs.Thread.{IsSync};
 ghost use Rattle.grow_core.specs.Vector.{IsHandOf};
 
 use crate::other_vectors::push_boxcar;
-use crate::shared_vector::{open_empty_in, hands_for, push, push_by_calls};
+use crate::shared_vector::{hands_for, open_empty_in, push, push_by_calls};
 use crate::trial::{print_nanoseconds, time_hands, time_threads};
 use anyhow::{Result, bail};
 use grow_core::{Hand, Never, Shared};

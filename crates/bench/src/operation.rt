@@ -37,11 +37,19 @@ pub struct Group {
 /// The groups of measured operations.
 pub const GROUPS: [Group; 2] = [
     Group {
-        operations: [Operation::ClaimWord, Operation::BareExchange, Operation::BareAddition],
+        operations: [
+            Operation::ClaimWord,
+            Operation::BareExchange,
+            Operation::BareAddition,
+        ],
         tries: 2_000_000,
     },
     Group {
-        operations: [Operation::SharedVector, Operation::LockedVec, Operation::Boxcar],
+        operations: [
+            Operation::SharedVector,
+            Operation::LockedVec,
+            Operation::Boxcar,
+        ],
         tries: 200_000,
     },
 ];

@@ -58,7 +58,8 @@ apply_event v (Raise actor to) =
     then Some (with_pending v actor (to - length v.cells), replies.Run (length v.cells) (to - length v.cells))
     else None
 apply_event v (Finish actor place value) =
-    if is_pending_for actor (slice_get v.cells place) then Some (with_cell v place (Filled value), replies.Done) else None
+    if is_pending_for actor (slice_get v.cells place) then Some (with_cell v place (Filled value), replies.Done)
+    else None
 apply_event v (Break actor place) =
     if is_pending_for actor (slice_get v.cells place) then Some (with_cell v place Broken, replies.Done) else None
 apply_event v (Mend actor place) =

@@ -23,7 +23,8 @@ RunsSplit = (es fs : List (Event × Reply)) → runs_of (es ++ fs) ≡ runs_of e
 -- a run ends before any run that is claimed later begins
 abbrev pub RunsAreApart : Type 0
 RunsAreApart =
-    (old mid new : CellList) (es fs : List (Event × Reply)) (run later : OwnedRun) → IsHistory old es mid → IsHistory mid fs new
+    (old mid new : CellList) (es fs : List (Event × Reply)) (run later : OwnedRun) → IsHistory old es mid
+    → IsHistory mid fs new
     → Contains (runs_of es) run → Contains (runs_of fs) later → run.from + run.n ≤ later.from
 
 -- what was done at a place in a history in two parts is what was done in the first, and then what was done in
@@ -58,7 +59,9 @@ AnyoneMends =
 
 -- the runs of a history tile the places that it appends
 abbrev pub HistoriesTile : Type 0
-HistoriesTile = (old new : CellList) (es : List (Event × Reply)) → IsHistory old es new → Tile (length old.cells) (runs_of es) (length new.cells)
+HistoriesTile =
+    (old new : CellList) (es : List (Event × Reply)) → IsHistory old es new
+    → Tile (length old.cells) (runs_of es) (length new.cells)
 
 -- a filled cell stays filled with its value
 abbrev pub FilledCellsStay : Type 0
@@ -100,7 +103,8 @@ ValuesHaveOneWriter =
 abbrev pub LooksTellTheWritersValue : Type 0
 LooksTellTheWritersValue =
     (limit : ℕ) (new : CellList) (es rest : List (Event × Reply)) (actor place value : ℕ)
-    → IsHistory (empty_list limit) (es ++ (Look actor place, replies.Value value) ∷ rest) new → IsFilledOnce es place value
+    → IsHistory (empty_list limit) (es ++ (Look actor place, replies.Value value) ∷ rest) new
+    → IsFilledOnce es place value
 
 -- a place that an event of a history filled holds that value at its end
 abbrev pub FinishesFill : Type 0

@@ -10,8 +10,10 @@ use std::alloc::{AllocError, Global};
 
 // Tests whether the event is legal and has this reply. A legal event happens, with another reply too.
 fn apply_with_reply(list: &mut CellVec, event: Event, reply: Reply) -> Result<bool, AllocError>
-    ensures yes { IfOk result (λ yes. IsTrue yes → apply_event list.old event ≡ Some (list.new, reply)) }
-    ensures no { IfOk result (λ yes. yes ≡ false → IfSome (apply_event list.old event) (λ after. after.1 ≢ reply)) }
+    ensures yes { IfOk result
+        (λ yes. IsTrue yes → apply_event list.old event ≡ Some (list.new, reply)) }
+    ensures no { IfOk result (λ yes. yes ≡ false
+        → IfSome (apply_event list.old event) (λ after. after.1 ≢ reply)) }
 {
     match list.apply(event) {
         Ok(replied) => Ok(replied == reply),

@@ -156,10 +156,13 @@ impl CellVec {
     }
 
     fn claim(&mut self, actor: u32, n: u64) -> Result<Reply, BookError>
-        ensures ok { IfOk result (λ reply. apply_event self.old (Event.Claim actor n) ≡ Some (self.new, reply)) }
-        ensures not_legal { IsErrOf result BookError.NotLegal ↔ IsNone (apply_event self.old (Event.Claim actor n)) }
+        ensures ok { IfOk result (λ reply. apply_event self.old (Event.Claim actor n)
+            ≡ Some (self.new, reply)) }
+        ensures not_legal { IsErrOf result BookError.NotLegal ↔ IsNone
+            (apply_event self.old (Event.Claim actor n)) }
         ensures err { OnErr result (self.new ≡ self.old) }
-        ensures no_memory_taken { AppendsNothing self.old (Event.Claim actor n) → result ≢ Err BookError.NoMemory }
+        ensures no_memory_taken { AppendsNothing self.old (Event.Claim actor n)
+            → result ≢ Err BookError.NoMemory }
     {
         let from = self.size();
         if !self.fits(n) {
@@ -172,10 +175,13 @@ impl CellVec {
     }
 
     fn raise(&mut self, actor: u32, to: u64) -> Result<Reply, BookError>
-        ensures ok { IfOk result (λ reply. apply_event self.old (Event.Raise actor to) ≡ Some (self.new, reply)) }
-        ensures not_legal { IsErrOf result BookError.NotLegal ↔ IsNone (apply_event self.old (Event.Raise actor to)) }
+        ensures ok { IfOk result (λ reply. apply_event self.old (Event.Raise actor to)
+            ≡ Some (self.new, reply)) }
+        ensures not_legal { IsErrOf result BookError.NotLegal ↔ IsNone
+            (apply_event self.old (Event.Raise actor to)) }
         ensures err { OnErr result (self.new ≡ self.old) }
-        ensures no_memory_taken { AppendsNothing self.old (Event.Raise actor to) → result ≢ Err BookError.NoMemory }
+        ensures no_memory_taken { AppendsNothing self.old (Event.Raise actor to)
+            → result ≢ Err BookError.NoMemory }
     {
         let from = self.size();
         if to <= from {
@@ -207,7 +213,8 @@ impl CellVec {
 
     // The actor takes a broken place.
     fn mend(&mut self, actor: u32, place: u64) -> Result<Reply, BookError>
-        ensures ok { IfOk result (λ reply. apply_event self.old (Event.Mend actor place) ≡ Some (self.new, reply)) }
+        ensures ok { IfOk result (λ reply. apply_event self.old (Event.Mend actor place)
+            ≡ Some (self.new, reply)) }
         ensures err { IfErr result (λ e. (e ≡ BookError.NotLegal) × (self.new ≡ self.old)
             × IsNone (apply_event self.old (Event.Mend actor place))) }
     {
@@ -247,7 +254,8 @@ impl CellVec {
     }
 
     fn refuse(&self, n: u64) -> Result<Reply, BookError>
-        ensures ok { IfOk result (λ reply. apply_event self.now (Event.RefusedFull 0 n) ≡ Some (self.now, reply)) }
+        ensures ok { IfOk result (λ reply. apply_event self.now (Event.RefusedFull 0 n)
+            ≡ Some (self.now, reply)) }
         ensures err { IfErr result (λ e. (e ≡ BookError.NotLegal)
             × IsNone (apply_event self.now (Event.RefusedFull 0 n))) }
     {

@@ -65,4 +65,5 @@ OfEveryCount Holds =
 abbrev pub PushesTakeFewSteps : Played → Type 0
 PushesTakeFewSteps played =
     (i value : ℕ) (ended : Ended) (work : Work) → slice_get played.ended i ≡ Some ended
-    → slice_get played.work i ≡ Some work → ended.command ≡ commands.Push value → work.steps ≤ 3 + 3 * (growths_of_others ended.actor played.events + 1)
+    → slice_get played.work i ≡ Some work → ended.command ≡ commands.Push value
+    → work.steps ≤ 3 + 3 * (growths_of_others ended.actor played.events + 1)

@@ -1,7 +1,7 @@
 -- A block of cells as callers see it, and what is seen of its pens and tokens.
 use Rattle.std.specs.Prelude.{◌≡◌, ◌≢◌, ℕ, ◌<◌, List, length}
 use base.Stored.{Coded, coded×, coded_ℕ, coded_list, coded_via}
-use Rattle.cell_core.specs.Slot.{Names, names_coded}
+use Rattle.cell_core.specs.Slot.{Names, names_coded, empty_word, filled_word}
 use Rattle.cell_core.specs.Laid.{IsAnother, cell_in}
 use Rattle.cell_core.specs.Member.{MemberView, HasNames}
 
@@ -69,11 +69,11 @@ pub record IsPenAt (block : BlockView) (offset : ℕ) (pen : PenView) : Type 0 w
 
 -- the word is that of a broken cell
 abbrev pub IsBrokenWord : ℕ → Type 0
-IsBrokenWord word = 2 < word
+IsBrokenWord word = filled_word < word
 
 -- the pen's exchange found the cell empty
 abbrev pub IsFresh : PenView → Type 0
-IsFresh pen = pen.found ≡ 0
+IsFresh pen = pen.found ≡ empty_word
 
 -- the pen's exchange found the cell broken
 abbrev pub IsMending : PenView → Type 0

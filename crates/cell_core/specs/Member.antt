@@ -4,7 +4,7 @@ use Rattle.std.specs.Coded.{coded_option}
 use base.Stored.{Coded, gnil, coded×, coded_ℕ, coded_list, coded_via}
 use base.Fml.{Lft, GName, Fml, ftrue, fsep, fauth, finv}
 use denote.RattleType.{RattleType}
-use Rattle.cell_core.specs.Slot.{Names, written}
+use Rattle.cell_core.specs.Slot.{Names, written, filled_word, owner_broken_word}
 use Rattle.cell_core.specs.Laid.{IsAnother, cell_in}
 
 -- what is known of a cell: the value that it always keeps and the value's name; or otherwise the epoch in
@@ -47,12 +47,12 @@ HasNames γ None name epoch = epoch ≡ γ.epoch
 
 -- the word of a cell by what is known of it, while its epoch lasts
 abbrev pub IsWordOf : {T : Type 0} → Option T → ℕ → Type 0
-IsWordOf (Some x) word = word ≡ 2
-IsWordOf None word = word ≡ 4
+IsWordOf (Some x) word = word ≡ filled_word
+IsWordOf None word = word ≡ owner_broken_word
 
 -- the same at any time: a cell that is not known to have a value may have any word
 abbrev pub MayBeWordOf : {T : Type 0} → Option T → ℕ → Type 0
-MayBeWordOf (Some x) word = word ≡ 2
+MayBeWordOf (Some x) word = word ≡ filled_word
 MayBeWordOf None word = Unit {0}
 
 -- the epoch is that of a cell that is not known to have a value

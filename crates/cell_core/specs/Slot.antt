@@ -25,7 +25,8 @@ pub record Names : Type 0 where
 -- how the names are stored
 abbrev pub names_coded : Coded Names
 names_coded =
-    coded_via (coded× coded_ℕ (coded× coded_ℕ (coded_list coded_ℕ))) (λ (n : Names). (n.value_name, (n.broken_name, n.epoch)))
+    coded_via (coded× coded_ℕ (coded× coded_ℕ (coded_list coded_ℕ)))
+    (λ (n : Names). (n.value_name, (n.broken_name, n.epoch)))
     (λ x y e i. record { value_name = (e i).0; broken_name = (e i).1.0; epoch = (e i).1.1 })
 
 -- a cell is free, busy with one writer, full, broken, or broken by an owner for its epoch
@@ -35,6 +36,22 @@ pub data Phase (X : Type 0) : Type 0 where
   full : X → Phase X
   broken : Phase X
   broken_by_owner : Phase X
+
+-- the word of a cell that is free, that one writer has, that is full, that is broken, and that an owner broke
+abbrev pub empty_word : ℕ
+empty_word = 0
+
+abbrev pub busy_word : ℕ
+busy_word = 1
+
+abbrev pub filled_word : ℕ
+filled_word = 2
+
+abbrev pub broken_word : ℕ
+broken_word = 3
+
+abbrev pub owner_broken_word : ℕ
+owner_broken_word = 4
 
 -- the word, what the room holds, and the phase
 abbrev pub Rest : Type 0 → Type 0
@@ -122,11 +139,11 @@ module _ (R : RattleType) where
 
     -- the word of each phase, with what goes with it
     abbrev pub told : ℕ → Phase R.Denot → Fml
-    told n free = fsep (feq ℕ n 0) settable
-    told n busy = fsep (feq ℕ n 1) over
-    told n (full x) = fsep (feq ℕ n 2) (fsep over (written γ.value_name x))
-    told n broken = fsep (feq ℕ n 3) (fsep over broken_unset)
-    told n broken_by_owner = fsep (feq ℕ n 4) broken_unset
+    told n free = fsep (feq ℕ n empty_word) settable
+    told n busy = fsep (feq ℕ n busy_word) over
+    told n (full x) = fsep (feq ℕ n filled_word) (fsep over (written γ.value_name x))
+    told n broken = fsep (feq ℕ n broken_word) (fsep over broken_unset)
+    told n broken_by_owner = fsep (feq ℕ n owner_broken_word) broken_unset
 
     -- the names and the word
     abbrev pub named : ℕ → Phase R.Denot → Fml

@@ -1,6 +1,7 @@
 //! A block of cells, laid raw in one row: each is a state word and room for one value.
 ghost use Rattle.std.specs.Prelude.{◌≡◌, ◌≢◌, ◌<◌, Some, None, IsSomeAnd, IfSome, IfOk, IfErr, IsErrAnd};
 ghost use Rattle.cell_core.specs.Block.{block_len, cell_at, IsPenAt, IsFresh, IsMending, IsPlacedIn, IsPlacedAt, IsMemberAt};
+ghost use Rattle.cell_core.specs.Slot.{empty_word};
 ghost use Rattle.cell_core.specs.Shown.{IsFoundIn, IsNotEmpty, ShowsFilled, IsLookAt};
 
 mod begun;
@@ -13,7 +14,7 @@ mod shown;
 mod spoilt;
 mod steps;
 
-use crate::slot::steps::{RawPen, RawSlot};
+use crate::slot::steps::{BROKEN, BUSY, EMPTY, FILLED, RawPen, RawSlot};
 pub use begun::Begun;
 pub use epoch::{EndedEpoch, Epoch};
 pub use member::{Member, Row};
@@ -86,18 +87,18 @@ impl<T, A: Allocator> Block<T, A> {
         requires { (offset < block_len self.now) × (pen.of ≡ cell_at self.now offset)
             × (pen.found ≡ found) × (found ≢ pen.sought) }
         ensures found { IsFoundIn self.now offset result }
-        ensures not_empty { found ≢ 0 → IsNotEmpty result }
+        ensures not_empty { found ≢ empty_word → IsNotEmpty result }
     {
         match found {
-            0 => {
+            EMPTY => {
                 pen.unused();
                 Found::Empty
             }
-            1 => {
+            BUSY => {
                 let begun = pen.begun();
                 Found::Busy(Begun { offset, begun })
             }
-            2 => {
+            FILLED => {
                 let written = pen.written();
                 Found::Filled(Placed { offset, written })
             }
@@ -117,7 +118,7 @@ impl<T, A: Allocator> Block<T, A> {
         ensures not_empty { IfErr result IsNotEmpty }
     {
         let (found, pen) = self.cell(offset).begin();
-        if found == 0 {
+        if found == EMPTY {
             Ok(Pen { offset, pen })
         } else {
             Err(self.lost(offset, found, pen))
@@ -133,7 +134,7 @@ impl<T, A: Allocator> Block<T, A> {
         ensures found { IfErr result (IsFoundIn self.now offset) }
     {
         let (found, pen) = self.cell(offset).mend();
-        if found == 3 {
+        if found == BROKEN {
             Ok(Pen { offset, pen })
         } else {
             Err(self.lost(offset, found, pen))
@@ -161,7 +162,7 @@ impl<T, A: Allocator> Block<T, A> {
                 pen.unused();
                 self.mend(offset)
             }
-            2 => {
+            FILLED => {
                 let written = pen.written();
                 member.member.agrees(&written);
                 Err(Found::Filled(Placed { offset, written }))
@@ -177,15 +178,15 @@ impl<T, A: Allocator> Block<T, A> {
     {
         let cell = self.cell(offset);
         match cell.sight() {
-            (0, sight) => {
+            (EMPTY, sight) => {
                 sight.unused();
                 Look::Empty
             }
-            (1, sight) => {
+            (BUSY, sight) => {
                 sight.unused();
                 Look::Busy
             }
-            (2, sight) => {
+            (FILLED, sight) => {
                 let written = sight.written();
                 Look::Filled(cell.value(&written), Placed { offset, written })
             }
@@ -226,7 +227,7 @@ impl<T, A: Allocator> Block<T, A> {
     {
         let cell = self.cell(offset);
         match cell.word(&member.member) {
-            (2, sight) => {
+            (FILLED, sight) => {
                 let written = sight.written();
                 member.member.agrees(&written);
                 Some((cell.value(&written), Placed { offset, written }))

@@ -4,6 +4,7 @@ use Rattle.std.specs.List.{Contains, list_any}
 use mathlib.Core.List.{IsPrefix}
 use Rattle.claim_core.specs.declared.run.Run.{Run}
 use Rattle.claim_core.specs.Lengths.{InRun, run_start, runs_end, places_in}
+use Rattle.claim_core.specs.Shares.{all_shares}
 use Rattle.claim_core.specs.Word.{WordView}
 
 -- the word that it belongs to, the lengths of all runs that it has seen, the indices of its own runs among
@@ -28,11 +29,11 @@ IsHandOf word hand = hand.of ≡ word
 
 -- the hand has all shares
 abbrev pub IsWholeHand : HandView → Type 0
-IsWholeHand hand = hand.shares ≡ 65536
+IsWholeHand hand = hand.shares ≡ all_shares
 
 -- the word's first hand has all shares, and has seen nothing
 abbrev pub IsNewHand : WordView → HandView → Type 0
-IsNewHand word hand = hand ≡ record { of = word; seen = []; mine = []; shares = 65536 }
+IsNewHand word hand = hand ≡ record { of = word; seen = []; mine = []; shares = all_shares }
 
 -- the hand's word, indices and shares are as before
 pub record KeepsOwn (old new : HandView) : Type 0 where
@@ -81,7 +82,8 @@ OwnsRun hand run = (index : ℕ) × Contains hand.mine index × SeesRun hand ind
 -- whether the run is the one of this index among those that the hand has seen
 abbrev pub is_run_at : HandView → Run → ℕ → Bool
 is_run_at hand run index =
-    nat_lt index (length hand.seen) && ((run.from == run_start hand.of.base hand.seen index) && (run.n == slice_index hand.seen index))
+    nat_lt index (length hand.seen)
+    && ((run.from == run_start hand.of.base hand.seen index) && (run.n == slice_index hand.seen index))
 
 -- the hand owns the run, said without its index, so that a ghost field can hold it
 abbrev pub IsOwnRun : HandView → Run → Type 0

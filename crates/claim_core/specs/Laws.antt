@@ -9,7 +9,8 @@ use Rattle.claim_core.specs.Hand.{HandView, KeepsOwn, AddsRun, SeesRun, OwnsRun,
 -- a run stays where it is when the list goes on
 abbrev pub RunsStay : Type 0
 RunsStay =
-    (base : ℕ) (before after : List ℕ) (k place : ℕ) → IsPrefix before after → InRun base before k place → InRun base after k place
+    (base : ℕ) (before after : List ℕ) (k place : ℕ) → IsPrefix before after → InRun base before k place
+    → InRun base after k place
 
 -- a run of the longer list, whose index is below the length of the shorter one, is a run of the shorter one
 abbrev pub RunsWereThere : Type 0
@@ -121,7 +122,8 @@ JoinedPlacesAddUp =
 -- a hand that two were joined into owns the runs that one of them owned
 abbrev pub JoinedHandsOwnRuns : Type 0
 JoinedHandsOwnRuns =
-    (a b new : HandView) (run : Run) → new.of ≡ a.of → new.of ≡ b.of → IsPrefix a.seen new.seen → IsPrefix b.seen new.seen
+    (a b new : HandView) (run : Run) → new.of ≡ a.of → new.of ≡ b.of → IsPrefix a.seen new.seen
+    → IsPrefix b.seen new.seen
     → new.mine ≡ a.mine ++ b.mine → OwnsRun a run ⊎ OwnsRun b run → OwnsRun new run
 
 -- single places of two hands that own no run in common, and have seen the same, differ

@@ -1,4 +1,5 @@
 pub mod Lengths
+pub mod Shares
 pub mod Word
 pub mod Hand
 pub mod Laws

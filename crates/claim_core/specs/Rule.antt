@@ -8,6 +8,7 @@ use Rattle.atomic_table.specs.Table.{State}
 use Rattle.claim_core.specs.declared.seat_view.SeatView.{SeatView}
 use Rattle.claim_core.specs.declared.terms.Terms.{Terms}
 use Rattle.claim_core.specs.Lengths.{runs_end, times, once_below}
+use Rattle.claim_core.specs.Shares.{all_shares}
 
 -- a number of each view, added up
 abbrev pub total : (SeatView → ℕ) → List SeatView → ℕ
@@ -23,7 +24,7 @@ pub record Suits (lengths : List ℕ) (v : SeatView) : Type 0 where
   pub own : (k : ℕ) → times k v.mine ≤ once_below k (length v.seen)
   pub spent : v.shares ≡ 0 → (v.seen ≡ []) × (v.mine ≡ [])
 
--- the size is where the lengths end, at most the limit. All seats together own each run once, and have 65536
+-- the size is where the lengths end, at most the limit. All seats together own each run once, and have all_shares
 -- shares
 pub record Fits (limit base size : ℕ) (lengths : List ℕ) (views : List SeatView) : Type 0 where
   pub ends : size ≡ runs_end base lengths
@@ -31,7 +32,7 @@ pub record Fits (limit base size : ℕ) (lengths : List ℕ) (views : List SeatV
   pub positive : All (λ n. 0 < n) lengths
   pub each : (id : ℕ) (v : SeatView) → get_elem? views id ≡ some v → Suits lengths v
   pub owned : (k : ℕ) → total (λ v. times k v.mine) views ≡ once_below k (length lengths)
-  pub shares : total (λ v. v.shares) views ≡ 65536
+  pub shares : total (λ v. v.shares) views ≡ all_shares
 
 -- the size is the middle one of 33 words, so that nothing else lies near it
 abbrev pub word_count : ℕ

@@ -6,11 +6,21 @@ use Rattle.atomic_table.specs.Table.{Me, Step}
 use Rattle.claim_core.specs.declared.seat_view.SeatView.{SeatView}
 use Rattle.claim_core.specs.declared.terms.Terms.{Terms}
 use Rattle.claim_core.specs.Lengths.{runs_end, times, once_below}
+use Rattle.claim_core.specs.Shares.{all_shares}
 
 -- the first seat has all shares, and has seen nothing
 abbrev pub first_view : Terms → SeatView
 first_view terms =
-    record { limit = terms.limit; base = terms.base; mark = terms.mark.numbers; seen = []; mine = []; shares = 65536; one = []; other = [] }
+    record {
+      limit = terms.limit;
+      base = terms.base;
+      mark = terms.mark.numbers;
+      seen = [];
+      mine = [];
+      shares = all_shares;
+      one = [];
+      other = [];
+    }
 
 -- a seat that was joined to another has nothing left
 abbrev pub spent_view : SeatView
@@ -38,15 +48,24 @@ joined_view v w =
 -- a view with these runs and shares
 abbrev pub with_own : SeatView → List ℕ → ℕ → SeatView
 with_own v mine shares =
-    record { limit = v.limit; base = v.base; mark = v.mark; seen = v.seen; mine = mine; shares = shares; one = []; other = [] }
+    record {
+      limit = v.limit;
+      base = v.base;
+      mark = v.mark;
+      seen = v.seen;
+      mine = mine;
+      shares = shares;
+      one = [];
+      other = [];
+    }
 
 -- what a seat keeps that no join has left unsettled
 pub record IsConsistent (v : SeatView) : Type 0 where
   pub positive : All (λ n. 0 < n) v.seen
   pub within : runs_end v.base v.seen ≤ v.limit
-  pub shares : v.shares ≤ 65536
+  pub shares : v.shares ≤ all_shares
   pub own : (k : ℕ) → times k v.mine ≤ once_below k (length v.seen)
-  pub whole : v.shares ≡ 65536 → (k : ℕ) → times k v.mine ≡ once_below k (length v.seen)
+  pub whole : v.shares ≡ all_shares → (k : ℕ) → times k v.mine ≡ once_below k (length v.seen)
 
 -- the seat's word, runs and shares stay
 pub record SameOwn (v w : SeatView) : Type 0 where
@@ -97,7 +116,8 @@ settled step v found w = Settles v.0 w.0 × (w.1 ≡ v.1)
 -- an exchange: it wins if it finds what it expected
 abbrev pub exchanged : Step (Unit {0}) → Seated → ℕ → Seated → Type 0
 exchanged step v found w =
-    MatchBool (found == step.first) (Claims v.0 found (step.second - step.first) w.0) (Looks v.0 found w.0) × (w.1 ≡ v.1)
+    MatchBool (found == step.first) (Claims v.0 found (step.second - step.first) w.0) (Looks v.0 found w.0)
+    × (w.1 ≡ v.1)
 
 -- a greatest-value step: it grows the size if it finds less
 abbrev pub raised : Step (Unit {0}) → Seated → ℕ → Seated → Type 0

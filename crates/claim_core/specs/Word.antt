@@ -15,7 +15,8 @@ pub record WordView : Type 0 where
 -- how that is stored
 abbrev pub word_coded : Coded WordView
 word_coded =
-    coded_via (coded× table_id_coded (coded× coded_ℕ (coded× coded_ℕ (coded_list coded_ℕ)))) (λ (w : WordView). (w.table, (w.limit, (w.base, w.mark))))
+    coded_via (coded× table_id_coded (coded× coded_ℕ (coded× coded_ℕ (coded_list coded_ℕ))))
+    (λ (w : WordView). (w.table, (w.limit, (w.base, w.mark))))
     (λ x y e i. record { table = (e i).0; limit = (e i).1.0; base = (e i).1.1.0; mark = (e i).1.1.1 })
 
 -- a word may have this limit, and begin at this base

@@ -3,6 +3,7 @@ ghost use Rattle.std.specs.Prelude.{◌≡◌, ℕ, ◌+◌, ◌<◌, ◌≤◌,
 ghost use Rattle.std.specs.List.{IsDistinct};
 ghost use Rattle.claim_core.specs.Lengths.{Tiles, times};
 ghost use Rattle.claim_core.specs.Hand.{IsWholeHand, seen_size, own_places};
+ghost use Rattle.claim_core.specs.Shares.{all_shares};
 
 use crate::seat_view::SeatView;
 use atomic_table::Seat;
@@ -68,8 +69,9 @@ impl Hand {
         ensures distinct { IsDistinct nat_eq self.now.mine }
         ensures places { self.now.of.base + own_places self.now ≤ seen_size self.now }
         ensures some_shares { 0 < self.now.shares }
-        ensures not_more { self.now.shares ≤ 65536 }
+        ensures not_more { self.now.shares ≤ all_shares }
     {
+        // For the proof: reading a field shows the type's invariant.
         let _seen = self.seen;
     }
 
@@ -81,6 +83,7 @@ impl Hand {
         ensures tiles { Tiles self.now.of.base self.now.seen self.now.mine }
         ensures size { seen_size self.now ≡ self.now.of.base + own_places self.now }
     {
+        // For the proof: reading a field shows the type's invariant.
         let _shares = self.shares;
     }
 

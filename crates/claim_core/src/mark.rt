@@ -25,6 +25,7 @@ impl Mark {
     pub fn of<X, M: Marks<X>>(x: &X) -> Mark
         ensures { result.numbers ≡ M.numbers x.now }
     {
+        // Only the contract speaks of `x`.
         let _ = x;
         Mark {
             marker: PhantomData,

@@ -149,6 +149,7 @@ impl<A: Allocator> Word<A> {
     pub fn laws(&self)
         ensures { AreBounds self.now.limit self.now.base }
     {
+        // For the proof: reading a field shows the type's invariant.
         let _limit = self.terms.limit;
     }
 

@@ -24,7 +24,11 @@ const MOST_INTERRUPTIONS: usize = 1_048_576;
 const CHUNK: usize = 65_536;
 
 // One read, whose bytes are appended.
-fn read_once<R: Read>(reader: &mut R, chunk: &mut [u8], bytes: &mut Vec<u8>) -> Result<usize, InputStop>
+fn read_once<R: Read>(
+    reader: &mut R,
+    chunk: &mut [u8],
+    bytes: &mut Vec<u8>,
+) -> Result<usize, InputStop>
     ensures bound { IfOk result (λ n. n ≤ length chunk.old) }
     ensures appended { IfOk result (λ n. bytes.new.items ≡ bytes.old.items ++ take n chunk.new) }
     ensures consumed { IfOk result (λ n.

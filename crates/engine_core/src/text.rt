@@ -38,7 +38,8 @@ fn push_work(text: &mut Vec<u8>, name: u8, work: &Work) -> Result<(), AllocError
 // The lines of what the calls of actors with these letters took.
 fn push_works(text: &mut Vec<u8>, names: &[u8], works: &[Work]) -> Result<(), AllocError>
     requires actors { AreOfActors (length names.now) works.now }
-    ensures { OnOk result (text.new.items ≡ text.old.items ++ flat_map (work_line_in names.now) works.now) }
+    ensures { OnOk result (text.new.items ≡ text.old.items
+        ++ flat_map (work_line_in names.now) works.now) }
 {
     for work in works {
         push_work(text, names[work.actor as usize], work)?;

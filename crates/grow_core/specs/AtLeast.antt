@@ -19,7 +19,8 @@ IsEnough to old new size = (to ≤ size) × SeesSize old new size
 
 -- the result of a growth up to a size: a run that ends there, of what the maker returned for 0, 1, 2 and so
 -- on; or none was needed
-abbrev pub WonAtLeast : {F T E : Type 0} → (F → ℕ → Result T E → F → Type 0) → F → VectorView T → ℕ → HandView → HandView → AtLeast T → Type 0
+abbrev pub WonAtLeast : {F T E : Type 0} → (F → ℕ → Result T E → F → Type 0) → F → VectorView T → ℕ → HandView
+    → HandView → AtLeast T → Type 0
 WonAtLeast step maker vector to old new (Ran grown) =
     (grown.run.from + grown.run.n ≡ to) × (0 < grown.run.n) × WonMade step maker vector grown.run.n old new grown
 WonAtLeast step maker vector to old new (Enough size) = IsEnough to old new size
@@ -37,7 +38,8 @@ SaysEnough (Enough size) = Unit {0}
 -- a claim up to a size came to this: a run that ends there, or none was needed
 abbrev pub ReachesSize : {T : Type 0} → VectorView T → ℕ → HandView → HandView → Reached T → Type 0
 ReachesSize vector to old new (reached.Won claimed) =
-    (claimed.run.from + claimed.run.n ≡ to) × (0 < claimed.run.n) × IsClaimed vector claimed.run.n claimed.run.n old new claimed
+    (claimed.run.from + claimed.run.n ≡ to) × (0 < claimed.run.n)
+    × IsClaimed vector claimed.run.n claimed.run.n old new claimed
 ReachesSize vector to old new (reached.Enough size) = IsEnough to old new size
 
 -- nothing was claimed, since the size was large enough
@@ -54,7 +56,8 @@ IsDueUpTo vector to old (Refused run made cause) = Unit {0}
 IsDueUpTo vector to old (Taken place found) = Unit {0}
 
 -- the hand owns one more run, which ends at the size asked for, and one of its places was taken
-pub record LosesPlaceBelow {T : Type 0} (vector : VectorView T) (to : ℕ) (old new : HandView) (place : ℕ) (found : Found T) : Type 0 where
+pub record LosesPlaceBelow {T : Type 0} (vector : VectorView T) (to : ℕ) (old new : HandView) (place : ℕ)
+    (found : Found T) : Type 0 where
   pub n : ℕ
   pub lost : LosesPlace vector n old new place found
   pub ends : lost.run.from + n ≡ to
@@ -64,10 +67,12 @@ abbrev pub LeavesUpTo : {T V E : Type 0} → VectorView T → ℕ → HandView �
 LeavesUpTo vector to old new (NoMemory back) = SeesMore old new × (seen_size new < to)
 LeavesUpTo vector to old new (Full size back) = SeesSize old new size
 LeavesUpTo vector to old new (Moved size back) = ⊥
-LeavesUpTo vector to old new (Refused run made cause) = (run.from + run.n ≡ to) × KeepsMade vector run.n old new run made
+LeavesUpTo vector to old new (Refused run made cause) =
+    (run.from + run.n ≡ to) × KeepsMade vector run.n old new run made
 LeavesUpTo vector to old new (Taken place found) = LosesPlaceBelow vector to old new place found
 
 -- a growth up to a size was refused: when this refusal comes, and what it leaves of the hand
-pub record RefusesAtLeast {T V E : Type 0} (vector : VectorView T) (to : ℕ) (old new : HandView) (refusal : GrowError T V E) : Type 0 where
+pub record RefusesAtLeast {T V E : Type 0} (vector : VectorView T) (to : ℕ) (old new : HandView)
+    (refusal : GrowError T V E) : Type 0 where
   pub due : IsDueUpTo vector to old refusal
   pub left : LeavesUpTo vector to old new refusal

@@ -3,7 +3,7 @@ use Rattle.std.specs.Prelude.{◌≡◌, ℕ, ◌<◌, ◌≤◌, List, Option, 
 use Rattle.std.specs.Coded.{coded_option}
 use base.Fml.{Lft}
 use base.Stored.{Coded, coded×, coded_ℕ, coded_list, coded_via}
-use Rattle.seg_core.specs.Segment.{segment_start, segment_end}
+use Rattle.seg_core.specs.Segment.{segment_start, segment_end, most_segments}
 use Rattle.cell_core.specs.Block.{cell_at}
 use Rattle.cell_core.specs.Member.{MemberView}
 use Rattle.table_core.specs.Table.{KeyView}
@@ -22,21 +22,26 @@ IsOfClosed {T} closed placed = (vector : VectorView T) × IsClosedFrom vector cl
 
 -- each value of the old list is at its place in the new one
 abbrev pub KeepsValues : {T : Type 0} → List (Option T) → List (Option T) → Type 0
-KeepsValues {T} old new = (place : ℕ) (x : T) → slice_get old place ≡ Some (Some x) → slice_get new place ≡ Some (Some x)
+KeepsValues {T} old new =
+    (place : ℕ) (x : T) → slice_get old place ≡ Some (Some x) → slice_get new place ≡ Some (Some x)
 
 -- what is kept of a vector whose segments had this mark: the keys of its first `count` segments, as they were
 -- before. The names of the values are those of the cells there; each cell after the known ones is unchanged,
 -- and so is each segment after the first ones
-pub record IsKeptOf {T : Type 0} (f : ℕ) (mark : List ℕ) (before : KeyRow) (names : List ℕ) (row : KeyRow) (known : List (MemberView T)) (count : ℕ) : Type 0 where
+pub record IsKeptOf {T : Type 0} (f : ℕ) (mark : List ℕ) (before : KeyRow) (names : List ℕ) (row : KeyRow)
+    (known : List (MemberView T)) (count : ℕ) : Type 0 where
   pub layout : layout_in mark ≡ f
   pub named : AreKeys mark before
   pub long : AreLong f before
   pub there : HasFirstKeys before count
-  pub of : (segment offset : ℕ) (key : KeyView) (m : MemberView T) → segment < 40 → key_at before segment ≡ Some key
-      → place_in f segment offset < segment_end f segment → slice_get known (place_in f segment offset) ≡ Some m → m.name ≡ (cell_at key.block offset).value_name
-  pub later : (segment offset : ℕ) (old new : KeyView) → segment < 40 → key_at before segment ≡ Some old → key_at row segment ≡ Some new
+  pub of : (segment offset : ℕ) (key : KeyView) (m : MemberView T) → segment < most_segments → key_at before segment ≡ Some key
+      → place_in f segment offset < segment_end f segment → slice_get known (place_in f segment offset) ≡ Some m
+      → m.name ≡ (cell_at key.block offset).value_name
+  pub later : (segment offset : ℕ) (old new : KeyView) → segment < most_segments → key_at before segment ≡ Some old
+      → key_at row segment ≡ Some new
       → length known ≤ place_in f segment offset → cell_at new.block offset ≡ cell_at old.block offset
-  pub after : (segment : ℕ) → segment < 40 → count ≤ segment → slice_index names segment ≡ slice_index (names_in mark) segment
+  pub after : (segment : ℕ) → segment < most_segments → count ≤ segment
+      → slice_index names segment ≡ slice_index (names_in mark) segment
 
 -- the same, of the vector that the list was closed from, if it was closed from one
 abbrev pub IsKept : {T : Type 0} → ℕ → Option (List ℕ) → KeyRow → List ℕ → KeyRow → List (MemberView T) → ℕ → Type 0
@@ -55,16 +60,26 @@ pub record ClosingView (T : Type 0) : Type 0 where
 
 abbrev pub closing_coded : {T : Type 0} → Coded T → Coded (ClosingView T)
 closing_coded {T} c =
-    coded_via (coded× (coded_list (coded_option c)) (coded× (coded_list (coded_option c)) (coded× coded_ℕ (coded× coded_ℕ (coded× coded_ℕ (coded_list coded_ℕ))))))
+    coded_via (coded× (coded_list (coded_option c))
+    (coded× (coded_list (coded_option c)) (coded× coded_ℕ (coded× coded_ℕ (coded× coded_ℕ (coded_list coded_ℕ))))))
     (λ (v : ClosingView T). (v.opened, (v.members, (v.limit, (v.size, (v.layout, v.mark))))))
-    (λ x y e i. record { opened = (e i).0; members = (e i).1.0; limit = (e i).1.1.0; size = (e i).1.1.1.0; layout = (e i).1.1.1.1.0; mark = (e i).1.1.1.1.1 })
+    (λ x y e i. record {
+      opened = (e i).0;
+      members = (e i).1.0;
+      limit = (e i).1.1.0;
+      size = (e i).1.1.1.0;
+      layout = (e i).1.1.1.1.0;
+      mark = (e i).1.1.1.1.1;
+    })
 
 -- each value of the old list that is below a place is at its place in the new one
 abbrev pub KeepsValuesBelow : {T : Type 0} → ℕ → List (Option T) → List (Option T) → Type 0
-KeepsValuesBelow {T} n old new = (place : ℕ) (x : T) → place < n → slice_get old place ≡ Some (Some x) → slice_get new place ≡ Some (Some x)
+KeepsValuesBelow {T} n old new =
+    (place : ℕ) (x : T) → place < n → slice_get old place ≡ Some (Some x) → slice_get new place ≡ Some (Some x)
 
 -- what holds while a vector is being closed
-pub record IsClosing {T : Type 0} (f : ℕ) (mark : List ℕ) (before : KeyRow) (names : List ℕ) (row : KeyRow) (opened known : List (MemberView T)) (epoch : Lft) (base len limit count size : ℕ) : Type 0 where
+pub record IsClosing {T : Type 0} (f : ℕ) (mark : List ℕ) (before : KeyRow) (names : List ℕ) (row : KeyRow)
+    (opened known : List (MemberView T)) (epoch : Lft) (base len limit count size : ℕ) : Type 0 where
   pub whole : AreWhole f names row known len limit count
   pub broken : AreBrokenIn epoch known
   pub kept : IsKeptOf f mark before names row known count

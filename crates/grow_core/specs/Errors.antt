@@ -12,7 +12,8 @@ abbrev pub grow_error_text : {T V E : Type 0} → GrowError T V E → List ℕ
 grow_error_text (NoMemory back) = codes "out of memory"
 grow_error_text (Full size back) = codes "no room at size " ++ decimal size
 grow_error_text (Moved size back) = codes "the size has moved to " ++ decimal size
-grow_error_text (Refused run made cause) = codes "a value was refused after " ++ decimal made.run.n ++ codes " were made"
+grow_error_text (Refused run made cause) =
+    codes "a value was refused after " ++ decimal made.run.n ++ codes " were made"
 grow_error_text (Taken place found) = codes "place " ++ decimal place ++ codes " is taken"
 
 -- why no value was returned

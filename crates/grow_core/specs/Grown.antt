@@ -36,7 +36,8 @@ values_of grown = map (λ token. token.value) grown.tokens
 
 -- the tokens of a run's places were kept one by one, in order, and the places have these values: each step of
 -- the keeper has it before, a token, and it after
-pub record IsKeptRun {K T : Type 0} (step : K → PlacedView T → Unit {0} → K → Type 0) (old new : K) (vector : VectorView T) (run : Run) (values : List T) : Type 0 where
+pub record IsKeptRun {K T : Type 0} (step : K → PlacedView T → Unit {0} → K → Type 0) (old new : K)
+    (vector : VectorView T) (run : Run) (values : List T) : Type 0 where
   pub tokens : List (PlacedView T)
   pub kept : FoldsTo (λ k token next. step k token tt next) old tokens new
   pub of : All (IsPlacedOf vector) tokens

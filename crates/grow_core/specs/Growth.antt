@@ -17,7 +17,8 @@ pub record Grows (old new : HandView) (run : Run) : Type 0 where
   pub empty : run.n ≡ 0 → SeesSize old new run.from
 
 -- a push won: the place is the hand's own, and its token has the value
-pub record WonPlace {T : Type 0} (vector : VectorView T) (given : T) (old new : HandView) (placed : PlacedView T) : Type 0 where
+pub record WonPlace {T : Type 0} (vector : VectorView T) (given : T) (old new : HandView)
+    (placed : PlacedView T) : Type 0 where
   pub run : AddsRun old new (single placed.place)
   pub owned : OwnsRun new (single placed.place)
   pub not_below : seen_size old ≤ placed.place
@@ -26,7 +27,8 @@ pub record WonPlace {T : Type 0} (vector : VectorView T) (given : T) (old new : 
   pub value : placed.value ≡ given
 
 -- a growth won: the run is the hand's own, and the tokens of its places have the values, in order
-pub record WonRun {T : Type 0} (vector : VectorView T) (given : List T) (old new : HandView) (grown : GrownView T) : Type 0 where
+pub record WonRun {T : Type 0} (vector : VectorView T) (given : List T) (old new : HandView)
+    (grown : GrownView T) : Type 0 where
   pub n : grown.run.n ≡ length given
   pub run : Grows old new grown.run
   pub owned : 0 < grown.run.n → OwnsRun new grown.run
@@ -50,7 +52,8 @@ IsFoundAt vector place (found.Filled placed) = IsPlacedOf vector placed × (plac
 IsFoundAt vector place (found.Broken spoilt) = IsSpoiltOf vector spoilt × (spoilt.place ≡ place)
 
 -- the hand owns one more run, of n places, and one of them was taken
-pub record LosesPlace {T : Type 0} (vector : VectorView T) (n : ℕ) (old new : HandView) (place : ℕ) (found : Found T) : Type 0 where
+pub record LosesPlace {T : Type 0} (vector : VectorView T) (n : ℕ) (old new : HandView) (place : ℕ)
+    (found : Found T) : Type 0 where
   pub run : Run
   pub claimed : AddsRun old new run
   pub all : run.n ≡ n
@@ -60,7 +63,8 @@ pub record LosesPlace {T : Type 0} (vector : VectorView T) (n : ℕ) (old new : 
 
 -- the hand owns one more run, of n places, and the first of them have the values that were made. The run
 -- begins at or above the size that the hand had seen, and there when the hand is whole
-pub record KeepsMade {T : Type 0} (vector : VectorView T) (n : ℕ) (old new : HandView) (run : Run) (made : GrownView T) : Type 0 where
+pub record KeepsMade {T : Type 0} (vector : VectorView T) (n : ℕ) (old new : HandView) (run : Run)
+    (made : GrownView T) : Type 0 where
   pub claimed : AddsRun old new run
   pub all : run.n ≡ n
   pub not_below : seen_size old ≤ run.from
@@ -114,7 +118,8 @@ GivesBack value (Refused run made cause) = Unit {0}
 GivesBack value (Taken place found) = Unit {0}
 
 -- a growth of n places was refused: when this refusal comes, what it leaves of the hand, and what comes back
-pub record Refuses {T V E : Type 0} (vector : VectorView T) (n : ℕ) (given : V) (old new : HandView) (refusal : GrowError T V E) : Type 0 where
+pub record Refuses {T V E : Type 0} (vector : VectorView T) (n : ℕ) (given : V) (old new : HandView)
+    (refusal : GrowError T V E) : Type 0 where
   pub some_places : 0 < n
   pub due : IsDue vector n old refusal
   pub left : Leaves vector n old new refusal

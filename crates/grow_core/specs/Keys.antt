@@ -1,6 +1,6 @@
 -- The keys that a hand carries: a row of one optional key for each segment.
 use Rattle.std.specs.Prelude.{◌≡◌, ℕ, List, [], ◌∷◌, Option, Some, None, IsSome, ◌<◌, ◌≤◌, slice_index, slice_index_or}
-use Rattle.seg_core.specs.Segment.{HasPlace, Touches, segment_count}
+use Rattle.seg_core.specs.Segment.{HasPlace, Touches, segment_count, most_segments}
 use Rattle.claim_core.specs.declared.run.Run.{Run}
 use Rattle.claim_core.specs.Hand.{HandView, OwnsPlace, IsPlaceOf}
 use Rattle.table_core.specs.Table.{TableView, KeyView}
@@ -35,11 +35,12 @@ pub record IsKeyAt (mark : List ℕ) (segment : ℕ) (key : KeyView) : Type 0 wh
 
 -- each key of the row is that of its segment
 abbrev pub AreKeys : List ℕ → KeyRow → Type 0
-AreKeys mark row = (segment : ℕ) (key : KeyView) → segment < 40 → key_at row segment ≡ Some key → IsKeyAt mark segment key
+AreKeys mark row =
+    (segment : ℕ) (key : KeyView) → segment < most_segments → key_at row segment ≡ Some key → IsKeyAt mark segment key
 
 -- no key is lost
 abbrev pub KeepsKeys : KeyRow → KeyRow → Type 0
-KeepsKeys old new = (segment : ℕ) → segment < 40 → IsSome (key_at old segment) → IsSome (key_at new segment)
+KeepsKeys old new = (segment : ℕ) → segment < most_segments → IsSome (key_at old segment) → IsSome (key_at new segment)
 
 -- the hand owns each place of the run
 abbrev pub OwnsPlacesOf : HandView → Run → Type 0
@@ -47,14 +48,16 @@ OwnsPlacesOf hand run = (place : ℕ) → IsPlaceOf run place → OwnsPlace hand
 
 -- the row has the key of each segment that the run of n places from a place on touches
 abbrev pub HasKeysOfRun : ℕ → KeyRow → ℕ → ℕ → Type 0
-HasKeysOfRun f row from n = (segment : ℕ) → segment < 40 → Touches f segment from n → IsSome (key_at row segment)
+HasKeysOfRun f row from n = (segment : ℕ) → segment < most_segments → Touches f segment from n → IsSome (key_at row segment)
 
 -- the row has the key of the segment of each place from one place up to another
 abbrev pub HasKeysOfPlaces : ℕ → KeyRow → ℕ → ℕ → Type 0
 HasKeysOfPlaces f row from to =
-    (place segment : ℕ) → from ≤ place → place < to → segment < 40 → HasPlace f segment place → IsSome (key_at row segment)
+    (place segment : ℕ) → from ≤ place → place < to → segment < most_segments → HasPlace f segment place
+    → IsSome (key_at row segment)
 
 -- the row has the key of each segment that the hand's own runs touch
 pub record IsKeyed (hand : HandView) (row : KeyRow) : Type 0 where
   pub keys : AreKeys hand.of.mark row
-  pub own : (place segment : ℕ) → segment < 40 → OwnsPlace hand place → HasPlace (layout_in hand.of.mark) segment place → IsSome (key_at row segment)
+  pub own : (place segment : ℕ) → segment < most_segments → OwnsPlace hand place
+      → HasPlace (layout_in hand.of.mark) segment place → IsSome (key_at row segment)

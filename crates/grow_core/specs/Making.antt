@@ -21,15 +21,18 @@ Makes {F} step maker values last =
 -- the first of the values that a maker made is its result for 0
 abbrev pub FirstIsForZero : {F T E : Type 0} → (F → ℕ → Result T E → F → Type 0) → Type 0
 FirstIsForZero {F} {T} step =
-    (maker : F) (values : List T) (last : F) (x : T) → Makes step maker values last → slice_get values 0 ≡ Some x → (next : F) × step maker 0 (Ok x) next
+    (maker : F) (values : List T) (last : F) (x : T) → Makes step maker values last → slice_get values 0 ≡ Some x
+    → (next : F) × step maker 0 (Ok x) next
 
 -- the maker made these values, its next result was the cause, and it is then `end`: it was not asked again
 abbrev pub StopsAt : {F T E : Type 0} → (F → ℕ → Result T E → F → Type 0) → F → List T → E → F → Type 0
-StopsAt {F} step maker values cause end = (last : F) × Makes step maker values last × step last (length values) (Err cause) end
+StopsAt {F} step maker values cause end =
+    (last : F) × Makes step maker values last × step last (length values) (Err cause) end
 
 -- the maker made these values, and its next result was the cause
 abbrev pub StopsAfter : {F T E : Type 0} → (F → ℕ → Result T E → F → Type 0) → F → List T → E → Type 0
-StopsAfter {F} step maker values cause = (last : F) × Makes step maker values last × ((end : F) × step last (length values) (Err cause) end)
+StopsAfter {F} step maker values cause =
+    (last : F) × Makes step maker values last × ((end : F) × step last (length values) (Err cause) end)
 
 -- what a refused growth leaves of its maker: it was asked up to its refusal, or not at all. Nothing is said
 -- when a place was taken
@@ -39,14 +42,16 @@ LeavesMaker step maker end (Taken place found) = Unit {0}
 LeavesMaker step maker end refusal = end ≡ maker
 
 -- a growth of `wanted` places won: its values are what the maker returned for 0, 1, 2 and so on
-pub record WonMade {F T E : Type 0} (step : F → ℕ → Result T E → F → Type 0) (maker : F) (vector : VectorView T) (wanted : ℕ) (old new : HandView) (grown : GrownView T) : Type 0 where
+pub record WonMade {F T E : Type 0} (step : F → ℕ → Result T E → F → Type 0) (maker : F) (vector : VectorView T)
+    (wanted : ℕ) (old new : HandView) (grown : GrownView T) : Type 0 where
   pub won : WonRun vector (values_of grown) old new grown
   pub n : grown.run.n ≡ wanted
   pub made : (last : F) × Makes step maker (values_of grown) last
 
 -- a growth of `wanted` places won: its values are clones of the given one, and they are the given one if a
 -- clone equals its original
-pub record WonClones {T : Type 0} (is_clone : T → T → Type 0) (given : T) (vector : VectorView T) (wanted : ℕ) (old new : HandView) (grown : GrownView T) : Type 0 where
+pub record WonClones {T : Type 0} (is_clone : T → T → Type 0) (given : T) (vector : VectorView T) (wanted : ℕ)
+    (old new : HandView) (grown : GrownView T) : Type 0 where
   pub won : WonRun vector (values_of grown) old new grown
   pub n : grown.run.n ≡ wanted
   pub clones : All (is_clone given) (values_of grown)
@@ -58,7 +63,8 @@ IsRefusedBy is_end (Refused run made cause) = is_end (values_of made) cause
 IsRefusedBy is_end refusal = Unit {0}
 
 -- the hand has claimed a run of `wanted` places, or has none to claim, and there is room for `tokens` tokens
-pub record IsClaimed {T : Type 0} (vector : VectorView T) (wanted tokens : ℕ) (old new : HandView) (claimed : Claimed T) : Type 0 where
+pub record IsClaimed {T : Type 0} (vector : VectorView T) (wanted tokens : ℕ) (old new : HandView)
+    (claimed : Claimed T) : Type 0 where
   pub n : claimed.run.n ≡ wanted
   pub run : Grows old new claimed.run
   pub owned : 0 < claimed.run.n → OwnsRun new claimed.run
@@ -75,7 +81,8 @@ IsTakenIn vector run place found = (run.from ≤ place) × (place < run.from + r
 
 -- a run that is claimed could not be filled: a construction was refused, or a place was taken
 abbrev pub StopsIn : {T V E : Type 0} → VectorView T → Run → GrowError T V E → Type 0
-StopsIn vector run (Refused of made cause) = (of ≡ run) × (made.run.from ≡ run.from) × (made.run.n < run.n) × IsGrownOf vector made
+StopsIn vector run (Refused of made cause) =
+    (of ≡ run) × (made.run.from ≡ run.from) × (made.run.n < run.n) × IsGrownOf vector made
 StopsIn vector run (Taken place found) = IsTakenIn vector run place found
 StopsIn vector run refusal = ⊥
 

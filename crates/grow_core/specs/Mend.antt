@@ -19,7 +19,8 @@ IsUnmendedAt vector place (Filled placed) = IsPlacedOf vector placed × (placed.
 abbrev pub IsMendDue : {T : Type 0} → VectorView T → ℕ → HandView → HandView → MendError T → Type 0
 IsMendDue vector place old new (OutOfRange size) = (size ≤ place) × SeesSize old new size
 IsMendDue vector place old new Pending = place < seen_size new
-IsMendDue vector place old new (Filled placed) = (place < seen_size new) × IsPlacedOf vector placed × (placed.place ≡ place)
+IsMendDue vector place old new (Filled placed) =
+    (place < seen_size new) × IsPlacedOf vector placed × (placed.place ≡ place)
 
 -- the refusal does not say that the place is not below the size
 abbrev pub IsSeen : {T : Type 0} → MendError T → Type 0

@@ -3,7 +3,7 @@ use Rattle.std.specs.Prelude.{◌≡◌, ℕ, ◌-◌, ◌<◌, ◌≤◌, List,
 use Rattle.std.specs.Coded.{coded_option}
 use base.Fml.{Lft}
 use base.Stored.{Coded, coded×, coded_ℕ, coded_list, coded_via}
-use Rattle.seg_core.specs.Segment.{segment_start, segment_end, segment_count, IsLayout, IsLimit}
+use Rattle.seg_core.specs.Segment.{segment_start, segment_end, segment_count, IsLayout, IsLimit, most_segments}
 use Rattle.cell_core.specs.Block.{IsMemberAt}
 use Rattle.cell_core.specs.Member.{MemberView}
 use Rattle.table_core.specs.Table.{KeyView, IsBlockOf}
@@ -23,9 +23,16 @@ pub record PartsView (T : Type 0) : Type 0 where
 -- how that is stored
 abbrev pub parts_coded : {T : Type 0} → Coded T → Coded (PartsView T)
 parts_coded {T} c =
-    coded_via (coded× (coded_list (coded_option c)) (coded× coded_ℕ (coded× coded_ℕ (coded× coded_ℕ (coded_option (coded_list coded_ℕ))))))
+    coded_via (coded× (coded_list (coded_option c))
+    (coded× coded_ℕ (coded× coded_ℕ (coded× coded_ℕ (coded_option (coded_list coded_ℕ))))))
     (λ (p : PartsView T). (p.members, (p.limit, (p.layout, (p.segments, p.closed)))))
-    (λ x y e i. record { members = (e i).0; limit = (e i).1.0; layout = (e i).1.1.0; segments = (e i).1.1.1.0; closed = (e i).1.1.1.1 })
+    (λ x y e i. record {
+      members = (e i).0;
+      limit = (e i).1.0;
+      layout = (e i).1.1.0;
+      segments = (e i).1.1.1.0;
+      closed = (e i).1.1.1.1;
+    })
 
 -- the places of the segments that are there
 abbrev pub capacity_of : {T : Type 0} → PartsView T → ℕ
@@ -41,7 +48,8 @@ values_in row = map (λ m. m.value) row
 
 -- each key of the row is of a block as long as its segment
 abbrev pub AreLong : ℕ → KeyRow → Type 0
-AreLong f row = (segment : ℕ) (key : KeyView) → segment < 40 → key_at row segment ≡ Some key → IsBlockOf f segment key.block
+AreLong f row =
+    (segment : ℕ) (key : KeyView) → segment < most_segments → key_at row segment ≡ Some key → IsBlockOf f segment key.block
 
 -- the row has the keys of the first n segments
 abbrev pub HasFirstKeys : KeyRow → ℕ → Type 0
@@ -50,8 +58,9 @@ HasFirstKeys row count = (segment : ℕ) → segment < count → IsSome (key_at 
 -- what is known of a place is known of its cell, by the key of its segment
 abbrev pub AreMembers : {T : Type 0} → ℕ → KeyRow → List (MemberView T) → Type 0
 AreMembers {T} f row known =
-    (segment offset : ℕ) (key : KeyView) (m : MemberView T) → segment < 40 → key_at row segment ≡ Some key
-    → place_in f segment offset < segment_end f segment → slice_get known (place_in f segment offset) ≡ Some m → IsMemberAt key.block offset m
+    (segment offset : ℕ) (key : KeyView) (m : MemberView T) → segment < most_segments → key_at row segment ≡ Some key
+    → place_in f segment offset < segment_end f segment → slice_get known (place_in f segment offset) ≡ Some m
+    → IsMemberAt key.block offset m
 
 -- a member without a value is broken for as long as this epoch lasts
 abbrev pub IsBrokenIn : {T : Type 0} → Lft → MemberView T → Type 0
@@ -63,12 +72,13 @@ AreBrokenIn epoch [] = Unit {0}
 AreBrokenIn epoch (m ∷ known) = IsBrokenIn epoch m × AreBrokenIn epoch known
 
 -- what holds of the parts of a vector at all times
-pub record AreWhole {T : Type 0} (f : ℕ) (names : List ℕ) (row : KeyRow) (known : List (MemberView T)) (len limit count : ℕ) : Type 0 where
+pub record AreWhole {T : Type 0} (f : ℕ) (names : List ℕ) (row : KeyRow) (known : List (MemberView T))
+    (len limit count : ℕ) : Type 0 where
   pub layout : IsLayout f
   pub limited : IsLimit limit
   pub within : len ≤ limit
   pub all : length known ≡ len
-  pub rows : length row ≡ 40
+  pub rows : length row ≡ most_segments
   pub few : count ≤ segment_count f
   pub inside : len ≤ segment_start f count
   pub named : AreKeys (f ∷ names) row

@@ -30,7 +30,8 @@ ShowsValue x other = ⊥
 abbrev pub IsDueAt : {T : Type 0} → VectorView T → ℕ → HandView → HandView → AtError → Type 0
 IsDueAt vector place old new (OutOfRange size) = (size ≤ place) × SeesSize old new size
 IsDueAt vector place old new Pending = place < seen_size new
-IsDueAt vector place old new (Broken spoilt) = (place < seen_size new) × IsSpoiltOf vector spoilt × (spoilt.place ≡ place)
+IsDueAt vector place old new (Broken spoilt) =
+    (place < seen_size new) × IsSpoiltOf vector spoilt × (spoilt.place ≡ place)
 
 -- the refusal does not say that the place is not below the size
 abbrev pub IsInRange : AtError → Type 0

@@ -23,7 +23,8 @@ pub record VectorView (T : Type 0) : Type 0 where
 -- how that is stored
 abbrev pub vector_coded : {T : Type 0} → Coded T → Coded (VectorView T)
 vector_coded {T} c =
-    coded_via (coded× word_coded (coded× table_coded (coded_list (coded_option c)))) (λ (v : VectorView T). (v.word, (v.segments, v.opened)))
+    coded_via (coded× word_coded (coded× table_coded (coded_list (coded_option c))))
+    (λ (v : VectorView T). (v.word, (v.segments, v.opened)))
     (λ x y e i. record { word = (e i).0; segments = (e i).1.0; opened = (e i).1.1 })
 
 -- the greatest size that it may have
@@ -45,7 +46,8 @@ IsOpenedAt vector place x = slice_get vector.opened place ≡ Some (Some x)
 -- what holds of a vector at all times: what is known of the list that it was opened from, by the keys of its
 -- first segments; the epoch of that list has ended; and the word and its hands are marked with the layout and
 -- the names of the segments
-pub record IsShared {T : Type 0} (word : WordView) (segments : TableView) (keys : KeyRow) (known : List (MemberView T)) (ended : Lft) (count : ℕ) : Type 0 where
+pub record IsShared {T : Type 0} (word : WordView) (segments : TableView) (keys : KeyRow)
+    (known : List (MemberView T)) (ended : Lft) (count : ℕ) : Type 0 where
   pub whole : AreWhole segments.layout segments.names keys known word.base word.limit count
   pub broken : AreBrokenIn ended known
   pub mark : word.mark ≡ mark_of segments

@@ -33,12 +33,14 @@ impl<T: Drop> Shared<T> {
     ) -> Result<(Claimed<T>, V), GrowError<T, V, E>>
         requires ours { IsHandOf self.now hand.old }
         requires room { room ≤ n }
-        ensures claimed { IfOk result (λ (claimed, _). IsClaimed self.now n room hand.old hand.new claimed) }
+        ensures claimed { IfOk result
+            (λ (claimed, _). IsClaimed self.now n room hand.old hand.new claimed) }
         ensures value { IfOk result (λ (_, on). on ≡ value) }
         ensures refused { IfErr result (Refuses self.now n value hand.old hand.new) }
         ensures unclaimed { IfErr result ClaimsNothing }
         ensures full { HasNoRoom self.now n hand.old → IsErrAnd result SaysFull }
     {
+        // For the proof: the hand owns the run that it gains.
         laws::added_runs_are_owned();
         let from = self.size(hand);
         let run = Run { from, n };
@@ -70,7 +72,8 @@ impl<T: Drop> Shared<T> {
     ) -> Result<(Claimed<T>, V), GrowError<T, V, E>>
         requires ours { IsHandOf self.now hand.old }
         requires room { room ≤ n }
-        ensures claimed { IfOk result (λ (claimed, _). IsClaimed self.now n room hand.old hand.new claimed) }
+        ensures claimed { IfOk result
+            (λ (claimed, _). IsClaimed self.now n room hand.old hand.new claimed) }
         ensures value { IfOk result (λ (_, on). on ≡ value) }
         ensures refused { IfErr result (Refuses self.now n value hand.old hand.new) }
         ensures unclaimed { IfErr result ClaimsNothing }
@@ -106,6 +109,7 @@ impl<T: Drop> Shared<T> {
         ensures refused { IfErr result (Refuses self.now n value hand.old hand.new) }
         ensures unclaimed { IfErr result ClaimsNothing }
     {
+        // For the proof: the hand keeps its places, and owns those of the run that it gains.
         self.laws();
         hand.claims.laws();
         laws::own_places_stay();

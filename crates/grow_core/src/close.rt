@@ -2,7 +2,7 @@
 ghost use Rattle.std.specs.Prelude.{◌≡◌, ◌≢◌, ◌+◌, ◌<◌, ◌≤◌, ℕ, Some, None, MatchOption, IfSome, IsSome, IsTrue, IsFalse, length, slice_get};
 ghost use Rattle.claim_core.specs.Hand.{IsWholeHand, seen_size};
 ghost use Rattle.cell_core.specs.Block.{block_len, cell_at, IsMemberAt, KeepsOtherCells};
-ghost use Rattle.seg_core.specs.Segment.{IsLayout, segment_count};
+ghost use Rattle.seg_core.specs.Segment.{IsLayout, segment_count, most_segments};
 ghost use Rattle.table_core.specs.Table.{IsBlockOf};
 ghost use Rattle.grow_core.specs.Keys.{IsKeyAt, AreKeys, key_at, mark_of};
 ghost use Rattle.grow_core.specs.Parts.{AreLong, HasFirstKeys, IsBrokenIn};
@@ -52,11 +52,14 @@ fn first_keys<T>(table: &Table<T>, opened: &Keys, own: &Keys) -> (Keys, u32)
     ensures long { AreLong table.now.layout result.0 }
     ensures there { HasFirstKeys result.0 result.1 }
     ensures few { result.1 ≤ segment_count table.now.layout }
-    ensures first { (s : ℕ) → s < result.1 → IsSome (key_at opened.now s) → key_at result.0 s ≡ key_at opened.now s }
-    ensures none { (s : ℕ) → s < 40 → result.1 ≤ s → key_at result.0 s ≡ None }
-    ensures end { result.1 < segment_count table.now.layout → (key_at opened.now result.1 ≡ None) × (key_at own.now result.1 ≡ None) }
+    ensures first { (s : ℕ) → s < result.1 → IsSome (key_at opened.now s)
+        → key_at result.0 s ≡ key_at opened.now s }
+    ensures none { (s : ℕ) → s < most_segments → result.1 ≤ s → key_at result.0 s ≡ None }
+    ensures end { result.1 < segment_count table.now.layout
+        → (key_at opened.now result.1 ≡ None) × (key_at own.now result.1 ≡ None) }
 {
     let layout = table.layout();
+    // For the proof: its f is that of a layout.
     let _f = layout.f();
     let mut keys = no_keys();
     for segment in 0..layout.segments() {
@@ -153,6 +156,7 @@ impl<T: Drop> Closing<T> {
         ensures layout { result.layout ≡ layout_of vector }
         ensures mark { result.mark ≡ mark_of vector.segments }
     {
+        // For the proof: the vector's base is within its limit, and the hand's places are within its size.
         vector.laws();
         hand.laws();
         let mark = Mark::of::<Table<T>, Segments>(&vector.table);

@@ -35,6 +35,7 @@ impl<T: Drop> Shared<T> {
         ensures from { result.from ≤ place }
         ensures before { place < result.end }
     {
+        // For the proof: the vector's base is within its limit.
         self.laws();
         let layout = self.table.layout();
         let (segment, _) = layout.locate(place);
@@ -135,9 +136,11 @@ impl<T: Drop> Shared<T> {
         requires long { IsBlockOf (layout_of self.now) key.segment key.block }
         requires within { offset < block_len block.now }
         ensures token { IfOk result (IsPlacedOf self.now) }
-        ensures here { IfOk result (λ placed. placed.place ≡ place_in (layout_of self.now) key.segment offset) }
+        ensures here { IfOk result
+            (λ placed. placed.place ≡ place_in (layout_of self.now) key.segment offset) }
         ensures value { IfOk result (λ placed. placed.value ≡ value) }
-        ensures found { IfErr result (IsFoundAt self.now (place_in (layout_of self.now) key.segment offset)) }
+        ensures found { IfErr result
+            (IsFoundAt self.now (place_in (layout_of self.now) key.segment offset)) }
     {
         match block.begin(offset) {
             Ok(pen) => Ok(Placed {
@@ -159,6 +162,7 @@ impl<T: Drop> Shared<T> {
         requires not_empty { IsNotEmpty found }
         ensures { IsFoundAt self.now (place_in (layout_of self.now) key.segment offset) result }
     {
+        // Only the contract speaks of the offset.
         let _ = offset;
         match found {
             block::Found::Empty => unreachable!(),

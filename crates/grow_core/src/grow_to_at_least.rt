@@ -126,6 +126,7 @@ impl<T: Drop> Shared<T> {
         ensures refused { IfErr result (RefusesAtLeast self.now size hand.old hand.new) }
         ensures unclaimed { IfErr result ClaimsNothing }
     {
+        // For the proof: the hand keeps its places, and owns those of the run that it gains.
         self.laws();
         hand.claims.laws();
         laws::own_places_stay();

@@ -25,7 +25,8 @@ impl<T: Drop> Shared<T> {
     ) -> Result<Grown<T>, GrowError<T, Vec<T>, Never>>
         requires ours { IsHandOf self.now hand.old }
         ensures won { IfOk result (WonRun self.now values.items hand.old hand.new) }
-        ensures refused { IfErr result (Refuses self.now (vec_len values) values hand.old hand.new) }
+        ensures refused { IfErr result
+            (Refuses self.now (vec_len values) values hand.old hand.new) }
         // Room that is missing by what the hand has seen is reported before memory is asked for.
         ensures full { HasNoRoom self.now (vec_len values) hand.old → IsErrAnd result SaysFull }
     {
@@ -43,7 +44,8 @@ impl<T: Drop> Shared<T> {
     ) -> Result<Grown<T>, GrowError<T, Vec<T>, Never>>
         requires ours { IsHandOf self.now hand.old }
         ensures won { IfOk result (WonRun self.now values.items hand.old hand.new) }
-        ensures refused { IfErr result (Refuses self.now (vec_len values) values hand.old hand.new) }
+        ensures refused { IfErr result
+            (Refuses self.now (vec_len values) values hand.old hand.new) }
         // Room that is missing by what the hand has seen is reported before memory is asked for.
         ensures full { HasNoRoom self.now (vec_len values) hand.old → IsErrAnd result SaysFull }
         ensures not_moved { IfErr result IsNotMoved }
@@ -63,7 +65,8 @@ impl<T: Drop> Shared<T> {
     ) -> Result<Run, GrowError<T, Vec<T>, Never>>
         requires ours { IsHandOf self.now hand.old }
         ensures won { IfOk result (WonPlaces (vec_len values) hand.old hand.new) }
-        ensures refused { IfErr result (Refuses self.now (vec_len values) values hand.old hand.new) }
+        ensures refused { IfErr result
+            (Refuses self.now (vec_len values) values hand.old hand.new) }
         // Room that is missing by what the hand has seen is reported before memory is asked for.
         ensures full { HasNoRoom self.now (vec_len values) hand.old → IsErrAnd result SaysFull }
         ensures not_moved { IfErr result IsNotMoved }
@@ -83,8 +86,10 @@ impl<T: Drop> Shared<T> {
         requires ours { IsHandOf self.now hand.old }
         requires callable { K.IsAlwaysCallable keep.old }
         ensures won { IfOk result (WonPlaces (vec_len values) hand.old hand.new) }
-        ensures kept { IfOk result (λ run. IsKeptRun K.step keep.old keep.new self.now run values.items) }
-        ensures refused { IfErr result (Refuses self.now (vec_len values) values hand.old hand.new) }
+        ensures kept { IfOk result
+            (λ run. IsKeptRun K.step keep.old keep.new self.now run values.items) }
+        ensures refused { IfErr result
+            (Refuses self.now (vec_len values) values hand.old hand.new) }
         ensures full { HasNoRoom self.now (vec_len values) hand.old → IsErrAnd result SaysFull }
         ensures not_moved { IfErr result IsNotMoved }
     {
@@ -111,6 +116,7 @@ impl<T: Drop> Shared<T> {
         ensures values { IfOk result (λ grown. values_of grown ≡ values.items) }
         ensures stopped { IfErr result (StopsIn self.now claimed.run) }
     {
+        // For the proof: the vector's base is within its limit.
         self.laws();
         let Claimed { run, mut tokens } = claimed;
         if run.n == 0 {
@@ -142,9 +148,11 @@ impl<T: Drop> Shared<T> {
         requires values { vec_len values ≡ run.n }
         requires callable { K.IsAlwaysCallable keep.old }
         ensures run { IfOk result (λ filled. filled ≡ run) }
-        ensures kept { IfOk result (λ _. IsKeptRun K.step keep.old keep.new self.now run values.items) }
+        ensures kept { IfOk result
+            (λ _. IsKeptRun K.step keep.old keep.new self.now run values.items) }
         ensures stopped { IfErr result (StopsIn self.now run) }
     {
+        // For the proof: the vector's base is within its limit.
         self.laws();
         if run.n == 0 {
             return Ok(run);

@@ -122,6 +122,7 @@ impl<T: Drop> Shared<T> {
         ensures stopped { IfErr result (StopsIn self.now claimed.run) }
         ensures asked { IfErr result (LeavesMaker F.step make.old make.new) }
     {
+        // For the proof: the vector's base is within its limit.
         self.laws();
         let Claimed { run, mut tokens } = claimed;
         if run.n == 0 {
@@ -161,7 +162,9 @@ impl<T: Drop> Shared<T> {
         ensures stopped { StopsIn self.now run result }
         // The places before it have their values still.
         ensures after { IsTakenFrom (run.from + vec_len tokens) result }
-        ensures cause { IsRefusedBy (λ values why. (values ≡ map (λ token. token.value) tokens.items) × (why ≡ cause)) result }
+        ensures cause { IsRefusedBy
+            (λ values why. (values ≡ map (λ token. token.value) tokens.items) × (why ≡ cause))
+            result }
     {
         let made = Run {
             from: run.from,
@@ -187,6 +190,7 @@ impl<T: Drop> Shared<T> {
         ensures taken { IfErr result (λ (place, found). IsTakenIn self.now run place found) }
         ensures after { IfErr result (λ (place, _). run.from + made ≤ place) }
     {
+        // For the proof: the vector's base is within its limit.
         self.laws();
         let end = run.from + run.n;
         let mut segment = self.find_segment(hand, run.from + made);

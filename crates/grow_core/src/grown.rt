@@ -47,6 +47,7 @@ impl<T> Grown<T> {
     pub fn laws(&self)
         ensures { IsInOrder self.now.run self.now.tokens }
     {
+        // For the proof: reading a field shows the type's invariant.
         let _run = self.run;
     }
 

@@ -3,7 +3,8 @@ ghost use Rattle.std.specs.Prelude.{◌≡◌, ℕ, ◌+◌, ◌<◌, ◌≤◌,
 ghost use Rattle.std.specs.List.{IsDistinct};
 ghost use Rattle.claim_core.specs.Lengths.{Tiles, times};
 ghost use Rattle.claim_core.specs.Hand.{IsWholeHand, OwnsPlace, seen_size, own_places};
-ghost use Rattle.seg_core.specs.Segment.{HasPlace};
+ghost use Rattle.claim_core.specs.Shares.{all_shares};
+ghost use Rattle.seg_core.specs.Segment.{HasPlace, most_segments};
 ghost use Rattle.grow_core.specs.Keys.{IsKeyed, IsKeyAt, AreKeys, HasKeysOfPlaces, layout_in};
 
 use crate::keys::{Keys, key_of, no_keys};
@@ -65,19 +66,22 @@ impl<T> Hand<T> {
     pub(crate) fn whole_keys(&self) -> &Keys
         requires whole { IsWholeHand self.now }
         ensures keys { AreKeys self.now.of.mark result.now }
-        ensures all { HasKeysOfPlaces (layout_in self.now.of.mark) result.now self.now.of.base (seen_size self.now) }
+        ensures all { HasKeysOfPlaces (layout_in self.now.of.mark) result.now self.now.of.base
+            (seen_size self.now) }
     {
+        // For the proof: a whole hand owns every place.
         self.whole_laws();
         self.keys()
     }
 
     // The key of a segment that has a place of the hand's own.
     pub(crate) fn key(&self, segment: u32, place: u64) -> Key
-        requires small { segment < 40 }
+        requires small { segment < most_segments }
         requires owned { OwnsPlace self.now place }
         requires there { HasPlace (layout_in self.now.of.mark) segment place }
         ensures { IsKeyAt self.now.of.mark segment result }
     {
+        // Only the contract speaks of the place.
         let _ = place;
         match key_of(&self.keys, segment) {
             Some(key) => key,
@@ -116,8 +120,9 @@ impl<T> Hand<T> {
         ensures distinct { IsDistinct nat_eq self.now.mine }
         ensures places { self.now.of.base + own_places self.now ≤ seen_size self.now }
         ensures some_shares { 0 < self.now.shares }
-        ensures not_more { self.now.shares ≤ 65536 }
+        ensures not_more { self.now.shares ≤ all_shares }
     {
+        // For the proof: what holds of the hand's runs.
         self.claims.laws();
     }
 
@@ -129,6 +134,7 @@ impl<T> Hand<T> {
         ensures tiles { Tiles self.now.of.base self.now.seen self.now.mine }
         ensures size { seen_size self.now ≡ self.now.of.base + own_places self.now }
     {
+        // For the proof: a whole hand owns every place.
         self.claims.whole_laws();
     }
 }

@@ -1,18 +1,19 @@
 // The keys of the segments that a hand's runs touch.
 ghost use Rattle.std.specs.Prelude.{◌≡◌, ◌≤◌, ◌<◌, ◌+◌, ℕ, List, IfOk, IsSome, None};
-ghost use Rattle.seg_core.specs.Segment.{IsLayout, most_places, segment_count};
+ghost use Rattle.seg_core.specs.Segment.{IsLayout, most_places, segment_count, most_segments};
 ghost use Rattle.grow_core.specs.Keys.{IsKeyAt, AreKeys, KeepsKeys, HasKeysOfRun, key_at, mark_of};
 
+use seg_core::MOST_SEGMENTS;
 use std::alloc::AllocError;
 use std::array;
 use table_core::{Key, Table};
 
 // An optional key per segment, with room for the segments of every layout.
-pub(crate) type Keys = [Option<Key>; 40];
+pub(crate) type Keys = [Option<Key>; MOST_SEGMENTS];
 
 // No key.
 pub(crate) fn no_keys() -> Keys
-    ensures { (segment : ℕ) → segment < 40 → key_at result segment ≡ None }
+    ensures { (segment : ℕ) → segment < most_segments → key_at result segment ≡ None }
 {
     array::from_fn(
         |_: usize| -> Option<Key>
@@ -23,7 +24,7 @@ pub(crate) fn no_keys() -> Keys
 
 // A duplicate of the segment's key, if the row has it.
 pub(crate) fn key_of(row: &Keys, segment: u32) -> Option<Key>
-    requires { segment < 40 }
+    requires { segment < most_segments }
     ensures { result ≡ key_at row.now segment }
 {
     match &row[segment as usize] {
@@ -34,11 +35,11 @@ pub(crate) fn key_of(row: &Keys, segment: u32) -> Option<Key>
 
 // Duplicates of the keys.
 pub(crate) fn keys_again(row: &Keys) -> Keys
-    ensures { (segment : ℕ) → segment < 40 → key_at result segment ≡ key_at row.now segment }
+    ensures { (segment : ℕ) → segment < most_segments → key_at result segment ≡ key_at row.now segment }
 {
     array::from_fn(
         |segment: usize| -> Option<Key>
-            requires { segment < 40 }
+            requires { segment < most_segments }
             ensures { result ≡ key_at row.entry.now segment }
         { key_of(row, segment as u32) },
     )
@@ -46,8 +47,9 @@ pub(crate) fn keys_again(row: &Keys) -> Keys
 
 // Puts the key of a segment into the row.
 fn put_key(row: &mut Keys, segment: u32, key: Key)
-    requires { segment < 40 }
-    ensures keys { (mark : List ℕ) → AreKeys mark row.old → IsKeyAt mark segment key → AreKeys mark row.new }
+    requires { segment < most_segments }
+    ensures keys { (mark : List ℕ) → AreKeys mark row.old → IsKeyAt mark segment key
+        → AreKeys mark row.new }
     ensures kept { KeepsKeys row.old row.new }
     ensures put { IsSome (key_at row.new segment) }
 {
@@ -56,8 +58,9 @@ fn put_key(row: &mut Keys, segment: u32, key: Key)
 
 // Copies the other row's key of a segment into the row, if the row has none.
 fn put_other(row: &mut Keys, other: &Keys, segment: u32)
-    requires { segment < 40 }
-    ensures keys { (mark : List ℕ) → AreKeys mark row.old → AreKeys mark other.now → AreKeys mark row.new }
+    requires { segment < most_segments }
+    ensures keys { (mark : List ℕ) → AreKeys mark row.old → AreKeys mark other.now
+        → AreKeys mark row.new }
     ensures kept { KeepsKeys row.old row.new }
     ensures put { IsSome (key_at other.now segment) → IsSome (key_at row.new segment) }
 {
@@ -70,7 +73,8 @@ fn put_other(row: &mut Keys, other: &Keys, segment: u32)
 
 // Copies the other row's keys into the row, if the row lacks them.
 pub(crate) fn put_keys(row: &mut Keys, other: &Keys)
-    ensures keys { (mark : List ℕ) → AreKeys mark row.old → AreKeys mark other.now → AreKeys mark row.new }
+    ensures keys { (mark : List ℕ) → AreKeys mark row.old → AreKeys mark other.now
+        → AreKeys mark row.new }
     ensures kept { KeepsKeys row.old row.new }
     ensures put { KeepsKeys other.now row.new }
 {
@@ -131,6 +135,7 @@ pub(crate) fn install<T: Drop>(
     ensures run { IfOk result (λ _. HasKeysOfRun table.now.layout keys.new from n) }
 {
     let layout = table.layout();
+    // For the proof: its f is that of a layout.
     let _f = layout.f();
     let (first, end) = layout.segments_of(from, n);
     for segment in first..end {

@@ -34,10 +34,12 @@ impl<T> Shared<T> {
         // The exchange found the place broken.
         ensures mended { IfOk result (λ placed. IsMended placed.cell) }
         ensures below { IfOk result (λ _. place < seen_size hand.new) }
-        ensures refused { IfErr result (λ (error, _). IsMendDue self.now place hand.old hand.new error) }
+        ensures refused { IfErr result
+            (λ (error, _). IsMendDue self.now place hand.old hand.new error) }
         ensures value_back { IfErr result (λ (_, back). back ≡ value) }
         // A value of the opened list is found by everybody.
-        ensures opened { (x : T) → IsOpenedAt self.now place x → IsErrAnd result (λ (error, _). TellsValue x error) }
+        ensures opened { (x : T) → IsOpenedAt self.now place x
+            → IsErrAnd result (λ (error, _). TellsValue x error) }
         // A place that was claimed stays claimed.
         ensures in_range { place < seen_size hand.old → IfErr result (λ (error, _). IsSeen error) }
         ensures hand { SeesMore hand.old hand.new }
@@ -90,6 +92,7 @@ impl<T> Shared<T> {
         ensures taken { IfOk result (IsTakenAt self.now.segments place) }
         ensures refused { IfErr result (IsUnmendedAt self.now place) }
     {
+        // For the proof: the vector's base is within its limit.
         self.laws();
         let (segment, offset) = self.table.layout().locate(place);
         let Some((block, key)) = self.table.scout_key(segment) else {
@@ -110,9 +113,11 @@ impl<T> Shared<T> {
         requires long { IsBlockOf (layout_of self.now) key.segment key.block }
         requires within { offset < block_len key.block }
         requires found { IsFoundIn key.block offset found }
-        ensures refused { IsUnmendedAt self.now (place_in (layout_of self.now) key.segment offset) result }
+        ensures refused { IsUnmendedAt self.now
+            (place_in (layout_of self.now) key.segment offset) result }
         ensures value { (x : T) → ShowsFilled x found → TellsValue x result }
     {
+        // Only the contract speaks of the offset.
         let _ = offset;
         match found {
             block::Found::Filled(cell) => MendError::Filled(Placed { key, cell }),

@@ -1,6 +1,6 @@
 //! What an exclusive owner holds of a vector: a list of values and broken members.
 ghost use Rattle.std.specs.Prelude.{◌≡◌, ℕ, ◌+◌, ◌-◌, ◌<◌, ◌≤◌, ◌++◌, ◌∷◌, [], Some, None, MatchOption, IsOk, IfOk, IfErr, IsTrue, IsFalse, length, slice_get, slice_set};
-ghost use Rattle.seg_core.specs.Segment.{IsLimit, segment_start, segment_end, segment_count};
+ghost use Rattle.seg_core.specs.Segment.{IsLimit, segment_start, segment_end, segment_count, most_segments};
 ghost use Rattle.cell_core.specs.Block.{block_len, IsMemberAt, KeepsOtherCells};
 ghost use Rattle.grow_core.specs.Keys.{key_at};
 ghost use Rattle.grow_core.specs.Token.{place_in};
@@ -61,13 +61,14 @@ pub(crate) fn cell_of<T>(table: &Table<T>, keys: &Keys, count: u32, place: u64) 
     requires few { count ≤ segment_count table.now.layout }
     requires there { HasFirstKeys keys.now count }
     requires inside { place < segment_start table.now.layout count }
-    ensures small { result.0 < 40 }
+    ensures small { result.0 < most_segments }
     ensures segment { result.0 < segment_count table.now.layout }
     ensures place { place_in table.now.layout result.0 result.1 ≡ place }
     ensures within { place < segment_end table.now.layout result.0 }
     ensures key { key_at keys.now result.0 ≡ Some result.2 }
 {
     let layout = table.layout();
+    // For the proof: its f is that of a layout.
     let _f = layout.f();
     let (segment, offset) = layout.locate(place);
     match key_of(keys, segment) {
@@ -120,6 +121,7 @@ impl<T> Parts<T> {
         ensures layout { result.layout ≡ layout }
         ensures capacity { capacity_of result ≡ 0 }
     {
+        // For the proof: its f is that of a layout.
         let _f = layout.f();
         Parts {
             table: Table::new_in(alloc, layout),
@@ -191,9 +193,11 @@ impl<T: Drop> Parts<T> {
     #[tactic(auto, using(crate::proofs::Places::few_below))]
     fn lacks_room(&self, n: u64) -> bool
         requires { n ≤ self.now.limit }
-        ensures lacks { IsTrue result → (capacity_of self.now < n) × (self.now.segments < segment_count self.now.layout) }
+        ensures lacks { IsTrue result
+            → (capacity_of self.now < n) × (self.now.segments < segment_count self.now.layout) }
         ensures has { IsFalse result → n ≤ capacity_of self.now }
     {
+        // For the proof: reading a field shows the type's invariant.
         let _ = &self.table;
         self.capacity() < n
     }
@@ -233,7 +237,8 @@ impl<T: Drop> Parts<T> {
         // If there is room, no memory is asked for.
         ensures spare { n ≤ capacity_of self.old → IsOk result }
         ensures kept { self.old.segments ≤ self.new.segments }
-        ensures least { (k : ℕ) → self.old.segments ≤ k → k < self.new.segments → segment_start self.old.layout k < n }
+        ensures least { (k : ℕ) → self.old.segments ≤ k → k < self.new.segments
+            → segment_start self.old.layout k < n }
     {
         while self.lacks_room(n) {
             self.add_segment()?;
@@ -261,7 +266,8 @@ impl<T: Drop> Parts<T> {
         ensures limit { self.new.limit ≡ self.old.limit }
         ensures layout { self.new.layout ≡ self.old.layout }
         ensures fewer { self.new.segments ≤ self.old.segments }
-        ensures least { (k : ℕ) → k < self.new.segments → segment_start self.new.layout k < length self.new.members }
+        ensures least { (k : ℕ) → k < self.new.segments
+            → segment_start self.new.layout k < length self.new.members }
     {
         while self.has_spare() {
             self.drop_segment();

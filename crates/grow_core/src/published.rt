@@ -39,6 +39,7 @@ impl<T> Shared<T> {
         ensures opened { base_of self.now ≤ result.end }
         ensures within { result.end ≤ limit_of self.now }
     {
+        // For the proof: the vector's base is within its limit.
         self.laws();
         let size = self.word.peek();
         Published {

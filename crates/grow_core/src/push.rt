@@ -48,6 +48,7 @@ impl<T: Drop> Shared<T> {
         ensures refused { IfErr result (Refuses self.now 1 value hand.old hand.new) }
         ensures full { HasNoRoom self.now 1 hand.old → IsErrAnd result SaysFull }
     {
+        // For the proof: the hand keeps its places, and owns the one that it gains.
         self.laws();
         hand.claims.laws();
         places();

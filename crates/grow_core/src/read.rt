@@ -49,7 +49,8 @@ impl<T> Shared<T> {
         // A caller with a token reads the token's value.
         ensures known { IfSome known.entry (λ p. IsOkAnd result (λ a. a.value.now ≡ p.now.value)) }
         // A value of the opened list is read by everybody, token or not.
-        ensures opened { (x : T) → IsOpenedAt self.now place x → IsOkAnd result (λ a. a.value.now ≡ x) }
+        ensures opened { (x : T) → IsOpenedAt self.now place x
+            → IsOkAnd result (λ a. a.value.now ≡ x) }
         // A place that was claimed stays claimed.
         ensures in_range { place < seen_size hand.old → IfErr result IsInRange }
         ensures hand { SeesMore hand.old hand.new }
@@ -80,6 +81,7 @@ impl<T> Shared<T> {
         // A value of the opened list is shown to everybody.
         ensures opened { (x : T) → IsOpenedAt self.now place x → ShowsValue x result }
     {
+        // For the proof: the vector's base is within its limit.
         self.laws();
         if place >= self.limit() {
             return Shown::Pending;
@@ -94,7 +96,8 @@ impl<T> Shared<T> {
     fn opened_at(&self, place: u64) -> Option<At<'_, T>>
         requires { place < limit_of self.now }
         ensures at { IfSome result (IsAt self.now place) }
-        ensures opened { (x : T) → IsOpenedAt self.now place x → IsSomeAnd result (λ a. a.value.now ≡ x) }
+        ensures opened { (x : T) → IsOpenedAt self.now place x
+            → IsSomeAnd result (λ a. a.value.now ≡ x) }
     {
         if place >= self.word.base() {
             return None;
@@ -126,6 +129,7 @@ impl<T> Shared<T> {
         requires { place < limit_of self.now }
         ensures { IsShownAt self.now place result }
     {
+        // For the proof: the vector's base is within its limit.
         self.laws();
         let (segment, offset) = self.table.layout().locate(place);
         let Some((block, key)) = self.table.scout_key(segment) else {

@@ -29,7 +29,8 @@ impl<T> Parts<T> {
         requires of { IsOfClosed self.now.closed placed.now }
         requires below { placed.now.place < length self.now.members }
         ensures value { result.now ≡ placed.now.value }
-        ensures member { slice_get self.now.members placed.now.place ≡ Some (Some placed.now.value) }
+        ensures member { slice_get self.now.members placed.now.place
+            ≡ Some (Some placed.now.value) }
     {
         places();
         let place = placed.place();

@@ -18,6 +18,7 @@ impl<T> Shared<T> {
         ensures kept { hand.new ≡ record hand.old { shares = hand.old.shares - shares } }
         ensures given { result ≡ record hand.old { mine = []; shares = shares } }
     {
+        // For the proof: the hand keeps its places.
         hand.claims.laws();
         laws::own_places_stay();
         Hand::of(self.word.split(&mut hand.claims, shares))
@@ -36,6 +37,7 @@ impl<T> Shared<T> {
         ensures also_begins { IsPrefix other.seen hand.new.seen }
         ensures apart { OwnApart hand.old other }
     {
+        // For the proof: a place of the joined hand was a place of either.
         hand.claims.laws();
         other.claims.laws();
         laws::joined_places_are_of_either();
@@ -59,6 +61,7 @@ impl<T> Shared<T> {
         ensures same { b.new.seen ≡ a.new.seen }
         ensures apart { OwnApart a.new b.new }
     {
+        // For the proof: each hand keeps its places.
         a.claims.laws();
         b.claims.laws();
         laws::own_places_stay();

@@ -71,6 +71,7 @@ impl<T> Shared<T> {
         ensures bounds { AreBounds (limit_of self.now) (base_of self.now) }
         ensures opened { length self.now.opened ≡ base_of self.now }
     {
+        // For the proof: reading a field shows the type's invariant.
         let _table = &self.table;
     }
 
@@ -83,6 +84,7 @@ impl<T> Shared<T> {
         // Nobody else can append while one hand has all shares.
         ensures whole { IsWholeHand hand.old → result ≡ seen_size hand.old }
     {
+        // For the proof: a hand that has seen more owns the same places.
         self.laws();
         hand.claims.laws();
         laws::own_places_stay();

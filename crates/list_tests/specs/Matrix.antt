@@ -21,7 +21,8 @@ dot a b c d = (a * c + b * d) % 2 ^ 64
 
 -- the product
 abbrev pub times : MatrixView → MatrixView → MatrixView
-times m n = record { a = dot m.a m.b n.a n.c; b = dot m.a m.b n.b n.d; c = dot m.c m.d n.a n.c; d = dot m.c m.d n.b n.d }
+times m n =
+    record { a = dot m.a m.b n.a n.c; b = dot m.a m.b n.b n.d; c = dot m.c m.d n.a n.c; d = dot m.c m.d n.b n.d }
 
 abbrev pub identity : MatrixView
 identity = record { a = 1; b = 0; c = 0; d = 1 }

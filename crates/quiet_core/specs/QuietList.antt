@@ -22,7 +22,8 @@ abbrev pub quiet_code : {T : Type 0} → Coded T → Coded (QuietList T)
 quiet_code {T} code =
     code_by
     (List (Option T) × (ℕ × (ℕ × (ℕ × Option (List ℕ)))))
-    (coded× (coded_list (coded_option code)) (coded× coded_ℕ (coded× coded_ℕ (coded× coded_ℕ (coded_option (coded_list coded_ℕ))))))
+    (coded× (coded_list (coded_option code))
+    (coded× coded_ℕ (coded× coded_ℕ (coded× coded_ℕ (coded_option (coded_list coded_ℕ))))))
     (λ q. (q.members, (q.limit, (q.layout, (q.capacity, q.closed)))))
     (λ p. record { members = p.0; limit = p.1.0; layout = p.1.1.0; capacity = p.1.1.1.0; closed = p.1.1.1.1 })
     (λ _. refl)
@@ -30,7 +31,13 @@ quiet_code {T} code =
 -- what an owner holds of a vector, as a list
 abbrev pub list_of : {T : Type 0} → PartsView T → QuietList T
 list_of parts =
-    record { members = parts.members; limit = parts.limit; layout = parts.layout; capacity = capacity_of parts; closed = parts.closed }
+    record {
+      members = parts.members;
+      limit = parts.limit;
+      layout = parts.layout;
+      capacity = capacity_of parts;
+      closed = parts.closed;
+    }
 
 -- a number of places that fill whole segments of a layout: none, or all up to the end of a segment
 abbrev pub IsWhole : ℕ → ℕ → Type 0

@@ -18,12 +18,14 @@ IsNotOfRoom refusal = ⊥
 module _ {F T E : Type 0} (step : F → ℕ → Result T E → F → Type 0) (maker : F) where
   -- n values that the maker made for 0, 1, .. in turn were appended
   abbrev pub IsMade : ℕ → List (Option T) → List (Option T) → Type 0
-  IsMade n old new = (values : List T) × (last : F) × Makes step maker values last × (length values ≡ n) × (new ≡ old ++ map Some values)
+  IsMade n old new = (values : List T) × (last : F) × Makes step maker values last × (length values ≡ n)
+      × (new ≡ old ++ map Some values)
 
   -- n values that the maker made were appended, and its next result was a refusal
   abbrev pub IsStopped : ℕ → List (Option T) → List (Option T) → Type 0
   IsStopped made old new =
-      (values : List T) × (cause : E) × StopsAfter step maker values cause × (length values ≡ made) × (new ≡ old ++ map Some values)
+      (values : List T) × (cause : E) × StopsAfter step maker values cause × (length values ≡ made)
+      × (new ≡ old ++ map Some values)
 
   -- the first members are left, or what the maker returned for 0, 1, 2 and so on was appended
   pub record IsResized (n : ℕ) (old new : List (Option T)) : Type 0 where
@@ -42,4 +44,5 @@ module _ {F T E : Type 0} (step : F → ℕ → Result T E → F → Type 0) (ma
   LeavesList n old new NoMemory = IsUnchanged old new
   LeavesList n old new TooLong = new ≡ old
   LeavesList n old new (Refused made) =
-      IsBrokenOff n made old.members new.members × (new.limit ≡ old.limit) × (new.layout ≡ old.layout) × GrowsFor old.layout n old.capacity new.capacity
+      IsBrokenOff n made old.members new.members × (new.limit ≡ old.limit) × (new.layout ≡ old.layout)
+      × GrowsFor old.layout n old.capacity new.capacity

@@ -28,7 +28,8 @@ fn partial_order_of<T: PartialOrd>(
     mut mine: Members<'_, T>,
     mut theirs: Members<'_, T>,
 ) -> Option<Ordering>
-    ensures { result ≡ slice_partial_cmp (option_partial_cmp T.partial_cmp) mine.entry theirs.entry }
+    ensures { result ≡ slice_partial_cmp
+        (option_partial_cmp T.partial_cmp) mine.entry theirs.entry }
 {
     while let Some(a) = mine.next() {
         let Some(b) = theirs.next() else {

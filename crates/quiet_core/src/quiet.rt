@@ -73,6 +73,7 @@ impl<T> Quiet<T> {
         ensures within { result ≤ self.now.limit }
         ensures small { result ≤ most_places }
     {
+        // For the proof: the length is within the limit.
         let _limit = self.parts.limit();
         self.parts.len()
     }
@@ -83,6 +84,7 @@ impl<T> Quiet<T> {
         ensures range { IsLimit result }
         ensures bound { length self.now.members ≤ result }
     {
+        // For the proof: the length is within the limit.
         let _len = self.parts.len();
         self.parts.limit()
     }
@@ -117,7 +119,8 @@ impl<T: Drop> Quiet<T> {
         ensures members { self.new.members ≡ self.old.members }
         ensures limit { self.new.limit ≡ self.old.limit }
         ensures layout { self.new.layout ≡ self.old.layout }
-        ensures capacity { OnOk result (GrowsFor self.old.layout n self.old.capacity self.new.capacity) }
+        ensures capacity { OnOk result
+            (GrowsFor self.old.layout n self.old.capacity self.new.capacity) }
         // The limit is looked at before memory is asked for.
         ensures too_long { IsErrOf result QuietError.TooLong ↔ (self.old.limit < n) }
         ensures unchanged { OnErr result (IsUnchanged self.old self.new) }
@@ -246,7 +249,8 @@ impl<T: Drop> Quiet<T> {
         ensures refused { IfErr result (LeavesList F.step make n self.old self.new) }
         ensures limit { self.new.limit ≡ self.old.limit }
         ensures layout { self.new.layout ≡ self.old.layout }
-        ensures capacity { OnOk result (GrowsFor self.old.layout n self.old.capacity self.new.capacity) }
+        ensures capacity { OnOk result
+            (GrowsFor self.old.layout n self.old.capacity self.new.capacity) }
         // The limit is looked at before memory is asked for.
         ensures too_long { IsErrOf result QuietError.TooLong ↔ (self.old.limit < n) }
         ensures spare { n ≤ self.old.limit → n ≤ self.old.capacity → IfErr result IsNotOfRoom }
@@ -271,9 +275,11 @@ impl<T: Drop> Quiet<T> {
         ensures members { self.new.members ≡ self.old.members }
         ensures limit { self.new.limit ≡ self.old.limit }
         ensures layout { self.new.layout ≡ self.old.layout }
-        ensures capacity { IsCapacityFor self.old.layout (length self.old.members) self.new.capacity }
+        ensures capacity { IsCapacityFor self.old.layout
+            (length self.old.members) self.new.capacity }
     {
         self.parts.cut();
+        // For the proof: the capacity is that of the parts.
         let _room = self.parts.capacity();
     }
 
@@ -281,7 +287,8 @@ impl<T: Drop> Quiet<T> {
     /// the place is not below the length, or that its member is broken, and gives the value back.
     pub fn replace(&mut self, place: u64, value: T) -> Result<T, (QuietAt, T)>
         ensures value { IfOk result (λ x. slice_get self.old.members place ≡ Some (Some x)) }
-        ensures replaced { OnOk result (self.new.members ≡ slice_set self.old.members place (Some value)) }
+        ensures replaced { OnOk result
+            (self.new.members ≡ slice_set self.old.members place (Some value)) }
         ensures refused { IfErr result (λ (why, _). IsRefusalAt self.old.members place why) }
         ensures value_back { IfErr result (λ (_, back). back ≡ value) }
         ensures unchanged { OnErr result (self.new ≡ self.old) }
@@ -301,7 +308,8 @@ impl<T: Drop> Quiet<T> {
     /// Fills a broken member with the value. A refusal says that the place is not below the length, or that
     /// it has a value, and gives the value back. It takes no memory.
     pub fn mend(&mut self, place: u64, value: T) -> Result<(), (QuietMendError, T)>
-        ensures mended { OnOk result (self.new.members ≡ slice_set self.old.members place (Some value)) }
+        ensures mended { OnOk result
+            (self.new.members ≡ slice_set self.old.members place (Some value)) }
         ensures broken { OnOk result (slice_get self.old.members place ≡ Some None) }
         ensures refused { IfErr result (λ (why, _). IsMendRefusalAt self.old.members place why) }
         ensures value_back { IfErr result (λ (_, back). back ≡ value) }

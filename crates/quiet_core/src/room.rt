@@ -54,7 +54,8 @@ pub(crate) fn append_made<T: Drop, E: Drop, F: FnMut(u64) -> Result<T, E>>(
     requires room { length parts.old.members + n ≤ capacity_of parts.old }
     requires callable { F.IsAlwaysCallable make }
     ensures made { OnOk result (IsMade F.step make n parts.old.members parts.new.members) }
-    ensures stopped { IfErr result (λ made. (made < n) × IsStopped F.step make made parts.old.members parts.new.members) }
+    ensures stopped { IfErr result
+        (λ made. (made < n) × IsStopped F.step make made parts.old.members parts.new.members) }
     ensures limit { parts.new.limit ≡ parts.old.limit }
     ensures layout { parts.new.layout ≡ parts.old.layout }
     ensures segments { parts.new.segments ≡ parts.old.segments }
@@ -73,7 +74,8 @@ pub(crate) fn break_to<T: Drop>(parts: &mut Parts<T>, n: u64)
     requires more { length parts.old.members ≤ n }
     requires limit { n ≤ parts.old.limit }
     requires room { n ≤ capacity_of parts.old }
-    ensures members { parts.new.members ≡ parts.old.members ++ replicate (n - length parts.old.members) None }
+    ensures members { parts.new.members ≡ parts.old.members
+        ++ replicate (n - length parts.old.members) None }
     ensures limit { parts.new.limit ≡ parts.old.limit }
     ensures layout { parts.new.layout ≡ parts.old.layout }
     ensures segments { parts.new.segments ≡ parts.old.segments }

@@ -116,11 +116,13 @@ IsWinOf place None = ⊥
 
 -- the wins of all places, in order of place
 abbrev pub AreInOrder : ℕ → List (Option Win) → Type 0
-AreInOrder size slots = (length slots ≡ size) × ((place : ℕ) → place < size → IsWinOf place (slice_index_or slots place None))
+AreInOrder size slots =
+    (length slots ≡ size) × ((place : ℕ) → place < size → IsWinOf place (slice_index_or slots place None))
 
 -- the place was claimed by the worker that won it, and filled with its value
 abbrev pub events_of_win : Win → List (Event × Reply)
-events_of_win win = (Claim win.worker 1, replies.Run win.place 1) ∷ (Finish win.worker win.place win.value, replies.Done) ∷ []
+events_of_win win =
+    (Claim win.worker 1, replies.Run win.place 1) ∷ (Finish win.worker win.place win.value, replies.Done) ∷ []
 
 -- the text that says whether a history is legal
 abbrev pub verdict_of : Bool → List ℕ
@@ -130,7 +132,8 @@ verdict_of false = codes "not legal"
 -- how a report is shown
 abbrev pub report_text : RaceReport → List ℕ
 report_text report =
-    codes "size " ++ decimal report.size ++ codes "\nsum " ++ decimal report.sum ++ codes "\n" ++ verdict_of report.legal ++ codes "\n"
+    codes "size " ++ decimal report.size ++ codes "\nsum " ++ decimal report.sum ++ codes "\n"
+    ++ verdict_of report.legal ++ codes "\n"
 
 -- the text of a race of this many values
 abbrev pub race_text : ℕ → List ℕ

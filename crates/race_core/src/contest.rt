@@ -7,7 +7,7 @@ ghost use Rattle.race_core.specs.Race.{sum_below, IsBadSize, IsGrowth, IsTeamOf,
 
 use crate::refusal::RaceError;
 use crate::report::{RaceReport, report_of};
-use crate::workers::{Won, join_wins, append_each};
+use crate::workers::{Won, append_each, join_wins};
 use grow_core::{Hand, Shared, laws};
 use quiet_core::Quiet;
 use span_core::{Gate, with_hands};
@@ -54,7 +54,8 @@ pub fn race<R: Threads + Wait + Sync, G: Gate + Sync>(
             × AreFew (worker + 1) each }
         ensures kept { KeepsShares hand.old hand.new }
         ensures own { SeesOwn hand.new }
-        ensures answer { IfOk result (λ wins. IsTeamOf vector.entry.now.word each worker (team_of hand.new wins.items)) }
+        ensures answer { IfOk result
+            (λ wins. IsTeamOf vector.entry.now.word each worker (team_of hand.new wins.items)) }
         ensures refused { IfErr result IsWorkers }
     { append_each(rt, alloc, gate, vector, worker, each, hand) };
     let teams = with_hands(rt, alloc, &vector, &mut hand, workers, &work, gate)?;

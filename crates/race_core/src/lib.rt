@@ -7,8 +7,8 @@
 //! race returns, nor that its threads run at once.
 #![tactic(auto)]
 
-mod history;
 mod contest;
+mod history;
 mod refusal;
 mod report;
 mod team;

@@ -1,9 +1,10 @@
 //! What a race found.
 ghost use Rattle.std.specs.Prelude.{◌≡◌, ◌^◌, ◌<◌, ◌≤◌, true, IfOk, sum_by};
+ghost use Rattle.claim_core.specs.Shares.{all_shares};
 ghost use Rattle.grow_core.specs.Vector.{IsHandOf, base_of};
 ghost use Rattle.race_core.specs.Race.{sum_below, IsTeam, team_of, verdict_of};
 
-use crate::history::{history_of, sort_wins, is_legal};
+use crate::history::{history_of, is_legal, sort_wins};
 use crate::team::Win;
 use grow_core::{Hand, Shared};
 use quiet_core::Quiet;
@@ -68,7 +69,7 @@ pub(crate) fn report_of(
     requires ours { IsHandOf vector hand }
     requires base { base_of vector ≡ 0 }
     requires limits { 0 < size × size ≤ 6400000 }
-    requires team { IsTeam vector.word 65536 0 size (team_of hand wins.now) }
+    requires team { IsTeam vector.word all_shares 0 size (team_of hand wins.now) }
     ensures size { IfOk result (λ report. report.size ≡ size) }
     ensures sum { IfOk result (λ report. report.sum ≡ sum_below size) }
     ensures legal { IfOk result (λ report. report.legal ≡ true) }

@@ -20,7 +20,8 @@ pub(crate) struct Win {
 // Nothing is won yet.
 pub(crate) fn begin_wins(alloc: Global, hand: &Hand<u64>) -> Vec<Win>
     requires { hand.now.mine ≡ [] }
-    ensures { (from : ℕ) → IsTeam hand.now.of hand.now.shares from from (team_of hand.now result.items) }
+    ensures { (from : ℕ) → IsTeam hand.now.of hand.now.shares from from
+        (team_of hand.now result.items) }
 {
     // For the proof: the promise speaks of the hand.
     let _hand = hand;

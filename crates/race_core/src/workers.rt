@@ -30,7 +30,8 @@ pub(crate) fn append_each<R: Wait, G: Gate>(
     ensures of { hand.new.of ≡ hand.old.of }
     ensures shares { hand.new.shares ≡ hand.old.shares }
     ensures own { SeesOwn hand.new }
-    ensures answer { IfOk result (λ wins. IsTeamOf vector.now.word each worker (team_of hand.new wins.items)) }
+    ensures answer { IfOk result
+        (λ wins. IsTeamOf vector.now.word each worker (team_of hand.new wins.items)) }
     ensures refused { IfErr result IsWorkers }
 {
     let from = u64::from(worker) * each;

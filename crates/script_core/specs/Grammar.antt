@@ -100,7 +100,8 @@ command_with_two word a b =
 unfoldable pub command_with_three : List ℕ → List ℕ → List ℕ → List ℕ → Result Command Fault
 command_with_three word a b c =
     if bytes_eq word (codes "fail")
-    then (argument a >>= λ n. (argument b >>= λ value. (argument c >>= λ at. (if nat_lt at n then Ok (Fail n value at) else Err BadCommand))))
+    then (argument a >>= λ n.
+    (argument b >>= λ value. (argument c >>= λ at. (if nat_lt at n then Ok (Fail n value at) else Err BadCommand))))
     else Err BadCommand
 
 -- the command that the words spell, by how many they are
@@ -120,7 +121,9 @@ parsed_program text = try_each (λ piece. parsed_command (words piece)) 1000 [] 
 
 -- the limit: a number from 1 to the greatest
 unfoldable pub limit_in : List ℕ → Result ℕ Fault
-limit_in text = number_or BadLimit text >>= λ limit. (if nat_le 1 limit && nat_le limit most_limit then Ok limit else Err BadLimit)
+limit_in text =
+    number_or BadLimit text >>= λ limit.
+    (if nat_le 1 limit && nat_le limit most_limit then Ok limit else Err BadLimit)
 
 -- the first line
 unfoldable pub parsed_limit : List ℕ → Result ℕ Fault
@@ -128,7 +131,8 @@ parsed_limit line = if starts_with nat_eq line (codes "limit ") then limit_in (d
 
 -- the layout: a number from 1 to 8
 unfoldable pub layout_in : List ℕ → Result ℕ Fault
-layout_in text = number_or BadFirst text >>= λ first. (if nat_le 1 first && nat_le first 8 then Ok first else Err BadFirst)
+layout_in text =
+    number_or BadFirst text >>= λ first. (if nat_le 1 first && nat_le first 8 then Ok first else Err BadFirst)
 
 -- a name is one letter from a to z
 unfoldable pub parsed_name : List ℕ → Result ℕ Fault
@@ -158,7 +162,8 @@ item_from (Some actor) memory = Ok (record { actor = actor; memory = memory })
 unfoldable pub parsed_item : List ℕ → List ℕ → Result Item Fault
 parsed_item names [] = Err BadName
 parsed_item names (name ∷ []) = item_from (position (λ n. n == name) names) true
-parsed_item names (name ∷ mark ∷ []) = if mark == 33 then item_from (position (λ n. n == name) names) false else Err BadName
+parsed_item names (name ∷ mark ∷ []) =
+    if mark == 33 then item_from (position (λ n. n == name) names) false else Err BadName
 parsed_item names (name ∷ mark ∷ b ∷ more) = Err BadName
 
 -- an items line after its word: nothing, or a space and an item for each word, and at most 100,000

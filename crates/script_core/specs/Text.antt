@@ -26,7 +26,8 @@ abbrev pub answer_text : Answer → List ℕ
 answer_text (answers.At place) = codes "at " ++ decimal place
 answer_text (answers.Run from n) = codes "run " ++ decimal from ++ codes " " ++ decimal n
 answer_text (answers.Enough size) = codes "enough " ++ decimal size
-answer_text (answers.BrokenRun from n made) = codes "broken " ++ decimal from ++ codes " " ++ decimal n ++ codes " " ++ decimal made
+answer_text (answers.BrokenRun from n made) =
+    codes "broken " ++ decimal from ++ codes " " ++ decimal n ++ codes " " ++ decimal made
 answer_text (answers.Full size) = codes "full " ++ decimal size
 answer_text answers.NoMemory = codes "nomemory"
 answer_text (answers.Value value) = codes "value " ++ decimal value
@@ -39,13 +40,15 @@ answer_text (answers.Size size) = decimal size
 -- answer
 abbrev pub answer_line : ℕ → Ended → List ℕ
 answer_line name ended =
-    name ∷ decimal ended.number ++ codes " " ++ word_of ended.command ++ codes " " ++ answer_text ended.answer ++ codes "\n"
+    name ∷ decimal ended.number ++ codes " " ++ word_of ended.command ++ codes " " ++ answer_text ended.answer
+    ++ codes "\n"
 
 -- the line of what an ended call took: the actor's name with the call's number, its lost exchanges, and its
 -- steps
 abbrev pub work_line : ℕ → Work → List ℕ
 work_line name work =
-    name ∷ decimal work.number ++ codes " lost " ++ decimal work.lost ++ codes " steps " ++ decimal work.steps ++ codes "\n"
+    name ∷ decimal work.number ++ codes " lost " ++ decimal work.lost ++ codes " steps " ++ decimal work.steps
+    ++ codes "\n"
 
 -- a cell
 abbrev pub cell_text : Cell → List ℕ
@@ -56,7 +59,8 @@ cell_text cells.Broken = codes "x"
 -- the last line: the number of cells, and each of them after a space
 abbrev pub cells_line : List Cell → List ℕ
 cells_line list =
-    codes "size " ++ decimal (length list) ++ codes ":" ++ flat_map (λ cell. codes " " ++ cell_text cell) list ++ codes "\n"
+    codes "size " ++ decimal (length list) ++ codes ":" ++ flat_map (λ cell. codes " " ++ cell_text cell) list
+    ++ codes "\n"
 
 -- known bytes grow by a prefix of the text
 abbrev pub AppendsPrefix : Option (List ℕ) → Option (List ℕ) → List ℕ → Type 0

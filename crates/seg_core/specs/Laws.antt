@@ -13,4 +13,5 @@ OneSegment = (f j k place : ℕ) → HasPlace f j place → HasPlace f k place �
 -- a segment and an offset that stays in it are one place, and no other pair is that place
 abbrev pub OnePlace : Type 0
 OnePlace =
-    (f j k i o : ℕ) → segment_start f j + i < segment_end f j → segment_start f k + o < segment_end f k → segment_start f j + i ≡ segment_start f k + o → (j ≡ k) × (i ≡ o)
+    (f j k i o : ℕ) → segment_start f j + i < segment_end f j → segment_start f k + o < segment_end f k
+    → segment_start f j + i ≡ segment_start f k + o → (j ≡ k) × (i ≡ o)

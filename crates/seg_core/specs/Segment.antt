@@ -25,7 +25,11 @@ pub record HasPlace (f segment place : ℕ) : Type 0 where
 abbrev pub first_ending_after : ℕ → ℕ → ℕ → ℕ → ℕ
 first_ending_after f zero segment place = segment
 first_ending_after f (suc further) segment place =
-    elim (nat_lt place (segment_end f segment)) [ true ↦ segment | false ↦ first_ending_after f further (segment + 1) place ]
+    elim (nat_lt place (segment_end f segment)) [
+      | true ↦ segment
+      | false ↦ first_ending_after f further
+          (segment + 1) place
+    ]
 
 -- the segment of a place
 unfoldable pub segment_of : ℕ → ℕ → ℕ

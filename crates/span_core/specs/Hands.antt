@@ -30,19 +30,25 @@ pub record KeepsShares (old new : HandView) : Type 0 where
   pub shares : new.shares ≡ old.shares
 
 -- each worker that was let through may be called with this vector and such a hand
-abbrev pub AreCallable : {T : Type 0} → (Bor (VectorView T) → ℕ → MutBor HandView → Type 0) → (ℕ → Type 0) → VectorView T → ℕ → Type 0
+abbrev pub AreCallable : {T : Type 0} → (Bor (VectorView T) → ℕ → MutBor HandView → Type 0) → (ℕ → Type 0)
+    → VectorView T → ℕ → Type 0
 AreCallable {T} pre through vector workers =
-    (shown : Bor (VectorView T)) (worker : ℕ) (hand : MutBor HandView) → shown.now ≡ vector → worker < workers → through worker
+    (shown : Bor (VectorView T)) (worker : ℕ) (hand : MutBor HandView) → shown.now ≡ vector → worker < workers
+    → through worker
     → IsNewHandOf shown.now.word hand.now → pre shown worker hand
 
 -- each of them leaves its hand with its shares
-abbrev pub KeepHands : {T R : Type 0} → (Bor (VectorView T) → ℕ → MutBor HandView → R → MutBor HandView → Type 0) → VectorView T → ℕ → Type 0
+abbrev pub KeepHands : {T R : Type 0} → (Bor (VectorView T) → ℕ → MutBor HandView → R → MutBor HandView → Type 0)
+    → VectorView T → ℕ → Type 0
 KeepHands {T} {R} post vector workers =
-    (shown : Bor (VectorView T)) (worker : ℕ) (old : MutBor HandView) (result : R) (new : MutBor HandView) → shown.now ≡ vector
-    → worker < workers → IsNewHandOf shown.now.word old.now → post shown worker old result new → KeepsShares old.now new.now
+    (shown : Bor (VectorView T)) (worker : ℕ) (old : MutBor HandView) (result : R) (new : MutBor HandView)
+    → shown.now ≡ vector
+    → worker < workers → IsNewHandOf shown.now.word old.now → post shown worker old result new
+    → KeepsShares old.now new.now
 
 -- a worker may return this, and leave this hand
-abbrev pub Leaves : {T R : Type 0} → (Bor (VectorView T) → ℕ → MutBor HandView → R → MutBor HandView → Type 0) → VectorView T → ℕ → HandView → R → Type 0
+abbrev pub Leaves : {T R : Type 0} → (Bor (VectorView T) → ℕ → MutBor HandView → R → MutBor HandView → Type 0)
+    → VectorView T → ℕ → HandView → R → Type 0
 Leaves {T} {R} post vector worker own result =
     (shown : Bor (VectorView T)) × (old : MutBor HandView) × (new : MutBor HandView) × (shown.now ≡ vector)
     × IsNewHandOf shown.now.word old.now × post shown worker old result new × (new.now ≡ own)
@@ -79,8 +85,11 @@ of_refusal says worker own e = says worker own (Err e)
 
 -- what a range of workers leaves: one hand of all its runs, with a share of each; and the results, or why
 -- there are none
-pub record IsLeft {A E : Type 0} (says : ℕ → HandView → Result A E → Type 0) (may_refuse : ℕ → Type 0) (word : WordView) (first count : ℕ) (hand : HandView) (answers : Result (Vec A Global) (Refusal E)) : Type 0 where
+pub record IsLeft {A E : Type 0} (says : ℕ → HandView → Result A E → Type 0) (may_refuse : ℕ → Type 0)
+    (word : WordView) (first count : ℕ) (hand : HandView) (answers : Result (Vec A Global) (Refusal E)) : Type 0 where
   pub of : hand.of ≡ word
   pub shares : hand.shares ≡ count
-  pub answered : IfOk answers (λ all. SayInTurn (of_answer says) hand first all.items hand.mine × (length all.items ≡ count))
-  pub refused : IfErr answers (IsOfRange (SaysOfPart (of_answer says) hand) (SaysOfPart (of_refusal says) hand) may_refuse first count)
+  pub answered : IfOk answers
+      (λ all. SayInTurn (of_answer says) hand first all.items hand.mine × (length all.items ≡ count))
+  pub refused : IfErr answers
+      (IsOfRange (SaysOfPart (of_answer says) hand) (SaysOfPart (of_refusal says) hand) may_refuse first count)

@@ -18,7 +18,8 @@ module _ {T U : Type 0} where
 
 -- the function returns v for each member
 abbrev pub Computes : {T U : Type 0} → (ℕ → Option (Bor T) → U → Type 0) → (Option T → U) → Type 0
-Computes {T} {U} post v = (place : ℕ) (item : Option (Bor T)) (answer : U) → post place item answer → answer ≡ v (option_copied item)
+Computes {T} {U} post v =
+    (place : ℕ) (item : Option (Bor T)) (answer : U) → post place item answer → answer ≡ v (option_copied item)
 
 -- if the span is the whole list, one result for each place is the map of the members
 abbrev pub AnswersAreMap : {T U : Type 0} → (ℕ → Option (Bor T) → U → Type 0) → Type 0
@@ -32,7 +33,8 @@ wrapping_sum a b = (a + b) % 2 ^ 64
 
 -- over the values of a domain, op is what join does; it may be grouped in any way, and the unit changes
 -- nothing
-pub record Joins {U : Type 0} (post : U → U → U → Type 0) (is_in : U → Type 0) (unit : U) (op : U → U → U) : Type 0 where
+pub record Joins {U : Type 0} (post : U → U → U → Type 0) (is_in : U → Type 0) (unit : U)
+    (op : U → U → U) : Type 0 where
   pub inside : is_in unit
   pub computes : (a b r : U) → is_in a → is_in b → post a b r → r ≡ op a b
   pub stays : (a b : U) → is_in a → is_in b → is_in (op a b)

@@ -47,6 +47,7 @@ impl<'a, T> Cursor<'a, T> {
         requires { self.old.place + n ≤ length self.old.list.members }
         ensures { self.new ≡ record self.old { place = self.old.place + n } }
     {
+        // For the proof: a length is a `u64`, so the sum does not wrap.
         let _len = self.list.len();
         self.place += n;
     }

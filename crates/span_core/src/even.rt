@@ -24,6 +24,7 @@ pub fn split_even<T>(
     // Memory is asked for before a share is given.
     ensures unchanged { OnErr result (hand.new ≡ hand.old) }
 {
+    // For the proof: a hand has at least one share.
     hand.laws();
     let mut hands = Vec::with_capacity(alloc, n as usize)?;
     let each = hand.share() / (n + 1);

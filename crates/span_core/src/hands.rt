@@ -84,6 +84,7 @@ impl<
             × AreCallable (F.pre self.now.work.now) (G.lets_through self.now.gate.now) self.now.vector.now self.now.workers
             × KeepHands (F.post self.now.work.now) self.now.vector.now self.now.workers × ((first + low) + high ≤ self.now.workers) }
     {
+        // Only the contract speaks of the first worker.
         let _first = first;
         let mut lower = brought;
         let upper = self.vector.split(&mut lower, high);

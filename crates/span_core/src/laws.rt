@@ -6,6 +6,7 @@ ghost use Rattle.span_core.specs.Loops.{AnswersAreMap, SumsWrap};
 pub fn answers_are_the_map<T, U, F: Fn(u64, Option<&T>) -> U>(f: &F)
     ensures { AnswersAreMap (F.post f.now) }
 {
+    // Only the contract speaks of `f`.
     let _f = f;
 }
 
@@ -14,5 +15,6 @@ pub fn answers_are_the_map<T, U, F: Fn(u64, Option<&T>) -> U>(f: &F)
 pub fn sums_wrap<J: Fn(u64, u64) -> u64>(join: &J)
     ensures { SumsWrap (J.post join.now) }
 {
+    // Only the contract speaks of `join`.
     let _join = join;
 }

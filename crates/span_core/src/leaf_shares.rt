@@ -69,7 +69,8 @@ impl<'a, L, G> Shares<'a, L, G> {
             IsShare (GivesLeaf (L.gives self.now.each.now) self.now.leaves.now) (length self.now.leaves.now)
             self.now.workers worker share.items) 0 shares.items }
         requires workers { length shares.items ≡ self.now.workers }
-        ensures { IfOk result (λ all. AllZip (L.gives self.now.each.now) self.now.leaves.now all.items) }
+        ensures { IfOk result (λ all. AllZip
+            (L.gives self.now.each.now) self.now.leaves.now all.items) }
     {
         let mut all = Vec::with_capacity(self.alloc, self.leaves.len())?;
         for _leaf in 0..self.leaves.len() {

@@ -98,7 +98,8 @@ impl<'a, S: Drop, A: Drop, E: Drop, W: Gated<S, A, E>, G: Gate> ForkJoin<S, Vec<
     fn work(&self, worker: u32, brought: S) -> Result<Vec<A>, Refusal<E>>
         requires { W.brings self.now.work.now worker 1 brought
             × AreReadyBy (G.lets_through self.now.gate.now) (W.ready self.now.work.now) }
-        ensures answer { IfOk result (λ answers. EachGives (W.gives self.now.work.now) worker 1 answers.items) }
+        ensures answer { IfOk result
+            (λ answers. EachGives (W.gives self.now.work.now) worker 1 answers.items) }
         ensures refused { IfErr result (IsOfRange (W.gives self.now.work.now)
             (W.refuses self.now.work.now) (G.may_refuse self.now.gate.now) worker 1) }
     {
@@ -140,7 +141,8 @@ impl<'a, S: Drop, A: Drop, E: Drop, W: Gated<S, A, E>, G: Gate> ForkJoin<S, Vec<
         requires upper { IfOk upper (λ ys. EachGives (W.gives self.now.work.now) (first + low) high ys.items)
             × IfErr upper (IsOfRange (W.gives self.now.work.now) (W.refuses self.now.work.now)
             (G.may_refuse self.now.gate.now) (first + low) high) }
-        ensures answer { IfOk result (λ all. EachGives (W.gives self.now.work.now) first (low + high) all.items) }
+        ensures answer { IfOk result
+            (λ all. EachGives (W.gives self.now.work.now) first (low + high) all.items) }
         ensures refused { IfErr result (IsOfRange (W.gives self.now.work.now)
             (W.refuses self.now.work.now) (G.may_refuse self.now.gate.now) first (low + high)) }
     {
@@ -150,7 +152,8 @@ impl<'a, S: Drop, A: Drop, E: Drop, W: Gated<S, A, E>, G: Gate> ForkJoin<S, Vec<
     fn unstarted(&self, _brought: S, _first: u32, _count: u32) -> Result<Vec<A>, Refusal<E>>
         requires { (W.brings self.now.work.now _first _count _brought
             × AreReadyBy (G.lets_through self.now.gate.now) (W.ready self.now.work.now)) × (0 < _count) }
-        ensures answer { IfOk result (λ answers. EachGives (W.gives self.now.work.now) _first _count answers.items) }
+        ensures answer { IfOk result
+            (λ answers. EachGives (W.gives self.now.work.now) _first _count answers.items) }
         ensures refused { IfErr result (IsOfRange (W.gives self.now.work.now)
             (W.refuses self.now.work.now) (G.may_refuse self.now.gate.now) _first _count) }
     {
@@ -187,7 +190,8 @@ pub fn run_gated<
     requires ready { AreReadyBy (G.lets_through gate.now) (W.ready work.now) }
     requires brought { W.brings work.now 0 workers brought }
     requires some { 0 < workers }
-    ensures answers { IfOk result (λ answers. EachGives (W.gives work.now) 0 workers answers.items) }
+    ensures answers { IfOk result
+        (λ answers. EachGives (W.gives work.now) 0 workers answers.items) }
     // Each worker below the one that was refused has returned.
     ensures refused { IfErr result (IsOfRange (W.gives work.now) (W.refuses work.now)
         (G.may_refuse gate.now) 0 workers) }

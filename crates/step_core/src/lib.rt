@@ -24,5 +24,5 @@ mod programs;
 
 pub use calls::play_calls;
 pub use errors::{MakeError, PlayError};
-pub use machine::{Actor, Machine, Next, Phase, CellSlot, Stepped, play, play_in};
+pub use machine::{Actor, CellSlot, Machine, Next, Phase, Stepped, play, play_in};
 pub use programs::Played;

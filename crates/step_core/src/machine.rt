@@ -20,7 +20,7 @@ use crate::errors::MakeError;
 use crate::machine::storage::Storage;
 use crate::programs::check_programs;
 use book_core::{Command, Ended, Event, Reply, Sequence};
-pub use phase::{Actor, Next, Phase, CellSlot};
+pub use phase::{Actor, CellSlot, Next, Phase};
 pub use schedule::{play, play_in};
 use seg_core::Layout;
 use std::alloc::{AllocError, Global};
@@ -95,7 +95,8 @@ impl Machine {
         programs: Sequence<Sequence<Command>>,
     ) -> Result<Machine, MakeError>
         requires { length programs ≤ most_programs }
-        ensures made { IfOk result (λ machine. machine ≡ first_configuration layout limit programs) }
+        ensures made { IfOk result
+            (λ machine. machine ≡ first_configuration layout limit programs) }
         // What the laws ask for.
         ensures layout { OnOk result (IsLayout layout) }
         ensures limit { OnOk result (IsLimit limit) }
@@ -190,13 +191,16 @@ fn step_among(
     actor: u32,
     memory: bool,
 ) -> Result<Stepped, AllocError>
-    requires limit { IsInLimit (record { limit = limit; storage = storage.old; actors = actors.old.items }) }
-    requires segments { HasSegments (record { limit = limit; storage = storage.old; actors = actors.old.items }) }
+    requires limit { IsInLimit
+        (record { limit = limit; storage = storage.old; actors = actors.old.items }) }
+    requires segments { HasSegments
+        (record { limit = limit; storage = storage.old; actors = actors.old.items }) }
     ensures steps { IfOk result (λ stepped. IsStepped
         (step_of (record { limit = limit; storage = storage.old; actors = actors.old.items }) actor memory)
         (record { limit = limit; storage = storage.new; actors = actors.new.items })
         stepped) }
-    ensures err { OnErr result ((storage.new ≡ storage.old) × (actors.new.items ≡ actors.old.items)) }
+    ensures err { OnErr result
+        ((storage.new ≡ storage.old) × (actors.new.items ≡ actors.old.items)) }
     ensures memory { OnErr result
         (MayRunOut (record { limit = limit; storage = storage.old; actors = actors.old.items }) actor memory) }
 {
@@ -216,7 +220,8 @@ fn step_among(
 }
 
 fn phase_among(limit: u64, storage: &Storage, actors: &Vec<Actor>, actor: u32) -> Phase
-    requires limit { IsInLimit (record { limit = limit; storage = storage.now; actors = actors.now.items }) }
+    requires limit { IsInLimit
+        (record { limit = limit; storage = storage.now; actors = actors.now.items }) }
     ensures phase { result
         ≡ phase_at (record { limit = limit; storage = storage.now; actors = actors.now.items }) actor }
     ensures room { HasRoom result }

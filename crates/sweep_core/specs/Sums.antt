@@ -28,7 +28,8 @@ plus a b = record {
 }
 
 -- the same if memory may have been refused to either
-abbrev pub sum_of_results : Result SweepReport AllocError → Result SweepReport AllocError → Result SweepReport AllocError
+abbrev pub sum_of_results : Result SweepReport AllocError → Result SweepReport AllocError
+    → Result SweepReport AllocError
 sum_of_results (Ok a) (Ok b) = Ok (plus a b)
 sum_of_results (Ok a) (Err e) = Err e
 sum_of_results (Err e) b = Err e

@@ -49,11 +49,13 @@ seed_of seed number = (seed + number) % 2 ^ 64
 
 -- the events of one schedule after another, counted
 abbrev pub all_events : ℕ → ℕ → ℕ → ℕ
-all_events seed count len = sum_by (λ number. length (sampled_play (seed_of seed number) len).events) (range_with_len 0 count)
+all_events seed count len =
+    sum_by (λ number. length (sampled_play (seed_of seed number) len).events) (range_with_len 0 count)
 
 -- and the calls that ended
 abbrev pub all_ended : ℕ → ℕ → ℕ → ℕ
-all_ended seed count len = sum_by (λ number. length (sampled_play (seed_of seed number) len).ended) (range_with_len 0 count)
+all_ended seed count len =
+    sum_by (λ number. length (sampled_play (seed_of seed number) len).ended) (range_with_len 0 count)
 
 -- how a report is shown
 abbrev pub report_text : SweepReport → List ℕ

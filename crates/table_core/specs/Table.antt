@@ -32,7 +32,8 @@ pub record KeyView : Type 0 where
 
 abbrev pub key_coded : Coded KeyView
 key_coded =
-    coded_via (coded× coded_ℕ (coded× coded_ℕ (coded× block_coded coded_ℕ))) (λ (k : KeyView). (k.layout, (k.segment, (k.block, k.name))))
+    coded_via (coded× coded_ℕ (coded× coded_ℕ (coded× block_coded coded_ℕ)))
+    (λ (k : KeyView). (k.layout, (k.segment, (k.block, k.name))))
     (λ x y e i. record { layout = (e i).0; segment = (e i).1.0; block = (e i).1.1.0; name = (e i).1.1.1 })
 
 -- the number of places of a segment
@@ -66,7 +67,8 @@ RenewsEntry old new k = slice_index new.names k ≢ slice_index old.names k
 
 -- each entry is as long as its segment
 abbrev pub AllFit : ℕ → List EntryView → Type 0
-AllFit f entries = (k : ℕ) (e : EntryView) → k < segment_count f → IsLengthOf f k (length_of (slice_index_or entries k e))
+AllFit f entries =
+    (k : ℕ) (e : EntryView) → k < segment_count f → IsLengthOf f k (length_of (slice_index_or entries k e))
 
 -- the block that is known, if any is
 abbrev pub block_or_empty : Option BlockView → BlockView

@@ -1,7 +1,7 @@
 //! The table of segments.
 ghost use Rattle.std.specs.Prelude.{◌≡◌, ◌<◌, ◌≤◌, slice_index, IfSome, IfOk};
 ghost use Rattle.table_core.specs.Table.{IsBlockOf, IsKeyIn, IsKeyOf, IsLengthOf};
-ghost use Rattle.seg_core.specs.Segment.{IsLayout, segment_count};
+ghost use Rattle.seg_core.specs.Segment.{IsLayout, segment_count, most_segments};
 ghost use Rattle.table_core.specs.Entry.{length_of};
 
 mod key;
@@ -11,7 +11,7 @@ use crate::entry::{Entry, EntrySight, Measured};
 use cell_core::block::Block;
 pub use key::Key;
 use owner::{Held, Lent};
-use seg_core::Layout;
+use seg_core::{Layout, MOST_SEGMENTS};
 use std::alloc::{AllocError, Global};
 use std::array;
 use std::marker::Model;
@@ -22,16 +22,13 @@ impl<T> Measured for Block<T> {
     ghost measure = { block_len };
 }
 
-// Room for the segments of every layout.
-const ENTRIES: usize = 40;
-
 /// The table of a vector's segments: 41 - f entries, each set at most once, to the block of its segment. It
 /// has room for 40 pointers.
 #[derive(Drop)]
 pub struct Table<T> {
     layout: Layout,
     alloc: Global,
-    entries: [Entry<Block<T>>; ENTRIES],
+    entries: [Entry<Block<T>>; MOST_SEGMENTS],
     lent: Option<Lent<T>>,
     held: Option<Held>,
 }
@@ -84,8 +81,9 @@ impl<T> Table<T> {
         let _f = layout.f();
         let entries = array::from_fn(
             |segment: usize| -> Entry<Block<T>>
-                requires { segment < 40 }
-                ensures { segment < segment_count layout → IsLengthOf layout segment (length_of result) }
+                requires { segment < most_segments }
+                ensures { segment < segment_count layout
+                    → IsLengthOf layout segment (length_of result) }
             { empty_entry(alloc, layout, segment as u32) },
         );
         Table {

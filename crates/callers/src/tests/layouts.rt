@@ -5,7 +5,7 @@ use script_core::{Script, read};
 use seg_core::Layout;
 use std::alloc::Global;
 use std::test::Fail;
-use step_core::{Machine, Played, CellSlot, play_in};
+use step_core::{CellSlot, Machine, Played, play_in};
 
 // The number of a layout, and how many steps a growth by 300 takes up to its claim: a load, two for each
 // segment of its places, and an exchange.

@@ -5,7 +5,7 @@ use book_core::{Answer, Command, Event, Reply, Sequence};
 use script_core::read;
 use std::alloc::{AllocError, Global};
 use std::test::Fail;
-use step_core::{Machine, MakeError, CellSlot, Stepped};
+use step_core::{CellSlot, Machine, MakeError, Stepped};
 
 // An actor's step with memory, the size after it, and whether it is an event.
 pub(super) type Row = (u32, u64, bool);

@@ -68,7 +68,8 @@ fn grow_to(vector: &Shared<u64>, hand: &mut Hand<u64>, size: u64) -> Option<u64>
 
 // The first item of a walk over an opened list is its first value.
 fn first_published(list: Quiet<u64>) -> Option<Option<u64>>
-    ensures { (x : ℕ) → slice_get list.members 0 ≡ Some (Some x) → IfSome result (λ shown. shown ≡ Some x) }
+    ensures { (x : ℕ) → slice_get list.members 0 ≡ Some (Some x)
+        → IfSome result (λ shown. shown ≡ Some x) }
 {
     let (vector, _hand) = list.open().ok()?;
     match vector.published().next() {
@@ -133,8 +134,10 @@ fn read(vector: &Shared<u64>, hand: &mut Hand<u64>, place: u64) -> Option<u64>
 
 // Opens a list, and reads two of its places.
 fn read_two(list: Quiet<u64>, a: u64, b: u64) -> Option<(Option<u64>, Option<u64>)>
-    ensures first { (x : ℕ) → slice_get list.members a ≡ Some (Some x) → IfSome result (λ (first, _). first ≡ Some x) }
-    ensures second { (x : ℕ) → slice_get list.members b ≡ Some (Some x) → IfSome result (λ (_, second). second ≡ Some x) }
+    ensures first { (x : ℕ) → slice_get list.members a ≡ Some (Some x)
+        → IfSome result (λ (first, _). first ≡ Some x) }
+    ensures second { (x : ℕ) → slice_get list.members b ≡ Some (Some x)
+        → IfSome result (λ (_, second). second ≡ Some x) }
 {
     let (vector, mut hand) = list.open().ok()?;
     let first = read(&vector, &mut hand, a);
@@ -145,7 +148,8 @@ fn read_two(list: Quiet<u64>, a: u64, b: u64) -> Option<(Option<u64>, Option<u64
 // Opens a list, appends a value, and closes it: the list then, and the value's place.
 fn pushed_in_one_life(list: Quiet<u64>, value: u64) -> Option<(Quiet<u64>, u64)>
     ensures old { IfSome result (λ (after, _). KeepsValues list.members after.members) }
-    ensures new { IfSome result (λ (after, place). slice_get after.members place ≡ Some (Some value)) }
+    ensures new { IfSome result
+        (λ (after, place). slice_get after.members place ≡ Some (Some value)) }
 {
     let (vector, mut hand) = list.open().ok()?;
     let placed = vector.try_push_back(&mut hand, value).ok()?;
@@ -161,7 +165,8 @@ fn read_in_the_next_life(
     old: u64,
     value: u64,
 ) -> Option<(Option<u64>, Option<u64>)>
-    ensures first { (x : ℕ) → slice_get list.members old ≡ Some (Some x) → IfSome result (λ (first, _). first ≡ Some x) }
+    ensures first { (x : ℕ) → slice_get list.members old ≡ Some (Some x)
+        → IfSome result (λ (first, _). first ≡ Some x) }
     ensures second { IfSome result (λ (_, second). second ≡ Some value) }
 {
     let (list, place) = pushed_in_one_life(list, value)?;

@@ -3,6 +3,7 @@ ghost use Rattle.std.specs.Prelude.{◌≡◌, ◌≢◌, ◌<◌, Some, None, M
 ghost use Rattle.cell_core.specs.Block.{block_len, cell_at, IsPlacedIn, IsPlacedAt, IsMemberAt, KeepsOtherCells, RenewsCell};
 
 use crate::block::{Block, Epoch, Look, Member, Placed};
+use crate::slot::steps::FILLED;
 use std::alloc::Allocator;
 
 impl<T, A: Allocator> Block<T, A> {
@@ -59,7 +60,7 @@ impl<T, A: Allocator> Block<T, A> {
         ensures others { KeepsOtherCells self.old self.new offset }
     {
         match self.cell(offset).word(&known.member) {
-            (2, sight) => {
+            (FILLED, sight) => {
                 let written = sight.written();
                 known.member.agrees(&written);
                 Member::of(&Placed { offset, written })
@@ -129,7 +130,7 @@ impl<T, A: Allocator> Block<T, A> {
     {
         let cell = self.cell(offset);
         match cell.word_in(&member.member, &epoch.epoch) {
-            2 => {
+            FILLED => {
                 let written = member.member.written();
                 Some((cell.value(&written), Placed { offset, written }))
             }
@@ -150,7 +151,7 @@ impl<T: Drop, A: Allocator> Block<T, A> {
         ensures others { KeepsOtherCells self.old self.new offset }
     {
         match self.cell(offset).word_in(&member.member, &epoch.epoch) {
-            2 => {
+            FILLED => {
                 let written = member.member.written();
                 Some(self.laid.take_written(self.link, offset as usize, &written))
             }

@@ -9,7 +9,7 @@ ghost use Rattle.cell_core.specs.Member.{Settles};
 
 use crate::slot::epoch::RawEpoch;
 use crate::slot::member::RawMember;
-use crate::slot::steps::{RawSlot, Written};
+use crate::slot::steps::{BROKEN_BY_OWNER, EMPTY, FILLED, RawSlot, Written};
 use std::alloc::{AllocError, Allocator};
 use std::marker::{Model, PhantomData};
 use std::mem::{align_of, size_of};
@@ -102,13 +102,14 @@ impl<T, A: Allocator> Laid<T, A> {
 
     // One more cell, which is empty.
     pub(crate) fn push(&mut self, link: Link<T>, index: usize)
-        requires { IsLinked self.old.at link.ptr × (index ≡ length self.old.cells) × (0 < self.old.left) }
+        requires { IsLinked self.old.at link.ptr × (index ≡ length self.old.cells)
+            × (0 < self.old.left) }
         ensures { (self.new.heap ≡ self.old.heap) × (self.new.at ≡ self.old.at)
             × HasOneMore self.old.cells self.new.cells × (self.new.left + 1 ≡ self.old.left) }
     {
         unsafe {
             let place = link.ptr.add(index);
-            (&raw mut (*place).state).write(0);
+            (&raw mut (*place).state).write(EMPTY);
         }
     }
 
@@ -130,8 +131,8 @@ impl<T, A: Allocator> Laid<T, A> {
             let place = link.ptr.add(index);
             let state = &raw mut (*place).state;
             let found = state.read();
-            state.write(0);
-            if found == 2 {
+            state.write(EMPTY);
+            if found == FILLED {
                 Some((&raw const (*place).room).read())
             } else {
                 None
@@ -150,7 +151,7 @@ impl<T, A: Allocator> Laid<T, A> {
     {
         unsafe {
             let cell = link.ptr.add(index);
-            (&raw mut (*cell).state).write(0);
+            (&raw mut (*cell).state).write(EMPTY);
             (&raw const (*cell).room).read()
         }
     }
@@ -165,7 +166,7 @@ impl<T, A: Allocator> Laid<T, A> {
     {
         unsafe {
             let cell = link.ptr.add(index);
-            (&raw mut (*cell).state).write(2);
+            (&raw mut (*cell).state).write(FILLED);
             (&raw mut (*cell).room).write(value);
         }
         Written {
@@ -189,7 +190,7 @@ impl<T, A: Allocator> Laid<T, A> {
     {
         unsafe {
             let cell = link.ptr.add(index);
-            (&raw mut (*cell).state).write(4);
+            (&raw mut (*cell).state).write(BROKEN_BY_OWNER);
         }
         RawMember {
             marker: PhantomData,
@@ -208,8 +209,8 @@ impl<T, A: Allocator> Laid<T, A> {
             let cell = link.ptr.add(index);
             let state = &raw mut (*cell).state;
             let found = state.read();
-            if found != 2 {
-                state.write(4);
+            if found != FILLED {
+                state.write(BROKEN_BY_OWNER);
             }
         }
         RawMember {
@@ -237,7 +238,8 @@ impl<T, A: Allocator> Laid<T, A> {
 
     // Frees a row, whatever is in its cells. Values that are still there are not dropped.
     pub(crate) fn free(self, alloc: &A, link: Link<T>, len: usize)
-        requires { (self.heap ≡ alloc.now) × (self.at ≡ link.ptr) × (length self.cells + self.left ≡ len) }
+        requires { (self.heap ≡ alloc.now) × (self.at ≡ link.ptr)
+            × (length self.cells + self.left ≡ len) }
     {
         let Laid { marker: _ } = self;
         unsafe {
@@ -251,7 +253,8 @@ impl<T, A: Allocator> Laid<T, A> {
 
     // Frees a row without cells: each was popped.
     pub(crate) fn release(self, alloc: &A, link: Link<T>, len: usize)
-        requires { (self.heap ≡ alloc.now) × (self.at ≡ link.ptr) × (self.cells ≡ []) × (self.left ≡ len) }
+        requires { (self.heap ≡ alloc.now) × (self.at ≡ link.ptr) × (self.cells ≡ [])
+            × (self.left ≡ len) }
     {
         self.free(alloc, link, len);
     }

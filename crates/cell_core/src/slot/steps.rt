@@ -1,11 +1,10 @@
-// The raw steps on one cell, each a few lines around one atomic step. The word is 0 if the cell is empty, 1
-// while one thread has it, 2 if it is filled, 3 if it is broken, and 4 if an owner broke it and its epoch may
-// still last.
+// The raw steps on one cell, each a few lines around one atomic step.
 ghost use Rattle.std.specs.Prelude.{◌≡◌, ◌≢◌, ℕ, ◌<◌, [], ◌∷◌, Option};
 ghost use base.Fml.{ftrue, ffalse};
 ghost use denote.Sharing.{said};
 ghost use Rattle.std.specs.Coded.{coded_option};
 ghost use Rattle.cell_core.specs.Slot.{Names, names_coded, shared, pen_owned, sighted, written, was_broken};
+ghost use Rattle.cell_core.specs.Slot.{empty_word, busy_word, filled_word, broken_word, owner_broken_word};
 ghost use Rattle.cell_core.specs.Member.{HasNames, IsWordOf, MayBeWordOf, IsEpochOf};
 
 use crate::slot::epoch::{RawEnded, RawEpoch};
@@ -14,6 +13,18 @@ use atomic_table::exchange;
 use std::marker::{Brand, Model, Move, Owns, PhantomData};
 use std::sync::atomic::Ordering::SeqCst;
 use std::sync::atomic::raw;
+
+// The word of a cell: it is empty, one thread has it, it is filled, it is broken, or an owner broke it and its
+// epoch may still last.
+pub(crate) const EMPTY: u64 = 0;
+
+pub(crate) const BUSY: u64 = 1;
+
+pub(crate) const FILLED: u64 = 2;
+
+pub(crate) const BROKEN: u64 = 3;
+
+pub(crate) const BROKEN_BY_OWNER: u64 = 4;
 
 // A cell in its row. Nobody has one by value: its room may hold none.
 pub(crate) struct RawSlot<T> {
@@ -98,9 +109,9 @@ impl Model for RawBegun {
 impl<T> RawSlot<T> {
     // The exchange from empty to busy, which returns the word as it was.
     pub(crate) fn begin(&self) -> (u64, RawPen<'_, T>)
-        ensures { (result.1.of ≡ self.now) × (result.1.sought ≡ 0) × (result.1.found ≡ result.0) }
+        ensures { (result.1.of ≡ self.now) × (result.1.sought ≡ empty_word) × (result.1.found ≡ result.0) }
     {
-        let found = unsafe { exchange::<Brand>(&raw const self.state, 0, 1) };
+        let found = unsafe { exchange::<Brand>(&raw const self.state, EMPTY, BUSY) };
         let pen = RawPen {
             slot: self,
             marker: PhantomData,
@@ -110,9 +121,9 @@ impl<T> RawSlot<T> {
 
     // The exchange from broken to busy, of a cell whose epoch has ended.
     pub(crate) fn mend(&self) -> (u64, RawPen<'_, T>)
-        ensures { (result.1.of ≡ self.now) × (result.1.sought ≡ 3) × (result.1.found ≡ result.0) }
+        ensures { (result.1.of ≡ self.now) × (result.1.sought ≡ broken_word) × (result.1.found ≡ result.0) }
     {
-        let found = unsafe { exchange::<Brand>(&raw const self.state, 3, 1) };
+        let found = unsafe { exchange::<Brand>(&raw const self.state, BROKEN, BUSY) };
         let pen = RawPen {
             slot: self,
             marker: PhantomData,
@@ -124,10 +135,10 @@ impl<T> RawSlot<T> {
     pub(crate) fn reopen(&self, member: &RawMember<T>, ended: &RawEnded) -> (u64, RawPen<'_, T>)
         requires { HasNames self.now member.now.of.value member.now.of.name member.now.of.epoch
             × IsEpochOf member.now.of.value member.now.of.epoch (ended.now.of ∷ []) }
-        ensures { (result.1.of ≡ self.now) × (result.1.sought ≡ 4) × (result.1.found ≡ result.0)
+        ensures { (result.1.of ≡ self.now) × (result.1.sought ≡ owner_broken_word) × (result.1.found ≡ result.0)
             × MayBeWordOf member.now.of.value result.0 }
     {
-        let found = unsafe { exchange::<Brand>(&raw const self.state, 4, 1) };
+        let found = unsafe { exchange::<Brand>(&raw const self.state, BROKEN_BY_OWNER, BUSY) };
         let pen = RawPen {
             slot: self,
             marker: PhantomData,
@@ -183,26 +194,27 @@ impl<T> RawSlot<T> {
 }
 
 impl<'a, T> RawPen<'a, T> {
-    // Writes the value and then the word 2.
+    // Writes the value and then the word of a filled cell.
     pub(crate) fn fill(self, value: T) -> Written<T>
         requires { self.found ≡ self.sought }
-        ensures { (result.of ≡ self.entry.of.value_name) × (result.value ≡ value) × (result.found ≡ self.entry.found) }
+        ensures { (result.of ≡ self.entry.of.value_name) × (result.value ≡ value)
+            × (result.found ≡ self.entry.found) }
     {
         let RawPen { slot, marker: _ } = self;
         unsafe { (&raw const (*slot).room as *mut T).write(value) };
-        unsafe { raw::store::<Brand>(&raw const (*slot).state, 2, SeqCst) };
+        unsafe { raw::store::<Brand>(&raw const (*slot).state, FILLED, SeqCst) };
         Written {
             marker: PhantomData,
         }
     }
 
-    // Writes the word 3.
+    // Writes the word of a broken cell.
     pub(crate) fn break_cell(self) -> RawBroken
         requires { self.found ≡ self.sought }
         ensures { result.of ≡ self.entry.of.broken_name }
     {
         let RawPen { slot, marker: _ } = self;
-        unsafe { raw::store::<Brand>(&raw const (*slot).state, 3, SeqCst) };
+        unsafe { raw::store::<Brand>(&raw const (*slot).state, BROKEN, SeqCst) };
         RawBroken {
             marker: PhantomData,
         }
@@ -210,7 +222,7 @@ impl<'a, T> RawPen<'a, T> {
 
     // The token of what a lost exchange found.
     pub(crate) fn written(self) -> Written<T>
-        requires { (self.found ≡ 2) × (self.found ≢ self.sought) }
+        requires { (self.found ≡ filled_word) × (self.found ≢ self.sought) }
         ensures { result.of ≡ self.entry.of.value_name }
     {
         let RawPen { slot: _, marker: _ } = self;
@@ -220,7 +232,7 @@ impl<'a, T> RawPen<'a, T> {
     }
 
     pub(crate) fn broken(self) -> RawBroken
-        requires { (2 < self.found) × (self.found ≢ self.sought) }
+        requires { (filled_word < self.found) × (self.found ≢ self.sought) }
         ensures { result.of ≡ self.entry.of.broken_name }
     {
         let RawPen { slot: _, marker: _ } = self;
@@ -231,7 +243,7 @@ impl<'a, T> RawPen<'a, T> {
 
     // What a lost exchange shows of a cell that another call began.
     pub(crate) fn begun(self) -> RawBegun
-        requires { (self.found ≡ 1) × (self.found ≢ self.sought) }
+        requires { (self.found ≡ busy_word) × (self.found ≢ self.sought) }
         ensures { result.of ≡ self.entry.of }
     {
         let RawPen { slot: _, marker: _ } = self;
@@ -249,7 +261,7 @@ impl<'a, T> RawPen<'a, T> {
 
 impl<T> RawSight<T> {
     pub(crate) fn written(self) -> Written<T>
-        requires { self.found ≡ 2 }
+        requires { self.found ≡ filled_word }
         ensures { result.of ≡ self.of.value_name }
     {
         let RawSight { marker: _ } = self;
@@ -275,7 +287,8 @@ impl<T> RawSight<T> {
 
 impl<T> Written<T> {
     pub(crate) fn again(&self) -> Written<T>
-        ensures { (result.of ≡ self.now.of) × (result.value ≡ self.now.value) × (result.found ≡ self.now.found) }
+        ensures { (result.of ≡ self.now.of) × (result.value ≡ self.now.value)
+            × (result.found ≡ self.now.found) }
     {
         Written {
             marker: PhantomData,

@@ -121,7 +121,8 @@ fn read_opened(
 
 // A value of a list is read at its place, once the list is opened.
 fn open_and_read(parts: Parts<u64>, place: u64) -> Option<Option<u64>>
-    ensures { (x : ℕ) → slice_get parts.members place ≡ Some (Some x) → IfSome result (λ read. read ≡ Some x) }
+    ensures { (x : ℕ) → slice_get parts.members place ≡ Some (Some x)
+        → IfSome result (λ read. read ≡ Some x) }
 {
     let (vector, mut hand) = Shared::of_parts(parts).ok()?;
     Some(read_opened(&vector, &mut hand, place, None))

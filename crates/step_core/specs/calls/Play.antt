@@ -43,7 +43,13 @@ with_ended s call_of command answer =
       list = s.list;
       counts = slice_set s.counts call_of (slice_index s.counts call_of + 1);
       events = s.events;
-      ended = s.ended ++ record { actor = call_of; number = slice_index s.counts call_of + 1; command = command; answer = answer } ∷ [];
+      ended = s.ended
+          ++ record {
+            actor = call_of;
+            number = slice_index s.counts call_of + 1;
+            command = command;
+            answer = answer;
+          } ∷ [];
     }
 
 -- the call that an actor comes to next, if one is left
@@ -73,4 +79,5 @@ played_of_calls s = record { events = s.events; ended = s.ended; cells = s.list.
 
 -- the play of whole calls
 abbrev pub calls_played : ℕ → List (List Command) → List Item → Option Played
-calls_played limit programs items = option_map played_of_calls (with_items programs (empty_call_play limit programs) items)
+calls_played limit programs items =
+    option_map played_of_calls (with_items programs (empty_call_play limit programs) items)

@@ -30,7 +30,8 @@ answer_of_look size None = answers.OutOfRange size
 
 -- the actor takes a broken place, and fills it
 abbrev pub mended : ℕ → ℕ → ℕ → WholeCall
-mended actor place value = record { events = Mend actor place ∷ Finish actor place value ∷ []; answer = answers.At place }
+mended actor place value =
+    record { events = Mend actor place ∷ Finish actor place value ∷ []; answer = answers.At place }
 
 -- a read of a place, by the cell there
 abbrev pub looked : CellList → ℕ → ℕ → Option Cell → WholeCall
@@ -47,11 +48,17 @@ mend_on v actor place value None = looked v actor place None
 abbrev pub call_on : CellList → ℕ → Command → WholeCall
 call_on v actor (commands.Push value) =
     if nat_le (length v.cells + 1) v.limit
-    then record { events = Claim actor 1 ∷ finishes actor (length v.cells) 1 value; answer = answers.At (length v.cells) }
+    then record {
+      events = Claim actor 1 ∷ finishes actor (length v.cells) 1 value;
+      answer = answers.At (length v.cells);
+    }
     else refused v actor 1
 call_on v actor (commands.Grow n value) =
     if nat_le (length v.cells + n) v.limit
-    then record { events = Claim actor n ∷ finishes actor (length v.cells) n value; answer = answers.Run (length v.cells) n }
+    then record {
+      events = Claim actor n ∷ finishes actor (length v.cells) n value;
+      answer = answers.Run (length v.cells) n;
+    }
     else refused v actor n
 call_on v actor (commands.AtLeast to value) =
     if nat_le to (length v.cells)
@@ -65,7 +72,8 @@ call_on v actor (commands.AtLeast to value) =
 call_on v actor (commands.Fail n value at) =
     if nat_le (length v.cells + n) v.limit
     then record {
-      events = Claim actor n ∷ (finishes actor (length v.cells) at value ++ breaks actor (length v.cells + at) (n - at));
+      events = Claim actor n ∷
+          (finishes actor (length v.cells) at value ++ breaks actor (length v.cells + at) (n - at));
       answer = answers.BrokenRun (length v.cells) n at;
     }
     else refused v actor n

@@ -90,4 +90,5 @@ pub record AreBlocks (f : ℕ) (entries : Entries) : Type 0 where
   pub count : length entries ≡ most_segments
   pub ends : (segment : ℕ) → segment_count f ≤ segment → block_of entries segment ≡ None
   pub whole :
-      (segment : ℕ) (block : Slots) → block_of entries segment ≡ Some block → segment_start f segment + length block ≡ segment_end f segment
+      (segment : ℕ) (block : Slots) → block_of entries segment ≡ Some block
+      → segment_start f segment + length block ≡ segment_end f segment

@@ -35,8 +35,10 @@ Exchanges commands.Size = Unit {0}
 -- the actor's phase is within the limit
 abbrev pub IsWithin : ℕ → ℕ → Command → Phase → Type 0
 IsWithin f limit command Load = Unit {0}
-IsWithin f limit command (Scout from n segment) = (0 < n) × (from + n ≤ limit) × (segment < segment_count f) × Wants command from n
-IsWithin f limit command (Put from n segment) = (0 < n) × (from + n ≤ limit) × (segment < segment_count f) × Wants command from n
+IsWithin f limit command (Scout from n segment) =
+    (0 < n) × (from + n ≤ limit) × (segment < segment_count f) × Wants command from n
+IsWithin f limit command (Put from n segment) =
+    (0 < n) × (from + n ≤ limit) × (segment < segment_count f) × Wants command from n
 IsWithin f limit command (Exchange from n) = (0 < n) × (from + n ≤ limit) × Exchanges command
 IsWithin f limit command (Raise to) = to ≤ limit
 IsWithin f limit command (Begin from n place) = (from ≤ place) × (place < from + n) × (from + n ≤ limit)
@@ -62,4 +64,5 @@ IsPlaced f limit state = IfSome (slice_get state.program state.ended) (λ comman
 -- so do all actors, and the size; and the segments are those of a layout
 abbrev pub IsInLimit : Configuration → Type 0
 IsInLimit c =
-    IsLimit c.limit × (c.storage.size ≤ c.limit) × All (λ state. IsPlaced c.storage.layout c.limit state) c.actors × IsLayout c.storage.layout
+    IsLimit c.limit × (c.storage.size ≤ c.limit) × All (λ state. IsPlaced c.storage.layout c.limit state) c.actors
+    × IsLayout c.storage.layout

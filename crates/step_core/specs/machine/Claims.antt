@@ -38,7 +38,8 @@ pub record IsOwnClaim (c : Configuration) (actor : ℕ) (step : Step) : Type 0 w
 -- and if its event has a run, it begins at the old size and ends at the new one.
 abbrev pub MovesAtClaims : Play → Type 0
 MovesAtClaims p =
-    (item : Item) → Tile p.at.storage.size (runs_of (option_to_list (step_of p.at item.actor item.memory).event)) (step_of p.at item.actor item.memory).to.storage.size
+    (item : Item) → Tile p.at.storage.size (runs_of (option_to_list (step_of p.at item.actor item.memory).event))
+    (step_of p.at item.actor item.memory).to.storage.size
 
 -- if the next item moves the size, that step is the claim of the call under way of its actor
 abbrev pub MovesAreOwnClaims : Play → Type 0

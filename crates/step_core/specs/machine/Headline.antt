@@ -35,4 +35,5 @@ pub record IsSequential (limit : ℕ) (programs : List (List Command)) (p : Play
 -- Over every layout, every limit, every sound programs, every schedule with any marks of memory.
 abbrev pub EveryInterleavingIsSequential : Type 0
 EveryInterleavingIsSequential =
-    (f : ℕ) → IsLayout f → (limit : ℕ) (programs : List (List Command)) (items : List Item) → IsLimit limit → AreSound programs → IsSequential limit programs (play_of f limit programs items)
+    (f : ℕ) → IsLayout f → (limit : ℕ) (programs : List (List Command)) (items : List Item) → IsLimit limit
+    → AreSound programs → IsSequential limit programs (play_of f limit programs items)

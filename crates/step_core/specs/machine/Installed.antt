@@ -45,4 +45,5 @@ HasPassed m (Look place) = Unit {0}
 -- the segments of the claimed places are installed, and those that the actors have passed
 abbrev pub HasSegments : Configuration → Type 0
 HasSegments c =
-    ((q : ℕ) → q < c.storage.size → IsReady c.storage q) × All (λ (state : Actor). HasPassed c.storage state.phase) c.actors
+    ((q : ℕ) → q < c.storage.size → IsReady c.storage q) × All
+    (λ (state : Actor). HasPassed c.storage state.phase) c.actors

@@ -19,4 +19,5 @@ IsLegal limit p = IsHistory (empty_list limit) p.events (list_seen limit p)
 -- so it is in every play
 abbrev pub EveryPlayIsLegal : Type 0
 EveryPlayIsLegal =
-    (f : ℕ) → IsLayout f → (limit : ℕ) (programs : List (List Command)) (items : List Item) → IsLimit limit → IsLegal limit (play_of f limit programs items)
+    (f : ℕ) → IsLayout f → (limit : ℕ) (programs : List (List Command)) (items : List Item) → IsLimit limit
+    → IsLegal limit (play_of f limit programs items)

@@ -31,7 +31,8 @@ pub record Play : Type 0 where
 abbrev pub play_code : Coded Play
 play_code =
     code_by (Configuration × (List (Event × Reply) × List Ended))
-    (coded× configuration_code (coded× (coded_list (coded× event.the_row.coded reply.the_row.coded)) (coded_list ended.the_row.coded)))
+    (coded× configuration_code
+    (coded× (coded_list (coded× event.the_row.coded reply.the_row.coded)) (coded_list ended.the_row.coded)))
     (λ p. (p.at, (p.events, p.ended)))
     (λ p. record { at = p.0; events = p.1.0; ended = p.1.1 })
     (λ _. refl)
@@ -84,9 +85,11 @@ PlaysGoOnByAStep =
 -- the play of no items is at the first configuration
 abbrev pub PlaysBeginAtTheFirst : Type 0
 PlaysBeginAtTheFirst =
-    (f limit : ℕ) (programs : List (List Command)) → (play_of f limit programs []).at ≡ first_configuration f limit programs
+    (f limit : ℕ) (programs : List (List Command))
+    → (play_of f limit programs []).at ≡ first_configuration f limit programs
 
 -- no step changes the layout
 abbrev pub PlaysKeepTheLayout : Type 0
 PlaysKeepTheLayout =
-    (f limit : ℕ) (programs : List (List Command)) (items : List Item) → (play_of f limit programs items).at.storage.layout ≡ f
+    (f limit : ℕ) (programs : List (List Command)) (items : List Item)
+    → (play_of f limit programs items).at.storage.layout ≡ f

@@ -23,10 +23,12 @@ use Rattle.step_core.specs.machine.Play.{Play, play_of}
 -- broken.
 abbrev run_record : Event → ℕ → ℕ → ℕ → ℕ → ℕ → List (Event × Reply)
 run_record claim actor from n value made =
-    (claim, replies.Run from n) ∷ map (λ event. (event, replies.Done)) (finishes actor from made value ++ breaks actor (from + made) (n - made))
+    (claim, replies.Run from n) ∷ map
+    (λ event. (event, replies.Done)) (finishes actor from made value ++ breaks actor (from + made) (n - made))
 
 -- a growth that won its run, with the answer that its first place gives
-pub record IsGrown (claim : Event) (actor n value made : ℕ) (answer_at : ℕ → Answer) (es : List (Event × Reply)) (answer : Answer) : Type 0 where
+pub record IsGrown (claim : Event) (actor n value made : ℕ) (answer_at : ℕ → Answer) (es : List (Event × Reply))
+    (answer : Answer) : Type 0 where
   pub from : ℕ
   pub events : es ≡ run_record claim actor from n value made
   pub answered : answer ≡ answer_at from
@@ -116,13 +118,15 @@ IsRecord actor (commands.Fail n value at) es answer =
 IsRecord actor (commands.AtLeast to value) es answer =
     IsRaised actor to value es answer
     ⊎ (IsEnough actor to es answer ⊎ (IsFull actor (λ size. to - size) es answer ⊎ IsOutOfMemory actor es answer))
-IsRecord actor (commands.Mend place value) es answer = IsMended actor place value es answer ⊎ IsUnmended actor place es answer
+IsRecord actor (commands.Mend place value) es answer =
+    IsMended actor place value es answer ⊎ IsUnmended actor place es answer
 IsRecord actor (commands.Read place) es answer = IsLook actor place es answer
 IsRecord actor commands.Size es answer = IsSize actor es answer
 
 -- a call of an actor that ended is the one of this number in its program, counted from 0, and these events
 -- are its record
-pub record IsCall (actor : ℕ) (program : List Command) (number : ℕ) (ended : Ended) (es : List (Event × Reply)) : Type 0 where
+pub record IsCall (actor : ℕ) (program : List Command) (number : ℕ) (ended : Ended)
+    (es : List (Event × Reply)) : Type 0 where
   pub command : Command
   pub there : slice_get program number ≡ Some command
   pub is : ended ≡ record { actor = actor; number = number + 1; command = command; answer = ended.answer }
@@ -191,4 +195,5 @@ AreRecorded programs p = (actor : ℕ) → IsRecorded p actor (program_of progra
 -- so it is in every play: any layout, any limit, any sound programs, any schedule, with any marks of memory
 abbrev pub EveryPlayIsRecorded : Type 0
 EveryPlayIsRecorded =
-    (f : ℕ) → IsLayout f → (limit : ℕ) (programs : List (List Command)) (items : List Item) → IsLimit limit → AreSound programs → AreRecorded programs (play_of f limit programs items)
+    (f : ℕ) → IsLayout f → (limit : ℕ) (programs : List (List Command)) (items : List Item) → IsLimit limit
+    → AreSound programs → AreRecorded programs (play_of f limit programs items)

@@ -201,7 +201,8 @@ answer_of_run commands.Size from n = answers.Run from n
 -- an empty slot is taken; at one that isn't empty nothing changes
 abbrev pub begin_at : Storage → ℕ → Command → ℕ → ℕ → ℕ → Option CellSlot → Outcome
 begin_at m actor command from n place None =
-    goes_on (with_slot m place (Busy actor)) (if is_refused command from place then Spoil from n place else Fill from n place)
+    goes_on (with_slot m place (Busy actor))
+    (if is_refused command from place then Spoil from n place else Fill from n place)
 begin_at m actor command from n place (Some slot) = goes_on m (Begin from n place)
 
 -- the next place of the run, or the end of the call after the last
@@ -228,7 +229,8 @@ spoil m actor command from n place = record {
 abbrev pub look_at : Storage → ℕ → ℕ → Option CellSlot → Outcome
 look_at m actor place None = ends m (events.Look actor place) replies.Pending answers.Pending
 look_at m actor place (Some (Busy owner)) = ends m (events.Look actor place) replies.Pending answers.Pending
-look_at m actor place (Some (Filled value)) = ends m (events.Look actor place) (replies.Value value) (answers.Value value)
+look_at m actor place (Some (Filled value)) =
+    ends m (events.Look actor place) (replies.Value value) (answers.Value value)
 look_at m actor place (Some Broken) = ends m (events.Look actor place) replies.Broken answers.Broken
 
 -- ---- Mend

@@ -53,7 +53,8 @@ with_tally t actor play tally (Some ended) = record {
 -- the tally of the actor's call after one step
 abbrev pub next_tally : Tallied → ℕ → Step → Tally
 next_tally t actor step =
-    tally_after t.play.at.storage.layout (unwrap_or (slice_get t.tallies actor) no_tally) (phase_at t.play.at actor) (phase_at step.to actor)
+    tally_after t.play.at.storage.layout (unwrap_or (slice_get t.tallies actor) no_tally) (phase_at t.play.at actor)
+    (phase_at step.to actor)
 
 -- with one step
 abbrev pub tally_step : Tallied → ℕ → Step → Bool → Tallied
@@ -64,7 +65,8 @@ tally_step t actor step true = with_tally t actor (with_step t.play step) (next_
 abbrev pub tally_items : Tallied → List Item → Tallied
 tally_items t [] = t
 tally_items t (item ∷ items) =
-    tally_items (tally_step t item.actor (step_of t.play.at item.actor item.memory) (has_call t.play.at item.actor)) items
+    tally_items (tally_step t item.actor (step_of t.play.at item.actor item.memory)
+    (has_call t.play.at item.actor)) items
 
 -- a counted play as the program keeps it
 abbrev pub tallied : Counted → Tallied

@@ -60,7 +60,8 @@ RunsTile p = Tile 0 (runs_of p.events) p.at.storage.size
 
 -- each claimed place has an owner
 abbrev pub PlacesAreOwned : Play → Type 0
-PlacesAreOwned p = (place : ℕ) → place < p.at.storage.size → (owner : ℕ) × (owner_of (runs_of p.events) place ≡ Some owner)
+PlacesAreOwned p =
+    (place : ℕ) → place < p.at.storage.size → (owner : ℕ) × (owner_of (runs_of p.events) place ≡ Some owner)
 
 -- what was done at a place, in order: its owner's Finish; or its owner's Break, then at most one Mend, and
 -- then at most a Finish by its mender
@@ -75,11 +76,15 @@ IsWrittenFor owner place events =
 -- mended it, and that one may have filled it
 abbrev pub FilledOnce : Play → Type 0
 FilledOnce p =
-    (place : ℕ) → (writes_of place p.events ≡ []) ⊎ ((owner : ℕ) × (owner_of (runs_of p.events) place ≡ Some owner) × IsWrittenFor owner place (writes_of place p.events))
+    (place : ℕ) → (writes_of place p.events ≡ [])
+    ⊎ ((owner : ℕ) × (owner_of (runs_of p.events) place ≡ Some owner)
+    × IsWrittenFor owner place (writes_of place p.events))
 
 -- every segment that has a claimed place is installed
 abbrev pub SegmentsAreThere : Play → Type 0
-SegmentsAreThere p = (place : ℕ) → place < p.at.storage.size → set.contains p.at.storage.installed (segment_of p.at.storage.layout place) ≡ true
+SegmentsAreThere p =
+    (place : ℕ) → place < p.at.storage.size
+    → set.contains p.at.storage.installed (segment_of p.at.storage.layout place) ≡ true
 
 -- an actor that is about to begin a place finds its slot empty
 abbrev pub BeginsMeetEmptySlots : Play → Type 0
@@ -94,7 +99,8 @@ DebtsAreApart p = (a b place : ℕ) → Owes p.at a place → Owes p.at b place 
 -- the owed places are the claimed places that are pending
 abbrev pub DebtsArePending : Play → Type 0
 DebtsArePending p =
-    (place : ℕ) → ((place < p.at.storage.size) × IsUnfinished (get p.at.storage.slots place)) ↔ ((actor : ℕ) × Owes p.at actor place)
+    (place : ℕ) → ((place < p.at.storage.size) × IsUnfinished (get p.at.storage.slots place)) ↔
+    ((actor : ℕ) × Owes p.at actor place)
 
 -- an actor owes exactly the places that the history leaves it to finish: it owns them, and nothing was done
 -- there; or their last write is its Mend
@@ -116,4 +122,5 @@ pub record IsTiled (p : Play) : Type 0 where
 -- all of it holds of every play: any layout, any limit, any programs, any schedule, with any marks of memory
 abbrev pub EveryPlayIsTiled : Type 0
 EveryPlayIsTiled =
-    (f : ℕ) → IsLayout f → (limit : ℕ) (programs : List (List Command)) (items : List Item) → IsLimit limit → IsTiled (play_of f limit programs items)
+    (f : ℕ) → IsLayout f → (limit : ℕ) (programs : List (List Command)) (items : List Item) → IsLimit limit
+    → IsTiled (play_of f limit programs items)

@@ -163,7 +163,8 @@ pub record Counted : Type 0 where
 
 -- before the first item
 abbrev pub first_counted : ℕ → ℕ → List (List Command) → Counted
-first_counted f limit programs = record { play = empty_play f limit programs; counts = replicate (length programs) no_count; calls = [] }
+first_counted f limit programs =
+    record { play = empty_play f limit programs; counts = replicate (length programs) no_count; calls = [] }
 
 -- the call goes on with this count; or it has ended with it, and the actor's next one is counted anew
 abbrev pub with_count : Counted → ℕ → Play → Count → Option Ended → Counted
@@ -177,7 +178,8 @@ with_count k actor play count (Some ended) = record {
 -- the count of the actor's call after one step
 abbrev pub next_count : Counted → ℕ → Step → Count
 next_count k actor step =
-    count_after k.play.at.storage.layout (unwrap_or (slice_get k.counts actor) no_count) (phase_at k.play.at actor) (phase_at step.to actor) (length k.play.events)
+    count_after k.play.at.storage.layout (unwrap_or (slice_get k.counts actor) no_count) (phase_at k.play.at actor)
+    (phase_at step.to actor) (length k.play.events)
 
 -- with one step: it counts if its actor has a call left or under way
 abbrev pub count_step : Counted → ℕ → Step → Bool → Counted
@@ -188,7 +190,8 @@ count_step k actor step true = with_count k actor (with_step k.play step) (next_
 abbrev pub count_items : Counted → List Item → Counted
 count_items k [] = k
 count_items k (item ∷ items) =
-    count_items (count_step k item.actor (step_of k.play.at item.actor item.memory) (has_call k.play.at item.actor)) items
+    count_items (count_step k item.actor (step_of k.play.at item.actor item.memory)
+    (has_call k.play.at item.actor)) items
 
 -- the counted play of a schedule
 abbrev pub counted_of : ℕ → ℕ → List (List Command) → List Item → Counted
@@ -279,7 +282,8 @@ pub record IsBounded (f limit actor : ℕ) (command : Command) (count : Count) (
 
 -- each call that has ended, and each under way
 pub record AreBounded (f limit : ℕ) (k : Counted) : Type 0 where
-  pub ended : All (λ call. IsBounded f limit call.ended.actor call.ended.command call.count (drop call.count.begun (take call.until k.play.events))) k.calls
+  pub ended : All (λ call. IsBounded f limit call.ended.actor call.ended.command call.count
+      (drop call.count.begun (take call.until k.play.events))) k.calls
   pub under_way : (actor : ℕ) (state : Actor) (command : Command) → slice_get k.play.at.actors actor ≡ Some state
       → slice_get state.program state.ended ≡ Some command
       → (count : Count) × (slice_get k.counts actor ≡ Some count)
@@ -294,4 +298,5 @@ pub record IsCountOf (k : Counted) (p : Play) : Type 0 where
 abbrev pub EveryCallIsBounded : Type 0
 EveryCallIsBounded =
     (f : ℕ) → IsLayout f → (limit : ℕ) (programs : List (List Command)) (items : List Item) → IsLimit limit
-    → IsCountOf (counted_of f limit programs items) (play_of f limit programs items) × AreBounded f limit (counted_of f limit programs items)
+    → IsCountOf (counted_of f limit programs items) (play_of f limit programs items)
+    × AreBounded f limit (counted_of f limit programs items)

@@ -173,7 +173,8 @@ fn play_sound(
     requires limit { IsLimit limit }
     requires sound { AreSound programs.now }
     requires programs { HavePrograms programs.now items.now }
-    ensures played { IfOk result (λ played. calls_played limit programs.now items.now ≡ Some played) }
+    ensures played { IfOk result
+        (λ played. calls_played limit programs.now items.now ≡ Some played) }
     ensures actors { IfOk result (λ played. HaveActors (length programs.now) played.ended) }
 {
     let mut play = CallPlay::new(alloc, limit, programs)?;

@@ -76,7 +76,8 @@ impl Blocks {
     ghost use Rattle.step_core.specs.machine.Blocks.{shown_with_segment, shown_with_slot};
 
     pub(crate) fn new(alloc: Global, layout: Layout) -> Self
-        ensures empty { result ≡ record { layout = layout; installed = set.empty; slots = map.empty } }
+        ensures empty { result ≡ record
+            { layout = layout; installed = set.empty; slots = map.empty } }
         ensures layout { IsLayout layout }
     {
         // For the proof: its f is that of a layout.

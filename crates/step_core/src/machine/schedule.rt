@@ -10,7 +10,7 @@ ghost use Rattle.step_core.specs.machine.Work.{AreOfActors, play_shown};
 use crate::errors::{MakeError, PlayError};
 use crate::machine::Machine;
 use crate::machine::counts::CountedPlay;
-use crate::machine::phase::{Phase, CellSlot};
+use crate::machine::phase::{CellSlot, Phase};
 use crate::programs::{Played, check_schedule};
 use book_core::{Cell, Command, Ended, Event, Item, Reply, Sequence, Work};
 use seg_core::Layout;
@@ -64,8 +64,10 @@ impl MachinePlay {
 
     // One step, and the call that ended with it, if one did.
     pub(crate) fn play_item(&mut self, item: &Item) -> Result<Option<Ended>, AllocError>
-        ensures step { OnOk result (self.new ≡ with_step self.old (step_of self.old.at item.now.actor item.now.memory)) }
-        ensures ended { IfOk result (λ ended. ended ≡ (step_of self.old.at item.now.actor item.now.memory).ended) }
+        ensures step { OnOk result
+            (self.new ≡ with_step self.old (step_of self.old.at item.now.actor item.now.memory)) }
+        ensures ended { IfOk result
+            (λ ended. ended ≡ (step_of self.old.at item.now.actor item.now.memory).ended) }
     {
         let stepped = self.machine.step(item.actor, item.memory)?;
         if let Some(row) = stepped.event {
@@ -100,7 +102,8 @@ impl MachinePlay {
     }
 
     fn cells(&self, alloc: Global, owners: &[u32]) -> Result<Vec<Cell>, AllocError>
-        ensures { IfOk result (λ cells. cells.items ≡ cells_from (map.get self.now.at.storage.slots) 0 owners.now) }
+        ensures { IfOk result (λ cells. cells.items
+            ≡ cells_from (map.get self.now.at.storage.slots) 0 owners.now) }
     {
         let mut cells = Vec::new(alloc);
         for owner in owners {
@@ -135,7 +138,8 @@ fn push_owner(owners: &mut Vec<u32>, owner: u32, n: u64) -> Result<(), AllocErro
 
 // The owner of the run that an event won, once for each of its places.
 fn push_run(owners: &mut Vec<u32>, row: &(Event, Reply)) -> Result<(), AllocError>
-    ensures { OnOk result (owners.new.items ≡ owners.old.items ++ owners_of (run_of row.now.0 row.now.1)) }
+    ensures { OnOk result (owners.new.items ≡ owners.old.items
+        ++ owners_of (run_of row.now.0 row.now.1)) }
 {
     match *row {
         (Event::Claim { actor, .. } | Event::Raise { actor, .. }, Reply::Run { n, .. }) => {

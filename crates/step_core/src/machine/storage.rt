@@ -10,7 +10,7 @@ mod places;
 mod segments;
 
 use crate::machine::blocks::Blocks;
-use crate::machine::phase::{Next, Phase, CellSlot};
+use crate::machine::phase::{CellSlot, Next, Phase};
 use book_core::{Answer, Command, Event, Reply};
 use seg_core::Layout;
 use std::alloc::{AllocError, Global};
@@ -69,7 +69,8 @@ impl Storage {
     ghost use Rattle.step_core.specs.machine.Installed.{HasPassed, TakesMemory};
 
     pub(crate) fn new(alloc: Global, layout: Layout) -> Self
-        ensures empty { result ≡ record { layout = layout; size = 0; installed = set.empty; slots = map.empty } }
+        ensures empty { result ≡ record
+            { layout = layout; size = 0; installed = set.empty; slots = map.empty } }
         ensures layout { IsLayout layout }
     {
         Storage {

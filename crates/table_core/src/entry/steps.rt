@@ -104,7 +104,8 @@ impl<B: Measured> Entry<B> {
         requires of { sight.old.of ≡ name_of self.now }
         requires length { B.measure block.value ≡ length_of self.now }
         ensures same { sight.new.of ≡ sight.old.of }
-        ensures block { (sight.new.known ≡ Some result.0.now) × Agrees sight.old.known result.0.now }
+        ensures block { (sight.new.known ≡ Some result.0.now)
+            × Agrees sight.old.known result.0.now }
         ensures back { MatchOption result.1 ((result.0.now ≡ block.value) × (sight.old.known ≡ None))
             (λ l. l.value ≡ block.value) }
         ensures length { B.measure result.0.now ≡ length_of self.now }
@@ -130,7 +131,8 @@ impl<B: Measured> Entry<B> {
 
     // Takes the pointer of a box out.
     fn pointer(block: Loose<B, Global>) -> (*mut B, Loose<B, Global>)
-        ensures { (result.0 ≡ block.at) × (result.1.at ≡ block.at) × (result.1.value ≡ block.value) }
+        ensures { (result.0 ≡ block.at) × (result.1.at ≡ block.at)
+            × (result.1.value ≡ block.value) }
     {
         let Loose { at, alloc } = block;
         (at, Loose { at, alloc })
@@ -154,7 +156,8 @@ impl<B: Measured> Entry<B> {
     fn into_loose(self, sight: &EntrySight<B>) -> Option<Loose<B, Global>>
         requires { sight.now.of ≡ name_of self }
         ensures length { IfSome result (λ l. B.measure l.value ≡ length_of self) }
-        ensures block { MatchOption result (sight.now.known ≡ None) (λ l. Agrees sight.now.known l.value) }
+        ensures block { MatchOption result (sight.now.known ≡ None)
+            (λ l. Agrees sight.now.known l.value) }
     {
         let Entry { word, alloc } = self;
         let at = word.into_inner();
@@ -177,7 +180,8 @@ impl<B: Measured + Drop> Entry<B> {
         requires of { sight.old.of ≡ name_of self.now }
         requires length { B.measure block.value ≡ length_of self.now }
         ensures same { sight.new.of ≡ sight.old.of }
-        ensures block { (sight.new.known ≡ Some result.0.now) × Agrees sight.old.known result.0.now }
+        ensures block { (sight.new.known ≡ Some result.0.now)
+            × Agrees sight.old.known result.0.now }
         ensures back { MatchOption result.1 ((result.0.now ≡ block.value) × (sight.old.known ≡ None))
             (λ b. b.value ≡ block.value) }
         ensures length { B.measure result.0.now ≡ length_of self.now }
@@ -203,7 +207,8 @@ impl<B: Measured + Drop> Entry<B> {
     pub(crate) fn into_box(self, sight: &EntrySight<B>) -> Option<Box<B>>
         requires { sight.now.of ≡ name_of self }
         ensures length { IfSome result (λ b. B.measure b.value ≡ length_of self) }
-        ensures block { MatchOption result (sight.now.known ≡ None) (λ b. Agrees sight.now.known b.value) }
+        ensures block { MatchOption result (sight.now.known ≡ None)
+            (λ b. Agrees sight.now.known b.value) }
     {
         match self.into_loose(sight) {
             Some(block) => Some(block.into_box()),

@@ -2,7 +2,7 @@
 ghost use Rattle.std.specs.Prelude.{◌≡◌, ◌≢◌, ◌<◌, Some, None, slice_index, MatchOption, IfSome, IsSome, IsTrue};
 ghost use Rattle.table_core.specs.Entry.{Agrees};
 ghost use Rattle.table_core.specs.Table.{IsBlockOf, IsKeyIn, IsKeyOf, KeepsOtherEntries, RenewsEntry};
-ghost use Rattle.seg_core.specs.Segment.{segment_count};
+ghost use Rattle.seg_core.specs.Segment.{segment_count, most_segments};
 
 use crate::entry::{Entry, EntrySight};
 use crate::table::{Key, Table, empty_entry};
@@ -15,7 +15,7 @@ use std::mem::replace;
 pub(crate) struct Lent<T> {
     pub(crate) segment: u32,
     pub(crate) block: Box<Block<T>>,
-    ghost within: { segment < 40 },
+    ghost within: { segment < most_segments },
 }
 
 // An entry that is known to be set.
@@ -68,7 +68,8 @@ impl<T: Drop> Table<T> {
         ensures another { RenewsEntry self.old self.new segment }
         ensures none_lent { self.new.lent ≡ None }
         ensures length { IfSome result (λ block. IsBlockOf self.old.layout segment block.value) }
-        ensures block { MatchOption result (sight.now.known ≡ None) (λ block. Agrees sight.now.known block.value) }
+        ensures block { MatchOption result (sight.now.known ≡ None)
+            (λ block. Agrees sight.now.known block.value) }
     {
         self.put_back();
         self.held = None;

@@ -4,7 +4,7 @@ ghost use Rattle.std.specs.FinMap as map;
 ghost use Rattle.seg_core.specs.Segment.{most_places};
 ghost use Rattle.step_core.specs.machine.Step.{is_refused, value_of, answer_of_run, after_place};
 
-use crate::machine::phase::{Next, Phase, CellSlot};
+use crate::machine::phase::{CellSlot, Next, Phase};
 use crate::machine::storage::{StepOutcome, Storage, end_call, go_on_to};
 use book_core::{Answer, Command, Event, Reply};
 
@@ -87,7 +87,8 @@ impl Storage {
     pub(crate) fn mend(&mut self, actor: u32, place: u64) -> StepOutcome
         requires place { place < most_places }
         requires there { IsReady self.old place }
-        ensures gives { given self.new result ≡ mend_at self.old actor place (map.get self.old.slots place) }
+        ensures gives { given self.new result
+            ≡ mend_at self.old actor place (map.get self.old.slots place) }
     {
         match self.blocks.get(place) {
             Some(CellSlot::Broken) => {
@@ -117,7 +118,8 @@ impl Storage {
     }
 
     pub(crate) fn look(&self, actor: u32, place: u64) -> StepOutcome
-        ensures gives { given self.now result ≡ look_at self.now actor place (map.get self.now.slots place) }
+        ensures gives { given self.now result
+            ≡ look_at self.now actor place (map.get self.now.slots place) }
     {
         let event = Event::Look { actor, place };
         match self.blocks.get(place) {

@@ -1,4 +1,4 @@
-// The loads of crates/bench on oneTBB's concurrent_vector and on a std::vector under a mutex.
+// The loads of crates/costs on oneTBB's concurrent_vector and on a std::vector under a mutex.
 //
 //   other_vectors LIBRARY LOAD THREADS    prints the nanoseconds that the load took
 #include <chrono>
@@ -15,7 +15,7 @@
 
 using Value = std::uint64_t;
 
-// As in crates/bench/src/loads.rt.
+// As in crates/costs/src/loads.rt.
 constexpr Value fresh = 10'000'000;
 constexpr Value filled = (Value{1} << 23) + 1;
 constexpr Value more = 8'000'000;

@@ -199,7 +199,8 @@ impl CellVec {
 
     // The actor finishes its pending place, or breaks it.
     fn settle(&mut self, actor: u32, place: u64, cell: Cell) -> Result<Reply, BookError>
-        ensures ok { IfOk result (λ reply. (reply ≡ Reply.Done) × (self.new ≡ with_cell self.old place cell)
+        ensures ok { IfOk result (λ reply. (reply ≡ Reply.Done)
+            × (self.new ≡ with_cell self.old place cell)
             × IsTrue (is_pending_for actor (slice_get self.old.cells place))) }
         ensures err { IfErr result (λ e. (e ≡ BookError.NotLegal) × (self.new ≡ self.old)
             × (is_pending_for actor (slice_get self.old.cells place) ≡ false)) }

@@ -34,7 +34,8 @@ pub record IsKeptOf {T : Type 0} (f : ℕ) (mark : List ℕ) (before : KeyRow) (
   pub named : AreKeys mark before
   pub long : AreLong f before
   pub there : HasFirstKeys before count
-  pub of : (segment offset : ℕ) (key : KeyView) (m : MemberView T) → segment < most_segments → key_at before segment ≡ Some key
+  pub of : (segment offset : ℕ) (key : KeyView) (m : MemberView T) → segment < most_segments
+      → key_at before segment ≡ Some key
       → place_in f segment offset < segment_end f segment → slice_get known (place_in f segment offset) ≡ Some m
       → m.name ≡ (cell_at key.block offset).value_name
   pub later : (segment offset : ℕ) (old new : KeyView) → segment < most_segments → key_at before segment ≡ Some old

@@ -48,7 +48,8 @@ OwnsPlacesOf hand run = (place : ℕ) → IsPlaceOf run place → OwnsPlace hand
 
 -- the row has the key of each segment that the run of n places from a place on touches
 abbrev pub HasKeysOfRun : ℕ → KeyRow → ℕ → ℕ → Type 0
-HasKeysOfRun f row from n = (segment : ℕ) → segment < most_segments → Touches f segment from n → IsSome (key_at row segment)
+HasKeysOfRun f row from n =
+    (segment : ℕ) → segment < most_segments → Touches f segment from n → IsSome (key_at row segment)
 
 -- the row has the key of the segment of each place from one place up to another
 abbrev pub HasKeysOfPlaces : ℕ → KeyRow → ℕ → ℕ → Type 0

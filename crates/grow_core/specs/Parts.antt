@@ -49,7 +49,8 @@ values_in row = map (λ m. m.value) row
 -- each key of the row is of a block as long as its segment
 abbrev pub AreLong : ℕ → KeyRow → Type 0
 AreLong f row =
-    (segment : ℕ) (key : KeyView) → segment < most_segments → key_at row segment ≡ Some key → IsBlockOf f segment key.block
+    (segment : ℕ) (key : KeyView) → segment < most_segments → key_at row segment ≡ Some key
+    → IsBlockOf f segment key.block
 
 -- the row has the keys of the first n segments
 abbrev pub HasFirstKeys : KeyRow → ℕ → Type 0

@@ -140,7 +140,8 @@ impl<T> Model for Closing<T> {
       mark = c.mark.numbers;
     } };
 
-    ghost invariant = { λ c. IsClosing c.table.layout c.mark.numbers c.before c.table.names c.keys c.opened c.row c.epoch c.base
+    ghost invariant = { λ c. IsClosing c.table.layout c.mark.numbers c.before c.table.names c.keys
+        c.opened c.row c.epoch c.base
         c.len c.limit c.count c.size };
 }
 

@@ -35,7 +35,8 @@ pub(crate) fn key_of(row: &Keys, segment: u32) -> Option<Key>
 
 // Duplicates of the keys.
 pub(crate) fn keys_again(row: &Keys) -> Keys
-    ensures { (segment : ℕ) → segment < most_segments → key_at result segment ≡ key_at row.now segment }
+    ensures { (segment : ℕ) → segment < most_segments
+        → key_at result segment ≡ key_at row.now segment }
 {
     array::from_fn(
         |segment: usize| -> Option<Key>

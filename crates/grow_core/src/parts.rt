@@ -51,7 +51,8 @@ impl<T> Model for Parts<T> {
       closed = option_map (λ m. m.numbers) p.closed;
     } };
 
-    ghost invariant = { λ p. AreWhole p.table.layout p.table.names p.keys p.row p.len p.limit p.count
+    ghost invariant = { λ p. AreWhole p.table.layout p.table.names p.keys p.row p.len p.limit
+        p.count
         × IsKept p.table.layout (option_map (λ m. m.numbers) p.closed) p.before p.table.names p.keys p.row p.count
         × AreBrokenIn p.epoch p.row };
 }

@@ -96,7 +96,8 @@ impl<T: Ord> Ord for Quiet<T> {
 
     ghost matches_partial_cmp = { λ a b. lists_agrees (Prim.search rules) a.members b.members };
 
-    ghost matches_eq = { λ a b. lists_ties (option_cmp T.cmp) (Prim.search rules) a.members b.members };
+    ghost matches_eq = { λ a b. lists_ties (option_cmp T.cmp)
+        (Prim.search rules) a.members b.members };
 
     fn cmp(&self, other: &Self) -> Ordering {
         order_of(self.iter(), other.iter())

@@ -50,7 +50,8 @@ pub fn race<R: Threads + Wait + Sync, G: Gate + Sync>(
         return Err(RaceError::NoMemory)
     };
     let work = |vector: &Shared<u64>, worker: u32, hand: &mut Hand<u64>| -> Won
-        requires { G.lets_through gate.now worker × (IsUnusedHand vector.now hand.old × (hand.old.shares ≡ 1))
+        requires { G.lets_through gate.now worker
+            × (IsUnusedHand vector.now hand.old × (hand.old.shares ≡ 1))
             × AreFew (worker + 1) each }
         ensures kept { KeepsShares hand.old hand.new }
         ensures own { SeesOwn hand.new }

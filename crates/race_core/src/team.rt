@@ -83,7 +83,8 @@ pub(crate) fn push_all<R: Wait, G: Gate>(
     ensures of { hand.new.of ≡ hand.old.of }
     ensures shares { hand.new.shares ≡ hand.old.shares }
     ensures refused { IfErr result IsWorkers }
-    ensures team { (shares : ℕ) → IsTeam vector.now.word shares from from (team_of hand.old wins.old.items)
+    ensures team { (shares : ℕ)
+        → IsTeam vector.now.word shares from from (team_of hand.old wins.old.items)
         → OnOk result (IsTeam vector.now.word shares from to (team_of hand.new wins.new.items)) }
 {
     // For the proof: the condition speaks of the gate.

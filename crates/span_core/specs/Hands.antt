@@ -1,5 +1,5 @@
 -- What workers with a hand each leave.
-use Rattle.std.specs.Prelude.{◌≡◌, ℕ, ◌+◌, ◌/◌, ◌<◌, List, [], ◌∷◌, ◌++◌, Result, Ok, Err, Vec, IfOk, IfErr, length}
+use Rattle.std.specs.Prelude.{◌≡◌, ℕ, ◌+◌, ◌/◌, ◌<◌, ◌≤◌, List, [], ◌∷◌, ◌++◌, Result, Ok, Err, Vec, IfOk, IfErr, length}
 use Rattle.std.specs.List.{Contains}
 use Rattle.std.specs.Borrow.{Bor, MutBor}
 use Rattle.std.specs.declared.alloc.Global.{Global}
@@ -93,3 +93,19 @@ pub record IsLeft {A E : Type 0} (says : ℕ → HandView → Result A E → Typ
       (λ all. SayInTurn (of_answer says) hand first all.items hand.mine × (length all.items ≡ count))
   pub refused : IfErr answers
       (IsOfRange (SaysOfPart (of_answer says) hand) (SaysOfPart (of_refusal says) hand) may_refuse first count)
+
+-- what a range of workers brings: a hand of the vector that owns nothing, with a share for each. Each worker
+-- that was let through may be called, and leaves its hand with its shares
+abbrev pub BringsHand : {T R : Type 0} → (Bor (VectorView T) → ℕ → MutBor HandView → Type 0)
+    → (Bor (VectorView T) → ℕ → MutBor HandView → R → MutBor HandView → Type 0) → (ℕ → Type 0) → VectorView T → ℕ
+    → ℕ → ℕ → HandView → Type 0
+BringsHand pre post through vector workers first count hand =
+    (hand.of ≡ vector.word) × (hand.mine ≡ []) × (hand.shares ≡ count) × AreCallable pre through vector workers
+    × KeepHands post vector workers × (first + count ≤ workers)
+
+-- what a range of workers leaves, if each returns what it may
+abbrev pub LeavesHand : {T A E : Type 0}
+    → (Bor (VectorView T) → ℕ → MutBor HandView → Result A E → MutBor HandView → Type 0) → (ℕ → Type 0)
+    → VectorView T → ℕ → ℕ → HandView → Result (Vec A Global) (Refusal E) → Type 0
+LeavesHand post may_refuse vector first count hand answers =
+    IsLeft (Leaves post vector) may_refuse vector.word first count hand answers

@@ -134,7 +134,8 @@ fn halves<
             let child = scope.spawn_with(
                 promise,
                 move || -> Result<A, E>
-                    requires { IsSync R.row × IsSync J.row × IsSend S.row × IsSend A.row × IsSend E.row
+                    requires { IsSync R.row × IsSync J.row × IsSend S.row × IsSend A.row
+                        × IsSend E.row
                         × J.brings job.now middle high for_upper × (0 < high) × (middle + high < 2 ^ 32) }
                     ensures answer { IfOk result (J.gives job.entry.now middle high) }
                     ensures refused { IfErr result (J.refuses job.entry.now middle high) }

@@ -40,25 +40,23 @@ impl<
     G: Gate,
 > ForkJoin<Hand<T>, Left<T, A, E>, Never> for HandWorkers<'a, T, F, G> {
     ghost use Rattle.std.specs.Prelude.{◌≡◌, ◌+◌, ◌<◌, ◌≤◌, [], IfOk, IfErr};
-    ghost use Rattle.span_core.specs.Hands.{AreCallable, KeepHands, Leaves, IsLeft};
+    ghost use Rattle.span_core.specs.Hands.{BringsHand, LeavesHand};
 
     // The hand has a share for each worker.
-    ghost brings = { λ c first count hand. (hand.of ≡ c.vector.now.word) × (hand.mine ≡ []) × (hand.shares ≡ count)
-        × AreCallable (F.pre c.work.now) (G.lets_through c.gate.now) c.vector.now c.workers
-        × KeepHands (F.post c.work.now) c.vector.now c.workers × (first + count ≤ c.workers) };
+    ghost brings = { λ c first count hand. BringsHand (F.pre c.work.now) (F.post c.work.now)
+        (G.lets_through c.gate.now) c.vector.now c.workers first count hand };
 
-    ghost gives = { λ c first count left. IsLeft (Leaves (F.post c.work.now) c.vector.now)
-        (G.may_refuse c.gate.now) c.vector.now.word first count left.hand left.answers };
+    ghost gives = { λ c first count left. LeavesHand (F.post c.work.now) (G.may_refuse c.gate.now)
+        c.vector.now first count left.hand left.answers };
 
     ghost refuses = { λ _ _ _ _. ⊥ };
 
     // One worker passes the gate and works.
     fn work(&self, worker: u32, brought: Hand<T>) -> Result<Left<T, A, E>, Never>
-        requires { (brought.of ≡ self.now.vector.now.word) × (brought.mine ≡ []) × (brought.shares ≡ 1)
-            × AreCallable (F.pre self.now.work.now) (G.lets_through self.now.gate.now) self.now.vector.now self.now.workers
-            × KeepHands (F.post self.now.work.now) self.now.vector.now self.now.workers × (worker + 1 ≤ self.now.workers) }
-        ensures answer { IfOk result (λ left. IsLeft (Leaves (F.post self.now.work.now) self.now.vector.now)
-            (G.may_refuse self.now.gate.now) self.now.vector.now.word worker 1 left.hand left.answers) }
+        requires { BringsHand (F.pre self.now.work.now) (F.post self.now.work.now)
+            (G.lets_through self.now.gate.now) self.now.vector.now self.now.workers worker 1 brought }
+        ensures answer { IfOk result (λ left. LeavesHand (F.post self.now.work.now)
+            (G.may_refuse self.now.gate.now) self.now.vector.now worker 1 left.hand left.answers) }
         ensures refused { IfErr result (λ _. ⊥) }
     {
         let mut hand = brought;
@@ -74,15 +72,13 @@ impl<
     }
 
     fn cut(&self, brought: Hand<T>, first: u32, low: u32, high: u32) -> (Hand<T>, Hand<T>)
-        requires { ((brought.of ≡ self.now.vector.now.word) × (brought.mine ≡ []) × (brought.shares ≡ low + high)
-            × AreCallable (F.pre self.now.work.now) (G.lets_through self.now.gate.now) self.now.vector.now self.now.workers
-            × KeepHands (F.post self.now.work.now) self.now.vector.now self.now.workers × (first + (low + high) ≤ self.now.workers)) × (0 < low) × (0 < high) }
-        ensures lower { (result.0.of ≡ self.now.vector.now.word) × (result.0.mine ≡ []) × (result.0.shares ≡ low)
-            × AreCallable (F.pre self.now.work.now) (G.lets_through self.now.gate.now) self.now.vector.now self.now.workers
-            × KeepHands (F.post self.now.work.now) self.now.vector.now self.now.workers × (first + low ≤ self.now.workers) }
-        ensures upper { (result.1.of ≡ self.now.vector.now.word) × (result.1.mine ≡ []) × (result.1.shares ≡ high)
-            × AreCallable (F.pre self.now.work.now) (G.lets_through self.now.gate.now) self.now.vector.now self.now.workers
-            × KeepHands (F.post self.now.work.now) self.now.vector.now self.now.workers × ((first + low) + high ≤ self.now.workers) }
+        requires { (BringsHand (F.pre self.now.work.now) (F.post self.now.work.now)
+            (G.lets_through self.now.gate.now) self.now.vector.now self.now.workers
+            first (low + high) brought) × (0 < low) × (0 < high) }
+        ensures lower { BringsHand (F.pre self.now.work.now) (F.post self.now.work.now)
+            (G.lets_through self.now.gate.now) self.now.vector.now self.now.workers first low result.0 }
+        ensures upper { BringsHand (F.pre self.now.work.now) (F.post self.now.work.now)
+            (G.lets_through self.now.gate.now) self.now.vector.now self.now.workers (first + low) high result.1 }
     {
         // Only the contract speaks of the first worker.
         let _first = first;
@@ -99,14 +95,14 @@ impl<
         lower: Result<Left<T, A, E>, Never>,
         upper: Result<Left<T, A, E>, Never>,
     ) -> Result<Left<T, A, E>, Never>
-        requires lower { IfOk lower (λ left. IsLeft (Leaves (F.post self.now.work.now) self.now.vector.now)
-            (G.may_refuse self.now.gate.now) self.now.vector.now.word first low left.hand left.answers)
+        requires lower { IfOk lower (λ left. LeavesHand (F.post self.now.work.now)
+            (G.may_refuse self.now.gate.now) self.now.vector.now first low left.hand left.answers)
             × IfErr lower (λ _. ⊥) }
-        requires upper { IfOk upper (λ left. IsLeft (Leaves (F.post self.now.work.now) self.now.vector.now)
-            (G.may_refuse self.now.gate.now) self.now.vector.now.word (first + low) high left.hand left.answers)
+        requires upper { IfOk upper (λ left. LeavesHand (F.post self.now.work.now)
+            (G.may_refuse self.now.gate.now) self.now.vector.now (first + low) high left.hand left.answers)
             × IfErr upper (λ _. ⊥) }
-        ensures answer { IfOk result (λ left. IsLeft (Leaves (F.post self.now.work.now) self.now.vector.now)
-            (G.may_refuse self.now.gate.now) self.now.vector.now.word first (low + high) left.hand left.answers) }
+        ensures answer { IfOk result (λ left. LeavesHand (F.post self.now.work.now)
+            (G.may_refuse self.now.gate.now) self.now.vector.now first (low + high) left.hand left.answers) }
         ensures refused { IfErr result (λ _. ⊥) }
     {
         let Left { mut hand, answers } = lower?;
@@ -121,11 +117,11 @@ impl<
 
     // The hand comes back as it was.
     fn unstarted(&self, brought: Hand<T>, _first: u32, _count: u32) -> Result<Left<T, A, E>, Never>
-        requires { ((brought.of ≡ self.now.vector.now.word) × (brought.mine ≡ []) × (brought.shares ≡ _count)
-            × AreCallable (F.pre self.now.work.now) (G.lets_through self.now.gate.now) self.now.vector.now self.now.workers
-            × KeepHands (F.post self.now.work.now) self.now.vector.now self.now.workers × (_first + _count ≤ self.now.workers)) × (0 < _count) }
-        ensures answer { IfOk result (λ left. IsLeft (Leaves (F.post self.now.work.now) self.now.vector.now)
-            (G.may_refuse self.now.gate.now) self.now.vector.now.word _first _count left.hand left.answers) }
+        requires { (BringsHand (F.pre self.now.work.now) (F.post self.now.work.now)
+            (G.lets_through self.now.gate.now) self.now.vector.now self.now.workers
+            _first _count brought) × (0 < _count) }
+        ensures answer { IfOk result (λ left. LeavesHand (F.post self.now.work.now)
+            (G.may_refuse self.now.gate.now) self.now.vector.now _first _count left.hand left.answers) }
         ensures refused { IfErr result (λ _. ⊥) }
     {
         let answers = Err(Refusal::NoMemory);

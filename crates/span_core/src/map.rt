@@ -26,7 +26,8 @@ struct MapLeaf<'a, T, F> {
 impl<'a, T, U: Drop, F: Fn(u64, Option<&T>) -> U> LeafJob<Vec<U>> for MapLeaf<'a, T, F> {
     ghost ready = { λ m. F.IsAlwaysCallable m.f.now };
 
-    ghost gives = { λ m leaf answers. AnswersOver (F.post m.f.now) m.list.now.members leaf answers.items };
+    ghost gives = { λ m leaf answers. AnswersOver
+        (F.post m.f.now) m.list.now.members leaf answers.items };
 
     fn leaf(&self, leaf: Span) -> Result<Vec<U>, AllocError> {
         let mut answers = Vec::new(self.alloc);

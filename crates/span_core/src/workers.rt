@@ -89,7 +89,8 @@ impl<'a, S: Drop, A: Drop, E: Drop, W: Gated<S, A, E>, G: Gate> ForkJoin<S, Vec<
     ghost brings = { λ c first count brought. W.brings c.work.now first count brought
         × AreReadyBy (G.lets_through c.gate.now) (W.ready c.work.now) };
 
-    ghost gives = { λ c first count answers. EachGives (W.gives c.work.now) first count answers.items };
+    ghost gives = { λ c first count answers. EachGives
+        (W.gives c.work.now) first count answers.items };
 
     ghost refuses = { λ c first count.
         IsOfRange (W.gives c.work.now) (W.refuses c.work.now) (G.may_refuse c.gate.now) first count };
@@ -138,7 +139,8 @@ impl<'a, S: Drop, A: Drop, E: Drop, W: Gated<S, A, E>, G: Gate> ForkJoin<S, Vec<
         requires lower { IfOk lower (λ xs. EachGives (W.gives self.now.work.now) first low xs.items)
             × IfErr lower (IsOfRange (W.gives self.now.work.now) (W.refuses self.now.work.now)
             (G.may_refuse self.now.gate.now) first low) }
-        requires upper { IfOk upper (λ ys. EachGives (W.gives self.now.work.now) (first + low) high ys.items)
+        requires upper { IfOk upper
+            (λ ys. EachGives (W.gives self.now.work.now) (first + low) high ys.items)
             × IfErr upper (IsOfRange (W.gives self.now.work.now) (W.refuses self.now.work.now)
             (G.may_refuse self.now.gate.now) (first + low) high) }
         ensures answer { IfOk result

@@ -57,7 +57,8 @@ impl Model for Machine {
 
     ghost view = { λ m. record { limit = m.limit; storage = m.storage; actors = m.actors.items } };
 
-    ghost invariant = { λ m. IsInLimit (record { limit = m.limit; storage = m.storage; actors = m.actors.items })
+    ghost invariant = { λ m. IsInLimit
+        (record { limit = m.limit; storage = m.storage; actors = m.actors.items })
         × HasSegments (record { limit = m.limit; storage = m.storage; actors = m.actors.items }) };
 }
 

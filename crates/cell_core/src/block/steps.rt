@@ -200,7 +200,8 @@ impl<T, A: Allocator> Laid<T, A> {
     // What is known of the cell. One without a value is broken then for the epoch, and has new names.
     pub(crate) fn settle(&mut self, link: Link<T>, index: usize, epoch: &RawEpoch) -> RawMember<T>
         requires { IsLinked self.old.at link.ptr × (index < length self.old.cells) }
-        ensures { (self.new.heap ≡ self.old.heap) × (self.new.at ≡ self.old.at) × (self.new.left ≡ self.old.left)
+        ensures { (self.new.heap ≡ self.old.heap) × (self.new.at ≡ self.old.at)
+            × (self.new.left ≡ self.old.left)
             × (result.of.name ≡ (cell_in self.old.cells index).value_name)
             × Settles self.old.cells index self.new.cells result.of.value result.of.epoch
             × (result.of.epoch ≡ epoch.now.of ∷ []) }

@@ -109,7 +109,8 @@ impl Model for RawBegun {
 impl<T> RawSlot<T> {
     // The exchange from empty to busy, which returns the word as it was.
     pub(crate) fn begin(&self) -> (u64, RawPen<'_, T>)
-        ensures { (result.1.of ≡ self.now) × (result.1.sought ≡ empty_word) × (result.1.found ≡ result.0) }
+        ensures { (result.1.of ≡ self.now) × (result.1.sought ≡ empty_word)
+            × (result.1.found ≡ result.0) }
     {
         let found = unsafe { exchange::<Brand>(&raw const self.state, EMPTY, BUSY) };
         let pen = RawPen {
@@ -121,7 +122,8 @@ impl<T> RawSlot<T> {
 
     // The exchange from broken to busy, of a cell whose epoch has ended.
     pub(crate) fn mend(&self) -> (u64, RawPen<'_, T>)
-        ensures { (result.1.of ≡ self.now) × (result.1.sought ≡ broken_word) × (result.1.found ≡ result.0) }
+        ensures { (result.1.of ≡ self.now) × (result.1.sought ≡ broken_word)
+            × (result.1.found ≡ result.0) }
     {
         let found = unsafe { exchange::<Brand>(&raw const self.state, BROKEN, BUSY) };
         let pen = RawPen {
@@ -135,7 +137,8 @@ impl<T> RawSlot<T> {
     pub(crate) fn reopen(&self, member: &RawMember<T>, ended: &RawEnded) -> (u64, RawPen<'_, T>)
         requires { HasNames self.now member.now.of.value member.now.of.name member.now.of.epoch
             × IsEpochOf member.now.of.value member.now.of.epoch (ended.now.of ∷ []) }
-        ensures { (result.1.of ≡ self.now) × (result.1.sought ≡ owner_broken_word) × (result.1.found ≡ result.0)
+        ensures { (result.1.of ≡ self.now) × (result.1.sought ≡ owner_broken_word)
+            × (result.1.found ≡ result.0)
             × MayBeWordOf member.now.of.value result.0 }
     {
         let found = unsafe { exchange::<Brand>(&raw const self.state, BROKEN_BY_OWNER, BUSY) };

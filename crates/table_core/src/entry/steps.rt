@@ -106,7 +106,8 @@ impl<B: Measured> Entry<B> {
         ensures same { sight.new.of ≡ sight.old.of }
         ensures block { (sight.new.known ≡ Some result.0.now)
             × Agrees sight.old.known result.0.now }
-        ensures back { MatchOption result.1 ((result.0.now ≡ block.value) × (sight.old.known ≡ None))
+        ensures back { MatchOption result.1
+            ((result.0.now ≡ block.value) × (sight.old.known ≡ None))
             (λ l. l.value ≡ block.value) }
         ensures length { B.measure result.0.now ≡ length_of self.now }
     {
@@ -182,7 +183,8 @@ impl<B: Measured + Drop> Entry<B> {
         ensures same { sight.new.of ≡ sight.old.of }
         ensures block { (sight.new.known ≡ Some result.0.now)
             × Agrees sight.old.known result.0.now }
-        ensures back { MatchOption result.1 ((result.0.now ≡ block.value) × (sight.old.known ≡ None))
+        ensures back { MatchOption result.1
+            ((result.0.now ≡ block.value) × (sight.old.known ≡ None))
             (λ b. b.value ≡ block.value) }
         ensures length { B.measure result.0.now ≡ length_of self.now }
     {

@@ -1,5 +1,0 @@
-use Rattle.std.proofs.Common.{◌∙◌}
-use Rattle.callers.proofs.tests.vector_uses.equals_with_room.Goals as goal
-
-pub returns : goal.returns
-returns c = c.eq.ensures ∙ c.equal_members_are_equal.ensures c.reserve.new.self c.args.other.now (c.reserve.ensures.members ∙ c.requires.same)

@@ -1,5 +1,0 @@
-use Rattle.grow_core.specs.Vector.{IsHandOf}
-use Rattle.grow_tests.proofs.tests.asked.grow_each.Given as goal
-
-abbrev pub invariant-loop-number : goal.invariant-loop-number
-invariant-loop-number g l = IsHandOf l.vector l.hand

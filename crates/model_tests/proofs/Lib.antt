@@ -1,0 +1,9 @@
+mod CallSteps
+mod ClaimedPlaces
+mod LaterRuns
+mod NextSteps
+mod PlacesLater
+mod PushPlaces
+mod ReadValues
+mod SteppedPlays
+mod WholeRecords

@@ -1,0 +1,4 @@
+mod FirstMade
+pub mod Leaves
+pub mod Matrix
+pub mod Values

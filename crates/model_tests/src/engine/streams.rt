@@ -153,12 +153,14 @@ impl Write for Patient {
     }
 }
 
-// Takes a page at a time, and is interrupted before each; counts its bytes, and fails if it has no room.
+// Takes a page at a time, and is interrupted before each; counts its bytes, and fails if it has no room. Says
+// whether it was flushed.
 #[derive(Drop)]
 struct Pages {
     taken: usize,
     room: usize,
     interrupted: bool,
+    flushed: bool,
 }
 
 impl Write for Pages {
@@ -177,6 +179,7 @@ impl Write for Pages {
     }
 
     fn flush(&mut self) -> io::Result<()> {
+        self.flushed = true;
         Ok(())
     }
 }
@@ -404,7 +407,8 @@ const LONG_TEXTS: [(Engine, usize); 3] = [
     (Engine::Calls, 1_029_032), (Engine::Steps, 1_029_032), (Engine::Counted, 1_029_054),
 ];
 
-// Tests whether a writer with that much room ends a long play in this way, with this many bytes of its text.
+// Tests whether a writer with that much room ends a long play in this way, with this many bytes of its text,
+// and is flushed if they are all.
 fn ends_late(
     alloc: Global,
     engine: Engine,
@@ -417,8 +421,10 @@ fn ends_late(
         taken: 0,
         room,
         interrupted: false,
+        flushed: false,
     };
-    run(alloc, engine, &mut reader, &mut writer) == want && writer.taken == room
+    let ended = run(alloc, engine, &mut reader, &mut writer);
+    ended == want && writer.taken == room && writer.flushed == want.is_ok()
 }
 
 #[test]

@@ -1,5 +1,5 @@
 //! Mending: filling a broken place.
-ghost use Rattle.std.specs.Prelude.{◌≡◌, ◌≢◌, ◌<◌, IfOk, IfErr, IsErrAnd};
+ghost use Rattle.std.specs.Prelude.{◌≡◌, ◌<◌, IfOk, IfErr, IsErrAnd};
 ghost use Rattle.claim_core.specs.Hand.{seen_size};
 ghost use Rattle.cell_core.specs.Block.{IsMended, block_len};
 ghost use Rattle.cell_core.specs.Shown.{IsFoundIn, ShowsFilled};

@@ -1,5 +1,7 @@
 mod CallSteps
 mod ClaimedPlaces
+mod EndedCalls
+mod Fillers
 mod LaterRuns
 mod NextSteps
 mod PlacesLater

@@ -31,11 +31,11 @@ use Rattle.model_tests.proofs.ReadValues.{Stands, stands_left, stands_right, sta
 
 -- ---- Members of a list
 
-first_or_later : {X : Type 0} (x y : X) (xs : List X) → Contains (x ∷ xs) y → (x ≡ y) ⊎ Contains xs y
+pub first_or_later : {X : Type 0} (x y : X) (xs : List X) → Contains (x ∷ xs) y → (x ≡ y) ⊎ Contains xs y
 first_or_later x y xs (zero, inside, is) = inl is
 first_or_later x y xs (suc i, inside, is) = inr (i, omega arith, is)
 
-none_inside : {X A : Type 0} (y : X) → Contains [] y → A
+pub none_inside : {X A : Type 0} (y : X) → Contains [] y → A
 none_inside y (i, inside, is) = absurd (omega arith)
 
 -- ---- Mends
@@ -163,7 +163,7 @@ unfolding filler_in
 no_finish event filler place value none is = absurd (none-some filler (sym none ∙ ap filler_in is))
 
 -- an event that fills a place is among what was done there
-finish_written : (es : List (Event × Reply)) (filler place value : ℕ) (reply : Reply)
+pub finish_written : (es : List (Event × Reply)) (filler place value : ℕ) (reply : Reply)
     → Contains es (Finish filler place value, reply) → Contains (writes_of place es) (Finish filler place value)
 finish_written [] filler place value reply is = none_inside (Finish filler place value, reply) is
 finish_written (e ∷ es) filler place value reply is =

@@ -1,6 +1,6 @@
 -- What users of plays want to know of claimed places: who still has to finish them, and what they hold later
 -- on.
-use Rattle.std.specs.Prelude.{◌≡◌, ◌≢◌, ◌+◌, ◌<◌, ◌↔◌, ◌⊎◌, ℕ, true, List, [], ◌∷◌, length, Some, slice_get}
+use Rattle.std.specs.Prelude.{◌≡◌, ◌≢◌, ◌+◌, ◌<◌, ◌↔◌, ◌⊎◌, ℕ, true, List, [], ◌∷◌, length, Option, Some, None, slice_get}
 use Rattle.std.specs.List.{Contains, sum_by}
 use Rattle.std.specs.FinMap.{get}
 use Rattle.std.specs.FinSet as set
@@ -8,13 +8,16 @@ use Rattle.seg_core.specs.Segment.{IsLayout, IsLimit, segment_of}
 use Rattle.book_core.specs.declared.cells.Cell.TheVariants as cells
 use Rattle.book_core.specs.declared.events.Event.{Event}
 use Rattle.book_core.specs.declared.events.Event.TheVariants.{Finish, Break, Mend}
-use Rattle.book_core.specs.declared.events.Reply.TheVariants.{Run, Done}
+use Rattle.book_core.specs.declared.events.Reply.{Reply}
+use Rattle.book_core.specs.declared.events.Reply.TheVariants as replies
 use Rattle.book_core.specs.declared.commands.Command.{Command}
 use Rattle.book_core.specs.declared.commands.Command.TheVariants as commands
+use Rattle.book_core.specs.declared.commands.Answer.{Answer}
 use Rattle.book_core.specs.declared.commands.Answer.TheVariants as answers
 use Rattle.book_core.specs.declared.commands.Ended.{Ended}
 use Rattle.book_core.specs.declared.commands.Item.{Item}
 use Rattle.book_core.specs.Commands.{AreSound, calls_of}
+use Rattle.book_core.specs.Events.{actor_of}
 use Rattle.book_core.specs.History.{OwnedRun, runs_of, owner_of, events_of, writes_of}
 use Rattle.book_core.specs.Laws.{IsItsToFinish}
 use Rattle.step_core.specs.declared.machine.phase.Actor.{Actor}
@@ -123,7 +126,7 @@ pub record IsItsClaim (p : Play) (item : Item) (command : Command) : Type 0 wher
   pub claim : Event
   pub n : ℕ
   pub own : claim_of item.actor command ≡ Some claim
-  pub event : (next_step p item).event ≡ Some (claim, Run p.at.storage.size n)
+  pub event : (next_step p item).event ≡ Some (claim, replies.Run p.at.storage.size n)
   pub some : 0 < n
   pub size : (next_step p item).to.storage.size ≡ p.at.storage.size + n
 
@@ -159,6 +162,32 @@ HaveWholeRecordsWhileReading programs p =
     → slice_get (program_of programs actor) (length (calls_of actor p.ended)) ≡ Some (commands.Read place)
     → HasWholeRecords programs p actor
 
+-- the calls of an actor that have ended are the first ones of its program, in order, with numbers from 1 on
+abbrev pub CallsFollowThePrograms : List (List Command) → Play → Type 0
+CallsFollowThePrograms programs p =
+    (actor i : ℕ) (ended : Ended) → slice_get (calls_of actor p.ended) i ≡ Some ended
+    → (slice_get (program_of programs actor) i ≡ Some ended.command) × (ended.number ≡ i + 1)
+
+-- the reply that an answer repeats, if it repeats one
+abbrev pub reply_in : Answer → Option Reply
+reply_in (answers.At place) = None
+reply_in (answers.Run from n) = Some (replies.Run from n)
+reply_in (answers.Enough size) = Some (replies.Enough size)
+reply_in (answers.BrokenRun from n made) = Some (replies.Run from n)
+reply_in (answers.Full size) = Some (replies.Full size)
+reply_in answers.NoMemory = Some replies.NoMemory
+reply_in (answers.Value value) = Some (replies.Value value)
+reply_in answers.Pending = Some replies.Pending
+reply_in answers.Broken = Some replies.Broken
+reply_in (answers.OutOfRange size) = Some (replies.OutOfRange size)
+reply_in (answers.Size size) = Some (replies.Size size)
+
+-- what an ended call returned, the history replied to an event of its actor
+abbrev pub AnswersAreReplies : List (List Command) → Play → Type 0
+AnswersAreReplies programs p =
+    (i : ℕ) (ended : Ended) (reply : Reply) → slice_get p.ended i ≡ Some ended → reply_in ended.answer ≡ Some reply
+    → (event : Event) × (actor_of event ≡ ended.actor) × Contains p.events (event, reply)
+
 -- it holds of every play of sound programs
 abbrev pub OfEveryRecord : (List (List Command) → Play → Type 0) → Type 0
 OfEveryRecord Holds =
@@ -184,8 +213,20 @@ MendedPlacesAreTheMenders p =
 abbrev pub MendersValuesStay : Play → Type 0
 MendersValuesStay p =
     (mender filler place value : ℕ) (more : List Item) → Contains (writes_of place p.events) (Mend mender place)
-    → Contains p.events (Finish filler place value, Done)
+    → Contains p.events (Finish filler place value, replies.Done)
     → (filler ≡ mender) × (slice_get (played_of (after_items p more)).cells place ≡ Some (cells.Filled value))
+
+-- This actor filled the place: as its owner, or as one who mended it; and nobody else filled it.
+pub record IsFillerOf (p : Play) (writer place value : ℕ) : Type 0 where
+  pub filled : Contains p.events (Finish writer place value, replies.Done)
+  pub its : (owner_of (runs_of p.events) place ≡ Some writer) ⊎ Contains (writes_of place p.events) (Mend writer place)
+  pub alone : (other held : ℕ) → Contains p.events (Finish other place held, replies.Done) → other ≡ writer
+
+-- a place that holds a value was filled with it by one actor, its owner or a mender
+abbrev pub FilledPlacesHaveOneFiller : Play → Type 0
+FilledPlacesHaveOneFiller p =
+    (place value : ℕ) → slice_get (played_of p).cells place ≡ Some (cells.Filled value)
+    → (writer : ℕ) × IsFillerOf p writer place value
 
 -- the call puts this value at the place that it returns
 abbrev pub Puts : Command → ℕ → Type 0

@@ -1,5 +1,5 @@
 // What callers prove of the running vector and of its list by the public clauses alone.
-ghost use Rattle.std.specs.Prelude.{◌≡◌, ◌+◌, ◌<◌, ◌≤◌, Some, IfSome, IfOk, IfErr, ℕ, List, length, slice_get, true};
+ghost use Rattle.std.specs.Prelude.{◌≡◌, ◌+◌, ◌<◌, ◌≤◌, Some, IfSome, IfOk, IfErr, ℕ, length, slice_get, true};
 ghost use Rattle.grow_core.specs.Vector.{IsHandOf, IsOpenedAt};
 ghost use Rattle.grow_core.specs.Closing.{KeepsValues};
 

@@ -1,6 +1,6 @@
 // Cells that were broken, and are mended.
-ghost use Rattle.std.specs.Prelude.{◌≡◌, ◌≢◌, ◌<◌, None, IfSome};
-ghost use Rattle.cell_core.specs.Block.{block_len, IsPlacedIn, IsPlacedAt, IsMemberAt};
+ghost use Rattle.std.specs.Prelude.{◌≡◌, ◌<◌, None, IfSome};
+ghost use Rattle.cell_core.specs.Block.{block_len, IsPlacedAt, IsMemberAt};
 
 use crate::cell::block::{Counted, fill, made, number};
 use cell_core::block::{Block, EndedEpoch, Epoch, Look, Member, Placed};

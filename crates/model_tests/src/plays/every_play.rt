@@ -4,8 +4,9 @@ ghost use Rattle.model_tests.specs.Places.{PendingPlacesHaveOneDebtor, Histories
 ghost use Rattle.model_tests.specs.Places.{EndedCallsLeaveNoDebt, BeginsTakeTheSlot, MovesAreTheActorsClaims};
 ghost use Rattle.model_tests.specs.Places.{NothingIsClaimedByNothing, MendedPlacesAreTheMenders, MendersValuesStay};
 ghost use Rattle.model_tests.specs.Places.{AnsweredPlacesKeepTheValue, BrokenPlacesWaitForAMend};
+ghost use Rattle.model_tests.specs.Places.{FilledPlacesHaveOneFiller};
 ghost use Rattle.model_tests.specs.Places.{WholeCallsClaimTheirCells, OfEveryRecord, HaveWholeRecordsAtLoad};
-ghost use Rattle.model_tests.specs.Places.{HaveWholeRecordsWhileReading};
+ghost use Rattle.model_tests.specs.Places.{HaveWholeRecordsWhileReading, CallsFollowThePrograms, AnswersAreReplies};
 ghost use Rattle.model_tests.specs.CallSteps.{OfEveryCount, EndedCallsAreWithin, CallsUnderWayAreWithin};
 
 use step_core::laws;
@@ -36,15 +37,18 @@ fn steps_known()
     laws::interleavings();
 }
 
-// A mended place is its mender's, and always has the mender's value once it is filled. So does the place of a
-// push or a mend that has ended. A broken place is broken until somebody mends it.
+// A place that holds a value was filled by one actor, its owner or a mender. A mended place is its mender's,
+// and always has the mender's value once it is filled. So does the place of a push or a mend that has ended.
+// A broken place is broken until somebody mends it.
 fn values_known()
+    ensures fillers { OfEveryPlay FilledPlacesHaveOneFiller }
     ensures mended { OfEveryPlay MendedPlacesAreTheMenders }
     ensures menders { OfEveryPlay MendersValuesStay }
     ensures answered { OfEverySoundPlay AnsweredPlacesKeepTheValue }
     ensures broken { OfEveryPlay BrokenPlacesWaitForAMend }
 {
     book_core::laws::finishes_fill();
+    book_core::laws::values_have_one_writer();
     laws::tiling();
     laws::records();
     laws::legal();
@@ -60,8 +64,12 @@ fn values_known_by_the_headline()
     laws::interleavings();
 }
 
-// The events of an actor at Load, and of one whose read has not ended, are the records of its ended calls.
+// The ended calls of an actor are the first ones of its program, in order, and the history has the reply that
+// each of them returned. The events of an actor at Load, and of one whose read has not ended, are the records
+// of its ended calls.
 fn records_known()
+    ensures follow { OfEveryRecord CallsFollowThePrograms }
+    ensures replied { OfEveryRecord AnswersAreReplies }
     ensures at_load { OfEveryRecord HaveWholeRecordsAtLoad }
     ensures reading { OfEveryRecord HaveWholeRecordsWhileReading }
 {

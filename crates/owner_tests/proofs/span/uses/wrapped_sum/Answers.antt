@@ -1,4 +1,4 @@
-use Rattle.std.proofs.Common.{◌≡◌, ℕ, Option, List, rules, unwrap_or, map, fold, subst}
+use Rattle.std.proofs.Common.{◌≡◌, ℕ, Option, List, rules, unwrap_or, fold, subst}
 use Rattle.std.proofs.lemmas.Result.{IfOk-weaker}
 use Rattle.span_core.specs.Loops.{wrapping_sum}
 use Rattle.owner_tests.proofs.span.uses.wrapped_sum.Goals as goal

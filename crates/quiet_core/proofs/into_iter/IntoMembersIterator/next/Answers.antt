@@ -1,4 +1,4 @@
-use Rattle.std.proofs.Common.{◌≡◌, ℕ, ◌+◌, List, Option, ◌∷◌, drop, sym, ap, ◌∙◌}
+use Rattle.std.proofs.Common.{ℕ, ◌+◌, List, Option, ◌∷◌, drop, sym, ap, ◌∙◌}
 use Rattle.quiet_core.proofs.Betweens.{drop_first, drop_set}
 use Rattle.quiet_core.proofs.into_iter.IntoMembersIterator.next.Goals as goal
 

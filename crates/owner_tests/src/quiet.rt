@@ -163,12 +163,12 @@ fn pushes_on(list: &mut Quiet<u64>) -> bool {
             return false;
         }
     }
-    measures(list, 1_048_577, 1 << 21) && list.reserve(3_000_000) == Ok(())
+    measures(list, 1_048_577, 1 << 21) && list.reserve(5_000_000) == Ok(())
 }
 
 // Tests whether five values are where a million were. The capacity stays.
 fn assigns_after_a_million(list: &mut Quiet<u64>, five: Vec<u64>) -> bool {
-    list.assign(five).is_ok() && measures(list, 5, 1 << 22) && has(list, 4, 9)
+    list.assign(five).is_ok() && measures(list, 5, 1 << 23) && has(list, 4, 9)
 }
 
 fn a_million<R: AllocGlobal + Abort>(rt: &R) -> Vec<u64> {

@@ -30,9 +30,24 @@ fn is_of(alloc: Global, f: u32) -> bool {
     }
 }
 
+// The length of a list of a thousand members with a large limit, once it was opened and closed.
+fn len_after_a_life(alloc: Global, f: u32) -> Option<u64> {
+    let limit = if f < 5 { 1 << 33 } else { 1 << 40 };
+    let mut list = Quiet::new_in(alloc, Layout::new(f)?, limit);
+    list.resize(1_000, |i: u64| -> Result<u64, u64> { Ok(i) })
+        .ok()?;
+    let (vector, hand) = list.open().ok()?;
+    Some(Quiet::close(vector, hand).len())
+}
+
 #[test]
-fn capacities_follow_the_layout(rt: HostRuntime) {
-    assert!(rt; (1..9u32).all(|f: u32| -> bool { is_of(rt.alloc(), f) }));
+fn lists_of_each_layout_have_its_capacities_and_are_opened(rt: HostRuntime) {
+    for f in 1..9u32 {
+        assert!(rt;
+            is_of(rt.alloc(), f) && len_after_a_life(rt.alloc(), f) == Some(1_000),
+            "{f}"
+        );
+    }
 }
 
 // Tests whether the first two lists are equal, and both less than the third.

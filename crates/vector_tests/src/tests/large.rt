@@ -209,8 +209,12 @@ fn makes_many<R: Wait>(rt: &R, two: &mut Callers<u64>) -> bool {
 
 // Tests whether clones have their tokens.
 fn clones_many<R: Wait>(rt: &R, two: &mut Callers<u64>) -> bool {
-    match two.vector.grow_by(rt, &mut two.a, TOKENS, &5) {
+    let has_first = match two.vector.try_grow_by(&mut two.a, TOKENS, &5) {
         Ok(grown) => has_tokens(&two.vector, &grown, 4 * TOKENS, 0),
+        Err(_refused) => false,
+    };
+    match two.vector.grow_by(rt, &mut two.a, TOKENS, &5) {
+        Ok(grown) => has_first && has_tokens(&two.vector, &grown, 5 * TOKENS, 0),
         Err(_refused) => false,
     }
 }
@@ -265,6 +269,14 @@ fn shows_bytes(vector: &Shared<u8>) -> bool {
         place = place.wrapping_add(1);
     }
     place == BYTES
+}
+
+// Tests whether a caller without a token reads the last byte.
+fn reads_last_byte(two: &mut Callers<u8>) -> bool {
+    match two.vector.at(&mut two.b, BYTES - 1, None) {
+        Ok(at) => *at.value == byte_of(BYTES - 1),
+        Err(_refused) => false,
+    }
 }
 
 // Tests whether a construction of BYTES places is refused at its second, and the others show that they are
@@ -328,6 +340,7 @@ fn has_bytes(parts: &Parts<u8>) -> bool {
 fn lives_with_bytes<R: AllocGlobal + Wait>(rt: &R, mut two: Callers<u8>) -> bool {
     let is_shown = appends_bytes(rt, &mut two)
         && shows_bytes(&two.vector)
+        && reads_last_byte(&mut two)
         && breaks_many(&mut two)
         && mends_many(&mut two);
     match two.close() {

@@ -364,7 +364,11 @@ fn break_one(life: &mut Life<u64>) -> bool {
 }
 
 // Exchanges a member, if there is one.
-fn replace(parts: &mut Parts<u64>, place: u64, value: Option<u64>) -> Option<Option<u64>> {
+pub(super) fn replace(
+    parts: &mut Parts<u64>,
+    place: u64,
+    value: Option<u64>,
+) -> Option<Option<u64>> {
     if place >= parts.len() {
         return None;
     }

@@ -2,6 +2,7 @@
 // was moved in comes back, and the next growth goes on. `tests/refuse-memory` refuses each request in turn, and
 // counts the requests.
 use super::callers::Callers;
+use super::lives::replace;
 use super::parts::{append, member, pop};
 use super::refusals::{fresh_again, list_again};
 use super::ways::look_at;
@@ -263,9 +264,11 @@ fn mends_two(two: &mut Callers<u64>) -> bool {
     two.vector.mend(&mut two.b, 2, 6).is_ok() && two.vector.mend(&mut two.b, 0, 5).is_ok()
 }
 
-// Tests whether a list of a value, a broken member and a value takes another, and gives two back.
+// Tests whether a list of a value, a broken member and a value takes another, mends the broken one, and gives
+// two back.
 fn changes(parts: &mut Parts<u64>) -> bool {
     let is_so = append(parts, Some(7))
+        && replace(parts, 1, Some(8)) == Some(None)
         && member(parts, 0) == Some(Some(5))
         && pop(parts) == Some(Some(7))
         && pop(parts) == Some(Some(6));

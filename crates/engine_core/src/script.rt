@@ -36,7 +36,7 @@ pub(crate) fn read_script<R: Read>(alloc: Global, reader: &mut R) -> Result<Scri
     ensures playable { IfOk result (λ s. IsPlayable s) }
 {
     let bytes = read_input(alloc, reader)?;
-    // For the proof: one byte more than a script may have is enough to read.
+    // For the proof: the bytes that were read decide which script it is.
     long_texts();
     parse_script(alloc, &bytes)
 }

@@ -1,4 +1,4 @@
--- What is known of calls that have ended: which they are, and where their answers come from.
+-- Ended calls: they are the first ones of their programs, and the history has a reply for each result.
 use Rattle.std.proofs.Common.{◌≡◌, ℕ, ◌+◌, List, [], ◌∷◌, Some, slice_get, zero, suc, refl, ap, sym, ◌∙◌, subst, arith, inl, inr}
 use Rattle.std.specs.List.{Contains}
 use Rattle.std.proofs.lemmas.List.Elements.{Contains-append_right}
@@ -48,7 +48,7 @@ pub calls_follow_the_programs : EveryPlayIsRecorded → OfEveryRecord CallsFollo
 calls_follow_the_programs law f is_layout limit programs items is_limit sound =
     follow programs (play_of f limit programs items) (law f is_layout limit programs items is_limit sound)
 
--- ---- Where answers come from
+-- ---- The replies of the history
 
 -- the answer to a read repeats the reply to its look
 look_told : (shown : Reply) (answer : Answer) → answer_to_look shown ≡ Some answer → reply_in answer ≡ Some shown

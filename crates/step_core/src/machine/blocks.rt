@@ -52,7 +52,7 @@ impl CellBlock {
     }
 }
 
-// The entries of the segments, as many as the shortest first segment needs.
+// The entries of the segments. There is room for those of every layout.
 #[derive(Drop)]
 pub(crate) struct Blocks {
     alloc: Global,

@@ -77,6 +77,11 @@ pub broken_more : {T : Type 0} (epoch : Lft) (known : List (MemberView T)) (m : 
 broken_more epoch [] m all is = (is, tt)
 broken_more epoch (h ∷ known) m all is = (all.0, broken_more epoch known m all.1 is)
 
+pub broken_append : {T : Type 0} (epoch : Lft) (known more : List (MemberView T)) → AreBrokenIn epoch known → AreBrokenIn epoch more
+    → AreBrokenIn epoch (known ++ more)
+broken_append epoch [] more all rest = rest
+broken_append epoch (h ∷ known) more all rest = (all.0, broken_append epoch known more all.1 rest)
+
 pub broken_fewer : {T : Type 0} (epoch : Lft) (known : List (MemberView T)) (m : MemberView T) → AreBrokenIn epoch (known ++ m ∷ []) → AreBrokenIn epoch known
 broken_fewer epoch [] m all = tt
 broken_fewer epoch (h ∷ known) m all = (all.0, broken_fewer epoch known m all.1)
@@ -107,28 +112,39 @@ kept_at old new offset m len same was = record {
   known = subst (λ (c : Names). HasNames c m.value m.name m.epoch) (sym same) was.known;
 }
 
-module _ {T : Type 0} (f : ℕ) (row row' : KeyRow) (known known' : List (MemberView T)) (segment offset : ℕ) (key key' : KeyView) where
+module _ {T : Type 0} (f : ℕ) (row row' : KeyRow) (known known' : List (MemberView T)) (segment offset n : ℕ) (key key' : KeyView) where
   abbrev place : ℕ
   place = place_in f segment offset
 
-  -- one cell was written, by another key of its segment: what was known elsewhere stays known
+  -- n cells of a segment were written, which has another key: what was known elsewhere stays known
   pub members_changed : AreMembers f row known → segment < 40 → key_at row segment ≡ Some key → key_at row' segment ≡ Some key'
       → ((s : ℕ) → s ≢ segment → key_at row' s ≡ key_at row s)
-      → block_len key'.block ≡ block_len key.block → KeepsOtherCells key.block key'.block offset
-      → ((q : ℕ) → q ≢ place → slice_get known' q ≡ slice_get known q)
-      → ((m : MemberView T) → slice_get known' place ≡ Some m → IsMemberAt key'.block offset m)
-      → place < segment_end f segment → AreMembers f row' known'
-  members_changed are small has has' others len cells elsewhere there within s o k m low at inside is =
+      → block_len key'.block ≡ block_len key.block
+      → ((q : ℕ) → q < offset → cell_at key'.block q ≡ cell_at key.block q) → ((q : ℕ) → offset + n ≤ q → cell_at key'.block q ≡ cell_at key.block q)
+      → ((q : ℕ) → q < place → slice_get known' q ≡ slice_get known q) → ((q : ℕ) → place + n ≤ q → slice_get known' q ≡ slice_get known q)
+      → ((i : ℕ) (m : MemberView T) → i < n → slice_get known' (place + i) ≡ Some m → IsMemberAt key'.block (offset + i) m)
+      → place + n ≤ segment_end f segment → AreMembers f row' known'
+  members_changed are small has has' others len cells_before cells_after known_before known_after there within s o k m low at inside is =
       dite (ℕ_discrete s segment)
       (λ same. let same_key : Some key' ≡ Some k = sym has' ∙ ap (key_at row') (sym same) ∙ at in let is_key : key' ≡ k = (let z = same_key in cc) in
-      dite (ℕ_discrete o offset)
-      (λ here. let at_place : place_in f s o ≡ place = (λ i. place_in f (same i) (here i)) in
-      subst (λ (u : KeyView × ℕ). IsMemberAt u.0.block u.1 m) (λ i. (is_key i, sym here i)) (there m (ap (slice_get known') (sym at_place) ∙ is)))
-      (λ other. let apart : place_in f s o ≢ place = (λ e. other (omega (arith, e, ap (segment_start f) same))) in
-      let was : IsMemberAt key.block o m = are segment o key m small has (subst (λ (x : ℕ). place_in f x o < segment_end f x) same inside) (ap (λ (x : ℕ). slice_get known (place_in f x o)) (sym same) ∙ sym (elsewhere (place_in f s o) apart) ∙ is) in
-      subst (λ (u : KeyView). IsMemberAt u.block o m) is_key (kept_at key.block key'.block o m len (cells o other) was)))
-      (λ other. let apart : place_in f s o ≢ place = (λ e. other (one_segment f s segment place (record { from = omega (arith, e); before = subst (λ (x : ℕ). x < segment_end f s) e inside }) (record { from = omega arith; before = within }))) in
-      are s o k m low (sym (others s other) ∙ at) inside (sym (elsewhere (place_in f s o) apart) ∙ is))
+      let starts = ap (segment_start f) same in
+      let still : slice_get known' (place_in f s o) ≡ slice_get known (place_in f s o) → cell_at key'.block o ≡ cell_at key.block o → IsMemberAt k.block o m = (λ known_same cell_same.
+      let was : IsMemberAt key.block o m = are segment o key m small has (subst (λ (x : ℕ). place_in f x o < segment_end f x) same inside) (ap (λ (x : ℕ). slice_get known (place_in f x o)) (sym same) ∙ sym known_same ∙ is) in
+      subst (λ (u : KeyView). IsMemberAt u.block o m) is_key (kept_at key.block key'.block o m len cell_same was)) in
+      ⊎_elim (λ lt. still (known_before (place_in f s o) (omega (arith, lt, starts))) (cells_before o lt))
+      (λ ge. ⊎_elim
+      (λ lt. let here : offset + (o - offset) ≡ o = omega (arith, ge) in let at_place : place + (o - offset) ≡ place_in f s o = omega (arith, ge, starts) in
+      subst (λ (u : KeyView × ℕ). IsMemberAt u.0.block u.1 m) (λ i. (is_key i, here i)) (there (o - offset) m (omega (arith, ge, lt)) (ap (slice_get known') at_place ∙ is)))
+      (λ past. still (known_after (place_in f s o) (omega (arith, past, starts))) (cells_after o past))
+      (cases_lt o (offset + n)))
+      (cases_lt o offset))
+      (λ other. let still : slice_get known' (place_in f s o) ≡ slice_get known (place_in f s o) → IsMemberAt k.block o m = (λ known_same. are s o k m low (sym (others s other) ∙ at) inside (sym known_same ∙ is)) in
+      ⊎_elim (λ lt. still (known_before (place_in f s o) lt))
+      (λ ge. ⊎_elim
+      (λ lt. absurd (other (one_segment f s segment (place_in f s o) (record { from = omega arith; before = inside }) (record { from = omega (arith, ge); before = omega (arith, lt, within) }))))
+      (λ past. still (known_after (place_in f s o) past))
+      (cases_lt (place_in f s o) (place + n)))
+      (cases_lt (place_in f s o) place))
 
 -- the key of an entry is the key of that segment
 pub key_here : (table : TableView) (segment : ℕ) (block : BlockView) (key : KeyView) → segment < segment_count table.layout → IsKeyOf table segment block key → IsKeyAt (mark_of table) segment key
@@ -142,18 +158,19 @@ key_here table segment block key small of = record {
 some_is : (key : KeyView) → IsSome (Some key)
 some_is key = refl
 
-module _ {T : Type 0} (f : ℕ) (names : List ℕ) (table' : TableView) (row : KeyRow) (known known' : List (MemberView T)) (segment offset len len' limit count : ℕ) (key key' : KeyView) (block : BlockView) where
+module _ {T : Type 0} (f : ℕ) (names : List ℕ) (table' : TableView) (row : KeyRow) (known known' : List (MemberView T)) (segment offset n len len' limit count : ℕ) (key key' : KeyView) (block : BlockView) where
   abbrev row' : KeyRow
   row' = slice_set row segment (Some key')
 
-  -- one cell was written, and its block has another key
-  pub written_whole : AreWhole f names row known len limit count → table'.layout ≡ f → segment < 40 → segment < segment_count f → place_in f segment offset < segment_end f segment
+  -- n cells were written, and their block has another key
+  pub written_cells : AreWhole f names row known len limit count → table'.layout ≡ f → segment < 40 → segment < segment_count f → place_in f segment offset + n ≤ segment_end f segment
       → key_at row segment ≡ Some key → ((j : ℕ) → j ≢ segment → slice_index table'.names j ≡ slice_index names j) → IsKeyOf table' segment block key'
-      → block_len block ≡ block_len key.block → KeepsOtherCells key.block block offset
-      → ((q : ℕ) → q ≢ place_in f segment offset → slice_get known' q ≡ slice_get known q)
-      → ((m : MemberView T) → slice_get known' (place_in f segment offset) ≡ Some m → IsMemberAt block offset m)
+      → block_len block ≡ block_len key.block
+      → ((q : ℕ) → q < offset → cell_at block q ≡ cell_at key.block q) → ((q : ℕ) → offset + n ≤ q → cell_at block q ≡ cell_at key.block q)
+      → ((q : ℕ) → q < place_in f segment offset → slice_get known' q ≡ slice_get known q) → ((q : ℕ) → place_in f segment offset + n ≤ q → slice_get known' q ≡ slice_get known q)
+      → ((i : ℕ) (m : MemberView T) → i < n → slice_get known' (place_in f segment offset + i) ≡ Some m → IsMemberAt block (offset + i) m)
       → length known' ≡ len' → len' ≤ limit → len' ≤ segment_start f count → AreWhole table'.layout table'.names row' known' len' limit count
-  written_whole whole same_layout small few inside has others of same_len cells elsewhere there all within below =
+  written_cells whole same_layout small few inside has others of same_len cells_before cells_after known_before known_after there all within below =
       let here : key_at row' segment ≡ Some key' = get_or-set_same row segment (Some key') None (omega (arith, small, whole.rows)) in
       let away : (s : ℕ) → s ≢ segment → key_at row' s ≡ key_at row s = (λ s other. get_or-set_other row segment s (Some key') None other) in
       let is_block : block ≡ key'.block = sym of.of in
@@ -178,10 +195,27 @@ module _ {T : Type 0} (f : ℕ) (names : List ℕ) (table' : TableView) (row : K
         there = λ s low. dite (ℕ_discrete s segment)
             (λ same. subst IsSome (sym (ap (key_at row') same ∙ here)) (some_is key'))
             (λ other. subst IsSome (sym (away s other)) (whole.there s low));
-        of = members_changed f row row' known known' segment offset key key' whole.of small has here away (ap block_len (sym is_block) ∙ same_len)
-            (λ q other. subst (λ (b : BlockView). cell_at b q ≡ cell_at key.block q) is_block (cells q other)) elsewhere
-            (λ m is. subst (λ (b : BlockView). IsMemberAt b offset m) is_block (there m is)) inside;
+        of = members_changed f row row' known known' segment offset n key key' whole.of small has here away (ap block_len (sym is_block) ∙ same_len)
+            (λ q low. subst (λ (b : BlockView). cell_at b q ≡ cell_at key.block q) is_block (cells_before q low))
+            (λ q past. subst (λ (b : BlockView). cell_at b q ≡ cell_at key.block q) is_block (cells_after q past)) known_before known_after
+            (λ i m low is. subst (λ (b : BlockView). IsMemberAt b (offset + i) m) is_block (there i m low is)) inside;
       })
+
+-- one cell was written, and its block has another key
+pub written_whole : {T : Type 0} (f : ℕ) (names : List ℕ) (table' : TableView) (row : KeyRow) (known known' : List (MemberView T)) (segment offset len len' limit count : ℕ) (key key' : KeyView) (block : BlockView)
+    → AreWhole f names row known len limit count → table'.layout ≡ f → segment < 40 → segment < segment_count f → place_in f segment offset < segment_end f segment
+    → key_at row segment ≡ Some key → ((j : ℕ) → j ≢ segment → slice_index table'.names j ≡ slice_index names j) → IsKeyOf table' segment block key'
+    → block_len block ≡ block_len key.block → KeepsOtherCells key.block block offset
+    → ((q : ℕ) → q ≢ place_in f segment offset → slice_get known' q ≡ slice_get known q)
+    → ((m : MemberView T) → slice_get known' (place_in f segment offset) ≡ Some m → IsMemberAt block offset m)
+    → length known' ≡ len' → len' ≤ limit → len' ≤ segment_start f count → AreWhole table'.layout table'.names (slice_set row segment (Some key')) known' len' limit count
+written_whole f names table' row known known' segment offset len len' limit count key key' block whole same_layout small few inside has others of same_len cells elsewhere there all within below =
+    written_cells f names table' row known known' segment offset 1 len len' limit count key key' block whole same_layout small few (omega (arith, inside)) has others of same_len
+    (λ q low. cells q (λ e. omega (arith, low, e))) (λ q past. cells q (λ e. omega (arith, past, e)))
+    (λ q low. elsewhere q (λ e. omega (arith, low, e))) (λ q past. elsewhere q (λ e. omega (arith, past, e)))
+    (λ i m low is. let here : offset ≡ offset + i = omega (arith, low) in let at : place_in f segment offset ≡ place_in f segment offset + i = omega (arith, low) in
+    subst (λ (o : ℕ). IsMemberAt block o m) here (there m (ap (slice_get known') at ∙ is)))
+    all within below
 
 -- a segment after the members was installed
 pub grown_whole : {T : Type 0} (f : ℕ) (names : List ℕ) (row : KeyRow) (known : List (MemberView T)) (len limit count : ℕ) (key : KeyView)

@@ -1,5 +1,5 @@
--- How a vector is closed place by place, and what a token of it says of the list.
-use Rattle.std.proofs.Common.{zero, suc, ⊎_elim, ◌≡◌, ◌≢◌, ℕ, ◌+◌, ◌<◌, ◌≤◌, List, [], ◌∷◌, ◌++◌, length, length-append, length-set, Option, Some, None, refl, sym, ap, ◌∙◌, subst, arith}
+-- How a vector is closed segment by segment, and what a token of it says of the list.
+use Rattle.std.proofs.Common.{zero, suc, ⊎_elim, ◌≡◌, ◌≢◌, ℕ, ◌+◌, ◌-◌, ◌<◌, ◌≤◌, List, [], ◌∷◌, ◌++◌, length, length-append, length-set, append-nil, append_assoc, Option, Some, None, refl, sym, ap, ◌∙◌, subst, arith}
 use Rattle.std.proofs.lemmas.List.{length-map, map-append}
 use Rattle.std.proofs.lemmas.Bool.{cases_lt}
 use Rattle.std.proofs.Math.Pow.{pow-lt, pow_pos}
@@ -11,15 +11,15 @@ use native.Mathlib.Decide.{ℕ_discrete}
 use Rattle.seg_core.specs.Segment.{segment_start, segment_end, segment_count, most_places, HasPlace}
 use Rattle.seg_core.specs.Laws.{OnePlace}
 use Rattle.seg_core.proofs.Doubling.{one_segment}
-use Rattle.cell_core.specs.Block.{BlockView, IsMemberAt, KeepsOtherCells, cell_at}
+use Rattle.cell_core.specs.Block.{BlockView, IsMemberAt, KeepsOtherCells, block_len, cell_at}
 use Rattle.cell_core.specs.Member.{MemberView, HasNames}
 use Rattle.table_core.specs.Table.{KeyView, IsBlockOf}
 use Rattle.grow_core.specs.Keys.{KeyRow, IsKeyAt, AreKeys, HasKeysOfPlaces, key_at, mark_of, layout_in, names_in}
 use Rattle.grow_core.specs.Token.{PlacedView, place_in}
-use Rattle.grow_core.specs.Parts.{AreLong, AreMembers, AreWhole, HasFirstKeys, AreBrokenIn, values_in}
+use Rattle.grow_core.specs.Parts.{AreLong, AreMembers, AreWhole, HasFirstKeys, AreBrokenIn, IsBrokenIn, values_in}
 use Rattle.grow_core.specs.Vector.{VectorView, IsPlacedOf, layout_of}
-use Rattle.grow_core.specs.Closing.{IsClosing, IsKept, IsKeptOf, KeepsValuesBelow}
-use Rattle.grow_core.proofs.Places.{value_at, pushed_there, pushed_elsewhere, within_length, kept_at, segment_below, all_places}
+use Rattle.grow_core.specs.Closing.{AreSettled, IsClosing, IsKept, IsKeptOf, KeepsKnown, KeepsValuesBelow}
+use Rattle.grow_core.proofs.Places.{value_at, pushed_there, pushed_elsewhere, within_length, kept_at, broken_more, broken_append, segment_below, all_places}
 use Rattle.grow_core.proofs.KeyRows.{none_is_none}
 
 -- the row has the keys of the first n segments and no other: those of the opened list, if that has them
@@ -73,6 +73,102 @@ token_cell f law segment offset vector placed same of here within =
     let at = of.place ∙ ap (λ (l : ℕ). place_in l placed.key.segment placed.cell.offset) same in
     law f placed.key.segment segment placed.cell.offset offset (omega (arith, long, inside)) (omega (arith, here, within)) (sym at ∙ sym here)
 
+-- the member at a place of a list
+pub member_at : {X : Type 0} (xs : List X) (i : ℕ) → i < length xs → (x : X) × (slice_get xs i ≡ Some x)
+member_at [] i near = absurd (omega (arith, near))
+member_at (x ∷ xs) zero near = (x, refl)
+member_at (x ∷ xs) (suc i) near = member_at xs i (omega (arith, near))
+
+-- past the last member of a list there is none
+pub nothing_past : {X : Type 0} (xs : List X) (i : ℕ) → length xs ≤ i → slice_get xs i ≡ None
+nothing_past [] i past = refl
+nothing_past (x ∷ xs) zero past = absurd (omega (arith, past))
+nothing_past (x ∷ xs) (suc i) past = nothing_past xs i (omega (arith, past))
+
+-- the key that a row has for a segment
+pub key_there : (key : Option KeyView) → IsSome key → (k : KeyView) × (key ≡ Some k)
+key_there None is = absurd (none_is_none {X = KeyView} None (λ i. None) is)
+key_there (Some k) is = (k, refl)
+
+-- two lists one behind the other have the members of the first, and then those of the second
+pub append_first : {X : Type 0} (xs ys : List X) (i : ℕ) → i < length xs → slice_get (xs ++ ys) i ≡ slice_get xs i
+append_first [] ys i near = absurd (omega (arith, near))
+append_first (x ∷ xs) ys zero near = refl
+append_first (x ∷ xs) ys (suc i) near = append_first xs ys i (omega (arith, near))
+
+pub append_second : {X : Type 0} (xs ys : List X) (i : ℕ) → slice_get (xs ++ ys) (length xs + i) ≡ slice_get ys i
+append_second [] ys i = ap (slice_get ys) (let e : 0 + i ≡ i = omega arith in e)
+append_second (x ∷ xs) ys i = ap (slice_get (x ∷ xs ++ ys)) (let e : suc (length xs) + i ≡ suc (length xs + i) = omega arith in e) ∙ append_second xs ys i
+
+-- a value that the opened list has at a place is known still, by what was known there
+keeps_value : {T : Type 0} (opened : List (MemberView T)) (q : ℕ) (m : MemberView T) (known : Option (MemberView T)) → MatchOption known (length opened ≤ q) (λ k. slice_get opened q ≡ Some k)
+    → IfSome known (λ k. KeepsKnown k.value m.value) → (k : MemberView T) → slice_get opened q ≡ Some k → KeepsKnown k.value m.value
+keeps_value opened q m None past keeps k at = absurd (let near = within_length opened q k at in omega (arith, near, past))
+keeps_value opened q m (Some n) had keeps k at = let both : Some n ≡ Some k = sym had ∙ at in let same : n ≡ k = (let z = both in cc) in subst (λ (u : MemberView _). KeepsKnown u.value m.value) same keeps
+
+-- no cell is settled yet
+pub settled_none : {T : Type 0} (block : BlockView) (offset : ℕ) (opened : List (MemberView T)) (place : ℕ) (row : List (MemberView T)) (epoch : Lft)
+    → AreSettled block block offset opened place row row epoch 0
+settled_none {T} block offset opened place row epoch =
+    let gone : (i : ℕ) (m : MemberView T) → slice_get [] i ≡ Some m → ⊥ = (λ i m is. let near = within_length [] i m is in omega (arith, near)) in
+    record {
+      settled = [];
+      row = sym (append-nil row);
+      all = refl;
+      len = refl;
+      members = λ i m is. absurd (gone i m is);
+      names = λ i m is. absurd (gone i m is);
+      values = λ i k m had is. absurd (gone i m is);
+      broken = tt;
+      before = λ q low. refl;
+      after = λ q past. refl;
+    }
+
+module _ {T : Type 0} (old new : BlockView) (offset : ℕ) (opened : List (MemberView T)) (place : ℕ) (row row' : List (MemberView T)) (epoch : Lft) (n : ℕ) (run : AreSettled old new offset opened place row row' epoch n) where
+  pub settled_length : length row' ≡ length row + n
+  settled_length = ap length run.row ∙ length-append row run.settled ∙ ap (λ (k : ℕ). length row + k) run.all
+
+  pub settled_before : (q : ℕ) → q < length row → slice_get row' q ≡ slice_get row q
+  settled_before q low = ap (λ (xs : List (MemberView T)). slice_get xs q) run.row ∙ append_first row run.settled q low
+
+  pub settled_there : (i : ℕ) → slice_get row' (length row + i) ≡ slice_get run.settled i
+  settled_there i = ap (λ (xs : List (MemberView T)). slice_get xs (length row + i)) run.row ∙ append_second row run.settled i
+
+  pub settled_broken : AreBrokenIn epoch row → AreBrokenIn epoch row'
+  settled_broken all = subst (AreBrokenIn epoch) (sym run.row) (broken_append epoch row run.settled all run.broken)
+
+  last : (m x : MemberView T) (i : ℕ) → i ≡ n → slice_get (run.settled ++ m ∷ []) i ≡ Some x → m ≡ x
+  last m x i same got = let both : Some m ≡ Some x = sym (pushed_there run.settled m) ∙ ap (slice_get (run.settled ++ m ∷ [])) (run.all ∙ sym same) ∙ got in let z = both in cc
+
+  earlier : (m x : MemberView T) (i : ℕ) → i ≢ n → slice_get (run.settled ++ m ∷ []) i ≡ Some x → slice_get run.settled i ≡ Some x
+  earlier m x i other got = sym (pushed_elsewhere run.settled m i (λ e. other (e ∙ run.all))) ∙ got
+
+  -- the next cell is settled too
+  pub settled_more : (newer : BlockView) (known : Option (MemberView T)) (m : MemberView T) (row'' : List (MemberView T)) → row'' ≡ row' ++ m ∷ []
+      → MatchOption known (length opened ≤ place + n) (λ k. slice_get opened (place + n) ≡ Some k) → IfSome known (λ k. KeepsKnown k.value m.value)
+      → IsMemberAt newer (offset + n) m → m.name ≡ (cell_at new (offset + n)).value_name → IsBrokenIn epoch m → block_len newer ≡ block_len new
+      → KeepsOtherCells new newer (offset + n) → AreSettled old newer offset opened place row row'' epoch (n + 1)
+  settled_more newer known m row'' pushed had keeps is named broken len others =
+      let all : length run.settled ≡ n = run.all in
+      record {
+        settled = run.settled ++ m ∷ [];
+        row = pushed ∙ ap (λ (xs : List (MemberView T)). xs ++ m ∷ []) run.row ∙ append_assoc row run.settled (m ∷ []);
+        all = length-append run.settled (m ∷ []) ∙ ap (λ (k : ℕ). k + 1) all;
+        len = len ∙ run.len;
+        members = λ i x got. dite (ℕ_discrete i n)
+            (λ same. subst (λ (u : ℕ × MemberView T). IsMemberAt newer (offset + u.0) u.1) (λ j. (sym same j, last m x i same got j)) is)
+            (λ other. kept_at new newer (offset + i) x len (others (offset + i) (λ e. other (omega (arith, e)))) (run.members i x (earlier m x i other got)));
+        names = λ i x got. dite (ℕ_discrete i n)
+            (λ same. ap (λ (u : MemberView T). u.name) (sym (last m x i same got)) ∙ named ∙ ap (λ c. c.value_name) (run.after (offset + n) (omega arith)) ∙ ap (λ (j : ℕ). (cell_at old (offset + j)).value_name) (sym same))
+            (λ other. run.names i x (earlier m x i other got));
+        values = λ i k x at got. dite (ℕ_discrete i n)
+            (λ same. subst (λ (u : MemberView T). KeepsKnown k.value u.value) (last m x i same got) (keeps_value opened (place + n) m known had keeps k (ap (λ (j : ℕ). slice_get opened (place + j)) (sym same) ∙ at)))
+            (λ other. run.values i k x at (earlier m x i other got));
+        broken = broken_more epoch run.settled m run.broken broken;
+        before = λ q low. others q (λ e. omega (arith, e, low)) ∙ run.before q low;
+        after = λ q past. others q (λ e. omega (arith, e, past)) ∙ run.after q (omega (arith, past));
+      }
+
 module _ {T : Type 0} (f : ℕ) (mark : List ℕ) (before : KeyRow) (names : List ℕ) (row : KeyRow) (known : List (MemberView T)) (count : ℕ) (kept : IsKeptOf f mark before names row known count) where
   -- the name of a member is that of the token of its place
   pub name_of_token : (segment offset : ℕ) (old : KeyView) (vector : VectorView T) (placed : PlacedView T) (m : MemberView T) → segment < 40 → key_at before segment ≡ Some old
@@ -83,47 +179,50 @@ module _ {T : Type 0} (f : ℕ) (mark : List ℕ) (before : KeyRow) (names : Lis
       ∙ (λ i. (cell_at (same i) (sym cell i)).value_name) ∙ sym of.cell.named
 
   module _ (segment offset : ℕ) (old key : KeyView) (small : segment < 40) (first : segment < count) (has : key_at before segment ≡ Some old) (has' : key_at row segment ≡ Some key) (here : length known ≡ place_in f segment offset) where
-    -- the next cell is the one that it was
-    pub same_cell_still : cell_at key.block offset ≡ cell_at old.block offset
-    same_cell_still = kept.later segment offset old key small has has' (let e = here in omega (arith, e))
+    -- each cell from the next one on is the one that it was
+    pub same_cell_still : (i : ℕ) → cell_at key.block (offset + i) ≡ cell_at old.block (offset + i)
+    same_cell_still i = kept.later segment (offset + i) old key small has has' (let e = here in omega (arith, e))
 
     -- what was known of it is known still
-    pub known_there : (opened : List (MemberView T)) (base : ℕ) (k : Option (MemberView T)) → AreMembers f before opened → IsBlockOf f segment key.block
-        → place_in f segment offset < segment_end f segment → MatchOption k (base ≤ length known) (λ m. slice_get opened (length known) ≡ Some m) → IfSome k (IsMemberAt key.block offset)
-    known_there opened base None are long inside is = tt
-    known_there opened base (Some m) are long inside is =
-        let was : IsMemberAt old.block offset m = are segment offset old m small has inside (ap (slice_get opened) (sym here) ∙ is) in
+    pub known_there : (opened : List (MemberView T)) (i : ℕ) (m : MemberView T) → AreMembers f before opened → IsBlockOf f segment key.block
+        → place_in f segment offset + i < segment_end f segment → slice_get opened (length known + i) ≡ Some m → IsMemberAt key.block (offset + i) m
+    known_there opened i m are long inside is =
+        let at : length known + i ≡ place_in f segment (offset + i) = (let e = here in omega (arith, e)) in
+        let was : IsMemberAt old.block (offset + i) m = are segment (offset + i) old m small has (omega (arith, inside)) (ap (slice_get opened) (sym at) ∙ is) in
         let was_long = kept.long segment old small has in
-        kept_at old.block key.block offset m (omega (arith, long, was_long)) same_cell_still was
+        kept_at old.block key.block (offset + i) m (omega (arith, long, was_long)) (same_cell_still i) was
 
-    -- the next place is a member
-    pub kept_settled : (names' : List ℕ) (key' : KeyView) (m : MemberView T) → length row ≡ 40 → place_in f segment offset < segment_end f segment
-        → ((j : ℕ) → j ≢ segment → slice_index names' j ≡ slice_index names j) → m.name ≡ (cell_at key.block offset).value_name → KeepsOtherCells key.block key'.block offset
-        → IsKeptOf f mark before names' (slice_set row segment (Some key')) (known ++ m ∷ []) count
-    kept_settled names' key' m rows inside others name cells =
+    -- the places of the next n cells are members
+    pub kept_settled : (names' : List ℕ) (key' : KeyView) (block : BlockView) (opened known' : List (MemberView T)) (epoch : Lft) (n : ℕ) → length row ≡ 40
+        → place_in f segment offset + n ≤ segment_end f segment → ((j : ℕ) → j ≢ segment → slice_index names' j ≡ slice_index names j)
+        → AreSettled key.block block offset opened (length known) known known' epoch n → key'.block ≡ block
+        → IsKeptOf f mark before names' (slice_set row segment (Some key')) known' count
+    kept_settled names' key' block opened known' epoch n rows inside others run is_block =
         let row' : KeyRow = slice_set row segment (Some key') in
         let is_there : key_at row' segment ≡ Some key' = get_or-set_same row segment (Some key') None (omega (arith, small, rows)) in
         let away : (s : ℕ) → s ≢ segment → key_at row' s ≡ key_at row s = (λ s other. get_or-set_other row segment s (Some key') None other) in
-        let more : length (known ++ m ∷ []) ≡ length known + 1 = length-append known (m ∷ []) in
+        let more : length known' ≡ length known + n = settled_length key.block block offset opened (length known) known known' epoch n run in
         record {
           layout = kept.layout;
           named = kept.named;
           long = kept.long;
           there = kept.there;
-          of = λ s o k n low at within is. dite (ℕ_discrete (place_in f s o) (length known))
-              (λ same. let both : Some m ≡ Some n = sym (pushed_there known m) ∙ ap (slice_get (known ++ m ∷ [])) (sym same) ∙ is in let one : m ≡ n = (let z = both in cc) in
-              let e : place_in f s o ≡ place_in f segment offset = same ∙ here in
-              let seg : s ≡ segment = one_segment f s segment (place_in f s o) (record { from = omega arith; before = within }) (record { from = omega (arith, e); before = subst (λ (p : ℕ). p < segment_end f segment) (sym e) inside }) in
-              let off : o ≡ offset = (let starts = ap (segment_start f) seg in omega (arith, e, starts)) in
+          of = λ s o k m low at within is. ⊎_elim
+              (λ lt. kept.of s o k m low at within (sym (settled_before key.block block offset opened (length known) known known' epoch n run (place_in f s o) lt) ∙ is))
+              (λ ge. let near = within_length known' (place_in f s o) m is in
+              let e : place_in f s o ≡ length known + (place_in f s o - length known) = omega (arith, ge) in
+              let seg : s ≡ segment = one_segment f s segment (place_in f s o) (record { from = omega arith; before = within }) (record { from = omega (arith, ge, here); before = omega (arith, near, more, here, inside) }) in
+              let starts = ap (segment_start f) seg in
+              let off : o ≡ offset + (place_in f s o - length known) = omega (arith, e, here, starts) in
               let key_is : Some k ≡ Some old = sym at ∙ ap (key_at before) seg ∙ has in let old_is : k ≡ old = (let z = key_is in cc) in
-              ap (λ (u : MemberView T). u.name) (sym one) ∙ name ∙ ap (λ c. c.value_name) same_cell_still ∙ (λ i. (cell_at (sym old_is i).block (sym off i)).value_name))
-              (λ other. kept.of s o k n low at within (sym (pushed_elsewhere known m (place_in f s o) other) ∙ is));
+              let got : slice_get run.settled (place_in f s o - length known) ≡ Some m = sym (settled_there key.block block offset opened (length known) known known' epoch n run (place_in f s o - length known)) ∙ ap (slice_get known') (sym e) ∙ is in
+              run.names (place_in f s o - length known) m got ∙ ap (λ c. c.value_name) (same_cell_still (place_in f s o - length known)) ∙ (λ i. (cell_at (sym old_is i).block (sym off i)).value_name))
+              (cases_lt (place_in f s o) (length known));
           later = λ s o a b low at at' past. dite (ℕ_discrete s segment)
               (λ same. let new_is : Some b ≡ Some key' = sym at' ∙ ap (key_at row') same ∙ is_there in let b_is : b ≡ key' = (let z = new_is in cc) in
               let old_is : Some a ≡ Some old = sym at ∙ ap (key_at before) same ∙ has in let a_is : a ≡ old = (let z = old_is in cc) in
               let starts = ap (segment_start f) same in
-              let apart : o ≢ offset = (λ e. omega (arith, e, starts, past, more, here)) in
-              ap (λ (u : KeyView). cell_at u.block o) b_is ∙ cells o apart
+              ap (λ (u : KeyView). cell_at u.block o) b_is ∙ ap (λ (u : BlockView). cell_at u o) is_block ∙ run.after o (omega (arith, starts, past, more, here))
               ∙ kept.later segment o old key small has has' (omega (arith, starts, past, more)) ∙ ap (λ (u : KeyView). cell_at u.block o) (sym a_is))
               (λ other. kept.later s o a b low at (sym (away s other) ∙ at') (omega (arith, past, more)));
           after = λ s low ge. others s (λ same. omega (arith, same, ge, first)) ∙ kept.after s low ge;
@@ -132,31 +231,24 @@ module _ {T : Type 0} (f : ℕ) (mark : List ℕ) (before : KeyRow) (names : Lis
 some_value : {X : Type 0} (o : Option X) (x : X) → o ≡ Some x → o ≢ None
 some_value o x is none = let z = sym none ∙ is in absurd (cc)
 
-settled_value : {T : Type 0} (opened : List (MemberView T)) (base len : ℕ) (k : Option (MemberView T)) (m : MemberView T) (x : T) → length opened ≡ base
-    → MatchOption k (base ≤ len) (λ n. slice_get opened len ≡ Some n) → IfSome k (λ n. n.value ≢ None → m.value ≡ n.value)
-    → slice_get (values_in opened) len ≡ Some (Some x) → m.value ≡ Some x
-settled_value {T} opened base len None m x all is kept there =
-    let near = within_length (values_in opened) len (Some x) there in let counted = length-map opened (λ (u : MemberView T). u.value) in absurd (omega (arith, near, counted, all, is))
-settled_value opened base len (Some n) m x all is kept there =
-    let both : Some n.value ≡ Some (Some x) = sym (value_at opened len n is) ∙ there in let one : n.value ≡ Some x = (let z = both in cc) in
-    kept (some_value n.value x one) ∙ one
-
--- what is said of what is known of a place in the opened list
-abbrev pub Known : {T : Type 0} → List (MemberView T) → ℕ → ℕ → Option (MemberView T) → Type 0
-Known opened base len k = MatchOption k (base ≤ len) (λ m. slice_get opened len ≡ Some m)
-
--- each value of the opened list that is below the length is a member still, and the next one is too
-pub values_more : {T : Type 0} (opened known : List (MemberView T)) (base : ℕ) (k : Option (MemberView T)) (m : MemberView T) → length opened ≡ base
-    → MatchOption k (base ≤ length known) (λ n. slice_get opened (length known) ≡ Some n) → IfSome k (λ n. n.value ≢ None → m.value ≡ n.value)
-    → KeepsValuesBelow (length known) (values_in opened) (values_in known) → KeepsValuesBelow (length known + 1) (values_in opened) (values_in (known ++ m ∷ []))
-values_more {T} opened known base k m all is kept values p x below there =
-    let value : MemberView T → Option T = (λ u. u.value) in
-    let pushed : values_in (known ++ m ∷ []) ≡ values_in known ++ m.value ∷ [] = map-append value known (m ∷ []) in
-    let counted : length (values_in known) ≡ length known = length-map known value in
-    ap (λ xs. slice_get xs p) pushed ∙ dite (ℕ_discrete p (length known))
-    (λ same. ap (slice_get (values_in known ++ m.value ∷ [])) (same ∙ sym counted) ∙ pushed_there (values_in known) m.value
-    ∙ ap Some (settled_value opened base (length known) k m x all is kept (ap (slice_get (values_in opened)) (sym same) ∙ there)))
-    (λ other. pushed_elsewhere (values_in known) m.value p (λ e. other (e ∙ counted)) ∙ values p x (omega (arith, below, other)) there)
+-- each value of the opened list that is below the length is a member still, and those of the next n places are
+pub values_more : {T : Type 0} (old new : BlockView) (offset : ℕ) (opened known known' : List (MemberView T)) (epoch : Lft) (n : ℕ)
+    → AreSettled old new offset opened (length known) known known' epoch n
+    → KeepsValuesBelow (length known) (values_in opened) (values_in known) → KeepsValuesBelow (length known + n) (values_in opened) (values_in known')
+values_more {T} old new offset opened known known' epoch n run values p x below there =
+    let more : length known' ≡ length known + n = settled_length old new offset opened (length known) known known' epoch n run in
+    ⊎_elim
+    (λ lt. let m = member_at known p lt in let near : p < length known' = omega (arith, lt, more) in
+    let was : Some m.0.value ≡ Some (Some x) = sym (value_at known p m.0 m.1) ∙ values p x lt there in
+    value_at known' p m.0 (settled_before old new offset opened (length known) known known' epoch n run p lt ∙ m.1) ∙ was)
+    (λ ge. let i = p - length known in let at : p ≡ length known + i = omega (arith, ge) in
+    let far = within_length (values_in opened) p (Some x) there in let counted = length-map opened (λ (u : MemberView T). u.value) in
+    let k = member_at opened p (omega (arith, far, counted)) in let all = run.all in
+    let m = member_at run.settled i (omega (arith, all, below, ge)) in
+    let had : Some k.0.value ≡ Some (Some x) = sym (value_at opened p k.0 k.1) ∙ there in let is : k.0.value ≡ Some x = (let z = had in cc) in
+    value_at known' p m.0 (ap (slice_get known') at ∙ settled_there old new offset opened (length known) known known' epoch n run i ∙ m.1)
+    ∙ ap Some (run.values i k.0 m.0 (ap (slice_get opened) (sym at) ∙ k.1) m.1 (some_value k.0.value x is) ∙ is))
+    (cases_lt p (length known))
 
 -- what is known of a cell where the opened list has a value is what a token of it says
 pub opened_is : {T : Type 0} (block : BlockView) (offset : ℕ) (m : MemberView T) (name : ℕ) (value x : T) → IsMemberAt block offset m → m.value ≡ Some x
@@ -207,7 +299,7 @@ pub closing_starts : {T : Type 0} (f : ℕ) (mark names : List ℕ) (opened own 
     → ((s : ℕ) → s < count → IsSome (key_at opened s) → key_at before s ≡ key_at opened s) → ((s : ℕ) → s < 40 → count ≤ s → key_at before s ≡ None)
     → (count < segment_count f → (key_at opened count ≡ None) × (key_at own count ≡ None))
     → ((s : ℕ) → s < 40 → key_at again s ≡ key_at before s) → length again ≡ 40 → HasKeysOfPlaces f own base size → base ≤ size → size ≤ limit
-    → IsClosing f mark before names again row none epoch base 0 limit count size
+    → IsClosing f mark before names again row none epoch 0 limit count size
 closing_starts {T} f mark names opened own before again row none epoch base limit first count size whole same empty named long there few fits rest end twice rows has later most =
     let limited = whole.limited.1 in
     let gone : (i : ℕ) (m : MemberView T) → slice_get none i ≡ Some m → ⊥ = (λ i m is. let near = within_length none i m is in let no = ap length empty in omega (arith, near, no)) in
@@ -241,8 +333,7 @@ closing_starts {T} f mark names opened own before again row none epoch base limi
           let at_first : s < first = segment_below f s (place_in f s o) first (record { from = omega arith; before = inside }) (omega (arith, near, all, inner)) in
           let low' : s < count = ⊎_elim (λ lt. lt) (λ ge. absurd (none_is_none (key_at before s) (rest s low ge) (subst IsSome (sym at) (refl_some k)))) (cases_lt s count) in
           whole.of s o k m low (sym (fits s low' (whole.there s at_first)) ∙ at) inside is;
-      all = whole.all;
-      inside = later;
+      inside = subst (λ (n : ℕ). n ≤ size) (sym whole.all) later;
       values = λ p x below is. absurd (omega (arith, below));
       within = omega arith;
       most = most;

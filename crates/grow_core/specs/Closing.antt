@@ -1,10 +1,10 @@
 -- How a vector is closed into a list, and what is kept of it there.
-use Rattle.std.specs.Prelude.{◌≡◌, ℕ, ◌<◌, ◌≤◌, List, Option, Some, None, slice_get, slice_index, length}
+use Rattle.std.specs.Prelude.{◌≡◌, ◌≢◌, ℕ, ◌+◌, ◌<◌, ◌≤◌, List, ◌++◌, Option, Some, None, slice_get, slice_index, length}
 use Rattle.std.specs.Coded.{coded_option}
 use base.Fml.{Lft}
 use base.Stored.{Coded, coded×, coded_ℕ, coded_list, coded_via}
 use Rattle.seg_core.specs.Segment.{segment_start, segment_end, most_segments}
-use Rattle.cell_core.specs.Block.{cell_at}
+use Rattle.cell_core.specs.Block.{BlockView, IsMemberAt, block_len, cell_at}
 use Rattle.cell_core.specs.Member.{MemberView}
 use Rattle.table_core.specs.Table.{KeyView}
 use Rattle.grow_core.specs.Keys.{KeyRow, AreKeys, key_at, mark_of, layout_in, names_in}
@@ -73,6 +73,28 @@ closing_coded {T} c =
       mark = (e i).1.1.1.1.1;
     })
 
+-- where a value was known, it is known still
+abbrev pub KeepsKnown : {T : Type 0} → Option T → Option T → Type 0
+KeepsKnown old new = old ≢ None → new ≡ old
+
+-- what settling n cells of a block from an offset on leaves, which are the places from `place` on: the row has
+-- what is known of them from now on, in order; a value that was known stays, and a cell without one is broken
+-- for the epoch. All other cells are as they were
+pub record AreSettled {T : Type 0} (old new : BlockView) (offset : ℕ) (opened : List (MemberView T)) (place : ℕ)
+    (old_row new_row : List (MemberView T)) (epoch : Lft) (n : ℕ) : Type 0 where
+  pub settled : List (MemberView T)
+  pub row : new_row ≡ old_row ++ settled
+  pub all : length settled ≡ n
+  pub len : block_len new ≡ block_len old
+  pub members : (i : ℕ) (m : MemberView T) → slice_get settled i ≡ Some m → IsMemberAt new (offset + i) m
+  pub names : (i : ℕ) (m : MemberView T) → slice_get settled i ≡ Some m
+      → m.name ≡ (cell_at old (offset + i)).value_name
+  pub values : (i : ℕ) (k m : MemberView T) → slice_get opened (place + i) ≡ Some k → slice_get settled i ≡ Some m
+      → KeepsKnown k.value m.value
+  pub broken : AreBrokenIn epoch settled
+  pub before : (q : ℕ) → q < offset → cell_at new q ≡ cell_at old q
+  pub after : (q : ℕ) → offset + n ≤ q → cell_at new q ≡ cell_at old q
+
 -- each value of the old list that is below a place is at its place in the new one
 abbrev pub KeepsValuesBelow : {T : Type 0} → ℕ → List (Option T) → List (Option T) → Type 0
 KeepsValuesBelow {T} n old new =
@@ -80,13 +102,12 @@ KeepsValuesBelow {T} n old new =
 
 -- what holds while a vector is being closed
 pub record IsClosing {T : Type 0} (f : ℕ) (mark : List ℕ) (before : KeyRow) (names : List ℕ) (row : KeyRow)
-    (opened known : List (MemberView T)) (epoch : Lft) (base len limit count size : ℕ) : Type 0 where
+    (opened known : List (MemberView T)) (epoch : Lft) (len limit count size : ℕ) : Type 0 where
   pub whole : AreWhole f names row known len limit count
   pub broken : AreBrokenIn epoch known
   pub kept : IsKeptOf f mark before names row known count
   pub first : AreMembers f before opened
-  pub all : length opened ≡ base
-  pub inside : base ≤ size
+  pub inside : length opened ≤ size
   pub values : KeepsValuesBelow len (values_in opened) (values_in known)
   pub within : len ≤ size
   pub most : size ≤ limit

@@ -1,13 +1,14 @@
 //! How a vector is closed: it becomes an owner's list.
-ghost use Rattle.std.specs.Prelude.{◌≡◌, ◌≢◌, ◌+◌, ◌<◌, ◌≤◌, ℕ, Some, None, MatchOption, IfSome, IsSome, IsTrue, IsFalse, length, slice_get};
+ghost use Rattle.std.specs.Prelude.{◌≡◌, ◌≢◌, ◌+◌, ◌<◌, ◌≤◌, ℕ, min, Some, None, MatchOption, IfSome, IsSome, IsTrue, IsFalse, length, slice_get};
 ghost use Rattle.claim_core.specs.Hand.{IsWholeHand, seen_size};
 ghost use Rattle.cell_core.specs.Block.{block_len, cell_at, IsMemberAt, KeepsOtherCells};
-ghost use Rattle.seg_core.specs.Segment.{IsLayout, segment_count, most_segments};
+ghost use Rattle.cell_core.specs.Member.{MemberView};
+ghost use Rattle.seg_core.specs.Segment.{IsLayout, segment_count, segment_end, most_segments, most_places};
 ghost use Rattle.table_core.specs.Table.{IsBlockOf};
 ghost use Rattle.grow_core.specs.Keys.{IsKeyAt, AreKeys, key_at, mark_of};
 ghost use Rattle.grow_core.specs.Parts.{AreLong, HasFirstKeys, IsBrokenIn};
 ghost use Rattle.grow_core.specs.Vector.{IsHandOf, layout_of, limit_of};
-ghost use Rattle.grow_core.specs.Closing.{IsClosedFrom, KeepsValues};
+ghost use Rattle.grow_core.specs.Closing.{AreSettled, IsClosedFrom, KeepsValues};
 
 use crate::hand::Hand;
 use crate::keys::{Keys, key_of, keys_again, no_keys};
@@ -16,6 +17,7 @@ use crate::parts::{Parts, cell_of};
 use crate::vector::Shared;
 use cell_core::block::{Block, Epoch, Member, Row};
 use claim_core::Mark;
+use seg_core::Layout;
 use std::alloc::Global;
 use std::marker::Model;
 use table_core::{Key, Table};
@@ -93,15 +95,72 @@ fn settle<T>(
     }
 }
 
-// What is known of a place, if the opened list has a member there.
-fn known_at<T>(opened: &Row<T>, base: u64, place: u64) -> Option<Member<T>>
-    requires { length opened.now ≡ base }
-    ensures { MatchOption result (base ≤ place) (λ m. slice_get opened.now place ≡ Some m) }
+// What is known of the members of the list that a vector was opened from, and how many they are.
+#[derive(Drop)]
+struct Opened<T> {
+    row: Row<T>,
+    base: u64,
+}
+
+impl<T> Model for Opened<T> {
+    ghost use Rattle.std.specs.Prelude.{◌≡◌, List, length};
+    ghost use base.Stored.{coded_list};
+    ghost use Rattle.cell_core.specs.Member.{MemberView, member_coded};
+
+    ghost Value = { List (MemberView T) };
+
+    ghost coded = { coded_list (member_coded T.code) };
+
+    ghost view = { λ o. o.row };
+
+    ghost invariant = { λ o. length o.row ≡ o.base };
+}
+
+impl<T> Opened<T> {
+    // What is known of a place, if the list has a member there.
+    fn at(&self, place: u64) -> Option<Member<T>>
+        ensures { MatchOption result (length self.now ≤ place)
+            (λ m. slice_get self.now place ≡ Some m) }
+    {
+        if place < self.base {
+            Some(self.row.at(place))
+        } else {
+            None
+        }
+    }
+}
+
+// One past the last place that the segment has, of a vector of this size.
+fn end_in(layout: Layout, segment: u32, size: u64) -> u64
+    requires layout { IsLayout layout }
+    requires within { segment < segment_count layout }
+    ensures { result ≡ min (segment_end layout segment) size }
 {
-    if place < base {
-        Some(opened.at(place))
-    } else {
-        None
+    size.min(layout.first(segment) + layout.len(segment))
+}
+
+// Settles n cells of a block from an offset on. They are the places of the vector from `place` on. Adds to the
+// row what is known of each from now on.
+fn settle_cells<T>(
+    block: &mut Block<T>,
+    offset: u64,
+    opened: &Opened<T>,
+    place: u64,
+    n: u64,
+    row: &mut Row<T>,
+    epoch: &Epoch,
+)
+    requires within { offset + n ≤ block_len block.old }
+    requires places { place + n ≤ most_places }
+    requires before { offset ≤ place }
+    requires known { (i : ℕ) (m : MemberView T) → i < n → slice_get opened.now (place + i) ≡ Some m
+        → IsMemberAt block.old (offset + i) m }
+    ensures { AreSettled block.old block.new offset opened.now place row.old row.new epoch.now n }
+{
+    for i in 0..n {
+        let known = opened.at(place + i);
+        let member = settle(block, offset + i, &known, epoch);
+        row.push(&member);
     }
 }
 
@@ -111,10 +170,9 @@ struct Closing<T> {
     table: Table<T>,
     before: Keys,
     keys: Keys,
-    opened: Row<T>,
+    opened: Opened<T>,
     row: Row<T>,
     epoch: Epoch,
-    base: u64,
     len: u64,
     limit: u64,
     count: u32,
@@ -141,8 +199,7 @@ impl<T> Model for Closing<T> {
     } };
 
     ghost invariant = { λ c. IsClosing c.table.layout c.mark.numbers c.before c.table.names c.keys
-        c.opened c.row c.epoch c.base
-        c.len c.limit c.count c.size };
+        c.opened c.row c.epoch c.len c.limit c.count c.size };
 }
 
 impl<T: Drop> Closing<T> {
@@ -167,7 +224,7 @@ impl<T: Drop> Closing<T> {
         let Shared {
             word,
             table,
-            row: opened,
+            row,
             alloc,
             ..
         } = vector;
@@ -176,10 +233,9 @@ impl<T: Drop> Closing<T> {
             table,
             keys: keys_again(&before),
             before,
-            opened,
+            opened: Opened { row, base },
             row: Row::new(),
             epoch: Epoch::new(),
-            base,
             len: 0,
             limit,
             count,
@@ -197,24 +253,31 @@ impl<T: Drop> Closing<T> {
         self.len < self.size
     }
 
-    // The next place is a member.
-    fn settle_next(&mut self)
+    // The places of the next segment are members.
+    fn settle_segment(&mut self)
         requires { length self.old.members < self.old.size }
         ensures opened { self.new.opened ≡ self.old.opened }
-        ensures more { length self.new.members ≡ length self.old.members + 1 }
+        ensures more { length self.old.members < length self.new.members }
         ensures limit { self.new.limit ≡ self.old.limit }
         ensures size { self.new.size ≡ self.old.size }
         ensures layout { self.new.layout ≡ self.old.layout }
         ensures mark { self.new.mark ≡ self.old.mark }
     {
         let (segment, offset, key) = cell_of(&self.table, &self.keys, self.count, self.len);
-        let (_, _, before) = cell_of(&self.table, &self.before, self.count, self.len);
-        let known = known_at(&self.opened, self.base, self.len);
+        let end = end_in(self.table.layout(), segment, self.size);
+        let n = end - self.len;
         let mut block = self.table.detach(&key);
-        let member = settle(&mut block, offset, &known, &self.epoch);
+        settle_cells(
+            &mut block,
+            offset,
+            &self.opened,
+            self.len,
+            n,
+            &mut self.row,
+            &self.epoch,
+        );
         self.keys[segment as usize] = Some(self.table.attach(segment, block));
-        self.row.push(&member);
-        self.len += 1;
+        self.len = end;
     }
 
     // The list.
@@ -269,7 +332,7 @@ impl<T: Drop> Shared<T> {
     {
         let mut closing = Closing::of(self, hand);
         while closing.is_open() {
-            closing.settle_next();
+            closing.settle_segment();
         }
         closing.into_parts()
     }

@@ -79,7 +79,7 @@ pub(crate) fn put_keys(row: &mut Keys, other: &Keys)
     ensures kept { KeepsKeys row.old row.new }
     ensures put { KeepsKeys other.now row.new }
 {
-    for segment in 0..40u32 {
+    for segment in 0..MOST_SEGMENTS as u32 {
         put_other(row, other, segment);
     }
 }

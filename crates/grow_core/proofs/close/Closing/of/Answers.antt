@@ -9,7 +9,10 @@ use Rattle.grow_core.proofs.Settled.{closing_starts}
 use Rattle.grow_core.proofs.close.Closing.of.Goals as goal
 
 pub invariant_of-result : goal.invariant_of-result
-invariant_of-result g c =
+invariant_of-result g c = c.vector.invariant.whole.all ∙ sym c.base-base.ensures
+
+pub invariant_of-result-2 : goal.invariant_of-result-2
+invariant_of-result-2 g c =
     let vector = c.vector.inside in let hand = c.hand.inside.claims in let keys = c.first_keys-before.ensures in
     let hand_base : c.args.hand.of.base ≡ vector.word.base = ap (λ (w : WordView). w.base) c.requires.ours ∙ ap (λ (v : VectorView g.row.T.Denot). v.word.base) (sym c.vector.view_is) in
     let hand_limit : c.args.hand.of.limit ≡ vector.word.limit = ap (λ (w : WordView). w.limit) c.requires.ours ∙ ap (λ (v : VectorView g.row.T.Denot). v.word.limit) (sym c.vector.view_is) in

@@ -1,6 +1,6 @@
 -- How a vector is closed segment by segment, and what a token of it says of the list.
-use Rattle.std.proofs.Common.{zero, suc, ⊎_elim, ◌≡◌, ◌≢◌, ℕ, ◌+◌, ◌-◌, ◌<◌, ◌≤◌, List, [], ◌∷◌, ◌++◌, length, length-append, length-set, append-nil, append_assoc, Option, Some, None, refl, sym, ap, ◌∙◌, subst, arith}
-use Rattle.std.proofs.lemmas.List.{length-map, map-append}
+use Rattle.std.proofs.Common.{zero, suc, ⊎_elim, ◌≡◌, ◌≢◌, ℕ, ◌+◌, ◌-◌, ◌<◌, ◌≤◌, List, [], ◌∷◌, ◌++◌, length, length-append, length-set, append_assoc, Option, Some, None, refl, sym, ap, ◌∙◌, subst, arith}
+use Rattle.std.proofs.lemmas.List.{length-map}
 use Rattle.std.proofs.lemmas.Bool.{cases_lt}
 use Rattle.std.proofs.Math.Pow.{pow-lt, pow_pos}
 use Rattle.std.specs.Prelude.{slice_get, slice_set, slice_index, IsSome, MatchOption, IfSome}
@@ -105,24 +105,6 @@ keeps_value : {T : Type 0} (opened : List (MemberView T)) (q : ℕ) (m : MemberV
     → IfSome known (λ k. KeepsKnown k.value m.value) → (k : MemberView T) → slice_get opened q ≡ Some k → KeepsKnown k.value m.value
 keeps_value opened q m None past keeps k at = absurd (let near = within_length opened q k at in omega (arith, near, past))
 keeps_value opened q m (Some n) had keeps k at = let both : Some n ≡ Some k = sym had ∙ at in let same : n ≡ k = (let z = both in cc) in subst (λ (u : MemberView _). KeepsKnown u.value m.value) same keeps
-
--- no cell is settled yet
-pub settled_none : {T : Type 0} (block : BlockView) (offset : ℕ) (opened : List (MemberView T)) (place : ℕ) (row : List (MemberView T)) (epoch : Lft)
-    → AreSettled block block offset opened place row row epoch 0
-settled_none {T} block offset opened place row epoch =
-    let gone : (i : ℕ) (m : MemberView T) → slice_get [] i ≡ Some m → ⊥ = (λ i m is. let near = within_length [] i m is in omega (arith, near)) in
-    record {
-      settled = [];
-      row = sym (append-nil row);
-      all = refl;
-      len = refl;
-      members = λ i m is. absurd (gone i m is);
-      names = λ i m is. absurd (gone i m is);
-      values = λ i k m had is. absurd (gone i m is);
-      broken = tt;
-      before = λ q low. refl;
-      after = λ q past. refl;
-    }
 
 module _ {T : Type 0} (old new : BlockView) (offset : ℕ) (opened : List (MemberView T)) (place : ℕ) (row row' : List (MemberView T)) (epoch : Lft) (n : ℕ) (run : AreSettled old new offset opened place row row' epoch n) where
   pub settled_length : length row' ≡ length row + n

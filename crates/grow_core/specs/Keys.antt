@@ -1,9 +1,10 @@
 -- The keys that a hand carries: a row of one optional key for each segment.
-use Rattle.std.specs.Prelude.{◌≡◌, ℕ, List, [], ◌∷◌, Option, Some, None, IsSome, ◌<◌, ◌≤◌, slice_index, slice_index_or}
+use Rattle.std.specs.Prelude.{◌≡◌, ℕ, List, [], ◌∷◌, Option, Some, None, IsSome, ◌<◌, ◌≤◌, slice_index, slice_index_or, slice_set}
 use Rattle.seg_core.specs.Segment.{HasPlace, Touches, segment_count, most_segments}
 use Rattle.claim_core.specs.declared.run.Run.{Run}
 use Rattle.claim_core.specs.Hand.{HandView, OwnsPlace, IsPlaceOf}
-use Rattle.table_core.specs.Table.{TableView, KeyView}
+use Rattle.cell_core.specs.Block.{BlockView}
+use Rattle.table_core.specs.Table.{TableView, KeyView, IsKeyOf}
 
 abbrev pub KeyRow : Type 0
 KeyRow = List (Option KeyView)
@@ -37,6 +38,15 @@ pub record IsKeyAt (mark : List ℕ) (segment : ℕ) (key : KeyView) : Type 0 wh
 abbrev pub AreKeys : List ℕ → KeyRow → Type 0
 AreKeys mark row =
     (segment : ℕ) (key : KeyView) → segment < most_segments → key_at row segment ≡ Some key → IsKeyAt mark segment key
+
+-- the row has a key of this block for the segment
+abbrev pub HasBlock : KeyRow → ℕ → BlockView → Type 0
+HasBlock row segment block = (key : KeyView) × (key_at row segment ≡ Some key) × (key.block ≡ block)
+
+-- the table has the block for the segment, and the row its key
+abbrev pub IsBlockPut : TableView → ℕ → BlockView → KeyRow → KeyRow → Type 0
+IsBlockPut table segment block old new =
+    (key : KeyView) × IsKeyOf table segment block key × (new ≡ slice_set old segment (Some key))
 
 -- no key is lost
 abbrev pub KeepsKeys : KeyRow → KeyRow → Type 0

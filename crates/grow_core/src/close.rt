@@ -10,10 +10,11 @@ ghost use Rattle.grow_core.specs.Parts.{AreLong, HasFirstKeys, IsBrokenIn};
 ghost use Rattle.grow_core.specs.Vector.{IsHandOf, layout_of, limit_of};
 ghost use Rattle.grow_core.specs.Closing.{AreSettled, IsClosedFrom, KeepsValues};
 
+use crate::blocks::{put_block, take_block};
 use crate::hand::Hand;
 use crate::keys::{Keys, key_of, keys_again, no_keys};
 use crate::open::Segments;
-use crate::parts::{Parts, cell_of};
+use crate::parts::Parts;
 use crate::vector::Shared;
 use cell_core::block::{Block, Epoch, Member, Row};
 use claim_core::Mark;
@@ -263,10 +264,14 @@ impl<T: Drop> Closing<T> {
         ensures layout { self.new.layout ≡ self.old.layout }
         ensures mark { self.new.mark ≡ self.old.mark }
     {
-        let (segment, offset, key) = cell_of(&self.table, &self.keys, self.count, self.len);
+        let (segment, offset, mut block) = take_block(
+            &mut self.table,
+            &self.keys,
+            self.count,
+            self.len,
+        );
         let end = end_in(self.table.layout(), segment, self.size);
         let n = end - self.len;
-        let mut block = self.table.detach(&key);
         settle_cells(
             &mut block,
             offset,
@@ -276,7 +281,7 @@ impl<T: Drop> Closing<T> {
             &mut self.row,
             &self.epoch,
         );
-        self.keys[segment as usize] = Some(self.table.attach(segment, block));
+        put_block(&mut self.table, &mut self.keys, segment, block);
         self.len = end;
     }
 

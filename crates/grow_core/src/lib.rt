@@ -20,6 +20,7 @@
 //! members (`specs/Parts.antt`): exactly what was appended is read, and moved out.
 #![tactic(auto)]
 
+mod blocks;
 mod claim;
 mod close;
 mod errors;

@@ -8,9 +8,9 @@ ghost use Rattle.grow_core.specs.Token.{place_in};
 ghost use Rattle.grow_core.specs.Vector.{IsHandOf, IsOpenedAt, IsPlacedOf, SeesMore, base_of, layout_of, limit_of};
 ghost use Rattle.grow_core.specs.Mend.{IsMendDue, IsUnmendedAt, IsTakenAt, IsSeen, TellsValue};
 
+use crate::blocks::cell_of;
 use crate::errors::MendError;
 use crate::hand::Hand;
-use crate::parts::cell_of;
 use crate::token::Placed;
 use crate::vector::Shared;
 use cell_core::block::{self, Pen};

@@ -6,13 +6,14 @@ ghost use Rattle.grow_core.specs.Keys.{key_at};
 ghost use Rattle.grow_core.specs.Token.{place_in};
 ghost use Rattle.grow_core.specs.Parts.{HasFirstKeys, IsBrokenIn, IsSpare, capacity_of};
 
-use crate::keys::{Keys, key_of, no_keys};
-use cell_core::block::{Block, Epoch, Member, Row};
+use crate::blocks::{cell_of, put_block, take_block, write};
+use crate::keys::{Keys, no_keys};
+use cell_core::block::{Epoch, Row};
 use claim_core::Mark;
 use seg_core::Layout;
 use std::alloc::{AllocError, Global};
 use std::marker::Model;
-use table_core::{Key, Table};
+use table_core::Table;
 
 /// The parts of a vector that an exclusive owner holds. It lends no cell, so nothing of it changes through a
 /// `&`. Contracts see it as a list of values and broken members (`None`), with its limit and the number of
@@ -55,51 +56,6 @@ impl<T> Model for Parts<T> {
         p.count
         × IsKept p.table.layout (option_map (λ m. m.numbers) p.closed) p.before p.table.names p.keys p.row p.count
         × AreBrokenIn p.epoch p.row };
-}
-
-// The position of a place of the installed segments: its segment, the cell there, and the segment's key.
-pub(crate) fn cell_of<T>(table: &Table<T>, keys: &Keys, count: u32, place: u64) -> (u32, u64, Key)
-    requires few { count ≤ segment_count table.now.layout }
-    requires there { HasFirstKeys keys.now count }
-    requires inside { place < segment_start table.now.layout count }
-    ensures small { result.0 < most_segments }
-    ensures segment { result.0 < segment_count table.now.layout }
-    ensures place { place_in table.now.layout result.0 result.1 ≡ place }
-    ensures within { place < segment_end table.now.layout result.0 }
-    ensures key { key_at keys.now result.0 ≡ Some result.2 }
-{
-    let layout = table.layout();
-    // For the proof: its f is that of a layout.
-    let _f = layout.f();
-    let (segment, offset) = layout.locate(place);
-    match key_of(keys, segment) {
-        Some(key) => (segment, offset, key),
-        None => unreachable!(),
-    }
-}
-
-// Writes a value into the cell, or breaks it. It returns what is then known of the cell, and the value that
-// it held.
-fn write<T>(
-    block: &mut Block<T>,
-    offset: u64,
-    value: Option<T>,
-    epoch: &Epoch,
-) -> (Member<T>, Option<T>)
-    requires { offset < block_len block.old }
-    ensures member { IsMemberAt block.new offset result.0 }
-    ensures value { result.0.value ≡ value }
-    ensures broken { IsBrokenIn epoch.now result.0 }
-    ensures len { block_len block.new ≡ block_len block.old }
-    ensures others { KeepsOtherCells block.old block.new offset }
-{
-    match value {
-        Some(value) => {
-            let (placed, held) = block.put_now(offset, value);
-            (Member::of(&placed), held)
-        }
-        None => block.spoil_now(offset, epoch),
-    }
 }
 
 impl<T> Parts<T> {
@@ -285,11 +241,15 @@ impl<T: Drop> Parts<T> {
         ensures segments { self.new.segments ≡ self.old.segments }
     {
         self.closed = None;
-        let (segment, offset, key) = cell_of(&self.table, &self.keys, self.count, self.len);
-        let mut block = self.table.detach(&key);
+        let (segment, offset, mut block) = take_block(
+            &mut self.table,
+            &self.keys,
+            self.count,
+            self.len,
+        );
         let (member, held) = write(&mut block, offset, value, &self.epoch);
         drop(held);
-        self.keys[segment as usize] = Some(self.table.attach(segment, block));
+        put_block(&mut self.table, &mut self.keys, segment, block);
         self.row.push(&member);
         self.len += 1;
     }
@@ -304,10 +264,14 @@ impl<T: Drop> Parts<T> {
     {
         self.closed = None;
         self.len -= 1;
-        let (segment, offset, key) = cell_of(&self.table, &self.keys, self.count, self.len);
-        let mut block = self.table.detach(&key);
+        let (segment, offset, mut block) = take_block(
+            &mut self.table,
+            &self.keys,
+            self.count,
+            self.len,
+        );
         let value = block.take_member(offset, &self.row.at(self.len), &self.epoch);
-        self.keys[segment as usize] = Some(self.table.attach(segment, block));
+        put_block(&mut self.table, &mut self.keys, segment, block);
         self.row.pop();
         value
     }
@@ -323,12 +287,16 @@ impl<T: Drop> Parts<T> {
         ensures segments { self.new.segments ≡ self.old.segments }
     {
         self.closed = None;
-        let (segment, offset, key) = cell_of(&self.table, &self.keys, self.count, place);
-        let mut block = self.table.detach(&key);
+        let (segment, offset, mut block) = take_block(
+            &mut self.table,
+            &self.keys,
+            self.count,
+            place,
+        );
         let held = block.take_member(offset, &self.row.at(place), &self.epoch);
         let (member, none) = write(&mut block, offset, value, &self.epoch);
         drop(none);
-        self.keys[segment as usize] = Some(self.table.attach(segment, block));
+        put_block(&mut self.table, &mut self.keys, segment, block);
         self.row.set(place, &member);
         held
     }

@@ -4,9 +4,9 @@ ghost use Rattle.claim_core.specs.Hand.{seen_size};
 ghost use Rattle.grow_core.specs.Vector.{IsHandOf, IsPlacedOf, IsOpenedAt, SeesMore, limit_of};
 ghost use Rattle.grow_core.specs.Read.{IsAt, IsShownAt, ShowsValue, IsDueAt, IsInRange};
 
+use crate::blocks::cell_of;
 use crate::errors::AtError;
 use crate::hand::Hand;
-use crate::parts::cell_of;
 use crate::token::{Placed, Spoilt};
 use crate::vector::Shared;
 use cell_core::block::Look;

@@ -2,8 +2,9 @@
 ghost use Rattle.std.specs.Prelude.{◌≡◌, ◌<◌, ◌≤◌, length, slice_get, Some};
 ghost use Rattle.grow_core.specs.Closing.{IsOfClosed};
 
+use crate::blocks::cell_of;
 use crate::keys::key_of;
-use crate::parts::{Parts, cell_of};
+use crate::parts::Parts;
 use crate::token::Placed;
 use seg_core::laws::places;
 

@@ -5,32 +5,32 @@ use Rattle.seg_core.specs.Segment.{segment_end}
 use Rattle.cell_core.specs.Block.{BlockView, KeepsOtherCells, block_len}
 use Rattle.cell_core.specs.Member.{MemberView}
 use Rattle.table_core.specs.Table.{KeyView, IsKeyOf}
-use Rattle.grow_core.specs.Keys.{KeyRow}
+use Rattle.grow_core.specs.Keys.{KeyRow, key_at}
 use Rattle.grow_core.specs.Token.{place_in}
-use Rattle.grow_core.specs.Parts.{PartsView, AreBrokenIn}
+use Rattle.grow_core.specs.Parts.{PartsView, AreBrokenIn, AreWhole}
 use Rattle.grow_core.proofs.Places.{written_whole, broken_at, broken_fewer, pushed_there, pushed_elsewhere, none_past}
 use Rattle.grow_core.proofs.parts.Parts.pop.Goals as goal
 
 pub invariant_of-self : goal.invariant_of-self
 invariant_of-self g c =
     let f : ℕ = c.self.inside.table.layout in let names : List ℕ = c.self.inside.table.names in let row : KeyRow = c.self.inside.keys in let known = c.self.inside.row in let len : ℕ = c.self.inside.len in
-    let segment : ℕ = c.cell_of-segment.result.0 in let offset : ℕ = c.cell_of-segment.result.1 in let key : KeyView = c.cell_of-segment.result.2 in
-    let small : segment < 40 = c.cell_of-segment.ensures.small in let at_last : place_in f segment offset ≡ len - 1 = c.cell_of-segment.ensures.place in
-    let inside : place_in f segment offset < segment_end f segment = subst (λ (p : ℕ). p < segment_end f segment) (sym at_last) c.cell_of-segment.ensures.within in
-    let whole = c.self.invariant.0 in let at = (whole.named segment key small c.cell_of-segment.ensures.key).at in
-    let block : BlockView = c.take_member-value.new.self in let key' : KeyView = c.attach.result in let known' = c.pop.new.self in
-    let start : c.deref_mut.result.now ≡ key.block = c.deref_mut.ensures.value ∙ c.detach-block.ensures.block in
-    let of : IsKeyOf c.attach.new.self segment block key' = c.attach.ensures.key in
-    let others : (j : ℕ) → j ≢ segment → slice_index c.attach.new.self.names j ≡ slice_index names j = (λ j other. c.attach.ensures.others j other ∙ c.detach-block.ensures.others j (λ e. other (e ∙ at))) in
+    let taken = c.take_block-segment in let segment : ℕ = taken.result.0 in let offset : ℕ = taken.result.1 in let key : KeyView = taken.ensures.block.0 in let has : key_at row segment ≡ Some key = taken.ensures.block.1 in
+    let small : segment < 40 = taken.ensures.small in let at_last : place_in f segment offset ≡ len - 1 = taken.ensures.place in
+    let inside : place_in f segment offset < segment_end f segment = subst (λ (p : ℕ). p < segment_end f segment) (sym at_last) taken.ensures.within in
+    let whole = c.self.invariant.0 in
+    let block : BlockView = c.take_member-value.new.self in let put = c.put_block.ensures.put in let key' : KeyView = put.0 in let known' = c.pop.new.self in
+    let start : c.deref_mut.result.now ≡ key.block = c.deref_mut.ensures.value ∙ sym taken.ensures.block.2 in
+    let of : IsKeyOf c.put_block.new.table segment block key' = put.1 in
+    let others : (j : ℕ) → j ≢ segment → slice_index c.put_block.new.table.names j ≡ slice_index names j = (λ j other. c.put_block.ensures.others j other ∙ taken.ensures.others j other) in
     let last = c.pop.ensures.0 in let popped : known ≡ known' ++ last ∷ [] = c.pop.ensures.1 in
     let fewer : length known' + 1 ≡ len = sym (length-append known' (last ∷ [])) ∙ ap length (sym popped) ∙ whole.all in
     let here : length known' ≡ place_in f segment offset = omega (arith, fewer, at_last) in
     let within = whole.within in let inner = whole.inside in (
-      written_whole f names c.attach.new.self row known known' segment offset len (len - 1) c.self.inside.limit c.self.inside.count key key' block whole (c.attach.ensures.layout ∙ c.detach-block.ensures.layout) small c.cell_of-segment.ensures.segment inside c.cell_of-segment.ensures.key others of
+      subst (λ (r : KeyRow). AreWhole c.put_block.new.table.layout c.put_block.new.table.names r known' (len - 1) c.self.inside.limit c.self.inside.count) (sym put.2) (written_whole f names c.put_block.new.table row known known' segment offset len (len - 1) c.self.inside.limit c.self.inside.count key key' block whole (c.put_block.ensures.layout ∙ taken.ensures.layout) small taken.ensures.segment inside has others of
           (c.take_member-value.ensures.len ∙ ap block_len start) (subst (λ (b : BlockView). KeepsOtherCells b block offset) start c.take_member-value.ensures.others)
           (λ q other. sym (pushed_elsewhere known' last q (λ e. other (e ∙ here))) ∙ ap (λ (xs : List (MemberView _)). slice_get xs q) (sym popped))
           (λ n is. let none = sym (none_past known') ∙ ap (slice_get known') here ∙ is in absurd (let z = none in cc))
-          (omega (arith, fewer)) (omega (arith, fewer, within)) (omega (arith, fewer, inner)),
+          (omega (arith, fewer)) (omega (arith, fewer, within)) (omega (arith, fewer, inner))),
       tt,
       broken_fewer c.self.inside.epoch known' last (subst (AreBrokenIn c.self.inside.epoch) popped c.self.invariant.2),
     )

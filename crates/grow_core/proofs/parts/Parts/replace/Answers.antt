@@ -5,36 +5,36 @@ use Rattle.seg_core.specs.Segment.{segment_end}
 use Rattle.cell_core.specs.Block.{BlockView, IsMemberAt, KeepsOtherCells, block_len}
 use Rattle.cell_core.specs.Member.{MemberView}
 use Rattle.table_core.specs.Table.{KeyView, IsKeyOf}
-use Rattle.grow_core.specs.Keys.{KeyRow}
+use Rattle.grow_core.specs.Keys.{KeyRow, key_at}
 use Rattle.grow_core.specs.Token.{place_in}
-use Rattle.grow_core.specs.Parts.{PartsView, AreBrokenIn, values_in}
+use Rattle.grow_core.specs.Parts.{PartsView, AreBrokenIn, AreWhole, values_in}
 use Rattle.grow_core.proofs.Places.{written_whole, broken_at, broken_set, set_there, set_elsewhere, value_at, values_set}
 use Rattle.grow_core.proofs.parts.Parts.replace.Goals as goal
 
 pub invariant_of-self : goal.invariant_of-self
 invariant_of-self g c =
     let f : ℕ = c.self.inside.table.layout in let names : List ℕ = c.self.inside.table.names in let row : KeyRow = c.self.inside.keys in let known = c.self.inside.row in let len : ℕ = c.self.inside.len in
-    let segment : ℕ = c.cell_of-segment.result.0 in let offset : ℕ = c.cell_of-segment.result.1 in let key : KeyView = c.cell_of-segment.result.2 in let place : ℕ = c.args.place in
-    let small : segment < 40 = c.cell_of-segment.ensures.small in let at_place : place_in f segment offset ≡ place = c.cell_of-segment.ensures.place in
-    let inside : place_in f segment offset < segment_end f segment = subst (λ (p : ℕ). p < segment_end f segment) (sym at_place) c.cell_of-segment.ensures.within in
-    let whole = c.self.invariant.0 in let at = (whole.named segment key small c.cell_of-segment.ensures.key).at in
-    let block : BlockView = c.write-member.new.block in let m = c.write-member.result.0 in let key' : KeyView = c.attach.result in
-    let start : c.deref_mut.result.now ≡ key.block = c.deref_mut.ensures.value ∙ c.detach-block.ensures.block in
+    let taken = c.take_block-segment in let segment : ℕ = taken.result.0 in let offset : ℕ = taken.result.1 in let key : KeyView = taken.ensures.block.0 in let has : key_at row segment ≡ Some key = taken.ensures.block.1 in let place : ℕ = c.args.place in
+    let small : segment < 40 = taken.ensures.small in let at_place : place_in f segment offset ≡ place = taken.ensures.place in
+    let inside : place_in f segment offset < segment_end f segment = subst (λ (p : ℕ). p < segment_end f segment) (sym at_place) taken.ensures.within in
+    let whole = c.self.invariant.0 in
+    let block : BlockView = c.write-member.new.block in let m = c.write-member.result.0 in let put = c.put_block.ensures.put in let key' : KeyView = put.0 in
+    let start : c.deref_mut.result.now ≡ key.block = c.deref_mut.ensures.value ∙ sym taken.ensures.block.2 in
     let between : c.deref_mut-2.result.now ≡ c.take_member-held.new.self = c.deref_mut-2.ensures.value in
-    let of : IsKeyOf c.attach.new.self segment block key' = c.attach.ensures.key in
-    let others : (j : ℕ) → j ≢ segment → slice_index c.attach.new.self.names j ≡ slice_index names j = (λ j other. c.attach.ensures.others j other ∙ c.detach-block.ensures.others j (λ e. other (e ∙ at))) in
+    let of : IsKeyOf c.put_block.new.table segment block key' = put.1 in
+    let others : (j : ℕ) → j ≢ segment → slice_index c.put_block.new.table.names j ≡ slice_index names j = (λ j other. c.put_block.ensures.others j other ∙ taken.ensures.others j other) in
     let changed : c.set.new.self ≡ slice_set known place m = c.set.ensures in
     let counted : length (values_in known) ≡ len = length-map known (λ (u : MemberView _). u.value) ∙ whole.all in
     let below : place < len = subst (λ (n : ℕ). place < n) counted (subst (λ (v : PartsView _). place < length v.members) (sym c.self.view_is) c.requires) in
     let near : place < length known = subst (λ (n : ℕ). place < n) (sym whole.all) below in
     let lens : block_len block ≡ block_len key.block = c.write-member.ensures.len ∙ ap block_len between ∙ c.take_member-held.ensures.len ∙ ap block_len start in
     let cells : KeepsOtherCells key.block block offset = (λ q other. c.write-member.ensures.others q other ∙ ap (λ (b : BlockView). Rattle.cell_core.specs.Block.cell_at b q) between ∙ c.take_member-held.ensures.others q other ∙ ap (λ (b : BlockView). Rattle.cell_core.specs.Block.cell_at b q) start) in (
-      written_whole f names c.attach.new.self row known c.set.new.self segment offset len len c.self.inside.limit c.self.inside.count key key' block whole (c.attach.ensures.layout ∙ c.detach-block.ensures.layout) small c.cell_of-segment.ensures.segment inside c.cell_of-segment.ensures.key others of lens cells
+      subst (λ (r : KeyRow). AreWhole c.put_block.new.table.layout c.put_block.new.table.names r c.set.new.self len c.self.inside.limit c.self.inside.count) (sym put.2) (written_whole f names c.put_block.new.table row known c.set.new.self segment offset len len c.self.inside.limit c.self.inside.count key key' block whole (c.put_block.ensures.layout ∙ taken.ensures.layout) small taken.ensures.segment inside has others of lens cells
           (λ q other. ap (λ (xs : List (MemberView _)). slice_get xs q) changed ∙ set_elsewhere known m place q (λ e. other (e ∙ sym at_place)))
           (λ n is. let here : slice_get (slice_set known place m) (place_in f segment offset) ≡ Some m = ap (slice_get (slice_set known place m)) at_place ∙ set_there known m place near in
           let both : Some m ≡ Some n = sym here ∙ ap (λ (xs : List (MemberView _)). slice_get xs (place_in f segment offset)) (sym changed) ∙ is in
           subst (λ (u : MemberView _). IsMemberAt block offset u) (let z = both in cc) c.write-member.ensures.member)
-          (ap length changed ∙ length-set known place m ∙ whole.all) whole.within whole.inside,
+          (ap length changed ∙ length-set known place m ∙ whole.all) whole.within whole.inside),
       tt,
       subst (AreBrokenIn c.self.inside.epoch) (sym changed) (broken_set c.self.inside.epoch known place m c.self.invariant.2 c.write-member.ensures.broken),
     )

@@ -2,7 +2,7 @@ use Rattle.std.proofs.Common.{◌≡◌, ℕ, ◌<◌, ◌≤◌, false, true, s
 use Rattle.seg_core.specs.Segment.{segment_start, segment_count}
 use Rattle.std.specs.Prelude.{IsSome}
 use Rattle.grow_core.proofs.Places.{segment_below, starts_le, all_places}
-use Rattle.grow_core.proofs.parts.cell_of.Goals as goal
+use Rattle.grow_core.proofs.blocks.cell_of.Goals as goal
 
 pub unreachable-requires : goal.unreachable-requires
 unreachable-requires g c =

@@ -1,0 +1,98 @@
+// The blocks and cells of an owner's places.
+ghost use Rattle.std.specs.Prelude.{◌≡◌, ◌<◌, ◌≤◌, Some, None};
+ghost use Rattle.seg_core.specs.Segment.{segment_start, segment_end, segment_count, most_segments};
+ghost use Rattle.cell_core.specs.Block.{block_len, IsMemberAt, KeepsOtherCells};
+ghost use Rattle.table_core.specs.Table.{IsBlockOf, KeepsOtherEntries};
+ghost use Rattle.grow_core.specs.Keys.{AreKeys, HasBlock, IsBlockPut, key_at, mark_of};
+ghost use Rattle.grow_core.specs.Token.{place_in};
+ghost use Rattle.grow_core.specs.Parts.{HasFirstKeys, IsBrokenIn};
+
+use crate::keys::{Keys, key_of};
+use cell_core::block::{Block, Epoch, Member};
+use table_core::{Key, Table};
+
+// The position of a place of the installed segments: its segment, the cell there, and the segment's key.
+pub(crate) fn cell_of<T>(table: &Table<T>, keys: &Keys, count: u32, place: u64) -> (u32, u64, Key)
+    requires few { count ≤ segment_count table.now.layout }
+    requires there { HasFirstKeys keys.now count }
+    requires inside { place < segment_start table.now.layout count }
+    ensures small { result.0 < most_segments }
+    ensures segment { result.0 < segment_count table.now.layout }
+    ensures place { place_in table.now.layout result.0 result.1 ≡ place }
+    ensures within { place < segment_end table.now.layout result.0 }
+    ensures key { key_at keys.now result.0 ≡ Some result.2 }
+{
+    let layout = table.layout();
+    // For the proof: its f is that of a layout.
+    let _f = layout.f();
+    let (segment, offset) = layout.locate(place);
+    match key_of(keys, segment) {
+        Some(key) => (segment, offset, key),
+        None => unreachable!(),
+    }
+}
+
+// Takes the block of a place out of the table. Returns it behind its segment and the place's offset there.
+pub(crate) fn take_block<T: Drop>(
+    table: &mut Table<T>,
+    keys: &Keys,
+    count: u32,
+    place: u64,
+) -> (u32, u64, Box<Block<T>>)
+    requires few { count ≤ segment_count table.old.layout }
+    requires there { HasFirstKeys keys.now count }
+    requires inside { place < segment_start table.old.layout count }
+    requires named { AreKeys (mark_of table.old) keys.now }
+    ensures small { result.0 < most_segments }
+    ensures segment { result.0 < segment_count table.old.layout }
+    ensures place { place_in table.old.layout result.0 result.1 ≡ place }
+    ensures within { place < segment_end table.old.layout result.0 }
+    ensures block { HasBlock keys.now result.0 result.2.value }
+    ensures length { IsBlockOf table.old.layout result.0 result.2.value }
+    ensures layout { table.new.layout ≡ table.old.layout }
+    ensures others { KeepsOtherEntries table.old table.new result.0 }
+{
+    let (segment, offset, key) = cell_of(table, keys, count, place);
+    (segment, offset, table.detach(&key))
+}
+
+// Puts the block of a segment into the table, and its key into the row.
+pub(crate) fn put_block<T: Drop>(
+    table: &mut Table<T>,
+    keys: &mut Keys,
+    segment: u32,
+    block: Box<Block<T>>,
+)
+    requires within { segment < segment_count table.old.layout }
+    requires small { segment < most_segments }
+    requires length { IsBlockOf table.old.layout segment block.value }
+    ensures put { IsBlockPut table.new segment block.value keys.old keys.new }
+    ensures layout { table.new.layout ≡ table.old.layout }
+    ensures others { KeepsOtherEntries table.old table.new segment }
+{
+    keys[segment as usize] = Some(table.attach(segment, block));
+}
+
+// Writes a value into the cell, or breaks it. It returns what is then known of the cell, and the value that
+// it held.
+pub(crate) fn write<T>(
+    block: &mut Block<T>,
+    offset: u64,
+    value: Option<T>,
+    epoch: &Epoch,
+) -> (Member<T>, Option<T>)
+    requires { offset < block_len block.old }
+    ensures member { IsMemberAt block.new offset result.0 }
+    ensures value { result.0.value ≡ value }
+    ensures broken { IsBrokenIn epoch.now result.0 }
+    ensures len { block_len block.new ≡ block_len block.old }
+    ensures others { KeepsOtherCells block.old block.new offset }
+{
+    match value {
+        Some(value) => {
+            let (placed, held) = block.put_now(offset, value);
+            (Member::of(&placed), held)
+        }
+        None => block.spoil_now(offset, epoch),
+    }
+}

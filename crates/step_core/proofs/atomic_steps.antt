@@ -4,6 +4,7 @@ pub mod Cases
 pub mod KeptLayout
 pub mod BlockViews
 pub mod Bounds
+pub mod Actors
 pub mod Tiling
 pub mod Installed
 pub mod Owners

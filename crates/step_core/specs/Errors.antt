@@ -17,3 +17,9 @@ abbrev pub make_error_text : MakeError → List ℕ
 make_error_text made.NoMemory = codes "out of memory"
 make_error_text made.BadLimit = codes "the limit is not from 1 to 1099511627776"
 make_error_text made.BadCommand = codes "a refused construction is past the end of its call"
+
+-- why a schedule was not played whose machine was not made
+abbrev pub play_error_of : MakeError → PlayError
+play_error_of made.NoMemory = play.NoMemory
+play_error_of made.BadLimit = play.BadLimit
+play_error_of made.BadCommand = play.BadCommand

@@ -3,4 +3,4 @@
 mod schedule;
 mod whole_call;
 
-pub use schedule::play_calls;
+pub use schedule::{play_calls, play_valid_calls};

@@ -65,3 +65,18 @@ impl fmt::Display for MakeError {
 }
 
 impl Error for MakeError {}
+
+impl From<MakeError> for PlayError {
+    ghost use Rattle.std.specs.Prelude.{◌≡◌};
+    ghost use Rattle.step_core.specs.Errors.{play_error_of};
+
+    ghost from_gives = { λ made error. error ≡ play_error_of made };
+
+    fn from(made: MakeError) -> Self {
+        match made {
+            MakeError::NoMemory => PlayError::NoMemory,
+            MakeError::BadLimit => PlayError::BadLimit,
+            MakeError::BadCommand => PlayError::BadCommand,
+        }
+    }
+}

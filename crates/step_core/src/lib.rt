@@ -22,7 +22,7 @@ pub mod laws;
 mod machine;
 mod programs;
 
-pub use calls::play_calls;
+pub use calls::{play_calls, play_valid_calls};
 pub use errors::{MakeError, PlayError};
-pub use machine::{Actor, CellSlot, Machine, Next, Phase, Stepped, play, play_in};
+pub use machine::{Actor, CellSlot, Machine, Next, Phase, Stepped, play, play_in, play_valid};
 pub use programs::Played;

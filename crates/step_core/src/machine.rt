@@ -1,5 +1,5 @@
 //! The machine of atomic steps.
-ghost use Rattle.std.specs.Prelude.{◌≡◌, ◌≤◌, ◌<◌, ◌↔◌, length, IfOk, OnOk, OnErr, IsErrOf, Some, None};
+ghost use Rattle.std.specs.Prelude.{◌≡◌, ◌≤◌, ◌<◌, ◌↔◌, length, IfOk, IfSome, OnOk, OnErr, IsErrOf, Some, None};
 ghost use Rattle.std.specs.Prelude.{map as list_map};
 ghost use Rattle.std.specs.FinMap as map;
 ghost use Rattle.seg_core.specs.Segment.{IsLayout, IsLimit};
@@ -7,8 +7,7 @@ ghost use Rattle.book_core.specs.Commands.{AreSound, most_programs};
 ghost use Rattle.step_core.specs.machine.Step.{step_of, IsStepped};
 ghost use Rattle.step_core.specs.machine.Bounds.{IsInLimit};
 ghost use Rattle.step_core.specs.machine.Installed.{HasSegments, MayRunOut};
-ghost use Rattle.step_core.specs.machine.Work.{phase_at};
-ghost use Rattle.step_core.specs.machine.Tallies.{HasRoom};
+ghost use Rattle.step_core.specs.machine.Tallies.{phases_at};
 
 mod blocks;
 mod counts;
@@ -21,7 +20,7 @@ use crate::machine::storage::Storage;
 use crate::programs::check_programs;
 use book_core::{Command, Ended, Event, Reply, Sequence};
 pub use phase::{Actor, CellSlot, Next, Phase};
-pub use schedule::{play, play_in};
+pub use schedule::{play, play_in, play_valid};
 use seg_core::Layout;
 use std::alloc::{AllocError, Global};
 use std::marker::Model;
@@ -33,9 +32,19 @@ pub struct Stepped {
     pub ended: Option<Ended>,
 }
 
-const NOTHING: Stepped = Stepped {
-    event: None,
-    ended: None,
+// A step, and the phases of the call that took it, before it and after it, if the actor had a call.
+#[derive(Clone, Copy)]
+pub(crate) struct PhasedStep {
+    pub(crate) stepped: Stepped,
+    pub(crate) phases: Option<(Phase, Phase)>,
+}
+
+const NO_STEP: PhasedStep = PhasedStep {
+    stepped: Stepped {
+        event: None,
+        ended: None,
+    },
+    phases: None,
 };
 
 /// Actors with programs on one vector, which they change by one atomic step at a time.
@@ -66,8 +75,7 @@ impl Machine {
     ghost use Rattle.step_core.specs.machine.Step.{first_configuration, step_of};
     ghost use Rattle.step_core.specs.machine.Step.{IsStepped};
     ghost use Rattle.step_core.specs.machine.Installed.{MayRunOut};
-    ghost use Rattle.step_core.specs.machine.Work.{has_call, phase_at};
-    ghost use Rattle.step_core.specs.machine.Tallies.{HasRoom};
+    ghost use Rattle.step_core.specs.machine.Tallies.{HasRoom, phases_at};
 
     /// Makes a machine before its first step, with a first segment of two places. Its memory is linear in the
     /// actors.
@@ -107,14 +115,28 @@ impl Machine {
             ↔ IsLimit limit × (AreSound programs → ⊥) }
     {
         check_programs(limit, programs.as_slice())?;
-        match actors_of(alloc, programs) {
-            Ok(actors) => Ok(Machine {
-                limit,
-                storage: Storage::new(alloc, layout),
-                actors,
-            }),
-            Err(_) => Err(MakeError::NoMemory),
-        }
+        Machine::of_sound(alloc, layout, limit, programs).map_err(|_| MakeError::NoMemory)
+    }
+
+    // The same for a limit and commands that are known to be in order.
+    pub(crate) fn of_sound(
+        alloc: Global,
+        layout: Layout,
+        limit: u64,
+        programs: Sequence<Sequence<Command>>,
+    ) -> Result<Machine, AllocError>
+        requires few { length programs ≤ most_programs }
+        requires limit { IsLimit limit }
+        requires sound { AreSound programs }
+        ensures made { IfOk result
+            (λ machine. machine ≡ first_configuration layout limit programs) }
+        ensures layout { OnOk result (IsLayout layout) }
+    {
+        Ok(Machine {
+            limit,
+            storage: Storage::new(alloc, layout),
+            actors: actors_of(alloc, programs)?,
+        })
     }
 
     /// Returns the number of actors.
@@ -145,25 +167,6 @@ impl Machine {
         self.storage.layout()
     }
 
-    // Tests whether an actor has a call left or under way.
-    pub(crate) fn has_call(&self, actor: u32) -> bool
-        ensures { result ≡ has_call self.now actor }
-    {
-        match self.actors.get(actor as usize) {
-            Some(current) => current.command().is_some(),
-            None => false,
-        }
-    }
-
-    // The phase of an actor's call; an actor without one is as at Load.
-    pub(crate) fn phase(&self, actor: u32) -> Phase
-        ensures phase { result ≡ phase_at self.now actor }
-        ensures room { HasRoom result }
-    {
-        let storage = &self.storage;
-        phase_among(self.limit, storage, &self.actors, actor)
-    }
-
     /// Takes one atomic step of an actor. An actor with nothing left, or without a program, changes nothing.
     ///
     /// `memory` says whether a request for a segment is granted in this step. A step takes constant time,
@@ -172,6 +175,18 @@ impl Machine {
         ensures steps { IfOk result (λ stepped.
             IsStepped (step_of self.old actor memory) self.new stepped) }
         // Real memory ran out, which `memory` does not cause: at Put of a new segment alone.
+        ensures err { OnErr result (self.new ≡ self.old) }
+        ensures memory { OnErr result (MayRunOut self.old actor memory) }
+    {
+        Ok(self.step_phases(actor, memory)?.stepped)
+    }
+
+    // The same step, with the phases before it and after it.
+    pub(crate) fn step_phases(&mut self, actor: u32, memory: bool) -> Result<PhasedStep, AllocError>
+        ensures steps { IfOk result (λ step.
+            IsStepped (step_of self.old actor memory) self.new step.stepped) }
+        ensures phases { IfOk result (λ step. step.phases ≡ phases_at self.old self.new actor) }
+        ensures room { IfOk result (λ step. IfSome step.phases (λ (_, after). HasRoom after)) }
         ensures err { OnErr result (self.new ≡ self.old) }
         ensures memory { OnErr result (MayRunOut self.old actor memory) }
     {
@@ -191,49 +206,39 @@ fn step_among(
     actors: &mut Vec<Actor>,
     actor: u32,
     memory: bool,
-) -> Result<Stepped, AllocError>
+) -> Result<PhasedStep, AllocError>
     requires limit { IsInLimit
         (record { limit = limit; storage = storage.old; actors = actors.old.items }) }
     requires segments { HasSegments
         (record { limit = limit; storage = storage.old; actors = actors.old.items }) }
-    ensures steps { IfOk result (λ stepped. IsStepped
+    ensures steps { IfOk result (λ step. IsStepped
         (step_of (record { limit = limit; storage = storage.old; actors = actors.old.items }) actor memory)
         (record { limit = limit; storage = storage.new; actors = actors.new.items })
-        stepped) }
+        step.stepped) }
+    ensures phases { IfOk result (λ step. step.phases ≡ phases_at
+        (record { limit = limit; storage = storage.old; actors = actors.old.items })
+        (record { limit = limit; storage = storage.new; actors = actors.new.items }) actor) }
     ensures err { OnErr result
         ((storage.new ≡ storage.old) × (actors.new.items ≡ actors.old.items)) }
     ensures memory { OnErr result
         (MayRunOut (record { limit = limit; storage = storage.old; actors = actors.old.items }) actor memory) }
 {
-    let Some(current) = actors.get(actor as usize) else {
-        return Ok(NOTHING);
+    let Some(current) = actors.get_mut(actor as usize) else {
+        return Ok(NO_STEP);
     };
-    let phase = current.phase;
     let Some(command) = current.command() else {
-        return Ok(NOTHING);
+        return Ok(NO_STEP);
     };
-    let outcome = storage.step(limit, actor, &command, memory, phase)?;
-    let ended = actors[actor as usize].follow(actor, command, outcome.next);
-    Ok(Stepped {
-        event: outcome.event,
-        ended,
+    let before = current.phase;
+    let outcome = storage.step(limit, actor, &command, memory, before)?;
+    let ended = current.follow(actor, command, outcome.next);
+    Ok(PhasedStep {
+        stepped: Stepped {
+            event: outcome.event,
+            ended,
+        },
+        phases: Some((before, current.phase)),
     })
-}
-
-fn phase_among(limit: u64, storage: &Storage, actors: &Vec<Actor>, actor: u32) -> Phase
-    requires limit { IsInLimit
-        (record { limit = limit; storage = storage.now; actors = actors.now.items }) }
-    ensures phase { result
-        ≡ phase_at (record { limit = limit; storage = storage.now; actors = actors.now.items }) actor }
-    ensures room { HasRoom result }
-{
-    let Some(current) = actors.get(actor as usize) else {
-        return Phase::Load;
-    };
-    match current.command() {
-        Some(_) => current.phase,
-        None => Phase::Load,
-    }
 }
 
 fn actors_of(alloc: Global, programs: Sequence<Sequence<Command>>) -> Result<Vec<Actor>, AllocError>

@@ -79,12 +79,7 @@ pub(crate) fn check_schedule(
         ↔ IsLimit limit × AreSound programs.now × (HavePrograms programs.now items.now → ⊥) }
     ensures no_memory_taken { IsErrOf result PlayError.NoMemory → ⊥ }
 {
-    match check_programs(limit, programs) {
-        Ok(()) => {}
-        Err(MakeError::BadLimit) => return Err(PlayError::BadLimit),
-        Err(MakeError::BadCommand) => return Err(PlayError::BadCommand),
-        Err(MakeError::NoMemory) => unreachable!(),
-    }
+    check_programs(limit, programs)?;
     if !have_programs(programs, items) {
         return Err(PlayError::BadActor);
     }

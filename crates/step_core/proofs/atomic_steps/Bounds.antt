@@ -217,12 +217,12 @@ module _ (c : Configuration) (in_limit : IsInLimit c) where
       ))
 
 -- so is what a step that succeeded, or changed nothing, leaves
-pub left_in_limit : {E : Type 0} (r : Result Stepped E) (c new : Configuration) (actor : ℕ) (memory : Bool)
-    → IsInLimit c → new.limit ≡ c.limit → IfOk r (λ stepped. IsStepped (step_of c actor memory) new stepped)
+pub left_in_limit : {S E : Type 0} (r : Result S E) (of : S → Stepped) (c new : Configuration) (actor : ℕ) (memory : Bool)
+    → IsInLimit c → new.limit ≡ c.limit → IfOk r (λ step. IsStepped (step_of c actor memory) new (of step))
     → OnErr r ((new.storage ≡ c.storage) × (new.actors ≡ c.actors)) → IsInLimit new
-left_in_limit (Ok stepped) c new actor memory in_limit limit gives kept =
+left_in_limit (Ok step) of c new actor memory in_limit limit gives kept =
     subst IsInLimit (sym gives.0) (step_in_limit c in_limit actor memory)
-left_in_limit (Err e) c new actor memory in_limit limit gives kept =
+left_in_limit (Err e) of c new actor memory in_limit limit gives kept =
     let as_before : IsInLimit (record { limit = c.limit; storage = c.storage; actors = c.actors }) = in_limit in
     subst (λ l. IsInLimit (record { limit = l; storage = new.storage; actors = new.actors })) (sym limit)
     (subst (λ m. IsInLimit (record { limit = c.limit; storage = m; actors = new.actors })) (sym kept.0)

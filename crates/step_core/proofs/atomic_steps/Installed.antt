@@ -238,12 +238,12 @@ items_have_segments p (item ∷ items) in_limit has =
     (step_in_limit p.at in_limit item.actor item.memory) (step_has_segments p.at item.actor item.memory in_limit has)
 
 -- so does what a step that succeeded, or changed nothing, leaves
-pub left_has_segments : {E : Type 0} (r : Result Stepped E) (c new : Configuration) (actor : ℕ) (memory : Bool)
-    → IsInLimit c → HasSegments c → IfOk r (λ stepped. IsStepped (step_of c actor memory) new stepped)
+pub left_has_segments : {S E : Type 0} (r : Result S E) (of : S → Stepped) (c new : Configuration) (actor : ℕ) (memory : Bool)
+    → IsInLimit c → HasSegments c → IfOk r (λ step. IsStepped (step_of c actor memory) new (of step))
     → OnErr r ((new.storage ≡ c.storage) × (new.actors ≡ c.actors)) → HasSegments new
-left_has_segments (Ok stepped) c new actor memory in_limit has gives kept =
+left_has_segments (Ok step) of c new actor memory in_limit has gives kept =
     subst HasSegments (sym gives.0) (step_has_segments c actor memory in_limit has)
-left_has_segments (Err e) c new actor memory in_limit has gives kept = (
+left_has_segments (Err e) of c new actor memory in_limit has gives kept = (
   subst (λ (m : Storage). (q : ℕ) → q < m.size → IsReady m q) (sym kept.0) has.0,
   subst (λ (m : Storage). All (λ (a : Actor). HasPassed m a.phase) new.actors) (sym kept.0) (subst (All (λ (a : Actor). HasPassed c.storage a.phase)) (sym kept.1) has.1),
 )

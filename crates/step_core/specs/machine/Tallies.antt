@@ -1,5 +1,5 @@
 -- What the program keeps next to a play, to count what its calls take.
-use Rattle.std.specs.Prelude.{ℕ, ◌+◌, ◌<◌, ◌≤◌, Bool, true, false, List, [], ◌∷◌, ◌++◌, map, All, Option, Some, None, slice_get, slice_set, unwrap_or, refl}
+use Rattle.std.specs.Prelude.{ℕ, ◌+◌, ◌<◌, ◌≤◌, Bool, true, false, List, [], ◌∷◌, ◌++◌, if◌then◌else◌, map, All, Option, Some, None, slice_get, slice_set, unwrap_or, refl}
 use Rattle.std.specs.Coded.{Coded, code_by, coded×, coded_list}
 use Rattle.seg_core.specs.Segment.{most_places}
 use Rattle.book_core.specs.declared.commands.Ended.{Ended}
@@ -12,7 +12,7 @@ use Rattle.step_core.specs.contracts.machine.counts.Tally as tally
 use Rattle.book_core.specs.contracts.commands.Work as work
 use Rattle.step_core.specs.declared.programs.Played.{Played}
 use Rattle.step_core.specs.machine.Owners.{played_by_owners}
-use Rattle.step_core.specs.machine.Step.{Step, step_of}
+use Rattle.step_core.specs.machine.Step.{Configuration, Step, step_of}
 use Rattle.step_core.specs.machine.Play.{Play, play_code, with_step}
 use Rattle.step_core.specs.machine.Work.{Count, Counted, no_tally, tally_after, has_call, phase_at, work_in}
 
@@ -30,6 +30,10 @@ tallied_code =
     (λ t. (t.play, (t.tallies, t.work)))
     (λ p. record { play = p.0; tallies = p.1.0; work = p.1.1 })
     (λ _. refl)
+
+-- the phases of an actor's call before a step of it and after, if it has a call
+abbrev pub phases_at : Configuration → Configuration → ℕ → Option (Phase × Phase)
+phases_at old new actor = if has_call old actor then Some (phase_at old actor, phase_at new actor) else None
 
 -- what an ended call took with this tally
 abbrev pub work_by : Ended → Tally → Work

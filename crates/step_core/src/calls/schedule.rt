@@ -164,7 +164,9 @@ impl CallPlay {
     }
 }
 
-fn play_sound(
+/// Plays one whole call per item like [`play_calls`], of a limit, programs and items that are known to be in
+/// order, as those of a script are. It looks at none of them again.
+pub fn play_valid_calls(
     alloc: Global,
     limit: u64,
     programs: &[Sequence<Command>],
@@ -206,5 +208,5 @@ pub fn play_calls(
 {
     let programs = programs.as_slice();
     check_schedule(limit, programs, items)?;
-    play_sound(alloc, limit, programs, items).map_err(|_| PlayError::NoMemory)
+    play_valid_calls(alloc, limit, programs, items).map_err(|_| PlayError::NoMemory)
 }

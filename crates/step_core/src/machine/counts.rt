@@ -190,13 +190,10 @@ impl CountedPlay {
             (step_of self.old.play.at item.now.actor item.now.memory) (has_call self.old.play.at item.now.actor)) }
     {
         let layout = self.play.layout();
-        let counts = self.play.has_call(item.actor);
-        let before = self.play.phase(item.actor);
-        let ended = self.play.play_item(item)?;
-        if counts {
-            let after = self.play.phase(item.actor);
+        let step = self.play.play_item(item)?;
+        if let Some((before, after)) = step.phases {
             let tally = self.tally(item.actor).count_step(layout, before, after);
-            self.count(item.actor, tally, ended)?;
+            self.count(item.actor, tally, step.stepped.ended)?;
         }
         Ok(())
     }

@@ -1,5 +1,5 @@
 //! Plays of the machine: each item of a schedule is one atomic step.
-ghost use Rattle.std.specs.Prelude.{◌≡◌, ◌≤◌, ◌↔◌, ◌++◌, length, replicate, IfOk, OnOk, Some, IsErrOf};
+ghost use Rattle.std.specs.Prelude.{◌≡◌, ◌≤◌, ◌↔◌, ◌++◌, length, replicate, IfOk, IfSome, OnOk, Some, IsErrOf};
 ghost use Rattle.std.specs.FinMap as map;
 ghost use Rattle.seg_core.specs.Segment.{IsLayout, IsLimit};
 ghost use Rattle.book_core.specs.Commands.{AreSound, HavePrograms, HaveActors, most_programs};
@@ -7,10 +7,10 @@ ghost use Rattle.book_core.specs.History.{run_of};
 ghost use Rattle.step_core.specs.machine.Owners.{owners_of};
 ghost use Rattle.step_core.specs.machine.Work.{AreOfActors, play_shown};
 
-use crate::errors::{MakeError, PlayError};
-use crate::machine::Machine;
+use crate::errors::PlayError;
 use crate::machine::counts::CountedPlay;
-use crate::machine::phase::{CellSlot, Phase};
+use crate::machine::phase::CellSlot;
+use crate::machine::{Machine, PhasedStep};
 use crate::programs::{Played, check_schedule};
 use book_core::{Cell, Command, Ended, Event, Item, Reply, Sequence, Work};
 use seg_core::Layout;
@@ -40,8 +40,7 @@ impl MachinePlay {
     ghost use Rattle.step_core.specs.machine.Owners.{cells_from, played_by_owners};
     ghost use Rattle.step_core.specs.machine.Play.{with_step, cell_of};
     ghost use Rattle.step_core.specs.machine.Step.{step_of};
-    ghost use Rattle.step_core.specs.machine.Work.{has_call, phase_at};
-    ghost use Rattle.step_core.specs.machine.Tallies.{HasRoom};
+    ghost use Rattle.step_core.specs.machine.Tallies.{HasRoom, phases_at};
 
     pub(crate) fn layout(&self) -> Layout
         ensures { result ≡ self.now.at.storage.layout }
@@ -49,34 +48,24 @@ impl MachinePlay {
         self.machine.layout()
     }
 
-    pub(crate) fn has_call(&self, actor: u32) -> bool
-        ensures { result ≡ has_call self.now.at actor }
-    {
-        self.machine.has_call(actor)
-    }
-
-    pub(crate) fn phase(&self, actor: u32) -> Phase
-        ensures phase { result ≡ phase_at self.now.at actor }
-        ensures room { HasRoom result }
-    {
-        self.machine.phase(actor)
-    }
-
-    // One step, and the call that ended with it, if one did.
-    pub(crate) fn play_item(&mut self, item: &Item) -> Result<Option<Ended>, AllocError>
+    // One step.
+    pub(crate) fn play_item(&mut self, item: &Item) -> Result<PhasedStep, AllocError>
         ensures step { OnOk result
             (self.new ≡ with_step self.old (step_of self.old.at item.now.actor item.now.memory)) }
-        ensures ended { IfOk result
-            (λ ended. ended ≡ (step_of self.old.at item.now.actor item.now.memory).ended) }
+        ensures ended { IfOk result (λ step.
+            step.stepped.ended ≡ (step_of self.old.at item.now.actor item.now.memory).ended) }
+        ensures phases { IfOk result
+            (λ step. step.phases ≡ phases_at self.old.at self.new.at item.now.actor) }
+        ensures room { IfOk result (λ step. IfSome step.phases (λ (_, after). HasRoom after)) }
     {
-        let stepped = self.machine.step(item.actor, item.memory)?;
-        if let Some(row) = stepped.event {
+        let step = self.machine.step_phases(item.actor, item.memory)?;
+        if let Some(row) = step.stepped.event {
             self.events.push(row)?;
         }
-        if let Some(ended) = stepped.ended {
+        if let Some(ended) = step.stepped.ended {
             self.ended.push(ended)?;
         }
-        Ok(stepped.ended)
+        Ok(step)
     }
 
     // The owner of each claimed place, in order.
@@ -149,7 +138,9 @@ fn push_run(owners: &mut Vec<u32>, row: &(Event, Reply)) -> Result<(), AllocErro
     }
 }
 
-fn play_sound(
+/// Plays one atomic step per item like [`play_in`], of a limit, programs and items that are known to be in
+/// order, as those of a script are. It looks at none of them again.
+pub fn play_valid(
     alloc: Global,
     layout: Layout,
     limit: u64,
@@ -166,13 +157,8 @@ fn play_sound(
     ensures layout { OnOk result (IsLayout layout) }
 {
     let actors = programs.len();
-    let machine = match Machine::new_in(alloc, layout, limit, programs) {
-        Ok(machine) => machine,
-        Err(MakeError::NoMemory) => return Err(AllocError),
-        Err(MakeError::BadLimit | MakeError::BadCommand) => unreachable!(),
-    };
     let play = MachinePlay {
-        machine,
+        machine: Machine::of_sound(alloc, layout, limit, programs)?,
         events: Vec::new(alloc),
         ended: Vec::new(alloc),
     };
@@ -231,5 +217,5 @@ pub fn play_in(
         ↔ IsLimit limit × AreSound programs × (HavePrograms programs items.now → ⊥) }
 {
     check_schedule(limit, programs.as_slice(), items)?;
-    play_sound(alloc, layout, limit, programs, items).map_err(|_| PlayError::NoMemory)
+    play_valid(alloc, layout, limit, programs, items).map_err(|_| PlayError::NoMemory)
 }

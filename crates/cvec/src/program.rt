@@ -12,7 +12,7 @@ ghost use Rattle.cvec.specs.Request.{IsSweep, StartsThreads};
 
 use crate::command_line::Request;
 use crate::error::ProgramError;
-use engine_core::{Engine, RunError, run_calls, run_steps, run_steps_counted, write_output};
+use engine_core::{RunError, run_script, write_output};
 use race_core::{Free, RaceError, race};
 use script_core::{Line, WriteFault, write_bytes};
 use std::alloc::{AllocError, Global};
@@ -168,10 +168,8 @@ pub fn serve<R: Read, W: Write, E: Write>(
         × Keeps (W.contents writer.old) (W.contents writer.new) }
 {
     match request {
-        Request::Play(Engine::Calls) => report_run_error(errors, run_calls(alloc, reader, writer)),
-        Request::Play(Engine::Steps) => report_run_error(errors, run_steps(alloc, reader, writer)),
-        Request::Play(Engine::Counted) => {
-            report_run_error(errors, run_steps_counted(alloc, reader, writer))
+        Request::Play(engine) => {
+            report_run_error(errors, run_script(alloc, *engine, reader, writer))
         }
         Request::Race { .. } | Request::Sweep { .. } => unreachable!(),
         Request::Show(text) => report_run_error(errors, show(writer, text)),

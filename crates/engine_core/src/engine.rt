@@ -13,7 +13,7 @@ use script_core::Script;
 use seg_core::Layout;
 use std::alloc::{AllocError, Global};
 use std::io::{Read, Write};
-use step_core::{PlayError, Played, play_calls, play_in};
+use step_core::{Played, play_valid, play_valid_calls};
 
 /// An engine, by what an item of a script plays.
 #[derive(Clone, Copy, Debug, PartialEq, Eq)]
@@ -48,27 +48,24 @@ fn play_script(
     let Some(layout) = Layout::new(first) else {
         unreachable!()
     };
+    let items = items.as_slice();
     let played = match engine {
-        Engine::Calls => play_calls(alloc, limit, programs, items.as_slice()),
-        Engine::Steps | Engine::Counted => {
-            play_in(alloc, layout, limit, programs, items.as_slice())
-        }
+        Engine::Calls => play_valid_calls(alloc, limit, programs.as_slice(), items)?,
+        Engine::Steps | Engine::Counted => play_valid(alloc, layout, limit, programs, items)?,
     };
-    match played {
-        Ok(played) => Ok((names, played)),
-        Err(PlayError::NoMemory) => Err(AllocError),
-        Err(PlayError::BadLimit | PlayError::BadCommand | PlayError::BadActor) => unreachable!(),
-    }
+    Ok((names, played))
 }
 
-// Reads a script, plays its items by the engine, and writes the text of the play.
-fn run<R: Read, W: Write>(
+/// Reads a script, plays its items by the engine, and writes the text of the play.
+///
+/// `NoMemory` and `Read` may come for any input. Nothing is written before the whole text is made.
+pub fn run_script<R: Read, W: Write>(
     alloc: Global,
     engine: Engine,
     reader: &mut R,
     writer: &mut W,
 ) -> Result<(), RunError>
-    ensures { Plays engine result (R.remaining reader.old)
+    ensures plays { Plays engine result (R.remaining reader.old)
         (W.contents writer.old) (W.contents writer.new) }
 {
     let script = read_script(alloc, reader)?;
@@ -76,9 +73,7 @@ fn run<R: Read, W: Write>(
     write_play(alloc, writer, engine, names.as_slice(), &played)
 }
 
-/// Runs a script whose items are whole calls.
-///
-/// `NoMemory` and `Read` may come for any input. Nothing is written before the whole text is made.
+/// Runs a script whose items are whole calls, like [`run_script`].
 pub fn run_calls<R: Read, W: Write>(
     alloc: Global,
     reader: &mut R,
@@ -87,7 +82,7 @@ pub fn run_calls<R: Read, W: Write>(
     ensures plays { Plays Engine.Calls result (R.remaining reader.old)
         (W.contents writer.old) (W.contents writer.new) }
 {
-    run(alloc, Engine::Calls, reader, writer)
+    run_script(alloc, Engine::Calls, reader, writer)
 }
 
 /// Runs a script whose items are atomic steps, in segments of the script's layout. Otherwise it is
@@ -100,7 +95,7 @@ pub fn run_steps<R: Read, W: Write>(
     ensures plays { Plays Engine.Steps result (R.remaining reader.old)
         (W.contents writer.old) (W.contents writer.new) }
 {
-    run(alloc, Engine::Steps, reader, writer)
+    run_script(alloc, Engine::Steps, reader, writer)
 }
 
 /// Runs a script whose items are atomic steps, like `run_steps`, and adds a line for each ended call, in
@@ -113,5 +108,5 @@ pub fn run_steps_counted<R: Read, W: Write>(
     ensures plays { Plays Engine.Counted result (R.remaining reader.old)
         (W.contents writer.old) (W.contents writer.new) }
 {
-    run(alloc, Engine::Counted, reader, writer)
+    run_script(alloc, Engine::Counted, reader, writer)
 }

@@ -17,6 +17,6 @@ mod output;
 mod script;
 mod text;
 
-pub use engine::{Engine, run_calls, run_steps, run_steps_counted};
+pub use engine::{Engine, run_calls, run_script, run_steps, run_steps_counted};
 pub use error::RunError;
 pub use output::write_output;

@@ -68,5 +68,9 @@ all_team {V} {says} items word each old new workers shares xs wins (mine, split,
           let won = part_team.wins k (subst (λ m. Contains m k) same has) in
           let sees = won.2 in
           subst (λ ws. HasWin new ws k) (sym flat) (won.0, won.1, record { there = sees.there; from = sees.from; n = sees.n });
+      seen = λ w has.
+          let sees = part_team.seen w (subst (λ ws. Contains ws w) flat has) in
+          let run = sees.1 in
+          (sees.0, record { there = run.there; from = run.from; n = run.n });
       sum = omega (arith, sums, s, none_below, all_below);
     }

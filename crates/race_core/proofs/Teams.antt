@@ -1,6 +1,6 @@
 -- A team's wins after an added value, and two teams' wins together. The premises are public laws and clauses.
-use Rattle.std.proofs.Common.{◌≡◌, ◌≢◌, ℕ, zero, suc, ◌+◌, ◌*◌, ◌≤◌, List, [], ◌∷◌, ◌++◌, refl, sym, ap, ◌∙◌, subst, ⊎_elim, arith, add-one}
-use Rattle.std.specs.Prelude.{slice_index}
+use Rattle.std.proofs.Common.{◌≡◌, ◌≢◌, ℕ, zero, suc, ◌+◌, ◌*◌, ◌<◌, ◌≤◌, List, [], ◌∷◌, ◌++◌, refl, sym, ap, ◌∙◌, subst, ⊎_elim, arith, add-one}
+use Rattle.std.specs.Prelude.{slice_index, slice_index_or}
 use Rattle.std.specs.List.{Contains, sum_by}
 use Rattle.std.proofs.lemmas.Bool.{cases_eq}
 use Rattle.std.proofs.lemmas.List.Elements.{Contains-append_left, Contains-append_right, Contains-append_cases, Contains-push}
@@ -10,13 +10,18 @@ use mathlib.Core.List.{IsPrefix}
 use Rattle.claim_core.specs.Lengths.{Tiles, places_in}
 use Rattle.claim_core.specs.Word.{WordView}
 use Rattle.claim_core.specs.Hand.{HandView, GainsRun, AddsRun, SeesRun, SeesOwn, own_places, seen_size}
-use Rattle.claim_core.specs.Laws.{PlacesStay, SeenRunsStay, AddedRunsAreLast}
+use Rattle.claim_core.specs.Laws.{PlacesStay, SeenRunsStay, SeenRunsAreWithin, AddedRunsAreLast}
 use Rattle.grow_core.specs.Growth.{single}
 use Rattle.race_core.specs.declared.team.Win.{Win}
-use Rattle.race_core.specs.Race.{sum_below, Team, HasWin, IsTeam, AreAllPlaces}
+use Rattle.race_core.specs.Race.{sum_below, Team, HasWin, IsSeen, IsTeam, AreAllPlaces, AreBelow}
 
 value_of : Win → ℕ
 value_of win = win.value
+
+-- a list of one win has no other
+only : (win w : Win) (k : ℕ) → k < 1 → slice_index_or (win ∷ []) k w ≡ w → win ≡ w
+only win w zero near is = is
+only win w (suc k) near is = absurd (omega (arith, near))
 
 -- the hand has one more run, and the wins have its place
 wins_more : SeenRunsStay → (old new : HandView) (index : ℕ) (wins : List Win) (win : Win) → new.of ≡ old.of
@@ -30,6 +35,16 @@ wins_more stay old new index wins win of gain had k own =
     let has = had k (Contains-tail index old.mine k other (subst (λ m. Contains m k) gain.mine own)) in
     (has.0, Contains-append_left wins (win ∷ []) has.0 has.1, stay old new k (single has.0.place) of gain.seen has.2))
     (cases_eq index k)
+
+-- each win is a run that the hand has seen, also the new one
+seen_more : SeenRunsStay → (old new : HandView) (index : ℕ) (wins : List Win) (win : Win) → new.of ≡ old.of
+    → GainsRun old new index (single win.place) → ((w : Win) → Contains wins w → IsSeen old w)
+    → (w : Win) → Contains (wins ++ win ∷ []) w → IsSeen new w
+seen_more stay old new index wins win of gain had w has =
+    ⊎_elim
+    (λ (was : Contains wins w). let sees = had w was in (sees.0, stay old new sees.0 (single w.place) of gain.seen sees.1))
+    (λ (is : Contains (win ∷ []) w). subst (λ (u : Win). IsSeen new u) (only win w is.0 is.1 is.2) (index, gain.sees))
+    (Contains-append_cases wins (win ∷ []) w has)
 
 -- so it owns one more place than before
 places_more : PlacesStay → (old new : HandView) (index place : ℕ) → GainsRun old new index (single place) → SeesOwn old
@@ -59,6 +74,7 @@ team_more last places stay word shares from old new win team below adds more =
       part = adds.shares ∙ team.part;
       places = let was = team.places in omega arith;
       wins = subst (λ ws. (k : ℕ) → Contains new.hand.mine k → HasWin new.hand ws k) (sym more) (wins_more stay old.hand new.hand gain.0 old.wins win adds.of gain.1 team.wins);
+      seen = subst (λ ws. (w : Win) → Contains ws w → IsSeen new.hand w) (sym more) (seen_more stay old.hand new.hand gain.0 old.wins win adds.of gain.1 team.seen);
       sum = let was = team.sum in let is = ap (sum_by (λ (w : Win). w.value)) more in omega arith;
     }
 
@@ -101,6 +117,10 @@ teams_joined places stay word some more from middle to a b new team_a team_b bel
           (λ (was : Contains a.hand.mine k). wins_stay stay a.hand new.hand a.wins (a.wins ++ b.wins) of seen_a (Contains-append_left a.wins b.wins) k (team_a.wins k was))
           (λ (was : Contains b.hand.mine k). wins_stay stay b.hand new.hand b.wins (a.wins ++ b.wins) also_of seen_b (Contains-append_right a.wins b.wins) k (team_b.wins k was))
           (Contains-append_cases a.hand.mine b.hand.mine k (subst (λ m. Contains m k) mine own)));
+      seen = λ w has. ⊎_elim
+          (λ (was : Contains a.wins w). let sees = team_a.seen w was in (sees.0, stay a.hand new.hand sees.0 (single w.place) of seen_a sees.1))
+          (λ (was : Contains b.wins w). let sees = team_b.seen w was in (sees.0, stay b.hand new.hand sees.0 (single w.place) also_of seen_b sees.1))
+          (Contains-append_cases a.wins b.wins w (subst (λ ws. Contains ws w) wins has));
       sum =
           let x = team_a.sum in
           let y = team_b.sum in
@@ -118,6 +138,7 @@ team_new from team mine wins =
       part = refl;
       places = omega arith;
       wins = λ k own. absurd (let lt = (subst (λ m. Contains m k) mine own).1 in omega arith);
+      seen = λ w has. absurd (let lt = (subst (λ ws. Contains ws w) wins has).1 in omega arith);
       sum = omega arith;
     }
 
@@ -133,6 +154,12 @@ all_won hand wins base tiles won place below =
     let from = has.2.from in
     let n = has.2.n in
     (has.0, has.1, omega arith)
+
+-- and each win is below the size
+pub all_below : SeenRunsAreWithin → (hand : HandView) (wins : List Win) → ((w : Win) → Contains wins w → IsSeen hand w)
+    → AreBelow (seen_size hand) wins
+all_below within hand wins seen win has =
+    let sees = seen win has in let ends = (within hand sees.0 (single win.place) sees.1).1 in omega (arith, ends)
 
 -- a sum of a race's values is small
 pub sum_is_small : (n : ℕ) → n ≤ 6400000 → sum_below n ≤ n * 6400000

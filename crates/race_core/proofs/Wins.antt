@@ -1,6 +1,7 @@
 -- Wins put in order of place, and the history that they make.
 use Rattle.std.proofs.Common.{◌≡◌, ℕ, ◌+◌, ◌<◌, ◌≤◌, List, [], ◌∷◌, ◌++◌, length, get_or, Option, Some, None, refl, sym, ap, ◌∙◌, subst, arith, slice_get}
-use Rattle.std.proofs.lemmas.List.{length-append, length-set}
+use Rattle.std.specs.List.{Contains}
+use Rattle.std.proofs.lemmas.List.{get_or_default, length-append, length-set}
 use Rattle.book_core.specs.declared.cells.Cell.{Cell}
 use Rattle.book_core.specs.declared.cells.Cell.TheVariants.{Pending, Filled}
 use Rattle.book_core.specs.declared.events.Event.{Event}
@@ -12,6 +13,10 @@ use Rattle.book_core.specs.History.{IsHistory}
 use Rattle.book_core.specs.Laws.{HistoriesSplit, ClaimsAppend, OwnersFill}
 use Rattle.race_core.specs.declared.team.Win.{Win}
 use Rattle.race_core.specs.Race.{IsWinOf, AreAllPlaces, AreInOrder, events_of_win}
+
+-- what a list has at an index below its length is one of its elements
+pub at_index : {X : Type 0} (xs : List X) (i : ℕ) (d : X) → i < length xs → Contains xs (get_or xs i d)
+at_index xs i d near = (i, near, get_or_default xs i (get_or xs i d) d near)
 
 -- the slot has the win of this place
 abbrev pub HasPlace : List (Option Win) → ℕ → Type 0

@@ -71,6 +71,10 @@ IsFreeRefusal workers each (Grow number) = IsGrowth number
 abbrev pub HasWin : HandView → List Win → ℕ → Type 0
 HasWin hand wins index = (win : Win) × Contains wins win × SeesRun hand index (single win.place)
 
+-- the place of a win is a run that the hand has seen
+abbrev pub IsSeen : HandView → Win → Type 0
+IsSeen hand win = (index : ℕ) × SeesRun hand index (single win.place)
+
 -- what some workers have won together: their hand, and their places
 pub record Team : Type 0 where
   pub hand : HandView
@@ -85,6 +89,7 @@ pub record IsTeam (word : WordView) (shares from to : ℕ) (team : Team) : Type 
   pub part : team.hand.shares ≡ shares
   pub places : own_places team.hand + from ≡ to
   pub wins : (index : ℕ) → Contains team.hand.mine index → HasWin team.hand team.wins index
+  pub seen : (win : Win) → Contains team.wins win → IsSeen team.hand win
   pub sum : sum_by (λ win. win.value) team.wins + sum_below from ≡ sum_below to
 
 -- the values of this worker were appended, by a hand with one share
@@ -108,6 +113,10 @@ AreFew workers each = (workers ≤ 64) × (each ≤ 100000)
 -- each place below the size was won
 abbrev pub AreAllPlaces : ℕ → List Win → Type 0
 AreAllPlaces size wins = (place : ℕ) → place < size → (win : Win) × Contains wins win × (win.place ≡ place)
+
+-- each win is of a place below the size
+abbrev pub AreBelow : ℕ → List Win → Type 0
+AreBelow size wins = (win : Win) → Contains wins win → win.place < size
 
 -- there is a win, and it is of this place
 abbrev pub IsWinOf : ℕ → Option Win → Type 0

@@ -65,5 +65,5 @@ pub fn race<R: Threads + Wait + Sync, G: Gate + Sync>(
     hand.laws();
     laws::places_stay();
     laws::seen_runs_stay();
-    Ok(report_of(alloc, vector, hand, &wins, size)?)
+    Ok(report_of(alloc, vector, hand, wins, size)?)
 }

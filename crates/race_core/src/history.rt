@@ -3,7 +3,7 @@ ghost use Rattle.std.specs.Prelude.{◌≡◌, ◌↔◌, ◌++◌, IsTrue, IfOk
 ghost use Rattle.seg_core.specs.Segment.{IsLimit};
 ghost use Rattle.book_core.specs.Cells.{empty_list};
 ghost use Rattle.book_core.specs.History.{IsLegalFrom};
-ghost use Rattle.race_core.specs.Race.{AreAllPlaces, AreInOrder, events_of_win};
+ghost use Rattle.race_core.specs.Race.{AreAllPlaces, AreBelow, AreInOrder, events_of_win};
 
 use crate::team::Win;
 use book_core::{Event, Reply, check, laws};
@@ -15,15 +15,13 @@ pub(crate) fn sort_wins(
     size: u64,
     wins: &[Win],
 ) -> Result<Vec<Option<Win>>, AllocError>
-    requires { AreAllPlaces size wins.now }
+    requires all { AreAllPlaces size wins.now }
+    requires below { AreBelow size wins.now }
     ensures { IfOk result (λ slots. AreInOrder size slots.items) }
 {
     let mut slots = vec![in alloc; None; size as usize]?;
     for win in wins {
-        let place = win.place as usize;
-        if place < slots.len() {
-            slots[place] = Some(*win);
-        }
+        slots[win.place as usize] = Some(*win);
     }
     Ok(slots)
 }

@@ -6,7 +6,7 @@ ghost use Rattle.race_core.specs.Race.{sum_below, IsTeam, team_of, verdict_of};
 
 use crate::history::{history_of, is_legal, sort_wins};
 use crate::team::Win;
-use grow_core::{Hand, Shared};
+use grow_core::{Hand, Shared, laws};
 use quiet_core::Quiet;
 use std::alloc::{AllocError, Global};
 use std::fmt;
@@ -63,25 +63,29 @@ pub(crate) fn report_of(
     alloc: Global,
     vector: Shared<u64>,
     hand: Hand<u64>,
-    wins: &[Win],
+    wins: Vec<Win>,
     size: u64,
 ) -> Result<RaceReport, AllocError>
     requires ours { IsHandOf vector hand }
     requires base { base_of vector ≡ 0 }
     requires limits { 0 < size × size ≤ 6400000 }
-    requires team { IsTeam vector.word all_shares 0 size (team_of hand wins.now) }
+    requires team { IsTeam vector.word all_shares 0 size (team_of hand wins.items) }
     ensures size { IfOk result (λ report. report.size ≡ size) }
     ensures sum { IfOk result (λ report. report.sum ≡ sum_below size) }
     ensures legal { IfOk result (λ report. report.legal ≡ true) }
 {
-    // For the proof: a whole hand knows every place.
+    // For the proof: a whole hand knows every place, and no other.
     hand.whole_laws();
+    laws::seen_runs_are_within();
     let size = Quiet::close(vector, hand).len();
-    let slots = sort_wins(alloc, size, wins)?;
+    let sum = sum_of(&wins);
+    let slots = sort_wins(alloc, size, &wins)?;
+    drop(wins);
     let history = history_of(alloc, &slots)?;
+    drop(slots);
     Ok(RaceReport {
         size,
-        sum: sum_of(wins),
+        sum,
         legal: is_legal(alloc, size, &history)?,
     })
 }

@@ -10,7 +10,7 @@ report_of-requires-clause-team g c =
     let vector = c.in-Ok.vector in
     let each = c.from-each.result in
     let new = c.with_hands.new.hand in
-    let wins = c.deref.result.now in
+    let wins = c.in_ok-wins.wins.items in
     let all = c.in_ok-teams.ensures in
     let opened = c.in-Ok.ensures.hand in
     let team = all_team (λ v. v.items) vector.word each c.in-Ok.hand new c.args.workers 65536 c.in_ok-teams.teams.items wins all.answers
@@ -21,6 +21,6 @@ report_of-requires-clause-team g c =
       subst SeesOwn is sees,
     ))
     c.places_stay.ensures c.seen_runs_stay.ensures (ap (λ (h : HandView). h.mine) opened) (all.of ∙ ap (λ (h : HandView). h.of) opened)
-    (all.shares ∙ ap (λ (h : HandView). h.shares) opened) c.laws.ensures.below (c.deref.ensures.value ∙ c.in_ok-wins.ensures) in
+    (all.shares ∙ ap (λ (h : HandView). h.shares) opened) c.laws.ensures.below c.in_ok-wins.ensures in
     let count : c.from.result ≡ c.args.workers = search rules in
     subst (λ n. IsTeam vector.word 65536 0 (n * each) (team_of new wins)) (sym count) team

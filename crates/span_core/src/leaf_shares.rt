@@ -114,8 +114,6 @@ pub(crate) fn each_leaf<
         workers,
     };
     let shares = run_workers(rt, alloc, &job, gate, workers)?;
-    match job.gather(VecDeque::from(shares)) {
-        Ok(all) => Ok(all),
-        Err(_) => Err(ParError::NoMemory),
-    }
+    job.gather(VecDeque::from(shares))
+        .map_err(|_| ParError::NoMemory)
 }

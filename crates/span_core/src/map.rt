@@ -108,8 +108,5 @@ pub fn par_map<
 {
     let each = MapLeaf { alloc, list, f: &f };
     let parts = each_leaf(rt, alloc, span, workers, &each, gate)?;
-    match each.flat(span, parts) {
-        Ok(all) => Ok(all),
-        Err(_) => Err(ParError::NoMemory),
-    }
+    each.flat(span, parts).map_err(|_| ParError::NoMemory)
 }

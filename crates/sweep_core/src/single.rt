@@ -1,37 +1,18 @@
 //! One schedule: its play, checked and counted.
-ghost use Rattle.std.specs.Prelude.{◌≡◌, ◌≤◌, ◌↔◌, IsTrue, IfOk, length};
+ghost use Rattle.std.specs.Prelude.{◌≡◌, ◌↔◌, IsTrue, IfOk};
 ghost use Rattle.book_core.specs.Cells.{empty_list};
-ghost use Rattle.book_core.specs.Commands.{AreSound, HavePrograms, most_programs};
 ghost use Rattle.book_core.specs.History.{IsLegalFrom};
-ghost use Rattle.step_core.specs.machine.Work.{play_shown};
 ghost use Rattle.sweep_core.specs.Sweep.{sampled_limit, sampled_play};
 ghost use Rattle.sweep_core.specs.Sums.{report_of};
 
 use crate::report::SweepReport;
 use crate::schedule::{items_of, make_programs};
-use book_core::{Command, Event, Item, Reply, Sequence, check};
+use book_core::{Event, Reply, check};
+use seg_core::Layout;
 use std::alloc::{AllocError, Global};
-use step_core::{PlayError, Played, laws, play};
+use step_core::{Played, laws, play_valid};
 
 const LIMIT: u64 = 16;
-
-// The play of programs and items that can be played.
-fn play_sound(
-    alloc: Global,
-    programs: Sequence<Sequence<Command>>,
-    items: &[Item],
-) -> Result<Played, AllocError>
-    requires few { length programs ≤ most_programs }
-    requires sound { AreSound programs }
-    requires programs { HavePrograms programs items.now }
-    ensures { IfOk result (λ played. played ≡ play_shown 1 sampled_limit programs items.now) }
-{
-    match play(alloc, LIMIT, programs, items) {
-        Ok(played) => Ok(played),
-        Err(PlayError::NoMemory) => Err(AllocError),
-        Err(PlayError::BadLimit | PlayError::BadCommand | PlayError::BadActor) => unreachable!(),
-    }
-}
 
 // The play of the schedule of a seed.
 fn play_seed(alloc: Global, seed: u64, len: u32) -> Result<Played, AllocError>
@@ -40,7 +21,7 @@ fn play_seed(alloc: Global, seed: u64, len: u32) -> Result<Played, AllocError>
 {
     let items = items_of(alloc, seed, len)?;
     let programs = make_programs(alloc)?;
-    play_sound(alloc, programs, &items)
+    play_valid(alloc, Layout::default(), LIMIT, programs, &items)
 }
 
 // Tests whether events are a history of the sequential vector, by `check`.

@@ -5,7 +5,8 @@ ghost use Rattle.seg_core.specs.Segment.{IsLimit};
 ghost use Rattle.claim_core.specs.Hand.{IsNewHand};
 ghost use Rattle.grow_core.specs.Vector.{IsHandOf, limit_of, base_of};
 
-use grow_core::{AtError, GrowError, Hand, OpenError, Parts, Placed, Run, Shared};
+use super::lives::Life;
+use grow_core::{GrowError, Hand, OpenError, Parts, Placed, Run, Shared};
 use seg_core::Layout;
 use std::alloc::{AllocGlobal, Global};
 use std::process::Abort;
@@ -98,17 +99,6 @@ impl<T: Drop> Callers<T> {
         Some(grown.run())
     }
 
-    pub(super) fn grow_b(&mut self, values: Vec<T>) -> Option<Run> {
-        let grown = self.vector.try_grow_vec(&mut self.b, values).ok()?;
-        Some(grown.run())
-    }
-
-    // The same by a growth that tries again.
-    pub(super) fn grow_waiting<R: Wait>(&mut self, rt: &R, values: Vec<T>) -> Option<Run> {
-        let grown = self.vector.grow_vec(rt, &mut self.a, values).ok()?;
-        Some(grown.run())
-    }
-
     // The size, by one look.
     pub(super) fn size_b(&mut self) -> u64 {
         self.vector.size(&mut self.b)
@@ -119,35 +109,22 @@ impl<T: Drop> Callers<T> {
         self.vector.meet(&mut self.a, &mut self.b);
     }
 
-    // The list that the vector is closed into by one hand with all shares.
-    pub(super) fn close(self) -> Option<Parts<T>> {
+    // Both hands as one.
+    pub(super) fn joined(self) -> Life<T> {
         let Callers { vector, mut a, b } = self;
         vector.join(&mut a, b);
-        if a.is_whole() {
-            Some(vector.into_parts(a))
-        } else {
-            None
-        }
+        Life { vector, hand: a }
+    }
+
+    // The list that the vector is closed into by one hand with all shares.
+    pub(super) fn close(self) -> Option<Parts<T>> {
+        self.joined().close()
     }
 
     // Its length.
     pub(super) fn end(self) -> Option<u64> {
         let parts = self.close()?;
         Some(parts.len())
-    }
-
-    // Pushes to a full vector, and returns the size that it reports, and the value.
-    pub(super) fn refused_push(&mut self, value: T) -> Option<(u64, T)> {
-        full(self.vector.try_push_back(&mut self.a, value))
-    }
-
-    pub(super) fn refused_waiting<R: Wait>(&mut self, rt: &R, value: T) -> Option<(u64, T)> {
-        full(self.vector.push_back(rt, &mut self.a, value))
-    }
-
-    // Appends to a full vector, and returns the size that it reports, and the values.
-    pub(super) fn refused_growth(&mut self, values: Vec<T>) -> Option<(u64, Vec<T>)> {
-        full(self.vector.try_grow_vec(&mut self.a, values))
     }
 }
 
@@ -165,40 +142,11 @@ pub(super) fn on_two<T: Drop, R: AllocGlobal + Abort, F: FnOnce(&mut Callers<T>)
     steps(&mut two)
 }
 
-// The same on a vector whose first segment has 2^f places.
-pub(super) fn on_two_in<T: Drop, R: AllocGlobal, F: FnOnce(&mut Callers<T>) -> bool>(
-    rt: &R,
-    f: u32,
-    limit: u64,
-    steps: F,
-) -> bool
-    requires limit { IsLimit limit }
-    requires callable { F.IsAlwaysCallable steps }
-{
-    let Some(layout) = Layout::new(f) else {
-        return false;
-    };
-    match Callers::try_new_in(rt.alloc(), layout, limit) {
-        Ok(mut two) => steps(&mut two),
-        Err(_refused) => false,
-    }
-}
-
 pub(super) fn place_of<T: Drop, V: Drop, E: Drop>(
     pushed: Result<Placed<T>, GrowError<T, V, E>>,
 ) -> Option<u64> {
     let placed = pushed.ok()?;
     Some(placed.place())
-}
-
-// What a full vector reports and gives back.
-pub(super) fn full<P: Drop, T: Drop, V: Drop, E: Drop>(
-    answer: Result<P, GrowError<T, V, E>>,
-) -> Option<(u64, V)> {
-    match answer {
-        Err(GrowError::Full { size, back }) => Some((size, back)),
-        _ => None,
-    }
 }
 
 impl Callers<u64> {
@@ -207,14 +155,17 @@ impl Callers<u64> {
         let at = self.vector.at(&mut self.b, place, None).ok()?;
         Some(*at.value)
     }
+}
 
-    // The size that a place is not below.
-    pub(super) fn out_of_range(&mut self, place: u64) -> Option<u64> {
-        match self.vector.at(&mut self.b, place, None) {
-            Err(AtError::OutOfRange { size }) => Some(size),
-            _ => None,
-        }
+// A `Vec` of n values, each made of its number, if there is memory for them.
+pub(super) fn list_of<T: Drop, F: Fn(u64) -> T>(alloc: Global, n: u64, make: F) -> Option<Vec<T>>
+    requires { F.IsAlwaysCallable make }
+{
+    let mut made = Vec::with_capacity(alloc, n as usize).ok()?;
+    for number in 0..n {
+        made.push(make(number)).ok()?;
     }
+    Some(made)
 }
 
 // The values in a `Vec`.

@@ -1,5 +1,5 @@
 // Values that count their drops.
-use super::callers::{Callers, full};
+use super::callers::{Callers, list_of};
 use grow_core::{GrowError, Hand};
 use seg_core::Layout;
 use std::alloc::{AllocGlobal, Global};
@@ -15,32 +15,27 @@ impl Drop for Counted<'_> {
     }
 }
 
-// Appends three values.
-fn push_three<'a>(two: &mut Callers<Counted<'a>>, drops: &'a AtomicU64, alloc: Global) -> bool {
-    let Ok(others) = vec![in alloc; Counted(drops), Counted(drops)] else {
-        return false;
-    };
-    two.push_a(Counted(drops)).is_some() && two.grow_b(others).is_some()
+// Values that count their drops.
+fn many_counted<'a>(alloc: Global, drops: &'a AtomicU64, n: u64) -> Option<Vec<Counted<'a>>> {
+    list_of(alloc, n, |_number| Counted(drops))
 }
 
-// How many of three values were dropped before the vector is closed, and the length that it then has.
-fn close_three<'a>(
-    mut two: Callers<Counted<'a>>,
-    drops: &'a AtomicU64,
-    alloc: Global,
-) -> Option<(u64, u64)> {
-    if !push_three(&mut two, drops, alloc) {
-        return None;
-    }
-    let before = drops.load(Ordering::SeqCst);
-    Some((before, two.end()?))
+// Appends three values. None is dropped.
+fn push_three<'a>(two: &mut Callers<Counted<'a>>, drops: &'a AtomicU64, alloc: Global) -> bool {
+    let placed = two.push_a(Counted(drops));
+    let is_grown = match many_counted(alloc, drops, 2) {
+        Some(others) => two.vector.try_grow_vec(&mut two.b, others).is_ok(),
+        None => false,
+    };
+    placed.is_some() && is_grown && drops.load(Ordering::SeqCst) == 0
 }
 
 #[test]
 fn a_closed_vector_drops_each_value_once(rt: HostRuntime) {
     let drops = AtomicU64::new(0);
-    let ended = close_three(Callers::new(&rt, 4), &drops, rt.alloc());
-    assert!(rt; ended == Some((0, 3)) && drops.load(Ordering::SeqCst) == 3);
+    let mut two = Callers::new(&rt, 4);
+    assert!(rt; push_three(&mut two, &drops, rt.alloc()));
+    assert!(rt; two.end() == Some(3) && drops.load(Ordering::SeqCst) == 3);
 }
 
 // Drops a hand and the vector, and leaves the other hand.
@@ -64,9 +59,9 @@ fn a_vector_with_a_lost_hand_drops_each_value_once(rt: HostRuntime) {
 // Tests whether a second value comes back, and how many were dropped then, and once it was dropped too.
 fn drop_refused<'a>(two: &mut Callers<Counted<'a>>, drops: &'a AtomicU64) -> (bool, u64, u64) {
     let _first = two.push_a(Counted(drops));
-    let refused = two.refused_push(Counted(drops));
+    let refused = two.vector.try_push_back(&mut two.a, Counted(drops));
     let before = drops.load(Ordering::SeqCst);
-    let is_back = refused.is_some();
+    let is_back = matches!(&refused, Err(GrowError::Full { .. }));
     drop(refused);
     (is_back, before, drops.load(Ordering::SeqCst))
 }
@@ -78,13 +73,14 @@ fn a_value_that_comes_back_is_not_dropped(rt: HostRuntime) {
     assert!(rt; drop_refused(&mut two, &drops) == (true, 0, 1));
 }
 
-// Values that count their drops.
-fn many_counted<'a>(alloc: Global, drops: &'a AtomicU64, n: u64) -> Option<Vec<Counted<'a>>> {
-    let mut made = Vec::with_capacity(alloc, n as usize).ok()?;
-    for _value in 0..n {
-        made.push(Counted(drops)).ok()?;
+// What a full vector gives back.
+fn given_back<P: Drop, T: Drop, V: Drop, E: Drop>(
+    answer: Result<P, GrowError<T, V, E>>,
+) -> Option<V> {
+    match answer {
+        Err(GrowError::Full { size: _size, back }) => Some(back),
+        _ => None,
     }
-    Some(made)
 }
 
 // Tests whether n values are appended without tokens and without any drop. If a growth finds no room, its
@@ -95,41 +91,52 @@ fn appends_counted<'a, R: AllocGlobal + Wait>(
     drops: &'a AtomicU64,
     n: u64,
 ) -> bool {
-    let (Some(values), Some(others)) = (
-        many_counted(rt.alloc(), drops, n),
-        many_counted(rt.alloc(), drops, n),
-    ) else {
-        return false;
+    let is_appended = match many_counted(rt.alloc(), drops, n) {
+        Some(values) => two.vector.append(rt, &mut two.a, values).is_ok(),
+        None => false,
     };
-    let is_appended = two.vector.append(rt, &mut two.a, values).is_ok();
-    let back = match full(two.vector.append(rt, &mut two.b, others)) {
-        Some((_size, back)) => back.len() as u64,
-        None => 0,
+    let back = match many_counted(rt.alloc(), drops, n) {
+        Some(others) => given_back(two.vector.append(rt, &mut two.b, others)),
+        None => None,
     };
-    is_appended && back == n && drops.load(Ordering::SeqCst) == n
+    let are_back = match back {
+        Some(back) => back.len() as u64 == n,
+        None => false,
+    };
+    is_appended && are_back && drops.load(Ordering::SeqCst) == n
 }
 
 // How many values were dropped before the closed list is, by n that came back and n that were appended,
 // and after it.
-fn drops_at_close<R: AllocGlobal + Wait>(rt: &R, f: u32, n: u64) -> Option<(u64, u64)> {
+fn drops_at_close<R: AllocGlobal + Wait>(
+    rt: &R,
+    f: u32,
+    n: u64,
+    drops: &AtomicU64,
+) -> Option<(u64, u64)> {
     if n == 0 || n > 1_000 {
         return None;
     }
-    let drops = AtomicU64::new(0);
     let mut two = Callers::try_new_in(rt.alloc(), Layout::new(f)?, n).ok()?;
-    if !appends_counted(rt, &mut two, &drops, n) {
-        return None;
-    }
+    let is_appended = appends_counted(rt, &mut two, drops, n);
     let parts = two.close()?;
     let before = drops.load(Ordering::SeqCst);
     drop(parts);
-    Some((before, drops.load(Ordering::SeqCst)))
+    if is_appended {
+        Some((before, drops.load(Ordering::SeqCst)))
+    } else {
+        None
+    }
 }
 
 #[test]
 fn values_without_tokens_are_dropped_once_in_each_layout(rt: HostRuntime) {
     for (f, n) in [(1u32, 14u64), (3, 30), (8, 1_000)].as_slice() {
-        assert!(rt; drops_at_close(&rt, *f, *n) == Some((*n, 2 * *n)), "{f}");
+        let drops = AtomicU64::new(0);
+        assert!(rt;
+            drops_at_close(&rt, *f, *n, &drops) == Some((*n, 2 * *n)),
+            "{f}"
+        );
     }
 }
 

@@ -2,6 +2,8 @@
 ghost use Rattle.grow_core.specs.Vector.{IsHandOf};
 
 use super::callers::empty;
+use super::steps::Reply::Is;
+use super::steps::read;
 use grow_core::{Hand, Shared};
 use std::alloc::AllocGlobal;
 use std::process::Abort;
@@ -77,13 +79,6 @@ fn push_each<R: Abort>(
     seats
 }
 
-// The sum of the values at the first two places.
-fn sum_of_two(seat: &mut Seat) -> Option<u64> {
-    let first = *seat.vector.at(&mut seat.hand, 0, None).ok()?.value;
-    let second = *seat.vector.at(&mut seat.hand, 1, None).ok()?.value;
-    first.checked_add(second)
-}
-
 // The seats of both threads at all vectors.
 fn all_seats<R: AllocGlobal>(rt: &R) -> Option<(Vec<Seat>, Vec<Seat>)> {
     let mut a = Vec::with_capacity(rt.alloc(), VECTORS as usize).ok()?;
@@ -110,7 +105,9 @@ fn push_by_both<R: Threads + Abort + Sync>(rt: &R, a: Vec<Seat>, b: Vec<Seat>) -
 // Tests whether both values are on each vector.
 fn have_both(seats: &mut [Seat]) -> bool {
     for seat in seats {
-        if sum_of_two(seat) != Some(11) {
+        let first = read(&seat.vector, &mut seat.hand, 0);
+        let second = read(&seat.vector, &mut seat.hand, 1);
+        if (first, second) != (Is(5), Is(6)) && (first, second) != (Is(6), Is(5)) {
             return false;
         }
     }

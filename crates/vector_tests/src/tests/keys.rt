@@ -1,33 +1,37 @@
 // What a whole hand's keys are for: each place that was claimed is found, by whichever hand it was claimed.
-ghost use Rattle.grow_core.specs.Vector.{IsHandOf};
+use super::callers::Callers;
+use super::steps::Call::{Read, TryGrow, TryPush};
+use super::steps::Reply::{At, Is, OutOfRange, Ran};
+use super::steps::Step::{A, B};
+use super::steps::{Call, Reply, Step};
 
-use super::callers::{Callers, list};
-use grow_core::{Hand, Shared};
+const BY_BOTH: [(Step, Reply); 2] = [
+    (A(TryPush(5)), At(0)),
+    (B(TryGrow(&[6, 7, 8, 9])), Ran(1, 4)),
+];
 
-// How many of the first places have a value.
-fn count_filled(vector: &Shared<u64>, hand: &mut Hand<u64>) -> u64
-    requires ours { IsHandOf vector.now hand.old }
-{
-    let mut filled: u64 = 0;
-    for place in 0..16u64 {
-        if vector.at(hand, place, None).is_ok() {
-            filled = filled.wrapping_add(1);
-        }
-    }
-    filled
-}
-
-// The same once both hands are one.
-fn count_joined(two: Callers<u64>) -> u64 {
-    let Callers { vector, mut a, b } = two;
-    vector.join(&mut a, b);
-    count_filled(&vector, &mut a)
-}
+const EACH_PLACE: [(Call, Reply); 16] = [
+    (Read(0), Is(5)),
+    (Read(1), Is(6)),
+    (Read(2), Is(7)),
+    (Read(3), Is(8)),
+    (Read(4), Is(9)),
+    (Read(5), OutOfRange(5)),
+    (Read(6), OutOfRange(5)),
+    (Read(7), OutOfRange(5)),
+    (Read(8), OutOfRange(5)),
+    (Read(9), OutOfRange(5)),
+    (Read(10), OutOfRange(5)),
+    (Read(11), OutOfRange(5)),
+    (Read(12), OutOfRange(5)),
+    (Read(13), OutOfRange(5)),
+    (Read(14), OutOfRange(5)),
+    (Read(15), OutOfRange(5)),
+];
 
 #[test]
 fn a_joined_hand_finds_each_place(rt: HostRuntime) {
     let mut two = Callers::new(&rt, 16);
-    let _first = two.push_a(5);
-    let _others = two.grow_b(list(&rt, &[6, 7, 8, 9]));
-    assert_eq!(rt; count_joined(two), 5);
+    assert_eq!(rt; two.first_wrong(&rt, &BY_BOTH), None);
+    assert_eq!(rt; two.joined().first_wrong(&rt, &EACH_PLACE), None);
 }

@@ -1,79 +1,62 @@
 // Lives of vectors whose first segment has from 2 to 256 places.
-use super::callers::{Callers, on_two_in};
-use super::lives::{Life, is_broken, live, read};
-use super::made;
-use super::parts::{append, member, room, shows};
-use super::ways::look_at;
-use grow_core::{GrowError, Parts, Shown};
+use super::callers::Callers;
+use super::edits::Edit::{Append, Get, Room, Sizes};
+use super::edits::Found::{Capacity, Done, Member};
+use super::edits::{Found, edited};
+use super::lives::{Life, Story, has_lives};
+use super::parts::{append, member, room};
+use super::steps::Call::{Clones, Mend, Read, TryPush};
+use super::steps::Reply::{At, Broken, Is, OutOfRange, Ran};
+use super::steps::Step::{B, Look};
+use super::steps::{Call, Reply, by_hand};
+use grow_core::{GrowError, Parts};
 use seg_core::Layout;
-use std::alloc::{AllocGlobal, Global};
+use std::alloc::AllocGlobal;
 use std::sync::Wait;
 
-// A list of the layout with one member, which is broken.
-fn one_broken(alloc: Global, layout: Layout) -> Option<Parts<u64>> {
-    let mut parts = Parts::new_in(alloc, layout, 1_000);
-    let has_room = room(&mut parts, 1).ok()?;
-    if has_room && append(&mut parts, None) {
-        Some(parts)
-    } else {
-        None
-    }
-}
-
-// Tests whether places 1 to 301 are appended, and place 0 is mended.
-fn appends_and_mends<R: Wait>(rt: &R, life: &mut Life<u64>) -> bool {
-    life.push(5) == Some(1) && life.grow_by(rt, 300, &7) && life.mend(0, 9)
-}
-
-// Tests whether they have their values, on either side of the end of a segment too.
-fn reads_them(life: &mut Life<u64>) -> bool {
-    read(life, 0) == Some(9)
-        && read(life, 1) == Some(5)
-        && read(life, 255) == Some(7)
-        && read(life, 256) == Some(7)
-        && read(life, 301) == Some(7)
-        && read(life, 302) == None
-}
-
-// Tests whether the closed list has them, and the capacity of the layout's segments.
-fn has_them(parts: &Parts<u64>, layout: Layout) -> bool {
-    parts.layout() == layout
-        && (parts.len(), parts.capacity()) == (302, layout.capacity_for(302))
-        && member(parts, 0) == Some(Some(9))
-        && member(parts, 1) == Some(Some(5))
-        && member(parts, 301) == Some(Some(7))
-}
-
-// Tests whether a vector whose first segment has 2^f places does so.
-fn lives_in<R: AllocGlobal + Wait>(rt: &R, f: u32) -> bool {
-    let Some(layout) = Layout::new(f) else {
-        return false;
-    };
-    let closed = live(
-        one_broken(rt.alloc(), layout),
-        |life| appends_and_mends(rt, life) && reads_them(life),
-    );
-    match closed {
-        Some(parts) => has_them(&parts, layout),
-        None => false,
-    }
-}
+// Places 1 to 301 are appended, and place 0 is mended. Places 255 and 256 are on either side of the end of a
+// segment.
+const MENDED: [Story; 1] = [(
+    &[
+        (TryPush(5), At(1)),
+        (Clones(300, 7), Ran(2, 300)),
+        (Mend(0, 9), At(0)),
+        (Read(0), Is(9)),
+        (Read(1), Is(5)),
+        (Read(255), Is(7)),
+        (Read(256), Is(7)),
+        (Read(301), Is(7)),
+        (Read(302), OutOfRange(302)),
+    ],
+    &[
+        (Sizes, Found::Sizes(302, 1_000, 512)),
+        (Get(0), Member(Some(9))),
+        (Get(1), Member(Some(5))),
+        (Get(301), Member(Some(7))),
+    ],
+)];
 
 #[test]
 fn a_vector_of_each_layout_is_grown_mended_and_closed(rt: HostRuntime) {
     for f in 1..9u32 {
-        assert!(rt; lives_in(&rt, f), "{f}");
+        let edits = [(Room(1), Capacity(1 << f)), (Append(None), Done)];
+        assert!(rt; has_lives(&rt, f, 1_000, &edits, &MENDED), "{f}");
     }
 }
 
 // How many of the places from one on show that they are broken: to a look, and to a hand.
-fn count_broken(two: &mut Callers<u64>, from: u64, end: u64) -> (u64, u64) {
+fn count_broken<R: AllocGlobal + Wait>(
+    rt: &R,
+    two: &mut Callers<u64>,
+    from: u64,
+    end: u64,
+) -> (u64, u64) {
     let (mut looks, mut hands) = (0u64, 0u64);
     for place in from..end {
-        if matches!(two.vector.look(place), Shown::Broken(_)) {
+        if two.take(rt, Look(place)) == Broken {
             looks = looks.wrapping_add(1);
         }
-        if made::is_broken(two, place) {
+        if two.take(rt, B(Read(place))) == Broken {
             hands = hands.wrapping_add(1);
         }
     }
@@ -90,10 +73,11 @@ fn is_refused(two: &mut Callers<u64>, n: u64, at: u64) -> bool {
 }
 
 // Tests whether each place from one on is mended with its number, and shows it.
-fn mends_each(two: &mut Callers<u64>, from: u64, end: u64) -> bool {
+fn mends_each<R: AllocGlobal + Wait>(rt: &R, two: &mut Callers<u64>, from: u64, end: u64) -> bool {
     for place in from..end {
-        let is_mended = two.vector.mend(&mut two.b, place, place).is_ok();
-        if !is_mended || look_at(&two.vector, place) != Some(place) {
+        if two.take(rt, B(Mend(place, place))) != At(place)
+            || two.take(rt, Look(place)) != Is(place)
+        {
             return false;
         }
     }
@@ -101,13 +85,24 @@ fn mends_each(two: &mut Callers<u64>, from: u64, end: u64) -> bool {
 }
 
 // Tests whether a refused construction of n places breaks those from one on, and all but the last are mended.
-fn breaks_and_mends(two: &mut Callers<u64>, n: u64, at: u64) -> bool {
-    let broken = n.wrapping_sub(at);
+fn breaks_and_mends_on<R: AllocGlobal + Wait>(
+    rt: &R,
+    two: &mut Callers<u64>,
+    n: u64,
+    at: u64,
+) -> bool {
+    let (made, broken) = (at.wrapping_sub(1), n.wrapping_sub(at));
     is_refused(two, n, at)
-        && look_at(&two.vector, at.wrapping_sub(1)) == Some(at.wrapping_sub(1))
-        && count_broken(two, at, n) == (broken, broken)
-        && mends_each(two, at, n.wrapping_sub(1))
-        && count_broken(two, 0, n) == (1, 1)
+        && two.take(rt, Look(made)) == Is(made)
+        && count_broken(rt, two, at, n) == (broken, broken)
+        && mends_each(rt, two, at, n.wrapping_sub(1))
+        && count_broken(rt, two, 0, n) == (1, 1)
+}
+
+// The same on a vector whose first segment has 2^f places.
+fn breaks_and_mends<R: AllocGlobal + Wait>(rt: &R, f: u32, n: u64, at: u64) -> Option<bool> {
+    let mut two = Callers::try_new_in(rt.alloc(), Layout::new(f)?, 1_001).ok()?;
+    Some(breaks_and_mends_on(rt, &mut two, n, at))
 }
 
 // The first segment's exponent, the number of places of a construction, over three segments, and the one that
@@ -123,8 +118,10 @@ const BROKEN: [(u32, u64, u64); 5] = [
 #[test]
 fn a_refused_construction_breaks_its_places_in_each_layout_and_each_is_mended(rt: HostRuntime) {
     for (f, n, at) in BROKEN.as_slice() {
-        let steps = |two: &mut Callers<u64>| -> bool { breaks_and_mends(two, *n, *at) };
-        assert!(rt; on_two_in(&rt, *f, 1_001, steps), "{f} {n} {at}");
+        assert!(rt;
+            breaks_and_mends(&rt, *f, *n, *at) == Some(true),
+            "{f} {n} {at}"
+        );
     }
 }
 
@@ -136,34 +133,36 @@ fn member_of(place: u64) -> Option<u64> {
     if place % 7 == 3 { None } else { Some(place) }
 }
 
-// A list of members, each seventh of them broken.
-fn many_members(alloc: Global, f: u32) -> Option<Parts<u64>> {
-    let mut parts = Parts::new_in(alloc, Layout::new(f)?, 2_000);
-    let _has_room = room(&mut parts, MEMBERS).ok()?;
+// Tests whether members are appended to a list, each seventh of them broken.
+fn appends_many(parts: &mut Parts<u64>) -> bool {
     for place in 0..MEMBERS {
-        if !append(&mut parts, member_of(place)) {
-            return None;
-        }
-    }
-    Some(parts)
-}
-
-// Tests whether each member is read, two more are appended, and two broken ones mended.
-fn reads_all_and_goes_on(life: &mut Life<u64>) -> bool {
-    for place in 0..MEMBERS {
-        let is_as_it_was = match member_of(place) {
-            Some(value) => read(life, place) == Some(value),
-            None => is_broken(life, place),
-        };
-        if !is_as_it_was {
+        if !append(parts, member_of(place)) {
             return false;
         }
     }
-    life.push(5) == Some(MEMBERS)
-        && life.push(6) == Some(MEMBERS + 1)
-        && life.mend(3, 9)
-        && life.mend(997, 9)
+    true
 }
+
+// Tests whether a vector of the list shows each member, and is then pushed to, and two broken members mended.
+fn reads_all_and_goes_on<R: AllocGlobal + Wait>(rt: &R, life: &mut Life<u64>) -> bool {
+    for place in 0..MEMBERS {
+        let wanted = match member_of(place) {
+            Some(value) => Is(value),
+            None => Broken,
+        };
+        if by_hand(rt, &life.vector, &mut life.hand, Read(place)) != wanted {
+            return false;
+        }
+    }
+    life.first_wrong(rt, &GOES_ON) == None
+}
+
+const GOES_ON: [(Call, Reply); 4] = [
+    (TryPush(5), At(MEMBERS)),
+    (TryPush(6), At(MEMBERS + 1)),
+    (Mend(3, 9), At(3)),
+    (Mend(997, 9), At(997)),
+];
 
 // Tests whether the closed list has the members still, and what was appended and mended.
 fn has_all(parts: &Parts<u64>) -> bool {
@@ -178,10 +177,18 @@ fn has_all(parts: &Parts<u64>) -> bool {
         && parts.len() == MEMBERS + 2
 }
 
+// Tests whether a vector whose first segment has 2^f places does so.
+fn lives_with_many<R: AllocGlobal + Wait>(rt: &R, f: u32) -> Option<bool> {
+    let mut parts = edited(rt.alloc(), f, 2_000, &[])?;
+    let is_made = room(&mut parts, MEMBERS) == Ok(true) && appends_many(&mut parts);
+    let mut life = Life::open(parts)?;
+    let is_read = reads_all_and_goes_on(rt, &mut life);
+    Some(is_made && is_read && has_all(&life.close()?))
+}
+
 #[test]
 fn a_list_of_a_thousand_members_is_opened_in_each_layout(rt: HostRuntime) {
     for f in [1u32, 3, 8].as_slice() {
-        let parts = live(many_members(rt.alloc(), *f), reads_all_and_goes_on);
-        assert!(rt; shows(parts, has_all), "{f}");
+        assert!(rt; lives_with_many(&rt, *f) == Some(true), "{f}");
     }
 }

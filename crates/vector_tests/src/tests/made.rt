@@ -3,120 +3,68 @@ ghost use Rattle.std.specs.Prelude.{◌≡◌, ◌+◌, ◌≤◌, All, IfSome};
 ghost use Rattle.grow_core.specs.Vector.{IsHandOf};
 ghost use Rattle.grow_core.specs.Grown.{IsGrownOf, values_of};
 
-use super::callers::{Callers, full, on_two, place_of};
-use super::parts::{has_members, member, shows};
-use super::race::look;
-use grow_core::{AtError, AtLeast, GrowError, Grown, Hand, MendError, Never, Parts, Run, Shared};
+use super::callers::{Callers, on_two, place_of};
+use super::edits::Edit::{Members, Sizes};
+use super::edits::Found::Done;
+use super::edits::{Edit, Found, ends_as};
+use super::steps::Call::{Make, Push, Read, TryPush};
+use super::steps::Reply::{At, Broken, Enough, Full, Is, Pending, Ran, Refused};
+use super::steps::Step::{A, B};
+use super::steps::{Form, NONE, Reply, Step, closed_after, first_wrong, mend, read};
+use grow_core::{GrowError, Grown, Hand, Never, Run, Shared};
 use std::alloc::{AllocError, AllocGlobal};
 use std::process::Abort;
-use std::sync::Wait;
 use std::sync::atomic::{AtomicU64, Ordering};
 
-// Grows by three sevens, refused at number `at` for the cause 9: the run, how many were made, and why it
-// ended.
-pub(super) fn grow_refused(two: &mut Callers<u64>, at: u64) -> Option<(Run, u64, u64)> {
-    let make = |i: u64| -> Result<u64, u64> { if i == at { Err(9) } else { Ok(7) } };
-    match two.vector.try_grow_with(&mut two.a, 3, make) {
-        Err(GrowError::Refused { run, made, cause }) => Some((run, made.run().n, cause)),
-        _ => None,
-    }
-}
-
-// How many of the first three places of the closed list have a seven, if all after those are broken.
-fn sevens(two: Callers<u64>) -> Option<u64> {
-    let parts = two.close()?;
-    let mut made = 0u64;
-    for place in 0..3u64 {
-        match member(&parts, place) {
-            Some(Some(7)) if made == place => made = place + 1,
-            Some(None) => {}
-            _ => return None,
-        }
-    }
-    Some(made)
-}
-
-// Tests whether the next value is behind a broken run.
-fn breaks_three(two: &mut Callers<u64>, at: u64) -> bool {
-    grow_refused(two, at) == Some((Run { from: 0, n: 3 }, at, 9))
-        && two.push_a(5) == Some(3)
-        && two.at_b(3) == Some(5)
-}
-
-// How many sevens the closed list has then.
-fn sevens_after(mut two: Callers<u64>, at: u64) -> Option<u64> {
-    if breaks_three(&mut two, at) {
-        sevens(two)
-    } else {
-        None
-    }
-}
+// The number that a maker of three values refuses, and what is left of a run in the closed list.
+const REFUSED: [(u64, [(Edit, Found); 1]); 3] = [
+    (0, [(Members(&[None, None, None, Some(5)]), Done)]),
+    (1, [(Members(&[Some(7), None, None, Some(5)]), Done)]),
+    (2, [(Members(&[Some(7), Some(7), None, Some(5)]), Done)]),
+];
 
 #[test]
 fn a_refused_construction_breaks_its_own_places_alone(rt: HostRuntime) {
-    for at in 0..3u64 {
-        assert!(rt; sevens_after(Callers::new(&rt, 8), at) == Some(at), "{at}");
+    for (at, left) in REFUSED.as_slice() {
+        let steps = [
+            (A(Make(Form::Try, 3, *at)), Refused(0, 3, *at)),
+            (A(TryPush(5)), At(3)),
+            (B(Read(3)), Is(5)),
+        ];
+        assert!(rt; ends_as(closed_after(&rt, 8, &steps), left), "{at}");
     }
 }
 
-// Tests whether a look without a token shows a broken place.
-pub(super) fn is_broken(two: &mut Callers<u64>, place: u64) -> bool {
-    matches!(
-        two.vector.at(&mut two.b, place, None),
-        Err(AtError::Broken(_))
-    )
-}
+// Another caller looks at a broken place.
+const BREAKS: [(Step, Reply); 2] = [
+    (A(Make(Form::Try, 3, 1)), Refused(0, 3, 1)),
+    (B(Read(2)), Broken),
+];
 
-// The list that is closed after a refused construction, which another caller has looked at.
-fn closed_broken(mut two: Callers<u64>) -> Option<Parts<u64>> {
-    let refused = grow_refused(&mut two, 1);
-    if refused == Some((Run { from: 0, n: 3 }, 1, 9)) && is_broken(&mut two, 2) {
-        two.close()
-    } else {
-        None
-    }
-}
-
-fn has_two_broken(parts: &Parts<u64>) -> bool {
-    parts.capacity() == 4 && has_members(parts, &[Some(7), None, None])
-}
+const TWO_BROKEN: [(Edit, Found); 2] = [
+    (Sizes, Found::Sizes(3, 8, 4)),
+    (Members(&[Some(7), None, None]), Done),
+];
 
 #[test]
 fn broken_places_are_broken_in_the_closed_list(rt: HostRuntime) {
-    assert!(rt; shows(closed_broken(Callers::new(&rt, 8)), has_two_broken));
+    assert!(rt; ends_as(closed_after(&rt, 8, &BREAKS), &TWO_BROKEN));
 }
 
-// What comes of a growth of sevens up to a size: a run, or the size that was large enough.
-fn grow_up_to(two: &mut Callers<u64>, size: u64) -> Option<Result<Run, u64>> {
-    let make = |_: u64| -> Result<u64, Never> { Ok(7) };
-    match two.vector.grow_to_at_least(&mut two.a, size, make) {
-        Ok(AtLeast::Ran(grown)) => Some(Ok(grown.run())),
-        Ok(AtLeast::Enough { size }) => Some(Err(size)),
-        Err(_refused) => None,
-    }
-}
-
-// The size that a growth up to a size reports if it finds no room.
-fn full_up_to(two: &mut Callers<u64>, size: u64) -> Option<u64> {
-    let make = |_: u64| -> Result<u64, Never> { Ok(7) };
-    let (size, ()) = full(two.vector.grow_to_at_least(&mut two.a, size, make))?;
-    Some(size)
-}
-
-fn grows_to_sizes<R: Wait>(rt: &R, two: &mut Callers<u64>) -> bool {
-    two.push_waiting(rt, 4) == Some(0)
-        && grow_up_to(two, 3) == Some(Ok(Run { from: 1, n: 2 }))
-        && grow_up_to(two, 3) == Some(Err(3))
-        && full_up_to(two, 9) == Some(3)
-        && two.push_b(5) == Some(3)
-        && grow_up_to(two, 2) == Some(Err(4))
-        && grow_up_to(two, 8) == Some(Ok(Run { from: 4, n: 4 }))
-        && two.at_b(7) == Some(7)
-}
+const TO_SIZES: [(Step, Reply); 8] = [
+    (A(Push(4)), At(0)),
+    (A(Make(Form::UpTo, 3, NONE)), Ran(1, 2)),
+    (A(Make(Form::UpTo, 3, NONE)), Enough(3)),
+    (A(Make(Form::UpTo, 9, NONE)), Full(3)),
+    (B(TryPush(5)), At(3)),
+    (A(Make(Form::UpTo, 2, NONE)), Enough(4)),
+    (A(Make(Form::UpTo, 8, NONE)), Ran(4, 4)),
+    (B(Read(7)), Is(7)),
+];
 
 #[test]
 fn a_growth_up_to_a_size_appends_what_is_missing(rt: HostRuntime) {
-    assert!(rt; on_two(&rt, 8, |two| grows_to_sizes(&rt, two)));
+    assert_eq!(rt; first_wrong(&rt, 8, &TO_SIZES), None);
 }
 
 // A value whose clones find memory only a given number of times.
@@ -149,17 +97,19 @@ fn clones<'a>(two: &mut Callers<Scarce<'a>>, value: &Scarce<'a>) -> Option<u64> 
     }
 }
 
-// Tests whether `made` clones were made, and all four places were claimed.
-fn makes_clones<'a>(two: &mut Callers<Scarce<'a>>, value: &Scarce<'a>, made: u64) -> bool {
-    clones(two, value) == Some(made) && two.size_b() == 4
+// The number of clones made of four if only some find memory, and the size after it.
+fn clones_with<R: AllocGlobal + Abort>(rt: &R, memory: u64) -> (Option<u64>, u64) {
+    let left = AtomicU64::new(memory);
+    let mut two = Callers::new(rt, 8);
+    let made = clones(&mut two, &Scarce(&left));
+    (made, two.size_b())
 }
 
+// All four places were claimed.
 #[test]
 fn a_clone_without_memory_is_a_refused_construction(rt: HostRuntime) {
     for memory in 0..5u64 {
-        let left = AtomicU64::new(memory);
-        let mut two = Callers::new(&rt, 8);
-        assert!(rt; makes_clones(&mut two, &Scarce(&left), memory), "{memory}");
+        assert!(rt; clones_with(&rt, memory) == (Some(memory), 4), "{memory}");
     }
 }
 
@@ -172,103 +122,90 @@ struct Other<'a> {
 }
 
 impl Other<'_> {
-    fn look(&mut self, place: u64) -> Option<u64> {
-        let at = self.vector.at(&mut self.hand, place, None).ok()?;
-        Some(*at.value)
-    }
-
-    // Tests whether a place was claimed, and is not filled yet.
-    fn is_pending(&mut self, place: u64) -> bool {
-        matches!(
-            self.vector.at(&mut self.hand, place, None),
-            Err(AtError::Pending)
-        )
+    fn read(&mut self, place: u64) -> Reply {
+        read(self.vector, &mut self.hand, place)
     }
 
     fn push(&mut self, value: u64) -> Option<u64> {
         place_of(self.vector.try_push_back(&mut self.hand, value))
     }
 
-    // Tests whether a mend is refused since the place is pending, and gives the value back.
-    fn mends_nothing(&mut self, place: u64, value: u64) -> bool {
-        match self.vector.mend(&mut self.hand, place, value) {
-            Err((MendError::Pending, back)) => back == value,
-            _ => false,
+    fn mend(&mut self, place: u64, value: u64) -> Reply {
+        mend(self.vector, &mut self.hand, place, value)
+    }
+
+    // A value for the maker of a run: its own place is pending, and what is appended besides comes after the
+    // run. The sum of the value before and of that place.
+    fn append_beside(&mut self, i: u64) -> u64 {
+        let before = match i.checked_sub(1) {
+            Some(last) => self.read(last),
+            None => Is(6),
+        };
+        if self.read(i) != Pending {
+            return 0;
+        }
+        match (before, self.push(100 + i.min(8))) {
+            (Is(value), Some(place)) => value.wrapping_add(place),
+            _ => 0,
         }
     }
-}
 
-// The run of a growth whose maker looks at the place that it made before, and appends besides its own, which
-// is pending.
-fn grow_beside(vector: &Shared<u64>, hand: &mut Hand<u64>, mut other: Other<'_>) -> Option<Run>
-    requires ours { IsHandOf vector.now hand.old }
-    ensures of { hand.new.of ≡ hand.old.of }
-{
-    let make = |i: u64| -> Result<u64, Never> {
-        let before = if i == 0 { Some(6) } else { other.look(i - 1) };
-        let pushed = if other.is_pending(i) {
-            other.push(100 + i.min(8))
-        } else {
-            None
-        };
-        Ok(before.unwrap_or(0).wrapping_add(pushed.unwrap_or(0)))
-    };
-    match vector.try_grow_with(hand, 3, make) {
-        Ok(grown) => Some(grown.run()),
-        Err(_refused) => None,
+    // Tests whether a run's places from one on are pending to a mend, which gives the value back.
+    fn mends_nothing(&mut self, i: u64) -> bool {
+        for place in i..3 {
+            if self.mend(place, 90) != Pending {
+                return false;
+            }
+        }
+        true
     }
 }
 
-// Such a run, and the value at its last place.
-fn grow_and_call(two: Callers<u64>) -> (Option<Run>, Option<u64>) {
-    let Callers { vector, mut a, b } = two;
-    let other = Other {
-        vector: &vector,
-        hand: b,
-    };
-    let run = grow_beside(&vector, &mut a, other);
-    (run, look(&vector, &mut a, 2))
-}
-
-// The first value is 6 + 3, the place that the maker appended at; then 9 + 4, and 13 + 5.
-#[test]
-fn a_maker_may_look_at_the_vector_and_append_to_it(rt: HostRuntime) {
-    let read = grow_and_call(Callers::new(&rt, 8));
-    assert!(rt; read == (Some(Run { from: 0, n: 3 }), Some(18)));
-}
-
-// The run of a growth whose maker tries to mend its own place and those after it, which are pending.
-fn grow_and_mend(vector: &Shared<u64>, hand: &mut Hand<u64>, mut other: Other<'_>) -> Option<Run>
+// The run of a growth whose maker calls the vector by another hand: it tries to mend, or appends.
+fn grow_beside(
+    vector: &Shared<u64>,
+    hand: &mut Hand<u64>,
+    mut other: Other<'_>,
+    mends: bool,
+) -> Option<Run>
     requires ours { IsHandOf vector.now hand.old }
     ensures of { hand.new.of ≡ hand.old.of }
 {
     let make = |i: u64| -> Result<u64, u64> {
-        for place in i..3 {
-            if !other.mends_nothing(place, 90) {
-                return Err(place);
-            }
+        if !mends {
+            Ok(other.append_beside(i))
+        } else if other.mends_nothing(i) {
+            Ok(i.wrapping_add(70))
+        } else {
+            Err(i)
         }
-        Ok(i.wrapping_add(70))
     };
     let grown = vector.try_grow_with(hand, 3, make).ok()?;
     Some(grown.run())
 }
 
-// Such a run, and the value at its last place.
-fn grow_and_try_to_mend(two: Callers<u64>) -> (Option<Run>, Option<u64>) {
+// Such a run, and what its last place shows.
+fn grow_and_call(two: Callers<u64>, mends: bool) -> (Option<Run>, Reply) {
     let Callers { vector, mut a, b } = two;
     let other = Other {
         vector: &vector,
         hand: b,
     };
-    let run = grow_and_mend(&vector, &mut a, other);
-    (run, look(&vector, &mut a, 2))
+    let run = grow_beside(&vector, &mut a, other, mends);
+    (run, read(&vector, &mut a, 2))
+}
+
+const THREE: Option<Run> = Some(Run { from: 0, n: 3 });
+
+// The first value is 6 + 3, the place that the maker appended at; then 9 + 4, and 13 + 5.
+#[test]
+fn a_maker_may_look_at_the_vector_and_append_to_it(rt: HostRuntime) {
+    assert!(rt; grow_and_call(Callers::new(&rt, 8), false) == (THREE, Is(18)));
 }
 
 #[test]
 fn a_maker_that_mends_its_own_place_finds_it_pending(rt: HostRuntime) {
-    let read = grow_and_try_to_mend(Callers::new(&rt, 8));
-    assert!(rt; read == (Some(Run { from: 0, n: 3 }), Some(72)));
+    assert!(rt; grow_and_call(Callers::new(&rt, 8), true) == (THREE, Is(72)));
 }
 
 // The value at the first place of a run whose places all have the value, if it has a place.
@@ -321,13 +258,8 @@ fn next_after(vector: &Shared<u64>, hand: &mut Hand<u64>) -> Option<(Run, u64)>
     }
 }
 
-// The value that is read, by a fixture's first hand.
-fn clone_of(two: &mut Callers<u64>, value: u64) -> Option<u64> {
-    clone_read(&two.vector, &mut two.a, value)
-}
-
 fn reads_a_clone(two: &mut Callers<u64>) -> bool {
-    clone_of(two, 5) == Some(5)
+    clone_read(&two.vector, &mut two.a, 5) == Some(5)
 }
 
 #[test]
@@ -335,13 +267,8 @@ fn a_clone_is_read_as_the_value(rt: HostRuntime) {
     assert!(rt; on_two(&rt, 8, reads_a_clone));
 }
 
-// What comes after a refused construction, by a fixture's first hand.
-fn next_of(two: &mut Callers<u64>) -> Option<(Run, u64)> {
-    next_after(&two.vector, &mut two.a)
-}
-
 fn goes_on_behind(two: &mut Callers<u64>) -> bool {
-    next_of(two) == Some((Run { from: 0, n: 3 }, 3))
+    next_after(&two.vector, &mut two.a) == Some((Run { from: 0, n: 3 }, 3))
 }
 
 #[test]

@@ -2,175 +2,45 @@
 // was moved in comes back, and the next growth goes on. `tests/refuse-memory` refuses each request in turn, and
 // counts the requests.
 use super::callers::Callers;
-use super::lives::replace;
-use super::parts::{append, member, pop};
-use super::refusals::{fresh_again, list_again};
-use super::ways::look_at;
-use grow_core::{AtLeast, GrowError, Grown, Never, Parts, Run, Shared, Shown};
-use std::alloc::{AllocError, AllocGlobal, Global};
+use super::edits::Edit::{Append, Cut, Get, Members, Pop, Replace};
+use super::edits::Found::{Done, Member, Sizes};
+use super::edits::{Edit, Found, ends_as};
+use super::refusals::fresh_again;
+use super::steps::Call::{Make, Mend};
+use super::steps::Reply::{At, Refused};
+use super::steps::Step::{A, B};
+use super::steps::{Form, Reply, Step};
+use super::ways::{Way, append_again, look_at};
+use grow_core::{GrowError, Run, Shared, Shown};
+use std::alloc::{AllocError, Global};
 use std::sync::Wait;
-use std::sync::atomic::{AtomicU64, Ordering};
 
-// The growths of values that are moved in, with or without tokens, and of values that are made.
-#[derive(Clone, Copy, Debug)]
-enum Growth {
-    TryVec,
-    Vec,
-    Append,
-    TryWith,
-    With,
-    TryBy,
-    By,
-    UpTo,
-}
-
-// What came of a growth.
-#[derive(Clone, Copy, Debug, PartialEq, Eq)]
-enum Outcome {
-    Run(Run),
-    NoMemory,
-    Nothing,
-}
-
-fn outcome_of<E: Drop>(grown: Result<Grown<u64>, GrowError<u64, (), E>>) -> Outcome {
-    match grown {
-        Ok(grown) => Outcome::Run(grown.run()),
-        Err(GrowError::NoMemory { .. }) => Outcome::NoMemory,
-        Err(_other) => Outcome::Nothing,
-    }
-}
-
-fn outcome_up_to(raised: Result<AtLeast<u64>, GrowError<u64, (), Never>>) -> Outcome {
-    match raised {
-        Ok(AtLeast::Ran(grown)) => Outcome::Run(grown.run()),
-        Ok(AtLeast::Enough { .. }) => Outcome::Nothing,
-        Err(error) => outcome_of(Err(error)),
-    }
-}
-
-const VALUES: [u64; 3] = [0, 1, 2];
-
-// The same of values that were moved in, which come back without memory.
-fn outcome_of_values(error: GrowError<u64, Vec<u64>, Never>) -> Outcome {
-    match error {
-        GrowError::NoMemory { back } => {
-            if back.as_slice() == VALUES.as_slice() {
-                Outcome::NoMemory
-            } else {
-                Outcome::Nothing
-            }
-        }
-        _other => Outcome::Nothing,
-    }
-}
-
-// A growth by three values that are moved in.
-fn move_in<R: Wait>(rt: &R, two: &mut Callers<u64>, growth: Growth, values: Vec<u64>) -> Outcome {
-    let grown = match growth {
-        Growth::TryVec => two.vector.try_grow_vec(&mut two.a, values),
-        Growth::Vec => two.vector.grow_vec(rt, &mut two.a, values),
-        _ => {
-            return match two.vector.append(rt, &mut two.a, values) {
-                Ok(run) => Outcome::Run(run),
-                Err(error) => outcome_of_values(error),
-            };
-        }
-    };
-    match grown {
-        Ok(grown) => Outcome::Run(grown.run()),
-        Err(error) => outcome_of_values(error),
-    }
-}
-
-// A growth by three values that are made, or up to `size` places. Makers count how often they are asked.
-fn make<R: Wait>(
-    rt: &R,
-    two: &mut Callers<u64>,
-    growth: Growth,
-    size: u64,
-    asked: &AtomicU64,
-) -> Outcome {
-    let make = |i: u64| -> Result<u64, Never> {
-        asked.fetch_add(1, Ordering::SeqCst);
-        Ok(i)
-    };
-    match growth {
-        Growth::TryWith => outcome_of(two.vector.try_grow_with(&mut two.a, 3, make)),
-        Growth::With => outcome_of(two.vector.grow_with(rt, &mut two.a, 3, make)),
-        Growth::TryBy => outcome_of(two.vector.try_grow_by(&mut two.a, 3, &2)),
-        Growth::By => outcome_of(two.vector.grow_by(rt, &mut two.a, 3, &2)),
-        _ => outcome_up_to(two.vector.grow_to_at_least(&mut two.a, size, make)),
-    }
-}
-
-// What comes of the growth that wins this run, and how often a maker was asked.
-fn grow<R: AllocGlobal + Wait>(
-    rt: &R,
-    two: &mut Callers<u64>,
-    growth: Growth,
-    run: Run,
-) -> (Outcome, u64) {
-    let asked = AtomicU64::new(0);
-    let outcome = match growth {
-        Growth::TryVec | Growth::Vec | Growth::Append => {
-            match list_again(rt.alloc(), VALUES.as_slice()) {
-                Some(values) => move_in(rt, two, growth, values),
-                None => Outcome::Nothing,
-            }
-        }
-        _ => make(rt, two, growth, run.from.wrapping_add(run.n), &asked),
-    };
-    (outcome, asked.load(Ordering::SeqCst))
-}
-
-// Tests whether nothing was claimed or filled from a place on.
-fn is_as_it_was(two: &mut Callers<u64>, from: u64) -> bool {
-    two.a.seen() == from && two.size_b() == from && matches!(two.vector.look(from), Shown::Pending)
-}
-
-// Tests whether a growth wins this run, at the second try if memory was refused to the first.
-fn wins<R: AllocGlobal + Wait>(
-    rt: &R,
-    two: &mut Callers<u64>,
-    growth: Growth,
-    run: Run,
-    asked: u64,
-) -> bool {
-    let mut won = grow(rt, two, growth, run);
-    if won == (Outcome::NoMemory, 0) && is_as_it_was(two, run.from) {
-        won = grow(rt, two, growth, run);
-    }
-    won == (Outcome::Run(run), asked) && look_at(&two.vector, run.from.wrapping_add(2)) == Some(2)
-}
-
-// Tests whether it wins two runs. Each wants a segment that is not there yet.
-fn wins_twice<R: AllocGlobal + Wait>(
-    rt: &R,
-    two: &mut Callers<u64>,
-    growth: Growth,
-    asked: u64,
-) -> bool {
-    wins(rt, two, growth, Run { from: 0, n: 3 }, asked)
-        && wins(rt, two, growth, Run { from: 3, n: 3 }, asked)
-}
-
-// Each growth, and how often its maker is asked.
-const GROWTHS: [(Growth, u64); 8] = [
-    (Growth::TryVec, 0),
-    (Growth::Vec, 0),
-    (Growth::Append, 0),
-    (Growth::TryWith, 3),
-    (Growth::With, 3),
-    (Growth::TryBy, 0),
-    (Growth::By, 0),
-    (Growth::UpTo, 3),
+// Each growth, the first value that it appends, and how often its maker is asked.
+const GROWTHS: [(Way, u64, u64); 8] = [
+    (Way::TryVec, 0, 0),
+    (Way::Vec, 0, 0),
+    (Way::Append, 0, 0),
+    (Way::TryWith, 0, 3),
+    (Way::With, 0, 3),
+    (Way::TryBy, 2, 0),
+    (Way::By, 2, 0),
+    (Way::UpTo, 0, 3),
 ];
 
+// Each of two runs wants a segment that is not there yet.
 #[test]
 fn each_growth_is_tried_again(rt: HostRuntime) {
-    for (growth, asked) in GROWTHS.as_slice() {
+    for (growth, first, asked) in GROWTHS.as_slice() {
         let mut two = fresh_again(&rt, 8);
-        assert!(rt; wins_twice(&rt, &mut two, *growth, *asked), "{growth:?}");
+        for from in [0, 3].as_slice() {
+            let run = Run { from: *from, n: 3 };
+            let won = append_again(&rt, &mut two, growth, run, *first);
+            assert!(rt; won == (Ok(run), *asked), "{growth:?} {from}");
+            assert!(rt;
+                look_at(&two.vector, from.wrapping_add(2)) == Some(2),
+                "{growth:?} {from}"
+            );
+        }
     }
 }
 
@@ -248,43 +118,28 @@ fn a_clone_that_finds_no_memory_breaks_the_places_from_there_on(rt: HostRuntime)
     }
 }
 
-// Tests whether all of three places are broken, at the second try if need be.
-fn breaks_three(two: &mut Callers<u64>) -> bool {
-    let make = |i: u64| -> Result<u64, u64> { Err(i) };
-    match two.vector.try_grow_with(&mut two.a, 3, make) {
-        Err(GrowError::NoMemory { .. }) => {
-            let again = two.vector.try_grow_with(&mut two.a, 3, make);
-            matches!(again, Err(GrowError::Refused { .. }))
-        }
-        first => matches!(first, Err(GrowError::Refused { .. })),
-    }
-}
+const MENDS: [(Step, Reply); 2] = [(B(Mend(2, 6)), At(2)), (B(Mend(0, 5)), At(0))];
 
-fn mends_two(two: &mut Callers<u64>) -> bool {
-    two.vector.mend(&mut two.b, 2, 6).is_ok() && two.vector.mend(&mut two.b, 0, 5).is_ok()
-}
-
-// Tests whether a list of a value, a broken member and a value takes another, mends the broken one, and gives
-// two back.
-fn changes(parts: &mut Parts<u64>) -> bool {
-    let is_so = append(parts, Some(7))
-        && replace(parts, 1, Some(8)) == Some(None)
-        && member(parts, 0) == Some(Some(5))
-        && pop(parts) == Some(Some(7))
-        && pop(parts) == Some(Some(6));
-    parts.cut();
-    is_so && (parts.len(), parts.capacity()) == (2, 2)
-}
+// A list of a value, a broken member and a value takes another, mends the broken one, and gives two back.
+const CHANGES: [(Edit, Found); 7] = [
+    (Append(Some(7)), Done),
+    (Replace(1, Some(8)), Member(None)),
+    (Get(0), Member(Some(5))),
+    (Pop, Member(Some(7))),
+    (Pop, Member(Some(6))),
+    (Cut, Sizes(2, 8, 2)),
+    (Members(&[Some(5), Some(8)]), Done),
+];
 
 // The count of the requests shows that these take no memory: the vector's, and those of its tokens and two
 // segments.
 #[test]
 fn a_mend_a_close_and_changes_of_a_list_take_no_memory(rt: HostRuntime) {
     let mut two = fresh_again(&rt, 8);
-    assert!(rt; breaks_three(&mut two) && mends_two(&mut two));
-    let is_changed = match two.close() {
-        Some(mut parts) => changes(&mut parts),
-        None => false,
-    };
-    assert!(rt; is_changed);
+    let breaks_three = A(Make(Form::Try, 3, 0));
+    let broken = Refused(0, 3, 0);
+    // At the second try, if memory was refused to the first.
+    assert!(rt; two.take(&rt, breaks_three) == broken || two.take(&rt, breaks_three) == broken);
+    assert_eq!(rt; two.first_wrong(&rt, &MENDS), None);
+    assert!(rt; ends_as(two.close(), &CHANGES));
 }

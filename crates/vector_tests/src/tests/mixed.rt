@@ -17,7 +17,7 @@ const CALLS: u64 = 1_000;
 
 // What calls returned: the number of places that they won, the number of these that are broken, and a sum
 // over the others' places and values.
-#[derive(Clone, Copy, PartialEq, Debug)]
+#[derive(Clone, Copy, PartialEq)]
 struct Tally {
     places: u64,
     broken: u64,

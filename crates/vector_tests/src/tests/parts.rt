@@ -1,4 +1,8 @@
+// Lists that an exclusive owner holds.
 use super::drops::Counted;
+use super::edits::Edit::{Append, Cut, Get, Members, Pop, Room, Sizes};
+use super::edits::Found::{Capacity, Done, Member, NotMade};
+use super::edits::{Edit, Found, first_wrong_edit};
 use grow_core::Parts;
 use std::alloc::AllocError;
 use std::sync::atomic::{AtomicU64, Ordering};
@@ -49,92 +53,66 @@ pub(super) fn has_members(parts: &Parts<u64>, members: &[Option<u64>]) -> bool {
     parts.len() == place && member(parts, place) == None
 }
 
-// Tests whether there is a list with this property.
-pub(super) fn shows<T: Drop, F: FnOnce(&Parts<T>) -> bool>(
-    parts: Option<Parts<T>>,
-    is_so: F,
-) -> bool
-    requires { F.IsAlwaysCallable is_so }
-{
-    match parts {
-        Some(parts) => is_so(&parts),
-        None => false,
+// Exchanges a member, if there is one.
+pub(super) fn replace(
+    parts: &mut Parts<u64>,
+    place: u64,
+    value: Option<u64>,
+) -> Option<Option<u64>> {
+    if place >= parts.len() {
+        return None;
     }
+    Some(parts.replace(place, value))
 }
 
-// Tests whether room is made, and the capacity is then this.
-fn has_room(parts: &mut Parts<u64>, n: u64, capacity: u64) -> bool {
-    room(parts, n) == Ok(true) && parts.capacity() == capacity
-}
-
-fn takes_no_member(parts: &mut Parts<u64>) -> bool {
-    (parts.len(), parts.limit(), parts.capacity()) == (0, 8, 0) && !append(parts, Some(1))
-}
-
-fn takes_three_members(parts: &mut Parts<u64>) -> bool {
-    append(parts, Some(10))
-        && append(parts, None)
-        && append(parts, Some(30))
-        && parts.len() == 3
-        && has_members(parts, &[Some(10), None, Some(30)])
-}
-
-fn gives_three_members_back(parts: &mut Parts<u64>) -> bool {
-    pop(parts) == Some(Some(30))
-        && pop(parts) == Some(None)
-        && append(parts, Some(20))
-        && member(parts, 1) == Some(Some(20))
-        && pop(parts) == Some(Some(20))
-        && pop(parts) == Some(Some(10))
-        && pop(parts) == None
-}
+const IN_ORDER: [(Edit, Found); 15] = [
+    (Sizes, Found::Sizes(0, 8, 0)),
+    (Append(Some(1)), NotMade),
+    (Room(5), Capacity(8)),
+    (Append(Some(10)), Done),
+    (Append(None), Done),
+    (Append(Some(30)), Done),
+    (Sizes, Found::Sizes(3, 8, 8)),
+    (Members(&[Some(10), None, Some(30)]), Done),
+    (Pop, Member(Some(30))),
+    (Pop, Member(None)),
+    (Append(Some(20)), Done),
+    (Get(1), Member(Some(20))),
+    (Pop, Member(Some(20))),
+    (Pop, Member(Some(10))),
+    (Pop, NotMade),
+];
 
 #[test]
 fn members_are_in_order(rt: HostRuntime) {
     let mut parts = Parts::new(rt.alloc(), 8);
-    assert!(rt;
-        takes_no_member(&mut parts)
-            && has_room(&mut parts, 5, 8)
-            && takes_three_members(&mut parts)
-            && gives_three_members_back(&mut parts)
-    );
+    assert_eq!(rt; first_wrong_edit(&mut parts, &IN_ORDER), None);
 }
 
-const ROOM: [(u64, u64); 6] = [(0, 0), (1, 2), (3, 4), (2, 4), (5, 8), (17, 32)];
-
-// Tests whether each room has its capacity, and there is none above the limit.
-fn has_room_in_turn(parts: &mut Parts<u64>) -> bool {
-    for (n, capacity) in ROOM.as_slice() {
-        if !has_room(parts, *n, *capacity) {
-            return false;
-        }
-    }
-    room(parts, 101) == Ok(false)
-}
-
-// Tests whether the list has `len` members and this capacity, once it is cut.
-fn is_cut_to(parts: &mut Parts<u64>, len: u64, capacity: u64) -> bool {
-    parts.cut();
-    (parts.len(), parts.capacity()) == (len, capacity)
-}
-
-fn is_cut_as_it_empties(parts: &mut Parts<u64>) -> bool {
-    append(parts, Some(0))
-        && append(parts, Some(1))
-        && append(parts, Some(2))
-        && is_cut_to(parts, 3, 4)
-        && pop(parts) == Some(Some(2))
-        && is_cut_to(parts, 2, 2)
-        && member(parts, 1) == Some(Some(1))
-        && pop(parts) == Some(Some(1))
-        && pop(parts) == Some(Some(0))
-        && is_cut_to(parts, 0, 0)
-}
+const ROOM: [(Edit, Found); 17] = [
+    (Room(0), Capacity(0)),
+    (Room(1), Capacity(2)),
+    (Room(3), Capacity(4)),
+    (Room(2), Capacity(4)),
+    (Room(5), Capacity(8)),
+    (Room(17), Capacity(32)),
+    (Room(101), NotMade),
+    (Append(Some(0)), Done),
+    (Append(Some(1)), Done),
+    (Append(Some(2)), Done),
+    (Cut, Found::Sizes(3, 100, 4)),
+    (Pop, Member(Some(2))),
+    (Cut, Found::Sizes(2, 100, 2)),
+    (Get(1), Member(Some(1))),
+    (Pop, Member(Some(1))),
+    (Pop, Member(Some(0))),
+    (Cut, Found::Sizes(0, 100, 0)),
+];
 
 #[test]
 fn room_is_whole_segments(rt: HostRuntime) {
     let mut parts = Parts::new(rt.alloc(), 100);
-    assert!(rt; has_room_in_turn(&mut parts) && is_cut_as_it_empties(&mut parts));
+    assert_eq!(rt; first_wrong_edit(&mut parts, &ROOM), None);
 }
 
 const MILLION: u64 = 1 << 20;
@@ -213,16 +191,11 @@ fn each_member_is_dropped_once(rt: HostRuntime) {
     assert!(rt; drops.load(Ordering::SeqCst) == 5);
 }
 
-// Tests whether the first room is made, by a second call if memory was refused to the first, which made none.
-fn has_first_room_again(parts: &mut Parts<u64>) -> bool {
-    room(parts, 2).is_ok()
-        || ((parts.len(), parts.capacity()) == (0, 0) && room(parts, 2) == Ok(true))
-}
-
-// Tests whether more room is made, by a second call if memory was refused to the first, which kept the
-// member.
-fn has_more_room_again(parts: &mut Parts<u64>) -> bool {
-    room(parts, 64).is_ok() || (member(parts, 0) == Some(Some(7)) && room(parts, 64) == Ok(true))
+// Tests whether room is made, by a second call if memory was refused to the first, which kept the members and
+// left less room.
+fn has_room_again(parts: &mut Parts<u64>, n: u64, members: &[Option<u64>]) -> bool {
+    room(parts, n).is_ok()
+        || (has_members(parts, members) && parts.capacity() < n && room(parts, n) == Ok(true))
 }
 
 // It passes too if any one allocation is made to fail.
@@ -230,9 +203,9 @@ fn has_more_room_again(parts: &mut Parts<u64>) -> bool {
 fn a_refused_room_keeps_the_members(rt: HostRuntime) {
     let mut parts = Parts::new(rt.alloc(), 64);
     assert!(rt;
-        has_first_room_again(&mut parts)
+        has_room_again(&mut parts, 2, &[])
             && append(&mut parts, Some(7))
-            && has_more_room_again(&mut parts)
+            && has_room_again(&mut parts, 64, &[Some(7)])
             && parts.capacity() == 64
             && member(&parts, 0) == Some(Some(7))
     );

@@ -1,11 +1,16 @@
 // Threads that append and read concurrently.
-ghost use Rattle.std.specs.Prelude.{◌≡◌, ◌+◌, ◌*◌, ◌^◌, ◌<◌};
+ghost use Rattle.std.specs.Prelude.{◌≡◌, ◌<◌};
 ghost use Rattle.std.specs.Thread.{IsSync};
-ghost use Rattle.grow_core.specs.Vector.{IsHandOf, IsPlacedOf};
+ghost use Rattle.grow_core.specs.Vector.{IsHandOf};
 
 use super::callers::{Callers, empty};
-use grow_core::{Hand, Placed, Shared};
-use std::alloc::AllocGlobal;
+use super::edits::Found::Sizes;
+use super::edits::{Edit, ends_as};
+use super::lives::Life;
+use super::steps::Reply::Is;
+use super::steps::read;
+use grow_core::{Hand, Shared};
+use std::alloc::{AllocError, Global};
 use std::process::Abort;
 use std::sync::Wait;
 use std::test::Fail;
@@ -17,20 +22,35 @@ pub(super) const EACH: u64 = 25_000;
 // How many values one thread appends while another reads.
 const READ: u64 = 100_000;
 
-// Appends `n` values from `first` on, in order.
-fn push_each<R: Wait + Abort>(
+// How many runs of three values each of two threads appends.
+const RUNS: u64 = 10_000;
+
+// What a thread does: it appends `n` values from the first on, in order, and reads each of them by its token;
+// or it reads `n` places as soon as another thread has filled them; or it appends `n` runs of three equal
+// values.
+#[derive(Drop)]
+enum Work {
+    Push { first: u64, n: u64 },
+    Read { n: u64 },
+    Grow { alloc: Global, n: u64 },
+}
+
+fn work_each<R: Wait + Abort>(
     rt: &R,
     vector: &Shared<u64>,
     mut hand: Hand<u64>,
-    first: u64,
-    n: u64,
+    work: &Work,
 ) -> Hand<u64>
     requires ours { IsHandOf vector.now hand }
-    requires small { first + n < 2 ^ 64 }
     ensures { result.of ≡ vector.now.word }
 {
-    for j in 0..n {
-        push_and_read(rt, vector, &mut hand, first + j);
+    let (Work::Push { n, .. } | Work::Read { n } | Work::Grow { n, .. }) = work;
+    for j in 0..*n {
+        match work {
+            Work::Push { first, .. } => push_and_read(rt, vector, &mut hand, first.wrapping_add(j)),
+            Work::Read { .. } => wait_and_read(rt, vector, &mut hand, j),
+            Work::Grow { alloc, .. } => grow_three(rt, vector, &mut hand, *alloc, j),
+        }
     }
     hand
 }
@@ -40,37 +60,15 @@ fn push_and_read<R: Wait + Abort>(rt: &R, vector: &Shared<u64>, hand: &mut Hand<
     requires ours { IsHandOf vector.now hand.old }
     ensures { hand.new.of ≡ hand.old.of }
 {
-    let placed = append(rt, vector, hand, value);
-    assert_eq!(rt; *vector.get(&placed), value);
-    if let Some(read) = look(vector, hand, placed.place() / 2) {
-        assert!(rt; read < 4 * EACH);
-    }
-}
-
-// Appends a value, if it is not refused.
-fn append<R: Wait + Abort>(
-    rt: &R,
-    vector: &Shared<u64>,
-    hand: &mut Hand<u64>,
-    value: u64,
-) -> Placed<u64>
-    requires ours { IsHandOf vector.now hand.old }
-    ensures of { hand.new.of ≡ hand.old.of }
-    ensures token { IsPlacedOf vector.now result }
-{
     match vector.push_back(rt, hand, value) {
-        Ok(placed) => placed,
+        Ok(placed) => {
+            assert_eq!(rt; *vector.get(&placed), value);
+            if let Is(read) = read(vector, hand, placed.place() / 2) {
+                assert!(rt; read < 4 * EACH);
+            }
+        }
         Err(_refused) => panic!(rt; "{value} was refused"),
     }
-}
-
-// The value at a place, if there is one.
-pub(super) fn look(vector: &Shared<u64>, hand: &mut Hand<u64>, place: u64) -> Option<u64>
-    requires ours { IsHandOf vector.now hand.old }
-    ensures { hand.new.of ≡ hand.old.of }
-{
-    let at = vector.at(hand, place, None).ok()?;
-    Some(*at.value)
 }
 
 // The value at a place, as the look and its token show it.
@@ -78,10 +76,72 @@ fn look_twice(vector: &Shared<u64>, hand: &mut Hand<u64>, place: u64) -> Option<
     requires ours { IsHandOf vector.now hand.old }
     ensures { hand.new.of ≡ hand.old.of }
 {
-    let at = vector.at(hand, place, None).ok()?;
-    Some((*at.value, *vector.get(&at.placed)))
+    match vector.at(hand, place, None) {
+        Ok(at) => Some((*at.value, *vector.get(&at.placed))),
+        Err(_refused) => None,
+    }
 }
 
+// Looks until the place has a value, which is its number.
+fn wait_and_read<R: Wait + Abort>(rt: &R, vector: &Shared<u64>, hand: &mut Hand<u64>, place: u64)
+    requires ours { IsHandOf vector.now hand.old }
+    ensures { hand.new.of ≡ hand.old.of }
+{
+    for _look in rt.forever() {
+        if let Some(values) = look_twice(vector, hand, place) {
+            assert_eq!(rt; values, (place, place));
+            break;
+        }
+    }
+}
+
+// Appends three equal values, if they are not refused.
+fn grow_three<R: Wait + Abort>(
+    rt: &R,
+    vector: &Shared<u64>,
+    hand: &mut Hand<u64>,
+    alloc: Global,
+    value: u64,
+)
+    requires ours { IsHandOf vector.now hand.old }
+    ensures of { hand.new.of ≡ hand.old.of }
+{
+    let is_grown = match Vec::from_slice(alloc, &[value; 3]) {
+        Ok(values) => vector.grow_vec(rt, hand, values).is_ok(),
+        Err(AllocError) => false,
+    };
+    assert!(rt; is_grown, "{value} was refused");
+}
+
+// Two threads work, and their hands are joined.
+fn work_by_two<R: Threads + Wait + Abort + Sync>(
+    rt: &R,
+    vector: &Shared<u64>,
+    a: Hand<u64>,
+    b: Hand<u64>,
+    works: &[Work; 2],
+) -> Hand<u64>
+    requires ours { IsHandOf vector.now a }
+    requires also_ours { IsHandOf vector.now b }
+    ensures { result.of ≡ vector.now.word }
+{
+    let [work, other_work] = works;
+    let (mut all, other) = join(
+        rt,
+        || -> Hand<u64>
+            requires { IsSync R.row × IsHandOf vector.now a }
+            ensures { result.of ≡ vector.entry.now.word }
+        { work_each(rt, vector, a, work) },
+        || -> Hand<u64>
+            requires { IsSync R.row × IsHandOf vector.now b }
+            ensures { result.of ≡ vector.entry.now.word }
+        { work_each(rt, vector, b, other_work) },
+    );
+    vector.join(&mut all, other);
+    all
+}
+
+// Two threads append EACH values, from the first on.
 pub(super) fn push_by_two<R: Threads + Wait + Abort + Sync>(
     rt: &R,
     vector: &Shared<u64>,
@@ -91,22 +151,16 @@ pub(super) fn push_by_two<R: Threads + Wait + Abort + Sync>(
 ) -> Hand<u64>
     requires ours { IsHandOf vector.now a }
     requires also_ours { IsHandOf vector.now b }
-    requires small { first < 2 ^ 20 }
     ensures { result.of ≡ vector.now.word }
 {
-    let (mut all, other) = join(
-        rt,
-        || -> Hand<u64>
-            requires { IsSync R.row × IsHandOf vector.now a × (first < 2 ^ 20) }
-            ensures { result.of ≡ vector.entry.now.word }
-        { push_each(rt, vector, a, first, EACH) },
-        || -> Hand<u64>
-            requires { IsSync R.row × IsHandOf vector.now b × (first < 2 ^ 20) }
-            ensures { result.of ≡ vector.entry.now.word }
-        { push_each(rt, vector, b, first + EACH, EACH) },
-    );
-    vector.join(&mut all, other);
-    all
+    let works = [
+        Work::Push { first, n: EACH },
+        Work::Push {
+            first: first.wrapping_add(EACH),
+            n: EACH,
+        },
+    ];
+    work_by_two(rt, vector, a, b, &works)
 }
 
 fn push_by_four<R: Threads + Wait + Abort + Sync>(
@@ -144,7 +198,7 @@ fn count_in_order(vector: &Shared<u64>, hand: &mut Hand<u64>) -> [u64; 4]
 {
     let mut next = [0; 4];
     for place in 0..4 * EACH {
-        let Some(value) = look(vector, hand, place) else {
+        let Is(value) = read(vector, hand, place) else {
             break
         };
         let (thread, j) = ((value / EACH) as usize, value % EACH);
@@ -164,137 +218,23 @@ fn keeps_all(vector: &Shared<u64>, hand: &mut Hand<u64>) -> bool
     vector.size(hand) == 4 * EACH && count_in_order(vector, hand) == [EACH; 4]
 }
 
-// The length of the list that a vector is closed into.
-fn end(vector: Shared<u64>, hand: Hand<u64>) -> Option<u64>
-    requires ours { IsHandOf vector hand }
-{
-    if hand.is_whole() {
-        Some(vector.into_parts(hand).len())
-    } else {
-        None
-    }
-}
-
 #[test]
 fn four_threads_lose_nothing_and_keep_their_orders(rt: HostRuntime) -> Result<(), Fail> {
     let (vector, hand) = empty(rt.alloc(), 4 * EACH)?;
     let mut hand = push_by_four(&rt, &vector, hand);
     assert!(rt; keeps_all(&vector, &mut hand));
-    assert!(rt; end(vector, hand) == Some(4 * EACH));
+    let sizes = [(Edit::Sizes, Sizes(4 * EACH, 4 * EACH, 131_072))];
+    assert!(rt; ends_as(Life { vector, hand }.close(), &sizes));
     Ok(())
-}
-
-// Reads each place as soon as another thread has filled it, and then by its token.
-fn read_each<R: Wait + Abort>(rt: &R, vector: &Shared<u64>, mut hand: Hand<u64>) -> Hand<u64>
-    requires ours { IsHandOf vector.now hand }
-    ensures { result.of ≡ vector.now.word }
-{
-    let mut place = 0;
-    for _look in rt.forever() {
-        if place == READ {
-            break;
-        }
-        if let Some(values) = look_twice(vector, &mut hand, place) {
-            assert_eq!(rt; values, (place, place));
-            place += 1;
-        }
-    }
-    hand
-}
-
-fn append_and_read<R: Threads + Wait + Abort + Sync>(
-    rt: &R,
-    vector: &Shared<u64>,
-    mut a: Hand<u64>,
-) -> Hand<u64>
-    requires ours { IsHandOf vector.now a }
-    requires enough { 1 < a.shares }
-    ensures { result.of ≡ vector.now.word }
-{
-    let b = vector.split(&mut a, 1);
-    let (mut all, other) = join(
-        rt,
-        || -> Hand<u64>
-            requires { IsSync R.row × IsHandOf vector.now a }
-            ensures { result.of ≡ vector.entry.now.word }
-        { push_each(rt, vector, a, 0, READ) },
-        || -> Hand<u64>
-            requires { IsSync R.row × IsHandOf vector.now b }
-            ensures { result.of ≡ vector.entry.now.word }
-        { read_each(rt, vector, b) },
-    );
-    vector.join(&mut all, other);
-    all
 }
 
 #[test]
-fn a_thread_reads_what_another_appends(rt: HostRuntime) -> Result<(), Fail> {
-    let (vector, hand) = empty(rt.alloc(), READ)?;
-    let hand = append_and_read(&rt, &vector, hand);
-    assert!(rt; end(vector, hand) == Some(READ));
-    Ok(())
-}
-
-// How many runs of three values each of two threads appends.
-const RUNS: u64 = 10_000;
-
-// Appends three equal values, if they are not refused.
-fn grow_three<R: AllocGlobal + Wait + Abort>(
-    rt: &R,
-    vector: &Shared<u64>,
-    hand: &mut Hand<u64>,
-    value: u64,
-)
-    requires ours { IsHandOf vector.now hand.old }
-    ensures of { hand.new.of ≡ hand.old.of }
-{
-    let Ok(values) = Vec::from_slice(rt.alloc(), &[value; 3]) else {
-        panic!(rt; "no memory");
-    };
-    match vector.grow_vec(rt, hand, values) {
-        Ok(_grown) => {}
-        Err(_refused) => panic!(rt; "{value} was refused"),
-    }
-}
-
-// Appends runs of three, of the same values in each thread.
-fn grow_each<R: AllocGlobal + Wait + Abort>(
-    rt: &R,
-    vector: &Shared<u64>,
-    mut hand: Hand<u64>,
-) -> Hand<u64>
-    requires ours { IsHandOf vector.now hand }
-    ensures { result.of ≡ vector.now.word }
-{
-    for j in 0..RUNS {
-        grow_three(rt, vector, &mut hand, j);
-    }
-    hand
-}
-
-fn grow_by_two<R: AllocGlobal + Threads + Wait + Abort + Sync>(
-    rt: &R,
-    vector: &Shared<u64>,
-    a: Hand<u64>,
-    b: Hand<u64>,
-) -> Hand<u64>
-    requires ours { IsHandOf vector.now a }
-    requires also_ours { IsHandOf vector.now b }
-    ensures { result.of ≡ vector.now.word }
-{
-    let (mut all, other) = join(
-        rt,
-        || -> Hand<u64>
-            requires { IsSync R.row × IsHandOf vector.now a }
-            ensures { result.of ≡ vector.entry.now.word }
-        { grow_each(rt, vector, a) },
-        || -> Hand<u64>
-            requires { IsSync R.row × IsHandOf vector.now b }
-            ensures { result.of ≡ vector.entry.now.word }
-        { grow_each(rt, vector, b) },
-    );
-    vector.join(&mut all, other);
-    all
+fn a_thread_reads_what_another_appends(rt: HostRuntime) {
+    let Callers { vector, a, b, .. } = Callers::new(&rt, READ);
+    let works = [Work::Push { first: 0, n: READ }, Work::Read { n: READ }];
+    let hand = work_by_two(&rt, &vector, a, b, &works);
+    let sizes = [(Edit::Sizes, Sizes(READ, READ, 131_072))];
+    assert!(rt; ends_as(Life { vector, hand }.close(), &sizes));
 }
 
 // How many runs of three equal values there are, one after the other.
@@ -304,10 +244,10 @@ fn count_runs(vector: &Shared<u64>, hand: &mut Hand<u64>) -> u64
 {
     let mut runs: u64 = 0;
     for k in 0..2 * RUNS {
-        let first = look(vector, hand, 3 * k);
-        if first.is_some()
-            && first == look(vector, hand, 3 * k + 1)
-            && first == look(vector, hand, 3 * k + 2)
+        let first = read(vector, hand, 3 * k);
+        if matches!(first, Is(_))
+            && first == read(vector, hand, 3 * k + 1)
+            && first == read(vector, hand, 3 * k + 2)
         {
             runs = runs.wrapping_add(1);
         }
@@ -319,7 +259,10 @@ fn count_runs(vector: &Shared<u64>, hand: &mut Hand<u64>) -> u64
 #[test]
 fn two_threads_append_runs_that_stay_whole(rt: HostRuntime) {
     let Callers { vector, a, b, .. } = Callers::new(&rt, 6 * RUNS);
-    let mut hand = grow_by_two(&rt, &vector, a, b);
+    let alloc = rt.alloc();
+    let works = [Work::Grow { alloc, n: RUNS }, Work::Grow { alloc, n: RUNS }];
+    let mut hand = work_by_two(&rt, &vector, a, b, &works);
     assert!(rt; count_runs(&vector, &mut hand) == 2 * RUNS);
-    assert!(rt; end(vector, hand) == Some(6 * RUNS));
+    let sizes = [(Edit::Sizes, Sizes(6 * RUNS, 6 * RUNS, 65_536))];
+    assert!(rt; ends_as(Life { vector, hand }.close(), &sizes));
 }

@@ -3,10 +3,8 @@ ghost use Rattle.std.specs.Prelude.{◌≡◌, ◌+◌, ◌<◌, ◌≤◌, IfSo
 ghost use Rattle.grow_core.specs.Hand.{seen_size};
 ghost use Rattle.grow_core.specs.Vector.{IsHandOf, limit_of};
 
-use super::callers::{Callers, list, on_two};
+use super::callers::{Callers, list};
 use grow_core::{Found, GrowError, Hand, Shared};
-use std::alloc::AllocGlobal;
-use std::process::Abort;
 
 // If what the hand has seen leaves no room, the values come back with the size.
 fn refused(vector: &Shared<u64>, hand: &mut Hand<u64>, values: Vec<u64>) -> (u64, Vec<u64>)
@@ -104,46 +102,36 @@ fn seen_value(vector: &Shared<u64>, hand: &mut Hand<u64>, place: u64) -> Option<
 }
 
 // Tests whether no refusal comes, if one caller is at work and there is room for four values.
-fn is_not_refused(two: &mut Callers<u64>, five: Vec<u64>, six: Vec<u64>) -> bool {
-    overtaken(&two.vector, &mut two.a, five).is_none()
-        && taken(&two.vector, &mut two.a, six).is_none()
-        && kept(&two.vector, &mut two.a, 7).is_none()
-        && busy(&two.vector, &mut two.a, 8).is_none()
-        && seen_value(&two.vector, &mut two.a, 3) == Some(8)
-}
-
-// The size that a growth of nothing returns.
-fn size_by_nothing(two: &mut Callers<u64>, none: Vec<u64>) -> Option<u64> {
-    if none.len() == 0 {
-        Some(nothing(&two.vector, &mut two.b, none))
-    } else {
-        None
-    }
-}
-
-// Tests whether neither a growth is refused nor a push, and a growth of nothing then returns the size.
-fn is_alone<R: AllocGlobal + Abort>(rt: &R, two: &mut Callers<u64>) -> bool {
-    is_not_refused(two, list(rt, &[5]), list(rt, &[6]))
-        && size_by_nothing(two, Vec::new(rt.alloc())) == Some(4)
+fn is_not_refused(vector: &Shared<u64>, hand: &mut Hand<u64>, five: Vec<u64>, six: Vec<u64>) -> bool
+    requires ours { IsHandOf vector.now hand.old }
+{
+    overtaken(vector, hand, five).is_none()
+        && taken(vector, hand, six).is_none()
+        && kept(vector, hand, 7).is_none()
+        && busy(vector, hand, 8).is_none()
+        && seen_value(vector, hand, 3) == Some(8)
 }
 
 #[test]
 fn a_caller_alone_is_not_refused(rt: HostRuntime) {
-    assert!(rt; on_two(&rt, 8, |two| is_alone(&rt, two)));
-}
-
-// The size that is reported if values exceed the limit.
-fn refused_size(two: &mut Callers<u64>, values: Vec<u64>) -> Option<u64> {
-    if (values.len() as u64) > two.vector.limit() {
-        Some(refused(&two.vector, &mut two.b, values).0)
-    } else {
-        None
-    }
+    let Callers {
+        vector,
+        mut a,
+        mut b,
+        ..
+    } = Callers::new(&rt, 8);
+    assert!(rt; is_not_refused(&vector, &mut a, list(&rt, &[5]), list(&rt, &[6])));
+    let size = nothing(&vector, &mut b, Vec::new(rt.alloc()));
+    assert_eq!(rt; size, 4);
 }
 
 #[test]
 fn values_beyond_the_limit_are_refused(rt: HostRuntime) {
     let mut two = Callers::new(&rt, 2);
     let _first = two.push_a(5);
-    assert_eq!(rt; refused_size(&mut two, list(&rt, &[6, 7, 8])), Some(1));
+    let Callers { vector, mut b, .. } = two;
+    let values = list(&rt, &[6, 7, 8]);
+    assert!(rt; values.len() as u64 > vector.limit());
+    let (size, _back) = refused(&vector, &mut b, values);
+    assert_eq!(rt; size, 1);
 }

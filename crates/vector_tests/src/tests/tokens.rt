@@ -3,11 +3,8 @@ ghost use Rattle.std.specs.Prelude.{◌≡◌};
 ghost use Rattle.grow_core.specs.Vector.{IsHandOf, IsPlacedOf};
 ghost use Rattle.grow_core.specs.Grown.{IsGrownOf};
 
-use super::callers::{Callers, list, on_two};
+use super::callers::{Callers, list};
 use grow_core::{Grown, Hand, Placed, Run, Shared};
-use std::alloc::AllocGlobal;
-use std::process::Abort;
-use std::sync::Wait;
 
 // A token's value: by the token, by its duplicate, and by a look at its place.
 fn read(vector: &Shared<u64>, hand: &mut Hand<u64>, token: &Placed<u64>) -> Option<[u64; 3]>
@@ -51,25 +48,13 @@ fn read_second(
     Some((run, token.place(), reads))
 }
 
-// The run that the values are appended in, and what is read there.
-fn grow_and_read<R: Wait>(
-    rt: &R,
-    two: &mut Callers<u64>,
-    values: Vec<u64>,
-) -> Option<(Run, u64, [u64; 3])> {
-    match two.vector.grow_vec(rt, &mut two.a, values) {
-        Ok(grown) => read_second(&two.vector, &mut two.a, &grown),
-        Err(_refused) => None,
-    }
-}
-
-// Tests whether three values are appended, and the second one is read.
-fn reads_a_run<R: AllocGlobal + Wait + Abort>(rt: &R, two: &mut Callers<u64>) -> bool {
-    let read = grow_and_read(rt, two, list(rt, &[7, 8, 9]));
-    read == Some((Run { from: 0, n: 3 }, 1, [8; 3])) && two.vector.limit() == 8
-}
-
 #[test]
 fn a_run_has_its_values_in_order(rt: HostRuntime) {
-    assert!(rt; on_two(&rt, 8, |two| reads_a_run(&rt, two)));
+    let Callers { vector, mut a, .. } = Callers::new(&rt, 8);
+    let read = match vector.grow_vec(&rt, &mut a, list(&rt, &[7, 8, 9])) {
+        Ok(grown) => read_second(&vector, &mut a, &grown),
+        Err(_refused) => None,
+    };
+    assert!(rt; read == Some((Run { from: 0, n: 3 }, 1, [8; 3])));
+    assert_eq!(rt; vector.limit(), 8);
 }

@@ -10,6 +10,7 @@ use super::callers::{Callers, empty};
 use super::parts::member;
 use grow_core::{Hand, Parts, Placed, Shared, laws};
 use std::alloc::Global;
+use std::test::Fail;
 use std::thread::{Threads, join};
 
 // Appends a value, in whatever thread it is called.
@@ -25,8 +26,10 @@ fn push_one(
     ensures token { IfSome result.1 (IsPlacedOf vector.now) }
     ensures value { IfSome result.1 (λ p. p.value ≡ value) }
 {
-    let placed = vector.try_push_back(&mut hand, value).ok();
-    (hand, placed)
+    match vector.try_push_back(&mut hand, value) {
+        Ok(placed) => (hand, Some(placed)),
+        Err(_refused) => (hand, None),
+    }
 }
 
 // Two threads append a value each, and their hands meet: they have two places.
@@ -134,9 +137,13 @@ fn push_and_recall(vector: Shared<u64>, mut hand: Hand<u64>, value: u64) -> Opti
     requires whole { IsWholeHand hand }
     ensures { IfSome result (λ read. read ≡ value) }
 {
-    let placed = vector.try_push_back(&mut hand, value).ok()?;
-    let parts = vector.into_parts(hand);
-    Some(*parts.recall(&placed))
+    match vector.try_push_back(&mut hand, value) {
+        Ok(placed) => {
+            let parts = vector.into_parts(hand);
+            Some(*parts.recall(&placed))
+        }
+        Err(_refused) => None,
+    }
 }
 
 // The value of a push is the closed list's member at its place.
@@ -145,11 +152,14 @@ fn push_and_close(vector: Shared<u64>, mut hand: Hand<u64>, value: u64) -> Optio
     requires whole { IsWholeHand hand }
     ensures { IfSome result (λ (parts, place). slice_get parts.members place ≡ Some (Some value)) }
 {
-    let placed = vector.try_push_back(&mut hand, value).ok()?;
-    let parts = vector.into_parts(hand);
-    let _value = parts.recall(&placed);
-    let place = placed.place();
-    Some((parts, place))
+    match vector.try_push_back(&mut hand, value) {
+        Ok(placed) => {
+            let parts = vector.into_parts(hand);
+            let _value = parts.recall(&placed);
+            Some((parts, placed.place()))
+        }
+        Err(_refused) => None,
+    }
 }
 
 // A value of a list is still its member after a life with another appended value.
@@ -157,34 +167,36 @@ fn live_once(parts: Parts<u64>, value: u64) -> Option<Parts<u64>>
     ensures { IfSome result (λ after. KeepsValues parts.members after.members) }
 {
     let (vector, mut hand) = Shared::of_parts(parts).ok()?;
-    let _placed = vector.try_push_back(&mut hand, value).ok()?;
-    Some(vector.into_parts(hand))
+    match vector.try_push_back(&mut hand, value) {
+        Ok(_placed) => Some(vector.into_parts(hand)),
+        Err(_refused) => None,
+    }
 }
 
 // The values and the sum of the places of a value that each of two threads appends.
-fn read_of_two<R: Threads + Sync>(rt: &R, two: Callers<u64>) -> Option<(u64, u64, u64)> {
-    let Callers { vector, a, b } = two;
-    match push_in_two_threads(rt, &vector, a, b) {
-        Some((x, y)) => Some(read_both(&vector, &x, &y)),
+fn read_of_two<R: Threads + Sync>(
+    rt: &R,
+    vector: &Shared<u64>,
+    a: Hand<u64>,
+    b: Hand<u64>,
+) -> Option<(u64, u64, u64)>
+    requires ours { IsHandOf vector.now a }
+    requires also_ours { IsHandOf vector.now b }
+{
+    match push_in_two_threads(rt, vector, a, b) {
+        Some((x, y)) => Some((
+            *vector.get(&x),
+            *vector.get(&y),
+            x.place().wrapping_add(y.place()),
+        )),
         None => None,
     }
 }
 
-// The values and the sum of the places of two tokens.
-fn read_both(vector: &Shared<u64>, x: &Placed<u64>, y: &Placed<u64>) -> (u64, u64, u64)
-    requires ours { IsPlacedOf vector.now x.now }
-    requires also_ours { IsPlacedOf vector.now y.now }
-{
-    (
-        *vector.get(x),
-        *vector.get(y),
-        x.place().wrapping_add(y.place()),
-    )
-}
-
 #[test]
 fn two_threads_append_and_join(rt: HostRuntime) {
-    assert!(rt; read_of_two(&rt, Callers::new(&rt, 8)) == Some((5, 6, 1)));
+    let Callers { vector, a, b, .. } = Callers::new(&rt, 8);
+    assert!(rt; read_of_two(&rt, &vector, a, b) == Some((5, 6, 1)));
 }
 
 #[test]
@@ -193,22 +205,14 @@ fn a_value_is_read_in_another_thread(rt: HostRuntime) {
     assert_eq!(rt; push_here_read_there(&rt, &vector, a, 7), Some(7));
 }
 
-// Closes the vector by both hands, and returns its size.
-fn end_by_both(two: Callers<u64>) -> Option<u64> {
-    let Callers { vector, a, b } = two;
-    if u64::from(a.share()) + u64::from(b.share()) == 65_536 {
-        Some(close_both(vector, a, b))
-    } else {
-        None
-    }
-}
-
 #[test]
 fn hands_that_were_joined_close_the_vector(rt: HostRuntime) {
     let mut two = Callers::new(&rt, 8);
     let _first = two.push_a(5);
     let _second = two.push_b(6);
-    assert_eq!(rt; end_by_both(two), Some(2));
+    let Callers { vector, a, b, .. } = two;
+    assert!(rt; u64::from(a.share()) + u64::from(b.share()) == 65_536);
+    assert_eq!(rt; close_both(vector, a, b), 2);
 }
 
 // The first member of a list that was opened and closed twice.
@@ -227,20 +231,14 @@ fn a_member_lives_on_from_list_to_list(rt: HostRuntime) {
     assert!(rt; read_after_two_lives(rt.alloc()) == Some(Some(5)));
 }
 
-// The value of a push to a new vector, recalled by its token.
-fn recall_pushed(alloc: Global, value: u64) -> Option<u64> {
-    let (vector, hand) = empty(alloc, 8).ok()?;
-    push_and_recall(vector, hand, value)
-}
-
-// The value of a push to a new vector, as the closed list's member.
-fn close_pushed(alloc: Global, value: u64) -> Option<u64> {
-    let (vector, hand) = empty(alloc, 8).ok()?;
-    let (parts, place) = push_and_close(vector, hand, value)?;
-    member(&parts, place)?
-}
-
 #[test]
-fn a_pushed_value_is_a_member_of_the_closed_list(rt: HostRuntime) {
-    assert!(rt; recall_pushed(rt.alloc(), 7) == Some(7) && close_pushed(rt.alloc(), 7) == Some(7));
+fn a_pushed_value_is_a_member_of_the_closed_list(rt: HostRuntime) -> Result<(), Fail> {
+    let (vector, hand) = empty(rt.alloc(), 8)?;
+    assert!(rt; push_and_recall(vector, hand, 7) == Some(7));
+    let (vector, hand) = empty(rt.alloc(), 8)?;
+    match push_and_close(vector, hand, 7) {
+        Some((parts, place)) => assert!(rt; member(&parts, place) == Some(Some(7))),
+        None => panic!(rt; "the push was refused"),
+    }
+    Ok(())
 }

@@ -1,0 +1,95 @@
+// Lives in which two threads append.
+use super::super::edits::Edit::Get;
+use super::super::edits::Found::Member;
+use super::super::edits::ends_as;
+use super::super::parts::member;
+use super::super::race::{EACH, push_by_two};
+use super::{Life, three};
+use grow_core::Parts;
+use std::alloc::AllocGlobal;
+use std::process::Abort;
+use std::sync::Wait;
+use std::thread::Threads;
+
+// Opens the list, lets two threads append, and closes it.
+fn grow_by_threads<R: Threads + Wait + Abort + Sync>(
+    rt: &R,
+    parts: Parts<u64>,
+) -> Option<Parts<u64>> {
+    let Life { vector, mut hand } = Life::open(parts)?;
+    if hand.share() < 2 {
+        return None;
+    }
+    let other = vector.split(&mut hand, 1);
+    let hand = push_by_two(rt, &vector, hand, other, 0);
+    if hand.is_whole() {
+        Some(vector.into_parts(hand))
+    } else {
+        None
+    }
+}
+
+// How far each thread's values have come, in order of place. It stops at a value that is out of its thread's
+// order.
+fn count_in_order(parts: &Parts<u64>, from: u64) -> [u64; 2] {
+    let mut next = [0; 2];
+    for place in from..parts.len() {
+        let Some(Some(value)) = member(parts, place) else {
+            break
+        };
+        let (thread, j) = ((value / EACH) as usize, value % EACH);
+        match next.get_mut(thread) {
+            Some(count) if *count == j => *count = j + 1,
+            _ => break,
+        }
+    }
+    next
+}
+
+// Tests whether the values of each life are there in order, and no others. A count of a life's values stops
+// where the next life's begin.
+fn has_orders(parts: &Parts<u64>, from: u64, lives: u64) -> bool {
+    let mut begin = from;
+    for _life in 0..lives {
+        if count_in_order(parts, begin) != [EACH; 2] {
+            return false;
+        }
+        begin = begin.wrapping_add(2 * EACH);
+    }
+    parts.len() == begin
+}
+
+// The list after lives in which two threads append the same values, if these are there after its members.
+fn live_by_threads<R: Threads + Wait + Abort + Sync>(
+    rt: &R,
+    mut parts: Parts<u64>,
+    lives: u64,
+) -> Option<Parts<u64>> {
+    let from = parts.len();
+    for _life in 0..lives {
+        parts = grow_by_threads(rt, parts)?;
+    }
+    if has_orders(&parts, from, lives) {
+        Some(parts)
+    } else {
+        None
+    }
+}
+
+// The list after two threads have appended to three members.
+fn grow_three_by_threads<R: AllocGlobal + Threads + Wait + Abort + Sync>(
+    rt: &R,
+) -> Option<Parts<u64>> {
+    live_by_threads(rt, three(rt.alloc(), 3 + 2 * EACH)?, 1)
+}
+
+#[test]
+fn what_two_threads_append_is_in_the_closed_list(rt: HostRuntime) {
+    assert!(rt; ends_as(grow_three_by_threads(&rt), &[(Get(2), Member(Some(30)))]));
+}
+
+#[test]
+fn ten_lives_by_two_threads_lose_nothing(rt: HostRuntime) {
+    let parts = live_by_threads(&rt, Parts::new(rt.alloc(), 20 * EACH), 10);
+    assert!(rt; parts.is_some());
+}

@@ -121,7 +121,7 @@ fn push_with_room(list: &mut Quiet<u64>, more: u64, value: u64)
 }
 
 // The value that is read at a place, without a token.
-fn read(vector: &Shared<u64>, hand: &mut Hand<u64>, place: u64) -> Option<u64>
+pub(crate) fn read(vector: &Shared<u64>, hand: &mut Hand<u64>, place: u64) -> Option<u64>
     requires ours { IsHandOf vector.now hand.old }
     ensures of { hand.new.of ≡ hand.old.of }
     ensures opened { (x : ℕ) → IsOpenedAt vector.now place x → result ≡ Some x }

@@ -1,5 +1,4 @@
 // Lists whose first segment has from 2 to 256 places.
-use crate::quiet::shrinks_to;
 use quiet_core::Quiet;
 use seg_core::Layout;
 use std::alloc::Global;
@@ -20,7 +19,10 @@ fn follows_its_segments(list: &mut Quiet<u64>, layout: Layout) -> bool {
         && list.capacity() == layout.capacity_for(2)
         && list.reserve(15).is_ok()
         && list.capacity() == layout.capacity_for(15)
-        && shrinks_to(list, layout.capacity_for(2))
+        && {
+            list.shrink_to_fit();
+            list.capacity() == layout.capacity_for(2)
+        }
 }
 
 fn is_of(alloc: Global, f: u32) -> bool {

@@ -3,9 +3,11 @@ ghost use Rattle.std.specs.Prelude.{◌≡◌, ◌+◌, IfSome, length};
 ghost use Rattle.grow_core.specs.Hand.{IsNewHand};
 ghost use Rattle.grow_core.specs.Vector.{IsHandOf, IsPlacedOf};
 
-use super::{broken_after, has, is_broken, list_of, measures};
+use super::steps::{Step, first_wrong};
+use super::{broken_after, list_of};
+use crate::vector::read;
 use grow_core::{AtError, GrowError, Placed};
-use quiet_core::{Hand, Quiet, QuietAt, QuietMendError, Shared};
+use quiet_core::{Hand, Quiet, QuietAt, Shared};
 use std::alloc::AllocGlobal;
 use std::process::Abort;
 use std::sync::Wait;
@@ -37,35 +39,35 @@ fn live_ten_times(mut list: Quiet<u64>) -> Option<Quiet<u64>> {
     Some(list)
 }
 
-// Tests whether the old members are there, and the new ones from ten on.
-fn has_all(list: &Quiet<u64>) -> bool {
-    for place in 3..13u64 {
-        if !has(list, place, place + 7) {
-            return false;
-        }
-    }
-    measures(list, 13, 16) && list.limit() == 16 && has(list, 0, 1) && has(list, 2, 3)
-}
+// The old members are there, and the new ones from ten on.
+const AFTER_TEN_LIVES: [Step; 15] = [
+    Step::Len(13),
+    Step::Capacity(16),
+    Step::Limit(16),
+    Step::Get(0, Ok(1)),
+    Step::Get(2, Ok(3)),
+    Step::Get(3, Ok(10)),
+    Step::Get(4, Ok(11)),
+    Step::Get(5, Ok(12)),
+    Step::Get(6, Ok(13)),
+    Step::Get(7, Ok(14)),
+    Step::Get(8, Ok(15)),
+    Step::Get(9, Ok(16)),
+    Step::Get(10, Ok(17)),
+    Step::Get(11, Ok(18)),
+    Step::Get(12, Ok(19)),
+];
 
-fn loses_nothing(list: Quiet<u64>) -> bool {
+fn loses_nothing<R: AllocGlobal + Abort>(rt: &R, list: Quiet<u64>) -> bool {
     match live_ten_times(list) {
-        Some(list) => has_all(&list),
+        Some(mut list) => first_wrong(rt.alloc(), &mut list, &AFTER_TEN_LIVES) == None,
         None => false,
     }
 }
 
 #[test]
 fn ten_lives_lose_nothing(rt: HostRuntime) {
-    assert!(rt; loses_nothing(list_of(&rt, &[1, 2, 3])));
-}
-
-// What a look without a token shows at a place.
-fn look(vector: &Shared<u64>, hand: &mut Hand<u64>, place: u64) -> Option<u64>
-    requires ours { IsHandOf vector.now hand.old }
-    ensures of { hand.new.of ≡ hand.old.of }
-{
-    let at = vector.at(hand, place, None).ok()?;
-    Some(*at.value)
+    assert!(rt; loses_nothing(&rt, list_of(&rt, &[1, 2, 3])));
 }
 
 // The size that a look without a token reports, if the place is not below it.
@@ -103,7 +105,7 @@ fn see_one_push<R: Wait>(
     requires third { IsHandOf vector.now k.old }
 {
     place_of(rt, vector, h, 5) == Some(0)
-        && look(vector, g, 0) == Some(5)
+        && read(vector, g, 0) == Some(5)
         && size_seen(vector, g, 1) == Some(1)
         && vector.size(k) == 1
 }
@@ -153,15 +155,23 @@ fn closed_after_refusal(list: Quiet<u64>) -> Option<((u64, u64, u64, u64), Quiet
     Some((refused?, Quiet::close(vector, hand)))
 }
 
-fn is_broken_from_the_second(list: &Quiet<u64>) -> bool {
-    measures(list, 3, 4) && has(list, 0, 7) && is_broken(list, 1) && is_broken(list, 2)
-}
+const BROKEN_FROM_THE_SECOND: [Step; 5] = [
+    Step::Len(3),
+    Step::Capacity(4),
+    Step::Get(0, Ok(7)),
+    Step::Get(1, Err(QuietAt::Broken)),
+    Step::Get(2, Err(QuietAt::Broken)),
+];
 
 #[test]
 fn a_refused_value_breaks_the_places_of_the_closed_list(rt: HostRuntime) {
     match closed_after_refusal(Quiet::new(rt.alloc(), 8)) {
-        Some((refused, list)) => {
-            assert!(rt; refused == (0, 3, 1, 9) && is_broken_from_the_second(&list));
+        Some((refused, mut list)) => {
+            assert!(rt; refused == (0, 3, 1, 9));
+            assert_eq!(rt;
+                first_wrong(rt.alloc(), &mut list, &BROKEN_FROM_THE_SECOND),
+                None
+            );
         }
         None => panic!(rt; "no list"),
     }
@@ -234,40 +244,6 @@ fn values_come_out_in_order(rt: HostRuntime) {
             && has_values(&rt, broken_after(&rt, 7), &[7])
             && comes_from_both_ends(list_of(&rt, &[1, 2, 3]))
     );
-}
-
-fn exchanges_the_second(list: &mut Quiet<u64>) -> bool {
-    list.replace(1, 20) == Ok(2)
-        && has(list, 0, 1)
-        && has(list, 1, 20)
-        && has(list, 2, 3)
-        && list.replace(3, 40) == Err((QuietAt::OutOfRange { size: 3 }, 40))
-}
-
-fn exchanges_no_broken_member(list: &mut Quiet<u64>) -> bool {
-    list.replace(1, 5) == Err((QuietAt::Broken, 5))
-}
-
-#[test]
-fn a_value_is_exchanged(rt: HostRuntime) {
-    let mut list = list_of(&rt, &[1, 2, 3]);
-    let mut broken = broken_after(&rt, 1);
-    assert!(rt; exchanges_the_second(&mut list) && exchanges_no_broken_member(&mut broken));
-}
-
-fn mends_the_second(list: &mut Quiet<u64>) -> bool {
-    list.mend(1, 6) == Ok(()) && list.get(1) == Ok(&6) && list.len() == 2
-}
-
-fn mends_no_value(list: &mut Quiet<u64>) -> bool {
-    list.mend(1, 7) == Err((QuietMendError::Filled, 7))
-        && list.mend(2, 8) == Err((QuietMendError::OutOfRange { size: 2 }, 8))
-}
-
-#[test]
-fn a_broken_member_is_mended_once(rt: HostRuntime) {
-    let mut list = broken_after(&rt, 4);
-    assert!(rt; mends_the_second(&mut list) && mends_no_value(&mut list));
 }
 
 #[test]

@@ -10,7 +10,6 @@ use span_core::{Domain, Free, ParError, Span, laws, par_map, par_reduce};
 use std::alloc::{AllocError, Global};
 use std::marker::Model;
 use std::sync::Wait;
-use std::test::Fail;
 use std::thread::Threads;
 
 // The leaves of a span tile it: each begins where the one before ends, and the last ends where the span does.
@@ -78,7 +77,7 @@ fn wrapped_sum<R: Threads + Wait + Sync>(
 }
 
 // Two rows of two numbers of 64 bits.
-#[derive(Clone, Copy, Debug, PartialEq, Eq)]
+#[derive(Clone, Copy, PartialEq)]
 struct Matrix {
     a: u64,
     b: u64,
@@ -184,9 +183,8 @@ fn product<R: Threads + Wait + Sync>(
 }
 
 #[test]
-fn leaves_are_walked_to_the_end(rt: HostRuntime) -> Result<(), Fail> {
-    assert_eq!(rt; walk_leaves(rt.alloc(), Span::new(3, 40, 4))?, 40);
-    Ok(())
+fn leaves_are_walked_to_the_end(rt: HostRuntime) {
+    assert!(rt; walk_leaves(rt.alloc(), Span::new(3, 40, 4)) == Ok(40));
 }
 
 // The number of the results and the last of them, and the sum.
@@ -201,11 +199,9 @@ fn mapped_and_summed<R: Threads + Wait + Sync>(
 }
 
 #[test]
-fn the_values_are_mapped_in_order_and_summed(rt: HostRuntime) -> Result<(), Fail> {
-    let list = numbered(rt.alloc(), 1000)?;
-    let ended = mapped_and_summed(&rt, rt.alloc(), &list);
+fn the_values_are_mapped_in_order_and_summed(rt: HostRuntime) {
+    let ended = mapped_and_summed(&rt, rt.alloc(), &numbered(&rt, 1000));
     assert!(rt; ended == Ok((1000, Some(999), 499_500)));
-    Ok(())
 }
 
 // 0 + 1 / (1 + 1 / (2 + 1 / 3)) is 7 / 10, and without its last step 2 / 3.
@@ -227,8 +223,6 @@ fn multiply_in_order<R: Threads + Wait + Sync>(rt: &R, alloc: Global, list: &Qui
 }
 
 #[test]
-fn joins_that_do_not_commute_are_done_in_order(rt: HostRuntime) -> Result<(), Fail> {
-    let list = numbered(rt.alloc(), 4)?;
-    assert!(rt; multiply_in_order(&rt, rt.alloc(), &list));
-    Ok(())
+fn joins_that_do_not_commute_are_done_in_order(rt: HostRuntime) {
+    assert!(rt; multiply_in_order(&rt, rt.alloc(), &numbered(&rt, 4)));
 }

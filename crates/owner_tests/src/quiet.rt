@@ -12,14 +12,14 @@ mod uses;
 use quiet_core::{Quiet, QuietAt, QuietError};
 use std::alloc::AllocGlobal;
 use std::process::Abort;
-pub(crate) use steps::pushes_all;
+pub(crate) use steps::{pushes_all, resized};
 use steps::{Step, first_wrong};
 
 // The values in a `Vec`.
 fn vec_of<R: AllocGlobal + Abort>(rt: &R, values: &[u64]) -> Vec<u64> {
     match Vec::from_slice(rt.alloc(), values) {
         Ok(made) => made,
-        Err(error) => panic!(rt; "{error}"),
+        Err(_refused) => panic!(rt; "no memory"),
     }
 }
 
@@ -28,7 +28,7 @@ fn listed<R: AllocGlobal + Abort>(rt: &R, limit: u64, values: Vec<u64>) -> Quiet
 {
     match Quiet::from_vec(rt.alloc(), limit, values) {
         Ok(list) => list,
-        Err((error, _back)) => panic!(rt; "{error}"),
+        Err(_refused) => panic!(rt; "no memory"),
     }
 }
 
@@ -39,7 +39,8 @@ pub(crate) fn list_of<R: AllocGlobal + Abort>(rt: &R, values: &[u64]) -> Quiet<u
 // A value and then a broken member.
 fn broken_after<R: AllocGlobal + Abort>(rt: &R, first: u64) -> Quiet<u64> {
     let mut list = Quiet::new(rt.alloc(), 16);
-    assert!(rt; steps::breaks_the_second(&mut list, first));
+    let refused = Err(QuietError::Refused { made: 1 });
+    assert!(rt; resized(&mut list, 2, first, 1) == (refused, Some(2)));
     list
 }
 
@@ -128,15 +129,13 @@ const AFTER_A_MILLION: [Step; 8] = [
     Step::Get(4, Ok(9)),
 ];
 
-fn a_million<R: AllocGlobal + Abort>(rt: &R) -> Vec<u64> {
-    match vec![in rt.alloc(); 7u64; 1_000_000] {
-        Ok(made) => made,
-        Err(error) => panic!(rt; "{error}"),
-    }
-}
-
 #[test]
 fn a_million_values_are_moved_in_and_pushed_on(rt: HostRuntime) {
-    let mut list = listed(&rt, 1 << 32, a_million(&rt));
-    assert_eq!(rt; first_wrong(rt.alloc(), &mut list, &AFTER_A_MILLION), None);
+    match vec![in rt.alloc(); 7u64; 1_000_000] {
+        Ok(million) => {
+            let mut list = listed(&rt, 1 << 32, million);
+            assert_eq!(rt; first_wrong(rt.alloc(), &mut list, &AFTER_A_MILLION), None);
+        }
+        Err(_refused) => panic!(rt; "no memory"),
+    }
 }

@@ -1,17 +1,15 @@
 // Lists that were opened and closed, and what comes out of them.
 ghost use Rattle.std.specs.Prelude.{◌≡◌, ◌+◌, IfSome, length};
-ghost use Rattle.grow_core.specs.Hand.{IsNewHand};
 ghost use Rattle.grow_core.specs.Vector.{IsHandOf, IsPlacedOf};
 
 use super::steps::{Step, first_wrong};
 use super::{broken_after, list_of};
-use crate::vector::read;
-use grow_core::{AtError, GrowError, Placed};
+use crate::vector::{grow_refused, read};
+use grow_core::{AtError, Placed};
 use quiet_core::{Hand, Quiet, QuietAt, Shared};
 use std::alloc::AllocGlobal;
 use std::process::Abort;
 use std::sync::Wait;
-use std::test::Fail;
 
 // Opens the list, appends a value, closes it, and recalls the value by its token, if there is memory and
 // room.
@@ -58,37 +56,13 @@ const AFTER_TEN_LIVES: [Step; 15] = [
     Step::Get(12, Ok(19)),
 ];
 
-fn loses_nothing<R: AllocGlobal + Abort>(rt: &R, list: Quiet<u64>) -> bool {
-    match live_ten_times(list) {
-        Some(mut list) => first_wrong(rt.alloc(), &mut list, &AFTER_TEN_LIVES) == None,
-        None => false,
-    }
-}
-
 #[test]
 fn ten_lives_lose_nothing(rt: HostRuntime) {
-    assert!(rt; loses_nothing(&rt, list_of(&rt, &[1, 2, 3])));
-}
-
-// The size that a look without a token reports, if the place is not below it.
-fn size_seen(vector: &Shared<u64>, hand: &mut Hand<u64>, place: u64) -> Option<u64>
-    requires ours { IsHandOf vector.now hand.old }
-    ensures of { hand.new.of ≡ hand.old.of }
-{
-    match vector.at(hand, place, None) {
-        Err(AtError::OutOfRange { size }) => Some(size),
-        _ => None,
-    }
-}
-
-// The place of a value that is appended.
-fn place_of<R: Wait>(rt: &R, vector: &Shared<u64>, hand: &mut Hand<u64>, value: u64) -> Option<u64>
-    requires ours { IsHandOf vector.now hand.old }
-    ensures of { hand.new.of ≡ hand.old.of }
-{
-    match vector.push_back(rt, hand, value) {
-        Ok(placed) => Some(placed.place()),
-        Err(_refused) => None,
+    match live_ten_times(list_of(&rt, &[1, 2, 3])) {
+        Some(mut list) => {
+            assert_eq!(rt; first_wrong(rt.alloc(), &mut list, &AFTER_TEN_LIVES), None);
+        }
+        None => panic!(rt; "no list"),
     }
 }
 
@@ -104,23 +78,23 @@ fn see_one_push<R: Wait>(
     requires second { IsHandOf vector.now g.old }
     requires third { IsHandOf vector.now k.old }
 {
-    place_of(rt, vector, h, 5) == Some(0)
+    let is_first = match vector.push_back(rt, h, 5) {
+        Ok(placed) => placed.place() == 0,
+        Err(_refused) => false,
+    };
+    is_first
         && read(vector, g, 0) == Some(5)
-        && size_seen(vector, g, 1) == Some(1)
+        && matches!(vector.at(g, 1, None), Err(AtError::OutOfRange { size: 1 }))
         && vector.size(k) == 1
-}
-
-fn three_see_one_push<R: Wait>(rt: &R, vector: &Shared<u64>, mut h: Hand<u64>) -> bool
-    requires new { IsNewHand vector.now.word h }
-{
-    let mut g = vector.split(&mut h, 1);
-    let mut k = vector.split(&mut h, 1);
-    see_one_push(rt, vector, &mut h, &mut g, &mut k)
 }
 
 fn shows_its_hands<R: Wait>(rt: &R, list: Quiet<u64>) -> bool {
     match list.open() {
-        Ok((vector, hand)) => three_see_one_push(rt, &vector, hand),
+        Ok((vector, mut h)) => {
+            let mut g = vector.split(&mut h, 1);
+            let mut k = vector.split(&mut h, 1);
+            see_one_push(rt, &vector, &mut h, &mut g, &mut k)
+        }
         Err(_refused) => false,
     }
 }
@@ -130,29 +104,11 @@ fn three_hands_see_one_push(rt: HostRuntime) {
     assert!(rt; shows_its_hands(&rt, Quiet::new(rt.alloc(), 8)));
 }
 
-// Grows by three values, refused at the second: the run, the number of values made, and the cause.
-fn grow_refused(vector: &Shared<u64>, hand: &mut Hand<u64>) -> Option<(u64, u64, u64, u64)>
-    requires ours { IsHandOf vector.now hand.old }
-    ensures of { hand.new.of ≡ hand.old.of }
-    ensures shares { hand.new.shares ≡ hand.old.shares }
-{
-    let make = |i: u64| -> Result<u64, u64> { if i == 1 { Err(9) } else { Ok(7) } };
-    match vector.try_grow_with(hand, 3, make) {
-        Err(GrowError::Refused { run, made, cause }) => Some((
-            run.from,
-            run.n,
-            made.run().n,
-            cause,
-        )),
-        _ => None,
-    }
-}
-
-// What such a growth reports, and the list that the vector is closed into.
-fn closed_after_refusal(list: Quiet<u64>) -> Option<((u64, u64, u64, u64), Quiet<u64>)> {
+// What a growth by three values reports that is refused the second, and the list that the vector is closed into.
+fn closed_after_refusal(list: Quiet<u64>) -> Option<(Option<(u64, u64, u64, u64)>, Quiet<u64>)> {
     let (vector, mut hand) = list.open().ok()?;
-    let refused = grow_refused(&vector, &mut hand);
-    Some((refused?, Quiet::close(vector, hand)))
+    let refused = grow_refused(&vector, &mut hand, 3, 1);
+    Some((refused, Quiet::close(vector, hand)))
 }
 
 const BROKEN_FROM_THE_SECOND: [Step; 5] = [
@@ -167,7 +123,7 @@ const BROKEN_FROM_THE_SECOND: [Step; 5] = [
 fn a_refused_value_breaks_the_places_of_the_closed_list(rt: HostRuntime) {
     match closed_after_refusal(Quiet::new(rt.alloc(), 8)) {
         Some((refused, mut list)) => {
-            assert!(rt; refused == (0, 3, 1, 9));
+            assert!(rt; refused == Some((0, 3, 1, 9)));
             assert_eq!(rt;
                 first_wrong(rt.alloc(), &mut list, &BROKEN_FROM_THE_SECOND),
                 None
@@ -200,12 +156,28 @@ fn pushed(vector: &Shared<u64>, hand: &mut Hand<u64>, value: u64) -> Option<Plac
     vector.try_push_back(hand, value).ok()
 }
 
+fn tokens(
+    vector: &Shared<u64>,
+    hand: &mut Hand<u64>,
+    place: u64,
+    value: u64,
+) -> Option<(Placed<u64>, Placed<u64>)>
+    requires ours { IsHandOf vector.now hand.old }
+    ensures of { hand.new.of ≡ hand.old.of }
+    ensures shares { hand.new.shares ≡ hand.old.shares }
+    ensures old { IfSome result (λ (old, _). IsPlacedOf vector.now old) }
+    ensures new { IfSome result (λ (_, new). IsPlacedOf vector.now new) }
+{
+    let old = token_at(vector, hand, place)?;
+    let new = pushed(vector, hand, value)?;
+    Some((old, new))
+}
+
 // Opens a list, reads one of its places, appends a value, and closes it. Returns what was read, and what the
 // closed list recalls by the two tokens.
 fn recalled(list: Quiet<u64>, place: u64, value: u64) -> Option<[u64; 3]> {
     let (vector, mut hand) = list.open().ok()?;
-    let old = token_at(&vector, &mut hand, place)?;
-    let new = pushed(&vector, &mut hand, value)?;
+    let (old, new) = tokens(&vector, &mut hand, place, value)?;
     let read = *vector.get(&old);
     let list = Quiet::close(vector, hand);
     Some([read, *list.recall(&old), *list.recall(&new)])
@@ -223,7 +195,7 @@ fn old_and_new_places_are_recalled(rt: HostRuntime) {
 fn has_values<R: AllocGlobal + Abort>(rt: &R, list: Quiet<u64>, wanted: &[u64]) -> bool {
     match list.into_iter().flatten().collect::<Vec<u64>>(rt.alloc()) {
         Ok(values) => values.as_slice() == wanted,
-        Err(error) => panic!(rt; "{error}"),
+        Err(_refused) => panic!(rt; "no memory"),
     }
 }
 
@@ -247,11 +219,10 @@ fn values_come_out_in_order(rt: HostRuntime) {
 }
 
 #[test]
-fn a_list_shows_its_members(rt: HostRuntime) -> Result<(), Fail> {
+fn a_list_shows_its_members(rt: HostRuntime) {
     let list = broken_after(&rt, 7);
-    assert_eq!(rt;
-        format!(in rt.alloc(); "{list:?}")?.as_str(),
-        "[Some(7), None]"
-    );
-    Ok(())
+    match format!(in rt.alloc(); "{list:?}") {
+        Ok(text) => assert!(rt; text.as_str() == "[Some(7), None]"),
+        Err(_refused) => panic!(rt; "no memory"),
+    }
 }

@@ -33,7 +33,7 @@ pub(crate) fn pushes_all(list: &mut Quiet<u64>, from: u64, to: u64) -> bool {
 
 // Makes a list longer or shorter, by a maker whose values are `first` and its number. Returns also how many numbers the
 // maker was asked for, if these came in turn.
-fn resized(
+pub(crate) fn resized(
     list: &mut Quiet<u64>,
     len: u64,
     first: u64,
@@ -67,11 +67,6 @@ fn assigned(
         Ok(()) => Some(Ok(())),
         Err((error, _back)) => Some(Err(error)),
     }
-}
-
-// Tests whether a new list has the value and then a broken member.
-pub(super) fn breaks_the_second(list: &mut Quiet<u64>, value: u64) -> bool {
-    resized(list, 2, value, 1) == (Err(QuietError::Refused { made: 1 }), Some(2))
 }
 
 fn is_right(alloc: Global, list: &mut Quiet<u64>, step: &Step) -> bool {

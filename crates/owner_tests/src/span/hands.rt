@@ -17,7 +17,8 @@ use std::thread::Threads;
 pub(super) struct Task<'a> {
     each: u64,
     stops: u32,
-    begun: AtomicU64,
+    // How often a worker has begun.
+    pub(super) begun: AtomicU64,
     watch: Option<&'a Watch>,
 }
 
@@ -32,11 +33,6 @@ impl<'a> Task<'a> {
             begun: AtomicU64::new(0),
             watch,
         }
-    }
-
-    // How often a worker has begun.
-    pub(super) fn begun(&self) -> u64 {
-        self.begun.load(Ordering::SeqCst)
     }
 
     // Notes that a worker begins. Returns how many values it is to append.

@@ -11,6 +11,7 @@ use quiet_core::Quiet;
 use span_core::{Free, ParError, Span, split_even};
 use std::alloc::Global;
 use std::sync::Wait;
+use std::sync::atomic::Ordering;
 use std::thread::Threads;
 
 // A list of six values, if there is memory for it.
@@ -84,8 +85,8 @@ fn both_work_or_neither<R: Threads + Wait + Sync>(rt: &R, alloc: Global) -> bool
     let task = Task::new(0, 2, None);
     match append_to_new(rt, alloc, 8, 2, &task, &gate) {
         Some((told, _)) => {
-            gate.is_passed(2) && task.begun() == 2
-                || told.is_err() && gate.is_passed(0) && task.begun() == 0
+            let works = task.begun.load(Ordering::SeqCst);
+            gate.is_passed(2) && works == 2 || told.is_err() && gate.is_passed(0) && works == 0
         }
         None => true,
     }

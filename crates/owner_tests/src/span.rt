@@ -125,7 +125,8 @@ const ALL: [(u64, Option<u64>); 10] = [
     (9, Some(81)),
 ];
 
-// A number of workers, how often one of a pair looks for the other, and whether a map in four leaves returns all.
+// A number of workers, how often one of a pair looks for the other, and whether a map in four leaves returns
+// all values.
 const PAIRS: [(u32, u64, Result<bool, ParError>); 3] = [
     (2, 1_000_000_000, Ok(true)),
     (2, 0, Err(ParError::Stuck)),

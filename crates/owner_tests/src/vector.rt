@@ -8,8 +8,8 @@ use grow_core::{AtError, AtLeast, GrowError, Hand, Shared, Shown, makers};
 use quiet_core::{Quiet, QuietMendError, laws};
 use std::alloc::AllocGlobal;
 
-// Grows by `n` values of 7; the maker refuses number `at`, and its cause is 9. If the construction is refused, returns
-// the run's first place and its length, the number of values made, and the cause that the growth reports.
+// Grows by `n` values of 7; the maker refuses number `at`, and its cause is 9. If the construction is refused,
+// returns the run's first place and its length, the number of values that were made, and the reported cause.
 pub(crate) fn grow_refused(
     vector: &Shared<u64>,
     hand: &mut Hand<u64>,

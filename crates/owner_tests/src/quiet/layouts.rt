@@ -14,7 +14,7 @@ fn layout_of<R: Abort>(rt: &R, f: u32) -> Layout {
     }
 }
 
-// A list of the layout with two members, of which the first is 1.
+// A list of the layout with two members: 1 and another value.
 fn one_and<R: AllocGlobal + Abort>(rt: &R, layout: Layout, second: u64) -> Quiet<u64> {
     let mut list = Quiet::new_in(rt.alloc(), layout, 16);
     assert!(rt; list.push(1).is_ok() && list.push(second).is_ok());

@@ -84,8 +84,8 @@ fn a_list_is_opened_again(rt: HostRuntime) {
     assert!(rt; pushes_again(&mut list, 5) && is_opened(list));
 }
 
-// Tests whether three values are made, at the second try if need be, and the maker is asked for each of them once, after
-// a refusal.
+// Tests whether three values are made, at the second try if need be. The maker is asked for each of them once,
+// and for none before there is memory.
 fn resizes_again(list: &mut Quiet<u64>) -> bool {
     let is_made = match resized(list, 3, 0, 3) {
         (Ok(()), asked) => asked == Some(3),

@@ -1,4 +1,4 @@
-// What one owner does with a list, and what that shows.
+// Scripts of one owner: lists, each with its steps.
 use super::steps::{Step, first_wrong};
 use super::{listed, vec_of};
 use quiet_core::{Quiet, QuietAt, QuietError, QuietMendError};

@@ -9,8 +9,8 @@ pub(super) enum Step {
     PushAll(u64, u64),
     Reserve(u64, Result<(), QuietError>),
     Assign(&'static [u64], Result<(), QuietError>),
-    // A length, the number that the maker refuses, what the call returns, and how many numbers the maker is asked
-    // for, in turn from 0 on. The maker's other values are ten and their number.
+    // A length, the number that the maker refuses, what the call returns, and how many numbers the maker is
+    // asked for, in turn from 0 on. Each other number plus ten is the maker's value for it.
     Resize(u64, u64, Result<(), QuietError>, u64),
     Replace(u64, u64, Result<u64, (QuietAt, u64)>),
     Mend(u64, u64, Result<(), (QuietMendError, u64)>),
@@ -31,8 +31,8 @@ pub(crate) fn pushes_all(list: &mut Quiet<u64>, from: u64, to: u64) -> bool {
     true
 }
 
-// Makes a list longer or shorter, by a maker whose values are `first` and its number. Returns also how many numbers the
-// maker was asked for, if these came in turn.
+// Makes a list longer or shorter. The maker's value for a number is the number plus `first`. Returns also how
+// many numbers the maker was asked for, if these came in turn.
 pub(crate) fn resized(
     list: &mut Quiet<u64>,
     len: u64,

@@ -12,7 +12,8 @@ use std::sync::Wait;
 use std::sync::atomic::{AtomicU64, Ordering};
 use std::thread::Threads;
 
-// What each worker does: it appends `each` values and returns its number. Number `stops` stops after half of them.
+// The task of each worker: it appends `each` values and returns its number. Number `stops` stops after half of
+// them.
 #[derive(Drop)]
 pub(super) struct Task<'a> {
     each: u64,
@@ -129,7 +130,8 @@ pub(super) fn append_to_new<R: Threads + Wait + Sync, G: Gate + Sync>(
     Some((told, Quiet::close(vector, hand).len()))
 }
 
-// Which of eight workers stops after five of ten values, whether they return in order, and the closed list's length.
+// The one of eight workers that stops after five of ten values, whether all return in order, and the length of
+// the closed list.
 const STOPS: [(u32, Result<bool, Refusal<u32>>, u64); 9] = [
     (8, Ok(true), 80),
     (0, Err(Refusal::Worker(0)), 75),

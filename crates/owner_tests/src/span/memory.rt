@@ -1,5 +1,5 @@
-// Any one allocation may be refused: then the loop says so, and the next one succeeds. `tests/refuse-memory` refuses
-// each request in turn.
+// Any one allocation may be refused: then the loop says so, and the next one succeeds. `tests/refuse-memory`
+// refuses each request in turn.
 ghost use Rattle.std.specs.Prelude.{◌≡◌};
 ghost use Rattle.grow_core.specs.Vector.{IsHandOf};
 
@@ -60,8 +60,8 @@ fn a_map_and_a_reduction_are_tried_again(rt: HostRuntime) {
     }
 }
 
-// Whether three workers return that append a value each, tried again if they had no memory, and the length of the
-// closed list.
+// Three workers append a value each, and try again if they had no memory. Returns whether all returned, and the
+// length of the closed list.
 fn append_again<R: Threads + Wait + Sync>(rt: &R, alloc: Global) -> Option<(bool, u64)> {
     let (vector, mut hand) = Quiet::new(alloc, 100).open().ok()?;
     let task = Task::new(1, 3, None);

@@ -72,8 +72,8 @@ impl Gate for Fates {
     }
 }
 
-// Tests whether the refusal of the lowest worker is returned, or the numbers of all in order, and all of them pass the
-// gate twice.
+// Tests whether the refusal of the lowest worker is returned, or the numbers of all in order, and all of them
+// pass the gate twice.
 fn returns_lowest<R: Threads + Wait + Sync>(
     rt: &R,
     alloc: Global,

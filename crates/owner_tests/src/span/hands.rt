@@ -23,7 +23,7 @@ pub(super) struct Task<'a> {
     watch: Option<&'a Watch>,
 }
 
-// Why a worker stops whose growth was refused. Another one stops by its number.
+// The error of a worker whose growth was refused. One that stops returns its number.
 const GROWTH: u32 = u32::MAX;
 
 impl<'a> Task<'a> {
@@ -86,7 +86,7 @@ pub(super) fn are_all(numbers: &[u32], workers: u32) -> bool {
     next == workers
 }
 
-// Whether the workers return their numbers in order, or the refusal.
+// Does the task by some workers. Returns whether each returned its number, in order.
 pub(super) fn append_by<R: Threads + Wait + Sync, G: Gate + Sync>(
     rt: &R,
     alloc: Global,
@@ -111,7 +111,7 @@ pub(super) fn append_by<R: Threads + Wait + Sync, G: Gate + Sync>(
     Ok(are_all(numbers.as_slice(), workers))
 }
 
-// The same of a new vector; and the length of the closed list.
+// The same on a new vector. Returns the length of the closed list as well.
 pub(super) fn append_to_new<R: Threads + Wait + Sync, G: Gate + Sync>(
     rt: &R,
     alloc: Global,

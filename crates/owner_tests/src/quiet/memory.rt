@@ -68,20 +68,21 @@ fn values_are_moved_in_again(rt: HostRuntime) {
     }
 }
 
-// The vector that a list was opened into, at the second try if need be.
-fn is_opened(list: Quiet<u64>) -> bool {
+// Tests whether a list of one member is opened, at the second try if need be.
+fn opens_again(list: Quiet<u64>) -> bool {
     match list.open() {
         Ok(_opened) => true,
-        Err((back, error)) => error == OpenError::NoMemory
-            && back.len() == 1
-            && back.open().is_ok(),
+        Err((back, error)) => {
+            let is_kept = error == OpenError::NoMemory && back.len() == 1;
+            back.open().is_ok() && is_kept
+        }
     }
 }
 
 #[test]
 fn a_list_is_opened_again(rt: HostRuntime) {
     let mut list = Quiet::new(rt.alloc(), 16);
-    assert!(rt; pushes_again(&mut list, 5) && is_opened(list));
+    assert!(rt; pushes_again(&mut list, 5) && opens_again(list));
 }
 
 // Tests whether three values are made, at the second try if need be. The maker is asked for each of them once,

@@ -170,7 +170,10 @@ fn even_shares(alloc: Global, shares: u32, n: u32) -> Option<(u32, u32)> {
     let (vector, mut rest) = Quiet::<u64>::new(alloc, 8).open().ok()?;
     let mut hand = vector.split(&mut rest, shares);
     let hands = split_even(alloc, &vector, &mut hand, n).ok()?;
-    let each = hands.last().map_or(0, |last| last.share());
+    let each = match hands.last() {
+        Some(last) => last.share(),
+        None => 0,
+    };
     Some((each, hand.share()))
 }
 

@@ -5,18 +5,21 @@ mod drops;
 mod layouts;
 mod lives;
 mod memory;
-mod resize;
+mod scripts;
+mod steps;
 mod uses;
 
 use quiet_core::{Quiet, QuietAt, QuietError};
 use std::alloc::AllocGlobal;
 use std::process::Abort;
+pub(crate) use steps::{pushes_all, resized};
+use steps::{Step, first_wrong};
 
 // The values in a `Vec`.
 fn vec_of<R: AllocGlobal + Abort>(rt: &R, values: &[u64]) -> Vec<u64> {
     match Vec::from_slice(rt.alloc(), values) {
         Ok(made) => made,
-        Err(error) => panic!(rt; "{error}"),
+        Err(_refused) => panic!(rt; "no memory"),
     }
 }
 
@@ -25,24 +28,19 @@ fn listed<R: AllocGlobal + Abort>(rt: &R, limit: u64, values: Vec<u64>) -> Quiet
 {
     match Quiet::from_vec(rt.alloc(), limit, values) {
         Ok(list) => list,
-        Err((error, _back)) => panic!(rt; "{error}"),
+        Err(_refused) => panic!(rt; "no memory"),
     }
 }
 
-fn list_of<R: AllocGlobal + Abort>(rt: &R, values: &[u64]) -> Quiet<u64> {
+pub(crate) fn list_of<R: AllocGlobal + Abort>(rt: &R, values: &[u64]) -> Quiet<u64> {
     listed(rt, 16, vec_of(rt, values))
 }
 
-// Tests whether a new list has the value and then a broken member.
-fn breaks_the_second(list: &mut Quiet<u64>, value: u64) -> bool {
-    let make = |i: u64| -> Result<u64, u64> { if i == 0 { Ok(value) } else { Err(i) } };
-    list.resize(2, make) == Err(QuietError::Refused { made: 1 })
-}
-
 // A value and then a broken member.
-fn broken_after<R: AllocGlobal + Abort>(rt: &R, value: u64) -> Quiet<u64> {
+fn broken_after<R: AllocGlobal + Abort>(rt: &R, first: u64) -> Quiet<u64> {
     let mut list = Quiet::new(rt.alloc(), 16);
-    assert!(rt; breaks_the_second(&mut list, value));
+    let refused = Err(QuietError::Refused { made: 1 });
+    assert!(rt; resized(&mut list, 2, first, 1) == (refused, Some(2)));
     list
 }
 
@@ -51,47 +49,18 @@ fn has(list: &Quiet<u64>, place: u64, value: u64) -> bool {
     list.get(place) == Ok(&value)
 }
 
-fn is_broken(list: &Quiet<u64>, place: u64) -> bool {
-    list.get(place) == Err(QuietAt::Broken)
-}
-
 // Tests whether a list has this length and this capacity.
 fn measures(list: &Quiet<u64>, len: u64, capacity: u64) -> bool {
     list.len() == len && list.capacity() == capacity
 }
 
-pub(crate) fn shrinks_to(list: &mut Quiet<u64>, capacity: u64) -> bool {
-    list.shrink_to_fit();
-    list.capacity() == capacity
-}
-
-fn is_cleared(list: &mut Quiet<u64>) -> bool {
-    list.clear();
-    measures(list, 0, 4)
-}
-
-fn follows_the_segments(list: &mut Quiet<u64>) -> bool {
-    list.capacity() == 4
-        && list.reserve(5) == Ok(())
-        && list.capacity() == 8
-        && shrinks_to(list, 4)
-        && is_cleared(list)
-        && shrinks_to(list, 0)
-}
-
-#[test]
-fn capacities_follow_the_segments(rt: HostRuntime) {
-    let mut list = list_of(&rt, &[1, 2, 3]);
-    assert!(rt; follows_the_segments(&mut list));
-}
-
 // Tests whether a list with a broken member is less than one with a zero there, and equal to its like.
 fn is_less(broken: &Quiet<u64>, zero: &Quiet<u64>, same: &Quiet<u64>) -> bool {
-    *broken < *zero && *broken != *zero && *broken == *same
-}
-
-fn has_a_broken_member(list: &Quiet<u64>) -> bool {
-    is_broken(list, 1) && list.get(2) == Err(QuietAt::OutOfRange { size: 2 })
+    *broken < *zero
+        && *broken != *zero
+        && *broken == *same
+        && broken.get(1) == Err(QuietAt::Broken)
+        && broken.get(2) == Err(QuietAt::OutOfRange { size: 2 })
 }
 
 #[test]
@@ -99,19 +68,7 @@ fn broken_is_less_than_every_value(rt: HostRuntime) {
     let broken = broken_after(&rt, 1);
     let zero = list_of(&rt, &[1, 0]);
     let same = broken_after(&rt, 1);
-    assert!(rt; is_less(&broken, &zero, &same) && has_a_broken_member(&broken));
-}
-
-fn is_full_with_one(list: &mut Quiet<u64>) -> bool {
-    list.push(7) == Ok(0)
-        && list.push(8) == Err((QuietError::TooLong, 8))
-        && list.reserve(2) == Err(QuietError::TooLong)
-}
-
-#[test]
-fn a_full_list_gives_the_value_back(rt: HostRuntime) {
-    let mut list = Quiet::new(rt.alloc(), 1);
-    assert!(rt; is_full_with_one(&mut list));
+    assert!(rt; is_less(&broken, &zero, &same));
 }
 
 fn gives_from_both_ends(list: &Quiet<u64>) -> bool {
@@ -136,50 +93,49 @@ fn members_come_from_both_ends(rt: HostRuntime) {
     assert!(rt; gives_from_both_ends(&list) && sum(&list) == 6);
 }
 
+// A list with a limit of five refuses six values and takes five.
+const ASSIGNS_FIVE: [Step; 4] = [
+    Step::Assign(&[0; 6], Err(QuietError::TooLong)),
+    Step::Assign(&[9; 5], Ok(())),
+    Step::Len(5),
+    Step::Capacity(8),
+];
+
 // Tests whether three values of a limit of 16 and none of a limit of five are exchanged.
 fn are_exchanged(list: &mut Quiet<u64>, other: &mut Quiet<u64>) -> bool {
     list.swap(other);
     list.len() == 0 && list.limit() == 5 && other.len() == 3 && other.limit() == 16
 }
 
-// Tests whether a list with a limit of five refuses six values and takes five.
-fn assigns_five(list: &mut Quiet<u64>, six: Vec<u64>, five: Vec<u64>) -> bool {
-    matches!(list.assign(six), Err((QuietError::TooLong, _)))
-        && list.assign(five).is_ok()
-        && measures(list, 5, 8)
-}
-
 #[test]
 fn lists_are_exchanged_and_replaced(rt: HostRuntime) {
     let mut list = list_of(&rt, &[1, 2, 3]);
     let mut other = Quiet::new(rt.alloc(), 5);
-    let (six, five) = (vec_of(&rt, &[0; 6]), vec_of(&rt, &[9; 5]));
-    assert!(rt; are_exchanged(&mut list, &mut other) && assigns_five(&mut list, six, five));
+    assert!(rt;
+        are_exchanged(&mut list, &mut other)
+            && first_wrong(rt.alloc(), &mut list, &ASSIGNS_FIVE) == None
+    );
 }
 
-fn pushes_on(list: &mut Quiet<u64>) -> bool {
-    for place in 1_000_000..1_048_577u64 {
-        if list.push(place) != Ok(place) {
-            return false;
-        }
-    }
-    measures(list, 1_048_577, 1 << 21) && list.reserve(5_000_000) == Ok(())
-}
-
-// Tests whether five values are where a million were. The capacity stays.
-fn assigns_after_a_million(list: &mut Quiet<u64>, five: Vec<u64>) -> bool {
-    list.assign(five).is_ok() && measures(list, 5, 1 << 23) && has(list, 4, 9)
-}
-
-fn a_million<R: AllocGlobal + Abort>(rt: &R) -> Vec<u64> {
-    match vec![in rt.alloc(); 7u64; 1_000_000] {
-        Ok(made) => made,
-        Err(error) => panic!(rt; "{error}"),
-    }
-}
+// Five values are then where a million were. The capacity stays.
+const AFTER_A_MILLION: [Step; 8] = [
+    Step::PushAll(1_000_000, 1_048_577),
+    Step::Len(1_048_577),
+    Step::Capacity(1 << 21),
+    Step::Reserve(5_000_000, Ok(())),
+    Step::Assign(&[9; 5], Ok(())),
+    Step::Len(5),
+    Step::Capacity(1 << 23),
+    Step::Get(4, Ok(9)),
+];
 
 #[test]
 fn a_million_values_are_moved_in_and_pushed_on(rt: HostRuntime) {
-    let mut list = listed(&rt, 1 << 32, a_million(&rt));
-    assert!(rt; pushes_on(&mut list) && assigns_after_a_million(&mut list, vec_of(&rt, &[9; 5])));
+    match vec![in rt.alloc(); 7u64; 1_000_000] {
+        Ok(million) => {
+            let mut list = listed(&rt, 1 << 32, million);
+            assert_eq!(rt; first_wrong(rt.alloc(), &mut list, &AFTER_A_MILLION), None);
+        }
+        Err(_refused) => panic!(rt; "no memory"),
+    }
 }

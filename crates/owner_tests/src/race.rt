@@ -2,55 +2,32 @@
 
 mod memory;
 
+use crate::gates::Refusing;
 use grow_core::GrowError;
 use race_core::{RaceError, RaceReport, race, race_error_of};
-use span_core::{Free, Gate, PairGate};
-use std::sync::atomic::{AtomicU64, Ordering};
+use span_core::{Free, PairGate};
+
+const TWENTY: RaceReport = RaceReport {
+    size: 20,
+    sum: 190,
+    legal: true,
+};
+
+// Workers by ten values each, how often one of a pair looks for the other, and what their race returns.
+const PAIRS: [(u32, u64, Result<RaceReport, RaceError>); 3] = [
+    (2, 0, Err(RaceError::Stuck)),
+    (1, 1000, Err(RaceError::Stuck)),
+    (2, 1_000_000_000, Ok(TWENTY)),
+];
 
 #[test]
-fn a_pair_that_looks_no_times_is_stuck(rt: HostRuntime) {
-    let ended = race(&rt, rt.alloc(), 2, 10, &PairGate::new(0));
-    assert!(rt; ended == Err(RaceError::Stuck));
-}
-
-#[test]
-fn one_worker_waits_for_another_in_vain(rt: HostRuntime) {
-    let ended = race(&rt, rt.alloc(), 1, 10, &PairGate::new(1000));
-    assert!(rt; ended == Err(RaceError::Stuck));
-}
-
-#[test]
-fn two_workers_run_at_once(rt: HostRuntime) {
-    let ended = race(&rt, rt.alloc(), 2, 10, &PairGate::new(1_000_000_000));
-    let report = RaceReport {
-        size: 20,
-        sum: 190,
-        legal: true,
-    };
-    assert!(rt; ended == Ok(report));
-}
-
-// Counts its calls, and refuses the workers from one number up to another.
-#[derive(Drop)]
-struct CountingGate {
-    from: u32,
-    to: u32,
-    before: AtomicU64,
-    after: AtomicU64,
-}
-
-impl Gate for CountingGate {
-    ghost use Rattle.std.specs.Prelude.{◌≤◌, ◌<◌};
-
-    ghost may_refuse = { λ gate worker. (gate.from ≤ worker) × (worker < gate.to) };
-
-    fn before(&self, worker: u32) -> bool {
-        let _calls = self.before.fetch_add(1, Ordering::SeqCst);
-        worker < self.from || self.to <= worker
-    }
-
-    fn after(&self, _worker: u32) {
-        let _calls = self.after.fetch_add(1, Ordering::SeqCst);
+fn two_workers_run_at_once_and_one_waits_in_vain(rt: HostRuntime) {
+    for (workers, turns, ended) in PAIRS.as_slice() {
+        let gate = PairGate::new(*turns);
+        assert!(rt;
+            race(&rt, rt.alloc(), *workers, 10, &gate) == *ended,
+            "{workers} {turns}"
+        );
     }
 }
 
@@ -68,16 +45,12 @@ const REFUSED: [(u32, u32, bool); 7] = [
 #[test]
 fn each_worker_passes_the_gate_twice_whichever_are_refused(rt: HostRuntime) {
     for (from, to, stuck) in REFUSED.as_slice() {
-        let gate = CountingGate {
-            from: *from,
-            to: *to,
-            before: AtomicU64::new(0),
-            after: AtomicU64::new(0),
-        };
+        let gate = Refusing::new(*from, *to);
         let ended = race(&rt, rt.alloc(), 5, 10, &gate);
-        assert!(rt; (ended == Err(RaceError::Stuck)) == *stuck, "{from} {to}");
-        assert!(rt; gate.before.load(Ordering::SeqCst) == 5, "{from} {to}");
-        assert!(rt; gate.after.load(Ordering::SeqCst) == 5, "{from} {to}");
+        assert!(rt;
+            (ended == Err(RaceError::Stuck)) == *stuck && gate.is_passed(5),
+            "{from} {to}"
+        );
     }
 }
 

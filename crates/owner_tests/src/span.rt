@@ -1,6 +1,6 @@
 //! Facts that no clause states: that the loops return if there is memory, that two threads really run at
 //! once, and the gate's order.
-ghost use Rattle.std.specs.Prelude.{◌<◌};
+ghost use Rattle.std.specs.Prelude.{◌<◌, ◌≤◌, length};
 
 mod all_come;
 mod hands;
@@ -11,65 +11,31 @@ mod stuck;
 mod uses;
 mod watch;
 
+use crate::quiet::{list_of, pushes_all};
 use quiet_core::Quiet;
 use span_core::{Free, Gate, PairGate, ParError, Span, par_map, par_reduce};
-use std::alloc::Global;
+use std::alloc::{AllocGlobal, Global};
+use std::process::Abort;
 use std::sync::Wait;
-use std::sync::atomic::{AtomicU64, Ordering};
-use std::test::Fail;
 use std::thread::Threads;
 
-fn bounds_of(alloc: Global, span: Span) -> Result<Vec<(u64, u64)>, Fail> {
-    let mut bounds = Vec::new(alloc);
-    for leaf in &span.leaves(alloc)? {
-        bounds.push((leaf.from(), leaf.to()))?;
+// Tests whether leaves have these bounds.
+fn have_bounds(leaves: &[Span], bounds: &[(u64, u64)]) -> bool {
+    if leaves.len() != bounds.len() {
+        return false;
     }
-    Ok(bounds)
-}
-
-// Tests whether a span is cut into leaves with these bounds.
-fn is_cut(alloc: Global, span: Span, bounds: &[(u64, u64)]) -> Result<bool, Fail> {
-    let cut = bounds_of(alloc, span)?;
-    Ok(cut.as_slice() == bounds)
-}
-
-fn squares(alloc: Global) -> Result<Quiet<u64>, Fail> {
-    let values = vec![in alloc; 0u64, 1, 4, 9, 16, 25, 36, 49, 64, 81]?;
-    match Quiet::from_vec(alloc, 16, values) {
-        Ok(list) => Ok(list),
-        Err((error, _)) => Err(Fail::from(error)),
-    }
-}
-
-// A list of the numbers below n.
-fn numbered(alloc: Global, n: u64) -> Result<Quiet<u64>, Fail> {
-    let mut list = Quiet::new(alloc, 1 << 32);
-    for value in 0..n {
-        if let Err((error, _)) = list.push(value) {
-            return Err(Fail::from(error));
+    for number in 0..leaves.len() {
+        let leaf = &leaves[number];
+        if (leaf.from(), leaf.to()) != bounds[number] {
+            return false;
         }
     }
-    Ok(list)
+    true
 }
 
-// Counts what passes it: each `before` as 1, each `after` as 100. It refuses the workers from `refuses` on.
-#[derive(Drop)]
-struct Counting {
-    refuses: u32,
-    passed: AtomicU64,
-}
-
-impl Gate for Counting {
-    ghost may_refuse = { λ _ _. Unit {0} };
-
-    fn before(&self, worker: u32) -> bool {
-        self.passed.fetch_add(1, Ordering::SeqCst);
-        worker < self.refuses
-    }
-
-    fn after(&self, _worker: u32) {
-        self.passed.fetch_add(100, Ordering::SeqCst);
-    }
+fn is_cut(alloc: Global, span: Span, bounds: &[(u64, u64)]) -> Option<bool> {
+    let leaves = span.leaves(alloc).ok()?;
+    Some(have_bounds(leaves.as_slice(), bounds))
 }
 
 const TEN: [(u64, u64); 4] = [(0, 2), (2, 5), (5, 7), (7, 10)];
@@ -77,118 +43,106 @@ const TEN: [(u64, u64); 4] = [(0, 2), (2, 5), (5, 7), (7, 10)];
 const NONE: [(u64, u64); 1] = [(4, 4)];
 
 #[test]
-fn leaves_are_cut_in_the_middle(rt: HostRuntime) -> Result<(), Fail> {
-    assert!(rt; is_cut(rt.alloc(), Span::new(0, 10, 3), TEN.as_slice())?);
-    assert!(rt; is_cut(rt.alloc(), Span::new(4, 4, 1), NONE.as_slice())?);
-    Ok(())
+fn leaves_are_cut_in_the_middle(rt: HostRuntime) {
+    assert!(rt; is_cut(rt.alloc(), Span::new(0, 10, 3), &TEN) == Some(true));
+    assert!(rt; is_cut(rt.alloc(), Span::new(4, 4, 1), &NONE) == Some(true));
 }
 
-const THREE: [(u64, Option<u64>); 3] = [(2, Some(4)), (3, Some(9)), (4, Some(16))];
+// A list of the numbers below n.
+fn numbered<R: AllocGlobal + Abort>(rt: &R, n: u64) -> Quiet<u64> {
+    let mut list = Quiet::new(rt.alloc(), 1 << 32);
+    assert!(rt; pushes_all(&mut list, 0, n));
+    list
+}
 
-// Tests whether `workers` workers return the squares of 2, 3 and 4 with their places.
-fn maps_three<R: Threads + Wait + Sync>(
+// Tests whether a map returns these places with their values.
+fn maps<R: Threads + Wait + Sync, G: Gate + Sync>(
     rt: &R,
     alloc: Global,
     list: &Quiet<u64>,
+    span: Span,
     workers: u32,
-) -> Result<bool, ParError> {
-    if list.len() != 10 {
-        return Ok(false);
-    }
+    gate: &G,
+    wanted: &[(u64, Option<u64>)],
+) -> Result<bool, ParError>
+    requires { span.to ≤ length list.now.members }
+{
     let f = |place: u64, value: Option<&u64>| (place, value.copied());
-    let all = par_map(rt, alloc, list, Span::new(2, 5, 1), workers, f, &Free)?;
-    Ok(all.as_slice() == THREE.as_slice())
+    let all = par_map(rt, alloc, list, span, workers, f, gate)?;
+    Ok(all.as_slice() == wanted)
 }
 
-// The sum of the values by `workers` workers.
-fn sum_of<R: Threads + Wait + Sync>(
-    rt: &R,
-    alloc: Global,
-    list: &Quiet<u64>,
-    workers: u32,
-) -> Result<u64, ParError> {
-    let f = |_place: u64, value: Option<&u64>| value.copied().unwrap_or(0);
-    let join = |a: u64, b: u64| a.wrapping_add(b);
-    let span = Span::new(0, list.len(), 3);
-    par_reduce(rt, alloc, list, span, workers, f, 0u64, join, &Free)
-}
-
-fn every_number_of_workers_answers_the_same<R: Threads + Wait + Sync>(
-    rt: &R,
-    alloc: Global,
-    list: &Quiet<u64>,
-) -> Result<bool, ParError> {
-    for workers in 1..7 {
-        if !maps_three(rt, alloc, list, workers)? || sum_of(rt, alloc, list, workers)? != 285 {
-            return Ok(false);
-        }
-    }
-    Ok(true)
-}
-
-// What refuses a map of the whole list.
-fn refusal_of<R: Threads + Wait + Sync, G: Gate + Sync>(
+// The sum of the values of a list, by leaves of `grain` places at most.
+fn sum_of<R: Threads + Wait + Sync, G: Gate + Sync>(
     rt: &R,
     alloc: Global,
     list: &Quiet<u64>,
     grain: u64,
     workers: u32,
     gate: &G,
-) -> Option<ParError>
+) -> Result<u64, ParError>
     requires { 0 < grain }
 {
-    let f = |place: u64, _value: Option<&u64>| place;
+    let f = |_place: u64, value: Option<&u64>| value.copied().unwrap_or(0);
+    let join = |a: u64, b: u64| a.wrapping_add(b);
     let span = Span::new(0, list.len(), grain);
-    par_map(rt, alloc, list, span, workers, f, gate).err()
+    par_reduce(rt, alloc, list, span, workers, f, 0u64, join, gate)
 }
 
-// The refusal of a map in four leaves by `workers` workers, if two of them wait for each other.
-fn pair_refusal_of<R: Threads + Wait + Sync>(
-    rt: &R,
-    alloc: Global,
-    list: &Quiet<u64>,
-    workers: u32,
-    turns: u64,
-) -> Option<ParError> {
-    refusal_of(rt, alloc, list, 3, workers, &PairGate::new(turns))
-}
+const SQUARES: [u64; 10] = [0, 1, 4, 9, 16, 25, 36, 49, 64, 81];
 
-fn two_workers_run_at_once<R: Threads + Wait + Sync>(
+const THREE: [(u64, Option<u64>); 3] = [(2, Some(4)), (3, Some(9)), (4, Some(16))];
+
+fn every_number_of_workers_answers_the_same<R: Threads + Wait + Sync>(
     rt: &R,
     alloc: Global,
-    list: &Quiet<u64>,
+    squares: &Quiet<u64>,
 ) -> bool {
-    pair_refusal_of(rt, alloc, list, 2, 1_000_000_000) == None
-        && pair_refusal_of(rt, alloc, list, 2, 0) == Some(ParError::Stuck)
-        && pair_refusal_of(rt, alloc, list, 1, 1000) == Some(ParError::Stuck)
+    if squares.len() != 10 {
+        return false;
+    }
+    for workers in 1..7 {
+        let span = Span::new(2, 5, 1);
+        if maps(rt, alloc, squares, span, workers, &Free, &THREE) != Ok(true)
+            || sum_of(rt, alloc, squares, 3, workers, &Free) != Ok(285)
+        {
+            return false;
+        }
+    }
+    true
 }
 
-// What refuses a map in two leaves by five workers, so that three of them have no work; and what the gate
-// counted.
-fn counted<R: Threads + Wait + Sync>(
-    rt: &R,
-    alloc: Global,
-    list: &Quiet<u64>,
-    refuses: u32,
-) -> (Option<ParError>, u64) {
-    let gate = Counting {
-        refuses,
-        passed: AtomicU64::new(0),
-    };
-    let refused = refusal_of(rt, alloc, list, 5, 5, &gate);
-    (refused, gate.passed.load(Ordering::SeqCst))
-}
+const ALL: [(u64, Option<u64>); 10] = [
+    (0, Some(0)),
+    (1, Some(1)),
+    (2, Some(4)),
+    (3, Some(9)),
+    (4, Some(16)),
+    (5, Some(25)),
+    (6, Some(36)),
+    (7, Some(49)),
+    (8, Some(64)),
+    (9, Some(81)),
+];
+
+// A number of workers, how often one of a pair looks for the other, and whether a map in four leaves returns
+// all values.
+const PAIRS: [(u32, u64, Result<bool, ParError>); 3] = [
+    (2, 1_000_000_000, Ok(true)),
+    (2, 0, Err(ParError::Stuck)),
+    (1, 1000, Err(ParError::Stuck)),
+];
 
 #[test]
-fn loops_over_ten_squares_return_and_pass_the_gate(rt: HostRuntime) -> Result<(), Fail> {
-    let list = squares(rt.alloc())?;
-    assert!(rt; list.len() == 10);
-    assert!(rt; every_number_of_workers_answers_the_same(&rt, rt.alloc(), &list) == Ok(true));
-    assert!(rt; two_workers_run_at_once(&rt, rt.alloc(), &list));
-    // Each worker passes the gate twice.
-    assert!(rt; counted(&rt, rt.alloc(), &list, 5) == (None, 505));
-    assert!(rt; counted(&rt, rt.alloc(), &list, 2) == (Some(ParError::Stuck), 505));
-    Ok(())
+fn loops_over_ten_squares_return_if_the_gate_lets_them_through(rt: HostRuntime) {
+    let list = list_of(&rt, &SQUARES);
+    assert!(rt; every_number_of_workers_answers_the_same(&rt, rt.alloc(), &list));
+    for (workers, turns, returned) in PAIRS.as_slice() {
+        let gate = PairGate::new(*turns);
+        let span = Span::new(0, list.len(), 3);
+        let mapped = maps(&rt, rt.alloc(), &list, span, *workers, &gate, &ALL);
+        assert!(rt; mapped == *returned, "{workers} {turns}");
+    }
 }
 
 #[test]

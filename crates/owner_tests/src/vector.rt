@@ -3,23 +3,32 @@ ghost use Rattle.std.specs.Prelude.{◌≡◌, ◌+◌, ◌<◌, ◌≤◌, Some
 ghost use Rattle.grow_core.specs.Vector.{IsHandOf, IsOpenedAt};
 ghost use Rattle.grow_core.specs.Closing.{KeepsValues};
 
+use crate::quiet::resized;
 use grow_core::{AtError, AtLeast, GrowError, Hand, Shared, Shown, makers};
 use quiet_core::{Quiet, QuietMendError, laws};
 use std::alloc::AllocGlobal;
 
-// Grows by `n` values; the maker refuses number `at`, and its cause is 9. If the construction is refused,
-// returns the number of broken places, of which there is one at least, and the cause that the growth reports.
-fn grow_refused(vector: &Shared<u64>, hand: &mut Hand<u64>, n: u64, at: u64) -> Option<(u64, u64)>
+// Grows by `n` values of 7; the maker refuses number `at`, and its cause is 9. If the construction is refused,
+// returns the run's first place and its length, the number of values that were made, and the reported cause.
+pub(crate) fn grow_refused(
+    vector: &Shared<u64>,
+    hand: &mut Hand<u64>,
+    n: u64,
+    at: u64,
+) -> Option<(u64, u64, u64, u64)>
     requires ours { IsHandOf vector.now hand.old }
     ensures of { hand.new.of ≡ hand.old.of }
-    ensures left { IfSome result (λ (left, _). 0 < left) }
-    ensures cause { IfSome result (λ (_, why). why ≡ 9) }
+    ensures shares { hand.new.shares ≡ hand.old.shares }
+    ensures left { IfSome result (λ (_, n, made, _). made < n) }
+    ensures cause { IfSome result (λ (_, _, _, why). why ≡ 9) }
 {
     let make = |i: u64| -> Result<u64, u64>
         ensures { IfErr result (λ why. why ≡ 9) }
-    { if i == at { Err(9) } else { Ok(i) } };
+    { if i == at { Err(9) } else { Ok(7) } };
     match vector.try_grow_with(hand, n, make) {
-        Err(GrowError::Refused { made, cause, .. }) => Some((n - made.run().n, cause)),
+        Err(GrowError::Refused { run, made, cause }) => {
+            Some((run.from, run.n, made.run().n, cause))
+        }
         _ => None,
     }
 }
@@ -66,16 +75,25 @@ fn grow_to(vector: &Shared<u64>, hand: &mut Hand<u64>, size: u64) -> Option<u64>
     }
 }
 
+// The first item of a walk over a vector is the first value that it was opened with.
+fn first_shown(vector: &Shared<u64>) -> Option<u64>
+    ensures { (x : ℕ) → IsOpenedAt vector.now 0 x → result ≡ Some x }
+{
+    // For the proof: the walk is not at its end if there is such a value.
+    vector.laws();
+    match vector.published().next() {
+        Some(Some(value)) => Some(*value),
+        _ => None,
+    }
+}
+
 // The first item of a walk over an opened list is its first value.
 fn first_published(list: Quiet<u64>) -> Option<Option<u64>>
     ensures { (x : ℕ) → slice_get list.members 0 ≡ Some (Some x)
         → IfSome result (λ shown. shown ≡ Some x) }
 {
     let (vector, _hand) = list.open().ok()?;
-    match vector.published().next() {
-        Some(Some(value)) => Some(Some(*value)),
-        _ => Some(None),
-    }
+    Some(first_shown(&vector))
 }
 
 // The place of the token that a look at a broken place gives is that place, and so is the one that `at`
@@ -121,7 +139,7 @@ fn push_with_room(list: &mut Quiet<u64>, more: u64, value: u64)
 }
 
 // The value that is read at a place, without a token.
-fn read(vector: &Shared<u64>, hand: &mut Hand<u64>, place: u64) -> Option<u64>
+pub(crate) fn read(vector: &Shared<u64>, hand: &mut Hand<u64>, place: u64) -> Option<u64>
     requires ours { IsHandOf vector.now hand.old }
     ensures of { hand.new.of ≡ hand.old.of }
     ensures opened { (x : ℕ) → IsOpenedAt vector.now place x → result ≡ Some x }
@@ -187,14 +205,13 @@ fn equals_with_room(list: &mut Quiet<u64>, other: &Quiet<u64>, n: u64) -> bool
 // it.
 fn numbers<R: AllocGlobal>(rt: &R, n: u64, refused: u64) -> Quiet<u64> {
     let mut list = Quiet::new(rt.alloc(), 8);
-    let make = |i: u64| -> Result<u64, u64> { if i == refused { Err(i) } else { Ok(i) } };
-    let _made = list.resize(n, make).is_ok();
+    let _made = resized(&mut list, n, 0, refused);
     list
 }
 
 // What callers learn of a growth that was refused its second value, of a growth to a size of four, and of
 // the last place.
-fn grown_over(list: Quiet<u64>) -> Option<((u64, u64), u64, (u64, u64))> {
+fn grown_over(list: Quiet<u64>) -> Option<((u64, u64, u64, u64), u64, (u64, u64))> {
     let (vector, mut hand) = list.open().ok()?;
     let refused = grow_refused(&vector, &mut hand, 3, 1)?;
     let size = grow_to(&vector, &mut hand, 4)?;
@@ -210,7 +227,7 @@ fn first_made(list: Quiet<u64>) -> Option<u64> {
 
 #[test]
 fn callers_know_what_a_growth_reports(rt: HostRuntime) {
-    assert!(rt; grown_over(numbers(&rt, 3, 9)) == Some(((2, 9), 6, (5, 5))));
+    assert!(rt; grown_over(numbers(&rt, 3, 9)) == Some(((3, 3, 1, 9), 6, (5, 5))));
     assert!(rt; first_made(numbers(&rt, 3, 9)) == Some(70));
 }
 

@@ -1,15 +1,15 @@
 // Lists that were opened and closed, and what comes out of them.
 ghost use Rattle.std.specs.Prelude.{◌≡◌, ◌+◌, IfSome, length};
-ghost use Rattle.grow_core.specs.Hand.{IsNewHand};
 ghost use Rattle.grow_core.specs.Vector.{IsHandOf, IsPlacedOf};
 
-use super::{broken_after, has, is_broken, list_of, measures};
-use grow_core::{AtError, GrowError, Placed};
-use quiet_core::{Hand, Quiet, QuietAt, QuietMendError, Shared};
+use super::steps::{Step, first_wrong};
+use super::{broken_after, list_of};
+use crate::vector::{grow_refused, read};
+use grow_core::{AtError, Placed};
+use quiet_core::{Hand, Quiet, QuietAt, Shared};
 use std::alloc::AllocGlobal;
 use std::process::Abort;
 use std::sync::Wait;
-use std::test::Fail;
 
 // Opens the list, appends a value, closes it, and recalls the value by its token, if there is memory and
 // room.
@@ -37,56 +37,32 @@ fn live_ten_times(mut list: Quiet<u64>) -> Option<Quiet<u64>> {
     Some(list)
 }
 
-// Tests whether the old members are there, and the new ones from ten on.
-fn has_all(list: &Quiet<u64>) -> bool {
-    for place in 3..13u64 {
-        if !has(list, place, place + 7) {
-            return false;
-        }
-    }
-    measures(list, 13, 16) && list.limit() == 16 && has(list, 0, 1) && has(list, 2, 3)
-}
-
-fn loses_nothing(list: Quiet<u64>) -> bool {
-    match live_ten_times(list) {
-        Some(list) => has_all(&list),
-        None => false,
-    }
-}
+// The old members are there, and the new ones from ten on.
+const AFTER_TEN_LIVES: [Step; 15] = [
+    Step::Len(13),
+    Step::Capacity(16),
+    Step::Limit(16),
+    Step::Get(0, Ok(1)),
+    Step::Get(2, Ok(3)),
+    Step::Get(3, Ok(10)),
+    Step::Get(4, Ok(11)),
+    Step::Get(5, Ok(12)),
+    Step::Get(6, Ok(13)),
+    Step::Get(7, Ok(14)),
+    Step::Get(8, Ok(15)),
+    Step::Get(9, Ok(16)),
+    Step::Get(10, Ok(17)),
+    Step::Get(11, Ok(18)),
+    Step::Get(12, Ok(19)),
+];
 
 #[test]
 fn ten_lives_lose_nothing(rt: HostRuntime) {
-    assert!(rt; loses_nothing(list_of(&rt, &[1, 2, 3])));
-}
-
-// What a look without a token shows at a place.
-fn look(vector: &Shared<u64>, hand: &mut Hand<u64>, place: u64) -> Option<u64>
-    requires ours { IsHandOf vector.now hand.old }
-    ensures of { hand.new.of ≡ hand.old.of }
-{
-    let at = vector.at(hand, place, None).ok()?;
-    Some(*at.value)
-}
-
-// The size that a look without a token reports, if the place is not below it.
-fn size_seen(vector: &Shared<u64>, hand: &mut Hand<u64>, place: u64) -> Option<u64>
-    requires ours { IsHandOf vector.now hand.old }
-    ensures of { hand.new.of ≡ hand.old.of }
-{
-    match vector.at(hand, place, None) {
-        Err(AtError::OutOfRange { size }) => Some(size),
-        _ => None,
-    }
-}
-
-// The place of a value that is appended.
-fn place_of<R: Wait>(rt: &R, vector: &Shared<u64>, hand: &mut Hand<u64>, value: u64) -> Option<u64>
-    requires ours { IsHandOf vector.now hand.old }
-    ensures of { hand.new.of ≡ hand.old.of }
-{
-    match vector.push_back(rt, hand, value) {
-        Ok(placed) => Some(placed.place()),
-        Err(_refused) => None,
+    match live_ten_times(list_of(&rt, &[1, 2, 3])) {
+        Some(mut list) => {
+            assert_eq!(rt; first_wrong(rt.alloc(), &mut list, &AFTER_TEN_LIVES), None);
+        }
+        None => panic!(rt; "no list"),
     }
 }
 
@@ -102,23 +78,23 @@ fn see_one_push<R: Wait>(
     requires second { IsHandOf vector.now g.old }
     requires third { IsHandOf vector.now k.old }
 {
-    place_of(rt, vector, h, 5) == Some(0)
-        && look(vector, g, 0) == Some(5)
-        && size_seen(vector, g, 1) == Some(1)
+    let is_first = match vector.push_back(rt, h, 5) {
+        Ok(placed) => placed.place() == 0,
+        Err(_refused) => false,
+    };
+    is_first
+        && read(vector, g, 0) == Some(5)
+        && matches!(vector.at(g, 1, None), Err(AtError::OutOfRange { size: 1 }))
         && vector.size(k) == 1
-}
-
-fn three_see_one_push<R: Wait>(rt: &R, vector: &Shared<u64>, mut h: Hand<u64>) -> bool
-    requires new { IsNewHand vector.now.word h }
-{
-    let mut g = vector.split(&mut h, 1);
-    let mut k = vector.split(&mut h, 1);
-    see_one_push(rt, vector, &mut h, &mut g, &mut k)
 }
 
 fn shows_its_hands<R: Wait>(rt: &R, list: Quiet<u64>) -> bool {
     match list.open() {
-        Ok((vector, hand)) => three_see_one_push(rt, &vector, hand),
+        Ok((vector, mut h)) => {
+            let mut g = vector.split(&mut h, 1);
+            let mut k = vector.split(&mut h, 1);
+            see_one_push(rt, &vector, &mut h, &mut g, &mut k)
+        }
         Err(_refused) => false,
     }
 }
@@ -128,40 +104,31 @@ fn three_hands_see_one_push(rt: HostRuntime) {
     assert!(rt; shows_its_hands(&rt, Quiet::new(rt.alloc(), 8)));
 }
 
-// Grows by three values, refused at the second: the run, the number of values made, and the cause.
-fn grow_refused(vector: &Shared<u64>, hand: &mut Hand<u64>) -> Option<(u64, u64, u64, u64)>
-    requires ours { IsHandOf vector.now hand.old }
-    ensures of { hand.new.of ≡ hand.old.of }
-    ensures shares { hand.new.shares ≡ hand.old.shares }
-{
-    let make = |i: u64| -> Result<u64, u64> { if i == 1 { Err(9) } else { Ok(7) } };
-    match vector.try_grow_with(hand, 3, make) {
-        Err(GrowError::Refused { run, made, cause }) => Some((
-            run.from,
-            run.n,
-            made.run().n,
-            cause,
-        )),
-        _ => None,
-    }
-}
-
-// What such a growth reports, and the list that the vector is closed into.
-fn closed_after_refusal(list: Quiet<u64>) -> Option<((u64, u64, u64, u64), Quiet<u64>)> {
+// Opens a list, grows it by three values, of which the second is refused, and closes it. Returns the report of
+// that growth and the closed list.
+fn closed_after_refusal(list: Quiet<u64>) -> Option<(Option<(u64, u64, u64, u64)>, Quiet<u64>)> {
     let (vector, mut hand) = list.open().ok()?;
-    let refused = grow_refused(&vector, &mut hand);
-    Some((refused?, Quiet::close(vector, hand)))
+    let refused = grow_refused(&vector, &mut hand, 3, 1);
+    Some((refused, Quiet::close(vector, hand)))
 }
 
-fn is_broken_from_the_second(list: &Quiet<u64>) -> bool {
-    measures(list, 3, 4) && has(list, 0, 7) && is_broken(list, 1) && is_broken(list, 2)
-}
+const BROKEN_FROM_THE_SECOND: [Step; 5] = [
+    Step::Len(3),
+    Step::Capacity(4),
+    Step::Get(0, Ok(7)),
+    Step::Get(1, Err(QuietAt::Broken)),
+    Step::Get(2, Err(QuietAt::Broken)),
+];
 
 #[test]
 fn a_refused_value_breaks_the_places_of_the_closed_list(rt: HostRuntime) {
     match closed_after_refusal(Quiet::new(rt.alloc(), 8)) {
-        Some((refused, list)) => {
-            assert!(rt; refused == (0, 3, 1, 9) && is_broken_from_the_second(&list));
+        Some((refused, mut list)) => {
+            assert!(rt; refused == Some((0, 3, 1, 9)));
+            assert_eq!(rt;
+                first_wrong(rt.alloc(), &mut list, &BROKEN_FROM_THE_SECOND),
+                None
+            );
         }
         None => panic!(rt; "no list"),
     }
@@ -190,12 +157,28 @@ fn pushed(vector: &Shared<u64>, hand: &mut Hand<u64>, value: u64) -> Option<Plac
     vector.try_push_back(hand, value).ok()
 }
 
+fn tokens(
+    vector: &Shared<u64>,
+    hand: &mut Hand<u64>,
+    place: u64,
+    value: u64,
+) -> Option<(Placed<u64>, Placed<u64>)>
+    requires ours { IsHandOf vector.now hand.old }
+    ensures of { hand.new.of ≡ hand.old.of }
+    ensures shares { hand.new.shares ≡ hand.old.shares }
+    ensures old { IfSome result (λ (old, _). IsPlacedOf vector.now old) }
+    ensures new { IfSome result (λ (_, new). IsPlacedOf vector.now new) }
+{
+    let old = token_at(vector, hand, place)?;
+    let new = pushed(vector, hand, value)?;
+    Some((old, new))
+}
+
 // Opens a list, reads one of its places, appends a value, and closes it. Returns what was read, and what the
 // closed list recalls by the two tokens.
 fn recalled(list: Quiet<u64>, place: u64, value: u64) -> Option<[u64; 3]> {
     let (vector, mut hand) = list.open().ok()?;
-    let old = token_at(&vector, &mut hand, place)?;
-    let new = pushed(&vector, &mut hand, value)?;
+    let (old, new) = tokens(&vector, &mut hand, place, value)?;
     let read = *vector.get(&old);
     let list = Quiet::close(vector, hand);
     Some([read, *list.recall(&old), *list.recall(&new)])
@@ -213,7 +196,7 @@ fn old_and_new_places_are_recalled(rt: HostRuntime) {
 fn has_values<R: AllocGlobal + Abort>(rt: &R, list: Quiet<u64>, wanted: &[u64]) -> bool {
     match list.into_iter().flatten().collect::<Vec<u64>>(rt.alloc()) {
         Ok(values) => values.as_slice() == wanted,
-        Err(error) => panic!(rt; "{error}"),
+        Err(_refused) => panic!(rt; "no memory"),
     }
 }
 
@@ -236,46 +219,11 @@ fn values_come_out_in_order(rt: HostRuntime) {
     );
 }
 
-fn exchanges_the_second(list: &mut Quiet<u64>) -> bool {
-    list.replace(1, 20) == Ok(2)
-        && has(list, 0, 1)
-        && has(list, 1, 20)
-        && has(list, 2, 3)
-        && list.replace(3, 40) == Err((QuietAt::OutOfRange { size: 3 }, 40))
-}
-
-fn exchanges_no_broken_member(list: &mut Quiet<u64>) -> bool {
-    list.replace(1, 5) == Err((QuietAt::Broken, 5))
-}
-
 #[test]
-fn a_value_is_exchanged(rt: HostRuntime) {
-    let mut list = list_of(&rt, &[1, 2, 3]);
-    let mut broken = broken_after(&rt, 1);
-    assert!(rt; exchanges_the_second(&mut list) && exchanges_no_broken_member(&mut broken));
-}
-
-fn mends_the_second(list: &mut Quiet<u64>) -> bool {
-    list.mend(1, 6) == Ok(()) && list.get(1) == Ok(&6) && list.len() == 2
-}
-
-fn mends_no_value(list: &mut Quiet<u64>) -> bool {
-    list.mend(1, 7) == Err((QuietMendError::Filled, 7))
-        && list.mend(2, 8) == Err((QuietMendError::OutOfRange { size: 2 }, 8))
-}
-
-#[test]
-fn a_broken_member_is_mended_once(rt: HostRuntime) {
-    let mut list = broken_after(&rt, 4);
-    assert!(rt; mends_the_second(&mut list) && mends_no_value(&mut list));
-}
-
-#[test]
-fn a_list_shows_its_members(rt: HostRuntime) -> Result<(), Fail> {
+fn a_list_shows_its_members(rt: HostRuntime) {
     let list = broken_after(&rt, 7);
-    assert_eq!(rt;
-        format!(in rt.alloc(); "{list:?}")?.as_str(),
-        "[Some(7), None]"
-    );
-    Ok(())
+    match format!(in rt.alloc(); "{list:?}") {
+        Ok(text) => assert!(rt; text.as_str() == "[Some(7), None]"),
+        Err(_refused) => panic!(rt; "no memory"),
+    }
 }

@@ -3,38 +3,21 @@
 ghost use Rattle.std.specs.Prelude.{◌≡◌};
 ghost use Rattle.grow_core.specs.Vector.{IsHandOf};
 
-use super::{has, measures};
+use super::{has, measures, resized};
 use grow_core::GrowError;
 use quiet_core::{Hand, OpenError, Quiet, QuietError, Shared};
 use std::alloc::Global;
-use std::process::Abort;
 use std::sync::Wait;
 
-// Appends a value, at the second try if need be.
-fn pushed(rt: &impl Abort, list: &mut Quiet<u64>, value: u64) {
+// Tests whether a value is appended, at the second try if need be.
+fn pushes_again(list: &mut Quiet<u64>, value: u64) -> bool {
     let (len, capacity) = (list.len(), list.capacity());
     match list.push(value) {
-        Ok(place) => assert_eq!(rt; place, len),
+        Ok(place) => place == len,
         Err(refused) => {
-            assert_eq!(rt; refused, (QuietError::NoMemory, value));
-            assert!(rt; measures(list, len, capacity));
-            assert_eq!(rt; list.push(value), Ok(len));
-        }
-    }
-}
-
-// The list of these values, at the second try if need be.
-fn listed(rt: &impl Abort, alloc: Global, values: Vec<u64>) -> Quiet<u64> {
-    let len = values.len();
-    match Quiet::from_vec(alloc, 16, values) {
-        Ok(list) => list,
-        Err((error, back)) => {
-            assert_eq!(rt; error, QuietError::NoMemory);
-            assert_eq!(rt; back.len(), len);
-            match Quiet::from_vec(alloc, 16, back) {
-                Ok(list) => list,
-                Err((error, _back)) => panic!(rt; "{error}"),
-            }
+            refused == (QuietError::NoMemory, value)
+                && measures(list, len, capacity)
+                && list.push(value) == Ok(len)
         }
     }
 }
@@ -43,79 +26,84 @@ fn listed(rt: &impl Abort, alloc: Global, values: Vec<u64>) -> Quiet<u64> {
 fn a_push_is_tried_again(rt: HostRuntime) {
     let mut list = Quiet::new(rt.alloc(), 16);
     for value in 0..6u64 {
-        pushed(&rt, &mut list, value);
+        assert!(rt; pushes_again(&mut list, value));
     }
     assert!(rt; measures(&list, 6, 8) && has(&list, 5, 5));
 }
 
-// Replaces three values by five, at the second try if need be.
-fn assigned(rt: &impl Abort, list: &mut Quiet<u64>, values: Vec<u64>) {
-    assert!(rt; measures(list, 3, 4));
-    if let Err((error, back)) = list.assign(values) {
-        assert_eq!(rt; error, QuietError::NoMemory);
-        assert!(rt; has(list, 2, 3) && list.assign(back).is_ok());
+// The list of three values, at the second try if need be.
+fn listed_again(alloc: Global, three: Vec<u64>) -> Option<Quiet<u64>> {
+    match Quiet::from_vec(alloc, 16, three) {
+        Ok(list) => Some(list),
+        Err((QuietError::NoMemory, back)) if back.len() == 3 => {
+            Quiet::from_vec(alloc, 16, back).ok()
+        }
+        Err(_refused) => None,
     }
-    assert!(rt; measures(list, 5, 8) && has(list, 4, 8));
 }
 
-// The values, if there is memory for a `Vec` of them.
-fn vec_of(alloc: Global, values: &[u64]) -> Option<Vec<u64>> {
-    Vec::from_slice(alloc, values).ok()
+// Tests whether five values are where three were, at the second try if need be.
+fn assigns_again(list: &mut Quiet<u64>, five: Vec<u64>) -> bool {
+    let three = measures(list, 3, 4);
+    let is_assigned = match list.assign(five) {
+        Ok(()) => true,
+        Err((error, back)) => {
+            error == QuietError::NoMemory && has(list, 2, 3) && list.assign(back).is_ok()
+        }
+    };
+    three && is_assigned && measures(list, 5, 8) && has(list, 4, 8)
 }
 
 #[test]
 fn values_are_moved_in_again(rt: HostRuntime) {
-    if let Some(first) = vec_of(rt.alloc(), &[1, 2, 3]) {
-        let mut list = listed(&rt, rt.alloc(), first);
-        if let Some(second) = vec_of(rt.alloc(), &[4, 5, 6, 7, 8]) {
-            assigned(&rt, &mut list, second);
+    if let Ok(three) = Vec::from_slice(rt.alloc(), &[1u64, 2, 3]) {
+        match listed_again(rt.alloc(), three) {
+            Some(mut list) => {
+                if let Ok(five) = Vec::from_slice(rt.alloc(), &[4u64, 5, 6, 7, 8]) {
+                    assert!(rt; assigns_again(&mut list, five));
+                }
+            }
+            None => panic!(rt; "no list"),
         }
     }
 }
 
-// The vector that a list was opened into, at the second try if need be.
-fn is_opened(list: Quiet<u64>) -> bool {
+// Tests whether a list of one member is opened, at the second try if need be.
+fn opens_again(list: Quiet<u64>) -> bool {
     match list.open() {
         Ok(_opened) => true,
-        Err((back, error)) => error == OpenError::NoMemory
-            && back.len() == 1
-            && back.open().is_ok(),
+        Err((back, error)) => {
+            let is_kept = error == OpenError::NoMemory && back.len() == 1;
+            back.open().is_ok() && is_kept
+        }
     }
 }
 
 #[test]
 fn a_list_is_opened_again(rt: HostRuntime) {
     let mut list = Quiet::new(rt.alloc(), 16);
-    pushed(&rt, &mut list, 5);
-    assert!(rt; is_opened(list));
+    assert!(rt; pushes_again(&mut list, 5) && opens_again(list));
 }
 
-// Tests whether three zeros are made, at the second try if need be, and the maker is asked three times in
-// all.
-fn is_resized(list: &mut Quiet<u64>) -> bool {
-    let mut asked = 0u64;
-    let mut make = |_: u64| -> Result<u64, u64> {
-        asked = asked.wrapping_add(1);
-        Ok(0)
-    };
-    match list.resize(3, &mut make) {
-        Ok(()) => {}
-        Err(error) => {
-            if error != QuietError::NoMemory
-                || list.len() != 0
-                || list.resize(3, &mut make) != Ok(())
-            {
-                return false;
-            }
+// Tests whether three values are made, at the second try if need be. The maker is asked for each of them once,
+// and for none before there is memory.
+fn resizes_again(list: &mut Quiet<u64>) -> bool {
+    let is_made = match resized(list, 3, 0, 3) {
+        (Ok(()), asked) => asked == Some(3),
+        (Err(error), asked) => {
+            error == QuietError::NoMemory
+                && asked == Some(0)
+                && list.len() == 0
+                && resized(list, 3, 0, 3) == (Ok(()), Some(3))
         }
-    }
-    asked == 3 && measures(list, 3, 4)
+    };
+    is_made && measures(list, 3, 4)
 }
 
 #[test]
 fn a_list_is_made_longer_again(rt: HostRuntime) {
     let mut list = Quiet::new(rt.alloc(), 16);
-    assert!(rt; is_resized(&mut list));
+    assert!(rt; resizes_again(&mut list));
 }
 
 // Tests whether room for nine is made, at the second try if need be. A refusal loses no room and no value.
@@ -134,8 +122,7 @@ fn reserves_again(list: &mut Quiet<u64>) -> bool {
 #[test]
 fn room_is_made_again(rt: HostRuntime) {
     let mut list = Quiet::new(rt.alloc(), 16);
-    pushed(&rt, &mut list, 5);
-    assert!(rt; reserves_again(&mut list) && has(&list, 0, 5));
+    assert!(rt; pushes_again(&mut list, 5) && reserves_again(&mut list) && has(&list, 0, 5));
 }
 
 // Tests whether a value is appended at the place of its number, at the second try if need be.

@@ -3,9 +3,23 @@ ghost use Rattle.std.specs.Prelude.{◌≡◌, ◌^◌, ◌≤◌, Some, IfOk, r
 
 use super::{measures, vec_of};
 use quiet_core::{Quiet, QuietAt, QuietError};
-use std::alloc::{AllocGlobal, Global};
-use std::process::Abort;
-use std::test::Fail;
+use std::alloc::Global;
+
+// The member at a place, if there is one, once a list has more room.
+fn member_with_room(
+    list: &mut Quiet<u64>,
+    room: u64,
+    place: u64,
+) -> Result<Option<Option<u64>>, QuietError>
+    ensures { IfOk result (λ member. member ≡ slice_get list.old.members place) }
+{
+    list.reserve(room)?;
+    match list.get(place) {
+        Ok(value) => Ok(Some(Some(*value))),
+        Err(QuietAt::Broken) => Ok(Some(None)),
+        Err(QuietAt::OutOfRange { .. }) => Ok(None),
+    }
+}
 
 // A list of values gives back each value at its place, also once it has more room.
 #[tactic(auto, using(crate::proofs::Values::value_there, crate::proofs::Values::not_broken))]
@@ -21,11 +35,11 @@ fn value_at(
         Ok(list) => list,
         Err((error, _)) => return Err(error),
     };
-    list.reserve(room)?;
-    match list.get(place) {
-        Ok(value) => Ok(Some(*value)),
-        Err(QuietAt::OutOfRange { .. }) => Ok(None),
-        Err(QuietAt::Broken) => unreachable!(),
+    match member_with_room(&mut list, room, place) {
+        Ok(Some(Some(value))) => Ok(Some(value)),
+        Ok(Some(None)) => unreachable!(),
+        Ok(None) => Ok(None),
+        Err(error) => Err(error),
     }
 }
 
@@ -43,19 +57,21 @@ fn zeros(alloc: Global, n: u64) -> Result<Quiet<u64>, QuietError>
     Ok(list)
 }
 
-// Tests whether three values give this at a place.
-fn gives<R: AllocGlobal + Abort>(rt: &R, place: u64, value: Option<u64>) -> bool {
-    value_at(rt.alloc(), vec_of(rt, &[5, 6, 7]), 100, place) == Ok(value)
-}
-
 #[test]
 fn a_value_is_given_back_at_its_place(rt: HostRuntime) {
-    assert!(rt; gives(&rt, 0, Some(5)) && gives(&rt, 2, Some(7)) && gives(&rt, 3, None));
+    for (place, value) in [(0, Some(5)), (2, Some(7)), (3, None)].as_slice() {
+        let values = vec_of(&rt, &[5, 6, 7]);
+        assert!(rt;
+            value_at(rt.alloc(), values, 100, *place) == Ok(*value),
+            "{place}"
+        );
+    }
 }
 
 #[test]
-fn room_that_was_made_is_filled(rt: HostRuntime) -> Result<(), Fail> {
-    let list = zeros(rt.alloc(), 5)?;
-    assert!(rt; measures(&list, 5, 8));
-    Ok(())
+fn room_that_was_made_is_filled(rt: HostRuntime) {
+    match zeros(rt.alloc(), 5) {
+        Ok(list) => assert!(rt; measures(&list, 5, 8)),
+        Err(_refused) => panic!(rt; "no memory"),
+    }
 }

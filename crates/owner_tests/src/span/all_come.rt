@@ -1,15 +1,12 @@
 // Gates that open only once all workers have come, so that these really run at once.
-ghost use Rattle.std.specs.Prelude.{◌≡◌};
-
-use super::numbered;
+use super::hands::{Task, append_to_new};
 use super::refusals::Fates;
-use grow_core::{Hand, Shared};
+use super::{maps, numbered, sum_of};
 use quiet_core::Quiet;
-use span_core::{Gate, PairGate, ParError, Span, par_map, par_reduce, run_workers, with_hands};
+use span_core::{Gate, PairGate, Span, run_workers};
 use std::alloc::Global;
 use std::sync::Wait;
 use std::sync::atomic::{AtomicU64, Ordering};
-use std::test::Fail;
 use std::thread::{Threads, yield_now};
 
 // How often a worker looks at most whether all have come.
@@ -48,59 +45,27 @@ impl Gate for AllCome {
     fn after(&self, _worker: u32) {}
 }
 
-// Tests whether `workers` workers with a hand each run at the same time.
-fn hands_run_at_once<R: Threads + Wait + Sync>(
-    rt: &R,
-    alloc: Global,
-    workers: u32,
-) -> Option<bool> {
-    if workers == 0 || workers > 64 {
-        return None;
-    }
-    let gate = AllCome::new(workers);
-    let (vector, mut hand) = Quiet::<u64>::new(alloc, 8).open().ok()?;
-    let work = |_vector: &Shared<u64>, worker: u32, hand: &mut Hand<u64>| -> Result<u32, u32>
-        ensures { hand.new ≡ hand.old }
-    { Ok(worker) };
-    let ended = with_hands(rt, alloc, &vector, &mut hand, workers, &work, &gate);
-    Some(ended.is_ok())
-}
-
-// Tests whether the workers of both loops run at once, with a place each.
-fn loops_run_at_once<R: Threads + Wait + Sync>(
+// Tests whether workers with a hand each run at the same time, and those of both loops, with a place each.
+fn run_at_once<R: Threads + Wait + Sync>(
     rt: &R,
     alloc: Global,
     list: &Quiet<u64>,
     workers: u32,
 ) -> bool {
+    let task = Task::new(0, workers, None);
+    let hands = append_to_new(rt, alloc, 8, workers, &task, &AllCome::new(workers));
+    let sum = sum_of(rt, alloc, list, 1, workers, &AllCome::new(workers));
     let span = Span::new(0, list.len(), 1);
-    let (first, second) = (AllCome::new(workers), AllCome::new(workers));
-    let f = |place: u64, _value: Option<&u64>| place;
-    let join = |a: u64, b: u64| a.wrapping_add(b);
-    let sum = par_reduce(rt, alloc, list, span, workers, f, 0u64, join, &first);
-    let g = |place: u64, _value: Option<&u64>| place;
-    let all = par_map(rt, alloc, list, span, workers, g, &second);
-    sum.is_ok() && all.is_ok()
-}
-
-fn run_at_once<R: Threads + Wait + Sync>(
-    rt: &R,
-    alloc: Global,
-    workers: u32,
-) -> Result<bool, Fail> {
-    let list = numbered(alloc, u64::from(workers))?;
-    Ok(
-        hands_run_at_once(rt, alloc, workers) == Some(true)
-            && loops_run_at_once(rt, alloc, &list, workers),
-    )
+    let all = maps(rt, alloc, list, span, workers, &AllCome::new(workers), &[]);
+    hands == Some((Ok(true), 0)) && sum.is_ok() && all.is_ok()
 }
 
 #[test]
-fn all_workers_run_at_once(rt: HostRuntime) -> Result<(), Fail> {
+fn all_workers_run_at_once(rt: HostRuntime) {
     for workers in [2, 3, 4, 9, 64].as_slice() {
-        assert!(rt; run_at_once(&rt, rt.alloc(), *workers)?, "{workers}");
+        let list = numbered(&rt, u64::from(*workers));
+        assert!(rt; run_at_once(&rt, rt.alloc(), &list, *workers), "{workers}");
     }
-    Ok(())
 }
 
 // A pair whose worker 1 comes late.
@@ -128,16 +93,13 @@ impl Gate for LatePair {
 // How often the late worker looks around first.
 const LATE: u64 = 20_000_000;
 
-// The refusal of two workers, one of them late, if the other may look for it nearly without end.
-fn late_refusal<R: Threads + Wait + Sync>(rt: &R, alloc: Global) -> Option<ParError> {
+// The one that is early may look for the late one nearly without end.
+#[test]
+fn a_pair_with_many_turns_waits_for_a_late_worker(rt: HostRuntime) {
     let gate = LatePair {
         pair: PairGate::new(u64::MAX),
         looks: AtomicU64::new(0),
     };
-    run_workers(rt, alloc, &Fates::new(0), &gate, 2).err()
-}
-
-#[test]
-fn a_pair_with_many_turns_waits_for_a_late_worker(rt: HostRuntime) {
-    assert!(rt; late_refusal(&rt, rt.alloc()) == None);
+    let refused = run_workers(&rt, rt.alloc(), &Fates::new(0), &gate, 2).err();
+    assert!(rt; refused == None);
 }

@@ -3,100 +3,166 @@
 ghost use Rattle.std.specs.Prelude.{◌≡◌, ◌<◌, ◌≤◌};
 ghost use Rattle.grow_core.specs.Vector.{IsHandOf};
 
-use grow_core::{GrowError, Hand, Never, Shared};
+use super::watch::Watch;
+use grow_core::{Hand, Shared};
 use quiet_core::Quiet;
 use span_core::{Free, Gate, PairGate, Refusal, split_even, with_hands};
 use std::alloc::Global;
 use std::sync::Wait;
+use std::sync::atomic::{AtomicU64, Ordering};
 use std::thread::Threads;
 
-// Why a worker stops: it was to, or a growth was refused.
-#[derive(Clone, Copy, PartialEq, Eq)]
-enum Stop {
-    At(u32),
-    Growth,
+// The task of each worker: it appends `each` values and returns its number. Number `stops` stops after half of
+// them.
+#[derive(Drop)]
+pub(super) struct Task<'a> {
+    each: u64,
+    stops: u32,
+    // How often a worker has begun.
+    pub(super) begun: AtomicU64,
+    watch: Option<&'a Watch>,
 }
 
-impl From<GrowError<u64, u64, Never>> for Stop {
-    fn from(_refused: GrowError<u64, u64, Never>) -> Stop {
-        Stop::Growth
+// The error of a worker whose growth was refused. One that stops returns its number.
+const GROWTH: u32 = u32::MAX;
+
+impl<'a> Task<'a> {
+    pub(super) fn new(each: u64, stops: u32, watch: Option<&'a Watch>) -> Task<'a> {
+        Task {
+            each,
+            stops,
+            begun: AtomicU64::new(0),
+            watch,
+        }
+    }
+
+    // Notes that a worker begins. Returns how many values it is to append.
+    fn begin(&self, worker: u32) -> u64 {
+        self.begun.fetch_add(1, Ordering::SeqCst);
+        if let Some(watch) = self.watch {
+            watch.note_work(worker);
+        }
+        if worker == self.stops {
+            self.each / 2
+        } else {
+            self.each
+        }
     }
 }
 
-// Appends ten values by one worker, and returns its number. It stops after five if `stops` says so.
-fn append_ten<R: Wait>(
+// Does the task by one worker.
+fn append_all<R: Wait>(
     rt: &R,
     vector: &Shared<u64>,
     worker: u32,
     hand: &mut Hand<u64>,
-    stops: u32,
-) -> Result<u32, Stop>
+    task: &Task<'_>,
+) -> Result<u32, u32>
     requires ours { IsHandOf vector.now hand.old }
     ensures of { hand.new.of ≡ hand.old.of }
     ensures shares { hand.new.shares ≡ hand.old.shares }
 {
-    for count in 0..10 {
-        if worker == stops && count == 5 {
-            return Err(Stop::At(worker));
+    for count in 0..task.begin(worker) {
+        if vector.push_back(rt, hand, count).is_err() {
+            return Err(GROWTH);
         }
-        vector.push_back(rt, hand, count)?;
     }
-    Ok(worker)
+    if worker == task.stops {
+        Err(worker)
+    } else {
+        Ok(worker)
+    }
 }
 
-const NUMBERS: [u32; 8] = [0, 1, 2, 3, 4, 5, 6, 7];
+// Tests whether each of the workers has returned its number, in order.
+pub(super) fn are_all(numbers: &[u32], workers: u32) -> bool {
+    let mut next = 0;
+    for number in numbers {
+        if next >= workers || *number != next {
+            return false;
+        }
+        next += 1;
+    }
+    next == workers
+}
 
-// Tests whether eight workers, one of which may stop, return in order; and returns the length of the closed
-// list.
-fn append_by_eight<R: Threads + Wait + Sync, G: Gate + Sync>(
+// Does the task by some workers. Returns whether each returned its number, in order.
+pub(super) fn append_by<R: Threads + Wait + Sync, G: Gate + Sync>(
     rt: &R,
     alloc: Global,
-    limit: u64,
-    stops: u32,
+    vector: &Shared<u64>,
+    hand: &mut Hand<u64>,
+    workers: u32,
+    task: &Task<'_>,
     gate: &G,
-) -> Option<(Result<bool, Refusal<Stop>>, u64)>
-    requires { 0 < limit × limit ≤ 1000 }
+) -> Result<bool, Refusal<u32>>
+    requires ours { IsHandOf vector.now hand.old }
+    requires some { 0 < workers }
+    requires fewer { workers < hand.old.shares }
+    ensures of { hand.new.of ≡ hand.old.of }
+    ensures shares { hand.new.shares ≡ hand.old.shares }
 {
-    let (vector, mut hand) = Quiet::new(alloc, limit).open().ok()?;
-    let work = |vector: &Shared<u64>, worker: u32, hand: &mut Hand<u64>| -> Result<u32, Stop>
+    let work = |vector: &Shared<u64>, worker: u32, hand: &mut Hand<u64>| -> Result<u32, u32>
         requires { IsHandOf vector.now hand.old }
         ensures of { hand.new.of ≡ hand.old.of }
         ensures shares { hand.new.shares ≡ hand.old.shares }
-    { append_ten(rt, vector, worker, hand, stops) };
-    let answers = with_hands(rt, alloc, &vector, &mut hand, 8, &work, gate);
-    let told = match answers {
-        Ok(numbers) => Ok(numbers.as_slice() == NUMBERS.as_slice()),
-        Err(refusal) => Err(refusal),
-    };
+    { append_all(rt, vector, worker, hand, task) };
+    let numbers = with_hands(rt, alloc, vector, hand, workers, &work, gate)?;
+    Ok(are_all(numbers.as_slice(), workers))
+}
+
+// The same on a new vector. Returns the length of the closed list as well.
+pub(super) fn append_to_new<R: Threads + Wait + Sync, G: Gate + Sync>(
+    rt: &R,
+    alloc: Global,
+    limit: u64,
+    workers: u32,
+    task: &Task<'_>,
+    gate: &G,
+) -> Option<(Result<bool, Refusal<u32>>, u64)>
+    requires { 0 < limit × limit ≤ 1000 }
+{
+    if workers == 0 || workers > 300 {
+        return None;
+    }
+    let (vector, mut hand) = Quiet::new(alloc, limit).open().ok()?;
+    let told = append_by(rt, alloc, &vector, &mut hand, workers, task, gate);
     Some((told, Quiet::close(vector, hand).len()))
 }
 
-#[test]
-fn the_results_of_eight_workers_are_in_order(rt: HostRuntime) {
-    let ended = append_by_eight(&rt, rt.alloc(), 80, 8, &Free);
-    assert!(rt; ended == Some((Ok(true), 80)));
-}
+// The one of eight workers that stops after five of ten values, whether all return in order, and the length of
+// the closed list.
+const STOPS: [(u32, Result<bool, Refusal<u32>>, u64); 9] = [
+    (8, Ok(true), 80),
+    (0, Err(Refusal::Worker(0)), 75),
+    (1, Err(Refusal::Worker(1)), 75),
+    (2, Err(Refusal::Worker(2)), 75),
+    (3, Err(Refusal::Worker(3)), 75),
+    (4, Err(Refusal::Worker(4)), 75),
+    (5, Err(Refusal::Worker(5)), 75),
+    (6, Err(Refusal::Worker(6)), 75),
+    (7, Err(Refusal::Worker(7)), 75),
+];
 
 #[test]
-fn the_vector_closes_if_a_worker_stops(rt: HostRuntime) {
-    for stops in 0..8 {
-        let ended = append_by_eight(&rt, rt.alloc(), 80, stops, &Free);
-        assert!(rt;
-            ended == Some((Err(Refusal::Worker(Stop::At(stops))), 75)),
-            "{stops}"
-        );
+fn the_vector_closes_whichever_of_eight_workers_stops(rt: HostRuntime) {
+    for (stops, told, len) in STOPS.as_slice() {
+        let task = Task::new(10, *stops, None);
+        let ended = append_to_new(&rt, rt.alloc(), 80, 8, &task, &Free);
+        assert!(rt; ended == Some((*told, *len)), "{stops}");
     }
 }
 
 #[test]
 fn the_vector_closes_if_growths_or_workers_are_refused(rt: HostRuntime) {
-    let full = append_by_eight(&rt, rt.alloc(), 30, 8, &Free);
-    assert!(rt; full == Some((Err(Refusal::Worker(Stop::Growth)), 30)));
-    let stuck = append_by_eight(&rt, rt.alloc(), 80, 8, &PairGate::new(0));
+    let task = Task::new(10, 8, None);
+    let full = append_to_new(&rt, rt.alloc(), 30, 8, &task, &Free);
+    assert!(rt; full == Some((Err(Refusal::Worker(GROWTH)), 30)));
+    let stuck = append_to_new(&rt, rt.alloc(), 80, 8, &task, &PairGate::new(0));
     assert!(rt; stuck == Some((Err(Refusal::Stuck), 60)));
 }
 
-// The shares of each of `n` hands, and of what is left of one that had 10, if the parts are even.
+// The shares of each of `n` hands, and of what is left of one that had `shares`, if the parts are even.
 fn even_shares(alloc: Global, shares: u32, n: u32) -> Option<(u32, u32)> {
     if n >= shares || shares > 65_535 {
         return None;
@@ -104,7 +170,10 @@ fn even_shares(alloc: Global, shares: u32, n: u32) -> Option<(u32, u32)> {
     let (vector, mut rest) = Quiet::<u64>::new(alloc, 8).open().ok()?;
     let mut hand = vector.split(&mut rest, shares);
     let hands = split_even(alloc, &vector, &mut hand, n).ok()?;
-    let each = hands.last().map_or(0, |last| last.share());
+    let each = match hands.last() {
+        Some(last) => last.share(),
+        None => 0,
+    };
     Some((each, hand.share()))
 }
 

@@ -1,4 +1,5 @@
 // Several workers are refused, and the lowest one's refusal is seen.
+use super::hands::are_all;
 use span_core::{Gate, Job, ParError, run_workers};
 use std::alloc::{AllocError, Global};
 use std::sync::Wait;
@@ -71,7 +72,8 @@ impl Gate for Fates {
     }
 }
 
-// Tests whether the refusal of the lowest worker is returned, and all of them pass the gate twice.
+// Tests whether the refusal of the lowest worker is returned, or the numbers of all in order, and all of them
+// pass the gate twice.
 fn returns_lowest<R: Threads + Wait + Sync>(
     rt: &R,
     alloc: Global,
@@ -79,20 +81,18 @@ fn returns_lowest<R: Threads + Wait + Sync>(
     digits: u32,
 ) -> bool {
     let fates = Fates::new(digits);
-    run_workers(rt, alloc, &fates, &fates, workers).err() == fates.lowest(workers)
+    let is_told = match run_workers(rt, alloc, &fates, &fates, workers) {
+        Ok(numbers) => fates.lowest(workers) == None && are_all(numbers.as_slice(), workers),
+        Err(refusal) => fates.lowest(workers) == Some(refusal),
+    };
+    is_told
         && fates.before.load(Ordering::SeqCst) == u64::from(workers)
         && fates.after.load(Ordering::SeqCst) == u64::from(workers)
 }
 
-// The numbers of five workers, each returning its own.
-fn numbers<R: Threads + Wait + Sync>(rt: &R, alloc: Global) -> Result<bool, ParError> {
-    let fates = Fates::new(0);
-    let answers = run_workers(rt, alloc, &fates, &fates, 5)?;
-    Ok(answers.as_slice() == [0, 1, 2, 3, 4].as_slice())
-}
-
 // Workers, and a digit for each: of 9 the last, of 16 the last, and of 64 those of numbers 20 and 19.
-const MANY: [(u32, u32); 7] = [
+const MANY: [(u32, u32); 8] = [
+    (5, 0),
     (9, 6561),
     (9, 13_122),
     (16, 14_348_907),
@@ -113,5 +113,4 @@ fn the_lowest_refusal_or_the_results_in_order_are_returned(rt: HostRuntime) {
             "{workers} {digits}"
         );
     }
-    assert!(rt; numbers(&rt, rt.alloc()) == Ok(true));
 }

@@ -1,93 +1,65 @@
-// A gate that refuses one worker: the loop is stuck, and each worker passed the gate twice.
-use crate::span::{numbered, refusal_of};
+// Loops under a gate that refuses some workers: each worker passes the gate twice, also one that has no work.
+ghost use Rattle.std.specs.Prelude.{◌<◌};
+
+use super::{maps, numbered, sum_of};
+use crate::gates::Refusing;
+use crate::quiet::list_of;
 use quiet_core::Quiet;
-use span_core::{Gate, ParError, Span, par_reduce};
+use span_core::{ParError, Span};
 use std::alloc::Global;
 use std::sync::Wait;
-use std::sync::atomic::{AtomicU64, Ordering};
-use std::test::Fail;
 use std::thread::Threads;
 
-#[derive(Drop)]
-struct RefusesOne {
-    refused: u32,
-    before: AtomicU64,
-    after: AtomicU64,
-}
-
-impl RefusesOne {
-    fn new(refused: u32) -> RefusesOne {
-        RefusesOne {
-            refused,
-            before: AtomicU64::new(0),
-            after: AtomicU64::new(0),
-        }
-    }
-
-    // Tests whether `workers` workers have passed the gate, each of them twice.
-    fn is_passed(&self, workers: u64) -> bool {
-        self.before.load(Ordering::SeqCst) == workers
-            && self.after.load(Ordering::SeqCst) == workers
-    }
-}
-
-impl Gate for RefusesOne {
-    ghost use Rattle.std.specs.Prelude.{◌≡◌};
-
-    ghost may_refuse = { λ gate worker. worker ≡ gate.refused };
-
-    fn before(&self, worker: u32) -> bool {
-        self.before.fetch_add(1, Ordering::SeqCst);
-        worker != self.refused
-    }
-
-    fn after(&self, _worker: u32) {
-        self.after.fetch_add(1, Ordering::SeqCst);
-    }
-}
-
-fn map_is_stuck<R: Threads + Wait + Sync>(
+// Tests whether all workers pass the gate, and both loops are stuck if it refuses a worker.
+fn loops_pass<R: Threads + Wait + Sync>(
     rt: &R,
     alloc: Global,
     list: &Quiet<u64>,
+    grain: u64,
     workers: u32,
-    refused: u32,
-) -> bool {
-    let gate = RefusesOne::new(refused);
-    refusal_of(rt, alloc, list, 2, workers, &gate) == Some(ParError::Stuck)
-        && gate.is_passed(u64::from(workers))
+    refused: (u32, u32),
+) -> bool
+    requires { 0 < grain }
+{
+    let (from, to) = refused;
+    let (first, second) = (Refusing::new(from, to), Refusing::new(from, to));
+    let stuck = if from < workers {
+        Some(ParError::Stuck)
+    } else {
+        None
+    };
+    let span = Span::new(0, list.len(), grain);
+    maps(rt, alloc, list, span, workers, &first, &[]).err() == stuck
+        && sum_of(rt, alloc, list, grain, workers, &second).err() == stuck
+        && first.is_passed(u64::from(workers))
+        && second.is_passed(u64::from(workers))
 }
 
-fn reduction_is_stuck<R: Threads + Wait + Sync>(
-    rt: &R,
-    alloc: Global,
-    list: &Quiet<u64>,
-    workers: u32,
-    refused: u32,
-) -> bool {
-    let gate = RefusesOne::new(refused);
-    let f = |place: u64, _value: Option<&u64>| place;
-    let join = |a: u64, b: u64| a.wrapping_add(b);
-    let span = Span::new(0, list.len(), 2);
-    let sum = par_reduce(rt, alloc, list, span, workers, f, 0u64, join, &gate);
-    sum == Err(ParError::Stuck) && gate.is_passed(u64::from(workers))
-}
-
-// How many workers there are, and which one is refused.
-const REFUSED: [(u32, u32); 6] = [(3, 0), (3, 1), (3, 2), (9, 8), (16, 7), (64, 63)];
+// How many workers there are, and which of them are refused: from one number up to another.
+const REFUSED: [(u32, (u32, u32)); 6] = [
+    (3, (0, 1)),
+    (3, (1, 2)),
+    (3, (2, 3)),
+    (9, (8, 9)),
+    (16, (7, 8)),
+    (64, (63, 64)),
+];
 
 #[test]
-fn loops_are_stuck_whichever_worker_is_refused(rt: HostRuntime) -> Result<(), Fail> {
-    let list = numbered(rt.alloc(), 12)?;
+fn loops_are_stuck_whichever_worker_is_refused(rt: HostRuntime) {
+    let list = numbered(&rt, 12);
     for (workers, refused) in REFUSED.as_slice() {
         assert!(rt;
-            map_is_stuck(&rt, rt.alloc(), &list, *workers, *refused),
-            "{workers} {refused}"
-        );
-        assert!(rt;
-            reduction_is_stuck(&rt, rt.alloc(), &list, *workers, *refused),
-            "{workers} {refused}"
+            loops_pass(&rt, rt.alloc(), &list, 2, *workers, *refused),
+            "{workers} {}",
+            refused.0
         );
     }
-    Ok(())
+}
+
+#[test]
+fn workers_without_work_pass_the_gate(rt: HostRuntime) {
+    let list = list_of(&rt, &[0, 1, 4, 9, 16, 25, 36, 49, 64, 81]);
+    assert!(rt; loops_pass(&rt, rt.alloc(), &list, 5, 5, (5, u32::MAX)));
+    assert!(rt; loops_pass(&rt, rt.alloc(), &list, 5, 5, (2, u32::MAX)));
 }

@@ -10,7 +10,6 @@ use span_core::{Domain, Free, ParError, Span, laws, par_map, par_reduce};
 use std::alloc::{AllocError, Global};
 use std::marker::Model;
 use std::sync::Wait;
-use std::test::Fail;
 use std::thread::Threads;
 
 // The leaves of a span tile it: each begins where the one before ends, and the last ends where the span does.
@@ -78,7 +77,7 @@ fn wrapped_sum<R: Threads + Wait + Sync>(
 }
 
 // Two rows of two numbers of 64 bits.
-#[derive(Clone, Copy, Debug, PartialEq, Eq)]
+#[derive(Clone, Copy)]
 struct Matrix {
     a: u64,
     b: u64,
@@ -184,51 +183,37 @@ fn product<R: Threads + Wait + Sync>(
 }
 
 #[test]
-fn leaves_are_walked_to_the_end(rt: HostRuntime) -> Result<(), Fail> {
-    assert_eq!(rt; walk_leaves(rt.alloc(), Span::new(3, 40, 4))?, 40);
-    Ok(())
-}
-
-// The number of the results and the last of them, and the sum.
-fn mapped_and_summed<R: Threads + Wait + Sync>(
-    rt: &R,
-    alloc: Global,
-    list: &Quiet<u64>,
-) -> Result<(usize, Option<u64>, u64), ParError> {
-    let sum = wrapped_sum(rt, alloc, list, 3)?;
-    let all = with_zeros(rt, alloc, list, 3)?;
-    Ok((all.len(), all.get(999).copied(), sum))
+fn leaves_are_walked_to_the_end(rt: HostRuntime) {
+    assert!(rt; walk_leaves(rt.alloc(), Span::new(3, 40, 4)) == Ok(40));
 }
 
 #[test]
-fn the_values_are_mapped_in_order_and_summed(rt: HostRuntime) -> Result<(), Fail> {
-    let list = numbered(rt.alloc(), 1000)?;
-    let ended = mapped_and_summed(&rt, rt.alloc(), &list);
-    assert!(rt; ended == Ok((1000, Some(999), 499_500)));
-    Ok(())
+fn the_values_are_mapped_in_order_and_summed(rt: HostRuntime) {
+    let list = numbered(&rt, 1000);
+    assert!(rt; wrapped_sum(&rt, rt.alloc(), &list, 3) == Ok(499_500));
+    match with_zeros(&rt, rt.alloc(), &list, 3) {
+        Ok(all) => assert!(rt; all.len() == 1000 && all.get(999) == Some(&999)),
+        Err(_refused) => panic!(rt; "no memory"),
+    }
 }
 
 // 0 + 1 / (1 + 1 / (2 + 1 / 3)) is 7 / 10, and without its last step 2 / 3.
-const FRACTION: Matrix = Matrix {
-    a: 7,
-    b: 2,
-    c: 10,
-    d: 3,
-};
-
-// Tests whether each of these numbers of workers returns the product in order.
-fn multiply_in_order<R: Threads + Wait + Sync>(rt: &R, alloc: Global, list: &Quiet<u64>) -> bool {
-    for workers in [1, 2, 3, 64].as_slice() {
-        if product(rt, alloc, list, *workers) != Ok(FRACTION) {
-            return false;
-        }
-    }
-    true
-}
-
 #[test]
-fn joins_that_do_not_commute_are_done_in_order(rt: HostRuntime) -> Result<(), Fail> {
-    let list = numbered(rt.alloc(), 4)?;
-    assert!(rt; multiply_in_order(&rt, rt.alloc(), &list));
-    Ok(())
+fn joins_that_do_not_commute_are_done_in_order(rt: HostRuntime) {
+    let list = numbered(&rt, 4);
+    for workers in [1, 2, 3, 64].as_slice() {
+        let fraction = product(&rt, rt.alloc(), &list, *workers);
+        assert!(rt;
+            matches!(
+                fraction,
+                Ok(Matrix {
+                    a: 7,
+                    b: 2,
+                    c: 10,
+                    d: 3
+                })
+            ),
+            "{workers}"
+        );
+    }
 }

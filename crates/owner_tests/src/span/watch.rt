@@ -7,7 +7,6 @@ use span_core::{Gate, Job, ParError, Span, par_map, par_reduce, run_workers};
 use std::alloc::{AllocError, Global};
 use std::sync::Wait;
 use std::sync::atomic::{AtomicU64, Ordering};
-use std::test::Fail;
 use std::thread::Threads;
 
 const ASKED: u64 = 1;
@@ -113,7 +112,7 @@ impl Gate for Watch {
     }
 }
 
-// The number of results of `workers` workers.
+// How many results there are if all is well.
 fn pass<R: Threads + Wait + Sync>(
     rt: &R,
     alloc: Global,
@@ -124,20 +123,8 @@ fn pass<R: Threads + Wait + Sync>(
     Ok(answers.len())
 }
 
-fn all_pass<R: Threads + Wait + Sync>(
-    rt: &R,
-    alloc: Global,
-    workers: u32,
-) -> Result<bool, AllocError> {
-    let watch = Watch::new(alloc, workers, workers, false)?;
-    Ok(
-        pass(rt, alloc, &watch, workers) == Ok(workers as usize)
-            && watch.has_ended(u64::from(workers)),
-    )
-}
-
-// Tests whether the gate makes the workers stuck, and only those below a number work.
-fn some_pass<R: Threads + Wait + Sync>(
+// Tests whether the workers below a number work, and the gate makes the loop stuck if there are others.
+fn those_below_work<R: Threads + Wait + Sync>(
     rt: &R,
     alloc: Global,
     workers: u32,
@@ -145,8 +132,10 @@ fn some_pass<R: Threads + Wait + Sync>(
 ) -> Result<bool, AllocError> {
     let watch = Watch::new(alloc, workers, refused_from, false)?;
     let calls = u64::from(refused_from);
+    let ended = pass(rt, alloc, &watch, workers);
     Ok(
-        pass(rt, alloc, &watch, workers) == Err(ParError::Stuck)
+        (refused_from < workers && ended == Err(ParError::Stuck)
+            || refused_from == workers && ended == Ok(workers as usize))
             && watch.has_ended(calls)
             && pass(rt, alloc, &watch, 0) == Err(ParError::BadWorkers)
             && pass(rt, alloc, &watch, 65) == Err(ParError::BadWorkers)
@@ -155,20 +144,26 @@ fn some_pass<R: Threads + Wait + Sync>(
 }
 
 // The number of workers, and the first one that the gate refuses.
-const STUCK: [(u32, u32); 5] = [(5, 3), (9, 8), (16, 0), (64, 1), (64, 63)];
+const PASSED: [(u32, u32); 9] = [
+    (1, 1),
+    (2, 2),
+    (7, 7),
+    (64, 64),
+    (5, 3),
+    (9, 8),
+    (16, 0),
+    (64, 1),
+    (64, 63),
+];
 
 #[test]
-fn each_worker_asks_works_and_ends_in_turn(rt: HostRuntime) -> Result<(), Fail> {
-    for workers in [1, 2, 7, 64].as_slice() {
-        assert!(rt; all_pass(&rt, rt.alloc(), *workers)?, "{workers}");
-    }
-    for (workers, refused_from) in STUCK.as_slice() {
+fn each_worker_asks_works_and_ends_in_turn(rt: HostRuntime) {
+    for (workers, refused_from) in PASSED.as_slice() {
         assert!(rt;
-            some_pass(&rt, rt.alloc(), *workers, *refused_from)?,
+            those_below_work(&rt, rt.alloc(), *workers, *refused_from) == Ok(true),
             "{workers} {refused_from}"
         );
     }
-    Ok(())
 }
 
 // Maps the places, in leaves of two, by some workers: each is asked for once.
@@ -221,54 +216,34 @@ fn fold_by<R: Threads + Wait + Sync>(
     )
 }
 
-fn map_passes<R: Threads + Wait + Sync>(
-    rt: &R,
-    alloc: Global,
-    list: &Quiet<u64>,
-    workers: u32,
-) -> bool {
-    match Watch::new(alloc, workers, workers, true) {
-        Ok(watch) => map_by(rt, alloc, list, workers, &watch) == Ok(true),
-        Err(_) => false,
-    }
-}
-
-fn fold_passes<R: Threads + Wait + Sync>(
-    rt: &R,
-    alloc: Global,
-    list: &Quiet<u64>,
-    workers: u32,
-) -> bool {
-    match Watch::new(alloc, workers, workers, true) {
-        Ok(watch) => fold_by(rt, alloc, list, workers, &watch) == Ok(true),
-        Err(_) => false,
-    }
-}
-
-// Maps and folds the first places.
+// Maps and folds the places.
 fn loops_pass<R: Threads + Wait + Sync>(
     rt: &R,
     alloc: Global,
+    list: &Quiet<u64>,
     workers: u32,
-    places: u64,
-) -> Result<bool, Fail> {
-    let list = numbered(alloc, places)?;
-    Ok(
-        list.len() == places
-            && map_passes(rt, alloc, &list, workers)
-            && fold_passes(rt, alloc, &list, workers),
-    )
+) -> bool {
+    match (
+        Watch::new(alloc, workers, workers, true),
+        Watch::new(alloc, workers, workers, true),
+    ) {
+        (Ok(first), Ok(second)) => {
+            map_by(rt, alloc, list, workers, &first) == Ok(true)
+                && fold_by(rt, alloc, list, workers, &second) == Ok(true)
+        }
+        _ => false,
+    }
 }
 
 const LOOPS: [(u32, u64); 5] = [(1, 2), (1, 8), (3, 2), (3, 16), (64, 131_072)];
 
 #[test]
-fn each_place_is_asked_for_once_between_the_gates(rt: HostRuntime) -> Result<(), Fail> {
+fn each_place_is_asked_for_once_between_the_gates(rt: HostRuntime) {
     for (workers, places) in LOOPS.as_slice() {
+        let list = numbered(&rt, *places);
         assert!(rt;
-            loops_pass(&rt, rt.alloc(), *workers, *places)?,
+            list.len() == *places && loops_pass(&rt, rt.alloc(), &list, *workers),
             "{workers} {places}"
         );
     }
-    Ok(())
 }

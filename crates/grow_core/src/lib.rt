@@ -39,6 +39,7 @@ mod published;
 mod push;
 mod read;
 mod recall;
+mod settle_cells;
 mod split_and_join;
 mod token;
 mod vector;

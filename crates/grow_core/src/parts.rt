@@ -1,10 +1,7 @@
 //! What an exclusive owner holds of a vector: a list of values and broken members.
 ghost use Rattle.std.specs.Prelude.{◌≡◌, ℕ, ◌+◌, ◌-◌, ◌<◌, ◌≤◌, ◌++◌, ◌∷◌, [], Some, None, MatchOption, IsOk, IfOk, IfErr, IsTrue, IsFalse, length, slice_get, slice_set};
-ghost use Rattle.seg_core.specs.Segment.{IsLimit, segment_start, segment_end, segment_count, most_segments};
-ghost use Rattle.cell_core.specs.Block.{block_len, IsMemberAt, KeepsOtherCells};
-ghost use Rattle.grow_core.specs.Keys.{key_at};
-ghost use Rattle.grow_core.specs.Token.{place_in};
-ghost use Rattle.grow_core.specs.Parts.{HasFirstKeys, IsBrokenIn, IsSpare, capacity_of};
+ghost use Rattle.seg_core.specs.Segment.{IsLimit, segment_start, segment_count};
+ghost use Rattle.grow_core.specs.Parts.{IsSpare, capacity_of};
 
 use crate::blocks::{cell_of, put_block, take_block, write};
 use crate::keys::{Keys, no_keys};

@@ -1,5 +1,5 @@
 use Rattle.grow_core.proofs.Settled.{settled_more}
-use Rattle.grow_core.proofs.close.settle_cells.Goals as goal
+use Rattle.grow_core.proofs.settle_cells.settle_cells.Goals as goal
 
 pub loop-i-preserved : goal.loop-i-preserved
 loop-i-preserved g c =

@@ -63,7 +63,7 @@ module _ (c : Configuration) (actor : ℕ) (memory : Bool) (state : Actor) (ther
         → IsStepped (step_of c actor memory) after (record { event = outcome.event; ended = ended_by actor state command outcome.next })
     taken_step is =
         let taken : step_of c actor memory ≡ step_to c actor state command (given m outcome) =
-            ap (step_as c actor memory) there ∙ ap (step_in c actor memory state) some ∙ ap (step_to c actor state command) (sym is) in
+        ap (step_as c actor memory) there ∙ ap (step_in c actor memory state) some ∙ ap (step_to c actor state command) (sym is) in
         subst (λ (step : Step). IsStepped step after (record { event = outcome.event; ended = ended_by actor state command outcome.next })) (sym taken) (refl, refl, refl)
 
     pub taken_phases : phases_at c after actor ≡ Some (state.phase, (actor_after state outcome.next).phase)

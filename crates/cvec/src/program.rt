@@ -12,7 +12,7 @@ ghost use Rattle.cvec.specs.Request.{IsSweep, StartsThreads};
 
 use crate::command_line::Request;
 use crate::error::ProgramError;
-use engine_core::{RunError, run_script, write_output};
+use engine_core::{Engine, RunError, run_script, write_output};
 use race_core::{Free, RaceError, race};
 use script_core::{Line, WriteFault, write_bytes};
 use std::alloc::{AllocError, Global};

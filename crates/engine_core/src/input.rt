@@ -17,7 +17,7 @@ enum InputStop {
 // One byte more than a script may have: enough to see that it is too long.
 const MOST_READ: usize = 1_048_577;
 
-// A call gives up at this number of interruptions.
+// A read gives up at this number of interruptions.
 const MOST_INTERRUPTIONS: usize = 1_048_576;
 
 // How much is asked for at once.

@@ -73,13 +73,13 @@ closing_coded {T} c =
       mark = (e i).1.1.1.1.1;
     })
 
--- where a value was known, it is known still
+-- if a value was known, it is known still
 abbrev pub KeepsKnown : {T : Type 0} → Option T → Option T → Type 0
 KeepsKnown old new = old ≢ None → new ≡ old
 
--- what settling n cells of a block from an offset on leaves, which are the places from `place` on: the row has
--- what is known of them from now on, in order; a value that was known stays, and a cell without one is broken
--- for the epoch. All other cells are as they were
+-- n cells of a block, from an offset on, are settled; they are the places from `place` on. The row has what is
+-- known of them from now on, in order. A value that was known stays, and a cell without one is broken for the
+-- epoch. All other cells are as they were
 pub record AreSettled {T : Type 0} (old new : BlockView) (offset : ℕ) (opened : List (MemberView T)) (place : ℕ)
     (old_row new_row : List (MemberView T)) (epoch : Lft) (n : ℕ) : Type 0 where
   pub settled : List (MemberView T)

@@ -31,7 +31,7 @@ fn settle<T>(
     }
 }
 
-// What is known of the members of the list that a vector was opened from, and how many they are.
+// The list that a vector was opened from: its length, and what is known of each member.
 #[derive(Drop)]
 pub(crate) struct Opened<T> {
     pub(crate) row: Row<T>,

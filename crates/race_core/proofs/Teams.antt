@@ -36,7 +36,7 @@ wins_more stay old new index wins win of gain had k own =
     (has.0, Contains-append_left wins (win ∷ []) has.0 has.1, stay old new k (single has.0.place) of gain.seen has.2))
     (cases_eq index k)
 
--- each win is a run that the hand has seen, also the new one
+-- each win, the new one too, is a run that the hand has seen
 seen_more : SeenRunsStay → (old new : HandView) (index : ℕ) (wins : List Win) (win : Win) → new.of ≡ old.of
     → GainsRun old new index (single win.place) → ((w : Win) → Contains wins w → IsSeen old w)
     → (w : Win) → Contains (wins ++ win ∷ []) w → IsSeen new w

@@ -74,7 +74,7 @@ pub(crate) fn report_of(
     ensures sum { IfOk result (λ report. report.sum ≡ sum_below size) }
     ensures legal { IfOk result (λ report. report.legal ≡ true) }
 {
-    // For the proof: a whole hand knows every place, and no other.
+    // For the proof: a whole hand knows exactly the places that were claimed.
     hand.whole_laws();
     laws::seen_runs_are_within();
     let size = Quiet::close(vector, hand).len();

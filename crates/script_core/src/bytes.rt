@@ -27,7 +27,7 @@ impl From<io::Error> for WriteFault {
     }
 }
 
-// A call gives up at this number of interruptions.
+// A write gives up at this number of interruptions.
 const MOST_INTERRUPTIONS: usize = 1_048_576;
 
 /// Writes all the bytes; it does not flush.

@@ -104,8 +104,8 @@ fn three_hands_see_one_push(rt: HostRuntime) {
     assert!(rt; shows_its_hands(&rt, Quiet::new(rt.alloc(), 8)));
 }
 
-// Opens a list, grows it by three values, of which the second is refused, and closes it. Returns the report of
-// that growth and the closed list.
+// Opens a list, grows it by three values with the second refused, and closes it. Returns the report of that
+// growth and the closed list.
 fn closed_after_refusal(list: Quiet<u64>) -> Option<(Option<(u64, u64, u64, u64)>, Quiet<u64>)> {
     let (vector, mut hand) = list.open().ok()?;
     let refused = grow_refused(&vector, &mut hand, 3, 1);

@@ -25,9 +25,8 @@ const READ: u64 = 100_000;
 // How many runs of three values each of two threads appends.
 const RUNS: u64 = 10_000;
 
-// What a thread does: it appends `n` values from the first on, in order, and reads each of them by its token;
-// or it reads `n` places as soon as another thread has filled them; or it appends `n` runs of three equal
-// values.
+// The work of a thread: it appends `n` values from the first on, in order, and reads each by its token; or it
+// reads `n` places as soon as another thread has filled them; or it appends `n` runs of three equal values.
 #[derive(Drop)]
 enum Work {
     Push { first: u64, n: u64 },
@@ -201,13 +200,23 @@ fn count_in_order(vector: &Shared<u64>, hand: &mut Hand<u64>) -> [u64; 4]
         let Is(value) = read(vector, hand, place) else {
             break
         };
-        let (thread, j) = ((value / EACH) as usize, value % EACH);
-        match next.get_mut(thread) {
-            Some(count) if *count == j => *count = j + 1,
-            _ => break,
+        if !count_next(&mut next, value) {
+            break;
         }
     }
     next
+}
+
+// Counts a value if it is the next one of its thread, and returns whether it is.
+pub(super) fn count_next(next: &mut [u64], value: u64) -> bool {
+    let (thread, j) = ((value / EACH) as usize, value % EACH);
+    match next.get_mut(thread) {
+        Some(count) if *count == j => {
+            *count = j + 1;
+            true
+        }
+        _ => false,
+    }
 }
 
 // Tests whether nothing was lost, and each thread's values are in its order.

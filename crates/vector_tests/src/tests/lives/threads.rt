@@ -1,9 +1,9 @@
-// Lives in which two threads append.
+// Lives with two threads that append.
 use super::super::edits::Edit::Get;
 use super::super::edits::Found::Member;
 use super::super::edits::ends_as;
 use super::super::parts::member;
-use super::super::race::{EACH, push_by_two};
+use super::super::race::{EACH, count_next, push_by_two};
 use super::{Life, three};
 use grow_core::Parts;
 use std::alloc::AllocGlobal;
@@ -37,17 +37,15 @@ fn count_in_order(parts: &Parts<u64>, from: u64) -> [u64; 2] {
         let Some(Some(value)) = member(parts, place) else {
             break
         };
-        let (thread, j) = ((value / EACH) as usize, value % EACH);
-        match next.get_mut(thread) {
-            Some(count) if *count == j => *count = j + 1,
-            _ => break,
+        if !count_next(&mut next, value) {
+            break;
         }
     }
     next
 }
 
-// Tests whether the values of each life are there in order, and no others. A count of a life's values stops
-// where the next life's begin.
+// Tests whether the list has exactly the values of each life, in order. A count of a life's values stops at the
+// first value of the next life.
 fn has_orders(parts: &Parts<u64>, from: u64, lives: u64) -> bool {
     let mut begin = from;
     for _life in 0..lives {
@@ -59,7 +57,7 @@ fn has_orders(parts: &Parts<u64>, from: u64, lives: u64) -> bool {
     parts.len() == begin
 }
 
-// The list after lives in which two threads append the same values, if these are there after its members.
+// The list after lives with two threads that append the same values, if these are there after its members.
 fn live_by_threads<R: Threads + Wait + Abort + Sync>(
     rt: &R,
     mut parts: Parts<u64>,

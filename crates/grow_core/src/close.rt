@@ -174,12 +174,8 @@ impl<T: Drop> Closing<T> {
     // The places of the next segment are members.
     fn settle_segment(&mut self)
         requires { length self.old.members < self.old.size }
-        ensures opened { self.new.opened ≡ self.old.opened }
         ensures more { length self.old.members < length self.new.members }
-        ensures limit { self.new.limit ≡ self.old.limit }
-        ensures size { self.new.size ≡ self.old.size }
-        ensures layout { self.new.layout ≡ self.old.layout }
-        ensures mark { self.new.mark ≡ self.old.mark }
+        ensures rest_kept { self.new ≡ record self.old { members = self.new.members } }
     {
         let (segment, offset, mut block) = take_block(
             &mut self.table,

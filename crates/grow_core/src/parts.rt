@@ -167,9 +167,8 @@ impl<T: Drop> Parts<T> {
     // One segment more.
     fn add_segment(&mut self) -> Result<(), AllocError>
         requires { self.old.segments < segment_count self.old.layout }
-        ensures members { self.new.members ≡ self.old.members }
-        ensures limit { self.new.limit ≡ self.old.limit }
-        ensures layout { self.new.layout ≡ self.old.layout }
+        ensures rest_kept { self.new ≡ record self.old
+            { segments = self.new.segments; closed = self.new.closed } }
         ensures more { IfOk result (λ _. self.new.segments ≡ self.old.segments + 1) }
         ensures same { IfErr result (λ _. self.new.segments ≡ self.old.segments) }
     {
@@ -184,9 +183,8 @@ impl<T: Drop> Parts<T> {
     /// stays if it was larger. After a refusal nothing else has changed, and the capacity may be larger.
     pub fn room(&mut self, n: u64) -> Result<(), AllocError>
         requires { n ≤ self.old.limit }
-        ensures members { self.new.members ≡ self.old.members }
-        ensures limit { self.new.limit ≡ self.old.limit }
-        ensures layout { self.new.layout ≡ self.old.layout }
+        ensures rest_kept { self.new ≡ record self.old
+            { segments = self.new.segments; closed = self.new.closed } }
         ensures room { IfOk result (λ _. n ≤ capacity_of self.new) }
         // If there is room, no memory is asked for.
         ensures spare { n ≤ capacity_of self.old → IsOk result }
@@ -203,9 +201,8 @@ impl<T: Drop> Parts<T> {
     // The last segment given up: it has no member.
     fn drop_segment(&mut self)
         requires { IsSpare self.old }
-        ensures members { self.new.members ≡ self.old.members }
-        ensures limit { self.new.limit ≡ self.old.limit }
-        ensures layout { self.new.layout ≡ self.old.layout }
+        ensures rest_kept { self.new ≡ record self.old
+            { segments = self.new.segments; closed = self.new.closed } }
         ensures fewer { self.new.segments + 1 ≡ self.old.segments }
     {
         self.closed = None;
@@ -216,9 +213,8 @@ impl<T: Drop> Parts<T> {
 
     /// Drops each segment that lies wholly above the members. It takes no memory.
     pub fn cut(&mut self)
-        ensures members { self.new.members ≡ self.old.members }
-        ensures limit { self.new.limit ≡ self.old.limit }
-        ensures layout { self.new.layout ≡ self.old.layout }
+        ensures rest_kept { self.new ≡ record self.old
+            { segments = self.new.segments; closed = self.new.closed } }
         ensures fewer { self.new.segments ≤ self.old.segments }
         ensures least { (k : ℕ) → k < self.new.segments
             → segment_start self.new.layout k < length self.new.members }
@@ -233,9 +229,8 @@ impl<T: Drop> Parts<T> {
         requires below { length self.old.members < self.old.limit }
         requires room { length self.old.members < capacity_of self.old }
         ensures members { self.new.members ≡ self.old.members ++ value ∷ [] }
-        ensures limit { self.new.limit ≡ self.old.limit }
-        ensures layout { self.new.layout ≡ self.old.layout }
-        ensures segments { self.new.segments ≡ self.old.segments }
+        ensures rest_kept { self.new ≡ record self.old
+            { members = self.new.members; closed = self.new.closed } }
     {
         self.closed = None;
         let (segment, offset, mut block) = take_block(
@@ -255,9 +250,8 @@ impl<T: Drop> Parts<T> {
     pub fn pop(&mut self) -> Option<T>
         requires { 0 < length self.old.members }
         ensures member { self.old.members ≡ self.new.members ++ result ∷ [] }
-        ensures limit { self.new.limit ≡ self.old.limit }
-        ensures layout { self.new.layout ≡ self.old.layout }
-        ensures segments { self.new.segments ≡ self.old.segments }
+        ensures rest_kept { self.new ≡ record self.old
+            { members = self.new.members; closed = self.new.closed } }
     {
         self.closed = None;
         self.len -= 1;
@@ -279,9 +273,8 @@ impl<T: Drop> Parts<T> {
         requires { place < length self.old.members }
         ensures members { self.new.members ≡ slice_set self.old.members place value }
         ensures member { slice_get self.old.members place ≡ Some result }
-        ensures limit { self.new.limit ≡ self.old.limit }
-        ensures layout { self.new.layout ≡ self.old.layout }
-        ensures segments { self.new.segments ≡ self.old.segments }
+        ensures rest_kept { self.new ≡ record self.old
+            { members = self.new.members; closed = self.new.closed } }
     {
         self.closed = None;
         let (segment, offset, mut block) = take_block(

@@ -116,9 +116,8 @@ impl<T> Quiet<T> {
 impl<T: Drop> Quiet<T> {
     /// Makes room for n members in all. Nothing else changes.
     pub fn reserve(&mut self, n: u64) -> Result<(), QuietError>
-        ensures members { self.new.members ≡ self.old.members }
-        ensures limit { self.new.limit ≡ self.old.limit }
-        ensures layout { self.new.layout ≡ self.old.layout }
+        ensures rest_kept { self.new ≡ record self.old
+            { capacity = self.new.capacity; closed = self.new.closed } }
         ensures capacity { OnOk result
             (GrowsFor self.old.layout n self.old.capacity self.new.capacity) }
         // The limit is looked at before memory is asked for.
@@ -172,8 +171,11 @@ impl<T: Drop> Quiet<T> {
     pub fn push(&mut self, value: T) -> Result<u64, (QuietError, T)>
         ensures place { IfOk result (λ place. place ≡ length self.old.members) }
         ensures appended { OnOk result (self.new.members ≡ self.old.members ++ Some value ∷ []) }
-        ensures limit { self.new.limit ≡ self.old.limit }
-        ensures layout { self.new.layout ≡ self.old.layout }
+        ensures rest_kept { self.new ≡ record self.old {
+          members = self.new.members;
+          capacity = self.new.capacity;
+          closed = self.new.closed;
+        } }
         ensures capacity { OnOk result
             (GrowsFor self.old.layout (length self.new.members) self.old.capacity self.new.capacity) }
         // The limit is looked at before memory is asked for.
@@ -200,8 +202,11 @@ impl<T: Drop> Quiet<T> {
     /// Its time is linear in both. It takes memory if there are more values than the capacity.
     pub fn assign(&mut self, values: Vec<T>) -> Result<(), (QuietError, Vec<T>)>
         ensures members { OnOk result (self.new.members ≡ map Some values.items) }
-        ensures limit { self.new.limit ≡ self.old.limit }
-        ensures layout { self.new.layout ≡ self.old.layout }
+        ensures rest_kept { self.new ≡ record self.old {
+          members = self.new.members;
+          capacity = self.new.capacity;
+          closed = self.new.closed;
+        } }
         ensures capacity { OnOk result
             (GrowsFor self.old.layout (vec_len values) self.old.capacity self.new.capacity) }
         // The limit is looked at before memory is asked for.
@@ -227,9 +232,8 @@ impl<T: Drop> Quiet<T> {
     /// Drops all members. The capacity stays.
     pub fn clear(&mut self)
         ensures members { self.new.members ≡ [] }
-        ensures limit { self.new.limit ≡ self.old.limit }
-        ensures layout { self.new.layout ≡ self.old.layout }
-        ensures capacity { self.new.capacity ≡ self.old.capacity }
+        ensures rest_kept { self.new ≡ record self.old
+            { members = self.new.members; closed = self.new.closed } }
     {
         cut_to(&mut self.parts, 0);
     }
@@ -247,8 +251,11 @@ impl<T: Drop> Quiet<T> {
         requires callable { F.IsAlwaysCallable make }
         ensures resized { OnOk result (IsResized F.step make n self.old.members self.new.members) }
         ensures refused { IfErr result (LeavesList F.step make n self.old self.new) }
-        ensures limit { self.new.limit ≡ self.old.limit }
-        ensures layout { self.new.layout ≡ self.old.layout }
+        ensures rest_kept { self.new ≡ record self.old {
+          members = self.new.members;
+          capacity = self.new.capacity;
+          closed = self.new.closed;
+        } }
         ensures capacity { OnOk result
             (GrowsFor self.old.layout n self.old.capacity self.new.capacity) }
         // The limit is looked at before memory is asked for.
@@ -272,9 +279,8 @@ impl<T: Drop> Quiet<T> {
 
     /// Drops every segment that lies wholly above the length.
     pub fn shrink_to_fit(&mut self)
-        ensures members { self.new.members ≡ self.old.members }
-        ensures limit { self.new.limit ≡ self.old.limit }
-        ensures layout { self.new.layout ≡ self.old.layout }
+        ensures rest_kept { self.new ≡ record self.old
+            { capacity = self.new.capacity; closed = self.new.closed } }
         ensures capacity { IsCapacityFor self.old.layout
             (length self.old.members) self.new.capacity }
     {
@@ -292,9 +298,8 @@ impl<T: Drop> Quiet<T> {
         ensures refused { IfErr result (λ (why, _). IsRefusalAt self.old.members place why) }
         ensures value_back { IfErr result (λ (_, back). back ≡ value) }
         ensures unchanged { OnErr result (self.new ≡ self.old) }
-        ensures limit { self.new.limit ≡ self.old.limit }
-        ensures layout { self.new.layout ≡ self.old.layout }
-        ensures capacity { self.new.capacity ≡ self.old.capacity }
+        ensures rest_kept { self.new ≡ record self.old
+            { members = self.new.members; closed = self.new.closed } }
     {
         if let Err(error) = self.get(place) {
             return Err((error, value));
@@ -314,9 +319,8 @@ impl<T: Drop> Quiet<T> {
         ensures refused { IfErr result (λ (why, _). IsMendRefusalAt self.old.members place why) }
         ensures value_back { IfErr result (λ (_, back). back ≡ value) }
         ensures unchanged { OnErr result (self.new ≡ self.old) }
-        ensures limit { self.new.limit ≡ self.old.limit }
-        ensures layout { self.new.layout ≡ self.old.layout }
-        ensures capacity { self.new.capacity ≡ self.old.capacity }
+        ensures rest_kept { self.new ≡ record self.old
+            { members = self.new.members; closed = self.new.closed } }
     {
         match self.get(place) {
             Ok(_) => return Err((QuietMendError::Filled, value)),

@@ -21,9 +21,8 @@ pub(crate) fn append<T: Drop>(parts: &mut Parts<T>, values: Vec<T>)
     requires limit { length parts.old.members + vec_len values ≤ parts.old.limit }
     requires room { length parts.old.members + vec_len values ≤ capacity_of parts.old }
     ensures members { parts.new.members ≡ parts.old.members ++ map Some values.items }
-    ensures limit { parts.new.limit ≡ parts.old.limit }
-    ensures layout { parts.new.layout ≡ parts.old.layout }
-    ensures segments { parts.new.segments ≡ parts.old.segments }
+    ensures rest_kept { parts.new ≡ record parts.old
+        { members = parts.new.members; closed = parts.new.closed } }
 {
     for value in values {
         parts.append(Some(value));
@@ -34,9 +33,8 @@ pub(crate) fn append<T: Drop>(parts: &mut Parts<T>, values: Vec<T>)
 pub(crate) fn cut_to<T: Drop>(parts: &mut Parts<T>, n: u64)
     requires { n ≤ length parts.old.members }
     ensures members { parts.new.members ≡ take n parts.old.members }
-    ensures limit { parts.new.limit ≡ parts.old.limit }
-    ensures layout { parts.new.layout ≡ parts.old.layout }
-    ensures segments { parts.new.segments ≡ parts.old.segments }
+    ensures rest_kept { parts.new ≡ record parts.old
+        { members = parts.new.members; closed = parts.new.closed } }
 {
     while parts.len() > n {
         drop(parts.pop());
@@ -56,9 +54,8 @@ pub(crate) fn append_made<T: Drop, E: Drop, F: FnMut(u64) -> Result<T, E>>(
     ensures made { OnOk result (IsMade F.step make n parts.old.members parts.new.members) }
     ensures stopped { IfErr result
         (λ made. (made < n) × IsStopped F.step make made parts.old.members parts.new.members) }
-    ensures limit { parts.new.limit ≡ parts.old.limit }
-    ensures layout { parts.new.layout ≡ parts.old.layout }
-    ensures segments { parts.new.segments ≡ parts.old.segments }
+    ensures rest_kept { parts.new ≡ record parts.old
+        { members = parts.new.members; closed = parts.new.closed } }
 {
     for i in 0..n {
         match make(i) {
@@ -76,9 +73,8 @@ pub(crate) fn break_to<T: Drop>(parts: &mut Parts<T>, n: u64)
     requires room { n ≤ capacity_of parts.old }
     ensures members { parts.new.members ≡ parts.old.members
         ++ replicate (n - length parts.old.members) None }
-    ensures limit { parts.new.limit ≡ parts.old.limit }
-    ensures layout { parts.new.layout ≡ parts.old.layout }
-    ensures segments { parts.new.segments ≡ parts.old.segments }
+    ensures rest_kept { parts.new ≡ record parts.old
+        { members = parts.new.members; closed = parts.new.closed } }
 {
     while parts.len() < n {
         parts.append(None);

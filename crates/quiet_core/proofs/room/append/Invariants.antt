@@ -6,4 +6,4 @@ abbrev pub invariant-loop-value : goal.invariant-loop-value
 invariant-loop-value g l =
     (l.parts.members ≡ l.initial.parts.members ++ map Some l.yielded)
     × (l.yielded ++ into_iter_items l.value-iterator ≡ l.fn.values.items)
-    × (l.parts.limit ≡ l.initial.parts.limit) × (l.parts.layout ≡ l.initial.parts.layout) × (l.parts.segments ≡ l.initial.parts.segments)
+    × (l.parts ≡ record l.initial.parts { members = l.parts.members; closed = l.parts.closed })

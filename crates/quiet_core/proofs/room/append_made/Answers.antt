@@ -1,5 +1,6 @@
 use Rattle.std.proofs.Common.{of_calls, ℕ, ◌+◌, ◌∷◌, [], ◌++◌, Some, length-append, map, sym, ap, ◌∙◌, append_assoc, subst}
 use Rattle.std.proofs.lemmas.List.{map-append}
+use Rattle.grow_core.specs.Parts.{PartsView}
 use Rattle.grow_core.proofs.Made.{made_push}
 use Rattle.quiet_core.proofs.room.append_made.Goals as goal
 
@@ -18,8 +19,6 @@ loop-i-preserved g c =
         length-append values (x ∷ []) ∙ ap (λ (n : ℕ). n + 1) so.2,
         members,
       ),
-      c.append.ensures.limit ∙ at.invariant.1,
-      c.append.ensures.layout ∙ at.invariant.2,
-      c.append.ensures.segments ∙ at.invariant.3,
+      c.append.ensures.rest_kept ∙ ap (λ (p : PartsView _). record p { members = c.append.new.self.members; closed = c.append.new.self.closed }) at.invariant.1,
       search of_calls,
     )

@@ -6,5 +6,5 @@ abbrev pub invariant-loop-i : goal.invariant-loop-i
 invariant-loop-i g l =
     ((values : List g.row.T.Denot) × Makes (goal.F-step g) l.fn.make values l.make × (length values ≡ l.i)
     × (l.parts.members ≡ l.initial.parts.members ++ map Some values))
-    × (l.parts.limit ≡ l.initial.parts.limit) × (l.parts.layout ≡ l.initial.parts.layout) × (l.parts.segments ≡ l.initial.parts.segments)
+    × (l.parts ≡ record l.initial.parts { members = l.parts.members; closed = l.parts.closed })
     × goal.F-IsAlwaysCallable g l.make

@@ -1,6 +1,5 @@
 //! Work of a range of workers, each in a thread of its own, started by halves.
 ghost use Rattle.std.specs.Prelude.{◌≡◌, ℕ, ◌+◌, ◌^◌, ◌<◌, IfOk, IfErr};
-ghost use denote.Param.Send.{IsSync, IsSend};
 
 use std::marker::PhantomData;
 use std::snapshot::Snapshot;
@@ -95,9 +94,10 @@ pub fn fork_join<
         return job.work(first, brought);
     }
     let low = count / 2;
-    halves(rt, job, brought, first, low, first + low, count - low)
+    halves(rt, job, brought, first, low, count - low)
 }
 
+// The same for a range of at least two workers.
 #[cycle(halves)]
 fn halves<
     R: Threads + Wait + Sync,
@@ -105,60 +105,92 @@ fn halves<
     A: Send + Drop,
     E: Send + Drop,
     J: ForkJoin<S, A, E> + Sync,
->(rt: &R, job: &J, brought: S, first: u32, low: u32, middle: u32, high: u32) -> Result<A, E>
+>(rt: &R, job: &J, brought: S, first: u32, low: u32, high: u32) -> Result<A, E>
     requires brought { J.brings job.now first (low + high) brought }
     requires some { 0 < low × 0 < high }
-    requires fits { (first + low ≡ middle) × (middle + high < 2 ^ 32) }
+    requires fits { first + low + high < 2 ^ 32 }
     ensures answer { IfOk result (J.gives job.now first (low + high)) }
     ensures refused { IfErr result (J.refuses job.now first (low + high)) }
 {
+    let middle = first + low;
     let (for_lower, for_upper) = job.cut(brought, first, low, high);
-    let has_no_thread = AtomicBool::new(false);
-    let stops = &has_no_thread;
+    let stops = AtomicBool::new(false);
+    let promise: Upper<S, J> = Upper {
+        brought: PhantomData,
+        job: Snapshot::of(job),
+        first: middle,
+        count: high,
+    };
+    let (lower, upper) = call_both(
+        rt,
+        &stops,
+        || -> Result<A, E>
+            requires { J.brings job.now first low for_lower × (0 < low) × (first + low < 2 ^ 32) }
+            ensures answer { IfOk result (J.gives job.entry.now first low) }
+            ensures refused { IfErr result (J.refuses job.entry.now first low) }
+        { work_unless(&stops, rt, job, for_lower, first, low) },
+        promise,
+        || -> Result<A, E>
+            requires { J.brings job.now middle high for_upper × (0 < high)
+                × (middle + high < 2 ^ 32) }
+            ensures answer { IfOk result (J.gives job.entry.now middle high) }
+            ensures refused { IfErr result (J.refuses job.entry.now middle high) }
+        { work_unless(&stops, rt, job, for_upper, middle, high) },
+    );
+    job.join_halves(first, low, high, lower, upper)
+}
+
+// The same for a half of a range, which does not work if `stops` is set.
+#[cycle(halves)]
+fn work_unless<
+    R: Threads + Wait + Sync,
+    S: Send + Drop,
+    A: Send + Drop,
+    E: Send + Drop,
+    J: ForkJoin<S, A, E> + Sync,
+>(stops: &AtomicBool, rt: &R, job: &J, brought: S, first: u32, count: u32) -> Result<A, E>
+    requires brought { J.brings job.now first count brought }
+    requires some { 0 < count }
+    requires fits { first + count < 2 ^ 32 }
+    ensures answer { IfOk result (J.gives job.now first count) }
+    ensures refused { IfErr result (J.refuses job.now first count) }
+{
+    if stops.load(Ordering::SeqCst) {
+        return job.unstarted(brought, first, count);
+    }
+    fork_join(rt, job, brought, first, count)
+}
+
+// Calls `here` in this thread and `there` in a thread of its own. If that thread cannot be started, sets
+// `stops`, and then calls both in this thread.
+fn call_both<
+    R: Threads + Wait,
+    T: Send + Drop,
+    P: Promise<T> + Drop,
+    F: FnOnce() -> T,
+    G: FnOnce() -> T + Send,
+>(rt: &R, stops: &AtomicBool, here: F, promise: P, there: G) -> (T, T)
+    requires runs { F.pre here × G.pre there }
+    requires keeps { (r : T) → G.post there r → P.kept_by promise r }
+    ensures here { F.post here result.0 }
+    ensures there { P.kept_by promise result.1 }
+{
     thread::scope(
         thread::scope_env(),
         rt,
-        |scope| -> Result<A, E>
-            requires { IsSync R.row × IsSync J.row × IsSend S.row × IsSend A.row × IsSend E.row
-                × J.brings job.now first low for_lower × J.brings job.now middle high for_upper
-                × (0 < low) × (0 < high) × (first + low ≡ middle) × (middle + high < 2 ^ 32) }
-            ensures answer { IfOk result (J.gives job.entry.now first (low + high)) }
-            ensures refused { IfErr result (J.refuses job.entry.now first (low + high)) }
+        |scope| -> (T, T)
+            requires { F.pre here × G.pre there × ((r : T) → G.post there r → P.kept_by promise r) }
+            ensures here { F.post here result.0 }
+            ensures there { P.kept_by promise result.1 }
         {
-            let promise: Upper<S, J> = Upper {
-                brought: PhantomData,
-                job: Snapshot::of(job),
-                first: middle,
-                count: high,
-            };
-            let child = scope.spawn_with(
-                promise,
-                move || -> Result<A, E>
-                    requires { IsSync R.row × IsSync J.row × IsSend S.row × IsSend A.row
-                        × IsSend E.row
-                        × J.brings job.now middle high for_upper × (0 < high) × (middle + high < 2 ^ 32) }
-                    ensures answer { IfOk result (J.gives job.entry.now middle high) }
-                    ensures refused { IfErr result (J.refuses job.entry.now middle high) }
-                {
-                    if stops.load(Ordering::SeqCst) {
-                        return job.unstarted(for_upper, middle, high);
-                    }
-                    fork_join(rt, job, for_upper, middle, high)
-                },
-            );
-            let (lower, upper) = match child {
-                Ok(child) => {
-                    let lower = fork_join(rt, job, for_lower, first, low);
-                    (lower, child.join(rt))
-                }
-                // The thread's work comes back with what it was to bring, and stops at once.
+            match scope.spawn_with(promise, there) {
+                Ok(thread) => (here(), thread.join(rt)),
+                // `there` comes back with all that it captured.
                 Err(refused) => {
                     stops.store(true, Ordering::SeqCst);
-                    let upper = (refused.value)();
-                    (job.unstarted(for_lower, first, low), upper)
+                    (here(), (refused.value)())
                 }
-            };
-            job.join_halves(first, low, high, lower, upper)
+            }
         },
     )
 }

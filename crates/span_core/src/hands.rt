@@ -4,6 +4,7 @@ ghost use mathlib.Core.List.{IsPrefix};
 ghost use Rattle.grow_core.specs.Vector.{IsHandOf};
 ghost use Rattle.span_core.specs.Workers.{IsOfRange};
 ghost use Rattle.span_core.specs.Hands.{AreCallable, KeepHands, Leaves, SaysOfPart, HaveAnswered, of_answer, of_refusal};
+ghost use Rattle.span_core.specs.Hands.{BringsHand, LeavesHand};
 
 use crate::by_halves::{ForkJoin, fork_join};
 use crate::errors::Refusal;
@@ -187,6 +188,34 @@ pub fn with_hands<
         (G.may_refuse gate.now) 0 workers) }
 {
     let theirs = vector.split(hand, workers);
+    let Left { hand: own, answers } = share_hand(rt, alloc, vector, theirs, workers, work, gate);
+    vector.join(hand, own);
+    answers
+}
+
+// Shares a hand among all workers, and returns one that has their shares and runs, with their results.
+fn share_hand<
+    R: Threads + Wait + Sync,
+    T: Send + Sync,
+    A: Send + Drop,
+    E: Send + Drop,
+    F: Fn(&Shared<T>, u32, &mut Hand<T>) -> Result<A, E> + Sync,
+    G: Gate + Sync,
+>(
+    rt: &R,
+    alloc: Global,
+    vector: &Shared<T>,
+    hand: Hand<T>,
+    workers: u32,
+    work: &F,
+    gate: &G,
+) -> Left<T, A, E>
+    requires some { 0 < workers }
+    requires brings { BringsHand (F.pre work.now) (F.post work.now) (G.lets_through gate.now)
+        vector.now workers 0 workers hand }
+    ensures { LeavesHand (F.post work.now) (G.may_refuse gate.now)
+        vector.now 0 workers result.hand result.answers }
+{
     let job = HandWorkers {
         alloc,
         vector,
@@ -194,12 +223,8 @@ pub fn with_hands<
         gate,
         workers,
     };
-    match fork_join(rt, &job, theirs, 0, workers) {
-        Ok(left) => {
-            let Left { hand: own, answers } = left;
-            vector.join(hand, own);
-            answers
-        }
+    match fork_join(rt, &job, hand, 0, workers) {
+        Ok(left) => left,
         Err(never) => match never {},
     }
 }

@@ -1,14 +1,17 @@
 use Rattle.std.proofs.Common.{◌+◌, ◌-◌, ◌*◌}
 use Rattle.span_core.proofs.by_halves.+halves.Given as goal
 
-abbrev pub decreases-halves-scope-spawn_with : goal.decreases-halves-scope-spawn_with
-decreases-halves-scope-spawn_with g l = 4 * l.high + 1
+abbrev pub decreases-work_unless : goal.decreases-work_unless
+decreases-work_unless g l = 5 * l.count + 1
 
-abbrev pub decreases-halves-scope : goal.decreases-halves-scope
-decreases-halves-scope g l = 4 * (l.low + l.high) - 2
+abbrev pub decreases-halves-call_both+arg3 : goal.decreases-halves-call_both+arg3
+decreases-halves-call_both+arg3 g l = 5 * l.low + 2
+
+abbrev pub decreases-halves-call_both+arg5 : goal.decreases-halves-call_both+arg5
+decreases-halves-call_both+arg5 g l = 5 * l.high + 2
 
 abbrev pub decreases-halves : goal.decreases-halves
-decreases-halves g l = 4 * (l.low + l.high) - 1
+decreases-halves g l = 5 * (l.low + l.high) - 1
 
 abbrev pub decreases-fork_join : goal.decreases-fork_join
-decreases-fork_join g l = 4 * l.count
+decreases-fork_join g l = 5 * l.count

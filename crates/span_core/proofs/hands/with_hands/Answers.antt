@@ -9,14 +9,14 @@ returns-clause-answers g c =
     let may = g.G.Gate.may_refuse c.args.gate.now in
     let old = c.args.hand.now in
     let rest = c.split-theirs.new.hand in
-    let own = c.in-Ok.left.hand in
+    let own = c.share_hand-own.result.hand in
     let new = c.join.new.hand in
-    let left = c.in-Ok.ensures.answer in
+    let left = c.share_hand-own.ensures in
     let join = c.join.ensures in
     let shares = old.shares - c.args.workers in
     let of : new.of ≡ own.of = join.of ∙ (rest_of old rest shares c.split-theirs.ensures.kept ∙ (c.requires.ours ∙ sym left.of)) in
     let part : IsWithinHand own new = part_right rest own new of join.also_begins join.mine in
-    all-answer (λ v. v.items) (of_answer says) (of_refusal says) may old own new c.args.workers c.in-Ok.left.answers
+    all-answer (λ v. v.items) (of_answer says) (of_refusal says) may old own new c.args.workers c.share_hand-own.result.answers
     part (rest_mine old rest own new shares c.split-theirs.ensures.kept join.mine) left.answered
 
 pub returns-clause-refused : goal.returns-clause-refused
@@ -25,11 +25,11 @@ returns-clause-refused g c =
     let may = g.G.Gate.may_refuse c.args.gate.now in
     let old = c.args.hand.now in
     let rest = c.split-theirs.new.hand in
-    let own = c.in-Ok.left.hand in
+    let own = c.share_hand-own.result.hand in
     let new = c.join.new.hand in
-    let left = c.in-Ok.ensures.answer in
+    let left = c.share_hand-own.ensures in
     let join = c.join.ensures in
     let shares = old.shares - c.args.workers in
     let of : new.of ≡ own.of = join.of ∙ (rest_of old rest shares c.split-theirs.ensures.kept ∙ (c.requires.ours ∙ sym left.of)) in
     let part : IsWithinHand own new = part_right rest own new of join.also_begins join.mine in
-    all-refuse (λ v. v.items) (of_answer says) (of_refusal says) may own new c.args.workers c.in-Ok.left.answers part left.refused
+    all-refuse (λ v. v.items) (of_answer says) (of_refusal says) may own new c.args.workers c.share_hand-own.result.answers part left.refused

@@ -1,100 +1,55 @@
 // Whole lives of a vector: a list is opened, its caller appends to it and reads it, and it is closed.
 ghost use Rattle.seg_core.specs.Segment.{IsLimit};
-ghost use Rattle.grow_core.specs.Vector.{IsHandOf};
 
+mod life;
 mod threads;
 mod tokens;
 mod values;
 
-use super::callers::place_of;
 use super::edits::Edit::{Append, Get, Members, Replace, Room, Sizes};
 use super::edits::Found::{Capacity, Done, Member};
 use super::edits::{Edit, Found, edited, ends_as, first_wrong_edit};
 use super::steps::Call::{Make, Read, TryGrow, TryPush};
 use super::steps::Reply::{At, Broken, Is, Ran, Refused};
-use super::steps::{Call, Form, Reply, by_hand};
-use grow_core::{Hand, OpenError, Parts, Shared};
+use super::steps::{Call, Form, Reply};
+use grow_core::{OpenError, Parts, Shared};
+pub(super) use life::{Life, live};
+use seg_core::Layout;
 use std::alloc::{AllocGlobal, Global};
 use std::sync::Wait;
-
-// A vector in its life, and its only caller.
-#[derive(Drop)]
-pub(super) struct Life<T> {
-    pub(super) vector: Shared<T>,
-    pub(super) hand: Hand<T>,
-    pub(super) ghost ours: { IsHandOf vector hand },
-}
-
-impl<T: Drop> Life<T> {
-    pub(super) fn open(parts: Parts<T>) -> Option<Life<T>> {
-        let (vector, hand) = Shared::of_parts(parts).ok()?;
-        Some(Life { vector, hand })
-    }
-
-    // The place of a value that a try appends.
-    pub(super) fn push(&mut self, value: T) -> Option<u64> {
-        place_of(self.vector.try_push_back(&mut self.hand, value))
-    }
-
-    // The list that it is closed into, if the hand has all shares.
-    pub(super) fn close(self) -> Option<Parts<T>> {
-        let Life { vector, hand } = self;
-        if hand.is_whole() {
-            Some(vector.into_parts(hand))
-        } else {
-            None
-        }
-    }
-}
-
-impl Life<u64> {
-    // The number of the first call that does not return its reply.
-    pub(super) fn first_wrong<R: AllocGlobal + Wait>(
-        &mut self,
-        rt: &R,
-        calls: &[(Call, Reply)],
-    ) -> Option<u64> {
-        let mut number = 0u64;
-        for (call, reply) in calls {
-            if by_hand(rt, &self.vector, &mut self.hand, *call) != *reply {
-                return Some(number);
-            }
-            number = number.wrapping_add(1);
-        }
-        None
-    }
-}
-
-// The list that the life of a list ends with, if each call in it returns its reply.
-pub(super) fn live<R: AllocGlobal + Wait>(
-    rt: &R,
-    parts: Option<Parts<u64>>,
-    calls: &[(Call, Reply)],
-) -> Option<Parts<u64>> {
-    let mut life = Life::open(parts?)?;
-    if life.first_wrong(rt, calls) == None {
-        life.close()
-    } else {
-        None
-    }
-}
 
 // The calls of a life, and edits of the list that it ends with.
 pub(super) type Story = (&'static [(Call, Reply)], &'static [(Edit, Found)]);
 
-// Tests whether a list lives so, again and again, in the layout that it has at first.
-fn lives_on<R: AllocGlobal + Wait>(rt: &R, mut parts: Parts<u64>, stories: &[Story]) -> bool {
-    let layout = parts.layout();
-    for (calls, edits) in stories {
-        parts = match live(rt, Some(parts), calls) {
-            Some(parts) => parts,
-            None => return false,
-        };
-        if parts.layout() != layout || first_wrong_edit(&mut parts, edits) != None {
-            return false;
+// The list after the edits of a story, if it has the layout, and each of them returns what it should.
+fn after_edits(
+    parts: Option<Parts<u64>>,
+    layout: Layout,
+    edits: &[(Edit, Found)],
+) -> Option<Parts<u64>> {
+    match parts {
+        Some(mut parts) => {
+            if parts.layout() == layout && first_wrong_edit(&mut parts, edits) == None {
+                Some(parts)
+            } else {
+                drop(parts);
+                None
+            }
         }
+        None => None,
     }
-    true
+}
+
+// Tests whether a list lives so, again and again, in the layout that it has at first.
+fn lives_on<R: AllocGlobal + Wait>(rt: &R, parts: Parts<u64>, stories: &[Story]) -> bool {
+    let layout = parts.layout();
+    let mut after = Some(parts);
+    for (calls, edits) in stories {
+        after = after_edits(live(rt, after, calls), layout, edits);
+    }
+    let lives = after.is_some();
+    drop(after);
+    lives
 }
 
 // Tests whether a new list whose first segment has 2^f places lives so, after these edits.
@@ -253,6 +208,7 @@ fn open_three(mut back: Parts<u64>) -> Option<Life<u64>> {
     if first_wrong_edit(&mut back, &SAME_THREE) == None {
         Life::open(back)
     } else {
+        drop(back);
         None
     }
 }
@@ -262,7 +218,10 @@ fn open_again(parts: Parts<u64>) -> Option<Life<u64>> {
     match Shared::of_parts(parts) {
         Ok((vector, hand)) => Some(Life { vector, hand }),
         Err((back, OpenError::NoMemory)) => open_three(back),
-        Err((_back, OpenError::BadLimit)) => None,
+        Err((back, OpenError::BadLimit)) => {
+            drop(back);
+            None
+        }
     }
 }
 
@@ -274,18 +233,21 @@ fn three_again(alloc: Global) -> Option<Parts<u64>> {
     }
 }
 
-// The length of the list after a life that began at a second call.
-fn len_after_again<R: AllocGlobal + Wait>(rt: &R) -> Option<u64> {
-    let mut life = open_again(three_again(rt.alloc())?)?;
-    if life.first_wrong(rt, &[(Read(0), Is(10)), (Read(1), Broken)]) == None {
-        Some(life.close()?.len())
-    } else {
-        None
+const READ_TWO: [(Call, Reply); 2] = [(Read(0), Is(10)), (Read(1), Broken)];
+
+// The list after a life that began at a second call.
+fn live_again<R: AllocGlobal + Wait>(rt: &R) -> Option<Parts<u64>> {
+    match three_again(rt.alloc()) {
+        Some(parts) => match open_again(parts) {
+            Some(life) => life.close_after(rt, &READ_TWO),
+            None => None,
+        },
+        None => None,
     }
 }
 
 // It passes too if any one allocation is made to fail.
 #[test]
 fn a_refused_open_gives_the_list_back(rt: HostRuntime) {
-    assert!(rt; len_after_again(&rt) == Some(3));
+    assert!(rt; ends_as(live_again(&rt), &SAME_THREE));
 }

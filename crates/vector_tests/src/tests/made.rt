@@ -84,7 +84,8 @@ impl Clone for Scarce<'_> {
 
 // The number of clones made of four, if only some find memory.
 fn clones<'a>(two: &mut Callers<Scarce<'a>>, value: &Scarce<'a>) -> Option<u64> {
-    match two.vector.try_grow_by(&mut two.a, 4, value) {
+    let grown = two.vector.try_grow_by(&mut two.a, 4, value);
+    let n = match &grown {
         Ok(grown) => Some(grown.run().n),
         Err(
             GrowError::Refused {
@@ -94,7 +95,9 @@ fn clones<'a>(two: &mut Callers<Scarce<'a>>, value: &Scarce<'a>) -> Option<u64> 
             },
         ) => Some(made.run().n),
         Err(_other) => None,
-    }
+    };
+    drop(grown);
+    n
 }
 
 // The number of clones made of four if only some find memory, and the size after it.
@@ -102,7 +105,9 @@ fn clones_with<R: AllocGlobal + Abort>(rt: &R, memory: u64) -> (Option<u64>, u64
     let left = AtomicU64::new(memory);
     let mut two = Callers::new(rt, 8);
     let made = clones(&mut two, &Scarce(&left));
-    (made, two.size_b())
+    let size = two.size_b();
+    drop(two);
+    (made, size)
 }
 
 // All four places were claimed.
@@ -165,7 +170,7 @@ impl Other<'_> {
 fn grow_beside(
     vector: &Shared<u64>,
     hand: &mut Hand<u64>,
-    mut other: Other<'_>,
+    other: &mut Other<'_>,
     mends: bool,
 ) -> Option<Run>
     requires ours { IsHandOf vector.now hand.old }
@@ -180,19 +185,28 @@ fn grow_beside(
             Err(i)
         }
     };
-    let grown = vector.try_grow_with(hand, 3, make).ok()?;
-    Some(grown.run())
+    let grown = vector.try_grow_with(hand, 3, make);
+    let run = match &grown {
+        Ok(grown) => Some(grown.run()),
+        Err(_refused) => None,
+    };
+    drop(grown);
+    run
 }
 
 // Such a run, and what its last place shows.
 fn grow_and_call(two: Callers<u64>, mends: bool) -> (Option<Run>, Reply) {
     let Callers { vector, mut a, b } = two;
-    let other = Other {
+    let mut other = Other {
         vector: &vector,
         hand: b,
     };
-    let run = grow_beside(&vector, &mut a, other, mends);
-    (run, read(&vector, &mut a, 2))
+    let run = grow_beside(&vector, &mut a, &mut other, mends);
+    let last = read(&vector, &mut a, 2);
+    drop(other);
+    drop(a);
+    drop(vector);
+    (run, last)
 }
 
 const THREE: Option<Run> = Some(Run { from: 0, n: 3 });
@@ -228,17 +242,14 @@ fn clone_read(vector: &Shared<u64>, hand: &mut Hand<u64>, value: u64) -> Option<
     ensures of { hand.new.of ≡ hand.old.of }
     ensures read { IfSome result (λ read. read ≡ value) }
 {
-    match vector.try_grow_by(hand, 3, &value) {
-        Ok(grown) => first_read(vector, &grown, value),
-        Err(
-            GrowError::Refused {
-                run: _run,
-                made,
-                cause: _cause,
-            },
-        ) => first_read(vector, &made, value),
+    let grown = vector.try_grow_by(hand, 3, &value);
+    let read = match &grown {
+        Ok(grown) => first_read(vector, grown, value),
+        Err(GrowError::Refused { made, .. }) => first_read(vector, made, value),
         Err(_other) => None,
-    }
+    };
+    drop(grown);
+    read
 }
 
 // What a refused construction leaves, by the clauses alone: the next growth of a caller alone goes on behind
@@ -249,13 +260,20 @@ fn next_after(vector: &Shared<u64>, hand: &mut Hand<u64>) -> Option<(Run, u64)>
     ensures behind { IfSome result (λ (run, place). run.from + run.n ≤ place) }
 {
     let make = |i: u64| -> Result<u64, u64> { if i == 1 { Err(9) } else { Ok(7) } };
-    match vector.try_grow_with(hand, 3, make) {
-        Err(GrowError::Refused { run, .. }) => {
-            let placed = vector.try_push_back(hand, 5).ok()?;
-            Some((run, placed.place()))
-        }
+    let grown = vector.try_grow_with(hand, 3, make);
+    let broken = match &grown {
+        Err(GrowError::Refused { run, .. }) => Some(*run),
         _ => None,
-    }
+    };
+    drop(grown);
+    let run = broken?;
+    let pushed = vector.try_push_back(hand, 5);
+    let after = match &pushed {
+        Ok(placed) => Some((run, placed.place())),
+        Err(_refused) => None,
+    };
+    drop(pushed);
+    after
 }
 
 fn reads_a_clone(two: &mut Callers<u64>) -> bool {

@@ -10,9 +10,10 @@ use super::steps::Call::{Make, Mend};
 use super::steps::Reply::{At, Refused};
 use super::steps::Step::{A, B};
 use super::steps::{Form, Reply, Step};
-use super::ways::{Way, append_again, look_at};
+use super::ways::{NO_MEMORY, OTHER, Way, append_again, look_at};
 use grow_core::{GrowError, Run, Shared, Shown};
-use std::alloc::{AllocError, Global};
+use std::alloc::{AllocError, AllocGlobal};
+use std::process::Abort;
 use std::sync::Wait;
 
 // Each growth, the first value that it appends, and how often its maker is asked.
@@ -27,95 +28,134 @@ const GROWTHS: [(Way, u64, u64); 8] = [
     (Way::UpTo, 0, 3),
 ];
 
-// Each of two runs wants a segment that is not there yet.
+// Appends two runs. Each wants a segment that is not there yet.
+fn grow_twice<R: AllocGlobal + Wait + Abort>(
+    rt: &R,
+    two: &mut Callers<u64>,
+    growth: &Way,
+    first: u64,
+    asked: u64,
+) {
+    for from in [0, 3].as_slice() {
+        let run = Run { from: *from, n: 3 };
+        let won = append_again(rt, two, growth, run, first);
+        assert!(rt; won == (Ok(run), asked), "{growth:?} {from}");
+        let last = look_at(&two.vector, from.wrapping_add(2));
+        assert!(rt; last == Some(2), "{growth:?} {from}");
+    }
+}
+
 #[test]
 fn each_growth_is_tried_again(rt: HostRuntime) {
     for (growth, first, asked) in GROWTHS.as_slice() {
         let mut two = fresh_again(&rt, 8);
-        for from in [0, 3].as_slice() {
-            let run = Run { from: *from, n: 3 };
-            let won = append_again(&rt, &mut two, growth, run, *first);
-            assert!(rt; won == (Ok(run), *asked), "{growth:?} {from}");
-            assert!(rt;
-                look_at(&two.vector, from.wrapping_add(2)) == Some(2),
-                "{growth:?} {from}"
-            );
-        }
+        grow_twice(&rt, &mut two, growth, *first, *asked);
+        drop(two);
     }
 }
 
 // A text, by a second call if memory was refused to the first.
-fn text_again(alloc: Global) -> Option<String> {
-    match format!(in alloc; "a text of {} bytes", 18) {
-        Ok(made) => Some(made),
-        Err(_refused) => format!(in alloc; "a text of {} bytes", 18).ok(),
+fn text_again<R: AllocGlobal + Abort>(rt: &R) -> String {
+    match format!(in rt.alloc(); "a text of {} bytes", 18) {
+        Ok(made) => made,
+        Err(_refused) => match format!(in rt.alloc(); "a text of {} bytes", 18) {
+            Ok(made) => made,
+            Err(_refused) => panic!(rt; "no text"),
+        },
     }
+}
+
+// Tests whether a place shows the text if it is below `made`, and otherwise that it is broken.
+fn shows_clone(vector: &Shared<String>, place: u64, text: &String, made: u64) -> bool {
+    let shown = vector.look(place);
+    let is_so = match &shown {
+        Shown::Filled(at) => place < made && at.value == text,
+        Shown::Broken(_) => place >= made,
+        Shown::Pending => false,
+    };
+    drop(shown);
+    is_so
 }
 
 // Tests whether the first `made` places of three show the text, and the others that they are broken.
 fn shows_clones(vector: &Shared<String>, text: &String, made: u64) -> bool {
     for place in 0..3u64 {
-        let is_so = match vector.look(place) {
-            Shown::Filled(at) => place < made && at.value == text,
-            Shown::Broken(_) => place >= made,
-            Shown::Pending => false,
-        };
-        if !is_so {
+        if !shows_clone(vector, place, text, made) {
             return false;
         }
     }
     true
 }
 
-// How many of three clones found memory. A growth that finds none for its tokens or its segments is tried
-// again.
+// How many of three clones found memory, or why nothing was claimed.
+fn clone_three<R: Wait>(
+    rt: &R,
+    two: &mut Callers<String>,
+    text: &String,
+) -> Result<u64, &'static str> {
+    let cloned = two.vector.grow_by(rt, &mut two.a, 3, text);
+    let made = match &cloned {
+        Ok(_grown) => Ok(3),
+        Err(
+            GrowError::Refused {
+                made,
+                cause: AllocError,
+                ..
+            },
+        ) => Ok(made.run().n),
+        Err(GrowError::NoMemory { .. }) => Err(NO_MEMORY),
+        Err(_other) => Err(OTHER),
+    };
+    drop(cloned);
+    made
+}
+
+// The same, by a second call if the growth found no memory for its tokens or its segments.
 fn clone_again<R: Wait>(
     rt: &R,
     two: &mut Callers<String>,
     text: &String,
-    tries: u64,
-) -> Option<u64> {
-    for _try in 0..tries {
-        match two.vector.grow_by(rt, &mut two.a, 3, text) {
-            Ok(_grown) => return Some(3),
-            Err(
-                GrowError::Refused {
-                    made,
-                    cause: AllocError,
-                    ..
-                },
-            ) => return Some(made.run().n),
-            Err(GrowError::NoMemory { .. }) => {}
-            Err(_other) => return None,
+) -> Result<u64, &'static str> {
+    let made = clone_three(rt, two, text);
+    if made == Err(NO_MEMORY) && two.size_b() == 0 {
+        clone_three(rt, two, text)
+    } else {
+        made
+    }
+}
+
+// The place of a text, by a second call if memory was refused to the first.
+fn push_again(two: &mut Callers<String>, text: String) -> Option<u64> {
+    match two.vector.try_push_back(&mut two.a, text) {
+        Ok(placed) => {
+            let place = placed.place();
+            drop(placed);
+            Some(place)
         }
-        if two.size_b() != 0 {
-            return None;
+        Err(GrowError::NoMemory { back }) => two.push_a(back),
+        Err(other) => {
+            drop(other);
+            None
         }
     }
-    None
 }
 
 // Tests whether clones that found no memory left their places broken, and a next value goes behind them.
 fn clones_and_goes_on<R: Wait>(rt: &R, two: &mut Callers<String>, text: String) -> bool {
-    let Some(made) = clone_again(rt, two, &text, 2) else {
-        return false;
+    let is_shown = match clone_again(rt, two, &text) {
+        Ok(made) => shows_clones(&two.vector, &text, made),
+        Err(_why) => false,
     };
-    let is_shown = shows_clones(&two.vector, &text, made);
-    match two.vector.try_push_back(&mut two.a, text) {
-        Ok(placed) => is_shown && placed.place() == 3,
-        Err(GrowError::NoMemory { back }) => is_shown && two.push_a(back) == Some(3),
-        Err(_other) => false,
-    }
+    push_again(two, text) == Some(3) && is_shown
 }
 
 // The first clone of a text finds no memory, or the second, or the last.
 #[test]
 fn a_clone_that_finds_no_memory_breaks_the_places_from_there_on(rt: HostRuntime) {
     let mut two = fresh_again(&rt, 8);
-    match text_again(rt.alloc()) {
-        Some(text) => assert!(rt; clones_and_goes_on(&rt, &mut two, text)),
-        None => panic!(rt; "no text"),
-    }
+    let goes_on = clones_and_goes_on(&rt, &mut two, text_again(&rt));
+    drop(two);
+    assert!(rt; goes_on);
 }
 
 const MENDS: [(Step, Reply); 2] = [(B(Mend(2, 6)), At(2)), (B(Mend(0, 5)), At(0))];
@@ -131,15 +171,19 @@ const CHANGES: [(Edit, Found); 7] = [
     (Members(&[Some(5), Some(8)]), Done),
 ];
 
+// Breaks three places, at the second try if memory was refused to the first, and mends two.
+fn break_and_mend<R: AllocGlobal + Wait + Abort>(rt: &R, two: &mut Callers<u64>) {
+    let breaks_three = A(Make(Form::Try, 3, 0));
+    let broken = Refused(0, 3, 0);
+    assert!(rt; two.take(rt, breaks_three) == broken || two.take(rt, breaks_three) == broken);
+    assert_eq!(rt; two.first_wrong(rt, &MENDS), None);
+}
+
 // The count of the requests shows that these take no memory: the vector's, and those of its tokens and two
 // segments.
 #[test]
 fn a_mend_a_close_and_changes_of_a_list_take_no_memory(rt: HostRuntime) {
     let mut two = fresh_again(&rt, 8);
-    let breaks_three = A(Make(Form::Try, 3, 0));
-    let broken = Refused(0, 3, 0);
-    // At the second try, if memory was refused to the first.
-    assert!(rt; two.take(&rt, breaks_three) == broken || two.take(&rt, breaks_three) == broken);
-    assert_eq!(rt; two.first_wrong(&rt, &MENDS), None);
+    break_and_mend(&rt, &mut two);
     assert!(rt; ends_as(two.close(), &CHANGES));
 }

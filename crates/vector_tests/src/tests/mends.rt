@@ -58,16 +58,32 @@ fn a_member_that_was_broken_is_mended_once_the_list_is_open(rt: HostRuntime) {
     assert!(rt; ends_as(live(&rt, broken, &MENDS_ONE), &MENDED));
 }
 
-// How many values were dropped: that which is given back, and at the end the two that the vector has.
-fn mends_counted<'a>(two: &mut Callers<Counted<'a>>, drops: &'a AtomicU64) -> bool {
+// Tests whether a construction is refused, so that the second of two places is broken.
+fn breaks_second<'a>(two: &mut Callers<Counted<'a>>, drops: &'a AtomicU64) -> bool {
     let make = |i: u64| -> Result<Counted<'_>, u64> {
         if i == 0 { Ok(Counted(drops)) } else { Err(i) }
     };
-    let refused = two.vector.try_grow_with(&mut two.a, 2, make).is_err();
-    let mended = two.vector.mend(&mut two.b, 1, Counted(drops)).is_ok();
-    let before = drops.load(Ordering::SeqCst);
-    let lost = two.vector.mend(&mut two.b, 0, Counted(drops)).is_err();
-    refused && mended && lost && before == 0 && drops.load(Ordering::SeqCst) == 1
+    let grown = two.vector.try_grow_with(&mut two.a, 2, make);
+    let is_refused = grown.is_err();
+    drop(grown);
+    is_refused
+}
+
+// Tests whether a value is placed by a mend. Otherwise it is dropped.
+fn mends_at<'a>(two: &mut Callers<Counted<'a>>, place: u64, drops: &'a AtomicU64) -> bool {
+    let mended = two.vector.mend(&mut two.b, place, Counted(drops));
+    let is_mended = mended.is_ok();
+    drop(mended);
+    is_mended
+}
+
+// How many values were dropped: that which is given back, and at the end the two that the vector has.
+fn mends_counted<'a>(two: &mut Callers<Counted<'a>>, drops: &'a AtomicU64) -> bool {
+    breaks_second(two, drops)
+        && mends_at(two, 1, drops)
+        && drops.load(Ordering::SeqCst) == 0
+        && !mends_at(two, 0, drops)
+        && drops.load(Ordering::SeqCst) == 1
 }
 
 #[test]
@@ -150,6 +166,8 @@ fn two_threads_that_mend_one_place_leave_one_value(rt: HostRuntime) {
     let Callers { vector, a, b } = two;
     let (mut all, ones, twos) = mend_by_two(&rt, &vector, a, b);
     let found = (count(&vector, &mut all, 1), count(&vector, &mut all, 2));
+    drop(all);
+    drop(vector);
     assert!(rt; broken == Refused(0, PLACES, 0) && ones.wrapping_add(twos) == PLACES);
     assert!(rt; found == (ones, twos));
 }

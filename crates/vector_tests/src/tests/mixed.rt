@@ -3,10 +3,11 @@ ghost use Rattle.std.specs.Prelude.{◌≡◌, ◌<◌};
 ghost use Rattle.std.specs.Thread.{IsSync};
 ghost use Rattle.grow_core.specs.Vector.{IsHandOf};
 
-use super::callers::empty;
+use super::callers::{empty, place_of};
+use super::lives::Life;
 use super::parts::member;
 use grow_core::{AtLeast, GrowError, Grown, Hand, Parts, Run, Shared};
-use std::alloc::AllocGlobal;
+use std::alloc::{AllocError, AllocGlobal};
 use std::process::Abort;
 use std::sync::Wait;
 use std::test::Fail;
@@ -54,16 +55,23 @@ const NONE: Tally = Tally {
     sum: 0,
 };
 
+// The run of one place.
+fn single(place: u64) -> Run {
+    Run { from: place, n: 1 }
+}
+
 // What a growth of equal values reported. Only a construction may be refused.
 fn told<V: Drop, E: Drop>(
     answer: Result<Grown<u64>, GrowError<u64, V, E>>,
     value: u64,
 ) -> Option<Tally> {
-    match answer {
+    let tally = match &answer {
         Ok(grown) => Some(Tally::of(grown.run(), grown.run().n, value)),
-        Err(GrowError::Refused { run, made, .. }) => Some(Tally::of(run, made.run().n, value)),
+        Err(GrowError::Refused { run, made, .. }) => Some(Tally::of(*run, made.run().n, value)),
         Err(_other) => None,
-    }
+    };
+    drop(answer);
+    tally
 }
 
 // The same of a growth up to a size.
@@ -71,11 +79,14 @@ fn told_at_least<E: Drop>(
     answer: Result<AtLeast<u64>, GrowError<u64, (), E>>,
     value: u64,
 ) -> Option<Tally> {
-    match answer {
-        Ok(AtLeast::Ran(grown)) => told::<(), E>(Ok(grown), value),
+    let tally = match &answer {
+        Ok(AtLeast::Ran(grown)) => Some(Tally::of(grown.run(), grown.run().n, value)),
         Ok(AtLeast::Enough { .. }) => Some(NONE),
-        Err(refused) => told(Err(refused), value),
-    }
+        Err(GrowError::Refused { run, made, .. }) => Some(Tally::of(*run, made.run().n, value)),
+        Err(_other) => None,
+    };
+    drop(answer);
+    tally
 }
 
 // One call, of a form that the number names: a push, clones, moved values, or a maker that may refuse, for a
@@ -92,23 +103,16 @@ fn call<R: AllocGlobal + Wait + Abort>(
 {
     let make = |i: u64| -> Result<u64, u64> { if i == number % 7 { Err(i) } else { Ok(value) } };
     match number % 5 {
-        0 => {
-            let placed = vector.push_back(rt, hand, value).ok()?;
-            Some(Tally::of(
-                Run {
-                    from: placed.place(),
-                    n: 1,
-                },
-                1,
-                value,
-            ))
-        }
+        0 => match place_of(vector.push_back(rt, hand, value)) {
+            Some(place) => Some(Tally::of(single(place), 1, value)),
+            None => None,
+        },
         1 => told(vector.grow_by(rt, hand, number % 4, &value), value),
         2 => told(vector.grow_with(rt, hand, number % 6, make), value),
-        3 => {
-            let values = Vec::from_slice(rt.alloc(), &[value; 3]).ok()?;
-            told(vector.grow_vec(rt, hand, values), value)
-        }
+        3 => match Vec::from_slice(rt.alloc(), &[value; 3]) {
+            Ok(values) => told(vector.grow_vec(rt, hand, values), value),
+            Err(AllocError) => None,
+        },
         _ => {
             let size = vector.size(hand).saturating_add(2);
             told_at_least(vector.grow_to_at_least(hand, size, make), value)
@@ -218,21 +222,19 @@ fn tally_in(parts: &Parts<u64>) -> Tally {
     let mut tally = NONE;
     for place in 0..parts.len() {
         let made = member(parts, place).flatten();
-        let of = Run { from: place, n: 1 };
-        tally = tally.and(Tally::of(of, u64::from(made.is_some()), made.unwrap_or(0)));
+        tally = tally.and(Tally::of(single(place), u64::from(made.is_some()), made.unwrap_or(0)));
     }
     tally
 }
 
-// The tally of the list into which a vector is closed.
-fn closed_tally(vector: Shared<u64>, hand: Hand<u64>) -> Option<Tally>
-    requires ours { IsHandOf vector hand }
-{
-    if hand.is_whole() {
-        Some(tally_in(&vector.into_parts(hand)))
-    } else {
-        None
-    }
+// The tally of a list, if there is one.
+fn tally_of(parts: Option<Parts<u64>>) -> Option<Tally> {
+    let tally = match &parts {
+        Some(parts) => Some(tally_in(parts)),
+        None => None,
+    };
+    drop(parts);
+    tally
 }
 
 #[test]
@@ -240,6 +242,6 @@ fn eight_threads_grow_in_every_form(rt: HostRuntime) -> Result<(), Fail> {
     let (vector, hand) = empty(rt.alloc(), 1 << 20)?;
     let (mut hand, tally) = call_by_eight(&rt, &vector, hand);
     assert!(rt; vector.size(&mut hand) == tally.places);
-    assert!(rt; closed_tally(vector, hand) == Some(tally));
+    assert!(rt; tally_of(Life { vector, hand }.close()) == Some(tally));
     Ok(())
 }

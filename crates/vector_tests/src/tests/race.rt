@@ -3,6 +3,8 @@ ghost use Rattle.std.specs.Prelude.{◌≡◌, ◌<◌};
 ghost use Rattle.std.specs.Thread.{IsSync};
 ghost use Rattle.grow_core.specs.Vector.{IsHandOf};
 
+mod work;
+
 use super::callers::{Callers, empty};
 use super::edits::Found::Sizes;
 use super::edits::{Edit, ends_as};
@@ -10,11 +12,11 @@ use super::lives::Life;
 use super::steps::Reply::Is;
 use super::steps::read;
 use grow_core::{Hand, Shared};
-use std::alloc::{AllocError, Global};
 use std::process::Abort;
 use std::sync::Wait;
 use std::test::Fail;
 use std::thread::{Threads, join};
+use work::{Work, work_each};
 
 // How many values each thread appends.
 pub(super) const EACH: u64 = 25_000;
@@ -24,93 +26,6 @@ const READ: u64 = 100_000;
 
 // How many runs of three values each of two threads appends.
 const RUNS: u64 = 10_000;
-
-// The work of a thread: it appends `n` values from the first on, in order, and reads each by its token; or it
-// reads `n` places as soon as another thread has filled them; or it appends `n` runs of three equal values.
-#[derive(Drop)]
-enum Work {
-    Push { first: u64, n: u64 },
-    Read { n: u64 },
-    Grow { alloc: Global, n: u64 },
-}
-
-fn work_each<R: Wait + Abort>(
-    rt: &R,
-    vector: &Shared<u64>,
-    mut hand: Hand<u64>,
-    work: &Work,
-) -> Hand<u64>
-    requires ours { IsHandOf vector.now hand }
-    ensures { result.of ≡ vector.now.word }
-{
-    let (Work::Push { n, .. } | Work::Read { n } | Work::Grow { n, .. }) = work;
-    for j in 0..*n {
-        match work {
-            Work::Push { first, .. } => push_and_read(rt, vector, &mut hand, first.wrapping_add(j)),
-            Work::Read { .. } => wait_and_read(rt, vector, &mut hand, j),
-            Work::Grow { alloc, .. } => grow_three(rt, vector, &mut hand, *alloc, j),
-        }
-    }
-    hand
-}
-
-// Appends a value, reads it by its token, and looks at a place further down.
-fn push_and_read<R: Wait + Abort>(rt: &R, vector: &Shared<u64>, hand: &mut Hand<u64>, value: u64)
-    requires ours { IsHandOf vector.now hand.old }
-    ensures { hand.new.of ≡ hand.old.of }
-{
-    match vector.push_back(rt, hand, value) {
-        Ok(placed) => {
-            assert_eq!(rt; *vector.get(&placed), value);
-            if let Is(read) = read(vector, hand, placed.place() / 2) {
-                assert!(rt; read < 4 * EACH);
-            }
-        }
-        Err(_refused) => panic!(rt; "{value} was refused"),
-    }
-}
-
-// The value at a place, as the look and its token show it.
-fn look_twice(vector: &Shared<u64>, hand: &mut Hand<u64>, place: u64) -> Option<(u64, u64)>
-    requires ours { IsHandOf vector.now hand.old }
-    ensures { hand.new.of ≡ hand.old.of }
-{
-    match vector.at(hand, place, None) {
-        Ok(at) => Some((*at.value, *vector.get(&at.placed))),
-        Err(_refused) => None,
-    }
-}
-
-// Looks until the place has a value, which is its number.
-fn wait_and_read<R: Wait + Abort>(rt: &R, vector: &Shared<u64>, hand: &mut Hand<u64>, place: u64)
-    requires ours { IsHandOf vector.now hand.old }
-    ensures { hand.new.of ≡ hand.old.of }
-{
-    for _look in rt.forever() {
-        if let Some(values) = look_twice(vector, hand, place) {
-            assert_eq!(rt; values, (place, place));
-            break;
-        }
-    }
-}
-
-// Appends three equal values, if they are not refused.
-fn grow_three<R: Wait + Abort>(
-    rt: &R,
-    vector: &Shared<u64>,
-    hand: &mut Hand<u64>,
-    alloc: Global,
-    value: u64,
-)
-    requires ours { IsHandOf vector.now hand.old }
-    ensures of { hand.new.of ≡ hand.old.of }
-{
-    let is_grown = match Vec::from_slice(alloc, &[value; 3]) {
-        Ok(values) => vector.grow_vec(rt, hand, values).is_ok(),
-        Err(AllocError) => false,
-    };
-    assert!(rt; is_grown, "{value} was refused");
-}
 
 // Two threads work, and their hands are joined.
 fn work_by_two<R: Threads + Wait + Abort + Sync>(

@@ -5,6 +5,8 @@ ghost use Rattle.grow_core.specs.Vector.{IsHandOf, limit_of};
 
 use super::callers::{Callers, list};
 use grow_core::{Found, GrowError, Hand, Shared};
+use std::alloc::AllocGlobal;
+use std::process::Abort;
 
 // If what the hand has seen leaves no room, the values come back with the size.
 fn refused(vector: &Shared<u64>, hand: &mut Hand<u64>, values: Vec<u64>) -> (u64, Vec<u64>)
@@ -27,10 +29,13 @@ fn overtaken(vector: &Shared<u64>, hand: &mut Hand<u64>, values: Vec<u64>) -> Op
     ensures further { IfSome result (λ size. seen_size hand.old < size) }
     ensures room { IfSome result (λ size. size + vec_len values ≤ limit_of vector.now) }
 {
-    match vector.try_grow_vec(hand, values) {
-        Err(GrowError::Moved { size, .. }) => Some(size),
+    let grown = vector.try_grow_vec(hand, values);
+    let told = match &grown {
+        Err(GrowError::Moved { size, .. }) => Some(*size),
         _ => None,
-    }
+    };
+    drop(grown);
+    told
 }
 
 // A value that found no memory, though there was room for it.
@@ -40,10 +45,13 @@ fn kept(vector: &Shared<u64>, hand: &mut Hand<u64>, value: u64) -> Option<u64>
     ensures same { IfSome result (λ back. back ≡ value) }
     ensures room { IfSome result (λ _. seen_size hand.new < limit_of vector.now) }
 {
-    match vector.try_push_back(hand, value) {
-        Err(GrowError::NoMemory { back }) => Some(back),
+    let pushed = vector.try_push_back(hand, value);
+    let told = match &pushed {
+        Err(GrowError::NoMemory { back }) => Some(*back),
         _ => None,
-    }
+    };
+    drop(pushed);
+    told
 }
 
 // A place that was taken lies below the size that the hand has then seen.
@@ -52,10 +60,13 @@ fn taken(vector: &Shared<u64>, hand: &mut Hand<u64>, values: Vec<u64>) -> Option
     ensures of { hand.new.of ≡ hand.old.of }
     ensures below { IfSome result (λ place. place < seen_size hand.new) }
 {
-    match vector.try_grow_vec(hand, values) {
-        Err(GrowError::Taken { place, .. }) => Some(place),
+    let grown = vector.try_grow_vec(hand, values);
+    let told = match &grown {
+        Err(GrowError::Taken { place, .. }) => Some(*place),
         _ => None,
-    }
+    };
+    drop(grown);
+    told
 }
 
 // A taken place that holds nothing yet is the place that is reported.
@@ -64,15 +75,18 @@ fn busy(vector: &Shared<u64>, hand: &mut Hand<u64>, value: u64) -> Option<(u64, 
     ensures of { hand.new.of ≡ hand.old.of }
     ensures same { IfSome result (λ (told, found). told ≡ found) }
 {
-    match vector.try_push_back(hand, value) {
+    let pushed = vector.try_push_back(hand, value);
+    let told = match &pushed {
         Err(
             GrowError::Taken {
                 place,
                 found: Found::Busy(begun),
             },
-        ) => Some((place, begun.place())),
+        ) => Some((*place, begun.place())),
         _ => None,
-    }
+    };
+    drop(pushed);
+    told
 }
 
 // A growth of nothing claims nothing, and returns the size that the hand has then seen.
@@ -95,43 +109,52 @@ fn seen_value(vector: &Shared<u64>, hand: &mut Hand<u64>, place: u64) -> Option<
     ensures of { hand.new.of ≡ hand.old.of }
     ensures below { IfSome result (λ _. place < seen_size hand.new) }
 {
-    match vector.at(hand, place, None) {
+    let at = vector.at(hand, place, None);
+    let value = match &at {
         Ok(at) => Some(*at.value),
         Err(_refused) => None,
-    }
+    };
+    drop(at);
+    value
 }
 
 // Tests whether no refusal comes, if one caller is at work and there is room for four values.
-fn is_not_refused(vector: &Shared<u64>, hand: &mut Hand<u64>, five: Vec<u64>, six: Vec<u64>) -> bool
-    requires ours { IsHandOf vector.now hand.old }
-{
-    overtaken(vector, hand, five).is_none()
-        && taken(vector, hand, six).is_none()
-        && kept(vector, hand, 7).is_none()
-        && busy(vector, hand, 8).is_none()
-        && seen_value(vector, hand, 3) == Some(8)
+fn is_not_refused<R: AllocGlobal + Abort>(rt: &R, two: &mut Callers<u64>) -> bool {
+    overtaken(&two.vector, &mut two.a, list(rt, &[5])).is_none()
+        && taken(&two.vector, &mut two.a, list(rt, &[6])).is_none()
+        && kept(&two.vector, &mut two.a, 7).is_none()
+        && busy(&two.vector, &mut two.a, 8).is_none()
+        && seen_value(&two.vector, &mut two.a, 3) == Some(8)
 }
 
 #[test]
 fn a_caller_alone_is_not_refused(rt: HostRuntime) {
-    let Callers {
-        vector,
-        mut a,
-        mut b,
-        ..
-    } = Callers::new(&rt, 8);
-    assert!(rt; is_not_refused(&vector, &mut a, list(&rt, &[5]), list(&rt, &[6])));
-    let size = nothing(&vector, &mut b, Vec::new(rt.alloc()));
+    let mut callers = Callers::new(&rt, 8);
+    let two = &mut callers;
+    let is_alone = is_not_refused(&rt, two);
+    let size = nothing(&two.vector, &mut two.b, Vec::new(rt.alloc()));
+    drop(callers);
+    assert!(rt; is_alone);
     assert_eq!(rt; size, 4);
+}
+
+// The size that comes back with the values, if they go beyond the limit.
+fn size_beyond(two: &mut Callers<u64>, values: Vec<u64>) -> Option<u64> {
+    if values.len() as u64 > two.vector.limit() {
+        let (size, back) = refused(&two.vector, &mut two.b, values);
+        drop(back);
+        Some(size)
+    } else {
+        drop(values);
+        None
+    }
 }
 
 #[test]
 fn values_beyond_the_limit_are_refused(rt: HostRuntime) {
     let mut two = Callers::new(&rt, 2);
     let _first = two.push_a(5);
-    let Callers { vector, mut b, .. } = two;
-    let values = list(&rt, &[6, 7, 8]);
-    assert!(rt; values.len() as u64 > vector.limit());
-    let (size, _back) = refused(&vector, &mut b, values);
-    assert_eq!(rt; size, 1);
+    let size = size_beyond(&mut two, list(&rt, &[6, 7, 8]));
+    drop(two);
+    assert_eq!(rt; size, Some(1));
 }

@@ -80,5 +80,7 @@ fn appends_a_million<R: AllocGlobal + Wait>(rt: &R, two: &mut Callers<u64>) -> b
 #[test]
 fn a_million_values_are_appended_without_tokens(rt: HostRuntime) {
     let mut two = Callers::new(&rt, 4_294_967_296);
-    assert!(rt; appends_a_million(&rt, &mut two));
+    let appends = appends_a_million(&rt, &mut two);
+    drop(two);
+    assert!(rt; appends);
 }

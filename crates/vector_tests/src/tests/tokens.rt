@@ -5,6 +5,7 @@ ghost use Rattle.grow_core.specs.Grown.{IsGrownOf};
 
 use super::callers::{Callers, list};
 use grow_core::{Grown, Hand, Placed, Run, Shared};
+use std::sync::Wait;
 
 // A token's value: by the token, by its duplicate, and by a look at its place.
 fn read(vector: &Shared<u64>, hand: &mut Hand<u64>, token: &Placed<u64>) -> Option<[u64; 3]>
@@ -48,13 +49,27 @@ fn read_second(
     Some((run, token.place(), reads))
 }
 
-#[test]
-fn a_run_has_its_values_in_order(rt: HostRuntime) {
-    let Callers { vector, mut a, .. } = Callers::new(&rt, 8);
-    let read = match vector.grow_vec(&rt, &mut a, list(&rt, &[7, 8, 9])) {
-        Ok(grown) => read_second(&vector, &mut a, &grown),
+// The same of values that are moved in.
+fn grow_and_read<R: Wait>(
+    rt: &R,
+    two: &mut Callers<u64>,
+    values: Vec<u64>,
+) -> Option<(Run, u64, [u64; 3])> {
+    let grown = two.vector.grow_vec(rt, &mut two.a, values);
+    let read = match &grown {
+        Ok(grown) => read_second(&two.vector, &mut two.a, grown),
         Err(_refused) => None,
     };
+    drop(grown);
+    read
+}
+
+#[test]
+fn a_run_has_its_values_in_order(rt: HostRuntime) {
+    let mut two = Callers::new(&rt, 8);
+    let read = grow_and_read(&rt, &mut two, list(&rt, &[7, 8, 9]));
+    let limit = two.vector.limit();
+    drop(two);
     assert!(rt; read == Some((Run { from: 0, n: 3 }, 1, [8; 3])));
-    assert_eq!(rt; vector.limit(), 8);
+    assert_eq!(rt; limit, 8);
 }

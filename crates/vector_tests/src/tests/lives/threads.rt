@@ -11,21 +11,28 @@ use std::process::Abort;
 use std::sync::Wait;
 use std::thread::Threads;
 
-// Opens the list, lets two threads append, and closes it.
-fn grow_by_threads<R: Threads + Wait + Abort + Sync>(
-    rt: &R,
-    parts: Parts<u64>,
-) -> Option<Parts<u64>> {
-    let Life { vector, mut hand } = Life::open(parts)?;
+// Lets two threads append, if the hand can be split.
+fn append_by_threads<R: Threads + Wait + Abort + Sync>(rt: &R, life: Life<u64>) -> Life<u64> {
+    let Life { vector, mut hand } = life;
     if hand.share() < 2 {
-        return None;
+        return Life { vector, hand };
     }
     let other = vector.split(&mut hand, 1);
     let hand = push_by_two(rt, &vector, hand, other, 0);
-    if hand.is_whole() {
-        Some(vector.into_parts(hand))
-    } else {
-        None
+    Life { vector, hand }
+}
+
+// Opens the list, lets two threads append, and closes it.
+fn grow_by_threads<R: Threads + Wait + Abort + Sync>(
+    rt: &R,
+    parts: Option<Parts<u64>>,
+) -> Option<Parts<u64>> {
+    match parts {
+        Some(parts) => match Life::open(parts) {
+            Some(life) => append_by_threads(rt, life).close(),
+            None => None,
+        },
+        None => None,
     }
 }
 
@@ -57,20 +64,31 @@ fn has_orders(parts: &Parts<u64>, from: u64, lives: u64) -> bool {
     parts.len() == begin
 }
 
-// The list after lives with two threads that append the same values, if these are there after its members.
+// The list after lives with two threads that append the same values.
 fn live_by_threads<R: Threads + Wait + Abort + Sync>(
     rt: &R,
-    mut parts: Parts<u64>,
+    parts: Parts<u64>,
     lives: u64,
 ) -> Option<Parts<u64>> {
-    let from = parts.len();
+    let mut after = Some(parts);
     for _life in 0..lives {
-        parts = grow_by_threads(rt, parts)?;
+        after = grow_by_threads(rt, after);
     }
-    if has_orders(&parts, from, lives) {
-        Some(parts)
-    } else {
-        None
+    after
+}
+
+// The list, if these values are there after its members.
+fn in_order(parts: Option<Parts<u64>>, from: u64, lives: u64) -> Option<Parts<u64>> {
+    match parts {
+        Some(parts) => {
+            if has_orders(&parts, from, lives) {
+                Some(parts)
+            } else {
+                drop(parts);
+                None
+            }
+        }
+        None => None,
     }
 }
 
@@ -78,7 +96,10 @@ fn live_by_threads<R: Threads + Wait + Abort + Sync>(
 fn grow_three_by_threads<R: AllocGlobal + Threads + Wait + Abort + Sync>(
     rt: &R,
 ) -> Option<Parts<u64>> {
-    live_by_threads(rt, three(rt.alloc(), 3 + 2 * EACH)?, 1)
+    match three(rt.alloc(), 3 + 2 * EACH) {
+        Some(parts) => in_order(live_by_threads(rt, parts, 1), 3, 1),
+        None => None,
+    }
 }
 
 #[test]
@@ -89,5 +110,5 @@ fn what_two_threads_append_is_in_the_closed_list(rt: HostRuntime) {
 #[test]
 fn ten_lives_by_two_threads_lose_nothing(rt: HostRuntime) {
     let parts = live_by_threads(&rt, Parts::new(rt.alloc(), 20 * EACH), 10);
-    assert!(rt; parts.is_some());
+    assert!(rt; in_order(parts, 0, 10).is_some());
 }

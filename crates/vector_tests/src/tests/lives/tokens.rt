@@ -1,10 +1,22 @@
 // Tokens that outlive the vector: of an old place and of a new one.
 ghost use Rattle.std.specs.Prelude.{◌≡◌, IfSome};
 ghost use Rattle.grow_core.specs.Vector.{IsHandOf, IsPlacedOf};
+ghost use Rattle.grow_core.specs.Closing.{IsOfClosed};
 
 use super::{Life, three};
-use grow_core::{Hand, Placed, Shared};
-use std::alloc::Global;
+use grow_core::{Hand, Parts, Placed, Shared};
+
+// The token of an old place.
+fn token_of_old(vector: &Shared<u64>, hand: &mut Hand<u64>) -> Option<Placed<u64>>
+    requires ours { IsHandOf vector.now hand.old }
+    ensures of { hand.new.of ≡ hand.old.of }
+    ensures token { IfSome result (IsPlacedOf vector.now) }
+{
+    match vector.at(hand, 2, None) {
+        Ok(at) => Some(at.placed),
+        Err(_due) => None,
+    }
+}
 
 // The tokens of an old place and of a new one.
 fn tokens_of_both(vector: &Shared<u64>, hand: &mut Hand<u64>) -> Option<(Placed<u64>, Placed<u64>)>
@@ -12,17 +24,25 @@ fn tokens_of_both(vector: &Shared<u64>, hand: &mut Hand<u64>) -> Option<(Placed<
     ensures of { hand.new.of ≡ hand.old.of }
     ensures tokens { IfSome result (λ (x, y). IsPlacedOf vector.now x × IsPlacedOf vector.now y) }
 {
-    match vector.at(hand, 2, None) {
-        Ok(at) => match vector.try_push_back(hand, 40) {
-            Ok(new) => Some((at.placed, new)),
+    match token_of_old(vector, hand) {
+        Some(old) => match vector.try_push_back(hand, 40) {
+            Ok(new) => Some((old, new)),
             Err(_refused) => None,
         },
-        Err(_due) => None,
+        None => None,
     }
 }
 
+// The values of two places, by their tokens, in a closed list.
+fn recall_two(parts: &Parts<u64>, x: &Placed<u64>, y: &Placed<u64>) -> (u64, u64)
+    requires old { IsOfClosed parts.now.closed x.now }
+    requires new { IsOfClosed parts.now.closed y.now }
+{
+    (*parts.recall(x), *parts.recall(y))
+}
+
 // The values of two places, by their tokens, once the vector is closed.
-fn recall_two(
+fn close_and_recall(
     vector: Shared<u64>,
     hand: Hand<u64>,
     x: &Placed<u64>,
@@ -31,22 +51,39 @@ fn recall_two(
     requires ours { IsHandOf vector hand }
     requires tokens { IsPlacedOf vector x.now × IsPlacedOf vector y.now }
 {
-    if !hand.is_whole() {
-        return None;
+    if hand.is_whole() {
+        let parts = vector.into_parts(hand);
+        let values = recall_two(&parts, x, y);
+        drop(parts);
+        Some(values)
+    } else {
+        drop(vector);
+        drop(hand);
+        None
     }
-    let parts = vector.into_parts(hand);
-    Some((*parts.recall(x), *parts.recall(y)))
 }
 
-fn recall_both(alloc: Global) -> Option<(u64, u64)> {
-    let Life { vector, mut hand } = Life::open(three(alloc, 8)?)?;
+fn recall_both(parts: Parts<u64>) -> Option<(u64, u64)> {
+    let Life { vector, mut hand } = Life::open(parts)?;
     match tokens_of_both(&vector, &mut hand) {
-        Some((old, new)) => recall_two(vector, hand, &old, &new),
-        None => None,
+        Some((old, new)) => {
+            let values = close_and_recall(vector, hand, &old, &new);
+            drop(old);
+            drop(new);
+            values
+        }
+        None => {
+            drop(vector);
+            drop(hand);
+            None
+        }
     }
 }
 
 #[test]
 fn tokens_are_recalled_in_the_closed_list(rt: HostRuntime) {
-    assert!(rt; recall_both(rt.alloc()) == Some((30, 40)));
+    match three(rt.alloc(), 8) {
+        Some(parts) => assert!(rt; recall_both(parts) == Some((30, 40))),
+        None => panic!(rt; "no list"),
+    }
 }

@@ -21,6 +21,7 @@ fn push_counted<'a>(alloc: Global, drops: &'a AtomicU64) -> Option<Parts<Counted
     if both == (Some(2), Some(3)) {
         life.close()
     } else {
+        drop(life);
         None
     }
 }
@@ -49,16 +50,30 @@ fn lose_a_hand<T: Drop>(life: &mut Life<T>) {
     }
 }
 
-// How many values were dropped before a vector ends that can't be closed without one of its hands, and after.
-fn drops_without_a_hand(alloc: Global, drops: &AtomicU64) -> Option<(u64, u64)> {
-    let mut life = open_counted(alloc, drops)?;
-    lose_a_hand(&mut life);
-    let pushed = life.push(Counted(drops));
-    let before = drops.load(Ordering::SeqCst);
-    if pushed == Some(2) && life.close().is_none() {
-        Some((before, drops.load(Ordering::SeqCst)))
+// How many values were dropped after a push to a vector that can't be closed without one of its hands.
+fn push_without_a_hand<'a>(life: &mut Life<Counted<'a>>, drops: &'a AtomicU64) -> Option<u64> {
+    lose_a_hand(life);
+    if life.push(Counted(drops)) == Some(2) {
+        Some(drops.load(Ordering::SeqCst))
     } else {
         None
+    }
+}
+
+// How many values were dropped before such a vector ends, and after.
+fn drops_without_a_hand(alloc: Global, drops: &AtomicU64) -> Option<(u64, u64)> {
+    match open_counted(alloc, drops) {
+        Some(mut life) => {
+            let before = push_without_a_hand(&mut life, drops);
+            let closed = life.close();
+            let is_lost = closed.is_none();
+            drop(closed);
+            match (before, is_lost) {
+                (Some(before), true) => Some((before, drops.load(Ordering::SeqCst))),
+                _ => None,
+            }
+        }
+        None => None,
     }
 }
 
@@ -84,12 +99,22 @@ fn append_texts(parts: &mut Parts<String>, alloc: Global) -> bool {
     parts.len() == MANY
 }
 
+// Tests whether the last text is that of the number, and takes it out.
+fn pops_text(parts: &mut Parts<String>, value: u64) -> bool {
+    let popped = pop(parts);
+    let is_so = match &popped {
+        Some(Some(text)) => text.as_str().parse::<u64>() == Ok(value),
+        _ => false,
+    };
+    drop(popped);
+    is_so
+}
+
 // Tests whether the texts come back, the last first.
 fn pop_texts(parts: &mut Parts<String>) -> bool {
     for value in (0..MANY).rev() {
-        match pop(parts) {
-            Some(Some(text)) if text.as_str().parse::<u64>() == Ok(value) => {}
-            _ => return false,
+        if !pops_text(parts, value) {
+            return false;
         }
     }
     parts.len() == 0
@@ -98,7 +123,9 @@ fn pop_texts(parts: &mut Parts<String>) -> bool {
 // Tests whether the texts of the list come back after a life.
 fn lives_with_texts(parts: Parts<String>) -> Option<bool> {
     let mut parts = Life::open(parts)?.close()?;
-    Some(parts.len() == MANY && pop_texts(&mut parts))
+    let is_so = parts.len() == MANY && pop_texts(&mut parts);
+    drop(parts);
+    Some(is_so)
 }
 
 #[test]

@@ -1,5 +1,5 @@
 use Rattle.std.proofs.Common.{◌≡◌}
-use Rattle.vector_tests.proofs.tests.race.wait_and_read.Given as goal
+use Rattle.vector_tests.proofs.tests.race.work.wait_and_read.Given as goal
 
 abbrev pub invariant-loop-look : goal.invariant-loop-look
 invariant-loop-look g l =

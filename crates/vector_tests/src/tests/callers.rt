@@ -123,8 +123,10 @@ impl<T: Drop> Callers<T> {
 
     // Its length.
     pub(super) fn end(self) -> Option<u64> {
-        let parts = self.close()?;
-        Some(parts.len())
+        match self.close() {
+            Some(parts) => Some(parts.len()),
+            None => None,
+        }
     }
 }
 
@@ -139,7 +141,9 @@ pub(super) fn on_two<T: Drop, R: AllocGlobal + Abort, F: FnOnce(&mut Callers<T>)
     requires callable { F.IsAlwaysCallable steps }
 {
     let mut two = Callers::new(rt, limit);
-    steps(&mut two)
+    let is_right = steps(&mut two);
+    drop(two);
+    is_right
 }
 
 pub(super) fn place_of<T: Drop, V: Drop, E: Drop>(
@@ -152,20 +156,11 @@ pub(super) fn place_of<T: Drop, V: Drop, E: Drop>(
 impl Callers<u64> {
     // The value at a place, by a look without a token.
     pub(super) fn at_b(&mut self, place: u64) -> Option<u64> {
-        let at = self.vector.at(&mut self.b, place, None).ok()?;
-        Some(*at.value)
+        match self.vector.at(&mut self.b, place, None) {
+            Ok(at) => Some(*at.value),
+            Err(_refused) => None,
+        }
     }
-}
-
-// A `Vec` of n values, each made of its number, if there is memory for them.
-pub(super) fn list_of<T: Drop, F: Fn(u64) -> T>(alloc: Global, n: u64, make: F) -> Option<Vec<T>>
-    requires { F.IsAlwaysCallable make }
-{
-    let mut made = Vec::with_capacity(alloc, n as usize).ok()?;
-    for number in 0..n {
-        made.push(make(number)).ok()?;
-    }
-    Some(made)
 }
 
 // The values in a `Vec`.

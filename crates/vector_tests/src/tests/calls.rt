@@ -106,7 +106,13 @@ fn ran(grown: &Grown<u64>) -> Reply {
 fn placed(pushed: Result<Placed<u64>, GrowError<u64, u64, Never>>, value: u64) -> Reply {
     match pushed {
         Ok(placed) => Reply::At(placed.place()),
-        Err(GrowError::Full { size, back }) if back == value => Reply::Full(size),
+        Err(GrowError::Full { size, back }) => {
+            if back == value {
+                Reply::Full(size)
+            } else {
+                Reply::Other
+            }
+        }
         Err(_refused) => Reply::Other,
     }
 }
@@ -149,7 +155,7 @@ fn given_back(error: GrowError<u64, Vec<u64>, Never>, values: &[u64]) -> Reply {
                 Reply::Other
             }
         }
-        _ => Reply::Other,
+        _other => Reply::Other,
     }
 }
 
@@ -202,11 +208,20 @@ fn make_sevens<R: Wait>(
 fn made(grown: Result<Grown<u64>, GrowError<u64, (), u64>>) -> Reply {
     match grown {
         Ok(grown) => ran(&grown),
-        Err(GrowError::Refused { run, made, cause }) if cause == 9 => {
-            Reply::Refused(run.from, run.n, made.run().n)
-        }
-        Err(GrowError::Full { size, .. }) => Reply::Full(size),
-        Err(GrowError::Moved { .. }) => Reply::Moved,
+        Err(
+            GrowError::Refused {
+                run,
+                made,
+                cause: 9,
+            },
+        ) => Reply::Refused(run.from, run.n, made.run().n),
+        Err(GrowError::Full { size, back: () }) => Reply::Full(size),
+        Err(
+            GrowError::Moved {
+                size: _size,
+                back: (),
+            },
+        ) => Reply::Moved,
         Err(_refused) => Reply::Other,
     }
 }
@@ -237,6 +252,6 @@ pub(super) fn read(vector: &Shared<u64>, hand: &mut Hand<u64>, place: u64) -> Re
         Ok(at) => Reply::Is(*at.value),
         Err(AtError::OutOfRange { size }) => Reply::OutOfRange(size),
         Err(AtError::Pending) => Reply::Pending,
-        Err(AtError::Broken(_)) => Reply::Broken,
+        Err(AtError::Broken(_spoilt)) => Reply::Broken,
     }
 }

@@ -1,6 +1,9 @@
 // Values that count their drops.
-use super::callers::{Callers, list_of};
-use grow_core::{GrowError, Hand};
+ghost use Rattle.std.specs.Prelude.{◌≡◌};
+ghost use Rattle.grow_core.specs.Vector.{IsHandOf};
+
+use super::callers::Callers;
+use grow_core::{GrowError, Hand, Shared};
 use seg_core::Layout;
 use std::alloc::{AllocGlobal, Global};
 use std::sync::Wait;
@@ -17,7 +20,7 @@ impl Drop for Counted<'_> {
 
 // Values that count their drops.
 fn many_counted<'a>(alloc: Global, drops: &'a AtomicU64, n: u64) -> Option<Vec<Counted<'a>>> {
-    list_of(alloc, n, |_number| Counted(drops))
+    (0..n).map(|_number| Counted(drops)).collect(alloc).ok()
 }
 
 // Appends three values. None is dropped.
@@ -40,7 +43,9 @@ fn a_closed_vector_drops_each_value_once(rt: HostRuntime) {
 
 // Drops a hand and the vector, and leaves the other hand.
 fn drop_vector<T: Drop>(two: Callers<T>) -> Hand<T> {
-    let Callers { a, .. } = two;
+    let Callers { vector, a, b } = two;
+    drop(vector);
+    drop(b);
     a
 }
 
@@ -73,41 +78,45 @@ fn a_value_that_comes_back_is_not_dropped(rt: HostRuntime) {
     assert!(rt; drop_refused(&mut two, &drops) == (true, 0, 1));
 }
 
-// What a full vector gives back.
-fn given_back<P: Drop, T: Drop, V: Drop, E: Drop>(
-    answer: Result<P, GrowError<T, V, E>>,
-) -> Option<V> {
-    match answer {
-        Err(GrowError::Full { size: _size, back }) => Some(back),
-        _ => None,
+// How many values come back of a growth without tokens by n values: none or all of them.
+fn append_counted<'a, R: AllocGlobal + Wait>(
+    rt: &R,
+    vector: &Shared<Counted<'a>>,
+    hand: &mut Hand<Counted<'a>>,
+    drops: &'a AtomicU64,
+    n: u64,
+) -> Option<u64>
+    requires ours { IsHandOf vector.now hand.old }
+    ensures of { hand.new.of ≡ hand.old.of }
+{
+    let values = many_counted(rt.alloc(), drops, n)?;
+    match vector.append(rt, hand, values) {
+        Ok(_run) => Some(0),
+        Err(GrowError::Full { size: _size, back }) => Some(back.len() as u64),
+        Err(_other) => None,
     }
 }
 
-// Tests whether n values are appended without tokens and without any drop. If a growth finds no room, its
-// values come back.
+// Tests whether n values are appended without any drop. If a growth finds no room, its values come back.
 fn appends_counted<'a, R: AllocGlobal + Wait>(
     rt: &R,
     two: &mut Callers<Counted<'a>>,
     drops: &'a AtomicU64,
     n: u64,
 ) -> bool {
-    let is_appended = match many_counted(rt.alloc(), drops, n) {
-        Some(values) => two.vector.append(rt, &mut two.a, values).is_ok(),
-        None => false,
-    };
-    let back = match many_counted(rt.alloc(), drops, n) {
-        Some(others) => given_back(two.vector.append(rt, &mut two.b, others)),
-        None => None,
-    };
-    let are_back = match back {
-        Some(back) => back.len() as u64 == n,
-        None => false,
-    };
-    is_appended && are_back && drops.load(Ordering::SeqCst) == n
+    append_counted(rt, &two.vector, &mut two.a, drops, n) == Some(0)
+        && append_counted(rt, &two.vector, &mut two.b, drops, n) == Some(n)
+        && drops.load(Ordering::SeqCst) == n
 }
 
-// How many values were dropped before the closed list is, by n that came back and n that were appended,
-// and after it.
+// How many values were dropped before a list is, and after it.
+fn drops_with<T: Drop>(list: T, drops: &AtomicU64) -> (u64, u64) {
+    let before = drops.load(Ordering::SeqCst);
+    drop(list);
+    (before, drops.load(Ordering::SeqCst))
+}
+
+// The same of the closed list, by n values that came back and n that were appended.
 fn drops_at_close<R: AllocGlobal + Wait>(
     rt: &R,
     f: u32,
@@ -119,14 +128,8 @@ fn drops_at_close<R: AllocGlobal + Wait>(
     }
     let mut two = Callers::try_new_in(rt.alloc(), Layout::new(f)?, n).ok()?;
     let is_appended = appends_counted(rt, &mut two, drops, n);
-    let parts = two.close()?;
-    let before = drops.load(Ordering::SeqCst);
-    drop(parts);
-    if is_appended {
-        Some((before, drops.load(Ordering::SeqCst)))
-    } else {
-        None
-    }
+    let dropped = drops_with(two.close(), drops);
+    if is_appended { Some(dropped) } else { None }
 }
 
 #[test]

@@ -9,7 +9,6 @@ use std::alloc::AllocGlobal;
 use std::process::Abort;
 use std::sync::Arc;
 use std::sync::atomic::{AtomicU64, Ordering};
-use std::test::Fail;
 use std::thread::{Threads, join};
 
 // How many new vectors both threads push on.
@@ -29,9 +28,9 @@ struct Seat {
 // The seats of both threads at a new vector.
 fn seats<R: AllocGlobal>(rt: &R) -> Option<(Seat, Seat)> {
     let (vector, mut hand) = empty(rt.alloc(), 2).ok()?;
-    let other = vector.split(&mut hand, 1);
     let vector = Arc::new(rt.alloc(), vector).ok()?;
     let also = Arc::try_clone(&vector).ok()?;
+    let other = vector.split(&mut hand, 1);
     let first = Seat { vector, hand };
     let second = Seat {
         vector: also,
@@ -79,14 +78,25 @@ fn push_each<R: Abort>(
     seats
 }
 
+// Tests whether there is memory for one more vector.
+fn add_seats<R: AllocGlobal>(rt: &R, a: &mut Vec<Seat>, b: &mut Vec<Seat>) -> bool {
+    match seats(rt) {
+        Some((first, second)) => {
+            let is_added = a.push(first).is_ok();
+            b.push(second).is_ok() && is_added
+        }
+        None => false,
+    }
+}
+
 // The seats of both threads at all vectors.
 fn all_seats<R: AllocGlobal>(rt: &R) -> Option<(Vec<Seat>, Vec<Seat>)> {
     let mut a = Vec::with_capacity(rt.alloc(), VECTORS as usize).ok()?;
     let mut b = Vec::with_capacity(rt.alloc(), VECTORS as usize).ok()?;
     for _vector in 0..VECTORS {
-        let (first, second) = seats(rt)?;
-        a.push(first).ok()?;
-        b.push(second).ok()?;
+        if !add_seats(rt, &mut a, &mut b) {
+            return None;
+        }
     }
     Some((a, b))
 }
@@ -115,9 +125,12 @@ fn have_both(seats: &mut [Seat]) -> bool {
 }
 
 #[test]
-fn two_first_pushes_share_one_segment(rt: HostRuntime) -> Result<(), Fail> {
-    let (a, b) = all_seats(&rt).ok_or("no memory")?;
-    let mut seats = push_by_both(&rt, a, b);
-    assert!(rt; have_both(&mut seats));
-    Ok(())
+fn two_first_pushes_share_one_segment(rt: HostRuntime) {
+    match all_seats(&rt) {
+        Some((a, b)) => {
+            let mut seats = push_by_both(&rt, a, b);
+            assert!(rt; have_both(&mut seats));
+        }
+        None => panic!(rt; "no memory"),
+    }
 }

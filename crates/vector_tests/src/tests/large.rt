@@ -44,17 +44,24 @@ fn a_thousand_values_are_appended_over_ten_segments(rt: HostRuntime) {
 }
 
 // Tests whether a vector has this limit, and is pushed to.
-fn opens_with<R: AllocGlobal + Wait + Abort>(rt: &R, limit: u64) -> bool {
-    if limit == 0 || limit > 1_099_511_627_776 {
-        return false;
-    }
-    let mut two = Callers::new(rt, limit);
+fn has_limit<R: AllocGlobal + Wait>(rt: &R, two: &mut Callers<u64>, limit: u64) -> bool {
     let steps = [
         (A(TryPush(5)), At(0)),
         (B(Read(0)), Is(5)),
         (B(Read(limit)), OutOfRange(1)),
     ];
     two.vector.limit() == limit && two.first_wrong(rt, &steps) == None
+}
+
+// The same of a new vector.
+fn opens_with<R: AllocGlobal + Wait + Abort>(rt: &R, limit: u64) -> bool {
+    if limit == 0 || limit > 1_099_511_627_776 {
+        return false;
+    }
+    let mut two = Callers::new(rt, limit);
+    let is_right = has_limit(rt, &mut two, limit);
+    drop(two);
+    is_right
 }
 
 // The greatest limit is 2^40.

@@ -82,8 +82,10 @@ fn push_again(two: &mut Callers<u64>, value: u64) -> bool {
 #[test]
 fn a_refused_allocation_gives_the_values_back(rt: HostRuntime) {
     let mut two = fresh_again(&rt, 8);
-    assert!(rt; push_again(&mut two, 5));
     let run = Run { from: 1, n: 2 };
-    assert!(rt; append_again(&rt, &mut two, &Way::TryVec, run, 6) == (Ok(run), 0));
-    assert_eq!(rt; two.size_b(), 3);
+    assert!(rt;
+        push_again(&mut two, 5)
+            && append_again(&rt, &mut two, &Way::TryVec, run, 6) == (Ok(run), 0)
+            && two.size_b() == 3
+    );
 }

@@ -28,7 +28,9 @@ pub(super) fn first_wrong<R: AllocGlobal + Wait + Abort>(
     requires { IsLimit limit }
 {
     let mut two = Callers::new(rt, limit);
-    two.first_wrong(rt, steps)
+    let wrong = two.first_wrong(rt, steps);
+    drop(two);
+    wrong
 }
 
 // The list that a new vector is closed into after steps, if each of them returns its reply.
@@ -40,11 +42,9 @@ pub(super) fn closed_after<R: AllocGlobal + Wait + Abort>(
     requires { IsLimit limit }
 {
     let mut two = Callers::new(rt, limit);
-    if two.first_wrong(rt, steps) == None {
-        two.close()
-    } else {
-        None
-    }
+    let wrong = two.first_wrong(rt, steps);
+    let parts = two.close();
+    if wrong == None { parts } else { None }
 }
 
 impl Callers<u64> {
@@ -81,7 +81,7 @@ fn look(vector: &Shared<u64>, place: u64) -> Reply {
     match vector.look(place) {
         Shown::Pending => Reply::Pending,
         Shown::Filled(at) => Reply::Is(*at.value),
-        Shown::Broken(_) => Reply::Broken,
+        Shown::Broken(_spoilt) => Reply::Broken,
     }
 }
 

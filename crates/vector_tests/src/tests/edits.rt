@@ -44,6 +44,14 @@ pub(super) fn first_wrong_edit(parts: &mut Parts<u64>, edits: &[(Edit, Found)]) 
     None
 }
 
+// The number of the first edit of a new list that does not return what it should.
+pub(super) fn first_wrong_of_new(alloc: Global, limit: u64, edits: &[(Edit, Found)]) -> Option<u64>
+    requires { IsLimit limit }
+{
+    let mut parts = Parts::new(alloc, limit);
+    first_wrong_edit(&mut parts, edits)
+}
+
 fn make(parts: &mut Parts<u64>, edit: Edit) -> Found {
     match edit {
         Edit::Room(n) => match room(parts, n) {

@@ -2,7 +2,7 @@
 use super::drops::Counted;
 use super::edits::Edit::{Append, Cut, Get, Members, Pop, Room, Sizes};
 use super::edits::Found::{Capacity, Done, Member, NotMade};
-use super::edits::{Edit, Found, first_wrong_edit};
+use super::edits::{Edit, Found, first_wrong_of_new};
 use grow_core::Parts;
 use std::alloc::AllocError;
 use std::sync::atomic::{AtomicU64, Ordering};
@@ -37,8 +37,10 @@ pub(super) fn room<T: Drop>(parts: &mut Parts<T>, n: u64) -> Result<bool, AllocE
     if n > parts.limit() {
         return Ok(false);
     }
-    parts.room(n)?;
-    Ok(true)
+    match parts.room(n) {
+        Ok(()) => Ok(true),
+        Err(error) => Err(error),
+    }
 }
 
 // Tests whether the members are these, in order.
@@ -85,8 +87,7 @@ const IN_ORDER: [(Edit, Found); 15] = [
 
 #[test]
 fn members_are_in_order(rt: HostRuntime) {
-    let mut parts = Parts::new(rt.alloc(), 8);
-    assert_eq!(rt; first_wrong_edit(&mut parts, &IN_ORDER), None);
+    assert_eq!(rt; first_wrong_of_new(rt.alloc(), 8, &IN_ORDER), None);
 }
 
 const ROOM: [(Edit, Found); 17] = [
@@ -111,8 +112,7 @@ const ROOM: [(Edit, Found); 17] = [
 
 #[test]
 fn room_is_whole_segments(rt: HostRuntime) {
-    let mut parts = Parts::new(rt.alloc(), 100);
-    assert_eq!(rt; first_wrong_edit(&mut parts, &ROOM), None);
+    assert_eq!(rt; first_wrong_of_new(rt.alloc(), 100, &ROOM), None);
 }
 
 const MILLION: u64 = 1 << 20;

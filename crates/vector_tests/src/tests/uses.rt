@@ -1,7 +1,7 @@
 // What callers prove by the public clauses alone.
 ghost use Rattle.std.specs.Prelude.{◌≡◌, ◌+◌, ◌<◌, ◌++◌, ℕ, List, Some, IfSome, slice_get};
 ghost use Rattle.grow_core.specs.Lengths.{Tiles, runs_end};
-ghost use Rattle.grow_core.specs.Hand.{OwnsRun, AreDisjoint, IsWholeHand};
+ghost use Rattle.grow_core.specs.Hand.{OwnsRun, AreDisjoint, IsWholeHand, seen_size};
 ghost use Rattle.grow_core.specs.Vector.{IsHandOf, IsPlacedOf, IsOpenedAt, base_of};
 ghost use Rattle.grow_core.specs.Closing.{KeepsValues};
 ghost use Rattle.grow_core.specs.Growth.{single};
@@ -10,7 +10,6 @@ use super::callers::{Callers, empty};
 use super::parts::member;
 use grow_core::{Hand, Parts, Placed, Shared, laws};
 use std::alloc::Global;
-use std::test::Fail;
 use std::thread::{Threads, join};
 
 // Appends a value, in whatever thread it is called.
@@ -23,13 +22,12 @@ fn push_one(
     ensures of { result.0.of ≡ vector.now.word }
     ensures shares { result.0.shares ≡ hand.shares }
     ensures owned { IfSome result.1 (λ p. OwnsRun result.0 (single p.place)) }
+    ensures below { IfSome result.1 (λ p. p.place < seen_size result.0) }
     ensures token { IfSome result.1 (IsPlacedOf vector.now) }
     ensures value { IfSome result.1 (λ p. p.value ≡ value) }
 {
-    match vector.try_push_back(&mut hand, value) {
-        Ok(placed) => (hand, Some(placed)),
-        Err(_refused) => (hand, None),
-    }
+    let placed = vector.try_push_back(&mut hand, value).ok();
+    (hand, placed)
 }
 
 // Two threads append a value each, and their hands meet: they have two places.
@@ -59,11 +57,13 @@ fn push_in_two_threads<R: Threads + Sync>(
             ensures token { IfSome result.1 (IsPlacedOf vector.entry.now) }
         { push_one(vector, b, 6) },
     );
-    let x = x?;
-    let y = y?;
     vector.meet(&mut a, &mut b);
+    drop(a);
+    drop(b);
     laws::own_runs_stay();
     laws::owners_are_apart();
+    let x = x?;
+    let y = y?;
     Some((x, y))
 }
 
@@ -127,8 +127,10 @@ fn open_and_read(parts: Parts<u64>, place: u64) -> Option<Option<u64>>
     ensures { (x : ℕ) → slice_get parts.members place ≡ Some (Some x)
         → IfSome result (λ read. read ≡ Some x) }
 {
-    let (vector, mut hand) = Shared::of_parts(parts).ok()?;
-    Some(read_opened(&vector, &mut hand, place, None))
+    match Shared::of_parts(parts) {
+        Ok((vector, mut hand)) => Some(read_opened(&vector, &mut hand, place, None)),
+        Err(_refused) => None,
+    }
 }
 
 // The value of a push is recalled by its token, once the vector is closed.
@@ -146,19 +148,22 @@ fn push_and_recall(vector: Shared<u64>, mut hand: Hand<u64>, value: u64) -> Opti
     }
 }
 
-// The value of a push is the closed list's member at its place.
-fn push_and_close(vector: Shared<u64>, mut hand: Hand<u64>, value: u64) -> Option<(Parts<u64>, u64)>
+// The value of a push is the closed list's member at its place, and each opened value is still at its own.
+fn push_and_close(vector: Shared<u64>, hand: Hand<u64>, value: u64) -> Option<(Parts<u64>, u64)>
     requires ours { IsHandOf vector hand }
     requires whole { IsWholeHand hand }
-    ensures { IfSome result (λ (parts, place). slice_get parts.members place ≡ Some (Some value)) }
+    ensures member { IfSome result (λ (parts, place).
+        slice_get parts.members place ≡ Some (Some value)) }
+    ensures opened { IfSome result (λ (parts, _). KeepsValues vector.opened parts.members) }
 {
-    match vector.try_push_back(&mut hand, value) {
-        Ok(placed) => {
-            let parts = vector.into_parts(hand);
+    let (hand, placed) = push_one(&vector, hand, value);
+    let parts = vector.into_parts(hand);
+    match placed {
+        Some(placed) => {
             let _value = parts.recall(&placed);
             Some((parts, placed.place()))
         }
-        Err(_refused) => None,
+        None => None,
     }
 }
 
@@ -166,9 +171,11 @@ fn push_and_close(vector: Shared<u64>, mut hand: Hand<u64>, value: u64) -> Optio
 fn live_once(parts: Parts<u64>, value: u64) -> Option<Parts<u64>>
     ensures { IfSome result (λ after. KeepsValues parts.members after.members) }
 {
-    let (vector, mut hand) = Shared::of_parts(parts).ok()?;
-    match vector.try_push_back(&mut hand, value) {
-        Ok(_placed) => Some(vector.into_parts(hand)),
+    match Shared::of_parts(parts) {
+        Ok((vector, hand)) => match push_and_close(vector, hand, value) {
+            Some((after, _place)) => Some(after),
+            None => None,
+        },
         Err(_refused) => None,
     }
 }
@@ -195,14 +202,19 @@ fn read_of_two<R: Threads + Sync>(
 
 #[test]
 fn two_threads_append_and_join(rt: HostRuntime) {
-    let Callers { vector, a, b, .. } = Callers::new(&rt, 8);
-    assert!(rt; read_of_two(&rt, &vector, a, b) == Some((5, 6, 1)));
+    let Callers { vector, a, b } = Callers::new(&rt, 8);
+    let read = read_of_two(&rt, &vector, a, b);
+    drop(vector);
+    assert!(rt; read == Some((5, 6, 1)));
 }
 
 #[test]
 fn a_value_is_read_in_another_thread(rt: HostRuntime) {
-    let Callers { vector, a, .. } = Callers::new(&rt, 8);
-    assert_eq!(rt; push_here_read_there(&rt, &vector, a, 7), Some(7));
+    let Callers { vector, a, b } = Callers::new(&rt, 8);
+    let read = push_here_read_there(&rt, &vector, a, 7);
+    drop(b);
+    drop(vector);
+    assert_eq!(rt; read, Some(7));
 }
 
 #[test]
@@ -218,11 +230,9 @@ fn hands_that_were_joined_close_the_vector(rt: HostRuntime) {
 // The first member of a list that was opened and closed twice.
 fn read_after_two_lives(alloc: Global) -> Option<Option<u64>> {
     let parts = live_once(Parts::new(alloc, 8), 5)?;
-    let parts = live_once(parts, 6)?;
-    if parts.len() == 2 {
-        open_and_read(parts, 0)
-    } else {
-        None
+    match live_once(parts, 6) {
+        Some(parts) if parts.len() == 2 => open_and_read(parts, 0),
+        _ => None,
     }
 }
 
@@ -231,14 +241,27 @@ fn a_member_lives_on_from_list_to_list(rt: HostRuntime) {
     assert!(rt; read_after_two_lives(rt.alloc()) == Some(Some(5)));
 }
 
-#[test]
-fn a_pushed_value_is_a_member_of_the_closed_list(rt: HostRuntime) -> Result<(), Fail> {
-    let (vector, hand) = empty(rt.alloc(), 8)?;
-    assert!(rt; push_and_recall(vector, hand, 7) == Some(7));
-    let (vector, hand) = empty(rt.alloc(), 8)?;
-    match push_and_close(vector, hand, 7) {
-        Some((parts, place)) => assert!(rt; member(&parts, place) == Some(Some(7))),
-        None => panic!(rt; "the push was refused"),
+// The value of a push on a new vector, recalled once the vector is closed.
+fn recall_of_new(alloc: Global, value: u64) -> Option<u64> {
+    match empty(alloc, 8) {
+        Ok((vector, hand)) => push_and_recall(vector, hand, value),
+        Err(_error) => None,
     }
-    Ok(())
+}
+
+// The member at its place in the closed list.
+fn member_of_new(alloc: Global, value: u64) -> Option<Option<u64>> {
+    match empty(alloc, 8) {
+        Ok((vector, hand)) => match push_and_close(vector, hand, value) {
+            Some((parts, place)) => member(&parts, place),
+            None => None,
+        },
+        Err(_error) => None,
+    }
+}
+
+#[test]
+fn a_pushed_value_is_a_member_of_the_closed_list(rt: HostRuntime) {
+    assert!(rt; recall_of_new(rt.alloc(), 7) == Some(7));
+    assert!(rt; member_of_new(rt.alloc(), 7) == Some(Some(7)));
 }

@@ -1,4 +1,4 @@
-// One growth by any way, and what comes of it.
+// One growth by any way, and its outcome.
 ghost use Rattle.std.specs.Prelude.{IfOk};
 ghost use Rattle.grow_core.specs.Grown.{IsGrownOf};
 
@@ -65,7 +65,7 @@ fn why_not_moved(refused: &GrowError<u64, Vec<u64>, Never>, first: u64, n: u64) 
     }
 }
 
-// What comes of a growth by values that are made.
+// The outcome of a growth by a maker or by clones.
 fn made<E: Drop>(
     vector: &Shared<u64>,
     grown: Result<Grown<u64>, GrowError<u64, (), E>>,
@@ -82,7 +82,7 @@ fn made<E: Drop>(
     outcome
 }
 
-// What comes of a growth by n numbers that are moved in.
+// The outcome of a growth by n numbers that are moved in.
 fn moved(
     vector: &Shared<u64>,
     grown: Result<Grown<u64>, GrowError<u64, Vec<u64>, Never>>,
@@ -176,9 +176,9 @@ fn clone<R: Wait>(rt: &R, two: &mut Callers<u64>, way: &Way, n: u64, value: u64)
     made(&two.vector, grown, value, 0)
 }
 
-// What comes of the way that wins this run, and how often a maker was asked. The values are the numbers from
-// the first on, or clones of the first. They are moved in in a `Vec` that is asked for again if memory was
-// refused to it.
+// Appends this run by any way, and returns the outcome and how often a maker was asked. The values are the
+// numbers from the first on, or clones of the first. A `Vec` of them is asked for again if memory was refused
+// to it.
 pub(crate) fn append<R: AllocGlobal + Wait>(
     rt: &R,
     two: &mut Callers<u64>,

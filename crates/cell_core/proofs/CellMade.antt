@@ -8,7 +8,7 @@ use base.Logic.{ent, emp, id⊢, never_e}
 use base.Fml.{Lft, Fml, fsep, fex}
 use contract.Monad.{fact, fact_i}
 use types.Logic.{Logic, sem}
-use types.Kit.{‵, ◌$◌, ◌∵◌, !, qed, use0, keep, fsplit, fjoin, fpick, fpack, rewrite, done}
+use types.Kit.{‵, ◌$◌, ◌∵◌, !, qed, use0, keep, fsplit3, fjoin3, fpick, fpack, rewrite, done}
 use denote.RattleType.{RattleType}
 use denote.Laws.{Is}
 use denote.Ref.{NamedLft}
@@ -16,7 +16,9 @@ use denote.RawPtr.{Ptr, InBlock, block_ptr, null_ptr, ptr_val}
 use denote.Shadow.{makes_shadow}
 use denote.Struct.Struct.{Struct}
 use denote.Struct.Owning.{shape}
-use Rattle.cell_core.specs.Slot.{Names, Turn, written, was_broken, known, kept, Right, gained, sights, sighted, pen_owned}
+use Rattle.cell_core.specs.Slot.{Names, Spot, IsAt, written, was_broken, known, kept, Right, gained, sights, sighted, slot_owned, pen_owned}
+use Rattle.cell_core.specs.Slot.{fact as is_fact}
+use Rattle.cell_core.specs.contracts.slot.steps.RawSlot as RawSlot
 use Rattle.cell_core.specs.contracts.slot.steps.RawPen as RawPen
 use Rattle.cell_core.specs.contracts.slot.steps.RawSight as RawSight
 use Rattle.cell_core.specs.contracts.slot.steps.Written as Written
@@ -26,54 +28,80 @@ use Rattle.cell_core.specs.contracts.slot.steps.RawBroken as RawBroken
 abbrev pub token_val : Val
 token_val = vstruct (vcons (vstruct vnil) vnil)
 
--- a pointer next to a field that has no bytes
-abbrev pub pointer_val : Ptr → Val
-pointer_val p = vstruct (vcons (ptr_val p) (vcons (vstruct vnil) vnil))
+-- two pointers next to a field that has no bytes
+abbrev pub pointers_val : Ptr → Ptr → Val
+pointers_val p q = vstruct (vcons (ptr_val p) (vcons (ptr_val q) (vcons (vstruct vnil) vnil)))
 
-pub pointer_good : (p : Ptr)
-    → T (has_ty (ty_struct [] (tcons ty_ptr (tcons (ty_struct [] tnil) tnil))) (pointer_val p)) × WT (pointer_val p)
-pointer_good (block_ptr b o) = (tt, (tt, (tt, tt)))
-pointer_good null_ptr = (tt, (record { fits = omega arith }, (tt, tt)))
+pointer_good : (p : Ptr) → T (has_ty ty_ptr (ptr_val p)) × WT (ptr_val p)
+pointer_good (block_ptr b o) = (tt, tt)
+pointer_good null_ptr = (tt, record { fits = omega arith })
+
+pub pointers_good : (p q : Ptr)
+    → T (has_ty (ty_struct [] (tcons ty_ptr (tcons ty_ptr (tcons (ty_struct [] tnil) tnil)))) (pointers_val p q)) × WT (pointers_val p q)
+pointers_good (block_ptr b o) (block_ptr c r) = (tt, (tt, (tt, (tt, tt))))
+pointers_good (block_ptr b o) null_ptr = (tt, (tt, (record { fits = omega arith }, (tt, tt))))
+pointers_good null_ptr (block_ptr c r) = (tt, (record { fits = omega arith }, (tt, (tt, tt))))
+pointers_good null_ptr null_ptr = (tt, (record { fits = omega arith }, (record { fits = omega arith }, (tt, tt))))
 
 module _ (a : NamedLft) (R : RattleType) where
-  abbrev pub Words : RattleType
-  Words = Struct (shape (RawPen.the_type a R))
+  abbrev pub PenWords : RattleType
+  PenWords = Struct (shape (RawPen.the_type a R))
 
-  pub pen_told : (p : Ptr) (vs : List Val) → Is Words (p, (tt, tt)) vs → vs ≡ pointer_val p ∷ []
-  pen_told p vs is = is.1.0 ∙ ap (λ (ws : List Val). vstruct (of_list (ws ++ (is.0.1.0 ++ []))) ∷ []) is.1.1.0 ∙ ap (λ (ws : List Val). vstruct (of_list (ptr_val p ∷ (ws ++ []))) ∷ []) is.1.1.1.0.1.0
+  abbrev pub SlotWords : RattleType
+  SlotWords = Struct (shape (RawSlot.the_type a R))
 
-  pub pen_made : {M : Type 1} {𝓤 : Ura M} (𝓛 : Logic 𝓤) (p : Ptr)
-      → ent 𝓤 (emp 𝓤) (sem 𝓛 (Words.own_val (p, (tt, tt)) (pointer_val p ∷ [])))
-  pen_made 𝓛 p = makes_shadow 𝓛 (Words.own_val (p, (tt, tt)) (pointer_val p ∷ [])) (λ vss. (tt, (tt, ((λ uss. (tt, tt)), tt)))) ((ptr_val p ∷ [], (vstruct vnil ∷ [], tt)), (refl, (refl, ((tt, (refl, tt)), tt))))
+  pub pen_told : (p q : Ptr) (vs : List Val) → Is PenWords (p, (q, (tt, tt))) vs → vs ≡ pointers_val p q ∷ []
+  pen_told p q vs is = is.1.0 ∙ ap (λ (ws : List Val). vstruct (of_list (ws ++ (is.0.1.0 ++ (is.0.1.1.0 ++ [])))) ∷ []) is.1.1.0 ∙ ap (λ (ws : List Val). vstruct (of_list (ptr_val p ∷ (ws ++ (is.0.1.1.0 ++ [])))) ∷ []) is.1.1.1.0
+      ∙ ap (λ (ws : List Val). vstruct (of_list (ptr_val p ∷ ptr_val q ∷ (ws ++ []))) ∷ []) is.1.1.1.1.0.1.0
+
+  pub slot_told : (p q : Ptr) (vs : List Val) → Is SlotWords (p, (q, (tt, tt))) vs → vs ≡ pointers_val p q ∷ []
+  slot_told p q vs is = is.1.0 ∙ ap (λ (ws : List Val). vstruct (of_list (ws ++ (is.0.1.0 ++ (is.0.1.1.0 ++ [])))) ∷ []) is.1.1.0 ∙ ap (λ (ws : List Val). vstruct (of_list (ptr_val p ∷ (ws ++ (is.0.1.1.0 ++ [])))) ∷ []) is.1.1.1.0
+      ∙ ap (λ (ws : List Val). vstruct (of_list (ptr_val p ∷ ptr_val q ∷ (ws ++ []))) ∷ []) is.1.1.1.1.0.1.0
+
+  pub pen_made : {M : Type 1} {𝓤 : Ura M} (𝓛 : Logic 𝓤) (p q : Ptr)
+      → ent 𝓤 (emp 𝓤) (sem 𝓛 (PenWords.own_val (p, (q, (tt, tt))) (pointers_val p q ∷ [])))
+  pen_made 𝓛 p q = makes_shadow 𝓛 (PenWords.own_val (p, (q, (tt, tt))) (pointers_val p q ∷ [])) (λ vss. (tt, (tt, (tt, ((λ uss. (tt, tt)), tt))))) ((ptr_val p ∷ [], (ptr_val q ∷ [], (vstruct vnil ∷ [], tt))), (refl, (refl, (refl, ((tt, (refl, tt)), tt)))))
+
+  pub slot_made : {M : Type 1} {𝓤 : Ura M} (𝓛 : Logic 𝓤) (p q : Ptr)
+      → ent 𝓤 (emp 𝓤) (sem 𝓛 (SlotWords.own_val (p, (q, (tt, tt))) (pointers_val p q ∷ [])))
+  slot_made 𝓛 p q = makes_shadow 𝓛 (SlotWords.own_val (p, (q, (tt, tt))) (pointers_val p q ∷ [])) (λ vss. (tt, (tt, (tt, ((λ uss. (tt, tt)), tt))))) ((ptr_val p ∷ [], (ptr_val q ∷ [], (vstruct vnil ∷ [], tt))), (refl, (refl, (refl, ((tt, (refl, tt)), tt)))))
 
 pub sight_told : (R : RattleType) (vs : List Val) → Is (Struct (shape (RawSight.the_type R))) (tt, tt) vs → vs ≡ token_val ∷ []
 sight_told R vs is = is.1.0 ∙ ap (λ (ws : List Val). vstruct (of_list (ws ++ [])) ∷ []) is.1.1.0.1.0
 
 module _ {M : Type 1} {𝓤 : Ura M} (𝓛 : Logic 𝓤) (R : RattleType) where
-  -- what a pen owns lies in a block
-  pub pen_placed : (γ : Names) (β : Lft) (p : Ptr) (m n : ℕ) → ent 𝓤 (sem 𝓛 (pen_owned R γ β p m n)) (fact 𝓤 (InBlock p))
-  pen_placed γ β (block_ptr b o) m n = fact_i 𝓤 (Unit {0}) _ tt
-  pen_placed γ β null_ptr m n = never_e 𝓤 _
+  -- what a cell and a pen own lies in blocks
+  pub slot_placed : (γ : Names) (β : Lft) (p q : Ptr) (i : ℕ) → ent 𝓤 (sem 𝓛 (slot_owned R γ β p q i)) (fact 𝓤 (InBlock p × InBlock q))
+  slot_placed γ β (block_ptr b o) (block_ptr c r) i = fact_i 𝓤 (Unit {0} × Unit {0}) _ (tt, tt)
+  slot_placed γ β (block_ptr b o) null_ptr i = never_e 𝓤 _
+  slot_placed γ β null_ptr q i = never_e 𝓤 _
 
-  -- what a lost exchange showed
-  pub pen_shows : (γ : Names) (β : Lft) (p : Ptr) (m n : ℕ) → n ≢ m → ent 𝓤 (sem 𝓛 (pen_owned R γ β p m n)) (sem 𝓛 (sights R γ n))
-  pen_shows γ β (block_ptr b o) m n lost = qed 𝓛 (‵ (pen_owned R γ β (block_ptr b o) m n) ∷ []) ∵ fpick ! (λ t. fsplit ! $ keep ! (1 ∷ []) $ rewrite ! 0 (λ (h : Bool). ‵ (gained R γ t b o h n)) (ne_eqb n m lost) refl $ done !)
-  pen_shows γ β null_ptr m n lost = never_e 𝓤 _
+  pub pen_placed : (γ : Names) (β : Lft) (p q : Ptr) (i m n : ℕ) → ent 𝓤 (sem 𝓛 (pen_owned R γ β p q i m n)) (fact 𝓤 (InBlock p × InBlock q))
+  pen_placed γ β (block_ptr b o) (block_ptr c r) i m n = fact_i 𝓤 (Unit {0} × Unit {0}) _ (tt, tt)
+  pen_placed γ β (block_ptr b o) null_ptr i m n = never_e 𝓤 _
+  pen_placed γ β null_ptr q i m n = never_e 𝓤 _
+
+  -- what a lost step showed
+  pub pen_shows : (γ : Names) (β : Lft) (p q : Ptr) (i m n : ℕ) → n ≢ m → ent 𝓤 (sem 𝓛 (pen_owned R γ β p q i m n)) (sem 𝓛 (sights R γ n))
+  pen_shows γ β (block_ptr b o) (block_ptr c r) i m n lost = qed 𝓛 (‵ (pen_owned R γ β (block_ptr b o) (block_ptr c r) i m n) ∷ []) ∵ fpick ! (λ z. fsplit3 ! $ keep ! (2 ∷ []) $ rewrite ! 0 (λ (h : Bool). ‵ (gained R γ z.1.0 (z.1.1 i) c r h n)) (ne_eqb n m lost) refl $ done !)
+  pen_shows γ β (block_ptr b o) null_ptr i m n lost = never_e 𝓤 _
+  pen_shows γ β null_ptr q i m n lost = never_e 𝓤 _
 
   -- what one that found what it sought gained
-  abbrev pub Held : Names → Lft → ℕ → ℕ → Fml
-  Held γ β b o = fex Turn (λ t. fsep (kept R γ t b o β) (Right R γ t b o))
+  abbrev pub Held : Names → Lft → ℕ → ℕ → ℕ → ℕ → ℕ → Fml
+  Held γ β b o c r i = fex Spot (λ z. fsep (is_fact (IsAt R γ i r z)) (fsep (kept R z.0 z.1 b o c z.2 β) (Right R γ z.1.0 (z.1.1 i) c r)))
 
-  pub pen_gains : (γ : Names) (β : Lft) (b o m n : ℕ) → n ≡ m → ent 𝓤 (sem 𝓛 (pen_owned R γ β (block_ptr b o) m n)) (sem 𝓛 (Held γ β b o))
-  pen_gains γ β b o m n same = qed 𝓛 (‵ (pen_owned R γ β (block_ptr b o) m n) ∷ []) ∵ fpick ! (λ t. fsplit ! $ rewrite ! 1 (λ (h : Bool). ‵ (gained R γ t b o h n)) (eq-eqb n m same) refl $ fjoin ! $
-      fpack ! Turn (λ u. fsep (kept R γ u b o β) (Right R γ u b o)) t $ done !)
+  pub pen_gains : (γ : Names) (β : Lft) (b o c r i m n : ℕ) → n ≡ m → ent 𝓤 (sem 𝓛 (pen_owned R γ β (block_ptr b o) (block_ptr c r) i m n)) (sem 𝓛 (Held γ β b o c r i))
+  pen_gains γ β b o c r i m n same = qed 𝓛 (‵ (pen_owned R γ β (block_ptr b o) (block_ptr c r) i m n) ∷ []) ∵ fpick ! (λ z. fsplit3 ! $ rewrite ! 2 (λ (h : Bool). ‵ (gained R γ z.1.0 (z.1.1 i) c r h n)) (eq-eqb n m same) refl $ fjoin3 ! $
+      fpack ! Spot (λ u. fsep (is_fact (IsAt R γ i r u)) (fsep (kept R u.0 u.1 b o c u.2 β) (Right R γ u.1.0 (u.1.1 i) c r))) z $ done !)
 
-  -- a word above 2 showed that the cell is broken
-  pub sight_shows_broken : (γ : Names) (n : ℕ) (v : Option R.Denot) → 2 < n → ent 𝓤 (sem 𝓛 (sighted R γ n v)) (sem 𝓛 (was_broken γ.broken_name))
-  sight_shows_broken γ zero v more = absurd (omega arith)
-  sight_shows_broken γ (suc zero) v more = absurd (omega arith)
-  sight_shows_broken γ (suc (suc zero)) v more = absurd (omega arith)
-  sight_shows_broken γ (suc (suc (suc n))) v more = id⊢ 𝓤 _
+  -- a state that is not that of an empty, a busy or a filled cell showed that the cell is broken
+  pub sight_shows_broken : (γ : Names) (n : ℕ) (v : Option R.Denot) → (1 < n) × (n ≢ 3) → ent 𝓤 (sem 𝓛 (sighted R γ n v)) (sem 𝓛 (was_broken γ.broken_name))
+  sight_shows_broken γ zero v more = absurd (let l = more.0 in omega arith)
+  sight_shows_broken γ (suc zero) v more = absurd (let l = more.0 in omega arith)
+  sight_shows_broken γ (suc (suc zero)) v more = id⊢ 𝓤 _
+  sight_shows_broken γ (suc (suc (suc zero))) v more = absurd (more.1 refl)
+  sight_shows_broken γ (suc (suc (suc (suc n)))) v more = id⊢ 𝓤 _
 
   pub sight_made : (γ : Names) (n : ℕ) (v : Option R.Denot)
       → ent 𝓤 (sem 𝓛 (sighted R γ n v)) (sem 𝓛 ((RawSight.the_row R).own_val (record { marker = record {}; of = γ; found = n; value = v }) (token_val ∷ [])))

@@ -3,7 +3,7 @@
 use Rattle.std.proofs.Common.{Bool, true, false, eqb, ℕ, zero, suc, List, [], ◌∷◌}
 use Rattle.std.specs.Prelude.{Option, Some, None}
 use base.Fraction.{full_share}
-use base.Fml.{Lft, Fml}
+use base.Fml.{Lft, GName, Fml}
 use mir.Syntax.{Ty}
 use base.Shift.{Keyless}
 use denote.RattleType.{RattleType}
@@ -13,33 +13,32 @@ use denote.Param.Send.{IsSend, IsSync, part_keyless, sendable}
 use denote.Struct.Owning
 use denote.Struct.Struct
 use Rattle.core.proofs.atomic.Sent.{chain-Keyless}
-use Rattle.cell_core.specs.Slot.{Names, broken_once, Phase, free, busy, full, broken, broken_by_owner, Turn, at, place, told, tie, lent, kept, known, sighted, gained, pen_owned}
+use Rattle.cell_core.specs.Slot.{Names, broken_once, Phase, free, busy, full, broken, broken_by_owner, Turn, place, told, tie, lent, cell, cells, kept, known, sighted, gained, slot_owned, pen_owned}
 use Rattle.cell_core.specs.Slot.{Rest, resting}
-use Rattle.cell_core.specs.Laid.{owned, along, along_lent, laid, laid_lent}
+use Rattle.cell_core.specs.Laid.{Extent, rests, along, along_lent, laid, laid_lent}
 use Rattle.cell_core.specs.Member.{MemberView, known_as, members}
 use Rattle.cell_core.specs.contracts.slot.epoch.RawEpoch as RawEpoch
 use Rattle.cell_core.specs.contracts.slot.epoch.RawEnded as RawEnded
 use Rattle.cell_core.specs.contracts.slot.member.RawMember as RawMember
 use Rattle.cell_core.specs.contracts.slot.member.RawRow as RawRow
-use Rattle.cell_core.specs.contracts.slot.steps.RawSlot as RawSlot
 use Rattle.cell_core.specs.contracts.slot.steps.RawPen as RawPen
 use Rattle.cell_core.specs.contracts.slot.steps.Written as Written
 use Rattle.cell_core.specs.contracts.slot.steps.RawBroken as RawBroken
 
 module _ (R : RattleType) (γ : Names) where
-  told_keyless : (n : ℕ) (s : Phase R.Denot) → Keyless (told R γ n s)
-  told_keyless n free = (tt, (tt, tt))
-  told_keyless n busy = (tt, tt)
-  told_keyless n (full x) = (tt, (tt, tt))
-  told_keyless n broken = (tt, (tt, (tt, tt)))
-  told_keyless n broken_by_owner = (tt, (tt, tt))
+  told_keyless : (s : Phase R.Denot) → Keyless (told R γ s)
+  told_keyless free = (tt, tt)
+  told_keyless busy = tt
+  told_keyless (full x) = (tt, tt)
+  told_keyless broken = (tt, (tt, tt))
+  told_keyless broken_by_owner = (tt, tt)
 
-  tie_keyless : (t : Turn) (b o : ℕ) (s : Phase R.Denot) → Keyless (tie R γ t b o s)
-  tie_keyless t b o free = tt
-  tie_keyless t b o busy = tt
-  tie_keyless t b o (full x) = tt
-  tie_keyless t b o broken = tt
-  tie_keyless t b o broken_by_owner = tt
+  tie_keyless : (α : Lft) (δ : GName) (b e : ℕ) (s : Phase R.Denot) → Keyless (tie R γ α δ b e s)
+  tie_keyless α δ b e free = tt
+  tie_keyless α δ b e busy = tt
+  tie_keyless α δ b e (full x) = tt
+  tie_keyless α δ b e broken = tt
+  tie_keyless α δ b e broken_by_owner = tt
 
   known_keyless : (v : Option R.Denot) → Keyless (known R γ v)
   known_keyless (Some x) = tt
@@ -48,8 +47,9 @@ module _ (R : RattleType) (γ : Names) where
   sighted_keyless : (n : ℕ) (v : Option R.Denot) → Keyless (sighted R γ n v)
   sighted_keyless zero v = tt
   sighted_keyless (suc zero) v = tt
-  sighted_keyless (suc (suc zero)) v = known_keyless v
-  sighted_keyless (suc (suc (suc n))) v = tt
+  sighted_keyless (suc (suc zero)) v = tt
+  sighted_keyless (suc (suc (suc zero))) v = known_keyless v
+  sighted_keyless (suc (suc (suc (suc n)))) v = tt
 
   broken_once_keyless : (once : Bool) → Keyless (broken_once γ.broken_name once)
   broken_once_keyless true = (tt, tt)
@@ -60,32 +60,40 @@ module _ (R : RattleType) (γ : Names) where
     place_keyless None b e = tt
     place_keyless (Some x) b e = part_keyless R s full_share x b e
 
-    lent_keyless : (t : Turn) (b o : ℕ) (p : Phase R.Denot) → Keyless (lent R γ t b o p)
-    lent_keyless t b o free = λ u. (place_keyless u b (at R o), tt)
-    lent_keyless t b o busy = tt
-    lent_keyless t b o (full x) = y.shared x b (at R o) t.0
-    lent_keyless t b o broken = λ u. (place_keyless u b (at R o), tt)
-    lent_keyless t b o broken_by_owner = λ u. (place_keyless u b (at R o), tt)
+    lent_keyless : (α : Lft) (δ : GName) (b e : ℕ) (p : Phase R.Denot) → Keyless (lent R γ α δ b e p)
+    lent_keyless α δ b e free = λ u. (place_keyless u b e, tt)
+    lent_keyless α δ b e busy = tt
+    lent_keyless α δ b e (full x) = y.shared x b e α
+    lent_keyless α δ b e broken = λ u. (place_keyless u b e, tt)
+    lent_keyless α δ b e broken_by_owner = λ u. (place_keyless u b e, tt)
 
-    kept_keyless : (t : Turn) (b o : ℕ) (κ : Lft) → Keyless (kept R γ t b o κ)
-    kept_keyless t b o κ = ((λ νs. chain-Keyless νs κ t.0), λ u. ((tt, (((tt, broken_once_keyless), told_keyless u.0 u.1), tie_keyless t b o u.1)), lent_keyless t b o u.1))
+    cell_keyless : (α : Lft) (δ : GName) (b e : ℕ) (p : Phase R.Denot) → Keyless (cell R γ α δ b e p)
+    cell_keyless α δ b e p = ((tt, broken_once_keyless), (told_keyless p, (tie_keyless α δ b e p, lent_keyless α δ b e p)))
 
-    gained_keyless : (t : Turn) (b o : ℕ) (won : Bool) (n : ℕ) → Keyless (gained R γ t b o won n)
-    gained_keyless t b o true n = ((tt, tt), (tt, λ u. (place_keyless u b (at R o), tt)))
-    gained_keyless t b o false n = sighted_keyless n
+    gained_keyless : (α : Lft) (δ : GName) (b e : ℕ) (won : Bool) (n : ℕ) → Keyless (gained R γ α δ b e won n)
+    gained_keyless α δ b e true n = ((tt, tt), (tt, λ u. (place_keyless u b e, tt)))
+    gained_keyless α δ b e false n = sighted_keyless n
 
-    pen_owned_keyless : (β : Lft) (p : Ptr) (sought found : ℕ) → Keyless (pen_owned R γ β p sought found)
-    pen_owned_keyless β (block_ptr b o) sought found = λ t. (kept_keyless t b o β, gained_keyless t b o (eqb found sought) found)
-    pen_owned_keyless β null_ptr sought found = tt
+module _ (R : RattleType) (s : IsSend R) (y : IsSync R) where
+  cells_keyless : (γs : List Names) (α : Lft) (δ : ℕ → GName) (b e : ℕ) (p : ℕ → Phase R.Denot) → Keyless (cells R γs α δ b e p)
+  cells_keyless [] α δ b e p = tt
+  cells_keyless (γ ∷ γs) α δ b e p = (cell_keyless R γ s y α (δ 0) b e (p 0), cells_keyless γs α (λ i. δ (suc i)) b _ (λ i. p (suc i)))
 
-pub slot_send : (R : RattleType) → IsSend (RawSlot.the_row R)
-slot_send R = record { owned = λ d vs. ((λ _. tt), tt); leaving = λ k d w. tt }
+  kept_keyless : (γs : List Names) (t : Turn) (b o c e : ℕ) (κ : Lft) → Keyless (kept R γs t b o c e κ)
+  kept_keyless γs t b o c e κ = ((λ νs. chain-Keyless νs κ t.0), λ p. (tt, cells_keyless γs t.0 t.1 c e p))
 
-pub slot_sync : (R : RattleType) → IsSend R → IsSync R → IsSync (RawSlot.the_row R)
-slot_sync R s y = record { shared = λ d b o κ t. kept_keyless R d s y t b o κ }
+  slot_owned_keyless : (γ : Names) (β : Lft) (p q : Ptr) (i : ℕ) → Keyless (slot_owned R γ β p q i)
+  slot_owned_keyless γ β (block_ptr b o) (block_ptr c r) i = λ z. ((λ _. tt), kept_keyless z.0 z.1 b o c z.2 β)
+  slot_owned_keyless γ β (block_ptr b o) null_ptr i = tt
+  slot_owned_keyless γ β null_ptr q i = tt
+
+  pen_owned_keyless : (γ : Names) (β : Lft) (p q : Ptr) (i sought found : ℕ) → Keyless (pen_owned R γ β p q i sought found)
+  pen_owned_keyless γ β (block_ptr b o) (block_ptr c r) i sought found = λ z. ((λ _. tt), (kept_keyless z.0 z.1 b o c z.2 β, gained_keyless R γ s y z.1.0 (z.1.1 i) c r (eqb found sought) found))
+  pen_owned_keyless γ β (block_ptr b o) null_ptr i sought found = tt
+  pen_owned_keyless γ β null_ptr q i sought found = tt
 
 pub pen_send : (a : NamedLft) (R : RattleType) → IsSend R → IsSync R → IsSend (RawPen.the_row a R)
-pen_send a R s y = record { owned = λ d vs. ((λ vss. (tt, (tt, ((λ uss. (tt, tt)), tt)))), pen_owned_keyless R d.of s y a.lft d.slot d.sought d.found); leaving = λ k d w. tt }
+pen_send a R s y = record { owned = λ d vs. ((λ vss. (tt, (tt, (tt, ((λ uss. (tt, tt)), tt))))), pen_owned_keyless R s y d.of a.lft d.word d.room d.index d.sought d.found); leaving = λ k d w. tt }
 
 pub written_send : (R : RattleType) → IsSend (Written.the_row R)
 written_send R = record { owned = λ d vs. ((λ vss. (tt, ((λ uss. (tt, tt)), tt))), tt); leaving = λ k f vs. tt }
@@ -125,22 +133,25 @@ row_sync R = let fields : IsSync (denote.Struct.Struct.Struct (denote.Struct.Own
 
 module _ (R : RattleType) (s : IsSend R) (y : IsSync R) where
   resting_keyless : (γ : Names) (u : Rest R.Denot) → Keyless (resting R γ u)
-  resting_keyless γ u = (((tt, broken_once_keyless R γ), told_keyless R γ u.0 u.2), λ _. tt)
+  resting_keyless γ u = (((tt, broken_once_keyless R γ), told_keyless R γ u.1), λ _. tt)
 
-  along_keyless : (b : ℕ) (γs : List Names) (e : ℕ) → Keyless (along R (owned R b) γs e)
-  along_keyless b [] e = tt
-  along_keyless b (γ ∷ γs) e = (((λ u. (tt, (place_keyless R γ s y u.1 b (at R e), resting_keyless γ u))), ((tt, (tt, tt)), tt)), along_keyless b γs _)
+  rests_keyless : (γs : List Names) (c e : ℕ) (u : ℕ → Rest R.Denot) → Keyless (rests R γs c e u)
+  rests_keyless [] c e u = tt
+  rests_keyless (γ ∷ γs) c e u = ((place_keyless R γ s y (u 0).0 c e, resting_keyless γ (u 0)), rests_keyless γs c _ (λ i. u (suc i)))
 
-  pub laid_keyless : (token : Ty → Ptr → Fml) → ((τ : Ty) (p : Ptr) → Keyless (token τ p))
-      → (p : Ptr) (γs : List Names) (left : ℕ) → Keyless (laid R token p γs left)
-  laid_keyless token frees p γs left = ((λ _. tt), (along_keyless _ γs _, (tt, frees _ p)))
+  along_keyless : (k : ℕ) (γs : List Names) (b o c e : ℕ) → Keyless (along R k γs b o c e)
+  along_keyless zero γs b o c e = tt
+  along_keyless (suc k) γs b o c e = ((λ u. (tt, rests_keyless _ c e u)), along_keyless k _ b _ c _)
 
-  lent_along_keyless : (b : ℕ) (γs : List Names) (e : ℕ) (κ : Lft) → Keyless (along_lent R b γs e κ)
-  lent_along_keyless b [] e κ = tt
-  lent_along_keyless b (γ ∷ γs) e κ = ((λ t. kept_keyless R γ s y t b e κ), lent_along_keyless b γs _ κ)
+  pub laid_keyless : (token : Ty → Ptr → Fml) → ((τ : Ty) (p : Ptr) → Keyless (token τ p)) → (x : Extent) (γs : List Names) → Keyless (laid R token x γs)
+  laid_keyless token frees x γs = ((λ _. tt), (along_keyless x.words γs _ _ _ _, ((tt, tt), (frees _ x.at, frees _ x.rooms))))
 
-  pub laid_lent_keyless : (p : Ptr) (γs : List Names) (left : ℕ) (κ : Lft) → Keyless (laid_lent R p γs left κ)
-  laid_lent_keyless p γs left κ = ((λ _. tt), lent_along_keyless _ γs _ κ)
+  lent_along_keyless : (k : ℕ) (γs : List Names) (b o c e : ℕ) (κ : Lft) → Keyless (along_lent R k γs b o c e κ)
+  lent_along_keyless zero γs b o c e κ = tt
+  lent_along_keyless (suc k) γs b o c e κ = ((λ t. kept_keyless R s y _ t b o c e κ), lent_along_keyless k _ b _ c _ κ)
+
+  pub laid_lent_keyless : (x : Extent) (γs : List Names) (κ : Lft) → Keyless (laid_lent R x γs κ)
+  laid_lent_keyless x γs κ = ((λ _. tt), lent_along_keyless x.words γs _ _ _ _ κ)
 
 pub epoch_send : IsSend RawEpoch.the_row
 epoch_send = record { owned = λ d vs. ((λ vss. (tt, ((λ uss. (tt, tt)), tt))), tt); leaving = λ k f vs. tt }

@@ -10,28 +10,26 @@ use prog.Capped.{capped_is, capped_small}
 use types.Logic.{Logic, sem}
 use denote.RattleType.{RattleType}
 use denote.Laws.{Is}
-use denote.RawPtr.{Ptr, ptr_val}
+use denote.RawPtr.{ptr_val}
 use denote.Shadow.{makes_shadow}
 use denote.Struct.Struct.{Struct}
 use Rattle.core.specs.contracts.marker.PhantomData as marker
-use Rattle.cell_core.specs.Laid.{cell_ty, row_ty, stride}
+use denote.Memory.{lone}
+use Rattle.cell_core.specs.Slot.{step}
+use Rattle.cell_core.specs.Laid.{rooms_ty}
 use Rattle.cell_core.specs.contracts.block.steps.Link as link
-use Rattle.cell_core.proofs.CellMade.{token_val, pointer_val}
+use Rattle.cell_core.proofs.CellMade.{token_val, pointers_val}
 
 module _ (X : RattleType) where
-  pub link_told : (x : (link.the_row X).Denot) (vs : List Val) → Is (link.the_row X) x vs → vs ≡ pointer_val x.ptr ∷ []
-  link_told x vs is = is.1.0 ∙ ap (λ (ws : List Val). vstruct (of_list (ws ++ (is.0.1.0 ++ []))) ∷ []) is.1.1.0 ∙ ap (λ (ws : List Val). vstruct (of_list (ptr_val x.ptr ∷ (ws ++ []))) ∷ []) is.1.1.1.0.1.0
+  pub link_told : (x : (link.the_row X).Denot) (vs : List Val) → Is (link.the_row X) x vs → vs ≡ pointers_val x.words x.rooms ∷ []
+  link_told x vs is = is.1.0 ∙ ap (λ (ws : List Val). vstruct (of_list (ws ++ (is.0.1.0 ++ (is.0.1.1.0 ++ [])))) ∷ []) is.1.1.0 ∙ ap (λ (ws : List Val). vstruct (of_list (ptr_val x.words ∷ (ws ++ (is.0.1.1.0 ++ [])))) ∷ []) is.1.1.1.0
+      ∙ ap (λ (ws : List Val). vstruct (of_list (ptr_val x.words ∷ ptr_val x.rooms ∷ (ws ++ []))) ∷ []) is.1.1.1.1.0.1.0
 
-  pub link_made : {M : Type 1} {𝓤 : Ura M} (𝓛 : Logic 𝓤) (p : Ptr)
-      → ent 𝓤 (emp 𝓤) (sem 𝓛 ((link.the_row X).own_val (record { ptr = p; marker = record {} }) (pointer_val p ∷ [])))
-  link_made 𝓛 p = makes_shadow 𝓛 ((link.the_row X).own_val (record { ptr = p; marker = record {} }) (pointer_val p ∷ [])) (λ vss. (tt, (tt, ((λ uss. (tt, tt)), tt))))
-      ((ptr_val p ∷ [], (vstruct vnil ∷ [], tt)), (refl, (refl, ((tt, (refl, tt)), tt))))
+pub row_size : (R : RattleType) (n : ℕ) → n * step R < 2 ^ 64 → capped (size (rooms_ty R n)) ≡ n * step R
+row_size R n small = ap capped (size-raw (ty_array (lone R.mir) n)) ∙ capped_is (n * step R) small
 
-pub row_size : (R : RattleType) (n : ℕ) → n * stride R < 2 ^ 64 → capped (size (row_ty R n)) ≡ n * stride R
-row_size R n small = ap capped (size-raw (ty_array (cell_ty R) n)) ∙ capped_is (n * stride R) small
-
-pub row_align : (R : RattleType) (n : ℕ) → capped (align (row_ty R n)) ≡ capped (align (cell_ty R))
-row_align R n = ap capped (align-raw (ty_array (cell_ty R) n))
+pub row_align : (R : RattleType) (n : ℕ) → capped (align (rooms_ty R n)) ≡ capped (align (lone R.mir))
+row_align R n = ap capped (align-raw (ty_array (lone R.mir) n))
 
 module _ (X : RattleType) where
   abbrev pub Token : RattleType

@@ -1,55 +1,89 @@
--- The parts of a row of raw cells: a cell more, a cell less, and what a `&` to the row shows. Assumes
--- `Logic`.
-use Rattle.std.proofs.Common.{Bool, true, false, not, T, eqb, eqb→eq, ◌≡◌, ℕ, zero, suc, ◌+◌, ◌*◌, ◌^◌, ◌<◌, ◌≤◌, ◌≢◌, mul-le-mul_right, length-append, List, [], ◌∷◌, ◌++◌, length, set, length-set, sym, refl, ap, ◌∙◌, subst, arith, suc-mul, zero-mul, w64}
+-- The parts of the rows of a block: the cell at an index, more cells, and what a `&` to them shows. Assumes `Logic`.
+use Rattle.std.proofs.Common.{Bool, false, ◌≡◌, ℕ, zero, suc, ◌+◌, ◌-◌, ◌*◌, ◌/◌, ◌%◌, ◌^◌, ◌<◌, ◌≤◌, List, [], ◌∷◌, ◌++◌, length, take, drop, set, length-set, length-take, length-drop, length-append, get_or-take, get_or-drop, sym, refl, ap, ◌∙◌, subst, arith, suc-mul, zero-mul, add-mul, mul-le-mul_right, w64}
+use Rattle.std.specs.Prelude.{None}
+use lib.Seq.{take-set-lt, drop-set-lt}
+use Rattle.std.proofs.lemmas.List.{take-set-le, drop-set-add, take-append-le, drop-append-le, take_all}
 use seplogic.Ra.Ura.{Ura}
-use mir.Syntax.{Ty, ty_int, ty_array}
-use base.Stored.{Gv, gnil, gcons, gnum}
 use mathlib.Core.Logic.{dite}
-use native.Mathlib.Decide.{ℕ_discrete}
+use native.Mathlib.Decide.{dec_lt}
+use mir.Syntax.{Ty, ty_int, ty_array}
 use mir.Raw.{raw as bare}
-use mir.Val.{vint}
-use types.Kit as Kit
-use contract.Monad as monad
-use base.Logic.{SProp, ent, sep, wand, all, all_e, guard, apply∗}
-use base.Fml.{GName, fobs, fauth, fres, fdead, Lft, Incl, Fml, ftrue, fsep, froom}
-use prog.Memory.{size, up}
-use prog.RawLaws.{size-raw, align-raw}
+use prog.Memory.{size}
+use prog.RawLaws.{size-raw}
+use base.Stored.{gnil}
+use base.Logic.{SProp, ent, sep, ex, wand, all, all_e, guard, apply∗, id⊢}
+use base.Fml.{Lft, Incl, Fml, ftrue, fsep, froom}
 use types.Logic.{Logic, sem}
-use types.Kit.{later, given, learn, await, updating, now, feq_i, use3, ‵, ◌⊛◌, ◌$◌, ◌∵◌, !, qed, by, move, keep, drop, use1, use2, split, split3, fsplit, fsplit3, fjoin, fjoin3, fpick, fpack, check, frame, each, assume, rewrite, done}
-use Rattle.std.specs.Prelude.{Option, Some, None}
-use base.Fraction.{full_share}
-use types.Kit.{feq_l}
-use denote.Memory.{part_at}
-use base.Fml.{fex}
-use base.Logic.{id⊢}
+use types.Kit as Kit
+use types.Tokens.{lft_new, lft_end, name_new}
+use types.Kit.{‵, ◌⊛◌, given, some, later, updating, await, now, ◌$◌, ◌∵◌, !, qed, by, move, keep, drop as toss, use1, use2, split, fsplit, fsplit3, fjoin, fjoin3, fpick, fpack, pick, learn, show, check, frame, each, assume, rewrite, done}
 use denote.RattleType.{RattleType}
 use denote.Memory.{lone}
 use denote.RawPtr.{Ptr, block_ptr, block_of, count_of, InBlock}
-use denote.Steps.{nothing, heard}
+use denote.Steps.{nothing}
+use denote.Builtin.{u64}
+use denote.Param.{param, layout}
+use denote.Param.Laws.{Laws}
+use denote.Struct.Lending.{Lends, Lends-both, Lends-nothing, Lends-said, Lends-first}
+use mir.Val.{vint}
 use denote.Sharing.{ShrLaws, said}
 use denote.SharingLaws.{beside_shr_laws, nothing_shr_laws, said_shr_laws}
-use denote.Param.{param, layout}
-use denote.Param.Laws.{Laws, param_laws}
-use denote.Struct.Members.{Member}
-use Rattle.core.proofs.cell.Inside.{spread}
-use denote.Struct.Lending.{Lends, Lends-both, Lends-nothing, Lends-said, Lends-first}
-use Rattle.cell_core.specs.Slot.{Names, Phase, Lies, shared_at, Rest, fact, word, place, resting, free, busy, full, broken, broken_by_owner, mark, broken_mark, broken_once, auths, unset, settable, written, was_broken, at}
-use Rattle.cell_core.specs.Laid.{cell_ty, stride, row_ty, FitsMemory, IsAnother, rooms, rim, rests, still, owned, along, along_lent, lies, laid, laid_lent, cell_in}
-use types.Tokens.{lft_new, lft_end, name_new, res_dup}
-use Rattle.cell_core.proofs.CellLends.{lends_cell}
-use Rattle.cell_core.proofs.CellSteps.{shared_laws, one_written}
+use Rattle.cell_core.specs.Fields.{pack, put}
+use Rattle.cell_core.specs.Slot.{Names, cell_in, state, free, broken_once, Rest, fact, word, place, resting, step, room_at, Spot, IsAt, kept, shared_at, slot_owned}
+use Rattle.cell_core.specs.Laid.{Extent, words_ty, rooms_ty, Lies, FitsMemory, lying, rests, still, along, along_lent, laid, laid_lent, rooms_owned}
+use Rattle.cell_core.proofs.Fields.{pack_ap, pack_alike, put_of, packed_none}
+use Rattle.cell_core.proofs.RestParts.{emptied}
+use Rattle.cell_core.proofs.CellLends.{lends_word}
+use Rattle.cell_core.proofs.WordSteps.{shared_laws}
 
 module _ (R : RattleType) where
-  -- what a `&` to each cell holds can be had twice
-  along_laws : (b : ℕ) (γs : List Names) (e : ℕ) → ShrLaws (along_lent R b γs e)
-  along_laws b [] e = nothing_shr_laws
-  along_laws b (γ ∷ γs) e = beside_shr_laws (shared_at R γ b e) (along_lent R b γs (e + stride R)) (shared_laws R γ b e) (along_laws b γs (e + stride R))
+  -- what a `&` to the cells of each word holds can be had twice
+  along_laws : (k : ℕ) (γs : List Names) (b o c e : ℕ) → ShrLaws (along_lent R k γs b o c e)
+  along_laws zero γs b o c e = nothing_shr_laws
+  along_laws (suc k) γs b o c e = let W : List Names = take 16 γs in let Ws : List Names = drop 16 γs in
+      beside_shr_laws (shared_at R W b o c e) (along_lent R k Ws b (o + 8) c (e + 16 * step R)) (shared_laws R W b o c e) (along_laws k Ws b (o + 8) c (e + 16 * step R))
 
-  -- what a `&` to a row holds can be had twice
-  pub laid_laws : (p : Ptr) (γs : List Names) (left : ℕ) → ShrLaws (laid_lent R p γs left)
-  laid_laws p γs left = beside_shr_laws (said (lies R p (length γs + left))) (along_lent R (block_of p) γs (count_of p)) (said_shr_laws (lies R p (length γs + left)) (λ _. tt)) (along_laws (block_of p) γs (count_of p))
+  -- what a `&` to the rows holds can be had twice
+  pub laid_laws : (x : Extent) (γs : List Names) → ShrLaws (laid_lent R x γs)
+  laid_laws x γs = let F : Fml = fact (Lies R x (length γs)) in let b : ℕ = block_of x.at in let o : ℕ = count_of x.at in let c : ℕ = block_of x.rooms in let e : ℕ = count_of x.rooms in
+      beside_shr_laws (said F) (along_lent R x.words γs b o c e) (said_shr_laws F (λ _. tt)) (along_laws x.words γs b o c e)
 
-module _ {M : Type 1} {𝓤 : Ura M} (𝓛 : Logic 𝓤) (R : RattleType) (token : Ty → Ptr → Fml) where
+  -- where the room at an index lies
+  pub room_is : (e i : ℕ) → room_at R e i ≡ i * step R + e
+  room_is e zero = let z = zero-mul (step R) in omega arith
+  room_is e (suc i) = let z = suc-mul i (step R) in room_is (e + step R) i ∙ omega arith
+
+  -- the cell at an index of a row lies in its memory
+  pub within : (i n : ℕ) → i ≤ n → FitsMemory R n → i * step R < 2 ^ 63
+  within i n le fits = let a : i * step R ≤ n * step R = mul-le-mul_right (step R) le in let b : n * step R < 2 ^ 63 = fits in omega arith
+
+  -- a word of the cells has the cell at index j, and these are its names, and where its first room lies
+  pub record IsIn (γs : List Names) (e j : ℕ) (z : List Names × ℕ) : Type 0 where
+    pub near : j % 16 < length z.0
+    pub short : length z.0 ≤ 16
+    pub names : cell_in z.0 (j % 16) ≡ cell_in γs j
+    pub lies : room_at R z.1 (j % 16) ≡ j * step R + e
+
+  abbrev nobody : Names
+  nobody = record { value_name = 0; broken_name = 0; epoch = [] }
+
+  first_in : (γs : List Names) (e j : ℕ) → j < length γs → j < 16 → IsIn γs e j (take 16 γs, e)
+  first_in γs e j near low = let m = length-take 16 γs in let same : j % 16 ≡ j = omega arith in record {
+    near = omega (arith, m);
+    short = omega (arith, m);
+    names = ap (cell_in (take 16 γs)) same ∙ get_or-take 16 γs j nobody low;
+    lies = ap (room_at R e) same ∙ room_is e j;
+  }
+
+  later_in : (γs : List Names) (e i : ℕ) (z : List Names × ℕ) → IsIn (drop 16 γs) (e + 16 * step R) i z → IsIn γs e (16 + i) z
+  later_in γs e i z is = let same : (16 + i) % 16 ≡ i % 16 = omega arith in let far : (16 + i) * step R ≡ 16 * step R + i * step R = add-mul 16 i (step R) in record {
+    near = subst (λ (n : ℕ). n < length z.0) (sym same) is.near;
+    short = is.short;
+    names = ap (cell_in z.0) same ∙ is.names ∙ get_or-drop 16 γs i nobody;
+    lies = ap (room_at R z.1) same ∙ is.lies ∙ omega (arith, far);
+  }
+
+module _ {M : Type 1} {𝓤 : Ura M} (𝓛 : Logic 𝓤) (R : RattleType) where
   open 𝓛 use {H, A}
 
   abbrev Pr : Type 2
@@ -70,315 +104,205 @@ module _ {M : Type 1} {𝓤 : Ura M} (𝓛 : Logic 𝓤) (R : RattleType) (token
   infix 26 ◌⊢◌
   infixr 35 ◌∗◌
   infixr 30 ◌-∗◌
-  abbrev s : ℕ
-  s = stride R
+  abbrev Back : ℕ → List Names → ℕ → ℕ → ℕ → ℕ → ℕ → List Names × ℕ → Names → Pr
+  Back k γs b o c e j z γ = ⟦ still R (set z.0 (j % 16) γ) b (j / 16 * 8 + o) c z.1 ⟧ -∗ ⟦ along R k (set γs j γ) b o c e ⟧
 
-  -- a cell put after the others
-  along_more : (G : Names → ℕ → Fml) (cs : List Names) (c : Names) (e e' : ℕ) → e' ≡ length cs * s + e
-      → ⟦ along R G cs e ⟧ ∗ ⟦ G c e' ⟧ ⊢ ⟦ along R G (cs ++ c ∷ []) e ⟧
-  along_more G [] c e e' is = let z = zero-mul s in let same : e' ≡ e = omega arith in qed 𝓛 (‵ ftrue ∷ ‵ (G c e') ∷ []) ∵ rewrite ! 1 (λ (i : ℕ). ‵ (G c i)) same refl $ move ! (1 ∷ 0 ∷ []) $ done !
-  along_more G (h ∷ cs) c e e' is = let z = suc-mul (length cs) s in qed 𝓛 (‵ (along R G (h ∷ cs) e) ∷ ‵ (G c e') ∷ []) ∵ fsplit ! $ frame ! $ by ! (along_more G cs c (e + s) e' (omega arith))
+  abbrev Found : ℕ → List Names → ℕ → ℕ → ℕ → ℕ → ℕ → List Names × ℕ → Pr
+  Found k γs b o c e j z = guard 𝓤 (IsIn R γs e j z) (⟦ still R z.0 b (j / 16 * 8 + o) c z.1 ⟧ ∗ all 𝓤 (Back k γs b o c e j z))
 
-  -- the last cell, and the others
-  along_less : (G : Names → ℕ → Fml) (cs : List Names) (c : Names) (e e' : ℕ) → e' ≡ length cs * s + e
-      → ⟦ along R G (cs ++ c ∷ []) e ⟧ ⊢ ⟦ G c e' ⟧ ∗ ⟦ along R G cs e ⟧
-  along_less G [] c e e' is = let z = zero-mul s in let same : e ≡ e' = omega arith in qed 𝓛 (‵ (G c e) ∷ ‵ ftrue ∷ []) ∵ rewrite ! 0 (λ (i : ℕ). ‵ (G c i)) same refl $ done !
-  along_less G (h ∷ cs) c e e' is = let z = suc-mul (length cs) s in qed 𝓛 (‵ (G h e) ∷ ‵ (along R G (cs ++ c ∷ []) (e + s)) ∷ []) ∵ move ! (1 ∷ []) $
-      use1 𝓛 (‵ (G c e') ⊛ ‵ (along R G cs (e + s))) (along_less G cs c (e + s) e' (omega arith)) $ split ! $ frame ! $ move ! (1 ∷ 0 ∷ []) $ done !
+  -- the word of the cell at an index, and the way back under another name of the cell
+  along_at : (k : ℕ) (γs : List Names) (b o c e j : ℕ) → j < length γs → length γs ≤ k * 16 → ⟦ along R k γs b o c e ⟧ ⊢ ex 𝓤 (Found k γs b o c e j)
+  along_at zero γs b o c e j near few = absurd (omega arith)
+  along_at (suc k) γs b o c e j near few = dite (dec_lt j 16)
+      (λ low. let z : List Names × ℕ = (take 16 γs, e) in let same : j % 16 ≡ j = omega arith in let here : j / 16 * 8 + o ≡ o = omega arith in
+      qed 𝓛 (‵ (along R (suc k) γs b o c e) ∷ []) ∵ fsplit ! $ show ! (Found (suc k) γs b o c e j) z $ check ! (first_in R γs e j near low) $ rewrite ! 0 (λ (i : ℕ). ‵ (still R (take 16 γs) b i c e)) (sym here) refl $ frame ! $
+      each ! (Back (suc k) γs b o c e j z) (λ γ. assume ! (‵ (still R (set (take 16 γs) (j % 16) γ) b (j / 16 * 8 + o) c e)) $
+      let front : set (take 16 γs) (j % 16) γ ≡ take 16 (set γs j γ) = ap (λ (i : ℕ). set (take 16 γs) i γ) same ∙ sym (take-set-lt 16 γs j γ low) in
+      rewrite ! 0 (λ (u : List Names × ℕ). ‵ (still R u.0 b u.1 c e)) (λ i. (front i, here i)) refl $ rewrite ! 1 (λ (u : List Names). ‵ (along R k u b (o + 8) c (e + 16 * step R))) (sym (drop-set-lt 16 γs j γ low)) refl $ fjoin ! $ done !))
+      (λ high. let i : ℕ = j - 16 in let is : j ≡ 16 + i = omega arith in let m = length-drop 16 γs in let o' : ℕ = o + 8 in let e' : ℕ = e + 16 * step R in let Ws : List Names = drop 16 γs in
+      let there : i / 16 * 8 + o' ≡ j / 16 * 8 + o = omega arith in let same : i % 16 ≡ j % 16 = omega arith in
+      qed 𝓛 (‵ (along R (suc k) γs b o c e) ∷ []) ∵ fsplit ! $ move ! (1 ∷ []) $
+      use1 𝓛 (some (λ (z : List Names × ℕ). given (IsIn R Ws e' i z) (‵ (still R z.0 b (i / 16 * 8 + o') c z.1) ⊛ Kit.raw (all 𝓤 (Back k Ws b o' c e' i z))))) (along_at k Ws b o' c e' i (omega (arith, m)) (omega (arith, m))) $
+      pick ! (λ z. learn ! (λ so. split ! $ show ! (Found (suc k) γs b o c e j) z $ check ! (subst (λ (l : ℕ). IsIn R γs e l z) (sym is) (later_in R γs e i z so)) $
+      rewrite ! 0 (λ (a : ℕ). ‵ (still R z.0 b a c z.1)) there refl $ frame ! $
+      each ! (Back (suc k) γs b o c e j z) (λ γ. assume ! (‵ (still R (set z.0 (j % 16) γ) b (j / 16 * 8 + o) c z.1)) $
+      rewrite ! 0 (λ (u : ℕ × ℕ). ‵ (still R (set z.0 u.0 γ) b u.1 c z.1)) (λ a. (sym same a, sym there a)) refl $ move ! (1 ∷ []) $ use1 𝓛 (Kit.raw (Back k Ws b o' c e' i z γ)) (all_e 𝓤 (Back k Ws b o' c e' i z) γ) $ move ! (1 ∷ 0 ∷ []) $
+      use2 𝓛 (‵ (along R k (set Ws i γ) b o' c e')) (apply∗ 𝓤 ⟦ still R (set z.0 (i % 16) γ) b (i / 16 * 8 + o') c z.1 ⟧ ⟦ along R k (set Ws i γ) b o' c e' ⟧) $
+      let rest : set Ws i γ ≡ drop 16 (set γs j γ) = sym (ap (λ (l : ℕ). drop 16 (set γs l γ)) is ∙ drop-set-add 16 γs i γ) in
+      rewrite ! 0 (λ (u : List Names). ‵ (along R k u b o' c e')) rest refl $ rewrite ! 1 (λ (u : List Names). ‵ (still R u b o c e)) (sym (take-set-le 16 γs j γ (omega arith))) refl $ move ! (1 ∷ 0 ∷ []) $ fjoin ! $ done !))))
 
-  -- a cell of the row lies within the block
-  pub within : (i n : ℕ) → i ≤ n → FitsMemory R n → i * s < 2 ^ 63
-  within i n le fits = let a : i * s ≤ n * s = mul-le-mul_right s le in let b : n * s < 2 ^ 63 = fits in omega arith
+  module _ (token : Ty → Ptr → Fml) where
+    abbrev pub Put : Extent → List Names → ℕ → List Names × ℕ → Names → Pr
+    Put x γs j z γ = ⟦ still R (set z.0 (j % 16) γ) (block_of x.at) (j / 16 * 8 + count_of x.at) (block_of x.rooms) z.1 ⟧ -∗ ⟦ laid R token x (set γs j γ) ⟧
 
+    abbrev pub Taken : Extent → List Names → ℕ → List Names × ℕ → Pr
+    Taken x γs j z = guard 𝓤 (IsIn R γs (count_of x.rooms) j z) (⟦ still R z.0 (block_of x.at) (j / 16 * 8 + count_of x.at) (block_of x.rooms) z.1 ⟧ ∗ all 𝓤 (Put x γs j z))
+
+    -- what an offset into the rows may be
+    abbrev pub Near : Extent → ℕ → Type 0
+    Near x j = (j / 16 * 8 < 2 ^ 63) × (j * step R < 2 ^ 63)
+
+    pub near_of : (x : Extent) (γs : List Names) (j : ℕ) → j < length γs → Lies R x (length γs) → Near x j
+    near_of x γs j near so = (omega (arith, so.2, so.4), within R j (length γs + x.left) (omega arith) so.3)
+
+    -- the word of the cell at an index of the rows, and the way back under another name of the cell
+    pub laid_at : (x : Extent) (γs : List Names) (j : ℕ) → j < length γs → ⟦ laid R token x γs ⟧ ⊢ guard 𝓤 (Near x j) (ex 𝓤 (Taken x γs j))
+    laid_at x γs j near = let b : ℕ = block_of x.at in let o : ℕ = count_of x.at in let c : ℕ = block_of x.rooms in let e : ℕ = count_of x.rooms in let k : ℕ = x.words in
+        let Rest : ℕ → Fml = λ n. fsep (fsep (froom (ty_array (ty_int w64) x.more) b (k * 8 + o)) (froom (ty_array (bare (lone R.mir)) x.left) c (n * step R + e))) (fsep (token (words_ty (k + x.more)) x.at) (token (rooms_ty R (n + x.left)) x.rooms)) in
+        qed 𝓛 (‵ (laid R token x γs) ∷ []) ∵ fsplit ! $ fpick ! (λ so. toss ! $ check ! (near_of x γs j near so) $ fsplit ! $
+        use1 𝓛 (some (λ (z : List Names × ℕ). given (IsIn R γs e j z) (‵ (still R z.0 b (j / 16 * 8 + o) c z.1) ⊛ Kit.raw (all 𝓤 (Back k γs b o c e j z))))) (along_at k γs b o c e j near so.4) $
+        pick ! (λ z. learn ! (λ is. split ! $ show ! (Taken x γs j) z $ check ! is $ frame ! $ each ! (Put x γs j z) (λ γ. let same : length γs ≡ length (set γs j γ) = sym (length-set γs j γ) in
+        assume ! (‵ (still R (set z.0 (j % 16) γ) b (j / 16 * 8 + o) c z.1)) $ move ! (1 ∷ []) $ use1 𝓛 (Kit.raw (Back k γs b o c e j z γ)) (all_e 𝓤 (Back k γs b o c e j z) γ) $ move ! (1 ∷ 0 ∷ []) $
+        use2 𝓛 (‵ (along R k (set γs j γ) b o c e)) (apply∗ 𝓤 ⟦ still R (set z.0 (j % 16) γ) b (j / 16 * 8 + o) c z.1 ⟧ ⟦ along R k (set γs j γ) b o c e ⟧) $
+        rewrite ! 1 (λ (n : ℕ). ‵ (Rest n)) same refl $ fjoin ! $ nothing ! $ fpack ! (Lies R x (length (set γs j γ))) (λ _. ftrue) (subst (Lies R x) same so) $ fjoin ! $ done !))))
+
+  abbrev pub Rested : List Names → ℕ → ℕ → (ℕ → Rest R.Denot) → ℕ → Names × Rest R.Denot → Pr
+  Rested γs c e s i v = ⟦ lying R c (room_at R e i) v.0 v.1 ⟧ -∗ ⟦ rests R (set γs i v.0) c e (put i v.1 s) ⟧
+
+  -- a cell of a word, and the way back
+  pub rests_at : (γs : List Names) (c e : ℕ) (s : ℕ → Rest R.Denot) (i : ℕ) → i < length γs
+      → ⟦ rests R γs c e s ⟧ ⊢ ⟦ lying R c (room_at R e i) (cell_in γs i) (s i) ⟧ ∗ all 𝓤 (Rested γs c e s i)
+  rests_at [] c e s i near = absurd (omega arith)
+  rests_at (γ ∷ γs) c e s zero near = qed 𝓛 (‵ (rests R (γ ∷ γs) c e s) ∷ []) ∵ fsplit ! $ frame ! $ each ! (Rested (γ ∷ γs) c e s 0) (λ v. assume ! (‵ (lying R c e v.0 v.1)) $ fjoin ! $ done !)
+  rests_at (γ ∷ γs) c e s (suc i) near = let σ : ℕ → Rest R.Denot = λ l. s (suc l) in let e' : ℕ = e + step R in let B : Names × Rest R.Denot → Pr = Rested γs c e' σ i in
+      qed 𝓛 (‵ (rests R (γ ∷ γs) c e s) ∷ []) ∵ fsplit ! $ move ! (1 ∷ []) $ use1 𝓛 (‵ (lying R c (room_at R e' i) (cell_in γs i) (σ i)) ⊛ Kit.raw (all 𝓤 B)) (rests_at γs c e' σ i (omega arith)) $ split ! $ frame ! $
+      each ! (Rested (γ ∷ γs) c e s (suc i)) (λ v. assume ! (‵ (lying R c (room_at R e' i) v.0 v.1)) $ move ! (1 ∷ []) $ use1 𝓛 (Kit.raw (B v)) (all_e 𝓤 B v) $ move ! (1 ∷ 0 ∷ []) $
+      use2 𝓛 (‵ (rests R (set γs i v.0) c e' (put i v.1 σ))) (apply∗ 𝓤 ⟦ lying R c (room_at R e' i) v.0 v.1 ⟧ ⟦ rests R (set γs i v.0) c e' (put i v.1 σ) ⟧) $ move ! (1 ∷ 0 ∷ []) $ fjoin ! $ done !)
+
+  -- a word whose field at an index is that of the cell that is put there
+  pub closes_word : (γs : List Names) (b o c e : ℕ) (s : ℕ → Rest R.Denot) (i : ℕ) (γ : Names) (u : Rest R.Denot) (n : ℕ) → n ≡ pack γs (put i (state u.1) (λ l. state (s l).1))
+      → ⟦ word b o n ⟧ ∗ ⟦ lying R c (room_at R e i) γ u ⟧ ∗ all 𝓤 (Rested γs c e s i) ⊢ ⟦ still R (set γs i γ) b o c e ⟧
+  closes_word γs b o c e s i γ u n is = let B : Names × Rest R.Denot → Pr = Rested γs c e s i in let S : ℕ → Rest R.Denot = put i u s in
+      let same : n ≡ pack (set γs i γ) (λ l. state (S l).1) = is ∙ pack_ap γs (put_of (λ (r : Rest R.Denot). state r.1) i u s) ∙ pack_alike γs (set γs i γ) (λ l. state (S l).1) (sym (length-set γs i γ)) in
+      qed 𝓛 (‵ (word b o n) ∷ ‵ (lying R c (room_at R e i) γ u) ∷ Kit.raw (all 𝓤 B) ∷ []) ∵ move ! (2 ∷ []) $ use1 𝓛 (Kit.raw (B (γ, u))) (all_e 𝓤 B (γ, u)) $ move ! (2 ∷ 0 ∷ []) $
+      use2 𝓛 (‵ (rests R (set γs i γ) c e S)) (apply∗ 𝓤 ⟦ lying R c (room_at R e i) γ u ⟧ ⟦ rests R (set γs i γ) c e S ⟧) $ rewrite ! 1 (λ (m : ℕ). ‵ (word b o m)) same refl $ move ! (1 ∷ 0 ∷ []) $ fjoin ! $
+      fpack ! (ℕ → Rest R.Denot) (λ r. fsep (word b o (pack (set γs i γ) (λ l. state (r l).1))) (rests R (set γs i γ) c e r)) S $ done !
+
+  -- what a `&` to the rows shows of the cell at an index
+  slot_of : (γs : List Names) (b o c e : ℕ) (κ : Lft) (j : ℕ) → j < length γs → j < 16
+      → ⟦ shared_at R (take 16 γs) b o c e κ ⟧ ⊢ ⟦ slot_owned R (cell_in γs j) κ (block_ptr b o) (block_ptr c (j * step R + e)) j ⟧
+  slot_of γs b o c e κ j near low = let W : List Names = take 16 γs in let is = first_in R γs e j near low in let same : j % 16 ≡ j = omega arith in
+      qed 𝓛 (‵ (shared_at R W b o c e κ) ∷ []) ∵ fpick ! (λ t. let z : Spot = (W, t, e) in nothing ! $
+      fpack ! (IsAt R (cell_in γs j) j (j * step R + e) z) (λ _. ftrue) (subst (λ (i : ℕ). i < length W) same is.near, is.short, ap (cell_in W) (sym same) ∙ is.names, room_is R e j) $ fjoin ! $
+      fpack ! Spot (λ y. fsep (fact (IsAt R (cell_in γs j) j (j * step R + e) y)) (kept R y.0 y.1 b o c y.2 κ)) z $ done !)
+
+  pub cell_shown : (k : ℕ) (γs : List Names) (b o c e : ℕ) (κ : Lft) (j : ℕ) → j < length γs → length γs ≤ k * 16
+      → ⟦ along_lent R k γs b o c e κ ⟧ ⊢ ⟦ slot_owned R (cell_in γs j) κ (block_ptr b (j / 16 * 8 + o)) (block_ptr c (j * step R + e)) (j % 16) ⟧
+  cell_shown zero γs b o c e κ j near few = absurd (omega arith)
+  cell_shown (suc k) γs b o c e κ j near few = dite (dec_lt j 16)
+      (λ low. let same : j % 16 ≡ j = omega arith in let here : j / 16 * 8 + o ≡ o = omega arith in
+      qed 𝓛 (‵ (along_lent R (suc k) γs b o c e κ) ∷ []) ∵ fsplit ! $ keep ! (0 ∷ []) $ use1 𝓛 (‵ (slot_owned R (cell_in γs j) κ (block_ptr b o) (block_ptr c (j * step R + e)) j)) (slot_of γs b o c e κ j near low) $
+      rewrite ! 0 (λ (u : ℕ × ℕ). ‵ (slot_owned R (cell_in γs j) κ (block_ptr b u.0) (block_ptr c (j * step R + e)) u.1)) (λ i. (sym here i, sym same i)) refl $ done !)
+      (λ high. let i : ℕ = j - 16 in let is : j ≡ 16 + i = omega arith in let m = length-drop 16 γs in let o' : ℕ = o + 8 in let e' : ℕ = e + 16 * step R in let Ws : List Names = drop 16 γs in
+      let far = add-mul 16 i (step R) in let there : i / 16 * 8 + o' ≡ j / 16 * 8 + o = omega arith in let same : i % 16 ≡ j % 16 = omega arith in
+      let names : cell_in Ws i ≡ cell_in γs j = get_or-drop 16 γs i (record { value_name = 0; broken_name = 0; epoch = [] }) ∙ ap (cell_in γs) (sym is) in
+      let room : i * step R + e' ≡ j * step R + e = omega (arith, far, ap (λ (l : ℕ). l * step R) is) in
+      qed 𝓛 (‵ (along_lent R (suc k) γs b o c e κ) ∷ []) ∵ fsplit ! $ keep ! (1 ∷ []) $
+      use1 𝓛 (‵ (slot_owned R (cell_in Ws i) κ (block_ptr b (i / 16 * 8 + o')) (block_ptr c (i * step R + e')) (i % 16))) (cell_shown k Ws b o' c e' κ i (omega (arith, m)) (omega (arith, m))) $
+      rewrite ! 0 (λ (u : Names × (ℕ × (ℕ × ℕ))). ‵ (slot_owned R u.0 κ (block_ptr b u.1.0) (block_ptr c u.1.1.0) u.1.1.1)) (λ l. (names l, (there l, (room l, same l)))) refl $ done !)
+
+  -- the room of a value
   abbrev τ : Ty
-  τ = bare (cell_ty R)
+  τ = bare (lone R.mir)
 
-  -- the room of a cell has two parts, which make it again
-  spreads : (b e : ℕ) → H.room τ b e ⊢ ⟦ rooms R b e ⟧ ∗ ⟦ rim R b e ⟧
-  spreads b e = let at : ℕ → Fml = λ a. fsep (froom (ty_int w64) b (e + 0)) (fsep (froom (bare (lone R.mir)) b (e + up a 8)) ftrue) in let X : Pr = H.room τ b e in
-      subst (λ (a : ℕ). X ⊢ ⟦ at a ⟧ ∗ (⟦ at a ⟧ -∗ X)) (align-raw (lone R.mir)) (𝓛.laws.room_fields [] (mir.Syntax.tcons (ty_int w64) (mir.Syntax.tcons (bare (lone R.mir)) mir.Syntax.tnil)) b e)
+  τ_size : size τ ≡ step R
+  τ_size = size-raw (lone R.mir)
 
-  -- memory of n cells is a row without a cell
-  pub fresh : (b o n : ℕ) → FitsMemory R n
-      → H.room (row_ty R n) b o ∗ ⟦ token (row_ty R n) (block_ptr b o) ⟧ ⊢ ⟦ laid R token (block_ptr b o) [] n ⟧
-  fresh b o n fits = let p : Ptr = block_ptr b o in let z = zero-mul s in let same : n ≡ 0 + n = omega arith in
-      qed 𝓛 (‵ (froom (ty_array τ n) b o) ∷ ‵ (token (row_ty R n) p) ∷ []) ∵ rewrite ! 0 (λ (i : ℕ). ‵ (froom (ty_array τ n) b i)) (let r : o ≡ 0 * s + o = omega arith in r) refl $
-      rewrite ! 1 (λ (m : ℕ). ‵ (token (row_ty R m) p)) same refl $ nothing ! $ fjoin3 ! $ nothing ! $ fpack ! (InBlock p × FitsMemory R (0 + n)) (λ _. ftrue) (tt, subst (FitsMemory R) same fits) $ done !
+  -- n rooms that lie side by side
+  abbrev pub empties : ℕ → ℕ → ℕ → Fml
+  empties zero c e = ftrue
+  empties (suc n) c e = fsep (froom τ c e) (empties n c (e + step R))
 
-  -- a row without a cell is memory again
-  pub gathers : (b o n : ℕ)
-      → ⟦ laid R token (block_ptr b o) [] n ⟧ ⊢ guard 𝓤 (FitsMemory R n) (H.room (row_ty R n) b o ∗ ⟦ token (row_ty R n) (block_ptr b o) ⟧)
-  gathers b o n = let p : Ptr = block_ptr b o in let z = zero-mul s in let same : 0 + n ≡ n = omega arith in
-      qed 𝓛 (‵ (laid R token p [] n) ∷ []) ∵ fsplit3 ! $ fpick ! (λ so. drop ! $ drop ! $ check ! (subst (FitsMemory R) same so.1) $ fsplit ! $
-      rewrite ! 0 (λ (i : ℕ). ‵ (froom (ty_array τ n) b i)) (let r : 0 * s + o ≡ o = omega arith in r) refl $ rewrite ! 1 (λ (m : ℕ). ‵ (token (row_ty R m) p)) same refl $ done !)
+  -- some are taken from the front of a row of room
+  takes_rooms : (n left c e : ℕ) → n ≤ left → H.room (ty_array τ left) c e ⊢ ⟦ empties n c e ⟧ ∗ H.room (ty_array τ (left - n)) c (n * step R + e)
+  takes_rooms zero left c e few = let z = zero-mul (step R) in let same : e ≡ 0 * step R + e = omega arith in
+      qed 𝓛 (‵ (froom (ty_array τ left) c e) ∷ []) ∵ nothing ! $ rewrite ! 1 (λ (u : ℕ × ℕ). ‵ (froom (ty_array τ u.0) c u.1)) (λ i. ((let r : left ≡ left - 0 = omega arith in r) i, same i)) refl $ done !
+  takes_rooms (suc n) zero c e few = absurd (omega arith)
+  takes_rooms (suc n) (suc left) c e few = let m = suc-mul n (step R) in let e' : ℕ = e + step R in
+      qed 𝓛 (‵ (froom (ty_array τ (suc left)) c e) ∷ []) ∵ use1 𝓛 (‵ (froom τ c e) ⊛ ‵ (froom (ty_array τ left) c (e + size τ))) (𝓛.laws.room_uncons τ left c e) $ split ! $ move ! (1 ∷ []) $
+      rewrite ! 0 (λ (i : ℕ). ‵ (froom (ty_array τ left) c (e + i))) τ_size refl $
+      use1 𝓛 (‵ (empties n c e') ⊛ ‵ (froom (ty_array τ (left - n)) c (n * step R + e'))) (takes_rooms n left c e' (omega arith)) $ split ! $ move ! (2 ∷ 0 ∷ []) $ fjoin ! $ frame ! $
+      rewrite ! 0 (λ (u : ℕ × ℕ). ‵ (froom (ty_array τ u.0) c u.1)) (λ i. ((let r : left - n ≡ suc left - suc n = omega arith in r) i, (let r : n * step R + e' ≡ suc n * step R + e = omega arith in r) i)) refl $ done !
 
-  abbrev pub Filled : Ptr → List Names → ℕ → ℕ → Names → Pr
-  Filled p cs left e c = ⟦ still R (block_of p) c e ⟧ -∗ ⟦ laid R token p (cs ++ c ∷ []) left ⟧
+  abbrev Laying : ℕ → ℕ → ℕ → List Names → Pr
+  Laying n c e ns = guard 𝓤 (length ns ≡ n) ⟦ rests R ns c e (λ _. (None, free)) ⟧
 
-  -- room for a further cell, which makes the row longer
-  pub next_room : (p : Ptr) (cs : List Names) (left e : ℕ) → e ≡ length cs * s + count_of p
-      → ⟦ laid R token p cs (suc left) ⟧ ⊢ guard 𝓤 (length cs * s < 2 ^ 63) (⟦ rooms R (block_of p) e ⟧ ∗ all 𝓤 (Filled p cs left e))
-  next_room p cs left e is = let b : ℕ = block_of p in let o : ℕ = count_of p in let k : ℕ = length cs in let n : ℕ = k + suc left in
-      qed 𝓛 (‵ (laid R token p cs (suc left)) ∷ []) ∵ fsplit3 ! $ fpick ! (λ so. drop ! $ check ! (within k n (omega arith) so.1) $ move ! (1 ∷ []) $ fsplit ! $ rewrite ! 0 (λ (i : ℕ). ‵ (froom (ty_array τ (suc left)) b i)) (sym is) refl $
-      use1 𝓛 (‵ (froom τ b e) ⊛ ‵ (froom (ty_array τ left) b (e + size τ))) (𝓛.laws.room_uncons τ left b e) $ split ! $ use1 𝓛 (‵ (rooms R b e) ⊛ ‵ (rim R b e)) (spreads b e) $ split ! $ frame ! $
-      each ! (Filled p cs left e) (λ c. let long : length (cs ++ c ∷ []) ≡ k + 1 = length-append cs (c ∷ []) in let m : ℕ = length (cs ++ c ∷ []) in let same : n ≡ m + left = omega arith in
-      let next : e + size τ ≡ m * s + o = ap (λ (z : ℕ). e + z) (size-raw (cell_ty R)) ∙ (omega (arith, suc-mul k s, ap (λ (z : ℕ). z * s) (let r : m ≡ suc k = omega arith in r))) in
-      assume ! (‵ (still R b c e)) $ fjoin ! $ move ! (3 ∷ 0 ∷ []) $
-      use2 𝓛 (‵ (along R (owned R b) (cs ++ c ∷ []) o)) (along_more (owned R b) cs c o e is) $ rewrite ! 1 (λ (i : ℕ). ‵ (froom (ty_array τ left) b i)) next refl $ rewrite ! 2 (λ (z : ℕ). ‵ (token (row_ty R z) p)) same refl $
-      fjoin3 ! $ nothing ! $ fpack ! (InBlock p × FitsMemory R (m + left)) (λ _. ftrue) (so.0, subst (FitsMemory R) same so.1) $ done !))
+  -- cells without a value get names, and an epoch that has ended
+  pub lays : (n c e : ℕ) → ⟦ empties n c e ⟧ ⊢ H.⇛ (ex 𝓤 (Laying n c e))
+  lays zero c e = qed 𝓛 (‵ ftrue ∷ []) ∵ updating ! $ now ! $ show ! (Laying 0 c e) [] $ check ! refl $ done !
+  lays (suc n) c e = let e' : ℕ = e + step R in
+      qed 𝓛 (‵ (empties (suc n) c e) ∷ []) ∵ updating ! $ fsplit ! $ move ! (1 ∷ []) $ use1 𝓛 (later (some (λ (ns : List Names). given (length ns ≡ n) (‵ (rests R ns c e' (λ _. (None, free))))))) (lays n c e') $ await ! tt $ pick ! (λ ns. learn ! (λ long.
+      name_new ! tt gnil (λ γv. name_new ! tt gnil (λ γb. lft_new ! tt (λ ν. lft_end ! tt $ let γ : Names = record { value_name = γv; broken_name = γb; epoch = ν ∷ [] } in now ! $
+      -- [the epoch has ended; the right to break; its name; the right to fill; its name; the others; the room]
+      move ! (1 ∷ 2 ∷ []) $ fjoin ! $ fpack ! Bool (broken_once γb) false $ move ! (3 ∷ 0 ∷ []) $ fjoin ! $ move ! (1 ∷ 2 ∷ []) $ fjoin ! $ move ! (1 ∷ 0 ∷ []) $ fjoin ! $ nothing ! $ fpack ! (Rattle.cell_core.specs.Slot.Lies R None free) (λ _. ftrue) refl $ move ! (1 ∷ 0 ∷ []) $ fjoin ! $
+      -- [what rests; the others; the room]
+      move ! (2 ∷ 0 ∷ []) $ fjoin ! $ fjoin ! $ show ! (Laying (suc n) c e) (γ ∷ ns) $ check ! (ap suc long) $ done !)))))
 
-  -- the last cell, which leaves room if it is given back empty
-  pub last_cell : (p : Ptr) (cs : List Names) (c : Names) (left e : ℕ) → e ≡ length cs * s + count_of p
-      → ⟦ laid R token p (cs ++ c ∷ []) left ⟧
-      ⊢ guard 𝓤 (length cs * s < 2 ^ 63) (⟦ still R (block_of p) c e ⟧ ∗ (⟦ rooms R (block_of p) e ⟧ -∗ ⟦ laid R token p cs (suc left) ⟧))
-  last_cell p cs c left e is = let b : ℕ = block_of p in let o : ℕ = count_of p in let k : ℕ = length cs in let long : length (cs ++ c ∷ []) ≡ k + 1 = length-append cs (c ∷ []) in let m : ℕ = length (cs ++ c ∷ []) in
-      let same : m + left ≡ k + suc left = omega arith in let next : m * s + o ≡ e + size τ = sym (ap (λ (z : ℕ). e + z) (size-raw (cell_ty R)) ∙ (omega (arith, suc-mul k s, ap (λ (z : ℕ). z * s) (let r : m ≡ suc k = omega arith in r)))) in
-      qed 𝓛 (‵ (laid R token p (cs ++ c ∷ []) left) ∷ []) ∵ fsplit3 ! $ fpick ! (λ so. drop ! $ check ! (within k (m + left) (omega arith) so.1) $
-      use1 𝓛 (‵ (owned R b c e) ⊛ ‵ (along R (owned R b) cs o)) (along_less (owned R b) cs c o e is) $ split ! $ fsplit ! $ frame ! $ assume ! (‵ (rooms R b e)) $
-      use2 𝓛 (‵ (froom τ b e)) (apply∗ 𝓤 ⟦ rooms R b e ⟧ (H.room τ b e)) $
-      move ! (2 ∷ []) $ fsplit ! $ rewrite ! 0 (λ (i : ℕ). ‵ (froom (ty_array τ left) b i)) next refl $ rewrite ! 1 (λ (z : ℕ). ‵ (token (row_ty R z) p)) same refl $ move ! (2 ∷ 0 ∷ []) $
-      use2 𝓛 (‵ (froom (ty_array τ (suc left)) b e)) (𝓛.laws.room_cons τ left b e) $ rewrite ! 0 (λ (i : ℕ). ‵ (froom (ty_array τ (suc left)) b i)) is refl $ move ! (2 ∷ 0 ∷ 1 ∷ []) $ fjoin3 ! $
-      nothing ! $ fpack ! (InBlock p × FitsMemory R (k + suc left)) (λ _. ftrue) (so.0, subst (FitsMemory R) same so.1) $ done !)
+  -- a word of new cells
+  pub laid_word : (ns : List Names) (b o c e : ℕ) → ⟦ word b o 0 ⟧ ∗ ⟦ rests R ns c e (λ _. (None, free)) ⟧ ⊢ ⟦ still R ns b o c e ⟧
+  laid_word ns b o c e = let s : ℕ → Rest R.Denot = λ _. (None, free) in qed 𝓛 (‵ (word b o 0) ∷ ‵ (rests R ns c e s) ∷ []) ∵ rewrite ! 0 (λ (n : ℕ). ‵ (word b o n)) (sym (packed_none ns)) refl $ fjoin ! $
+      fpack ! (ℕ → Rest R.Denot) (λ z. fsep (word b o (pack ns (λ l. state (z l).1))) (rests R ns c e z)) s $ done !
 
-  abbrev Renamed : (Names → ℕ → Fml) → List Names → ℕ → ℕ → ℕ → Names → Pr
-  Renamed G cs i e e' c = ⟦ G c e' ⟧ -∗ ⟦ along R G (set cs i c) e ⟧
+  -- a word put after the others, which are whole
+  along_more : (k : ℕ) (γs ns : List Names) (b o c e : ℕ) → length γs ≡ k * 16 → length ns ≤ 16
+      → ⟦ along R k γs b o c e ⟧ ∗ ⟦ still R ns b (k * 8 + o) c (length γs * step R + e) ⟧ ⊢ ⟦ along R (suc k) (γs ++ ns) b o c e ⟧
+  along_more zero [] ns b o c e long short = let z = zero-mul (step R) in
+      qed 𝓛 (‵ ftrue ∷ ‵ (still R ns b (0 * 8 + o) c (0 * step R + e)) ∷ []) ∵ rewrite ! 1 (λ (u : List Names × (ℕ × ℕ)). ‵ (still R u.0 b u.1.0 c u.1.1)) (λ i. (sym (take_all 16 ns short) i, ((let r : 0 * 8 + o ≡ o = omega arith in r) i, (let r : 0 * step R + e ≡ e = omega arith in r) i))) refl $ move ! (1 ∷ 0 ∷ []) $ fjoin ! $ done !
+  along_more zero (γ ∷ γs) ns b o c e long short = absurd (omega arith)
+  along_more (suc k) γs ns b o c e long short = let n : ℕ = length γs in let o' : ℕ = o + 8 in let e' : ℕ = e + 16 * step R in let Ws : List Names = drop 16 γs in let m = length-drop 16 γs in let few : 16 ≤ n = omega arith in
+      let len : length Ws ≡ k * 16 = omega (arith, m) in let split16 = ap (λ (z : ℕ). z * step R) (let r : n ≡ length Ws + 16 = omega (arith, m) in r) ∙ add-mul (length Ws) 16 (step R) in
+      qed 𝓛 (‵ (along R (suc k) γs b o c e) ∷ ‵ (still R ns b (suc k * 8 + o) c (n * step R + e)) ∷ []) ∵ fsplit ! $ move ! (1 ∷ 2 ∷ []) $
+      rewrite ! 1 (λ (u : ℕ × ℕ). ‵ (still R ns b u.0 c u.1)) (λ i. ((let r : suc k * 8 + o ≡ k * 8 + o' = omega arith in r) i, (let r : n * step R + e ≡ length Ws * step R + e' = omega (arith, split16) in r) i)) refl $
+      use2 𝓛 (‵ (along R (suc k) (Ws ++ ns) b o' c e')) (along_more k Ws ns b o' c e' len short) $
+      rewrite ! 0 (λ (u : List Names). ‵ (along R (suc k) u b o' c e')) (sym (drop-append-le 16 γs ns few)) refl $ rewrite ! 1 (λ (u : List Names). ‵ (still R u b o c e)) (sym (take-append-le 16 γs ns few)) refl $ move ! (1 ∷ 0 ∷ []) $ fjoin ! $ done !
 
-  -- the cell at an index, and the way back under new names
-  along_at : (G : Names → ℕ → Fml) (cs : List Names) (i e e' : ℕ) → e' ≡ i * s + e → i < length cs
-      → ⟦ along R G cs e ⟧ ⊢ ⟦ G (cell_in cs i) e' ⟧ ∗ all 𝓤 (Renamed G cs i e e')
-  along_at G [] i e e' is near = absurd (omega arith)
-  along_at G (γ ∷ γs) zero e e' is near = let z = zero-mul s in let same : e ≡ e' = omega arith in
-      qed 𝓛 (‵ (G γ e) ∷ ‵ (along R G γs (e + s)) ∷ []) ∵ rewrite ! 0 (λ (j : ℕ). ‵ (G γ j)) same refl $ frame ! $ each ! (Renamed G (γ ∷ γs) zero e e') (λ c.
-      assume ! (‵ (G c e')) $ rewrite ! 0 (λ (j : ℕ). ‵ (G c j)) (sym same) refl $ done !)
-  along_at G (γ ∷ γs) (suc i) e e' is near = let z = suc-mul i s in let Back : Names → Pr = Renamed G γs i (e + s) e' in
-      qed 𝓛 (‵ (G γ e) ∷ ‵ (along R G γs (e + s)) ∷ []) ∵ move ! (1 ∷ []) $ use1 𝓛 (‵ (G (cell_in γs i) e') ⊛ Kit.raw (all 𝓤 Back)) (along_at G γs i (e + s) e' (omega arith) (omega arith)) $ split ! $ frame ! $
-      each ! (Renamed G (γ ∷ γs) (suc i) e e') (λ c. assume ! (‵ (G c e')) $ move ! (1 ∷ []) $ use1 𝓛 (Kit.raw (Back c)) (all_e 𝓤 Back c) $ move ! (1 ∷ 0 ∷ []) $
-      use2 𝓛 (‵ (along R G (set γs i c) (e + s))) (apply∗ 𝓤 ⟦ G c e' ⟧ ⟦ along R G (set γs i c) (e + s) ⟧) $ move ! (1 ∷ 0 ∷ []) $ done !)
+  module _ (token : Ty → Ptr → Fml) where
+    -- one word more, of n cells
+    abbrev pub longer : Extent → ℕ → Extent
+    longer x n = record { at = x.at; rooms = x.rooms; words = x.words + 1; more = x.more - 1; left = x.left - n }
 
-  abbrev pub Emptied : Ptr → List Names → ℕ → ℕ → ℕ → Names → Pr
-  Emptied p cs left i e c = ⟦ still R (block_of p) c e ⟧ -∗ ⟦ laid R token p (set cs i c) left ⟧
+    abbrev pub Longer : Extent → List Names → (n : ℕ) → (ns : List Names) × (length ns ≡ n) → Pr
+    Longer x γs n z = ⟦ still R z.0 (block_of x.at) (x.words * 8 + count_of x.at) (block_of x.rooms) (length γs * step R + count_of x.rooms) ⟧ -∗ ⟦ laid R token (longer x n) (γs ++ z.0) ⟧
 
-  -- the cell at an index, which comes back under any names
-  pub cell_at : (p : Ptr) (cs : List Names) (left i e : ℕ) → e ≡ i * s + count_of p → i < length cs → ⟦ laid R token p cs left ⟧
-      ⊢ guard 𝓤 (i * s < 2 ^ 63) (⟦ still R (block_of p) (cell_in cs i) e ⟧ ∗ all 𝓤 (Emptied p cs left i e))
-  cell_at p cs left i e is near = let b : ℕ = block_of p in let o : ℕ = count_of p in let k : ℕ = length cs in let Back : Names → Pr = Renamed (owned R b) cs i o e in
-      let Rest : ℕ → Fml = λ m. fsep (froom (ty_array τ left) b (m * s + o)) (token (row_ty R (m + left)) p) in
-      qed 𝓛 (‵ (laid R token p cs left) ∷ []) ∵ fsplit ! $ fpick ! (λ so. drop ! $ check ! (within i (k + left) (omega arith) so.1) $ fsplit ! $
-      use1 𝓛 (‵ (owned R b (cell_in cs i) e) ⊛ Kit.raw (all 𝓤 Back)) (along_at (owned R b) cs i o e is near) $ split ! $ fsplit ! $ frame ! $
-      each ! (Emptied p cs left i e) (λ c. let m : ℕ = length (set cs i c) in let same : k ≡ m = sym (length-set cs i c) in
-      assume ! (‵ (still R b c e)) $ move ! (0 ∷ 1 ∷ []) $ fjoin ! $ move ! (1 ∷ []) $ use1 𝓛 (Kit.raw (Back c)) (all_e 𝓤 Back c) $ move ! (1 ∷ 0 ∷ []) $
-      use2 𝓛 (‵ (along R (owned R b) (set cs i c) o)) (apply∗ 𝓤 ⟦ owned R b c e ⟧ ⟦ along R (owned R b) (set cs i c) o ⟧) $
-      rewrite ! 1 (λ (j : ℕ). ‵ (Rest j)) same refl $ fjoin ! $ nothing ! $ fpack ! (InBlock p × FitsMemory R (m + left)) (λ _. ftrue) (so.0, subst (λ (j : ℕ). FitsMemory R (j + left)) same so.1) $ done !))
+    -- room for a further word, and for its cells
+    pub next_word : (x : Extent) (γs : List Names) (n : ℕ) → length γs ≡ x.words * 16 → 0 < x.more → n ≤ 16 → n ≤ x.left
+        → ⟦ laid R token x γs ⟧ ⊢ guard 𝓤 (x.words * 8 < 2 ^ 63) (⟦ froom (ty_int w64) (block_of x.at) (x.words * 8 + count_of x.at) ⟧ ∗ ⟦ empties n (block_of x.rooms) (length γs * step R + count_of x.rooms) ⟧ ∗ all 𝓤 (Longer x γs n))
+    next_word x γs n long some_more short few = let b : ℕ = block_of x.at in let o : ℕ = count_of x.at in let c : ℕ = block_of x.rooms in let e : ℕ = count_of x.rooms in let k : ℕ = x.words in let m : ℕ = x.more - 1 in let l : ℕ = length γs in let e' : ℕ = l * step R + e in
+        let is : x.more ≡ suc m = omega arith in
+        qed 𝓛 (‵ (laid R token x γs) ∷ []) ∵ fsplit3 ! $ fpick ! (λ so. toss ! $ check ! (omega (arith, so.2)) $ move ! (1 ∷ []) $ fsplit ! $ fsplit ! $
+        rewrite ! 0 (λ (i : ℕ). ‵ (froom (ty_array (ty_int w64) i) b (k * 8 + o))) is refl $ use1 𝓛 (‵ (froom (ty_int w64) b (k * 8 + o)) ⊛ ‵ (froom (ty_array (ty_int w64) m) b (k * 8 + o + 8))) (𝓛.laws.room_uncons (ty_int w64) m b (k * 8 + o)) $ split ! $ frame ! $
+        move ! (1 ∷ []) $ use1 𝓛 (‵ (empties n c e') ⊛ ‵ (froom (ty_array τ (x.left - n)) c (n * step R + e'))) (takes_rooms n x.left c e' few) $ split ! $ frame ! $
+        each ! (Longer x γs n) (λ z. let ns : List Names = z.0 in let all_of : length (γs ++ ns) ≡ l + n = length-append γs ns ∙ ap (λ (i : ℕ). l + i) z.1 in let far = ap (λ (i : ℕ). i * step R) all_of ∙ add-mul l n (step R) in
+        assume ! (‵ (still R ns b (k * 8 + o) c e')) $ move ! (4 ∷ 0 ∷ []) $ use2 𝓛 (‵ (along R (suc k) (γs ++ ns) b o c e)) (along_more k γs ns b o c e long (omega (arith, z.1))) $
+        -- [the cells; the room left; the words left; the rights]
+        let y : Extent = longer x n in let next : suc k ≡ k + 1 = omega arith in let N : ℕ = length (γs ++ ns) in
+        rewrite ! 0 (λ (i : ℕ). ‵ (along R i (γs ++ ns) b o c e)) next refl $ rewrite ! 1 (λ (i : ℕ). ‵ (froom (ty_array τ (x.left - n)) c i)) (let r : n * step R + e' ≡ N * step R + e = omega (arith, far) in r) refl $
+        rewrite ! 2 (λ (i : ℕ). ‵ (froom (ty_array (ty_int w64) m) b i)) (let r : k * 8 + o + 8 ≡ (k + 1) * 8 + o = omega arith in r) refl $
+        rewrite ! 3 (λ (u : ℕ × ℕ). ‵ (fsep (token (words_ty u.0) x.at) (token (rooms_ty R u.1) x.rooms))) (λ i. ((let r : k + x.more ≡ k + 1 + m = omega arith in r) i, (let r : l + x.left ≡ N + (x.left - n) = omega (arith, all_of) in r) i)) refl $
+        move ! (2 ∷ 1 ∷ []) $ fjoin ! $ move ! (1 ∷ 0 ∷ 2 ∷ []) $ fjoin3 ! $ nothing ! $
+        fpack ! (Lies R y N) (λ _. ftrue) (so.0, so.1, omega (arith, so.2), subst (λ (i : ℕ). i * step R < 2 ^ 63) (let r : l + x.left ≡ N + (x.left - n) = omega (arith, all_of) in r) so.3, omega (arith, so.4, all_of)) $ fjoin ! $ done !))
 
-  -- a borrow of each cell makes a `&` to each
-  lends_along : (L : Laws R) (l : Lft) → Incl l R.lives → (b : ℕ) (γs : List Names) (e : ℕ)
-      → Lends 𝓛 (along R (owned R b) γs e) (along_lent R b γs e) l
-  lends_along L l inc b [] e = Lends-nothing 𝓛 ftrue l
-  lends_along L l inc b (γ ∷ γs) e = Lends-both 𝓛 (owned R b γ e) (along R (owned R b) γs (e + s)) (shared_at R γ b e) (along_lent R b γs (e + s)) l
-      (Lends-first 𝓛 (still R b γ e) (rim R b e) (shared_at R γ b e) l (lends_cell R L γ 𝓛 b e l inc)) (lends_along L l inc b γs (e + s))
+    -- two rows of room are rows without a cell
+    pub fresh : (p q : Ptr) (k n : ℕ) → ⟦ rooms_owned u64 token p k ⟧ ∗ ⟦ rooms_owned R token q n ⟧ ⊢ ⟦ laid R token (record { at = p; rooms = q; words = 0; more = k; left = n }) [] ⟧
+    fresh p q k n = let x : Extent = record { at = p; rooms = q; words = 0; more = k; left = n } in let z = zero-mul (step R) in let b : ℕ = block_of p in let o : ℕ = count_of p in let c : ℕ = block_of q in let e : ℕ = count_of q in
+        qed 𝓛 (‵ (rooms_owned u64 token p k) ∷ ‵ (rooms_owned R token q n) ∷ []) ∵ fsplit3 ! $ fpick ! (λ so. toss ! $ move ! (2 ∷ []) $ fsplit3 ! $ fpick ! (λ also. toss ! $
+        -- [the rooms; the right to free them; the words; the right to free them]
+        rewrite ! 0 (λ (i : ℕ). ‵ (froom (ty_array τ n) c i)) (let r : e ≡ 0 * step R + e = omega arith in r) refl $ rewrite ! 2 (λ (i : ℕ). ‵ (froom (ty_array (ty_int w64) k) b i)) (let r : o ≡ 0 * 8 + o = omega arith in r) refl $
+        rewrite ! 1 (λ (i : ℕ). ‵ (token (rooms_ty R i) q)) (let r : n ≡ 0 + n = omega arith in r) refl $ rewrite ! 3 (λ (i : ℕ). ‵ (token (words_ty i) p)) (let r : k ≡ 0 + k = omega arith in r) refl $
+        move ! (3 ∷ 1 ∷ []) $ fjoin ! $ move ! (2 ∷ 1 ∷ []) $ fjoin ! $ nothing ! $ move ! (0 ∷ 1 ∷ 2 ∷ []) $ fjoin3 ! $ nothing ! $
+        fpack ! (Lies R x 0) (λ _. ftrue) (so.0, also.0, omega (arith, so.1), subst (λ (i : ℕ). i * step R < 2 ^ 63) (let r : n ≡ 0 + n = omega arith in r) also.1, omega arith) $ fjoin ! $ done !))
 
-  -- a borrow of the row makes a `&` to it
-  pub lends_laid : (L : Laws R) (l : Lft) → Incl l R.lives → (p : Ptr) (γs : List Names) (left : ℕ)
-      → Lends 𝓛 (laid R token p γs left) (laid_lent R p γs left) l
-  lends_laid L l inc p γs left = let b : ℕ = block_of p in let o : ℕ = count_of p in let n : ℕ = length γs + left in let RawRow : Fml = along R (owned R b) γs o in let Rest : Fml = fsep (froom (ty_array τ left) b (length γs * s + o)) (token (row_ty R n) p) in
-      Lends-both 𝓛 (lies R p n) (fsep RawRow Rest) (said (lies R p n)) (along_lent R b γs o) l (Lends-said 𝓛 (lies R p n) (λ _. tt) l) (Lends-first 𝓛 RawRow Rest (along_lent R b γs o) l (lends_along L l inc b γs o))
+    -- a borrow of each word makes a `&` to its cells
+    lends_along : (L : Laws R) (l : Lft) → Incl l R.lives → (k : ℕ) (γs : List Names) (b o c e : ℕ) → Lends 𝓛 (along R k γs b o c e) (along_lent R k γs b o c e) l
+    lends_along L l inc zero γs b o c e = Lends-nothing 𝓛 ftrue l
+    lends_along L l inc (suc k) γs b o c e = let W : List Names = take 16 γs in let Ws : List Names = drop 16 γs in let o' : ℕ = o + 8 in let e' : ℕ = e + 16 * step R in
+        Lends-both 𝓛 (still R W b o c e) (along R k Ws b o' c e') (shared_at R W b o c e) (along_lent R k Ws b o' c e') l (lends_word R L W 𝓛 b o c e l inc) (lends_along L l inc k Ws b o' c e')
 
-  -- what a `&` to the row shows of the cell at an index
-  pub cell_shown : (b : ℕ) (κ : Lft) (γs : List Names) (i e e' : ℕ) → e' ≡ i * s + e → i < length γs
-      → ⟦ along_lent R b γs e κ ⟧ ⊢ ⟦ shared_at R (cell_in γs i) b e' κ ⟧
-  cell_shown b κ [] i e e' is near = absurd (omega arith)
-  cell_shown b κ (γ ∷ γs) zero e e' is near = let z = zero-mul s in let same : e ≡ e' = omega arith in qed 𝓛 (‵ (shared_at R γ b e κ) ∷ ‵ (along_lent R b γs (e + s) κ) ∷ []) ∵ rewrite ! 0 (λ (j : ℕ). ‵ (shared_at R γ b j κ)) same refl $ keep ! (0 ∷ []) $ done !
-  cell_shown b κ (γ ∷ γs) (suc i) e e' is near = let z = suc-mul i s in qed 𝓛 (‵ (shared_at R γ b e κ) ∷ ‵ (along_lent R b γs (e + s) κ) ∷ []) ∵ keep ! (1 ∷ []) $ by ! (cell_shown b κ γs i (e + s) e' (omega arith) (omega arith))
-
-  -- a cell whose word is 2 holds a value
-  pub filled_at : (γ : Names) (b e : ℕ) (r : Rest R.Denot) → r.0 ≡ 2
-      → ⟦ place R r.1 b e ⟧ ∗ ⟦ resting R γ r ⟧ ⊢ ⟦ fex R.Denot (λ x. part_at R full_share x b e) ⟧ ∗ ⟦ auths R γ r.2 ⟧
-  filled_at γ b e (n, v, free) two = qed 𝓛 (‵ (place R v b e) ∷ ‵ (resting R γ (n, v, free)) ∷ []) ∵ move ! (1 ∷ []) $ fsplit ! $ fsplit ! $ move ! (1 ∷ []) $ fsplit ! $ feq_l ! (λ z. absurd (omega arith))
-  filled_at γ b e (n, v, busy) two = qed 𝓛 (‵ (place R v b e) ∷ ‵ (resting R γ (n, v, busy)) ∷ []) ∵ move ! (1 ∷ []) $ fsplit ! $ fsplit ! $ move ! (1 ∷ []) $ fsplit ! $ feq_l ! (λ z. absurd (omega arith))
-  filled_at γ b e (n, v, broken_by_owner) two = qed 𝓛 (‵ (place R v b e) ∷ ‵ (resting R γ (n, v, broken_by_owner)) ∷ []) ∵ move ! (1 ∷ []) $ fsplit ! $ fsplit ! $ move ! (1 ∷ []) $ fsplit ! $ feq_l ! (λ z. absurd (omega arith))
-  filled_at γ b e (n, v, broken) two = qed 𝓛 (‵ (place R v b e) ∷ ‵ (resting R γ (n, v, broken)) ∷ []) ∵ move ! (1 ∷ []) $ fsplit ! $ fsplit ! $ move ! (1 ∷ []) $ fsplit ! $ feq_l ! (λ z. absurd (omega arith))
-  filled_at γ b e (n, v, full x) two = qed 𝓛 (‵ (place R v b e) ∷ ‵ (resting R γ (n, v, full x)) ∷ []) ∵ move ! (1 ∷ []) $ fsplit ! $ fsplit ! $ move ! (2 ∷ []) $ fpick ! (λ so.
-      -- [true; the names; the word; the room]
-      keep ! (3 ∷ 1 ∷ []) $ rewrite ! 0 (λ (u : Option R.Denot). ‵ (place R u b e)) so refl $ fpack ! R.Denot (λ y. part_at R full_share y b e) x $ done !)
-
-  full_is_not_nil : (x y : Gv) → gcons x y ≡ gnil → ⊥
-  full_is_not_nil x y e = cc
-
-  -- a cell that holds a value by a token holds that value
-  pub held_at : (γ : Names) (b e : ℕ) (r : Rest R.Denot) (x : R.Denot)
-      → ⟦ place R r.1 b e ⟧ ∗ ⟦ resting R γ r ⟧ ∗ ⟦ written R γ.value_name x ⟧ ⊢ ⟦ part_at R full_share x b e ⟧ ∗ ⟦ auths R γ r.2 ⟧
-  held_at γ b e (n, v, free) x = let w : Gv = mark R (full x) in qed 𝓛 (‵ (place R v b e) ∷ ‵ (resting R γ (n, v, free)) ∷ ‵ (written R γ.value_name x) ∷ []) ∵ move ! (1 ∷ []) $ fsplit ! $ fsplit ! $ fsplit ! $ move ! (5 ∷ 0 ∷ []) $
-      use2 𝓛 (given (w ≡ gnil) (‵ (fres γ.value_name w) ⊛ ‵ (fauth γ.value_name gnil))) (𝓛.names.res_agree γ.value_name w gnil) $ learn ! (λ z. absurd (full_is_not_nil (R.coded.code x) gnil z))
-  held_at γ b e (n, v, busy) x = let w : Gv = mark R (full x) in qed 𝓛 (‵ (place R v b e) ∷ ‵ (resting R γ (n, v, busy)) ∷ ‵ (written R γ.value_name x) ∷ []) ∵ move ! (1 ∷ []) $ fsplit ! $ fsplit ! $ fsplit ! $ move ! (5 ∷ 0 ∷ []) $
-      use2 𝓛 (given (w ≡ gnil) (‵ (fres γ.value_name w) ⊛ ‵ (fauth γ.value_name gnil))) (𝓛.names.res_agree γ.value_name w gnil) $ learn ! (λ z. absurd (full_is_not_nil (R.coded.code x) gnil z))
-  held_at γ b e (n, v, broken) x = let w : Gv = mark R (full x) in qed 𝓛 (‵ (place R v b e) ∷ ‵ (resting R γ (n, v, broken)) ∷ ‵ (written R γ.value_name x) ∷ []) ∵ move ! (1 ∷ []) $ fsplit ! $ fsplit ! $ fsplit ! $ move ! (5 ∷ 0 ∷ []) $
-      use2 𝓛 (given (w ≡ gnil) (‵ (fres γ.value_name w) ⊛ ‵ (fauth γ.value_name gnil))) (𝓛.names.res_agree γ.value_name w gnil) $ learn ! (λ z. absurd (full_is_not_nil (R.coded.code x) gnil z))
-  held_at γ b e (n, v, broken_by_owner) x = let w : Gv = mark R (full x) in qed 𝓛 (‵ (place R v b e) ∷ ‵ (resting R γ (n, v, broken_by_owner)) ∷ ‵ (written R γ.value_name x) ∷ []) ∵ move ! (1 ∷ []) $ fsplit ! $ fsplit ! $ fsplit ! $ move ! (5 ∷ 0 ∷ []) $
-      use2 𝓛 (given (w ≡ gnil) (‵ (fres γ.value_name w) ⊛ ‵ (fauth γ.value_name gnil))) (𝓛.names.res_agree γ.value_name w gnil) $ learn ! (λ z. absurd (full_is_not_nil (R.coded.code x) gnil z))
-  held_at γ b e (n, v, full y) x = qed 𝓛 (‵ (place R v b e) ∷ ‵ (resting R γ (n, v, full y)) ∷ ‵ (written R γ.value_name x) ∷ []) ∵ move ! (1 ∷ []) $ fsplit ! $ fsplit ! $ move ! (1 ∷ []) $ fsplit ! $ move ! (1 ∷ []) $ fsplit ! $ keep ! (6 ∷ 1 ∷ 3 ∷ 4 ∷ 5 ∷ []) $
-      use2 𝓛 (Kit.raw (monad.fact 𝓤 (x ≡ y))) (one_written 𝓛 R γ.value_name x y) $ heard ! (x ≡ y) (λ same. move ! (1 ∷ []) $ fpick ! (λ so.
-      -- [true; the names; the room]
-      keep ! (2 ∷ 1 ∷ []) $ rewrite ! 0 (λ (u : Option R.Denot). ‵ (place R u b e)) so refl $ rewrite ! 0 (λ (z : R.Denot). ‵ (part_at R full_share z b e)) (sym same) refl $ done !))
-
-  -- a value that is not this one
-  abbrev other_than : Gv → Gv
-  other_than gnil = gnum 0
-  other_than (gcons x y) = gnum 0
-  other_than (gnum n) = gnil
-
-  abbrev numbered : Gv → ℕ
-  numbered gnil = 0
-  numbered (gcons x y) = 0
-  numbered (gnum n) = 1
-
-  other_differs : (d : Gv) → other_than d ≢ d
-  other_differs gnil e = absurd (let z : 1 ≡ 0 = ap numbered e in omega arith)
-  other_differs (gcons x y) e = absurd (let z : 1 ≡ 0 = ap numbered e in omega arith)
-  other_differs (gnum n) e = absurd (let z : 0 ≡ 1 = ap numbered e in omega arith)
-
-  -- a name that can be set is not one that is in use
-  pub is_new : (γ δ : GName) (d : Gv) → A.obs δ gnil ∗ A.auth δ gnil ∗ A.auth γ d ⊢ H.⇛ (guard 𝓤 (δ ≢ γ) (A.obs δ gnil ∗ A.auth δ gnil ∗ A.auth γ d))
-  is_new γ δ d = let c : Gv = other_than d in dite (ℕ_discrete δ γ)
-      (λ same. qed 𝓛 (‵ (fobs δ gnil) ∷ ‵ (fauth δ gnil) ∷ ‵ (fauth γ d) ∷ []) ∵ updating ! $ rewrite ! 2 (λ (k : ℕ). ‵ (fauth k d)) (sym same) refl $
-      use2 𝓛 (later (‵ (fobs δ c) ⊛ ‵ (fauth δ c))) (𝓛.names.name_set δ gnil gnil c) $ await ! tt $ split ! $ move ! (0 ∷ 2 ∷ []) $
-      use2 𝓛 (given (c ≡ d) (‵ (fobs δ c) ⊛ ‵ (fauth δ d))) (𝓛.names.name_agree δ c d) $ learn ! (λ e. absurd (other_differs d e)))
-      (λ other. qed 𝓛 (‵ (fobs δ gnil) ∷ ‵ (fauth δ gnil) ∷ ‵ (fauth γ d) ∷ []) ∵ updating ! $ now ! $ check ! other $ done !)
-
-  -- the same of the name that says that a cell was broken
-  broken_name_is_new : (γ δ : GName) (once : Bool) → A.obs δ gnil ∗ A.auth δ gnil ∗ ⟦ broken_once γ once ⟧ ⊢ H.⇛ (guard 𝓤 (δ ≢ γ) (A.obs δ gnil ∗ A.auth δ gnil ∗ ⟦ broken_once γ once ⟧))
-  broken_name_is_new γ δ true = qed 𝓛 (‵ (fobs δ gnil) ∷ ‵ (fauth δ gnil) ∷ ‵ (broken_once γ true) ∷ []) ∵ updating ! $ move ! (2 ∷ []) $ fsplit ! $ move ! (2 ∷ 3 ∷ 1 ∷ []) $
-      use3 𝓛 (later (given (δ ≢ γ) (‵ (fobs δ gnil) ⊛ ‵ (fauth δ gnil) ⊛ ‵ (fauth γ broken_mark)))) (is_new γ δ broken_mark) $ await ! tt $ learn ! (λ apart. split3 ! $ now ! $ check ! apart $
-      move ! (3 ∷ 2 ∷ []) $ fjoin ! $ move ! (1 ∷ 2 ∷ 0 ∷ []) $ done !)
-  broken_name_is_new γ δ false = qed 𝓛 (‵ (fobs δ gnil) ∷ ‵ (fauth δ gnil) ∷ ‵ (broken_once γ false) ∷ []) ∵ updating ! $ move ! (2 ∷ []) $ fsplit ! $ move ! (2 ∷ 3 ∷ 1 ∷ []) $
-      use3 𝓛 (later (given (δ ≢ γ) (‵ (fobs δ gnil) ⊛ ‵ (fauth δ gnil) ⊛ ‵ (fauth γ gnil)))) (is_new γ δ gnil) $ await ! tt $ learn ! (λ apart. split3 ! $ now ! $ check ! apart $
-      move ! (3 ∷ 2 ∷ []) $ fjoin ! $ move ! (1 ∷ 2 ∷ 0 ∷ []) $ done !)
-
-  -- names of an epoch; the two that can be set are not the cell's
-  abbrev pub IsNew : Names → Lft → Names → Type 0
-  IsNew γ epoch c = IsAnother γ c × (c.epoch ≡ epoch)
-
-  abbrev pub NewNames : Names → Phase R.Denot → Lft → Fml
-  NewNames γ s epoch = fex Names (λ c. fsep (fact (IsNew γ epoch c)) (fsep (unset R c) (fsep (auths R c free) (auths R γ s))))
-
-  pub new_names : (γ : Names) (s : Phase R.Denot) (epoch : Lft) → ⟦ auths R γ s ⟧ ⊢ H.⇛ ⟦ NewNames γ s epoch ⟧
-  new_names γ s epoch = qed 𝓛 (‵ (auths R γ s) ∷ []) ∵ updating ! $ fsplit ! $
-      name_new ! tt gnil (λ γv. use3 𝓛 (later (given (γv ≢ γ.value_name) (‵ (fobs γv gnil) ⊛ ‵ (fauth γv gnil) ⊛ ‵ (fauth γ.value_name (mark R s))))) (is_new γ.value_name γv (mark R s)) $ await ! tt $ learn ! (λ nv. split3 ! $ move ! (3 ∷ []) $ fpick ! (λ once.
-      name_new ! tt gnil (λ γb. use3 𝓛 (later (given (γb ≢ γ.broken_name) (‵ (fobs γb gnil) ⊛ ‵ (fauth γb gnil) ⊛ ‵ (broken_once γ.broken_name once)))) (broken_name_is_new γ.broken_name γb once) $ await ! tt $ learn ! (λ nb. split3 ! $
-      let γ' : Names = record { value_name = γv; broken_name = γb; epoch = epoch } in now ! $
-      -- [the right to break; its name; the old one; the right to fill; its name; the old one]
-      move ! (0 ∷ 1 ∷ []) $ fjoin ! $ fpack ! Bool (broken_once γb) false $ move ! (1 ∷ []) $ fpack ! Bool (broken_once γ.broken_name) once $ move ! (4 ∷ 0 ∷ []) $ fjoin ! $
-      -- [the old names; its name that says that it is broken; the right to fill; its name]
-      move ! (3 ∷ 1 ∷ []) $ fjoin ! $ move ! (2 ∷ 0 ∷ 1 ∷ []) $ fjoin3 ! $ nothing ! $ fpack ! (IsNew γ epoch γ') (λ _. ftrue) ((nv, nb), refl) $ fjoin ! $
-      fpack ! Names (λ c. fsep (fact (IsNew γ epoch c)) (fsep (unset R c) (fsep (auths R c free) (auths R γ s)))) γ' $ done !)))))
-
-  -- the same, of an epoch that has ended
-  abbrev pub FreeNames : Names → Phase R.Denot → Fml
-  FreeNames γ s = fex Names (λ c. fsep (fact (IsAnother γ c)) (fsep (settable R c) (auths R c free)))
-
-  pub free_names : (γ : Names) (s : Phase R.Denot) → ⟦ auths R γ s ⟧ ⊢ H.⇛ ⟦ FreeNames γ s ⟧
-  free_names γ s = qed 𝓛 (‵ (auths R γ s) ∷ []) ∵ updating ! $ lft_new ! tt (λ ν. lft_end ! tt $ move ! (1 ∷ []) $ use1 𝓛 (later (‵ (NewNames γ s (ν ∷ [])))) (new_names γ s (ν ∷ [])) $ await ! tt $ fpick ! (λ γ'. fsplit ! $ fpick ! (λ new. drop ! $ fsplit3 ! $ now ! $
-      -- [the right to set; the names; the old ones; the epoch has ended]
-      rewrite ! 3 (λ (k : Lft). ‵ (fdead k)) (sym new.1) refl $ move ! (3 ∷ 0 ∷ []) $ fjoin ! $ fjoin ! $ nothing ! $ fpack ! (IsAnother γ γ') (λ _. ftrue) new.0 $ fjoin ! $
-      fpack ! Names (λ c. fsep (fact (IsAnother γ c)) (fsep (settable R c) (auths R c free))) γ' $ keep ! (0 ∷ []) $ done !)))
-
-  -- a cell whose word is 0, and whose room is empty, gets fresh names
-  abbrev pub Renewed : Names → ℕ → ℕ → Fml
-  Renewed γ b e = fex Names (λ γ'. fsep (fact (IsAnother γ γ')) (still R b γ' e))
-
-  pub renewed : (γ : Names) (b e : ℕ) (s : Phase R.Denot)
-      → ⟦ auths R γ s ⟧ ∗ ⟦ word b (e + 0) 0 ⟧ ∗ ⟦ place R None b (at R e) ⟧ ⊢ H.⇛ ⟦ Renewed γ b e ⟧
-  renewed γ b e s = qed 𝓛 (‵ (auths R γ s) ∷ ‵ (word b (e + 0) 0) ∷ ‵ (place R None b (at R e)) ∷ []) ∵ updating ! $
-      use1 𝓛 (later (‵ (FreeNames γ s))) (free_names γ s) $ await ! tt $ fpick ! (λ γ'. fsplit ! $ fpick ! (λ apart. drop ! $ fsplit ! $ now ! $
-      -- [the right to set; the names; the word; the room]
-      feq_i ! ℕ 0 0 refl $ fjoin ! $ move ! (1 ∷ 0 ∷ []) $ fjoin ! $ nothing ! $ fpack ! (Lies R None free) (λ _. ftrue) refl $ move ! (1 ∷ 0 ∷ []) $ fjoin ! $
-      move ! (1 ∷ 2 ∷ 0 ∷ []) $ fjoin3 ! $ fpack ! (Rest R.Denot) (rests R b γ' e) (0, None, free) $ nothing ! $ fpack ! (IsAnother γ γ') (λ _. ftrue) apart $ fjoin ! $
-      fpack ! Names (λ c. fsep (fact (IsAnother γ c)) (still R b c e)) γ' $ done !))
-
-  -- one whose word is 2, and whose room holds a value, is filled under new names
-  abbrev pub Refilled : Names → R.Denot → ℕ → ℕ → Fml
-  Refilled γ x b e = fex Names (λ γ'. fsep (fact (IsAnother γ γ')) (fsep (still R b γ' e) (written R γ'.value_name x)))
-
-  pub refilled : (γ : Names) (x : R.Denot) (b e : ℕ) (s : Phase R.Denot)
-      → ⟦ auths R γ s ⟧ ∗ ⟦ word b (e + 0) 2 ⟧ ∗ ⟦ place R (Some x) b (at R e) ⟧ ⊢ H.⇛ ⟦ Refilled γ x b e ⟧
-  refilled γ x b e s = let c : Gv = mark R (full x) in qed 𝓛 (‵ (auths R γ s) ∷ ‵ (word b (e + 0) 2) ∷ ‵ (place R (Some x) b (at R e)) ∷ []) ∵ updating ! $
-      use1 𝓛 (later (‵ (FreeNames γ s))) (free_names γ s) $ await ! tt $ fpick ! (λ γ'. fsplit ! $ fpick ! (λ apart. drop ! $ fsplit ! $
-      -- [the right to set; the names; the word; the room]
-      fsplit ! $ move ! (2 ∷ []) $ fsplit ! $ move ! (3 ∷ 0 ∷ []) $ use2 𝓛 (later (‵ (fobs γ'.value_name c) ⊛ ‵ (fauth γ'.value_name c))) (𝓛.names.name_set γ'.value_name gnil gnil c) $ await ! tt $ split ! $ now ! $
-      use1 𝓛 (‵ (fres γ'.value_name c)) (𝓛.names.obs-res γ'.value_name c) $ res_dup ! $
-      -- [written, twice; the value's name; the broken_name's name; the epoch has ended; the word; the room]
-      move ! (4 ∷ 0 ∷ []) $ fjoin ! $ feq_i ! ℕ 2 2 refl $ fjoin ! $ move ! (2 ∷ 3 ∷ []) $ fjoin ! $ move ! (0 ∷ 1 ∷ []) $ fjoin ! $ nothing ! $ fpack ! (Lies R (Some x) (full x)) (λ _. ftrue) refl $ move ! (1 ∷ 0 ∷ []) $ fjoin ! $
-      move ! (2 ∷ 3 ∷ 0 ∷ []) $ fjoin3 ! $ fpack ! (Rest R.Denot) (rests R b γ' e) (2, Some x, full x) $ fjoin ! $ nothing ! $ fpack ! (IsAnother γ γ') (λ _. ftrue) apart $ fjoin ! $
-      fpack ! Names (λ n. fsep (fact (IsAnother γ n)) (fsep (still R b n e) (written R n.value_name x))) γ' $ done !))
-
-  -- the second name says from now on that the cell was broken
-  sets_broken : (δ : GName) (once : Bool) → ⟦ broken_once δ once ⟧ ⊢ H.⇛ (⟦ broken_once δ true ⟧ ∗ ⟦ was_broken δ ⟧)
-  sets_broken δ true = qed 𝓛 (‵ (broken_once δ true) ∷ []) ∵ updating ! $ fsplit ! $ res_dup ! $ move ! (0 ∷ 2 ∷ []) $ fjoin ! $ now ! $ done !
-  sets_broken δ false = qed 𝓛 (‵ (broken_once δ false) ∷ []) ∵ updating ! $ fsplit ! $ use2 𝓛 (later (‵ (fobs δ broken_mark) ⊛ ‵ (fauth δ broken_mark))) (𝓛.names.name_set δ gnil gnil broken_mark) $ await ! tt $ split ! $
-      use1 𝓛 (‵ (was_broken δ)) (𝓛.names.obs-res δ broken_mark) $ res_dup ! $ move ! (0 ∷ 2 ∷ []) $ fjoin ! $ now ! $ done !
-
-  -- one whose word is 4, and whose room is empty, is broken for the epoch under new names; its old ones stay
-  -- as they are
-  abbrev pub Rebroken : Names → Phase R.Denot → Lft → ℕ → ℕ → Fml
-  Rebroken γ s epoch b e = fex Names (λ γ'. fsep (fact (IsNew γ epoch γ')) (fsep (still R b γ' e) (auths R γ s)))
-
-  pub rebroken : (γ : Names) (epoch : Lft) (b e : ℕ) (s : Phase R.Denot)
-      → ⟦ auths R γ s ⟧ ∗ ⟦ word b (e + 0) 4 ⟧ ∗ ⟦ place R None b (at R e) ⟧ ⊢ H.⇛ ⟦ Rebroken γ s epoch b e ⟧
-  rebroken γ epoch b e s = qed 𝓛 (‵ (auths R γ s) ∷ ‵ (word b (e + 0) 4) ∷ ‵ (place R None b (at R e)) ∷ []) ∵ updating ! $
-      use1 𝓛 (later (‵ (NewNames γ s epoch))) (new_names γ s epoch) $ await ! tt $ fpick ! (λ γ'. fsplit ! $ fpick ! (λ new. drop ! $ fsplit3 ! $
-      -- [the right to set; the names; the old ones; the word; the room]
-      move ! (1 ∷ []) $ fsplit ! $ move ! (1 ∷ []) $ fpick ! (λ once. use1 𝓛 (later (‵ (broken_once γ'.broken_name true) ⊛ ‵ (was_broken γ'.broken_name))) (sets_broken γ'.broken_name once) $ await ! tt $ split ! $ now ! $ fpack ! Bool (broken_once γ'.broken_name) true $
-      -- [the broken_name's name; broken; the value's name; the right to set; the old ones; the word; the room]
-      move ! (2 ∷ 0 ∷ []) $ fjoin ! $ move ! (1 ∷ 2 ∷ []) $ fjoin ! $ feq_i ! ℕ 4 4 refl $ fjoin ! $ move ! (1 ∷ 0 ∷ []) $ fjoin ! $ nothing ! $ fpack ! (Lies R None broken_by_owner) (λ _. ftrue) refl $ move ! (1 ∷ 0 ∷ []) $ fjoin ! $
-      -- [what rests; the old ones; the word; the room]
-      move ! (2 ∷ 3 ∷ 0 ∷ []) $ fjoin3 ! $ fpack ! (Rest R.Denot) (rests R b γ' e) (4, None, broken_by_owner) $ fjoin ! $ nothing ! $ fpack ! (IsNew γ epoch γ') (λ _. ftrue) new $ fjoin ! $
-      fpack ! Names (λ n. fsep (fact (IsNew γ epoch n)) (fsep (still R b n e) (auths R γ s))) γ' $ done !)))
-
-  -- a cell whose word is 2 shows its value
-  pub full_shown : (γ : Names) (r : Rest R.Denot) → r.0 ≡ 2 → ⟦ resting R γ r ⟧ ⊢ ⟦ resting R γ r ⟧ ∗ ⟦ fex R.Denot (written R γ.value_name) ⟧
-  full_shown γ (n, v, free) two = qed 𝓛 (‵ (resting R γ (n, v, free)) ∷ []) ∵ fsplit ! $ fsplit ! $ move ! (1 ∷ []) $ fsplit ! $ feq_l ! (λ z. absurd (omega arith))
-  full_shown γ (n, v, busy) two = qed 𝓛 (‵ (resting R γ (n, v, busy)) ∷ []) ∵ fsplit ! $ fsplit ! $ move ! (1 ∷ []) $ fsplit ! $ feq_l ! (λ z. absurd (omega arith))
-  full_shown γ (n, v, broken_by_owner) two = qed 𝓛 (‵ (resting R γ (n, v, broken_by_owner)) ∷ []) ∵ fsplit ! $ fsplit ! $ move ! (1 ∷ []) $ fsplit ! $ feq_l ! (λ z. absurd (omega arith))
-  full_shown γ (n, v, broken) two = qed 𝓛 (‵ (resting R γ (n, v, broken)) ∷ []) ∵ fsplit ! $ fsplit ! $ move ! (1 ∷ []) $ fsplit ! $ feq_l ! (λ z. absurd (omega arith))
-  full_shown γ (n, v, full x) two = qed 𝓛 (‵ (resting R γ (n, v, full x)) ∷ []) ∵ fsplit ! $ fsplit ! $ move ! (1 ∷ []) $ fsplit ! $ move ! (1 ∷ []) $ fsplit ! $ move ! (1 ∷ []) $ res_dup ! $
-      -- [written, twice; the epoch has ended; the word; the names; the room]
-      move ! (2 ∷ 0 ∷ []) $ fjoin ! $ move ! (2 ∷ 0 ∷ []) $ fjoin ! $ move ! (2 ∷ 0 ∷ []) $ fjoin ! $ move ! (0 ∷ 2 ∷ []) $ fjoin ! $ frame ! $ fpack ! R.Denot (written R γ.value_name) x $ done !
-
-  -- of one with another word the first name has no value
-  abbrev pub Blank : Names → Phase R.Denot → Fml
-  Blank γ s = fsep (auths R γ s) (fact (mark R s ≡ gnil))
-
-  pub blank_at : (γ : Names) (r : Rest R.Denot) → r.0 ≢ 2 → ⟦ resting R γ r ⟧ ⊢ ⟦ Blank γ r.2 ⟧
-  blank_at γ (n, v, free) other = qed 𝓛 (‵ (resting R γ (n, v, free)) ∷ []) ∵ fsplit ! $ fsplit ! $ keep ! (0 ∷ []) $ nothing ! $ fpack ! (mark R free ≡ gnil) (λ _. ftrue) refl $ move ! (1 ∷ 0 ∷ []) $ fjoin ! $ done !
-  blank_at γ (n, v, busy) other = qed 𝓛 (‵ (resting R γ (n, v, busy)) ∷ []) ∵ fsplit ! $ fsplit ! $ keep ! (0 ∷ []) $ nothing ! $ fpack ! (mark R busy ≡ gnil) (λ _. ftrue) refl $ move ! (1 ∷ 0 ∷ []) $ fjoin ! $ done !
-  blank_at γ (n, v, broken) other = qed 𝓛 (‵ (resting R γ (n, v, broken)) ∷ []) ∵ fsplit ! $ fsplit ! $ keep ! (0 ∷ []) $ nothing ! $ fpack ! (mark R broken ≡ gnil) (λ _. ftrue) refl $ move ! (1 ∷ 0 ∷ []) $ fjoin ! $ done !
-  blank_at γ (n, v, broken_by_owner) other = qed 𝓛 (‵ (resting R γ (n, v, broken_by_owner)) ∷ []) ∵ fsplit ! $ fsplit ! $ keep ! (0 ∷ []) $ nothing ! $ fpack ! (mark R broken_by_owner ≡ gnil) (λ _. ftrue) refl $ move ! (1 ∷ 0 ∷ []) $ fjoin ! $ done !
-  blank_at γ (n, v, full x) other = qed 𝓛 (‵ (resting R γ (n, v, full x)) ∷ []) ∵ fsplit ! $ fsplit ! $ move ! (1 ∷ []) $ fsplit ! $ feq_l ! (λ z. absurd (other z))
-
-not_twice : (b : Bool) → T (not (not b)) → T b
-not_twice true h = h
-not_twice false h = h
-
--- what a test of a word says
-pub is_not_two : (n : ℕ) → T (not (eqb n 2)) → n ≢ 2
-is_not_two n h same = subst (λ (m : ℕ). T (not (eqb m 2))) same h
-
-pub is_two : (n : ℕ) → T (not (not (eqb n 2))) → n ≡ 2
-is_two n h = eqb→eq n 2 (not_twice (eqb n 2) h)
-
--- a list that is not empty has a last member
-pub last_of : (cs : List Names) (j : ℕ) → length cs ≡ j + 1
-    → (front : List Names) × (c : Names) × (cs ≡ front ++ c ∷ []) × (j ≡ length front)
-last_of [] j long = absurd (omega arith)
-last_of (c ∷ []) j long = ([], c, refl, omega arith)
-last_of (c ∷ d ∷ cs) zero long = absurd (omega arith)
-last_of (c ∷ d ∷ cs) (suc j) long = let end = last_of (d ∷ cs) j (omega arith) in (c ∷ end.0, end.1, ap (λ (xs : List Names). c ∷ xs) end.2, omega (arith, end.3))
-
--- what the room of a cell holds is given up
-pub emptied : (T : RattleType) (L : Laws T) {M : Type 1} {𝓤 : Ura M} (𝓛 : Logic 𝓤) (b e : ℕ) (v : Option T.Denot)
-    → ent 𝓤 (sem 𝓛 (place (param 0 T) v b e)) (𝓛.H.room (bare (layout T)) b e)
-emptied T L {𝓤 = 𝓤} 𝓛 b e None = id⊢ 𝓤 _
-emptied T L {𝓤 = 𝓤} 𝓛 b e (Some x) = let m : Member = record { row = param 0 T; ty = layout T } in
-    qed 𝓛 (‵ (place (param 0 T) (Some x) b e) ∷ []) ∵ spread m ! ((param_laws 0 T L).lawful 𝓛) x b e (λ v good. move ! (1 ∷ []) $ drop ! $ by ! (𝓛.laws.at_room (bare (layout T)) b e v))
+    -- a borrow of the rows makes a `&` to them
+    pub lends_laid : (L : Laws R) (l : Lft) → Incl l R.lives → (x : Extent) (γs : List Names) → Lends 𝓛 (laid R token x γs) (laid_lent R x γs) l
+    lends_laid L l inc x γs = let b : ℕ = block_of x.at in let o : ℕ = count_of x.at in let c : ℕ = block_of x.rooms in let e : ℕ = count_of x.rooms in let k : ℕ = x.words in let n : ℕ = length γs in let F : Fml = fact (Lies R x n) in let Cells : Fml = along R k γs b o c e in
+        let Rest : Fml = fsep (fsep (froom (ty_array (ty_int w64) x.more) b (k * 8 + o)) (froom (ty_array τ x.left) c (n * step R + e))) (fsep (token (words_ty (k + x.more)) x.at) (token (rooms_ty R (n + x.left)) x.rooms)) in
+        Lends-both 𝓛 F (fsep Cells Rest) (said F) (along_lent R k γs b o c e) l (Lends-said 𝓛 F (λ _. tt) l) (Lends-first 𝓛 Cells Rest (along_lent R k γs b o c e) l (lends_along L l inc k γs b o c e))
 
 module _ (T : RattleType) (L : Laws T) {M : Type 1} {𝓤 : Ura M} (𝓛 : Logic 𝓤) (token : Ty → Ptr → Fml) where
   open 𝓛 use {H}
@@ -386,31 +310,69 @@ module _ (T : RattleType) (L : Laws T) {M : Type 1} {𝓤 : Ura M} (𝓛 : Logic
   abbrev R : RattleType
   R = param 0 T
 
-  -- the parts of a cell are room, whatever it holds
-  pub vacated : (γ : Names) (b e : ℕ) → ent 𝓤 (sem 𝓛 (still R b γ e)) (sem 𝓛 (rooms R b e))
-  vacated γ b e = qed 𝓛 (‵ (still R b γ e) ∷ []) ∵ fpick ! (λ r. fsplit3 ! $ use1 𝓛 (‵ (froom (ty_int w64) b (e + 0))) (𝓛.laws.at_room (ty_int w64) b (e + 0) (vint w64 r.0)) $
-      move ! (1 ∷ []) $ use1 𝓛 (‵ (froom (bare (layout T)) b (at R e))) (emptied T L 𝓛 b (at R e) r.1) $
-      nothing ! $ move ! (2 ∷ 1 ∷ 0 ∷ []) $ fjoin3 ! $ keep ! (0 ∷ []) $ done !)
+  abbrev υ : Ty
+  υ = bare (layout T)
 
-  -- so the cell is room again
-  cleared : (γ : Names) (b e : ℕ) → ent 𝓤 (sem 𝓛 (owned R b γ e)) (H.room (bare (cell_ty R)) b e)
-  cleared γ b e = let Rooms : Fml = rooms R b e in let Room : Fml = froom (bare (cell_ty R)) b e in
-      qed 𝓛 (‵ (owned R b γ e) ∷ []) ∵ fsplit ! $ use1 𝓛 (‵ Rooms) (vacated γ b e) $ use2 𝓛 (‵ Room) (apply∗ 𝓤 (sem 𝓛 Rooms) (sem 𝓛 Room)) $ keep ! (0 ∷ []) $ done !
+  -- the rooms of some cells are room, whatever they hold
+  vacates : (γs : List Names) (c e : ℕ) (s : ℕ → Rest R.Denot) → ent 𝓤 (sem 𝓛 (rests R γs c e s)) (sem 𝓛 (empties 𝓛 R (length γs) c e))
+  vacates [] c e s = id⊢ 𝓤 _
+  vacates (γ ∷ γs) c e s = let N : Fml = empties 𝓛 R (length γs) c (e + step R) in qed 𝓛 (‵ (rests R (γ ∷ γs) c e s) ∷ []) ∵ fsplit ! $ fsplit ! $ use1 𝓛 (‵ (froom υ c e)) (emptied T L 𝓛 c e (s 0).0) $
+      move ! (2 ∷ []) $ use1 𝓛 (‵ N) (vacates γs c (e + step R) (λ i. s (suc i))) $ move ! (1 ∷ 0 ∷ []) $ fjoin ! $ keep ! (0 ∷ []) $ done !
 
-  -- the same of all cells of a row, before the room that is left
-  cleared_along : (b : ℕ) (γs : List Names) (left e e' : ℕ) → e' ≡ length γs * stride R + e
-      → ent 𝓤 (sep 𝓤 (sem 𝓛 (along R (owned R b) γs e)) (H.room (ty_array (bare (cell_ty R)) left) b e')) (H.room (ty_array (bare (cell_ty R)) (length γs + left)) b e)
-  cleared_along b [] left e e' is = let z = zero-mul (stride R) in let same : e' ≡ e = omega arith in let τ = bare (cell_ty R) in
-      qed 𝓛 (‵ ftrue ∷ ‵ (froom (ty_array τ left) b e') ∷ []) ∵ rewrite ! 1 (λ (z : ℕ × ℕ). ‵ (froom (ty_array τ z.0) b z.1)) (λ i. ((let r : left ≡ 0 + left = omega arith in r) i, same i)) refl $ keep ! (1 ∷ []) $ done !
-  cleared_along b (γ ∷ γs) left e e' is = let z = suc-mul (length γs) (stride R) in let τ = bare (cell_ty R) in let n : ℕ = length γs + left in let step : e + stride R ≡ e + size τ = sym (ap (λ (z : ℕ). e + z) (size-raw (cell_ty R))) in
-      qed 𝓛 (‵ (along R (owned R b) (γ ∷ γs) e) ∷ ‵ (froom (ty_array τ left) b e') ∷ []) ∵ fsplit ! $ use1 𝓛 (‵ (froom τ b e)) (cleared γ b e) $ move ! (1 ∷ 2 ∷ []) $
-      use2 𝓛 (‵ (froom (ty_array τ n) b (e + stride R))) (cleared_along b γs left (e + stride R) e' (omega arith)) $ rewrite ! 0 (λ (i : ℕ). ‵ (froom (ty_array τ n) b i)) step refl $
-      move ! (1 ∷ 0 ∷ []) $ use2 𝓛 (‵ (froom (ty_array τ (suc n)) b e)) (𝓛.laws.room_cons τ n b e) $ rewrite ! 0 (λ (m : ℕ). ‵ (froom (ty_array τ m) b e)) (let r : suc n ≡ suc (length γs) + left = omega arith in r) refl $ done !
+  -- rooms that lie side by side before others are a row of room
+  gathers_rooms : (n m c e : ℕ) → ent 𝓤 (sep 𝓤 (sem 𝓛 (empties 𝓛 R n c e)) (H.room (ty_array υ m) c (n * step R + e))) (H.room (ty_array υ (n + m)) c e)
+  gathers_rooms zero m c e = let z = zero-mul (step R) in qed 𝓛 (‵ ftrue ∷ ‵ (froom (ty_array υ m) c (0 * step R + e)) ∷ []) ∵ toss ! $
+      rewrite ! 0 (λ (u : ℕ × ℕ). ‵ (froom (ty_array υ u.0) c u.1)) (λ i. ((let r : m ≡ 0 + m = omega arith in r) i, (let r : 0 * step R + e ≡ e = omega arith in r) i)) refl $ done !
+  gathers_rooms (suc n) m c e = let s = suc-mul n (step R) in let e' : ℕ = e + step R in qed 𝓛 (‵ (empties 𝓛 R (suc n) c e) ∷ ‵ (froom (ty_array υ m) c (suc n * step R + e)) ∷ []) ∵ fsplit ! $
+      move ! (1 ∷ 2 ∷ []) $ rewrite ! 1 (λ (i : ℕ). ‵ (froom (ty_array υ m) c i)) (let r : suc n * step R + e ≡ n * step R + e' = omega arith in r) refl $ use2 𝓛 (‵ (froom (ty_array υ (n + m)) c e')) (gathers_rooms n m c e') $
+      rewrite ! 0 (λ (i : ℕ). ‵ (froom (ty_array υ (n + m)) c (e + i))) (sym (size-raw (layout T))) refl $ move ! (1 ∷ 0 ∷ []) $
+      use2 𝓛 (‵ (froom (ty_array υ (suc (n + m))) c e)) (𝓛.laws.room_cons υ (n + m) c e) $ rewrite ! 0 (λ (i : ℕ). ‵ (froom (ty_array υ i) c e)) (let r : suc (n + m) ≡ suc n + m = omega arith in r) refl $ done !
 
-  -- a row whose cells are given up has room for as many
-  pub forgotten : (p : Ptr) (γs : List Names) (left : ℕ)
-      → ent 𝓤 (sem 𝓛 (laid R token p γs left)) (sem 𝓛 (laid R token p [] (length γs + left)))
-  forgotten p γs left = let b : ℕ = block_of p in let o : ℕ = count_of p in let n : ℕ = length γs + left in let τ = bare (cell_ty R) in let z = zero-mul (stride R) in let same : n ≡ 0 + n = omega arith in
-      qed 𝓛 (‵ (laid R token p γs left) ∷ []) ∵ fsplit ! $ move ! (1 ∷ []) $ fsplit3 ! $ use2 𝓛 (‵ (froom (ty_array τ n) b o)) (cleared_along b γs left o (length γs * stride R + o) refl) $
-      rewrite ! 0 (λ (i : ℕ). ‵ (froom (ty_array τ n) b i)) (let r : o ≡ 0 * stride R + o = omega arith in r) refl $
-      rewrite ! 1 (λ (m : ℕ). ‵ (token (row_ty R m) p)) same refl $ rewrite ! 2 (λ (m : ℕ). ‵ (lies R p m)) same refl $ nothing ! $ fjoin3 ! $ move ! (1 ∷ 0 ∷ []) $ done !
+  -- a word and its rooms are room
+  clears_word : (γs : List Names) (b o c e : ℕ) → ent 𝓤 (sem 𝓛 (still R γs b o c e)) (sep 𝓤 (H.room (ty_int w64) b o) (sem 𝓛 (empties 𝓛 R (length γs) c e)))
+  clears_word γs b o c e = qed 𝓛 (‵ (still R γs b o c e) ∷ []) ∵ fpick ! (λ s. fsplit ! $ use1 𝓛 (‵ (froom (ty_int w64) b o)) (𝓛.laws.at_room (ty_int w64) b o (vint w64 (pack γs (λ l. state (s l).1)))) $
+      frame ! $ by ! (vacates γs c e s))
+
+  joins_rooms : (n m c e : ℕ) → ent 𝓤 (sep 𝓤 (sem 𝓛 (empties 𝓛 R n c e)) (sem 𝓛 (empties 𝓛 R m c (n * step R + e)))) (sem 𝓛 (empties 𝓛 R (n + m) c e))
+  joins_rooms zero m c e = let z = zero-mul (step R) in qed 𝓛 (‵ ftrue ∷ ‵ (empties 𝓛 R m c (0 * step R + e)) ∷ []) ∵ toss ! $
+      rewrite ! 0 (λ (u : ℕ × ℕ). ‵ (empties 𝓛 R u.0 c u.1)) (λ i. ((let r : m ≡ 0 + m = omega arith in r) i, (let r : 0 * step R + e ≡ e = omega arith in r) i)) refl $ done !
+  joins_rooms (suc n) m c e = let s = suc-mul n (step R) in let e' : ℕ = e + step R in qed 𝓛 (‵ (empties 𝓛 R (suc n) c e) ∷ ‵ (empties 𝓛 R m c (suc n * step R + e)) ∷ []) ∵ fsplit ! $
+      move ! (1 ∷ 2 ∷ []) $ rewrite ! 1 (λ (i : ℕ). ‵ (empties 𝓛 R m c i)) (let r : suc n * step R + e ≡ n * step R + e' = omega arith in r) refl $ use2 𝓛 (‵ (empties 𝓛 R (n + m) c e')) (joins_rooms n m c e') $
+      move ! (1 ∷ 0 ∷ []) $ fjoin ! $ rewrite ! 0 (λ (i : ℕ). ‵ (empties 𝓛 R i c e)) (let r : suc (n + m) ≡ suc n + m = omega arith in r) refl $ done !
+
+  -- the rooms of the first word's cells, and those of the others
+  joins_words : (γs : List Names) (c e : ℕ)
+      → ent 𝓤 (sep 𝓤 (sem 𝓛 (empties 𝓛 R (length (take 16 γs)) c e)) (sem 𝓛 (empties 𝓛 R (length (drop 16 γs)) c (e + 16 * step R)))) (sem 𝓛 (empties 𝓛 R (length γs) c e))
+  joins_words γs c e = let n : ℕ = length (take 16 γs) in let m : ℕ = length (drop 16 γs) in let ln = length-take 16 γs in let lm = length-drop 16 γs in
+      qed 𝓛 (‵ (empties 𝓛 R n c e) ∷ ‵ (empties 𝓛 R m c (e + 16 * step R)) ∷ []) ∵ dite (dec_lt (length γs) 16)
+      (λ few. let none : m ≡ 0 = omega (arith, lm) in let all_of : n ≡ length γs = omega (arith, ln) in rewrite ! 1 (λ (i : ℕ). ‵ (empties 𝓛 R i c (e + 16 * step R))) none refl $ rewrite ! 0 (λ (i : ℕ). ‵ (empties 𝓛 R i c e)) all_of refl $ keep ! (0 ∷ []) $ done !)
+      (λ many. let whole : n ≡ 16 = omega (arith, ln) in let far = ap (λ (i : ℕ). i * step R) whole in
+      rewrite ! 1 (λ (i : ℕ). ‵ (empties 𝓛 R m c i)) (let r : e + 16 * step R ≡ n * step R + e = omega (arith, far) in r) refl $ use2 𝓛 (‵ (empties 𝓛 R (n + m) c e)) (joins_rooms n m c e) $
+      rewrite ! 0 (λ (i : ℕ). ‵ (empties 𝓛 R i c e)) (let r : n + m ≡ length γs = omega (arith, ln, lm) in r) refl $ done !)
+
+  -- words and their rooms, before room for more words, are room
+  clears : (k : ℕ) (γs : List Names) (m b o c e : ℕ) → length γs ≤ k * 16
+      → ent 𝓤 (sep 𝓤 (sem 𝓛 (along R k γs b o c e)) (H.room (ty_array (ty_int w64) m) b (k * 8 + o))) (sep 𝓤 (H.room (ty_array (ty_int w64) (k + m)) b o) (sem 𝓛 (empties 𝓛 R (length γs) c e)))
+  clears zero [] m b o c e few = qed 𝓛 (‵ ftrue ∷ ‵ (froom (ty_array (ty_int w64) m) b (0 * 8 + o)) ∷ []) ∵
+      rewrite ! 1 (λ (u : ℕ × ℕ). ‵ (froom (ty_array (ty_int w64) u.0) b u.1)) (λ i. ((let r : m ≡ 0 + m = omega arith in r) i, (let r : 0 * 8 + o ≡ o = omega arith in r) i)) refl $ move ! (1 ∷ 0 ∷ []) $ done !
+  clears zero (γ ∷ γs) m b o c e few = absurd (omega arith)
+  clears (suc k) γs m b o c e few = let W : List Names = take 16 γs in let Ws : List Names = drop 16 γs in let lm = length-drop 16 γs in let o' : ℕ = o + 8 in let e' : ℕ = e + 16 * step R in
+      qed 𝓛 (‵ (along R (suc k) γs b o c e) ∷ ‵ (froom (ty_array (ty_int w64) m) b (suc k * 8 + o)) ∷ []) ∵ fsplit ! $ move ! (1 ∷ 2 ∷ []) $
+      rewrite ! 1 (λ (i : ℕ). ‵ (froom (ty_array (ty_int w64) m) b i)) (let r : suc k * 8 + o ≡ k * 8 + o' = omega arith in r) refl $
+      use2 𝓛 (‵ (froom (ty_array (ty_int w64) (k + m)) b o') ⊛ ‵ (empties 𝓛 R (length Ws) c e')) (clears k Ws m b o' c e' (omega (arith, lm))) $ split ! $ move ! (2 ∷ []) $
+      use1 𝓛 (‵ (froom (ty_int w64) b o) ⊛ ‵ (empties 𝓛 R (length W) c e)) (clears_word W b o c e) $ split ! $
+      -- [the word; its rooms; the other words; their rooms]
+      move ! (0 ∷ 2 ∷ []) $ use2 𝓛 (‵ (froom (ty_array (ty_int w64) (suc (k + m))) b o)) (𝓛.laws.room_cons (ty_int w64) (k + m) b o) $ rewrite ! 0 (λ (i : ℕ). ‵ (froom (ty_array (ty_int w64) i) b o)) (let r : suc (k + m) ≡ suc k + m = omega arith in r) refl $ frame ! $
+      by ! (joins_words γs c e)
+
+  -- rows whose cells are given up are two rows of room
+  pub forgotten : (x : Extent) (γs : List Names)
+      → ent 𝓤 (sem 𝓛 (laid R token x γs)) (sep 𝓤 (sem 𝓛 (rooms_owned u64 token x.at (x.words + x.more))) (sem 𝓛 (rooms_owned R token x.rooms (length γs + x.left))))
+  forgotten x γs = let b : ℕ = block_of x.at in let o : ℕ = count_of x.at in let c : ℕ = block_of x.rooms in let e : ℕ = count_of x.rooms in let k : ℕ = x.words in let n : ℕ = length γs in
+      qed 𝓛 (‵ (laid R token x γs) ∷ []) ∵ fsplit3 ! $ fpick ! (λ so. toss ! $ move ! (1 ∷ []) $ fsplit ! $ fsplit ! $
+      -- [the words left; the rooms left; the rights; the cells]
+      move ! (3 ∷ 0 ∷ []) $ use2 𝓛 (‵ (froom (ty_array (ty_int w64) (k + x.more)) b o) ⊛ ‵ (empties 𝓛 R n c e)) (clears k γs x.more b o c e so.4) $ split ! $ move ! (1 ∷ 2 ∷ []) $
+      use2 𝓛 (‵ (froom (ty_array υ (n + x.left)) c e)) (gathers_rooms n x.left c e) $
+      -- [the rooms; the words; the rights]
+      move ! (2 ∷ []) $ fsplit ! $ move ! (3 ∷ 0 ∷ []) $ fjoin ! $ nothing ! $ fpack ! (InBlock x.at × FitsMemory u64 (k + x.more)) (λ _. ftrue) (so.0, so.2) $ fjoin ! $ frame ! $
+      move ! (1 ∷ 0 ∷ []) $ fjoin ! $ nothing ! $ fpack ! (InBlock x.rooms × FitsMemory R (n + x.left)) (λ _. ftrue) (so.1, so.3) $ fjoin ! $ done !)

@@ -1,9 +1,16 @@
+mod Fields
+mod WordSteps
 mod Twice
 mod CellSteps
+mod RunSteps
+mod RunMade
 mod CellSent
 mod CellMade
 mod MemberParts
 mod Epochs
 mod CellLends
+mod RestParts
 mod LaidParts
 mod LaidMade
+mod RunParts
+mod RunFields

@@ -1,8 +1,8 @@
 -- A block of cells as callers see it, and what is seen of its pens and tokens.
 use Rattle.std.specs.Prelude.{◌≡◌, ◌≢◌, ℕ, ◌<◌, List, length}
 use base.Stored.{Coded, coded×, coded_ℕ, coded_list, coded_via}
-use Rattle.cell_core.specs.Slot.{Names, names_coded, empty_word, filled_word}
-use Rattle.cell_core.specs.Laid.{IsAnother, cell_in}
+use Rattle.cell_core.specs.Slot.{Names, names_coded, cell_in, empty_state, filled_state}
+use Rattle.cell_core.specs.Laid.{IsAnother}
 use Rattle.cell_core.specs.Member.{MemberView, HasNames}
 
 -- a block: the names of each cell
@@ -13,7 +13,7 @@ pub record BlockView : Type 0 where
 abbrev pub block_coded : Coded BlockView
 block_coded = coded_via (coded_list names_coded) (λ (b : BlockView). b.cells) (λ x y e i. record { cells = e i })
 
--- the right to write a cell: its offset, the names of the cell, and the word that the exchange found there
+-- the right to write a cell: its offset, the names of the cell, and the state that the step found there
 pub record PenView : Type 0 where
   pub offset : ℕ
   pub cell : Names
@@ -25,7 +25,7 @@ pen_coded = coded_via (coded× coded_ℕ (coded× names_coded coded_ℕ)) (λ (p
     (λ x y e i. record { offset = (e i).0; cell = (e i).1.0; found = (e i).1.1 })
 
 -- the token of a filled cell: its offset, its value, and the name that the value has; and in the writer's own
--- token the word that its exchange found there
+-- token the state that its step found there
 pub record PlacedView (T : Type 0) : Type 0 where
   pub offset : ℕ
   pub value : T
@@ -67,21 +67,21 @@ pub record IsPenAt (block : BlockView) (offset : ℕ) (pen : PenView) : Type 0 w
   pub at : pen.offset ≡ offset
   pub cell : pen.cell ≡ cell_at block offset
 
--- the word is that of a broken cell
-abbrev pub IsBrokenWord : ℕ → Type 0
-IsBrokenWord word = filled_word < word
+-- the state is that of a broken cell
+abbrev pub IsBrokenState : ℕ → Type 0
+IsBrokenState state = filled_state < state
 
--- the pen's exchange found the cell empty
+-- the pen's step found the cell empty
 abbrev pub IsFresh : PenView → Type 0
-IsFresh pen = pen.found ≡ empty_word
+IsFresh pen = pen.found ≡ empty_state
 
--- the pen's exchange found the cell broken
+-- the pen's step found the cell broken
 abbrev pub IsMending : PenView → Type 0
-IsMending pen = IsBrokenWord pen.found
+IsMending pen = IsBrokenState pen.found
 
--- the token is the mender's own: its exchange found the cell broken
+-- the token is the mender's own: its step found the cell broken
 abbrev pub IsMended : {T : Type 0} → PlacedView T → Type 0
-IsMended placed = IsBrokenWord placed.found
+IsMended placed = IsBrokenState placed.found
 
 -- the token is of a cell of the block
 pub record IsPlacedIn {T : Type 0} (block : BlockView) (placed : PlacedView T) : Type 0 where

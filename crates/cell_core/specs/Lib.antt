@@ -3,3 +3,5 @@ pub mod Laid
 pub mod Member
 pub mod Block
 pub mod Shown
+pub mod Fields
+pub mod Run

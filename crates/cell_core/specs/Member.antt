@@ -4,8 +4,8 @@ use Rattle.std.specs.Coded.{coded_option}
 use base.Stored.{Coded, gnil, coded×, coded_ℕ, coded_list, coded_via}
 use base.Fml.{Lft, GName, Fml, ftrue, fsep, fauth, finv}
 use denote.RattleType.{RattleType}
-use Rattle.cell_core.specs.Slot.{Names, written, filled_word, owner_broken_word}
-use Rattle.cell_core.specs.Laid.{IsAnother, cell_in}
+use Rattle.cell_core.specs.Slot.{Names, cell_in, written, filled_state, owner_broken_state}
+use Rattle.cell_core.specs.Laid.{IsAnother}
 
 -- what is known of a cell: the value that it always keeps and the value's name; or otherwise the epoch in
 -- which it stays broken, and that the name never gets a value
@@ -45,15 +45,15 @@ abbrev pub HasNames : {T : Type 0} → Names → Option T → ℕ → Lft → Ty
 HasNames γ (Some x) name epoch = name ≡ γ.value_name
 HasNames γ None name epoch = epoch ≡ γ.epoch
 
--- the word of a cell by what is known of it, while its epoch lasts
-abbrev pub IsWordOf : {T : Type 0} → Option T → ℕ → Type 0
-IsWordOf (Some x) word = word ≡ filled_word
-IsWordOf None word = word ≡ owner_broken_word
+-- the state of a cell by what is known of it, while its epoch lasts
+abbrev pub IsStateOf : {T : Type 0} → Option T → ℕ → Type 0
+IsStateOf (Some x) state = state ≡ filled_state
+IsStateOf None state = state ≡ owner_broken_state
 
--- the same at any time: a cell that is not known to have a value may have any word
-abbrev pub MayBeWordOf : {T : Type 0} → Option T → ℕ → Type 0
-MayBeWordOf (Some x) word = word ≡ filled_word
-MayBeWordOf None word = Unit {0}
+-- the same at any time: a cell that is not known to have a value may be in any state
+abbrev pub MayBeStateOf : {T : Type 0} → Option T → ℕ → Type 0
+MayBeStateOf (Some x) state = state ≡ filled_state
+MayBeStateOf None state = Unit {0}
 
 -- the epoch is that of a cell that is not known to have a value
 abbrev pub IsEpochOf : {T : Type 0} → Option T → Lft → Lft → Type 0

@@ -1,20 +1,22 @@
--- What a raw cell owns and lends. Each time the cell is lent it takes a turn: a lifetime, and a name that
--- tracks what its room holds. One invariant holds the word, with the right to write or the shared value. A
--- cell has an epoch too, a lifetime. It has ended for all cells but those that an owner broke: such a cell
+-- What a raw cell owns and lends. A cell has a field of its own in a word that it shares with its neighbours, and a
+-- room for its value. Each time the word is lent, its cells take a turn: a lifetime, and a name for each cell that
+-- tracks what the cell's room holds. One invariant holds the word, and of each cell the right to write or the shared
+-- value. A cell has an epoch too, a lifetime. It has ended for all cells but those that an owner broke: such a cell
 -- stays broken as long as its epoch lasts.
-use Rattle.std.specs.Prelude.{◌≡◌, ℕ, zero, suc, ◌+◌, Bool, true, false, eqb, Option, Some, None}
+use Rattle.std.specs.Prelude.{◌≡◌, ℕ, zero, suc, ◌+◌, ◌<◌, ◌≤◌, Bool, true, false, eqb, Option, Some, None, List, [], ◌∷◌, length, get_or}
 use Rattle.std.specs.Coded.{coded_option}
 use mir.Syntax.{w64, ty_int}
 use mir.Raw.{raw}
 use mir.Val.{vint}
 use base.Fraction.{full_share}
 use base.Stored.{Gv, Coded, gnil, gcons, coded×, coded_ℕ, coded_list, coded_via}
-use base.Fml.{Lft, GName, Fml, ftrue, ffalse, feq, fsep, fex, fat, fobs, fauth, fres, froom, fbor, fdead, finv}
+use base.Fml.{Lft, GName, Fml, ftrue, ffalse, fsep, fex, fat, fobs, fauth, fres, froom, fbor, fdead, finv}
 use base.Before.{before}
-use prog.Memory.{up, align}
+use prog.Memory.{size}
 use denote.RattleType.{RattleType}
 use denote.Memory.{lone, part_at, shared_of}
 use denote.RawPtr.{Ptr, block_ptr, null_ptr}
+use Rattle.cell_core.specs.Fields.{pack}
 
 -- the names of a cell: one gets the value that fills it, another is set when it breaks; and its epoch
 pub record Names : Type 0 where
@@ -29,6 +31,10 @@ names_coded =
     (λ (n : Names). (n.value_name, (n.broken_name, n.epoch)))
     (λ x y e i. record { value_name = (e i).0; broken_name = (e i).1.0; epoch = (e i).1.1 })
 
+-- the names of the cell at an index
+abbrev pub cell_in : List Names → ℕ → Names
+cell_in γs i = get_or γs i (record { value_name = 0; broken_name = 0; epoch = [] })
+
 -- a cell is free, busy with one writer, full, broken, or broken by an owner for its epoch
 pub data Phase (X : Type 0) : Type 0 where
   free : Phase X
@@ -37,29 +43,41 @@ pub data Phase (X : Type 0) : Type 0 where
   broken : Phase X
   broken_by_owner : Phase X
 
--- the word of a cell that is free, that one writer has, that is full, that is broken, and that an owner broke
-abbrev pub empty_word : ℕ
-empty_word = 0
+-- the state of a cell that is empty, that one writer has, that is filled, that is broken, and that an owner broke
+abbrev pub empty_state : ℕ
+empty_state = 0
 
-abbrev pub busy_word : ℕ
-busy_word = 1
+abbrev pub busy_state : ℕ
+busy_state = 1
 
-abbrev pub filled_word : ℕ
-filled_word = 2
+abbrev pub filled_state : ℕ
+filled_state = 3
 
-abbrev pub broken_word : ℕ
-broken_word = 3
+abbrev pub broken_state : ℕ
+broken_state = 5
 
-abbrev pub owner_broken_word : ℕ
-owner_broken_word = 4
+abbrev pub owner_broken_state : ℕ
+owner_broken_state = 9
 
--- the word, what the room holds, and the phase
+-- the state of each phase
+abbrev pub state : {X : Type 0} → Phase X → ℕ
+state free = empty_state
+state busy = busy_state
+state (full x) = filled_state
+state broken = broken_state
+state broken_by_owner = owner_broken_state
+
+-- what the room holds, and the phase
 abbrev pub Rest : Type 0 → Type 0
-Rest X = ℕ × Option X × Phase X
+Rest X = Option X × Phase X
 
--- a turn: the lifetime of the lending, and the name that tracks what the room holds
+-- a turn: the lifetime of the lending, and the names that track what each room holds
 abbrev pub Turn : Type 0
-Turn = Lft × GName
+Turn = Lft × (ℕ → GName)
+
+-- a cell of some that are lent: the names of all, their turn, and where their rooms begin
+abbrev pub Spot : Type 0
+Spot = List Names × Turn × ℕ
 
 -- a fact, as a formula
 abbrev pub fact : Type 0 → Fml
@@ -87,6 +105,15 @@ module _ (R : RattleType) where
   abbrev pub content : Coded (Option R.Denot)
   content = coded_option R.coded
 
+  -- how far two rooms lie apart
+  abbrev pub step : ℕ
+  step = size (lone R.mir)
+
+  -- the offset of the room at an index, of the rooms that begin at an offset
+  abbrev pub room_at : ℕ → ℕ → ℕ
+  room_at e zero = e
+  room_at e (suc i) = room_at (e + step) i
+
   -- what the first name has in each phase
   abbrev pub mark : Phase R.Denot → Gv
   mark free = gnil
@@ -112,10 +139,6 @@ module _ (R : RattleType) where
   Lies v broken = v ≡ None
   Lies v broken_by_owner = v ≡ None
 
-  -- the offset of the room, after the word
-  abbrev pub at : ℕ → ℕ
-  at o = o + up (align (lone R.mir)) 8
-
   module _ (γ : Names) where
     -- both names, as the phase has them
     abbrev pub auths : Phase R.Denot → Fml
@@ -137,42 +160,44 @@ module _ (R : RattleType) where
     abbrev pub broken_unset : Fml
     broken_unset = fsep (was_broken γ.broken_name) unset
 
-    -- the word of each phase, with what goes with it
-    abbrev pub told : ℕ → Phase R.Denot → Fml
-    told n free = fsep (feq ℕ n empty_word) settable
-    told n busy = fsep (feq ℕ n busy_word) over
-    told n (full x) = fsep (feq ℕ n filled_word) (fsep over (written γ.value_name x))
-    told n broken = fsep (feq ℕ n broken_word) (fsep over broken_unset)
-    told n broken_by_owner = fsep (feq ℕ n owner_broken_word) broken_unset
+    -- what goes with each phase
+    abbrev pub told : Phase R.Denot → Fml
+    told free = settable
+    told busy = over
+    told (full x) = fsep over (written γ.value_name x)
+    told broken = fsep over broken_unset
+    told broken_by_owner = broken_unset
 
-    -- the names and the word
-    abbrev pub named : ℕ → Phase R.Denot → Fml
-    named n s = fsep (auths s) (told n s)
+    -- the names, and what goes with the phase
+    abbrev pub named : Phase R.Denot → Fml
+    named s = fsep (auths s) (told s)
 
-    -- a cell that is not lent: its names, its word, and what its room holds
+    -- a cell that is not lent: its names, and what its room holds
     abbrev pub resting : Rest R.Denot → Fml
-    resting s = fsep (named s.0 s.2) (fact (Lies s.1 s.2))
+    resting s = fsep (named s.1) (fact (Lies s.0 s.1))
 
     -- a value that is known to be there
     abbrev pub known : Option R.Denot → Fml
     known (Some x) = written γ.value_name x
     known None = ffalse
 
-    -- what the word shows: at 2 a value, above it that the cell is broken, otherwise nothing
+    -- what a state shows: that there is a value, or that the cell is broken, or nothing
     abbrev pub sighted : ℕ → Option R.Denot → Fml
     sighted zero v = ftrue
     sighted (suc zero) v = ftrue
-    sighted (suc (suc zero)) v = known v
-    sighted (suc (suc (suc n))) v = was_broken γ.broken_name
+    sighted (suc (suc zero)) v = was_broken γ.broken_name
+    sighted (suc (suc (suc zero))) v = known v
+    sighted (suc (suc (suc (suc n)))) v = was_broken γ.broken_name
 
     -- the same, for some value
     abbrev pub sights : ℕ → Fml
     sights n = fex (Option R.Denot) (sighted n)
 
-    module _ (t : Turn) (b o : ℕ) where
+    -- a cell in a turn: the lifetime, the name that tracks its room, and where its room lies
+    module _ (α : Lft) (δ : GName) (b e : ℕ) where
       -- the room, with what it holds passed to the turn
       abbrev pub inside : Option R.Denot → Fml
-      inside v = fsep (place v b (at o)) (fauth t.1 (content.code v))
+      inside v = fsep (place v b e) (fauth δ (content.code v))
 
       -- the room, whatever it holds
       abbrev pub Room : Fml
@@ -180,46 +205,33 @@ module _ (R : RattleType) where
 
       -- the room is empty, and may be written
       abbrev pub empty : Fml
-      empty = fobs t.1 (content.code None)
+      empty = fobs δ (content.code None)
 
       -- what the invariant knows of the room in each phase
       abbrev pub tie : Phase R.Denot → Fml
       tie free = empty
       tie busy = ftrue
-      tie (full x) = fres t.1 (content.code (Some x))
+      tie (full x) = fres δ (content.code (Some x))
       tie broken = empty
       tie broken_by_owner = empty
 
       -- what the invariant has of the room in each phase
       abbrev pub lent : Phase R.Denot → Fml
-      lent free = fbor t.0 Room
+      lent free = fbor α Room
       lent busy = ftrue
-      lent (full x) = shared_of R x b (at o) t.0
-      lent broken = fbor t.0 Room
-      lent broken_by_owner = fbor t.0 Room
+      lent (full x) = shared_of R x b e α
+      lent broken = fbor α Room
+      lent broken_by_owner = fbor α Room
 
-      -- the word, the names, and what is known of the room
-      abbrev pub tied : ℕ × Phase R.Denot → Fml
-      tied s = fsep (word b (o + 0) s.0) (fsep (named s.0 s.1) (tie s.1))
-
-      -- the same, with what the invariant has of the room
-      abbrev pub standing : ℕ × Phase R.Denot → Fml
-      standing s = fsep (tied s) (lent s.1)
-
-      -- the whole invariant
-      abbrev pub Cell : Fml
-      Cell = fex (ℕ × Phase R.Denot) standing
-
-      -- a lending of the cell that is valid for a while
-      abbrev pub kept : Lft → Fml
-      kept κ = fsep (before κ t.0) (finv (fbor t.0 Cell))
+      -- all that the invariant has of the cell, but its state
+      abbrev pub cell : Phase R.Denot → Fml
+      cell s = fsep (auths s) (fsep (told s) (fsep (tie s) (lent s)))
 
       -- the right to write
       abbrev pub Right : Fml
-      Right = fsep settable (fsep empty (fbor t.0 Room))
+      Right = fsep settable (fsep empty (fbor α Room))
 
-      -- what an exchange gains if it found n: the right to write, if it found what it sought; otherwise what
-      -- n shows
+      -- what a step gains if it found n: the right to write, if it found what it sought; otherwise what n shows
       abbrev pub gained : Bool → ℕ → Fml
       gained true n = Right
       gained false n = sights n
@@ -227,16 +239,44 @@ module _ (R : RattleType) where
       abbrev pub won : ℕ → ℕ → Fml
       won sought n = gained (eqb n sought) n
 
-    -- what a `&` to the cell holds
-    abbrev pub shared_at : ℕ → ℕ → Lft → Fml
-    shared_at b o κ = fex Turn (λ t. kept t b o κ)
+  -- the same of a row of cells, whose rooms begin at an offset
+  abbrev pub cells : List Names → Lft → (ℕ → GName) → ℕ → ℕ → (ℕ → Phase R.Denot) → Fml
+  cells [] α δ b e s = ftrue
+  cells (γ ∷ γs) α δ b e s = fsep (cell γ α (δ 0) b e (s 0)) (cells γs α (λ i. δ (suc i)) b (e + step) (λ i. s (suc i)))
 
-    -- the same, at a pointer
-    abbrev pub shared : Ptr → Lft → Fml
-    shared (block_ptr b o) κ = shared_at b o κ
-    shared null_ptr κ = ffalse
+  -- some cells whose states lie in the word at (b, o), and whose rooms begin at (c, e)
+  module _ (γs : List Names) (t : Turn) (b o c e : ℕ) where
+    -- the word, and what the invariant has of each cell
+    abbrev pub standing : (ℕ → Phase R.Denot) → Fml
+    standing s = fsep (word b o (pack γs (λ i. state (s i)))) (cells γs t.0 t.1 c e s)
 
-    -- what a pen owns, in a cell that is lent for β
-    abbrev pub pen_owned : Lft → Ptr → ℕ → ℕ → Fml
-    pen_owned β (block_ptr b o) sought found = fex Turn (λ t. fsep (kept t b o β) (won t b o sought found))
-    pen_owned β null_ptr sought found = ffalse
+    -- the whole invariant
+    abbrev pub Cells : Fml
+    Cells = fex (ℕ → Phase R.Denot) standing
+
+    -- a lending of the cells that is valid for a while
+    abbrev pub kept : Lft → Fml
+    kept κ = fsep (before κ t.0) (finv (fbor t.0 Cells))
+
+  -- what a `&` to the cells holds
+  abbrev pub shared_at : List Names → ℕ → ℕ → ℕ → ℕ → Lft → Fml
+  shared_at γs b o c e κ = fex Turn (λ t. kept γs t b o c e κ)
+
+  -- the cell with these names is at an index of the spot, and its room lies at an offset
+  abbrev pub IsAt : Names → ℕ → ℕ → Spot → Type 0
+  IsAt γ i r z = (i < length z.0) × (length z.0 ≤ 16) × (cell_in z.0 i ≡ γ) × (room_at z.2 i ≡ r)
+
+  -- a lending of the cell for κ, whose state is in a field of the word, and whose room lies at the second pointer
+  abbrev pub slot_owned : Names → Lft → Ptr → Ptr → ℕ → Fml
+  slot_owned γ κ (block_ptr b o) (block_ptr c r) i =
+      fex Spot (λ z. fsep (fact (IsAt γ i r z)) (kept z.0 z.1 b o c z.2 κ))
+  slot_owned γ κ (block_ptr b o) null_ptr i = ffalse
+  slot_owned γ κ null_ptr q i = ffalse
+
+  -- what a pen owns, in a cell that is lent for κ
+  abbrev pub pen_owned : Names → Lft → Ptr → Ptr → ℕ → ℕ → ℕ → Fml
+  pen_owned γ κ (block_ptr b o) (block_ptr c r) i sought found =
+      fex Spot (λ z. fsep (fact (IsAt γ i r z))
+      (fsep (kept z.0 z.1 b o c z.2 κ) (won γ z.1.0 (z.1.1 i) c r sought found)))
+  pen_owned γ κ (block_ptr b o) null_ptr i sought found = ffalse
+  pen_owned γ κ null_ptr q i sought found = ffalse

@@ -1,33 +1,38 @@
-//! A block of cells, laid raw in one row: each is a state word and room for one value.
-ghost use Rattle.std.specs.Prelude.{◌≡◌, ◌≢◌, ◌<◌, Some, None, IsSomeAnd, IfSome, IfOk, IfErr, IsErrAnd};
+//! A block of cells, laid raw in two rows: the values side by side, and words with the states of sixteen cells each.
+ghost use Rattle.std.specs.Prelude.{◌≡◌, ◌≢◌, ◌+◌, ◌/◌, ◌%◌, ◌<◌, [], Some, None, IsSomeAnd, IfSome, IfOk, IfErr, IsErrAnd, length};
 ghost use Rattle.cell_core.specs.Block.{block_len, cell_at, IsPenAt, IsFresh, IsMending, IsPlacedIn, IsPlacedAt, IsMemberAt};
-ghost use Rattle.cell_core.specs.Slot.{empty_word};
+ghost use Rattle.cell_core.specs.Slot.{empty_state};
+ghost use Rattle.cell_core.specs.Laid.{HasEachRenamed, IsLinked, IsWhole, word_cells};
 ghost use Rattle.cell_core.specs.Shown.{IsFoundIn, IsNotEmpty, ShowsFilled, IsLookAt};
 
 mod begun;
 mod epoch;
+mod fields;
 mod member;
 mod owner;
 mod pen;
 mod placed;
+mod run;
 mod shown;
 mod spoilt;
 mod steps;
 
-use crate::slot::steps::{BROKEN, BUSY, EMPTY, FILLED, RawPen, RawSlot};
+use crate::slot::steps::{BROKEN, BROKEN_BY_OWNER, BUSY, EMPTY, FILLED, RawPen, RawSlot};
 pub use begun::Begun;
 pub use epoch::{EndedEpoch, Epoch};
+use fields::{WORD_CELLS, all_but, in_field, state_in, word_of, words_for};
 pub use member::{Member, Row};
 pub use pen::Pen;
 pub use placed::Placed;
+pub use run::RunPen;
 pub use shown::{Found, Look};
 pub use spoilt::Spoilt;
 use std::alloc::{AllocError, Allocator, Global};
 use std::marker::Model;
-use steps::{Laid, Link};
+use steps::{Laid, Link, Rooms};
 
 /// A row of cells that are each filled at most once and keep their value; a broken one may be mended. Each
-/// has one state word beyond its value.
+/// has four bits of state beyond its value.
 pub struct Block<T, A: Allocator = Global> {
     alloc: A,
     link: Link<T>,
@@ -37,7 +42,7 @@ pub struct Block<T, A: Allocator = Global> {
 
 impl<T, A: Allocator> Model for Block<T, A> {
     ghost use Rattle.cell_core.specs.Block.{BlockView, block_coded};
-    ghost use Rattle.cell_core.specs.Laid.{IsLinked};
+    ghost use Rattle.cell_core.specs.Laid.{IsLinked, IsWhole};
     ghost use Rattle.std.specs.Prelude.{◌≡◌, length};
 
     ghost Value = { BlockView };
@@ -46,20 +51,27 @@ impl<T, A: Allocator> Model for Block<T, A> {
 
     ghost view = { λ b. record { cells = b.laid.cells } };
 
-    ghost invariant = { λ b. (b.laid.heap ≡ b.alloc) × IsLinked b.laid.at b.link.ptr
-        × (length b.laid.cells ≡ b.len) × (b.laid.left ≡ 0) };
+    ghost invariant = { λ b. (b.laid.heap ≡ b.alloc) × IsLinked b.laid.rows.at b.link.words
+        × IsLinked b.laid.rows.rooms b.link.rooms × (length b.laid.cells ≡ b.len)
+        × IsWhole b.laid.rows b.len };
 }
 
 impl<T, A: Allocator> Block<T, A> {
-    /// Makes a block of `n` empty cells, in time and memory linear in `n`. Cells of 2^63 bytes or more are
-    /// refused before memory is requested, since no allocator can give them.
+    /// Makes a block of `n` empty cells, by two requests for memory and a store for each sixteen cells. Values of 2^63
+    /// bytes or more are refused before memory is requested, since no allocator can give room for them.
     pub fn new(alloc: A, n: u64) -> Result<Block<T, A>, AllocError>
         ensures { IfOk result (λ block. block_len block ≡ n) }
     {
-        let (link, mut laid) = Laid::reserve(&alloc, n as usize)?;
-        for index in 0..n as usize {
-            laid.push(link, index);
-        }
+        let (rooms, values) = Rooms::reserve(&alloc, n as usize)?;
+        let (words, states) = match Rooms::reserve(&alloc, words_for(n)) {
+            Ok(row) => row,
+            Err(error) => {
+                values.free(&alloc, rooms, n as usize);
+                return Err(error);
+            }
+        };
+        let link = Link::of(words, rooms);
+        let laid = lay(Laid::new(states, values), words, n);
         Ok(Block {
             alloc,
             link,
@@ -75,29 +87,29 @@ impl<T, A: Allocator> Block<T, A> {
         self.len
     }
 
-    fn cell(&self, offset: u64) -> &RawSlot<T>
+    fn cell(&self, offset: u64) -> RawSlot<'_, T>
         requires { offset < block_len self.now }
-        ensures { result.now ≡ cell_at self.now offset }
+        ensures { (result.of ≡ cell_at self.now offset) × (result.index ≡ offset % word_cells) }
     {
-        self.laid.cell(self.link, offset as usize)
+        self.laid.cell(self.link, word_of(offset), offset as usize)
     }
 
-    // What an exchange that lost a cell found there.
+    // What a step that lost a cell found there.
     fn lost(&self, offset: u64, found: u64, pen: RawPen<'_, T>) -> Found<T>
         requires { (offset < block_len self.now) × (pen.of ≡ cell_at self.now offset)
             × (pen.found ≡ found) × (found ≢ pen.sought) }
         ensures found { IsFoundIn self.now offset result }
-        ensures not_empty { found ≢ empty_word → IsNotEmpty result }
+        ensures not_empty { found ≢ empty_state → IsNotEmpty result }
     {
         match found {
             EMPTY => {
                 pen.unused();
                 Found::Empty
             }
-            BUSY => {
-                let begun = pen.begun();
-                Found::Busy(Begun { offset, begun })
-            }
+            BUSY => Found::Busy(Begun {
+                offset,
+                begun: pen.begun(),
+            }),
             FILLED => {
                 let written = pen.written();
                 Found::Filled(Placed { offset, written })
@@ -109,7 +121,8 @@ impl<T, A: Allocator> Block<T, A> {
         }
     }
 
-    /// Begins a cell by one exchange from empty to busy. The pen is the right to fill or break the cell.
+    /// Begins a cell by one step from empty to busy. The pen is the right to fill or break the cell. Calls on the
+    /// fifteen cells beside it, whose states are in the same word, may make the processor retry the step.
     pub fn begin(&self, offset: u64) -> Result<Pen<'_, T>, Found<T>>
         requires { offset < block_len self.now }
         ensures pen { IfOk result (IsPenAt self.now offset) }
@@ -117,7 +130,8 @@ impl<T, A: Allocator> Block<T, A> {
         ensures found { IfErr result (IsFoundIn self.now offset) }
         ensures not_empty { IfErr result IsNotEmpty }
     {
-        let (found, pen) = self.cell(offset).begin();
+        let (word, pen) = self.cell(offset).begin(in_field(BUSY, offset));
+        let found = state_in(word, offset);
         if found == EMPTY {
             Ok(Pen { offset, pen })
         } else {
@@ -125,7 +139,7 @@ impl<T, A: Allocator> Block<T, A> {
         }
     }
 
-    /// Takes a broken cell by one exchange from broken to busy. If an owner broke the cell, this returns
+    /// Takes a broken cell by one step from broken to busy. If an owner broke the cell, this returns
     /// `Found::Broken`; `mend_member` mends such a cell.
     pub fn mend(&self, offset: u64) -> Result<Pen<'_, T>, Found<T>>
         requires { offset < block_len self.now }
@@ -133,7 +147,8 @@ impl<T, A: Allocator> Block<T, A> {
         ensures broken { IfOk result IsMending }
         ensures found { IfErr result (IsFoundIn self.now offset) }
     {
-        let (found, pen) = self.cell(offset).mend();
+        let (word, pen) = self.cell(offset).mend(all_but(BROKEN - BUSY, offset));
+        let found = state_in(word, offset);
         if found == BROKEN {
             Ok(Pen { offset, pen })
         } else {
@@ -155,10 +170,12 @@ impl<T, A: Allocator> Block<T, A> {
         ensures found { IfErr result (IsFoundIn self.now offset) }
         ensures filled { (x : T) → member.now.value ≡ Some x → IsErrAnd result (ShowsFilled x) }
     {
-        let (found, pen) = self.cell(offset).reopen(&member.member, &ended.ended);
+        let mask = all_but(BROKEN_BY_OWNER - BUSY, offset);
+        let (word, pen) = self.cell(offset).reopen(mask, &member.member, &ended.ended);
+        let found = state_in(word, offset);
         match found {
-            4 => Ok(Pen { offset, pen }),
-            3 => {
+            BROKEN_BY_OWNER => Ok(Pen { offset, pen }),
+            BROKEN => {
                 pen.unused();
                 self.mend(offset)
             }
@@ -176,28 +193,29 @@ impl<T, A: Allocator> Block<T, A> {
         requires { offset < block_len self.now }
         ensures { IsLookAt self.now offset result }
     {
-        let cell = self.cell(offset);
-        match cell.sight() {
-            (EMPTY, sight) => {
+        let (word, sight) = self.cell(offset).sight();
+        match state_in(word, offset) {
+            EMPTY => {
                 sight.unused();
                 Look::Empty
             }
-            (BUSY, sight) => {
+            BUSY => {
                 sight.unused();
                 Look::Busy
             }
-            (FILLED, sight) => {
+            FILLED => {
                 let written = sight.written();
-                Look::Filled(cell.value(&written), Placed { offset, written })
+                let value = self.cell(offset).value(&written);
+                Look::Filled(value, Placed { offset, written })
             }
-            (_, sight) => {
+            _ => {
                 let broken = sight.broken();
                 Look::Broken(Spoilt { offset, broken })
             }
         }
     }
 
-    /// Returns the token's value.
+    /// Returns the token's value. It takes no step.
     pub fn value<'a>(&'a self, placed: &Placed<T>) -> &'a T
         requires { IsPlacedIn self.now placed.now }
         ensures { result.now ≡ placed.now.value }
@@ -225,14 +243,15 @@ impl<T, A: Allocator> Block<T, A> {
         ensures placed { IfSome result (λ (value, placed).
             IsPlacedAt self.now offset placed × (placed.value ≡ value.now)) }
     {
-        let cell = self.cell(offset);
-        match cell.word(&member.member) {
-            (FILLED, sight) => {
+        let (word, sight) = self.cell(offset).known(&member.member);
+        match state_in(word, offset) {
+            FILLED => {
                 let written = sight.written();
                 member.member.agrees(&written);
-                Some((cell.value(&written), Placed { offset, written }))
+                let value = self.cell(offset).value(&written);
+                Some((value, Placed { offset, written }))
             }
-            (_, sight) => {
+            _ => {
                 sight.unused();
                 None
             }
@@ -247,8 +266,7 @@ impl<T, A: Allocator> Block<T, A> {
             laid,
             len,
         } = self;
-        let count = len as usize;
-        laid.free(&alloc, link, count);
+        free_rows(&alloc, link, laid, len);
     }
 }
 
@@ -257,14 +275,54 @@ impl<T: Drop, A: Allocator> Drop for Block<T, A> {
         let Block {
             alloc,
             link,
-            mut laid,
+            laid,
             len,
         } = self;
-        let mut count = len as usize;
-        'cells: while count > 0 {
-            count -= 1;
-            drop(laid.pop(link, count));
-        }
-        laid.release(&alloc, link, len as usize);
+        let laid = drop_values(laid, link, len);
+        free_rows(&alloc, link, laid, len);
     }
+}
+
+// Drops the value of each cell that has one: each cell is then empty, and has fresh names.
+fn drop_values<T: Drop, A: Allocator>(laid: Laid<T, A>, link: Link<T>, len: u64) -> Laid<T, A>
+    requires { IsLinked laid.rows.at link.words × IsLinked laid.rows.rooms link.rooms × (length laid.cells ≡ len) }
+    ensures rows { (result.heap ≡ laid.heap) × (result.rows ≡ laid.rows) × (length result.cells ≡ len) }
+    ensures each { HasEachRenamed laid.cells result.cells }
+{
+    let mut laid = laid;
+    let mut offset = 0;
+    'cells: while offset < len {
+        drop(laid.take(link, offset));
+        offset += 1;
+    }
+    laid
+}
+
+// The words for `n` cells, all empty.
+fn lay<T, A: Allocator>(laid: Laid<T, A>, words: *mut u64, n: u64) -> Laid<T, A>
+    requires { IsLinked laid.rows.at words × (laid.cells ≡ []) × (laid.rows.words ≡ 0)
+        × (laid.rows.more ≡ (n + 15) / word_cells) × (laid.rows.left ≡ n) }
+    ensures { (result.heap ≡ laid.heap) × (result.rows.at ≡ laid.rows.at) × (result.rows.rooms ≡ laid.rows.rooms)
+        × (length result.cells ≡ n) × IsWhole result.rows n }
+{
+    let mut laid = laid;
+    let mut word = 0;
+    let mut left = n;
+    'words: while left > 0 {
+        let cells = left.min(WORD_CELLS);
+        laid.push(words, word, cells as usize);
+        word += 1;
+        left -= cells;
+    }
+    laid
+}
+
+// Gives both rows back, whatever is in their cells.
+fn free_rows<T, A: Allocator>(alloc: &A, link: Link<T>, laid: Laid<T, A>, len: u64)
+    requires { (laid.heap ≡ alloc.now) × (laid.rows.at ≡ link.words) × (laid.rows.rooms ≡ link.rooms)
+        × (length laid.cells ≡ len) × IsWhole laid.rows len }
+{
+    let (words, rooms) = laid.into_rooms();
+    words.free(alloc, link.words, words_for(len));
+    rooms.free(alloc, link.rooms, len as usize);
 }

@@ -1,7 +1,7 @@
 //! Cells that are filled at most once and keep their value; a broken one may be mended.
 //!
-//! A `block::Block` is one row of raw cells, each a state word and room for one value. Contracts see it as
-//! the names of its cells, a pen as its offset and the names of its cell, and a token as its offset, its value
+//! A `block::Block` is a row of values and a row of words, which have the states of sixteen cells each. Contracts see
+//! it as the names of its cells, a pen as its offset and the names of its cell, and a token as its offset, its value
 //! and a name of its cell (`specs/Block.antt`). `specs/Shown.antt` says what calls return of a cell.
 //!
 //! A caller can prove that a token's value is what its cell holds, at any time and in any thread; that two
@@ -9,8 +9,8 @@
 //! and that a call that came too late has a token of what it found. A caller cannot prove what a look without
 //! a token shows.
 //!
-//! The block is safe code over the raw steps on one cell (`slot/steps.rt`) and on a row of cells
-//! (`block/steps.rt`), which are proved by hand. `specs/Slot.antt` and `specs/Laid.antt` define what they
+//! The block is safe code over the raw steps on one cell (`slot/steps.rt`) and on both rows (`block/steps.rt`), which
+//! are proved by hand. `specs/Slot.antt` and `specs/Laid.antt` define what they
 //! own.
 #![tactic(auto)]
 

@@ -12,8 +12,8 @@
 //! that never met.
 //!
 //! The code is safe, over `claim_core`, `table_core` and `cell_core`: the segments of the wanted places are
-//! installed, the places are won by one exchange of the claim word, and each is filled by one exchange and
-//! one store of its cell's state. A hand carries the keys of its runs' segments (`specs/Keys.antt`). Only
+//! installed, the places are won by one exchange of the claim word, and each is filled by two atomic steps
+//! on its cell's state. A hand carries the keys of its runs' segments (`specs/Keys.antt`). Only
 //! `push_back`, `grow_vec`, `append`, `grow_with` and `grow_by` may wait.
 //!
 //! A `Parts` is what an exclusive owner holds of a vector. Contracts see it as a list of values and broken

@@ -17,8 +17,8 @@ use cell_core::block::{self, Pen};
 use table_core::Key;
 
 impl<T> Shared<T> {
-    /// Fills a broken place, by one load of the size and one exchange of the place's state from broken to
-    /// busy (at most two at a place that was broken when the vector was opened); that exchange takes the
+    /// Fills a broken place, by one load of the size and one step of the place's state from broken to
+    /// busy (at most two at a place that was broken when the vector was opened); that step takes the
     /// place. It waits for nobody, and takes no memory.
     #[tactic(auto, using(crate::proofs::Cells::small_cell))]
     pub fn mend(
@@ -31,7 +31,7 @@ impl<T> Shared<T> {
         ensures token { IfOk result (IsPlacedOf self.now) }
         ensures here { IfOk result (λ placed. placed.place ≡ place) }
         ensures value { IfOk result (λ placed. placed.value ≡ value) }
-        // The exchange found the place broken.
+        // The step found the place broken.
         ensures mended { IfOk result (λ placed. IsMended placed.cell) }
         ensures below { IfOk result (λ _. place < seen_size hand.new) }
         ensures refused { IfErr result

@@ -1,5 +1,5 @@
 // What is known of a cell, and of each cell of a row.
-ghost use Rattle.std.specs.Prelude.{◌≡◌, ◌<◌, ◌++◌, ◌∷◌, [], Some, length, slice_get, slice_set};
+ghost use Rattle.std.specs.Prelude.{◌≡◌, ◌≢◌, ◌<◌, ◌++◌, ◌∷◌, [], Some, None, length, slice_get, slice_set};
 ghost use Rattle.cell_core.specs.Member.{HasOneLess};
 
 use crate::block::placed::Placed;
@@ -44,6 +44,19 @@ impl<T> Member<T> {
         }
     }
 
+    /// Returns the token of the cell that has this value, as that of the cell at an offset.
+    pub fn placed(&self, offset: u64) -> Placed<T>
+        requires { self.now.value ≢ None }
+        ensures offset { result.offset ≡ offset }
+        ensures value { Some result.value ≡ self.now.value }
+        ensures name { result.name ≡ self.now.name }
+    {
+        Placed {
+            offset,
+            written: self.member.written(),
+        }
+    }
+
     /// Shows a proof that a member and a token of one name have one value.
     pub fn agree(&self, placed: &Placed<T>)
         ensures { self.now.name ≡ placed.now.name → self.now.value ≡ Some placed.now.value }
@@ -55,7 +68,7 @@ impl<T> Member<T> {
 /// The knowledge of each cell of a row, in order. It has no bytes, at any length.
 #[derive(Drop)]
 pub struct Row<T> {
-    row: member::RawRow<T>,
+    pub(crate) row: member::RawRow<T>,
 }
 
 impl<T> Model for Row<T> {

@@ -2,8 +2,9 @@
 ghost use Rattle.std.specs.Prelude.{◌≡◌, ◌≢◌, ◌<◌, Some, None, MatchOption, IfSome};
 ghost use Rattle.cell_core.specs.Block.{block_len, cell_at, IsPlacedIn, IsPlacedAt, IsMemberAt, KeepsOtherCells, RenewsCell};
 
+use crate::block::fields::{in_field, keep_of, state_in, word_of};
 use crate::block::{Block, Epoch, Look, Member, Placed};
-use crate::slot::steps::FILLED;
+use crate::slot::steps::{BROKEN_BY_OWNER, FILLED, Written};
 use std::alloc::Allocator;
 
 impl<T, A: Allocator> Block<T, A> {
@@ -15,7 +16,7 @@ impl<T, A: Allocator> Block<T, A> {
         ensures another { RenewsCell self.old self.new offset }
         ensures others { KeepsOtherCells self.old self.new offset }
     {
-        self.laid.take(self.link, offset as usize)
+        self.laid.take(self.link, offset)
     }
 
     /// Moves the token's value out. The cell is then empty and has fresh names, so no older token applies to
@@ -27,8 +28,22 @@ impl<T, A: Allocator> Block<T, A> {
         ensures another { RenewsCell self.old self.new placed.now.offset }
         ensures others { KeepsOtherCells self.old self.new placed.now.offset }
     {
+        let offset = placed.offset;
+        self.take_written(offset, &placed.written)
+    }
+
+    // Moves out the value of the cell at an offset, by evidence that it has one.
+    fn take_written(&mut self, offset: u64, written: &Written<T>) -> T
+        requires within { offset < block_len self.old }
+        requires written { written.now.of ≡ (cell_at self.old offset).value_name }
+        ensures value { result ≡ written.now.value }
+        ensures len { block_len self.new ≡ block_len self.old }
+        ensures another { RenewsCell self.old self.new offset }
+        ensures others { KeepsOtherCells self.old self.new offset }
+    {
+        let (word, keep) = (word_of(offset), keep_of(offset));
         self.laid
-            .take_written(self.link, placed.offset as usize, &placed.written)
+            .take_written(self.link, word, offset as usize, keep, written)
     }
 
     /// Settles the cell and returns what is known of it. If it holds no value it is now broken until the
@@ -43,10 +58,16 @@ impl<T, A: Allocator> Block<T, A> {
         ensures len { block_len self.new ≡ block_len self.old }
         ensures others { KeepsOtherCells self.old self.new offset }
     {
-        let index = offset as usize;
-        Member {
-            member: self.laid.settle(self.link, index, &epoch.epoch),
-        }
+        let member = self.laid.settle(
+            self.link,
+            word_of(offset),
+            offset as usize,
+            keep_of(offset),
+            in_field(FILLED, offset),
+            in_field(BROKEN_BY_OWNER, offset),
+            &epoch.epoch,
+        );
+        Member { member }
     }
 
     /// Settles the cell like `settle_now`, when something is known of it: a known value stays.
@@ -59,13 +80,14 @@ impl<T, A: Allocator> Block<T, A> {
         ensures len { block_len self.new ≡ block_len self.old }
         ensures others { KeepsOtherCells self.old self.new offset }
     {
-        match self.cell(offset).word(&known.member) {
-            (FILLED, sight) => {
+        let (word, sight) = self.cell(offset).known(&known.member);
+        match state_in(word, offset) {
+            FILLED => {
                 let written = sight.written();
                 known.member.agrees(&written);
                 Member::of(&Placed { offset, written })
             }
-            (_, sight) => {
+            _ => {
                 sight.unused();
                 self.settle_now(offset, epoch)
             }
@@ -94,7 +116,14 @@ impl<T, A: Allocator> Block<T, A> {
         ensures others { KeepsOtherCells self.old self.new offset }
     {
         let held = self.take(offset);
-        let written = self.laid.fill(self.link, offset as usize, value);
+        let written = self.laid.fill(
+            self.link,
+            word_of(offset),
+            offset as usize,
+            keep_of(offset),
+            in_field(FILLED, offset),
+            value,
+        );
         (Placed { offset, written }, held)
     }
 
@@ -109,8 +138,14 @@ impl<T, A: Allocator> Block<T, A> {
         ensures others { KeepsOtherCells self.old self.new offset }
     {
         let held = self.take(offset);
-        let index = offset as usize;
-        let member = self.laid.break_cell(self.link, index, &epoch.epoch);
+        let member = self.laid.break_cell(
+            self.link,
+            word_of(offset),
+            offset as usize,
+            keep_of(offset),
+            in_field(BROKEN_BY_OWNER, offset),
+            &epoch.epoch,
+        );
         (Member { member }, held)
     }
 
@@ -128,11 +163,12 @@ impl<T, A: Allocator> Block<T, A> {
         ensures placed { IfSome result (λ (value, placed).
             IsPlacedAt self.now offset placed × (placed.value ≡ value.now)) }
     {
-        let cell = self.cell(offset);
-        match cell.word_in(&member.member, &epoch.epoch) {
+        let word = self.cell(offset).lasting(&member.member, &epoch.epoch);
+        match state_in(word, offset) {
             FILLED => {
                 let written = member.member.written();
-                Some((cell.value(&written), Placed { offset, written }))
+                let value = self.cell(offset).value(&written);
+                Some((value, Placed { offset, written }))
             }
             _ => None,
         }
@@ -150,10 +186,11 @@ impl<T: Drop, A: Allocator> Block<T, A> {
         ensures len { block_len self.new ≡ block_len self.old }
         ensures others { KeepsOtherCells self.old self.new offset }
     {
-        match self.cell(offset).word_in(&member.member, &epoch.epoch) {
+        let word = self.cell(offset).lasting(&member.member, &epoch.epoch);
+        match state_in(word, offset) {
             FILLED => {
                 let written = member.member.written();
-                Some(self.laid.take_written(self.link, offset as usize, &written))
+                Some(self.take_written(offset, &written))
             }
             _ => {
                 drop(self.take(offset));

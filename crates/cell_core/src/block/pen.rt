@@ -1,9 +1,10 @@
 // The right to write a cell.
 ghost use Rattle.std.specs.Prelude.{◌≡◌};
 
+use crate::block::fields::in_field;
 use crate::block::placed::Placed;
 use crate::block::spoilt::Spoilt;
-use crate::slot::steps::RawPen;
+use crate::slot::steps::{BROKEN, BUSY, FILLED, RawPen};
 use std::marker::Model;
 
 /// The right to fill or break the cell at an offset, which is busy until then. A pen must be spent by one of
@@ -14,7 +15,8 @@ pub struct Pen<'a, T> {
 }
 
 impl<'a, T> Model for Pen<'a, T> {
-    ghost use Rattle.std.specs.Prelude.{◌≡◌};
+    ghost use Rattle.std.specs.Prelude.{◌≡◌, ◌%◌};
+    ghost use Rattle.cell_core.specs.Laid.{word_cells};
     ghost use Rattle.cell_core.specs.Block.{PenView, pen_coded};
 
     ghost Value = { PenView };
@@ -23,7 +25,7 @@ impl<'a, T> Model for Pen<'a, T> {
 
     ghost view = { λ p. record { offset = p.offset; cell = p.pen.of; found = p.pen.found } };
 
-    ghost invariant = { λ p. p.pen.found ≡ p.pen.sought };
+    ghost invariant = { λ p. (p.pen.found ≡ p.pen.sought) × (p.pen.index ≡ p.offset % word_cells) };
 }
 
 impl<'a, T> Pen<'a, T> {
@@ -35,7 +37,7 @@ impl<'a, T> Pen<'a, T> {
         ensures found { result.found ≡ self.entry.found }
     {
         let Pen { offset, pen } = self;
-        let written = pen.fill(value);
+        let written = pen.fill(value, in_field(FILLED - BUSY, offset));
         Placed { offset, written }
     }
 
@@ -45,7 +47,7 @@ impl<'a, T> Pen<'a, T> {
         ensures name { result.name ≡ self.entry.cell.broken_name }
     {
         let Pen { offset, pen } = self;
-        let broken = pen.break_cell();
+        let broken = pen.break_cell(in_field(BROKEN - BUSY, offset));
         Spoilt { offset, broken }
     }
 }

@@ -1,23 +1,40 @@
-// The raw steps on a row of cells: its memory, a cell more, a cell less, and the cell at an index.
-ghost use Rattle.std.specs.Prelude.{◌≡◌, ℕ, ◌+◌, ◌<◌, true, List, [], ◌∷◌, length, None, IfOk};
+// The raw steps on the two rows of a block, one of words and one of rooms: their memory, the states of more cells, and
+// what an exclusive owner does with the cell at an index.
+ghost use Rattle.std.specs.Prelude.{◌≡◌, ℕ, ◌+◌, ◌*◌, ◌-◌, ◌/◌, ◌%◌, ◌^◌, ◌<◌, ◌≤◌, true, List, [], ◌∷◌, length, None, IfOk};
 ghost use base.Stored.{coded_list};
 ghost use prog.Memory.{capped};
 ghost use denote.RawPtr.{Ptr, coded_ptr};
-ghost use Rattle.cell_core.specs.Slot.{Names, names_coded};
-ghost use Rattle.cell_core.specs.Laid.{laid, laid_lent, stride, FitsMemory, IsLinked, HasOneMore, HasOneRenamed, cell_in};
+ghost use Rattle.cell_core.specs.Slot.{Names, names_coded, cell_in, step, filled_state, owner_broken_state};
+ghost use Rattle.cell_core.specs.Laid.{Extent, extent_coded, rooms_owned, laid, laid_lent, word_cells, FitsMemory, IsLinked, IsFieldOf, HasMore, HasOneRenamed};
 ghost use Rattle.cell_core.specs.Member.{Settles};
+ghost use Rattle.cell_core.specs.Run.{cells_from};
 
+use crate::block::fields::{keep_of, state_in, word_of};
 use crate::slot::epoch::RawEpoch;
 use crate::slot::member::RawMember;
-use crate::slot::steps::{BROKEN_BY_OWNER, EMPTY, FILLED, RawSlot, Written};
+use crate::slot::run::RawCells;
+use crate::slot::steps::{FILLED, RawSlot, Written};
 use std::alloc::{AllocError, Allocator};
 use std::marker::{Model, PhantomData};
 use std::mem::{align_of, size_of};
 
-// The address of a row. It owns nothing.
+// The addresses of the row of words and of the row of rooms. It owns nothing.
 pub(crate) struct Link<T> {
-    pub(crate) ptr: *mut RawSlot<T>,
+    pub(crate) words: *mut u64,
+    pub(crate) rooms: *mut T,
     marker: PhantomData<T>,
+}
+
+impl<T> Link<T> {
+    pub(crate) fn of(words: *mut u64, rooms: *mut T) -> Link<T>
+        ensures { (result.words ≡ words) × (result.rooms ≡ rooms) }
+    {
+        Link {
+            words,
+            rooms,
+            marker: PhantomData,
+        }
+    }
 }
 
 impl<T> Clone for Link<T> {
@@ -36,182 +53,298 @@ unsafe impl<T> Send for Link<T> {}
 
 unsafe impl<T> Sync for Link<T> {}
 
-// The cells of the row at `at`, room for `left` more, and the right to free it. It has no bytes.
-pub(crate) struct Laid<T, A: Allocator> {
-    // `*mut` makes the type invariant, since values go in through a `&`.
-    marker: PhantomData<*mut (T, A)>,
+// Room for `len` values at `at`, and the right to free it. It has no bytes.
+pub(crate) struct Rooms<X, A: Allocator> {
+    // `*mut` makes the type invariant, since values go in.
+    marker: PhantomData<*mut (X, A)>,
     pub(crate) ghost heap: { A },
     pub(crate) ghost at: { Ptr } by { coded_ptr },
-    pub(crate) ghost cells: { List Names } by { coded_list names_coded },
-    pub(crate) ghost left: { ℕ },
+    pub(crate) ghost len: { ℕ },
 }
 
-impl<T, A: Allocator> Model for Laid<T, A> {
-    ghost also_owns = { λ l. laid T.row (A.dealloc_token l.heap) l.at l.cells l.left };
-
-    ghost also_shares = { λ l _ κ. laid_lent T.row l.at l.cells l.left κ };
+impl<X, A: Allocator> Model for Rooms<X, A> {
+    ghost also_owns = { λ r. rooms_owned X.row (A.dealloc_token r.heap) r.at r.len };
 }
 
-fn cell_size<T>() -> usize
-    ensures { result ≡ capped (stride T.row) }
+fn room_size<X>() -> usize
+    ensures { result ≡ capped (step X.row) }
 {
-    size_of::<RawSlot<T>>()
+    size_of::<X>()
 }
 
-// Returns whether `len` cells take fewer than 2^63 bytes.
+// Returns whether `len` values take fewer than 2^63 bytes.
 #[tactic(auto, using(crate::proofs::LaidMade::bytes_fit))]
-fn fits<T>(len: usize) -> bool
-    ensures { result ≡ true → FitsMemory T.row len }
+fn fits<X>(len: usize) -> bool
+    ensures { result ≡ true → FitsMemory X.row len }
 {
-    match len.checked_mul(cell_size::<T>()) {
+    match len.checked_mul(room_size::<X>()) {
         Some(bytes) => bytes < 1 << 63,
         None => false,
     }
 }
 
-impl<T, A: Allocator> Laid<T, A> {
-    fn allocate(alloc: &A, len: usize) -> Result<(Link<T>, Laid<T, A>), AllocError>
-        requires { FitsMemory T.row len }
-        ensures { IfOk result (λ l. (l.1.heap ≡ alloc.now) × IsLinked l.1.at l.0.ptr
-            × (l.1.cells ≡ []) × (l.1.left ≡ len)) }
+impl<X, A: Allocator> Rooms<X, A> {
+    fn allocate(alloc: &A, len: usize) -> Result<(*mut X, Rooms<X, A>), AllocError>
+        requires { FitsMemory X.row len }
+        ensures { IfOk result (λ l. (l.1.heap ≡ alloc.now) × IsLinked l.1.at l.0 × (l.1.len ≡ len)) }
     {
-        match alloc.allocate(len * size_of::<RawSlot<T>>(), align_of::<RawSlot<T>>()) {
+        match alloc.allocate(len * size_of::<X>(), align_of::<X>()) {
             Ok(room) => {
-                let ptr = room as *mut RawSlot<T>;
                 let marker = PhantomData;
-                let link = Link {
-                    ptr,
-                    marker: PhantomData,
-                };
-                Ok((link, Laid { marker }))
+                Ok((room as *mut X, Rooms { marker }))
             }
             Err(error) => Err(error),
         }
     }
 
-    // Requests room for `len` cells. It refuses 2^63 bytes or more, which no allocator can give.
-    pub(crate) fn reserve(alloc: &A, len: usize) -> Result<(Link<T>, Laid<T, A>), AllocError>
-        ensures { IfOk result (λ l. (l.1.heap ≡ alloc.now) × IsLinked l.1.at l.0.ptr
-            × (l.1.cells ≡ []) × (l.1.left ≡ len)) }
+    // Requests room for `len` values. It refuses 2^63 bytes or more, which no allocator can give.
+    pub(crate) fn reserve(alloc: &A, len: usize) -> Result<(*mut X, Rooms<X, A>), AllocError>
+        ensures { IfOk result (λ l. (l.1.heap ≡ alloc.now) × IsLinked l.1.at l.0 × (l.1.len ≡ len)) }
     {
-        if !fits::<T>(len) {
+        if !fits::<X>(len) {
             return Err(AllocError);
         }
-        Laid::allocate(alloc, len)
+        Rooms::allocate(alloc, len)
     }
 
-    // One more cell, which is empty.
-    pub(crate) fn push(&mut self, link: Link<T>, index: usize)
-        requires { IsLinked self.old.at link.ptr × (index ≡ length self.old.cells)
-            × (0 < self.old.left) }
-        ensures { (self.new.heap ≡ self.old.heap) × (self.new.at ≡ self.old.at)
-            × HasOneMore self.old.cells self.new.cells × (self.new.left + 1 ≡ self.old.left) }
+    // Frees the row.
+    pub(crate) fn free(self, alloc: &A, ptr: *mut X, len: usize)
+        requires { (self.heap ≡ alloc.now) × (self.at ≡ ptr) × (self.len ≡ len) }
     {
+        let Rooms { marker: _ } = self;
         unsafe {
-            let place = link.ptr.add(index);
-            (&raw mut (*place).state).write(EMPTY);
+            alloc.deallocate(ptr as *mut u8, len * size_of::<X>(), align_of::<X>());
+        }
+    }
+}
+
+// Cells in their two rows, with room for more, and the right to free both rows. It has no bytes.
+pub(crate) struct Laid<T, A: Allocator> {
+    // `*mut` makes the type invariant, since values go in through a `&`.
+    marker: PhantomData<*mut (T, A)>,
+    pub(crate) ghost heap: { A },
+    pub(crate) ghost rows: { Extent } by { extent_coded },
+    pub(crate) ghost cells: { List Names } by { coded_list names_coded },
+}
+
+impl<T, A: Allocator> Model for Laid<T, A> {
+    ghost also_owns = { λ l. laid T.row (A.dealloc_token l.heap) l.rows l.cells };
+
+    ghost also_shares = { λ l _ κ. laid_lent T.row l.rows l.cells κ };
+}
+
+impl<T, A: Allocator> Laid<T, A> {
+    // No cell yet, in room for both rows.
+    pub(crate) fn new(words: Rooms<u64, A>, rooms: Rooms<T, A>) -> Laid<T, A>
+        requires { words.heap ≡ rooms.heap }
+        ensures { (result.heap ≡ rooms.heap) × (result.cells ≡ [])
+            × (result.rows
+            ≡ record { at = words.at; rooms = rooms.at; words = 0; more = words.len; left = rooms.len }) }
+    {
+        let Rooms { marker: _ } = words;
+        let Rooms { marker: _ } = rooms;
+        Laid {
+            marker: PhantomData,
         }
     }
 
-    // The cell at an index.
-    pub(crate) fn cell(&self, link: Link<T>, index: usize) -> &RawSlot<T>
-        requires { (self.now.at ≡ link.ptr) × (index < length self.now.cells) }
-        ensures { result.now ≡ cell_in self.now.cells index }
+    // The room of both rows, whatever is in the cells. Values that are still there are not dropped.
+    pub(crate) fn into_rooms(self) -> (Rooms<u64, A>, Rooms<T, A>)
+        ensures { (result.0.heap ≡ self.heap) × (result.1.heap ≡ self.heap)
+            × (result.0.at ≡ self.rows.at) × (result.0.len ≡ self.rows.words + self.rows.more)
+            × (result.1.at ≡ self.rows.rooms) × (result.1.len ≡ length self.cells + self.rows.left) }
     {
-        unsafe { &*link.ptr.add(index) }
+        let Laid { marker: _ } = self;
+        (
+            Rooms {
+                marker: PhantomData,
+            },
+            Rooms {
+                marker: PhantomData,
+            },
+        )
     }
 
-    // The value of the cell at an index, if it holds one. The cell is empty then, and has new names.
-    pub(crate) fn take(&mut self, link: Link<T>, index: usize) -> Option<T>
-        requires { IsLinked self.old.at link.ptr × (index < length self.old.cells) }
-        ensures { (self.new.heap ≡ self.old.heap) × (self.new.at ≡ self.old.at)
-            × HasOneRenamed self.old.cells index self.new.cells × (self.new.left ≡ self.old.left) }
+    // One more word, of `n` empty cells.
+    pub(crate) fn push(&mut self, words: *mut u64, word: usize, n: usize)
+        requires { IsLinked self.old.rows.at words × (word ≡ self.old.rows.words) × (0 < self.old.rows.more)
+            × (length self.old.cells ≡ word * word_cells) × (n ≤ word_cells) × (n ≤ self.old.rows.left) }
+        ensures { (self.new.heap ≡ self.old.heap) × HasMore self.old.cells n self.new.cells
+            × (self.new.rows ≡ record self.old.rows {
+              words = self.old.rows.words + 1;
+              more = self.old.rows.more - 1;
+              left = self.old.rows.left - n;
+            }) }
+    {
+        // For the proof: the contract alone speaks of how many cells there are.
+        let _n = n;
+        unsafe {
+            words.add(word).write(0);
+        }
+    }
+
+    // The cell at an index, whose state is in this word.
+    pub(crate) fn cell<'a>(&'a self, link: Link<T>, word: usize, index: usize) -> RawSlot<'a, T>
+        requires { (self.now.rows.at ≡ link.words) × (self.now.rows.rooms ≡ link.rooms)
+            × (index < length self.now.cells) × (word ≡ index / word_cells) }
+        ensures { (result.of ≡ cell_in self.now.cells index) × (result.index ≡ index % word_cells) }
     {
         unsafe {
-            let place = link.ptr.add(index);
-            let state = &raw mut (*place).state;
-            let found = state.read();
-            state.write(EMPTY);
-            if found == FILLED {
-                Some((&raw const (*place).room).read())
-            } else {
-                None
+            RawSlot {
+                word: link.words.add(word),
+                room: link.rooms.add(index),
+                marker: PhantomData,
+            }
+        }
+    }
+
+    // `n` cells from an index on, whose states are all in this word.
+    pub(crate) fn cells<'a>(
+        &'a self,
+        link: Link<T>,
+        word: usize,
+        index: usize,
+        n: usize,
+    ) -> RawCells<'a, T>
+        requires { (self.now.rows.at ≡ link.words) × (self.now.rows.rooms ≡ link.rooms)
+            × (0 < n) × (index + n ≤ length self.now.cells) × (index % word_cells + n ≤ word_cells)
+            × (word ≡ index / word_cells) }
+        ensures { (result.of ≡ cells_from n index self.now.cells) × (result.index ≡ index % word_cells) }
+    {
+        // For the proof: the contract alone speaks of how many cells there are.
+        let _n = n;
+        unsafe {
+            RawCells {
+                word: link.words.add(word),
+                room: link.rooms.add(index),
+                marker: PhantomData,
             }
         }
     }
 
     // Moves out the value of the cell at an index, by evidence that it has one. The cell is then empty and
     // has fresh names.
-    pub(crate) fn take_written(&mut self, link: Link<T>, index: usize, written: &Written<T>) -> T
-        requires { IsLinked self.old.at link.ptr × (index < length self.old.cells)
+    pub(crate) fn take_written(
+        &mut self,
+        link: Link<T>,
+        word: usize,
+        index: usize,
+        keep: u64,
+        written: &Written<T>,
+    ) -> T
+        requires { IsLinked self.old.rows.at link.words × IsLinked self.old.rows.rooms link.rooms
+            × IsFieldOf self.old.cells index word keep
             × (written.now.of ≡ (cell_in self.old.cells index).value_name) }
-        ensures { (self.new.heap ≡ self.old.heap) × (self.new.at ≡ self.old.at)
-            × HasOneRenamed self.old.cells index self.new.cells × (self.new.left ≡ self.old.left)
-            × (result ≡ written.now.value) }
+        ensures { (self.new.heap ≡ self.old.heap) × (self.new.rows ≡ self.old.rows)
+            × HasOneRenamed self.old.cells index self.new.cells × (result ≡ written.now.value) }
     {
         unsafe {
-            let cell = link.ptr.add(index);
-            (&raw mut (*cell).state).write(EMPTY);
-            (&raw const (*cell).room).read()
+            let place = link.words.add(word);
+            let found = place.read();
+            place.write(found & keep);
+            link.rooms.add(index).read()
         }
     }
 
-    // Writes a value. What the cell held is forgotten: a value that is still there is not dropped. The cell
-    // has new names.
-    pub(crate) fn fill(&mut self, link: Link<T>, index: usize, value: T) -> Written<T>
-        requires { IsLinked self.old.at link.ptr × (index < length self.old.cells) }
-        ensures { (self.new.heap ≡ self.old.heap) × (self.new.at ≡ self.old.at)
-            × HasOneRenamed self.old.cells index self.new.cells × (self.new.left ≡ self.old.left)
+    // Empties the cell at an index. What it held is forgotten: a value that is still there is not dropped. The cell
+    // has fresh names.
+    pub(crate) fn empty(&mut self, link: Link<T>, word: usize, index: usize, keep: u64)
+        requires { IsLinked self.old.rows.at link.words × IsLinked self.old.rows.rooms link.rooms
+            × IsFieldOf self.old.cells index word keep }
+        ensures { (self.new.heap ≡ self.old.heap) × (self.new.rows ≡ self.old.rows)
+            × HasOneRenamed self.old.cells index self.new.cells }
+    {
+        unsafe {
+            let place = link.words.add(word);
+            let found = place.read();
+            place.write(found & keep);
+        }
+    }
+
+    // Writes a value, and `state`, which is that of a filled cell. What the cell held is forgotten: a value that is
+    // still there is not dropped. The cell has fresh names.
+    pub(crate) fn fill(
+        &mut self,
+        link: Link<T>,
+        word: usize,
+        index: usize,
+        keep: u64,
+        state: u64,
+        value: T,
+    ) -> Written<T>
+        requires { IsLinked self.old.rows.at link.words × IsLinked self.old.rows.rooms link.rooms
+            × IsFieldOf self.old.cells index word keep
+            × (state ≡ filled_state * 16 ^ (index % word_cells)) }
+        ensures { (self.new.heap ≡ self.old.heap) × (self.new.rows ≡ self.old.rows)
+            × HasOneRenamed self.old.cells index self.new.cells
             × (result.of ≡ (cell_in self.new.cells index).value_name) × (result.value ≡ value) }
     {
         unsafe {
-            let cell = link.ptr.add(index);
-            (&raw mut (*cell).state).write(FILLED);
-            (&raw mut (*cell).room).write(value);
+            let place = link.words.add(word);
+            let found = place.read();
+            place.write((found & keep) + state);
+            link.rooms.add(index).write(value);
         }
         Written {
             marker: PhantomData,
         }
     }
 
-    // Breaks the cell for the epoch. What it held is forgotten: a value that is still there is not dropped.
-    // The cell has new names.
+    // Breaks the cell for the epoch: `state` is that of a cell that an owner broke. What it held is forgotten: a value
+    // that is still there is not dropped. The cell has fresh names.
     pub(crate) fn break_cell(
         &mut self,
         link: Link<T>,
+        word: usize,
         index: usize,
+        keep: u64,
+        state: u64,
         epoch: &RawEpoch,
     ) -> RawMember<T>
-        requires { IsLinked self.old.at link.ptr × (index < length self.old.cells) }
-        ensures { (self.new.heap ≡ self.old.heap) × (self.new.at ≡ self.old.at)
-            × HasOneRenamed self.old.cells index self.new.cells × (self.new.left ≡ self.old.left)
+        requires { IsLinked self.old.rows.at link.words × IsLinked self.old.rows.rooms link.rooms
+            × IsFieldOf self.old.cells index word keep
+            × (state ≡ owner_broken_state * 16 ^ (index % word_cells)) }
+        ensures { (self.new.heap ≡ self.old.heap) × (self.new.rows ≡ self.old.rows)
+            × HasOneRenamed self.old.cells index self.new.cells
             × (result.of.epoch ≡ (cell_in self.new.cells index).epoch) × (result.of.value ≡ None)
             × (result.of.epoch ≡ epoch.now.of ∷ []) }
     {
         unsafe {
-            let cell = link.ptr.add(index);
-            (&raw mut (*cell).state).write(BROKEN_BY_OWNER);
+            let place = link.words.add(word);
+            let found = place.read();
+            place.write((found & keep) + state);
         }
         RawMember {
             marker: PhantomData,
         }
     }
 
-    // What is known of the cell. One without a value is broken then for the epoch, and has new names.
-    pub(crate) fn settle(&mut self, link: Link<T>, index: usize, epoch: &RawEpoch) -> RawMember<T>
-        requires { IsLinked self.old.at link.ptr × (index < length self.old.cells) }
-        ensures { (self.new.heap ≡ self.old.heap) × (self.new.at ≡ self.old.at)
-            × (self.new.left ≡ self.old.left)
+    // What is known of the cell. One without a value is broken then for the epoch, and has fresh names.
+    pub(crate) fn settle(
+        &mut self,
+        link: Link<T>,
+        word: usize,
+        index: usize,
+        keep: u64,
+        filled: u64,
+        state: u64,
+        epoch: &RawEpoch,
+    ) -> RawMember<T>
+        requires { IsLinked self.old.rows.at link.words × IsLinked self.old.rows.rooms link.rooms
+            × IsFieldOf self.old.cells index word keep
+            × (filled ≡ filled_state * 16 ^ (index % word_cells))
+            × (state ≡ owner_broken_state * 16 ^ (index % word_cells)) }
+        ensures { (self.new.heap ≡ self.old.heap) × (self.new.rows ≡ self.old.rows)
             × (result.of.name ≡ (cell_in self.old.cells index).value_name)
             × Settles self.old.cells index self.new.cells result.of.value result.of.epoch
             × (result.of.epoch ≡ epoch.now.of ∷ []) }
     {
         unsafe {
-            let cell = link.ptr.add(index);
-            let state = &raw mut (*cell).state;
-            let found = state.read();
-            if found != FILLED {
-                state.write(BROKEN_BY_OWNER);
+            let place = link.words.add(word);
+            let found = place.read();
+            let kept = found & keep;
+            if found - kept != filled {
+                place.write(kept + state);
             }
         }
         RawMember {
@@ -219,45 +352,26 @@ impl<T, A: Allocator> Laid<T, A> {
         }
     }
 
-    // The last cell becomes room, whatever it holds: a value that is still there is not dropped.
-    fn shrink(&mut self)
-        requires { 0 < length self.old.cells }
-        ensures { (self.new.heap ≡ self.old.heap) × (self.new.at ≡ self.old.at)
-            × HasOneMore self.new.cells self.old.cells × (self.new.left ≡ self.old.left + 1) }
-    {}
-
-    // The value of the last cell, if it holds one. The cell becomes room.
-    pub(crate) fn pop(&mut self, link: Link<T>, index: usize) -> Option<T>
-        requires { IsLinked self.old.at link.ptr × (length self.old.cells ≡ index + 1) }
-        ensures { (self.new.heap ≡ self.old.heap) × (self.new.at ≡ self.old.at)
-            × (length self.new.cells ≡ index) × (self.new.left ≡ self.old.left + 1) }
+    // Moves out the value of the cell at an offset, if it holds one. The cell is then empty and has fresh names.
+    pub(crate) fn take(&mut self, link: Link<T>, offset: u64) -> Option<T>
+        requires { IsLinked self.old.rows.at link.words × IsLinked self.old.rows.rooms link.rooms
+            × (offset < length self.old.cells) }
+        ensures { (self.new.heap ≡ self.old.heap) × (self.new.rows ≡ self.old.rows)
+            × HasOneRenamed self.old.cells offset self.new.cells }
     {
-        let value = self.take(link, index);
-        self.shrink();
-        value
-    }
-
-    // Frees a row, whatever is in its cells. Values that are still there are not dropped.
-    pub(crate) fn free(self, alloc: &A, link: Link<T>, len: usize)
-        requires { (self.heap ≡ alloc.now) × (self.at ≡ link.ptr)
-            × (length self.cells + self.left ≡ len) }
-    {
-        let Laid { marker: _ } = self;
-        unsafe {
-            alloc.deallocate(
-                link.ptr as *mut u8,
-                len * size_of::<RawSlot<T>>(),
-                align_of::<RawSlot<T>>(),
-            );
+        let (word, index, keep) = (word_of(offset), offset as usize, keep_of(offset));
+        let (found, sight) = self.cell(link, word, index).sight();
+        match state_in(found, offset) {
+            FILLED => {
+                let written = sight.written();
+                Some(self.take_written(link, word, index, keep, &written))
+            }
+            _ => {
+                sight.unused();
+                self.empty(link, word, index, keep);
+                None
+            }
         }
-    }
-
-    // Frees a row without cells: each was popped.
-    pub(crate) fn release(self, alloc: &A, link: Link<T>, len: usize)
-        requires { (self.heap ≡ alloc.now) × (self.at ≡ link.ptr) × (self.cells ≡ [])
-            × (self.left ≡ len) }
-    {
-        self.free(alloc, link, len);
     }
 }
 

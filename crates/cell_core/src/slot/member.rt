@@ -55,7 +55,7 @@ impl<T> RawMember<T> {
 
 // What is known of each cell of a row.
 pub(crate) struct RawRow<T> {
-    marker: PhantomData<T>,
+    pub(crate) marker: PhantomData<T>,
     pub(crate) ghost of: { List (MemberView T) } by { coded_list (member_coded T.code) },
 }
 

@@ -1,63 +1,60 @@
-// The raw steps on one cell, each a few lines around one atomic step.
-ghost use Rattle.std.specs.Prelude.{◌≡◌, ◌≢◌, ℕ, ◌<◌, [], ◌∷◌, Option};
+// The raw steps on one cell, each a few lines around one atomic step on the word that holds the cell's state.
+ghost use Rattle.std.specs.Prelude.{◌≡◌, ◌≢◌, ℕ, ◌+◌, ◌*◌, ◌-◌, ◌^◌, ◌<◌, [], ◌∷◌, Option};
 ghost use base.Fml.{ftrue, ffalse};
 ghost use denote.Sharing.{said};
 ghost use Rattle.std.specs.Coded.{coded_option};
-ghost use Rattle.cell_core.specs.Slot.{Names, names_coded, shared, pen_owned, sighted, written, was_broken};
-ghost use Rattle.cell_core.specs.Slot.{empty_word, busy_word, filled_word, broken_word, owner_broken_word};
-ghost use Rattle.cell_core.specs.Member.{HasNames, IsWordOf, MayBeWordOf, IsEpochOf};
+ghost use Rattle.cell_core.specs.Fields.{field};
+ghost use Rattle.cell_core.specs.Slot.{Names, names_coded, slot_owned, pen_owned, sighted, written, was_broken};
+ghost use Rattle.cell_core.specs.Slot.{empty_state, busy_state, filled_state, broken_state, owner_broken_state};
+ghost use Rattle.cell_core.specs.Member.{HasNames, IsStateOf, MayBeStateOf, IsEpochOf};
 
 use crate::slot::epoch::{RawEnded, RawEpoch};
 use crate::slot::member::RawMember;
-use atomic_table::exchange;
-use std::marker::{Brand, Model, Move, Owns, PhantomData};
+use std::marker::{Brand, Model, PhantomData};
 use std::sync::atomic::Ordering::SeqCst;
 use std::sync::atomic::raw;
 
-// The word of a cell: it is empty, one thread has it, it is filled, it is broken, or an owner broke it and its
-// epoch may still last.
+// The state of a cell, in four bits of a word: it is empty, one thread has it, it is filled, it is broken, or an owner
+// broke it and its epoch may still last. All but the first have the lowest bit.
 pub(crate) const EMPTY: u64 = 0;
 
 pub(crate) const BUSY: u64 = 1;
 
-pub(crate) const FILLED: u64 = 2;
+pub(crate) const FILLED: u64 = 3;
 
-pub(crate) const BROKEN: u64 = 3;
+pub(crate) const BROKEN: u64 = 5;
 
-pub(crate) const BROKEN_BY_OWNER: u64 = 4;
+pub(crate) const BROKEN_BY_OWNER: u64 = 9;
 
-// A cell in its row. Nobody has one by value: its room may hold none.
-pub(crate) struct RawSlot<T> {
-    pub(crate) state: u64,
-    pub(crate) room: T,
+// A cell that is lent: the word that has its state in a field, and its room. It must be spent.
+pub(crate) struct RawSlot<'a, T> {
+    pub(crate) word: *const u64,
+    pub(crate) room: *const T,
+    pub(crate) marker: PhantomData<&'a T>,
+    pub(crate) ghost of: { Names } by { names_coded },
+    pub(crate) ghost index: { ℕ },
 }
 
-impl<T> Owns for RawSlot<T> {
-    ghost Value = { Names };
-
-    ghost coded = { names_coded };
-
-    ghost shr_at = { λ n p κ. shared T.row n p κ };
+impl<'a, T> Model for RawSlot<'a, T> {
+    ghost also_owns = { λ s. slot_owned T.row s.of 'a s.word s.room s.index };
 }
 
-impl<T> Move for RawSlot<T> {
-    ghost own_val = { λ n vs. ffalse };
-}
-
-// What an exchange from the word `sought` to busy gained when it found the word `found`. It must be spent.
+// What a step that sought a state gained when it found another or this one. It must be spent.
 pub(crate) struct RawPen<'a, T> {
-    slot: *const RawSlot<T>,
+    word: *const u64,
+    room: *const T,
     marker: PhantomData<&'a T>,
     pub(crate) ghost of: { Names } by { names_coded },
+    pub(crate) ghost index: { ℕ },
     pub(crate) ghost sought: { ℕ },
     pub(crate) ghost found: { ℕ },
 }
 
 impl<'a, T> Model for RawPen<'a, T> {
-    ghost also_owns = { λ c. pen_owned T.row c.of 'a c.slot c.sought c.found };
+    ghost also_owns = { λ c. pen_owned T.row c.of 'a c.word c.room c.index c.sought c.found };
 }
 
-// What a load of the word `found` showed. It has no bytes.
+// What a load of the state `found` showed. It has no bytes.
 pub(crate) struct RawSight<T> {
     marker: PhantomData<T>,
     pub(crate) ghost of: { Names } by { names_coded },
@@ -69,7 +66,7 @@ impl<T> Model for RawSight<T> {
     ghost also_owns = { λ s. sighted T.row s.of s.found s.value };
 }
 
-// Shows that a cell holds a value. It has no bytes. The writer's own token knows the word that its exchange
+// Shows that a cell holds a value. It has no bytes. The writer's own token knows the state that its step
 // found.
 pub(crate) struct Written<T> {
     pub(crate) marker: PhantomData<T>,
@@ -96,7 +93,7 @@ impl Model for RawBroken {
     ghost also_shares = { λ c _ κ. said (was_broken c.of) κ };
 }
 
-// What shows that another call began a cell. It has no bytes, and a lost exchange alone makes one.
+// What shows that another call began a cell. It has no bytes, and a lost step alone makes one.
 pub(crate) struct RawBegun {
     marker: PhantomData<()>,
     pub(crate) ghost of: { Names } by { names_coded },
@@ -106,80 +103,89 @@ impl Model for RawBegun {
     ghost also_owns = { λ _. ftrue };
 }
 
-impl<T> RawSlot<T> {
-    // The exchange from empty to busy, which returns the word as it was.
-    pub(crate) fn begin(&self) -> (u64, RawPen<'_, T>)
-        ensures { (result.1.of ≡ self.now) × (result.1.sought ≡ empty_word)
-            × (result.1.found ≡ result.0) }
+impl<'a, T> RawSlot<'a, T> {
+    // The step from empty to busy, which leaves any other state. Returns the word as it was.
+    pub(crate) fn begin(self, unit: u64) -> (u64, RawPen<'a, T>)
+        requires { unit ≡ 16 ^ self.index }
+        ensures { (result.1.of ≡ self.entry.of) × (result.1.index ≡ self.entry.index)
+            × (result.1.sought ≡ empty_state) × (result.1.found ≡ field result.0 self.entry.index) }
     {
-        let found = unsafe { exchange::<Brand>(&raw const self.state, EMPTY, BUSY) };
-        let pen = RawPen {
-            slot: self,
-            marker: PhantomData,
-        };
-        (found, pen)
+        let RawSlot { word, room, marker } = self;
+        let found = unsafe { raw::fetch_or::<Brand>(word, unit, SeqCst) };
+        (found, RawPen { word, room, marker })
     }
 
-    // The exchange from broken to busy, of a cell whose epoch has ended.
-    pub(crate) fn mend(&self) -> (u64, RawPen<'_, T>)
-        ensures { (result.1.of ≡ self.now) × (result.1.sought ≡ broken_word)
-            × (result.1.found ≡ result.0) }
+    // The step from broken to busy, which leaves any other state.
+    pub(crate) fn mend(self, mask: u64) -> (u64, RawPen<'a, T>)
+        requires { mask ≡ 2 ^ 64 - 1 - 4 * 16 ^ self.index }
+        ensures { (result.1.of ≡ self.entry.of) × (result.1.index ≡ self.entry.index)
+            × (result.1.sought ≡ broken_state) × (result.1.found ≡ field result.0 self.entry.index) }
     {
-        let found = unsafe { exchange::<Brand>(&raw const self.state, BROKEN, BUSY) };
-        let pen = RawPen {
-            slot: self,
-            marker: PhantomData,
-        };
-        (found, pen)
+        let RawSlot { word, room, marker } = self;
+        let found = unsafe { raw::fetch_and::<Brand>(word, mask, SeqCst) };
+        (found, RawPen { word, room, marker })
     }
 
-    // Takes a cell that an owner broke, by evidence that the epoch has ended.
-    pub(crate) fn reopen(&self, member: &RawMember<T>, ended: &RawEnded) -> (u64, RawPen<'_, T>)
-        requires { HasNames self.now member.now.of.value member.now.of.name member.now.of.epoch
+    // Takes a cell that an owner broke, by evidence that the epoch has ended. Leaves any other state.
+    pub(crate) fn reopen(
+        self,
+        mask: u64,
+        member: &RawMember<T>,
+        ended: &RawEnded,
+    ) -> (u64, RawPen<'a, T>)
+        requires { (mask ≡ 2 ^ 64 - 1 - 8 * 16 ^ self.index)
+            × HasNames self.of member.now.of.value member.now.of.name member.now.of.epoch
             × IsEpochOf member.now.of.value member.now.of.epoch (ended.now.of ∷ []) }
-        ensures { (result.1.of ≡ self.now) × (result.1.sought ≡ owner_broken_word)
-            × (result.1.found ≡ result.0)
-            × MayBeWordOf member.now.of.value result.0 }
+        ensures { (result.1.of ≡ self.entry.of) × (result.1.index ≡ self.entry.index)
+            × (result.1.sought ≡ owner_broken_state) × (result.1.found ≡ field result.0 self.entry.index)
+            × MayBeStateOf member.now.of.value (field result.0 self.entry.index) }
     {
-        let found = unsafe { exchange::<Brand>(&raw const self.state, BROKEN_BY_OWNER, BUSY) };
-        let pen = RawPen {
-            slot: self,
-            marker: PhantomData,
-        };
-        (found, pen)
+        let RawSlot { word, room, marker } = self;
+        let found = unsafe { raw::fetch_and::<Brand>(word, mask, SeqCst) };
+        (found, RawPen { word, room, marker })
     }
 
-    // The word, and what it shows.
-    pub(crate) fn sight(&self) -> (u64, RawSight<T>)
-        ensures { (result.1.of ≡ self.now) × (result.1.found ≡ result.0) }
+    // The word, and what the cell's state shows.
+    pub(crate) fn sight(self) -> (u64, RawSight<T>)
+        ensures { (result.1.of ≡ self.entry.of) × (result.1.found ≡ field result.0 self.entry.index) }
     {
-        let found = unsafe { raw::load::<Brand>(&raw const self.state, SeqCst) };
+        let RawSlot {
+            word,
+            room: _,
+            marker: _,
+        } = self;
+        let found = unsafe { raw::load::<Brand>(word, SeqCst) };
         let sight = RawSight {
             marker: PhantomData,
         };
         (found, sight)
     }
 
-    // Returns the value, by evidence that there is one.
-    pub(crate) fn value<'a>(&'a self, written: &Written<T>) -> &'a T
-        requires { written.now.of ≡ self.now.value_name }
+    // Returns the value, by evidence that there is one. It takes no step.
+    pub(crate) fn value(self, written: &Written<T>) -> &'a T
+        requires { written.now.of ≡ self.of.value_name }
         ensures { result.now ≡ written.now.value }
     {
-        let slot = self as *const RawSlot<T>;
-        unsafe {
-            // The word is 2. At this load the proof finds the shared value.
-            raw::load::<Brand>(&raw const (*slot).state, SeqCst);
-            &(*slot).room
-        }
+        let RawSlot {
+            word: _,
+            room,
+            marker: _,
+        } = self;
+        unsafe { &*room }
     }
 
     // Loads the word, by what is known of the cell.
-    pub(crate) fn word(&self, member: &RawMember<T>) -> (u64, RawSight<T>)
-        requires { HasNames self.now member.now.of.value member.now.of.name member.now.of.epoch }
-        ensures { (result.1.of ≡ self.now) × (result.1.found ≡ result.0)
-            × MayBeWordOf member.now.of.value result.0 }
+    pub(crate) fn known(self, member: &RawMember<T>) -> (u64, RawSight<T>)
+        requires { HasNames self.of member.now.of.value member.now.of.name member.now.of.epoch }
+        ensures { (result.1.of ≡ self.entry.of) × (result.1.found ≡ field result.0 self.entry.index)
+            × MayBeStateOf member.now.of.value (field result.0 self.entry.index) }
     {
-        let found = unsafe { raw::load::<Brand>(&raw const self.state, SeqCst) };
+        let RawSlot {
+            word,
+            room: _,
+            marker: _,
+        } = self;
+        let found = unsafe { raw::load::<Brand>(word, SeqCst) };
         let sight = RawSight {
             marker: PhantomData,
         };
@@ -187,69 +193,94 @@ impl<T> RawSlot<T> {
     }
 
     // Loads the word, by evidence that the epoch lasts.
-    pub(crate) fn word_in(&self, member: &RawMember<T>, epoch: &RawEpoch) -> u64
-        requires { HasNames self.now member.now.of.value member.now.of.name member.now.of.epoch
+    pub(crate) fn lasting(self, member: &RawMember<T>, epoch: &RawEpoch) -> u64
+        requires { HasNames self.of member.now.of.value member.now.of.name member.now.of.epoch
             × IsEpochOf member.now.of.value member.now.of.epoch (epoch.now.of ∷ []) }
-        ensures { IsWordOf member.now.of.value result }
+        ensures { IsStateOf member.now.of.value (field result self.entry.index) }
     {
-        unsafe { raw::load::<Brand>(&raw const self.state, SeqCst) }
+        let RawSlot {
+            word,
+            room: _,
+            marker: _,
+        } = self;
+        unsafe { raw::load::<Brand>(word, SeqCst) }
     }
 }
 
 impl<'a, T> RawPen<'a, T> {
-    // Writes the value and then the word of a filled cell.
-    pub(crate) fn fill(self, value: T) -> Written<T>
-        requires { self.found ≡ self.sought }
+    // Writes the value, and then adds what makes a busy cell filled.
+    pub(crate) fn fill(self, value: T, added: u64) -> Written<T>
+        requires { (self.found ≡ self.sought) × (added ≡ 2 * 16 ^ self.index) }
         ensures { (result.of ≡ self.entry.of.value_name) × (result.value ≡ value)
             × (result.found ≡ self.entry.found) }
     {
-        let RawPen { slot, marker: _ } = self;
-        unsafe { (&raw const (*slot).room as *mut T).write(value) };
-        unsafe { raw::store::<Brand>(&raw const (*slot).state, FILLED, SeqCst) };
+        let RawPen {
+            word,
+            room,
+            marker: _,
+        } = self;
+        unsafe { (room as *mut T).write(value) };
+        unsafe { raw::fetch_add::<Brand>(word, added, SeqCst) };
         Written {
             marker: PhantomData,
         }
     }
 
-    // Writes the word of a broken cell.
-    pub(crate) fn break_cell(self) -> RawBroken
-        requires { self.found ≡ self.sought }
+    // Adds what makes a busy cell broken.
+    pub(crate) fn break_cell(self, bits: u64) -> RawBroken
+        requires { (self.found ≡ self.sought) × (bits ≡ 4 * 16 ^ self.index) }
         ensures { result.of ≡ self.entry.of.broken_name }
     {
-        let RawPen { slot, marker: _ } = self;
-        unsafe { raw::store::<Brand>(&raw const (*slot).state, BROKEN, SeqCst) };
+        let RawPen {
+            word,
+            room: _,
+            marker: _,
+        } = self;
+        unsafe { raw::fetch_add::<Brand>(word, bits, SeqCst) };
         RawBroken {
             marker: PhantomData,
         }
     }
 
-    // The token of what a lost exchange found.
+    // The token of what a lost step found.
     pub(crate) fn written(self) -> Written<T>
-        requires { (self.found ≡ filled_word) × (self.found ≢ self.sought) }
+        requires { (self.found ≡ filled_state) × (self.found ≢ self.sought) }
         ensures { result.of ≡ self.entry.of.value_name }
     {
-        let RawPen { slot: _, marker: _ } = self;
+        let RawPen {
+            word: _,
+            room: _,
+            marker: _,
+        } = self;
         Written {
             marker: PhantomData,
         }
     }
 
     pub(crate) fn broken(self) -> RawBroken
-        requires { (filled_word < self.found) × (self.found ≢ self.sought) }
+        requires { ((busy_state < self.found) × (self.found ≢ filled_state)) × (self.found ≢ self.sought) }
         ensures { result.of ≡ self.entry.of.broken_name }
     {
-        let RawPen { slot: _, marker: _ } = self;
+        let RawPen {
+            word: _,
+            room: _,
+            marker: _,
+        } = self;
         RawBroken {
             marker: PhantomData,
         }
     }
 
-    // What a lost exchange shows of a cell that another call began.
+    // What a lost step shows of a cell that another call began.
     pub(crate) fn begun(self) -> RawBegun
-        requires { (self.found ≡ busy_word) × (self.found ≢ self.sought) }
+        requires { (self.found ≡ busy_state) × (self.found ≢ self.sought) }
         ensures { result.of ≡ self.entry.of }
     {
-        let RawPen { slot: _, marker: _ } = self;
+        let RawPen {
+            word: _,
+            room: _,
+            marker: _,
+        } = self;
         RawBegun {
             marker: PhantomData,
         }
@@ -258,13 +289,17 @@ impl<'a, T> RawPen<'a, T> {
     pub(crate) fn unused(self)
         requires { self.found ≢ self.sought }
     {
-        let RawPen { slot: _, marker: _ } = self;
+        let RawPen {
+            word: _,
+            room: _,
+            marker: _,
+        } = self;
     }
 }
 
 impl<T> RawSight<T> {
     pub(crate) fn written(self) -> Written<T>
-        requires { self.found ≡ filled_word }
+        requires { self.found ≡ filled_state }
         ensures { result.of ≡ self.of.value_name }
     {
         let RawSight { marker: _ } = self;
@@ -274,7 +309,7 @@ impl<T> RawSight<T> {
     }
 
     pub(crate) fn broken(self) -> RawBroken
-        requires { 2 < self.found }
+        requires { (busy_state < self.found) × (self.found ≢ filled_state) }
         ensures { result.of ≡ self.of.broken_name }
     {
         let RawSight { marker: _ } = self;
@@ -332,10 +367,6 @@ impl Drop for RawBegun {
         let Self { marker: _ } = self;
     }
 }
-
-unsafe impl<T: Send> Send for RawSlot<T> {}
-
-unsafe impl<T: Send + Sync> Sync for RawSlot<T> {}
 
 unsafe impl<'a, T: Send + Sync> Send for RawPen<'a, T> {}
 

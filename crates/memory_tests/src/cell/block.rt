@@ -342,6 +342,7 @@ fn lie_apart<T: Copy + PartialEq>(alloc: Global, a: T, b: T) -> bool {
 fn values_of_each_size_lie_apart(rt: HostRuntime) {
     let alloc = rt.alloc();
     assert!(rt; lie_apart(alloc, (), ()) && lie_apart(alloc, 1u8, 2) && lie_apart(alloc, 1u64, 2));
+    assert!(rt; lie_apart(alloc, [1u8; 3], [2; 3]) && lie_apart(alloc, 1u128, 2));
     assert!(rt; lie_apart(alloc, [1u64; 3], [2; 3]) && lie_apart(alloc, [1u64; 32], [2; 32]));
 }
 
@@ -361,10 +362,10 @@ fn a_refused_allocation_makes_no_block(rt: HostRuntime) {
     assert!(rt; made == Ok(true));
 }
 
-// A row of 2^63 bytes or more is refused before memory is requested.
+// Values of 2^63 bytes or more are refused before memory is requested.
 #[test]
 fn too_many_cells_are_refused(rt: HostRuntime) {
-    for n in [1 << 59, 1 << 60, u64::MAX].as_slice() {
+    for n in [1 << 60, 1 << 61, u64::MAX].as_slice() {
         let made = Block::<u64>::new(rt.alloc(), *n);
         assert!(rt; matches!(made, Err(AllocError)));
     }

@@ -16,6 +16,6 @@ use Rattle.cell_core.proofs.LaidParts.{laid_laws, lends_laid}
 
 pub shares : (T Z : RattleType) (ga : Allocator.Ghosts Z.Denot) (L : Laws T) (L₁ : Laws Z) → statement T Z ga L L₁
 shares T Z ga L L₁ = of_Lends (C.struct T Z ga) (C.the_codes T.Denot Z.Denot T.coded Z.coded (P.the_row RawPtr).coded) (C.the_heap T Z ga) (C.the_lent T Z ga)
-    (λ d p. laid_laws T d.at d.cells d.left)
+    (λ d p. laid_laws T d.rows d.cells)
     (copy_shared (P.the_field RawPtr) (field_copy (P.the_type RawPtr) tt), tt)
-    (λ M 𝓤 𝓛 d p. lends_laid 𝓛 T (ga.dealloc_token d.heap) L (C.the_row T Z ga).lives (Incl-trans (meet_⊑_left (T.lives ++ (Z.lives ++ [])) _) (meet_⊑_left T.lives (Z.lives ++ []))) d.at d.cells d.left)
+    (λ M 𝓤 𝓛 d p. lends_laid 𝓛 T (ga.dealloc_token d.heap) L (C.the_row T Z ga).lives (Incl-trans (meet_⊑_left (T.lives ++ (Z.lives ++ [])) _) (meet_⊑_left T.lives (Z.lives ++ []))) d.rows d.cells)

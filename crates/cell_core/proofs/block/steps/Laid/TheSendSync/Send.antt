@@ -6,4 +6,4 @@ use Rattle.cell_core.proofs.CellSent as sent
 
 pub send : (T A : RattleType) (g : Allocator.Ghosts A.Denot) → IsSend T → IsSend A → IsSync T → Frees g g.dealloc_token
     → IsSend (the_row T A g)
-send T A g s _ y f = record { owned = λ d vs. ((λ vss. (tt, ((λ uss. (tt, tt)), tt))), sent.laid_keyless T s y (g.dealloc_token d.heap) (f.frees d.heap) d.at d.cells d.left); leaving = λ k x vs. tt }
+send T A g s _ y f = record { owned = λ d vs. ((λ vss. (tt, ((λ uss. (tt, tt)), tt))), sent.laid_keyless T s y (g.dealloc_token d.heap) (f.frees d.heap) d.rows d.cells); leaving = λ k x vs. tt }

@@ -1,14 +1,16 @@
--- `take_written` reads the value that a token shows, and leaves an empty cell with new names.
-use Rattle.std.proofs.Common.{◌≡◌, ℕ, set, ◌+◌, length, ◌*◌, ◌^◌, ◌<◌, List, [], ◌∷◌, sym, refl, ap, subst, arith, w64, lit<}
+-- `take_written` reads the value that a token shows, and leaves an empty cell with fresh names.
+use Rattle.std.proofs.Common.{◌≡◌, ℕ, ◌+◌, length, set, ◌*◌, ◌/◌, ◌%◌, ◌^◌, ◌<◌, List, [], ◌∷◌, sym, refl, ap, subst, arith, w64, ◌-◌}
+use Rattle.std.specs.Prelude.{None}
 use mir.Syntax.{Ty, a_type, dcons, dnil, named}
 use mir.Val.{Val, vint, vptr}
 use mir.MapTy.{inst_fn}
 use base.Logic.{SProp, ent, emp, id⊢, apply∗, all, all_e}
 use base.Fml.{Fml, ftrue, fsep, flft, froom}
+use mir.Syntax.{ty_int}
 use prog.Wp.{WpFn}
 use types.Logic.{sem}
-use types.Kit.{later, await, use3, drop, ◌∵◌, ‵, raw, ◌⊛◌, given, at_ret, ◌$◌, !, qed, by, move, keep, use0, use1, use2, split, join, fsplit, fsplit3, fjoin, fjoin3, learn, suffices, rewrite, feq_i, fpick}
-use types.Run.{stop, fld, load, addr, size_word, of_opd, bin, first, blocks, exec, returns, enter, look_raw, lit, assigns, store}
+use types.Kit.{◌∵◌, ‵, raw, ◌⊛◌, given, some, later, await, pick, at_ret, ◌$◌, !, qed, by, move, keep, use0, use1, use2, use3, split, join, fsplit, fsplit3, fjoin, fjoin3, fpick, learn, suffices, rewrite, feq_i, drop}
+use types.Run.{stop, fld, load, look_raw, store, assigns, size_word, of_opd, bin, first, blocks, exec, returns, enter, lit}
 use types.ByLocal.{alloc_all, pass_all, free_all, look_at, get, get_in, through, sets, sets_last, is, env}
 use types.Part.{sub, whole as all_of_it}
 use contract.Running.{tables}
@@ -17,29 +19,38 @@ use denote.Exit.{yes, no}
 use denote.RattleType.{RattleType, owns}
 use denote.Signature.{types_at, plain}
 use denote.RawPtr.{Ptr, block_ptr, block_of, count_of}
+use denote.Param.{layout}
+use mir.Raw.{raw as bare}
+use mir.Val.{has_ty, WT}
+use base.Fraction.{full_share}
+use lib.Bits.{bit_and, and_lt}
+use Rattle.cell_core.specs.Fields.{pack}
+use Rattle.cell_core.specs.contracts.block.steps.Link as link
+use Rattle.cell_core.proofs.CellMade.{pointers_val, pointers_good}
+use Rattle.cell_core.proofs.LaidMade.{link_told, uncapped}
+use Rattle.cell_core.proofs.Fields.{Fit, clears_field}
+use Rattle.cell_core.proofs.WordSteps.{states_fit}
+use Rattle.cell_core.proofs.RestParts as rest
 use denote.Steps.{nothing, heard, opens, closes}
-use denote.Param.{param, bounded, layout}
-use denote.Builtin.{usize, RefOf}
-use denote.Opens.{unhide}
+use denote.Param.{param, bounded}
+use denote.Builtin.{usize, u64}
 use denote.Ref.{mut_vals, mut_Tells, shr_vals, shr_Tells}
+use denote.Builtin.{RefOf}
+use denote.Opens.{unhide}
+use denote.Memory.{part_at}
+use denote.Param.Laws.{param_laws}
+use denote.Struct.Members.{Member}
+use Rattle.core.proofs.cell.Inside.{spread}
+use Rattle.cell_core.specs.Slot.{written}
+use Rattle.cell_core.specs.contracts.slot.steps.Written as Written
 use denote.Plain.{uint_vals, uint_Tells}
 use denote.Triple.Walked.{Stays, stay_dropped, stay_ref, walk_of, Goes-dropped, Goes-ref}
 use Rattle.core.proofs.atomic.Steps.{tail}
 use Rattle.atomic_table.proofs.Walks.{proved, leaves}
-use Rattle.cell_core.specs.contracts.slot.steps.Written as Written
-use Rattle.cell_core.specs.Slot.{written, Names, at, auths}
-use Rattle.cell_core.specs.Laid.{laid, stride, still, cell_in, IsLinked, HasOneRenamed}
-use Rattle.cell_core.specs.contracts.block.steps.Link as link
+use Rattle.cell_core.specs.Slot.{Names, Rest, cell_in, state, step, room_at, word, auths, free}
+use Rattle.cell_core.specs.Laid.{Extent, laid, still, lying, IsLinked, HasOneRenamed}
 use Rattle.cell_core.specs.contracts.block.steps.Laid as loose
-use Rattle.cell_core.proofs.CellMade.{pointer_val, pointer_good}
-use Rattle.cell_core.proofs.LaidMade.{link_told, uncapped}
 use Rattle.cell_core.proofs.LaidParts as parts
-use mir.Raw.{raw as bare}
-use denote.Param.Laws.{param_laws}
-use denote.Struct.Members.{Member}
-use Rattle.core.proofs.cell.Inside.{spread}
-use base.Fraction.{full_share}
-use denote.Memory.{part_at}
 use Rattle.cell_core.specs.contracts.block.steps.Laid.take_written.{ended, clauses}
 use Rattle.cell_core.specs.contracts.block.steps.Laid.take_written.Key.{name as #self}
 use Rattle.cell_core.proofs.block.steps.Laid.take_written.Statement.{statement}
@@ -50,40 +61,46 @@ take_written_spec 𝓤 𝓛 𝓜 𝓡 wired T Al L _ ga da dd _ _ =
     let H = 𝓛.H in let 𝓣 = tables 𝓤 H 𝓜 𝓡 𝓡.env in let R : RattleType = param 0 T in let Z : RattleType = param 1 Al in let Lk : RattleType = link.the_row R in let Lo : RattleType = loose.the_row R Z ga in let En = ended T Al ga da dd in let c = clauses T Al ga da dd 𝓛 𝓜.mem 𝓡.returns in
     let inst = bounded (a_type ∷ a_type ∷ []) (T, (Al, tt)) (dcons da (dcons dd dnil)) in let fn = inst_fn inst code.function in
     let token = RefOf (1 ∷ []) tt (plain (λ _. Written.the_row R)) (λ _. tt) in
-    let hs : Stays En.signature.params En.kept = (stay_ref (0 ∷ []) tt (plain (λ _. Lo)), (stay_dropped (plain (λ _. Lk)) no, (stay_dropped (plain (λ _. usize)) yes, (stay_dropped token yes, tt)))) in
-    proved 𝓛 En hs c 𝓜 𝓡 (Goes-ref 𝓛 4 0 tt (plain (λ _. Lo)), (Goes-dropped 𝓛 4 (plain (λ _. Lk)) no (λ κs x f. refl), (Goes-dropped 𝓛 4 (plain (λ _. usize)) yes (λ κs x f. refl), (Goes-dropped 𝓛 4 token yes (λ κs x f. refl), tt)))) (#self inst) fn (code.unfolded 𝓤 H 𝓜 𝓡 wired (T, (Al, tt)) da dd)
-    (λ κs. (mut_vals, ((λ x. pointer_val x.ptr ∷ []), (uint_vals w64, (shr_vals, tt))))) (λ κs. (mut_Tells (named 0) κs.0 (Lo), (link_told R, (uint_Tells w64, (shr_Tells (named 1) κs.1.0 (Written.the_row R), tt))))) (λ κs qs bounds a gh are.
-    let shown : Val = vptr a.1.1.1.0.ref_ptr.0 a.1.1.1.0.ref_ptr.1 in let x : T.Denot = a.1.1.1.0.now.value in
-    let y : (walk_of 𝓛 En hs c).Ghost = ((κs, qs, bounds, a, (vptr a.0.ref_ptr.0 a.0.ref_ptr.1 ∷ [], (pointer_val a.1.0.ptr ∷ [], (vint w64 a.1.1.0 ∷ [], (shown ∷ [], tt))))), gh) in let Post : Val → SProp 𝓤 = (walk_of 𝓛 En hs c).post y in
-    let b' : ℕ = a.0.ref_ptr.0 in let o' : ℕ = a.0.ref_ptr.1 in let h : Lo.Denot = a.0.now in let token : Ty → Ptr → Fml = ga.dealloc_token h.heap in let p : Ptr = a.1.0.ptr in let j : ℕ = a.1.1.0 in
-    let b : ℕ = block_of p in let e : ℕ = j * stride R + count_of p in let i : ℕ = at R e in let LR = (param_laws 0 T L).lawful 𝓛 in let m : Member = record { row = R; ty = layout T } in
-    let cs : List Names = h.cells in let γ : Names = cell_in cs j in
-    let Asked : Type 0 = IsLinked h.at p × (j < length h.cells) × (a.1.1.1.0.now.of ≡ γ.value_name) in let others : Fml = fsep (flft κs.1.0 qs.1.0) (fsep (flft κs.1.1.0 qs.1.1.0) (fsep (flft κs.1.1.1.0 qs.1.1.1.0) (ftrue))) in
+    let hs : Stays En.signature.params En.kept = (stay_ref (0 ∷ []) tt (plain (λ _. Lo)), (stay_dropped (plain (λ _. Lk)) no, (stay_dropped (plain (λ _. usize)) yes, (stay_dropped (plain (λ _. usize)) yes, (stay_dropped (plain (λ _. u64)) yes, (stay_dropped token yes, tt)))))) in
+    proved 𝓛 En hs c 𝓜 𝓡 (Goes-ref 𝓛 4 0 tt (plain (λ _. Lo)), (Goes-dropped 𝓛 4 (plain (λ _. Lk)) no (λ κs x f. refl), (Goes-dropped 𝓛 4 (plain (λ _. usize)) yes (λ κs x f. refl), (Goes-dropped 𝓛 4 (plain (λ _. usize)) yes (λ κs x f. refl), (Goes-dropped 𝓛 4 (plain (λ _. u64)) yes (λ κs x f. refl), (Goes-dropped 𝓛 4 token yes (λ κs x f. refl), tt)))))) (#self inst) fn (code.unfolded 𝓤 H 𝓜 𝓡 wired (T, (Al, tt)) da dd)
+    (λ κs. (mut_vals, ((λ x. pointers_val x.words x.rooms ∷ []), (uint_vals w64, (uint_vals w64, (uint_vals w64, (shr_vals, tt))))))) (λ κs. (mut_Tells (named 0) κs.0 (Lo), (link_told R, (uint_Tells w64, (uint_Tells w64, (uint_Tells w64, (shr_Tells (named 1) κs.1.0 (Written.the_row R), tt))))))) (λ κs qs bounds a gh are.
+    let shown : Val = vptr a.1.1.1.1.1.0.ref_ptr.0 a.1.1.1.1.1.0.ref_ptr.1 in let value : T.Denot = a.1.1.1.1.1.0.now.value in let LR = (param_laws 0 T L).lawful 𝓛 in let mem : Member = record { row = R; ty = layout T } in
+    let p : Ptr = a.1.0.words in let z : Ptr = a.1.0.rooms in let k : ℕ = a.1.1.0 in let j : ℕ = a.1.1.1.0 in let m : ℕ = a.1.1.1.1.0 in let i : ℕ = j % 16 in
+    let y : (walk_of 𝓛 En hs c).Ghost = ((κs, qs, bounds, a, (vptr a.0.ref_ptr.0 a.0.ref_ptr.1 ∷ [], (pointers_val p z ∷ [], (vint w64 k ∷ [], (vint w64 j ∷ [], (vint w64 m ∷ [], (shown ∷ [], tt))))))), gh) in let Post : Val → SProp 𝓤 = (walk_of 𝓛 En hs c).post y in
+    let b' : ℕ = a.0.ref_ptr.0 in let o' : ℕ = a.0.ref_ptr.1 in let h : Lo.Denot = a.0.now in let token : Ty → Ptr → Fml = ga.dealloc_token h.heap in let cs : List Names = h.cells in
+    let x : Extent = record { at = p; rooms = z; words = h.rows.words; more = h.rows.more; left = h.rows.left } in let b : ℕ = block_of p in let o : ℕ = count_of p in let d : ℕ = block_of z in let e : ℕ = count_of z in let γ : Names = cell_in cs j in let k' : ℕ = j / 16 in let m' : ℕ = 2 ^ 64 - 1 - 15 * 16 ^ i in
+    let Asked : Type 0 = IsLinked h.rows.at p × IsLinked h.rows.rooms z × ((j < length cs) × (k ≡ k') × (m ≡ m')) × (a.1.1.1.1.1.0.now.of ≡ γ.value_name) in let others : Fml = fsep (flft κs.1.0 qs.1.0) (fsep (flft κs.1.1.0 qs.1.1.0) (fsep (flft κs.1.1.1.0 qs.1.1.1.0) ftrue)) in
     qed 𝓛 (((‵ (flft κs.0 qs.0) ⊛ ‵ others) ⊛ ‵ (owns (types_at En.signature.params κs) a y.0.4)) ∷ raw (fact 𝓤 _) ∷ raw (fact 𝓤 _) ∷ raw (fact 𝓤 Asked) ∷ []) ∵
     keep ! (3 ∷ 0 ∷ []) $ heard ! Asked (λ asked. split ! $ split ! $ move ! (2 ∷ []) $ fsplit ! $ fsplit3 ! $ keep ! (3 ∷ 1 ∷ 2 ∷ 4 ∷ 5 ∷ []) $
-    fsplit3 ! $ keep ! (2 ∷ 3 ∷ 4 ∷ 5 ∷ 6 ∷ []) $ fsplit ! $ fsplit ! $ keep ! (1 ∷ 3 ∷ 4 ∷ 5 ∷ 6 ∷ []) $ unhide ! $ fsplit ! $ drop ! $
-    rewrite ! 0 (λ (k : ℕ). ‵ (written R k x)) asked.2 refl $ move ! (1 ∷ 2 ∷ 3 ∷ []) $
-    let us : Ptr → List Val = λ u. vptr a.0.ref_ptr.0 a.0.ref_ptr.1 ∷ pointer_val u ∷ vint w64 a.1.1.0 ∷ shown ∷ [] in let Run : List Val → SProp 𝓤 = λ ws. WpFn 𝓤 H 𝓣.C 𝓣.Λ fn ws Post in let p' : Ptr = block_ptr (block_of p) (count_of p) in
-    suffices ! (Run (us p')) (subst (λ (u : Ptr). ent 𝓤 (Run (us p')) (Run (us u))) (sym asked.0.1) (id⊢ 𝓤 (Run (us p')))) $
-    enter ! 𝓣.C 𝓣.Λ fn (us p') Post $ alloc_all ! (λ l. pass_all ! refl ((tt, tt), (pointer_good p', ((tt, record { fits = are.1.1.0.1 }), ((tt, tt), tt)))) $ let Ev = env fn.locals l in
+    fsplit3 ! $ move ! (2 ∷ []) $ fsplit3 ! $ move ! (2 ∷ []) $ fsplit ! $ fsplit ! $ keep ! (1 ∷ 7 ∷ 8 ∷ 9 ∷ 10 ∷ []) $ unhide ! $ fsplit ! $ drop ! $
+    rewrite ! 0 (λ (u : ℕ). ‵ (written R u value)) asked.3 refl $ move ! (1 ∷ 2 ∷ 3 ∷ []) $
+    let us : (Ptr × Ptr) × (ℕ × ℕ) → List Val = λ u. vptr a.0.ref_ptr.0 a.0.ref_ptr.1 ∷ pointers_val u.0.0 u.0.1 ∷ vint w64 u.1.0 ∷ vint w64 j ∷ vint w64 u.1.1 ∷ shown ∷ [] in let Run : List Val → SProp 𝓤 = λ ws. WpFn 𝓤 H 𝓣.C 𝓣.Λ fn ws Post in let all_of : (Ptr × Ptr) × (ℕ × ℕ) = ((block_ptr b o, block_ptr d e), (k', m')) in
+    suffices ! (Run (us all_of)) (subst (λ (u : (Ptr × Ptr) × (ℕ × ℕ)). ent 𝓤 (Run (us all_of)) (Run (us u))) (λ l. ((sym asked.0.1 l, sym asked.1.1 l), (sym asked.2.1 l, sym asked.2.2 l))) (id⊢ 𝓤 (Run (us all_of)))) $
+    let fits_k : k' < 2 ^ 64 = (let f : j < 2 ^ 64 = are.1.1.1.0.1 in omega arith) in let fits_m : m' < 2 ^ 64 = omega arith in
+    enter ! 𝓣.C 𝓣.Λ fn (us all_of) Post $ alloc_all ! (λ l. pass_all ! refl ((tt, tt), (pointers_good all_of.0.0 all_of.0.1, ((tt, record { fits = fits_k }), ((tt, record { fits = are.1.1.1.0.1 }), ((tt, record { fits = fits_m }), ((tt, tt), tt)))))) $ let Ev = env fn.locals l in
     opens ! tt Lo b' o' (λ ts. move ! (1 ∷ []) $ fsplit ! $
-    rewrite ! 1 (λ (u : Ptr). ‵ (laid R token u cs h.left)) asked.0.0 refl $ move ! (1 ∷ []) $ let Back : Names → SProp 𝓤 = parts.Emptied 𝓛 R token p cs h.left j e in
-    use1 𝓛 (given (j * stride R < 2 ^ 63) (‵ (still R b γ e) ⊛ raw (all 𝓤 Back))) (parts.cell_at 𝓛 R token p cs h.left j e refl asked.1) $ learn ! (λ low.
-    let small : j * stride R < 2 ^ 64 = (let x : j * stride R < 2 ^ 63 = low in omega arith) in split ! $ fpick ! (λ r. fsplit3 ! $
-    first ! $ blocks ! $ sets ! (is ! (bin ! (get ! refl) (size_word !) (record { fits = subst (λ (j : ℕ). j < 2 ^ 64) (sym (uncapped j (stride R) small)) small })) (ap (vint w64) (uncapped j (stride R) small))) refl (tt, record { fits = small }) $
-    sets ! (bin ! (get_in ! (fld ! refl (stop !)) (sub ! 0 refl (all_of_it !))) (get ! refl) tt) refl (tt, tt) $
-    sets ! (addr ! (through ! refl (fld ! refl (stop !)))) refl (tt, tt) $ assigns ! (of_opd ! (lit ! tt)) (through ! refl (stop !)) (store ! 0 refl (tt, record { fits = lit< tt })) $
-    -- [the word; the room; the names; the way back; ..; the token]
-    move ! (1 ∷ 2 ∷ 9 ∷ []) $ use3 𝓛 (‵ (part_at R full_share x b i) ⊛ ‵ (auths R γ r.2)) (parts.held_at 𝓛 R token γ b i r x) $ split ! $ spread m ! LR x b i (λ v good.
-    sets ! (addr ! (through ! refl (fld ! refl (stop !)))) refl (tt, tt) $ sets_last ! (of_opd ! (load ! (through ! refl (stop !)) (look_raw ! 0 refl))) refl good $
-    exec ! 𝓣.C 𝓣.Λ Ev (tail fn.body) (at_ret Ev Post) $ sets ! (of_opd ! (get ! refl)) refl good $
-    use1 𝓛 (‵ (froom (bare (layout T)) b i)) (𝓛.laws.at_room (bare (layout T)) b i v) $ move ! (2 ∷ 3 ∷ 0 ∷ 4 ∷ 1 ∷ []) $
-    use3 𝓛 (later (‵ (parts.Renewed 𝓛 R token γ b e))) (parts.renewed 𝓛 R token γ b e r.2) $ await ! tt $ fpick ! (λ γ'. fsplit ! $ fpick ! (λ apart. drop ! $
-    let h' : Lo.Denot = record { marker = h.marker; heap = h.heap; at = p; cells = set cs j γ'; left = h.left } in
-    let Kept : Type 0 = (h.heap ≡ h.heap) × (p ≡ h.at) × HasOneRenamed cs j h'.cells × (h.left ≡ h.left) × (x ≡ x) in
-    -- [the new cell; the way back; ..]
-    move ! (1 ∷ []) $ use1 𝓛 (raw (Back γ')) (all_e 𝓤 Back γ') $ move ! (1 ∷ 0 ∷ []) $
-    use2 𝓛 (‵ (laid R token p h'.cells h.left)) (apply∗ 𝓤 (sem 𝓛 (still R b γ' e)) (sem 𝓛 (laid R token p h'.cells h.left))) $
-    move ! (2 ∷ 0 ∷ []) $ fjoin ! $ move ! (2 ∷ 0 ∷ 3 ∷ 4 ∷ 5 ∷ []) $ closes ! tt Lo h' ts b' o' $ feq_i ! (List Val) (vptr b' o' ∷ []) (vptr b' o' ∷ []) refl $ fjoin3 ! $ nothing ! $ nothing ! $ fjoin ! $ nothing ! $ fjoin ! $ nothing ! $ fjoin ! $ move ! (1 ∷ 0 ∷ []) $ fjoin ! $ move ! (1 ∷ 3 ∷ []) $ join ! $
-    use0 𝓛 (raw (fact 𝓤 Kept)) (fact_i 𝓤 Kept (emp 𝓤) (refl, sym asked.0.0, (γ', apart, refl), refl, refl)) $
-    returns ! (look_at ! 0 refl) $ free_all ! refl $ keep ! (1 ∷ 2 ∷ 3 ∷ 0 ∷ []) $ by ! (leaves 𝓛 En hs c y v x (h', (tt, (tt, (tt, tt)))) (tt, (tt, (tt, (tt, tt))))))))))))))
+    rewrite ! 1 (λ (u : Ptr × Ptr). ‵ (laid R token (record { at = u.0; rooms = u.1; words = x.words; more = x.more; left = x.left }) cs)) (λ l. (asked.0.0 l, asked.1.0 l)) refl $ move ! (1 ∷ []) $ let Way : List Names × ℕ → Names → SProp 𝓤 = parts.Put 𝓛 R token x cs j in
+    use1 𝓛 (given (parts.Near 𝓛 R token x j) (some (λ (w : List Names × ℕ). given (parts.IsIn R cs e j w) (‵ (still R w.0 b (k' * 8 + o) d w.1) ⊛ raw (all 𝓤 (Way w)))))) (parts.laid_at 𝓛 R token x cs j asked.2.0) $ learn ! (λ near. pick ! (λ w. learn ! (λ isin. split ! $
+    let W : List Names = w.0 in let r : ℕ = w.1 in let q : ℕ = room_at R r i in let q' : ℕ = j * step R + e in let O : ℕ = k' * 8 + o in fpick ! (λ s. fsplit ! $ let f : ℕ → ℕ = λ l. state (s l).1 in let n : ℕ = pack W f in let fit : Fit f = states_fit R (λ l. (s l).1) in let Into : Names × Rest R.Denot → SProp 𝓤 = parts.Rested 𝓛 R W d r s i in
+    move ! (1 ∷ []) $ use1 𝓛 (‵ (lying R d q (cell_in W i) (s i)) ⊛ raw (all 𝓤 Into)) (parts.rests_at 𝓛 R W d r s i isin.near) $ split ! $ move ! (2 ∷ []) $ rewrite ! 1 (λ (u : Names × ℕ). ‵ (lying R d u.1 u.0 (s i))) (λ l. (isin.names l, isin.lies l)) refl $
+    -- [the word; the cell; the way back into the word; the way back; ..]
+    use1 𝓛 (given (lib.Dec.T (has_ty (ty_int w64) (vint w64 n)) × WT (vint w64 n)) (‵ (word b O n))) (𝓛.laws.at_wt full_share (ty_int w64) b O (vint w64 n)) $ learn ! (λ g. let small : k' * 8 < 2 ^ 64 = (let l : k' * 8 < 2 ^ 63 = near.0 in omega arith) in let wide : j * step R < 2 ^ 64 = (let l : j * step R < 2 ^ 63 = near.1 in omega arith) in
+    let n' : ℕ = bit_and n m' in let fits' : n' < 2 ^ 64 = and_lt 64 n m' g.1.fits fits_m in
+    first ! $ blocks ! $ sets ! (bin ! (get ! refl) (lit ! tt) (record { fits = small })) refl (tt, record { fits = small }) $ sets ! (bin ! (get_in ! (fld ! refl (stop !)) (sub ! 0 refl (all_of_it !))) (get ! refl) tt) refl (tt, tt) $
+    sets ! (of_opd ! (load ! (through ! refl (stop !)) (look_raw ! 0 refl))) refl g $ sets ! (bin ! (get ! refl) (get ! refl) tt) refl (tt, record { fits = fits' }) $
+    assigns ! (of_opd ! (get ! refl)) (through ! refl (stop !)) (store ! 0 refl (tt, record { fits = fits' })) $
+    -- [the word; the cell; the way back into the word; the way back; ..; the token]
+    move ! (1 ∷ []) $ fsplit ! $ move ! (0 ∷ 1 ∷ 10 ∷ []) $ use3 𝓛 (‵ (part_at R full_share value d q') ⊛ ‵ (auths R γ (s i).1)) (rest.held_at 𝓛 R γ d q' (s i) value) $ split ! $ spread mem ! LR value d q' (λ v good.
+    sets ! (is ! (bin ! (get ! refl) (size_word !) (record { fits = subst (λ (j : ℕ). j < 2 ^ 64) (sym (uncapped j (step R) wide)) wide })) (ap (vint w64) (uncapped j (step R) wide))) refl (tt, record { fits = wide }) $
+    sets ! (bin ! (get_in ! (fld ! refl (stop !)) (sub ! 1 refl (all_of_it !))) (get ! refl) tt) refl (tt, tt) $
+    sets_last ! (of_opd ! (load ! (through ! refl (stop !)) (look_raw ! 0 refl))) refl good $ exec ! 𝓣.C 𝓣.Λ Ev (tail fn.body) (at_ret Ev Post) $ sets ! (of_opd ! (get ! refl)) refl good $
+    use1 𝓛 (‵ (froom (bare (layout T)) d q')) (𝓛.laws.at_room (bare (layout T)) d q' v) $ move ! (2 ∷ 0 ∷ 3 ∷ 4 ∷ 5 ∷ 1 ∷ []) $
+    use2 𝓛 (later (‵ (rest.Renewed 𝓛 R γ d q'))) (rest.renewed 𝓛 R γ d q' (s i).1) $ await ! tt $ fpick ! (λ γ'. fsplit ! $ fpick ! (λ apart. drop ! $
+    -- [the new cell; the word; the way back into the word; the way back; the value; ..]
+    let h' : Lo.Denot = record { marker = h.marker; heap = h.heap; rows = x; cells = set cs j γ' } in let Kept : Type 0 = (h.heap ≡ h.heap) × (x ≡ h.rows) × HasOneRenamed cs j h'.cells × (value ≡ value) in
+    move ! (1 ∷ 0 ∷ []) $ rewrite ! 1 (λ (v : ℕ). ‵ (lying R d v γ' (None, free))) (sym isin.lies) refl $ use3 𝓛 (‵ (still R (set W i γ') b O d r)) (parts.closes_word 𝓛 R W b O d r s i γ' (None, free) n' (clears_field W f i fit isin.near isin.short)) $
+    move ! (1 ∷ []) $ use1 𝓛 (raw (Way w γ')) (all_e 𝓤 (Way w) γ') $ move ! (1 ∷ 0 ∷ []) $
+    use2 𝓛 (‵ (laid R token x (set cs j γ'))) (apply∗ 𝓤 (sem 𝓛 (still R (set W i γ') b O d r)) (sem 𝓛 (laid R token x (set cs j γ')))) $
+    move ! (2 ∷ 0 ∷ []) $ fjoin ! $ move ! (2 ∷ 0 ∷ 3 ∷ 4 ∷ 5 ∷ []) $ closes ! tt Lo h' ts b' o' $ feq_i ! (List Val) (vptr b' o' ∷ []) (vptr b' o' ∷ []) refl $ fjoin3 ! $ nothing ! $ nothing ! $ fjoin ! $ nothing ! $ fjoin ! $ nothing ! $ fjoin ! $ nothing ! $ fjoin ! $ nothing ! $ fjoin ! $ move ! (1 ∷ 0 ∷ []) $ fjoin ! $ move ! (1 ∷ 3 ∷ []) $ join ! $
+    use0 𝓛 (raw (fact 𝓤 Kept)) (fact_i 𝓤 Kept (emp 𝓤) (refl, (λ l. record { at = sym asked.0.0 l; rooms = sym asked.1.0 l; words = h.rows.words; more = h.rows.more; left = h.rows.left }), (γ', apart, refl), refl)) $
+    returns ! (look_at ! 0 refl) $ free_all ! refl $ keep ! (1 ∷ 2 ∷ 3 ∷ 0 ∷ []) $ by ! (leaves 𝓛 En hs c y v value (h', (tt, (tt, (tt, (tt, (tt, tt)))))) (tt, (tt, (tt, (tt, (tt, (tt, tt)))))))))))))))))))

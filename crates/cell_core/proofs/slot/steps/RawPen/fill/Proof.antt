@@ -1,5 +1,5 @@
 -- `fill` writes the room, shares the value and says so.
-use Rattle.std.proofs.Common.{◌≡◌, ℕ, ◌+◌, List, [], ◌∷◌, sym, refl, ap, subst, lit<, w64, Option, Some}
+use Rattle.std.proofs.Common.{◌≡◌, ℕ, ◌+◌, ◌*◌, ◌%◌, ◌^◌, List, [], ◌∷◌, sym, refl, ap, subst, lit<, w64, Option, Some}
 use mir.Syntax.{a_type}
 use mir.Val.{Val, vint, vptr}
 use mir.MapTy.{inst_fn}
@@ -8,8 +8,8 @@ use base.Logic.{SProp, ent, wand, emp, via, apply∗, guard_i}
 use base.Fml.{Lft, Share, Fml, Incl-trans, ftrue, fsep, flft, froom, fat}
 use prog.Wp.{WpFn}
 use types.Logic.{sem}
-use types.Kit.{mean, ‵, raw, ◌⊛◌, some, given, later, at_ret, ◌$◌, ◌∵◌, !, qed, by, move, keep, use0, use1, use2, use3, split, split3, join, fsplit, fsplit3, fjoin, fpick, fpack, pick, learn, await, rewrite}
-use types.Run.{stop, fld, addr, lit, of_opd, no_more, and_then, first, blocks, exec, Calls-last, returns, enter, init, assigns_last}
+use types.Kit.{mean, ‵, raw, ◌⊛◌, some, given, later, at_ret, ◌$◌, ◌∵◌, !, qed, by, move, keep, drop, use0, use1, use2, use3, split, split3, join, fsplit, fsplit3, fjoin, fpick, fpack, pick, learn, await, rewrite}
+use types.Run.{stop, fld, lit, of_opd, no_more, and_then, first, blocks, exec, Calls-last, returns, enter, init, assigns_last}
 use types.ByLocal.{alloc_all, pass_all, free_all, look_at, get, get_in, through, sets, lands_last, is, env}
 use types.Part.{agg, sub, whole}
 use contract.Running.{tables}
@@ -25,7 +25,12 @@ use denote.Param.{param, layouts, layout}
 use denote.Param.Laws.{param_laws}
 use denote.Triple.Walked.{Stays, stay_dropped, walk_of, Goes-dropped}
 use Rattle.atomic_table.proofs.Walks.{proved_at, leaves}
-use Rattle.atomic_table.proofs.Calls.{fm, seq_cst, stored, stores, has_stored}
+use Rattle.atomic_table.proofs.Calls.{fm, seq_cst, found, adds, finds}
+use denote.Builtin.{u64}
+use Rattle.cell_core.specs.Fields.{field}
+use Rattle.cell_core.proofs.WordSteps.{Turns, stepped_at, turns_add}
+use denote.Exit.{yes}
+use base.Logic.{sep}
 use Rattle.core.proofs.atomic.Steps.{tail}
 use Rattle.core.proofs.cell.Inside.{Good, one, gather}
 use types.Tokens.{bor_open, obor_close}
@@ -33,10 +38,10 @@ use mir.Raw.{raw as bare}
 use denote.Struct.Members.{Member}
 use types.Tokens.{name_agree, name_set}
 use Rattle.std.specs.Prelude.{None}
-use Rattle.cell_core.specs.Slot.{Names, content, written, place, at, inside, Room, pen_owned}
+use Rattle.cell_core.specs.Slot.{Names, Turn, content, written, place, inside, Room, unset, over, pen_owned}
 use Rattle.cell_core.specs.contracts.slot.steps.RawPen as RawPen
 use Rattle.cell_core.specs.contracts.slot.steps.Written as Written
-use Rattle.cell_core.proofs.CellMade.{Held, pen_gains, token_val, pointer_val, pointer_good, pen_told, pen_placed, written_made}
+use Rattle.cell_core.proofs.CellMade.{Held, pen_gains, token_val, pointers_val, pointers_good, pen_told, pen_placed, written_made}
 use Rattle.cell_core.proofs.CellSteps as steps
 use Rattle.cell_core.specs.contracts.slot.steps.RawPen.fill.{ended, clauses}
 use Rattle.cell_core.specs.contracts.slot.steps.RawPen.fill.Key.{name as #self}
@@ -48,49 +53,52 @@ fill_spec 𝓤 𝓛 𝓜 𝓡 wired T L =
     let H = 𝓛.H in let A = 𝓛.A in let 𝓣 = tables 𝓤 H 𝓜 𝓡 𝓡.env in let R : RattleType = param 0 T in let En = ended T in let c = clauses T 𝓛 𝓜.mem 𝓡.returns in let LP = param_laws 0 T L in let LR = LP.lawful 𝓛 in let m : Member = record { row = R; ty = layout T } in
     let inst = layouts (a_type ∷ []) (T, tt) in let fn = inst_fn inst code.function in
     let self = plain (λ κs. RawPen.the_row (named_lft 2 0 tt κs) R) in let item = plain (λ _. R) in
-    let hs : Stays En.signature.params En.kept = (stay_dropped self no, (stay_dropped item no, tt)) in
-    proved_at 𝓛 En hs c 𝓜 𝓡 (Goes-dropped 𝓛 2 self no (λ κs x f. refl), (Goes-dropped 𝓛 2 item no (λ κs x f. refl), tt)) (#self inst) fn (code.unfolded 𝓤 H 𝓜 𝓡 wired (T, tt)) (λ z are.
-    let κs = z.0.0 in let qs = z.0.1 in let a = z.0.3 in let ℓ = named_lft 2 0 tt κs in let Hr : RattleType = RawPen.the_row ℓ R in let h : Hr.Denot = a.0 in let p : Ptr = h.slot in let b : ℕ = block_of p in let o : ℕ = count_of p in let β : Lft = κs.0 in let q : Share = qs.0 in
-    let γ : Names = h.of in let x : T.Denot = a.1.0 in let τ : Lft = κs.1.0 in let r : Share = qs.1.0 in let e : ℕ = at R o in
-    let got = one (layout T) z.0.4.1.0 (LR.typed x z.0.4.1.0 are.1.0) in let vy : Val = got.0 in let fy : Good (layout T) vy = got.2 in
-    let At : List Val × (List Val × Unit {0}) → (walk_of 𝓛 En hs c).Ghost = λ vss. ((κs, qs, z.0.2, a, vss), z.1) in
-    let y : (walk_of 𝓛 En hs c).Ghost = At (pointer_val p ∷ [], (vy ∷ [], tt)) in let Post : Val → SProp 𝓤 = (walk_of 𝓛 En hs c).post y in let S : RattleType = Written.the_row R in
-    subst (λ (vss : List Val × (List Val × Unit {0})). ent 𝓤 ((walk_of 𝓛 En hs c).pre (At vss)) (WpFn 𝓤 H 𝓣.C 𝓣.Λ fn ((walk_of 𝓛 En hs c).args (At vss)) ((walk_of 𝓛 En hs c).post (At vss))))
-    (λ i. (sym (pen_told ℓ R p z.0.4.0 are.0.0) i, (sym got.1 i, tt))) (
-    qed 𝓛 (((‵ (flft β q) ⊛ ‵ (flft τ r) ⊛ ‵ ftrue) ⊛ ‵ (owns (types_at En.signature.params κs) a y.0.4)) ∷ raw (fact 𝓤 (τ ⊑ T.lives)) ∷ raw (fact 𝓤 (h.found ≡ h.sought)) ∷ []) ∵
-    move ! (1 ∷ 2 ∷ []) $ heard ! (τ ⊑ T.lives) (λ le. heard ! (h.found ≡ h.sought) (λ asked. split ! $ split3 ! $ move ! (3 ∷ []) $ fsplit3 ! $ fsplit ! $ keep ! (1 ∷ 2 ∷ 4 ∷ 5 ∷ 6 ∷ []) $
-    use1 𝓛 (given (InBlock p) (‵ (pen_owned R γ β p h.sought h.found))) (fact_use 𝓤 _ (pen_placed 𝓛 R γ β p h.sought h.found) (guard_i 𝓤 (InBlock p) (sem 𝓛 (pen_owned R γ β p h.sought h.found)))) $ learn ! (λ inb. let is_at : p ≡ block_ptr b o = at_block p inb in
-    rewrite ! 0 (λ (u : Ptr). ‵ (pen_owned R γ β u h.sought h.found)) is_at refl $ use1 𝓛 (‵ (Held 𝓛 R γ β b o)) (pen_gains 𝓛 R γ β b o h.sought h.found asked) $
-    enter ! 𝓣.C 𝓣.Λ fn (pointer_val p ∷ vy ∷ []) Post $ alloc_all ! (λ l. pass_all ! refl (pointer_good p, (fy, tt)) $ let Ev = env fn.locals l in
-    fpick ! (λ t. let α : Lft = t.0 in let V : Fml = Room R γ t b o in fsplit ! $ fsplit ! $ move ! (2 ∷ []) $ fsplit ! $ move ! (1 ∷ []) $ fsplit ! $
-    -- [empty; the room's borrow; unset; before; the invariant; the value; the token; T's token; the rest]
+    let hs : Stays En.signature.params En.kept = (stay_dropped self no, (stay_dropped item no, (stay_dropped (plain (λ _. u64)) yes, tt))) in
+    proved_at 𝓛 En hs c 𝓜 𝓡 (Goes-dropped 𝓛 2 self no (λ κs x f. refl), (Goes-dropped 𝓛 2 item no (λ κs x f. refl), (Goes-dropped 𝓛 2 (plain (λ _. u64)) yes (λ κs x f. refl), tt))) (#self inst) fn (code.unfolded 𝓤 H 𝓜 𝓡 wired (T, tt)) (λ g are.
+    let κs = g.0.0 in let qs = g.0.1 in let a = g.0.3 in let ℓ = named_lft 2 0 tt κs in let Hr : RattleType = RawPen.the_row ℓ R in let h : Hr.Denot = a.0 in let p : Ptr = h.word in let z : Ptr = h.room in let b : ℕ = block_of p in let o : ℕ = count_of p in let d : ℕ = block_of z in let e : ℕ = count_of z in let β : Lft = κs.0 in let q : Share = qs.0 in
+    let γ : Names = h.of in let j : ℕ = h.index in let x : T.Denot = a.1.0 in let n : ℕ = a.1.1.0 in let τ : Lft = κs.1.0 in let r : Share = qs.1.0 in let Asked : Type 0 = (h.found ≡ h.sought) × (n ≡ 2 * 16 ^ j) in let Owned : Ptr × Ptr → Fml = λ u. pen_owned R γ β u.0 u.1 j h.sought h.found in
+    let got = one (layout T) g.0.4.1.0 (LR.typed x g.0.4.1.0 are.1.0) in let vy : Val = got.0 in let fy : Good (layout T) vy = got.2 in
+    let At : List Val × (List Val × (List Val × Unit {0})) → (walk_of 𝓛 En hs c).Ghost = λ vss. ((κs, qs, g.0.2, a, vss), g.1) in
+    let y : (walk_of 𝓛 En hs c).Ghost = At (pointers_val p z ∷ [], (vy ∷ [], (vint w64 n ∷ [], tt))) in let Post : Val → SProp 𝓤 = (walk_of 𝓛 En hs c).post y in let S : RattleType = Written.the_row R in
+    subst (λ (vss : List Val × (List Val × (List Val × Unit {0}))). ent 𝓤 ((walk_of 𝓛 En hs c).pre (At vss)) (WpFn 𝓤 H 𝓣.C 𝓣.Λ fn ((walk_of 𝓛 En hs c).args (At vss)) ((walk_of 𝓛 En hs c).post (At vss))))
+    (λ i. (sym (pen_told ℓ R p z g.0.4.0 are.0.0) i, (sym got.1 i, (sym are.1.1.0.0 i, tt)))) (
+    qed 𝓛 (((‵ (flft β q) ⊛ ‵ (flft τ r) ⊛ ‵ ftrue) ⊛ ‵ (owns (types_at En.signature.params κs) a y.0.4)) ∷ raw (fact 𝓤 (τ ⊑ T.lives)) ∷ raw (fact 𝓤 Asked) ∷ []) ∵
+    move ! (1 ∷ 2 ∷ []) $ heard ! (τ ⊑ T.lives) (λ le. heard ! Asked (λ asked. split ! $ split3 ! $ move ! (3 ∷ []) $ fsplit3 ! $ fsplit ! $ keep ! (1 ∷ 2 ∷ 4 ∷ 5 ∷ 6 ∷ []) $
+    use1 𝓛 (given (InBlock p × InBlock z) (‵ (Owned (p, z)))) (fact_use 𝓤 _ (pen_placed 𝓛 R γ β p z j h.sought h.found) (guard_i 𝓤 (InBlock p × InBlock z) (sem 𝓛 (Owned (p, z))))) $ learn ! (λ inb. let is_at : p ≡ block_ptr b o = at_block p inb.0 in let is_room : z ≡ block_ptr d e = at_block z inb.1 in
+    rewrite ! 0 (λ (u : Ptr × Ptr). ‵ (Owned u)) (λ l. (is_at l, is_room l)) refl $ use1 𝓛 (‵ (Held 𝓛 R γ β b o d e j)) (pen_gains 𝓛 R γ β b o d e j h.sought h.found asked.0) $
+    enter ! 𝓣.C 𝓣.Λ fn (pointers_val p z ∷ vy ∷ vint w64 n ∷ []) Post $ alloc_all ! (λ l. pass_all ! refl (pointers_good p z, (fy, ((tt, record { fits = are.1.1.0.1 }), tt))) $ let Ev = env fn.locals l in
+    fpick ! (λ y'. fsplit3 ! $ fpick ! (λ at. drop ! $ let t : Turn = y'.1 in let α : Lft = t.0 in let δ = t.1 j in let V : Fml = Room R γ α δ d e in fsplit ! $ move ! (2 ∷ []) $ fsplit ! $ move ! (1 ∷ []) $ fsplit ! $
+    -- [empty; the room's borrow; settable; before; the invariant; the value; the token; T's token; the rest]
     move ! (3 ∷ 6 ∷ []) $ use2 𝓛 (later (some (λ (s : Share). ‵ (flft α s) ⊛ raw (wand 𝓤 (A.lft α s) (H.⇛ (A.lft β q)))))) (Lends-one 𝓛 𝓜 𝓡 β α q) $ await ! tt $ pick ! (λ s. split ! $
-    -- [the turn's token; the way back; empty; the borrow; unset; the invariant; the value; T's token; the
+    -- [the turn's token; the way back; empty; the borrow; settable; the invariant; the value; T's token; the
     -- rest]
     move ! (3 ∷ 0 ∷ []) $ bor_open ! tt $ move ! (1 ∷ []) $ fpick ! (λ v. fsplit ! $ move ! (4 ∷ 1 ∷ []) $ name_agree ! (content R) {x = None} {y = v} (λ none.
-    -- [empty; what the room holds; the room; open; the way back; unset; the invariant; the value; T's token;
+    -- [empty; what the room holds; the room; open; the way back; settable; the invariant; the value; T's token;
     -- the rest]
-    rewrite ! 2 (λ (u : Option T.Denot). ‵ (place R u b e)) (sym none) refl $ name_set ! tt ((content R).code (Some x)) $ move ! (2 ∷ []) $ use1 𝓛 (‵ (froom (layout T) b e)) (𝓛.laws.raw-room (layout T) b e) $
-    sets ! (is ! (of_opd ! (get_in ! (fld ! refl (stop !)) (sub ! 0 refl (whole !)))) (ap ptr_val is_at)) refl (tt, tt) $ first ! $ blocks ! $ sets ! (addr ! (through ! refl (fld ! refl (stop !)))) refl (tt, tt) $
-    sets ! (of_opd ! (get ! refl)) refl fy $ assigns_last ! (of_opd ! (get ! refl)) (through ! refl (stop !)) (init ! 0 refl fy) $ exec ! 𝓣.C 𝓣.Λ Ev (tail (tail fn.body)) (at_ret Ev Post) $
-    use1 𝓛 (‵ (fat full_share (bare (layout T)) b e vy)) (𝓛.laws.at_raw full_share (layout T) b e vy) $ move ! (0 ∷ 7 ∷ []) $ gather m ! x vy b e $
-    -- [the value in place; the name, twice; open; the way back; unset; the invariant; T's token; the rest]
-    move ! (0 ∷ 2 ∷ []) $ fjoin ! $ fpack ! (Option T.Denot) (inside R γ t b o) (Some x) $ move ! (2 ∷ 0 ∷ []) $ obor_close ! tt $
-    -- [the borrow; the turn's token; the name; the way back; unset; the invariant; T's token; the rest]
-    move ! (1 ∷ 6 ∷ []) $ join ! $ move ! (2 ∷ 1 ∷ 0 ∷ []) $ let F : Fml = steps.frozen 𝓛 R γ t b o x in
-    use3 𝓛 (later (‵ F ⊛ ‵ (flft α s) ⊛ ‵ (flft τ r))) (steps.freezes 𝓛 R γ t b o R.lives (LP.shares 𝓛) ((α, s) ∷ (τ, r) ∷ []) (Incl-trans (meet_⊑_right α τ) le) (meet_⊑_left α τ) x) $ await ! tt $ split3 ! $
-    -- [frozen; the turn's token; T's token; the way back; unset; the invariant; the rest]
-    move ! (4 ∷ 0 ∷ []) $ join ! $ let After : Fml = fsep (flft α s) (written R γ.value_name x) in
-    first ! $ blocks ! $ sets ! (addr ! (through ! refl (fld ! refl (stop !)))) refl (tt, tt) $ move ! (4 ∷ 1 ∷ 0 ∷ []) $
-    use3 𝓛 (raw (𝓣.C _ (vptr b (o + 0) ∷ vint w64 2 ∷ seq_cst ∷ []) (λ u. mean 𝓛 (stored After u))))
-    (via 𝓤 _ (steps.publishes 𝓛 R γ t b o s x) (stores 𝓛 𝓜 𝓡 (code.calls-core::raw_atomic::store 𝓡.env wired) (block_ptr b (o + 0)) 2 (lit< tt) After)) $
+    rewrite ! 2 (λ (u : Option T.Denot). ‵ (place R u d e)) (sym none) refl $ name_set ! tt ((content R).code (Some x)) $ move ! (2 ∷ []) $ use1 𝓛 (‵ (froom (layout T) d e)) (𝓛.laws.raw-room (layout T) d e) $
+    sets ! (is ! (of_opd ! (get_in ! (fld ! refl (stop !)) (sub ! 0 refl (whole !)))) (ap ptr_val is_at)) refl (tt, tt) $
+    sets ! (is ! (of_opd ! (get_in ! (fld ! refl (stop !)) (sub ! 1 refl (whole !)))) (ap ptr_val is_room)) refl (tt, tt) $ first ! $ blocks ! $
+    sets ! (of_opd ! (get ! refl)) refl (tt, tt) $ sets ! (of_opd ! (get ! refl)) refl fy $ assigns_last ! (of_opd ! (get ! refl)) (through ! refl (stop !)) (init ! 0 refl fy) $ exec ! 𝓣.C 𝓣.Λ Ev (tail (tail (tail fn.body))) (at_ret Ev Post) $
+    use1 𝓛 (‵ (fat full_share (bare (layout T)) d e vy)) (𝓛.laws.at_raw full_share (layout T) d e vy) $ move ! (0 ∷ 7 ∷ []) $ gather m ! x vy d e $
+    -- [the value in place; the name, twice; open; the way back; settable; the invariant; T's token; the rest]
+    move ! (0 ∷ 2 ∷ []) $ fjoin ! $ fpack ! (Option T.Denot) (inside R γ α δ d e) (Some x) $ move ! (2 ∷ 0 ∷ []) $ obor_close ! tt $
+    -- [the borrow; the turn's token; the name; the way back; settable; the invariant; T's token; the rest]
+    move ! (1 ∷ 6 ∷ []) $ join ! $ move ! (2 ∷ 1 ∷ 0 ∷ []) $ let F : Fml = steps.frozen 𝓛 R γ α δ d e x in
+    use3 𝓛 (later (‵ F ⊛ ‵ (flft α s) ⊛ ‵ (flft τ r))) (steps.freezes 𝓛 R γ α δ d e R.lives (LP.shares 𝓛) ((α, s) ∷ (τ, r) ∷ []) (Incl-trans (meet_⊑_right α τ) le) (meet_⊑_left α τ) x) $ await ! tt $ split3 ! $
+    -- [frozen; the turn's token; T's token; the way back; settable; the invariant; the rest]
+    let Filled : ℕ → Fml = λ _. written R γ.value_name x in let after : ℕ → Fml = λ k. fsep (flft α s) (Filled (field k j)) in
+    first ! $ blocks ! $ move ! (4 ∷ []) $ fsplit ! $ move ! (0 ∷ 2 ∷ []) $ join ! $ move ! (1 ∷ 0 ∷ []) $ join ! $ move ! (4 ∷ 1 ∷ 0 ∷ []) $
+    use3 𝓛 (raw (𝓣.C _ (vptr b o ∷ vint w64 n ∷ seq_cst ∷ []) (λ u. mean 𝓛 (found after u))))
+    (via 𝓤 _ (stepped_at 𝓛 R γ b o d e j y' at s (λ k. (k + n) % 2 ^ 64) (λ k. k + 2) (λ within short. subst (λ (l : ℕ). Turns R y'.0 j (λ k. (k + l) % 2 ^ 64) (λ k. k + 2)) (sym asked.1) (turns_add R y'.0 j within short 2 (lit< tt))) Filled
+    (sep 𝓤 (sem 𝓛 (unset R γ)) (sep 𝓤 (sem 𝓛 (over R γ)) (sem 𝓛 F))) (steps.publishes 𝓛 R γ α δ d e x))
+    (adds 𝓛 𝓜 𝓡 (code.calls-core::raw_atomic::fetch_add 𝓡.env wired) (block_ptr b o) n are.1.1.0.1 after)) $
     sets ! (agg ! (and_then ! (lit ! tt) (no_more !))) refl (tt, (record { fits = lit< tt }, tt)) $
-    Calls-last ! (fm 𝓛 𝓜 𝓡) (stored After) (and_then ! (get ! refl) (and_then ! (lit ! tt) (and_then ! (get ! refl) (no_more !)))) (λ u. has_stored ! After (
-    lands_last ! refl (tt, tt) $ exec ! 𝓣.C 𝓣.Λ Ev (tail (tail (tail fn.body))) (at_ret Ev Post) $
-    -- [the store's; T's token; the way back; the rest]
+    Calls-last ! (fm 𝓛 𝓜 𝓡) (found after) (and_then ! (get ! refl) (and_then ! (get ! refl) (and_then ! (get ! refl) (no_more !)))) (λ u. finds ! after (λ k fits.
+    lands_last ! refl (tt, record { fits = fits }) $ exec ! 𝓣.C 𝓣.Λ Ev (tail (tail (tail (tail fn.body)))) (at_ret Ev Post) $
+    -- [the step's; T's token; the way back; the rest]
     fsplit ! $ move ! (0 ∷ 3 ∷ []) $ use2 𝓛 (later (‵ (flft β q))) (apply∗ 𝓤 (A.lft α s) (H.⇛ (A.lft β q))) $ await ! tt $ move ! (2 ∷ 3 ∷ []) $ join ! $ move ! (1 ∷ 0 ∷ []) $ join ! $ move ! (1 ∷ []) $
     let made : S.Denot = record { marker = record {}; of = γ.value_name; value = x; found = h.found } in let Told : Type 0 = (γ.value_name ≡ γ.value_name) × (x ≡ x) × (h.found ≡ h.found) in
     use1 𝓛 (‵ (S.own_val made (token_val ∷ []))) (written_made 𝓛 R γ.value_name x h.found) $
     sets ! (agg ! (no_more !)) refl (tt, tt) $ sets ! (agg ! (and_then ! (get ! refl) (no_more !))) refl (tt, (tt, tt)) $
-    use0 𝓛 (raw (fact 𝓤 Told)) (fact_i 𝓤 Told (emp 𝓤) (refl, refl, refl)) $ nothing ! $ nothing ! $ fjoin ! $ nothing ! $ fjoin ! $
-    returns ! (look_at ! 0 refl) $ free_all ! refl $ keep ! (3 ∷ 0 ∷ 2 ∷ 1 ∷ []) $ by ! (leaves 𝓛 En hs c y token_val made (tt, (tt, tt)) (tt, (tt, tt)))))))))))))))
+    use0 𝓛 (raw (fact 𝓤 Told)) (fact_i 𝓤 Told (emp 𝓤) (refl, refl, refl)) $ nothing ! $ nothing ! $ fjoin ! $ nothing ! $ fjoin ! $ nothing ! $ fjoin ! $
+    returns ! (look_at ! 0 refl) $ free_all ! refl $ keep ! (3 ∷ 0 ∷ 2 ∷ 1 ∷ []) $ by ! (leaves 𝓛 En hs c y token_val made (tt, (tt, (tt, tt))) (tt, (tt, (tt, tt)))))))))))))))))

@@ -1,5 +1,5 @@
 -- A load of more than 2 showed that the cell is broken.
-use Rattle.std.proofs.Common.{◌<◌, ◌≡◌, [], ◌∷◌, refl}
+use Rattle.std.proofs.Common.{◌≢◌, ◌<◌, ◌≡◌, [], ◌∷◌, refl}
 use mir.Syntax.{a_type}
 use mir.Val.{Val}
 use mir.MapTy.{inst_fn}
@@ -36,7 +36,7 @@ broken_spec 𝓤 𝓛 𝓜 𝓡 wired T L =
     (λ κs. ((λ _. token_val ∷ []), tt)) (λ κs. ((λ x vs so. sight_told R vs so.0), tt)) (λ κs qs bounds a gh are.
     let h : Si.Denot = a.0 in let γ : Names = h.of in
     let y : (walk_of 𝓛 En hs c).Ghost = ((κs, qs, bounds, a, (token_val ∷ [], tt)), gh) in let Post : Val → SProp 𝓤 = (walk_of 𝓛 En hs c).post y in
-    qed 𝓛 ((raw (alive 𝓛 En.signature κs qs) ⊛ ‵ (owns (types_at En.signature.params κs) a y.0.4)) ∷ raw (fact 𝓤 _) ∷ raw (fact 𝓤 (2 < h.found)) ∷ []) ∵ keep ! (2 ∷ 0 ∷ []) $ heard ! (2 < h.found) (λ asked.
+    qed 𝓛 ((raw (alive 𝓛 En.signature κs qs) ⊛ ‵ (owns (types_at En.signature.params κs) a y.0.4)) ∷ raw (fact 𝓤 _) ∷ raw (fact 𝓤 ((1 < h.found) × (h.found ≢ 3))) ∷ []) ∵ keep ! (2 ∷ 0 ∷ []) $ heard ! ((1 < h.found) × (h.found ≢ 3)) (λ asked.
     split ! $ move ! (1 ∷ []) $ fsplit ! $ fsplit ! $ keep ! (1 ∷ 3 ∷ []) $ use1 𝓛 (‵ (was_broken γ.broken_name)) (sight_shows_broken 𝓛 R γ h.found h.value asked) $
     let r : S.Denot = record { marker = record {}; of = γ.broken_name } in let Told : Type 0 = γ.broken_name ≡ γ.broken_name in use1 𝓛 (‵ (S.own_val r (token_val ∷ []))) (broken_made 𝓛 γ.broken_name) $
     enter ! 𝓣.C 𝓣.Λ fn (token_val ∷ []) Post $ alloc_all ! (λ l. pass_all ! refl ((tt, (tt, tt)), tt) $

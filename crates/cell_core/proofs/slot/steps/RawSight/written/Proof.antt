@@ -37,7 +37,7 @@ written_spec 𝓤 𝓛 𝓜 𝓡 wired T L =
     (λ κs. ((λ _. token_val ∷ []), tt)) (λ κs. ((λ x vs so. sight_told R vs so.0), tt)) (λ κs qs bounds a gh are.
     let h : Si.Denot = a.0 in let γ : Names = h.of in
     let y : (walk_of 𝓛 En hs c).Ghost = ((κs, qs, bounds, a, (token_val ∷ [], tt)), gh) in let Post : Val → SProp 𝓤 = (walk_of 𝓛 En hs c).post y in
-    qed 𝓛 ((raw (alive 𝓛 En.signature κs qs) ⊛ ‵ (owns (types_at En.signature.params κs) a y.0.4)) ∷ raw (fact 𝓤 _) ∷ raw (fact 𝓤 (h.found ≡ 2)) ∷ []) ∵ keep ! (2 ∷ 0 ∷ []) $ heard ! (h.found ≡ 2) (λ asked.
+    qed 𝓛 ((raw (alive 𝓛 En.signature κs qs) ⊛ ‵ (owns (types_at En.signature.params κs) a y.0.4)) ∷ raw (fact 𝓤 _) ∷ raw (fact 𝓤 (h.found ≡ 3)) ∷ []) ∵ keep ! (2 ∷ 0 ∷ []) $ heard ! (h.found ≡ 3) (λ asked.
     split ! $ move ! (1 ∷ []) $ fsplit ! $ fsplit ! $ keep ! (1 ∷ 3 ∷ []) $ rewrite ! 0 (λ (k : ℕ). ‵ (sighted R γ k h.value)) asked refl $ use1 𝓛 (‵ (fex R.Denot (written R γ.value_name))) (known_some 𝓛 R γ h.value) $ fpick ! (λ x.
     let r : S.Denot = record { marker = record {}; of = γ.value_name; value = x; found = 0 } in let Told : Type 0 = γ.value_name ≡ γ.value_name in use1 𝓛 (‵ (S.own_val r (token_val ∷ []))) (written_made 𝓛 R γ.value_name x 0) $
     enter ! 𝓣.C 𝓣.Λ fn (token_val ∷ []) Post $ alloc_all ! (λ l. pass_all ! refl ((tt, (tt, tt)), tt) $

@@ -1,0 +1,92 @@
+-- `empty` clears the state of a cell, which takes fresh names.
+use Rattle.std.proofs.Common.{◌≡◌, ℕ, ◌+◌, length, set, ◌*◌, ◌/◌, ◌%◌, ◌^◌, ◌<◌, List, [], ◌∷◌, sym, refl, subst, arith, w64, ◌-◌}
+use Rattle.std.specs.Prelude.{None}
+use mir.Syntax.{Ty, a_type, dcons, dnil, named}
+use mir.Val.{Val, vint, vptr, vunit}
+use mir.MapTy.{inst_fn}
+use base.Logic.{SProp, ent, emp, id⊢, apply∗, all, all_e}
+use base.Fml.{Fml, ftrue, fsep, flft, froom}
+use mir.Syntax.{ty_int}
+use prog.Wp.{WpFn}
+use types.Logic.{sem}
+use types.Kit.{◌∵◌, ‵, raw, ◌⊛◌, given, some, later, await, pick, at_ret, ◌$◌, !, qed, by, move, keep, use0, use1, use2, use3, split, join, fsplit, fsplit3, fjoin, fjoin3, fpick, learn, suffices, rewrite, feq_i, drop}
+use types.Run.{stop, fld, load, look_raw, store, of_opd, bin, first, blocks, exec, returns, enter, unit_lit, assigns_last, lit}
+use types.ByLocal.{alloc_all, pass_all, free_all, look_at, get, get_in, through, sets, env}
+use types.Part.{sub, whole as all_of_it}
+use contract.Running.{tables}
+use contract.Monad.{fact, fact_i}
+use denote.Exit.{yes, no}
+use denote.RattleType.{RattleType, owns}
+use denote.Signature.{types_at, plain}
+use denote.RawPtr.{Ptr, block_ptr, block_of, count_of}
+use denote.Param.{layout}
+use mir.Raw.{raw as bare}
+use mir.Val.{has_ty, WT}
+use base.Fraction.{full_share}
+use lib.Bits.{bit_and, and_lt}
+use Rattle.cell_core.specs.Fields.{pack}
+use Rattle.cell_core.specs.contracts.block.steps.Link as link
+use Rattle.cell_core.proofs.CellMade.{pointers_val, pointers_good}
+use Rattle.cell_core.proofs.LaidMade.{link_told}
+use Rattle.cell_core.proofs.Fields.{clears_field}
+use Rattle.cell_core.proofs.WordSteps.{states_fit}
+use Rattle.cell_core.proofs.RestParts as rest
+use denote.Steps.{nothing, heard, opens, closes}
+use denote.Param.{param, bounded}
+use denote.Builtin.{usize, u64}
+use denote.Ref.{mut_vals, mut_Tells}
+use denote.Plain.{uint_vals, uint_Tells}
+use denote.Triple.Walked.{Stays, stay_dropped, stay_ref, walk_of, Goes-dropped, Goes-ref}
+use Rattle.core.proofs.atomic.Steps.{tail}
+use Rattle.atomic_table.proofs.Walks.{proved, leaves}
+use Rattle.cell_core.specs.Slot.{Names, Rest, cell_in, state, room_at, word, free}
+use Rattle.cell_core.specs.Laid.{Extent, laid, still, lying, IsLinked, HasOneRenamed}
+use Rattle.cell_core.specs.contracts.block.steps.Laid as loose
+use Rattle.cell_core.proofs.LaidParts as parts
+use Rattle.cell_core.specs.contracts.block.steps.Laid.empty.{ended, clauses}
+use Rattle.cell_core.specs.contracts.block.steps.Laid.empty.Key.{name as #self}
+use Rattle.cell_core.proofs.block.steps.Laid.empty.Statement.{statement}
+use Rattle.cell_core.proofs.block.steps.Laid.empty.Code as code
+
+pub empty_spec : {M : Type 1} → statement M
+empty_spec 𝓤 𝓛 𝓜 𝓡 wired T Al L _ ga da dd _ _ =
+    let H = 𝓛.H in let 𝓣 = tables 𝓤 H 𝓜 𝓡 𝓡.env in let R : RattleType = param 0 T in let Z : RattleType = param 1 Al in let Lk : RattleType = link.the_row R in let Lo : RattleType = loose.the_row R Z ga in let En = ended T Al ga da dd in let c = clauses T Al ga da dd 𝓛 𝓜.mem 𝓡.returns in
+    let inst = bounded (a_type ∷ a_type ∷ []) (T, (Al, tt)) (dcons da (dcons dd dnil)) in let fn = inst_fn inst code.function in
+    let hs : Stays En.signature.params En.kept = (stay_ref (0 ∷ []) tt (plain (λ _. Lo)), (stay_dropped (plain (λ _. Lk)) no, (stay_dropped (plain (λ _. usize)) yes, (stay_dropped (plain (λ _. usize)) yes, (stay_dropped (plain (λ _. u64)) yes, tt))))) in
+    proved 𝓛 En hs c 𝓜 𝓡 (Goes-ref 𝓛 3 0 tt (plain (λ _. Lo)), (Goes-dropped 𝓛 3 (plain (λ _. Lk)) no (λ κs x f. refl), (Goes-dropped 𝓛 3 (plain (λ _. usize)) yes (λ κs x f. refl), (Goes-dropped 𝓛 3 (plain (λ _. usize)) yes (λ κs x f. refl), (Goes-dropped 𝓛 3 (plain (λ _. u64)) yes (λ κs x f. refl), tt))))) (#self inst) fn (code.unfolded 𝓤 H 𝓜 𝓡 wired (T, (Al, tt)) da dd)
+    (λ κs. (mut_vals, ((λ x. pointers_val x.words x.rooms ∷ []), (uint_vals w64, (uint_vals w64, (uint_vals w64, tt)))))) (λ κs. (mut_Tells (named 0) κs.0 (Lo), (link_told R, (uint_Tells w64, (uint_Tells w64, (uint_Tells w64, tt)))))) (λ κs qs bounds a gh are.
+    let p : Ptr = a.1.0.words in let z : Ptr = a.1.0.rooms in let k : ℕ = a.1.1.0 in let j : ℕ = a.1.1.1.0 in let m : ℕ = a.1.1.1.1.0 in let i : ℕ = j % 16 in
+    let y : (walk_of 𝓛 En hs c).Ghost = ((κs, qs, bounds, a, (vptr a.0.ref_ptr.0 a.0.ref_ptr.1 ∷ [], (pointers_val p z ∷ [], (vint w64 k ∷ [], (vint w64 j ∷ [], (vint w64 m ∷ [], tt)))))), gh) in let Post : Val → SProp 𝓤 = (walk_of 𝓛 En hs c).post y in
+    let b' : ℕ = a.0.ref_ptr.0 in let o' : ℕ = a.0.ref_ptr.1 in let h : Lo.Denot = a.0.now in let token : Ty → Ptr → Fml = ga.dealloc_token h.heap in let cs : List Names = h.cells in
+    let x : Extent = record { at = p; rooms = z; words = h.rows.words; more = h.rows.more; left = h.rows.left } in let b : ℕ = block_of p in let o : ℕ = count_of p in let d : ℕ = block_of z in let e : ℕ = count_of z in let γ : Names = cell_in cs j in let k' : ℕ = j / 16 in let m' : ℕ = 2 ^ 64 - 1 - 15 * 16 ^ i in
+    let Asked : Type 0 = IsLinked h.rows.at p × IsLinked h.rows.rooms z × ((j < length cs) × (k ≡ k') × (m ≡ m')) in let others : Fml = fsep (flft κs.1.0 qs.1.0) (fsep (flft κs.1.1.0 qs.1.1.0) (ftrue)) in
+    qed 𝓛 (((‵ (flft κs.0 qs.0) ⊛ ‵ others) ⊛ ‵ (owns (types_at En.signature.params κs) a y.0.4)) ∷ raw (fact 𝓤 _) ∷ raw (fact 𝓤 _) ∷ raw (fact 𝓤 Asked) ∷ []) ∵
+    keep ! (3 ∷ 0 ∷ []) $ heard ! Asked (λ asked. split ! $ split ! $ move ! (2 ∷ []) $ fsplit ! $ fsplit3 ! $ keep ! (1 ∷ 2 ∷ 4 ∷ 5 ∷ []) $
+    let us : (Ptr × Ptr) × (ℕ × ℕ) → List Val = λ u. vptr a.0.ref_ptr.0 a.0.ref_ptr.1 ∷ pointers_val u.0.0 u.0.1 ∷ vint w64 u.1.0 ∷ vint w64 j ∷ vint w64 u.1.1 ∷ [] in let Run : List Val → SProp 𝓤 = λ ws. WpFn 𝓤 H 𝓣.C 𝓣.Λ fn ws Post in let all_of : (Ptr × Ptr) × (ℕ × ℕ) = ((block_ptr b o, block_ptr d e), (k', m')) in
+    suffices ! (Run (us all_of)) (subst (λ (u : (Ptr × Ptr) × (ℕ × ℕ)). ent 𝓤 (Run (us all_of)) (Run (us u))) (λ l. ((sym asked.0.1 l, sym asked.1.1 l), (sym asked.2.1 l, sym asked.2.2 l))) (id⊢ 𝓤 (Run (us all_of)))) $
+    let fits_k : k' < 2 ^ 64 = (let f : j < 2 ^ 64 = are.1.1.1.0.1 in omega arith) in let fits_m : m' < 2 ^ 64 = omega arith in
+    enter ! 𝓣.C 𝓣.Λ fn (us all_of) Post $ alloc_all ! (λ l. pass_all ! refl ((tt, tt), (pointers_good all_of.0.0 all_of.0.1, ((tt, record { fits = fits_k }), ((tt, record { fits = are.1.1.1.0.1 }), ((tt, record { fits = fits_m }), tt))))) $ let Ev = env fn.locals l in
+    opens ! tt Lo b' o' (λ ts. move ! (1 ∷ []) $ fsplit ! $
+    rewrite ! 1 (λ (u : Ptr × Ptr). ‵ (laid R token (record { at = u.0; rooms = u.1; words = x.words; more = x.more; left = x.left }) cs)) (λ l. (asked.0.0 l, asked.1.0 l)) refl $ move ! (1 ∷ []) $ let Way : List Names × ℕ → Names → SProp 𝓤 = parts.Put 𝓛 R token x cs j in
+    use1 𝓛 (given (parts.Near 𝓛 R token x j) (some (λ (w : List Names × ℕ). given (parts.IsIn R cs e j w) (‵ (still R w.0 b (k' * 8 + o) d w.1) ⊛ raw (all 𝓤 (Way w)))))) (parts.laid_at 𝓛 R token x cs j asked.2.0) $ learn ! (λ near. pick ! (λ w. learn ! (λ is. split ! $
+    let W : List Names = w.0 in let r : ℕ = w.1 in let q : ℕ = room_at R r i in let O : ℕ = k' * 8 + o in fpick ! (λ s. fsplit ! $ let f : ℕ → ℕ = λ l. state (s l).1 in let n : ℕ = pack W f in let Into : Names × Rest R.Denot → SProp 𝓤 = parts.Rested 𝓛 R W d r s i in
+    move ! (1 ∷ []) $ use1 𝓛 (‵ (lying R d q (cell_in W i) (s i)) ⊛ raw (all 𝓤 Into)) (parts.rests_at 𝓛 R W d r s i is.near) $ split ! $ move ! (2 ∷ []) $ rewrite ! 1 (λ (u : Names). ‵ (lying R d q u (s i))) is.names refl $
+    -- [the word; the cell; the way back into the word; the way back; ..]
+    use1 𝓛 (given (lib.Dec.T (has_ty (ty_int w64) (vint w64 n)) × WT (vint w64 n)) (‵ (word b O n))) (𝓛.laws.at_wt full_share (ty_int w64) b O (vint w64 n)) $ learn ! (λ g. let small : k' * 8 < 2 ^ 64 = (let l : k' * 8 < 2 ^ 63 = near.0 in omega arith) in
+    let n' : ℕ = bit_and n m' in let fits' : n' < 2 ^ 64 = and_lt 64 n m' g.1.fits fits_m in
+    first ! $ blocks ! $ sets ! (bin ! (get ! refl) (lit ! tt) (record { fits = small })) refl (tt, record { fits = small }) $ sets ! (bin ! (get_in ! (fld ! refl (stop !)) (sub ! 0 refl (all_of_it !))) (get ! refl) tt) refl (tt, tt) $
+    sets ! (of_opd ! (load ! (through ! refl (stop !)) (look_raw ! 0 refl))) refl g $ sets ! (bin ! (get ! refl) (get ! refl) tt) refl (tt, record { fits = fits' }) $
+    assigns_last ! (of_opd ! (get ! refl)) (through ! refl (stop !)) (store ! 0 refl (tt, record { fits = fits' })) $ exec ! 𝓣.C 𝓣.Λ Ev (tail fn.body) (at_ret Ev Post) $ sets ! (of_opd ! (unit_lit !)) refl (tt, tt) $
+    move ! (1 ∷ []) $ fsplit ! $ use1 𝓛 (‵ (froom (bare (layout T)) d q)) (rest.emptied T L 𝓛 d q (s i).0) $ move ! (1 ∷ []) $ fsplit ! $ fsplit ! $
+    -- [the names; what went with the phase; what lay there; the room; the word; the way back into the word; the way back; ..]
+    move ! (0 ∷ 3 ∷ []) $ use2 𝓛 (later (‵ (rest.Renewed 𝓛 R γ d q))) (rest.renewed 𝓛 R γ d q (s i).1) $ await ! tt $ fpick ! (λ γ'. fsplit ! $ fpick ! (λ apart. drop ! $
+    -- [the new cell; ..; the word; the way back into the word; the way back; ..]
+    move ! (3 ∷ 0 ∷ 4 ∷ []) $ let h' : Lo.Denot = record { marker = h.marker; heap = h.heap; rows = x; cells = set cs j γ' } in
+    use3 𝓛 (‵ (still R (set W i γ') b O d r)) (parts.closes_word 𝓛 R W b O d r s i γ' (None, free) n' (clears_field W f i (states_fit R (λ l. (s l).1)) is.near is.short)) $ move ! (3 ∷ []) $ use1 𝓛 (raw (Way w γ')) (all_e 𝓤 (Way w) γ') $ move ! (1 ∷ 0 ∷ []) $
+    use2 𝓛 (‵ (laid R token x h'.cells)) (apply∗ 𝓤 (sem 𝓛 (still R (set W i γ') b O d r)) (sem 𝓛 (laid R token x h'.cells))) $
+    -- [the rows; what went with the phase; what lay there; the token; ..]
+    move ! (3 ∷ 0 ∷ []) $ fjoin ! $ move ! (1 ∷ []) $ drop ! $ move ! (1 ∷ []) $ drop ! $ move ! (1 ∷ 0 ∷ []) $
+    closes ! tt Lo h' ts b' o' $ feq_i ! (List Val) (vptr b' o' ∷ []) (vptr b' o' ∷ []) refl $ fjoin3 ! $ nothing ! $ nothing ! $ fjoin ! $ nothing ! $ fjoin ! $ nothing ! $ fjoin ! $ nothing ! $ fjoin ! $ move ! (1 ∷ 0 ∷ []) $ fjoin ! $ move ! (1 ∷ 2 ∷ []) $ join ! $
+    let Kept : Type 0 = (h.heap ≡ h.heap) × (x ≡ h.rows) × HasOneRenamed cs j h'.cells in
+    use0 𝓛 (raw (fact 𝓤 Kept)) (fact_i 𝓤 Kept (emp 𝓤) (refl, (λ l. record { at = sym asked.0.0 l; rooms = sym asked.1.0 l; words = h.rows.words; more = h.rows.more; left = h.rows.left }), (γ', apart, refl))) $ feq_i ! (List Val) (vunit ∷ []) (vunit ∷ []) refl $
+    returns ! (look_at ! 0 refl) $ free_all ! refl $ keep ! (2 ∷ 3 ∷ 0 ∷ 1 ∷ []) $ by ! (leaves 𝓛 En hs c y vunit tt (h', (tt, (tt, (tt, (tt, tt))))) (tt, (tt, (tt, (tt, (tt, tt)))))))))))))))))

@@ -1,0 +1,103 @@
+-- `allocate` asks the allocator for the room of a row.
+use Rattle.std.proofs.Common.{◌≡◌, ℕ, ◌*◌, ◌^◌, ◌<◌, List, [], ◌∷◌, sym, refl, ap, subst, arith, lit<, w64}
+use mir.Syntax.{Ty, a_type, dcons, dnil, named}
+use mir.Val.{Val, vint, vptr, vstruct, vcons, vnil}
+use mir.MapTy.{inst_fn}
+use base.Logic.{SProp, emp}
+use base.Fml.{Lft, Share, Fml, ftrue, fsep, flft}
+use types.Kit.{◌∵◌, ‵, raw, ◌⊛◌, later, at_ret, ◌$◌, !, qed, by, move, keep, use0, use1, use2, split, join, fsplit, fjoin, fjoin3, fpack, await, feq_i}
+use types.Run.{stop, fld, lit, size_word, of_opd, bin, no_more, and_then, first, exec, returns, enter}
+use types.ByLocal.{alloc_all, pass_all, free_all, look_at, get, get_in, sets, sets_last, is, env}
+use types.Part.{agg, whole as all_of_it}
+use contract.Running.{tables}
+use contract.Monad.{fact, fact_i}
+use denote.Exit.{yes}
+use denote.RattleType.{RattleType, owns}
+use denote.Signature.{types_at, plain}
+use denote.RawPtr.{Ptr, block_ptr}
+use denote.Steps.{nothing, heard}
+use denote.Param.{param, bounded}
+use denote.Builtin.{RefOf, usize}
+use denote.Ref.{shr_vals, shr_Tells}
+use denote.Plain.{uint_vals, uint_Tells}
+use denote.Struct.Tuple.{Tuple}
+use denote.Triple.Walked.{Stays, stay_dropped, walk_of, Goes-dropped}
+use Rattle.atomic_table.proofs.Walks.{proved, leaves}
+use Rattle.atomic_table.proofs.Calls.{fm}
+use denote.RawPtr.{RawPtr, InBlock}
+use denote.Memory.{lone}
+use Rattle.cell_core.specs.Slot.{step}
+use Rattle.cell_core.specs.Laid.{rooms_ty, FitsMemory, IsLinked}
+use Rattle.cell_core.specs.contracts.block.steps.Rooms as loose
+use Rattle.cell_core.proofs.CellMade.{token_val}
+use Rattle.cell_core.proofs.LaidMade.{Token, token_made, uncapped, row_size, row_align}
+use mir.Syntax.{Body}
+use base.Fml.{Incl-trans}
+use prog.Memory.{align, capped}
+use prog.Capped.{capped_fits}
+use prog.Wp.{Wp, after_seq, at_return}
+use contract.BorrowLft.{◌⊑◌}
+use types.Kit.{any_q}
+use types.Match.{live, vrt, in_variant}
+use types.Run.{align_word, switches_on}
+use types.ByLocal.{get_tag, lands_as}
+use denote.Triple.Call.{calls_at}
+use Rattle.core.specs.declared.result.Result.TheVariants.{Ok, Err}
+use Rattle.core.specs.contracts.result.Result as Res
+use Rattle.core.proofs.once.Made.{ok_of, err_of}
+use Rattle.core.proofs.slots.Bodies.{after, head, arm_body}
+use Rattle.core.proofs.alloc.Calls.{Al as Handle, Answer-typed, Takes, at_takes, Answered, Takes-goes, Takes-gives, answers}
+use Rattle.std.proofs.Common.{true, false}
+use denote.RattleType.{Valss}
+use denote.Shadow.{makes_shadow}
+use denote.Struct.Struct.{within}
+use denote.Struct.Declared as declared
+use denote.Struct.Tuple.{tuple_type}
+use Rattle.core.specs.contracts.alloc.AllocError as refusal
+use Rattle.cell_core.specs.contracts.block.steps.Rooms.allocate.{ended, clauses}
+use Rattle.cell_core.specs.contracts.block.steps.Rooms.allocate.Key.{name as #self}
+use Rattle.cell_core.proofs.block.steps.Rooms.allocate.Statement.{statement}
+use Rattle.cell_core.proofs.block.steps.Rooms.allocate.Code as code
+
+pub allocate_spec : {M : Type 1} → statement M
+allocate_spec 𝓤 𝓛 𝓜 𝓡 wired T Al L LA ga da dd met _ =
+    let H = 𝓛.H in let 𝓣 = tables 𝓤 H 𝓜 𝓡 𝓡.env in let R : RattleType = param 0 T in let Z : RattleType = param 1 Al in let Lo : RattleType = loose.the_row R Z ga in
+    let En = ended T Al ga da dd in let c = clauses T Al ga da dd 𝓛 𝓜.mem 𝓡.returns in let inst = bounded (a_type ∷ a_type ∷ []) (T, (Al, tt)) (dcons da (dcons dd dnil)) in let fn = inst_fn inst code.function in
+    let Hd : Handle = record { row = Al; laws = LA; g = ga; d = da; drops = dd } in
+    let al : ℕ = capped (align (lone R.mir)) in let handle = RefOf (0 ∷ []) tt (plain (λ _. Z)) (λ _. tt) in
+    let hs : Stays En.signature.params En.kept = (stay_dropped handle yes, (stay_dropped (plain (λ _. usize)) yes, tt)) in let Two : RattleType = Tuple (RawPtr ∷ Lo ∷ []) in let Out : RattleType = Res.the_row Two refusal.the_row in
+    proved 𝓛 En hs c 𝓜 𝓡 (Goes-dropped 𝓛 3 handle yes (λ κs x f. refl), (Goes-dropped 𝓛 3 (plain (λ _. usize)) yes (λ κs x f. refl), tt)) (#self inst) fn (code.unfolded 𝓤 H 𝓜 𝓡 wired (T, (Al, tt)) da dd)
+    (λ κs. (shr_vals, (uint_vals w64, tt))) (λ κs. (shr_Tells (named 0) κs.0 Z, (uint_Tells w64, tt))) (λ κs qs bounds a gh are.
+    let hp : ℕ × ℕ = a.0.ref_ptr in let heap : Al.Denot = a.0.now in let n : ℕ = a.1.0 in let τ : Ty = rooms_ty R n in let s : ℕ = n * step R in let κ : Lft = κs.0 in let q : Share = qs.0 in let token : Ty → Ptr → Fml = ga.dealloc_token heap in
+    let y : (walk_of 𝓛 En hs c).Ghost = ((κs, qs, bounds, a, (vptr hp.0 hp.1 ∷ [], (vint w64 n ∷ [], tt))), gh) in let Post : Val → SProp 𝓤 = (walk_of 𝓛 En hs c).post y in
+    let others : Fml = fsep (flft κs.1.0 qs.1.0) (fsep (flft κs.1.1.0 qs.1.1.0) ftrue) in
+    qed 𝓛 (((‵ (flft κ q) ⊛ ‵ others) ⊛ ‵ (owns (types_at En.signature.params κs) a y.0.4)) ∷ raw (fact 𝓤 _) ∷ raw (fact 𝓤 (κs.1.1.0 ⊑ Al.lives)) ∷ raw (fact 𝓤 (FitsMemory R n)) ∷ []) ∵
+    keep ! (2 ∷ 3 ∷ 0 ∷ []) $ heard ! (κs.1.1.0 ⊑ Al.lives) (λ inside. heard ! (FitsMemory R n) (λ fits. let small : s < 2 ^ 64 = (let x : s < 2 ^ 63 = fits in omega arith) in split ! $ split ! $ move ! (2 ∷ []) $ fsplit ! $ fsplit ! $ keep ! (1 ∷ 3 ∷ 4 ∷ []) $
+    enter ! 𝓣.C 𝓣.Λ fn (vptr hp.0 hp.1 ∷ vint w64 n ∷ []) Post $ alloc_all ! (λ l. pass_all ! refl ((tt, tt), ((tt, record { fits = are.1.0.1 }), tt)) $ let Ev = env fn.locals l in let both : Body = head (after 2 fn.body) in
+    let Then = any_q (after_seq 𝓤 H (Wp 𝓤 H 𝓣.C 𝓣.Λ Ev (after 3 fn.body) (at_return 𝓤 H Ev Post)) (at_return 𝓤 H Ev Post)) in let Asked = Takes Hd 𝓛 𝓜.mem 𝓡.returns in let w : Asked.Ghost = at_takes Hd 𝓛 𝓜.mem 𝓡.returns κ q hp heap s al τ in
+    sets ! (is ! (bin ! (get ! refl) (size_word !) (record { fits = subst (λ (j : ℕ). j < 2 ^ 64) (sym (uncapped n (step R) small)) small })) (ap (vint w64) (uncapped n (step R) small))) refl (tt, record { fits = small }) $
+    use2 𝓛 (raw (Asked.pre w)) (Takes-goes Hd 𝓛 𝓜.mem 𝓡.returns κ q hp heap (Incl-trans bounds.0 inside) s al τ (row_size R n small) (row_align R n) small (capped_fits (align (lone R.mir)))) $
+    calls_at ! (fm 𝓛 𝓜 𝓡) Asked (met.allocate dd) w (and_then ! (get ! refl) (and_then ! (get ! refl) (and_then ! (align_word !) (no_more !)))) (λ u.
+    use1 𝓛 (later (raw (Answered Hd 𝓛 𝓜.mem 𝓡.returns heap τ u) ⊛ ‵ (flft κ q))) (Takes-gives Hd 𝓛 𝓜.mem 𝓡.returns κ q hp heap s al τ u) $ await ! tt $ split ! $ move ! (1 ∷ 2 ∷ []) $ join ! $ move ! (1 ∷ []) $
+    answers Hd ! 𝓜.mem 𝓡.returns heap τ u
+    (λ b o e. let p : Ptr = block_ptr b o in let r : Lo.Denot = record { marker = record {}; heap = heap; at = p; len = n } in
+    let pair : Val = vstruct (vcons (vptr b o) (vcons token_val vnil)) in let val : Val = live 0 (vcons pair vnil) in let good : mir.Val.WT val = (record { fits = lit< tt }, ((tt, ((tt, tt), tt)), tt)) in
+    let Told : Type 0 = (heap ≡ heap) × IsLinked p p × (n ≡ n) in nothing ! $ fpack ! (InBlock p × FitsMemory R n) (λ _. ftrue) (tt, fits) $ move ! (0 ∷ 1 ∷ 2 ∷ []) $ fjoin3 ! $
+    lands_as ! e refl (Answer-typed true b o) $ first ! $ switches_on ! (get_tag ! (vrt ! refl (fld ! refl (stop !))) (all_of_it !)) $ exec ! 𝓣.C 𝓣.Λ Ev (arm_body 0 both) Then $
+    sets ! (of_opd ! (get_in ! (vrt ! refl (fld ! refl (stop !))) (in_variant ! 0 0 refl refl (all_of_it !)))) refl (tt, tt) $
+    sets ! (agg ! (no_more !)) refl (tt, tt) $ sets ! (of_opd ! (get ! refl)) refl (tt, tt) $ sets ! (agg ! (and_then ! (get ! refl) (no_more !))) refl (tt, (tt, tt)) $
+    sets ! (agg ! (and_then ! (get ! refl) (and_then ! (get ! refl) (no_more !)))) refl (tt, (tt, ((tt, tt), tt))) $
+    sets_last ! (agg ! (and_then ! (lit ! tt) (and_then ! (get ! refl) (no_more !)))) refl (tt, good) $ exec ! 𝓣.C 𝓣.Λ Ev (after 3 fn.body) (at_ret Ev Post) $ sets ! (of_opd ! (get ! refl)) refl (tt, good) $
+    use0 𝓛 (‵ ((Token RawPtr).own_val (record {}, tt) (token_val ∷ []))) (token_made RawPtr 𝓛) $ fjoin ! $ nothing ! $ move ! (1 ∷ 0 ∷ []) $ fjoin ! $
+    feq_i ! (List Val) (vptr b o ∷ []) (vptr b o ∷ []) refl $ fjoin ! $ feq_i ! (List Val) (pair ∷ []) (pair ∷ []) refl $ fjoin ! $
+    fpack ! (Valss (RawPtr ∷ Lo ∷ [])) (within (declared.shape (tuple_type (RawPtr ∷ Lo ∷ []))) (p, (r, tt)) (pair ∷ [])) (vptr b o ∷ [], (token_val ∷ [], tt)) $
+    use1 𝓛 (‵ (Out.own_val (Ok (p, r)) (val ∷ []))) (ok_of 𝓛 Two refusal.the_row (p, r) pair) $
+    use0 𝓛 (raw (fact 𝓤 Told)) (fact_i 𝓤 Told (emp 𝓤) (refl, (refl, refl), refl)) $ nothing ! $ nothing ! $ fjoin ! $ nothing ! $ fjoin ! $
+    returns ! (look_at ! 0 refl) $ free_all ! refl $ keep ! (3 ∷ 0 ∷ 2 ∷ 1 ∷ []) $ by ! (leaves 𝓛 En hs c y val (Ok (p, r)) (tt, (tt, tt)) (tt, (tt, tt))))
+    (λ e. let val : Val = live 1 (vcons (vstruct vnil) vnil) in let good : mir.Val.WT val = (record { fits = lit< tt }, (tt, tt)) in let F : Fml = refusal.the_row.own_val (record {}) (vstruct vnil ∷ []) in
+    lands_as ! e refl (Answer-typed false 0 0) $ first ! $ switches_on ! (get_tag ! (vrt ! refl (fld ! refl (stop !))) (all_of_it !)) $ exec ! 𝓣.C 𝓣.Λ Ev (arm_body 1 both) Then $
+    sets ! (of_opd ! (get_in ! (vrt ! refl (fld ! refl (stop !))) (in_variant ! 1 0 refl refl (all_of_it !)))) refl (tt, tt) $
+    sets_last ! (agg ! (and_then ! (lit ! tt) (and_then ! (get ! refl) (no_more !)))) refl (tt, good) $ exec ! 𝓣.C 𝓣.Λ Ev (after 3 fn.body) (at_ret Ev Post) $ sets ! (of_opd ! (get ! refl)) refl (tt, good) $
+    use0 𝓛 (‵ F) (makes_shadow 𝓛 F (λ uss. (tt, tt)) (tt, (refl, tt))) $ use1 𝓛 (‵ (Out.own_val (Err (record {})) (val ∷ []))) (err_of 𝓛 Two refusal.the_row (record {}) (vstruct vnil)) $
+    use0 𝓛 (raw (fact 𝓤 (Unit {0}))) (fact_i 𝓤 (Unit {0}) (emp 𝓤) tt) $ nothing ! $ nothing ! $ fjoin ! $ nothing ! $ fjoin ! $
+    returns ! (look_at ! 0 refl) $ free_all ! refl $ keep ! (3 ∷ 0 ∷ 2 ∷ 1 ∷ []) $ by ! (leaves 𝓛 En hs c y val (Err (record {})) (tt, (tt, tt)) (tt, (tt, tt)))))))))

@@ -1,0 +1,84 @@
+-- `begin` takes the right to write each cell, if it finds what it sought.
+use Rattle.std.proofs.Common.{◌≡◌, ℕ, ◌+◌, ◌%◌, ◌^◌, eqb, length, List, [], ◌∷◌, ◌++◌, refl, ap, w64}
+use mir.Syntax.{a_type}
+use mir.Val.{Val, vint, vptr, vstruct, vcons, vnil, of_list}
+use mir.MapTy.{inst_fn}
+use base.Logic.{SProp, wand, emp, via, apply∗, guard_i}
+use base.Fml.{Lft, Share, Fml, ftrue, fsep, flft, finv, fbor, feq}
+use base.Before.{before}
+use types.Logic.{sem}
+use types.Kit.{mean, ‵, raw, ◌⊛◌, some, given, later, at_ret, ◌$◌, ◌∵◌, !, qed, by, move, keep, drop, use0, use1, use2, use3, split, join, fsplit, fjoin, fjoin3, fpick, fpack, pick, learn, await, rewrite, feq_i, flt_i}
+use types.Run.{stop, fld, of_opd, no_more, and_then, first, blocks, exec, Calls-last, returns, enter}
+use types.ByLocal.{alloc_all, pass_all, free_all, look_at, get, get_in, sets, lands_last, is, env}
+use types.Part.{agg, sub, whole}
+use types.Na.{before_dup}
+use contract.Running.{tables}
+use contract.Monad.{fact, fact_i, fact_use}
+use contract.Shared.{Lends-one}
+use denote.Exit.{yes, no}
+use denote.RattleType.{RattleType, owns, Valss}
+use denote.Signature.{types_at, plain, named_lft}
+use denote.RawPtr.{Ptr, InBlock, block_ptr, ptr_val, block_of, count_of, at_block}
+use denote.Steps.{nothing, heard}
+use denote.Param.{param, layouts}
+use denote.Builtin.{u64}
+use denote.Plain.{uint_vals, uint_Tells}
+use denote.Triple.Walked.{Stays, stay_dropped, walk_of, Goes-dropped}
+use Rattle.atomic_table.proofs.Walks.{proved, leaves}
+use Rattle.atomic_table.proofs.Calls.{fm, found, exchanges, finds}
+use Rattle.core.proofs.atomic.Steps.{tail}
+use Rattle.cell_core.specs.Fields.{sums}
+use Rattle.cell_core.specs.Slot.{Names, Turn, Spot, Cells, kept}
+use Rattle.cell_core.specs.Run.{AreEmptyIn, IsRunAt, held, if_won, cells_owned}
+use Rattle.cell_core.specs.Slot.{fact as is_fact}
+use Rattle.cell_core.specs.contracts.slot.run.RawCells as RawCells
+use Rattle.cell_core.specs.contracts.slot.run.RawRun as RawRun
+use Rattle.cell_core.proofs.CellMade.{pointers_val, pointers_good}
+use Rattle.cell_core.proofs.RunMade.{RunWords, cells_told, cells_placed, run_made}
+use Rattle.cell_core.proofs.RunSteps.{begins_all}
+use Rattle.cell_core.specs.contracts.slot.run.RawCells.begin.{ended, clauses}
+use Rattle.cell_core.specs.contracts.slot.run.RawCells.begin.Key.{name as #self}
+use Rattle.cell_core.proofs.slot.run.RawCells.begin.Statement.{statement}
+use Rattle.cell_core.proofs.slot.run.RawCells.begin.Code as code
+
+pub begin_spec : {M : Type 1} → statement M
+begin_spec 𝓤 𝓛 𝓜 𝓡 wired T L =
+    let H = 𝓛.H in let A = 𝓛.A in let 𝓣 = tables 𝓤 H 𝓜 𝓡 𝓡.env in let R : RattleType = param 0 T in let En = ended T in let c = clauses T 𝓛 𝓜.mem 𝓡.returns in
+    let inst = layouts (a_type ∷ []) (T, tt) in let fn = inst_fn inst code.function in
+    let self = plain (λ κs. RawCells.the_row (named_lft 2 0 tt κs) R) in let hs : Stays En.signature.params En.kept = (stay_dropped self no, (stay_dropped (plain (λ _. u64)) yes, (stay_dropped (plain (λ _. u64)) yes, tt))) in
+    proved 𝓛 En hs c 𝓜 𝓡 (Goes-dropped 𝓛 2 self no (λ κs x f. refl), (Goes-dropped 𝓛 2 (plain (λ _. u64)) yes (λ κs x f. refl), (Goes-dropped 𝓛 2 (plain (λ _. u64)) yes (λ κs x f. refl), tt))) (#self inst) fn (code.unfolded 𝓤 H 𝓜 𝓡 wired (T, tt))
+    (λ κs. ((λ h. pointers_val h.word h.room ∷ []), (uint_vals w64, (uint_vals w64, tt)))) (λ κs. ((λ h vs so. cells_told (named_lft 2 0 tt κs) R h.word h.room vs so.0), (uint_Tells w64, (uint_Tells w64, tt)))) (λ κs qs bounds a gh are.
+    let ℓ = named_lft 2 0 tt κs in let Sr : RattleType = RawCells.the_row ℓ R in let Hr : RattleType = RawRun.the_row ℓ R in let h : Sr.Denot = a.0 in let p : Ptr = h.word in let z : Ptr = h.room in let b : ℕ = block_of p in let o : ℕ = count_of p in let d : ℕ = block_of z in let r : ℕ = count_of z in
+    let β : Lft = κs.0 in let q : Share = qs.0 in let gs : List Names = h.of in let i : ℕ = h.index in let n : ℕ = a.1.0 in let m : ℕ = a.1.1.0 in let others : Fml = fsep (flft κs.1.0 qs.1.0) ftrue in let Asked : Type 0 = AreEmptyIn n i (length gs) × (m ≡ (n + sums 1 (length gs) i) % 2 ^ 64) in
+    let y : (walk_of 𝓛 En hs c).Ghost = ((κs, qs, bounds, a, (pointers_val p z ∷ [], (vint w64 n ∷ [], (vint w64 m ∷ [], tt)))), gh) in let Post : Val → SProp 𝓤 = (walk_of 𝓛 En hs c).post y in
+    qed 𝓛 (((‵ (flft β q) ⊛ ‵ others) ⊛ ‵ (owns (types_at En.signature.params κs) a y.0.4)) ∷ raw (fact 𝓤 _) ∷ raw (fact 𝓤 Asked) ∷ []) ∵
+    keep ! (2 ∷ 0 ∷ []) $ heard ! Asked (λ asked. split ! $ split ! $ move ! (2 ∷ []) $ fsplit ! $ fsplit ! $ keep ! (1 ∷ 3 ∷ 4 ∷ []) $
+    use1 𝓛 (given (InBlock p × InBlock z) (‵ (cells_owned R gs β p z i))) (fact_use 𝓤 _ (cells_placed 𝓛 R gs β p z i) (guard_i 𝓤 (InBlock p × InBlock z) (sem 𝓛 (cells_owned R gs β p z i)))) $ learn ! (λ inb. let is_at : p ≡ block_ptr b o = at_block p inb.0 in let is_room : z ≡ block_ptr d r = at_block z inb.1 in
+    rewrite ! 0 (λ (u : Ptr × Ptr). ‵ (cells_owned R gs β u.0 u.1 i)) (λ l. (is_at l, is_room l)) refl $
+    enter ! 𝓣.C 𝓣.Λ fn (pointers_val p z ∷ vint w64 n ∷ vint w64 m ∷ []) Post $ alloc_all ! (λ l. pass_all ! refl (pointers_good p z, ((tt, record { fits = are.1.0.1 }), ((tt, record { fits = are.1.1.0.1 }), tt))) $ let Ev = env fn.locals l in
+    fpick ! (λ s. fsplit ! $ fpick ! (λ at. drop ! $ let γs : List Names = s.0 in let t : Turn = s.1 in let e : ℕ = s.2 in let α : Lft = t.0 in let J : Fml = fbor α (Cells R γs t b o d e) in
+    fsplit ! $ use1 𝓛 (‵ (before β α) ⊛ ‵ (before β α)) (before_dup 𝓛 β α) $ split ! $ move ! (2 ∷ []) $
+    use1 𝓛 (‵ (finv J) ⊛ ‵ (finv J)) (𝓛.invs.inv_dup J) $ split ! $ move ! (2 ∷ 0 ∷ []) $ fjoin ! $ move ! (2 ∷ 3 ∷ []) $
+    use2 𝓛 (later (some (λ (w : Share). ‵ (flft α w) ⊛ raw (wand 𝓤 (A.lft α w) (H.⇛ (A.lft β q)))))) (Lends-one 𝓛 𝓜 𝓡 β α q) $ await ! tt $ pick ! (λ w. split ! $
+    -- [the turn's token; the way back; the lending; the invariant; the others]
+    let Won : ℕ → Fml = λ k. if_won (eqb k n) (held R t d e gs i []) in let after : ℕ → Fml = λ k. fsep (flft α w) (Won k) in
+    sets ! (is ! (of_opd ! (get_in ! (fld ! refl (stop !)) (sub ! 0 refl (whole !)))) (ap ptr_val is_at)) refl (tt, tt) $
+    sets ! (is ! (of_opd ! (get_in ! (fld ! refl (stop !)) (sub ! 1 refl (whole !)))) (ap ptr_val is_room)) refl (tt, tt) $
+    sets ! (of_opd ! (get_in ! (fld ! refl (stop !)) (sub ! 2 refl (whole !)))) refl (tt, tt) $
+    first ! $ blocks ! $ nothing ! $ move ! (4 ∷ 1 ∷ 0 ∷ []) $
+    use3 𝓛 (raw (𝓣.C _ (vptr b o ∷ vint w64 n ∷ vint w64 m ∷ []) (λ u. mean 𝓛 (found after u))))
+    (via 𝓤 _ (begins_all 𝓛 R γs t d e b o gs i at.0 at.1 n m asked.0 asked.1 w) (exchanges 𝓛 𝓜 𝓡 (code.calls-atomic_table::exchange 𝓡.env wired) (block_ptr b o) n m are.1.0.1 are.1.1.0.1 after)) $
+    Calls-last ! (fm 𝓛 𝓜 𝓡) (found after) (and_then ! (get ! refl) (and_then ! (get ! refl) (and_then ! (get ! refl) (no_more !)))) (λ u. finds ! after (λ k fits.
+    lands_last ! refl (tt, record { fits = fits }) $ exec ! 𝓣.C 𝓣.Λ Ev (tail (tail (tail (tail fn.body)))) (at_ret Ev Post) $
+    sets ! (of_opd ! (get ! refl)) refl (tt, record { fits = fits }) $
+    sets ! (agg ! (and_then ! (get ! refl) (and_then ! (get ! refl) (and_then ! (get ! refl) (no_more !))))) refl (pointers_good (block_ptr b o) (block_ptr d r)) $
+    sets ! (agg ! (and_then ! (get ! refl) (and_then ! (get ! refl) (no_more !)))) refl (tt, (record { fits = fits }, ((tt, (tt, (tt, tt))), tt))) $
+    fsplit ! $ move ! (0 ∷ 2 ∷ []) $ use2 𝓛 (later (‵ (flft β q))) (apply∗ 𝓤 (A.lft α w) (H.⇛ (A.lft β q))) $ await ! tt $ move ! (0 ∷ 3 ∷ []) $ join ! $ move ! (2 ∷ 1 ∷ []) $ fjoin ! $ nothing ! $ fpack ! (IsRunAt R gs i r s) (λ _. ftrue) at $ fjoin ! $
+    fpack ! Spot (λ u. fsep (is_fact (IsRunAt R gs i r u)) (fsep (kept R u.0 u.1 b o d u.2 β) (if_won (eqb k n) (held R u.1 d u.2 gs i [])))) s $
+    let p' : Ptr = block_ptr b o in let z' : Ptr = block_ptr d r in let run : Hr.Denot = record { word = p'; room = z'; marker = record {}; of = gs; index = i; sought = n; found = k; values = [] } in
+    let val : Val = vstruct (vcons (vint w64 k) (vcons (pointers_val p' z') vnil)) in let none : List T.Denot = [] in let Told : Type 0 = (gs ≡ gs) × (i ≡ i) × (n ≡ n) × (k ≡ k) × (none ≡ none) in
+    use0 𝓛 (‵ ((RunWords ℓ R).own_val (p', (z', (tt, tt))) (pointers_val p' z' ∷ []))) (run_made ℓ R 𝓛 p' z') $ fjoin ! $ nothing ! $ flt_i ! k (2 ^ 64) fits $ feq_i ! (List Val) (vint w64 k ∷ []) (vint w64 k ∷ []) refl $ fjoin ! $
+    move ! (0 ∷ 2 ∷ 1 ∷ []) $ fjoin3 ! $ feq_i ! (List Val) (val ∷ []) (val ∷ []) refl $ fjoin ! $
+    fpack ! (Valss (u64 ∷ Hr ∷ [])) (λ uss. fsep (feq (List Val) (val ∷ []) (vstruct (of_list (uss.0 ++ (uss.1.0 ++ []))) ∷ [])) (owns (u64 ∷ Hr ∷ []) (k, (run, tt)) uss)) (vint w64 k ∷ [], (pointers_val p' z' ∷ [], tt)) $
+    use0 𝓛 (raw (fact 𝓤 Told)) (fact_i 𝓤 Told (emp 𝓤) (refl, refl, refl, refl, refl)) $ nothing ! $ nothing ! $ fjoin ! $ nothing ! $ fjoin ! $ nothing ! $ fjoin ! $
+    returns ! (look_at ! 0 refl) $ free_all ! refl $ keep ! (3 ∷ 0 ∷ 2 ∷ 1 ∷ []) $ by ! (leaves 𝓛 En hs c y val (k, run) (tt, (tt, (tt, tt))) (tt, (tt, (tt, tt)))))))))))))

@@ -1,0 +1,123 @@
+// Runs: cells next to each other, whose states are in one word, that one call begins and fills together.
+ghost use Rattle.std.specs.Prelude.{◌≡◌, ◌+◌, ◌%◌, ◌<◌, ◌≤◌, ◌++◌, ◌∷◌, ◌⊎◌, [], length, IfSome};
+ghost use Rattle.cell_core.specs.Block.{block_len};
+ghost use Rattle.cell_core.specs.Laid.{word_cells};
+ghost use Rattle.cell_core.specs.Run.{IsRunPenAt, members_of};
+
+use crate::block::fields::{WORD_CELLS, are_empty, in_fields, word_of};
+use crate::block::{Block, Row};
+use crate::slot::run::RawRun;
+use crate::slot::steps::{BUSY, FILLED};
+use std::alloc::Allocator;
+use std::marker::Model;
+
+/// The right to fill the cells of a run, which are busy until then. A run must be spent by `publish`, once each of
+/// its cells has its value.
+pub struct RunPen<'a, T> {
+    offset: u64,
+    n: u64,
+    written: u64,
+    run: RawRun<'a, T>,
+}
+
+impl<'a, T> Model for RunPen<'a, T> {
+    ghost use Rattle.std.specs.Prelude.{◌≡◌, ◌+◌, ◌%◌, ◌<◌, ◌≤◌, length};
+    ghost use Rattle.cell_core.specs.Laid.{word_cells};
+    ghost use Rattle.cell_core.specs.Run.{RunView, run_coded};
+
+    ghost Value = { RunView T };
+
+    ghost coded = { run_coded T.code };
+
+    ghost view = { λ p. record { offset = p.offset; cells = p.run.of; values = p.run.values } };
+
+    ghost invariant = { λ p. (p.run.found ≡ p.run.sought) × (p.run.index ≡ p.offset % word_cells)
+        × (length p.run.of ≡ p.n) × (length p.run.values ≡ p.written) × (0 < p.n)
+        × (p.offset % word_cells + p.n ≤ word_cells) };
+}
+
+impl<T, A: Allocator> Block<T, A> {
+    /// Returns how many cells a run from an offset on can have: these, up to the end of the block, whose states are in
+    /// one word.
+    pub fn longest_run(&self, offset: u64) -> u64
+        requires { offset < block_len self.now }
+        ensures some { 0 < result }
+        ensures within { offset + result ≤ block_len self.now }
+        ensures word { offset % word_cells + result ≤ word_cells }
+        ensures most { (offset + result ≡ block_len self.now) ⊎ ((offset + result) % word_cells ≡ 0) }
+    {
+        (WORD_CELLS - offset % WORD_CELLS).min(self.len - offset)
+    }
+
+    /// Begins `n` cells from an offset on, whose states are in one word, by one step. Returns `None`, and begins none,
+    /// if one of them is not empty, or if another call changed the word meanwhile.
+    #[tactic(auto, using(crate::proofs::RunParts::from_length))]
+    pub fn begin_run(&self, offset: u64, n: u64) -> Option<RunPen<'_, T>>
+        requires within { offset + n ≤ block_len self.now }
+        requires some { 0 < n }
+        requires word { offset % word_cells + n ≤ word_cells }
+        ensures { IfSome result (IsRunPenAt self.now offset n) }
+    {
+        let (word, sight) = self.cell(offset).sight();
+        sight.unused();
+        if !are_empty(word, n, offset) {
+            return None;
+        }
+        let begun = word.wrapping_add(in_fields(BUSY, n, offset));
+        let cells = self
+            .laid
+            .cells(self.link, word_of(offset), offset as usize, n as usize);
+        let (found, run) = cells.begin(word, begun);
+        if found == word {
+            Some(RunPen {
+                offset,
+                n,
+                written: 0,
+                run,
+            })
+        } else {
+            run.unused();
+            None
+        }
+    }
+}
+
+impl<'a, T> RunPen<'a, T> {
+    /// Writes the value of the first cell that has none yet. Nobody sees it before `publish`.
+    pub fn write(self, value: T) -> RunPen<'a, T>
+        requires { length self.values < length self.cells }
+        ensures offset { result.offset ≡ self.entry.offset }
+        ensures cells { result.cells ≡ self.entry.cells }
+        ensures values { result.values ≡ self.entry.values ++ value ∷ [] }
+    {
+        let RunPen {
+            offset,
+            n,
+            written,
+            run,
+        } = self;
+        let run = run.write(value, written as usize);
+        RunPen {
+            offset,
+            n,
+            written: written + 1,
+            run,
+        }
+    }
+
+    /// Publishes the values of all cells by one step, and returns what is then known of the cells, in order.
+    pub fn publish(self) -> Row<T>
+        requires { length self.values ≡ length self.cells }
+        ensures { result ≡ members_of self.entry.cells self.entry.values }
+    {
+        let RunPen {
+            offset,
+            n,
+            written: _,
+            run,
+        } = self;
+        Row {
+            row: run.publish(in_fields(FILLED - BUSY, n, offset)),
+        }
+    }
+}

@@ -1,0 +1,98 @@
+// The raw steps on a run: cells next to each other whose states are in one word. One step begins them all, and one
+// publishes them all.
+ghost use Rattle.std.specs.Prelude.{◌≡◌, ◌≢◌, ℕ, ◌+◌, ◌%◌, ◌^◌, ◌<◌, ◌++◌, ◌∷◌, [], List, length};
+ghost use base.Stored.{coded_list};
+ghost use Rattle.cell_core.specs.Fields.{sums};
+ghost use Rattle.cell_core.specs.Slot.{Names, names_coded};
+ghost use Rattle.cell_core.specs.Run.{AreEmptyIn, cells_owned, run_owned, members_of};
+
+use crate::slot::member::RawRow;
+use atomic_table::exchange;
+use std::marker::{Brand, Model, PhantomData};
+use std::sync::atomic::Ordering::SeqCst;
+use std::sync::atomic::raw;
+
+// Some cells of one word that are lent: the word, and the room of the first one. It must be spent.
+pub(crate) struct RawCells<'a, T> {
+    pub(crate) word: *const u64,
+    pub(crate) room: *const T,
+    pub(crate) marker: PhantomData<&'a T>,
+    pub(crate) ghost of: { List Names } by { coded_list names_coded },
+    pub(crate) ghost index: { ℕ },
+}
+
+impl<'a, T> Model for RawCells<'a, T> {
+    ghost also_owns = { λ s. cells_owned T.row s.of 'a s.word s.room s.index };
+}
+
+// What an exchange gained that sought a word and found another or this one: the right to write each cell, or the value
+// that is written. It must be spent.
+pub(crate) struct RawRun<'a, T> {
+    word: *const u64,
+    room: *const T,
+    marker: PhantomData<&'a T>,
+    pub(crate) ghost of: { List Names } by { coded_list names_coded },
+    pub(crate) ghost index: { ℕ },
+    pub(crate) ghost sought: { ℕ },
+    pub(crate) ghost found: { ℕ },
+    pub(crate) ghost values: { List T } by { coded_list T.code },
+}
+
+impl<'a, T> Model for RawRun<'a, T> {
+    ghost also_owns = { λ r. run_owned T.row r.of 'a r.word r.room r.index r.sought r.found r.values };
+}
+
+impl<'a, T> RawCells<'a, T> {
+    // The step from empty to busy of each cell, if the word is the one that is sought. Returns the word as it was.
+    pub(crate) fn begin(self, sought: u64, begun: u64) -> (u64, RawRun<'a, T>)
+        requires { AreEmptyIn sought self.index (length self.of)
+            × (begun ≡ (sought + sums 1 (length self.of) self.index) % 2 ^ 64) }
+        ensures { (result.1.of ≡ self.entry.of) × (result.1.index ≡ self.entry.index)
+            × (result.1.sought ≡ sought) × (result.1.found ≡ result.0) × (result.1.values ≡ []) }
+    {
+        let RawCells { word, room, marker } = self;
+        let found = unsafe { exchange::<Brand>(word, sought, begun) };
+        (found, RawRun { word, room, marker })
+    }
+}
+
+impl<'a, T> RawRun<'a, T> {
+    // Writes the value of the first cell that has none yet. Nobody sees it yet.
+    pub(crate) fn write(self, value: T, at: usize) -> RawRun<'a, T>
+        requires { (self.found ≡ self.sought) × (at ≡ length self.values) × (at < length self.of) }
+        ensures { (result.of ≡ self.entry.of) × (result.index ≡ self.entry.index)
+            × (result.sought ≡ self.entry.sought) × (result.found ≡ self.entry.found)
+            × (result.values ≡ self.entry.values ++ value ∷ []) }
+    {
+        let RawRun { word, room, marker } = self;
+        unsafe { (room.add(at) as *mut T).write(value) };
+        RawRun { word, room, marker }
+    }
+
+    // Adds what makes each busy cell filled.
+    pub(crate) fn publish(self, added: u64) -> RawRow<T>
+        requires { (self.found ≡ self.sought) × (length self.values ≡ length self.of)
+            × (added ≡ sums 2 (length self.of) self.index) }
+        ensures { result.of ≡ members_of self.entry.of self.entry.values }
+    {
+        let RawRun {
+            word,
+            room: _,
+            marker: _,
+        } = self;
+        unsafe { raw::fetch_add::<Brand>(word, added, SeqCst) };
+        RawRow {
+            marker: PhantomData,
+        }
+    }
+
+    pub(crate) fn unused(self)
+        requires { self.found ≢ self.sought }
+    {
+        let RawRun {
+            word: _,
+            room: _,
+            marker: _,
+        } = self;
+    }
+}

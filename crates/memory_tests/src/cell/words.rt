@@ -1,0 +1,208 @@
+// Steps on neighbours: cells that have their states in one word.
+ghost use Rattle.std.specs.Prelude.{◌≡◌, ◌+◌, ◌<◌, ◌≤◌};
+ghost use Rattle.std.specs.Thread.{IsSync};
+ghost use Rattle.cell_core.specs.Block.{block_len};
+
+use crate::cell::block::{is_filled, made, number};
+use cell_core::block::{Block, Found, Look, Pen};
+use std::thread::{Threads, join};
+
+// What a call does with a cell: it fills or breaks an empty one, or a broken one; it comes to begin a filled
+// or a broken one, or to mend an empty or a filled one, in vain; or it fills a cell that another call found
+// busy meanwhile.
+const CASES: u64 = 9;
+
+// The offset of a cell that comes `n` cells after another.
+pub(crate) fn after(block: &Block<u64>, offset: u64, n: u64) -> u64
+    requires { offset + n < block_len block.now }
+    ensures { result ≡ offset + n }
+{
+    // For the proof: offsets below the length fit into 64 bits.
+    let _len = block.len();
+    offset + n
+}
+
+// Makes the cell ready for a case, and returns whether it could.
+fn is_ready(block: &Block<u64>, offset: u64, case: u64) -> bool
+    requires { offset < block_len block.now }
+{
+    match case {
+        2 | 3 | 7 => number(block.begin(offset)) == 5,
+        4 | 5 => is_filled(block, offset, 4),
+        _ => true,
+    }
+}
+
+// Like `number`, but a pen fills the cell, and gives 6.
+fn number_filled(tried: Result<Pen<'_, u64>, Found<u64>>) -> u64 {
+    match tried {
+        Ok(pen) => {
+            drop(pen.fill(7));
+            6
+        }
+        lost => number(lost),
+    }
+}
+
+// What a begin and a mend find in a busy cell, of which one digit each is.
+fn number_busy(block: &Block<u64>, offset: u64) -> u64
+    requires { offset < block_len block.now }
+{
+    match block.begin(offset) {
+        Ok(pen) => {
+            let (begun, mended) = (number(block.begin(offset)), number(block.mend(offset)));
+            drop(pen.fill(7));
+            begun.wrapping_mul(10).wrapping_add(mended)
+        }
+        Err(_found) => 0,
+    }
+}
+
+// Acts on a cell that is ready for a case, and returns what the calls found.
+fn act(block: &Block<u64>, offset: u64, case: u64) -> u64
+    requires { offset < block_len block.now }
+{
+    match case {
+        0 => number_filled(block.begin(offset)),
+        2 => number_filled(block.mend(offset)),
+        1 | 4 | 7 => number(block.begin(offset)),
+        3 | 5 | 6 => number(block.mend(offset)),
+        _ => number_busy(block, offset),
+    }
+}
+
+// A number for what the cell shows: a filled one shows its value.
+pub(crate) fn shown(block: &Block<u64>, offset: u64) -> u64
+    requires { offset < block_len block.now }
+{
+    match block.look(offset) {
+        Look::Empty => 0,
+        Look::Busy => 1,
+        Look::Filled(value, _placed) => *value,
+        Look::Broken(_spoilt) => 3,
+    }
+}
+
+// What the calls of a case find, and what the cell then shows.
+fn expected(case: u64) -> (u64, u64) {
+    match case {
+        0 | 2 => (6, 7),
+        1 | 3 => (5, 3),
+        4 | 5 => (2, 4),
+        6 => (0, 0),
+        7 => (3, 3),
+        _ => (11, 7),
+    }
+}
+
+// Lets two threads act on two neighbours, and tests whether each finds what it would find alone.
+fn act_by_two<R: Threads + Sync>(rt: &R, block: &Block<u64>, offset: u64, a: u64, b: u64) -> bool
+    requires { offset + 1 < block_len block.now }
+{
+    let (first, second) = join(
+        rt,
+        || -> u64
+            requires { offset < block_len block.now }
+        { act(block, offset, a) },
+        || -> u64
+            requires { offset + 1 < block_len block.now }
+        { act(block, after(block, offset, 1), b) },
+    );
+    (first, shown(block, offset)) == expected(a)
+        && (second, shown(block, after(block, offset, 1))) == expected(b)
+}
+
+// Tests a pair of cases on cells 2 and 3 of the four from an offset on: the others stay empty.
+fn is_kept_apart<R: Threads + Sync>(rt: &R, block: &Block<u64>, offset: u64, a: u64, b: u64) -> bool
+    requires { offset + 3 < block_len block.now }
+{
+    is_ready(block, after(block, offset, 1), a)
+        && is_ready(block, after(block, offset, 2), b)
+        && act_by_two(rt, block, after(block, offset, 1), a, b)
+        && shown(block, offset) == 0
+        && shown(block, after(block, offset, 3)) == 0
+}
+
+#[test]
+fn neighbours_are_filled_broken_and_mended_each_by_itself(rt: HostRuntime) {
+    let block = made(&rt, 4 * CASES * CASES);
+    for a in 0..CASES {
+        for b in 0..CASES {
+            assert!(rt; is_kept_apart(&rt, &block, 4 * (a * CASES + b), a, b));
+        }
+    }
+}
+
+// Lets a thread for each of some cells act on it, all at once.
+fn two_act<R: Threads + Sync>(rt: &R, block: &Block<u64>, offset: u64, case: u64) -> bool
+    requires { offset + 2 ≤ block_len block.now }
+{
+    act_by_two(rt, block, offset, case, case)
+}
+
+fn four_act<R: Threads + Sync>(rt: &R, block: &Block<u64>, offset: u64, case: u64) -> bool
+    requires { offset + 4 ≤ block_len block.now }
+{
+    let (low, high) = join(
+        rt,
+        || -> bool
+            requires { IsSync R.row × (offset + 2 ≤ block_len block.now) }
+        { two_act(rt, block, offset, case) },
+        || -> bool
+            requires { IsSync R.row × (offset + 4 ≤ block_len block.now) }
+        { two_act(rt, block, after(block, offset, 2), case) },
+    );
+    low && high
+}
+
+fn eight_act<R: Threads + Sync>(rt: &R, block: &Block<u64>, offset: u64, case: u64) -> bool
+    requires { offset + 8 ≤ block_len block.now }
+{
+    let (low, high) = join(
+        rt,
+        || -> bool
+            requires { IsSync R.row × (offset + 4 ≤ block_len block.now) }
+        { four_act(rt, block, offset, case) },
+        || -> bool
+            requires { IsSync R.row × (offset + 8 ≤ block_len block.now) }
+        { four_act(rt, block, after(block, offset, 4), case) },
+    );
+    low && high
+}
+
+fn sixteen_act<R: Threads + Sync>(rt: &R, block: &Block<u64>, offset: u64, case: u64) -> bool
+    requires { offset + 16 ≤ block_len block.now }
+{
+    let (low, high) = join(
+        rt,
+        || -> bool
+            requires { IsSync R.row × (offset + 8 ≤ block_len block.now) }
+        { eight_act(rt, block, offset, case) },
+        || -> bool
+            requires { IsSync R.row × (offset + 16 ≤ block_len block.now) }
+        { eight_act(rt, block, after(block, offset, 8), case) },
+    );
+    low && high
+}
+
+// Tests whether sixteen threads act on the cells of one word, each as if it were alone.
+fn is_shared_by_sixteen<R: Threads + Sync>(rt: &R, block: &Block<u64>, case: u64) -> bool
+    requires { 16 ≤ block_len block.now }
+{
+    for offset in 0..16 {
+        if !is_ready(block, offset, case) {
+            return false;
+        }
+    }
+    sixteen_act(rt, block, 0, case)
+}
+
+#[test]
+fn sixteen_threads_act_on_the_cells_of_one_word(rt: HostRuntime) {
+    for case in 0..CASES {
+        for _time in 0..10 {
+            let block = made(&rt, 16);
+            assert!(rt; is_shared_by_sixteen(&rt, &block, case));
+        }
+    }
+}

@@ -1,6 +1,7 @@
 pub mod Later
 pub mod Places
 pub mod Filling
+pub mod Stretches
 pub mod KeyRows
 pub mod Cells
 pub mod Settled

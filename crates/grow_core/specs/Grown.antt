@@ -34,12 +34,16 @@ IsGrownOf vector grown = All (IsPlacedOf vector) grown.tokens
 abbrev pub values_of : {T : Type 0} → GrownView T → List T
 values_of grown = map (λ token. token.value) grown.tokens
 
--- the tokens of a run's places were kept one by one, in order, and the places have these values: each step of
--- the keeper has it before, a token, and it after
-pub record IsKeptRun {K T : Type 0} (step : K → PlacedView T → Unit {0} → K → Type 0) (old new : K)
-    (vector : VectorView T) (run : Run) (values : List T) : Type 0 where
+-- the tokens of places next to each other, from this one on: the places have these values, in order
+pub record AreTokensOf {T : Type 0} (vector : VectorView T) (from : ℕ) (values : List T)
+    (tokens : List (PlacedView T)) : Type 0 where
+  pub of : All (IsPlacedOf vector) tokens
+  pub places : AreInOrder from tokens
+  pub hold : map (λ token. token.value) tokens ≡ values
+
+-- the same, and they were kept one by one, in order: each step of the keeper has it before, a token, and it after
+pub record AreKeptFrom {K T : Type 0} (step : K → PlacedView T → Unit {0} → K → Type 0) (old new : K)
+    (vector : VectorView T) (from : ℕ) (values : List T) : Type 0 where
   pub tokens : List (PlacedView T)
   pub kept : FoldsTo (λ k token next. step k token tt next) old tokens new
-  pub of : All (IsPlacedOf vector) tokens
-  pub places : AreInOrder run.from tokens
-  pub hold : map (λ token. token.value) tokens ≡ values
+  pub are : AreTokensOf vector from values tokens

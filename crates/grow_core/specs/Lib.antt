@@ -11,6 +11,7 @@ pub mod Growth
 pub mod Making
 pub mod AtLeast
 pub mod Segment
+pub mod Stretch
 pub mod Errors
 pub use Rattle.claim_core.specs.Hand
 pub use Rattle.claim_core.specs.Lengths

@@ -1,5 +1,6 @@
 // How a growth fills and breaks the places that it won, segment by segment.
-ghost use Rattle.std.specs.Prelude.{◌≡◌, ◌<◌, ◌≤◌, IfOk, IfErr};
+ghost use Rattle.std.specs.Prelude.{◌≡◌, ◌+◌, ◌<◌, ◌≤◌, IfOk, IfErr};
+ghost use Rattle.std.specs.Vec.Iter.{into_iter_len};
 ghost use Rattle.claim_core.specs.Hand.{OwnsPlace};
 ghost use Rattle.cell_core.specs.Block.{block_len};
 ghost use Rattle.cell_core.specs.Shown.{IsFoundIn, IsNotEmpty};
@@ -8,12 +9,15 @@ ghost use Rattle.grow_core.specs.Token.{place_in};
 ghost use Rattle.grow_core.specs.Vector.{IsHandOf, IsPlacedOf, IsSpoiltOf, layout_of, limit_of};
 ghost use Rattle.grow_core.specs.Segment.{IsSegmentOf};
 ghost use Rattle.grow_core.specs.Growth.{IsFoundAt};
+ghost use Rattle.grow_core.specs.Stretch.{IsCounted, Takes};
 
 use crate::hand::Hand;
+use crate::stretch::{Stretch, publish};
 use crate::token::{BegunPlace, Found, Placed, Spoilt};
 use crate::vector::Shared;
 use cell_core::block;
-use cell_core::block::Block;
+use cell_core::block::{Block, Member, Row};
+use std::vec::IntoIter;
 use table_core::Key;
 
 // A segment of the vector: its block with its key, its first place, and the place after its last.
@@ -94,6 +98,68 @@ impl<T: Drop> Shared<T> {
             place - segment.from,
             value,
         )
+    }
+
+    // Fills places of the segment with the next values: as many of those from this place on as one step can fill, or
+    // this one alone.
+    pub(crate) fn fill_next(
+        &self,
+        segment: &Segment<'_, T>,
+        place: u64,
+        values: &mut IntoIter<T>,
+    ) -> Result<Stretch<T>, Found<T>>
+        requires segment { IsSegmentOf self.now segment.now }
+        requires from { segment.now.from ≤ place }
+        requires before { place < segment.now.end }
+        requires some { 0 < into_iter_len values.old }
+        requires counted { IsCounted values.old }
+        ensures filled { IfOk result (Takes self.now place values.old values.new) }
+        ensures within { IfOk result (λ stretch. place + stretch.n ≤ segment.now.end) }
+        ensures found { IfErr result (IsFoundAt self.now place) }
+    {
+        let key = segment.key.again();
+        let offset = place - segment.from;
+        let n = segment.block.longest_run(offset).min(values.len() as u64);
+        let Some(pen) = segment.block.begin_run(offset, n) else {
+            return self.fill_first(segment, place, values);
+        };
+        let row = publish(pen, n, values);
+        Ok(Stretch {
+            key,
+            offset,
+            n,
+            row,
+        })
+    }
+
+    // Fills this place of the segment with the next value.
+    fn fill_first(
+        &self,
+        segment: &Segment<'_, T>,
+        place: u64,
+        values: &mut IntoIter<T>,
+    ) -> Result<Stretch<T>, Found<T>>
+        requires segment { IsSegmentOf self.now segment.now }
+        requires from { segment.now.from ≤ place }
+        requires before { place < segment.now.end }
+        requires some { 0 < into_iter_len values.old }
+        requires counted { IsCounted values.old }
+        ensures filled { IfOk result (Takes self.now place values.old values.new) }
+        ensures one { IfOk result (λ stretch. stretch.n ≡ 1) }
+        ensures found { IfErr result (IsFoundAt self.now place) }
+    {
+        let Some(value) = values.next() else {
+            unreachable!()
+        };
+        let Placed { key, cell } = self.fill(segment, place, value)?;
+        let mut row = Row::new();
+        row.push(&Member::of(&cell));
+        Ok(Stretch {
+            key,
+            offset: cell.offset(),
+            n: 1,
+            row,
+        })
     }
 
     // Breaks a place of the segment.

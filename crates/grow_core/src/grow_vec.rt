@@ -1,7 +1,7 @@
 //! How many values are appended at once.
 ghost use Rattle.std.specs.Prelude.{◌≡◌, ◌+◌, ◌≤◌, [], IfOk, IfErr, IsErrAnd, vec_len, vec_capacity};
 ghost use Rattle.grow_core.specs.Vector.{IsHandOf, limit_of};
-ghost use Rattle.grow_core.specs.Grown.{IsGrownOf, IsKeptRun, values_of};
+ghost use Rattle.grow_core.specs.Grown.{IsGrownOf, AreKeptFrom, values_of};
 ghost use Rattle.grow_core.specs.Keys.{OwnsPlacesOf};
 ghost use Rattle.grow_core.specs.Growth.{WonRun, WonPlaces, Refuses, HasNoRoom, SaysFull, IsNotMoved};
 ghost use Rattle.grow_core.specs.Making.{StopsIn};
@@ -17,7 +17,8 @@ use std::sync::Wait;
 
 impl<T: Drop> Shared<T> {
     /// Appends the values in one run. It tries once, and waits for nobody. The exchange that wins the run is
-    /// its linearization point, or, if there is no value, the load of the size.
+    /// its linearization point, or, if there is no value, the load of the size. Up to sixteen values next to
+    /// each other are published by one step.
     pub fn try_grow_vec(
         &self,
         hand: &mut Hand<T>,
@@ -87,7 +88,7 @@ impl<T: Drop> Shared<T> {
         requires callable { K.IsAlwaysCallable keep.old }
         ensures won { IfOk result (WonPlaces (vec_len values) hand.old hand.new) }
         ensures kept { IfOk result
-            (λ run. IsKeptRun K.step keep.old keep.new self.now run values.items) }
+            (λ run. AreKeptFrom K.step keep.old keep.new self.now run.from values.items) }
         ensures refused { IfErr result
             (Refuses self.now (vec_len values) values hand.old hand.new) }
         ensures full { HasNoRoom self.now (vec_len values) hand.old → IsErrAnd result SaysFull }
@@ -123,11 +124,15 @@ impl<T: Drop> Shared<T> {
             return Ok(Grown { run, tokens });
         }
         let mut segment = self.find_segment(hand, run.from);
-        for value in values {
-            let place = run.from + tokens.len() as u64;
+        let mut left = values.into_iter();
+        let mut place = run.from;
+        while place < run.from + run.n {
             segment = self.next_segment(hand, segment, place);
-            match self.fill(&segment, place, value) {
-                Ok(placed) => tokens.push_reserved(placed),
+            match self.fill_next(&segment, place, &mut left) {
+                Ok(stretch) => {
+                    self.push_tokens(&stretch, &mut tokens);
+                    place += stretch.n;
+                }
                 Err(found) => return Err(GrowError::Taken { place, found }),
             }
         }
@@ -149,7 +154,7 @@ impl<T: Drop> Shared<T> {
         requires callable { K.IsAlwaysCallable keep.old }
         ensures run { IfOk result (λ filled. filled ≡ run) }
         ensures kept { IfOk result
-            (λ _. IsKeptRun K.step keep.old keep.new self.now run values.items) }
+            (λ _. AreKeptFrom K.step keep.old keep.new self.now run.from values.items) }
         ensures stopped { IfErr result (StopsIn self.now run) }
     {
         // For the proof: the vector's base is within its limit.
@@ -158,17 +163,20 @@ impl<T: Drop> Shared<T> {
             return Ok(run);
         }
         let mut segment = self.find_segment(hand, run.from);
+        let mut left = values.into_iter();
         let mut place = run.from;
-        for value in values {
+        while place < run.from + run.n {
             segment = self.next_segment(hand, segment, place);
-            match self.fill(&segment, place, value) {
-                Ok(placed) => keep(placed),
+            match self.fill_next(&segment, place, &mut left) {
+                Ok(stretch) => {
+                    self.keep_tokens(&stretch, keep);
+                    place += stretch.n;
+                }
                 Err(there) => return Err(GrowError::Taken {
                     place,
                     found: there,
                 }),
             }
-            place += 1;
         }
         Ok(run)
     }

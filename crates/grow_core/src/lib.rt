@@ -11,10 +11,11 @@
 //! cannot prove what a reader without a token finds, that a try wins, or anything about the order of callers
 //! that never met.
 //!
-//! The code is safe, over `claim_core`, `table_core` and `cell_core`: the segments of the wanted places are
-//! installed, the places are won by one exchange of the claim word, and each is filled by two atomic steps
-//! on its cell's state. A hand carries the keys of its runs' segments (`specs/Keys.antt`). Only
-//! `push_back`, `grow_vec`, `append`, `grow_with` and `grow_by` may wait.
+//! The code is safe, over `claim_core`, `table_core` and `cell_core`: the segments of the wanted places
+//! are installed, the places are won by one exchange of the claim word, and each is filled by two atomic
+//! steps on its cell's state, up to sixteen together if their values are at hand. A hand carries the keys
+//! of its runs' segments (`specs/Keys.antt`). Only `push_back`, `grow_vec`, `append`, `grow_with` and
+//! `grow_by` may wait.
 //!
 //! A `Parts` is what an exclusive owner holds of a vector. Contracts see it as a list of values and broken
 //! members (`specs/Parts.antt`): exactly what was appended is read, and moved out.
@@ -41,6 +42,7 @@ mod read;
 mod recall;
 mod settle_cells;
 mod split_and_join;
+mod stretch;
 mod token;
 mod vector;
 

@@ -1,6 +1,7 @@
 use Rattle.std.proofs.Common.{of_calls, ◌≡◌, ◌+◌, map, length, subst, sym, arith}
 use Rattle.grow_core.specs.Making.{Makes}
-use Rattle.grow_core.proofs.Filling.{IsFilled, filled_more, filled_self}
+use Rattle.grow_core.specs.Grown.{AreTokensOf}
+use Rattle.grow_core.proofs.Filling.{tokens_more, tokens_self}
 use Rattle.grow_core.proofs.Made.{token_values, made_none, made_more, stops_at, left_by_stop}
 use Rattle.grow_core.proofs.vector.Shared.make_run.Goals as goal
 
@@ -26,9 +27,9 @@ loop-i-preserved g c =
     let token = c.in-Ok-fill.placed in
     let n : length at.tokens.items ≡ at.i = omega (arith, at.tokens.ok, at.invariant.2) in
     let here : token.place ≡ c.args.claimed.run.from + length at.tokens.items = omega (arith, n, c.in-Ok-fill.ensures.here) in
-    let filled = filled_self _ _ _ _ (filled_more c.args.self.now c.args.claimed.run _ at.tokens.items c.in-Ok.value token at.invariant.0
+    let filled = tokens_self c.args.self.now c.args.claimed.run.from _ _ (tokens_more c.args.self.now c.args.claimed.run.from _ at.tokens.items c.in-Ok.value token at.invariant.0
     c.in-Ok-fill.ensures.token here c.in-Ok-fill.ensures.value) in (
-      subst (λ ts. IsFilled c.args.self.now c.args.claimed.run (map (λ token. token.value) ts) ts) (sym c.push_reserved.ensures.items) filled,
+      subst (λ ts. AreTokensOf c.args.self.now c.args.claimed.run.from (map (λ token. token.value) ts) ts) (sym c.push_reserved.ensures.items) filled,
       subst (λ ts. Makes (goal.F-step g) c.args.make.now (token_values ts) c.make.new.self) (sym c.push_reserved.ensures.items)
           (made_more (goal.F-step g) c.args.make.now at.tokens.items token at.make c.make.new.self c.in-Ok.value at.i at.invariant.1 n
           (subst (λ r. goal.F-step g at.make at.i r c.make.new.self) c.in-Ok.is c.make.ensures) c.in-Ok-fill.ensures.value),

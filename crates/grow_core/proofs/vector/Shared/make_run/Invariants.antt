@@ -1,12 +1,12 @@
 use Rattle.std.proofs.Common.{◌≡◌, ◌+◌, ◌≤◌, map, vec_len, vec_capacity}
 use Rattle.grow_core.specs.Making.{Makes}
+use Rattle.grow_core.specs.Grown.{AreTokensOf}
 use Rattle.grow_core.specs.Segment.{IsSegmentOf}
-use Rattle.grow_core.proofs.Filling.{IsFilled}
 use Rattle.grow_core.proofs.vector.Shared.make_run.Given as goal
 
 abbrev pub invariant-loop-i : goal.invariant-loop-i
 invariant-loop-i g l =
-    IsFilled l.self l.run (map (λ token. token.value) l.tokens.items) l.tokens.items
+    AreTokensOf l.self l.run.from (map (λ token. token.value) l.tokens.items) l.tokens.items
     × Makes (goal.F-step g) l.fn.make (map (λ token. token.value) l.tokens.items) l.make
     × (vec_len l.tokens ≡ l.i)
     × (l.run.n ≤ vec_capacity l.tokens)

@@ -1,0 +1,11 @@
+use Rattle.std.proofs.Common.{◌≡◌, ◌++◌, length}
+use Rattle.std.specs.Vec.Iter.{into_iter_items}
+use Rattle.grow_core.specs.Stretch.{IsCounted}
+use Rattle.grow_core.proofs.stretch.publish.Given as goal
+
+abbrev pub invariant-loop : goal.invariant-loop
+invariant-loop g l =
+    (l.pen.cells ≡ l.fn.pen.cells)
+    × (into_iter_items l.fn.values ≡ l.pen.values ++ into_iter_items l.values)
+    × IsCounted l.values
+    × (length l.pen.values ≡ l.counter)

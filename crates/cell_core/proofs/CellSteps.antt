@@ -1,4 +1,4 @@
--- What each step does to a raw cell. Assumes `Logic`.
+-- The effect of each step on a raw cell. Assumes `Logic`.
 use Rattle.std.proofs.Common.{Bool, true, false, ◌≡◌, ℕ, ◌+◌, ◌-◌, eqb, [], ◌∷◌, sym, refl, ap, ◌∙◌, subst, arith}
 use Rattle.std.specs.Prelude.{Option, Some, None}
 use seplogic.Ra.Ura.{Ura}

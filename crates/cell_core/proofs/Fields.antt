@@ -232,6 +232,6 @@ module _ {A : Type 0} (xs : List A) (f : ℕ → ℕ) (i : ℕ) (fits : Fit f) (
   sets_small n less = let p = packed_below xs (put i n f) (put_fits i n f less fits) in let w : 16 ^ length xs ≤ 2 ^ 64 = le_trans (le_of_eq (sym (sixteens (length xs)))) (pow_mono (let l : 4 * length xs ≤ 64 = omega arith in l)) in
       subst (λ (m : ℕ). m < 2 ^ 64) (sym (sets_field n)) (lt_of_lt_of_le p w)
 
--- a state is told from another where both are moved
+-- two states that are equal once they are moved to a field are equal
 pub moved_apart : (i x y : ℕ) → x * 16 ^ i ≡ y * 16 ^ i → x ≡ y
 moved_apart i x y e = eq_of_mul-eq-mul_right (16 ^ i) (subst (λ (n : ℕ). 0 < n) (sixteens i) (pow_pos (4 * i))) x y e

@@ -48,7 +48,7 @@ module _ (R : RattleType) where
   laid_laws x γs = let F : Fml = fact (Lies R x (length γs)) in let b : ℕ = block_of x.at in let o : ℕ = count_of x.at in let c : ℕ = block_of x.rooms in let e : ℕ = count_of x.rooms in
       beside_shr_laws (said F) (along_lent R x.words γs b o c e) (said_shr_laws F (λ _. tt)) (along_laws x.words γs b o c e)
 
-  -- where the room at an index lies
+  -- the offset of the room at an index
   pub room_is : (e i : ℕ) → room_at R e i ≡ i * step R + e
   room_is e zero = let z = zero-mul (step R) in omega arith
   room_is e (suc i) = let z = suc-mul i (step R) in room_is (e + step R) i ∙ omega arith

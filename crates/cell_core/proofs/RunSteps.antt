@@ -1,4 +1,4 @@
--- What one step does to each cell of a run. Assumes `Logic`.
+-- The effect of one step on each cell of a run. Assumes `Logic`.
 use Rattle.std.proofs.Common.{Bool, true, false, ◌≡◌, ℕ, zero, suc, ◌+◌, ◌*◌, ◌%◌, ◌^◌, ◌<◌, ◌≤◌, eqb, eqb-true, mod-eq_of_lt, lt_of_lt_of_le, le_trans, le_of_eq, List, [], ◌∷◌, ◌++◌, length, sym, refl, ap, ◌∙◌, subst, arith}
 use lib.Bits.{bit_or}
 use lib.Pow.{pow_mono}

@@ -36,7 +36,7 @@ HasEachRenamed old new = (i : ℕ) → i < length old → IsAnother (cell_in old
 abbrev pub word_cells : ℕ
 word_cells = 16
 
--- where the two rows lie, the number of words that are laid, and how many more words and cells there is room for
+-- the addresses of the two rows, the number of words that are laid, and how many more words and cells there is room for
 pub record Extent : Type 0 where
   pub at : Ptr
   pub rooms : Ptr

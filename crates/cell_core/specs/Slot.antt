@@ -193,7 +193,7 @@ module _ (R : RattleType) where
     abbrev pub sights : ℕ → Fml
     sights n = fex (Option R.Denot) (sighted n)
 
-    -- a cell in a turn: the lifetime, the name that tracks its room, and where its room lies
+    -- a cell in a turn: the lifetime, the name that tracks its room, and the offset of its room
     module _ (α : Lft) (δ : GName) (b e : ℕ) where
       -- the room, with what it holds passed to the turn
       abbrev pub inside : Option R.Denot → Fml

@@ -100,8 +100,7 @@ impl<T: Drop> Shared<T> {
         )
     }
 
-    // Fills places of the segment with the next values: as many of those from this place on as one step can fill, or
-    // this one alone.
+    // Fills places of the segment with the next values: a run that begins at this place, or this place alone.
     pub(crate) fn fill_next(
         &self,
         segment: &Segment<'_, T>,

@@ -13,7 +13,7 @@
 //!
 //! The code is safe, over `claim_core`, `table_core` and `cell_core`: the segments of the wanted places
 //! are installed, the places are won by one exchange of the claim word, and each is filled by two atomic
-//! steps on its cell's state, up to sixteen together if their values are at hand. A hand carries the keys
+//! steps on its cell's state, up to sixteen together if the call has their values. A hand carries the keys
 //! of its runs' segments (`specs/Keys.antt`). Only `push_back`, `grow_vec`, `append`, `grow_with` and
 //! `grow_by` may wait.
 //!

@@ -1,4 +1,4 @@
-// Where the state of a cell lies: each word of a block has the states of sixteen cells, four bits a cell.
+// The place of a cell's state: each word of a block has the states of sixteen cells, four bits a cell.
 ghost use Rattle.std.specs.Prelude.{true, ◌≡◌, ◌+◌, ◌-◌, ◌*◌, ◌/◌, ◌%◌, ◌^◌, ◌<◌, ◌≤◌};
 ghost use Rattle.cell_core.specs.Fields.{field, sums};
 ghost use Rattle.cell_core.specs.Run.{AreEmptyIn};

@@ -7,7 +7,7 @@ use crate::cell::block::{is_filled, made, number};
 use cell_core::block::{Block, Found, Look, Pen};
 use std::thread::{Threads, join};
 
-// What a call does with a cell: it fills or breaks an empty one, or a broken one; it comes to begin a filled
+// The cases of a call on a cell: it fills or breaks an empty one, or a broken one; it comes to begin a filled
 // or a broken one, or to mend an empty or a filled one, in vain; or it fills a cell that another call found
 // busy meanwhile.
 const CASES: u64 = 9;

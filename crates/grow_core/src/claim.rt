@@ -7,7 +7,7 @@ ghost use Rattle.grow_core.specs.Growth.{Refuses, HasNoRoom, SaysFull, IsNotMove
 ghost use Rattle.grow_core.specs.Making.{IsClaimed};
 
 use crate::errors::GrowError;
-use crate::hand::Hand;
+use crate::hand::{Hand, claiming_laws};
 use crate::keys::install;
 use crate::token::Placed;
 use crate::vector::Shared;
@@ -111,10 +111,7 @@ impl<T: Drop> Shared<T> {
     {
         // For the proof: the hand keeps its places, and owns those of the run that it gains.
         self.laws();
-        hand.claims.laws();
-        laws::own_places_stay();
-        laws::added_places_are_of_the_run();
-        laws::added_places_are_owned();
+        claiming_laws(&hand.claims);
         let Ok(()) = install(&self.table, &mut hand.keys, from, n) else {
             return Err(GrowError::NoMemory { back: value });
         };

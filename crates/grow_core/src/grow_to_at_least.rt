@@ -9,11 +9,11 @@ ghost use Rattle.grow_core.specs.AtLeast.{WonAtLeast, MadeUpTo, RefusesAtLeast, 
 use crate::claim::Claimed;
 use crate::errors::GrowError;
 use crate::grown::Grown;
-use crate::hand::Hand;
+use crate::hand::{Hand, claiming_laws};
 use crate::keys::install;
 use crate::token::Placed;
 use crate::vector::Shared;
-use claim_core::{Enough, laws};
+use claim_core::Enough;
 
 /// The result of a growth up to a size.
 #[derive(Debug, Drop)]
@@ -128,11 +128,7 @@ impl<T: Drop> Shared<T> {
     {
         // For the proof: the hand keeps its places, and owns those of the run that it gains.
         self.laws();
-        hand.claims.laws();
-        laws::own_places_stay();
-        laws::added_places_are_of_the_run();
-        laws::added_places_are_owned();
-        laws::added_runs_are_owned();
+        claiming_laws(&hand.claims);
         let from = hand.seen();
         let Ok(()) = install(&self.table, &mut hand.keys, from, size - from) else {
             return Err(GrowError::NoMemory { back: () });

@@ -3,15 +3,33 @@ ghost use Rattle.std.specs.Prelude.{◌≡◌, ℕ, ◌+◌, ◌<◌, ◌≤◌,
 ghost use Rattle.std.specs.List.{IsDistinct};
 ghost use Rattle.claim_core.specs.Lengths.{Tiles, times};
 ghost use Rattle.claim_core.specs.Hand.{IsWholeHand, OwnsPlace, seen_size, own_places};
+ghost use Rattle.claim_core.specs.Laws.{OwnPlacesStay, AddedPlacesAreOfTheRun, AddedPlacesAreOwned, AddedRunsAreOwned};
 ghost use Rattle.claim_core.specs.Shares.{all_shares};
 ghost use Rattle.seg_core.specs.Segment.{HasPlace, most_segments};
 ghost use Rattle.grow_core.specs.Keys.{IsKeyed, IsKeyAt, AreKeys, HasKeysOfPlaces, layout_in};
 
 use crate::keys::{Keys, key_of, no_keys};
-use claim_core::Hand as ClaimHand;
+use claim_core::{Hand as ClaimHand, laws};
 use std::fmt;
 use std::marker::{Model, PhantomData};
 use table_core::Key;
+
+// Shows a proof what a claim keeps of a hand: its places, and those of the run that it gains. The call does nothing.
+pub(crate) fn claiming_laws(claims: &ClaimHand)
+    ensures within { seen_size claims.now ≤ claims.now.of.limit }
+    ensures below { (k : ℕ) → Contains claims.now.mine k → k < length claims.now.seen }
+    ensures stay { OwnPlacesStay }
+    ensures places { AddedPlacesAreOfTheRun }
+    ensures owned { AddedPlacesAreOwned }
+    ensures runs { AddedRunsAreOwned }
+{
+    // For the proof: what holds of the hand's runs, and of any run that is added.
+    claims.laws();
+    laws::own_places_stay();
+    laws::added_places_are_of_the_run();
+    laws::added_places_are_owned();
+    laws::added_runs_are_owned();
+}
 
 // The `Hand` of `claim_core`, with the keys of its runs' segments.
 /// A caller's knowledge of the vector's size, and its shares. Closing needs all shares, so once a hand is

@@ -5,11 +5,11 @@ ghost use Rattle.grow_core.specs.Vector.{IsHandOf};
 ghost use Rattle.grow_core.specs.Growth.{WonPlace, Refuses, HasNoRoom, SaysFull, IsNotMoved};
 
 use crate::errors::{GrowError, Never};
-use crate::hand::Hand;
+use crate::hand::{Hand, claiming_laws};
 use crate::keys::key_for;
 use crate::token::Placed;
 use crate::vector::Shared;
-use claim_core::{Moved, laws};
+use claim_core::Moved;
 use seg_core::laws::places;
 use std::sync::Wait;
 
@@ -50,11 +50,8 @@ impl<T: Drop> Shared<T> {
     {
         // For the proof: the hand keeps its places, and owns the one that it gains.
         self.laws();
-        hand.claims.laws();
+        claiming_laws(&hand.claims);
         places();
-        laws::own_places_stay();
-        laws::added_places_are_of_the_run();
-        laws::added_runs_are_owned();
         let limit = self.limit();
         if from >= limit {
             return Err(GrowError::Full {

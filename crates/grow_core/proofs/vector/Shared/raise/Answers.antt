@@ -14,7 +14,7 @@ pub invariant_of-hand-2 : goal.invariant_of-hand-2
 invariant_of-hand-2 g c =
     let mark = mark_is c.self.invariant c.self.view_is c.hand.view_is c.requires.ours in
     let keys = subst (λ names. AreKeys names c.install.new.keys) mark c.install.ensures.keys in
-    let below = c.laws-2.ensures.below in
+    let below = c.claiming_laws.ensures.below in
     let kept = c.install.ensures.kept in
     let there = subst (λ (m : List ℕ). HasKeysOfRun (layout_in m) c.install.new.keys c.seen-from.result (c.args.size - c.seen-from.result)) mark c.in-Ok.ensures.run in
     elim c.match-raise.branch [
@@ -22,7 +22,7 @@ invariant_of-hand-2 g c =
           let run = w.in-Ok-raise.run' in
           let won = w.in-Ok-raise.ensures in
           let same : seen_size c.hand.inside.claims ≡ seen_size c.args.hand.now = ap seen_size c.hand.view_is in
-          keyed_adds _ _ _ _ below c.hand.invariant keys kept c.added_places_are_of_the_run.ensures run won.claimed
+          keyed_adds _ _ _ _ below c.hand.invariant keys kept c.claiming_laws.ensures.places run won.claimed
           (keys_of_later _ c.install.new.keys _ _ run.from run.n (omega (arith, won.not_below, c.seen-from.ensures, same)) (omega (arith, won.run, c.requires.further, c.seen-from.ensures)) there)
-      | in-Err w ↦ let lost = w.in-Err.ensures.seen in keyed_sees _ _ _ _ below c.hand.invariant keys kept c.own_places_stay.ensures lost.own lost.seen
+      | in-Err w ↦ let lost = w.in-Err.ensures.seen in keyed_sees _ _ _ _ below c.hand.invariant keys kept c.claiming_laws.ensures.stay lost.own lost.seen
     ]

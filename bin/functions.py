@@ -31,8 +31,7 @@ class Function:
         return module[:-1] == module_of(file)
 
     def is_owned_by(self, name):
-        """Whether proofs have this name for the type that has the function: that of the type, and then those of the trait
-        and of its arguments, if there is a trait."""
+        """Whether proofs have this name for the function's type: the type's, then the trait's and its arguments', if any."""
         words = without_types(self.holder.partition("where")[0])
         names = [it.strip().split("::")[-1].strip("&' ") for it in re.split(r"\bimpl\b|\bfor\b", words) if it.strip()]
         return name == names[-1] or len(names) > 1 and name.startswith(names[-1] + names[0])

@@ -129,9 +129,8 @@ class Task:
     """Work that starts once the tasks before it have ended, with the processors that no other task waits for."""
 
     def __init__(self, weight, before, work):
-        self.weight, self.before, self.work, self.answer = weight, before, work, None
-        # What the longest chain of tasks that begins with this one weighs.
-        self.chain = weight
+        # The chain is what the longest chain of tasks that begins with this one weighs.
+        self.weight, self.before, self.work, self.answer, self.chain = weight, before, work, None, weight
 
 
 def run(tasks):
@@ -157,19 +156,15 @@ def run(tasks):
 
 def proofs(repository, names):
     """A task for the proof of each of these crates and of what they stand on, lowest first. It answers whether the crate
-    is proved, and says so on standard error, with an estimate for the others by their lengths."""
-    names = [*dict.fromkeys(below for it in names for below in [*repository.below(it), it])]
-    tasks, start, left = {}, time.monotonic(), {it: repository.length(it) for it in names}
-    total = sum(left.values())
+    is proved, and says so on standard error, with the time that this took."""
+    names, tasks = [*dict.fromkeys(below for it in names for below in [*repository.below(it), it])], {}
 
     def prove(name, jobs):
         if not all(tasks[it].answer for it in repository.below(name)):
             return False
         begun = time.monotonic()
         status, said = repository.prove(name, jobs)
-        proved = left.pop(name) and total - sum(left.values())
-        rest = minutes_since(start) * sum(left.values()) / proved + 1
-        words = f"NOT PROVED\n{said}" if status else f"proved, {minutes_since(begun):.1f} min, about {rest:.0f} min left"
+        words = f"NOT PROVED\n{said}" if status else f"proved, {minutes_since(begun):.1f} min"
         print(f"{name}: {words}", file=sys.stderr, flush=True)
         return not status
 

@@ -105,7 +105,8 @@ template <typename Vector> long long run(const char *load, unsigned threads) {
     push_often(vector, filled);
   Value times = (installed ? more : fresh) / threads;
   std::function<void()> work = [&] { push_often(vector, times); };
-  if (!std::strncmp(load, "grow", 4))
+  // oneTBB has no tokens.
+  if (!std::strncmp(load, "grow", 4) || !std::strncmp(load, "append", 6))
     work = [&] { grow_often(vector, times); };
   if (!std::strncmp(load, "make", 4))
     work = [&] { make_often(vector, times); };

@@ -35,8 +35,10 @@ pub enum Work {
     Push,
     /// Appends a value by a call that is not laid into the loop.
     CallPush,
-    /// Makes a list of 64 values, and appends it.
+    /// Makes a list of 64 values, and appends it with a token for each.
     Grow,
+    /// Makes a list of 64 values, and appends it without tokens.
+    Append,
     /// Appends 64 values that are made in place.
     Make,
     /// Grows the vector up to 64 places above the size that the hand has seen.
@@ -68,7 +70,7 @@ pub fn layout_of(name: &str) -> Layout {
 
 // The name of a load, what is done, how many values there are before its time starts, and how many while it
 // runs.
-const ROWS: [(&'static str, Work, u64, u64); 12] = [
+const ROWS: [(&'static str, Work, u64, u64); 14] = [
     ("push", Work::Push, 0, FRESH),
     ("push-256", Work::Push, 0, FRESH),
     ("push-installed", Work::Push, FILLED, MORE),
@@ -76,6 +78,8 @@ const ROWS: [(&'static str, Work, u64, u64); 12] = [
     ("push-call", Work::CallPush, FILLED, MORE),
     ("grow", Work::Grow, 0, FRESH),
     ("grow-installed", Work::Grow, FILLED, MORE),
+    ("append", Work::Append, 0, FRESH),
+    ("append-installed", Work::Append, FILLED, MORE),
     ("make", Work::Make, 0, FRESH),
     ("make-installed", Work::Make, FILLED, MORE),
     ("at-least", Work::AtLeast, 0, FRESH),
@@ -116,18 +120,20 @@ fn list_from<R: AllocGlobal>(rt: &R, from: u64) -> Result<Vec<u64>, AllocError> 
     Ok(list)
 }
 
-// Appends a list of values: whether that was done, or nothing if there is no memory for the list.
+// Appends a list of values, with tokens or without: whether that was done, or nothing without memory for the list.
 fn grow_once<R: Wait + AllocGlobal>(
     rt: &R,
     vector: &Shared<u64>,
     hand: &mut Hand<u64>,
     from: u64,
+    has_tokens: bool,
 ) -> Option<bool>
     requires ours { IsHandOf vector.now hand.old }
     ensures of { hand.new.of ≡ hand.old.of }
 {
     match list_from(rt, from) {
-        Ok(list) => Some(vector.grow_vec(rt, hand, list).is_ok()),
+        Ok(list) if has_tokens => Some(vector.grow_vec(rt, hand, list).is_ok()),
+        Ok(list) => Some(vector.append(rt, hand, list).is_ok()),
         Err(AllocError) => None,
     }
 }
@@ -138,12 +144,13 @@ fn grow<R: Wait + AllocGlobal>(
     vector: &Shared<u64>,
     mut hand: Hand<u64>,
     values: u64,
+    has_tokens: bool,
 ) -> u64
     requires ours { IsHandOf vector.now hand }
 {
     let mut won: u64 = 0;
     for i in 0..values / LIST {
-        let Some(is_done) = grow_once(rt, vector, &mut hand, i) else {
+        let Some(is_done) = grow_once(rt, vector, &mut hand, i, has_tokens) else {
             break;
         };
         if is_done {
@@ -236,7 +243,8 @@ impl Work {
         match self {
             Work::Push => push(rt, vector, hand, times),
             Work::CallPush => push_by_calls(rt, vector, hand, times),
-            Work::Grow => grow(rt, vector, hand, times),
+            Work::Grow => grow(rt, vector, hand, times, true),
+            Work::Append => grow(rt, vector, hand, times, false),
             Work::Make => make(rt, vector, hand, times, false),
             Work::AtLeast => make(rt, vector, hand, times, true),
             Work::Look => look(vector, hand, times),

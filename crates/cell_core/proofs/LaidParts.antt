@@ -38,7 +38,7 @@ use Rattle.cell_core.proofs.WordSteps.{shared_laws}
 
 module _ (R : RattleType) where
   -- what a `&` to the cells of each word holds can be had twice
-  along_laws : (k : ℕ) (γs : List Names) (b o c e : ℕ) → ShrLaws (along_lent R k γs b o c e)
+  pub along_laws : (k : ℕ) (γs : List Names) (b o c e : ℕ) → ShrLaws (along_lent R k γs b o c e)
   along_laws zero γs b o c e = nothing_shr_laws
   along_laws (suc k) γs b o c e = let W : List Names = take 16 γs in let Ws : List Names = drop 16 γs in
       beside_shr_laws (shared_at R W b o c e) (along_lent R k Ws b (o + 8) c (e + 16 * step R)) (shared_laws R W b o c e) (along_laws k Ws b (o + 8) c (e + 16 * step R))

@@ -14,3 +14,5 @@ mod LaidParts
 mod LaidMade
 mod RunParts
 mod RunFields
+mod SliceSteps
+mod SliceParts

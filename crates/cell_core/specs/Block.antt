@@ -1,5 +1,5 @@
 -- A block of cells as callers see it, and what is seen of its pens and tokens.
-use Rattle.std.specs.Prelude.{◌≡◌, ◌≢◌, ℕ, ◌<◌, List, length}
+use Rattle.std.specs.Prelude.{◌≡◌, ◌≢◌, ℕ, ◌+◌, ◌<◌, List, Some, None, length, slice_get}
 use base.Stored.{Coded, coded×, coded_ℕ, coded_list, coded_via}
 use Rattle.cell_core.specs.Slot.{Names, names_coded, cell_in, empty_state, filled_state}
 use Rattle.cell_core.specs.Laid.{IsAnother}
@@ -117,6 +117,11 @@ pub record IsBegunAt (block : BlockView) (offset : ℕ) (begun : BegunView) : Ty
 pub record IsMemberAt {T : Type 0} (block : BlockView) (offset : ℕ) (m : MemberView T) : Type 0 where
   pub within : offset < block_len block
   pub known : HasNames (cell_at block offset) m.value m.name m.epoch
+
+-- the cells from the offset on have values, by what is known of each
+abbrev pub AreFilledFrom : {T : Type 0} → BlockView → ℕ → List (MemberView T) → Type 0
+AreFilledFrom {T} block offset row =
+    (i : ℕ) (m : MemberView T) → slice_get row i ≡ Some m → IsMemberAt block (offset + i) m × (m.value ≢ None)
 
 -- the cell at the offset has fresh names: no older token applies to it
 abbrev pub RenewsCell : BlockView → BlockView → ℕ → Type 0

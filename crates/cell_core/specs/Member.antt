@@ -1,5 +1,5 @@
 -- What is known of a cell, and of each cell of a row.
-use Rattle.std.specs.Prelude.{◌≡◌, ℕ, Option, Some, None, List, [], ◌∷◌, ◌++◌, slice_set}
+use Rattle.std.specs.Prelude.{◌≡◌, ℕ, suc, Option, Some, None, List, [], ◌∷◌, ◌++◌, slice_set}
 use Rattle.std.specs.Coded.{coded_option}
 use base.Stored.{Coded, gnil, coded×, coded_ℕ, coded_list, coded_via}
 use base.Fml.{Lft, GName, Fml, ftrue, fsep, fauth, finv}
@@ -68,3 +68,11 @@ Settles old i new None epoch = (c : Names) × IsAnother (cell_in old i) c × (ne
 -- the new list is the old one without its last member
 abbrev pub HasOneLess : {T : Type 0} → List (MemberView T) → List (MemberView T) → Type 0
 HasOneLess {T} old new = (last : MemberView T) × (old ≡ new ++ last ∷ [])
+
+-- the cells from an index on have these values, by what is known of each
+abbrev pub HaveValues : {T : Type 0} → List Names → ℕ → List (MemberView T) → List T → Type 0
+HaveValues γs j [] [] = Unit {0}
+HaveValues γs j [] (x ∷ xs) = ⊥
+HaveValues γs j (m ∷ ms) [] = ⊥
+HaveValues γs j (m ∷ ms) (x ∷ xs) =
+    (m.value ≡ Some x) × (m.name ≡ (cell_in γs j).value_name) × HaveValues γs (suc j) ms xs

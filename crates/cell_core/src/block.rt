@@ -14,6 +14,7 @@ mod pen;
 mod placed;
 mod run;
 mod shown;
+mod slice;
 mod spoilt;
 mod steps;
 

@@ -9,7 +9,7 @@ use Rattle.grow_core.specs.Vector.{VectorView, IsPlacedOf}
 use Rattle.grow_core.specs.Grown.{AreTokensOf, AreKeptFrom}
 
 -- a member of two lists is one of the first list, or of the second
-slice_get-append : {X : Type 0} (xs ys : List X) (i : ℕ) (x : X) → slice_get (xs ++ ys) i ≡ Some x
+pub slice_get-append : {X : Type 0} (xs ys : List X) (i : ℕ) (x : X) → slice_get (xs ++ ys) i ≡ Some x
     → (slice_get xs i ≡ Some x) ⊎ ((j : ℕ) × (i ≡ length xs + j) × (slice_get ys j ≡ Some x))
 slice_get-append [] ys i x h = inr (i, omega arith, h)
 slice_get-append (z ∷ zs) ys zero x h = inl h

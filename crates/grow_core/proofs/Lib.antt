@@ -7,3 +7,4 @@ pub mod Cells
 pub mod Settled
 pub mod Stopped
 pub mod Made
+pub mod Sides

@@ -1,6 +1,6 @@
 // The blocks and cells of an owner's places.
 ghost use Rattle.std.specs.Prelude.{◌≡◌, ◌<◌, ◌≤◌, Some, None};
-ghost use Rattle.seg_core.specs.Segment.{segment_start, segment_end, segment_count, most_segments};
+ghost use Rattle.seg_core.specs.Segment.{segment_start, segment_end, segment_count, segment_of, most_segments};
 ghost use Rattle.cell_core.specs.Block.{block_len, IsMemberAt, KeepsOtherCells};
 ghost use Rattle.table_core.specs.Table.{IsBlockOf, KeepsOtherEntries};
 ghost use Rattle.grow_core.specs.Keys.{AreKeys, HasBlock, IsBlockPut, key_at, mark_of};
@@ -18,6 +18,7 @@ pub(crate) fn cell_of<T>(table: &Table<T>, keys: &Keys, count: u32, place: u64) 
     requires inside { place < segment_start table.now.layout count }
     ensures small { result.0 < most_segments }
     ensures segment { result.0 < segment_count table.now.layout }
+    ensures number { result.0 ≡ segment_of table.now.layout place }
     ensures place { place_in table.now.layout result.0 result.1 ≡ place }
     ensures within { place < segment_end table.now.layout result.0 }
     ensures key { key_at keys.now result.0 ≡ Some result.2 }

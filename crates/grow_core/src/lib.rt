@@ -41,6 +41,7 @@ mod push;
 mod read;
 mod recall;
 mod settle_cells;
+mod slices;
 mod split_and_join;
 mod stretch;
 mod token;

@@ -9,7 +9,7 @@ mod scripts;
 mod steps;
 mod uses;
 
-use quiet_core::{Quiet, QuietAt, QuietError};
+use quiet_core::{MemberSegment, Quiet, QuietAt, QuietError};
 use std::alloc::AllocGlobal;
 use std::process::Abort;
 pub(crate) use steps::{pushes_all, resized};
@@ -91,6 +91,47 @@ fn sum(list: &Quiet<u64>) -> u64 {
 fn members_come_from_both_ends(rt: HostRuntime) {
     let list = list_of(&rt, &[1, 2, 3]);
     assert!(rt; gives_from_both_ends(&list) && sum(&list) == 6);
+}
+
+// The number whose last digits are these values, after those of another one.
+fn digits(before: u64, values: &[u64]) -> u64 {
+    let mut number = before;
+    for value in values {
+        number = number.wrapping_mul(10).wrapping_add(*value);
+    }
+    number
+}
+
+// Digits for the values that the segments lend, for the numbers of members of these segments, and for the first place
+// and the number of members of each segment that lends none.
+fn walk(list: &Quiet<u64>) -> (u64, u64, u64) {
+    let (mut lent, mut lengths, mut broken) = (0u64, 0u64, 0u64);
+    for segment in list.segments() {
+        match segment {
+            MemberSegment::Values(values) => {
+                lent = digits(lent, values);
+                lengths = digits(lengths, &[values.len() as u64]);
+            }
+            MemberSegment::Broken { from, n } => broken = digits(broken, &[from, n]),
+        }
+    }
+    (lent, lengths, broken)
+}
+
+// Makes five members of three, the last one broken, and then six. Tests whether the segments before it still lend.
+fn lends_the_others(list: &mut Quiet<u64>) -> bool {
+    let refused = Err(QuietError::Refused { made: 1 });
+    resized(list, 5, 4, 1) == (refused, Some(2))
+        && walk(list) == (1_234, 22, 41)
+        && list.push(6).is_ok()
+        && walk(list) == (1_234, 22, 42)
+}
+
+#[test]
+fn segments_lend_their_members_in_order(rt: HostRuntime) {
+    assert!(rt; walk(&list_of(&rt, &[])) == (0, 0, 0));
+    assert!(rt; walk(&list_of(&rt, &[1, 2, 3, 4, 5])) == (12_345, 221, 0));
+    assert!(rt; lends_the_others(&mut list_of(&rt, &[1, 2, 3])));
 }
 
 // A list with a limit of five refuses six values and takes five.

@@ -2,4 +2,5 @@ pub mod QuietList
 pub mod Resizing
 pub mod Between
 pub mod QuietAt
+pub mod Segments
 pub mod Errors

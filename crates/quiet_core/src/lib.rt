@@ -20,9 +20,11 @@ pub mod laws;
 mod open;
 mod quiet;
 mod room;
+mod segments;
 
 pub use errors::{QuietAt, QuietError, QuietMendError};
 pub use grow_core::{Hand, OpenError, Placed, Shared};
 pub use into_iter::IntoMembers;
 pub use iter::Members;
 pub use quiet::Quiet;
+pub use segments::{MemberSegment, MemberSegments};

@@ -17,6 +17,7 @@ mod race;
 mod refusals;
 mod says;
 mod shown;
+mod slices;
 mod steps;
 mod tokens;
 mod uses;

@@ -178,6 +178,11 @@ pub next_is : {X : Type 0} (i : ℕ) (xs : List X) → next i xs ≡ i + length 
 next_is i [] = omega arith
 next_is i (x ∷ xs) = next_is (suc i) xs ∙ omega arith
 
+-- some cells without the first
+abbrev pub others : List Names → List Names
+others [] = []
+others (γ ∷ γs) = γs
+
 module _ {M : Type 1} {𝓤 : Ura M} (𝓛 : Logic 𝓤) (R : RattleType) (t : Turn) (c e : ℕ) where
   abbrev pub Next_right : List Names → ℕ → List R.Denot → Fml
   Next_right γs i xs = let k : ℕ = next i xs in Right R (cell_in γs (length xs)) t.0 (t.1 k) c (room_at R e k)
@@ -196,3 +201,22 @@ module _ {M : Type 1} {𝓤 : Ura M} (𝓛 : Logic 𝓤) (R : RattleType) (t : T
   held_next (γ ∷ γs) i (y ∷ xs) less x = qed 𝓛 (‵ (held R t c e (γ ∷ γs) i (y ∷ xs)) ∷ []) ∵ fsplit ! $ move ! (1 ∷ []) $
       use1 𝓛 (‵ (Next_right γs (suc i) xs) ⊛ raw (Written γs (suc i) xs x)) (held_next γs (suc i) xs (omega arith) x) $ split ! $ frame ! $ assume ! (‵ (Next_ready γs (suc i) xs x)) $
       use2 𝓛 (‵ (held R t c e γs (suc i) (xs ++ x ∷ []))) (apply∗ 𝓤 (sem 𝓛 (Next_ready γs (suc i) xs x)) (sem 𝓛 (held R t c e γs (suc i) (xs ++ x ∷ [])))) $ move ! (1 ∷ 0 ∷ []) $ fjoin ! $ done !
+
+  -- the right to write the first cell, and what the run has of the others
+  pub held_first : (γs : List Names) (i : ℕ) → 0 < length γs
+      → ent 𝓤 (sem 𝓛 (held R t c e γs i [])) (sep 𝓤 (sem 𝓛 (Right R (cell_in γs 0) t.0 (t.1 i) c (room_at R e i))) (sem 𝓛 (held R t c e (others γs) (suc i) [])))
+  held_first [] i less = absurd (omega arith)
+  held_first (γ ∷ γs) i less = qed 𝓛 (‵ (held R t c e (γ ∷ γs) i []) ∷ []) ∵ fsplit ! $ done !
+
+-- the first of some cells and the others are all of them
+pub first_again : (γs : List Names) → 0 < length γs → cell_in γs 0 ∷ others γs ≡ γs
+first_again [] less = absurd (omega arith)
+first_again (γ ∷ γs) less = refl
+
+pub first_at : (γs : List Names) (i : ℕ) (Γs : List Names) → 0 < length γs → AreAt γs i Γs → (i < length Γs) × (cell_in Γs i ≡ cell_in γs 0) × AreAt (others γs) (suc i) Γs
+first_at [] i Γs less at = absurd (omega arith)
+first_at (γ ∷ γs) i Γs less at = at
+
+pub others_fewer : (γs : List Names) → length (others γs) ≤ length γs
+others_fewer [] = omega arith
+others_fewer (γ ∷ γs) = omega arith

@@ -1,11 +1,11 @@
 -- A run of cells: neighbours whose states are in one word, which one call has begun by one step.
-use Rattle.std.specs.Prelude.{◌≡◌, ℕ, zero, suc, ◌+◌, ◌*◌, ◌^◌, ◌<◌, ◌≤◌, Bool, true, false, eqb, Some, List, [], ◌∷◌, length}
+use Rattle.std.specs.Prelude.{◌≡◌, ℕ, zero, suc, ◌+◌, ◌*◌, ◌^◌, ◌<◌, ◌≤◌, Bool, true, false, eqb, Option, Some, None, List, [], ◌∷◌, length}
 use base.Stored.{Coded, coded×, coded_ℕ, coded_list, coded_via}
 use base.Fml.{Lft, GName, Fml, ftrue, ffalse, fsep, fex}
 use denote.RattleType.{RattleType}
 use denote.RawPtr.{Ptr, block_ptr, null_ptr}
 use Rattle.cell_core.specs.Fields.{field}
-use Rattle.cell_core.specs.Block.{BlockView}
+use Rattle.cell_core.specs.Block.{BlockView, PenView, IsFresh}
 use Rattle.cell_core.specs.Member.{MemberView, members}
 use Rattle.cell_core.specs.Slot.{Names, names_coded, Turn, Spot, fact, full, cell_in, step, room_at, settable, Right, tie, lent, kept}
 
@@ -46,6 +46,13 @@ run_coded {T} c =
     coded_via (coded× coded_ℕ (coded× (coded_list names_coded) (coded_list c)))
     (λ (r : RunView T). (r.offset, (r.cells, r.values)))
     (λ x y e i. record { offset = (e i).0; cells = (e i).1.0; values = (e i).1.1 })
+
+-- the first cell of a run, and the run of those after it, if there are any; no value is written
+abbrev pub PartsFirst : {T : Type 0} → RunView T → PenView → Option (RunView T) → Type 0
+PartsFirst run pen None = (pen.offset ≡ run.offset) × IsFresh pen × (run.cells ≡ pen.cell ∷ [])
+PartsFirst run pen (Some rest) =
+    (pen.offset ≡ run.offset) × IsFresh pen × (run.cells ≡ pen.cell ∷ rest.cells)
+    × (rest.offset ≡ run.offset + 1) × (rest.values ≡ []) × (0 < length rest.cells)
 
 -- the pen is of the n cells of the block from an offset on, and none is written
 pub record IsRunPenAt {T : Type 0} (block : BlockView) (offset n : ℕ) (pen : RunView T) : Type 0 where

@@ -2,6 +2,7 @@ pub mod Later
 pub mod Places
 pub mod Filling
 pub mod Stretches
+pub mod BegunPlaces
 pub mod KeyRows
 pub mod Cells
 pub mod Settled

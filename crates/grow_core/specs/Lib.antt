@@ -12,6 +12,7 @@ pub mod Making
 pub mod AtLeast
 pub mod Segment
 pub mod Stretch
+pub mod Begun
 pub mod Slices
 pub mod Errors
 pub use Rattle.claim_core.specs.Hand

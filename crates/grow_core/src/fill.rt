@@ -23,9 +23,9 @@ use table_core::Key;
 // A segment of the vector: its block with its key, its first place, and the place after its last.
 #[derive(Drop)]
 pub(crate) struct Segment<'a, T> {
-    block: &'a Block<T>,
-    key: Key,
-    from: u64,
+    pub(crate) block: &'a Block<T>,
+    pub(crate) key: Key,
+    pub(crate) from: u64,
     pub(crate) end: u64,
 }
 
@@ -69,6 +69,7 @@ impl<T: Drop> Shared<T> {
         ensures segment { IsSegmentOf self.now result }
         ensures from { result.from ≤ place }
         ensures before { place < result.end }
+        ensures same { place < segment.entry.end → result ≡ segment.entry }
     {
         if place < segment.end {
             segment

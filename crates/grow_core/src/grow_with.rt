@@ -6,13 +6,16 @@ ghost use Rattle.grow_core.specs.Keys.{OwnsPlacesOf};
 ghost use Rattle.grow_core.specs.Growth.{Refuses, HasNoRoom, SaysFull, IsNotMoved};
 ghost use Rattle.grow_core.specs.Making.{Makes, StopsAfter, StopsIn, LeavesMaker, IsRefusedBy, IsTakenIn, IsTakenFrom};
 ghost use Rattle.grow_core.specs.Making.{WonMade, WonClones};
+ghost use Rattle.grow_core.specs.Begun.{AreUnwritten, begun_count};
 
+use crate::begun::{break_begun, count_begun};
 use crate::claim::Claimed;
 use crate::errors::GrowError;
 use crate::grown::Grown;
 use crate::hand::Hand;
 use crate::token::{Found, Placed};
 use crate::vector::Shared;
+use cell_core::block::RunPen;
 use claim_core::Run;
 use std::alloc::AllocError;
 use std::sync::Wait;
@@ -129,18 +132,26 @@ impl<T: Drop> Shared<T> {
             return Ok(Grown { run, tokens });
         }
         let mut segment = self.find_segment(hand, run.from);
+        let mut begun: Option<RunPen<'_, T>> = None;
         for i in 0..run.n {
             let value = match make(i) {
                 Ok(value) => value,
-                Err(cause) => return Err(self.stop(hand, run, tokens, cause)),
+                Err(cause) => return Err(self.stop(hand, run, tokens, cause, begun)),
             };
             let place = run.from + i;
             segment = self.next_segment(hand, segment, place);
-            match self.fill(&segment, place, value) {
+            let (filled, others) = self.fill_begun(&segment, place, run.n - i, begun, value);
+            begun = others;
+            match filled {
                 Ok(placed) => tokens.push_reserved(placed),
-                Err(found) => return Err(GrowError::Taken { place, found }),
+                Err(found) => {
+                    break_begun(begun);
+                    return Err(GrowError::Taken { place, found });
+                }
             }
         }
+        // No place is begun and not filled.
+        break_begun(begun);
         Ok(Grown { run, tokens })
     }
 
@@ -152,6 +163,7 @@ impl<T: Drop> Shared<T> {
         run: Run,
         tokens: Vec<Placed<T>>,
         cause: E,
+        begun: Option<RunPen<'_, T>>,
     ) -> GrowError<T, (), E>
         requires ours { IsHandOf self.now hand.now }
         requires owned { OwnsPlacesOf hand.now run }
@@ -159,6 +171,8 @@ impl<T: Drop> Shared<T> {
         requires tokens { All (IsPlacedOf self.now) tokens.items }
         requires in_order { AreInOrder run.from tokens.items }
         requires fewer { vec_len tokens < run.n }
+        requires unwritten { AreUnwritten begun }
+        requires begun { vec_len tokens + begun_count begun ≤ run.n }
         ensures stopped { StopsIn self.now run result }
         // The places before it have their values still.
         ensures after { IsTakenFrom (run.from + vec_len tokens) result }
@@ -170,7 +184,9 @@ impl<T: Drop> Shared<T> {
             from: run.from,
             n: tokens.len() as u64,
         };
-        match self.break_rest(hand, run, made.n) {
+        let first = made.n + count_begun(&begun);
+        break_begun(begun);
+        match self.break_rest(hand, run, first) {
             Ok(()) => GrowError::Refused {
                 run,
                 made: Grown { run: made, tokens },
@@ -180,21 +196,23 @@ impl<T: Drop> Shared<T> {
         }
     }
 
-    // Breaks the places of a run of the hand's, except the first `made` of them. It stops at a place that was
-    // taken.
-    fn break_rest(&self, hand: &Hand<T>, run: Run, made: u64) -> Result<(), (u64, Found<T>)>
+    // Breaks the places of a run of the hand's from the one with this number on. It stops at a place that was taken.
+    fn break_rest(&self, hand: &Hand<T>, run: Run, first: u64) -> Result<(), (u64, Found<T>)>
         requires ours { IsHandOf self.now hand.now }
         requires owned { OwnsPlacesOf hand.now run }
         requires within { run.from + run.n ≤ limit_of self.now }
-        requires fewer { made < run.n }
+        requires not_past { first ≤ run.n }
         ensures taken { IfErr result (λ (place, found). IsTakenIn self.now run place found) }
-        ensures after { IfErr result (λ (place, _). run.from + made ≤ place) }
+        ensures after { IfErr result (λ (place, _). run.from + first ≤ place) }
     {
         // For the proof: the vector's base is within its limit.
         self.laws();
+        if first == run.n {
+            return Ok(());
+        }
         let end = run.from + run.n;
-        let mut segment = self.find_segment(hand, run.from + made);
-        for place in run.from + made..end {
+        let mut segment = self.find_segment(hand, run.from + first);
+        for place in run.from + first..end {
             segment = self.next_segment(hand, segment, place);
             if let Err(found) = self.break_place(&segment, place) {
                 return Err((place, found));

@@ -21,6 +21,7 @@
 //! members (`specs/Parts.antt`): exactly what was appended is read, and moved out.
 #![tactic(auto)]
 
+mod begun;
 mod blocks;
 mod claim;
 mod close;

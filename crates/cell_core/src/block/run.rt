@@ -2,9 +2,10 @@
 ghost use Rattle.std.specs.Prelude.{◌≡◌, ◌+◌, ◌%◌, ◌<◌, ◌≤◌, ◌++◌, ◌∷◌, ◌⊎◌, [], length, IfSome};
 ghost use Rattle.cell_core.specs.Block.{block_len};
 ghost use Rattle.cell_core.specs.Laid.{word_cells};
-ghost use Rattle.cell_core.specs.Run.{IsRunPenAt, members_of};
+ghost use Rattle.cell_core.specs.Run.{IsRunPenAt, PartsFirst, members_of};
 
 use crate::block::fields::{WORD_CELLS, are_empty, in_fields, word_of};
+use crate::block::pen::Pen;
 use crate::block::{Block, Row};
 use crate::slot::run::RawRun;
 use crate::slot::steps::{BUSY, FILLED};
@@ -83,6 +84,13 @@ impl<T, A: Allocator> Block<T, A> {
 }
 
 impl<'a, T> RunPen<'a, T> {
+    /// Returns how many cells the run has.
+    pub fn len(&self) -> u64
+        ensures { result ≡ length self.now.cells }
+    {
+        self.n
+    }
+
     /// Writes the value of the first cell that has none yet. Nobody sees it before `publish`.
     pub fn write(self, value: T) -> RunPen<'a, T>
         requires { length self.values < length self.cells }
@@ -103,6 +111,32 @@ impl<'a, T> RunPen<'a, T> {
             written: written + 1,
             run,
         }
+    }
+
+    /// Parts the first cell, with its pen, from those after it, if there are any. None has a value yet.
+    pub fn first(self) -> (Pen<'a, T>, Option<RunPen<'a, T>>)
+        requires { self.values ≡ [] }
+        ensures { PartsFirst self.entry result.0 result.1 }
+    {
+        let RunPen {
+            offset,
+            n,
+            written: _,
+            run,
+        } = self;
+        let (pen, others) = run.first();
+        let pen = Pen { offset, pen };
+        if n == 1 {
+            others.end();
+            return (pen, None);
+        }
+        let rest = RunPen {
+            offset: offset + 1,
+            n: n - 1,
+            written: 0,
+            run: others,
+        };
+        (pen, Some(rest))
     }
 
     /// Publishes the values of all cells by one step, and returns what is then known of the cells, in order.

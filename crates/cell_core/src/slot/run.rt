@@ -3,10 +3,11 @@
 ghost use Rattle.std.specs.Prelude.{◌≡◌, ◌≢◌, ℕ, ◌+◌, ◌%◌, ◌^◌, ◌<◌, ◌++◌, ◌∷◌, [], List, length};
 ghost use base.Stored.{coded_list};
 ghost use Rattle.cell_core.specs.Fields.{sums};
-ghost use Rattle.cell_core.specs.Slot.{Names, names_coded};
+ghost use Rattle.cell_core.specs.Slot.{Names, names_coded, empty_state};
 ghost use Rattle.cell_core.specs.Run.{AreEmptyIn, cells_owned, run_owned, members_of};
 
 use crate::slot::member::RawRow;
+use crate::slot::steps::RawPen;
 use atomic_table::exchange;
 use std::marker::{Brand, Model, PhantomData};
 use std::sync::atomic::Ordering::SeqCst;
@@ -86,8 +87,39 @@ impl<'a, T> RawRun<'a, T> {
         }
     }
 
+    // Parts the first cell from those after it. None has a value yet.
+    pub(crate) fn first(self) -> (RawPen<'a, T>, RawRun<'a, T>)
+        requires { (self.found ≡ self.sought) × (self.values ≡ []) × (0 < length self.of) }
+        ensures { (result.0.of ∷ result.1.of ≡ self.entry.of) × (result.0.index ≡ self.entry.index)
+            × (result.0.sought ≡ empty_state) × (result.0.found ≡ empty_state)
+            × (result.1.index ≡ self.entry.index + 1) × (result.1.sought ≡ self.entry.sought)
+            × (result.1.found ≡ self.entry.sought) × (result.1.values ≡ []) }
+    {
+        let RawRun { word, room, marker } = self;
+        let others = unsafe { room.add(1) };
+        (
+            RawPen { word, room, marker },
+            RawRun {
+                word,
+                room: others,
+                marker,
+            },
+        )
+    }
+
     pub(crate) fn unused(self)
         requires { self.found ≢ self.sought }
+    {
+        let RawRun {
+            word: _,
+            room: _,
+            marker: _,
+        } = self;
+    }
+
+    // No cell is left.
+    pub(crate) fn end(self)
+        requires { self.of ≡ [] }
     {
         let RawRun {
             word: _,

@@ -41,9 +41,9 @@ impl<'a, T> Model for RawSlot<'a, T> {
 
 // What a step that sought a state gained when it found another or this one. It must be spent.
 pub(crate) struct RawPen<'a, T> {
-    word: *const u64,
-    room: *const T,
-    marker: PhantomData<&'a T>,
+    pub(crate) word: *const u64,
+    pub(crate) room: *const T,
+    pub(crate) marker: PhantomData<&'a T>,
     pub(crate) ghost of: { Names } by { names_coded },
     pub(crate) ghost index: { ℕ },
     pub(crate) ghost sought: { ℕ },

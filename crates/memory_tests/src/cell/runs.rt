@@ -59,6 +59,33 @@ fn a_run_is_published_at_once_or_not_begun(rt: HostRuntime) {
     assert!(rt; is_not_begun_where_filled(&block));
 }
 
+// Begins three cells as a run, and returns what they showed then, and after the first was filled with 8, the second broken
+// and the third filled with 9.
+fn fill_and_break(block: &Block<u64>, offset: u64) -> Option<(u64, u64, u64, u64)>
+    requires within { offset + 3 ≤ block_len block.now }
+    requires word { offset % word_cells + 3 ≤ word_cells }
+{
+    let (pen, others) = block.begin_run(offset, 3)?.first();
+    let begun = shown_by_three(block, offset);
+    drop(pen.fill(8));
+    let filled = shown_by_three(block, offset);
+    let (pen, others) = others?.first();
+    drop(pen.spoil());
+    let broken = shown_by_three(block, offset);
+    let (pen, others) = others?.first();
+    drop(pen.fill(9));
+    match others {
+        Some(_more) => unreachable!(),
+        None => Some((begun, filled, broken, shown_by_three(block, offset))),
+    }
+}
+
+#[test]
+fn a_run_is_filled_and_broken_cell_by_cell(rt: HostRuntime) {
+    let block = made(&rt, 16);
+    assert!(rt; fill_and_break(&block, 4) == Some((111, 811, 831, 839)));
+}
+
 // Fills three cells by themselves, unless a run fills them.
 fn fill_each(block: &Block<u64>, offset: u64) -> bool
     requires within { offset + 3 ≤ block_len block.now }

@@ -1,7 +1,8 @@
-use Rattle.std.proofs.Common.{◌≡◌, ◌+◌, ◌≤◌, map, vec_len, vec_capacity}
+use Rattle.std.proofs.Common.{◌≡◌, ◌+◌, ◌-◌, ◌≤◌, map, vec_len, vec_capacity}
 use Rattle.grow_core.specs.Making.{Makes}
 use Rattle.grow_core.specs.Grown.{AreTokensOf}
 use Rattle.grow_core.specs.Segment.{IsSegmentOf}
+use Rattle.grow_core.specs.Begun.{AreBegun}
 use Rattle.grow_core.proofs.vector.Shared.make_run.Given as goal
 
 abbrev pub invariant-loop-i : goal.invariant-loop-i
@@ -13,4 +14,5 @@ invariant-loop-i g l =
     × IsSegmentOf l.self l.segment
     × (l.segment.from ≤ l.run.from + l.i)
     × (l.run.from + l.i ≤ l.segment.end)
+    × AreBegun l.segment (l.run.from + l.i) (l.run.n - l.i) l.begun
     × goal.F-IsAlwaysCallable g l.make

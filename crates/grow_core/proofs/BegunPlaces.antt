@@ -1,0 +1,82 @@
+-- The first of the places that are begun, and those after it.
+use Rattle.std.proofs.Common.{◌≡◌, ℕ, zero, suc, ◌+◌, ◌-◌, ◌<◌, ◌≤◌, [], ◌∷◌, length, Option, Some, None, refl, sym, ap, subst, ◌∙◌, arith}
+use Rattle.cell_core.specs.Slot.{Names, cell_in}
+use Rattle.cell_core.specs.Block as block
+use Rattle.cell_core.specs.Block.{BlockView, PenView, IsPenAt, block_len, cell_at}
+use Rattle.cell_core.specs.Run.{RunView, IsRunPenAt, PartsFirst, cells_from}
+use Rattle.grow_core.specs.declared.fill.Segment.{Segment}
+use Rattle.grow_core.specs.Token.{AreSmall, placed_view, place_in}
+use Rattle.grow_core.specs.Vector.{VectorView, IsPlacedOf, layout_of}
+use Rattle.grow_core.specs.Segment.{IsSegmentOf}
+use Rattle.grow_core.specs.Begun.{AreBegun, AreUnwritten, begun_count}
+use Rattle.grow_core.proofs.Cells.{small_cell}
+use Rattle.grow_core.proofs.Stretches.{cells_length}
+
+-- the pen of the first cell
+pub first_pen : {T : Type 0} (block : BlockView) (o n : ℕ) (run : RunView T) (pen : PenView) (others : Option (RunView T))
+    → IsRunPenAt block o n run → PartsFirst run pen others → 0 < n → IsPenAt block o pen
+first_pen block o zero run pen others is parts less = absurd (omega arith)
+first_pen block o (suc n) run pen None is parts less =
+    let same : cell_in block.cells o ∷ cells_from n (suc o) block.cells ≡ pen.cell ∷ [] = sym is.cells ∙ parts.2 in
+    let one : cell_in block.cells o ≡ pen.cell = cc in record { at = parts.0 ∙ is.at; cell = sym one }
+first_pen block o (suc n) run pen (Some rest) is parts less =
+    let same : cell_in block.cells o ∷ cells_from n (suc o) block.cells ≡ pen.cell ∷ rest.cells = sym is.cells ∙ parts.2 in
+    let one : cell_in block.cells o ≡ pen.cell = cc in record { at = parts.0 ∙ is.at; cell = sym one }
+
+-- the run of the others
+pub others_run : {T : Type 0} (block : BlockView) (o n : ℕ) (run : RunView T) (pen : PenView) (rest : RunView T)
+    → IsRunPenAt block o (suc n) run → PartsFirst run pen (Some rest) → IsRunPenAt block (suc o) n rest × (0 < n)
+others_run block o n run pen rest is parts =
+    let same : cell_in block.cells o ∷ cells_from n (suc o) block.cells ≡ pen.cell ∷ rest.cells = sym is.cells ∙ parts.2 in
+    let more : cells_from n (suc o) block.cells ≡ rest.cells = cc in
+    let long = cells_length n (suc o) block.cells in
+    (record { at = omega (arith, parts.3, is.at); cells = sym more; values = parts.4 }, omega (arith, parts.5, long, ap length more))
+
+pub begun_after : {T : Type 0} (segment : Segment T) (place left : ℕ) (run : RunView T) (pen : PenView) (others : Option (RunView T))
+    → segment.from ≤ place → AreBegun segment place left (Some run) → PartsFirst run pen others → AreBegun segment (place + 1) (left - 1) others
+begun_after segment place left run pen None from begun parts = tt
+begun_after segment place left run pen (Some rest) from (zero, is, less, few, within) parts = absurd (omega arith)
+begun_after segment place left run pen (Some rest) from (suc n, is, less, few, within) parts =
+    let after = others_run segment.block.now (place - segment.from) n run pen rest is parts in
+    let here : suc (place - segment.from) ≡ place + 1 - segment.from = omega arith in
+    (n, rw (← here) after.0, after.1, omega arith, omega arith)
+
+-- the token of the place that the pen fills
+module _ {T : Type 0} (v : VectorView T) (segment : Segment T) (place n : ℕ) (pen : PenView) (cell : block.PlacedView T) (is : IsSegmentOf v segment)
+    (from : segment.from ≤ place) (less : 0 < n) (within : place + n ≤ segment.end) (at : IsPenAt segment.block.now (place - segment.from) pen)
+    (offset : cell.offset ≡ pen.offset) (named : cell.name ≡ pen.cell.value_name) where
+  pub inside : cell.offset < block_len segment.key.block
+  inside = let long = is.long in omega (arith, long, is.first, is.last, at.at)
+
+  pub small : AreSmall segment.key.layout segment.key.segment cell.offset
+  small = small_cell v.segments segment.key cell.offset is.key is.long inside
+
+  pub here : place_in segment.key.layout segment.key.segment cell.offset ≡ place
+  here = ap (λ (f : ℕ). place_in f segment.key.segment cell.offset) is.key.layout ∙ omega (arith, is.first, at.at, offset)
+
+  pub token : IsPlacedOf v (placed_view segment.key cell)
+  token =
+      let there : pen.cell ≡ cell_at segment.key.block cell.offset = at.cell ∙ ap (λ (b : BlockView). cell_at b (place - segment.from)) is.block ∙ ap (cell_at segment.key.block) (sym (offset ∙ at.at)) in
+      record {
+        key = is.key;
+        long = is.long;
+        cell = record { within = inside; named = named ∙ ap (λ (γ : Names). γ.value_name) there };
+        place = ap (λ (f : ℕ). place_in f segment.key.segment cell.offset) is.key.layout;
+        value = refl;
+      }
+
+-- a segment that does not end there stays, so what is begun of it does
+pub begun_stays : {T : Type 0} (old new : Segment T) (place left : ℕ) (begun : Option (RunView T)) → AreBegun old place left begun → (place < old.end → new ≡ old)
+    → AreBegun new place left begun
+begun_stays old new place left None begun same = tt
+begun_stays old new place left (Some run) begun same =
+    let is : new ≡ old = same (omega (arith, begun.2, begun.4)) in subst (λ s. AreBegun s place left (Some run)) (sym is) begun
+
+pub unwritten : {T : Type 0} (segment : Segment T) (place left : ℕ) (begun : Option (RunView T)) → AreBegun segment place left begun → AreUnwritten begun
+unwritten segment place left None begun = tt
+unwritten segment place left (Some run) begun = begun.1.values
+
+pub begun_few : {T : Type 0} (segment : Segment T) (place left : ℕ) (begun : Option (RunView T)) → AreBegun segment place left begun → begun_count begun ≤ left
+begun_few segment place left None begun = omega arith
+begun_few segment place left (Some run) begun =
+    let long = cells_length begun.0 (place - segment.from) segment.block.now.cells in omega (arith, ap length begun.1.cells, long, begun.3)

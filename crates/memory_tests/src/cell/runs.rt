@@ -59,8 +59,8 @@ fn a_run_is_published_at_once_or_not_begun(rt: HostRuntime) {
     assert!(rt; is_not_begun_where_filled(&block));
 }
 
-// Begins three cells as a run, and returns what they showed then, and after the first was filled with 8, the second broken
-// and the third filled with 9.
+// Begins three cells as a run, and returns what they showed then, and after the first was filled with 8, the second
+// broken and the third filled with 9.
 fn fill_and_break(block: &Block<u64>, offset: u64) -> Option<(u64, u64, u64, u64)>
     requires within { offset + 3 ≤ block_len block.now }
     requires word { offset % word_cells + 3 ≤ word_cells }

@@ -150,7 +150,7 @@ impl<T: Drop> Shared<T> {
                 }
             }
         }
-        // No place is begun and not filled.
+        // By now every place that was begun is filled, so this breaks none: a run must be spent.
         break_begun(begun);
         Ok(Grown { run, tokens })
     }

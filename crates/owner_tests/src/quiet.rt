@@ -93,7 +93,7 @@ fn members_come_from_both_ends(rt: HostRuntime) {
     assert!(rt; gives_from_both_ends(&list) && sum(&list) == 6);
 }
 
-// The number whose last digits are these values, after those of another one.
+// A number with the digits of `before`, and then these values as digits.
 fn digits(before: u64, values: &[u64]) -> u64 {
     let mut number = before;
     for value in values {

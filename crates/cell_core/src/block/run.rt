@@ -12,8 +12,8 @@ use crate::slot::steps::{BUSY, FILLED};
 use std::alloc::Allocator;
 use std::marker::Model;
 
-/// The right to fill the cells of a run, which are busy until then. A run must be spent by `publish`, once each of
-/// its cells has its value.
+/// The right to fill the cells of a run, which are busy until then. A run must be spent: by `publish`, once each of its
+/// cells has its value, or cell by cell, by `first`.
 pub struct RunPen<'a, T> {
     offset: u64,
     n: u64,
@@ -113,7 +113,8 @@ impl<'a, T> RunPen<'a, T> {
         }
     }
 
-    /// Parts the first cell, with its pen, from those after it, if there are any. None has a value yet.
+    /// Parts the first cell from those after it: returns its pen, and the run of the others, if there are any. No cell
+    /// may have a value yet. It takes no step.
     pub fn first(self) -> (Pen<'a, T>, Option<RunPen<'a, T>>)
         requires { self.values ≡ [] }
         ensures { PartsFirst self.entry result.0 result.1 }

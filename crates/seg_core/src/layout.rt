@@ -74,8 +74,8 @@ impl Layout {
         ensures offset { segment_start self result.0 + result.1 ≡ place }
         ensures bound { result.0 < segment_count self }
     {
-        let segment = segment_at(self.f(), place);
-        (segment, place - self.first(segment))
+        let (segment, first) = segment_at(self.f(), place);
+        (segment, place - first)
     }
 
     /// Returns the first place of a segment.
@@ -125,17 +125,19 @@ impl Layout {
     }
 }
 
-// From the second segment on, the places of a segment have one greatest bit.
-fn segment_at(f: u32, place: u64) -> u32
+// The segment of a place, and its first place. From the second segment on, the places of a segment have one greatest bit.
+fn segment_at(f: u32, place: u64) -> (u32, u64)
     requires layout { IsLayout f }
     requires small { place < most_places }
-    ensures segment { HasPlace f result place }
-    ensures number { result ≡ segment_of f place }
-    ensures bound { result < segment_count f }
+    ensures segment { HasPlace f result.0 place }
+    ensures number { result.0 ≡ segment_of f place }
+    ensures first { result.1 ≡ segment_start f result.0 }
+    ensures bound { result.0 < segment_count f }
 {
     if place < 1 << f {
-        0
+        (0, 0)
     } else {
-        place.ilog2() + 1 - f
+        let top = place.ilog2();
+        (top + 1 - f, 1 << top)
     }
 }

@@ -1,7 +1,7 @@
 //! How the vector is read.
 ghost use Rattle.std.specs.Prelude.{◌≡◌, ◌<◌, IfOk, IfErr, IfSome, IsOkAnd, IsSomeAnd, None};
 ghost use Rattle.claim_core.specs.Hand.{seen_size};
-ghost use Rattle.grow_core.specs.Vector.{IsHandOf, IsPlacedOf, IsOpenedAt, SeesMore, limit_of};
+ghost use Rattle.grow_core.specs.Vector.{IsHandOf, IsPlacedOf, IsOpenedAt, SeesMore, base_of, limit_of};
 ghost use Rattle.grow_core.specs.Read.{IsAt, IsShownAt, ShowsValue, IsDueAt, IsInRange};
 
 use crate::blocks::cell_of;
@@ -66,7 +66,9 @@ impl<T> Shared<T> {
         if place >= size {
             return Err(AtError::OutOfRange { size });
         }
-        match self.look(place) {
+        // For the proof: the size is within the limit.
+        hand.laws();
+        match self.look_within(place) {
             Shown::Pending => Err(AtError::Pending),
             Shown::Filled(at) => Ok(at),
             Shown::Broken(spoilt) => Err(AtError::Broken(spoilt)),
@@ -75,7 +77,7 @@ impl<T> Shared<T> {
 
     /// Looks once at what the place shows now, without a hand. A place that nobody claimed, or past the
     /// limit, shows nothing yet.
-    #[inline]
+    #[inline(always)]
     pub fn look(&self, place: u64) -> Shown<'_, T>
         ensures shown { IsShownAt self.now place result }
         // A value of the opened list is shown to everybody.
@@ -83,25 +85,36 @@ impl<T> Shared<T> {
     {
         // For the proof: the vector's base is within its limit.
         self.laws();
-        if place >= self.limit() {
-            return Shown::Pending;
-        }
-        match self.opened_at(place) {
-            Some(at) => Shown::Filled(at),
-            None => self.look_into(place),
+        if place < self.limit() {
+            self.look_within(place)
+        } else {
+            Shown::Pending
         }
     }
 
-    // The value that the opened list has at the place, if it has one there.
-    fn opened_at(&self, place: u64) -> Option<At<'_, T>>
+    // What a place within the limit shows.
+    #[inline(always)]
+    fn look_within(&self, place: u64) -> Shown<'_, T>
         requires { place < limit_of self.now }
+        ensures shown { IsShownAt self.now place result }
+        ensures opened { (x : T) → IsOpenedAt self.now place x → ShowsValue x result }
+    {
+        if place < self.word.base() {
+            if let Some(at) = self.opened_at(place) {
+                return Shown::Filled(at);
+            }
+        }
+        self.look_into(place)
+    }
+
+    // The value that the opened list has at a place below its length, if it has one there.
+    #[inline(never)]
+    fn opened_at(&self, place: u64) -> Option<At<'_, T>>
+        requires below { place < base_of self.now }
         ensures at { IfSome result (IsAt self.now place) }
         ensures opened { (x : T) → IsOpenedAt self.now place x
             → IsSomeAnd result (λ a. a.value.now ≡ x) }
     {
-        if place >= self.word.base() {
-            return None;
-        }
         let (_, offset, key) = cell_of(&self.table, &self.keys, self.count, place);
         let (value, cell) = self.table.known(&key).known(offset, &self.row.at(place))?;
         Some(At {
@@ -125,6 +138,7 @@ impl<T> Shared<T> {
     }
 
     // What the cell of a place shows: nothing either if its segment is not installed yet.
+    #[inline(always)]
     fn look_into(&self, place: u64) -> Shown<'_, T>
         requires { place < limit_of self.now }
         ensures { IsShownAt self.now place result }

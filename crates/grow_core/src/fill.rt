@@ -1,5 +1,5 @@
 // How a growth fills and breaks the places that it won, segment by segment.
-ghost use Rattle.std.specs.Prelude.{◌≡◌, ◌+◌, ◌<◌, ◌≤◌, IfOk, IfErr};
+ghost use Rattle.std.specs.Prelude.{◌≡◌, ◌+◌, ◌<◌, ◌≤◌, [], ◌∷◌, IfOk, IfErr};
 ghost use Rattle.std.specs.Vec.Iter.{into_iter_len};
 ghost use Rattle.claim_core.specs.Hand.{OwnsPlace};
 ghost use Rattle.cell_core.specs.Block.{block_len};
@@ -9,7 +9,7 @@ ghost use Rattle.grow_core.specs.Token.{place_in};
 ghost use Rattle.grow_core.specs.Vector.{IsHandOf, IsPlacedOf, IsSpoiltOf, layout_of, limit_of};
 ghost use Rattle.grow_core.specs.Segment.{IsSegmentOf};
 ghost use Rattle.grow_core.specs.Growth.{IsFoundAt};
-ghost use Rattle.grow_core.specs.Stretch.{IsCounted, Takes};
+ghost use Rattle.grow_core.specs.Stretch.{IsCounted, IsStretchOf, Takes};
 
 use crate::hand::Hand;
 use crate::stretch::{Stretch, publish};
@@ -54,6 +54,7 @@ impl<T: Drop> Shared<T> {
     }
 
     // The segment of a place of the hand's own: this one, unless it ends there.
+    #[inline(always)]
     pub(crate) fn next_segment<'a>(
         &'a self,
         hand: &Hand<T>,
@@ -101,56 +102,58 @@ impl<T: Drop> Shared<T> {
         )
     }
 
-    // Fills places of the segment with the next values: a run that begins at this place, or this place alone.
+    // Fills places of the segment with the next values: a run that begins at this place, or this place alone. Returns the
+    // values that are left.
+    #[inline(always)]
     pub(crate) fn fill_next(
         &self,
         segment: &Segment<'_, T>,
         place: u64,
-        values: &mut IntoIter<T>,
-    ) -> Result<Stretch<T>, Found<T>>
+        values: IntoIter<T>,
+    ) -> Result<(Stretch<T>, IntoIter<T>), Found<T>>
         requires segment { IsSegmentOf self.now segment.now }
         requires from { segment.now.from ≤ place }
         requires before { place < segment.now.end }
-        requires some { 0 < into_iter_len values.old }
-        requires counted { IsCounted values.old }
-        ensures filled { IfOk result (Takes self.now place values.old values.new) }
-        ensures within { IfOk result (λ stretch. place + stretch.n ≤ segment.now.end) }
+        requires some { 0 < into_iter_len values }
+        requires counted { IsCounted values }
+        ensures filled { IfOk result (λ (stretch, rest). Takes self.now place values rest stretch) }
+        ensures within { IfOk result (λ (stretch, _). place + stretch.n ≤ segment.now.end) }
         ensures found { IfErr result (IsFoundAt self.now place) }
     {
         let key = segment.key.again();
         let offset = place - segment.from;
         let n = segment.block.longest_run(offset).min(values.len() as u64);
         let Some(pen) = segment.block.begin_run(offset, n) else {
-            return self.fill_first(segment, place, values);
+            let mut rest = values;
+            let Some(value) = rest.next() else {
+                unreachable!()
+            };
+            return Ok((self.fill_alone(segment, place, value)?, rest));
         };
-        let row = publish(pen, n, values);
-        Ok(Stretch {
+        let (row, rest) = publish(pen, n, values);
+        let stretch = Stretch {
             key,
             offset,
             n,
             row,
-        })
+        };
+        Ok((stretch, rest))
     }
 
-    // Fills this place of the segment with the next value.
-    fn fill_first(
+    // Fills this place of the segment with the value.
+    #[cold]
+    fn fill_alone(
         &self,
         segment: &Segment<'_, T>,
         place: u64,
-        values: &mut IntoIter<T>,
+        value: T,
     ) -> Result<Stretch<T>, Found<T>>
         requires segment { IsSegmentOf self.now segment.now }
         requires from { segment.now.from ≤ place }
         requires before { place < segment.now.end }
-        requires some { 0 < into_iter_len values.old }
-        requires counted { IsCounted values.old }
-        ensures filled { IfOk result (Takes self.now place values.old values.new) }
-        ensures one { IfOk result (λ stretch. stretch.n ≡ 1) }
+        ensures filled { IfOk result (IsStretchOf self.now place (value ∷ [])) }
         ensures found { IfErr result (IsFoundAt self.now place) }
     {
-        let Some(value) = values.next() else {
-            unreachable!()
-        };
         let Placed { key, cell } = self.fill(segment, place, value)?;
         let mut row = Row::new();
         row.push(&Member::of(&cell));

@@ -128,10 +128,11 @@ impl<T: Drop> Shared<T> {
         let mut place = run.from;
         while place < run.from + run.n {
             segment = self.next_segment(hand, segment, place);
-            match self.fill_next(&segment, place, &mut left) {
-                Ok(stretch) => {
+            match self.fill_next(&segment, place, left) {
+                Ok((stretch, rest)) => {
                     self.push_tokens(&stretch, &mut tokens);
                     place += stretch.n;
+                    left = rest;
                 }
                 Err(found) => return Err(GrowError::Taken { place, found }),
             }
@@ -167,10 +168,11 @@ impl<T: Drop> Shared<T> {
         let mut place = run.from;
         while place < run.from + run.n {
             segment = self.next_segment(hand, segment, place);
-            match self.fill_next(&segment, place, &mut left) {
-                Ok(stretch) => {
+            match self.fill_next(&segment, place, left) {
+                Ok((stretch, rest)) => {
                     self.keep_tokens(&stretch, keep);
                     place += stretch.n;
+                    left = rest;
                 }
                 Err(there) => return Err(GrowError::Taken {
                     place,

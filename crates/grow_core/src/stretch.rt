@@ -22,24 +22,30 @@ pub(crate) struct Stretch<T> {
     pub(crate) row: Row<T>,
 }
 
-// Writes the next `n` values into the cells of the run, and publishes them by one step.
-pub(crate) fn publish<T: Drop>(pen: RunPen<'_, T>, n: u64, values: &mut IntoIter<T>) -> Row<T>
+// Writes the next `n` values into the cells of the run, publishes them by one step, and returns the values that are left.
+#[inline(always)]
+pub(crate) fn publish<T: Drop>(
+    pen: RunPen<'_, T>,
+    n: u64,
+    values: IntoIter<T>,
+) -> (Row<T>, IntoIter<T>)
     requires cells { length pen.cells ≡ n }
     requires unwritten { pen.values ≡ [] }
-    requires enough { n ≤ into_iter_len values.old }
-    requires counted { IsCounted values.old }
-    ensures filled { (xs : List T) × (length xs ≡ n) × (result ≡ members_of pen.entry.cells xs)
-        × (into_iter_items values.old ≡ xs ++ into_iter_items values.new) }
-    ensures counted { IsCounted values.new }
+    requires enough { n ≤ into_iter_len values }
+    requires counted { IsCounted values }
+    ensures filled { (xs : List T) × (length xs ≡ n) × (result.0 ≡ members_of pen.entry.cells xs)
+        × (into_iter_items values ≡ xs ++ into_iter_items result.1) }
+    ensures counted { IsCounted result.1 }
 {
     let mut pen = pen;
+    let mut left = values;
     for _ in 0..n {
-        match values.next() {
+        match left.next() {
             Some(value) => pen = pen.write(value),
             None => unreachable!(),
         }
     }
-    pen.publish()
+    (pen.publish(), left)
 }
 
 impl<T> Shared<T> {

@@ -9,7 +9,7 @@ pub unreachable-requires : goal.unreachable-requires
 unreachable-requires g c =
     let at = c.loop in
     let all = ap length at.invariant.1 in
-    omega (arith, all, length-append at.pen.values (into_iter_items at.values), at.invariant.2, at.invariant.3, c.requires.counted, c.requires.enough, c.in-None.ensures.cases)
+    omega (arith, all, length-append at.pen.values (into_iter_items at.left), at.invariant.2, at.invariant.3, c.requires.counted, c.requires.enough, c.in-None.ensures.cases)
 
 pub publish-requires : goal.publish-requires
 publish-requires g c = omega (arith, ap length c.loop.invariant.0, c.requires.cells, c.loop.invariant.3)

@@ -6,6 +6,6 @@ use Rattle.grow_core.proofs.stretch.publish.Given as goal
 abbrev pub invariant-loop : goal.invariant-loop
 invariant-loop g l =
     (l.pen.cells ≡ l.fn.pen.cells)
-    × (into_iter_items l.fn.values ≡ l.pen.values ++ into_iter_items l.values)
-    × IsCounted l.values
+    × (into_iter_items l.fn.values ≡ l.pen.values ++ into_iter_items l.left)
+    × IsCounted l.left
     × (length l.pen.values ≡ l.counter)

@@ -22,7 +22,7 @@ returns-clause-filled g c =
     record {
       values = filled.0;
       is = rw c.again-key.ensures (rw filled.2 is);
-      some = omega (arith, c.longest_run.ensures.some, c.min-n.ensures, c.requires.some, c.len.ensures.value);
+      some = omega (arith, c.longest_run.ensures.some, c.min-n.ensures, c.requires.some, c.len.ensures);
       first = filled.3;
       counted = c.publish-row.ensures.counted;
     }

@@ -8,7 +8,7 @@ pub loop-place-preserved : goal.loop-place-preserved
 loop-place-preserved g c =
     let at = c.loop-place in let v = c.args.self.now in let from = c.args.claimed.run.from in
     let had = at.invariant.0 in let took = c.in-Ok.ensures.filled in
-    let left = into_iter_items at.left in let rest = into_iter_items c.fill_next.new.values in
+    let left = into_iter_items at.left in let rest = into_iter_items c.in-Ok.rest in
     let more = c.push_tokens.ensures.pushed at.place took.values took.is in
     let count : at.place ≡ from + length at.tokens.items = omega (arith, at.invariant.2, at.tokens.ok) in
     let next = subst (λ p. AreTokensOf v p took.values more.0) count more.1 in

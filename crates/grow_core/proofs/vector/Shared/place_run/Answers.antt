@@ -23,7 +23,7 @@ pub loop-place-preserved : goal.loop-place-preserved
 loop-place-preserved g c =
     let at = c.loop-place in let v = c.args.self.now in let from = c.args.run.from in
     let had = at.invariant.0 in let took = c.in-Ok.ensures.filled in
-    let rest = into_iter_items c.fill_next.new.values in
+    let rest = into_iter_items c.in-Ok.rest in
     let kept = c.keep_tokens.ensures.kept at.place took.values took.is in
     let next = subst (λ p. AreKeptFrom (goal.K-step g) at.keep c.keep_tokens.new.keep v p took.values) had.4 kept in
     let joined = kept_join (goal.K-step g) v from c.args.keep.now at.keep c.keep_tokens.new.keep had.0 took.values had.1 had.3 had.2 next in

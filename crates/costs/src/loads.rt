@@ -28,6 +28,9 @@ const MORE: u64 = 8_000_000;
 // The values of a growth.
 const LIST: u64 = 64;
 
+// The size of a small vector before a load: the last place is the first of its segment.
+const FILLED_SMALL: u64 = (1 << 16) + 1;
+
 /// The call that each thread repeats.
 #[derive(Clone, Copy)]
 pub enum Work {
@@ -218,13 +221,15 @@ fn look_once(vector: &Shared<u64>, hand: &mut Hand<u64>, place: u64) -> u64
 fn look(vector: &Shared<u64>, mut hand: Hand<u64>, looks: u64) -> u64
     requires ours { IsHandOf vector.now hand }
 {
+    // The places below the greatest power of two that the size has.
+    let shift = (vector.size(&mut hand).leading_zeros() + 1).min(63);
     let mut found: u64 = 0;
     let mut random: u64 = 88_172_645_463_325_252;
     for _look in 0..looks {
         random = random
             .wrapping_mul(6_364_136_223_846_793_005)
             .wrapping_add(1_442_695_040_888_963_407);
-        found = found.wrapping_add(look_once(vector, &mut hand, random >> 41));
+        found = found.wrapping_add(look_once(vector, &mut hand, random >> shift));
     }
     found
 }
@@ -253,6 +258,17 @@ impl Work {
 }
 
 impl Load {
+    /// Returns the load with this many values, on a small vector: short enough to count its instructions.
+    pub fn with_values(self, values: u64) -> Load {
+        Load {
+            work: self.work,
+            filled: self.filled.min(FILLED_SMALL),
+            values,
+            is_in_arc: self.is_in_arc,
+            layout: self.layout,
+        }
+    }
+
     // Runs it by hands that are cut from this one.
     fn time<R: Threads + Wait + Clock + AllocGlobal + Sync>(
         self,

@@ -4,6 +4,8 @@
 //! - Without an argument it runs each operation shortly and prints that all of its wins were counted: the
 //!   same whatever the machine does. With the argument `figures` it measures for some seconds and prints
 //!   times.
+//! - With `load NAME THREADS` it runs one load, and with `count NAME VALUES` a short one on a small vector, for a tool that
+//!   counts its instructions.
 //! - With `stress SECONDS` threads make random calls on shared vectors, and the results are compared.
 //! - Each measured operation has a file of its own with one function that runs its tries in threads and
 //!   returns a `Trial`.
@@ -81,7 +83,11 @@ fn print_counts<R: Threads + Wait + Clock + Print + AllocGlobal + Sync>(rt: &R) 
 enum Task<'a> {
     Counts,
     Figures,
-    Load { name: &'a str, threads: usize },
+    Load {
+        name: &'a str,
+        threads: usize,
+        values: Option<u64>,
+    },
     Stress(u64),
 }
 
@@ -98,17 +104,29 @@ fn task_of(words: &[String]) -> Result<Task<'_>> {
         [word, name, threads] if word.as_str() == "load" => Ok(Task::Load {
             name: name.as_str(),
             threads: number_of(threads)? as usize,
+            values: None,
         }),
-        _ => bail!("usage: costs [figures | load NAME THREADS | stress SECONDS]"),
+        [word, name, values] if word.as_str() == "count" => Ok(Task::Load {
+            name: name.as_str(),
+            threads: 1,
+            values: Some(number_of(values)?),
+        }),
+        _ => bail!(
+            "usage: costs [figures | load NAME THREADS | count NAME VALUES | stress SECONDS]"
+        ),
     }
 }
 
-// Prints the nanoseconds that the load took.
+// Prints the nanoseconds that the load took, with this many values if a number is given.
 fn print_load<R: Threads + Wait + Clock + Print + AllocGlobal + Sync>(
     rt: &R,
     name: &str,
     threads: usize,
+    values: Option<u64>,
 ) -> Result<()> {
+    if let Some(values) = values {
+        return load_of(name)?.with_values(values).print_time(rt, threads);
+    }
     match name {
         "boxcar" => print_boxcar_time(rt, threads),
         "hundreds" | "hundreds-256" => print_hundreds(rt, layout_of(name)),
@@ -133,7 +151,11 @@ fn run_task<R: Threads + Wait + Clock + Print + AllocGlobal + Sync>(
     match task {
         Task::Counts => print_counts(rt),
         Task::Figures => print_figures(rt),
-        Task::Load { name, threads } => print_load(rt, name, threads),
+        Task::Load {
+            name,
+            threads,
+            values,
+        } => print_load(rt, name, threads, values),
         Task::Stress(seconds) => print_stress(rt, seconds),
     }
 }

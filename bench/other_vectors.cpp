@@ -146,7 +146,7 @@ int main(int count, char **words) {
   if (count != 4)
     return 2;
   unsigned threads = std::strtoul(words[3], nullptr, 10);
-  bool closes = !std::strcmp(words[2], "close");
+  bool closes = !std::strcmp(words[2], "close") || !std::strcmp(words[2], "into-vec");
   if (!std::strcmp(words[1], "onetbb") && (closes || !std::strcmp(words[2], "open")))
     std::printf("%lld\n", run_turn(closes));
   else if (!std::strcmp(words[1], "onetbb"))

@@ -1,11 +1,12 @@
-//! How long it takes to open a list of ten million values as a shared vector, and to close it into a list
-//! again.
+//! How long it takes to open a list of ten million values as a shared vector, to close it into a list again, and to move
+//! the values out of that.
 ghost use Rattle.claim_core.specs.Hand.{IsWholeHand};
 ghost use Rattle.grow_core.specs.Vector.{IsHandOf};
 
 use crate::trial::print_nanoseconds;
 use anyhow::{Result, bail, ensure};
 use grow_core::{Hand, Parts, Shared};
+use quiet_core::Quiet;
 use std::alloc::{AllocError, AllocGlobal, Global};
 use std::io;
 use std::rt::Clock;
@@ -13,13 +14,15 @@ use std::time::{Duration, Instant};
 
 const VALUES: u64 = 10_000_000;
 
-/// The one of the two that is timed.
+/// What is timed.
 #[derive(Clone, Copy)]
 pub enum Turn {
     /// The list is opened.
     Open,
     /// The vector is closed.
     Close,
+    /// The vector is closed, and its values are moved into a `Vec`.
+    IntoVec,
 }
 
 // Appends all values to a list that has room for them.
@@ -60,23 +63,37 @@ fn time_close<R: Clock>(rt: &R, vector: Shared<u64>, hand: Hand<u64>) -> Result<
     time_since(rt, start, &parts)
 }
 
-// How long the two took: opening the list, and closing the vector.
-fn time_both<R: Clock>(rt: &R, parts: Parts<u64>) -> Result<(Duration, Duration)> {
+// How long the vector takes to be closed and moved into a `Vec`.
+fn time_into_vec<R: Clock>(rt: &R, vector: Shared<u64>, hand: Hand<u64>) -> Result<Duration>
+    requires ours { IsHandOf vector hand }
+    requires whole { IsWholeHand hand }
+{
+    let start = Instant::now(rt)?;
+    let moved = Quiet::close(vector, hand).into_vec();
+    let took = start.elapsed(rt)?;
+    let Ok(values) = moved else {
+        bail!("no vector")
+    };
+    ensure!(values.len() as u64 == VALUES, "values were lost");
+    Ok(took)
+}
+
+// How long it took to open the list, or then to close the vector.
+fn time_turn<R: Clock>(rt: &R, parts: Parts<u64>, turn: Turn) -> Result<Duration> {
     let start = Instant::now(rt)?;
     let Ok((vector, hand)) = Shared::of_parts(parts) else {
         bail!("no memory")
     };
     let opened = start.elapsed(rt)?;
-    let closed = time_close(rt, vector, hand)?;
-    Ok((opened, closed))
+    match turn {
+        Turn::Open => Ok(opened),
+        Turn::Close => time_close(rt, vector, hand),
+        Turn::IntoVec => time_into_vec(rt, vector, hand),
+    }
 }
 
-/// Opens a list and closes it, and prints the nanoseconds that one of the two took.
+/// Opens a list and closes it, and prints the nanoseconds that this turn took.
 pub fn print_turn<R: Clock + Print + AllocGlobal>(rt: &R, turn: Turn) -> Result<()> {
-    let (opened, closed) = time_both(rt, fill_list(rt.alloc())?)?;
-    let took = match turn {
-        Turn::Open => opened,
-        Turn::Close => closed,
-    };
+    let took = time_turn(rt, fill_list(rt.alloc())?, turn)?;
     print_nanoseconds(rt, took)
 }

@@ -132,6 +132,7 @@ fn print_load<R: Threads + Wait + Clock + Print + AllocGlobal + Sync>(
         "hundreds" | "hundreds-256" => print_hundreds(rt, layout_of(name)),
         "open" => print_turn(rt, Turn::Open),
         "close" => print_turn(rt, Turn::Close),
+        "into-vec" => print_turn(rt, Turn::IntoVec),
         _ => load_of(name)?.print_time(rt, threads),
     }
 }

@@ -9,3 +9,4 @@ pub mod Settled
 pub mod Stopped
 pub mod Made
 pub mod Sides
+pub mod PopSegment

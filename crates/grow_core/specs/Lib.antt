@@ -14,6 +14,7 @@ pub mod Segment
 pub mod Stretch
 pub mod Begun
 pub mod Slices
+pub mod PopSegment
 pub mod Errors
 pub use Rattle.claim_core.specs.Hand
 pub use Rattle.claim_core.specs.Lengths

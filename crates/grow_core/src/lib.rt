@@ -37,6 +37,7 @@ pub mod makers;
 mod mend;
 mod open;
 mod parts;
+mod pop_segment;
 mod published;
 mod push;
 mod read;

@@ -8,6 +8,7 @@ mod memory;
 mod scripts;
 mod steps;
 mod uses;
+mod vectors;
 
 use quiet_core::{MemberSegment, Quiet, QuietAt, QuietError};
 use std::alloc::AllocGlobal;

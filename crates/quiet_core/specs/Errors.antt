@@ -6,6 +6,8 @@ use Rattle.quiet_core.specs.declared.errors.QuietAt.{QuietAt}
 use Rattle.quiet_core.specs.declared.errors.QuietAt.TheVariants.{OutOfRange, Broken}
 use Rattle.quiet_core.specs.declared.errors.QuietMendError.{QuietMendError}
 use Rattle.quiet_core.specs.declared.errors.QuietMendError.TheVariants as mend
+use Rattle.quiet_core.specs.declared.errors.IntoVecError.{IntoVecError}
+use Rattle.quiet_core.specs.declared.errors.IntoVecError.TheVariants as into
 
 -- why the list did not grow
 abbrev pub quiet_error_text : QuietError → List ℕ
@@ -22,3 +24,8 @@ quiet_at_text Broken = codes "broken"
 abbrev pub quiet_mend_error_text : QuietMendError → List ℕ
 quiet_mend_error_text (mend.OutOfRange size) = codes "out of the " ++ decimal size ++ codes " places"
 quiet_mend_error_text mend.Filled = codes "filled"
+
+-- why a list was not turned into a vector
+abbrev pub into_vec_error_text : IntoVecError → List ℕ
+into_vec_error_text into.NoMemory = codes "out of memory"
+into_vec_error_text (into.Broken place) = codes "broken at place " ++ decimal place

@@ -80,3 +80,28 @@ impl fmt::Display for QuietMendError {
 }
 
 impl Error for QuietMendError {}
+
+/// The reason why a list was not turned into a vector of its values. The list comes back.
+#[derive(Clone, Copy, Debug, PartialEq, Eq)]
+pub enum IntoVecError {
+    /// There was no memory for the vector.
+    NoMemory,
+    /// The member at this place is broken, and none before it.
+    Broken { place: u64 },
+}
+
+impl fmt::Display for IntoVecError {
+    ghost use Rattle.std.specs.Prelude.{Some};
+    ghost use Rattle.quiet_core.specs.Errors.{into_vec_error_text};
+
+    ghost output = { λ error. Some (into_vec_error_text error) };
+
+    fn fmt<W: fmt::Write>(&self, f: &mut fmt::Formatter<W>) -> fmt::Result {
+        match self {
+            IntoVecError::NoMemory => write!(f, "out of memory"),
+            IntoVecError::Broken { place } => write!(f, "broken at place {place}"),
+        }
+    }
+}
+
+impl Error for IntoVecError {}

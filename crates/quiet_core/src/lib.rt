@@ -15,6 +15,7 @@
 mod compare;
 mod errors;
 mod into_iter;
+mod into_vec;
 mod iter;
 pub mod laws;
 mod open;
@@ -22,7 +23,7 @@ mod quiet;
 mod room;
 mod segments;
 
-pub use errors::{QuietAt, QuietError, QuietMendError};
+pub use errors::{IntoVecError, QuietAt, QuietError, QuietMendError};
 pub use grow_core::{Hand, OpenError, Placed, Shared};
 pub use into_iter::IntoMembers;
 pub use iter::Members;

@@ -83,3 +83,19 @@ fn each_member_and_each_cause_is_dropped_once(rt: HostRuntime) {
     let drops = AtomicU64::new(0);
     assert!(rt; drops_each_once(rt.alloc(), &drops) == Some(true));
 }
+
+// Tests whether the values of nine members move into a vector, and go with it.
+fn drops_with_the_vector<'a>(mut list: Quiet<Counted<'a>>, drops: &'a AtomicU64) -> Option<bool> {
+    let made = resized(&mut list, drops, 9, 9);
+    let values = list.into_vec().ok()?;
+    let moved = values.len() == 9 && are_dropped(drops, 0);
+    drop(values);
+    Some(made == Ok(()) && moved && are_dropped(drops, 9))
+}
+
+#[test]
+fn a_value_that_is_moved_into_a_vector_is_dropped_once(rt: HostRuntime) {
+    let drops = AtomicU64::new(0);
+    let list = Quiet::new(rt.alloc(), 16);
+    assert!(rt; drops_with_the_vector(list, &drops) == Some(true));
+}

@@ -5,7 +5,7 @@ ghost use Rattle.grow_core.specs.Vector.{IsHandOf};
 
 use super::{has, measures, resized};
 use grow_core::GrowError;
-use quiet_core::{Hand, OpenError, Quiet, QuietError, Shared};
+use quiet_core::{Hand, IntoVecError, OpenError, Quiet, QuietError, Shared};
 use std::alloc::Global;
 use std::sync::Wait;
 
@@ -66,6 +66,31 @@ fn values_are_moved_in_again(rt: HostRuntime) {
             None => panic!(rt; "no list"),
         }
     }
+}
+
+// Tests whether a list of three members becomes a vector of them, at the second try if need be.
+fn is_a_vector_again(list: Quiet<u64>) -> bool {
+    match list.into_vec() {
+        Ok(values) => values.as_slice() == [0, 1, 2].as_slice(),
+        Err((error, back)) => {
+            let is_kept = error == IntoVecError::NoMemory
+                && measures(&back, 3, 4)
+                && has(&back, 2, 2);
+            match back.into_vec() {
+                Ok(values) => is_kept && values.as_slice() == [0, 1, 2].as_slice(),
+                Err(_refused) => false,
+            }
+        }
+    }
+}
+
+#[test]
+fn a_list_becomes_a_vector_again(rt: HostRuntime) {
+    let mut list = Quiet::new(rt.alloc(), 16);
+    for value in 0..3u64 {
+        assert!(rt; pushes_again(&mut list, value));
+    }
+    assert!(rt; is_a_vector_again(list));
 }
 
 // Tests whether a list of one member is opened, at the second try if need be.

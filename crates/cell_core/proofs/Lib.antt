@@ -7,6 +7,7 @@ mod RunMade
 mod CellSent
 mod CellMade
 mod MemberParts
+mod SightParts
 mod Epochs
 mod CellLends
 mod RestParts

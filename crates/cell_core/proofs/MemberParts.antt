@@ -74,6 +74,11 @@ module _ {M : Type 1} {𝓤 : Ura M} (𝓛 : Logic 𝓤) (R : RattleType) where
   members_more [] m = qed 𝓛 (‵ ftrue ∷ ‵ (member R m) ∷ []) ∵ move ! (1 ∷ 0 ∷ []) $ fjoin ! $ done !
   members_more (h ∷ ms) m = qed 𝓛 (‵ (members R (h ∷ ms)) ∷ ‵ (member R m) ∷ []) ∵ fsplit ! $ move ! (1 ∷ 2 ∷ []) $ use2 𝓛 (‵ (members R (ms ++ m ∷ []))) (members_more ms m) $ move ! (1 ∷ 0 ∷ []) $ fjoin ! $ done !
 
+  -- two rows as one
+  pub members_join : (ms ns : List View) → ⟦ members R ms ⟧ ∗ ⟦ members R ns ⟧ ⊢ ⟦ members R (ms ++ ns) ⟧
+  members_join [] ns = qed 𝓛 (‵ ftrue ∷ ‵ (members R ns) ∷ []) ∵ drop ! $ done !
+  members_join (m ∷ ms) ns = qed 𝓛 (‵ (members R (m ∷ ms)) ∷ ‵ (members R ns) ∷ []) ∵ fsplit ! $ move ! (1 ∷ 2 ∷ []) $ use2 𝓛 (‵ (members R (ms ++ ns))) (members_join ms ns) $ move ! (1 ∷ 0 ∷ []) $ fjoin ! $ done !
+
   -- the last one given up
   pub members_less : (ms : List View) (m : View) → ⟦ members R (ms ++ m ∷ []) ⟧ ⊢ ⟦ members R ms ⟧
   members_less [] m = qed 𝓛 (‵ (members R (m ∷ [])) ∷ []) ∵ drop ! $ nothing ! $ done !

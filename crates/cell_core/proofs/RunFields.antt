@@ -1,9 +1,10 @@
 -- The same number in several fields of a word.
-use Rattle.std.proofs.Common.{true, eqb, eqb-true, lit<, lt_of_le_of_lt, ◌≡◌, ◌≢◌, ℕ, zero, suc, ◌+◌, ◌-◌, ◌*◌, ◌/◌, ◌%◌, ◌^◌, ◌<◌, ◌≤◌, refl, sym, ap, ◌∙◌, subst, arith, mul-one, mul-zero, mul-add, one-mul, div-add-mod', mod-eq_of_lt, lt_of_lt_of_le, mul-lt-mul_of_pos_right, mul-le-mul_right}
+use Rattle.std.proofs.Common.{true, eqb, eqb-true, lit<, lt_of_le_of_lt, ◌≡◌, ◌≢◌, ℕ, zero, suc, ◌+◌, ◌-◌, ◌*◌, ◌/◌, ◌%◌, ◌^◌, ◌<◌, ◌≤◌, refl, sym, ap, ◌∙◌, subst, arith, mul-one, mul-zero, mul-add, one-mul, div-add-mod', div-le_self, mod-eq_of_lt, lt_of_lt_of_le, mul-lt-mul_of_pos_right, mul-le-mul_right}
 use native.Mathlib.Nat.{mul_left_comm, pow-succ', div-div-eq-div-mul, mul_assoc, mul_comm}
 use lib.Pow.{pow-add, pow_pos, pow_mono}
+use lib.Count.{count_trailing_zeros, trailing_le, under}
 use Rattle.cell_core.specs.Fields.{field, sums}
-use Rattle.cell_core.specs.Run.{AreEmptyIn}
+use Rattle.cell_core.specs.Run.{AreEmptyIn, AreFilledIn}
 use Rattle.cell_core.proofs.Fields.{field_first, field_next, sixteens}
 
 -- a field of what follows in a word
@@ -82,3 +83,46 @@ pub finds_empty : (w n j : ℕ) → j % 16 + n ≤ 16 → n ≢ 16 → eqb (w / 
 finds_empty w n j near few none = let i : ℕ = j % 16 in let x : ℕ = 2 ^ (4 * n) in let less : n ≤ 15 = omega (arith, few) in
     let small : x ≤ 2 ^ 60 = pow_mono (let l : 4 * n ≤ 60 = omega arith in l) in let one : 1 * x % 18446744073709551616 ≡ x = ap (λ (m : ℕ). m % 18446744073709551616) (one-mul x) ∙ mod-eq_of_lt (lt_of_le_of_lt small (lit< tt)) in
     empties w i n (ap (λ (u : ℕ × ℕ). w / u.0 % u.1) (λ l. (sym (sixteens i) l, (sym (sixteens n) l))) ∙ ap (λ (m : ℕ). w / 2 ^ (4 * i) % m) (sym one) ∙ eqb-true (w / 2 ^ (4 * i) % (1 * x % 18446744073709551616)) 0 none)
+
+-- a number ends in as many zeros as are counted
+ends_by : (d t n : ℕ) → n % 2 ≡ d → (q : ℕ) × (n / 2 ≡ 2 ^ t * q) → (q : ℕ) × (n ≡ 2 ^ under d t * q)
+ends_by zero t n even (q, half) = let s : 2 ^ suc t * q ≡ 2 * (2 ^ t * q) = ap (λ (m : ℕ). m * q) (pow-succ' 2 t) ∙ mul_assoc 2 (2 ^ t) q in (q, omega (arith, s))
+ends_by (suc d) t n odd rest = (n, sym (one-mul n))
+
+ends_in : (k n : ℕ) → (q : ℕ) × (n ≡ 2 ^ count_trailing_zeros k n * q)
+unfolding count_trailing_zeros
+ends_in zero n = (n, sym (one-mul n))
+ends_in (suc k) n = ends_by (n % 2) (count_trailing_zeros k (n / 2)) n refl (ends_in k (n / 2))
+
+-- a number has 3 in each field in which its difference to a word of 3 in each field has 0
+threes : (n m e q w : ℕ) → n ≤ m → 16 ^ n * e + sums 3 m 0 ≡ w + q * 16 ^ m → (l : ℕ) → l < n → field w l ≡ 3
+threes zero m e q w le is l less = absurd (omega arith)
+threes (suc n) zero e q w le is l less = absurd (omega arith)
+threes (suc n) (suc m) e q w le is zero less =
+    let a = shifted n e in let s = sums_next 3 m 0 in let b : q * 16 ^ suc m ≡ 16 * (q * 16 ^ m) = ap (λ (x : ℕ). q * x) (pow-succ' 16 m) ∙ mul_left_comm q 16 (16 ^ m) in
+    sym (field_first w) ∙ omega (arith, a, s, b, is)
+threes (suc n) (suc m) e q w le is (suc l) less =
+    let a = shifted n e in let s = sums_next 3 m 0 in let b : q * 16 ^ suc m ≡ 16 * (q * 16 ^ m) = ap (λ (x : ℕ). q * x) (pow-succ' 16 m) ∙ mul_left_comm q 16 (16 ^ m) in
+    let next : 16 ^ n * e + sums 3 m 0 ≡ w / 16 + q * 16 ^ m = omega (arith, a, s, b, is) in
+    sym (field_next w l) ∙ threes n m e q (w / 16) (omega arith) next l (omega arith)
+
+-- the difference of a word to one of 3 in each field
+abbrev pub difference : ℕ → ℕ
+difference f = (f + (2 ^ 64 - 3689348814741910323)) % 2 ^ 64
+
+-- a power of 2 has whole fields
+whole_fields : (z e : ℕ) → 2 ^ z * e ≡ 16 ^ (z / 4) * (2 ^ (z % 4) * e)
+whole_fields z e = let is : z ≡ 4 * (z / 4) + z % 4 = omega arith in
+    ap (λ (x : ℕ). x * e) (ap (λ (x : ℕ). 2 ^ x) is ∙ pow-add 2 (4 * (z / 4)) (z % 4) ∙ ap (λ (x : ℕ). x * 2 ^ (z % 4)) (sixteens (z / 4))) ∙ mul_assoc (16 ^ (z / 4)) (2 ^ (z % 4)) e
+
+-- it ends in as many fields of 0 as the word begins with fields of 3
+begins_filled : (f : ℕ) → f < 2 ^ 64 → (l : ℕ) → l < count_trailing_zeros 64 (difference f) / 4 → field f l ≡ 3
+begins_filled f fits l less = let d : ℕ = difference f in let z : ℕ = count_trailing_zeros 64 d in let end = ends_in 64 d in let low = trailing_le 64 d in let e : ℕ = 2 ^ (z % 4) * end.0 in
+    let more : d + 3689348814741910323 ≡ f + (1 - (f + (2 ^ 64 - 3689348814741910323)) / 2 ^ 64) * 2 ^ 64 = omega arith in
+    let is : d ≡ 16 ^ (z / 4) * e = end.1 ∙ whole_fields z end.0 in
+    threes (z / 4) 16 e (1 - (f + (2 ^ 64 - 3689348814741910323)) / 2 ^ 64) f (omega (arith, low)) (ap (λ (x : ℕ). x + 3689348814741910323) (sym is) ∙ more) l less
+
+pub finds_filled : (w j k : ℕ) → w < 2 ^ 64 → k ≤ count_trailing_zeros 64 (difference (w / 2 ^ (4 * (j % 16)))) / 4 → AreFilledIn w (j % 16) k
+finds_filled w j k fits few l near far = let i : ℕ = j % 16 in let f : ℕ = w / 2 ^ (4 * i) in let m : ℕ = l - i in let is : i + m ≡ l = omega arith in
+    ap (λ (x : ℕ). field w x) (sym is) ∙ sym (field_past w i m) ∙ ap (λ (x : ℕ). field (w / x) m) (sym (sixteens i))
+    ∙ begins_filled f (lt_of_le_of_lt (div-le_self w (2 ^ (4 * i))) fits) m (omega (arith, few, is, far))

@@ -1,8 +1,11 @@
 -- Cells that are known to have values, as a list of these.
-use Rattle.std.proofs.Common.{◌≡◌, ◌≢◌, ℕ, zero, suc, ◌+◌, List, [], ◌∷◌, length, map, Option, Some, None, refl, sym, ap, ap₂, ◌∙◌, subst, arith}
+use Rattle.std.proofs.Common.{◌≡◌, ◌≢◌, ℕ, zero, suc, ◌+◌, ◌≤◌, List, [], ◌∷◌, ◌++◌, length, map, Option, Some, None, refl, sym, ap, ap₂, ◌∙◌, subst, arith}
 use Rattle.std.specs.Prelude.{slice_get}
+use lib.ListN.{length-map}
 use Rattle.cell_core.specs.Slot.{Names, cell_in}
 use Rattle.cell_core.specs.Member.{MemberView, HasNames, HaveValues}
+use Rattle.cell_core.specs.Block.{BlockView, cell_at, IsMemberAt, AreFilledFrom}
+use Rattle.cell_core.specs.Run.{cells_from, members_of}
 
 -- each cell from an index on has a value, by what is known of it
 abbrev pub EachHasOne : {T : Type 0} → List Names → ℕ → List (MemberView T) → Type 0
@@ -28,3 +31,40 @@ values_are γs j [] [] is = refl
 values_are γs j [] (x ∷ xs) is = absurd is
 values_are γs j (m ∷ ms) [] is = absurd is
 values_are γs j (m ∷ ms) (x ∷ xs) is = ap₂ (λ v vs. v ∷ vs) (sym is.0) (values_are γs (suc j) ms xs is.2)
+
+-- there are as many of these values as members
+pub values_count : {T : Type 0} (xs : List T) (ms : List (MemberView T)) → map Some xs ≡ map (λ m. m.value) ms → length xs ≡ length ms
+values_count xs ms is = sym (length-map xs Some) ∙ ap length is ∙ length-map ms (λ m. m.value)
+
+-- there is a member for each value
+pub members_count : {T : Type 0} (γs : List Names) (xs : List T) → length xs ≤ length γs → length (members_of γs xs) ≡ length xs
+members_count [] [] le = refl
+members_count [] (x ∷ xs) le = absurd (omega arith)
+members_count (γ ∷ γs) [] le = refl
+members_count (γ ∷ γs) (x ∷ xs) le = ap (λ (l : ℕ). suc l) (members_count γs xs (omega arith))
+
+-- a member of the cell at an offset that has a value
+abbrev IsFilledAt : {T : Type 0} → BlockView → ℕ → MemberView T → Type 0
+IsFilledAt block offset m = IsMemberAt block offset m × (m.value ≢ None)
+
+moved : {T : Type 0} (block : BlockView) (j k : ℕ) (m : MemberView T) → j ≡ k → IsFilledAt block j m → IsFilledAt block k m
+moved block j k m same it = subst (λ (l : ℕ). IsFilledAt block l m) same it
+
+-- what is known of cells that have values
+pub are_filled : {T : Type 0} (block : BlockView) (n j : ℕ) (xs : List T) → j + n ≤ length block.cells → AreFilledFrom block j (members_of (cells_from n j block.cells) xs)
+are_filled block zero j xs near i m is = absurd (let z = is in cc)
+are_filled block (suc n) j [] near i m is = absurd (let z = is in cc)
+are_filled {T} block (suc n) j (x ∷ xs) near zero m is =
+    let first : MemberView T = record { value = Some x; name = (cell_at block j).value_name; epoch = [] } in let same : first ≡ m = (let z = is in cc) in
+    subst (λ (u : MemberView T). IsFilledAt block (j + 0) u) same
+    (moved block j (j + 0) first (omega arith) (record { within = omega arith; known = refl }, λ e. (let z = e in cc)))
+are_filled block (suc n) j (x ∷ xs) near (suc i) m is = moved block (suc j + i) (j + suc i) m (omega arith) (are_filled block n (suc j) xs (omega arith) i m is)
+
+-- two rows, of which one goes on where the other ends
+pub filled_join : {T : Type 0} (block : BlockView) (j : ℕ) (ms ns : List (MemberView T)) → AreFilledFrom block j ms → AreFilledFrom block (j + length ms) ns
+    → AreFilledFrom block j (ms ++ ns)
+filled_join block j [] ns first next i m is = moved block (j + 0 + i) (j + i) m (omega arith) (next i m is)
+filled_join block j (h ∷ ms) ns first next zero m is = first zero m is
+filled_join block j (h ∷ ms) ns first next (suc i) m is = moved block (suc j + i) (j + suc i) m (omega arith)
+    (filled_join block (suc j) ms ns (λ k u at. moved block (j + suc k) (suc j + k) u (omega arith) (first (suc k) u at))
+    (λ k u at. moved block (j + length (h ∷ ms) + k) (suc j + length ms + k) u (omega arith) (next k u at)) i m is)

@@ -7,7 +7,7 @@ use denote.RawPtr.{Ptr, block_ptr, null_ptr}
 use Rattle.cell_core.specs.Fields.{field}
 use Rattle.cell_core.specs.Block.{BlockView, PenView, IsFresh}
 use Rattle.cell_core.specs.Member.{MemberView, members}
-use Rattle.cell_core.specs.Slot.{Names, names_coded, Turn, Spot, fact, full, cell_in, step, room_at, settable, Right, tie, lent, kept}
+use Rattle.cell_core.specs.Slot.{Names, names_coded, Turn, Spot, fact, filled_state, full, cell_in, step, room_at, settable, sights, Right, tie, lent, kept}
 
 -- the cells from an index on have these names
 abbrev pub AreAt : List Names → ℕ → List Names → Type 0
@@ -22,6 +22,10 @@ cells_from (suc n) i Γs = cell_in Γs i ∷ cells_from n (suc i) Γs
 -- the word has the state of an empty cell in each of some fields
 abbrev pub AreEmptyIn : ℕ → ℕ → ℕ → Type 0
 AreEmptyIn word i n = (j : ℕ) → i ≤ j → j < i + n → field word j ≡ 0
+
+-- the word has the state of a filled cell in each of some fields
+abbrev pub AreFilledIn : ℕ → ℕ → ℕ → Type 0
+AreFilledIn word i n = (j : ℕ) → i ≤ j → j < i + n → field word j ≡ filled_state
 
 -- what an exchange gains that found what it sought
 abbrev pub if_won : Bool → Fml → Fml
@@ -74,6 +78,11 @@ module _ (R : RattleType) where
   -- what shows the values of the cells
   abbrev pub all_written : List Names → List R.Denot → Fml
   all_written γs xs = members R (members_of γs xs)
+
+  -- what a load of a word showed of some neighbours, whose fields begin at an index
+  abbrev pub sights_owned : List Names → ℕ → ℕ → Fml
+  sights_owned [] i word = ftrue
+  sights_owned (γ ∷ γs) i word = fsep (sights R γ (field word i)) (sights_owned γs (suc i) word)
 
   -- the cells are at a spot from an index on, the room of the first one lies at an offset, and their rooms fit in
   -- memory

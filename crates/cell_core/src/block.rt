@@ -8,6 +8,7 @@ ghost use Rattle.cell_core.specs.Shown.{IsFoundIn, IsNotEmpty, ShowsFilled, IsLo
 mod begun;
 mod epoch;
 mod fields;
+mod filled;
 mod member;
 mod owner;
 mod pen;

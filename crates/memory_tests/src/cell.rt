@@ -1,4 +1,5 @@
 pub(crate) mod block;
+mod filled;
 mod mend;
 pub(crate) mod owner;
 mod race;

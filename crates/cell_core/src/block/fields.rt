@@ -1,7 +1,7 @@
 // The place of a cell's state: each word of a block has the states of sixteen cells, four bits a cell.
 ghost use Rattle.std.specs.Prelude.{true, ◌≡◌, ◌+◌, ◌-◌, ◌*◌, ◌/◌, ◌%◌, ◌^◌, ◌<◌, ◌≤◌};
 ghost use Rattle.cell_core.specs.Fields.{field, sums};
-ghost use Rattle.cell_core.specs.Run.{AreEmptyIn};
+ghost use Rattle.cell_core.specs.Run.{AreEmptyIn, AreFilledIn};
 ghost use Rattle.cell_core.specs.Laid.{word_cells};
 
 // The cells that have their states in one word.
@@ -13,6 +13,9 @@ const STATE_MASK: u64 = 15;
 
 // The lowest bit of each field.
 const EACH_FIELD: u64 = 0x1111_1111_1111_1111;
+
+// The state of a filled cell in each field.
+const ALL_FILLED: u64 = 0x3333_3333_3333_3333;
 
 // The index of the word.
 pub(crate) fn word_of(offset: u64) -> usize
@@ -78,4 +81,15 @@ pub(crate) fn are_empty(word: u64, n: u64, offset: u64) -> bool
     } else {
         fields % (1 << (STATE_BITS * n)) == 0
     }
+}
+
+// Returns how many cells from this one on are filled in the word, up to the first that is not and `n` at most.
+#[inline(always)]
+pub(crate) fn filled_in(word: u64, n: u64, offset: u64) -> u64
+    ensures { (result ≤ n) × AreFilledIn word (offset % word_cells) result }
+{
+    let fields = word >> (STATE_BITS * (offset % WORD_CELLS));
+    // The lowest bit of the difference is in the field of the first cell that is not filled.
+    let difference = fields.wrapping_sub(ALL_FILLED);
+    (difference.trailing_zeros() as u64 / STATE_BITS).min(n)
 }

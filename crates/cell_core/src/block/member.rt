@@ -100,6 +100,15 @@ impl<T> Row<T> {
         self.row = replace(&mut self.row, member::RawRow::empty()).longer(&member.member);
     }
 
+    /// Appends what is known of the cells of another row.
+    #[inline(always)]
+    pub fn append(&mut self, other: Row<T>)
+        ensures { self.new ≡ self.old ++ other }
+    {
+        let Row { row } = other;
+        self.row = replace(&mut self.row, member::RawRow::empty()).joined(row);
+    }
+
     /// Removes the last cell.
     pub fn pop(&mut self)
         requires { 0 < length self.old }

@@ -85,6 +85,18 @@ impl<T> RawRow<T> {
         }
     }
 
+    // The cells of another row too.
+    #[inline(always)]
+    pub(crate) fn joined(self, other: RawRow<T>) -> RawRow<T>
+        ensures { result.of ≡ self.of ++ other.of }
+    {
+        let RawRow { marker: _ } = self;
+        let RawRow { marker: _ } = other;
+        RawRow {
+            marker: PhantomData,
+        }
+    }
+
     // The last cell given up.
     pub(crate) fn shorter(self) -> RawRow<T>
         requires { 0 < length self.of }

@@ -1,10 +1,10 @@
-// The raw steps on a run: cells next to each other whose states are in one word. One step begins them all, and one
-// publishes them all.
-ghost use Rattle.std.specs.Prelude.{◌≡◌, ◌≢◌, ℕ, ◌+◌, ◌%◌, ◌^◌, ◌<◌, ◌++◌, ◌∷◌, [], List, length};
+// The raw steps on a run: cells next to each other whose states are in one word. One step begins them all, one
+// publishes them all, and one load shows them all.
+ghost use Rattle.std.specs.Prelude.{◌≡◌, ◌≢◌, ℕ, ◌+◌, ◌%◌, ◌^◌, ◌<◌, ◌≤◌, ◌++◌, ◌∷◌, [], List, length};
 ghost use base.Stored.{coded_list};
 ghost use Rattle.cell_core.specs.Fields.{sums};
 ghost use Rattle.cell_core.specs.Slot.{Names, names_coded, empty_state};
-ghost use Rattle.cell_core.specs.Run.{AreEmptyIn, cells_owned, run_owned, members_of};
+ghost use Rattle.cell_core.specs.Run.{AreEmptyIn, AreFilledIn, cells_owned, run_owned, sights_owned, members_of};
 
 use crate::slot::member::RawRow;
 use crate::slot::steps::RawPen;
@@ -43,6 +43,18 @@ impl<'a, T> Model for RawRun<'a, T> {
     ghost also_owns = { λ r. run_owned T.row r.of 'a r.word r.room r.index r.sought r.found r.values };
 }
 
+// What a load of a word showed of some of its cells. It has no bytes.
+pub(crate) struct RawSights<T> {
+    marker: PhantomData<T>,
+    pub(crate) ghost of: { List Names } by { coded_list names_coded },
+    pub(crate) ghost index: { ℕ },
+    pub(crate) ghost word: { ℕ },
+}
+
+impl<T> Model for RawSights<T> {
+    ghost also_owns = { λ s. sights_owned T.row s.of s.index s.word };
+}
+
 impl<'a, T> RawCells<'a, T> {
     // The step from empty to busy of each cell, if the word is the one that is sought. Returns the word as it was.
     pub(crate) fn begin(self, sought: u64, begun: u64) -> (u64, RawRun<'a, T>)
@@ -54,6 +66,38 @@ impl<'a, T> RawCells<'a, T> {
         let RawCells { word, room, marker } = self;
         let found = unsafe { exchange::<Brand>(word, sought, begun) };
         (found, RawRun { word, room, marker })
+    }
+
+    // The word, and what it shows of each cell.
+    #[inline(always)]
+    pub(crate) fn sight(self) -> (u64, RawSights<T>)
+        ensures { (result.1.of ≡ self.entry.of) × (result.1.index ≡ self.entry.index)
+            × (result.1.word ≡ result.0) }
+    {
+        let RawCells {
+            word,
+            room: _,
+            marker: _,
+        } = self;
+        let found = unsafe { raw::load::<Brand>(word, SeqCst) };
+        let sights = RawSights {
+            marker: PhantomData,
+        };
+        (found, sights)
+    }
+}
+
+impl<T> RawSights<T> {
+    // What is known of the first `n` cells, which are all filled.
+    #[inline(always)]
+    pub(crate) fn filled(self, n: u64) -> RawRow<T>
+        requires { (n ≤ length self.of) × AreFilledIn self.word self.index n }
+        ensures { (xs : List T) × (length xs ≡ n) × (result.of ≡ members_of self.of xs) }
+    {
+        let RawSights { marker: _ } = self;
+        RawRow {
+            marker: PhantomData,
+        }
     }
 }
 

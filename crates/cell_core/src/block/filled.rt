@@ -1,0 +1,67 @@
+// Filled cells next to each other: one load for each word shows how many there are, and what is known of each.
+ghost use Rattle.std.specs.Prelude.{◌≡◌, ◌+◌, ◌%◌, ◌<◌, ◌≤◌, Some, length, map};
+ghost use Rattle.cell_core.specs.Block.{block_len, AreFilledFrom};
+ghost use Rattle.cell_core.specs.Laid.{word_cells};
+
+use crate::block::fields::{filled_in, word_of};
+use crate::block::{Block, Row};
+use std::alloc::Allocator;
+
+impl<T, A: Allocator> Block<T, A> {
+    /// Returns how many cells from an offset on are filled, up to the first that is not and `n` at most, and what is
+    /// known of them then. The states of the `n` cells are in one word, which is loaded once.
+    #[inline]
+    pub fn filled_run(&self, offset: u64, n: u64) -> (u64, Row<T>)
+        requires within { offset + n ≤ block_len self.now }
+        requires some { 0 < n }
+        requires word { offset % word_cells + n ≤ word_cells }
+        ensures most { result.0 ≤ n }
+        ensures row { length result.1 ≡ result.0 }
+        ensures filled { AreFilledFrom self.now offset result.1 }
+    {
+        let cells = self
+            .laid
+            .cells(self.link, word_of(offset), offset as usize, n as usize);
+        let (word, sights) = cells.sight();
+        let count = filled_in(word, n, offset);
+        let row = sights.filled(count);
+        (count, Row { row })
+    }
+
+    /// Returns the same of any `n` cells, by one load for each word, up to the first word with a cell that is not filled.
+    pub fn filled_row(&self, offset: u64, n: u64) -> (u64, Row<T>)
+        requires { offset + n ≤ block_len self.now }
+        ensures most { result.0 ≤ n }
+        ensures row { length result.1 ≡ result.0 }
+        ensures filled { AreFilledFrom self.now offset result.1 }
+    {
+        // For the proof: offsets below the length fit into 64 bits.
+        let _len = self.len;
+        let mut row = Row::new();
+        let mut count = 0;
+        'words: while count < n {
+            let at = offset + count;
+            let asked = self.longest_run(at).min(n - count);
+            let (found, more) = self.filled_run(at, asked);
+            row.append(more);
+            count += found;
+            if found < asked {
+                break;
+            }
+        }
+        (count, row)
+    }
+
+    /// Returns the values of the filled cells from an offset on as a slice, up to the first cell that is not filled and
+    /// `n` at most, and what is known of these cells then. It loads each of their words once.
+    pub fn filled(&self, offset: u64, n: u64) -> (&[T], Row<T>)
+        requires { offset + n ≤ block_len self.now }
+        ensures most { length result.0.now ≤ n }
+        ensures filled { AreFilledFrom self.now offset result.1 }
+        ensures values { map Some result.0.now ≡ map (λ m. m.value) result.1 }
+    {
+        let (count, row) = self.filled_row(offset, n);
+        let values = self.values(offset, count, &row);
+        (values, row)
+    }
+}

@@ -1,7 +1,6 @@
 -- Cells that are known to have values, as a list of these.
 use Rattle.std.proofs.Common.{◌≡◌, ◌≢◌, ℕ, zero, suc, ◌+◌, ◌≤◌, List, [], ◌∷◌, ◌++◌, length, map, Option, Some, None, refl, sym, ap, ap₂, ◌∙◌, subst, arith}
 use Rattle.std.specs.Prelude.{slice_get}
-use lib.ListN.{length-map}
 use Rattle.cell_core.specs.Slot.{Names, cell_in}
 use Rattle.cell_core.specs.Member.{MemberView, HasNames, HaveValues}
 use Rattle.cell_core.specs.Block.{BlockView, cell_at, IsMemberAt, AreFilledFrom}
@@ -32,10 +31,6 @@ values_are γs j [] (x ∷ xs) is = absurd is
 values_are γs j (m ∷ ms) [] is = absurd is
 values_are γs j (m ∷ ms) (x ∷ xs) is = ap₂ (λ v vs. v ∷ vs) (sym is.0) (values_are γs (suc j) ms xs is.2)
 
--- there are as many of these values as members
-pub values_count : {T : Type 0} (xs : List T) (ms : List (MemberView T)) → map Some xs ≡ map (λ m. m.value) ms → length xs ≡ length ms
-values_count xs ms is = sym (length-map xs Some) ∙ ap length is ∙ length-map ms (λ m. m.value)
-
 -- there is a member for each value
 pub members_count : {T : Type 0} (γs : List Names) (xs : List T) → length xs ≤ length γs → length (members_of γs xs) ≡ length xs
 members_count [] [] le = refl
@@ -61,10 +56,15 @@ are_filled {T} block (suc n) j (x ∷ xs) near zero m is =
 are_filled block (suc n) j (x ∷ xs) near (suc i) m is = moved block (suc j + i) (j + suc i) m (omega arith) (are_filled block n (suc j) xs (omega arith) i m is)
 
 -- two rows, of which one goes on where the other ends
-pub filled_join : {T : Type 0} (block : BlockView) (j : ℕ) (ms ns : List (MemberView T)) → AreFilledFrom block j ms → AreFilledFrom block (j + length ms) ns
+filled_join : {T : Type 0} (block : BlockView) (j : ℕ) (ms ns : List (MemberView T)) → AreFilledFrom block j ms → AreFilledFrom block (j + length ms) ns
     → AreFilledFrom block j (ms ++ ns)
 filled_join block j [] ns first next i m is = moved block (j + 0 + i) (j + i) m (omega arith) (next i m is)
 filled_join block j (h ∷ ms) ns first next zero m is = first zero m is
 filled_join block j (h ∷ ms) ns first next (suc i) m is = moved block (suc j + i) (j + suc i) m (omega arith)
     (filled_join block (suc j) ms ns (λ k u at. moved block (j + suc k) (suc j + k) u (omega arith) (first (suc k) u at))
     (λ k u at. moved block (j + length (h ∷ ms) + k) (suc j + length ms + k) u (omega arith) (next k u at)) i m is)
+
+pub filled_more : {T : Type 0} (block : BlockView) (j k : ℕ) (ms ns all : List (MemberView T)) → length ms ≡ k → all ≡ ms ++ ns
+    → AreFilledFrom block j ms → AreFilledFrom block (j + k) ns → AreFilledFrom block j all
+filled_more {T} block j k ms ns all long is first next = subst (λ (us : List (MemberView T)). AreFilledFrom block j us) (sym is)
+    (filled_join block j ms ns first (subst (λ (l : ℕ). AreFilledFrom block (j + l) ns) (sym long) next))

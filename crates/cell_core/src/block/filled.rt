@@ -28,7 +28,8 @@ impl<T, A: Allocator> Block<T, A> {
         (count, Row { row })
     }
 
-    /// Returns the same of any `n` cells, by one load for each word, up to the first word with a cell that is not filled.
+    /// Returns the same of any `n` cells. It loads each of their words once, up to the first with a cell that is not
+    /// filled.
     pub fn filled_row(&self, offset: u64, n: u64) -> (u64, Row<T>)
         requires { offset + n ≤ block_len self.now }
         ensures most { result.0 ≤ n }

@@ -68,3 +68,13 @@ pub filled_more : {T : Type 0} (block : BlockView) (j k : ℕ) (ms ns all : List
     → AreFilledFrom block j ms → AreFilledFrom block (j + k) ns → AreFilledFrom block j all
 filled_more {T} block j k ms ns all long is first next = subst (λ (us : List (MemberView T)). AreFilledFrom block j us) (sym is)
     (filled_join block j ms ns first (subst (λ (l : ℕ). AreFilledFrom block (j + l) ns) (sym long) next))
+
+-- what is known of a cell with a value has the value's name
+pub name_of : {T : Type 0} (γ : Names) (m : MemberView T) (x : T) → HasNames γ m.value m.name m.epoch → Some x ≡ m.value → m.name ≡ γ.value_name
+name_of {T} γ m x known is = subst (λ (v : Option T). HasNames γ v m.name m.epoch) (sym is) known
+
+-- the value of the member at an index
+pub value_at : {T : Type 0} (ms : List (MemberView T)) (i : ℕ) (m : MemberView T) → slice_get ms i ≡ Some m → slice_get (map (λ u. u.value) ms) i ≡ Some m.value
+value_at [] i m is = absurd (let z = is in cc)
+value_at {T} (h ∷ ms) zero m is = let same : h ≡ m = (let z = is in cc) in ap (λ (u : MemberView T). Some u.value) same
+value_at (h ∷ ms) (suc i) m is = value_at ms i m is

@@ -1,10 +1,10 @@
 // Filled cells next to each other: one load for each word shows how many there are, and what is known of each.
-ghost use Rattle.std.specs.Prelude.{◌≡◌, ◌+◌, ◌%◌, ◌<◌, ◌≤◌, Some, length, map};
-ghost use Rattle.cell_core.specs.Block.{block_len, AreFilledFrom};
+ghost use Rattle.std.specs.Prelude.{◌≡◌, ◌+◌, ◌%◌, ◌<◌, ◌≤◌, Some, length, map, slice_get};
+ghost use Rattle.cell_core.specs.Block.{block_len, AreFilledFrom, IsPlacedAt};
 ghost use Rattle.cell_core.specs.Laid.{word_cells};
 
 use crate::block::fields::{filled_in, word_of};
-use crate::block::{Block, Row};
+use crate::block::{Block, Placed, Row};
 use std::alloc::Allocator;
 
 impl<T, A: Allocator> Block<T, A> {
@@ -64,5 +64,19 @@ impl<T, A: Allocator> Block<T, A> {
         let (count, row) = self.filled_row(offset, n);
         let values = self.values(offset, count, &row);
         (values, row)
+    }
+
+    /// Returns the token of the cell at an index of a row that knows the cells from an offset on to be filled.
+    #[inline(always)]
+    pub fn token_at(&self, offset: u64, row: &Row<T>, index: u64) -> Placed<T>
+        requires filled { AreFilledFrom self.now offset row.now }
+        requires within { index < length row.now }
+        ensures placed { IsPlacedAt self.now (offset + index) result }
+        ensures value { slice_get (map (λ m. m.value) row.now) index ≡ Some (Some result.value) }
+    {
+        // For the proof: offsets below the length fit into 64 bits.
+        let _len = self.len;
+        let member = row.at(index);
+        member.placed(offset + index)
     }
 }

@@ -169,7 +169,7 @@ fn last_value(block: &Block<u64>, n: u64) -> Option<u64>
     if count == 0 {
         return None;
     }
-    let placed = row.at(count - 1).placed(count - 1);
+    let placed = block.token_at(0, &row, count - 1);
     Some(*block.value(&placed))
 }
 

@@ -6,6 +6,7 @@ use crate::cell::block::{is_filled, made};
 use crate::cell::words::after;
 use cell_core::block::{Block, Epoch};
 use std::alloc::Global;
+use std::thread::{Threads, join};
 
 // Fills `n` cells from an offset on, each with its own offset.
 fn fill_cells(block: &Block<u64>, offset: u64, n: u64) -> bool
@@ -122,6 +123,42 @@ fn join_once_filled(block: &Block<u64>) -> bool
 fn a_cell_filled_between_two_calls_is_lent_by_the_second(rt: HostRuntime) {
     let block = made(&rt, 48);
     assert!(rt; join_once_filled(&block));
+}
+
+// Looks at the first cells 1000 times, and tests whether those that are lent never become fewer.
+fn never_become_fewer(block: &Block<u64>, n: u64) -> bool
+    requires { n ≤ block_len block.now }
+{
+    let mut least = 0;
+    for _time in 0..1000 {
+        match filled_of(block, 0, n) {
+            Some(filled) if filled >= least => least = filled,
+            _other => return false,
+        }
+    }
+    true
+}
+
+// Fills cells in one thread while another looks at them.
+fn are_lent_while_filled<R: Threads + Sync>(rt: &R, block: &Block<u64>, n: u64) -> bool
+    requires { n ≤ block_len block.now }
+{
+    let (are_filled, are_kept) = join(
+        rt,
+        || -> bool
+            requires { n ≤ block_len block.now }
+        { fill_cells(block, 0, n) },
+        || -> bool
+            requires { n ≤ block_len block.now }
+        { never_become_fewer(block, n) },
+    );
+    are_filled && are_kept && filled_of(block, 0, n) == Some(n)
+}
+
+#[test]
+fn cells_are_lent_while_another_thread_fills_more(rt: HostRuntime) {
+    let block = made(&rt, 2000);
+    assert!(rt; are_lent_while_filled(&rt, &block, 2000));
 }
 
 // Tests whether filled cells end at one that an owner broke.

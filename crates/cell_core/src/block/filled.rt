@@ -45,10 +45,12 @@ impl<T, A: Allocator> Block<T, A> {
             let asked = self.longest_run(at).min(n - count);
             let (found, more) = self.filled_run(at, asked);
             row.append(more);
-            count += found;
             if found < asked {
+                count += found;
                 break;
             }
+            // The same number, but the next load need not wait for this one.
+            count += asked;
         }
         (count, row)
     }

@@ -9,8 +9,8 @@ pub words-preserved : goal.words-preserved
 words-preserved g c =
     let old = c.words.row in let more = c.filled_run-found.result.1 in let all = c.append.new.self in let is = c.append.ensures in
     let long = ap length is ∙ length-append old more in (
-      omega (arith, c.filled_run-found.ensures.most, c.min-asked.ensures),
-      omega (arith, long, c.words.invariant.1, c.filled_run-found.ensures.row),
+      omega (arith, c.min-asked.ensures),
+      omega (arith, long, c.words.invariant.1, c.filled_run-found.ensures.row, c.filled_run-found.ensures.most),
       filled_more c.args.self.now c.args.offset c.words.count old more all c.words.invariant.1 is c.words.invariant.2 c.filled_run-found.ensures.filled,
     )
 

@@ -1,4 +1,4 @@
-use Rattle.std.proofs.Common.{◌≡◌, ◌+◌, ◌<◌, Some, ap, ◌∙◌, arith, sym}
+use Rattle.std.proofs.Common.{◌+◌, Some, ap, ◌∙◌, arith, sym}
 use Rattle.cell_core.specs.Block.{block_len, cell_at}
 use Rattle.cell_core.proofs.SliceParts.{name_of, value_at}
 use Rattle.cell_core.proofs.block.Block.token_at.Goals as goal

@@ -94,7 +94,7 @@ unfolding count_trailing_zeros
 ends_in zero n = (n, sym (one-mul n))
 ends_in (suc k) n = ends_by (n % 2) (count_trailing_zeros k (n / 2)) n refl (ends_in k (n / 2))
 
--- a number has 3 in each field in which its difference to a word of 3 in each field has 0
+-- the low fields that are 0 in the difference of a number to a word of 3 in each field are 3 in the number
 threes : (n m e q w : ℕ) → n ≤ m → 16 ^ n * e + sums 3 m 0 ≡ w + q * 16 ^ m → (l : ℕ) → l < n → field w l ≡ 3
 threes zero m e q w le is l less = absurd (omega arith)
 threes (suc n) zero e q w le is l less = absurd (omega arith)

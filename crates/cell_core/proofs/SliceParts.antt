@@ -55,7 +55,7 @@ are_filled {T} block (suc n) j (x ∷ xs) near zero m is =
     (moved block j (j + 0) first (omega arith) (record { within = omega arith; known = refl }, λ e. (let z = e in cc)))
 are_filled block (suc n) j (x ∷ xs) near (suc i) m is = moved block (suc j + i) (j + suc i) m (omega arith) (are_filled block n (suc j) xs (omega arith) i m is)
 
--- two rows, of which one goes on where the other ends
+-- two rows as one, if the second goes on where the first ends
 filled_join : {T : Type 0} (block : BlockView) (j : ℕ) (ms ns : List (MemberView T)) → AreFilledFrom block j ms → AreFilledFrom block (j + length ms) ns
     → AreFilledFrom block j (ms ++ ns)
 filled_join block j [] ns first next i m is = moved block (j + 0 + i) (j + i) m (omega arith) (next i m is)

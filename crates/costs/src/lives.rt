@@ -1,5 +1,5 @@
-//! How long it takes to open a list of ten million values as a shared vector, to close it into a list again, and to move
-//! the values out of that.
+//! How long it takes to open a list of ten million values as a shared vector, to close it into a list again, and to
+//! move the values out of that.
 ghost use Rattle.claim_core.specs.Hand.{IsWholeHand};
 ghost use Rattle.grow_core.specs.Vector.{IsHandOf};
 

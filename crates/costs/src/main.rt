@@ -4,8 +4,8 @@
 //! - Without an argument it runs each operation shortly and prints that all of its wins were counted: the
 //!   same whatever the machine does. With the argument `figures` it measures for some seconds and prints
 //!   times.
-//! - With `load NAME THREADS` it runs one load, and with `count NAME VALUES` a short one on a small vector, for a tool that
-//!   counts its instructions.
+//! - With `load NAME THREADS` it runs one load, and with `count NAME VALUES` a short one on a small vector, for a
+//!   tool that counts its instructions.
 //! - With `stress SECONDS` threads make random calls on shared vectors, and the results are compared.
 //! - Each measured operation has a file of its own with one function that runs its tries in threads and
 //!   returns a `Trial`.

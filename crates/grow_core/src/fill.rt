@@ -102,8 +102,8 @@ impl<T: Drop> Shared<T> {
         )
     }
 
-    // Fills places of the segment with the next values: a run that begins at this place, or this place alone. Returns the
-    // values that are left.
+    // Fills places of the segment with the next values: a run that begins at this place, or this place alone. Returns
+    // the values that are left.
     #[inline(always)]
     pub(crate) fn fill_next(
         &self,

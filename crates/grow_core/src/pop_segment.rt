@@ -39,7 +39,8 @@ fn pop_values<T: Drop>(
 }
 
 impl<T: Drop> Parts<T> {
-    // Moves out the members of the last segment that has one, last one first, to the end of a list that has room for them.
+    // Moves out the members of the last segment that has one, last one first, to the end of a list that has room for
+    // them.
     fn pop_segment(&mut self, values: &mut Vec<T>)
         requires some { 0 < length self.old.members }
         requires unbroken { IsUnbroken self.old.members }
@@ -62,8 +63,8 @@ impl<T: Drop> Parts<T> {
         self.len -= n;
     }
 
-    /// Moves all members out, in order, into a list of their values. None of them may be broken. It asks for memory once, and
-    /// gives the parts back if there is none.
+    /// Moves all members out, in order, into a list of their values. None of them may be broken. It asks for memory
+    /// once, and gives the parts back if there is none.
     pub fn into_values(self) -> Result<Vec<T>, Parts<T>>
         requires unbroken { IsUnbroken self.members }
         ensures values { IfOk result (λ values. map Some values.items ≡ self.members) }

@@ -22,7 +22,8 @@ pub(crate) struct Stretch<T> {
     pub(crate) row: Row<T>,
 }
 
-// Writes the next `n` values into the cells of the run, publishes them by one step, and returns the values that are left.
+// Writes the next `n` values into the cells of the run, publishes them by one step, and returns the values that are
+// left.
 #[inline(always)]
 pub(crate) fn publish<T: Drop>(
     pen: RunPen<'_, T>,

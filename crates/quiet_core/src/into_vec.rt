@@ -21,8 +21,8 @@ impl<T> Quiet<T> {
 }
 
 impl<T: Drop> Quiet<T> {
-    /// Returns the values of the members, in order, and frees the segments. A list with a broken member, or without memory
-    /// for the vector, comes back.
+    /// Returns the values of the members, in order, and frees the segments. A list with a broken member, or without
+    /// memory for the vector, comes back.
     ///
     /// Its time is linear in the members. It asks for memory once, after a look at each member.
     pub fn into_vec(self) -> Result<Vec<T>, (IntoVecError, Quiet<T>)>

@@ -125,7 +125,8 @@ impl Layout {
     }
 }
 
-// The segment of a place, and its first place. From the second segment on, the places of a segment have one greatest bit.
+// The segment of a place, and its first place. From the second segment on, the places of a segment have one greatest
+// bit.
 fn segment_at(f: u32, place: u64) -> (u32, u64)
     requires layout { IsLayout f }
     requires small { place < most_places }

@@ -17,9 +17,13 @@ published_coded {T} c =
     coded_via (coded× (vector_coded c) (coded× coded_ℕ coded_ℕ)) (λ (p : PublishedView T). (p.vector, (p.place, p.end)))
     (λ x y e i. record { vector = (e i).0; place = (e i).1.0; end = (e i).1.1 })
 
--- a walk goes on by one place, and shows the value that the opened list has there; or it is at its end
-abbrev pub WalksOn : {T : Type 0} → PublishedView T → Option (Option (Bor T)) → PublishedView T → Type 0
-WalksOn old None new = (old.place ≡ old.end) × (new ≡ old)
-WalksOn {T} old (Some item) new =
+-- a walk goes on by one place, and shows the value that the opened list has there
+abbrev pub StepsOver : {T : Type 0} → PublishedView T → Option (Bor T) → PublishedView T → Type 0
+StepsOver {T} old item new =
     (old.place < old.end) × (new ≡ record old { place = old.place + 1 })
     × ((x : T) → IsOpenedAt old.vector old.place x → option_copied item ≡ Some x)
+
+-- a walk goes on so, or it is at its end
+abbrev pub WalksOn : {T : Type 0} → PublishedView T → Option (Option (Bor T)) → PublishedView T → Type 0
+WalksOn old None new = (old.place ≡ old.end) × (new ≡ old)
+WalksOn old (Some item) new = StepsOver old item new

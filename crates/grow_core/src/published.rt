@@ -1,11 +1,13 @@
 //! A walk over what a vector shows.
-ghost use Rattle.std.specs.Prelude.{◌≡◌, ◌≤◌};
-ghost use Rattle.grow_core.specs.Vector.{base_of, limit_of};
+ghost use Rattle.std.specs.Prelude.{◌≡◌, ◌+◌, ◌<◌, ◌≤◌, IfSome, length};
+ghost use Rattle.grow_core.specs.Vector.{IsOpenedAt, base_of, limit_of};
+ghost use Rattle.grow_core.specs.Published.{StepsOver};
 
 use crate::read::Shown;
 use crate::vector::Shared;
 use std::iter::FusedIterator;
 use std::marker::Model;
+use std::slice;
 
 /// The values that the places of a vector show, in order. An item is `None` if its place shows no value: not
 /// yet, or because it is broken.
@@ -14,10 +16,13 @@ pub struct Published<'a, T> {
     vector: &'a Shared<T>,
     place: u64,
     end: u64,
+    // The values of the next places, which are known to be filled.
+    filled: slice::Iter<'a, T>,
 }
 
 impl<'a, T> Model for Published<'a, T> {
-    ghost use Rattle.std.specs.Prelude.{◌≤◌};
+    ghost use Rattle.std.specs.Prelude.{◌+◌, ◌<◌, ◌≤◌, length};
+    ghost use Rattle.std.specs.Slice.Iter.{iter_rest};
     ghost use Rattle.grow_core.specs.Vector.{limit_of};
     ghost use Rattle.grow_core.specs.Published.{PublishedView, published_coded};
 
@@ -27,12 +32,14 @@ impl<'a, T> Model for Published<'a, T> {
 
     ghost view = { λ p. record { vector = p.vector.now; place = p.place; end = p.end } };
 
-    ghost invariant = { λ p. (p.place ≤ p.end) × (p.end ≤ limit_of p.vector.now) };
+    ghost invariant = { λ p. (p.place + length (iter_rest p.filled) ≤ p.end) × (p.end ≤ limit_of p.vector.now)
+        × (0 < length (iter_rest p.filled) → length p.vector.now.opened ≤ p.place) };
 }
 
 impl<T> Shared<T> {
     /// Walks over what each place shows, from place 0 to the size that one load finds now, for a caller
-    /// without a hand. Each item is one look, taken when it is asked for.
+    /// without a hand. Each item is what one look shows. A look shows up to sixteen places, of one word of states; a
+    /// place that it does not show filled is looked at again when its item is asked for.
     pub fn published(&self) -> Published<'_, T>
         ensures vector { result.vector ≡ self.now }
         ensures from { result.place ≡ 0 }
@@ -42,11 +49,53 @@ impl<T> Shared<T> {
         // For the proof: the vector's base is within its limit.
         self.laws();
         let size = self.word.peek();
+        let none: &[T] = &[];
         Published {
             vector: self,
             place: 0,
             end: size.max(self.word.base()).min(self.limit()),
+            filled: none.iter(),
         }
+    }
+
+    // The values of the filled places from this one on, as one look shows them: up to the first place that is not
+    // filled, and `n` at most.
+    fn look_along(&self, place: u64, n: u64) -> &[T]
+        requires some { 0 < n }
+        requires within { place + n ≤ limit_of self.now }
+        ensures { length result.now ≤ n }
+    {
+        // For the proof: the vector's base is within its limit.
+        self.laws();
+        let (segment, offset) = self.table.layout().locate(place);
+        let Some(block) = self.table.scout(segment) else {
+            return &[];
+        };
+        let (count, row) = block.filled_run(offset, block.longest_run(offset).min(n));
+        block.values(offset, count, &row)
+    }
+}
+
+impl<'a, T> Published<'a, T> {
+    // What the next place shows, by a look.
+    fn next_look(&mut self) -> Option<&'a T>
+        requires { self.old.place < self.old.end }
+        ensures { StepsOver self.old result self.new }
+    {
+        let vector = self.vector;
+        let place = self.place;
+        if place < vector.word.base() {
+            self.place += 1;
+            return match vector.look(place) {
+                Shown::Filled(at) => Some(at.value),
+                Shown::Pending | Shown::Broken(_) => None,
+            };
+        }
+        let mut filled = vector.look_along(place, self.end - place).iter();
+        let value = filled.next();
+        self.place += 1;
+        self.filled = filled;
+        value
     }
 }
 
@@ -61,16 +110,16 @@ impl<'a, T> Iterator for Published<'a, T> {
 
     ghost remaining = { λ p. at_most (p.end - p.place) };
 
+    #[inline]
     fn next(&mut self) -> Option<Option<&'a T>> {
+        if let Some(value) = self.filled.next() {
+            self.place += 1;
+            return Some(Some(value));
+        }
         if self.place == self.end {
             return None;
         }
-        let shown = self.vector.look(self.place);
-        self.place += 1;
-        match shown {
-            Shown::Filled(at) => Some(Some(at.value)),
-            Shown::Pending | Shown::Broken(_) => Some(None),
-        }
+        Some(self.next_look())
     }
 }
 

@@ -7,6 +7,7 @@ pub mod Grown
 pub mod Read
 pub mod Mend
 pub mod Published
+pub mod ShownCells
 pub mod Growth
 pub mod Making
 pub mod AtLeast

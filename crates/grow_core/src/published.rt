@@ -46,14 +46,33 @@ impl<T> Shared<T> {
         ensures opened { base_of self.now ≤ result.end }
         ensures within { result.end ≤ limit_of self.now }
     {
+        self.published_from(0, self.shown_size())
+    }
+
+    // The size that one load finds now, as far as places show something.
+    pub(crate) fn shown_size(&self) -> u64
+        ensures opened { base_of self.now ≤ result }
+        ensures within { result ≤ limit_of self.now }
+    {
         // For the proof: the vector's base is within its limit.
         self.laws();
         let size = self.word.peek();
+        size.max(self.word.base()).min(self.limit())
+    }
+
+    // A walk from a place on, up to an end.
+    pub(crate) fn published_from(&self, place: u64, end: u64) -> Published<'_, T>
+        requires order { place ≤ end }
+        requires within { end ≤ limit_of self.now }
+        ensures vector { result.vector ≡ self.now }
+        ensures from { result.place ≡ place }
+        ensures end { result.end ≡ end }
+    {
         let none: &[T] = &[];
         Published {
             vector: self,
-            place: 0,
-            end: size.max(self.word.base()).min(self.limit()),
+            place,
+            end,
             filled: none.iter(),
         }
     }

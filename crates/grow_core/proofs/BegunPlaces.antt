@@ -6,7 +6,7 @@ use Rattle.cell_core.specs.Block.{BlockView, PenView, IsPenAt, block_len, cell_a
 use Rattle.cell_core.specs.Run.{RunView, IsRunPenAt, PartsFirst, cells_from}
 use Rattle.grow_core.specs.declared.fill.Segment.{Segment}
 use Rattle.grow_core.specs.Token.{AreSmall, placed_view, place_in}
-use Rattle.grow_core.specs.Vector.{VectorView, IsPlacedOf, layout_of}
+use Rattle.grow_core.specs.Vector.{VectorView, IsPlacedOf}
 use Rattle.grow_core.specs.Segment.{IsSegmentOf}
 use Rattle.grow_core.specs.Begun.{AreBegun, AreUnwritten, begun_count}
 use Rattle.grow_core.proofs.Cells.{small_cell}

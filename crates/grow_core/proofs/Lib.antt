@@ -1,5 +1,6 @@
 pub mod Later
 pub mod Places
+pub mod OpenedValues
 pub mod Filling
 pub mod Stretches
 pub mod BegunPlaces

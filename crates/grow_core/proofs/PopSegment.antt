@@ -1,9 +1,9 @@
 -- How the members of a list are moved out of it, last one first.
-use Rattle.std.proofs.Common.{◌≡◌, ◌≢◌, ℕ, zero, suc, ◌+◌, ◌-◌, ◌<◌, ◌≤◌, List, [], ◌∷◌, ◌++◌, length, map, reverse, length-append, append_assoc, Option, Some, None, refl, sym, ap, ◌∙◌, subst, arith}
+use Rattle.std.proofs.Common.{◌≡◌, ℕ, zero, suc, ◌+◌, ◌-◌, ◌<◌, ◌≤◌, List, [], ◌∷◌, ◌++◌, length, map, reverse, length-append, append_assoc, Option, Some, refl, sym, ap, ◌∙◌, arith}
 use Rattle.std.proofs.lemmas.List.{append-nil, map-append, reverse-append}
 use Rattle.std.specs.Prelude.{slice_get}
 use base.Fml.{Lft}
-use Rattle.cell_core.specs.Block.{BlockView, IsMemberAt, KeepsOtherCells, block_len, cell_at}
+use Rattle.cell_core.specs.Block.{BlockView, IsMemberAt, KeepsOtherCells, block_len}
 use Rattle.cell_core.specs.Member.{MemberView}
 use Rattle.grow_core.specs.Parts.{AreBrokenIn, values_in}
 use Rattle.grow_core.specs.PopSegment.{IsFilled, IsUnbroken, MovesLast, PopsValues}

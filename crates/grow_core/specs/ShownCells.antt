@@ -1,5 +1,5 @@
 -- The segments of a shared vector, and what their places show.
-use Rattle.std.specs.Prelude.{◌≡◌, ℕ, ◌+◌, ◌<◌, ◌≤◌, List, Option, Some, None, slice_get, length}
+use Rattle.std.specs.Prelude.{◌≡◌, ℕ, ◌+◌, ◌<◌, List, Option, Some, None, slice_get, length}
 use base.Stored.{Coded, coded×, coded_ℕ, coded_via}
 use Rattle.grow_core.specs.Vector.{VectorView, vector_coded, IsOpenedAt, layout_of}
 use Rattle.grow_core.specs.Slices.{IsInOneSegment, IsToTheEnd}

@@ -1,13 +1,17 @@
 //! A walk over what a vector shows.
-ghost use Rattle.std.specs.Prelude.{◌≡◌, ◌+◌, ◌<◌, ◌≤◌, IfSome, length};
-ghost use Rattle.grow_core.specs.Vector.{IsOpenedAt, base_of, limit_of};
+ghost use Rattle.std.specs.Prelude.{◌≡◌, ◌+◌, ◌<◌, ◌≤◌, length};
+ghost use Rattle.grow_core.specs.Vector.{base_of, limit_of};
 ghost use Rattle.grow_core.specs.Published.{StepsOver};
+ghost use Rattle.grow_core.specs.ShownCells.{HoldOpened};
 
 use crate::read::Shown;
 use crate::vector::Shared;
 use std::iter::FusedIterator;
 use std::marker::Model;
 use std::slice;
+
+// How many places a walk looks at together.
+const LOOKED_AHEAD: u64 = 64;
 
 /// The values that the places of a vector show, in order. An item is `None` if its place shows no value: not
 /// yet, or because it is broken.
@@ -25,6 +29,7 @@ impl<'a, T> Model for Published<'a, T> {
     ghost use Rattle.std.specs.Slice.Iter.{iter_rest};
     ghost use Rattle.grow_core.specs.Vector.{limit_of};
     ghost use Rattle.grow_core.specs.Published.{PublishedView, published_coded};
+    ghost use Rattle.grow_core.specs.ShownCells.{HoldOpened};
 
     ghost Value = { PublishedView T };
 
@@ -33,13 +38,13 @@ impl<'a, T> Model for Published<'a, T> {
     ghost view = { λ p. record { vector = p.vector.now; place = p.place; end = p.end } };
 
     ghost invariant = { λ p. (p.place + length (iter_rest p.filled) ≤ p.end) × (p.end ≤ limit_of p.vector.now)
-        × (0 < length (iter_rest p.filled) → length p.vector.now.opened ≤ p.place) };
+        × HoldOpened p.vector.now p.place (iter_rest p.filled) };
 }
 
 impl<T> Shared<T> {
     /// Walks over what each place shows, from place 0 to the size that one load finds now, for a caller
-    /// without a hand. Each item is what one look shows. A look shows up to sixteen places, of one word of states; a
-    /// place that it does not show filled is looked at again when its item is asked for.
+    /// without a hand. Each item is what one look shows. It looks at up to 64 places ahead, as long as they are filled,
+    /// by one load for each word of states. A place that is not filled then is looked at again when its item is asked for.
     pub fn published(&self) -> Published<'_, T>
         ensures vector { result.vector ≡ self.now }
         ensures from { result.place ≡ 0 }
@@ -77,44 +82,47 @@ impl<T> Shared<T> {
         }
     }
 
-    // The values of the filled places from this one on, as one look shows them: up to the first place that is not
-    // filled, and `n` at most.
+    // The values of the filled places from this one on, up to the first that is not filled, and `n` or `LOOKED_AHEAD` at
+    // most.
     fn look_along(&self, place: u64, n: u64) -> &[T]
         requires some { 0 < n }
         requires within { place + n ≤ limit_of self.now }
-        ensures { length result.now ≤ n }
+        ensures few { length result.now ≤ n }
+        ensures opened { HoldOpened self.now place result.now }
     {
         // For the proof: the vector's base is within its limit.
         self.laws();
-        let (segment, offset) = self.table.layout().locate(place);
-        let Some(block) = self.table.scout(segment) else {
-            return &[];
-        };
-        let (count, row) = block.filled_run(offset, block.longest_run(offset).min(n));
-        block.values(offset, count, &row)
+        let layout = self.layout();
+        let (segment, _) = layout.locate(place);
+        let left = layout.first(segment) + layout.len(segment) - place;
+        self.filled_places(segment, place, n.min(left).min(LOOKED_AHEAD))
     }
 }
 
 impl<'a, T> Published<'a, T> {
     // What the next place shows, by a look.
+    #[tactic(auto, using(crate::proofs::OpenedValues::hold_first, crate::proofs::OpenedValues::hold_none))]
     fn next_look(&mut self) -> Option<&'a T>
         requires { self.old.place < self.old.end }
         ensures { StepsOver self.old result self.new }
     {
         let vector = self.vector;
+        // For the proof: the opened list ends at the vector's base.
+        vector.laws();
         let place = self.place;
-        if place < vector.word.base() {
-            self.place += 1;
-            return match vector.look(place) {
-                Shown::Filled(at) => Some(at.value),
-                Shown::Pending | Shown::Broken(_) => None,
-            };
-        }
         let mut filled = vector.look_along(place, self.end - place).iter();
-        let value = filled.next();
+        let first = filled.next();
         self.place += 1;
         self.filled = filled;
-        value
+        match first {
+            Some(value) => Some(value),
+            // A value of the opened list is shown.
+            None if place < vector.word.base() => match vector.look(place) {
+                Shown::Filled(at) => Some(at.value),
+                Shown::Pending | Shown::Broken(_) => None,
+            },
+            None => None,
+        }
     }
 }
 
@@ -130,6 +138,7 @@ impl<'a, T> Iterator for Published<'a, T> {
     ghost remaining = { λ p. at_most (p.end - p.place) };
 
     #[inline]
+    #[tactic(auto, using(crate::proofs::OpenedValues::hold_first))]
     fn next(&mut self) -> Option<Option<&'a T>> {
         if let Some(value) = self.filled.next() {
             self.place += 1;

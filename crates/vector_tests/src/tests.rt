@@ -16,6 +16,7 @@ mod parts;
 mod race;
 mod refusals;
 mod says;
+mod segments;
 mod shown;
 mod slices;
 mod steps;

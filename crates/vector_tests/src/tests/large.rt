@@ -208,6 +208,31 @@ fn shows_bytes(vector: &Shared<u8>) -> bool {
     place == BYTES
 }
 
+// Tests whether these are the bytes of places from one on.
+fn are_bytes(from: u64, bytes: &[u8]) -> bool {
+    let mut place = from;
+    for byte in bytes {
+        if *byte != byte_of(place) {
+            return false;
+        }
+        place = place.wrapping_add(1);
+    }
+    true
+}
+
+// Tests whether the segments show each byte.
+fn shows_bytes_by_segments(vector: &Shared<u8>) -> bool {
+    let mut place = 0u64;
+    for cells in vector.segments() {
+        let bytes = cells.filled(0);
+        if cells.from() != place || bytes.len() as u64 != cells.len() || !are_bytes(place, bytes) {
+            return false;
+        }
+        place = place.wrapping_add(cells.len());
+    }
+    place == BYTES
+}
+
 // Tests whether a caller without a token reads the last byte.
 fn reads_last_byte(two: &mut Callers<u8>) -> bool {
     match two.vector.at(&mut two.b, BYTES - 1, None) {
@@ -277,6 +302,7 @@ fn has_bytes(parts: &Parts<u8>) -> bool {
 fn lives_with_bytes<R: AllocGlobal + Wait>(rt: &R, mut two: Callers<u8>) -> bool {
     let is_shown = appends_bytes(rt, &mut two)
         && shows_bytes(&two.vector)
+        && shows_bytes_by_segments(&two.vector)
         && reads_last_byte(&mut two)
         && breaks_many(&mut two)
         && mends_many(&mut two);

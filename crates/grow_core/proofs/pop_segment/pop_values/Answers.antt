@@ -1,4 +1,4 @@
-use Rattle.std.proofs.Common.{◌≡◌, ℕ, ◌+◌, ◌-◌, sym, ap, ◌∙◌, length, List, [], ◌∷◌, ◌++◌, length-append, arith, Some}
+use Rattle.std.proofs.Common.{◌≡◌, ◌+◌, ◌-◌, sym, ap, ◌∙◌, length, [], ◌∷◌, length-append, arith}
 use Rattle.cell_core.specs.Member.{MemberView}
 use Rattle.grow_core.proofs.PopSegment.{last_is, member_here, popped_length, popped_more}
 use Rattle.grow_core.proofs.pop_segment.pop_values.Goals as goal

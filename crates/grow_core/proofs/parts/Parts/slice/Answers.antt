@@ -1,4 +1,4 @@
-use Rattle.std.proofs.Common.{◌≡◌, ◌≢◌, ℕ, ◌+◌, ◌≤◌, [], ◌∷◌, ◌++◌, ◌∙◌, Some, None, sym, ap, subst, length-append, arith}
+use Rattle.std.proofs.Common.{◌≢◌, ℕ, ◌+◌, ◌≤◌, [], ◌∷◌, ◌∙◌, None, sym, ap, subst, length-append, arith}
 use Rattle.seg_core.specs.Segment.{segment_end, segment_of}
 use Rattle.cell_core.specs.Block.{IsMemberAt}
 use Rattle.grow_core.specs.Parts.{PartsView}

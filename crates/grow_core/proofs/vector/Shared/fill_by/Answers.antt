@@ -1,6 +1,6 @@
-use Rattle.std.proofs.Common.{◌≡◌, ◌-◌, sym}
+use Rattle.std.proofs.Common.{◌-◌}
 use Rattle.cell_core.specs.Block.{IsPenAt}
-use Rattle.grow_core.proofs.BegunPlaces.{first_pen, begun_after, small, here, token}
+use Rattle.grow_core.proofs.BegunPlaces.{first_pen, begun_after, small, token}
 use Rattle.grow_core.proofs.vector.Shared.fill_by.Goals as goal
 
 pub invariant_of-result : goal.invariant_of-result

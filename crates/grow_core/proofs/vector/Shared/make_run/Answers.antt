@@ -5,7 +5,7 @@ use Rattle.grow_core.specs.Grown.{AreTokensOf}
 use Rattle.grow_core.proofs.Filling.{tokens_more, tokens_self}
 use Rattle.grow_core.proofs.Made.{token_values, made_none, made_more, stops_at, left_by_stop}
 use Rattle.grow_core.specs.Begun.{AreBegun}
-use Rattle.grow_core.proofs.BegunPlaces.{unwritten, begun_few, begun_stays}
+use Rattle.grow_core.proofs.BegunPlaces.{unwritten, begun_few}
 use Rattle.grow_core.proofs.vector.Shared.make_run.Goals as goal
 
 pub returns-then-run-eq0-clause-made : goal.returns-then-run-eq0-clause-made

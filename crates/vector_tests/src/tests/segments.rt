@@ -1,0 +1,197 @@
+// What a shared vector shows segment by segment, and what a walk shows of places that are filled meanwhile.
+use super::callers::Callers;
+use super::parts::{append, room};
+use super::ways::numbers;
+use grow_core::{Parts, Run, Shared, ShownCells};
+use std::alloc::{AllocGlobal, Global};
+use std::sync::Wait;
+
+fn sum(values: &[u64]) -> u64 {
+    let mut sum: u64 = 0;
+    for value in values {
+        sum = sum.wrapping_add(*value);
+    }
+    sum
+}
+
+// The first place of a segment, how many there are, how many are filled from the first on, and the sum of these.
+type Seen = (u64, u64, u64, u64);
+
+fn seen(cells: &ShownCells<'_, u64>) -> Seen {
+    let n = cells.len();
+    let filled = cells.filled(0);
+    (cells.from(), n, filled.len() as u64, sum(filled))
+}
+
+// Tests whether the segments are these, in order.
+fn are_seen(vector: &Shared<u64>, wanted: &[Seen]) -> bool {
+    let mut left = wanted.iter();
+    for cells in vector.segments() {
+        if left.next() != Some(&seen(&cells)) {
+            return false;
+        }
+    }
+    left.next().is_none()
+}
+
+// The last segment of the vector.
+fn last_of(vector: &Shared<u64>) -> Option<ShownCells<'_, u64>> {
+    let mut last = None;
+    for cells in vector.segments() {
+        last = Some(cells);
+    }
+    last
+}
+
+fn appends<R: AllocGlobal + Wait>(rt: &R, two: &mut Callers<u64>, n: u64) -> bool {
+    match numbers(rt.alloc(), 0, n) {
+        Some(values) => two.vector.append(rt, &mut two.a, values).ok() == Some(Run { from: 0, n }),
+        None => false,
+    }
+}
+
+// Appends `n` values, of which only the first ones, their numbers plus 1000, are made.
+fn makes_few(two: &mut Callers<u64>, n: u64, made: u64) -> bool {
+    let make = |i: u64| -> Result<u64, u64> {
+        if i < made {
+            Ok(1000u64.wrapping_add(i))
+        } else {
+            Err(i)
+        }
+    };
+    two.vector.try_grow_with(&mut two.a, n, make).is_err()
+}
+
+fn mends(two: &mut Callers<u64>, place: u64, value: u64) -> bool {
+    two.vector.mend(&mut two.b, place, value).is_ok()
+}
+
+const HUNDRED: [Seen; 7] = [
+    (0, 2, 2, 1),
+    (2, 2, 2, 5),
+    (4, 4, 4, 22),
+    (8, 8, 8, 92),
+    (16, 16, 16, 376),
+    (32, 32, 32, 1520),
+    (64, 36, 36, 2934),
+];
+
+// Three values are made above, and then forty places are broken.
+const WITH_BROKEN_ONES: [Seen; 8] = [
+    (0, 2, 2, 1),
+    (2, 2, 2, 5),
+    (4, 4, 4, 22),
+    (8, 8, 8, 92),
+    (16, 16, 16, 376),
+    (32, 32, 32, 1520),
+    (64, 64, 39, 5937),
+    (128, 15, 0, 0),
+];
+
+#[test]
+fn the_segments_of_a_vector_have_its_places_in_order(rt: HostRuntime) {
+    let mut two = Callers::new(&rt, 1000);
+    assert!(rt;
+        are_seen(&two.vector, &[])
+            && appends(&rt, &mut two, 100)
+            && are_seen(&two.vector, &HUNDRED)
+            && makes_few(&mut two, 43, 3)
+            && are_seen(&two.vector, &WITH_BROKEN_ONES)
+    );
+}
+
+// What places of the segment show: a place before the broken ones, two of them, and what is filled from each on.
+fn shows(cells: &ShownCells<'_, u64>) -> Option<[(Option<u64>, usize); 3]> {
+    if cells.len() < 6 {
+        return None;
+    }
+    let one = |i: u64| -> (Option<u64>, usize) { (cells.get(i).copied(), cells.filled(i).len()) };
+    Some([one(2), one(4), one(5)])
+}
+
+#[test]
+fn a_stretch_of_filled_places_ends_at_a_broken_one(rt: HostRuntime) {
+    let mut two = Callers::new(&rt, 100);
+    assert!(rt; appends(&rt, &mut two, 16) && makes_few(&mut two, 8, 4));
+    assert_eq!(rt;
+        last_of(&two.vector).as_ref().and_then(shows),
+        Some([(Some(1002), 2), (None, 0), (None, 0)])
+    );
+    assert!(rt; mends(&mut two, 20, 7));
+    assert_eq!(rt;
+        last_of(&two.vector).as_ref().and_then(shows),
+        Some([(Some(1002), 3), (Some(7), 1), (None, 0)])
+    );
+}
+
+// A list of twenty members, each its place, of which the tenth is broken.
+fn twenty(alloc: Global) -> Option<Parts<u64>> {
+    let mut parts = Parts::new(alloc, 100);
+    if room(&mut parts, 20) != Ok(true) {
+        return None;
+    }
+    for place in 0..20u64 {
+        let member = if place == 9 { None } else { Some(place) };
+        if !append(&mut parts, member) {
+            return None;
+        }
+    }
+    Some(parts)
+}
+
+const TWENTY: [Seen; 5] = [
+    (0, 2, 2, 1),
+    (2, 2, 2, 5),
+    (4, 4, 4, 22),
+    (8, 8, 1, 8),
+    (16, 4, 4, 70),
+];
+
+// What a walk over the vector shows in all: the sum of the values, and the places without one.
+fn walked(vector: &Shared<u64>) -> (u64, u64) {
+    let (mut sum, mut none) = (0u64, 0u64);
+    for item in vector.published() {
+        match item {
+            Some(value) => sum = sum.wrapping_add(*value),
+            None => none = none.wrapping_add(1),
+        }
+    }
+    (sum, none)
+}
+
+#[test]
+fn the_values_of_an_opened_list_are_shown_by_segments(rt: HostRuntime) {
+    let opened = twenty(rt.alloc()).and_then(|parts| Shared::of_parts(parts).ok());
+    assert!(rt;
+        opened.is_some_and(|(vector, _hand)| {
+            are_seen(&vector, &TWENTY) && walked(&vector) == (181, 1)
+        })
+    );
+}
+
+// A walk that meets three broken places, of which the second is mended when its first item has come.
+fn walk(two: &mut Callers<u64>) -> [Option<Option<u64>>; 4] {
+    let mut walk = two.vector.published();
+    let first = walk.next().map(|item| item.copied());
+    let is_mended = two.vector.mend(&mut two.b, 1, 7).is_ok();
+    [
+        first,
+        walk.next().map(|item| item.copied()),
+        walk.next().map(|item| item.copied()),
+        if is_mended {
+            walk.next().map(|item| item.copied())
+        } else {
+            None
+        },
+    ]
+}
+
+#[test]
+fn a_walk_shows_what_is_filled_before_its_item_is_asked_for(rt: HostRuntime) {
+    let mut two = Callers::new(&rt, 8);
+    assert!(rt; makes_few(&mut two, 3, 0));
+    assert_eq!(rt;
+        walk(&mut two),
+        [Some(None), Some(Some(7)), Some(None), None]
+    );
+}

@@ -1,7 +1,9 @@
 -- Segments double: where they begin and end, and which one has a place.
-use Rattle.std.proofs.Common.{◌≡◌, ℕ, ◌+◌, ◌-◌, ◌*◌, ◌^◌, ◌<◌, ◌≤◌, nat_lt, true, false, zero, suc, refl, ap, sym, subst, arith, inl, inr, add-one, add-zero, lit<}
+use Rattle.std.proofs.Common.{◌≡◌, ◌≢◌, ℕ, ◌+◌, ◌-◌, ◌*◌, ◌^◌, ◌<◌, ◌≤◌, nat_lt, true, false, zero, suc, refl, ap, ap₂, sym, ◌∙◌, subst, arith, inl, inr, add-one, add-zero, lit<}
 use Rattle.std.proofs.Math.Nat.{pow-le-pow_right, pow-suc, le_refl}
 use Rattle.std.proofs.Math.Pow.{pow-lt, pow_pos}
+use Rattle.std.proofs.lemmas.Nat.{or_lt, le_or_l, le_or_r, xor_block}
+use Rattle.std.specs.Int.Bits.{bit_or, bit_xor, xor_self, xor_zero_r}
 use Rattle.std.proofs.lemmas.Bool.{cases_lt}
 use Rattle.std.proofs.lemmas.Bool.Decides.{nat_tests}
 use Rattle.seg_core.specs.Segment.{segment_start, segment_end, HasPlace, first_ending_after, segment_of, Touches}
@@ -117,6 +119,39 @@ has_power f e place past power below =
     let from : 2 ^ (e + 1 - f + f - 1) ≡ 2 ^ e = ap (λ i. 2 ^ i) (let i : e + 1 - f + f - 1 ≡ e = omega arith in i) in
     let to : 2 ^ (e + 1 - f + f) ≡ 2 ^ (e + 1) = ap (λ i. 2 ^ i) (let i : e + 1 - f + f ≡ e + 1 = omega arith in i) in
     record { from = omega (arith, start, from); before = omega (arith, to) }
+
+-- a place with a greatest bit, after the lower half of the first segment was moved up: a place of the first segment has
+-- the bit of that half
+pub has_first : (f e place : ℕ) → e ≡ f - 1 → 1 ≤ f → bit_or place (2 ^ (f - 1)) < 2 ^ (e + 1) → HasPlace f 0 place
+has_first f e place same some below =
+    let up = le_or_l place (2 ^ (f - 1)) in
+    let end : 2 ^ (e + 1) ≡ 2 ^ (0 + f) = ap (λ i. 2 ^ i) (let i : e + 1 ≡ 0 + f = omega arith in i) in
+    record { from = omega arith; before = omega (arith, up, end) }
+
+-- and the place of another segment has it itself
+pub has_top : (f e place : ℕ) → e ≢ f - 1 → 1 ≤ f → 2 ^ e ≤ bit_or place (2 ^ (f - 1))
+    → bit_or place (2 ^ (f - 1)) < 2 ^ (e + 1) → (f ≤ e) × (2 ^ f ≤ place) × (2 ^ e ≤ place) × (place < 2 ^ (e + 1))
+has_top f e place other some power below =
+    let low : f - 1 < e + 1 = exponent_below (f - 1) (e + 1) (omega (arith, le_or_r place (2 ^ (f - 1)))) in
+    let high : f ≤ e = omega arith in
+    let there : 2 ^ e ≤ place = elim (cases_lt place (2 ^ e)) [
+      | inl less ↦ absurd (let both = or_lt e place (2 ^ (f - 1)) less (pow-lt (let i : f - 1 < e = omega arith in i)) in omega arith)
+      | inr more ↦ more
+    ] in
+    let first : 2 ^ f ≤ 2 ^ e = pow-le-pow_right (lit< tt) high in
+    (high, omega arith, there, omega (arith, le_or_l place (2 ^ (f - 1))))
+
+-- a number without its greatest bit
+pub without_top : (e place : ℕ) → 2 ^ e ≤ place → place < 2 ^ (e + 1) → 2 ^ e + bit_xor place (2 ^ e) ≡ place
+without_top e place power below =
+    let rest : place - 2 ^ e < 2 ^ e = omega (arith, next_power e) in
+    let both : bit_xor (1 * 2 ^ e + (place - 2 ^ e)) (1 * 2 ^ e + 0) ≡ bit_xor place (2 ^ e) =
+    ap₂ bit_xor (let a : 1 * 2 ^ e + (place - 2 ^ e) ≡ place = omega arith in a) (let b : 1 * 2 ^ e + 0 ≡ 2 ^ e = omega arith in b) in
+    let block = xor_block e 1 1 (place - 2 ^ e) 0 rest (pow_pos e) in
+    let none = xor_self 1 in
+    let kept = xor_zero_r (place - 2 ^ e) in
+    let all : bit_xor place (2 ^ e) ≡ 0 * 2 ^ e + (place - 2 ^ e) = sym both ∙ block ∙ ap₂ (λ a b. a * 2 ^ e + b) none kept in
+    omega (arith, all)
 
 -- a segment that begins below a power of two
 pub begins_below : (f k e place : ℕ) → 1 ≤ f → f ≤ e → HasPlace f k place → place < 2 ^ e → k + f < e + 1

@@ -74,8 +74,7 @@ impl Layout {
         ensures offset { segment_start self result.0 + result.1 ≡ place }
         ensures bound { result.0 < segment_count self }
     {
-        let (segment, first) = segment_at(self.f(), place);
-        (segment, place - first)
+        segment_at(self.f(), place)
     }
 
     /// Returns the first place of a segment.
@@ -125,20 +124,21 @@ impl Layout {
     }
 }
 
-// The segment of a place, and its first place. From the second segment on, the places of a segment have one greatest
-// bit.
+// The segment of a place, and its offset there. The places of a segment have one greatest bit, if those of the
+// first one count as its second half.
 fn segment_at(f: u32, place: u64) -> (u32, u64)
     requires layout { IsLayout f }
     requires small { place < most_places }
     ensures segment { HasPlace f result.0 place }
     ensures number { result.0 ≡ segment_of f place }
-    ensures first { result.1 ≡ segment_start f result.0 }
+    ensures offset { segment_start f result.0 + result.1 ≡ place }
     ensures bound { result.0 < segment_count f }
 {
-    if place < 1 << f {
-        (0, 0)
+    let half = f - 1;
+    let top = (place | (1 << half)).ilog2();
+    if top == half {
+        (0, place)
     } else {
-        let top = place.ilog2();
-        (top + 1 - f, 1 << top)
+        (top - half, place ^ (1 << top))
     }
 }

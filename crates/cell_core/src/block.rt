@@ -1,7 +1,7 @@
 //! A block of cells, laid raw in two rows: the values side by side, and words with the states of sixteen cells each.
 ghost use Rattle.std.specs.Prelude.{◌≡◌, ◌≢◌, ◌+◌, ◌/◌, ◌%◌, ◌<◌, [], Some, None, IsSomeAnd, IfSome, IfOk, IfErr, IsErrAnd, length};
 ghost use Rattle.cell_core.specs.Block.{block_len, cell_at, IsPenAt, IsFresh, IsMending, IsPlacedIn, IsPlacedAt, IsMemberAt};
-ghost use Rattle.cell_core.specs.Slot.{empty_state};
+ghost use Rattle.cell_core.specs.Slot.{empty_state, filled_state};
 ghost use Rattle.cell_core.specs.Laid.{HasEachRenamed, IsLinked, IsWhole, word_cells};
 ghost use Rattle.cell_core.specs.Shown.{IsFoundIn, IsNotEmpty, ShowsFilled, IsLookAt};
 
@@ -19,7 +19,7 @@ mod slice;
 mod spoilt;
 mod steps;
 
-use crate::slot::steps::{BROKEN, BROKEN_BY_OWNER, BUSY, EMPTY, FILLED, RawPen, RawSlot};
+use crate::slot::steps::{BROKEN, BROKEN_BY_OWNER, BUSY, EMPTY, FILLED, RawPen, RawSight, RawSlot};
 pub use begun::Begun;
 pub use epoch::{EndedEpoch, Epoch};
 use fields::{WORD_CELLS, all_but, in_field, state_in, word_of, words_for};
@@ -191,12 +191,47 @@ impl<T, A: Allocator> Block<T, A> {
     }
 
     /// Looks at what the cell shows now, by one load.
+    #[inline(always)]
     pub fn look(&self, offset: u64) -> Look<'_, T>
         requires { offset < block_len self.now }
         ensures { IsLookAt self.now offset result }
     {
         let (word, sight) = self.cell(offset).sight();
-        match state_in(word, offset) {
+        let found = state_in(word, offset);
+        if found == FILLED {
+            let written = sight.written();
+            let value = self.cell(offset).value(&written);
+            Look::Filled(value, Placed { offset, written })
+        } else {
+            self.look_unfilled(offset, found, sight)
+        }
+    }
+
+    // What a cell shows that is not filled. A function of its own, so that only calls that come here clear the room
+    // for what `unfilled` returns.
+    #[inline(always)]
+    fn look_unfilled(&self, offset: u64, found: u64, sight: RawSight<T>) -> Look<'_, T>
+        requires { (offset < block_len self.now) × (sight.of ≡ cell_at self.now offset)
+            × (sight.found ≡ found) × (found ≢ filled_state) }
+        ensures { IsLookAt self.now offset result }
+    {
+        match self.unfilled(offset, found, sight) {
+            Look::Empty => Look::Empty,
+            Look::Busy => Look::Busy,
+            Look::Filled(value, placed) => Look::Filled(value, placed),
+            Look::Broken(spoilt) => Look::Broken(spoilt),
+        }
+    }
+
+    // The same, by a call.
+    #[cold]
+    #[inline(never)]
+    fn unfilled(&self, offset: u64, found: u64, sight: RawSight<T>) -> Look<'_, T>
+        requires { (offset < block_len self.now) × (sight.of ≡ cell_at self.now offset)
+            × (sight.found ≡ found) × (found ≢ filled_state) }
+        ensures { IsLookAt self.now offset result }
+    {
+        match found {
             EMPTY => {
                 sight.unused();
                 Look::Empty
@@ -204,11 +239,6 @@ impl<T, A: Allocator> Block<T, A> {
             BUSY => {
                 sight.unused();
                 Look::Busy
-            }
-            FILLED => {
-                let written = sight.written();
-                let value = self.cell(offset).value(&written);
-                Look::Filled(value, Placed { offset, written })
             }
             _ => {
                 let broken = sight.broken();

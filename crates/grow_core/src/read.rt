@@ -100,15 +100,43 @@ impl<T> Shared<T> {
         ensures opened { (x : T) → IsOpenedAt self.now place x → ShowsValue x result }
     {
         if place < self.word.base() {
-            if let Some(at) = self.opened_at(place) {
-                return Shown::Filled(at);
-            }
+            return self.look_opened(place);
         }
         self.look_into(place)
     }
 
-    // The value that the opened list has at a place below its length, if it has one there.
+    // What a place below the length of the opened list shows. A function of its own, so that only calls that come
+    // here clear the room for what `look_below` returns.
+    #[inline(always)]
+    fn look_opened(&self, place: u64) -> Shown<'_, T>
+        requires { place < base_of self.now }
+        ensures shown { IsShownAt self.now place result }
+        ensures opened { (x : T) → IsOpenedAt self.now place x → ShowsValue x result }
+    {
+        match self.look_below(place) {
+            Shown::Pending => Shown::Pending,
+            Shown::Filled(at) => Shown::Filled(at),
+            Shown::Broken(spoilt) => Shown::Broken(spoilt),
+        }
+    }
+
+    // The same, by a call.
+    #[cold]
     #[inline(never)]
+    fn look_below(&self, place: u64) -> Shown<'_, T>
+        requires { place < base_of self.now }
+        ensures shown { IsShownAt self.now place result }
+        ensures opened { (x : T) → IsOpenedAt self.now place x → ShowsValue x result }
+    {
+        // For the proof: the vector's base is within its limit.
+        self.laws();
+        match self.opened_at(place) {
+            Some(at) => Shown::Filled(at),
+            None => self.look_into(place),
+        }
+    }
+
+    // The value that the opened list has at a place below its length, if it has one there.
     fn opened_at(&self, place: u64) -> Option<At<'_, T>>
         requires below { place < base_of self.now }
         ensures at { IfSome result (IsAt self.now place) }

@@ -100,7 +100,7 @@ template <typename Vector> void look_often(Vector &vector, Value times) {
 
 template <typename Vector> long long run(const char *load, unsigned threads) {
   Vector vector;
-  bool installed = std::strstr(load, "-installed") || !std::strcmp(load, "look");
+  bool installed = std::strstr(load, "-installed") || !std::strcmp(load, "at");
   if (installed)
     push_often(vector, filled);
   Value times = (installed ? more : fresh) / threads;
@@ -112,7 +112,7 @@ template <typename Vector> long long run(const char *load, unsigned threads) {
     work = [&] { make_often(vector, times); };
   if (!std::strncmp(load, "at-least", 8))
     work = [&] { raise_often(vector, times); };
-  if (!std::strcmp(load, "look"))
+  if (!std::strcmp(load, "at"))
     work = [&] { look_often(vector, times); };
   auto start = std::chrono::steady_clock::now();
   std::vector<std::thread> others;

@@ -5,6 +5,7 @@ ghost use Rattle.std.specs.Thread.{IsSync};
 ghost use Rattle.grow_core.specs.Vector.{IsHandOf};
 
 use crate::other_vectors::push_boxcar;
+use crate::reads::{pick_places, print_get_time, read_at, read_look};
 use crate::shared_vector::{hands_for, open_empty_in, push, push_by_calls};
 use crate::trial::{print_nanoseconds, time_hands, time_threads};
 use anyhow::{Result, bail};
@@ -22,7 +23,7 @@ const FRESH: u64 = 10_000_000;
 // The size of a vector before the other loads are timed: the last place is the first of its segment.
 const FILLED: u64 = (1 << 23) + 1;
 
-// The values that are then appended, all in that segment, or looked at.
+// The values that are then appended, all in that segment, or read.
 const MORE: u64 = 8_000_000;
 
 // The values of a growth.
@@ -46,8 +47,14 @@ pub enum Work {
     Make,
     /// Grows the vector up to 64 places above the size that the hand has seen.
     AtLeast,
-    /// Looks without a token at a place that is picked at random.
+    /// Reads a place that is picked at random, by `at` without a token.
+    At,
+    /// Reads such a place by `look`.
     Look,
+    /// Reads such a place by `get` with its token.
+    Get,
+    /// Picks such a place, and reads nothing.
+    Pick,
 }
 
 /// A load: what is done, and how many values there are before its time starts and while it runs.
@@ -73,7 +80,7 @@ pub fn layout_of(name: &str) -> Layout {
 
 // The name of a load, what is done, how many values there are before its time starts, and how many while it
 // runs.
-const ROWS: [(&'static str, Work, u64, u64); 14] = [
+const ROWS: [(&'static str, Work, u64, u64); 17] = [
     ("push", Work::Push, 0, FRESH),
     ("push-256", Work::Push, 0, FRESH),
     ("push-installed", Work::Push, FILLED, MORE),
@@ -87,7 +94,10 @@ const ROWS: [(&'static str, Work, u64, u64); 14] = [
     ("make-installed", Work::Make, FILLED, MORE),
     ("at-least", Work::AtLeast, 0, FRESH),
     ("at-least-installed", Work::AtLeast, FILLED, MORE),
+    ("at", Work::At, FILLED, MORE),
     ("look", Work::Look, FILLED, MORE),
+    ("get", Work::Get, FILLED, MORE),
+    ("pick", Work::Pick, FILLED, MORE),
 ];
 
 // What is done by the load of this name, and the two numbers of values.
@@ -206,41 +216,13 @@ fn make<R: Wait>(
     won
 }
 
-// What is added for a look: the last bit of the value, if there is one.
-fn look_once(vector: &Shared<u64>, hand: &mut Hand<u64>, place: u64) -> u64
-    requires ours { IsHandOf vector.now hand.old }
-    ensures of { hand.new.of ≡ hand.old.of }
-{
-    match vector.at(hand, place, None) {
-        Ok(at) => *at.value & 1,
-        Err(_) => 0,
-    }
-}
-
-// How many of the looks found a value.
-fn look(vector: &Shared<u64>, mut hand: Hand<u64>, looks: u64) -> u64
-    requires ours { IsHandOf vector.now hand }
-{
-    // The places below the greatest power of two that the size has.
-    let shift = (vector.size(&mut hand).leading_zeros() + 1).min(63);
-    let mut found: u64 = 0;
-    let mut random: u64 = 88_172_645_463_325_252;
-    for _look in 0..looks {
-        random = random
-            .wrapping_mul(6_364_136_223_846_793_005)
-            .wrapping_add(1_442_695_040_888_963_407);
-        found = found.wrapping_add(look_once(vector, &mut hand, random >> shift));
-    }
-    found
-}
-
 impl Work {
     // One thread's part.
     fn run<R: Wait + AllocGlobal>(
         self,
         rt: &R,
         vector: &Shared<u64>,
-        hand: Hand<u64>,
+        mut hand: Hand<u64>,
         times: u64,
     ) -> u64
         requires ours { IsHandOf vector.now hand }
@@ -252,7 +234,9 @@ impl Work {
             Work::Append => grow(rt, vector, hand, times, false),
             Work::Make => make(rt, vector, hand, times, false),
             Work::AtLeast => make(rt, vector, hand, times, true),
-            Work::Look => look(vector, hand, times),
+            Work::At => read_at(vector, hand, times),
+            Work::Look => read_look(vector, vector.size(&mut hand), times),
+            Work::Get | Work::Pick => pick_places(vector.size(&mut hand), times),
         }
     }
 }
@@ -269,6 +253,11 @@ impl Load {
         }
     }
 
+    // The values of each thread.
+    fn values_of_one(self, threads: usize) -> u64 {
+        self.values / (threads as u64).max(1)
+    }
+
     // Runs it by hands that are cut from this one.
     fn time<R: Threads + Wait + Clock + AllocGlobal + Sync>(
         self,
@@ -280,7 +269,7 @@ impl Load {
         requires ours { IsHandOf vector.now hand.old }
     {
         let hands = hands_for(rt.alloc(), vector, hand, threads, 1)?;
-        let times = self.values / (threads as u64).max(1);
+        let times = self.values_of_one(threads);
         let (took, _wins) = time_hands(
             rt,
             hands,
@@ -307,9 +296,9 @@ impl Load {
         print_nanoseconds(rt, took)
     }
 
-    /// Runs it in this many threads, and prints the nanoseconds that it took. The vector is kept until they
-    /// are printed, so that its memory can be seen from outside.
-    pub fn print_time<R: Threads + Wait + Clock + Print + AllocGlobal + Sync>(
+    // Runs it by hands. The vector is kept until the nanoseconds are printed, so that its memory can be seen from
+    // outside.
+    fn print_time_by_hands<R: Threads + Wait + Clock + Print + AllocGlobal + Sync>(
         self,
         rt: &R,
         threads: usize,
@@ -324,6 +313,29 @@ impl Load {
             self.print_time_on(rt, &vector, &mut hand, threads)
         } else {
             self.print_time_on(rt, &vector, &mut hand, threads)
+        }
+    }
+
+    // Reads by tokens.
+    fn print_get_time<R: Threads + Wait + Clock + Print + AllocGlobal + Sync>(
+        self,
+        rt: &R,
+        threads: usize,
+    ) -> Result<()> {
+        let filled = self.filled;
+        let reads = self.values_of_one(threads);
+        print_get_time(rt, filled, reads, threads)
+    }
+
+    /// Runs it in this many threads, and prints the nanoseconds that it took.
+    pub fn print_time<R: Threads + Wait + Clock + Print + AllocGlobal + Sync>(
+        self,
+        rt: &R,
+        threads: usize,
+    ) -> Result<()> {
+        match self.work {
+            Work::Get => self.print_get_time(rt, threads),
+            _ => self.print_time_by_hands(rt, threads),
         }
     }
 }

@@ -22,6 +22,7 @@ mod lives;
 mod loads;
 mod operation;
 mod other_vectors;
+mod reads;
 mod shared_vector;
 mod stress;
 mod trial;

@@ -1,0 +1,156 @@
+//! Reads at places that are picked at random.
+ghost use Rattle.std.specs.Prelude.{◌≡◌, ◌<◌};
+ghost use Rattle.grow_core.specs.Vector.{IsHandOf};
+ghost use Rattle.grow_core.specs.Grown.{IsGrownOf};
+
+use crate::shared_vector::open_empty;
+use crate::trial::{print_nanoseconds, time_threads};
+use anyhow::{Result, bail};
+use grow_core::{Grown, Hand, Never, Shared, Shown};
+use std::alloc::AllocGlobal;
+use std::rt::Clock;
+use std::sync::Wait;
+use std::thread::Threads;
+
+// The first number of the sequence.
+const FIRST: u64 = 88_172_645_463_325_252;
+
+// The next number of a sequence that looks random.
+#[inline(always)]
+fn next(random: u64) -> u64 {
+    random
+        .wrapping_mul(6_364_136_223_846_793_005)
+        .wrapping_add(1_442_695_040_888_963_407)
+}
+
+// How far a number of the sequence is moved: the places below the greatest power of two that the size has are left.
+fn shift_for(size: u64) -> u32
+    ensures { result < 64 }
+{
+    (size.leading_zeros() + 1).min(63)
+}
+
+// What the reads at random places below the size add up to.
+#[inline(always)]
+fn sum_at_random<F: Fn(u64) -> u64>(size: u64, reads: u64, read: &F) -> u64
+    requires callable { F.IsAlwaysCallable read.now }
+{
+    let shift = shift_for(size);
+    let mut sum: u64 = 0;
+    let mut random = FIRST;
+    for _read in 0..reads {
+        random = next(random);
+        sum = sum.wrapping_add(read(random >> shift));
+    }
+    sum
+}
+
+// The last bit of the value that `at` returns without a token, if there is one.
+fn at_once(vector: &Shared<u64>, hand: &mut Hand<u64>, place: u64) -> u64
+    requires ours { IsHandOf vector.now hand.old }
+    ensures of { hand.new.of ≡ hand.old.of }
+{
+    match vector.at(hand, place, None) {
+        Ok(at) => *at.value & 1,
+        Err(_) => 0,
+    }
+}
+
+/// Reads by `at` without a token, and returns how many values were odd.
+pub fn read_at(vector: &Shared<u64>, mut hand: Hand<u64>, reads: u64) -> u64
+    requires ours { IsHandOf vector.now hand }
+{
+    let shift = shift_for(vector.size(&mut hand));
+    let mut sum: u64 = 0;
+    let mut random = FIRST;
+    for _read in 0..reads {
+        random = next(random);
+        sum = sum.wrapping_add(at_once(vector, &mut hand, random >> shift));
+    }
+    sum
+}
+
+// The last bit of the value that `look` shows, if there is one.
+#[inline(always)]
+fn look_once(vector: &Shared<u64>, place: u64) -> u64 {
+    match vector.look(place) {
+        Shown::Filled(at) => *at.value & 1,
+        _ => 0,
+    }
+}
+
+/// Reads by `look`, and returns how many values were odd.
+pub fn read_look(vector: &Shared<u64>, size: u64, reads: u64) -> u64 {
+    sum_at_random(
+        size,
+        reads,
+        &|place: u64| -> u64 { look_once(vector, place) },
+    )
+}
+
+/// Picks places, and returns how many were odd: what the other loads do beyond their reads.
+pub fn pick_places(size: u64, reads: u64) -> u64 {
+    sum_at_random(size, reads, &|place: u64| -> u64 { place & 1 })
+}
+
+// The last bit of a value that was appended, if it is one of them.
+#[inline(always)]
+fn get_once(vector: &Shared<u64>, grown: &Grown<u64>, i: u64) -> u64
+    requires ours { IsGrownOf vector.now grown.now }
+{
+    if i < grown.run().n {
+        *vector.get(&grown.placed(i)) & 1
+    } else {
+        0
+    }
+}
+
+// Reads by `get`, and returns how many values were odd.
+fn read_get(vector: &Shared<u64>, grown: &Grown<u64>, reads: u64) -> u64
+    requires ours { IsGrownOf vector.now grown.now }
+{
+    sum_at_random(
+        grown.run().n,
+        reads,
+        &|i: u64| -> u64
+            requires { IsGrownOf vector.now grown.now }
+        { get_once(vector, grown, i) },
+    )
+}
+
+// Appends values, reads them by their tokens in this many threads, and prints the nanoseconds that the reads took.
+fn print_get_time_on<R: Threads + Wait + Clock + Print + AllocGlobal + Sync>(
+    rt: &R,
+    vector: &Shared<u64>,
+    hand: &mut Hand<u64>,
+    filled: u64,
+    reads: u64,
+    threads: usize,
+) -> Result<()>
+    requires ours { IsHandOf vector.now hand.old }
+{
+    let number = |i: u64| -> Result<u64, Never> { Ok(i) };
+    let Ok(grown) = vector.grow_with(rt, hand, filled, number) else {
+        bail!("the values to be read were not appended")
+    };
+    let (took, _sums) = time_threads(
+        rt,
+        threads,
+        &|_: usize| -> u64
+            requires { IsGrownOf vector.now grown }
+        { read_get(vector, &grown, reads) },
+    )?;
+    print_nanoseconds(rt, took)
+}
+
+/// Appends values to a new vector, reads them by their tokens in this many threads, and prints the nanoseconds that
+/// the reads took.
+pub fn print_get_time<R: Threads + Wait + Clock + Print + AllocGlobal + Sync>(
+    rt: &R,
+    filled: u64,
+    reads: u64,
+    threads: usize,
+) -> Result<()> {
+    let (vector, mut hand) = open_empty(rt.alloc(), filled)?;
+    print_get_time_on(rt, &vector, &mut hand, filled, reads, threads)
+}

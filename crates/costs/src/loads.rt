@@ -5,7 +5,7 @@ ghost use Rattle.std.specs.Thread.{IsSync};
 ghost use Rattle.grow_core.specs.Vector.{IsHandOf};
 
 use crate::other_vectors::push_boxcar;
-use crate::reads::{pick_places, print_get_time, read_at, read_look};
+use crate::reads::{pick_places, print_get_time, read_at, read_look, read_walk};
 use crate::shared_vector::{hands_for, open_empty_in, push, push_by_calls};
 use crate::trial::{print_nanoseconds, time_hands, time_threads};
 use anyhow::{Result, bail};
@@ -53,7 +53,9 @@ pub enum Work {
     Look,
     /// Reads such a place by `get` with its token.
     Get,
-    /// Picks such a place, and reads nothing.
+    /// Walks over the places in order.
+    Walk,
+    /// Picks a place at random, and reads nothing.
     Pick,
 }
 
@@ -80,7 +82,7 @@ pub fn layout_of(name: &str) -> Layout {
 
 // The name of a load, what is done, how many values there are before its time starts, and how many while it
 // runs.
-const ROWS: [(&'static str, Work, u64, u64); 17] = [
+const ROWS: [(&'static str, Work, u64, u64); 18] = [
     ("push", Work::Push, 0, FRESH),
     ("push-256", Work::Push, 0, FRESH),
     ("push-installed", Work::Push, FILLED, MORE),
@@ -97,6 +99,7 @@ const ROWS: [(&'static str, Work, u64, u64); 17] = [
     ("at", Work::At, FILLED, MORE),
     ("look", Work::Look, FILLED, MORE),
     ("get", Work::Get, FILLED, MORE),
+    ("walk", Work::Walk, FILLED, MORE),
     ("pick", Work::Pick, FILLED, MORE),
 ];
 
@@ -236,6 +239,7 @@ impl Work {
             Work::AtLeast => make(rt, vector, hand, times, true),
             Work::At => read_at(vector, hand, times),
             Work::Look => read_look(vector, vector.size(&mut hand), times),
+            Work::Walk => read_walk(vector, times),
             Work::Get | Work::Pick => pick_places(vector.size(&mut hand), times),
         }
     }

@@ -88,6 +88,20 @@ pub fn read_look(vector: &Shared<u64>, size: u64, reads: u64) -> u64 {
     )
 }
 
+/// Walks over the first places, and returns how many of their values were odd.
+pub fn read_walk(vector: &Shared<u64>, reads: u64) -> u64 {
+    let mut odd: u64 = 0;
+    let mut left = reads;
+    for item in vector.published() {
+        if left == 0 {
+            break;
+        }
+        left -= 1;
+        odd = odd.wrapping_add(item.copied().unwrap_or(0) & 1);
+    }
+    odd
+}
+
 /// Picks places, and returns how many were odd: what the other loads do beyond their reads.
 pub fn pick_places(size: u64, reads: u64) -> u64 {
     sum_at_random(size, reads, &|place: u64| -> u64 { place & 1 })

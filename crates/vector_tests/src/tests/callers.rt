@@ -35,7 +35,10 @@ fn empty_in<T: Drop>(
 {
     match Shared::of_parts(Parts::new_in(alloc, layout, limit)) {
         Ok(opened) => Ok(opened),
-        Err((_back, error)) => Err(error),
+        Err((back, error)) => {
+            drop(back);
+            Err(error)
+        }
     }
 }
 
@@ -95,8 +98,13 @@ impl<T: Drop> Callers<T> {
 
     // The run of values that a try appends.
     pub(super) fn grow_a(&mut self, values: Vec<T>) -> Option<Run> {
-        let grown = self.vector.try_grow_vec(&mut self.a, values).ok()?;
-        Some(grown.run())
+        let grown = self.vector.try_grow_vec(&mut self.a, values);
+        let run = match &grown {
+            Ok(grown) => Some(grown.run()),
+            Err(_refused) => None,
+        };
+        drop(grown);
+        run
     }
 
     // The size, by one look.
@@ -123,10 +131,13 @@ impl<T: Drop> Callers<T> {
 
     // Its length.
     pub(super) fn end(self) -> Option<u64> {
-        match self.close() {
+        let parts = self.close();
+        let len = match &parts {
             Some(parts) => Some(parts.len()),
             None => None,
-        }
+        };
+        drop(parts);
+        len
     }
 }
 
@@ -149,17 +160,24 @@ pub(super) fn on_two<T: Drop, R: AllocGlobal + Abort, F: FnOnce(&mut Callers<T>)
 pub(super) fn place_of<T: Drop, V: Drop, E: Drop>(
     pushed: Result<Placed<T>, GrowError<T, V, E>>,
 ) -> Option<u64> {
-    let placed = pushed.ok()?;
-    Some(placed.place())
+    let place = match &pushed {
+        Ok(placed) => Some(placed.place()),
+        Err(_refused) => None,
+    };
+    drop(pushed);
+    place
 }
 
 impl Callers<u64> {
     // The value at a place, by a look without a token.
     pub(super) fn at_b(&mut self, place: u64) -> Option<u64> {
-        match self.vector.at(&mut self.b, place, None) {
+        let at = self.vector.at(&mut self.b, place, None);
+        let value = match &at {
             Ok(at) => Some(*at.value),
             Err(_refused) => None,
-        }
+        };
+        drop(at);
+        value
     }
 }
 

@@ -3,7 +3,7 @@
 ghost use Rattle.std.specs.Prelude.{◌≡◌};
 ghost use Rattle.grow_core.specs.Vector.{IsHandOf};
 
-use grow_core::{AtError, AtLeast, GrowError, Grown, Hand, MendError, Never, Placed, Shared};
+use grow_core::{AtError, AtLeast, GrowError, Grown, Hand, MendError, Never, Placed, Run, Shared};
 use std::alloc::{AllocError, AllocGlobal};
 use std::sync::Wait;
 
@@ -86,10 +86,7 @@ pub(super) fn by_hand<R: AllocGlobal + Wait>(
             }
         }
         Call::Make(form, n, refused) => make_sevens(rt, vector, hand, form, n, refused),
-        Call::Clones(n, value) => match vector.grow_by(rt, hand, n, &value) {
-            Ok(grown) => ran(&grown),
-            Err(_refused) => Reply::Other,
-        },
+        Call::Clones(n, value) => cloned(vector.grow_by(rt, hand, n, &value)),
         Call::Mend(place, value) => mend(vector, hand, place, value),
         Call::Read(place) => read(vector, hand, place),
         Call::Size => Reply::Is(vector.size(hand)),
@@ -98,23 +95,28 @@ pub(super) fn by_hand<R: AllocGlobal + Wait>(
     }
 }
 
+fn cloned(grown: Result<Grown<u64>, GrowError<u64, (), AllocError>>) -> Reply {
+    let reply = match &grown {
+        Ok(grown) => ran(grown),
+        Err(_refused) => Reply::Other,
+    };
+    drop(grown);
+    reply
+}
+
 fn ran(grown: &Grown<u64>) -> Reply {
     let run = grown.run();
     Reply::Ran(run.from, run.n)
 }
 
 fn placed(pushed: Result<Placed<u64>, GrowError<u64, u64, Never>>, value: u64) -> Reply {
-    match pushed {
+    let reply = match &pushed {
         Ok(placed) => Reply::At(placed.place()),
-        Err(GrowError::Full { size, back }) => {
-            if back == value {
-                Reply::Full(size)
-            } else {
-                Reply::Other
-            }
-        }
+        Err(GrowError::Full { size, back }) if *back == value => Reply::Full(*size),
         Err(_refused) => Reply::Other,
-    }
+    };
+    drop(pushed);
+    reply
 }
 
 // A growth by values that are the same as those of a slice.
@@ -132,25 +134,33 @@ fn move_in<R: Wait>(
     match call {
         Call::TryGrow(_) => moved_in(vector.try_grow_vec(hand, moved), values),
         Call::Grow(_) => moved_in(vector.grow_vec(rt, hand, moved), values),
-        _ => match vector.append(rt, hand, moved) {
-            Ok(run) => Reply::Ran(run.from, run.n),
-            Err(error) => given_back(error, values),
-        },
+        _ => appended(vector.append(rt, hand, moved), values),
     }
+}
+
+fn appended(grown: Result<Run, GrowError<u64, Vec<u64>, Never>>, values: &[u64]) -> Reply {
+    let reply = match &grown {
+        Ok(run) => Reply::Ran(run.from, run.n),
+        Err(error) => given_back(error, values),
+    };
+    drop(grown);
+    reply
 }
 
 fn moved_in(grown: Result<Grown<u64>, GrowError<u64, Vec<u64>, Never>>, values: &[u64]) -> Reply {
-    match grown {
-        Ok(grown) => ran(&grown),
+    let reply = match &grown {
+        Ok(grown) => ran(grown),
         Err(error) => given_back(error, values),
-    }
+    };
+    drop(grown);
+    reply
 }
 
-fn given_back(error: GrowError<u64, Vec<u64>, Never>, values: &[u64]) -> Reply {
+fn given_back(error: &GrowError<u64, Vec<u64>, Never>, values: &[u64]) -> Reply {
     match error {
         GrowError::Full { size, back } => {
             if back.as_slice() == values {
-                Reply::Full(size)
+                Reply::Full(*size)
             } else {
                 Reply::Other
             }
@@ -187,11 +197,7 @@ fn make_sevens<R: Wait>(
     let reply = match form {
         Form::Try => made(vector.try_grow_with(hand, n, make)),
         Form::Again => made(vector.grow_with(rt, hand, n, make)),
-        Form::UpTo => match vector.grow_to_at_least(hand, n, make) {
-            Ok(AtLeast::Ran(grown)) => ran(&grown),
-            Ok(AtLeast::Enough { size }) => Reply::Enough(size),
-            Err(refused) => made(Err(refused)),
-        },
+        Form::UpTo => raised(vector.grow_to_at_least(hand, n, make)),
     };
     let due = match reply {
         Reply::Ran(_, n) => n,
@@ -206,23 +212,34 @@ fn make_sevens<R: Wait>(
 }
 
 fn made(grown: Result<Grown<u64>, GrowError<u64, (), u64>>) -> Reply {
-    match grown {
-        Ok(grown) => ran(&grown),
-        Err(
-            GrowError::Refused {
-                run,
-                made,
-                cause: 9,
-            },
-        ) => Reply::Refused(run.from, run.n, made.run().n),
-        Err(GrowError::Full { size, back: () }) => Reply::Full(size),
-        Err(
-            GrowError::Moved {
-                size: _size,
-                back: (),
-            },
-        ) => Reply::Moved,
-        Err(_refused) => Reply::Other,
+    let reply = match &grown {
+        Ok(grown) => ran(grown),
+        Err(refused) => not_made(refused),
+    };
+    drop(grown);
+    reply
+}
+
+fn raised(grown: Result<AtLeast<u64>, GrowError<u64, (), u64>>) -> Reply {
+    let reply = match &grown {
+        Ok(AtLeast::Ran(grown)) => ran(grown),
+        Ok(AtLeast::Enough { size }) => Reply::Enough(*size),
+        Err(refused) => not_made(refused),
+    };
+    drop(grown);
+    reply
+}
+
+fn not_made(refused: &GrowError<u64, (), u64>) -> Reply {
+    match refused {
+        GrowError::Refused {
+            run,
+            made,
+            cause: 9,
+        } => Reply::Refused(run.from, run.n, made.run().n),
+        GrowError::Full { size, .. } => Reply::Full(*size),
+        GrowError::Moved { .. } => Reply::Moved,
+        _other => Reply::Other,
     }
 }
 
@@ -230,17 +247,16 @@ pub(super) fn mend(vector: &Shared<u64>, hand: &mut Hand<u64>, place: u64, value
     requires ours { IsHandOf vector.now hand.old }
     ensures of { hand.new.of ≡ hand.old.of }
 {
-    match vector.mend(hand, place, value) {
+    let mended = vector.mend(hand, place, value);
+    let reply = match &mended {
         Ok(placed) => Reply::At(placed.place()),
-        Err((error, back)) => {
-            let reply = match error {
-                MendError::OutOfRange { size } => Reply::OutOfRange(size),
-                MendError::Pending => Reply::Pending,
-                MendError::Filled(placed) => Reply::Filled(*vector.get(&placed)),
-            };
-            if back == value { reply } else { Reply::Other }
-        }
-    }
+        Err((_error, back)) if *back != value => Reply::Other,
+        Err((MendError::OutOfRange { size }, _back)) => Reply::OutOfRange(*size),
+        Err((MendError::Pending, _back)) => Reply::Pending,
+        Err((MendError::Filled(placed), _back)) => Reply::Filled(*vector.get(placed)),
+    };
+    drop(mended);
+    reply
 }
 
 // A read without a token.
@@ -248,10 +264,13 @@ pub(super) fn read(vector: &Shared<u64>, hand: &mut Hand<u64>, place: u64) -> Re
     requires ours { IsHandOf vector.now hand.old }
     ensures of { hand.new.of ≡ hand.old.of }
 {
-    match vector.at(hand, place, None) {
+    let at = vector.at(hand, place, None);
+    let reply = match &at {
         Ok(at) => Reply::Is(*at.value),
-        Err(AtError::OutOfRange { size }) => Reply::OutOfRange(size),
+        Err(AtError::OutOfRange { size }) => Reply::OutOfRange(*size),
         Err(AtError::Pending) => Reply::Pending,
         Err(AtError::Broken(_spoilt)) => Reply::Broken,
-    }
+    };
+    drop(at);
+    reply
 }

@@ -51,7 +51,10 @@ fn meet(mine: &AtomicU64, other: &AtomicU64, turn: u64) {
 }
 
 fn try_push(seat: &mut Seat, value: u64) -> bool {
-    seat.vector.try_push_back(&mut seat.hand, value).is_ok()
+    let pushed = seat.vector.try_push_back(&mut seat.hand, value);
+    let is_pushed = pushed.is_ok();
+    drop(pushed);
+    is_pushed
 }
 
 // Pushes, and again if the other thread was first.

@@ -5,7 +5,7 @@ use super::edits::{Edit, Found, ends_as};
 use super::steps::Call::{Grow, Read, TryGrow, TryPush};
 use super::steps::Reply::{At, Is, OutOfRange, Ran};
 use super::steps::Step::{A, B};
-use super::steps::{Reply, Step, closed_after, first_wrong};
+use super::steps::{Reply, Step, ends_after, first_wrong};
 use super::ways::{Way, append, look_at, numbers};
 use grow_core::{GrowError, Parts, Run, Shared, Shown};
 use std::alloc::{AllocError, AllocGlobal, Global};
@@ -82,6 +82,17 @@ fn a_vector_may_have_a_limit_up_to_the_greatest(rt: HostRuntime) {
     }
 }
 
+// Tests whether a large value is read at the place of its number.
+fn reads_large(two: &mut Callers<[u64; 32]>, j: u64) -> bool {
+    let at = two.vector.at(&mut two.b, j, None);
+    let is_same = match &at {
+        Ok(at) => *at.value == [j; 32],
+        Err(_refused) => false,
+    };
+    drop(at);
+    is_same
+}
+
 // Tests whether each of a hundred large values is read, once all are appended.
 fn keeps_large(two: &mut Callers<[u64; 32]>) -> bool {
     for j in 0..100u64 {
@@ -90,11 +101,7 @@ fn keeps_large(two: &mut Callers<[u64; 32]>) -> bool {
         }
     }
     for j in 0..100u64 {
-        let is_same = match two.vector.at(&mut two.b, j, None) {
-            Ok(at) => *at.value == [j; 32],
-            Err(_refused) => false,
-        };
-        if !is_same {
+        if !reads_large(two, j) {
             return false;
         }
     }
@@ -129,12 +136,8 @@ const PUSHES: [(&'static [(Step, Reply)], Found); 4] = [
 #[test]
 fn segments_are_installed_as_they_are_needed(rt: HostRuntime) {
     for (pushes, sizes) in PUSHES.as_slice() {
-        let parts = closed_after(&rt, 1_000, *pushes);
-        assert!(rt;
-            ends_as(parts, &[(Edit::Sizes, *sizes)]),
-            "{}",
-            pushes.len()
-        );
+        let edits = [(Edit::Sizes, *sizes)];
+        assert!(rt; ends_after(&rt, 1_000, *pushes, &edits), "{}", pushes.len());
     }
 }
 
@@ -235,27 +238,25 @@ fn shows_bytes_by_segments(vector: &Shared<u8>) -> bool {
 
 // Tests whether a caller without a token reads the last byte.
 fn reads_last_byte(two: &mut Callers<u8>) -> bool {
-    match two.vector.at(&mut two.b, BYTES - 1, None) {
+    let at = two.vector.at(&mut two.b, BYTES - 1, None);
+    let is_read = match &at {
         Ok(at) => *at.value == byte_of(BYTES - 1),
         Err(_refused) => false,
-    }
+    };
+    drop(at);
+    is_read
 }
 
 // Tests whether a construction of BYTES places is refused at its second, and the others show that they are
 // broken.
 fn breaks_many(two: &mut Callers<u8>) -> bool {
     let make = |i: u64| -> Result<u8, u64> { if i == 0 { Ok(9) } else { Err(i) } };
-    let is_refused = match two.vector.try_grow_with(&mut two.a, BYTES, make) {
-        Err(
-            GrowError::Refused {
-                run: _run,
-                made,
-                cause: _cause,
-            },
-        ) => made.run().n == 1,
-        Ok(_grown) => false,
-        Err(_other) => false,
+    let grown = two.vector.try_grow_with(&mut two.a, BYTES, make);
+    let is_refused = match &grown {
+        Err(GrowError::Refused { made, .. }) => made.run().n == 1,
+        _ => false,
     };
+    drop(grown);
     for place in BYTES + 1..2 * BYTES {
         if !matches!(two.vector.look(place), Shown::Broken(_)) {
             return false;

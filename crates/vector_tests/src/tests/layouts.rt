@@ -100,9 +100,17 @@ fn breaks_and_mends_on<R: AllocGlobal + Wait>(
 }
 
 // The same on a vector whose first segment has 2^f places.
-fn breaks_and_mends<R: AllocGlobal + Wait>(rt: &R, f: u32, n: u64, at: u64) -> Option<bool> {
-    let mut two = Callers::try_new_in(rt.alloc(), Layout::new(f)?, 1_001).ok()?;
-    Some(breaks_and_mends_on(rt, &mut two, n, at))
+fn breaks_and_mends<R: AllocGlobal + Wait>(rt: &R, f: u32, n: u64, at: u64) -> bool {
+    let Some(layout) = Layout::new(f) else {
+        return false;
+    };
+    let mut made = Callers::try_new_in(rt.alloc(), layout, 1_001);
+    let is_so = match &mut made {
+        Ok(two) => breaks_and_mends_on(rt, two, n, at),
+        Err(_refused) => false,
+    };
+    drop(made);
+    is_so
 }
 
 // The first segment's exponent, the number of places of a construction, over three segments, and the one that
@@ -118,10 +126,7 @@ const BROKEN: [(u32, u64, u64); 5] = [
 #[test]
 fn a_refused_construction_breaks_its_places_in_each_layout_and_each_is_mended(rt: HostRuntime) {
     for (f, n, at) in BROKEN.as_slice() {
-        assert!(rt;
-            breaks_and_mends(&rt, *f, *n, *at) == Some(true),
-            "{f} {n} {at}"
-        );
+        assert!(rt; breaks_and_mends(&rt, *f, *n, *at), "{f} {n} {at}");
     }
 }
 
@@ -177,18 +182,37 @@ fn has_all(parts: &Parts<u64>) -> bool {
         && parts.len() == MEMBERS + 2
 }
 
-// Tests whether a vector whose first segment has 2^f places does so.
-fn lives_with_many<R: AllocGlobal + Wait>(rt: &R, f: u32) -> Option<bool> {
-    let mut parts = edited(rt.alloc(), f, 2_000, &[])?;
-    let is_made = room(&mut parts, MEMBERS) == Ok(true) && appends_many(&mut parts);
-    let mut life = Life::open(parts)?;
-    let is_read = reads_all_and_goes_on(rt, &mut life);
-    Some(is_made && is_read && has_all(&life.close()?))
+// Tests whether a list of these members does so once it is opened, and then closed.
+fn opens_and_has_all<R: AllocGlobal + Wait>(rt: &R, parts: Parts<u64>) -> bool {
+    match Life::open(parts) {
+        Some(mut life) => {
+            let is_read = reads_all_and_goes_on(rt, &mut life);
+            let closed = life.close();
+            let has_them = match &closed {
+                Some(parts) => has_all(parts),
+                None => false,
+            };
+            drop(closed);
+            is_read && has_them
+        }
+        None => false,
+    }
+}
+
+// The same of a new list whose first segment has 2^f places.
+fn lives_with_many<R: AllocGlobal + Wait>(rt: &R, f: u32) -> bool {
+    match edited(rt.alloc(), f, 2_000, &[]) {
+        Some(mut parts) => {
+            let is_made = room(&mut parts, MEMBERS) == Ok(true) && appends_many(&mut parts);
+            opens_and_has_all(rt, parts) && is_made
+        }
+        None => false,
+    }
 }
 
 #[test]
 fn a_list_of_a_thousand_members_is_opened_in_each_layout(rt: HostRuntime) {
     for f in [1u32, 3, 8].as_slice() {
-        assert!(rt; lives_with_many(&rt, *f) == Some(true), "{f}");
+        assert!(rt; lives_with_many(&rt, *f), "{f}");
     }
 }

@@ -6,11 +6,11 @@ ghost use Rattle.grow_core.specs.Grown.{IsGrownOf, values_of};
 use super::callers::{Callers, on_two, place_of};
 use super::edits::Edit::{Members, Sizes};
 use super::edits::Found::Done;
-use super::edits::{Edit, Found, ends_as};
+use super::edits::{Edit, Found};
 use super::steps::Call::{Make, Push, Read, TryPush};
 use super::steps::Reply::{At, Broken, Enough, Full, Is, Pending, Ran, Refused};
 use super::steps::Step::{A, B};
-use super::steps::{Form, NONE, Reply, Step, closed_after, first_wrong, mend, read};
+use super::steps::{Form, NONE, Reply, Step, ends_after, first_wrong, mend, read};
 use grow_core::{GrowError, Grown, Hand, Never, Run, Shared};
 use std::alloc::{AllocError, AllocGlobal};
 use std::process::Abort;
@@ -31,7 +31,7 @@ fn a_refused_construction_breaks_its_own_places_alone(rt: HostRuntime) {
             (A(TryPush(5)), At(3)),
             (B(Read(3)), Is(5)),
         ];
-        assert!(rt; ends_as(closed_after(&rt, 8, &steps), left), "{at}");
+        assert!(rt; ends_after(&rt, 8, &steps, left), "{at}");
     }
 }
 
@@ -48,7 +48,7 @@ const TWO_BROKEN: [(Edit, Found); 2] = [
 
 #[test]
 fn broken_places_are_broken_in_the_closed_list(rt: HostRuntime) {
-    assert!(rt; ends_as(closed_after(&rt, 8, &BREAKS), &TWO_BROKEN));
+    assert!(rt; ends_after(&rt, 8, &BREAKS, &TWO_BROKEN));
 }
 
 const TO_SIZES: [(Step, Reply); 8] = [

@@ -28,29 +28,31 @@ const GROWTHS: [(Way, u64, u64); 8] = [
     (Way::UpTo, 0, 3),
 ];
 
-// Appends two runs. Each wants a segment that is not there yet.
-fn grow_twice<R: AllocGlobal + Wait + Abort>(
+// Tests whether two runs are appended. Each wants a segment that is not there yet.
+fn grows_twice<R: AllocGlobal + Wait>(
     rt: &R,
     two: &mut Callers<u64>,
     growth: &Way,
     first: u64,
     asked: u64,
-) {
+) -> bool {
     for from in [0, 3].as_slice() {
         let run = Run { from: *from, n: 3 };
         let won = append_again(rt, two, growth, run, first);
-        assert!(rt; won == (Ok(run), asked), "{growth:?} {from}");
-        let last = look_at(&two.vector, from.wrapping_add(2));
-        assert!(rt; last == Some(2), "{growth:?} {from}");
+        if won != (Ok(run), asked) || look_at(&two.vector, from.wrapping_add(2)) != Some(2) {
+            return false;
+        }
     }
+    true
 }
 
 #[test]
 fn each_growth_is_tried_again(rt: HostRuntime) {
     for (growth, first, asked) in GROWTHS.as_slice() {
         let mut two = fresh_again(&rt, 8);
-        grow_twice(&rt, &mut two, growth, *first, *asked);
+        let is_so = grows_twice(&rt, &mut two, growth, *first, *asked);
         drop(two);
+        assert!(rt; is_so, "{growth:?}");
     }
 }
 
@@ -171,12 +173,12 @@ const CHANGES: [(Edit, Found); 7] = [
     (Members(&[Some(5), Some(8)]), Done),
 ];
 
-// Breaks three places, at the second try if memory was refused to the first, and mends two.
-fn break_and_mend<R: AllocGlobal + Wait + Abort>(rt: &R, two: &mut Callers<u64>) {
+// Tests whether three places are broken, at the second try if memory was refused to the first, and two mended.
+fn breaks_and_mends<R: AllocGlobal + Wait>(rt: &R, two: &mut Callers<u64>) -> bool {
     let breaks_three = A(Make(Form::Try, 3, 0));
     let broken = Refused(0, 3, 0);
-    assert!(rt; two.take(rt, breaks_three) == broken || two.take(rt, breaks_three) == broken);
-    assert_eq!(rt; two.first_wrong(rt, &MENDS), None);
+    let is_broken = two.take(rt, breaks_three) == broken || two.take(rt, breaks_three) == broken;
+    is_broken && two.first_wrong(rt, &MENDS) == None
 }
 
 // The count of the requests shows that these take no memory: the vector's, and those of its tokens and two
@@ -184,6 +186,6 @@ fn break_and_mend<R: AllocGlobal + Wait + Abort>(rt: &R, two: &mut Callers<u64>)
 #[test]
 fn a_mend_a_close_and_changes_of_a_list_take_no_memory(rt: HostRuntime) {
     let mut two = fresh_again(&rt, 8);
-    break_and_mend(&rt, &mut two);
-    assert!(rt; ends_as(two.close(), &CHANGES));
+    let is_mended = breaks_and_mends(&rt, &mut two);
+    assert!(rt; ends_as(two.close(), &CHANGES) && is_mended);
 }

@@ -12,7 +12,7 @@ use super::lives::live;
 use super::steps::Call::{Make, Mend, Read};
 use super::steps::Reply::{At, Broken, Filled, Is, OutOfRange, Pending, Refused};
 use super::steps::Step::{A, B};
-use super::steps::{Call, Form, Reply, Step, closed_after, mend, read};
+use super::steps::{Call, Form, Reply, Step, closed_after, ends_after, mend, read};
 use grow_core::{Hand, Shared};
 use std::alloc::AllocGlobal;
 use std::process::Abort;
@@ -36,7 +36,7 @@ const MENDED: [(Edit, Found); 1] = [(Members(&[Some(7), Some(20), None]), Done)]
 
 #[test]
 fn a_broken_place_is_mended_once(rt: HostRuntime) {
-    assert!(rt; ends_as(closed_after(&rt, 8, &MENDS), &MENDED));
+    assert!(rt; ends_after(&rt, 8, &MENDS, &MENDED));
 }
 
 const BREAKS: [(Step, Reply); 1] = [(A(Make(Form::Try, 3, 1)), Refused(0, 3, 1))];

@@ -198,15 +198,20 @@ fn has_room_again(parts: &mut Parts<u64>, n: u64, members: &[Option<u64>]) -> bo
         || (has_members(parts, members) && parts.capacity() < n && room(parts, n) == Ok(true))
 }
 
+// Tests whether a new list of limit 64 has room for two members and then for 64, and has its member still.
+fn keeps_members(parts: &mut Parts<u64>) -> bool {
+    has_room_again(parts, 2, &[])
+        && append(parts, Some(7))
+        && has_room_again(parts, 64, &[Some(7)])
+        && parts.capacity() == 64
+        && member(parts, 0) == Some(Some(7))
+}
+
 // It passes too if any one allocation is made to fail.
 #[test]
 fn a_refused_room_keeps_the_members(rt: HostRuntime) {
     let mut parts = Parts::new(rt.alloc(), 64);
-    assert!(rt;
-        has_room_again(&mut parts, 2, &[])
-            && append(&mut parts, Some(7))
-            && has_room_again(&mut parts, 64, &[Some(7)])
-            && parts.capacity() == 64
-            && member(&parts, 0) == Some(Some(7))
-    );
+    let keeps = keeps_members(&mut parts);
+    drop(parts);
+    assert!(rt; keeps);
 }

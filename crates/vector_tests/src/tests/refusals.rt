@@ -10,6 +10,7 @@ use super::ways::{Way, append_again};
 use grow_core::{GrowError, Run};
 use std::alloc::AllocGlobal;
 use std::process::Abort;
+use std::sync::Wait;
 
 // Two values fill a vector of limit 2.
 const FULL: [(Step, Reply); 4] = [
@@ -70,11 +71,22 @@ pub(super) fn fresh_again<T: Drop, R: AllocGlobal + Abort>(rt: &R, limit: u64) -
 
 // Tests whether a value is appended, by a second call if memory was refused to the first.
 fn push_again(two: &mut Callers<u64>, value: u64) -> bool {
-    match two.vector.try_push_back(&mut two.a, value) {
-        Ok(placed) => *two.vector.get(&placed) == value,
-        Err(GrowError::NoMemory { back }) => back == value && two.push_a(back).is_some(),
-        Err(_other) => false,
-    }
+    let pushed = two.vector.try_push_back(&mut two.a, value);
+    let (is_pushed, back) = match &pushed {
+        Ok(placed) => (*two.vector.get(placed) == value, None),
+        Err(GrowError::NoMemory { back }) => (false, Some(*back)),
+        Err(_other) => (false, None),
+    };
+    drop(pushed);
+    is_pushed || back == Some(value) && two.push_a(value).is_some()
+}
+
+// Tests whether a value and then two are appended, each by a second call if memory was refused to the first.
+fn appends_three<R: AllocGlobal + Wait>(rt: &R, two: &mut Callers<u64>) -> bool {
+    let run = Run { from: 1, n: 2 };
+    push_again(two, 5)
+        && append_again(rt, two, &Way::TryVec, run, 6) == (Ok(run), 0)
+        && two.size_b() == 3
 }
 
 // It passes too if any one allocation is made to fail: the call that asked for it gives back what it was
@@ -82,10 +94,7 @@ fn push_again(two: &mut Callers<u64>, value: u64) -> bool {
 #[test]
 fn a_refused_allocation_gives_the_values_back(rt: HostRuntime) {
     let mut two = fresh_again(&rt, 8);
-    let run = Run { from: 1, n: 2 };
-    assert!(rt;
-        push_again(&mut two, 5)
-            && append_again(&rt, &mut two, &Way::TryVec, run, 6) == (Ok(run), 0)
-            && two.size_b() == 3
-    );
+    let appends = appends_three(&rt, &mut two);
+    drop(two);
+    assert!(rt; appends);
 }

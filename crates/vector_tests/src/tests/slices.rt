@@ -55,16 +55,21 @@ fn has_sides(parts: &Parts<u64>, sides: &[(u64, (u64, Option<u64>))]) -> bool {
     true
 }
 
+// Tests whether a list of a hundred lends its sides, also while one of its members is broken.
+fn lends_its_sides(parts: &mut Parts<u64>) -> bool {
+    room(parts, 100) == Ok(true)
+        && appends(parts, 100)
+        && has_sides(parts, &SIDES)
+        && replace(parts, 79, None) == Some(Some(158))
+        && has_sides(parts, &SIDES_WITH_A_BROKEN_ONE)
+        && replace(parts, 79, Some(158)) == Some(None)
+        && has_sides(parts, &SIDES)
+}
+
 #[test]
 fn members_of_a_segment_are_lent_as_a_slice(rt: HostRuntime) {
     let mut parts = Parts::new(rt.alloc(), 200);
-    assert!(rt;
-        room(&mut parts, 100) == Ok(true)
-            && appends(&mut parts, 100)
-            && has_sides(&parts, &SIDES)
-            && replace(&mut parts, 79, None) == Some(Some(158))
-            && has_sides(&parts, &SIDES_WITH_A_BROKEN_ONE)
-            && replace(&mut parts, 79, Some(158)) == Some(None)
-            && has_sides(&parts, &SIDES)
-    );
+    let lends = lends_its_sides(&mut parts);
+    drop(parts);
+    assert!(rt; lends);
 }

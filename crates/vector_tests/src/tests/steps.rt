@@ -3,6 +3,7 @@ ghost use Rattle.seg_core.specs.Segment.{IsLimit};
 
 use super::callers::Callers;
 pub(super) use super::calls::{Call, Form, NONE, Reply, by_hand, mend, read};
+use super::edits::{Edit, Found, ends_as};
 use grow_core::{Parts, Shared, Shown};
 use std::alloc::AllocGlobal;
 use std::process::Abort;
@@ -44,7 +45,24 @@ pub(super) fn closed_after<R: AllocGlobal + Wait + Abort>(
     let mut two = Callers::new(rt, limit);
     let wrong = two.first_wrong(rt, steps);
     let parts = two.close();
-    if wrong == None { parts } else { None }
+    if wrong == None {
+        parts
+    } else {
+        drop(parts);
+        None
+    }
+}
+
+// Tests whether there is such a list, and each edit of it returns what it should.
+pub(super) fn ends_after<R: AllocGlobal + Wait + Abort>(
+    rt: &R,
+    limit: u64,
+    steps: &[(Step, Reply)],
+    edits: &[(Edit, Found)],
+) -> bool
+    requires { IsLimit limit }
+{
+    ends_as(closed_after(rt, limit, steps), edits)
 }
 
 impl Callers<u64> {

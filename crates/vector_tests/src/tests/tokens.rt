@@ -25,9 +25,16 @@ fn look_by(vector: &Shared<u64>, hand: &mut Hand<u64>, token: &Placed<u64>) -> O
     requires of { IsPlacedOf vector.now token.now }
     ensures { hand.new.of ≡ hand.old.of }
 {
-    let at = vector.at(hand, token.place(), Some(token)).ok()?;
-    vector.agree(&at.placed, token);
-    Some(*at.value)
+    let at = vector.at(hand, token.place(), Some(token));
+    let value = match &at {
+        Ok(at) => {
+            vector.agree(&at.placed, token);
+            Some(*at.value)
+        }
+        Err(_refused) => None,
+    };
+    drop(at);
+    value
 }
 
 // A run, the second of its places, and what is read there.

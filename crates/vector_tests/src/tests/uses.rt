@@ -102,7 +102,10 @@ fn close_both(vector: Shared<u64>, mut a: Hand<u64>, b: Hand<u64>) -> u64
 {
     vector.join(&mut a, b);
     a.whole_laws();
-    vector.into_parts(a).len()
+    let parts = vector.into_parts(a);
+    let len = parts.len();
+    drop(parts);
+    len
 }
 
 // A value of the opened list is what anybody reads at its place, with a token of the place or without.
@@ -128,8 +131,16 @@ fn open_and_read(parts: Parts<u64>, place: u64) -> Option<Option<u64>>
         → IfSome result (λ read. read ≡ Some x) }
 {
     match Shared::of_parts(parts) {
-        Ok((vector, mut hand)) => Some(read_opened(&vector, &mut hand, place, None)),
-        Err(_refused) => None,
+        Ok((vector, mut hand)) => {
+            let read = read_opened(&vector, &mut hand, place, None);
+            drop(hand);
+            drop(vector);
+            Some(read)
+        }
+        Err(refused) => {
+            drop(refused);
+            None
+        }
     }
 }
 
@@ -163,7 +174,10 @@ fn push_and_close(vector: Shared<u64>, hand: Hand<u64>, value: u64) -> Option<(P
             let _value = parts.recall(&placed);
             Some((parts, placed.place()))
         }
-        None => None,
+        None => {
+            drop(parts);
+            None
+        }
     }
 }
 
@@ -176,7 +190,10 @@ fn live_once(parts: Parts<u64>, value: u64) -> Option<Parts<u64>>
             Some((after, _place)) => Some(after),
             None => None,
         },
-        Err(_refused) => None,
+        Err(refused) => {
+            drop(refused);
+            None
+        }
     }
 }
 
@@ -190,14 +207,17 @@ fn read_of_two<R: Threads + Sync>(
     requires ours { IsHandOf vector.now a }
     requires also_ours { IsHandOf vector.now b }
 {
-    match push_in_two_threads(rt, vector, a, b) {
+    let pushed = push_in_two_threads(rt, vector, a, b);
+    let read = match &pushed {
         Some((x, y)) => Some((
-            *vector.get(&x),
-            *vector.get(&y),
+            *vector.get(x),
+            *vector.get(y),
             x.place().wrapping_add(y.place()),
         )),
         None => None,
-    }
+    };
+    drop(pushed);
+    read
 }
 
 #[test]
@@ -253,7 +273,11 @@ fn recall_of_new(alloc: Global, value: u64) -> Option<u64> {
 fn member_of_new(alloc: Global, value: u64) -> Option<Option<u64>> {
     match empty(alloc, 8) {
         Ok((vector, hand)) => match push_and_close(vector, hand, value) {
-            Some((parts, place)) => member(&parts, place),
+            Some((parts, place)) => {
+                let found = member(&parts, place);
+                drop(parts);
+                found
+            }
             None => None,
         },
         Err(_error) => None,

@@ -35,6 +35,18 @@ pub(super) fn look_at<T: Copy>(vector: &Shared<T>, place: u64) -> Option<T> {
     value
 }
 
+// Tests whether looks show n values after the first, and no more: they begin with a value, and go up in these
+// steps.
+fn are_in_order(vector: &Shared<u64>, n: u64, first: u64, step: u64) -> bool {
+    for i in 0..n {
+        let value = i.wrapping_mul(step).wrapping_add(first);
+        if look_at(vector, i.wrapping_add(1)) != Some(value) {
+            return false;
+        }
+    }
+    look_at(vector, n.wrapping_add(1)) == None
+}
+
 // Tests whether n values after the first come to their places, in order: the numbers of the places, or clones
 // of 7.
 fn appends_in_order<R: AllocGlobal + Wait>(
@@ -48,17 +60,11 @@ fn appends_in_order<R: AllocGlobal + Wait>(
         _ => (1, 1),
     };
     let run = Run { from: 1, n };
-    let has_run = two.push_b(0) == Some(0) && append(rt, two, way, run, first).0 == Ok(run);
-    if !has_run || look_at(&two.vector, 0) != Some(0) {
-        return false;
-    }
-    for i in 0..n {
-        let value = i.wrapping_mul(step).wrapping_add(first);
-        if look_at(&two.vector, i.wrapping_add(1)) != Some(value) {
-            return false;
-        }
-    }
-    look_at(&two.vector, n.wrapping_add(1)) == None && two.size_b() == n.wrapping_add(1)
+    two.push_b(0) == Some(0)
+        && append(rt, two, way, run, first).0 == Ok(run)
+        && look_at(&two.vector, 0) == Some(0)
+        && are_in_order(&two.vector, n, first, step)
+        && two.size_b() == n.wrapping_add(1)
 }
 
 // Tests whether they do on a vector whose first segment has 2^f places.

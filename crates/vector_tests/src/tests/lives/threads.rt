@@ -110,5 +110,8 @@ fn what_two_threads_append_is_in_the_closed_list(rt: HostRuntime) {
 #[test]
 fn ten_lives_by_two_threads_lose_nothing(rt: HostRuntime) {
     let parts = live_by_threads(&rt, Parts::new(rt.alloc(), 20 * EACH), 10);
-    assert!(rt; in_order(parts, 0, 10).is_some());
+    let kept = in_order(parts, 0, 10);
+    let is_kept = kept.is_some();
+    drop(kept);
+    assert!(rt; is_kept);
 }

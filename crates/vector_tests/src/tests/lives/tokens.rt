@@ -24,12 +24,12 @@ fn tokens_of_both(vector: &Shared<u64>, hand: &mut Hand<u64>) -> Option<(Placed<
     ensures of { hand.new.of ≡ hand.old.of }
     ensures tokens { IfSome result (λ (x, y). IsPlacedOf vector.now x × IsPlacedOf vector.now y) }
 {
-    match token_of_old(vector, hand) {
-        Some(old) => match vector.try_push_back(hand, 40) {
-            Ok(new) => Some((old, new)),
-            Err(_refused) => None,
-        },
-        None => None,
+    match (
+        token_of_old(vector, hand),
+        vector.try_push_back(hand, 40).ok(),
+    ) {
+        (Some(old), Some(new)) => Some((old, new)),
+        _ => None,
     }
 }
 

@@ -89,10 +89,13 @@ fn look_twice(vector: &Shared<u64>, hand: &mut Hand<u64>, place: u64) -> Option<
     requires ours { IsHandOf vector.now hand.old }
     ensures { hand.new.of ≡ hand.old.of }
 {
-    match vector.at(hand, place, None) {
+    let at = vector.at(hand, place, None);
+    let values = match &at {
         Ok(at) => Some((*at.value, *vector.get(&at.placed))),
         Err(_refused) => None,
-    }
+    };
+    drop(at);
+    values
 }
 
 // Looks until the place has a value, which is its number.

@@ -11,4 +11,4 @@ returns c =
     let word_is : hand.of ≡ c.args.vector.word = c.join.ensures.of ∙ c.requires.ours in
     let tiles = subst (λ (w : WordView). Tiles w.base hand.seen hand.mine) word_is c.whole_laws.ensures.tiles in
     let joined = subst (λ mine. Tiles c.args.vector.word.base hand.seen mine) c.join.ensures.mine tiles in
-    (hand.seen, joined, c.len-2.ensures.value ∙ c.into_parts.ensures.length ∙ ap (λ (w : WordView). w.base + sum hand.seen) word_is)
+    (hand.seen, joined, c.len-len.ensures.value ∙ c.into_parts-parts.ensures.length ∙ ap (λ (w : WordView). w.base + sum hand.seen) word_is)

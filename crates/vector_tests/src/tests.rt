@@ -50,7 +50,7 @@ fn a_look_at_the_size_is_a_new_one(rt: HostRuntime) {
 }
 
 // The second hand has not seen the first push when it tries.
-const IN_TURN: [(Step, Reply); 4] = [
+static IN_TURN: [(Step, Reply); 4] = [
     (A(TryPush(5)), At(0)),
     (B(Seen), Is(0)),
     (B(TryPush(6)), At(1)),
@@ -63,7 +63,7 @@ fn a_try_looks_at_the_size_anew(rt: HostRuntime) {
     assert_eq!(rt; first_wrong(&rt, 8, &IN_TURN), None);
 }
 
-const MEETING: [(Step, Reply); 6] = [
+static MEETING: [(Step, Reply); 6] = [
     (A(Share), Is(65_436)),
     (B(Share), Is(100)),
     (B(TryPush(5)), At(0)),

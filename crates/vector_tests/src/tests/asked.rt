@@ -17,7 +17,7 @@ use std::thread::{Threads, join};
 
 // Growths of a vector of limit 5,000 with two values, and what comes of each. The player counts how often the
 // maker is asked.
-const ASKED: [(Call, Reply); 24] = [
+static ASKED: [(Call, Reply); 24] = [
     (Make(Try, 0, 0), Ran(2, 0)),
     (Make(Try, 1, NONE), Ran(2, 1)),
     (Make(Try, 3, NONE), Ran(2, 3)),

@@ -5,12 +5,12 @@ use super::steps::Reply::{At, Is, OutOfRange, Ran};
 use super::steps::Step::{A, B};
 use super::steps::{Call, Reply, Step};
 
-const BY_BOTH: [(Step, Reply); 2] = [
+static BY_BOTH: [(Step, Reply); 2] = [
     (A(TryPush(5)), At(0)),
     (B(TryGrow(&[6, 7, 8, 9])), Ran(1, 4)),
 ];
 
-const EACH_PLACE: [(Call, Reply); 16] = [
+static EACH_PLACE: [(Call, Reply); 16] = [
     (Read(0), Is(5)),
     (Read(1), Is(6)),
     (Read(2), Is(7)),
@@ -32,6 +32,9 @@ const EACH_PLACE: [(Call, Reply); 16] = [
 #[test]
 fn a_joined_hand_finds_each_place(rt: HostRuntime) {
     let mut two = Callers::new(&rt, 16);
-    assert_eq!(rt; two.first_wrong(&rt, &BY_BOTH), None);
-    assert_eq!(rt; two.joined().first_wrong(&rt, &EACH_PLACE), None);
+    let wrong = two.first_wrong(&rt, &BY_BOTH);
+    let mut life = two.joined();
+    let then_wrong = life.first_wrong(&rt, &EACH_PLACE);
+    drop(life);
+    assert!(rt; (wrong, then_wrong) == (None, None));
 }

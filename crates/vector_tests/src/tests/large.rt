@@ -65,7 +65,7 @@ fn opens_with<R: AllocGlobal + Wait + Abort>(rt: &R, limit: u64) -> bool {
 }
 
 // The greatest limit is 2^40.
-const LIMITS: [u64; 7] = [
+static LIMITS: [u64; 7] = [
     4_294_967_296,
     8_589_934_592,
     8_589_934_593,
@@ -115,7 +115,7 @@ fn values_may_be_large(rt: HostRuntime) {
 }
 
 // Pushes by either caller, and the length, the limit and the capacity of the list that is closed after them.
-const PUSHES: [(&'static [(Step, Reply)], Found); 4] = [
+static PUSHES: [(&'static [(Step, Reply)], Found); 4] = [
     (&[], Sizes(0, 1_000, 0)),
     (&[(A(TryPush(0)), At(0))], Sizes(1, 1_000, 2)),
     (
@@ -141,7 +141,7 @@ fn segments_are_installed_as_they_are_needed(rt: HostRuntime) {
     }
 }
 
-const NOTHING: [(Step, Reply); 4] = [
+static NOTHING: [(Step, Reply); 4] = [
     (B(TryPush(5)), At(0)),
     (A(TryGrow(&[])), Ran(1, 0)),
     (B(TryPush(6)), At(1)),
@@ -157,7 +157,7 @@ fn a_growth_of_nothing_returns_the_size_that_it_finds(rt: HostRuntime) {
 // How many values are made with tokens: 2^17.
 const TOKENS: u64 = 131_072;
 
-const GROWTHS: [Way; 6] = [
+static GROWTHS: [Way; 6] = [
     Way::TryVec,
     Way::Vec,
     Way::With,

@@ -16,7 +16,7 @@ use std::sync::Wait;
 
 // Places 1 to 301 are appended, and place 0 is mended. Places 255 and 256 are on either side of the end of a
 // segment.
-const MENDED: [Story; 1] = [(
+static MENDED: [Story; 1] = [(
     &[
         (TryPush(5), At(1)),
         (Clones(300, 7), Ran(2, 300)),
@@ -115,7 +115,7 @@ fn breaks_and_mends<R: AllocGlobal + Wait>(rt: &R, f: u32, n: u64, at: u64) -> b
 
 // The first segment's exponent, the number of places of a construction, over three segments, and the one that
 // is refused.
-const BROKEN: [(u32, u64, u64); 5] = [
+static BROKEN: [(u32, u64, u64); 5] = [
     (1, 7, 1),
     (3, 31, 1),
     (3, 31, 9),
@@ -162,7 +162,7 @@ fn reads_all_and_goes_on<R: AllocGlobal + Wait>(rt: &R, life: &mut Life<u64>) ->
     life.first_wrong(rt, &GOES_ON) == None
 }
 
-const GOES_ON: [(Call, Reply); 4] = [
+static GOES_ON: [(Call, Reply); 4] = [
     (TryPush(5), At(MEMBERS)),
     (TryPush(6), At(MEMBERS + 1)),
     (Mend(3, 9), At(3)),

@@ -68,7 +68,7 @@ pub(super) fn has_lives<R: AllocGlobal + Wait>(
     }
 }
 
-const THREE: [(Edit, Found); 4] = [
+static THREE: [(Edit, Found); 4] = [
     (Room(3), Capacity(4)),
     (Append(Some(10)), Done),
     (Append(None), Done),
@@ -82,7 +82,7 @@ pub(super) fn three(alloc: Global, limit: u64) -> Option<Parts<u64>>
     edited(alloc, 1, limit, &THREE)
 }
 
-const GROWN: [Story; 1] = [(
+static GROWN: [Story; 1] = [(
     &[
         (Read(0), Is(10)),
         (Read(1), Broken),
@@ -101,7 +101,7 @@ fn a_list_is_opened_read_grown_and_closed(rt: HostRuntime) {
     assert!(rt; has_lives(&rt, 1, 8, &THREE, &GROWN));
 }
 
-const BROKEN_AND_MENDED: [Story; 2] = [
+static BROKEN_AND_MENDED: [Story; 2] = [
     (
         &[
             (Make(Form::Try, 1, 0), Refused(3, 1, 0)),
@@ -121,7 +121,7 @@ fn a_place_that_broke_is_broken_in_the_list_and_mended(rt: HostRuntime) {
     assert!(rt; has_lives(&rt, 1, 8, &THREE, &BROKEN_AND_MENDED));
 }
 
-const TEN: [Story; 10] = [
+static TEN: [Story; 10] = [
     (&[(TryPush(0), At(0)), (TryPush(0), At(1))], &[]),
     (&[(TryPush(1), At(2)), (TryPush(1), At(3))], &[]),
     (&[(TryPush(2), At(4)), (TryPush(2), At(5))], &[]),
@@ -168,7 +168,7 @@ fn ten_lives_lose_nothing(rt: HostRuntime) {
     assert!(rt; has_lives(&rt, 1, 32, &[], &TEN));
 }
 
-const TWO_SEGMENTS: [Story; 1] = [(
+static TWO_SEGMENTS: [Story; 1] = [(
     &[(TryGrow(&[5, 6, 7]), Ran(0, 3))],
     &[(Sizes, Found::Sizes(3, 8, 4))],
 )];
@@ -181,14 +181,14 @@ fn the_capacity_is_that_of_the_installed_segments(rt: HostRuntime) {
 
 const GREATEST: u64 = 1_099_511_627_776;
 
-const NO_CALL: [Story; 1] = [(&[], &[(Sizes, Found::Sizes(0, GREATEST, 0))])];
+static NO_CALL: [Story; 1] = [(&[], &[(Sizes, Found::Sizes(0, GREATEST, 0))])];
 
 #[test]
 fn a_list_may_have_the_greatest_limit(rt: HostRuntime) {
     assert!(rt; has_lives(&rt, 1, GREATEST, &[], &NO_CALL));
 }
 
-const EXCHANGES: [(Edit, Found); 5] = [
+static EXCHANGES: [(Edit, Found); 5] = [
     (Replace(0, Some(11)), Member(Some(10))),
     (Replace(1, Some(20)), Member(None)),
     (Replace(2, None), Member(Some(30))),
@@ -201,7 +201,10 @@ fn a_member_is_exchanged(rt: HostRuntime) {
     assert!(rt; ends_as(three(rt.alloc(), 8), &EXCHANGES));
 }
 
-const SAME_THREE: [(Edit, Found); 2] = [(Sizes, Found::Sizes(3, 8, 4)), (Get(2), Member(Some(30)))];
+static SAME_THREE: [(Edit, Found); 2] = [
+    (Sizes, Found::Sizes(3, 8, 4)),
+    (Get(2), Member(Some(30))),
+];
 
 // The vector of a list of three that was given back.
 fn open_three(mut back: Parts<u64>) -> Option<Life<u64>> {
@@ -233,7 +236,7 @@ fn three_again(alloc: Global) -> Option<Parts<u64>> {
     }
 }
 
-const READ_TWO: [(Call, Reply); 2] = [(Read(0), Is(10)), (Read(1), Broken)];
+static READ_TWO: [(Call, Reply); 2] = [(Read(0), Is(10)), (Read(1), Broken)];
 
 // The list after a life that began at a second call.
 fn live_again<R: AllocGlobal + Wait>(rt: &R) -> Option<Parts<u64>> {

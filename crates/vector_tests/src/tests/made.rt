@@ -36,12 +36,12 @@ fn a_refused_construction_breaks_its_own_places_alone(rt: HostRuntime) {
 }
 
 // Another caller looks at a broken place.
-const BREAKS: [(Step, Reply); 2] = [
+static BREAKS: [(Step, Reply); 2] = [
     (A(Make(Form::Try, 3, 1)), Refused(0, 3, 1)),
     (B(Read(2)), Broken),
 ];
 
-const TWO_BROKEN: [(Edit, Found); 2] = [
+static TWO_BROKEN: [(Edit, Found); 2] = [
     (Sizes, Found::Sizes(3, 8, 4)),
     (Members(&[Some(7), None, None]), Done),
 ];
@@ -51,7 +51,7 @@ fn broken_places_are_broken_in_the_closed_list(rt: HostRuntime) {
     assert!(rt; ends_after(&rt, 8, &BREAKS, &TWO_BROKEN));
 }
 
-const TO_SIZES: [(Step, Reply); 8] = [
+static TO_SIZES: [(Step, Reply); 8] = [
     (A(Push(4)), At(0)),
     (A(Make(Form::UpTo, 3, NONE)), Ran(1, 2)),
     (A(Make(Form::UpTo, 3, NONE)), Enough(3)),

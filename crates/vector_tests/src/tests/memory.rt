@@ -17,7 +17,7 @@ use std::process::Abort;
 use std::sync::Wait;
 
 // Each growth, the first value that it appends, and how often its maker is asked.
-const GROWTHS: [(Way, u64, u64); 8] = [
+static GROWTHS: [(Way, u64, u64); 8] = [
     (Way::TryVec, 0, 0),
     (Way::Vec, 0, 0),
     (Way::Append, 0, 0),
@@ -160,10 +160,10 @@ fn a_clone_that_finds_no_memory_breaks_the_places_from_there_on(rt: HostRuntime)
     assert!(rt; goes_on);
 }
 
-const MENDS: [(Step, Reply); 2] = [(B(Mend(2, 6)), At(2)), (B(Mend(0, 5)), At(0))];
+static MENDS: [(Step, Reply); 2] = [(B(Mend(2, 6)), At(2)), (B(Mend(0, 5)), At(0))];
 
 // A list of a value, a broken member and a value takes another, mends the broken one, and gives two back.
-const CHANGES: [(Edit, Found); 7] = [
+static CHANGES: [(Edit, Found); 7] = [
     (Append(Some(7)), Done),
     (Replace(1, Some(8)), Member(None)),
     (Get(0), Member(Some(5))),

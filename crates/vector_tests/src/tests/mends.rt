@@ -20,7 +20,7 @@ use std::sync::atomic::{AtomicU64, Ordering};
 use std::thread::{Threads, join};
 
 // The last two of three places are broken. The hand that mends has not seen the size before.
-const MENDS: [(Step, Reply); 9] = [
+static MENDS: [(Step, Reply); 9] = [
     (A(Make(Form::Try, 3, 1)), Refused(0, 3, 1)),
     (B(Read(1)), Broken),
     (B(Mend(1, 20)), At(1)),
@@ -32,17 +32,17 @@ const MENDS: [(Step, Reply); 9] = [
     (B(Mend(u64::MAX, 30)), OutOfRange(3)),
 ];
 
-const MENDED: [(Edit, Found); 1] = [(Members(&[Some(7), Some(20), None]), Done)];
+static MENDED: [(Edit, Found); 1] = [(Members(&[Some(7), Some(20), None]), Done)];
 
 #[test]
 fn a_broken_place_is_mended_once(rt: HostRuntime) {
     assert!(rt; ends_after(&rt, 8, &MENDS, &MENDED));
 }
 
-const BREAKS: [(Step, Reply); 1] = [(A(Make(Form::Try, 3, 1)), Refused(0, 3, 1))];
+static BREAKS: [(Step, Reply); 1] = [(A(Make(Form::Try, 3, 1)), Refused(0, 3, 1))];
 
 // Its neighbour stays broken.
-const MENDS_ONE: [(Call, Reply); 7] = [
+static MENDS_ONE: [(Call, Reply); 7] = [
     (Read(1), Broken),
     (Read(2), Broken),
     (Mend(1, 20), At(1)),

@@ -67,7 +67,7 @@ pub(super) fn replace(
     Some(parts.replace(place, value))
 }
 
-const IN_ORDER: [(Edit, Found); 15] = [
+static IN_ORDER: [(Edit, Found); 15] = [
     (Sizes, Found::Sizes(0, 8, 0)),
     (Append(Some(1)), NotMade),
     (Room(5), Capacity(8)),
@@ -90,7 +90,7 @@ fn members_are_in_order(rt: HostRuntime) {
     assert_eq!(rt; first_wrong_of_new(rt.alloc(), 8, &IN_ORDER), None);
 }
 
-const ROOM: [(Edit, Found); 17] = [
+static ROOM: [(Edit, Found); 17] = [
     (Room(0), Capacity(0)),
     (Room(1), Capacity(2)),
     (Room(3), Capacity(4)),

@@ -13,7 +13,7 @@ use std::process::Abort;
 use std::sync::Wait;
 
 // Two values fill a vector of limit 2.
-const FULL: [(Step, Reply); 4] = [
+static FULL: [(Step, Reply); 4] = [
     (B(TryGrow(&[5, 6])), Ran(0, 2)),
     (A(TryPush(7)), Full(2)),
     (A(Push(7)), Full(2)),
@@ -26,7 +26,7 @@ fn a_full_vector_gives_the_value_back(rt: HostRuntime) {
 }
 
 // A vector of limit 4 with one value has room for three.
-const FOUR: [(Step, Reply); 3] = [
+static FOUR: [(Step, Reply); 3] = [
     (A(TryPush(5)), At(0)),
     (A(TryGrow(&[6, 7, 8, 9])), Full(1)),
     (B(Size), Is(1)),
@@ -38,7 +38,7 @@ fn a_whole_vec_comes_back(rt: HostRuntime) {
 }
 
 // One value fills a vector of limit 1.
-const NOTHING: [(Step, Reply); 3] = [
+static NOTHING: [(Step, Reply); 3] = [
     (A(TryPush(5)), At(0)),
     (A(TryGrow(&[])), Ran(1, 0)),
     (A(Grow(&[])), Ran(1, 0)),
@@ -49,7 +49,7 @@ fn an_empty_growth_returns_an_empty_run(rt: HostRuntime) {
     assert_eq!(rt; first_wrong(&rt, 1, &NOTHING), None);
 }
 
-const NO_PLACE: [(Step, Reply); 2] = [
+static NO_PLACE: [(Step, Reply); 2] = [
     (B(Read(0)), OutOfRange(0)),
     (B(Read(u64::MAX)), OutOfRange(0)),
 ];

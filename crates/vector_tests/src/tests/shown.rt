@@ -10,7 +10,7 @@ use std::alloc::AllocGlobal;
 use std::sync::Wait;
 
 // A walk shows values, broken places and no others, none at first.
-const WALKS: [(Step, Reply); 5] = [
+static WALKS: [(Step, Reply); 5] = [
     (Walk(&[]), Done),
     (A(TryPush(5)), At(0)),
     (A(Make(Form::Try, 3, 1)), Refused(1, 3, 1)),
@@ -24,7 +24,7 @@ fn a_walk_shows_each_place_below_the_size(rt: HostRuntime) {
 }
 
 // A look shows values, broken places, and nothing yet where nobody claimed or can claim.
-const LOOKS: [(Step, Reply); 7] = [
+static LOOKS: [(Step, Reply); 7] = [
     (A(TryPush(5)), At(0)),
     (A(Make(Form::Try, 3, 1)), Refused(1, 3, 1)),
     (Look(0), Is(5)),
@@ -40,7 +40,7 @@ fn a_look_needs_no_hand(rt: HostRuntime) {
 }
 
 // A vector of limit 2 with one value gives two back, and takes one, and none.
-const GIVES_BACK: [(Step, Reply); 5] = [
+static GIVES_BACK: [(Step, Reply); 5] = [
     (A(TryPush(5)), At(0)),
     (B(Append(&[6, 7])), Full(1)),
     (B(Append(&[6])), Ran(1, 1)),

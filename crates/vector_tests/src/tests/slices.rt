@@ -29,7 +29,7 @@ fn appends(parts: &mut Parts<u64>, n: u64) -> bool {
     true
 }
 
-const SIDES: [(u64, (u64, Option<u64>)); 8] = [
+static SIDES: [(u64, (u64, Option<u64>)); 8] = [
     (0, (2, Some(2))),
     (1, (1, Some(2))),
     (2, (2, Some(10))),
@@ -40,7 +40,7 @@ const SIDES: [(u64, (u64, Option<u64>)); 8] = [
     (100, (0, None)),
 ];
 
-const SIDES_WITH_A_BROKEN_ONE: [(u64, (u64, Option<u64>)); 3] = [
+static SIDES_WITH_A_BROKEN_ONE: [(u64, (u64, Option<u64>)); 3] = [
     (64, (36, None)),
     (79, (21, None)),
     (80, (20, Some(3580))),

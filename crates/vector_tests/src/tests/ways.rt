@@ -81,7 +81,7 @@ fn appends_in<R: AllocGlobal + Wait>(rt: &R, f: u32, way: &Way, n: u64) -> bool 
     is_so
 }
 
-const WAYS: [Way; 10] = [
+static WAYS: [Way; 10] = [
     Way::TryPush,
     Way::Push,
     Way::TryVec,
@@ -96,7 +96,7 @@ const WAYS: [Way; 10] = [
 
 // The layouts that are tried: their segments begin with 2, 8 and 256 places. The places from 1 on reach into
 // the third.
-const LAYOUTS: [(u32, u64); 3] = [(1, 6), (3, 30), (8, 1_000)];
+static LAYOUTS: [(u32, u64); 3] = [(1, 6), (3, 30), (8, 1_000)];
 
 #[test]
 fn each_way_appends_in_order_over_three_segments_of_three_layouts(rt: HostRuntime) {

@@ -7,7 +7,7 @@ use std::alloc::{AllocError, Global};
 use std::test::Fail;
 
 // An event and its reply, in turn on a list with a limit of 6.
-const EVENTS: [(Event, Reply); 15] = [
+static EVENTS: [(Event, Reply); 15] = [
     (
         Event::Claim { actor: 0, n: 2 },
         Reply::Run { from: 0, n: 2 },
@@ -69,7 +69,7 @@ fn each_event_has_its_reply(rt: HostRuntime) -> Result<(), Fail> {
 }
 
 // None of them is legal if actor 0 has claimed two places of a list with a limit of 3.
-const REFUSED: [Event; 8] = [
+static REFUSED: [Event; 8] = [
     Event::Claim { actor: 0, n: 2 },
     Event::Claim {
         actor: 0,
@@ -168,7 +168,7 @@ fn with_wrong_reply(
 }
 
 // An event, its reply, and a wrong one.
-const ROWS: [(Event, Reply, Reply); 13] = [
+static ROWS: [(Event, Reply, Reply); 13] = [
     (
         Event::Claim { actor: 0, n: 2 },
         Reply::Run { from: 0, n: 2 },
@@ -255,7 +255,7 @@ fn check_refuses_each_wrong_reply(rt: HostRuntime) -> Result<(), Fail> {
 }
 
 // A reply that the event has in no history behind a claim of two places by actor 0.
-const NOT_LEGAL: [(Event, Reply); 6] = [
+static NOT_LEGAL: [(Event, Reply); 6] = [
     (
         Event::Claim { actor: 0, n: 7 },
         Reply::Run { from: 2, n: 7 },

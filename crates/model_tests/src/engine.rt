@@ -25,7 +25,7 @@ fn run<R: Read, W: Write>(
 }
 
 #[rattlefmt::skip]
-const NUMBERS: [(RunError, u8); 4] = [
+static NUMBERS: [(RunError, u8); 4] = [
     (RunError::Script(ScriptError::Empty { line: 1 }), 1), (RunError::NoMemory, 2), (RunError::Read, 3),
     (RunError::Write, 4),
 ];

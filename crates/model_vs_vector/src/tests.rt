@@ -277,7 +277,7 @@ fn counted(alloc: Global, script: &str) -> Result<Counts, Fail> {
 type Row = (&'static str, bool);
 
 #[rattlefmt::skip]
-const ROWS: [Row; 7] = [
+static ROWS: [Row; 7] = [
     ("limit 16\nactor a push 1, grow 3 2, atleast 9 3\nactor b fail 4 5 2, read 0, push 6\n\
         actor c atleast 5 7, size, grow 2 8\nsteps", false),
     ("limit 8\nactor a push 1, grow 3 2, atleast 9 3\nactor b fail 4 5 2, read 0, push 6\n\

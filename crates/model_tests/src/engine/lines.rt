@@ -5,7 +5,7 @@ use book_core::{Answer, Cell, Command, Ended};
 use script_core::{WriteFault, write_cells, write_reply};
 use std::io::ErrorKind;
 
-const CELLS: [Cell; 3] = [Cell::Filled(7), Cell::Pending(1), Cell::Broken];
+static CELLS: [Cell; 3] = [Cell::Filled(7), Cell::Pending(1), Cell::Broken];
 
 const CELLS_LINE: &[u8] = b"size 3: 7 . x\n";
 

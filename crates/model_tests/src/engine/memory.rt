@@ -13,7 +13,7 @@ const BAD_COMMAND: Result<(), RunError> = Err(RunError::Script(ScriptError::BadC
 }));
 
 #[rattlefmt::skip]
-const CALLS: [Row; 6] = [
+static CALLS: [Row; 6] = [
     ("limit 8\nactor a push 5, size\nactor b push 6\nsteps a b a", Ok(()),
         "a1 push at 0\nb1 push at 1\na2 size 2\nsize 2: 5 6\n"),
     ("limit 4\nactor a fail 3 7 1, atleast 2 0, read 3, grow 2 1\nactor b read 1, atleast 9 0\nsteps a a a a b b",
@@ -29,7 +29,7 @@ const CALLS: [Row; 6] = [
 ];
 
 #[rattlefmt::skip]
-const STEPS: [Row; 6] = [
+static STEPS: [Row; 6] = [
     ("limit 8\nactor a push 5\nactor b push 6\nsteps a b a a b a b b b b b a a", Ok(()),
         "b1 push at 1\na1 push at 0\nsize 2: 5 6\n"),
     ("limit 3\nactor a grow 3 1\nactor b grow 2 2, read 0\nsteps a b a b a b a b a b a b a b a b a b a b", Ok(()),
@@ -44,7 +44,7 @@ const STEPS: [Row; 6] = [
 ];
 
 #[rattlefmt::skip]
-const COUNTED: [Row; 3] = [
+static COUNTED: [Row; 3] = [
     ("limit 8\nactor a push 5\nactor b push 6\nsteps a b a a b a b b b b b a a", Ok(()),
         "b1 push at 1\na1 push at 0\nsize 2: 5 6\nb1 lost 1 steps 7\na1 lost 0 steps 6\n"),
     ("limit 8\nfirst 2\nactor a fail 3 7 1\nactor b mend 1 9, size\nsteps a a a a a a a a a a b b b b", Ok(()),

@@ -16,7 +16,7 @@ type Row = (Engine, &'static [u8], &'static [u8]);
 const STEPS: &[u8] = b"limit 8\nactor a push 5\nactor b push 6\nsteps a b a a b a b b b b b a a";
 
 #[rattlefmt::skip]
-const PLAYS: [Row; 3] = [
+static PLAYS: [Row; 3] = [
     (Engine::Calls, SCRIPT, TEXT),
     (Engine::Steps, STEPS, b"b1 push at 1\na1 push at 0\nsize 2: 5 6\n"),
     (Engine::Counted, STEPS, b"b1 push at 1\na1 push at 0\nsize 2: 5 6\nb1 lost 1 steps 7\na1 lost 0 steps 6\n"),
@@ -244,7 +244,7 @@ impl Write for Unflushed {
     }
 }
 
-const ENGINES: [Engine; 3] = [Engine::Calls, Engine::Steps, Engine::Counted];
+static ENGINES: [Engine; 3] = [Engine::Calls, Engine::Steps, Engine::Counted];
 
 // Tests whether a play that is read a byte at a time is whole, and its input is used up.
 fn is_read_slowly(alloc: Global, row: &Row) -> bool {
@@ -359,7 +359,7 @@ fn interruptions_are_counted_over_all_reads_and_writes(rt: HostRuntime) {
 
 // The length of a line that is no script, its fault, and how many bytes of it are read.
 #[rattlefmt::skip]
-const LONG_LINES: [(usize, ScriptError, usize); 3] = [
+static LONG_LINES: [(usize, ScriptError, usize); 3] = [
     (1_048_576, ScriptError::BadLine { line: 1 }, 1_048_576),
     (1_048_577, ScriptError::TooMany { line: 1 }, 1_048_577),
     (usize::MAX, ScriptError::TooMany { line: 1 }, 1_048_577),
@@ -403,7 +403,7 @@ fn long_script(alloc: Global) -> Result<Vec<u8>, AllocError> {
 // An engine, and how long the text of that play is: a line of the growth, one of the cells with 21 bytes a
 // place, and one of counts.
 #[rattlefmt::skip]
-const LONG_TEXTS: [(Engine, usize); 3] = [
+static LONG_TEXTS: [(Engine, usize); 3] = [
     (Engine::Calls, 1_029_032), (Engine::Steps, 1_029_032), (Engine::Counted, 1_029_054),
 ];
 

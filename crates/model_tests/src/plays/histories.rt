@@ -11,7 +11,7 @@ use step_core::play;
 type Row = (&'static str, &'static [(Event, Reply)]);
 
 #[rattlefmt::skip]
-pub(super) const ROWS: [Row; 5] = [
+pub(super) static ROWS: [Row; 5] = [
     // Pushes that meet.
     ("limit 8\nactor a push 5\nactor b push 6\nsteps a b a a b a b b b b b a a", &[
         (Event::Claim { actor: 0, n: 1 }, Reply::Run { from: 0, n: 1 }),
@@ -63,7 +63,7 @@ fn plays_by_atomic_steps_have_their_events(rt: HostRuntime) -> Result<(), Fail> 
 
 // What may happen to a play: refusals, lost exchanges, growths that meet, and reads of each kind.
 #[rattlefmt::skip]
-const SCRIPTS: [&'static str; 26] = [
+static SCRIPTS: [&'static str; 26] = [
     "limit 1\nactor a push 5\nactor b push 6, size\nsteps a b a a b a b b a a",
     "limit 8\nactor a push 5\nsteps a a a a a a",
     "limit 8\nactor a push 5\nsteps a a a a a",

@@ -10,7 +10,7 @@ use step_core::{CellSlot, Machine, Played, play_in};
 // The number of a layout, and how many steps a growth by 300 takes up to its claim: a load, two for each
 // segment of its places, and an exchange.
 #[rattlefmt::skip]
-const STEPS: [(u32, u32); 8] = [
+static STEPS: [(u32, u32); 8] = [
     (1, 20), (2, 18), (3, 16), (4, 14), (5, 12), (6, 10), (7, 8), (8, 6),
 ];
 
@@ -40,7 +40,7 @@ fn a_growth_looks_for_the_segments_of_its_layout(rt: HostRuntime) -> Result<(), 
 // The number of a layout, and how many steps a growth by 65,536 takes: those up to its claim, and two for
 // each place.
 #[rattlefmt::skip]
-const FILLED: [(u32, u32); 8] = [
+static FILLED: [(u32, u32); 8] = [
     (1, 131_106), (2, 131_104), (3, 131_102), (4, 131_100), (5, 131_098), (6, 131_096), (7, 131_094), (8, 131_092),
 ];
 
@@ -81,7 +81,7 @@ const GROW: &str = "limit 8\nactor a grow 3 7\nsteps a a a a a a a a a a";
 const GROW_REFUSED: &str = "limit 8\nactor a grow 3 7\nsteps a a a a a! a a a a a";
 
 #[rattlefmt::skip]
-const PLAYS: [(u32, Seen, Seen); 8] = [
+static PLAYS: [(u32, Seen, Seen); 8] = [
     (1, PENDING, REFUSED), (2, GROWN, GROWN), (3, GROWN, GROWN), (4, GROWN, GROWN),
     (5, GROWN, GROWN), (6, GROWN, GROWN), (7, GROWN, GROWN), (8, GROWN, GROWN),
 ];

@@ -10,7 +10,7 @@ const MOST: u64 = u64::MAX;
 pub(super) type Row = (u64, Command, Answer, &'static str);
 
 #[rattlefmt::skip]
-pub(super) const ANSWERS: [Row; 12] = [
+pub(super) static ANSWERS: [Row; 12] = [
     (10, Command::Push { value: 7 }, Answer::At { place: 0 }, "a10 push at 0\n"),
     (10, Command::Grow { n: 3, value: 7 }, Answer::Run { from: 4, n: 3 }, "a10 grow run 4 3\n"),
     (10, Command::Grow { n: 3, value: 7 }, Answer::Full { size: 4 }, "a10 grow full 4\n"),
@@ -53,7 +53,7 @@ fn answer_lines_are_written(rt: HostRuntime) -> Result<(), WriteFault> {
     Ok(())
 }
 
-const CELLS: [Cell; 3] = [Cell::Filled(7), Cell::Pending(1), Cell::Broken];
+static CELLS: [Cell; 3] = [Cell::Filled(7), Cell::Pending(1), Cell::Broken];
 
 #[test]
 fn cells_are_written(rt: HostRuntime) -> Result<(), WriteFault> {

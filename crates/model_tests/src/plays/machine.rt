@@ -35,7 +35,7 @@ const BROKEN: [Row; 12] = [
 ];
 
 #[rattlefmt::skip]
-pub(super) const PLAYS: [(&'static str, &'static [Row]); 3] = [
+pub(super) static PLAYS: [(&'static str, &'static [Row]); 3] = [
     ("limit 8\nactor a push 5\nactor b push 5\nsteps", &LOST),
     ("limit 8\nactor a atleast 4 0\nactor b atleast 5 1\nsteps", &RAISED),
     ("limit 8\nactor a fail 3 7 1\nsteps", &BROKEN),
@@ -76,7 +76,7 @@ fn refused_step(machine: &mut Machine, actor: u32) -> Stepped {
 
 const PUSHES: &str = "limit 8\nactor a push 5\nactor b push 6\nsteps";
 
-const SLOTS: [Option<CellSlot>; 6] = [
+static SLOTS: [Option<CellSlot>; 6] = [
     None,
     None,
     None,
@@ -141,7 +141,7 @@ fn the_most_programs_are_played(rt: HostRuntime) -> Result<(), Fail> {
 
 // A limit, and the refusal of a program that is not sound. Limits are looked at first.
 #[rattlefmt::skip]
-const REFUSED: [(u64, MakeError); 5] = [
+static REFUSED: [(u64, MakeError); 5] = [
     (0, MakeError::BadLimit),
     (1, MakeError::BadCommand),
     (4_294_967_297, MakeError::BadCommand),

@@ -19,7 +19,7 @@ fn is_read_again(alloc: Global, row: &scripts::Row) -> bool {
 
 // What is no script, and its fault.
 #[rattlefmt::skip]
-const FAULTS: [(&'static str, ScriptError); 7] = [
+static FAULTS: [(&'static str, ScriptError); 7] = [
     ("limit 65537\nsteps", ScriptError::BadLimit { line: 1 }),
     ("limit 8\nfirst 9\nactor a push 5\nsteps", ScriptError::BadFirst { line: 2 }),
     ("limit 8\nactor a push 5\nstep a", ScriptError::BadLine { line: 3 }),

@@ -24,7 +24,7 @@ const REFUSED: Item = Item {
 pub(super) type Row = (&'static str, u64, u32, &'static [u8], &'static [Item]);
 
 #[rattlefmt::skip]
-pub(super) const ROWS: [Row; 7] = [
+pub(super) static ROWS: [Row; 7] = [
     ("limit 1\nsteps", 1, 1, b"", &[]),
     ("limit 65536\nsteps\n", 65_536, 1, b"", &[]),
     ("limit 8\nfirst 1\nsteps", 8, 1, b"", &[]),
@@ -55,7 +55,7 @@ fn scripts_are_read(rt: HostRuntime) -> Result<(), Fail> {
     Ok(())
 }
 
-const PROGRAM: [Command; 6] = [
+static PROGRAM: [Command; 6] = [
     Command::Push { value: u64::MAX },
     Command::Grow { n: 0, value: 7 },
     Command::AtLeast { to: 9, value: 2 },

@@ -11,7 +11,7 @@ pub(super) const EVERY_COMMAND: &str = "limit 4\n\
     steps a a a b a b b a";
 
 #[rattlefmt::skip]
-pub(super) const EVENTS: [(Event, Reply); 11] = [
+pub(super) static EVENTS: [(Event, Reply); 11] = [
     (Event::Claim { actor: 0, n: 3 }, Reply::Run { from: 0, n: 3 }),
     (Event::Finish { actor: 0, place: 0, value: 7 }, Reply::Done),
     (Event::Break { actor: 0, place: 1 }, Reply::Done),
@@ -26,7 +26,7 @@ pub(super) const EVENTS: [(Event, Reply); 11] = [
 ];
 
 #[rattlefmt::skip]
-const CELLS: [Cell; 4] = [Cell::Filled(7), Cell::Broken, Cell::Broken, Cell::Filled(6)];
+static CELLS: [Cell; 4] = [Cell::Filled(7), Cell::Broken, Cell::Broken, Cell::Filled(6)];
 
 #[test]
 fn whole_calls_have_their_events_and_cells(rt: HostRuntime) -> Result<(), Fail> {
@@ -38,7 +38,7 @@ fn whole_calls_have_their_events_and_cells(rt: HostRuntime) -> Result<(), Fail> 
 }
 
 #[rattlefmt::skip]
-const PAST_THE_LIMIT: [(Event, Reply); 3] = [
+static PAST_THE_LIMIT: [(Event, Reply); 3] = [
     (Event::Claim { actor: 0, n: 1 }, Reply::Run { from: 0, n: 1 }),
     (Event::Finish { actor: 0, place: 0, value: 5 }, Reply::Done),
     (Event::RefusedFull { actor: 0, n: 8 }, Reply::Full { size: 1 }),
@@ -56,7 +56,7 @@ fn a_growth_to_a_size_past_the_limit_has_its_events(rt: HostRuntime) -> Result<(
 type Refused = (u64, Command, u32, PlayError);
 
 #[rattlefmt::skip]
-const REFUSED: [Refused; 6] = [
+static REFUSED: [Refused; 6] = [
     (0, UNSOUND, 1, PlayError::BadLimit),
     (1_099_511_627_777, Command::Size, 0, PlayError::BadLimit),
     (1, UNSOUND, 1, PlayError::BadCommand),

@@ -11,7 +11,7 @@ use step_core::{Played, play_calls, play_in};
 pub(super) type Row = (&'static str, &'static [Work]);
 
 #[rattlefmt::skip]
-pub(super) const ROWS: [Row; 8] = [
+pub(super) static ROWS: [Row; 8] = [
     ("limit 8\nactor a push 5\nsteps a a a a a a", &[
         Work { actor: 0, number: 1, lost: 0, steps: 6, segments: 1 },
     ]),

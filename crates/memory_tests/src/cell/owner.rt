@@ -276,7 +276,8 @@ fn put_over<T>(block: &mut Block<T>, offset: u64, value: T) -> Option<T>
     requires { offset < block_len block.old }
     ensures { block_len block.new ≡ block_len block.old }
 {
-    block.put_now(offset, value).1
+    let (_placed, held) = block.put_now(offset, value);
+    held
 }
 
 // How many values were dropped once a cell has a new one.
@@ -354,10 +355,13 @@ fn value_now(block: &mut Block<u64>, offset: u64) -> Option<u64>
     requires { offset < block_len block.old }
     ensures { block_len block.new ≡ block_len block.old }
 {
-    let first = block.token_now(offset)?;
-    let second = block.token_now(offset)?;
-    block.agree(&first, &second);
-    Some(*block.value(&second))
+    match (block.token_now(offset), block.token_now(offset)) {
+        (Some(first), Some(second)) => {
+            block.agree(&first, &second);
+            Some(*block.value(&second))
+        }
+        _ => None,
+    }
 }
 
 // Returns whether a cell gives its token while it is filled, and none while it is empty, broken or taken.

@@ -8,7 +8,7 @@ use claim_core::{Enough, Hand, Moved, OpenError, Run, Word};
 use std::alloc::Global;
 
 // A call by one hand.
-#[derive(Clone, Copy, Debug)]
+#[derive(Clone, Copy)]
 pub(super) enum Call {
     Exchange(u64, u64),
     Raise(u64),
@@ -19,7 +19,7 @@ pub(super) enum Call {
 }
 
 // A call by the first or the second hand, or what changes the hands.
-#[derive(Clone, Copy, Debug)]
+#[derive(Clone, Copy)]
 pub(super) enum Step {
     A(Call),
     B(Call),
@@ -35,7 +35,7 @@ pub(super) enum Step {
 }
 
 // The result of a step. A step whose conditions do not hold is not made.
-#[derive(Clone, Copy, Debug, PartialEq, Eq)]
+#[derive(Clone, Copy, PartialEq, Eq)]
 pub(super) enum Answer {
     Done,
     NotMade,

@@ -13,7 +13,7 @@ use std::test::Fail;
 const BLOCK: u64 = 1 << 35;
 
 // Evidence that a block is there.
-#[derive(Clone, Copy, Debug, PartialEq, Eq)]
+#[derive(Clone, Copy, PartialEq, Eq)]
 struct Key;
 
 type Row = [Option<Key>; 32];

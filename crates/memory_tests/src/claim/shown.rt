@@ -10,7 +10,7 @@ fn opened(alloc: Global, limit: u64, base: u64) -> Result<(u64, u64), OpenError>
     Ok((word.base(), hand.seen()))
 }
 
-const BAD_BOUNDS: [(u64, u64); 3] = [(8, 9), (0, 0), ((1 << 40) + 1, 0)];
+static BAD_BOUNDS: [(u64, u64); 3] = [(8, 9), (0, 0), ((1 << 40) + 1, 0)];
 
 #[test]
 fn a_bad_limit_is_refused(rt: HostRuntime) {

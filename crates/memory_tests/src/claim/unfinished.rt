@@ -18,10 +18,15 @@ fn closes_at_three(word: Word<Global>, mut hand: Hand, block: &Block<u64>) -> bo
     requires room { block_len block.now ≡ 3 }
 {
     match word.raise(&mut hand, 3) {
-        Ok(_run) => fill(block, 0, 5).is_some()
-            && fill(block, 2, 7).is_some()
-            && word.close(hand) == 3,
-        Err(_enough) => false,
+        Ok(_run) => {
+            let is_filled = fill(block, 0, 5).is_some() && fill(block, 2, 7).is_some();
+            word.close(hand) == 3 && is_filled
+        }
+        Err(_enough) => {
+            drop(word);
+            drop(hand);
+            false
+        }
     }
 }
 

@@ -21,6 +21,15 @@ constexpr Value filled = (Value{1} << 23) + 1;
 constexpr Value more = 8'000'000;
 constexpr Value list_length = 64;
 
+// How many of the first values are odd.
+template <typename Values> Value count_odd(Values &values, Value times) {
+  Value odd = 0;
+  auto end = values.end();
+  for (auto value = values.begin(); value != end && times; ++value, --times)
+    odd += *value & 1;
+  return odd;
+}
+
 struct OneTbb {
   tbb::concurrent_vector<Value> values;
   void push(Value value) { values.push_back(value); }
@@ -30,6 +39,7 @@ struct OneTbb {
   void grow_up_to(Value size, Value value) { values.grow_to_at_least(size, value); }
   Value size() { return values.size(); }
   Value look(Value place) { return values.at(place); }
+  Value walk(Value times) { return count_odd(values, times); }
 };
 
 struct Locked {
@@ -59,6 +69,10 @@ struct Locked {
   Value look(Value place) {
     std::lock_guard<std::mutex> guard(lock);
     return values.at(place);
+  }
+  Value walk(Value times) {
+    std::lock_guard<std::mutex> guard(lock);
+    return count_odd(values, times);
   }
 };
 
@@ -98,9 +112,14 @@ template <typename Vector> void look_often(Vector &vector, Value times) {
   (void)kept;
 }
 
+template <typename Vector> void walk_over(Vector &vector, Value times) {
+  volatile Value kept = vector.walk(times);
+  (void)kept;
+}
+
 template <typename Vector> long long run(const char *load, unsigned threads) {
   Vector vector;
-  bool installed = std::strstr(load, "-installed") || !std::strcmp(load, "at");
+  bool installed = std::strstr(load, "-installed") || !std::strcmp(load, "at") || !std::strncmp(load, "walk", 4);
   if (installed)
     push_often(vector, filled);
   Value times = (installed ? more : fresh) / threads;
@@ -114,6 +133,8 @@ template <typename Vector> long long run(const char *load, unsigned threads) {
     work = [&] { raise_often(vector, times); };
   if (!std::strcmp(load, "at"))
     work = [&] { look_often(vector, times); };
+  if (!std::strncmp(load, "walk", 4))
+    work = [&] { walk_over(vector, times); };
   auto start = std::chrono::steady_clock::now();
   std::vector<std::thread> others;
   for (unsigned i = 1; i < threads; ++i)

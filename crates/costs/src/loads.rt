@@ -5,7 +5,7 @@ ghost use Rattle.std.specs.Thread.{IsSync};
 ghost use Rattle.grow_core.specs.Vector.{IsHandOf};
 
 use crate::other_vectors::push_boxcar;
-use crate::reads::{pick_places, print_get_time, read_at, read_look, read_walk};
+use crate::reads::{pick_places, print_get_time, read_at, read_look, read_segments, read_walk};
 use crate::shared_vector::{hands_for, open_empty_in, push, push_by_calls};
 use crate::trial::{print_nanoseconds, time_hands, time_threads};
 use anyhow::{Result, bail};
@@ -55,6 +55,8 @@ pub enum Work {
     Get,
     /// Walks over the places in order.
     Walk,
+    /// Walks over them segment by segment.
+    Segments,
     /// Picks a place at random, and reads nothing.
     Pick,
 }
@@ -82,7 +84,7 @@ pub fn layout_of(name: &str) -> Layout {
 
 // The name of a load, what is done, how many values there are before its time starts, and how many while it
 // runs.
-const ROWS: [(&'static str, Work, u64, u64); 18] = [
+const ROWS: [(&'static str, Work, u64, u64); 19] = [
     ("push", Work::Push, 0, FRESH),
     ("push-256", Work::Push, 0, FRESH),
     ("push-installed", Work::Push, FILLED, MORE),
@@ -100,6 +102,7 @@ const ROWS: [(&'static str, Work, u64, u64); 18] = [
     ("look", Work::Look, FILLED, MORE),
     ("get", Work::Get, FILLED, MORE),
     ("walk", Work::Walk, FILLED, MORE),
+    ("walk-segments", Work::Segments, FILLED, MORE),
     ("pick", Work::Pick, FILLED, MORE),
 ];
 
@@ -240,6 +243,7 @@ impl Work {
             Work::At => read_at(vector, hand, times),
             Work::Look => read_look(vector, vector.size(&mut hand), times),
             Work::Walk => read_walk(vector, times),
+            Work::Segments => read_segments(vector, times),
             Work::Get | Work::Pick => pick_places(vector.size(&mut hand), times),
         }
     }

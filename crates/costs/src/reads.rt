@@ -102,6 +102,30 @@ pub fn read_walk(vector: &Shared<u64>, reads: u64) -> u64 {
     odd
 }
 
+// How many of the values are odd.
+fn count_odd(values: &[u64]) -> u64 {
+    let mut odd: u64 = 0;
+    for value in values {
+        odd = odd.wrapping_add(*value & 1);
+    }
+    odd
+}
+
+/// Walks over the first places segment by segment, and returns how many of their values were odd.
+pub fn read_segments(vector: &Shared<u64>, reads: u64) -> u64 {
+    let mut odd: u64 = 0;
+    let mut left = reads;
+    for cells in vector.segments() {
+        let mut values = cells.filled(0);
+        if values.len() as u64 > left {
+            values = &values[..left as usize];
+        }
+        left -= values.len() as u64;
+        odd = odd.wrapping_add(count_odd(values));
+    }
+    odd
+}
+
 /// Picks places, and returns how many were odd: what the other loads do beyond their reads.
 pub fn pick_places(size: u64, reads: u64) -> u64 {
     sum_at_random(size, reads, &|place: u64| -> u64 { place & 1 })

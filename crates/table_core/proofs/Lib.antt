@@ -1,4 +1,5 @@
 mod Fits
+mod KeySets
 mod Known
 mod Names
 mod Renamed

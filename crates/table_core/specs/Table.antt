@@ -4,7 +4,7 @@ use Rattle.std.specs.Coded.{coded_option}
 use base.Stored.{Coded, coded×, coded_ℕ, coded_list, coded_via}
 use Rattle.std.specs.declared.option.Option.{Option}
 use Rattle.std.specs.declared.option.Option.TheVariants.{None, Some}
-use Rattle.seg_core.specs.Segment.{segment_start, segment_end, segment_count}
+use Rattle.seg_core.specs.Segment.{segment_start, segment_end, segment_count, most_segments}
 use Rattle.cell_core.specs.Block.{BlockView, block_coded, block_len}
 use Rattle.table_core.specs.Entry.{EntryView, length_of}
 
@@ -74,3 +74,39 @@ AllFit f entries =
 abbrev pub block_or_empty : Option BlockView → BlockView
 block_or_empty None = record { cells = [] }
 block_or_empty (Some block) = block
+
+-- keys of some entries of a table: the table's layout, the name of each entry, and the block of each entry whose
+-- key is there
+pub record KeySetView : Type 0 where
+  pub layout : ℕ
+  pub names : List ℕ
+  pub blocks : List (Option BlockView)
+
+-- how that is stored
+abbrev pub key_set_coded : Coded KeySetView
+key_set_coded =
+    coded_via (coded× coded_ℕ (coded× (coded_list coded_ℕ) (coded_list (coded_option block_coded))))
+    (λ (k : KeySetView). (k.layout, (k.names, k.blocks)))
+    (λ x y e i. record { layout = (e i).0; names = (e i).1.0; blocks = (e i).1.1 })
+
+-- the block of a segment whose key is in the set
+abbrev pub block_in : KeySetView → ℕ → Option BlockView
+block_in set segment = slice_index_or set.blocks segment None
+
+-- the key of a segment in the set
+abbrev pub key_in : KeySetView → ℕ → KeyView
+key_in set segment = record {
+  layout = set.layout;
+  segment = segment;
+  block = block_or_empty (block_in set segment);
+  name = slice_index set.names segment;
+}
+
+-- the set has the keys that it had, and this one
+pub record AddsKey (old new : KeySetView) (key : KeyView) : Type 0 where
+  pub layout : new.layout ≡ old.layout
+  pub names : (segment : ℕ) → segment < most_segments
+      → slice_index new.names segment ≡ slice_index old.names segment
+  pub has : block_in new key.segment ≡ Some key.block
+  pub kept : (segment : ℕ) (block : BlockView) → segment < most_segments → block_in old segment ≡ Some block
+      → block_in new segment ≡ Some block

@@ -17,4 +17,4 @@
 mod entry;
 mod table;
 
-pub use table::{Key, Table};
+pub use table::{Key, KeySet, Table};

@@ -1,15 +1,18 @@
 //! The table of segments.
-ghost use Rattle.std.specs.Prelude.{◌≡◌, ◌<◌, ◌≤◌, slice_index, IfSome, IfOk};
+ghost use Rattle.std.specs.Prelude.{◌≡◌, ◌<◌, ◌≤◌, ℕ, slice_index, IfSome, IfOk};
 ghost use Rattle.table_core.specs.Table.{IsBlockOf, IsKeyIn, IsKeyOf, IsLengthOf};
 ghost use Rattle.seg_core.specs.Segment.{IsLayout, segment_count, most_segments};
 ghost use Rattle.table_core.specs.Entry.{length_of};
 
 mod key;
+mod key_set;
 mod owner;
 
 use crate::entry::{Entry, EntrySight, Measured};
 use cell_core::block::Block;
 pub use key::Key;
+pub use key_set::KeySet;
+use key_set::no_sights;
 use owner::{Held, Lent};
 use seg_core::{Layout, MOST_SEGMENTS};
 use std::alloc::{AllocError, Global};
@@ -101,6 +104,18 @@ impl<T> Table<T> {
         ensures layout { IsLayout self.now.layout }
     {
         self.layout
+    }
+
+    /// Makes a set of keys of the table that has none yet.
+    pub fn no_keys(&self) -> KeySet
+        ensures layout { result.layout ≡ self.now.layout }
+        ensures names { (segment : ℕ) → segment < most_segments
+            → slice_index result.names segment ≡ slice_index self.now.names segment }
+    {
+        KeySet {
+            layout: self.layout,
+            sights: no_sights(&self.entries),
+        }
     }
 
     /// Returns the entry's block if it is set now, by one load.

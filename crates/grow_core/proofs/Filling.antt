@@ -58,11 +58,6 @@ module _ {T : Type 0} (vector : VectorView T) (from : ℕ) where
   pub tokens_count : (values : List T) (tokens : List (PlacedView T)) → AreTokensOf vector from values tokens → length tokens ≡ length values
   tokens_count values tokens are = sym (length-map tokens (λ (t : PlacedView T). t.value)) ∙ ap length are.hold
 
-  -- the values are those of the tokens
-  pub tokens_self : (values : List T) (tokens : List (PlacedView T)) → AreTokensOf vector from values tokens
-      → AreTokensOf vector from (map (λ token. token.value) tokens) tokens
-  tokens_self values tokens filled = record { of = filled.of; places = filled.places; hold = refl }
-
 -- two walks, one after the other
 FoldsTo-append : {P A : Type 0} (R : P → A → P → Type 0) (p : P) (xs : List A) (q : P) (ys : List A) (u : P) → FoldsTo R p xs q → FoldsTo R q ys u
     → FoldsTo R p (xs ++ ys) u

@@ -2,6 +2,7 @@ pub mod Later
 pub mod Places
 pub mod OpenedValues
 pub mod Filling
+pub mod KnownPlaces
 pub mod Stretches
 pub mod BegunPlaces
 pub mod KeyRows

@@ -1,26 +1,19 @@
 -- The values that a maker has made so far.
-use Rattle.std.proofs.Common.{suc, ◌≡◌, ℕ, ◌+◌, ◌<◌, List, [], ◌∷◌, ◌++◌, length, length-append, replicate, map, Result, Ok, Err, IfOk, refl, sym, ap, ◌∙◌, subst, arith}
+use Rattle.std.proofs.Common.{suc, ◌≡◌, ℕ, ◌+◌, ◌<◌, List, [], ◌∷◌, ◌++◌, length, length-append, replicate, Result, Ok, Err, IfOk, refl, sym, ap, ◌∙◌, subst, arith}
 use Rattle.std.specs.Prelude.{IfErr}
 use Rattle.std.specs.List.{All}
-use Rattle.std.proofs.lemmas.List.{map-append, length-map}
 use Rattle.std.proofs.lemmas.List.Elements.{All-push}
 use Rattle.std.proofs.lemmas.Fn.{FoldsTo-push, chained_keeps}
 use Rattle.claim_core.specs.declared.run.Run.{Run}
 use Rattle.claim_core.specs.Hand.{HandView}
-use Rattle.grow_core.specs.declared.claim.Claimed.{Claimed}
 use Rattle.grow_core.specs.declared.errors.GrowError.{GrowError}
 use Rattle.grow_core.specs.declared.errors.GrowError.TheVariants.{NoMemory, Full, Moved, Refused, Taken}
-use Rattle.grow_core.specs.Token.{PlacedView}
 use Rattle.grow_core.specs.Vector.{VectorView}
 use Rattle.grow_core.specs.Grown.{GrownView, IsGrownOf, values_of}
 use Rattle.grow_core.specs.Growth.{ClaimsNothing}
 use Rattle.grow_core.specs.Making.{Makes, FirstIsForZero, StopsAt, StopsAfter, LeavesMaker, WonMade, WonClones, IsRefusedBy, IsClaimed, StopsIn}
 use Rattle.grow_core.proofs.Stopped.{won_of_claimed}
 use Rattle.grow_core.proofs.Filling.{all_none}
-
--- the values of tokens
-abbrev pub token_values : {T : Type 0} → List (PlacedView T) → List T
-token_values tokens = map (λ token. token.value) tokens
 
 -- what is said of a refusal may be said in other words
 pub refused_by_map : {T V E : Type 0} (P Q : List T → E → Type 0) (e : GrowError T V E)
@@ -37,10 +30,6 @@ first_made step maker [] last x made h = absurd (cc)
 first_made step maker (y ∷ ys) last x made h = let same : y ≡ x = cc in (made.0.1, subst (λ z. step maker 0 (Ok z) made.0.1) same made.1.1)
 
 module _ {F T E : Type 0} (step : F → ℕ → Result T E → F → Type 0) (maker : F) where
-  -- nothing is made yet
-  pub made_none : (tokens : List (PlacedView T)) → tokens ≡ [] → Makes step maker (token_values tokens) maker
-  made_none tokens none = subst (λ ts. Makes step maker (token_values ts) maker) (sym none) refl
-
   -- a further value
   pub made_push : (values : List T) (last end : F) (x : T) (i : ℕ) → Makes step maker values last → length values ≡ i → step last i (Ok x) end
       → Makes step maker (values ++ x ∷ []) end
@@ -48,26 +37,10 @@ module _ {F T E : Type 0} (step : F → ℕ → Result T E → F → Type 0) (ma
       FoldsTo-push (λ (p : ℕ × F) x q. (q.0 ≡ p.0 + 1) × step p.1 p.0 (Ok x) q.1) (0, maker) values (length values, last) x
       (length (values ++ x ∷ []), end) made (length-append values (x ∷ []), subst (λ k. step last k (Ok x) end) (sym same) call)
 
-  -- so of the values of tokens
-  pub made_more : (tokens : List (PlacedView T)) (token : PlacedView T) (last end : F) (x : T) (i : ℕ)
-      → Makes step maker (token_values tokens) last → length tokens ≡ i → step last i (Ok x) end → token.value ≡ x
-      → Makes step maker (token_values (tokens ++ token ∷ [])) end
-  made_more tokens token last end x i made n call is =
-      let V : PlacedView T → T = λ t. t.value in
-      let values : token_values (tokens ++ token ∷ []) ≡ token_values tokens ++ x ∷ [] =
-      map-append V tokens (token ∷ []) ∙ ap (λ v. token_values tokens ++ v ∷ []) is in
-      subst (λ vs. Makes step maker vs end) (sym values) (made_push (token_values tokens) last end x i made (length-map tokens V ∙ n) call)
-
-  -- the maker refused after the values of these tokens
-  pub stops_at : (tokens : List (PlacedView T)) (last end : F) (cause : E) (i : ℕ)
-      → Makes step maker (token_values tokens) last → length tokens ≡ i → step last i (Err cause) end
-      → StopsAt step maker (token_values tokens) cause end
-  stops_at tokens last end cause i made n call =
-      let V : PlacedView T → T = λ t. t.value in (
-        last,
-        made,
-        subst (λ k. step last k (Err cause) end) (sym (length-map tokens V ∙ n)) call,
-      )
+  -- the maker refused after these values
+  pub stops_at : (values : List T) (last end : F) (cause : E) (i : ℕ) → Makes step maker values last → length values ≡ i → step last i (Err cause) end
+      → StopsAt step maker values cause end
+  stops_at values last end cause i made n call = (last, made, subst (λ k. step last k (Err cause) end) (sym n) call)
 
   -- a maker that refused is left as it was then
   pub left_by_stop : {V : Type 0} (vector : VectorView T) (run : Run) (made : List T) (why : E) (end : F) (e : GrowError T V E) → StopsIn vector run e
@@ -98,30 +71,30 @@ module _ {F T E : Type 0} (step : F → ℕ → Result T E → F → Type 0) (ma
   cause_of_left end (Err (Taken place found)) left = tt
 
   -- a run that was claimed and then filled with what the maker made is a growth that won
-  pub won_made : {X : Type 0} (vector : VectorView T) (wanted tokens : ℕ) (old new : HandView) (claimed : Claimed T) (result : Result (GrownView T) X) (end : F)
-      → IsClaimed vector wanted tokens old new claimed
-      → IfOk result (λ grown. grown.run ≡ claimed.run) → IfOk result (λ grown. length (values_of grown) ≡ claimed.run.n)
+  pub won_made : {X : Type 0} (vector : VectorView T) (wanted : ℕ) (old new : HandView) (claimed : Run) (result : Result (GrownView T) X) (end : F)
+      → IsClaimed vector wanted old new claimed
+      → IfOk result (λ grown. grown.run ≡ claimed) → IfOk result (λ grown. length (values_of grown) ≡ claimed.n)
       → IfOk result (IsGrownOf vector) → IfOk result (λ grown. Makes step maker (values_of grown) end)
       → IfOk result (WonMade step maker vector wanted old new)
-  won_made vector wanted room old new claimed (Ok grown) end it run n tokens made = record {
-    won = won_of_claimed vector wanted room old new claimed it (values_of grown) grown (sym it.n ∙ sym n) run tokens refl;
+  won_made vector wanted old new claimed (Ok grown) end it run n tokens made = record {
+    won = won_of_claimed vector wanted old new claimed it (values_of grown) grown (sym it.n ∙ sym n) run tokens refl;
     n = ap (λ (r : Run). r.n) run ∙ it.n;
     made = (end, made);
   }
-  won_made vector wanted room old new claimed (Err e) end it run n tokens made = tt
+  won_made vector wanted old new claimed (Err e) end it run n tokens made = tt
 
   -- a run up to a size that was claimed and then filled with what the maker made is a growth up to that size
   -- that won
-  pub won_up_to : (vector : VectorView T) (to : ℕ) (old new : HandView) (claimed : Claimed T) (grown : GrownView T) (end : F)
-      → (claimed.run.from + claimed.run.n ≡ to) × (0 < claimed.run.n) × IsClaimed vector claimed.run.n claimed.run.n old new claimed
-      → grown.run ≡ claimed.run → length (values_of grown) ≡ claimed.run.n → IsGrownOf vector grown → Makes step maker (values_of grown) end
+  pub won_up_to : (vector : VectorView T) (to : ℕ) (old new : HandView) (claimed : Run) (grown : GrownView T) (end : F)
+      → (claimed.from + claimed.n ≡ to) × (0 < claimed.n) × IsClaimed vector claimed.n old new claimed
+      → grown.run ≡ claimed → length (values_of grown) ≡ claimed.n → IsGrownOf vector grown → Makes step maker (values_of grown) end
       → (grown.run.from + grown.run.n ≡ to) × (0 < grown.run.n) × WonMade step maker vector grown.run.n old new grown
   won_up_to vector to old new claimed grown end it run n tokens made =
-      let same_n : grown.run.n ≡ claimed.run.n = ap (λ (r : Run). r.n) run in (
+      let same_n : grown.run.n ≡ claimed.n = ap (λ (r : Run). r.n) run in (
         ap (λ (r : Run). r.from + r.n) run ∙ it.0,
         omega (arith, same_n, it.1),
         record {
-          won = won_of_claimed vector claimed.run.n claimed.run.n old new claimed it.2 (values_of grown) grown (sym n) run tokens refl;
+          won = won_of_claimed vector claimed.n old new claimed it.2 (values_of grown) grown (sym n) run tokens refl;
           n = refl;
           made = (end, made);
         },

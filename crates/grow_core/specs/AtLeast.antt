@@ -36,15 +36,14 @@ SaysEnough (Ran grown) = ⊥
 SaysEnough (Enough size) = Unit {0}
 
 -- a claim up to a size came to this: a run that ends there, or none was needed
-abbrev pub ReachesSize : {T : Type 0} → VectorView T → ℕ → HandView → HandView → Reached T → Type 0
-ReachesSize vector to old new (reached.Won claimed) =
-    (claimed.run.from + claimed.run.n ≡ to) × (0 < claimed.run.n)
-    × IsClaimed vector claimed.run.n claimed.run.n old new claimed
+abbrev pub ReachesSize : {T : Type 0} → VectorView T → ℕ → HandView → HandView → Reached → Type 0
+ReachesSize vector to old new (reached.Won run) =
+    (run.from + run.n ≡ to) × (0 < run.n) × IsClaimed vector run.n old new run
 ReachesSize vector to old new (reached.Enough size) = IsEnough to old new size
 
 -- nothing was claimed, since the size was large enough
-abbrev pub IsSpared : {T : Type 0} → Reached T → Type 0
-IsSpared (reached.Won claimed) = ⊥
+abbrev pub IsSpared : Reached → Type 0
+IsSpared (reached.Won run) = ⊥
 IsSpared (reached.Enough size) = Unit {0}
 
 -- when each refusal of a growth up to a size comes, by what the hand had seen before the call

@@ -13,6 +13,7 @@ pub mod Making
 pub mod AtLeast
 pub mod Segment
 pub mod Stretch
+pub mod Filled
 pub mod Begun
 pub mod Slices
 pub mod PopSegment

@@ -1,9 +1,8 @@
 -- What a maker returns, and what a growth leaves whose values a maker makes.
-use Rattle.std.specs.Prelude.{◌≡◌, ℕ, ◌+◌, ◌<◌, ◌≤◌, List, [], All, Result, Ok, Err, Some, slice_get, length, replicate, vec_capacity}
+use Rattle.std.specs.Prelude.{◌≡◌, ℕ, ◌+◌, ◌<◌, ◌≤◌, List, All, Result, Ok, Err, Some, slice_get, length, replicate}
 use Rattle.std.specs.List.{FoldsTo}
 use Rattle.claim_core.specs.declared.run.Run.{Run}
 use Rattle.claim_core.specs.Hand.{HandView, OwnsRun, IsWholeHand, seen_size}
-use Rattle.grow_core.specs.declared.claim.Claimed.{Claimed}
 use Rattle.grow_core.specs.declared.token.Found.{Found}
 use Rattle.grow_core.specs.declared.errors.GrowError.{GrowError}
 use Rattle.grow_core.specs.declared.errors.GrowError.TheVariants.{Refused, Taken}
@@ -62,18 +61,15 @@ abbrev pub IsRefusedBy : {T V E : Type 0} → (List T → E → Type 0) → Grow
 IsRefusedBy is_end (Refused run made cause) = is_end (values_of made) cause
 IsRefusedBy is_end refusal = Unit {0}
 
--- the hand has claimed a run of `wanted` places, or has none to claim, and there is room for `tokens` tokens
-pub record IsClaimed {T : Type 0} (vector : VectorView T) (wanted tokens : ℕ) (old new : HandView)
-    (claimed : Claimed T) : Type 0 where
-  pub n : claimed.run.n ≡ wanted
-  pub run : Grows old new claimed.run
-  pub owned : 0 < claimed.run.n → OwnsRun new claimed.run
-  pub places : OwnsPlacesOf new claimed.run
-  pub not_below : seen_size old ≤ claimed.run.from
-  pub alone : IsWholeHand old → claimed.run.from ≡ seen_size old
-  pub within : claimed.run.from + claimed.run.n ≤ limit_of vector
-  pub none : claimed.tokens.items ≡ []
-  pub room : tokens ≤ vec_capacity claimed.tokens
+-- the hand has claimed a run of `wanted` places, or has none to claim
+pub record IsClaimed {T : Type 0} (vector : VectorView T) (wanted : ℕ) (old new : HandView) (run : Run) : Type 0 where
+  pub n : run.n ≡ wanted
+  pub grows : Grows old new run
+  pub owned : 0 < run.n → OwnsRun new run
+  pub places : OwnsPlacesOf new run
+  pub not_below : seen_size old ≤ run.from
+  pub alone : IsWholeHand old → run.from ≡ seen_size old
+  pub within : run.from + run.n ≤ limit_of vector
 
 -- a place of the run was taken, and this was found there
 abbrev pub IsTakenIn : {T : Type 0} → VectorView T → Run → ℕ → Found T → Type 0

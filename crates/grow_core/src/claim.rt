@@ -9,32 +9,21 @@ ghost use Rattle.grow_core.specs.Making.{IsClaimed};
 use crate::errors::GrowError;
 use crate::hand::{Hand, claiming_laws};
 use crate::keys::install;
-use crate::token::Placed;
 use crate::vector::Shared;
 use claim_core::{Moved, Run, laws};
 use std::sync::Wait;
 
-// A run that a hand has claimed, and room for the tokens of its places.
-#[derive(Drop)]
-pub(crate) struct Claimed<T> {
-    pub(crate) run: Run,
-    pub(crate) tokens: Vec<Placed<T>>,
-}
-
 impl<T: Drop> Shared<T> {
-    // Tries once to win `n` places at the size now, with room for `room` tokens, allocated before the claim.
-    // `value` is passed through. A claim of no places is an empty run at that size.
+    // Tries once to win `n` places at the size now. `value` is passed through. A claim of no places is an empty run at
+    // that size.
     pub(crate) fn claim_run<V, E>(
         &self,
         hand: &mut Hand<T>,
         n: u64,
-        room: u64,
         value: V,
-    ) -> Result<(Claimed<T>, V), GrowError<T, V, E>>
+    ) -> Result<(Run, V), GrowError<T, V, E>>
         requires ours { IsHandOf self.now hand.old }
-        requires room { room ≤ n }
-        ensures claimed { IfOk result
-            (λ (claimed, _). IsClaimed self.now n room hand.old hand.new claimed) }
+        ensures claimed { IfOk result (λ (run, _). IsClaimed self.now n hand.old hand.new run) }
         ensures value { IfOk result (λ (_, on). on ≡ value) }
         ensures refused { IfErr result (Refuses self.now n value hand.old hand.new) }
         ensures unclaimed { IfErr result ClaimsNothing }
@@ -45,8 +34,7 @@ impl<T: Drop> Shared<T> {
         let from = self.size(hand);
         let run = Run { from, n };
         if n == 0 {
-            let tokens = Vec::new(self.alloc);
-            return Ok((Claimed { run, tokens }, value));
+            return Ok((run, value));
         }
         if self.limit() - from < n {
             return Err(GrowError::Full {
@@ -54,11 +42,8 @@ impl<T: Drop> Shared<T> {
                 back: value,
             });
         }
-        let Ok(tokens) = Vec::with_capacity(self.alloc, room as usize) else {
-            return Err(GrowError::NoMemory { back: value });
-        };
         let value = self.claim(hand, from, n, value)?;
-        Ok((Claimed { run, tokens }, value))
+        Ok((run, value))
     }
 
     // Like `claim_run`, and it retries if another caller was first.
@@ -67,13 +52,10 @@ impl<T: Drop> Shared<T> {
         rt: &R,
         hand: &mut Hand<T>,
         n: u64,
-        room: u64,
         mut value: V,
-    ) -> Result<(Claimed<T>, V), GrowError<T, V, E>>
+    ) -> Result<(Run, V), GrowError<T, V, E>>
         requires ours { IsHandOf self.now hand.old }
-        requires room { room ≤ n }
-        ensures claimed { IfOk result
-            (λ (claimed, _). IsClaimed self.now n room hand.old hand.new claimed) }
+        ensures claimed { IfOk result (λ (run, _). IsClaimed self.now n hand.old hand.new run) }
         ensures value { IfOk result (λ (_, on). on ≡ value) }
         ensures refused { IfErr result (Refuses self.now n value hand.old hand.new) }
         ensures unclaimed { IfErr result ClaimsNothing }
@@ -81,7 +63,7 @@ impl<T: Drop> Shared<T> {
         ensures not_moved { IfErr result IsNotMoved }
     {
         for _try in rt.forever() {
-            match self.claim_run(hand, n, room, value) {
+            match self.claim_run(hand, n, value) {
                 Ok(claimed) => return Ok(claimed),
                 Err(GrowError::Moved { size: _, back }) => value = back,
                 Err(refused) => return Err(refused),

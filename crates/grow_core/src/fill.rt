@@ -16,7 +16,7 @@ use crate::stretch::{Stretch, publish};
 use crate::token::{BegunPlace, Found, Placed, Spoilt};
 use crate::vector::Shared;
 use cell_core::block;
-use cell_core::block::{Block, Member, Row};
+use cell_core::block::Block;
 use std::vec::IntoIter;
 use table_core::Key;
 
@@ -154,15 +154,8 @@ impl<T: Drop> Shared<T> {
         ensures filled { IfOk result (IsStretchOf self.now place (value ∷ [])) }
         ensures found { IfErr result (IsFoundAt self.now place) }
     {
-        let Placed { key, cell } = self.fill(segment, place, value)?;
-        let mut row = Row::new();
-        row.push(&Member::of(&cell));
-        Ok(Stretch {
-            key,
-            offset: cell.offset(),
-            n: 1,
-            row,
-        })
+        let placed = self.fill(segment, place, value)?;
+        Ok(self.alone(placed))
     }
 
     // Breaks a place of the segment.

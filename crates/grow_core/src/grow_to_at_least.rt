@@ -1,19 +1,17 @@
 //! How the vector is grown up to a size.
-ghost use Rattle.std.specs.Prelude.{◌≡◌, ◌+◌, ◌<◌, ◌≤◌, [], vec_capacity, IfOk, IfErr, IsOkAnd, IsErrAnd};
+ghost use Rattle.std.specs.Prelude.{◌<◌, ◌≤◌, IfOk, IfErr, IsOkAnd, IsErrAnd};
 ghost use Rattle.claim_core.specs.Hand.{seen_size};
 ghost use Rattle.grow_core.specs.Vector.{IsHandOf, limit_of};
 ghost use Rattle.grow_core.specs.Growth.{SaysFull, ClaimsNothing};
 ghost use Rattle.grow_core.specs.Making.{StopsAfter, IsRefusedBy, LeavesMaker};
 ghost use Rattle.grow_core.specs.AtLeast.{WonAtLeast, MadeUpTo, RefusesAtLeast, SaysEnough, ReachesSize, IsSpared};
 
-use crate::claim::Claimed;
 use crate::errors::GrowError;
 use crate::grown::Grown;
 use crate::hand::{Hand, claiming_laws};
 use crate::keys::install;
-use crate::token::Placed;
 use crate::vector::Shared;
-use claim_core::Enough;
+use claim_core::{Enough, Run};
 
 /// The result of a growth up to a size.
 #[derive(Debug, Drop)]
@@ -26,8 +24,8 @@ pub enum AtLeast<T> {
 
 // What a claim up to a size came to.
 #[derive(Drop)]
-pub(crate) enum Reached<T> {
-    Won(Claimed<T>),
+pub(crate) enum Reached {
+    Won(Run),
     Enough { size: u64 },
 }
 
@@ -72,19 +70,15 @@ impl<T: Drop> Shared<T> {
     {
         match self.claim_up_to(hand, size)? {
             Reached::Enough { size } => Ok(AtLeast::Enough { size }),
-            Reached::Won(claimed) => match self.make_run(hand, claimed, make) {
+            Reached::Won(run) => match self.make_run(hand, run, make) {
                 Ok(grown) => Ok(AtLeast::Ran(grown)),
                 Err(refused) => Err(refused),
             },
         }
     }
 
-    // A claim of the places from the size now up to this one, with room for their tokens.
-    fn claim_up_to<E>(
-        &self,
-        hand: &mut Hand<T>,
-        size: u64,
-    ) -> Result<Reached<T>, GrowError<T, (), E>>
+    // A claim of the places from the size now up to this one.
+    fn claim_up_to<E>(&self, hand: &mut Hand<T>, size: u64) -> Result<Reached, GrowError<T, (), E>>
         requires ours { IsHandOf self.now hand.old }
         ensures reached { IfOk result (ReachesSize self.now size hand.old hand.new) }
         ensures refused { IfErr result (RefusesAtLeast self.now size hand.old hand.new) }
@@ -102,26 +96,15 @@ impl<T: Drop> Shared<T> {
                 back: (),
             });
         }
-        let Ok(tokens) = Vec::with_capacity(self.alloc, (size - from) as usize) else {
-            return Err(GrowError::NoMemory { back: () });
-        };
-        self.raise(hand, size, tokens)
+        self.raise(hand, size)
     }
 
     // One step that makes the size at least this one, with the segments up to there installed first. A run
-    // that it wins begins at or above what the hand had seen, so the room for tokens and the segments are
-    // enough.
-    fn raise<E>(
-        &self,
-        hand: &mut Hand<T>,
-        size: u64,
-        tokens: Vec<Placed<T>>,
-    ) -> Result<Reached<T>, GrowError<T, (), E>>
+    // that it wins begins at or above what the hand had seen, so the segments are enough.
+    fn raise<E>(&self, hand: &mut Hand<T>, size: u64) -> Result<Reached, GrowError<T, (), E>>
         requires ours { IsHandOf self.now hand.old }
         requires further { seen_size hand.old < size }
         requires within_limit { size ≤ limit_of self.now }
-        requires none { tokens.items ≡ [] }
-        requires room { size ≤ seen_size hand.old + vec_capacity tokens }
         ensures reached { IfOk result (ReachesSize self.now size hand.old hand.new) }
         ensures refused { IfErr result (RefusesAtLeast self.now size hand.old hand.new) }
         ensures unclaimed { IfErr result ClaimsNothing }
@@ -134,7 +117,7 @@ impl<T: Drop> Shared<T> {
             return Err(GrowError::NoMemory { back: () });
         };
         match self.word.raise(&mut hand.claims, size) {
-            Ok(run) => Ok(Reached::Won(Claimed { run, tokens })),
+            Ok(run) => Ok(Reached::Won(run)),
             Err(Enough { size }) => Ok(Reached::Enough { size }),
         }
     }

@@ -1,12 +1,11 @@
 //! How many values are appended at once.
-ghost use Rattle.std.specs.Prelude.{◌≡◌, ◌+◌, ◌≤◌, [], IfOk, IfErr, IsErrAnd, vec_len, vec_capacity};
+ghost use Rattle.std.specs.Prelude.{◌≡◌, ◌+◌, ◌≤◌, IfOk, IfErr, IsErrAnd, vec_len};
 ghost use Rattle.grow_core.specs.Vector.{IsHandOf, limit_of};
 ghost use Rattle.grow_core.specs.Grown.{IsGrownOf, AreKeptFrom, values_of};
 ghost use Rattle.grow_core.specs.Keys.{OwnsPlacesOf};
 ghost use Rattle.grow_core.specs.Growth.{WonRun, WonPlaces, Refuses, HasNoRoom, SaysFull, IsNotMoved};
 ghost use Rattle.grow_core.specs.Making.{StopsIn};
 
-use crate::claim::Claimed;
 use crate::errors::{GrowError, Never};
 use crate::grown::Grown;
 use crate::hand::Hand;
@@ -32,8 +31,8 @@ impl<T: Drop> Shared<T> {
         ensures full { HasNoRoom self.now (vec_len values) hand.old → IsErrAnd result SaysFull }
     {
         let n = values.len() as u64;
-        let (claimed, values) = self.claim_run(hand, n, n, values)?;
-        self.fill_run(hand, claimed, values)
+        let (run, values) = self.claim_run(hand, n, values)?;
+        self.fill_run(hand, run, values)
     }
 
     /// Appends the values like `try_grow_vec`, and retries if another caller was first.
@@ -52,12 +51,12 @@ impl<T: Drop> Shared<T> {
         ensures not_moved { IfErr result IsNotMoved }
     {
         let n = values.len() as u64;
-        let (claimed, values) = self.claim_again(rt, hand, n, n, values)?;
-        self.fill_run(hand, claimed, values)
+        let (run, values) = self.claim_again(rt, hand, n, values)?;
+        self.fill_run(hand, run, values)
     }
 
-    /// Appends the values like `grow_vec`, without tokens and without memory for them. A look shows the
-    /// values, and the closed list has them.
+    /// Appends the values like `grow_vec`, without tokens. A look shows the values, and the closed list has
+    /// them.
     pub fn append<R: Wait>(
         &self,
         rt: &R,
@@ -95,33 +94,31 @@ impl<T: Drop> Shared<T> {
         ensures not_moved { IfErr result IsNotMoved }
     {
         let n = values.len() as u64;
-        let (claimed, values) = self.claim_again(rt, hand, n, 0, values)?;
-        self.place_run(hand, claimed.run, values, keep)
+        let (won, values) = self.claim_again(rt, hand, n, values)?;
+        self.place_run(hand, won, values, keep)
     }
 
     // Fills the places of a run of the hand's with the values. It stops at a place that was taken.
     fn fill_run(
         &self,
         hand: &Hand<T>,
-        claimed: Claimed<T>,
+        run: Run,
         values: Vec<T>,
     ) -> Result<Grown<T>, GrowError<T, Vec<T>, Never>>
         requires ours { IsHandOf self.now hand.now }
-        requires owned { OwnsPlacesOf hand.now claimed.run }
-        requires within { claimed.run.from + claimed.run.n ≤ limit_of self.now }
-        requires values { vec_len values ≡ claimed.run.n }
-        requires tokens { claimed.tokens.items ≡ [] }
-        requires capacity { claimed.run.n ≤ vec_capacity claimed.tokens }
-        ensures run { IfOk result (λ grown. grown.run ≡ claimed.run) }
+        requires owned { OwnsPlacesOf hand.now run }
+        requires within { run.from + run.n ≤ limit_of self.now }
+        requires values { vec_len values ≡ run.n }
+        ensures run { IfOk result (λ grown. grown.run ≡ run) }
         ensures tokens { IfOk result (IsGrownOf self.now) }
         ensures values { IfOk result (λ grown. values_of grown ≡ values.items) }
-        ensures stopped { IfErr result (StopsIn self.now claimed.run) }
+        ensures stopped { IfErr result (StopsIn self.now run) }
     {
         // For the proof: the vector's base is within its limit.
         self.laws();
-        let Claimed { run, mut tokens } = claimed;
+        let mut filled = self.no_places();
         if run.n == 0 {
-            return Ok(Grown { run, tokens });
+            return Ok(self.grown(run, filled));
         }
         let mut segment = self.find_segment(hand, run.from);
         let mut left = values.into_iter();
@@ -130,14 +127,14 @@ impl<T: Drop> Shared<T> {
             segment = self.next_segment(hand, segment, place);
             match self.fill_next(&segment, place, left) {
                 Ok((stretch, rest)) => {
-                    self.push_tokens(&stretch, &mut tokens);
                     place += stretch.n;
+                    filled = self.know(filled, stretch);
                     left = rest;
                 }
                 Err(found) => return Err(GrowError::Taken { place, found }),
             }
         }
-        Ok(Grown { run, tokens })
+        Ok(self.grown(run, filled))
     }
 
     // Like `fill_run`, with each token given to `keep`.

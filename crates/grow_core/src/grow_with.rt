@@ -1,7 +1,8 @@
 //! Growths whose values are made in place, by a function that may refuse, or by clones.
-ghost use Rattle.std.specs.Prelude.{◌≡◌, ◌+◌, ◌<◌, ◌≤◌, [], All, IfOk, IfErr, IsErrAnd, length, map, vec_len, vec_capacity};
-ghost use Rattle.grow_core.specs.Vector.{IsHandOf, IsPlacedOf, limit_of};
-ghost use Rattle.grow_core.specs.Grown.{IsGrownOf, AreInOrder, values_of};
+ghost use Rattle.std.specs.Prelude.{◌≡◌, ◌+◌, ◌<◌, ◌≤◌, List, All, IfOk, IfErr, IsErrAnd, length};
+ghost use Rattle.grow_core.specs.Vector.{IsHandOf, limit_of};
+ghost use Rattle.grow_core.specs.Grown.{IsGrownOf, values_of};
+ghost use Rattle.grow_core.specs.Filled.{IsFilledOf};
 ghost use Rattle.grow_core.specs.Keys.{OwnsPlacesOf};
 ghost use Rattle.grow_core.specs.Growth.{Refuses, HasNoRoom, SaysFull, IsNotMoved};
 ghost use Rattle.grow_core.specs.Making.{Makes, StopsAfter, StopsIn, LeavesMaker, IsRefusedBy, IsTakenIn, IsTakenFrom};
@@ -9,11 +10,11 @@ ghost use Rattle.grow_core.specs.Making.{WonMade, WonClones};
 ghost use Rattle.grow_core.specs.Begun.{AreUnwritten, begun_count};
 
 use crate::begun::{break_begun, count_begun};
-use crate::claim::Claimed;
 use crate::errors::GrowError;
+use crate::filled::Filled;
 use crate::grown::Grown;
 use crate::hand::Hand;
-use crate::token::{Found, Placed};
+use crate::token::Found;
 use crate::vector::Shared;
 use cell_core::block::RunPen;
 use claim_core::Run;
@@ -59,8 +60,8 @@ impl<T: Drop> Shared<T> {
         ensures asked { IfErr result (LeavesMaker F.step make.old make.new) }
         ensures full { HasNoRoom self.now n hand.old → IsErrAnd result SaysFull }
     {
-        let (claimed, ()) = self.claim_run(hand, n, n, ())?;
-        self.make_run(hand, claimed, make)
+        let (run, ()) = self.claim_run(hand, n, ())?;
+        self.make_run(hand, run, make)
     }
 
     /// Appends values like `try_grow_with`, and retries if another caller was first. The maker is called once
@@ -100,8 +101,8 @@ impl<T: Drop> Shared<T> {
         ensures full { HasNoRoom self.now n hand.old → IsErrAnd result SaysFull }
         ensures not_moved { IfErr result IsNotMoved }
     {
-        let (claimed, ()) = self.claim_again(rt, hand, n, n, ())?;
-        self.make_run(hand, claimed, make)
+        let (run, ()) = self.claim_again(rt, hand, n, ())?;
+        self.make_run(hand, run, make)
     }
 
     // Fills the places of a run of the hand's with what the maker makes. It stops at a place that was taken,
@@ -109,41 +110,39 @@ impl<T: Drop> Shared<T> {
     pub(crate) fn make_run<E: Drop, F: FnMut(u64) -> Result<T, E>>(
         &self,
         hand: &Hand<T>,
-        claimed: Claimed<T>,
+        run: Run,
         make: &mut F,
     ) -> Result<Grown<T>, GrowError<T, (), E>>
         requires ours { IsHandOf self.now hand.now }
-        requires owned { OwnsPlacesOf hand.now claimed.run }
-        requires within { claimed.run.from + claimed.run.n ≤ limit_of self.now }
-        requires tokens { claimed.tokens.items ≡ [] }
-        requires capacity { claimed.run.n ≤ vec_capacity claimed.tokens }
+        requires owned { OwnsPlacesOf hand.now run }
+        requires within { run.from + run.n ≤ limit_of self.now }
         requires callable { F.IsAlwaysCallable make.old }
-        ensures run { IfOk result (λ grown. grown.run ≡ claimed.run) }
-        ensures n { IfOk result (λ grown. length (values_of grown) ≡ claimed.run.n) }
+        ensures run { IfOk result (λ grown. grown.run ≡ run) }
+        ensures n { IfOk result (λ grown. length (values_of grown) ≡ run.n) }
         ensures tokens { IfOk result (IsGrownOf self.now) }
         ensures made { IfOk result (λ grown. Makes F.step make.old (values_of grown) make.new) }
-        ensures stopped { IfErr result (StopsIn self.now claimed.run) }
+        ensures stopped { IfErr result (StopsIn self.now run) }
         ensures asked { IfErr result (LeavesMaker F.step make.old make.new) }
     {
         // For the proof: the vector's base is within its limit.
         self.laws();
-        let Claimed { run, mut tokens } = claimed;
+        let mut filled = self.no_places();
         if run.n == 0 {
-            return Ok(Grown { run, tokens });
+            return Ok(self.grown(run, filled));
         }
         let mut segment = self.find_segment(hand, run.from);
         let mut begun: Option<RunPen<'_, T>> = None;
         for i in 0..run.n {
             let value = match make(i) {
                 Ok(value) => value,
-                Err(cause) => return Err(self.stop(hand, run, tokens, cause, begun)),
+                Err(cause) => return Err(self.stop(hand, run, i, filled, cause, begun)),
             };
             let place = run.from + i;
             segment = self.next_segment(hand, segment, place);
-            let (filled, others) = self.fill_begun(&segment, place, run.n - i, begun, value);
+            let (put, others) = self.fill_begun(&segment, place, run.n - i, begun, value);
             begun = others;
-            match filled {
-                Ok(placed) => tokens.push_reserved(placed),
+            match put {
+                Ok(placed) => filled = self.know(filled, self.alone(placed)),
                 Err(found) => {
                     break_begun(begun);
                     return Err(GrowError::Taken { place, found });
@@ -152,44 +151,40 @@ impl<T: Drop> Shared<T> {
         }
         // By now every place that was begun is filled, so this breaks none: a run must be spent.
         break_begun(begun);
-        Ok(Grown { run, tokens })
+        Ok(self.grown(run, filled))
     }
 
-    // A construction was refused: the places from there on are broken.
+    // A construction was refused after this number of values: the places from there on are broken.
     #[cold]
     fn stop<E: Drop>(
         &self,
         hand: &Hand<T>,
         run: Run,
-        tokens: Vec<Placed<T>>,
+        n: u64,
+        filled: Filled<T>,
         cause: E,
         begun: Option<RunPen<'_, T>>,
     ) -> GrowError<T, (), E>
         requires ours { IsHandOf self.now hand.now }
         requires owned { OwnsPlacesOf hand.now run }
         requires within { run.from + run.n ≤ limit_of self.now }
-        requires tokens { All (IsPlacedOf self.now) tokens.items }
-        requires in_order { AreInOrder run.from tokens.items }
-        requires fewer { vec_len tokens < run.n }
+        requires filled { (values : List T) × (length values ≡ n) × IsFilledOf self.now run.from values filled }
+        requires fewer { n < run.n }
         requires unwritten { AreUnwritten begun }
-        requires begun { vec_len tokens + begun_count begun ≤ run.n }
+        requires begun { n + begun_count begun ≤ run.n }
         ensures stopped { StopsIn self.now run result }
         // The places before it have their values still.
-        ensures after { IsTakenFrom (run.from + vec_len tokens) result }
-        ensures cause { IsRefusedBy
-            (λ values why. (values ≡ map (λ token. token.value) tokens.items) × (why ≡ cause))
-            result }
+        ensures after { IsTakenFrom (run.from + n) result }
+        ensures cause { (values : List T) → IsFilledOf self.now run.from values filled
+            → IsRefusedBy (λ made why. (made ≡ values) × (why ≡ cause)) result }
     {
-        let made = Run {
-            from: run.from,
-            n: tokens.len() as u64,
-        };
-        let first = made.n + count_begun(&begun);
+        let made = Run { from: run.from, n };
+        let first = n + count_begun(&begun);
         break_begun(begun);
         match self.break_rest(hand, run, first) {
             Ok(()) => GrowError::Refused {
                 run,
-                made: Grown { run: made, tokens },
+                made: self.grown(made, filled),
                 cause,
             },
             Err((place, found)) => GrowError::Taken { place, found },

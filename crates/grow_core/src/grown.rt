@@ -3,28 +3,29 @@ ghost use Rattle.std.specs.Prelude.{◌≡◌, ◌+◌, ◌<◌, slice_get, Some
 ghost use Rattle.grow_core.specs.Vector.{VectorView, IsPlacedOf};
 ghost use Rattle.grow_core.specs.Grown.{IsGrownOf, IsInOrder, values_of};
 
+use crate::filled::Filled;
 use crate::token::Placed;
 use claim_core::Run;
 use std::fmt;
 use std::marker::Model;
 
-/// Evidence that each place of a run holds its value.
+/// Evidence that each place of a run holds its value. It takes 24 bytes, however long the run is.
 #[derive(Drop)]
 pub struct Grown<T> {
     pub(crate) run: Run,
-    pub(crate) tokens: Vec<Placed<T>>,
+    pub(crate) filled: Filled<T>,
 }
 
 impl<T> Model for Grown<T> {
-    ghost use Rattle.grow_core.specs.Grown.{GrownView, grown_coded, IsInOrder};
+    ghost use Rattle.grow_core.specs.Grown.{GrownView, grown_coded, tokens_of, IsKnownRun};
 
     ghost Value = { GrownView T };
 
     ghost coded = { grown_coded T.code };
 
-    ghost view = { λ g. record { run = g.run; tokens = g.tokens.items } };
+    ghost view = { λ g. record { run = g.run; tokens = tokens_of g.filled.keys g.run.from g.filled.row } };
 
-    ghost invariant = { λ g. IsInOrder g.run g.tokens.items };
+    ghost invariant = { λ g. IsKnownRun g.run g.filled.keys g.filled.row };
 }
 
 impl<T> fmt::Debug for Grown<T> {
@@ -58,6 +59,11 @@ impl<T> Grown<T> {
         ensures value { slice_get (values_of self.now) i ≡ Some result.value }
         ensures of { (v : VectorView T) → IsGrownOf v self.now → IsPlacedOf v result }
     {
-        self.tokens[i as usize].again()
+        let Filled { keys, row } = &self.filled;
+        let (segment, offset) = keys.layout().locate(self.run.from + i);
+        Placed {
+            key: keys.key(segment),
+            cell: row.at(i).placed(offset),
+        }
     }
 }

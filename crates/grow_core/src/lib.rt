@@ -27,6 +27,7 @@ mod claim;
 mod close;
 mod errors;
 mod fill;
+mod filled;
 mod grow_to_at_least;
 mod grow_vec;
 mod grow_with;

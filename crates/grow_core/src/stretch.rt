@@ -1,15 +1,14 @@
-// Places next to each other that a growth fills together, and their tokens.
-ghost use Rattle.std.specs.Prelude.{◌≡◌, ◌+◌, ◌<◌, ◌≤◌, ◌++◌, ℕ, List, [], Some, length, slice_get, vec_len, vec_capacity};
+// Places next to each other that a growth fills together.
+ghost use Rattle.std.specs.Prelude.{◌≡◌, ◌+◌, ◌<◌, ◌≤◌, ◌++◌, ◌∷◌, ℕ, List, [], Some, length, slice_get};
 ghost use Rattle.std.specs.Vec.Iter.{into_iter_items, into_iter_len};
 ghost use Rattle.cell_core.specs.Run.{members_of};
-ghost use Rattle.grow_core.specs.Grown.{AreTokensOf, AreKeptFrom};
+ghost use Rattle.grow_core.specs.Grown.{AreKeptFrom};
 ghost use Rattle.grow_core.specs.Stretch.{IsCounted, IsStretchOf};
-ghost use Rattle.grow_core.specs.Token.{PlacedView};
 ghost use Rattle.grow_core.specs.Vector.{IsPlacedOf};
 
 use crate::token::Placed;
 use crate::vector::Shared;
-use cell_core::block::{Row, RunPen};
+use cell_core::block::{Member, Row, RunPen};
 use std::vec::IntoIter;
 use table_core::Key;
 
@@ -63,17 +62,20 @@ impl<T> Shared<T> {
         }
     }
 
-    // Appends the token of each place of the stretch to the tokens, which have room for them.
-    pub(crate) fn push_tokens(&self, stretch: &Stretch<T>, tokens: &mut Vec<Placed<T>>)
-        requires stretch { (from : ℕ) × (values : List T) × IsStretchOf self.now from values stretch.now }
-        requires room { vec_len tokens.old + stretch.now.n ≤ vec_capacity tokens.old }
-        ensures pushed { (from : ℕ) → (values : List T) → IsStretchOf self.now from values stretch.now
-            → (more : List (PlacedView T)) × AreTokensOf self.now from values more
-            × (tokens.new.items ≡ tokens.old.items ++ more) }
-        ensures capacity { vec_capacity tokens.new ≡ vec_capacity tokens.old }
+    // The stretch of one place, by its token.
+    #[inline(always)]
+    pub(crate) fn alone(&self, placed: Placed<T>) -> Stretch<T>
+        requires { IsPlacedOf self.now placed }
+        ensures { IsStretchOf self.now placed.place (placed.value ∷ []) result }
     {
-        for i in 0..stretch.n {
-            tokens.push_reserved(self.token(stretch, i));
+        let Placed { key, cell } = placed;
+        let mut row = Row::new();
+        row.push(&Member::of(&cell));
+        Stretch {
+            key,
+            offset: cell.offset(),
+            n: 1,
+            row,
         }
     }
 

@@ -112,7 +112,7 @@ fn clone_three<R: Wait>(
     made
 }
 
-// The same, by a second call if the growth found no memory for its tokens or its segments.
+// The same, by a second call if the growth found no memory for its segments.
 fn clone_again<R: Wait>(
     rt: &R,
     two: &mut Callers<String>,
@@ -181,8 +181,7 @@ fn breaks_and_mends<R: AllocGlobal + Wait>(rt: &R, two: &mut Callers<u64>) -> bo
     is_broken && two.first_wrong(rt, &MENDS) == None
 }
 
-// The count of the requests shows that these take no memory: the vector's, and those of its tokens and two
-// segments.
+// The count of the requests shows that these take no memory: the vector's, and those of two segments.
 #[test]
 fn a_mend_a_close_and_changes_of_a_list_take_no_memory(rt: HostRuntime) {
     let mut two = fresh_again(&rt, 8);

@@ -20,7 +20,7 @@ returns-clause-claimed g c =
     let run : Run = record { from = c.size-from.result; n = c.args.n } in
     let seen = more_of_size c.args.hand.now c.size-from.new.hand c.size-from.result size.seen in record {
       n = refl;
-      run = record {
+      grows = record {
         claimed = λ _. adds_after c.args.hand.now c.size-from.new.hand c.claim.new.hand run seen c.in_ok-value.ensures.run;
         empty = λ none. absurd (omega (arith, none));
       };
@@ -29,6 +29,4 @@ returns-clause-claimed g c =
       not_below = size.grows;
       alone = size.whole;
       within = omega arith;
-      none = c.in-Ok.ensures.items;
-      room = omega (arith, c.in-Ok.ensures.capacity);
     }

@@ -1,58 +1,28 @@
-use Rattle.std.proofs.Common.{of_calls, IfOk, ℕ, ◌≡◌, ◌+◌, ◌-◌, map, length, subst, sym, arith}
-use Rattle.grow_core.specs.Making.{Makes}
-use Rattle.grow_core.specs.Vector.{IsPlacedOf}
-use Rattle.grow_core.specs.Grown.{AreTokensOf}
-use Rattle.grow_core.proofs.Filling.{tokens_more, tokens_self}
-use Rattle.grow_core.proofs.Made.{token_values, made_none, made_more, stops_at, left_by_stop}
+use Rattle.std.proofs.Common.{of_calls, IfOk, ℕ, ◌≡◌, ◌+◌, ◌-◌, ◌++◌, ◌∷◌, [], Ok, refl, length, length-append, subst, sym, arith}
 use Rattle.grow_core.specs.Begun.{AreBegun}
+use Rattle.grow_core.specs.Stretch.{IsStretchOf}
+use Rattle.grow_core.proofs.Made.{made_push, stops_at, left_by_stop}
 use Rattle.grow_core.proofs.BegunPlaces.{unwritten, begun_few}
 use Rattle.grow_core.proofs.vector.Shared.make_run.Goals as goal
 
-pub returns-then-run-eq0-clause-made : goal.returns-then-run-eq0-clause-made
-returns-then-run-eq0-clause-made g c = made_none {E = g.row.E.Denot} (goal.F-step g) c.args.make.now c.args.claimed.tokens.items c.requires.tokens
+pub grown-requires : goal.grown-requires
+grown-requires g c = (omega arith, (c.requires.within, ([], omega arith, c.no_places-filled.ensures c.args.run.from)))
 
 pub returns-in-Err-clause-asked : goal.returns-in-Err-clause-asked
 returns-in-Err-clause-asked g c =
-    let at = c.loop-i in
-    let n : length at.tokens.items ≡ at.i = omega (arith, at.tokens.ok, at.invariant.2) in
-    left_by_stop (goal.F-step g) c.args.make.now c.args.self.now c.args.claimed.run _ _ c.make.new.self c.stop.result c.stop.ensures.stopped c.stop.ensures.cause
-    (stops_at (goal.F-step g) c.args.make.now at.tokens.items at.make c.make.new.self c.in-Err.cause at.i at.invariant.1 n
+    let at = c.loop-i in let had = at.invariant.0 in
+    left_by_stop (goal.F-step g) c.args.make.now c.args.self.now c.args.run had.0 _ c.make.new.self c.stop.result c.stop.ensures.stopped (c.stop.ensures.cause had.0 had.1)
+    (stops_at (goal.F-step g) c.args.make.now had.0 at.make c.make.new.self c.in-Err.cause at.i had.3 had.2
     (subst (λ r. goal.F-step g at.make at.i r c.make.new.self) c.in-Err.is c.make.ensures))
 
 pub next_segment-segment-requires : goal.next_segment-segment-requires
 next_segment-segment-requires g c =
     let at = c.loop-i in
-    (omega arith, (c.requires.ours, (c.requires.owned _ (omega arith, omega arith), (omega arith, (at.invariant.4, (at.invariant.5, at.invariant.6))))))
-
-pub loop-i-preserved : goal.loop-i-preserved
-loop-i-preserved g c =
-    let at = c.loop-i in
-    let token = c.in-Ok-filled.placed in let v = c.args.self.now in let run = c.args.claimed.run in let is = c.in-Ok-filled.is in let filled = c.fill_begun-filled.ensures in
-    let its : IsPlacedOf v token = subst (λ r. IfOk r (IsPlacedOf v)) is filled.token in
-    let there : token.place ≡ run.from + at.i = subst (λ r. IfOk r (λ placed. placed.place ≡ run.from + at.i)) is filled.here in
-    let value : token.value ≡ c.in-Ok.value = subst (λ r. IfOk r (λ placed. placed.value ≡ c.in-Ok.value)) is filled.value in
-    let segment = c.next_segment-segment.result in let others = c.fill_begun-filled.result.1 in
-    let near : run.from + at.i + 1 ≡ run.from + (at.i + 1) = omega arith in let rest : run.n - at.i - 1 ≡ run.n - (at.i + 1) = omega arith in
-    let n : length at.tokens.items ≡ at.i = omega (arith, at.tokens.ok, at.invariant.2) in
-    let here : token.place ≡ c.args.claimed.run.from + length at.tokens.items = omega (arith, n, there) in
-    let all = tokens_self c.args.self.now c.args.claimed.run.from _ _ (tokens_more c.args.self.now c.args.claimed.run.from _ at.tokens.items c.in-Ok.value token at.invariant.0
-    its here value) in (
-      subst (λ ts. AreTokensOf c.args.self.now c.args.claimed.run.from (map (λ token. token.value) ts) ts) (sym c.push_reserved.ensures.items) all,
-      subst (λ ts. Makes (goal.F-step g) c.args.make.now (token_values ts) c.make.new.self) (sym c.push_reserved.ensures.items)
-          (made_more (goal.F-step g) c.args.make.now at.tokens.items token at.make c.make.new.self c.in-Ok.value at.i at.invariant.1 n
-          (subst (λ r. goal.F-step g at.make at.i r c.make.new.self) c.in-Ok.is c.make.ensures) value),
-      omega (arith, c.push_reserved.ensures.len, at.invariant.2),
-      omega (arith, c.push_reserved.ensures.capacity, at.invariant.3),
-      c.next_segment-segment.ensures.segment,
-      omega arith,
-      omega arith,
-      subst (λ (k : ℕ). AreBegun segment k (run.n - (at.i + 1)) others) near (subst (λ (m : ℕ). AreBegun segment (run.from + at.i + 1) m others) rest filled.begun),
-      search of_calls,
-    )
+    (omega arith, (c.requires.ours, (c.requires.owned _ (omega arith, omega arith), (omega arith, (at.invariant.1, (at.invariant.2, at.invariant.3))))))
 
 pub stop-requires : goal.stop-requires
 stop-requires g c =
-    let at = c.loop-i in let run = c.args.claimed.run in let begun = at.invariant.7 in
+    let at = c.loop-i in let run = c.args.run in let begun = at.invariant.4 in let had = at.invariant.0 in
     let few = begun_few at.segment (run.from + at.i) (run.n - at.i) at.begun begun in (
       omega arith,
       (
@@ -62,16 +32,48 @@ stop-requires g c =
           (
             c.requires.within,
             (
-              at.invariant.0.of,
-              (
-                at.invariant.0.places,
-                (
-                  omega (arith, at.invariant.2),
-                  (unwritten at.segment (run.from + at.i) (run.n - at.i) at.begun begun, omega (arith, at.invariant.2, few)),
-                ),
-              ),
+              (had.0, had.2, had.1),
+              (omega arith, (unwritten at.segment (run.from + at.i) (run.n - at.i) at.begun begun, omega (arith, few))),
             ),
           ),
         ),
       ),
+    )
+
+pub loop-i-init : goal.loop-i-init
+loop-i-init g c =
+    let found = c.find_segment-segment.ensures in
+    (([], c.no_places-filled.ensures c.args.run.from, refl, refl), found.segment, omega (arith, found.from), omega (arith, found.before), tt, search of_calls)
+
+pub know-filled-requires : goal.know-filled-requires
+know-filled-requires g c =
+    let at = c.loop-i in let had = at.invariant.0 in
+    let token = c.in-Ok-put.placed in let v = c.args.self.now in let run = c.args.run in let put = c.fill_begun-put.ensures in
+    let here : token.place ≡ run.from + at.i = subst (λ r. IfOk r (λ placed. placed.place ≡ run.from + at.i)) c.in-Ok-put.is put.here in
+    let there : token.place ≡ run.from + length had.0 = omega (arith, here, had.2) in
+    let next = subst (λ (p : ℕ). IsStretchOf v p (token.value ∷ []) c.alone.result) there c.alone.ensures in
+    (omega arith, (run.from, had.0, token.value ∷ [], record { known = had.1; next = next }))
+
+pub loop-i-preserved : goal.loop-i-preserved
+loop-i-preserved g c =
+    let at = c.loop-i in let had = at.invariant.0 in
+    let token = c.in-Ok-put.placed in let v = c.args.self.now in let run = c.args.run in let is = c.in-Ok-put.is in let put = c.fill_begun-put.ensures in
+    let here : token.place ≡ run.from + at.i = subst (λ r. IfOk r (λ placed. placed.place ≡ run.from + at.i)) is put.here in
+    let value : token.value ≡ c.in-Ok.value = subst (λ r. IfOk r (λ placed. placed.value ≡ c.in-Ok.value)) is put.value in
+    let there : token.place ≡ run.from + length had.0 = omega (arith, here, had.2) in
+    let next = subst (λ (p : ℕ). IsStretchOf v p (token.value ∷ []) c.alone.result) there c.alone.ensures in
+    let call = subst (λ x. goal.F-step g at.make at.i (Ok x) c.make.new.self) (sym value) (subst (λ r. goal.F-step g at.make at.i r c.make.new.self) c.in-Ok.is c.make.ensures) in
+    let segment = c.next_segment-segment.result in let others = c.fill_begun-put.result.1 in
+    let near : run.from + at.i + 1 ≡ run.from + (at.i + 1) = omega arith in let rest : run.n - at.i - 1 ≡ run.n - (at.i + 1) = omega arith in (
+      (
+        had.0 ++ token.value ∷ [],
+        c.know-filled.ensures run.from had.0 (token.value ∷ []) (record { known = had.1; next = next }),
+        omega (arith, had.2, length-append had.0 (token.value ∷ [])),
+        made_push (goal.F-step g) c.args.make.now had.0 at.make c.make.new.self token.value at.i had.3 had.2 call,
+      ),
+      c.next_segment-segment.ensures.segment,
+      omega arith,
+      omega arith,
+      subst (λ (k : ℕ). AreBegun segment k (run.n - (at.i + 1)) others) near (subst (λ (m : ℕ). AreBegun segment (run.from + at.i + 1) m others) rest put.begun),
+      search of_calls,
     )

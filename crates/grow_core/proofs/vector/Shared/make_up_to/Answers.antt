@@ -7,12 +7,12 @@ use Rattle.grow_core.proofs.vector.Shared.make_up_to.Goals as goal
 pub returns-in-Err-clause-refused : goal.returns-in-Err-clause-refused
 returns-in-Err-clause-refused g c =
     let reached = c.in_ok-size.ensures.reached in
-    refused_up_to c.args.self.now c.args.size c.args.hand.now c.claim_up_to.new.hand c.in-Won.claimed c.in-Err.refused
+    refused_up_to c.args.self.now c.args.size c.args.hand.now c.claim_up_to.new.hand c.in-Won.run' c.in-Err.refused
     (subst (λ r. ReachesSize c.args.self.now c.args.size c.args.hand.now c.claim_up_to.new.hand r) c.in-Won.is reached) c.in-Err.ensures.stopped
 
 pub returns-in-Ok-clause-won : goal.returns-in-Ok-clause-won
 returns-in-Ok-clause-won g c =
-    let claimed = c.in-Won.claimed in
+    let claimed = c.in-Won.run' in
     let reached = subst (λ r. ReachesSize c.args.self.now c.args.size c.args.hand.now c.claim_up_to.new.hand r) c.in-Won.is c.in_ok-size.ensures.reached in
     won_up_to (goal.F-step g) c.args.make.now c.args.self.now c.args.size c.args.hand.now c.claim_up_to.new.hand claimed c.in-Ok.grown c.make_run.new.make
     reached c.in-Ok.ensures.run c.in-Ok.ensures.n c.in-Ok.ensures.tokens c.in-Ok.ensures.made

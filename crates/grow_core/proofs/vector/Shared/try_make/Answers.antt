@@ -2,13 +2,13 @@ use Rattle.std.proofs.lemmas.Result.{err_from_is_err_and}
 use Rattle.grow_core.proofs.Made.{left_by_none, won_made}
 use Rattle.grow_core.proofs.vector.Shared.try_make.Goals as goal
 
-pub returns-in_err-claimed-clause-asked : goal.returns-in_err-claimed-clause-asked
-returns-in_err-claimed-clause-asked g c =
+pub returns-in_err-run-clause-asked : goal.returns-in_err-run-clause-asked
+returns-in_err-run-clause-asked g c =
     let p = err_from_is_err_and c.from_residual.result c.from_residual.ensures.1 in
-    rw (p.1, p.2) (left_by_none (goal.F-step g) c.args.make.now c.in_err-claimed.field-0.0 c.in_err-claimed.ensures.unclaimed)
+    rw (p.1, p.2) (left_by_none (goal.F-step g) c.args.make.now c.in_err-run.field-0.0 c.in_err-run.ensures.unclaimed)
 
 pub returns-clause-won : goal.returns-clause-won
 returns-clause-won g c =
     let filled = c.make_run.ensures in
-    won_made (goal.F-step g) c.args.make.now c.args.self.now c.args.n c.args.n c.args.hand.now c.claim_run.new.hand c.in_ok-claimed.claimed c.make_run.result
-    c.make_run.new.make c.in_ok-claimed.ensures.claimed filled.run filled.n filled.tokens filled.made
+    won_made (goal.F-step g) c.args.make.now c.args.self.now c.args.n c.args.hand.now c.claim_run.new.hand c.in_ok-run.run' c.make_run.result
+    c.make_run.new.make c.in_ok-run.ensures.claimed filled.run filled.n filled.tokens filled.made

@@ -44,7 +44,8 @@ impl<'a, T> Model for Published<'a, T> {
 impl<T> Shared<T> {
     /// Walks over what each place shows, from place 0 to the size that one load finds now, for a caller
     /// without a hand. Each item is what one look shows. It looks at up to 64 places ahead, as long as they are filled,
-    /// by one load for each word of states. A place that is not filled then is looked at again when its item is asked for.
+    /// by one load for each word of states. A place that is not filled then is looked at again when its item is asked
+    /// for.
     pub fn published(&self) -> Published<'_, T>
         ensures vector { result.vector ≡ self.now }
         ensures from { result.place ≡ 0 }
@@ -82,7 +83,7 @@ impl<T> Shared<T> {
         }
     }
 
-    // The values of the filled places from this one on, up to the first that is not filled, and `n` or `LOOKED_AHEAD` at
+    // The values of the filled places from this one on, up to the first that is not filled, and `n` or LOOKED_AHEAD at
     // most.
     fn look_along(&self, place: u64, n: u64) -> &[T]
         requires some { 0 < n }

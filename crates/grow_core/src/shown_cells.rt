@@ -86,7 +86,8 @@ impl<T> Shared<T> {
 }
 
 impl<T> Shared<T> {
-    // The values of the filled places of one segment from this one on, up to the first that is not filled, and `n` at most.
+    // The values of the filled places of one segment from this one on, up to the first that is not filled, and `n` at
+    // most.
     pub(crate) fn filled_places(&self, segment: u32, place: u64, n: u64) -> &[T]
         requires there { HasPlace (layout_of self.now) segment place }
         requires segment { segment < segment_count (layout_of self.now) }

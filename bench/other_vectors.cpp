@@ -39,6 +39,8 @@ struct OneTbb {
   void grow_up_to(Value size, Value value) { values.grow_to_at_least(size, value); }
   Value size() { return values.size(); }
   Value look(Value place) { return values.at(place); }
+  // What a token is for: a place that is known to have a value.
+  Value get(Value place) { return values[place]; }
   Value walk(Value times) { return count_odd(values, times); }
 };
 
@@ -69,6 +71,10 @@ struct Locked {
   Value look(Value place) {
     std::lock_guard<std::mutex> guard(lock);
     return values.at(place);
+  }
+  Value get(Value place) {
+    std::lock_guard<std::mutex> guard(lock);
+    return values[place];
   }
   Value walk(Value times) {
     std::lock_guard<std::mutex> guard(lock);
@@ -101,12 +107,13 @@ template <typename Vector> void raise_often(Vector &vector, Value times) {
     vector.grow_up_to(vector.size() + list_length, i);
 }
 
-template <typename Vector> void look_often(Vector &vector, Value times) {
+// Reads at places that are picked at random.
+template <typename Read> void read_often(Value times, Read read) {
   Value found = 0;
   Value random = 88172645463325252;
   for (Value i = 0; i < times; ++i) {
     random = random * 6364136223846793005 + 1442695040888963407;
-    found += vector.look(random >> 41) & 1;
+    found += read(random >> 41) & 1;
   }
   volatile Value kept = found;
   (void)kept;
@@ -119,7 +126,8 @@ template <typename Vector> void walk_over(Vector &vector, Value times) {
 
 template <typename Vector> long long run(const char *load, unsigned threads) {
   Vector vector;
-  bool installed = std::strstr(load, "-installed") || !std::strcmp(load, "at") || !std::strncmp(load, "walk", 4);
+  bool installed = std::strstr(load, "-installed") || !std::strcmp(load, "at") || !std::strcmp(load, "get") ||
+                   !std::strncmp(load, "walk", 4);
   if (installed)
     push_often(vector, filled);
   Value times = (installed ? more : fresh) / threads;
@@ -132,7 +140,9 @@ template <typename Vector> long long run(const char *load, unsigned threads) {
   if (!std::strncmp(load, "at-least", 8))
     work = [&] { raise_often(vector, times); };
   if (!std::strcmp(load, "at"))
-    work = [&] { look_often(vector, times); };
+    work = [&] { read_often(times, [&](Value place) { return vector.look(place); }); };
+  if (!std::strcmp(load, "get"))
+    work = [&] { read_often(times, [&](Value place) { return vector.get(place); }); };
   if (!std::strncmp(load, "walk", 4))
     work = [&] { walk_over(vector, times); };
   auto start = std::chrono::steady_clock::now();

@@ -48,6 +48,13 @@ impl<T> Grown<T> {
     pub fn laws(&self)
         ensures { IsInOrder self.now.run self.now.tokens }
     {
+        self.in_order();
+    }
+
+    // The same, from the type's invariant.
+    fn in_order(&self)
+        ensures { IsInOrder self.now.run self.now.tokens }
+    {
         // For the proof: reading a field shows the type's invariant.
         let _run = self.run;
     }

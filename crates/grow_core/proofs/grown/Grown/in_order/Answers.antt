@@ -1,7 +1,7 @@
 use Rattle.grow_core.specs.Grown.{GrownView, IsInOrder}
 use Rattle.std.proofs.Common.{subst}
 use Rattle.grow_core.proofs.KnownPlaces.{known_in_order}
-use Rattle.grow_core.proofs.grown.Grown.laws.Goals as goal
+use Rattle.grow_core.proofs.grown.Grown.in_order.Goals as goal
 
 pub returns : goal.returns
 returns g c = let own = c.self.inside in

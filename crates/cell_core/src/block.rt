@@ -207,8 +207,8 @@ impl<T, A: Allocator> Block<T, A> {
         }
     }
 
-    // What a cell shows that is not filled. A function of its own, so that only calls that come here clear the room
-    // for what `unfilled` returns.
+    // Looks at a cell that is not filled. It is a function of its own, so that only calls that come here clear the room
+    // for the result of `unfilled`.
     #[inline(always)]
     fn look_unfilled(&self, offset: u64, found: u64, sight: RawSight<T>) -> Look<'_, T>
         requires { (offset < block_len self.now) × (sight.of ≡ cell_at self.now offset)

@@ -1,4 +1,4 @@
-//! Reads at places that are picked at random.
+//! Reads at places that are picked at random, and walks over all places.
 ghost use Rattle.std.specs.Prelude.{◌≡◌, ◌<◌};
 ghost use Rattle.grow_core.specs.Vector.{IsHandOf};
 ghost use Rattle.grow_core.specs.Grown.{IsGrownOf};

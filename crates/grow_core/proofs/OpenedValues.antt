@@ -1,4 +1,4 @@
--- Values of places next to each other, where they are those of the opened list.
+-- Values of places next to each other that are those of the opened list.
 use Rattle.std.proofs.Common.{◌≡◌, ℕ, suc, ◌+◌, List, ◌∷◌, length, Some, sym, ap, ◌∙◌, subst, arith}
 use Rattle.std.specs.Prelude.{slice_get}
 use Rattle.grow_core.specs.Vector.{VectorView, IsOpenedAt}

@@ -1,4 +1,4 @@
--- What a growth knows of the places that it has filled.
+-- The knowledge that a growth has of its filled places.
 use Rattle.std.specs.Prelude.{◌≡◌, ℕ, ◌+◌, ◌-◌, ◌<◌, List, Some, length, map, slice_get, slice_index}
 use Rattle.seg_core.specs.Segment.{segment_start, segment_count, segment_of, most_segments}
 use Rattle.cell_core.specs.Block.{BlockView, IsMemberAt}

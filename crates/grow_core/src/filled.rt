@@ -1,4 +1,4 @@
-// What a growth knows of the places that it has filled, and the token of its run.
+// The knowledge that a growth has of its filled places, and the token of its run.
 ghost use Rattle.std.specs.Prelude.{◌≡◌, ◌+◌, ◌≤◌, ◌++◌, ℕ, List, [], length};
 ghost use Rattle.grow_core.specs.Filled.{IsFilledOf, IsNextStretch};
 ghost use Rattle.grow_core.specs.Grown.{IsGrownOf, values_of};
@@ -11,8 +11,8 @@ use cell_core::block::Row;
 use claim_core::Run;
 use table_core::KeySet;
 
-// What is known of places next to each other that are filled: the keys of their segments, and that each cell has its
-// value. It has no bytes except the layout.
+// Knowledge of filled places next to each other: the keys of their segments, and that each cell has its value. It has
+// no bytes except the layout.
 #[derive(Drop)]
 pub(crate) struct Filled<T> {
     pub(crate) keys: KeySet,
@@ -30,7 +30,7 @@ impl<T> Shared<T> {
         }
     }
 
-    // What is known of the next places too, which are those of the stretch.
+    // Adds the knowledge of the next places, which are those of the stretch.
     #[inline(always)]
     pub(crate) fn know(&self, filled: Filled<T>, stretch: Stretch<T>) -> Filled<T>
         requires { (from : ℕ) × (done : List T) × (values : List T)

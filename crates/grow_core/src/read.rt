@@ -105,8 +105,8 @@ impl<T> Shared<T> {
         self.look_into(place)
     }
 
-    // What a place below the length of the opened list shows. A function of its own, so that only calls that come
-    // here clear the room for what `look_below` returns.
+    // Looks at a place below the length of the opened list. It is a function of its own, so that only calls that come
+    // here clear the room for the result of `look_below`.
     #[inline(always)]
     fn look_opened(&self, place: u64) -> Shown<'_, T>
         requires { place < base_of self.now }

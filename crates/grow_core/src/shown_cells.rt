@@ -42,7 +42,7 @@ impl<'a, T> Model for ShownSegments<'a, T> {
     ghost invariant = { λ s. (s.place ≤ s.end) × (s.end ≤ limit_of s.vector.now) };
 }
 
-/// Places of one segment, each of which is looked at when it is asked for.
+/// Places of one segment. A call looks at those that it asks for.
 #[derive(Drop)]
 pub struct ShownCells<'a, T> {
     vector: &'a Shared<T>,
@@ -83,9 +83,7 @@ impl<T> Shared<T> {
             end: self.shown_size(),
         }
     }
-}
 
-impl<T> Shared<T> {
     // The values of the filled places of one segment from this one on, up to the first that is not filled, and `n` at
     // most.
     pub(crate) fn filled_places(&self, segment: u32, place: u64, n: u64) -> &[T]

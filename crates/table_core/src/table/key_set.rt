@@ -91,7 +91,7 @@ fn sight_at(sights: &Sights, at: usize) -> EntrySight<Block<()>>
     }
 }
 
-// Duplicates of the sights, with another one of the entry with this number.
+// Duplicates of the sights, but of the entry with this number a duplicate of the given sight.
 fn sights_with(sights: &Sights, at: usize, sight: &EntrySight<Block<()>>) -> Sights
     requires within { at < most_segments }
     ensures here { IsSameSight (sight_in result at) sight.now }

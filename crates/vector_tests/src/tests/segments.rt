@@ -50,7 +50,7 @@ fn appends<R: AllocGlobal + Wait>(rt: &R, two: &mut Callers<u64>, n: u64) -> boo
     }
 }
 
-// Appends `n` values, of which only the first ones, their numbers plus 1000, are made.
+// Claims `n` places, and makes values for the first ones alone: their numbers plus 1000.
 fn makes_few(two: &mut Callers<u64>, n: u64, made: u64) -> bool {
     let make = |i: u64| -> Result<u64, u64> {
         if i < made {
@@ -124,7 +124,7 @@ fn a_stretch_of_filled_places_ends_at_a_broken_one(rt: HostRuntime) {
     );
 }
 
-// A list of twenty members, each its place, of which the tenth is broken.
+// A list of twenty members. The tenth is broken, and each other one is its place.
 fn twenty(alloc: Global) -> Option<Parts<u64>> {
     let mut parts = Parts::new(alloc, 100);
     if room(&mut parts, 20) != Ok(true) {
@@ -169,7 +169,7 @@ fn the_values_of_an_opened_list_are_shown_by_segments(rt: HostRuntime) {
     );
 }
 
-// A walk that meets three broken places, of which the second is mended when its first item has come.
+// A walk over three broken places. The second place is mended when the first item has come.
 fn walk(two: &mut Callers<u64>) -> [Option<Option<u64>>; 4] {
     let mut walk = two.vector.published();
     let first = walk.next().map(|item| item.copied());

@@ -8,7 +8,9 @@ pub mod BegunPlaces
 pub mod KeyRows
 pub mod Cells
 pub mod Settled
+pub mod FoundFilled
 pub mod Stopped
 pub mod Made
 pub mod Sides
+pub mod Broken
 pub mod PopSegment

@@ -1,13 +1,18 @@
 -- How the members of a list are moved out of it, last one first.
-use Rattle.std.proofs.Common.{◌≡◌, ℕ, zero, suc, ◌+◌, ◌-◌, ◌<◌, ◌≤◌, List, [], ◌∷◌, ◌++◌, length, map, reverse, length-append, append_assoc, Option, Some, refl, sym, ap, ◌∙◌, arith}
+use Rattle.std.proofs.Common.{◌≡◌, ℕ, zero, suc, ◌+◌, ◌-◌, ◌<◌, ◌≤◌, List, [], ◌∷◌, ◌++◌, length, map, reverse, length-append, append_assoc, Option, Some, None, refl, sym, ap, ◌∙◌, arith}
 use Rattle.std.proofs.lemmas.List.{append-nil, map-append, reverse-append}
 use Rattle.std.specs.Prelude.{slice_get}
 use base.Fml.{Lft}
-use Rattle.cell_core.specs.Block.{BlockView, IsMemberAt, KeepsOtherCells, block_len}
-use Rattle.cell_core.specs.Member.{MemberView}
-use Rattle.grow_core.specs.Parts.{AreBrokenIn, values_in}
+use Rattle.seg_core.specs.Segment.{segment_start, HasPlace}
+use Rattle.seg_core.proofs.Doubling.{one_segment}
+use Rattle.cell_core.specs.Slot.{Names}
+use Rattle.cell_core.specs.Block.{BlockView, PlacedView, IsMemberAt, IsPlacedIn, KeepsOtherCells, block_len, cell_at}
+use Rattle.cell_core.specs.Member.{MemberView, HasNames}
+use Rattle.grow_core.specs.Keys.{KeyRow}
+use Rattle.grow_core.specs.Token.{place_in}
+use Rattle.grow_core.specs.Parts.{AreBrokenIn, AreWhole, values_in}
 use Rattle.grow_core.specs.PopSegment.{IsFilled, IsUnbroken, MovesLast, PopsValues}
-use Rattle.grow_core.proofs.Places.{kept_at, pushed_there}
+use Rattle.grow_core.proofs.Places.{kept_at, pushed_there, within_length}
 use Rattle.grow_core.proofs.Settled.{append_first}
 
 -- the last one of some members is moved, after those that were moved before it
@@ -88,3 +93,42 @@ pub last_is : {T : Type 0} (row row' : List (MemberView T)) (last m : MemberView
 last_is row row' last m i is here there =
     let both : Some last ≡ Some m = sym (pushed_there row' last) ∙ ap (λ xs. slice_get xs (length row')) (sym is) ∙ ap (slice_get row) here ∙ there in
     let same : last ≡ m = (let z = both in cc) in same
+
+filled_name : {T : Type 0} (γ : Names) (v : Option T) (name : ℕ) (epoch : Lft) → HasNames γ v name epoch → (v ≡ None → ⊥) → name ≡ γ.value_name
+filled_name γ (Some x) name epoch known some = known
+filled_name γ None name epoch known some = absurd (some refl)
+
+-- the token of a member of a cell with a value
+pub placed_there : {T : Type 0} (block : BlockView) (offset : ℕ) (m : MemberView T) (placed : PlacedView T) → IsMemberAt block offset m → IsFilled m
+    → placed.offset ≡ offset → placed.name ≡ m.name → IsPlacedIn block placed
+placed_there block offset m placed is some at name = record {
+  within = omega (arith, is.within, at);
+  named = name ∙ filled_name (cell_at block offset) m.value m.name m.epoch is.known some ∙ ap (λ (o : ℕ). (cell_at block o).value_name) (sym at);
+}
+
+-- members at the end are removed
+pub fewer_whole : {T : Type 0} (f : ℕ) (names : List ℕ) (row : KeyRow) (known known' popped : List (MemberView T)) (len len' limit count : ℕ) → AreWhole f names row known len limit count
+    → known ≡ known' ++ popped → length known' ≡ len' → len' ≤ len → AreWhole f names row known' len' limit count
+fewer_whole {T} f names row known known' popped len len' limit count whole is all less =
+    let within = whole.within in let inside = whole.inside in
+    record {
+      layout = whole.layout;
+      limited = whole.limited;
+      within = omega (arith, within, less);
+      all = all;
+      rows = whole.rows;
+      few = whole.few;
+      inside = omega (arith, inside, less);
+      named = whole.named;
+      long = whole.long;
+      there = whole.there;
+      of = λ s o k m low at inner got. whole.of s o k m low at inner
+          (ap (λ (xs : List (MemberView T)). slice_get xs (place_in f s o)) is ∙ append_first known' popped (place_in f s o) (within_length known' (place_in f s o) m got) ∙ got);
+    }
+
+-- the segment of the last member is the last one, if each has a member
+pub last_segment : (f segment count len : ℕ) → HasPlace f segment (len - 1) → 0 < len → len ≤ segment_start f count → ((k : ℕ) → k < count → segment_start f k < len) → segment + 1 ≡ count
+last_segment f segment zero len has some inside last = absurd (omega (arith, some, inside))
+last_segment f segment (suc j) len has some inside last =
+    let low = last j (omega arith) in
+    let same = one_segment f segment j (len - 1) has (record { from = omega (arith, low); before = omega (arith, inside, some) }) in omega (arith, same)

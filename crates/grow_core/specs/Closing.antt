@@ -77,6 +77,12 @@ closing_coded {T} c =
 abbrev pub KeepsKnown : {T : Type 0} → Option T → Option T → Type 0
 KeepsKnown old new = old ≢ None → new ≡ old
 
+-- the same of each place from this one on
+abbrev pub KeepsKnownFrom : {T : Type 0} → List (MemberView T) → ℕ → List (MemberView T) → Type 0
+KeepsKnownFrom {T} opened place settled =
+    (i : ℕ) (k m : MemberView T) → slice_get opened (place + i) ≡ Some k → slice_get settled i ≡ Some m
+    → KeepsKnown k.value m.value
+
 -- n cells of a block, from an offset on, are settled; they are the places from `place` on. The row has what is
 -- known of them from now on, in order. A value that was known stays, and a cell without one is broken for the
 -- epoch. All other cells are as they were
@@ -89,8 +95,7 @@ pub record AreSettled {T : Type 0} (old new : BlockView) (offset : ℕ) (opened 
   pub members : (i : ℕ) (m : MemberView T) → slice_get settled i ≡ Some m → IsMemberAt new (offset + i) m
   pub names : (i : ℕ) (m : MemberView T) → slice_get settled i ≡ Some m
       → m.name ≡ (cell_at old (offset + i)).value_name
-  pub values : (i : ℕ) (k m : MemberView T) → slice_get opened (place + i) ≡ Some k → slice_get settled i ≡ Some m
-      → KeepsKnown k.value m.value
+  pub values : KeepsKnownFrom opened place settled
   pub broken : AreBrokenIn epoch settled
   pub before : (q : ℕ) → q < offset → cell_at new q ≡ cell_at old q
   pub after : (q : ℕ) → offset + n ≤ q → cell_at new q ≡ cell_at old q

@@ -1,5 +1,5 @@
 -- What an exclusive owner holds of a vector.
-use Rattle.std.specs.Prelude.{◌≡◌, ℕ, ◌-◌, ◌<◌, ◌≤◌, List, [], ◌∷◌, Option, Some, None, IsSome, length, map, slice_get}
+use Rattle.std.specs.Prelude.{◌≡◌, ℕ, ◌+◌, ◌-◌, ◌<◌, ◌≤◌, List, [], ◌∷◌, Option, Some, None, IsSome, length, map, slice_get}
 use Rattle.std.specs.Coded.{coded_option}
 use base.Fml.{Lft}
 use base.Stored.{Coded, coded×, coded_ℕ, coded_list, coded_via}
@@ -45,6 +45,16 @@ IsSpare parts = (0 < parts.segments) × (length parts.members ≤ segment_start 
 -- the values that are known, in order
 abbrev pub values_in : {T : Type 0} → List (MemberView T) → List (Option T)
 values_in row = map (λ m. m.value) row
+
+-- 1 if the member is broken, otherwise 0
+abbrev pub one_if_broken : {T : Type 0} → Option T → ℕ
+one_if_broken None = 1
+one_if_broken (Some x) = 0
+
+-- how many of the members are broken
+abbrev pub broken_count : {T : Type 0} → List (Option T) → ℕ
+broken_count [] = 0
+broken_count (member ∷ members) = one_if_broken member + broken_count members
 
 -- each key of the row is of a block as long as its segment
 abbrev pub AreLong : ℕ → KeyRow → Type 0

@@ -91,6 +91,7 @@ struct Closing<T> {
     opened: Opened<T>,
     row: Row<T>,
     epoch: Epoch,
+    broken: u64,
     len: u64,
     limit: u64,
     count: u32,
@@ -100,7 +101,8 @@ struct Closing<T> {
 }
 
 impl<T> Model for Closing<T> {
-    ghost use Rattle.grow_core.specs.Parts.{values_in};
+    ghost use Rattle.std.specs.Prelude.{◌≡◌};
+    ghost use Rattle.grow_core.specs.Parts.{broken_count, values_in};
     ghost use Rattle.grow_core.specs.Closing.{ClosingView, closing_coded, IsClosing};
 
     ghost Value = { ClosingView T };
@@ -117,7 +119,8 @@ impl<T> Model for Closing<T> {
     } };
 
     ghost invariant = { λ c. IsClosing c.table.layout c.mark.numbers c.before c.table.names c.keys
-        c.opened c.row c.epoch c.len c.limit c.count c.size };
+        c.opened c.row c.epoch c.len c.limit c.count c.size
+        × (c.broken ≡ broken_count (values_in c.row)) };
 }
 
 impl<T: Drop> Closing<T> {
@@ -154,6 +157,7 @@ impl<T: Drop> Closing<T> {
             opened: Opened { row, base },
             row: Row::new(),
             epoch: Epoch::new(),
+            broken: 0,
             len: 0,
             limit,
             count,
@@ -185,7 +189,7 @@ impl<T: Drop> Closing<T> {
         );
         let end = end_in(self.table.layout(), segment, self.size);
         let n = end - self.len;
-        settle_cells(
+        self.broken += settle_cells(
             &mut block,
             offset,
             &self.opened,
@@ -213,6 +217,7 @@ impl<T: Drop> Closing<T> {
             keys,
             row,
             epoch,
+            broken,
             len,
             limit,
             count,
@@ -225,6 +230,7 @@ impl<T: Drop> Closing<T> {
             keys,
             row,
             epoch,
+            broken,
             len,
             limit,
             count,

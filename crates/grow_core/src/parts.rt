@@ -1,7 +1,9 @@
 //! What an exclusive owner holds of a vector: a list of values and broken members.
 ghost use Rattle.std.specs.Prelude.{◌≡◌, ℕ, ◌+◌, ◌-◌, ◌<◌, ◌≤◌, ◌++◌, ◌∷◌, [], Some, None, MatchOption, IsOk, IfOk, IfErr, IsTrue, IsFalse, length, slice_get, slice_set};
 ghost use Rattle.seg_core.specs.Segment.{IsLimit, segment_start, segment_count};
-ghost use Rattle.grow_core.specs.Parts.{IsSpare, capacity_of};
+ghost use Rattle.grow_core.specs.Parts.{IsSpare, capacity_of, one_if_broken};
+ghost use Rattle.grow_core.specs.PopSegment.{IsUnbroken};
+ghost use Rattle.grow_core.specs.Slices.{HasBroken};
 
 use crate::blocks::{cell_of, put_block, take_block, write};
 use crate::keys::{Keys, no_keys};
@@ -22,6 +24,8 @@ pub struct Parts<T> {
     pub(crate) row: Row<T>,
     // As long as it lasts, the broken members stay broken.
     pub(crate) epoch: Epoch,
+    // How many members are broken.
+    pub(crate) broken: u64,
     pub(crate) len: u64,
     pub(crate) limit: u64,
     pub(crate) count: u32,
@@ -33,8 +37,8 @@ pub struct Parts<T> {
 }
 
 impl<T> Model for Parts<T> {
-    ghost use Rattle.std.specs.Prelude.{option_map};
-    ghost use Rattle.grow_core.specs.Parts.{PartsView, parts_coded, values_in, AreWhole, AreBrokenIn};
+    ghost use Rattle.std.specs.Prelude.{◌≡◌, option_map};
+    ghost use Rattle.grow_core.specs.Parts.{PartsView, parts_coded, broken_count, values_in, AreWhole, AreBrokenIn};
     ghost use Rattle.grow_core.specs.Closing.{IsKept};
 
     ghost Value = { PartsView T };
@@ -52,7 +56,17 @@ impl<T> Model for Parts<T> {
     ghost invariant = { λ p. AreWhole p.table.layout p.table.names p.keys p.row p.len p.limit
         p.count
         × IsKept p.table.layout (option_map (λ m. m.numbers) p.closed) p.before p.table.names p.keys p.row p.count
-        × AreBrokenIn p.epoch p.row };
+        × AreBrokenIn p.epoch p.row × (p.broken ≡ broken_count (values_in p.row)) };
+}
+
+// Counts a member: 1 if it is broken, otherwise 0.
+fn count_broken<T>(member: &Option<T>) -> u64
+    ensures { result ≡ one_if_broken member.now }
+{
+    match member {
+        Some(_) => 0,
+        None => 1,
+    }
 }
 
 impl<T> Parts<T> {
@@ -82,6 +96,7 @@ impl<T> Parts<T> {
             keys: no_keys(),
             row: Row::new(),
             epoch: Epoch::new(),
+            broken: 0,
             len: 0,
             limit,
             count: 0,
@@ -125,6 +140,14 @@ impl<T> Parts<T> {
         let last = self.count - 1;
         let layout = self.layout();
         layout.first(last) + layout.len(last)
+    }
+
+    /// Tests whether no member is broken. It looks at none of them: the list counts the broken ones.
+    pub fn is_unbroken(&self) -> bool
+        ensures none { IsTrue result → IsUnbroken self.now.members }
+        ensures some { IsFalse result → HasBroken self.now.members }
+    {
+        self.broken == 0
     }
 
     /// Returns the member at the place, or `None` if it is broken.
@@ -233,6 +256,7 @@ impl<T: Drop> Parts<T> {
             { members = self.new.members; closed = self.new.closed } }
     {
         self.closed = None;
+        self.broken += count_broken(&value);
         let (segment, offset, mut block) = take_block(
             &mut self.table,
             &self.keys,
@@ -264,6 +288,7 @@ impl<T: Drop> Parts<T> {
         let value = block.take_member(offset, &self.row.at(self.len), &self.epoch);
         put_block(&mut self.table, &mut self.keys, segment, block);
         self.row.pop();
+        self.broken -= count_broken(&value);
         value
     }
 
@@ -284,6 +309,7 @@ impl<T: Drop> Parts<T> {
             place,
         );
         let held = block.take_member(offset, &self.row.at(place), &self.epoch);
+        self.broken = self.broken + count_broken(&value) - count_broken(&held);
         let (member, none) = write(&mut block, offset, value, &self.epoch);
         drop(none);
         put_block(&mut self.table, &mut self.keys, segment, block);

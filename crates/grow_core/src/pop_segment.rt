@@ -1,12 +1,13 @@
 //! How the members of an owner's list are moved out of it, segment by segment.
 ghost use Rattle.std.specs.Prelude.{◌≡◌, ℕ, ◌+◌, ◌-◌, ◌<◌, ◌≤◌, Some, IfOk, IfErr, length, map, slice_get, vec_len, vec_capacity};
+ghost use Rattle.seg_core.specs.Segment.{segment_start};
 ghost use Rattle.cell_core.specs.Block.{block_len, IsMemberAt};
 ghost use Rattle.cell_core.specs.Member.{MemberView};
 ghost use Rattle.grow_core.specs.PopSegment.{IsFilled, IsUnbroken, MovesLast, PopsValues};
 
-use crate::blocks::{put_block, take_block};
+use crate::blocks::take_block;
 use crate::parts::Parts;
-use cell_core::block::{Block, Epoch, Row};
+use cell_core::block::{Block, Row};
 
 // Moves out the values of the last `n` members of a row, last one first, to the end of a list that has room for them.
 // They are those of the first cells of the block.
@@ -15,7 +16,6 @@ fn pop_values<T: Drop>(
     n: u64,
     row: &mut Row<T>,
     len: u64,
-    epoch: &Epoch,
     values: &mut Vec<T>,
 )
     requires within { n ≤ block_len block.old }
@@ -31,18 +31,18 @@ fn pop_values<T: Drop>(
     for i in 0..n {
         let member = row.at(len - 1 - i);
         row.pop();
-        match block.take_member(n - 1 - i, &member, epoch) {
-            Some(value) => values.push_reserved(value),
-            None => unreachable!(),
-        }
+        let value = block.take_value(&member.placed(n - 1 - i));
+        values.push_reserved(value);
     }
 }
 
 impl<T: Drop> Parts<T> {
-    // Moves out the members of the last segment that has one, last one first, to the end of a list that has room for
-    // them.
+    // Moves out the members of the last segment, last one first, to the end of a list that has room for them, and frees the
+    // segment.
     fn pop_segment(&mut self, values: &mut Vec<T>)
         requires some { 0 < length self.old.members }
+        requires last { (k : ℕ) → k < self.old.segments
+            → segment_start self.old.layout k < length self.old.members }
         requires unbroken { IsUnbroken self.old.members }
         requires room { vec_len values.old + length self.old.members ≤ vec_capacity values.old }
         ensures moved { MovesLast self.old.members self.new.members values.old.items values.new.items }
@@ -58,13 +58,16 @@ impl<T: Drop> Parts<T> {
             self.len - 1,
         );
         let n = last + 1;
-        pop_values(&mut block, n, &mut self.row, self.len, &self.epoch, values);
-        put_block(&mut self.table, &mut self.keys, segment, block);
+        pop_values(&mut block, n, &mut self.row, self.len, values);
+        // Its cells are empty.
+        Box::into_inner(block).free();
+        self.keys[segment as usize] = None;
+        self.count = segment;
         self.len -= n;
     }
 
-    /// Moves all members out, in order, into a list of their values. None of them may be broken. It asks for memory
-    /// once, and gives the parts back if there is none.
+    /// Moves all members out, in order, into a list of their values, and frees the segments. None of them may be broken. It
+    /// asks for memory once, and gives the parts back if there is none.
     pub fn into_values(self) -> Result<Vec<T>, Parts<T>>
         requires unbroken { IsUnbroken self.members }
         ensures values { IfOk result (λ values. map Some values.items ≡ self.members) }
@@ -75,6 +78,7 @@ impl<T: Drop> Parts<T> {
         };
         let mut parts = self;
         'segments: while parts.len() > 0 {
+            parts.cut();
             parts.pop_segment(&mut values);
         }
         values.reverse();

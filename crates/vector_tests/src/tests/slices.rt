@@ -1,5 +1,5 @@
 // Members that lie side by side, as slices.
-use super::parts::{append, replace, room};
+use super::parts::{append, pop, replace, room};
 use grow_core::Parts;
 
 // How many members lie side by side from a place on, and the sum of their values, unless one of them is broken.
@@ -72,4 +72,41 @@ fn members_of_a_segment_are_lent_as_a_slice(rt: HostRuntime) {
     let lends = lends_its_sides(&mut parts);
     drop(parts);
     assert!(rt; lends);
+}
+
+// Tests whether the list tells, after each append and pop, that a member is broken.
+fn counts_at_its_end(parts: &mut Parts<u64>) -> bool {
+    room(parts, 8) == Ok(true)
+        && parts.is_unbroken()
+        && append(parts, None)
+        && append(parts, Some(1))
+        && append(parts, None)
+        && pop(parts) == Some(None)
+        && !parts.is_unbroken()
+        && pop(parts) == Some(Some(1))
+        && pop(parts) == Some(None)
+        && parts.is_unbroken()
+        && append(parts, Some(1))
+        && append(parts, Some(2))
+}
+
+// Tests whether the list tells, after each change of a member, that one is broken.
+fn counts_at_its_places(parts: &mut Parts<u64>) -> bool {
+    parts.is_unbroken()
+        && replace(parts, 0, None) == Some(Some(1))
+        && replace(parts, 1, None) == Some(Some(2))
+        && replace(parts, 0, Some(3)) == Some(None)
+        && !parts.is_unbroken()
+        && replace(parts, 1, None) == Some(None)
+        && replace(parts, 1, Some(4)) == Some(None)
+        && replace(parts, 1, Some(5)) == Some(Some(4))
+        && parts.is_unbroken()
+}
+
+#[test]
+fn lists_count_their_broken_members(rt: HostRuntime) {
+    let mut parts = Parts::new(rt.alloc(), 8);
+    let counts = counts_at_its_end(&mut parts) && counts_at_its_places(&mut parts);
+    drop(parts);
+    assert!(rt; counts);
 }

@@ -15,4 +15,5 @@ invariant_of-self-2 g c =
           (subst (λ (b : BlockView). IsBlockOf inside.table.layout inside.count b) (sym of.of) c.in_ok-key.ensures.length),
       tt,
       c.self.invariant.2,
+      c.self.invariant.3,
     )

@@ -1,4 +1,4 @@
-use Rattle.std.proofs.Common.{◌≡◌, ◌≢◌, ℕ, ◌+◌, ◌<◌, List, [], ◌∷◌, ◌++◌, length, length-append, sym, ap, ◌∙◌, subst, arith}
+use Rattle.std.proofs.Common.{◌≡◌, ◌≢◌, ℕ, ◌+◌, ◌<◌, List, [], ◌∷◌, ◌++◌, Option, length, length-append, sym, ap, ◌∙◌, subst, arith}
 use Rattle.std.proofs.lemmas.List.{length-map}
 use Rattle.std.specs.Prelude.{Some, slice_get, slice_index}
 use Rattle.seg_core.specs.Segment.{segment_start, segment_end}
@@ -7,7 +7,8 @@ use Rattle.cell_core.specs.Member.{MemberView}
 use Rattle.table_core.specs.Table.{KeyView, IsKeyOf}
 use Rattle.grow_core.specs.Keys.{KeyRow, key_at}
 use Rattle.grow_core.specs.Token.{place_in}
-use Rattle.grow_core.specs.Parts.{PartsView, AreBrokenIn, AreWhole, values_in, capacity_of}
+use Rattle.grow_core.specs.Parts.{PartsView, AreBrokenIn, AreWhole, values_in, capacity_of, one_if_broken}
+use Rattle.grow_core.proofs.Broken.{few_in_all, one_at_most, row_more}
 use Rattle.grow_core.proofs.Places.{written_whole, broken_more, pushed_there, pushed_elsewhere}
 use Rattle.grow_core.proofs.parts.Parts.append.Goals as goal
 
@@ -35,4 +36,12 @@ invariant_of-self g c =
           (ap length pushed ∙ length-append known (m ∷ []) ∙ ap (λ (n : ℕ). n + 1) whole.all) (omega (arith, below)) (omega (arith, room))),
       tt,
       subst (AreBrokenIn c.self.inside.epoch) (sym pushed) (broken_more c.self.inside.epoch known m c.self.invariant.2 c.write-member.ensures.broken),
+      (let more = row_more known c.push.new.self m pushed in let one = ap (λ (v : Option g.row.T.Denot). one_if_broken v) c.write-member.ensures.value in
+          omega (arith, c.self.invariant.3, c.count_broken.ensures, more, one)),
     )
+
+pub overflow_add-self : goal.overflow_add-self
+overflow_add-self g c =
+    let p = c.self.inside in let whole = c.self.invariant.0 in
+    let few = few_in_all p.row in let one = one_at_most c.args.value in
+    record { fits = omega (arith, few, one, whole.all, whole.within, whole.limited.1, c.self.invariant.3, c.count_broken.ensures) }

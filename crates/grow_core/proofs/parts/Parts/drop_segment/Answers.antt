@@ -19,4 +19,5 @@ invariant_of-self g c =
           c.give_up.ensures.others),
       tt,
       c.self.invariant.2,
+      c.self.invariant.3,
     )

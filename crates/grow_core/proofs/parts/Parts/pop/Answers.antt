@@ -1,4 +1,4 @@
-use Rattle.std.proofs.Common.{◌≡◌, ◌≢◌, ℕ, ◌+◌, ◌-◌, ◌<◌, List, [], ◌∷◌, ◌++◌, length, length-append, map, sym, ap, ◌∙◌, subst, arith}
+use Rattle.std.proofs.Common.{◌≡◌, ◌≢◌, ℕ, ◌+◌, ◌-◌, ◌<◌, List, [], ◌∷◌, ◌++◌, Option, length, length-append, map, sym, ap, ◌∙◌, subst, arith}
 use Rattle.std.proofs.lemmas.List.{map-append}
 use Rattle.std.specs.Prelude.{Some, slice_get, slice_index}
 use Rattle.seg_core.specs.Segment.{segment_end}
@@ -7,7 +7,8 @@ use Rattle.cell_core.specs.Member.{MemberView}
 use Rattle.table_core.specs.Table.{KeyView, IsKeyOf}
 use Rattle.grow_core.specs.Keys.{KeyRow, key_at}
 use Rattle.grow_core.specs.Token.{place_in}
-use Rattle.grow_core.specs.Parts.{PartsView, AreBrokenIn, AreWhole}
+use Rattle.grow_core.specs.Parts.{PartsView, AreBrokenIn, AreWhole, one_if_broken}
+use Rattle.grow_core.proofs.Broken.{popped_value, row_more}
 use Rattle.grow_core.proofs.Places.{written_whole, broken_at, broken_fewer, pushed_there, pushed_elsewhere, none_past}
 use Rattle.grow_core.proofs.parts.Parts.pop.Goals as goal
 
@@ -33,6 +34,8 @@ invariant_of-self g c =
           (omega (arith, fewer)) (omega (arith, fewer, within)) (omega (arith, fewer, inner))),
       tt,
       broken_fewer c.self.inside.epoch known' last (subst (AreBrokenIn c.self.inside.epoch) popped c.self.invariant.2),
+      (let more = row_more known' known last popped in let one = popped_value known known' last c.at.result (len - 1) popped (omega (arith, fewer)) c.at.ensures in
+          let same = ap (λ (v : Option g.row.T.Denot). one_if_broken v) (one ∙ sym c.take_member-value.ensures.value) in omega (arith, c.self.invariant.3, c.count_broken.ensures, more, same)),
     )
 
 pub take_member-value-requires-clause-epoch : goal.take_member-value-requires-clause-epoch
@@ -47,3 +50,12 @@ returns-clause-member g c =
     let both : Some last ≡ Some c.at.result = sym there ∙ ap (λ (xs : List (MemberView _)). slice_get xs (len - 1)) (sym popped) ∙ c.at.ensures in
     let same : last ≡ c.at.result = (let z = both in cc) in
     ap (λ (v : PartsView _). v.members) (sym c.self.view_is) ∙ ap (map value) popped ∙ map-append value known' (last ∷ []) ∙ ap (λ x. map value known' ++ x ∷ []) (ap value same ∙ sym c.take_member-value.ensures.value)
+
+pub overflow_sub-self-2 : goal.overflow_sub-self-2
+overflow_sub-self-2 g c =
+    let known = c.self.inside.row in let known' = c.pop.new.self in let len : ℕ = c.self.inside.len in
+    let last = c.pop.ensures.0 in let popped : known ≡ known' ++ last ∷ [] = c.pop.ensures.1 in
+    let fewer : length known' + 1 ≡ len = sym (length-append known' (last ∷ [])) ∙ ap length (sym popped) ∙ c.self.invariant.0.all in
+    let more = row_more known' known last popped in let one = popped_value known known' last c.at.result (len - 1) popped (omega (arith, fewer)) c.at.ensures in
+    let same = ap (λ (v : Option g.row.T.Denot). one_if_broken v) (one ∙ sym c.take_member-value.ensures.value) in
+    omega (arith, c.self.invariant.3, c.count_broken.ensures, more, same)

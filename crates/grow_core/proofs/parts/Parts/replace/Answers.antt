@@ -1,4 +1,4 @@
-use Rattle.std.proofs.Common.{◌≡◌, ◌≢◌, ℕ, ◌<◌, List, length, length-set, sym, ap, ◌∙◌, subst}
+use Rattle.std.proofs.Common.{◌≡◌, ◌≢◌, ℕ, ◌<◌, List, Option, length, length-set, sym, ap, ◌∙◌, subst, arith}
 use Rattle.std.proofs.lemmas.List.{length-map}
 use Rattle.std.specs.Prelude.{Some, slice_get, slice_set, slice_index}
 use Rattle.seg_core.specs.Segment.{segment_end}
@@ -7,7 +7,8 @@ use Rattle.cell_core.specs.Member.{MemberView}
 use Rattle.table_core.specs.Table.{KeyView, IsKeyOf}
 use Rattle.grow_core.specs.Keys.{KeyRow, key_at}
 use Rattle.grow_core.specs.Token.{place_in}
-use Rattle.grow_core.specs.Parts.{PartsView, AreBrokenIn, AreWhole, values_in}
+use Rattle.grow_core.specs.Parts.{PartsView, AreBrokenIn, AreWhole, values_in, one_if_broken}
+use Rattle.grow_core.proofs.Broken.{counted_there, few_in_all, one_at_most, row_set}
 use Rattle.grow_core.proofs.Places.{written_whole, broken_at, broken_set, set_there, set_elsewhere, value_at, values_set}
 use Rattle.grow_core.proofs.parts.Parts.replace.Goals as goal
 
@@ -37,6 +38,8 @@ invariant_of-self g c =
           (ap length changed ∙ length-set known place m ∙ whole.all) whole.within whole.inside),
       tt,
       subst (AreBrokenIn c.self.inside.epoch) (sym changed) (broken_set c.self.inside.epoch known place m c.self.invariant.2 c.write-member.ensures.broken),
+      (let set = row_set known c.set.new.self place c.at.result m changed c.at.ensures in let old = ap (λ (v : Option g.row.T.Denot). one_if_broken v) c.take_member-held.ensures.value in
+          let new = ap (λ (v : Option g.row.T.Denot). one_if_broken v) c.write-member.ensures.value in omega (arith, c.self.invariant.3, c.count_broken.ensures, c.count_broken-2.ensures, set, old, new)),
     )
 
 pub take_member-held-requires-clause-epoch : goal.take_member-held-requires-clause-epoch
@@ -50,3 +53,15 @@ returns-clause-members g c =
 pub returns-clause-member : goal.returns-clause-member
 returns-clause-member g c =
     ap (λ (v : PartsView _). slice_get v.members c.args.place) (sym c.self.view_is) ∙ value_at c.self.inside.row c.args.place c.at.result c.at.ensures ∙ ap Some (sym c.take_member-held.ensures.value)
+
+pub overflow_add-self : goal.overflow_add-self
+overflow_add-self g c =
+    let p = c.self.inside in let whole = c.self.invariant.0 in
+    let few = few_in_all p.row in let one = one_at_most c.args.value in
+    record { fits = omega (arith, few, one, whole.all, whole.within, whole.limited.1, c.self.invariant.3, c.count_broken.ensures) }
+
+pub overflow_sub-self : goal.overflow_sub-self
+overflow_sub-self g c =
+    let p = c.self.inside in let some = counted_there p.row c.args.place c.at.result c.at.ensures in
+    let old = ap (λ (v : Option g.row.T.Denot). one_if_broken v) c.take_member-held.ensures.value in
+    omega (arith, some, old, c.self.invariant.3, c.count_broken-2.ensures)

@@ -1,32 +1,54 @@
-use Rattle.std.proofs.Common.{◌≢◌, ℕ, ◌+◌, ◌≤◌, [], ◌∷◌, ◌∙◌, None, sym, ap, subst, length-append, arith}
+use Rattle.std.proofs.Common.{◌≡◌, ℕ, ◌+◌, ◌≤◌, List, Option, length, take, drop, ◌∙◌, sym, ap, subst, arith}
+use Rattle.std.proofs.lemmas.List.{length-map}
 use Rattle.seg_core.specs.Segment.{segment_end, segment_of}
-use Rattle.cell_core.specs.Block.{IsMemberAt}
-use Rattle.grow_core.specs.Parts.{PartsView}
-use Rattle.grow_core.proofs.Places.{broken_at}
-use Rattle.grow_core.proofs.Sides.{values_more, filled_more, member_in}
+use Rattle.cell_core.specs.Block.{AreFilledFrom}
+use Rattle.cell_core.specs.Member.{MemberView}
+use Rattle.grow_core.specs.Parts.{PartsView, values_in}
+use Rattle.grow_core.specs.Slices.{HasBroken}
+use Rattle.grow_core.proofs.Broken.{filled_part, part_length, values_part}
+use Rattle.grow_core.proofs.Sides.{member_in}
 use Rattle.grow_core.proofs.parts.Parts.slice.Goals as goal
 
-pub member-requires-clause-member : goal.member-requires-clause-member
-member-requires-clause-member g c =
-    let at = c.loop-i in let cell = c.cell_of-offset in let p = c.self.inside in let place = c.args.place in
+pub has_broken-requires-clause-within : goal.has_broken-requires-clause-within
+has_broken-requires-clause-within g c =
+    let p = c.self.inside in let long = length-map p.row (λ (u : MemberView g.row.T.Denot). u.value) in
+    let are = ap (λ (v : PartsView g.row.T.Denot). length v.members) c.self.view_is in omega (arith, long, are, c.requires.within)
+
+pub has_broken-requires-clause-places : goal.has_broken-requires-clause-places
+has_broken-requires-clause-places g c = let whole = c.self.invariant.0 in omega (arith, whole.all, whole.within, whole.limited.1)
+
+pub has_broken-requires-clause-known : goal.has_broken-requires-clause-known
+has_broken-requires-clause-known g c i m less at =
+    let cell = c.cell_of-offset in let p = c.self.inside in let place = c.args.place in
     let same = ap (λ (v : PartsView g.row.T.Denot). v.layout) c.self.view_is in
     let ends = subst (λ (f : ℕ). place + c.args.n ≤ segment_end f (segment_of f place)) (sym same) c.requires.segment in
-    rw c.known-block.ensures.block (member_in _ _ _ p.row _ _ _ c.self.invariant.0 cell.result.0 cell.result.1 place at.i c.args.n cell.result.2 c.at-member.result
-    cell.ensures.small cell.ensures.key cell.ensures.number cell.ensures.place ends c.loop-i-test.true c.at-member.ensures)
+    rw c.known-block.ensures.block (member_in _ _ _ p.row _ _ _ c.self.invariant.0 cell.result.0 cell.result.1 place i c.args.n cell.result.2 m
+    cell.ensures.small cell.ensures.key cell.ensures.number cell.ensures.place ends less at)
 
-pub member-requires-clause-epoch : goal.member-requires-clause-epoch
-member-requires-clause-epoch g c = broken_at c.self.inside.epoch c.self.inside.row (c.args.place + c.loop-i.i) c.at-member.result c.self.invariant.2 c.at-member.ensures
-
-pub loop-i-preserved : goal.loop-i-preserved
-loop-i-preserved g c =
-    let at = c.loop-i in let cell = c.cell_of-offset in let p = c.self.inside in let place = c.args.place in let m = c.at-member.result in
-    let same = ap (λ (v : PartsView g.row.T.Denot). v.layout) c.self.view_is in
+pub returns-then-has_broken : goal.returns-then-has_broken
+returns-then-has_broken g c =
     let are = ap (λ (v : PartsView g.row.T.Denot). v.members) c.self.view_is in
+    subst (λ (ms : List (Option g.row.T.Denot)). HasBroken (take c.args.n (drop c.args.place ms))) are (c.has_broken.ensures.some c.if-has_broken.true)
+
+pub values-requires-clause-n : goal.values-requires-clause-n
+values-requires-clause-n g c =
+    let p = c.self.inside in let long = length-map p.row (λ (u : MemberView g.row.T.Denot). u.value) in
+    let are = ap (λ (v : PartsView g.row.T.Denot). length v.members) c.self.view_is in
+    ap length c.part_of-row.ensures ∙ part_length p.row c.args.place c.args.n (omega (arith, long, are, c.requires.within))
+
+pub values-requires-clause-filled : goal.values-requires-clause-filled
+values-requires-clause-filled g c =
+    let cell = c.cell_of-offset in let p = c.self.inside in let place = c.args.place in let block = c.known-block.result.now in
+    let same = ap (λ (v : PartsView g.row.T.Denot). v.layout) c.self.view_is in
     let ends = subst (λ (f : ℕ). place + c.args.n ≤ segment_end f (segment_of f place)) (sym same) c.requires.segment in
-    let is : IsMemberAt c.known-block.result.now (cell.result.1 + at.i) m = rw c.known-block.ensures.block (member_in _ _ _ p.row _ _ _ c.self.invariant.0 cell.result.0 cell.result.1 place at.i c.args.n cell.result.2 m
-    cell.ensures.small cell.ensures.key cell.ensures.number cell.ensures.place ends c.loop-i-test.true c.at-member.ensures) in
-    let some : m.value ≢ None = λ none. (let no = sym c.in_ok-member.ensures.value ∙ none in absurd (cc)) in (
-      rw c.push.ensures (omega (arith, length-append at.row (m ∷ []), at.invariant.0)),
-      rw c.push.ensures (values_more c.args.self.now.members p.row are place at.i m c.at-member.ensures at.row at.invariant.1),
-      rw c.push.ensures (filled_more c.known-block.result.now cell.result.1 at.i m is some at.row at.invariant.0 at.invariant.2),
-    )
+    subst (λ (ms : List (MemberView g.row.T.Denot)). AreFilledFrom block cell.result.1 ms) (sym c.part_of-row.ensures)
+    (filled_part block cell.result.1 p.row place c.args.n
+    (λ i m less at. rw c.known-block.ensures.block (member_in _ _ _ p.row _ _ _ c.self.invariant.0 cell.result.0 cell.result.1 place i c.args.n cell.result.2 m
+    cell.ensures.small cell.ensures.key cell.ensures.number cell.ensures.place ends less at))
+    (c.has_broken.ensures.none c.if-has_broken.false))
+
+pub returns : goal.returns
+returns g c =
+    let p = c.self.inside in let are = ap (λ (v : PartsView g.row.T.Denot). v.members) c.self.view_is in
+    c.values.ensures ∙ ap (λ (ms : List (MemberView g.row.T.Denot)). values_in ms) c.part_of-row.ensures
+    ∙ values_part p.row c.args.place c.args.n ∙ ap (λ (ms : List (Option g.row.T.Denot)). take c.args.n (drop c.args.place ms)) are

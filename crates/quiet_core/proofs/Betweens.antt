@@ -1,7 +1,9 @@
--- Members from one place up to another, and what is left of them.
-use Rattle.std.proofs.Common.{◌≡◌, ℕ, zero, suc, add-one, ◌+◌, ◌-◌, ◌<◌, ◌≤◌, Option, Some, None, List, [], ◌∷◌, ◌++◌, take, drop, slice_get, slice_set, length, refl, sym, ap, ◌∙◌, subst, arith, Bor, MatchOption}
-use Rattle.std.specs.Option.{option_copied}
-use Rattle.quiet_core.specs.Between.{between}
+-- Members from one place up to another, what is left of them, and values that lie side by side.
+use Rattle.std.proofs.Common.{◌≡◌, ℕ, zero, suc, add-one, ◌+◌, ◌-◌, ◌<◌, ◌≤◌, Option, Some, None, List, [], ◌∷◌, ◌++◌, take, drop, slice_get, slice_set, length, map, min, refl, sym, ap, ◌∙◌, subst, arith, Bor, MatchOption}
+use Rattle.std.specs.Option.{option_copied, option_map}
+use Rattle.std.proofs.lemmas.List.{length-drop, length-take}
+use Rattle.std.proofs.lemmas.Option.{slice_get-map, slice_get_within}
+use Rattle.quiet_core.specs.Between.{AreValuesFrom, between}
 
 module _ {X : Type 0} where
   drop_first_suc : (xs : List X) (i : ℕ) (x : X) → slice_get xs i ≡ Some x → drop i xs ≡ x ∷ drop (suc i) xs
@@ -33,6 +35,12 @@ module _ {X : Type 0} where
   slice_get_drop [] (suc i) n = refl
   slice_get_drop (y ∷ xs) (suc i) n = slice_get_drop xs i n ∙ ap (slice_get (y ∷ xs)) (let e : suc (i + n) ≡ suc i + n = omega arith in e)
 
+  got_take : (xs : List X) (n i : ℕ) (x : X) → slice_get (take n xs) i ≡ Some x → slice_get xs i ≡ Some x
+  got_take xs zero i x is = absurd (let z = is in cc)
+  got_take [] (suc n) i x is = absurd (let z = is in cc)
+  got_take (y ∷ xs) (suc n) zero x is = is
+  got_take (y ∷ xs) (suc n) (suc i) x is = got_take xs n i x is
+
   take_more_suc : (xs : List X) (n : ℕ) (x : X) → slice_get xs n ≡ Some x → take (suc n) xs ≡ take n xs ++ x ∷ []
   take_more_suc [] n x is = absurd (let z = is in cc)
   take_more_suc (y ∷ xs) zero x is = let z : y ≡ x = (let w = is in cc) in ap (λ u. u ∷ []) z
@@ -53,6 +61,36 @@ module _ {X : Type 0} where
   -- there are none between a place and itself
   pub between_none : (xs : List X) (from to : ℕ) → from ≡ to → between xs from to ≡ []
   between_none xs from to same = ap (λ k. take k (drop from xs)) (let e : to - from ≡ 0 = omega (arith, same) in e)
+
+-- there are as many as there are places
+pub between_length : {X : Type 0} (xs : List X) (from to : ℕ) → to ≤ length xs → length (between xs from to) ≡ to - from
+between_length xs from to within = let rest = length-drop from xs in length-take (to - from) (drop from xs) ∙ (let e : min (to - from) (length (drop from xs)) ≡ to - from = omega (arith, rest, within) in e)
+
+-- if there are some, the places are in order
+pub between_some : {X : Type 0} (xs : List X) (from to : ℕ) → 0 < length (between xs from to) → from < to
+between_some xs from to some = let long = length-take (to - from) (drop from xs) in omega (arith, some, long)
+
+-- the first of the values from a place on, and those after it
+module _ {T : Type 0} (members : List (Option T)) (from : ℕ) (values : List T) (x : T) (rest : List T) (is : values ≡ x ∷ rest) (are : AreValuesFrom members from values) where
+  pub value_first : slice_get members from ≡ Some (Some x)
+  value_first = ap (slice_get members) (let e : from ≡ from + 0 = omega arith in e) ∙ are 0 x (ap (λ (l : List T). slice_get l 0) is)
+
+  pub values_rest : AreValuesFrom members (from + 1) rest
+  values_rest i y at = ap (slice_get members) (let e : from + 1 + i ≡ from + suc i = omega arith in e) ∙ are (suc i) y (ap (λ (l : List T). slice_get l (suc i)) is ∙ at)
+
+-- no value is left
+pub values_none : {T : Type 0} (members : List (Option T)) (from : ℕ) (values : List T) → length values ≡ 0 → AreValuesFrom members from values
+values_none members from values none i x at = let near = slice_get_within values i x at in absurd (omega (arith, near, none))
+
+-- some of the first values
+pub values_take : {T : Type 0} (members : List (Option T)) (from : ℕ) (values : List T) (n : ℕ) → AreValuesFrom members from values → AreValuesFrom members from (take n values)
+values_take members from values n are i x at = are i x (got_take values n i x at)
+
+-- what a slice lends are the values from its place on
+pub values_lent : {T : Type 0} (members : List (Option T)) (from n : ℕ) (values : List T) → map Some values ≡ take n (drop from members) → AreValuesFrom members from values
+values_lent members from n values is i x at =
+    let there = slice_get-map Some values i ∙ ap (option_map Some) at in
+    let got = got_take (drop from members) n i (Some x) (ap (λ l. slice_get l i) (sym is) ∙ there) in sym (slice_get_drop members from i) ∙ got
 
 -- what was got is what is there
 pub got : {T : Type 0} (xs : List (Option T)) (i : ℕ) (r : Option (Bor T)) → MatchOption r (slice_get xs i ≡ Some None) (λ x. slice_get xs i ≡ Some (Some x.now)) → slice_get xs i ≡ Some (option_copied r)

@@ -1,14 +1,16 @@
 //! The members of a list, one by one, from both ends.
-ghost use Rattle.std.specs.Prelude.{◌≡◌, ⊤, length, IfSome};
+ghost use Rattle.std.specs.Prelude.{◌≡◌, ⊤, ◌+◌, ◌<◌, ◌≤◌, ◌∷◌, length, IfSome};
 ghost use Rattle.std.specs.Option.{option_copied};
 ghost use Rattle.std.specs.Iterator.{YieldsFirstBy, YieldsLastBy, UpTo, at_most, item_count};
 ghost use Rattle.std.specs.Iterator.SizeHint.{IsWithinCount};
+ghost use Rattle.quiet_core.specs.Between.{AreValuesFrom};
 
 use crate::quiet::Quiet;
 use grow_core::Parts;
 use std::alloc::AllocError;
 use std::iter::FusedIterator;
 use std::marker::Model;
+use std::slice;
 
 /// The members that are left, in order. An item is `None` for a broken member.
 #[derive(Drop)]
@@ -16,13 +18,18 @@ pub struct Members<'a, T> {
     parts: &'a Parts<T>,
     from: u64,
     to: u64,
+    // The values of the next members, which lie side by side.
+    ahead: slice::Iter<'a, T>,
+    // Up to this place it is known whether there are such values.
+    known_to: u64,
 }
 
 impl<'a, T> Model for Members<'a, T> {
-    ghost use Rattle.std.specs.Prelude.{◌≤◌, List, Option, length};
+    ghost use Rattle.std.specs.Prelude.{◌+◌, ◌≤◌, List, Option, length};
+    ghost use Rattle.std.specs.Slice.Iter.{iter_rest};
     ghost use Rattle.std.specs.Coded.{coded_option};
     ghost use base.Stored.{coded_list};
-    ghost use Rattle.quiet_core.specs.Between.{between};
+    ghost use Rattle.quiet_core.specs.Between.{between, AreValuesFrom};
 
     ghost Value = { List (Option T) };
 
@@ -30,19 +37,66 @@ impl<'a, T> Model for Members<'a, T> {
 
     ghost view = { λ m. between m.parts.now.members m.from m.to };
 
-    ghost invariant = { λ m. (m.from ≤ m.to) × (m.to ≤ length m.parts.now.members) };
+    ghost invariant = { λ m. (m.from + length (iter_rest m.ahead) ≤ m.to)
+        × (m.to ≤ length m.parts.now.members)
+        × AreValuesFrom m.parts.now.members m.from (iter_rest m.ahead) };
+}
+
+// The values of the members from a place on that lie side by side, up to `to`, and the place after those members. There
+// are no values if one of the members is broken, or if the place is below `known_to`: then this is known already.
+fn look_ahead<T>(parts: &Parts<T>, from: u64, to: u64, known_to: u64) -> (&[T], u64)
+    requires some { from < to }
+    requires within { to ≤ length parts.now.members }
+    ensures values { AreValuesFrom parts.now.members from result.0.now }
+    ensures few { from + length result.0.now ≤ to }
+{
+    let none: &[T] = &[];
+    if from < known_to {
+        return (none, known_to);
+    }
+    let n = parts.side_by_side(from).min(to - from);
+    match parts.slice(from, n) {
+        Some(values) => (values, from + n),
+        None => (none, from + n),
+    }
 }
 
 impl<T> Quiet<T> {
-    /// Iterates over the members in order of place.
+    /// Iterates over the members in order of place. Forwards it goes through each segment without a broken member as
+    /// through a slice; if the list has a broken member, it looks once more at the members of each segment. Backwards
+    /// it looks at one member at a time.
     pub fn iter(&self) -> Members<'_, T>
         ensures { result ≡ self.now.members }
     {
+        let none: &[T] = &[];
         Members {
             parts: &self.parts,
             from: 0,
             to: self.parts.len(),
+            ahead: none.iter(),
+            known_to: 0,
         }
+    }
+}
+
+impl<'a, T> Members<'a, T> {
+    // The next member, by a look at those of its segment.
+    #[tactic(auto, using(crate::proofs::Betweens::values_none))]
+    fn next_member(&mut self) -> Option<&'a T>
+        requires { 0 < length self.old }
+        ensures { self.old ≡ option_copied result ∷ self.new }
+    {
+        let (parts, from) = (self.parts, self.from);
+        let (values, known_to) = look_ahead(parts, from, self.to, self.known_to);
+        let mut ahead = values.iter();
+        let first = ahead.next();
+        self.from += 1;
+        self.ahead = ahead;
+        self.known_to = known_to;
+        if let Some(value) = first {
+            return Some(value);
+        }
+        parts.get(from)
     }
 }
 
@@ -65,12 +119,16 @@ impl<'a, T> Iterator for Members<'a, T> {
 
     ghost remaining = { item_count (λ rest. rest) };
 
+    #[inline]
     fn next(&mut self) -> Option<Option<&'a T>> {
+        if let Some(value) = self.ahead.next() {
+            self.from += 1;
+            return Some(Some(value));
+        }
         if self.from == self.to {
             return None;
         }
-        let first = self.parts.get(self.from);
-        self.from += 1;
+        let first = self.next_member();
         Some(first)
     }
 
@@ -92,6 +150,9 @@ impl<'a, T> DoubleEndedIterator for Members<'a, T> {
             return None;
         }
         self.to -= 1;
+        let ahead = self.ahead.as_slice();
+        let left = (self.to - self.from) as usize;
+        self.ahead = ahead[..ahead.len().min(left)].iter();
         Some(self.parts.get(self.to))
     }
 }
@@ -114,6 +175,8 @@ impl<'a, T> Clone for Members<'a, T> {
             parts: self.parts,
             from: self.from,
             to: self.to,
+            ahead: self.ahead.as_slice().iter(),
+            known_to: self.known_to,
         })
     }
 }

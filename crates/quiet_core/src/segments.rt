@@ -38,7 +38,7 @@ impl<'a, T> Model for MemberSegments<'a, T> {
 
 impl<T> Quiet<T> {
     /// Iterates over the members by segments: each lends its members as a slice, unless one of them is broken. It looks
-    /// at the state of each member.
+    /// at the state of each member if the list has a broken one, and otherwise at none.
     pub fn segments(&self) -> MemberSegments<'_, T>
         ensures list { result.list ≡ self.now }
         ensures from { result.from ≡ 0 }

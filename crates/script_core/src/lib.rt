@@ -32,4 +32,4 @@ pub use error::ScriptError;
 pub use line::Line;
 pub use reading::read;
 pub use script::Script;
-pub use write::{write_cells, write_reply, write_work};
+pub use write::{command_word, write_cells, write_reply, write_work};

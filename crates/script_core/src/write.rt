@@ -8,7 +8,8 @@ use crate::line::Line;
 use book_core::{Answer, Cell, Command, Ended, Work};
 use std::io::Write;
 
-fn word(command: &Command) -> &'static [u8]
+/// Returns the word of a command.
+pub fn command_word(command: &Command) -> &'static [u8]
     ensures { result.now ≡ word_of command.now }
 {
     match command {
@@ -47,7 +48,7 @@ fn write_line<W: Write>(w: &mut W, name: u8, ended: &Ended) -> Result<(), WriteF
 {
     w.write_all(&[name])?;
     write!(w, "{} ", ended.number)?;
-    w.write_all(word(&ended.command))?;
+    w.write_all(command_word(&ended.command))?;
     w.write_all(b" ")?;
     write_answer(w, &ended.answer)?;
     w.write_all(b"\n")?;

@@ -15,3 +15,4 @@ pub mod Legal
 pub mod Record
 pub mod Claims
 pub mod Plays
+pub mod Traces

@@ -13,3 +13,4 @@ pub mod Installed
 pub mod Owners
 pub mod Work
 pub mod Tallies
+pub mod Trace

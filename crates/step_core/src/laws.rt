@@ -6,6 +6,7 @@ ghost use Rattle.step_core.specs.machine.Kept.{EveryPlayKeepsFilledCells, EveryP
 ghost use Rattle.step_core.specs.machine.Play.{PlaysBeginAtTheFirst, PlaysGoOnByAStep, PlaysKeepTheLayout};
 ghost use Rattle.step_core.specs.machine.Record.{EveryPlayIsRecorded};
 ghost use Rattle.step_core.specs.machine.Tiling.{EveryPlayIsTiled};
+ghost use Rattle.step_core.specs.machine.Trace.{EveryItemIsTraced};
 ghost use Rattle.step_core.specs.machine.Work.{EveryCallIsBounded};
 
 /// States what holds of every play of whole calls.
@@ -52,6 +53,12 @@ pub fn stepping()
     ensures begins { PlaysBeginAtTheFirst }
     ensures goes_on { PlaysGoOnByAStep }
     ensures layout { PlaysKeepTheLayout }
+{}
+
+/// States that a trace has a row for each item of a schedule, of the step that the item takes in the play of
+/// those before it.
+pub fn traces()
+    ensures { EveryItemIsTraced }
 {}
 
 /// States that no call of any play takes more than it may, ended or under way.

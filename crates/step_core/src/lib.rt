@@ -24,5 +24,8 @@ mod programs;
 
 pub use calls::{play_calls, play_valid_calls};
 pub use errors::{MakeError, PlayError};
-pub use machine::{Actor, CellSlot, Machine, Next, Phase, Stepped, play, play_in, play_valid};
+pub use machine::{
+    Actor, CellSlot, Finding, Machine, Next, Phase, Stepped, TracedItem, TracedStep, play, play_in,
+    play_valid,
+};
 pub use programs::Played;

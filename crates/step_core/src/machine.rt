@@ -14,6 +14,7 @@ mod counts;
 mod phase;
 mod schedule;
 mod storage;
+mod trace;
 
 use crate::errors::MakeError;
 use crate::machine::storage::Storage;
@@ -24,6 +25,7 @@ pub use schedule::{play, play_in, play_valid};
 use seg_core::Layout;
 use std::alloc::{AllocError, Global};
 use std::marker::Model;
+pub use trace::{Finding, TracedItem, TracedStep};
 
 /// The result of one step: at most one event with its reply, and at most one ended call.
 #[derive(Clone, Copy, Debug, PartialEq, Eq)]
@@ -118,8 +120,9 @@ impl Machine {
         Machine::of_sound(alloc, layout, limit, programs).map_err(|_| MakeError::NoMemory)
     }
 
-    // The same for a limit and commands that are known to be in order.
-    pub(crate) fn of_sound(
+    /// Makes a machine like [`Machine::new_in`], of a limit and commands that are known to be in order, as
+    /// those of a script are. It looks at none of them again.
+    pub fn of_sound(
         alloc: Global,
         layout: Layout,
         limit: u64,

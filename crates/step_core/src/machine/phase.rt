@@ -56,6 +56,7 @@ pub struct Actor {
 
 impl Actor {
     ghost use Rattle.step_core.specs.machine.Step.{actor_after, ended_by};
+    ghost use Rattle.step_core.specs.machine.Work.{phase_in};
 
     // The call under way, or the one to begin, if one is left.
     pub(crate) fn command(&self) -> Option<Command>
@@ -63,6 +64,16 @@ impl Actor {
         ensures another { OnSome result (self.now.ended + 1 < 2 ^ 64) }
     {
         self.program.as_slice().get(self.ended as usize).copied()
+    }
+
+    // The phase of that call. Without a call it is Load.
+    pub(crate) fn call_phase(&self) -> Phase
+        ensures { result ≡ phase_in self.now.phase (slice_get self.now.program self.now.ended) }
+    {
+        match self.command() {
+            Some(_) => self.phase,
+            None => Phase::Load,
+        }
     }
 
     // Advances the actor: to its next phase, or to the end of its call.

@@ -1,3 +1,4 @@
 pub mod Output
 pub mod Reading
 pub mod RunError
+pub mod Trace

@@ -8,6 +8,7 @@ ghost use Rattle.engine_core.specs.Reading.{IsPlayable};
 use crate::error::RunError;
 use crate::script::read_script;
 use crate::text::write_play;
+use crate::trace::make_trace;
 use book_core::Sequence;
 use script_core::Script;
 use seg_core::Layout;
@@ -24,6 +25,11 @@ pub enum Engine {
     Steps,
     /// Each item is one atomic step, and what each ended call took is written too.
     Counted,
+    /// Each item is one atomic step, and what each step found or did is written first.
+    Traced,
+    /// Each item is one atomic step. What each step found or did is written first, and what each ended call
+    /// took is written last.
+    TracedCounted,
 }
 
 // The letters of a script's actors, and its play. It was read, so only memory can be refused.
@@ -51,12 +57,15 @@ fn play_script(
     let items = items.as_slice();
     let played = match engine {
         Engine::Calls => play_valid_calls(alloc, limit, programs.as_slice(), items)?,
-        Engine::Steps | Engine::Counted => play_valid(alloc, layout, limit, programs, items)?,
+        Engine::Steps | Engine::Counted | Engine::Traced | Engine::TracedCounted => {
+            play_valid(alloc, layout, limit, programs, items)?
+        }
     };
     Ok((names, played))
 }
 
-/// Reads a script, plays its items by the engine, and writes the text of the play.
+/// Reads a script, plays its items by the engine, and writes the text of the play. An engine that traces plays
+/// the items twice.
 ///
 /// `NoMemory` and `Read` may come for any input. Nothing is written before the whole text is made.
 pub fn run_script<R: Read, W: Write>(
@@ -69,8 +78,9 @@ pub fn run_script<R: Read, W: Write>(
         (W.contents writer.old) (W.contents writer.new) }
 {
     let script = read_script(alloc, reader)?;
+    let trace = make_trace(alloc, engine, &script)?;
     let (names, played) = play_script(alloc, engine, script)?;
-    write_play(alloc, writer, engine, names.as_slice(), &played)
+    write_play(trace, writer, engine, names.as_slice(), &played)
 }
 
 /// Runs a script whose items are whole calls, like [`run_script`].

@@ -1,5 +1,5 @@
 //! The text of a play.
-ghost use Rattle.std.specs.Prelude.{◌≡◌, ◌⊎◌, ◌++◌, length, IfOk, IfErr, OnOk, IsErrOf};
+ghost use Rattle.std.specs.Prelude.{◌≡◌, ◌⊎◌, ◌++◌, length, IfErr, OnOk, IsErrOf};
 ghost use Rattle.std.specs.Io.KnownBytes.{Appends, Keeps};
 ghost use Rattle.book_core.specs.Commands.{HaveActors};
 ghost use Rattle.std.specs.List.{flat_map};
@@ -12,7 +12,7 @@ use crate::error::RunError;
 use crate::output::write_output;
 use book_core::{Cell, Ended, Work};
 use script_core::{write_cells, write_reply, write_work};
-use std::alloc::{AllocError, Global};
+use std::alloc::AllocError;
 use std::io::Write;
 use step_core::Played;
 
@@ -48,46 +48,38 @@ fn push_works(text: &mut Vec<u8>, names: &[u8], works: &[Work]) -> Result<(), Al
 }
 
 // The engine's text for a play whose actors have these letters.
-fn make_text(
-    alloc: Global,
+fn push_text(
+    text: &mut Vec<u8>,
     engine: Engine,
     names: &[u8],
     played: &Played,
-) -> Result<Vec<u8>, AllocError>
+) -> Result<(), AllocError>
     requires actors { HaveActors (length names.now) played.now.ended }
     requires work { AreOfActors (length names.now) played.now.work }
-    ensures { IfOk result (λ text. text.items ≡ text_by engine names.now played.now) }
+    ensures { OnOk result
+        (text.new.items ≡ text.old.items ++ text_by engine names.now played.now) }
 {
-    let mut text = text_of_play(alloc, names, played)?;
+    push_play(text, names, played)?;
     match engine {
-        Engine::Calls | Engine::Steps => Ok(text),
-        Engine::Counted => {
-            push_works(&mut text, names, played.work.as_slice())?;
-            Ok(text)
-        }
+        Engine::Calls | Engine::Steps | Engine::Traced => Ok(()),
+        Engine::Counted | Engine::TracedCounted => push_works(text, names, played.work.as_slice()),
     }
 }
 
 // The text of a play whose actors have these letters.
-pub(crate) fn text_of_play(
-    alloc: Global,
-    names: &[u8],
-    played: &Played,
-) -> Result<Vec<u8>, AllocError>
+pub(crate) fn push_play(text: &mut Vec<u8>, names: &[u8], played: &Played) -> Result<(), AllocError>
     requires actors { HaveActors (length names.now) played.now.ended }
-    ensures { IfOk result (λ text. text.items ≡ played_text names.now played.now) }
+    ensures { OnOk result (text.new.items ≡ text.old.items ++ played_text names.now played.now) }
 {
-    let mut text = Vec::new(alloc);
     for ended in played.ended.as_slice() {
-        push_answer(&mut text, names[ended.actor as usize], ended)?;
+        push_answer(text, names[ended.actor as usize], ended)?;
     }
-    push_cells(&mut text, played.cells.as_slice())?;
-    Ok(text)
+    push_cells(text, played.cells.as_slice())
 }
 
-// Nothing is written before the whole text is made.
+// Nothing is written before the whole text is made. Its front is there already.
 pub(crate) fn write_play<W: Write>(
-    alloc: Global,
+    mut text: Vec<u8>,
     writer: &mut W,
     engine: Engine,
     names: &[u8],
@@ -97,14 +89,14 @@ pub(crate) fn write_play<W: Write>(
     requires work { AreOfActors (length names.now) played.now.work }
     ensures written { OnOk result
         (Appends (W.contents writer.old) (W.contents writer.new)
-        (text_by engine names.now played.now)) }
+        (text.items ++ text_by engine names.now played.now)) }
     ensures prefix { IsErrOf result RunError.Write → AppendsPrefix (W.contents writer.old)
-        (W.contents writer.new) (text_by engine names.now played.now) }
+        (W.contents writer.new) (text.items ++ text_by engine names.now played.now) }
     ensures faults { IfErr result (λ e.
         (e ≡ RunError.NoMemory × Keeps (W.contents writer.old) (W.contents writer.new))
         ⊎ (e ≡ RunError.Write)) }
 {
-    let text = make_text(alloc, engine, names, played)?;
+    push_text(&mut text, engine, names, played)?;
     write_output(writer, &text)?;
     Ok(())
 }

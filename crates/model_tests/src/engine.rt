@@ -5,7 +5,7 @@ mod lines;
 mod memory;
 mod streams;
 
-use engine_core::{Engine, RunError, run_calls, run_steps, run_steps_counted};
+use engine_core::{Engine, RunError, run_calls, run_script, run_steps, run_steps_counted};
 use script_core::ScriptError;
 use std::alloc::Global;
 use std::io::{Read, Write};
@@ -21,6 +21,7 @@ fn run<R: Read, W: Write>(
         Engine::Calls => run_calls(alloc, reader, writer),
         Engine::Steps => run_steps(alloc, reader, writer),
         Engine::Counted => run_steps_counted(alloc, reader, writer),
+        Engine::Traced | Engine::TracedCounted => run_script(alloc, engine, reader, writer),
     }
 }
 

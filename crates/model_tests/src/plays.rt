@@ -11,6 +11,7 @@ mod lines;
 mod machine;
 mod memory;
 mod scripts;
+mod traces;
 mod uses;
 mod whole_calls;
 mod work;

@@ -42,7 +42,7 @@ pub(super) static PLAYS: [(&'static str, &'static [Row]); 3] = [
 ];
 
 // A machine at the programs of a script.
-fn machine(alloc: Global, script: &str) -> Result<Machine, Fail> {
+pub(super) fn machine(alloc: Global, script: &str) -> Result<Machine, Fail> {
     let script = read(alloc, script.as_bytes())?;
     Ok(Machine::new(alloc, script.limit, script.programs)?)
 }

@@ -1,0 +1,6 @@
+-- the programs so far are copied
+use Rattle.std.proofs.Common.{◌≡◌, take}
+use Rattle.engine_core.proofs.trace.copy_programs.Given as goal
+
+abbrev pub invariant-loop-program : goal.invariant-loop-program
+invariant-loop-program l = l.copies.items ≡ take l.program-index l.programs

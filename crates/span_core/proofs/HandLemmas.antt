@@ -13,7 +13,8 @@ use Rattle.span_core.specs.declared.errors.Refusal.{Refusal}
 use Rattle.span_core.specs.declared.errors.Refusal.TheVariants.{NoMemory, Stuck, Worker}
 use Rattle.span_core.proofs.Ranges.{both-refused}
 
-prefix_trans : {A : Type 0} (xs ys zs : List A) → IsPrefix xs ys → IsPrefix ys zs → IsPrefix xs zs
+-- a prefix of a prefix is a prefix
+pub prefix_trans : {A : Type 0} (xs ys zs : List A) → IsPrefix xs ys → IsPrefix ys zs → IsPrefix xs zs
 prefix_trans xs ys zs p q = (p.0 ++ q.0, sym (append_assoc xs p.0 q.0) ∙ (ap (λ w. w ++ q.0) p.1 ∙ q.1))
 
 -- each hand is part of itself

@@ -7,3 +7,4 @@ pub mod Tiles
 pub mod Folds
 pub mod Mapped
 pub mod Wrapping
+pub mod WriterLemmas

@@ -7,5 +7,6 @@ pub mod Hands
 pub mod Shares
 pub mod Loops
 pub mod Errors
+pub mod Writer
 pub use Rattle.quiet_core.specs.QuietList
 pub use Rattle.quiet_core.specs.QuietAt

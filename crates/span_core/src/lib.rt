@@ -1,5 +1,5 @@
-//! Spans of places, cursors over an exclusive list, loops that share a span among threads, and workers on one
-//! shared vector.
+//! Spans of places, cursors over an exclusive list, loops that share a span among threads, workers on one shared
+//! vector, and writers.
 //!
 //! Contracts see a `Span` as its begin, its end and its grain, and its division as `AreLeaves`
 //! (`specs/Span.antt`); a `Cursor` as its list and its place (`specs/Cursor.antt`).
@@ -12,6 +12,9 @@
 //! `run_gated` any `Gated`, whose workers bring something and may refuse; if one is refused, those below it
 //! have returned (`specs/Workers.antt`). Under them is `fork_join`, which starts any range of workers by
 //! halves. Nothing is said about which worker took a leaf, nor that a loop returns.
+//!
+//! A `Writer` is a vector and a hand of it in one value (`specs/Writer.antt`). Its calls are the vector's, with
+//! the same clauses, and require nothing of the hand.
 #![tactic(auto)]
 
 mod by_halves;
@@ -26,6 +29,8 @@ mod map;
 mod reduce;
 mod span;
 mod workers;
+mod writer;
+mod writer_growths;
 
 pub use by_halves::{ForkJoin, fork_join};
 pub use cursor::Cursor;
@@ -37,3 +42,4 @@ pub use map::par_map;
 pub use reduce::{Domain, par_reduce};
 pub use span::Span;
 pub use workers::{Gated, Job, run_gated, run_workers};
+pub use writer::Writer;

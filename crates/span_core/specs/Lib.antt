@@ -8,5 +8,6 @@ pub mod Shares
 pub mod Loops
 pub mod Errors
 pub mod Writer
+pub mod Buffered
 pub use Rattle.quiet_core.specs.QuietList
 pub use Rattle.quiet_core.specs.QuietAt

@@ -14,9 +14,11 @@
 //! halves. Nothing is said about which worker took a leaf, nor that a loop returns.
 //!
 //! A `Writer` is a vector and a hand of it in one value (`specs/Writer.antt`). Its calls are the vector's, with
-//! the same clauses, and require nothing of the hand.
+//! the same clauses, and require nothing of the hand. A `BufferedWriter` appends many values at once
+//! (`specs/Buffered.antt`).
 #![tactic(auto)]
 
+mod buffered_writer;
 mod by_halves;
 mod cursor;
 mod errors;
@@ -32,6 +34,7 @@ mod workers;
 mod writer;
 mod writer_growths;
 
+pub use buffered_writer::BufferedWriter;
 pub use by_halves::{ForkJoin, fork_join};
 pub use cursor::Cursor;
 pub use errors::{ParError, Refusal};

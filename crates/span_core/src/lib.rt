@@ -15,7 +15,7 @@
 //!
 //! A `Writer` is a vector and a hand of it in one value (`specs/Writer.antt`). Its calls are the vector's, with
 //! the same clauses, and require nothing of the hand. A `BufferedWriter` appends many values at once
-//! (`specs/Buffered.antt`).
+//! (`specs/Buffered.antt`), and a `SharedWriter` owns a part of its vector.
 #![tactic(auto)]
 
 mod buffered_writer;
@@ -29,6 +29,7 @@ pub mod laws;
 mod leaf_shares;
 mod map;
 mod reduce;
+mod shared_writer;
 mod span;
 mod workers;
 mod writer;
@@ -43,6 +44,7 @@ pub use gate::{Free, Gate, PairGate};
 pub use hands::with_hands;
 pub use map::par_map;
 pub use reduce::{Domain, par_reduce};
+pub use shared_writer::SharedWriter;
 pub use span::Span;
 pub use workers::{Gated, Job, run_gated, run_workers};
 pub use writer::Writer;

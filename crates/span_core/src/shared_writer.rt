@@ -1,0 +1,256 @@
+//! A vector with several owners and a hand of it, in one value.
+ghost use Rattle.std.specs.Prelude.{◌≡◌, ◌+◌, ◌-◌, ◌<◌, ◌≤◌, ◌++◌, ◌⊎◌, IfOk, IfErr, IsErrAnd, OnOk, OnErr, length, vec_len};
+ghost use Rattle.std.specs.Arc.{arc_value};
+ghost use mathlib.Core.List.{IsPrefix};
+ghost use Rattle.claim_core.specs.Hand.{IsWholeHand, OwnApart, SeesSize, seen_size};
+ghost use Rattle.grow_core.specs.Vector.{IsHandOf, IsPlacedOf, SeesMore};
+ghost use Rattle.grow_core.specs.Closing.{KeepsValues, IsClosedFrom};
+ghost use Rattle.grow_core.specs.Growth.{WonPlace, WonRun, WonPlaces, Refuses, HasNoRoom, SaysFull, IsNotMoved};
+ghost use Rattle.grow_core.specs.Making.{WonMade, StopsAfter, IsRefusedBy};
+ghost use Rattle.grow_core.specs.Read.{IsShownAt, IsDueAt, IsInRange};
+ghost use Rattle.span_core.specs.Hands.{split_off};
+
+use grow_core::{AtError, GrowError, Grown, Hand, Never, Placed, Run, Shared, Shown};
+use quiet_core::Quiet;
+use std::alloc::AllocError;
+use std::fmt;
+use std::marker::Model;
+use std::sync::{Arc, Wait};
+
+/// A vector that several owners share, and a hand of it: a `Writer` for a thread that outlives a scope.
+///
+/// If it is dropped, its hand's shares are lost. `into_parts`, `join` and `try_close` keep them.
+#[derive(Drop)]
+pub struct SharedWriter<T> {
+    vector: Arc<Shared<T>>,
+    hand: Hand<T>,
+}
+
+impl<T> Model for SharedWriter<T> {
+    ghost use Rattle.std.specs.Arc.{arc_value};
+    ghost use Rattle.grow_core.specs.Vector.{IsHandOf};
+    ghost use Rattle.span_core.specs.Writer.{WriterView, writer_coded};
+
+    ghost Value = { WriterView T };
+
+    ghost coded = { writer_coded T.code };
+
+    ghost view = { λ w. record { vector = arc_value w.vector; hand = w.hand } };
+
+    ghost invariant = { λ w. IsHandOf (arc_value w.vector) w.hand };
+}
+
+impl<T> fmt::Debug for SharedWriter<T> {
+    fn fmt<W: fmt::Write>(&self, f: &mut fmt::Formatter<W>) -> fmt::Result {
+        f.debug_struct("SharedWriter")
+            .field("hand", &self.hand)
+            .finish_non_exhaustive()
+    }
+}
+
+impl<T> SharedWriter<T> {
+    /// Ties a hand to its vector.
+    pub fn new(vector: Arc<Shared<T>>, hand: Hand<T>) -> Self
+        requires { IsHandOf (arc_value vector) hand }
+        ensures { result ≡ record { vector = arc_value vector; hand = hand } }
+    {
+        SharedWriter { vector, hand }
+    }
+
+    /// Returns the vector, for calls that take no hand.
+    pub fn vector(&self) -> &Shared<T>
+        ensures value { result.now ≡ self.now.vector }
+        ensures ours { IsHandOf result.now self.now.hand }
+    {
+        &self.vector
+    }
+
+    /// Returns the hand, to read what it has seen and its shares.
+    pub fn hand(&self) -> &Hand<T>
+        ensures value { result.now ≡ self.now.hand }
+        ensures ours { IsHandOf self.now.vector result.now }
+    {
+        &self.hand
+    }
+
+    /// Returns the vector and the hand, with all its shares.
+    pub fn into_parts(self) -> (Arc<Shared<T>>, Hand<T>)
+        ensures vector { arc_value result.0 ≡ self.vector }
+        ensures hand { result.1 ≡ self.hand }
+        ensures ours { IsHandOf (arc_value result.0) result.1 }
+    {
+        let SharedWriter { vector, hand } = self;
+        (vector, hand)
+    }
+
+    /// Returns the size now, by one load.
+    pub fn size(&mut self) -> u64
+        ensures seen { SeesSize self.old.hand self.new.hand result }
+        ensures grows { seen_size self.old.hand ≤ result }
+        ensures opened { length self.old.vector.opened ≤ result }
+        // Nobody else can append while one hand has all shares.
+        ensures whole { IsWholeHand self.old.hand → result ≡ seen_size self.old.hand }
+        ensures vector { self.new.vector ≡ self.old.vector }
+    {
+        self.vector.size(&mut self.hand)
+    }
+
+    /// Looks once at what the place shows now. A place that nobody claimed, or past the limit, shows nothing
+    /// yet.
+    #[inline(always)]
+    pub fn look(&self, place: u64) -> Shown<'_, T>
+        ensures { IsShownAt self.now.vector place result }
+    {
+        self.vector.look(place)
+    }
+
+    /// Returns the token's value, by one look at its place.
+    #[inline(always)]
+    pub fn get(&self, placed: &Placed<T>) -> &T
+        requires { IsPlacedOf self.now.vector placed.now }
+        ensures { result.now ≡ placed.now.value }
+    {
+        self.vector.get(placed)
+    }
+
+    /// Splits shares off into a new writer, whose hand has seen the same. A refusal leaves all shares here.
+    pub fn split(&mut self, shares: u32) -> Result<SharedWriter<T>, AllocError>
+        requires some_shares { 0 < shares }
+        requires not_all { shares < self.old.hand.shares }
+        ensures kept { OnOk result (self.new ≡ record self.old
+            { hand = record self.old.hand { shares = self.old.hand.shares - shares } }) }
+        ensures given { IfOk result (λ other.
+            other ≡ record self.old { hand = split_off self.old.hand shares }) }
+        ensures unchanged { OnErr result (self.new ≡ self.old) }
+    {
+        let vector = Arc::try_clone(&self.vector)?;
+        let hand = self.vector.split(&mut self.hand, shares);
+        Ok(SharedWriter { vector, hand })
+    }
+}
+
+impl<T: Drop> SharedWriter<T> {
+    /// Joins the other writer's runs and shares into this one, which has then seen whichever is more of what
+    /// the two had seen.
+    pub fn join(&mut self, other: SharedWriter<T>)
+        requires same { other.vector ≡ self.old.vector }
+        ensures mine { self.new.hand.mine ≡ self.old.hand.mine ++ other.hand.mine }
+        ensures shares { self.new.hand.shares ≡ self.old.hand.shares + other.hand.shares }
+        ensures seen { (self.new.hand.seen ≡ self.old.hand.seen)
+            ⊎ (self.new.hand.seen ≡ other.hand.seen) }
+        ensures begins { IsPrefix self.old.hand.seen self.new.hand.seen }
+        ensures also_begins { IsPrefix other.hand.seen self.new.hand.seen }
+        ensures apart { OwnApart self.old.hand other.hand }
+        ensures vector { self.new.vector ≡ self.old.vector }
+    {
+        let (_vector, hand) = other.into_parts();
+        self.vector.join(&mut self.hand, hand);
+    }
+
+    /// Closes the vector into a list, if this writer has all shares and nobody else owns the vector. Otherwise
+    /// the writer comes back.
+    pub fn try_close(self) -> Result<Quiet<T>, SharedWriter<T>>
+        ensures whole { OnOk result (IsWholeHand self.hand) }
+        ensures length { IfOk result (λ list. length list.members ≡ seen_size self.hand) }
+        ensures opened { IfOk result (λ list. KeepsValues self.vector.opened list.members) }
+        ensures closed { IfOk result (λ list. IsClosedFrom self.vector list.closed) }
+        ensures back { IfErr result (λ back. back ≡ self) }
+    {
+        let (vector, hand) = self.into_parts();
+        if !hand.is_whole() {
+            return Err(SharedWriter { vector, hand });
+        }
+        match Arc::try_unwrap(vector) {
+            Ok(vector) => Ok(Quiet::close(vector, hand)),
+            Err(vector) => Err(SharedWriter { vector, hand }),
+        }
+    }
+
+    /// Appends a value. It begins at the size that the hand has seen, and retries if another caller was first.
+    #[inline(always)]
+    pub fn push_back<R: Wait>(
+        &mut self,
+        rt: &R,
+        value: T,
+    ) -> Result<Placed<T>, GrowError<T, T, Never>>
+        ensures won { IfOk result (WonPlace self.old.vector value self.old.hand self.new.hand) }
+        ensures refused { IfErr result
+            (Refuses self.old.vector 1 value self.old.hand self.new.hand) }
+        // Room that is missing by what the hand has seen is reported before memory is asked for.
+        ensures full { HasNoRoom self.old.vector 1 self.old.hand → IsErrAnd result SaysFull }
+        ensures not_moved { IfErr result IsNotMoved }
+        ensures vector { self.new.vector ≡ self.old.vector }
+    {
+        self.vector.push_back(rt, &mut self.hand, value)
+    }
+
+    /// Appends a value. It tries once, and waits for nobody.
+    #[inline(always)]
+    pub fn try_push_back(&mut self, value: T) -> Result<Placed<T>, GrowError<T, T, Never>>
+        ensures won { IfOk result (WonPlace self.old.vector value self.old.hand self.new.hand) }
+        ensures refused { IfErr result
+            (Refuses self.old.vector 1 value self.old.hand self.new.hand) }
+        // Room that is missing by what the hand has seen is reported before memory is asked for.
+        ensures full { HasNoRoom self.old.vector 1 self.old.hand → IsErrAnd result SaysFull }
+        ensures vector { self.new.vector ≡ self.old.vector }
+    {
+        self.vector.try_push_back(&mut self.hand, value)
+    }
+
+    /// Appends the values in one run, and retries if another caller was first.
+    pub fn grow_vec<R: Wait>(
+        &mut self,
+        rt: &R,
+        values: Vec<T>,
+    ) -> Result<Grown<T>, GrowError<T, Vec<T>, Never>>
+        ensures won { IfOk result
+            (WonRun self.old.vector values.items self.old.hand self.new.hand) }
+        ensures refused { IfErr result
+            (Refuses self.old.vector (vec_len values) values self.old.hand self.new.hand) }
+        // Room that is missing by what the hand has seen is reported before memory is asked for.
+        ensures full { HasNoRoom self.old.vector (vec_len values) self.old.hand
+            → IsErrAnd result SaysFull }
+        ensures not_moved { IfErr result IsNotMoved }
+        ensures vector { self.new.vector ≡ self.old.vector }
+    {
+        self.vector.grow_vec(rt, &mut self.hand, values)
+    }
+
+    /// Appends the values like `grow_vec`, without tokens.
+    pub fn append<R: Wait>(
+        &mut self,
+        rt: &R,
+        values: Vec<T>,
+    ) -> Result<Run, GrowError<T, Vec<T>, Never>>
+        ensures won { IfOk result (WonPlaces (vec_len values) self.old.hand self.new.hand) }
+        ensures refused { IfErr result
+            (Refuses self.old.vector (vec_len values) values self.old.hand self.new.hand) }
+        // Room that is missing by what the hand has seen is reported before memory is asked for.
+        ensures full { HasNoRoom self.old.vector (vec_len values) self.old.hand
+            → IsErrAnd result SaysFull }
+        ensures not_moved { IfErr result IsNotMoved }
+        ensures vector { self.new.vector ≡ self.old.vector }
+    {
+        self.vector.append(rt, &mut self.hand, values)
+    }
+
+    /// Appends values like `try_grow_with`, and retries if another caller was first.
+    pub fn grow_with<R: Wait, E: Drop, F: FnMut(u64) -> Result<T, E>>(
+        &mut self,
+        rt: &R,
+        n: u64,
+        make: F,
+    ) -> Result<Grown<T>, GrowError<T, (), E>>
+        requires callable { F.IsAlwaysCallable make }
+        ensures won { IfOk result
+            (WonMade F.step make self.old.vector n self.old.hand self.new.hand) }
+        ensures refused { IfErr result
+            (Refuses self.old.vector n tt self.old.hand self.new.hand) }
+        ensures cause { IfErr result (IsRefusedBy (StopsAfter F.step make)) }
+        ensures full { HasNoRoom self.old.vector n self.old.hand → IsErrAnd result SaysFull }
+        ensures not_moved { IfErr result IsNotMoved }
+        ensures vector { self.new.vector ≡ self.old.vector }
+    {
+        self.vector.grow_with(rt, &mut self.hand, n, make)
+    }
+}

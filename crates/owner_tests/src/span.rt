@@ -10,6 +10,7 @@ mod refusals;
 mod stuck;
 mod uses;
 mod watch;
+mod writers;
 
 use crate::quiet::{list_of, pushes_all};
 use quiet_core::Quiet;

@@ -52,11 +52,12 @@ impl<T> Shared<T> {
         ensures opened { base_of self.now ≤ result.end }
         ensures within { result.end ≤ limit_of self.now }
     {
-        self.published_from(0, self.shown_size())
+        self.published_from(0, self.claimed())
     }
 
-    // The size that one load finds now, as far as places show something.
-    pub(crate) fn shown_size(&self) -> u64
+    /// Returns the size that one load finds now, for a caller without a hand. Each place below it is claimed, or is a
+    /// member of the list that the vector was opened on.
+    pub fn claimed(&self) -> u64
         ensures opened { base_of self.now ≤ result }
         ensures within { result ≤ limit_of self.now }
     {

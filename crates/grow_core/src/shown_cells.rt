@@ -7,6 +7,7 @@ ghost use Rattle.table_core.specs.Table.{IsBlockOf, IsKeyIn};
 ghost use Rattle.grow_core.specs.Parts.{values_in};
 ghost use Rattle.grow_core.specs.Token.{place_in};
 ghost use Rattle.grow_core.specs.ShownCells.{GoesOnBySegment, HoldOpened};
+ghost use Rattle.grow_core.specs.Slices.{IsInOneSegment, IsToTheEnd};
 ghost use Rattle.seg_core.specs.Segment.{HasPlace, segment_count, segment_end};
 ghost use Rattle.grow_core.specs.Vector.{IsOpenedAt, base_of, limit_of, layout_of};
 
@@ -80,7 +81,31 @@ impl<T> Shared<T> {
         ShownSegments {
             vector: self,
             place: 0,
-            end: self.shown_size(),
+            end: self.claimed(),
+        }
+    }
+
+    /// Returns the places from `place` on, up to `end` or to the end of the segment of `place`. It looks at none.
+    pub fn cells(&self, place: u64, end: u64) -> ShownCells<'_, T>
+        requires some { place < end }
+        requires within { end ≤ limit_of self.now }
+        ensures vector { result.vector ≡ self.now }
+        ensures from { result.from ≡ place }
+        ensures some { 0 < result.n }
+        ensures within { place + result.n ≤ end }
+        ensures segment { IsInOneSegment (layout_of self.now) place result.n }
+        ensures most { IsToTheEnd (layout_of self.now) place result.n end }
+    {
+        // For the proof: the limit is that of a vector.
+        self.laws();
+        let layout = self.layout();
+        let (segment, _) = layout.locate(place);
+        let past = layout.first(segment) + layout.len(segment);
+        ShownCells {
+            vector: self,
+            segment,
+            from: place,
+            n: past.min(end) - place,
         }
     }
 
@@ -151,19 +176,9 @@ impl<'a, T> Iterator for ShownSegments<'a, T> {
         if from == self.end {
             return None;
         }
-        // For the proof: the limit is that of a vector.
-        vector.laws();
-        let layout = vector.layout();
-        let (segment, _) = layout.locate(from);
-        let end = layout.first(segment) + layout.len(segment);
-        let n = end.min(self.end) - from;
-        self.place += n;
-        Some(ShownCells {
-            vector,
-            segment,
-            from,
-            n,
-        })
+        let cells = vector.cells(from, self.end);
+        self.place += cells.n;
+        Some(cells)
     }
 }
 

@@ -122,6 +122,15 @@ impl<T> Parts<T> {
         self.limit
     }
 
+    /// Sets the greatest length that the list may reach. It takes no memory.
+    pub fn set_limit(&mut self, limit: u64)
+        requires limit { IsLimit limit }
+        requires within { length self.old.members ≤ limit }
+        ensures { self.new ≡ record self.old { limit = limit } }
+    {
+        self.limit = limit;
+    }
+
     /// Returns how the vector's places are divided into segments.
     pub fn layout(&self) -> Layout
         ensures { result ≡ self.now.layout }

@@ -13,6 +13,7 @@
 #![tactic(auto)]
 
 mod compare;
+mod cut;
 mod errors;
 mod into_iter;
 mod into_vec;

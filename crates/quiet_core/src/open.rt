@@ -1,5 +1,5 @@
 //! How a list becomes a vector that many callers share, and how that becomes a list again.
-ghost use Rattle.std.specs.Prelude.{◌≡◌, ◌<◌, Some, length, slice_get, IfOk, IfErr};
+ghost use Rattle.std.specs.Prelude.{◌≡◌, ◌<◌, Some, length, slice_get, IsOk, IfOk, IfErr, OnErr};
 ghost use Rattle.claim_core.specs.Hand.{IsWholeHand, IsNewHand, seen_size};
 ghost use Rattle.grow_core.specs.Vector.{IsHandOf, limit_of, layout_of, base_of};
 ghost use Rattle.grow_core.specs.Closing.{IsClosedFrom, IsOfClosed, KeepsValues};
@@ -56,6 +56,25 @@ impl<T: Drop> Quiet<T> {
     {
         Quiet {
             parts: vector.into_parts(hand),
+        }
+    }
+    /// Closes the vector like `close` if the hand is whole, and otherwise gives both back: for a program that proves
+    /// nothing about shares.
+    pub fn try_close(vector: Shared<T>, hand: Hand<T>) -> Result<Quiet<T>, (Shared<T>, Hand<T>)>
+        requires ours { IsHandOf vector hand }
+        ensures length { IfOk result (λ list. length list.members ≡ seen_size hand) }
+        ensures limit { IfOk result (λ list. list.limit ≡ limit_of vector) }
+        ensures layout { IfOk result (λ list. list.layout ≡ layout_of vector) }
+        ensures opened { IfOk result (λ list. KeepsValues vector.opened list.members) }
+        ensures closed { IfOk result (λ list. IsClosedFrom vector list.closed) }
+        ensures whole { IsWholeHand hand → IsOk result }
+        ensures refused { OnErr result (¬ IsWholeHand hand) }
+        ensures back { IfErr result (λ (same, own). (same ≡ vector) × (own ≡ hand)) }
+    {
+        if hand.is_whole() {
+            Ok(Quiet::close(vector, hand))
+        } else {
+            Err((vector, hand))
         }
     }
 }

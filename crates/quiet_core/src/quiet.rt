@@ -157,7 +157,27 @@ impl<T: Drop> Quiet<T> {
         ensures values_back { IfErr result (λ (_, back). back ≡ values) }
         ensures of_room { IfErr result (λ (why, _). IsOfRoom why) }
     {
-        let mut list = Quiet::new(alloc, limit);
+        Quiet::from_vec_in(alloc, Layout::default(), limit, values)
+    }
+
+    /// Makes a list of these values like `from_vec`, with the segments of the layout.
+    pub fn from_vec_in(
+        alloc: Global,
+        layout: Layout,
+        limit: u64,
+        values: Vec<T>,
+    ) -> Result<Quiet<T>, (QuietError, Vec<T>)>
+        requires { IsLimit limit }
+        ensures members { IfOk result (λ q. q.members ≡ map Some values.items) }
+        ensures limit { IfOk result (λ q. q.limit ≡ limit) }
+        ensures layout { IfOk result (λ q. q.layout ≡ layout) }
+        ensures capacity { IfOk result (λ q. IsCapacityFor layout (vec_len values) q.capacity) }
+        // The limit is looked at before memory is asked for.
+        ensures too_long { (result ≡ Err (QuietError.TooLong, values)) ↔ (limit < vec_len values) }
+        ensures values_back { IfErr result (λ (_, back). back ≡ values) }
+        ensures of_room { IfErr result (λ (why, _). IsOfRoom why) }
+    {
+        let mut list = Quiet::new_in(alloc, layout, limit);
         match list.assign(values) {
             Ok(()) => Ok(list),
             Err(refused) => Err(refused),

@@ -7,6 +7,7 @@ mod hands;
 mod many_hands;
 mod memory;
 mod refusals;
+mod segments;
 mod stuck;
 mod uses;
 mod watch;

@@ -7,4 +7,5 @@ pub mod Tiles
 pub mod Folds
 pub mod Mapped
 pub mod Wrapping
+pub mod SegmentLemmas
 pub mod WriterLemmas

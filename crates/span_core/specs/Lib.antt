@@ -6,6 +6,7 @@ pub mod Workers
 pub mod Hands
 pub mod Shares
 pub mod Loops
+pub mod Segments
 pub mod Errors
 pub mod Writer
 pub mod Buffered

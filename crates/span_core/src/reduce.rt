@@ -32,6 +32,47 @@ impl Domain for u64 {
     }
 }
 
+impl Domain for u8 {
+    ghost is_in = { λ n. n < 2 ^ 8 };
+
+    fn tell(&self) {
+        let _value = *self;
+    }
+}
+
+impl Domain for u16 {
+    ghost is_in = { λ n. n < 2 ^ 16 };
+
+    fn tell(&self) {
+        let _value = *self;
+    }
+}
+
+impl Domain for u32 {
+    ghost is_in = { λ n. n < 2 ^ 32 };
+
+    fn tell(&self) {
+        let _value = *self;
+    }
+}
+
+impl Domain for usize {
+    ghost is_in = { λ n. n < 2 ^ 64 };
+
+    fn tell(&self) {
+        let _value = *self;
+    }
+}
+
+impl<A: Domain, B: Domain> Domain for (A, B) {
+    ghost is_in = { λ (a, b). A.is_in a × B.is_in b };
+
+    fn tell(&self) {
+        self.0.tell();
+        self.1.tell();
+    }
+}
+
 // Joins two sums, if there are two.
 fn merged<U: Domain, J: Fn(U, U) -> U>(join: &J, sum: Option<U>, part: Option<U>) -> Option<U>
     requires { J.IsAlwaysCallable join.now }

@@ -59,6 +59,14 @@ impl Span {
         self.to - self.from
     }
 
+    /// Returns how many places a span has at most that is not divided.
+    pub fn grain(&self) -> u64
+        ensures value { result ≡ self.now.grain }
+        ensures positive { 0 < result }
+    {
+        self.grain
+    }
+
     /// Tests whether there are more places than the grain.
     pub fn is_divisible(&self) -> bool
         ensures { IsTrue result ↔ IsDivisible self.now }

@@ -1,6 +1,8 @@
-// The loads of crates/costs on oneTBB's concurrent_vector and on a std::vector under a mutex.
+// The loads of crates/costs on oneTBB's concurrent_vector, on a std::vector under a mutex, and on bare rows of cells.
 //
 //   other_vectors LIBRARY LOAD THREADS    prints the nanoseconds that the load took
+#include <algorithm>
+#include <atomic>
 #include <chrono>
 #include <cstdint>
 #include <cstdio>
@@ -82,8 +84,117 @@ struct Locked {
   }
 };
 
+// The least that a vector of this layout could do: values in rows, the states of sixteen cells in a word. It tests nothing,
+// refuses nothing, and frees nothing.
+struct Bare {
+  struct Segment {
+    Value *values;
+    std::atomic<Value> *states;
+  };
+  static constexpr Value full = 3, all_full = 0x3333333333333333;
+  std::atomic<Value> claimed{0};
+  std::atomic<Segment *> segments[40] = {};
+  static unsigned segment_of(Value place) { return 63 - __builtin_clzll(place | 1); }
+  static Value first(unsigned number) { return number ? Value{1} << number : 0; }
+  static Value end(unsigned number) { return Value{2} << number; }
+  Segment *install(unsigned number) {
+    Value length = end(number) - first(number);
+    auto made = new Segment{static_cast<Value *>(std::malloc(length * sizeof(Value))), nullptr};
+    made->states = static_cast<std::atomic<Value> *>(std::calloc(length / 16 + 1, sizeof(Value)));
+    Segment *found = nullptr;
+    if (segments[number].compare_exchange_strong(found, made))
+      return made;
+    std::free(made->values);
+    std::free(made->states);
+    delete made;
+    return found;
+  }
+  Segment *segment(unsigned number) {
+    Segment *found = segments[number].load(std::memory_order_acquire);
+    return found ? found : install(number);
+  }
+  Value claim(Value n) {
+    Value from = claimed.load();
+    while (!claimed.compare_exchange_weak(from, from + n))
+      ;
+    return from;
+  }
+  void fill(Value place, Value value) {
+    unsigned number = segment_of(place);
+    Segment *found = segment(number);
+    Value offset = place - first(number);
+    found->values[offset] = value;
+    found->states[offset / 16].fetch_add(full << offset % 16 * 4);
+  }
+  // Fills the places from one on that are of its segment, and publishes those of a word by one step.
+  Value fill_some(Value place, Value n, const Value *values) {
+    unsigned number = segment_of(place);
+    Segment *found = segment(number);
+    Value offset = place - first(number), count = std::min(n, end(number) - place);
+    std::memcpy(found->values + offset, values, count * sizeof(Value));
+    for (Value at = offset; at < offset + count;) {
+      Value next = std::min((at / 16 + 1) * 16, offset + count), states = 0;
+      for (; at < next; ++at)
+        states |= full << at % 16 * 4;
+      found->states[(next - 1) / 16].fetch_add(states);
+    }
+    return count;
+  }
+  void push(Value value) { fill(claim(1), value); }
+  void grow(const std::vector<Value> &list) {
+    Value place = claim(list.size());
+    for (Value done = 0; done < list.size();)
+      done += fill_some(place + done, list.size() - done, list.data() + done);
+  }
+  void make(Value value) {
+    Value place = claim(list_length);
+    for (Value i = 0; i < list_length; ++i)
+      fill(place + i, value + i);
+  }
+  void grow_up_to(Value size, Value value) {
+    Value from = claimed.load();
+    while (from < size && !claimed.compare_exchange_weak(from, size))
+      ;
+    for (Value place = from; place < size; ++place)
+      fill(place, value);
+  }
+  Value size() { return claimed.load(); }
+  Value look(Value place) {
+    unsigned number = segment_of(place);
+    Segment *found = segments[number].load(std::memory_order_acquire);
+    Value offset = place - first(number);
+    Value states = found->states[offset / 16].load(std::memory_order_acquire);
+    return (states >> offset % 16 * 4 & 15) == full ? found->values[offset] : 0;
+  }
+  Value get(Value place) {
+    unsigned number = segment_of(place);
+    return segments[number].load(std::memory_order_acquire)->values[place - first(number)];
+  }
+  Value walk(Value times) {
+    Value odd = 0;
+    for (unsigned number = 0; times; ++number) {
+      Segment *found = segments[number].load(std::memory_order_acquire);
+      Value count = std::min(times, end(number) - first(number));
+      for (Value word = 0; word * 16 < count; ++word) {
+        Value length = std::min(count - word * 16, Value{16}), states = found->states[word].load(std::memory_order_acquire);
+        if (length == 16 ? states == all_full : states != 0)
+          for (Value i = 0; i < length; ++i)
+            odd += found->values[word * 16 + i] & 1;
+      }
+      times -= count;
+    }
+    return odd;
+  }
+};
+
 template <typename Vector> void push_often(Vector &vector, Value times) {
   for (Value value = 0; value < times; ++value)
+    vector.push(value);
+}
+
+// Pushes values until a walk is over.
+template <typename Vector> void push_until(Vector &vector, const std::atomic<bool> &is_over) {
+  for (Value value = 0; value < 2'000'000 && !is_over; ++value)
     vector.push(value);
 }
 
@@ -145,10 +256,17 @@ template <typename Vector> long long run(const char *load, unsigned threads) {
     work = [&] { read_often(times, [&](Value place) { return vector.get(place); }); };
   if (!std::strncmp(load, "walk", 4))
     work = [&] { walk_over(vector, times); };
+  std::atomic<bool> is_over{false};
+  std::function<void()> other_work = work;
+  if (!std::strcmp(load, "walk-pushed")) {
+    ++threads;
+    work = [&] { walk_over(vector, more), is_over = true; };
+    other_work = [&] { push_until(vector, is_over); };
+  }
   auto start = std::chrono::steady_clock::now();
   std::vector<std::thread> others;
   for (unsigned i = 1; i < threads; ++i)
-    others.emplace_back(work);
+    others.emplace_back(other_work);
   work();
   for (auto &other : others)
     other.join();
@@ -184,6 +302,8 @@ int main(int count, char **words) {
     std::printf("%lld\n", run<OneTbb>(words[2], threads));
   else if (!std::strcmp(words[1], "locked"))
     std::printf("%lld\n", run<Locked>(words[2], threads));
+  else if (!std::strcmp(words[1], "bare"))
+    std::printf("%lld\n", run<Bare>(words[2], threads));
   else
     return 2;
 }

@@ -22,6 +22,7 @@ mod lives;
 mod loads;
 mod operation;
 mod other_vectors;
+mod pushed_walk;
 mod reads;
 mod shared_vector;
 mod stress;
@@ -32,6 +33,7 @@ use crate::hundreds::print_hundreds;
 use crate::lives::{Turn, print_turn};
 use crate::loads::{layout_of, load_of, print_boxcar_time};
 use crate::operation::{GROUPS, Group, Operation};
+use crate::pushed_walk::print_pushed_walk;
 use crate::stress::print_stress;
 use anyhow::{Result, bail, ensure};
 use std::alloc::AllocGlobal;
@@ -134,6 +136,7 @@ fn print_load<R: Threads + Wait + Clock + Print + AllocGlobal + Sync>(
         "open" => print_turn(rt, Turn::Open),
         "close" => print_turn(rt, Turn::Close),
         "into-vec" => print_turn(rt, Turn::IntoVec),
+        "walk-pushed" => print_pushed_walk(rt, threads),
         _ => load_of(name)?.print_time(rt, threads),
     }
 }

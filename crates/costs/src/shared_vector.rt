@@ -37,8 +37,14 @@ pub fn open_empty_in<T: Drop>(
     }
 }
 
+// Appends a value, and returns whether that was done.
 #[inline(always)]
-fn push_once<R: Wait>(rt: &R, vector: &Shared<u64>, hand: &mut Hand<u64>, value: u64) -> bool
+pub(crate) fn push_once<R: Wait>(
+    rt: &R,
+    vector: &Shared<u64>,
+    hand: &mut Hand<u64>,
+    value: u64,
+) -> bool
     requires ours { IsHandOf vector.now hand.old }
     ensures of { hand.new.of ≡ hand.old.of }
 {

@@ -4,7 +4,6 @@ ghost use Rattle.seg_core.specs.Segment.{IsLimit};
 mod drops;
 mod layouts;
 mod lives;
-mod members;
 mod memory;
 mod scripts;
 mod steps;

@@ -7,7 +7,6 @@ mod hands;
 mod many_hands;
 mod memory;
 mod refusals;
-mod segments;
 mod stuck;
 mod uses;
 mod watch;

@@ -59,7 +59,7 @@ some_counted [] some = absurd (omega (arith, some))
 some_counted (None ∷ xs) some = (0, refl)
 some_counted (Some x ∷ xs) some = let rest = some_counted xs (omega (arith, some)) in (suc rest.0, rest.1)
 
--- what is known after one member more was added to a row, or removed from it
+-- what is known after a member was added to a row, or removed from it
 pub row_more : {T : Type 0} (known known' : List (MemberView T)) (m : MemberView T) → known' ≡ known ++ m ∷ []
     → broken_count (values_in known') ≡ broken_count (values_in known) + one_if_broken m.value
 row_more {T} known known' m is =
@@ -136,7 +136,7 @@ filled_part block offset known p n are some i m at = let part = get_part known p
 pub part_more : {X : Type 0} (xs : List X) (p i : ℕ) (x : X) (part : List X) → part ≡ take i (drop p xs) → slice_get xs (p + i) ≡ Some x → part ++ x ∷ [] ≡ take (i + 1) (drop p xs)
 part_more xs p i x part is at = ap (λ us. us ++ x ∷ []) is ∙ sym (take_next (drop p xs) i x (get_drop p xs i ∙ at))
 
--- one member more is not broken
+-- the next member is not broken either
 pub unbroken_more : {T : Type 0} (row : List (MemberView T)) (place i : ℕ) (m : MemberView T) (x : T) → slice_get row (place + i) ≡ Some m → m.value ≡ Some x
     → ((j : ℕ) (k : MemberView T) → j < i → slice_get row (place + j) ≡ Some k → k.value ≢ None)
     → (j : ℕ) (k : MemberView T) → j < i + 1 → slice_get row (place + j) ≡ Some k → k.value ≢ None

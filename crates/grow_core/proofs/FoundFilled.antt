@@ -29,7 +29,7 @@ pub value_of_placed : {T : Type 0} (found : List (MemberView T)) (i : ℕ) (m : 
     → slice_get (values_in found) i ≡ Some (Some x) → m.value ≡ Some x
 value_of_placed found i m x is there = let both : Some m.value ≡ Some (Some x) = sym (value_at found i m is) ∙ there in let z = both in cc
 
--- the value of one place more is known still
+-- the value of the next place is known still
 pub keeps_more : {T : Type 0} (opened : List (MemberView T)) (place : ℕ) (found : List (MemberView T)) (i : ℕ) (x : T)
     → ((j : ℕ) (k m : MemberView T) → j < i → slice_get opened (place + j) ≡ Some k → slice_get found j ≡ Some m → KeepsKnown k.value m.value)
     → ((k : MemberView T) → slice_get opened (place + i) ≡ Some k → KeepsKnown k.value (Some x)) → slice_get (values_in found) i ≡ Some (Some x)

@@ -62,7 +62,7 @@ module _ {X : Type 0} where
   pub between_none : (xs : List X) (from to : ℕ) → from ≡ to → between xs from to ≡ []
   between_none xs from to same = ap (λ k. take k (drop from xs)) (let e : to - from ≡ 0 = omega (arith, same) in e)
 
--- there are as many as there are places
+-- one for each place
 pub between_length : {X : Type 0} (xs : List X) (from to : ℕ) → to ≤ length xs → length (between xs from to) ≡ to - from
 between_length xs from to within = let rest = length-drop from xs in length-take (to - from) (drop from xs) ∙ (let e : min (to - from) (length (drop from xs)) ≡ to - from = omega (arith, rest, within) in e)
 

@@ -63,8 +63,8 @@ fn look_ahead<T>(parts: &Parts<T>, from: u64, to: u64, known_to: u64) -> (&[T], 
 
 impl<T> Quiet<T> {
     /// Iterates over the members in order of place. Forwards it goes through each segment without a broken member as
-    /// through a slice; if the list has a broken member, it looks once more at the members of each segment. Backwards
-    /// it looks at one member at a time.
+    /// through a slice; if the list has a broken member, it first looks at the members of each segment. Backwards it
+    /// looks at one member at a time.
     pub fn iter(&self) -> Members<'_, T>
         ensures { result ≡ self.now.members }
     {

@@ -22,7 +22,7 @@ buffered_coded {T} c =
     (λ x y e i. record { writer = (e i).0; buffered = (e i).1.0; bound = (e i).1.1 })
 
 -- a push won: the value is behind those that are buffered, if there was room for it. Otherwise those were
--- appended in one run, of which this is the token, and the value alone is buffered
+-- appended in one run, whose token this is, and the value alone is buffered
 abbrev pub Pushes : {T : Type 0} → BufferedView T → BufferedView T → T → Option (GrownView T) → Type 0
 Pushes old new value None =
     (length old.buffered < old.bound) × (new.buffered ≡ old.buffered ++ value ∷ []) × (new.writer ≡ old.writer)

@@ -42,12 +42,12 @@ pub record AddsPlaces (old new : HandView) (n : ℕ) : Type 0 where
   pub mine : (added : List ℕ) × (new.mine ≡ added ++ old.mine) × (length added ≡ n)
   pub places : own_places new ≡ own_places old + n
 
--- an iterator yielded n values and then no more, and as many places were won, one at a time
+-- an iterator yielded n values and ended, and n places were won, one at a time
 abbrev pub AppendsAll : {S T : Type 0} → (S → Option T → S → Type 0) → S → HandView → HandView → ℕ → Type 0
 AppendsAll {S} {T} steps items old new n =
     (values : List T) × Drains steps items values × (length values ≡ n) × AddsPlaces old new n
 
--- it yielded n values, and as many places were won; the value that it yielded next was refused
+-- it yielded n values, and n places were won; the value that it yielded next was refused
 abbrev pub StopsAppending : {S T E : Type 0} → (S → Option T → S → Type 0) → S → VectorView T → HandView
     → HandView → ℕ × GrowError T T E → Type 0
 StopsAppending {S} {T} steps items vector old new stop =

@@ -14,7 +14,7 @@ use std::sync::Wait;
 
 /// A vector and a hand of it. Each call is the vector's call of the same name, with this hand.
 ///
-/// If a writer is dropped, its hand's shares are lost: the vector can then only be dropped, and not closed.
+/// If a writer is dropped, its hand's shares are lost: the vector can then be dropped, but not closed.
 /// `into_hand` and `join` keep them.
 #[derive(Drop)]
 pub struct Writer<'a, T> {

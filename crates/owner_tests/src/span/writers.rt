@@ -27,7 +27,7 @@ fn shows_below(vector: &Shared<u64>, n: u64) -> bool {
     next == n
 }
 
-// Tests whether a new vector takes 100 numbers by a writer, and no more.
+// Tests whether a new vector takes exactly 100 numbers by a writer.
 fn fills<R: Wait>(rt: &R, alloc: Global) -> Option<bool> {
     let (vector, hand) = Quiet::new(alloc, 100).open().ok()?;
     let mut writer = Writer::new(&vector, hand);

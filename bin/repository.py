@@ -1,4 +1,4 @@
-"""A repository of crates: what each stands on, rooms in which one crate is checked apart, and concurrent tasks."""
+"""A repository of crates: what each stands on, rooms in which one crate is checked apart, and proofs side by side."""
 
 import contextlib
 import fcntl
@@ -8,8 +8,9 @@ import shutil
 import subprocess
 import sys
 import tempfile
+import threading
 import time
-from concurrent.futures import FIRST_COMPLETED, ThreadPoolExecutor, wait
+from concurrent.futures import ThreadPoolExecutor
 
 PARTS = ("src", "specs", "proofs")
 # The folder of the toolchain.
@@ -49,11 +50,6 @@ class Repository:
                 found += [it for it in [*self.below(dep), dep] if it not in found]
         return found
 
-    def length(self, name):
-        """How many lines the crate has: the more, the longer a check takes."""
-        files = [it for part in PARTS for it in pathlib.Path(self.folder(name)).glob(f"{part}/**/*.*")]
-        return sum(it.read_bytes().count(b"\n") for it in files)
-
     def changed(self, commit):
         """The crates that differ from a commit, and those above them, lowest first."""
         commands = (["diff", "--name-only", commit, "--", "crates"], ["ls-files", "-o", "--exclude-standard", "crates"])
@@ -91,7 +87,7 @@ class Repository:
             + ["--links", f"{name}=", "--incremental", kept, *words],
         )[1]
 
-    def prove(self, name, jobs):
+    def prove(self, name):
         """Proves the crate over what earlier checks of it kept, next to any other crate's proof, and returns the status
         and what the proof said. A library is built too. What it stands on must be built."""
         kept = f"{self.folder(name)}/out"
@@ -102,7 +98,7 @@ class Repository:
                 if os.path.isdir(kept):
                     shutil.copytree(kept, f"{room}/out")
                 verb = "check" if os.path.isfile(f"{room}/src/main.rt") else "lib"
-                answer = output(room, ["rt", verb, "--jobs", str(jobs)])
+                answer = output(room, ["rt", verb])
                 shutil.rmtree(kept, ignore_errors=True)
                 shutil.move(f"{room}/out", kept)
                 return answer
@@ -125,54 +121,23 @@ def lanes():
     return max(1, int(os.environ.get("RT_JOBS") or most))
 
 
-class Task:
-    """Work that starts once the tasks before it have ended, with the processors that no other task waits for."""
-
-    def __init__(self, weight, before, work):
-        # The chain is what the longest chain of tasks that begins with this one weighs.
-        self.weight, self.before, self.work, self.answer, self.chain = weight, before, work, None, weight
-
-
-def run(tasks):
-    """Runs tasks concurrently, those with the longest chains first. Each comes after those that it waits for."""
-    for task in reversed(tasks):
-        for it in task.before:
-            it.chain = max(it.chain, it.weight + task.chain)
-    left, running, done, most = sorted(tasks, key=lambda it: -it.chain), {}, set(), lanes()
-    with ThreadPoolExecutor(most) as pool:
-        while left or running:
-            ready = [it for it in left if done.issuperset(it.before)]
-            for at, task in enumerate(ready):
-                idle = most - sum(jobs for _, jobs in running.values())
-                if idle > 0:
-                    jobs = max(1, idle // (len(ready) - at))
-                    running[pool.submit(task.work, jobs)] = task, jobs
-                    left.remove(task)
-            for ended in wait(running, return_when=FIRST_COMPLETED).done:
-                task, _ = running.pop(ended)
-                task.answer = ended.result()
-                done.add(task)
-
-
 def proofs(repository, names):
-    """A task for the proof of each of these crates and of what they stand on, lowest first. It answers whether the crate
-    is proved, and says so on standard error, with the time that this took."""
-    names, tasks = [*dict.fromkeys(below for it in names for below in [*repository.below(it), it])], {}
+    """Proves these crates and what they stand on, each once those below it are, as many at once as there are lanes. Returns
+    whether each is proved, and says so on standard error, with the time that this took."""
+    proved, lane = {}, threading.BoundedSemaphore(lanes())
 
-    def prove(name, jobs):
-        if not all(tasks[it].answer for it in repository.below(name)):
+    def prove(name):
+        if not all(proved[it].result() for it in repository.below(name)):
             return False
-        begun = time.monotonic()
-        status, said = repository.prove(name, jobs)
-        words = f"NOT PROVED\n{said}" if status else f"proved, {minutes_since(begun):.1f} min"
+        with lane:
+            begun = time.monotonic()
+            status, said = repository.prove(name)
+        words = f"NOT PROVED\n{said}" if status else f"proved, {(time.monotonic() - begun) / 60:.1f} min"
         print(f"{name}: {words}", file=sys.stderr, flush=True)
         return not status
 
-    for name in names:
-        before = [tasks[it] for it in repository.below(name)]
-        tasks[name] = Task(repository.length(name), before, lambda jobs, it=name: prove(it, jobs))
-    return tasks
-
-
-def minutes_since(start):
-    return (time.monotonic() - start) / 60
+    names = [*dict.fromkeys(below for it in names for below in [*repository.below(it), it])]
+    with ThreadPoolExecutor(max(1, len(names))) as pool:
+        for name in names:
+            proved[name] = pool.submit(prove, name)
+    return {name: it.result() for name, it in proved.items()}

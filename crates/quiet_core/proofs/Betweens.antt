@@ -1,7 +1,7 @@
 -- Members from one place up to another, what is left of them, and values that lie side by side.
-use Rattle.std.proofs.Common.{◌≡◌, ℕ, zero, suc, add-one, ◌+◌, ◌-◌, ◌<◌, ◌≤◌, Option, Some, None, List, [], ◌∷◌, ◌++◌, take, drop, slice_get, slice_set, length, map, min, refl, sym, ap, ◌∙◌, subst, arith, Bor, MatchOption}
+use Rattle.std.proofs.Common.{◌≡◌, ℕ, zero, suc, add-one, ◌+◌, ◌-◌, ◌<◌, ◌≤◌, Option, Some, None, List, [], ◌∷◌, ◌++◌, take, drop, slice_get, slice_set, slice_index_or, get_or, length, map, min, refl, sym, ap, ◌∙◌, subst, arith, Bor, MatchOption}
 use Rattle.std.specs.Option.{option_copied, option_map}
-use Rattle.std.proofs.lemmas.List.{length-drop, length-take}
+use Rattle.std.proofs.lemmas.List.{length-drop, length-take, drop-take, get_or-drop, get_or-take}
 use Rattle.std.proofs.lemmas.Option.{slice_get-map, slice_get_within}
 use Rattle.quiet_core.specs.Between.{AreValuesFrom, between}
 
@@ -61,6 +61,23 @@ module _ {X : Type 0} where
   -- there are none between a place and itself
   pub between_none : (xs : List X) (from to : ℕ) → from ≡ to → between xs from to ≡ []
   between_none xs from to same = ap (λ k. take k (drop from xs)) (let e : to - from ≡ 0 = omega (arith, same) in e)
+
+  -- what is at the first place
+  pub between_at : (xs : List X) (from to : ℕ) (d : X) → from < to → slice_index_or (between xs from to) 0 d ≡ slice_index_or xs from d
+  between_at xs from to d some =
+      get_or-take (to - from) (drop from xs) 0 d (omega (arith, some)) ∙ get_or-drop from xs 0 d ∙ ap (λ n. get_or xs n d) (let e : from + 0 ≡ from = omega arith in e)
+
+  drop_next_suc : (xs : List X) (from : ℕ) → drop 1 (drop from xs) ≡ drop (suc from) xs
+  drop_next_suc xs zero = refl
+  drop_next_suc [] (suc from) = refl
+  drop_next_suc (y ∷ ys) (suc from) = drop_next_suc ys from
+
+  -- the members after the first place
+  pub between_next : (xs : List X) (from to : ℕ) → from < to → drop 1 (between xs from to) ≡ between xs (from + 1) to
+  between_next xs from to some =
+      let n : ℕ = to - (from + 1) in
+      ap (λ k. drop 1 (take k (drop from xs))) (let e : to - from ≡ 1 + n = omega (arith, some) in e) ∙ drop-take 1 n (drop from xs)
+      ∙ ap (take n) (drop_next_suc xs from ∙ ap (λ k. drop k xs) (sym (add-one from)))
 
 -- one for each place
 pub between_length : {X : Type 0} (xs : List X) (from to : ℕ) → to ≤ length xs → length (between xs from to) ≡ to - from

@@ -1,5 +1,5 @@
 -- A walk over the members of a list, segment by segment.
-use Rattle.std.specs.Prelude.{◌≡◌, ℕ, ◌+◌, ◌<◌, ◌≤◌, List, Option, Some, None, length, map, take, drop}
+use Rattle.std.specs.Prelude.{◌≡◌, ℕ, ◌+◌, ◌<◌, ◌≤◌, Option, Some, None, length, map, take, drop}
 use base.Stored.{Coded, coded×, coded_ℕ, coded_via}
 use Rattle.grow_core.specs.Slices.{IsInOneSegment, IsToTheEnd, HasBroken}
 use Rattle.quiet_core.specs.declared.segments.MemberSegment.{MemberSegment}

@@ -3,7 +3,7 @@ ghost use Rattle.std.specs.Prelude.{◌≡◌, ⊤, ◌+◌, ◌<◌, ◌≤◌,
 ghost use Rattle.std.specs.Option.{option_copied};
 ghost use Rattle.std.specs.Iterator.{YieldsFirstBy, YieldsLastBy, UpTo, at_most, item_count};
 ghost use Rattle.std.specs.Iterator.SizeHint.{IsWithinCount};
-ghost use Rattle.quiet_core.specs.Between.{AreValuesFrom};
+ghost use Rattle.quiet_core.specs.Between.{AreValuesFrom, between};
 
 use crate::quiet::Quiet;
 use grow_core::Parts;
@@ -73,6 +73,21 @@ impl<T> Quiet<T> {
             parts: &self.parts,
             from: 0,
             to: self.parts.len(),
+            ahead: none.iter(),
+            known_to: 0,
+        }
+    }
+
+    /// Iterates over the members from one place up to another, in the same way. There are none from the length on.
+    pub fn range(&self, from: u64, to: u64) -> Members<'_, T>
+        ensures { result ≡ between self.now.members from to }
+    {
+        let none: &[T] = &[];
+        let to = to.min(self.parts.len());
+        Members {
+            parts: &self.parts,
+            from: from.min(to),
+            to,
             ahead: none.iter(),
             known_to: 0,
         }

@@ -11,6 +11,11 @@ module _ {T U : Type 0} where
   AnswersAt post members place answer =
       (item : Option (Bor T)) × (option_copied item ≡ slice_index_or members place None) × post place item answer
 
+  -- a result for a place and the first of these members
+  abbrev pub AnswersFirst : (ℕ → Option (Bor T) → U → Type 0) → List (Option T) → ℕ → U → Type 0
+  AnswersFirst post members place answer =
+      (item : Option (Bor T)) × (option_copied item ≡ slice_index_or members 0 None) × post place item answer
+
   -- one result for each place of the span, in order
   abbrev pub AnswersOver : (ℕ → Option (Bor T) → U → Type 0) → List (Option T) → Interval → List U → Type 0
   AnswersOver post members span answers =

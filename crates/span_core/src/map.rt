@@ -1,8 +1,8 @@
 //! The results of a function for each member of a span, by several workers.
-ghost use Rattle.std.specs.Prelude.{◌≡◌, ◌≤◌, ◌↔◌, None, List, length, slice_index_or, IfOk, IsErrOf};
+ghost use Rattle.std.specs.Prelude.{◌≡◌, ◌≤◌, ◌↔◌, None, List, length, drop, slice_index_or, IfOk, IsErrOf};
 ghost use Rattle.std.specs.Option.{option_copied};
 ghost use Rattle.std.specs.List.{AllZip};
-ghost use Rattle.span_core.specs.Loops.{AnswersAt, AnswersOver};
+ghost use Rattle.span_core.specs.Loops.{AnswersFirst, AnswersOver};
 ghost use Rattle.span_core.specs.Span.{Interval, AreLeaves};
 ghost use Rattle.span_core.specs.Workers.{MayRefuseOne, IsBadNumber};
 
@@ -10,7 +10,7 @@ use crate::errors::ParError;
 use crate::gate::Gate;
 use crate::leaf_shares::{LeafJob, each_leaf};
 use crate::span::Span;
-use quiet_core::Quiet;
+use quiet_core::{Members, Quiet};
 use std::alloc::{AllocError, Global};
 use std::sync::Wait;
 use std::thread::Threads;
@@ -31,29 +31,36 @@ impl<'a, T, U: Drop, F: Fn(u64, Option<&T>) -> U> LeafJob<Vec<U>> for MapLeaf<'a
 
     fn leaf(&self, leaf: Span) -> Result<Vec<U>, AllocError> {
         let mut answers = Vec::new(self.alloc);
+        let mut members = self.list.range(leaf.from(), leaf.to());
         for place in leaf.from()..leaf.to() {
-            let answer = answer_at(self.list, self.f, place);
+            let answer = answer_for(self.f, place, &mut members);
             answers.push(answer).map_err(AllocError::from)?;
         }
         Ok(answers)
     }
 }
 
-// The result of a function for a place and the member there.
-pub(crate) fn answer_at<T, U, F: Fn(u64, Option<&T>) -> U>(list: &Quiet<T>, f: &F, place: u64) -> U
+// The result of a function for a place and the first of the members that are left.
+pub(crate) fn answer_for<T, U, F: Fn(u64, Option<&T>) -> U>(
+    f: &F,
+    place: u64,
+    members: &mut Members<'_, T>,
+) -> U
     requires { F.IsAlwaysCallable f.now }
-    ensures { AnswersAt (F.post f.now) list.now.members place result }
+    ensures answer { AnswersFirst (F.post f.now) members.old place result }
+    ensures rest { members.new ≡ drop 1 members.old }
 {
-    f(place, member_at(list, place))
+    f(place, first_of(members))
 }
 
-// The value at a place, or `None` for a broken member.
-fn member_at<T>(list: &Quiet<T>, place: u64) -> Option<&T>
-    ensures { option_copied result ≡ slice_index_or list.now.members place None }
+// The first of the members that are left: its value, or `None` if it is broken or if there is none.
+fn first_of<'a, T>(members: &mut Members<'a, T>) -> Option<&'a T>
+    ensures first { option_copied result ≡ slice_index_or members.old 0 None }
+    ensures rest { members.new ≡ drop 1 members.old }
 {
-    match list.get(place) {
-        Ok(value) => Some(value),
-        Err(_) => None,
+    match members.next() {
+        Some(first) => first,
+        None => None,
     }
 }
 

@@ -8,7 +8,7 @@ ghost use Rattle.span_core.specs.Workers.{MayRefuseOne, IsBadNumber};
 use crate::errors::ParError;
 use crate::gate::Gate;
 use crate::leaf_shares::{LeafJob, each_leaf};
-use crate::map::answer_at;
+use crate::map::answer_for;
 use crate::span::Span;
 use quiet_core::Quiet;
 use std::alloc::{AllocError, Global};
@@ -109,8 +109,9 @@ impl<'a, T, U: Domain + Drop, F: Fn(u64, Option<&T>) -> U, J: Fn(U, U) -> U> Lea
 
     fn leaf(&self, leaf: Span) -> Result<Option<U>, AllocError> {
         let mut sum = None;
+        let mut members = self.list.range(leaf.from(), leaf.to());
         for place in leaf.from()..leaf.to() {
-            let answer = answer_at(self.list, self.f, place);
+            let answer = answer_for(self.f, place, &mut members);
             answer.tell();
             sum = merged(self.join, sum, Some(answer));
         }

@@ -1,6 +1,6 @@
-use Rattle.std.proofs.Common.{◌+◌, ◌-◌, length, map, Some, sym, ap, ◌∙◌, take, drop, arith}
+use Rattle.std.proofs.Common.{length, Some, ap, drop, arith}
 use Rattle.std.proofs.lemmas.List.{length-map, length-take}
-use Rattle.quiet_core.proofs.Betweens.{values_lent, values_none}
+use Rattle.quiet_core.proofs.Betweens.{values_lent}
 use Rattle.quiet_core.proofs.iter.look_ahead.Goals as goal
 
 pub returns-in-Some-clause-values : goal.returns-in-Some-clause-values

@@ -1,7 +1,7 @@
-use Rattle.std.proofs.Common.{rules, ◌<◌, ◌+◌, length, sym, ap, ◌∙◌, subst, arith, List, Some}
+use Rattle.std.proofs.Common.{rules, ◌<◌, length, sym, ap, ◌∙◌, subst, arith, List, Some}
 use Rattle.std.specs.Option.{option_copied}
 use Rattle.std.specs.Slice.Iter.{iter_rest}
-use Rattle.quiet_core.proofs.Betweens.{between_first, between_some, got, value_first, values_none, values_rest}
+use Rattle.quiet_core.proofs.Betweens.{between_first, between_some, got, value_first, values_rest}
 use Rattle.quiet_core.proofs.iter.Members.next_member.Goals as goal
 
 pub look_ahead-known_to-requires : goal.look_ahead-known_to-requires

@@ -1,7 +1,7 @@
 use Rattle.std.proofs.Common.{◌-◌, ◌<◌, sym, ◌∙◌, arith}
 use Rattle.std.specs.Option.{option_copied}
 use Rattle.std.proofs.lemmas.Bool.Decides.{nat_tests}
-use Rattle.quiet_core.proofs.Betweens.{between_last, got, values_take}
+use Rattle.quiet_core.proofs.Betweens.{between_last, got}
 use Rattle.quiet_core.proofs.iter.MembersDoubleEndedIterator.next_back.Goals as goal
 
 pub returns-clause-steps : goal.returns-clause-steps

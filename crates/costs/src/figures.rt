@@ -10,7 +10,7 @@ use std::thread::Threads;
 const ROUNDS: usize = 7;
 
 // How many threads there are.
-const THREADS: [usize; 3] = [1, 2, 4];
+static THREADS: [usize; 3] = [1, 2, 4];
 
 // The least, the middle and the greatest time of the rounds.
 #[derive(Clone, Copy)]

@@ -84,7 +84,7 @@ pub fn layout_of(name: &str) -> Layout {
 
 // The name of a load, what is done, how many values there are before its time starts, and how many while it
 // runs.
-const ROWS: [(&'static str, Work, u64, u64); 19] = [
+static ROWS: [(&'static str, Work, u64, u64); 19] = [
     ("push", Work::Push, 0, FRESH),
     ("push-256", Work::Push, 0, FRESH),
     ("push-installed", Work::Push, FILLED, MORE),

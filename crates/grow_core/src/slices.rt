@@ -1,6 +1,6 @@
 //! The members of an owner's list that lie side by side, as slices.
 ghost use Rattle.std.specs.Prelude.{◌≡◌, ◌≢◌, ◌+◌, ◌<◌, ◌≤◌, ℕ, Some, None, MatchOption, IsTrue, IsFalse, length, map, slice_get, take, drop};
-ghost use Rattle.seg_core.specs.Segment.{most_places, segment_end};
+ghost use Rattle.seg_core.specs.Segment.{most_places};
 ghost use Rattle.cell_core.specs.Block.{IsMemberAt};
 ghost use Rattle.cell_core.specs.Member.{MemberView};
 ghost use Rattle.grow_core.specs.Parts.{AreBrokenIn, broken_count, values_in};

@@ -1,5 +1,5 @@
 -- What calls leave of a writer's hand.
-use Rattle.std.proofs.Common.{◌≡◌, ℕ, ◌+◌, [], ◌∷◌, ◌++◌, length, sym, ap, ◌∙◌, arith, append_assoc}
+use Rattle.std.proofs.Common.{ℕ, ◌+◌, [], ◌∷◌, ◌++◌, length, sym, ap, ◌∙◌, arith, append_assoc}
 use mathlib.Core.List.{IsPrefix}
 use Rattle.claim_core.specs.Laws.{AddedPlacesAddUp}
 use Rattle.claim_core.specs.Hand.{HandView, AddsRun, SeesOwn, single}

@@ -3,7 +3,7 @@ use Rattle.std.specs.Prelude.{◌≡◌, ℕ, ◌+◌, List, ◌++◌, Option, S
 use Rattle.std.specs.Iterator.{Drains, YieldsThen}
 use mathlib.Core.List.{IsPrefix}
 use base.Stored.{Coded, coded×, coded_ℕ, coded_list, coded_via}
-use Rattle.claim_core.specs.Word.{WordView, word_coded}
+use Rattle.claim_core.specs.Word.{word_coded}
 use Rattle.claim_core.specs.Hand.{HandView, own_places}
 use Rattle.grow_core.specs.Vector.{VectorView, vector_coded}
 use Rattle.grow_core.specs.Growth.{Refuses}

@@ -1,5 +1,5 @@
 //! A writer that appends many values at once.
-ghost use Rattle.std.specs.Prelude.{◌≡◌, ◌<◌, ◌≤◌, [], ◌∷◌, IfOk, IfErr, OnOk, IsErrAnd, length, vec_len};
+ghost use Rattle.std.specs.Prelude.{◌≡◌, ◌<◌, ◌≤◌, [], IfOk, IfErr, OnOk, IsErrAnd, length, vec_len};
 ghost use Rattle.grow_core.specs.Growth.{WonRun, Refuses, HasNoRoom, SaysFull, IsNotMoved};
 ghost use Rattle.span_core.specs.Writer.{with_hand};
 ghost use Rattle.span_core.specs.Buffered.{Pushes, LeavesBuffer, RefusesPush, IsOutOfMemory};

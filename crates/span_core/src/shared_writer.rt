@@ -3,14 +3,14 @@ ghost use Rattle.std.specs.Prelude.{◌≡◌, ◌+◌, ◌-◌, ◌<◌, ◌≤
 ghost use Rattle.std.specs.Arc.{arc_value};
 ghost use mathlib.Core.List.{IsPrefix};
 ghost use Rattle.claim_core.specs.Hand.{IsWholeHand, OwnApart, SeesSize, seen_size};
-ghost use Rattle.grow_core.specs.Vector.{IsHandOf, IsPlacedOf, SeesMore};
+ghost use Rattle.grow_core.specs.Vector.{IsHandOf, IsOpenedAt, IsPlacedOf, limit_of, layout_of};
 ghost use Rattle.grow_core.specs.Closing.{KeepsValues, IsClosedFrom};
 ghost use Rattle.grow_core.specs.Growth.{WonPlace, WonRun, WonPlaces, Refuses, HasNoRoom, SaysFull, IsNotMoved};
 ghost use Rattle.grow_core.specs.Making.{WonMade, StopsAfter, IsRefusedBy};
-ghost use Rattle.grow_core.specs.Read.{IsShownAt, IsDueAt, IsInRange};
+ghost use Rattle.grow_core.specs.Read.{IsShownAt, ShowsValue};
 ghost use Rattle.span_core.specs.Hands.{split_off};
 
-use grow_core::{AtError, GrowError, Grown, Hand, Never, Placed, Run, Shared, Shown};
+use grow_core::{GrowError, Grown, Hand, Never, Placed, Run, Shared, Shown};
 use quiet_core::Quiet;
 use std::alloc::AllocError;
 use std::fmt;
@@ -99,7 +99,9 @@ impl<T> SharedWriter<T> {
     /// yet.
     #[inline(always)]
     pub fn look(&self, place: u64) -> Shown<'_, T>
-        ensures { IsShownAt self.now.vector place result }
+        ensures shown { IsShownAt self.now.vector place result }
+        // A value of the opened list is shown to everybody.
+        ensures opened { (x : T) → IsOpenedAt self.now.vector place x → ShowsValue x result }
     {
         self.vector.look(place)
     }
@@ -152,6 +154,8 @@ impl<T: Drop> SharedWriter<T> {
     pub fn try_close(self) -> Result<Quiet<T>, SharedWriter<T>>
         ensures whole { OnOk result (IsWholeHand self.hand) }
         ensures length { IfOk result (λ list. length list.members ≡ seen_size self.hand) }
+        ensures limit { IfOk result (λ list. list.limit ≡ limit_of self.vector) }
+        ensures layout { IfOk result (λ list. list.layout ≡ layout_of self.vector) }
         ensures opened { IfOk result (λ list. KeepsValues self.vector.opened list.members) }
         ensures closed { IfOk result (λ list. IsClosedFrom self.vector list.closed) }
         ensures back { IfErr result (λ back. back ≡ self) }

@@ -33,7 +33,7 @@ enum Kind {
     Share,
 }
 
-const KINDS: [Kind; 12] = [
+static KINDS: [Kind; 12] = [
     Kind::TryPush,
     Kind::Push,
     Kind::Grow,

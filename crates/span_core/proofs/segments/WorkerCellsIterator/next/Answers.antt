@@ -1,4 +1,4 @@
-use Rattle.std.proofs.Common.{ℕ, ◌+◌, ◌*◌, ◌/◌, ◌<◌, ◌≤◌, arith}
+use Rattle.std.proofs.Common.{◌+◌, ◌*◌, ◌/◌, ◌<◌, ◌≤◌, arith}
 use Rattle.span_core.proofs.SegmentLemmas.{next_is_own}
 use Rattle.span_core.proofs.segments.WorkerCellsIterator.next.Goals as goal
 

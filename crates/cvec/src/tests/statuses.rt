@@ -11,7 +11,7 @@ use script_core::ScriptError;
 type Row = (ProgramError, u8, &'static str);
 
 #[rattlefmt::skip]
-const ENDS: [Row; 18] = [
+static ENDS: [Row; 18] = [
     (Run(RunError::Script(ScriptError::Empty { line: 1 })), 2, "line 1: fault 2\n"),
     (Run(RunError::Script(ScriptError::BadLimit { line: 1 })), 2, "line 1: fault 3\n"),
     (Run(RunError::Script(ScriptError::BadLine { line: 3 })), 2, "line 3: fault 4\n"),

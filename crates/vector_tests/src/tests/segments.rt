@@ -66,7 +66,7 @@ fn mends(two: &mut Callers<u64>, place: u64, value: u64) -> bool {
     two.vector.mend(&mut two.b, place, value).is_ok()
 }
 
-const HUNDRED: [Seen; 7] = [
+static HUNDRED: [Seen; 7] = [
     (0, 2, 2, 1),
     (2, 2, 2, 5),
     (4, 4, 4, 22),
@@ -77,7 +77,7 @@ const HUNDRED: [Seen; 7] = [
 ];
 
 // Three values are made above, and then forty places are broken.
-const WITH_BROKEN_ONES: [Seen; 8] = [
+static WITH_BROKEN_ONES: [Seen; 8] = [
     (0, 2, 2, 1),
     (2, 2, 2, 5),
     (4, 4, 4, 22),
@@ -139,7 +139,7 @@ fn twenty(alloc: Global) -> Option<Parts<u64>> {
     Some(parts)
 }
 
-const TWENTY: [Seen; 5] = [
+static TWENTY: [Seen; 5] = [
     (0, 2, 2, 1),
     (2, 2, 2, 5),
     (4, 4, 4, 22),

@@ -4,6 +4,7 @@ ghost use Rattle.seg_core.specs.Segment.{IsLimit};
 mod drops;
 mod layouts;
 mod lives;
+mod members;
 mod memory;
 mod scripts;
 mod steps;
@@ -136,7 +137,7 @@ fn segments_lend_their_members_in_order(rt: HostRuntime) {
 }
 
 // A list with a limit of five refuses six values and takes five.
-const ASSIGNS_FIVE: [Step; 4] = [
+static ASSIGNS_FIVE: [Step; 4] = [
     Step::Assign(&[0; 6], Err(QuietError::TooLong)),
     Step::Assign(&[9; 5], Ok(())),
     Step::Len(5),
@@ -160,7 +161,7 @@ fn lists_are_exchanged_and_replaced(rt: HostRuntime) {
 }
 
 // Five values are then where a million were. The capacity stays.
-const AFTER_A_MILLION: [Step; 8] = [
+static AFTER_A_MILLION: [Step; 8] = [
     Step::PushAll(1_000_000, 1_048_577),
     Step::Len(1_048_577),
     Step::Capacity(1 << 21),

@@ -14,7 +14,7 @@ const TWENTY: RaceReport = RaceReport {
 };
 
 // Workers by ten values each, how often one of a pair looks for the other, and what their race returns.
-const PAIRS: [(u32, u64, Result<RaceReport, RaceError>); 3] = [
+static PAIRS: [(u32, u64, Result<RaceReport, RaceError>); 3] = [
     (2, 0, Err(RaceError::Stuck)),
     (1, 1000, Err(RaceError::Stuck)),
     (2, 1_000_000_000, Ok(TWENTY)),
@@ -32,7 +32,7 @@ fn two_workers_run_at_once_and_one_waits_in_vain(rt: HostRuntime) {
 }
 
 // Which of five workers the gate refuses, and whether it refuses one.
-const REFUSED: [(u32, u32, bool); 7] = [
+static REFUSED: [(u32, u32, bool); 7] = [
     (0, 5, true),
     (2, 5, true),
     (4, 5, true),
@@ -54,7 +54,7 @@ fn each_worker_passes_the_gate_twice_whichever_are_refused(rt: HostRuntime) {
     }
 }
 
-const BAD_SIZES: [(u32, u32); 4] = [(0, 1), (65, 1), (1, 0), (1, 100_001)];
+static BAD_SIZES: [(u32, u32); 4] = [(0, 1), (65, 1), (1, 0), (1, 100_001)];
 
 #[test]
 fn a_bad_size_is_refused(rt: HostRuntime) {
@@ -65,7 +65,7 @@ fn a_bad_size_is_refused(rt: HostRuntime) {
 }
 
 // A refusal of a race, and its number.
-const NUMBERS: [(RaceError, u8); 5] = [
+static NUMBERS: [(RaceError, u8); 5] = [
     (RaceError::NoMemory, 1),
     (RaceError::BadSize, 2),
     (RaceError::Stuck, 3),

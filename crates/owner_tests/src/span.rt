@@ -7,6 +7,7 @@ mod hands;
 mod many_hands;
 mod memory;
 mod refusals;
+mod segments;
 mod stuck;
 mod uses;
 mod watch;
@@ -39,9 +40,9 @@ fn is_cut(alloc: Global, span: Span, bounds: &[(u64, u64)]) -> Option<bool> {
     Some(have_bounds(leaves.as_slice(), bounds))
 }
 
-const TEN: [(u64, u64); 4] = [(0, 2), (2, 5), (5, 7), (7, 10)];
+static TEN: [(u64, u64); 4] = [(0, 2), (2, 5), (5, 7), (7, 10)];
 
-const NONE: [(u64, u64); 1] = [(4, 4)];
+static NONE: [(u64, u64); 1] = [(4, 4)];
 
 #[test]
 fn leaves_are_cut_in_the_middle(rt: HostRuntime) {
@@ -90,9 +91,9 @@ fn sum_of<R: Threads + Wait + Sync, G: Gate + Sync>(
     par_reduce(rt, alloc, list, span, workers, f, 0u64, join, gate)
 }
 
-const SQUARES: [u64; 10] = [0, 1, 4, 9, 16, 25, 36, 49, 64, 81];
+static SQUARES: [u64; 10] = [0, 1, 4, 9, 16, 25, 36, 49, 64, 81];
 
-const THREE: [(u64, Option<u64>); 3] = [(2, Some(4)), (3, Some(9)), (4, Some(16))];
+static THREE: [(u64, Option<u64>); 3] = [(2, Some(4)), (3, Some(9)), (4, Some(16))];
 
 fn every_number_of_workers_answers_the_same<R: Threads + Wait + Sync>(
     rt: &R,
@@ -113,7 +114,7 @@ fn every_number_of_workers_answers_the_same<R: Threads + Wait + Sync>(
     true
 }
 
-const ALL: [(u64, Option<u64>); 10] = [
+static ALL: [(u64, Option<u64>); 10] = [
     (0, Some(0)),
     (1, Some(1)),
     (2, Some(4)),
@@ -128,7 +129,7 @@ const ALL: [(u64, Option<u64>); 10] = [
 
 // A number of workers, how often one of a pair looks for the other, and whether a map in four leaves returns
 // all values.
-const PAIRS: [(u32, u64, Result<bool, ParError>); 3] = [
+static PAIRS: [(u32, u64, Result<bool, ParError>); 3] = [
     (2, 1_000_000_000, Ok(true)),
     (2, 0, Err(ParError::Stuck)),
     (1, 1000, Err(ParError::Stuck)),

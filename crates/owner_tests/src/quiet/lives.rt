@@ -38,7 +38,7 @@ fn live_ten_times(mut list: Quiet<u64>) -> Option<Quiet<u64>> {
 }
 
 // The old members are there, and the new ones from ten on.
-const AFTER_TEN_LIVES: [Step; 15] = [
+static AFTER_TEN_LIVES: [Step; 15] = [
     Step::Len(13),
     Step::Capacity(16),
     Step::Limit(16),
@@ -112,7 +112,7 @@ fn closed_after_refusal(list: Quiet<u64>) -> Option<(Option<(u64, u64, u64, u64)
     Some((refused, Quiet::close(vector, hand)))
 }
 
-const BROKEN_FROM_THE_SECOND: [Step; 5] = [
+static BROKEN_FROM_THE_SECOND: [Step; 5] = [
     Step::Len(3),
     Step::Capacity(4),
     Step::Get(0, Ok(7)),

@@ -125,7 +125,7 @@ const MENDED: Script = Script {
     ],
 };
 
-const SCRIPTS: [Script; 8] = [
+static SCRIPTS: [Script; 8] = [
     FULL, CAPACITIES, LENGTHS, REFUSED, MILLION, EXCHANGED, BROKEN, MENDED,
 ];
 

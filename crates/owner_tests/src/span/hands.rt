@@ -132,7 +132,7 @@ pub(super) fn append_to_new<R: Threads + Wait + Sync, G: Gate + Sync>(
 
 // The one of eight workers that stops after five of ten values, whether all return in order, and the length of
 // the closed list.
-const STOPS: [(u32, Result<bool, Refusal<u32>>, u64); 9] = [
+static STOPS: [(u32, Result<bool, Refusal<u32>>, u64); 9] = [
     (8, Ok(true), 80),
     (0, Err(Refusal::Worker(0)), 75),
     (1, Err(Refusal::Worker(1)), 75),
@@ -178,7 +178,7 @@ fn even_shares(alloc: Global, shares: u32, n: u32) -> Option<(u32, u32)> {
 }
 
 // Shares, how many hands are split off, the shares of each, and those that are left.
-const EVEN: [(u32, u32, u32, u32); 6] = [
+static EVEN: [(u32, u32, u32, u32); 6] = [
     (10, 3, 2, 4),
     (10, 9, 1, 1),
     (10, 0, 0, 10),

@@ -36,7 +36,7 @@ fn are_watched<R: Threads + Wait + Sync>(
 }
 
 // The number of workers, the first one that the gate refuses, and the one that stops.
-const WATCHED: [(u32, u32, u32); 18] = [
+static WATCHED: [(u32, u32, u32); 18] = [
     (1, 1, 1),
     (2, 2, 2),
     (2, 1, 2),

@@ -23,7 +23,7 @@ fn six(alloc: Global) -> Option<Quiet<u64>> {
     }
 }
 
-const SIX: [(u64, Option<u64>); 6] = [
+static SIX: [(u64, Option<u64>); 6] = [
     (0, Some(0)),
     (1, Some(1)),
     (2, Some(4)),

@@ -91,7 +91,7 @@ fn returns_lowest<R: Threads + Wait + Sync>(
 }
 
 // Workers, and a digit for each: of 9 the last, of 16 the last, and of 64 those of numbers 20 and 19.
-const MANY: [(u32, u32); 8] = [
+static MANY: [(u32, u32); 8] = [
     (5, 0),
     (9, 6561),
     (9, 13_122),

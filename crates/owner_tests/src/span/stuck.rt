@@ -36,7 +36,7 @@ fn loops_pass<R: Threads + Wait + Sync>(
 }
 
 // How many workers there are, and which of them are refused: from one number up to another.
-const REFUSED: [(u32, (u32, u32)); 6] = [
+static REFUSED: [(u32, (u32, u32)); 6] = [
     (3, (0, 1)),
     (3, (1, 2)),
     (3, (2, 3)),

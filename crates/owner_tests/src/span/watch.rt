@@ -144,7 +144,7 @@ fn those_below_work<R: Threads + Wait + Sync>(
 }
 
 // The number of workers, and the first one that the gate refuses.
-const PASSED: [(u32, u32); 9] = [
+static PASSED: [(u32, u32); 9] = [
     (1, 1),
     (2, 2),
     (7, 7),
@@ -235,7 +235,7 @@ fn loops_pass<R: Threads + Wait + Sync>(
     }
 }
 
-const LOOPS: [(u32, u64); 5] = [(1, 2), (1, 8), (3, 2), (3, 16), (64, 131_072)];
+static LOOPS: [(u32, u64); 5] = [(1, 2), (1, 8), (3, 2), (3, 16), (64, 131_072)];
 
 #[test]
 fn each_place_is_asked_for_once_between_the_gates(rt: HostRuntime) {

@@ -29,7 +29,7 @@ fn sum_shown(cells: &ShownCells<'_, u64>) -> u64 {
     sum
 }
 
-// Whether the places are of one stretch, which is this worker's, and come after those before.
+// Tests whether the places are all in one stretch of this worker, and not before place `after`.
 fn are_next(cells: &ShownCells<'_, u64>, worker: u64, workers: u64, after: u64) -> bool {
     let stretch = cells.from() / STRETCH;
     let last = cells.from().wrapping_add(cells.len() - 1) / STRETCH;
@@ -82,7 +82,7 @@ fn found_by<R: Threads + Wait + Sync, G: Gate + Sync>(
     Ok(all_found(each.as_slice()))
 }
 
-// Whether each of these numbers of workers finds all values: the numbers below the size.
+// Tests whether each of these numbers of workers finds all values: the numbers below the size.
 fn find_all<R: Threads + Wait + Sync + AllocGlobal + Abort>(
     rt: &R,
     size: u64,
@@ -118,7 +118,7 @@ fn four_workers_find_two_million_places(rt: HostRuntime) {
     assert!(rt; find_all(&rt, (1 << 21) + 5, &[4]));
 }
 
-// Whether no worker walks, for this reason.
+// Tests whether no worker walks, for this reason.
 fn is_refused<R: Threads + Wait + Sync + AllocGlobal + Abort, G: Gate + Sync>(
     rt: &R,
     workers: u32,

@@ -1,11 +1,11 @@
 -- Why the program has not done what it was asked for: its exit status, and its line.
-use Rattle.std.specs.Prelude.{◌≡◌, ◌⊎◌, ℕ, List, ◌++◌, Result, Ok, Err, codes, decimal}
+use Rattle.std.specs.Prelude.{◌≡◌, ◌⊎◌, ℕ, List, ◌++◌, Result, Ok, Err, codes}
 use Rattle.engine_core.specs.declared.error.RunError.{RunError}
 use Rattle.engine_core.specs.declared.error.RunError.TheVariants as runs
 use Rattle.engine_core.specs.RunError.{error_text}
 use Rattle.race_core.specs.declared.refusal.RaceError.{RaceError}
 use Rattle.race_core.specs.declared.refusal.RaceError.TheVariants as races
-use Rattle.race_core.specs.Race.{race_number, IsFreeRefusal}
+use Rattle.race_core.specs.Race.{IsFreeRefusal}
 use Rattle.cvec.specs.declared.error.ProgramError.{ProgramError}
 use Rattle.cvec.specs.declared.error.ProgramError.TheVariants.{Run, Race}
 
@@ -31,9 +31,9 @@ status_of (Race refusal) = race_status refusal
 -- how the refusal of a race is shown
 abbrev pub race_error_text : RaceError → List ℕ
 race_error_text races.NoMemory = codes "memory"
-race_error_text races.BadSize = codes "race: fault " ++ decimal (race_number races.BadSize)
-race_error_text races.Stuck = codes "race: fault " ++ decimal (race_number races.Stuck)
-race_error_text (races.Grow number) = codes "race: fault " ++ decimal (race_number (races.Grow number))
+race_error_text races.BadSize = codes "race: fault 2"
+race_error_text races.Stuck = codes "race: fault 3"
+race_error_text (races.Grow number) = codes "race: fault 4"
 
 -- how each is shown
 abbrev pub program_error_text : ProgramError → List ℕ

@@ -6,15 +6,13 @@
 //! `specs/Program.antt`. `main` hands them the system's streams. Only a race may wait. The engines are
 //! `engine_core`'s, the race is `race_core`'s, the sweep `sweep_core`'s.
 //!
-//! No clause says which words ask for what, nor what reaches the system's streams: tests and `bin/test` show
+//! No clause says which words ask for what, nor what reaches the system's streams: runs of the program show
 //! both.
 #![tactic(auto)]
 
 mod command_line;
 mod error;
 mod program;
-#[cfg(test)]
-mod tests;
 
 use crate::command_line::{Request, read_request};
 use crate::program::{serve, serve_race, serve_sweep};

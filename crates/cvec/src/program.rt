@@ -37,7 +37,7 @@ fn write_error<E: Write>(errors: &mut E, error: ProgramError) -> Result<(), Writ
 }
 
 // Standard error may be closed or full. Then only the status reports the error.
-pub(crate) fn report_error<E: Write>(errors: &mut E, ended: Result<(), ProgramError>) -> u8
+fn report_error<E: Write>(errors: &mut E, ended: Result<(), ProgramError>) -> u8
     ensures { EndsAs ended result (E.contents errors.old) (E.contents errors.new) }
 {
     match ended {

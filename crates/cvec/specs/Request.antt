@@ -1,5 +1,7 @@
 -- What becomes of a command line that names no engine.
-use Rattle.std.specs.Prelude.{⊤, ℕ, ◌≤◌}
+use Rattle.std.specs.Prelude.{⊤, ℕ, ◌≤◌, Bool, true, false}
+use Rattle.engine_core.specs.declared.engine.Engine.{Engine}
+use Rattle.engine_core.specs.declared.engine.Engine.TheVariants.{Steps, Counted, Traced, TracedCounted}
 use Rattle.cvec.specs.declared.command_line.Request.{Request}
 use Rattle.cvec.specs.declared.command_line.Request.TheVariants.{Play, Race, Sweep, Show, Refuse, NoMemory}
 
@@ -42,3 +44,10 @@ IsInRange (Sweep seed count len) = IsSweep count len
 IsInRange (Show text) = ⊤
 IsInRange (Refuse text) = ⊤
 IsInRange NoMemory = ⊤
+
+-- the engine of atomic steps that traces or does not, and counts or does not
+abbrev pub steps_engine : Bool → Bool → Engine
+steps_engine false false = Steps
+steps_engine false true = Counted
+steps_engine true false = Traced
+steps_engine true true = TracedCounted

@@ -3,7 +3,7 @@ ghost use Rattle.std.specs.Prelude.{◌≡◌, ◌≢◌, ◌⊎◌, ◌↔◌, 
 ghost use Rattle.std.specs.IoError.{error_kind};
 ghost use Rattle.std.specs.declared.io.ErrorKind.TheVariants as io_kinds;
 ghost use Rattle.clap.specs.Values.{kind_of};
-ghost use Rattle.cvec.specs.Request.{IsShown, IsRefused, IsInRange, IsSweep};
+ghost use Rattle.cvec.specs.Request.{IsShown, IsRefused, IsInRange, IsSweep, steps_engine};
 
 use clap::error::ErrorKind;
 use clap::{Arg, ArgAction, ArgMatches, Command, Error};
@@ -95,13 +95,25 @@ fn make_sweep_command<'a>(alloc: Global) -> Result<Command<'a>, AllocError> {
     Ok(sweep)
 }
 
-fn make_command<'a>(alloc: Global) -> Result<Command<'a>, AllocError> {
-    let calls = Command::new(alloc, "calls").about(CALLS);
+fn make_steps_command<'a>(alloc: Global) -> Result<Command<'a>, AllocError> {
     let counted = Arg::new(alloc, "count")
         .long("count")
         .help("Also prints, for each ended call, its lost exchanges and its steps")
         .action(ArgAction::SetTrue);
-    let steps = Command::new(alloc, "steps").about(STEPS).arg(counted)?;
+    let traced = Arg::new(alloc, "trace")
+        .long("trace")
+        .help("First prints, for each item, its step and what the step found or did")
+        .action(ArgAction::SetTrue);
+    let steps = Command::new(alloc, "steps")
+        .about(STEPS)
+        .arg(counted)?
+        .arg(traced)?;
+    Ok(steps)
+}
+
+fn make_command<'a>(alloc: Global) -> Result<Command<'a>, AllocError> {
+    let calls = Command::new(alloc, "calls").about(CALLS);
+    let steps = make_steps_command(alloc)?;
     let workers = Arg::new(alloc, "workers")
         .long("workers")
         .value_name("W")
@@ -165,6 +177,18 @@ fn race_of(alloc: Global, matches: &ArgMatches<'_>) -> Result<Request, Error>
     }
 }
 
+// The engine of atomic steps with these flags.
+fn steps_engine(traced: bool, counted: bool) -> Engine
+    ensures { result ≡ steps_engine traced counted }
+{
+    match (traced, counted) {
+        (false, false) => Engine::Steps,
+        (false, true) => Engine::Counted,
+        (true, false) => Engine::Traced,
+        (true, true) => Engine::TracedCounted,
+    }
+}
+
 // Tests whether a sweep may have these numbers.
 fn is_sweep(count: u32, len: u32) -> bool
     ensures { IsTrue result ↔ IsSweep count len }
@@ -199,10 +223,10 @@ pub(crate) fn parse_words(alloc: Global, words: &[String]) -> Result<Request, Er
     let matches = make_command(alloc)?.try_get_matches_from(words)?;
     match matches.subcommand() {
         Some(("calls", _)) => Ok(Request::Play(Engine::Calls)),
-        Some(("steps", matches)) if matches.get_flag("count") => {
-            Ok(Request::Play(Engine::Counted))
+        Some(("steps", matches)) => {
+            let traced = matches.get_flag("trace");
+            Ok(Request::Play(steps_engine(traced, matches.get_flag("count"))))
         }
-        Some(("steps", _)) => Ok(Request::Play(Engine::Steps)),
         Some(("race", matches)) => race_of(alloc, matches),
         Some(("sweep", matches)) => sweep_of(alloc, matches),
         _ => Err(make_error(alloc, ErrorKind::MissingSubcommand, "a command is required")),

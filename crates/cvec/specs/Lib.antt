@@ -1,3 +1,4 @@
 pub mod Program
 pub mod ProgramError
 pub mod Request
+pub mod Schedule

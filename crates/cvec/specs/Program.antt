@@ -6,7 +6,6 @@ use Rattle.engine_core.specs.declared.error.RunError.{RunError}
 use Rattle.engine_core.specs.declared.error.RunError.TheVariants.{NoMemory, Write}
 use Rattle.race_core.specs.declared.refusal.RaceError.TheVariants.{BadSize}
 use Rattle.race_core.specs.Race.{race_text, IsBadSize}
-use Rattle.sweep_core.specs.Sweep.{sweep_text}
 use Rattle.cvec.specs.declared.error.ProgramError.{ProgramError}
 use Rattle.cvec.specs.declared.error.ProgramError.TheVariants.{Run, Race}
 use Rattle.cvec.specs.ProgramError.{status_of, error_line, IsRaceEnd}
@@ -25,10 +24,10 @@ pub record Races (workers each : ℕ) (ended : Result (Unit {0}) ProgramError) (
   pub refused : IfErr ended (IsRaceEnd workers each)
   pub bad_size : IsBadSize workers each → ended ≡ Err (Race BadSize)
 
--- schedules are swept: what the writer gets, and how it ends
-pub record Sweeps (seed count len : ℕ) (ended : Result (Unit {0}) RunError) (old new : Option (List ℕ)) : Type 0 where
-  pub written : OnOk ended (Appends old new (sweep_text seed count len))
-  pub prefix : IsErrOf ended Write → AppendsPrefix old new (sweep_text seed count len)
+-- a text is made and written: what the writer gets, and how it ends
+pub record Writes (text : List ℕ) (ended : Result (Unit {0}) RunError) (old new : Option (List ℕ)) : Type 0 where
+  pub written : OnOk ended (Appends old new text)
+  pub prefix : IsErrOf ended Write → AppendsPrefix old new text
   pub unwritten : IfErr ended (λ e. e ≢ Write → Keeps old new)
   pub refused : IfErr ended (λ e. (e ≡ NoMemory) ⊎ (e ≡ Write))
 

@@ -3,13 +3,14 @@ use Rattle.std.specs.Prelude.{⊤, ℕ, ◌≤◌, Bool, true, false}
 use Rattle.engine_core.specs.declared.engine.Engine.{Engine}
 use Rattle.engine_core.specs.declared.engine.Engine.TheVariants.{Steps, Counted, Traced, TracedCounted}
 use Rattle.cvec.specs.declared.command_line.Request.{Request}
-use Rattle.cvec.specs.declared.command_line.Request.TheVariants.{Play, Race, Sweep, Show, Refuse, NoMemory}
+use Rattle.cvec.specs.declared.command_line.Request.TheVariants.{Play, Race, Sweep, Schedule, Show, Refuse, NoMemory}
 
 -- a text is shown, or there is no memory for it
 abbrev pub IsShown : Request → Type 0
 IsShown (Play engine) = ⊥
 IsShown (Race workers each) = ⊥
 IsShown (Sweep seed count len) = ⊥
+IsShown (Schedule seed number len) = ⊥
 IsShown (Show text) = ⊤
 IsShown (Refuse text) = ⊥
 IsShown NoMemory = ⊤
@@ -19,6 +20,7 @@ abbrev pub IsRefused : Request → Type 0
 IsRefused (Play engine) = ⊥
 IsRefused (Race workers each) = ⊥
 IsRefused (Sweep seed count len) = ⊥
+IsRefused (Schedule seed number len) = ⊥
 IsRefused (Show text) = ⊥
 IsRefused (Refuse text) = ⊤
 IsRefused NoMemory = ⊤
@@ -28,6 +30,7 @@ abbrev pub StartsThreads : Request → Type 0
 StartsThreads (Play engine) = ⊥
 StartsThreads (Race workers each) = ⊤
 StartsThreads (Sweep seed count len) = ⊤
+StartsThreads (Schedule seed number len) = ⊥
 StartsThreads (Show text) = ⊥
 StartsThreads (Refuse text) = ⊥
 StartsThreads NoMemory = ⊥
@@ -41,6 +44,7 @@ abbrev pub IsInRange : Request → Type 0
 IsInRange (Play engine) = ⊤
 IsInRange (Race workers each) = ⊤
 IsInRange (Sweep seed count len) = IsSweep count len
+IsInRange (Schedule seed number len) = ⊤
 IsInRange (Show text) = ⊤
 IsInRange (Refuse text) = ⊤
 IsInRange NoMemory = ⊤

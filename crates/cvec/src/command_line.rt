@@ -23,6 +23,8 @@ pub enum Request {
     Race { workers: u32, each: u32 },
     /// Sweep `count` schedules of `len` items each, from a seed on.
     Sweep { seed: u64, count: u32, len: u32 },
+    /// Print the schedule with this number of a sweep.
+    Schedule { seed: u64, number: u32, len: u32 },
     /// Show this text: help, or the version.
     Show(String),
     /// Refuse the command line; the text says why.
@@ -87,11 +89,18 @@ fn make_sweep_command<'a>(alloc: Global) -> Result<Command<'a>, AllocError> {
         .required(true)
         .action(ArgAction::Set)
         .value_parser(clap::value_parser!(u32).range(1..=i64::from(MOST_ITEMS)));
+    let print = Arg::new(alloc, "print")
+        .long("print")
+        .value_name("I")
+        .help("Only prints schedule I, from 0 to N - 1, as a script for cvec steps")
+        .action(ArgAction::Set)
+        .value_parser(clap::value_parser!(u32));
     let sweep = Command::new(alloc, "sweep")
         .about(SWEEP)
         .arg(seed)?
         .arg(count)?
-        .arg(len)?;
+        .arg(len)?
+        .arg(print)?;
     Ok(sweep)
 }
 
@@ -196,6 +205,28 @@ fn is_sweep(count: u32, len: u32) -> bool
     count >= 1 && count <= MOST_SCHEDULES && len >= 1 && len <= MOST_ITEMS
 }
 
+// The request for a sweep that may have these numbers, or for one of its schedules.
+fn sweep_or_schedule(
+    alloc: Global,
+    seed: u64,
+    count: u32,
+    len: u32,
+    printed: Option<u32>,
+) -> Result<Request, Error>
+    requires { IsSweep count len }
+    ensures { IfOk result IsInRange }
+{
+    match printed {
+        None => Ok(Request::Sweep { seed, count, len }),
+        Some(number) if number < count => Ok(Request::Schedule { seed, number, len }),
+        Some(_) => Err(make_error(
+            alloc,
+            ErrorKind::ValueValidation,
+            "invalid value for '--print <I>': it is not below that of '--count <N>'",
+        )),
+    }
+}
+
 // The numbers of a sweep. The parser has looked at them, but says so in no clause.
 fn sweep_of(alloc: Global, matches: &ArgMatches<'_>) -> Result<Request, Error>
     ensures { IfOk result IsInRange }
@@ -206,7 +237,7 @@ fn sweep_of(alloc: Global, matches: &ArgMatches<'_>) -> Result<Request, Error>
         matches.get_one::<u32>("len"),
     ) {
         (Some(seed), Some(count), Some(len)) if is_sweep(count, len) => {
-            Ok(Request::Sweep { seed, count, len })
+            sweep_or_schedule(alloc, seed, count, len, matches.get_one::<u32>("print"))
         }
         _ => Err(make_error(
             alloc,

@@ -13,6 +13,7 @@
 mod command_line;
 mod error;
 mod program;
+mod schedule;
 
 use crate::command_line::{Request, read_request};
 use crate::program::{serve, serve_race, serve_sweep};

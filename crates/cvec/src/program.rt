@@ -1,17 +1,19 @@
 //! The program over any three streams: `main` hands it the system's own.
-ghost use Rattle.std.specs.Prelude.{◌≡◌, ◌≢◌, ◌*◌, Result, Err, IfOk, IfErr, String, OnOk, OnErr, string_bytes};
+ghost use Rattle.std.specs.Prelude.{◌≡◌, ◌≢◌, ℕ, ◌*◌, Result, Err, IfOk, IfErr, String, OnOk, OnErr, string_bytes};
 ghost use Rattle.std.specs.Global.{Global};
 ghost use Rattle.std.specs.Io.KnownBytes.{Appends, Keeps};
 ghost use Rattle.script_core.specs.Text.{AppendsPrefix};
 ghost use Rattle.engine_core.specs.Output.{Plays};
 ghost use Rattle.race_core.specs.Race.{race_text, IsBadSize};
 ghost use Rattle.sweep_core.specs.Sweep.{sweep_text};
-ghost use Rattle.cvec.specs.Program.{EndsAs, Races, Shows, Sweeps};
+ghost use Rattle.cvec.specs.Program.{EndsAs, Races, Shows, Writes};
 ghost use Rattle.cvec.specs.ProgramError.{by_run, error_line, IsRaceEnd};
 ghost use Rattle.cvec.specs.Request.{IsSweep, StartsThreads};
+ghost use Rattle.cvec.specs.Schedule.{schedule_text};
 
 use crate::command_line::Request;
 use crate::error::ProgramError;
+use crate::schedule::make_schedule_text;
 use engine_core::{Engine, RunError, run_script, write_output};
 use race_core::{Free, RaceError, race};
 use script_core::{Line, WriteFault, write_bytes};
@@ -117,10 +119,27 @@ fn show_sweep<X: Threads + Sync, W: Write>(
     writer: &mut W,
 ) -> Result<(), RunError>
     requires { IsSweep count len }
-    ensures { Sweeps seed count len result (W.contents writer.old) (W.contents writer.new) }
+    ensures { Writes (sweep_text seed count len) result
+        (W.contents writer.old) (W.contents writer.new) }
 {
     let text = run_sweep(rt, alloc, seed, count, len)?;
     show(writer, text.as_str())
+}
+
+// Nothing is written before the whole text is made.
+fn print_schedule<W: Write>(
+    alloc: Global,
+    seed: u64,
+    number: u32,
+    len: u32,
+    writer: &mut W,
+) -> Result<(), RunError>
+    ensures { Writes (schedule_text seed number len) result
+        (W.contents writer.old) (W.contents writer.new) }
+{
+    let text = make_schedule_text(alloc, seed, number, len)?;
+    write_output(writer, &text)?;
+    Ok(())
 }
 
 // Help may fail to be written, as any text may.
@@ -156,6 +175,11 @@ pub fn serve<R: Read, W: Write, E: Write>(
         × Plays engine ended (R.remaining reader.old)
         (W.contents writer.old) (W.contents writer.new)
         × EndsAs (by_run ended) result (E.contents errors.old) (E.contents errors.new) }
+    ensures prints { (seed number len : ℕ) → request.now ≡ Request.Schedule seed number len
+        → (ended : Result (Unit {0}) RunError)
+        × Writes (schedule_text seed number len) ended
+        (W.contents writer.old) (W.contents writer.new)
+        × EndsAs (by_run ended) result (E.contents errors.old) (E.contents errors.new) }
     ensures shows { (text : String Global) → request.now ≡ Request.Show text
         → (ended : Result (Unit {0}) RunError)
         × Shows (string_bytes text) ended (W.contents writer.old) (W.contents writer.new)
@@ -172,6 +196,9 @@ pub fn serve<R: Read, W: Write, E: Write>(
             report_run_error(errors, run_script(alloc, *engine, reader, writer))
         }
         Request::Race { .. } | Request::Sweep { .. } => unreachable!(),
+        Request::Schedule { seed, number, len } => {
+            report_run_error(errors, print_schedule(alloc, *seed, *number, *len, writer))
+        }
         Request::Show(text) => report_run_error(errors, show(writer, text)),
         Request::Refuse(text) => refuse(errors, text),
         Request::NoMemory => report_run_error(errors, Err(RunError::NoMemory)),
@@ -206,7 +233,8 @@ pub fn serve_sweep<X: Threads + Sync, W: Write, E: Write>(
 ) -> u8
     requires { IsSweep count len }
     ensures sweeps { (ended : Result (Unit {0}) RunError)
-        × Sweeps seed count len ended (W.contents writer.old) (W.contents writer.new)
+        × Writes (sweep_text seed count len) ended
+        (W.contents writer.old) (W.contents writer.new)
         × EndsAs (by_run ended) result (E.contents errors.old) (E.contents errors.new) }
 {
     report_run_error(errors, show_sweep(rt, alloc, seed, count, len, writer))

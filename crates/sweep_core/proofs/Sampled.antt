@@ -60,7 +60,7 @@ length-first_words (suc n) g = ap suc (length-first_words n (pcg32 g).1)
 length-items_from : (n : ℕ) (g : Lcg) → length (items_from n g) ≡ n
 length-items_from n g = length-map (first_words pcg32 n g) item_of ∙ length-first_words n g
 
-abbrev IsOfThree : Item → Type 0
+abbrev pub IsOfThree : Item → Type 0
 IsOfThree item = item.actor < 3
 
 of_three : (words : List ℕ) → All IsOfThree (map item_of words)
@@ -70,6 +70,12 @@ of_three (word ∷ words) = All-cons IsOfThree (item_of word) (map item_of words
 -- each item's actor has a program
 pub have_programs : (seed len : ℕ) → HavePrograms sampled_programs (items_of seed len)
 have_programs seed len = of_three _
+
+-- the items of a schedule, if there are any, are of the three actors
+pub schedule_of_three : {T E : Type 0} (items : T → List Item) (seed len : ℕ) (r : Result T E)
+    → IfOk r (λ made. items made ≡ items_of seed len) → IfOk r (λ made. All IsOfThree (items made))
+schedule_of_three items seed len (Ok made) is = rw is (have_programs seed len)
+schedule_of_three items seed len (Err e) is = tt
 
 all_three : {X : Type 0} (P : X → Type 0) (a b c : X) → P a → P b → P c → All P (a ∷ b ∷ c ∷ [])
 all_three P a b c pa pb pc = All-cons P a (b ∷ c ∷ []) pa (All-cons P b (c ∷ []) pb (All-cons P c [] pc (All-nil P)))

@@ -1,6 +1,6 @@
 //! The programs and the items of a sampled schedule.
-ghost use Rattle.std.specs.Prelude.{◌≡◌, IfOk};
-ghost use Rattle.sweep_core.specs.Sweep.{item_of, items_from, items_of, sampled_programs};
+ghost use Rattle.std.specs.Prelude.{◌≡◌, ◌<◌, All, IfOk};
+ghost use Rattle.sweep_core.specs.Sweep.{item_of, items_from, items_of, sampled_programs, seed_of};
 
 use book_core::{Command, Item, Sequence};
 use rand_core::SeedableRng;
@@ -64,4 +64,19 @@ pub(crate) fn items_of(alloc: Global, seed: u64, len: u32) -> Result<Vec<Item>, 
     ensures { IfOk result (λ items. items.items ≡ items_of seed len) }
 {
     items_from(alloc, Pcg32::seed_from_u64(seed), len)
+}
+
+/// Returns the items of one schedule of a sweep, by its number from 0 on.
+///
+/// They are those that `sweep` plays, with the same seed and length, in a sweep of more than `number` schedules.
+pub fn schedule_items(
+    alloc: Global,
+    seed: u64,
+    number: u32,
+    len: u32,
+) -> Result<Vec<Item>, AllocError>
+    ensures items { IfOk result (λ items. items.items ≡ items_of (seed_of seed number) len) }
+    ensures actors { IfOk result (λ items. All (λ item. item.actor < 3) items.items) }
+{
+    items_of(alloc, seed.wrapping_add(u64::from(number)), len)
 }

@@ -1,9 +1,9 @@
 #!/usr/bin/env python3
-"""Prints the schedule that `cvec sweep --seed SEED --count 1 --len LEN` plays, as a script for `cvec steps`.
+"""Prints what `cvec sweep --seed SEED --count 1 --len LEN --print 0` must print: a schedule as a script for `cvec steps`.
 
-    python3 examples/schedule.py SEED LEN | bin/cvec steps
+    tests/schedule.py SEED LEN
 
-Schedule i of a sweep is that of its seed plus i.
+It is written from the definitions in docs/SCRIPTS.md, and tests/cli-tests compares the two.
 """
 import sys
 

@@ -8,13 +8,18 @@ use Rattle.race_core.specs.declared.refusal.RaceError.TheVariants.{BadSize}
 use Rattle.race_core.specs.Race.{race_text, IsBadSize}
 use Rattle.cvec.specs.declared.error.ProgramError.{ProgramError}
 use Rattle.cvec.specs.declared.error.ProgramError.TheVariants.{Run, Race}
-use Rattle.cvec.specs.ProgramError.{status_of, error_line, IsRaceEnd}
+use Rattle.cvec.specs.ProgramError.{run_status, status_of, error_line, explained_lines, IsRaceEnd}
 
 -- a run that succeeds has status 0 and adds nothing to standard error; any other has the status of its error,
 -- and adds a prefix of the error's line: the whole line, unless standard error fails too
 abbrev pub EndsAs : Result (Unit {0}) ProgramError → ℕ → Option (List ℕ) → Option (List ℕ) → Type 0
 EndsAs (Ok done) status old new = (status ≡ 0) × Keeps old new
 EndsAs (Err e) status old new = (status ≡ status_of e) × AppendsPrefix old new (error_line e)
+
+-- the same of a run that is explained: standard error gets a second line, which says what the error means
+abbrev pub EndsExplained : Result (Unit {0}) RunError → ℕ → Option (List ℕ) → Option (List ℕ) → Type 0
+EndsExplained (Ok done) status old new = (status ≡ 0) × Keeps old new
+EndsExplained (Err e) status old new = (status ≡ run_status e) × AppendsPrefix old new (explained_lines e)
 
 -- a race is held of `workers` workers with `each` values each: what the writer gets, and how it ends
 pub record Races (workers each : ℕ) (ended : Result (Unit {0}) ProgramError) (old new : Option (List ℕ)) : Type 0 where

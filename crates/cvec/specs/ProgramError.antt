@@ -1,5 +1,7 @@
 -- Why the program has not done what it was asked for: its exit status, and its line.
 use Rattle.std.specs.Prelude.{◌≡◌, ◌⊎◌, ℕ, List, ◌++◌, Result, Ok, Err, codes}
+use Rattle.script_core.specs.declared.error.ScriptError.{ScriptError}
+use Rattle.script_core.specs.declared.error.ScriptError.TheVariants as faults
 use Rattle.engine_core.specs.declared.error.RunError.{RunError}
 use Rattle.engine_core.specs.declared.error.RunError.TheVariants as runs
 use Rattle.engine_core.specs.RunError.{error_text}
@@ -43,6 +45,33 @@ program_error_text (Race refusal) = race_error_text refusal
 -- its line on standard error
 abbrev pub error_line : ProgramError → List ℕ
 error_line e = program_error_text e ++ codes "\n"
+
+-- what a fault of a script means
+abbrev pub fault_meaning : ScriptError → List ℕ
+fault_meaning faults.NoMemory = codes "out of memory"
+fault_meaning (faults.Empty line) = codes "there are no bytes"
+fault_meaning (faults.BadLimit line) = codes "the limit is not a number, or not from 1 to 65,536"
+fault_meaning (faults.BadLine line) = codes "a line is of no kind that is allowed at its position"
+fault_meaning (faults.BadName line) = codes "a name is not one letter from a to z, or an item names no actor of the script"
+fault_meaning (faults.TwiceNamed line) = codes "an earlier actor has the name"
+fault_meaning (faults.BadCommand line) =
+    codes "a command is unknown, has the wrong number of words, or has an argument that it cannot have"
+fault_meaning (faults.NumberTooLarge line) = codes "a number is above 18,446,744,073,709,551,615"
+fault_meaning (faults.TooMany line) =
+    codes "there are more than 1,048,576 bytes, 16 actors, 1,000 commands of an actor, or 100,000 items"
+fault_meaning (faults.NoItems line) = codes "the lines end without an items line"
+fault_meaning (faults.BadFirst line) = codes "the layout is not a number, or not from 1 to 8"
+
+-- what the error of a run means
+abbrev pub run_meaning : RunError → List ℕ
+run_meaning (runs.Script fault) = fault_meaning fault
+run_meaning runs.NoMemory = codes "out of memory"
+run_meaning runs.Read = codes "standard input failed"
+run_meaning runs.Write = codes "standard output failed or took no byte"
+
+-- its line on standard error, and a second one that says what it means
+abbrev pub explained_lines : RunError → List ℕ
+explained_lines e = error_text e ++ codes "\n" ++ run_meaning e ++ codes "\n"
 
 -- how the program ends that holds a race and has no whole text: its race was refused, or there was no memory
 -- for the text, or it was not written

@@ -3,11 +3,12 @@ use Rattle.std.specs.Prelude.{⊤, ℕ, ◌≤◌, Bool, true, false}
 use Rattle.engine_core.specs.declared.engine.Engine.{Engine}
 use Rattle.engine_core.specs.declared.engine.Engine.TheVariants.{Steps, Counted, Traced, TracedCounted}
 use Rattle.cvec.specs.declared.command_line.Request.{Request}
-use Rattle.cvec.specs.declared.command_line.Request.TheVariants.{Play, Race, Sweep, Schedule, Show, Refuse, NoMemory}
+use Rattle.cvec.specs.declared.command_line.Request.TheVariants.{Play, PlayExplained, Race, Sweep, Schedule, Show, Refuse, NoMemory}
 
 -- a text is shown, or there is no memory for it
 abbrev pub IsShown : Request → Type 0
 IsShown (Play engine) = ⊥
+IsShown (PlayExplained engine) = ⊥
 IsShown (Race workers each) = ⊥
 IsShown (Sweep seed count len) = ⊥
 IsShown (Schedule seed number len) = ⊥
@@ -18,6 +19,7 @@ IsShown NoMemory = ⊤
 -- it is refused with a text, or there is no memory for it
 abbrev pub IsRefused : Request → Type 0
 IsRefused (Play engine) = ⊥
+IsRefused (PlayExplained engine) = ⊥
 IsRefused (Race workers each) = ⊥
 IsRefused (Sweep seed count len) = ⊥
 IsRefused (Schedule seed number len) = ⊥
@@ -28,6 +30,7 @@ IsRefused NoMemory = ⊤
 -- a race or a sweep is asked for
 abbrev pub StartsThreads : Request → Type 0
 StartsThreads (Play engine) = ⊥
+StartsThreads (PlayExplained engine) = ⊥
 StartsThreads (Race workers each) = ⊤
 StartsThreads (Sweep seed count len) = ⊤
 StartsThreads (Schedule seed number len) = ⊥
@@ -42,6 +45,7 @@ IsSweep count len = ((1 ≤ count) × (count ≤ 10000)) × ((1 ≤ len) × (len
 -- if a sweep is asked for, its numbers are allowed
 abbrev pub IsInRange : Request → Type 0
 IsInRange (Play engine) = ⊤
+IsInRange (PlayExplained engine) = ⊤
 IsInRange (Race workers each) = ⊤
 IsInRange (Sweep seed count len) = IsSweep count len
 IsInRange (Schedule seed number len) = ⊤

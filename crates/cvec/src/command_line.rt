@@ -19,6 +19,8 @@ use sweep_core::{MOST_ITEMS, MOST_SCHEDULES};
 pub enum Request {
     /// Play the script on standard input.
     Play(Engine),
+    /// The same, and explain the error if there is one.
+    PlayExplained(Engine),
     /// Hold a race of `workers` workers with `each` values each.
     Race { workers: u32, each: u32 },
     /// Sweep `count` schedules of `len` items each, from a seed on.
@@ -67,6 +69,10 @@ Exit status, with the line on standard error:
 
 docs/SCRIPTS.md has the grammar of scripts, the answer lines and the faults.";
 
+const FROM_A_FILE: &str = "
+A script is read from standard input: write '<' before the name of its file.
+";
+
 fn make_sweep_command<'a>(alloc: Global) -> Result<Command<'a>, AllocError> {
     let seed = Arg::new(alloc, "seed")
         .long("seed")
@@ -104,6 +110,14 @@ fn make_sweep_command<'a>(alloc: Global) -> Result<Command<'a>, AllocError> {
     Ok(sweep)
 }
 
+// A flag of the commands that play a script.
+fn make_explain_flag<'a>(alloc: Global) -> Arg<'a> {
+    Arg::new(alloc, "explain")
+        .long("explain")
+        .help("Also prints, below the line of a fault, what it means")
+        .action(ArgAction::SetTrue)
+}
+
 fn make_steps_command<'a>(alloc: Global) -> Result<Command<'a>, AllocError> {
     let counted = Arg::new(alloc, "count")
         .long("count")
@@ -116,12 +130,15 @@ fn make_steps_command<'a>(alloc: Global) -> Result<Command<'a>, AllocError> {
     let steps = Command::new(alloc, "steps")
         .about(STEPS)
         .arg(counted)?
-        .arg(traced)?;
+        .arg(traced)?
+        .arg(make_explain_flag(alloc))?;
     Ok(steps)
 }
 
 fn make_command<'a>(alloc: Global) -> Result<Command<'a>, AllocError> {
-    let calls = Command::new(alloc, "calls").about(CALLS);
+    let calls = Command::new(alloc, "calls")
+        .about(CALLS)
+        .arg(make_explain_flag(alloc))?;
     let steps = make_steps_command(alloc)?;
     let workers = Arg::new(alloc, "workers")
         .long("workers")
@@ -247,16 +264,27 @@ fn sweep_of(alloc: Global, matches: &ArgMatches<'_>) -> Result<Request, Error>
     }
 }
 
+// The request to play by the engine, and to explain an error if that is asked for.
+fn play_of(engine: Engine, matches: &ArgMatches<'_>) -> Request
+    ensures { IsInRange result }
+{
+    if matches.get_flag("explain") {
+        Request::PlayExplained(engine)
+    } else {
+        Request::Play(engine)
+    }
+}
+
 // What the words name. Help and the version are errors, too.
 pub(crate) fn parse_words(alloc: Global, words: &[String]) -> Result<Request, Error>
     ensures { IfOk result IsInRange }
 {
     let matches = make_command(alloc)?.try_get_matches_from(words)?;
     match matches.subcommand() {
-        Some(("calls", _)) => Ok(Request::Play(Engine::Calls)),
+        Some(("calls", matches)) => Ok(play_of(Engine::Calls, matches)),
         Some(("steps", matches)) => {
-            let traced = matches.get_flag("trace");
-            Ok(Request::Play(steps_engine(traced, matches.get_flag("count"))))
+            let engine = steps_engine(matches.get_flag("trace"), matches.get_flag("count"));
+            Ok(play_of(engine, matches))
         }
         Some(("race", matches)) => race_of(alloc, matches),
         Some(("sweep", matches)) => sweep_of(alloc, matches),
@@ -290,13 +318,44 @@ pub(crate) fn request_of_error(alloc: Global, error: &Error) -> Request
     }
 }
 
+// Tests whether the first word names a command that plays a script, and a later one is no option.
+fn names_a_file(words: &[String]) -> bool {
+    let command = words.get(1).map(|word| word.as_str());
+    (command == Some("calls") || command == Some("steps"))
+        && words
+            .iter()
+            .skip(2)
+            .any(|word| !word.as_str().starts_with('-'))
+}
+
+// Adds a hint to the text of a refusal.
+fn with_hint(request: Request) -> Request
+    requires { IsInRange request }
+    ensures { IsInRange result }
+{
+    match request {
+        Request::Refuse(mut text) => match text.push_str(FROM_A_FILE) {
+            Ok(()) => Request::Refuse(text),
+            Err(_) => Request::NoMemory,
+        },
+        other => other,
+    }
+}
+
 // What the words ask for.
 pub(crate) fn request_of_words(alloc: Global, words: &[String]) -> Request
     ensures { IsInRange result }
 {
     match parse_words(alloc, words) {
         Ok(request) => request,
-        Err(error) => request_of_error(alloc, &error),
+        Err(error) => {
+            let request = request_of_error(alloc, &error);
+            if matches!(error.kind(), ErrorKind::UnknownArgument) && names_a_file(words) {
+                with_hint(request)
+            } else {
+                request
+            }
+        }
     }
 }
 

@@ -6,13 +6,13 @@ ghost use Rattle.script_core.specs.Text.{AppendsPrefix};
 ghost use Rattle.engine_core.specs.Output.{Plays};
 ghost use Rattle.race_core.specs.Race.{race_text, IsBadSize};
 ghost use Rattle.sweep_core.specs.Sweep.{sweep_text};
-ghost use Rattle.cvec.specs.Program.{EndsAs, Races, Shows, Writes};
-ghost use Rattle.cvec.specs.ProgramError.{by_run, error_line, IsRaceEnd};
+ghost use Rattle.cvec.specs.Program.{EndsAs, EndsExplained, Races, Shows, Writes};
+ghost use Rattle.cvec.specs.ProgramError.{by_run, error_line, explained_lines, IsRaceEnd};
 ghost use Rattle.cvec.specs.Request.{IsSweep, StartsThreads};
 ghost use Rattle.cvec.specs.Schedule.{schedule_text};
 
 use crate::command_line::Request;
-use crate::error::ProgramError;
+use crate::error::{ProgramError, run_meaning};
 use crate::schedule::make_schedule_text;
 use engine_core::{Engine, RunError, run_script, write_output};
 use race_core::{Free, RaceError, race};
@@ -58,6 +58,31 @@ fn report_run_error<E: Write>(errors: &mut E, ended: Result<(), RunError>) -> u8
     match ended {
         Ok(()) => report_error(errors, Ok(())),
         Err(error) => report_error(errors, Err(ProgramError::Run(error))),
+    }
+}
+
+// Both lines are made before they are written, so that one write can take them.
+fn write_explained<E: Write>(errors: &mut E, error: RunError) -> Result<(), WriteFault>
+    ensures ok { OnOk result
+        (Appends (E.contents errors.old) (E.contents errors.new) (explained_lines error)) }
+    ensures fault { OnErr result
+        (AppendsPrefix (E.contents errors.old) (E.contents errors.new) (explained_lines error)) }
+{
+    let mut lines = Line::new();
+    writeln!(lines, "{error}\n{}", run_meaning(&error))?;
+    write_bytes(errors, lines.as_slice())
+}
+
+// The same of a run whose error is explained.
+fn explain_run_error<E: Write>(errors: &mut E, ended: Result<(), RunError>) -> u8
+    ensures { EndsExplained ended result (E.contents errors.old) (E.contents errors.new) }
+{
+    match ended {
+        Ok(()) => 0,
+        Err(error) => {
+            let _unseen = write_explained(errors, error);
+            ProgramError::Run(error).status()
+        }
     }
 }
 
@@ -175,6 +200,11 @@ pub fn serve<R: Read, W: Write, E: Write>(
         × Plays engine ended (R.remaining reader.old)
         (W.contents writer.old) (W.contents writer.new)
         × EndsAs (by_run ended) result (E.contents errors.old) (E.contents errors.new) }
+    ensures explains { (engine : Engine) → request.now ≡ Request.PlayExplained engine
+        → (ended : Result (Unit {0}) RunError)
+        × Plays engine ended (R.remaining reader.old)
+        (W.contents writer.old) (W.contents writer.new)
+        × EndsExplained ended result (E.contents errors.old) (E.contents errors.new) }
     ensures prints { (seed number len : ℕ) → request.now ≡ Request.Schedule seed number len
         → (ended : Result (Unit {0}) RunError)
         × Writes (schedule_text seed number len) ended
@@ -194,6 +224,9 @@ pub fn serve<R: Read, W: Write, E: Write>(
     match request {
         Request::Play(engine) => {
             report_run_error(errors, run_script(alloc, *engine, reader, writer))
+        }
+        Request::PlayExplained(engine) => {
+            explain_run_error(errors, run_script(alloc, *engine, reader, writer))
         }
         Request::Race { .. } | Request::Sweep { .. } => unreachable!(),
         Request::Schedule { seed, number, len } => {

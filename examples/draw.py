@@ -191,9 +191,9 @@ class Picture:
     def svg(self):
         for step in self.play.drawn:
             self.add(step)
-        right = round(max(self.x + 70, *self.ends.values(), 600))
-        heading = f"{len(self.play.drawn)} atomic steps of {len(self.play.actors)} actors, from left to right"
-        head = [text(16, 28, self.name, "ink", 16, True), text(30 + width_of(self.name, 16), 28, heading, "faint", 11)]
+        heading, beside = f"{len(self.play.drawn)} atomic steps from left to right", 30 + width_of(self.name, 16)
+        right = round(max(self.x + 70, *self.ends.values(), beside + width_of(heading, 11), 600))
+        head = [text(16, 28, self.name, "ink", 16, True), text(beside, 28, heading, "faint", 11)]
         head += [text(16, TOP - 12, "step", "faint", 9), *self.lane_parts(right), *self.row_parts(right)]
         y = self.legend(right, self.row(min(self.play.size, MOST_PLACES + 1)) + 24)
         notes = self.notes()

@@ -208,6 +208,20 @@ template <typename Vector> void grow_often(Vector &vector, Value times) {
   }
 }
 
+// Pushes values through a buffer, which is appended whenever it is full, and at the end.
+template <typename Vector> void push_buffered(Vector &vector, Value times) {
+  std::vector<Value> buffer;
+  buffer.reserve(list_length);
+  for (Value value = 0; value < times; ++value) {
+    if (buffer.size() == list_length) {
+      vector.grow(buffer);
+      buffer.clear();
+    }
+    buffer.push_back(value);
+  }
+  vector.grow(buffer);
+}
+
 template <typename Vector> void make_often(Vector &vector, Value times) {
   for (Value i = 0; i < times / list_length; ++i)
     vector.make(i);
@@ -246,6 +260,8 @@ template <typename Vector> long long run(const char *load, unsigned threads) {
   // oneTBB has no tokens.
   if (!std::strncmp(load, "grow", 4) || !std::strncmp(load, "append", 6))
     work = [&] { grow_often(vector, times); };
+  if (!std::strncmp(load, "buffered", 8))
+    work = [&] { push_buffered(vector, times); };
   if (!std::strncmp(load, "make", 4))
     work = [&] { make_often(vector, times); };
   if (!std::strncmp(load, "at-least", 8))

@@ -5,9 +5,12 @@ ghost use Rattle.std.specs.Thread.{IsSync};
 ghost use Rattle.grow_core.specs.Vector.{IsHandOf};
 
 use crate::other_vectors::push_boxcar;
-use crate::reads::{pick_places, print_get_time, read_at, read_look, read_segments, read_walk};
+use crate::reads::{
+    pick_places, print_get_time, read_at, read_boxcar, read_look, read_segments, read_walk,
+};
 use crate::shared_vector::{hands_for, open_empty_in, push, push_by_calls};
 use crate::trial::{print_nanoseconds, time_hands, time_threads};
+use crate::writers::{push_buffered, push_by_writer};
 use anyhow::{Result, bail};
 use grow_core::{Hand, Never, Shared};
 use seg_core::Layout;
@@ -39,6 +42,10 @@ pub enum Work {
     Push,
     /// Appends a value by a call that is not laid into the loop.
     CallPush,
+    /// Appends a value by a writer.
+    WriterPush,
+    /// Appends a value by a writer with a buffer of 64.
+    BufferedPush,
     /// Makes a list of 64 values, and appends it with a token for each.
     Grow,
     /// Makes a list of 64 values, and appends it without tokens.
@@ -84,12 +91,15 @@ pub fn layout_of(name: &str) -> Layout {
 
 // The name of a load, what is done, how many values there are before its time starts, and how many while it
 // runs.
-static ROWS: [(&'static str, Work, u64, u64); 19] = [
+static ROWS: [(&'static str, Work, u64, u64); 22] = [
     ("push", Work::Push, 0, FRESH),
     ("push-256", Work::Push, 0, FRESH),
     ("push-installed", Work::Push, FILLED, MORE),
     ("push-arc", Work::Push, FILLED, MORE),
     ("push-call", Work::CallPush, FILLED, MORE),
+    ("push-writer", Work::WriterPush, FILLED, MORE),
+    ("buffered", Work::BufferedPush, 0, FRESH),
+    ("buffered-installed", Work::BufferedPush, FILLED, MORE),
     ("grow", Work::Grow, 0, FRESH),
     ("grow-installed", Work::Grow, FILLED, MORE),
     ("append", Work::Append, 0, FRESH),
@@ -236,6 +246,8 @@ impl Work {
         match self {
             Work::Push => push(rt, vector, hand, times),
             Work::CallPush => push_by_calls(rt, vector, hand, times),
+            Work::WriterPush => push_by_writer(rt, vector, hand, times),
+            Work::BufferedPush => push_buffered(rt, vector, hand, times),
             Work::Grow => grow(rt, vector, hand, times, true),
             Work::Append => grow(rt, vector, hand, times, false),
             Work::Make => make(rt, vector, hand, times, false),
@@ -357,6 +369,27 @@ fn print_boxcar_time_on<R: Threads + Wait + Clock + Print + AllocGlobal + Sync>(
     let times = FRESH / (threads as u64).max(1);
     let (took, _wins) = time_threads(rt, threads, &|_| push_boxcar(rt, list, times))?;
     print_nanoseconds(rt, took)
+}
+
+// Reads as many values of this one as the load `at`, and prints the nanoseconds that it took.
+fn print_boxcar_reads_on<R: Threads + Wait + Clock + Print + AllocGlobal + Sync>(
+    rt: &R,
+    list: &boxcar::Vec<u64>,
+    threads: usize,
+) -> Result<()> {
+    push_boxcar(rt, list, FILLED);
+    let times = MORE / (threads as u64).max(1);
+    let (took, _odd) = time_threads(rt, threads, &|_| read_boxcar(list, times))?;
+    print_nanoseconds(rt, took)
+}
+
+/// Fills a new `boxcar::Vec`, reads it at random places, and prints the nanoseconds that the reads took.
+pub fn print_boxcar_reads<R: Threads + Wait + Clock + Print + AllocGlobal + Sync>(
+    rt: &R,
+    threads: usize,
+) -> Result<()> {
+    let list = boxcar::Vec::new(rt.alloc())?;
+    print_boxcar_reads_on(rt, &list, threads)
 }
 
 /// Pushes as many values as the load `push` on a new `boxcar::Vec`, and prints the nanoseconds that it took.

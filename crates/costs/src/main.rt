@@ -27,11 +27,12 @@ mod reads;
 mod shared_vector;
 mod stress;
 mod trial;
+mod writers;
 
 use crate::figures::print_figures;
 use crate::hundreds::print_hundreds;
 use crate::lives::{Turn, print_turn};
-use crate::loads::{layout_of, load_of, print_boxcar_time};
+use crate::loads::{layout_of, load_of, print_boxcar_reads, print_boxcar_time};
 use crate::operation::{GROUPS, Group, Operation};
 use crate::pushed_walk::print_pushed_walk;
 use crate::stress::print_stress;
@@ -132,6 +133,7 @@ fn print_load<R: Threads + Wait + Clock + Print + AllocGlobal + Sync>(
     }
     match name {
         "boxcar" => print_boxcar_time(rt, threads),
+        "boxcar-at" => print_boxcar_reads(rt, threads),
         "hundreds" | "hundreds-256" => print_hundreds(rt, layout_of(name)),
         "open" => print_turn(rt, Turn::Open),
         "close" => print_turn(rt, Turn::Close),

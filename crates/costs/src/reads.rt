@@ -79,6 +79,24 @@ fn look_once(vector: &Shared<u64>, place: u64) -> u64 {
     }
 }
 
+// The last bit of the value that `boxcar` has at the place, if there is one.
+#[inline(always)]
+fn boxcar_once(list: &boxcar::Vec<u64>, place: u64) -> u64 {
+    match list.get(place as usize) {
+        Some(value) => *value & 1,
+        None => 0,
+    }
+}
+
+/// Reads by `get` of a `boxcar::Vec`, and returns how many values were odd.
+pub fn read_boxcar(list: &boxcar::Vec<u64>, reads: u64) -> u64 {
+    sum_at_random(
+        list.count() as u64,
+        reads,
+        &|place: u64| -> u64 { boxcar_once(list, place) },
+    )
+}
+
 /// Reads by `look`, and returns how many values were odd.
 pub fn read_look(vector: &Shared<u64>, size: u64, reads: u64) -> u64 {
     sum_at_random(

@@ -1,0 +1,44 @@
+//! The loads of writers: a vector and a hand in one value, without a buffer and with one.
+ghost use Rattle.grow_core.specs.Vector.{IsHandOf};
+
+use grow_core::{Hand, Shared};
+use span_core::{BufferedWriter, Writer};
+use std::alloc::AllocGlobal;
+use std::sync::Wait;
+
+// The values of a buffer: as many as those of a growth.
+const BUFFER: usize = 64;
+
+/// Pushes values by a writer, and returns how many were appended.
+pub fn push_by_writer<R: Wait>(rt: &R, vector: &Shared<u64>, hand: Hand<u64>, tries: u64) -> u64
+    requires ours { IsHandOf vector.now hand }
+{
+    let mut writer = Writer::new(vector, hand);
+    let mut won: u64 = 0;
+    for value in 0..tries {
+        if writer.push_back(rt, value).is_ok() {
+            won = won.wrapping_add(1);
+        }
+    }
+    won
+}
+
+/// Pushes values by a writer with a buffer, and appends the last ones too. Returns how many were taken, or 0 if
+/// the last ones were refused.
+pub fn push_buffered<R: Wait + AllocGlobal>(
+    rt: &R,
+    vector: &Shared<u64>,
+    hand: Hand<u64>,
+    tries: u64,
+) -> u64
+    requires ours { IsHandOf vector.now hand }
+{
+    let mut writer = BufferedWriter::new(rt.alloc(), Writer::new(vector, hand), BUFFER);
+    let mut won: u64 = 0;
+    for value in 0..tries {
+        if writer.push(rt, value).is_ok() {
+            won = won.wrapping_add(1);
+        }
+    }
+    if writer.flush(rt).is_ok() { won } else { 0 }
+}

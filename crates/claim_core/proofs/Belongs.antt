@@ -1,17 +1,23 @@
 -- A hand belongs to its word: what each step needs of the two, and what a hand knows of its own runs.
-use Rattle.std.proofs.Common.{◌≡◌, ℕ, ◌+◌, ◌<◌, ◌≤◌, Bool, true, false, nat_lt, MatchBool, List, ◌++◌, length, ap, sym, ◌∙◌, subst, arith}
+use Rattle.std.proofs.Common.{◌≡◌, ◌≢◌, ℕ, ◌+◌, ◌<◌, ◌≤◌, ◌==◌, Bool, true, false, nat_lt, MatchBool, List, [], ◌++◌, length, refl, ap, sym, ◌∙◌, subst, arith}
+use Rattle.std.proofs.lemmas.List.Sums.{sum_by_push}
+use Rattle.std.proofs.lemmas.List.Elements.{All-nil}
 use Rattle.std.proofs.lemmas.Bool.Decides.{nat_tests}
 use Rattle.std.specs.Prelude.{nat_eq}
 use Rattle.std.specs.List.{Contains, IsDistinct}
 use Rattle.atomic_table.specs.Seated.{TableId}
 use Rattle.claim_core.specs.declared.seat_view.SeatView.{SeatView}
 use Rattle.claim_core.specs.declared.terms.Terms.{Terms}
-use Rattle.claim_core.specs.Lengths.{times}
-use Rattle.claim_core.specs.Word.{WordView}
-use Rattle.claim_core.specs.Hand.{HandView, seen_size, own_places}
+use Rattle.book_core.specs.declared.events.Event.{Event}
+use Rattle.book_core.specs.declared.events.Reply.{Reply}
+use Rattle.claim_core.specs.History.{first_list}
+use Rattle.claim_core.specs.Lengths.{runs_end, times}
+use Rattle.claim_core.specs.Word.{WordView, AreBounds}
+use Rattle.claim_core.specs.Hand.{HandView, AddsRun, seen_size, own_places}
 use Rattle.claim_core.specs.Seat.{ClaimSeat, word_view, IsOpened, hand_view, IsHeld}
 use Rattle.claim_core.specs.Rule.{size_at}
-use Rattle.claim_core.specs.SeatView.{IsConsistent}
+use Rattle.claim_core.specs.SeatView.{Seated, IsConsistent, Claims, first_view}
+use Rattle.claim_core.proofs.Prefixes.{prefix_nil}
 use Rattle.claim_core.proofs.Places.{places_in-le}
 use Rattle.claim_core.proofs.Counts.{times-from_Contains, times-append, IsDistinct-from_times}
 
@@ -80,3 +86,64 @@ owns_part {seat} {share} {size} {hand} held hand_is =
 pub grew : (a b : ℕ) (t : Bool) (P Q : Type 0) → nat_lt a b ≡ t → a < b → MatchBool t P Q → P
 grew a b true P Q is less p = p
 grew a b false P Q is less q = absurd (grind (arith, nat_tests))
+
+-- a step that found another size
+pub missed : (a b : ℕ) (t : Bool) (P Q : Type 0) → (a == b) ≡ t → a ≢ b → MatchBool t P Q → Q
+missed a b true P Q is other p = absurd (grind (arith, nat_tests))
+missed a b false P Q is other q = q
+
+-- a step that did not grow the size
+pub stayed : (a b : ℕ) (t : Bool) (P Q : Type 0) → nat_lt a b ≡ t → b ≤ a → MatchBool t P Q → Q
+stayed a b true P Q is more p = absurd (grind (arith, nat_tests))
+stayed a b false P Q is more q = q
+
+-- a claim adds its run to the hand
+pub adds_run : (seat new : ClaimSeat) {found n : ℕ} {event : ℕ → Event × Reply} {hand : HandView} → hand_view seat ≡ hand
+    → Claims seat.me.0 found n event new.me.0 → new.table_id ≡ seat.table_id → 0 < n
+    → AddsRun hand (hand_view new) (record { from = found; n = n })
+adds_run seat new {found} {n} {event} {hand} hand_is claims table more =
+    subst (λ (h : HandView). AddsRun h (hand_view new) (record { from = found; n = n })) hand_is
+    (let v = seat.me.0 in
+     let w = new.me.0 in
+     let front = v.seen ++ claims.between in
+     let size : runs_end v.base front ≡ found = ap (λ b. runs_end b front) (sym claims.same.base) ∙ claims.size in
+     let sums = sum_by_push (λ x. x) front n in
+     let ends : runs_end w.base w.seen ≡ found + n =
+     ap (λ b. runs_end b w.seen) claims.same.base ∙ (ap (runs_end v.base) claims.seen ∙ omega arith) in
+     let within = claims.consistent.within in
+     let limit = claims.same.limit in
+     record {
+       between = claims.between;
+       begins = sym size;
+       positive = more;
+       within = omega arith;
+       seen = claims.seen;
+       ends = ends;
+       mine = claims.mine;
+       shares = claims.same.shares;
+       of = λ i. record { table = table i; limit = claims.same.limit i; base = claims.same.base i; mark = claims.same.mark i };
+     })
+
+-- the first hand of a word
+pub first_held : {seat : ClaimSeat} (terms : Terms) → AreBounds terms.limit terms.base → seat.me ≡ (first_view terms, [])
+    → IsHeld seat 65536 terms.base
+first_held {seat} terms bounds is =
+    let room = bounds.room in
+    let consistent : IsConsistent (first_view terms) =
+    record {
+      positive = All-nil (λ n. 0 < n);
+      within = omega arith;
+      shares = omega arith;
+      own = λ k. omega arith;
+      whole = λ all k. omega arith;
+      history = record { legal = (first_list terms.limit terms.base, refl); actors = refl };
+      lengths = prefix_nil [];
+      whole_log = λ all. refl;
+    } in
+    record {
+      no_slot = ap {A = Seated} (λ m. m.1) is;
+      shares = sym (ap {A = Seated} (λ m. m.0.shares) is);
+      seen = sym (ap {A = Seated} (λ m. runs_end m.0.base m.0.seen) is ∙ omega arith);
+      positive = omega arith;
+      consistent = subst IsConsistent (sym (ap {A = Seated} (λ m. m.0) is)) consistent;
+    }

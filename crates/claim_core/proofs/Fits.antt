@@ -9,6 +9,7 @@ use Rattle.atomic_table.proofs.Lists.{at_set, at_snoc, set_else}
 use Rattle.claim_core.specs.declared.seat_view.SeatView.{SeatView}
 use Rattle.claim_core.specs.declared.terms.Terms.{Terms}
 use Rattle.claim_core.specs.Lengths.{times, once_below}
+use Rattle.claim_core.specs.History.{lengths_of, IsHistoryOf}
 use Rattle.claim_core.specs.Rule.{Suits, Fits}
 use Rattle.claim_core.specs.SeatView.{SameOwn, IsConsistent, longer, joined_view, first_view, spent_view}
 use Rattle.claim_core.proofs.Prefixes.{prefix_self, prefix_append, prefix_nil, prefix_trans, prefix_whole, prefix_length, prefix_sum, prefix_All, longer_begins}
@@ -22,19 +23,19 @@ abbrev share : SeatView → ℕ
 share v = v.shares
 
 -- what holds of the new member and of each old one holds of all after a change
-each_set : (F : SeatView → Type 0) (vs : List SeatView) (i : ℕ) (w : SeatView) → F w
+pub each_set : (F : SeatView → Type 0) (vs : List SeatView) (i : ℕ) (w : SeatView) → F w
     → ((j : ℕ) (v : SeatView) → get_elem? vs j ≡ some v → F v)
     → (j : ℕ) (v : SeatView) → get_elem? (set vs i w) j ≡ some v → F v
 each_set F vs i w new old j v at =
     ⊎_elim (λ (c : (j ≡ i) × (w ≡ v)). subst F c.1 new) (λ (c : (j ≢ i) × (get_elem? vs j ≡ some v)). old j v c.1) (at_set vs i j w v at)
 
-each_snoc : (F : SeatView → Type 0) (vs : List SeatView) (w : SeatView) → F w
+pub each_snoc : (F : SeatView → Type 0) (vs : List SeatView) (w : SeatView) → F w
     → ((j : ℕ) (v : SeatView) → get_elem? vs j ≡ some v → F v)
     → (j : ℕ) (v : SeatView) → get_elem? (vs ++ w ∷ []) j ≡ some v → F v
 each_snoc F vs w new old j v at = ⊎_elim (λ (c : get_elem? vs j ≡ some v). old j v c) (λ (c : w ≡ v). subst F c new) (at_snoc vs w v j at)
 
 -- what holds of the one member of a list
-each_one : (F : SeatView → Type 0) (w : SeatView) → F w → (j : ℕ) (v : SeatView) → get_elem? (w ∷ []) j ≡ some v → F v
+pub each_one : (F : SeatView → Type 0) (w : SeatView) → F w → (j : ℕ) (v : SeatView) → get_elem? (w ∷ []) j ≡ some v → F v
 each_one F w new zero v at = subst F (some-injective w v at) new
 each_one F w new (suc j) v at = absurd (some-ne-none v (sym at))
 
@@ -99,9 +100,18 @@ module _
       (λ j w here none. ap (times k) ((fits.each j w here).spent none).1) in
       let o = fits.owned k in omega arith
 
+  -- the seat of all shares has seen all
+  pub whole_saw : v.shares ≡ 65536 → v.seen ≡ lengths
+  whole_saw all =
+      let suits = fits.each id v at in
+      let o = whole_owns all (length v.seen) in
+      let part = suits.own (length v.seen) in
+      prefix_whole v.seen lengths suits.seen (omega arith)
+
   -- each seat is consistent
-  pub consistent : v.limit ≡ limit → v.base ≡ base → IsConsistent v
-  consistent is_limit is_base =
+  pub consistent : v.limit ≡ limit → v.base ≡ base → IsHistoryOf limit base v.log → IsPrefix v.seen (lengths_of v.log)
+      → (v.seen ≡ lengths → lengths_of v.log ≡ v.seen) → IsConsistent v
+  consistent is_limit is_base history known tells =
       let suits = fits.each id v at in
       record {
         positive = prefix_All (λ n. 0 < n) v.seen lengths suits.seen fits.positive;
@@ -113,15 +123,11 @@ module _
             let o = whole_owns all k in
             let part = suits.own k in
             omega arith;
+        history =
+            subst (λ l. IsHistoryOf l v.base v.log) (sym is_limit) (subst (λ b. IsHistoryOf limit b v.log) (sym is_base) history);
+        lengths = known;
+        whole_log = λ all. tells (whole_saw all);
       }
-
-  -- the seat of all shares has seen all
-  pub whole_saw : v.shares ≡ 65536 → v.seen ≡ lengths
-  whole_saw all =
-      let suits = fits.each id v at in
-      let o = whole_owns all (length v.seen) in
-      let part = suits.own (length v.seen) in
-      prefix_whole v.seen lengths suits.seen (omega arith)
 
   -- a seat with the same runs and shares, whose lists are prefixes of the list of all lengths
   pub stays : (w : SeatView) → SameOwn v w → Suits lengths w → Fits limit base size lengths (set vs id w)

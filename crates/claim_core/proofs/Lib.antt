@@ -4,6 +4,10 @@ mod Tiles
 mod Places
 mod RunLaws
 mod Fits
+mod Logged
+mod LegalNotes
+mod Additions
+mod HistoryLaws
 mod Kept
 mod Belongs
 mod WholeHand

@@ -53,17 +53,17 @@ prefix_All P xs ys p h k d lt =
     let longer : length xs ≤ length ys = prefix_length xs ys p in
     subst P (front_reads d ys xs p.0 (sym p.1) k lt) (h k d (omega arith))
 
-longer_picks : (xs ys : List ℕ) (b : Bool) → nat_le (length ys) (length xs) ≡ b
+pub longer_picks : {A : Type 0} (xs ys : List A) (b : Bool) → nat_le (length ys) (length xs) ≡ b
     → ((length ys ≤ length xs) × (longer xs ys ≡ xs)) ⊎ ((length xs ≤ length ys) × (longer xs ys ≡ ys))
 longer_picks xs ys true is = inl (grind (arith, nat_tests), rw is refl)
 longer_picks xs ys false is = inr (grind (arith, nat_tests), rw is refl)
 
 -- where two lists are prefixes of one list, both are prefixes of the longer of them, which is a prefix of it
 -- too
-pub longer_begins : (xs ys zs : List ℕ) → IsPrefix xs zs → IsPrefix ys zs
+pub longer_begins : {A : Type 0} (xs ys zs : List A) → IsPrefix xs zs → IsPrefix ys zs
     → IsPrefix xs (longer xs ys) × IsPrefix ys (longer xs ys) × IsPrefix (longer xs ys) zs
-longer_begins xs ys zs p q =
-    let F : List ℕ → Type 0 = λ w. IsPrefix xs w × IsPrefix ys w × IsPrefix w zs in
+longer_begins {A} xs ys zs p q =
+    let F : List A → Type 0 = λ w. IsPrefix xs w × IsPrefix ys w × IsPrefix w zs in
     ⊎_elim
     (λ (c : (length ys ≤ length xs) × (longer xs ys ≡ xs)). subst F (sym c.1) (prefix_self xs, prefix_shorter ys xs zs q p c.0, p))
     (λ (c : (length xs ≤ length ys) × (longer xs ys ≡ ys)). subst F (sym c.1) (prefix_shorter xs ys zs p q c.0, prefix_self ys, q))

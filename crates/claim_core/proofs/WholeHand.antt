@@ -7,6 +7,9 @@ use Rattle.atomic_table.specs.Seated.{TableId}
 use Rattle.atomic_table.specs.Table.{Seen, Final}
 use Rattle.claim_core.specs.declared.seat_view.SeatView.{SeatView}
 use Rattle.claim_core.specs.declared.terms.Terms.{Terms}
+use Rattle.book_core.specs.declared.events.Event.{Event}
+use Rattle.book_core.specs.declared.events.Reply.{Reply}
+use Rattle.claim_core.specs.History.{Log}
 use Rattle.claim_core.specs.Lengths.{runs_end, times, once_below}
 use Rattle.claim_core.specs.Word.{WordView}
 use Rattle.claim_core.specs.Hand.{HandView, IsWholeHand, seen_size, own_places}
@@ -20,9 +23,9 @@ use Rattle.claim_core.proofs.Places.{places_in-all}
 use Rattle.claim_core.proofs.Belongs.{Belongs}
 
 -- a whole hand finds the size that it has seen
-Looks-whole : (v w : SeatView) (found : ℕ) → IsConsistent v → Looks v found w → v.shares ≡ 65536
+Looks-whole : (v w : SeatView) (found : ℕ) (es : Log) → IsConsistent v → Looks v found es w → v.shares ≡ 65536
     → found ≡ runs_end v.base v.seen
-Looks-whole v w found consistent looks all =
+Looks-whole v w found es consistent looks all =
     let still : w.shares ≡ 65536 = looks.same.shares ∙ all in
     let before = consistent.whole all (length v.seen) in
     let after = looks.consistent.whole still (length v.seen) in
@@ -30,9 +33,9 @@ Looks-whole v w found consistent looks all =
     let is : v.seen ≡ w.seen = prefix_whole v.seen w.seen looks.seen (omega arith) in
     sym looks.size ∙ (ap (λ b. runs_end b w.seen) looks.same.base ∙ ap (runs_end v.base) (sym is))
 
-Claims-whole : (v w : SeatView) (found n : ℕ) → IsConsistent v → Claims v found n w → v.shares ≡ 65536
+Claims-whole : (v w : SeatView) (found n : ℕ) (event : ℕ → Event × Reply) → IsConsistent v → Claims v found n event w → v.shares ≡ 65536
     → found ≡ runs_end v.base v.seen
-Claims-whole v w found n consistent claims all =
+Claims-whole v w found n event consistent claims all =
     let still : w.shares ≡ 65536 = claims.same.shares ∙ all in
     let front = v.seen ++ claims.between in
     let k = length v.seen in
@@ -46,17 +49,17 @@ Claims-whole v w found n consistent claims all =
     sym claims.size ∙ (ap (λ b. runs_end b front) claims.same.base ∙ ap (runs_end v.base) (sym is))
 
 -- the same, as a caller sees it
-pub finds_seen : {seat : ClaimSeat} {share size found : ℕ} {w : SeatView} {hand : HandView} → IsHeld seat share size
+pub finds_seen : {seat : ClaimSeat} {share size found : ℕ} {es : Log} {w : SeatView} {hand : HandView} → IsHeld seat share size
     → hand_view seat ≡ hand
-    → Looks seat.me.0 found w → hand.shares ≡ 65536 → found ≡ seen_size hand
-finds_seen {seat} {share} {size} {found} {w} {hand} held hand_is looks all =
-    Looks-whole seat.me.0 w found held.consistent looks (ap (λ (h : HandView). h.shares) hand_is ∙ all) ∙ ap seen_size hand_is
+    → Looks seat.me.0 found es w → hand.shares ≡ 65536 → found ≡ seen_size hand
+finds_seen {seat} {share} {size} {found} {es} {w} {hand} held hand_is looks all =
+    Looks-whole seat.me.0 w found es held.consistent looks (ap (λ (h : HandView). h.shares) hand_is ∙ all) ∙ ap seen_size hand_is
 
-pub claims_seen : {seat : ClaimSeat} {share size found n : ℕ} {w : SeatView} {hand : HandView}
+pub claims_seen : {seat : ClaimSeat} {share size found n : ℕ} {event : ℕ → Event × Reply} {w : SeatView} {hand : HandView}
     → IsHeld seat share size → hand_view seat ≡ hand
-    → Claims seat.me.0 found n w → hand.shares ≡ 65536 → found ≡ seen_size hand
-claims_seen {seat} {share} {size} {found} {n} {w} {hand} held hand_is claims all =
-    Claims-whole seat.me.0 w found n held.consistent claims (ap (λ (h : HandView). h.shares) hand_is ∙ all) ∙ ap seen_size hand_is
+    → Claims seat.me.0 found n event w → hand.shares ≡ 65536 → found ≡ seen_size hand
+claims_seen {seat} {share} {size} {found} {n} {event} {w} {hand} held hand_is claims all =
+    Claims-whole seat.me.0 w found n event held.consistent claims (ap (λ (h : HandView). h.shares) hand_is ∙ all) ∙ ap seen_size hand_is
 
 -- a whole hand owns each run that it has seen
 pub owns_all : {seat : ClaimSeat} {share size : ℕ} {hand : HandView} → IsHeld seat share size → hand_view seat ≡ hand

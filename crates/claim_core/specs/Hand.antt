@@ -1,19 +1,36 @@
 -- A hand as callers see it, and what one call does to it.
 use Rattle.std.specs.Prelude.{◌≡◌, ℕ, ◌+◌, ◌<◌, ◌≤◌, ◌==◌, ◌&&◌, nat_lt, Bool, IsTrue, List, [], ◌∷◌, ◌++◌, length, slice_index}
 use Rattle.std.specs.List.{Contains, list_any}
+use base.Stored.{Coded, coded×, coded_ℕ, coded_list, coded_via}
 use mathlib.Core.List.{IsPrefix}
 use Rattle.claim_core.specs.declared.run.Run.{Run}
 use Rattle.claim_core.specs.Lengths.{InRun, run_start, runs_end, places_in}
 use Rattle.claim_core.specs.Shares.{all_shares}
-use Rattle.claim_core.specs.Word.{WordView}
+use Rattle.claim_core.specs.Word.{WordView, word_coded}
+use Rattle.claim_core.specs.History.{Log, log_coded, AddsEvents, claim_event, raise_event}
 
 -- the word that it belongs to, the lengths of all runs that it has seen, the indices of its own runs among
--- them, and its shares
+-- them, its shares, and the history that it has seen
 pub record HandView : Type 0 where
   pub of : WordView
   pub seen : List ℕ
   pub mine : List ℕ
   pub shares : ℕ
+  pub log : Log
+
+-- how that is stored
+abbrev pub hand_coded : Coded HandView
+hand_coded =
+    coded_via
+    (coded× word_coded (coded× (coded_list coded_ℕ) (coded× (coded_list coded_ℕ) (coded× coded_ℕ log_coded))))
+    (λ (h : HandView). (h.of, (h.seen, (h.mine, (h.shares, h.log)))))
+    (λ x y e i. record {
+      of = (e i).0;
+      seen = (e i).1.0;
+      mine = (e i).1.1.0;
+      shares = (e i).1.1.1.0;
+      log = (e i).1.1.1.1;
+    })
 
 -- the size that the hand has seen
 abbrev pub seen_size : HandView → ℕ
@@ -33,7 +50,7 @@ IsWholeHand hand = hand.shares ≡ all_shares
 
 -- the word's first hand has all shares, and has seen nothing
 abbrev pub IsNewHand : WordView → HandView → Type 0
-IsNewHand word hand = hand ≡ record { of = word; seen = []; mine = []; shares = all_shares }
+IsNewHand word hand = hand ≡ record { of = word; seen = []; mine = []; shares = all_shares; log = [] }
 
 -- the hand's word, indices and shares are as before
 pub record KeepsOwn (old new : HandView) : Type 0 where
@@ -53,6 +70,18 @@ pub record AddsRun (old new : HandView) (run : Run) : Type 0 where
   pub mine : new.mine ≡ length (old.seen ++ between) ∷ old.mine
   pub shares : new.shares ≡ old.shares
   pub of : new.of ≡ old.of
+
+-- the run, which the hand has added, is claimed in the history that it has then seen, by the actor of its index
+pub record LogsRun (old new : HandView) (run : Run) : Type 0 where
+  pub index : ℕ
+  pub last : length new.seen ≡ index + 1
+  pub adds : AddsEvents old.log (claim_event index run ∷ []) new.log
+
+-- it is claimed so by a growth up to a size
+pub record LogsRaise (old new : HandView) (to : ℕ) (run : Run) : Type 0 where
+  pub index : ℕ
+  pub last : length new.seen ≡ index + 1
+  pub adds : AddsEvents old.log (raise_event index to run ∷ []) new.log
 
 -- the hand has seen this size, and nothing else of it has changed
 pub record SeesSize (old new : HandView) (size : ℕ) : Type 0 where

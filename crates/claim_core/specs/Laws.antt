@@ -1,9 +1,10 @@
 -- What follows from the definitions of runs and hands alone.
-use Rattle.std.specs.Prelude.{◌≡◌, ℕ, ◌+◌, ◌<◌, ◌≤◌, ◌≢◌, ◌↔◌, ◌⊎◌, List, ◌++◌, length}
+use Rattle.std.specs.Prelude.{◌≡◌, ℕ, ◌+◌, ◌<◌, ◌≤◌, ◌≢◌, ◌↔◌, ◌⊎◌, List, [], ◌∷◌, ◌++◌, length}
 use Rattle.std.specs.List.{Contains}
 use mathlib.Core.List.{IsPrefix}
 use Rattle.claim_core.specs.declared.run.Run.{Run}
-use Rattle.claim_core.specs.Lengths.{InRun, places_in}
+use Rattle.claim_core.specs.Lengths.{InRun, places_in, runs_end}
+use Rattle.claim_core.specs.History.{Log, AddsEvents, Adds, IsHistoryOf, lengths_of, claim_event, size_event, IsNote, no_note, full_note, growth_note, reach_note, range_note}
 use Rattle.claim_core.specs.Hand.{HandView, KeepsOwn, AddsRun, SeesRun, OwnsRun, OwnsPlace, SeesOwn, GainsRun, OwnApart, IsOwnRun, IsPlaceOf, AreDisjoint, single, seen_size, own_places}
 
 -- a run stays where it is when the list goes on
@@ -135,3 +136,59 @@ SinglePlacesDiffer =
 -- that a hand owns a run can be said without its index
 abbrev pub OwnRunsAreFacts : Type 0
 OwnRunsAreFacts = (hand : HandView) (run : Run) → (OwnsRun hand run ↔ IsOwnRun hand run)
+
+-- what is added to a history in two steps: the events of the first count as some of those before the second's
+abbrev pub EventsFollow : Type 0
+EventsFollow = (a b c es fs : Log) → AddsEvents a es b → AddsEvents b fs c → AddsEvents a fs c
+
+-- a history goes on exactly if no event is added to it in this sense
+abbrev pub PrefixesAddNothing : Type 0
+PrefixesAddNothing = (a b : Log) → (AddsEvents a [] b ↔ IsPrefix a b)
+
+-- one more step
+abbrev pub StepsGoOn : Type 0
+StepsGoOn =
+    (old mid new : Log) (steps : List Log) (es : Log) → Adds old steps mid → AddsEvents mid es new
+    → Adds old (steps ++ es ∷ []) new
+
+-- what was added stays in each history that goes on, as that of hands that met or were joined
+abbrev pub StepsStay : Type 0
+StepsStay = (old mid new : Log) (steps : List Log) → Adds old steps mid → IsPrefix mid new → Adds old steps new
+
+-- a step may stand for nothing
+abbrev pub NothingIsNote : Type 0
+NothingIsNote = (limit : ℕ) → IsNote limit no_note
+
+-- or for the refusal of a growth by n places
+abbrev pub FullIsNote : Type 0
+FullIsNote = (limit n : ℕ) → IsNote limit (full_note limit n)
+
+-- or for a growth by none, if n is 0
+abbrev pub GrowthIsNote : Type 0
+GrowthIsNote = (limit n : ℕ) → IsNote limit (growth_note limit n)
+
+-- or for a growth up to a size that is not needed, or not possible
+abbrev pub ReachIsNote : Type 0
+ReachIsNote = (limit to : ℕ) → IsNote limit (reach_note limit to)
+
+-- or for a look at a place that is not below the size
+abbrev pub RangeIsNote : Type 0
+RangeIsNote = (limit place : ℕ) → IsNote limit (range_note place)
+
+-- a size in a legal history is that of the list before it: where it began, and all claims so far
+abbrev pub SizesCountClaims : Type 0
+SizesCountClaims =
+    (limit base size : ℕ) (before after : Log) → IsHistoryOf limit base (before ++ size_event size ∷ after)
+    → size ≡ runs_end base (lengths_of before)
+
+-- a claim of some places begins there too
+abbrev pub ClaimsBeginAtTheSize : Type 0
+ClaimsBeginAtTheSize =
+    (limit base index : ℕ) (run : Run) (before after : Log) → IsHistoryOf limit base (before ++ claim_event index run ∷ after)
+    → run.from ≡ runs_end base (lengths_of before)
+
+-- no claim is in a history twice, since each has the index that is its turn
+abbrev pub ClaimsHaveTheirTurn : Type 0
+ClaimsHaveTheirTurn =
+    (limit base index : ℕ) (run : Run) (before after : Log) → 0 < run.n
+    → IsHistoryOf limit base (before ++ claim_event index run ∷ after) → index ≡ length (lengths_of before)

@@ -1,6 +1,7 @@
 pub mod Lengths
 pub mod Shares
 pub mod Word
+pub mod History
 pub mod Hand
 pub mod Laws
 pub mod Errors

@@ -8,6 +8,7 @@ use Rattle.atomic_table.specs.Table.{State}
 use Rattle.claim_core.specs.declared.seat_view.SeatView.{SeatView}
 use Rattle.claim_core.specs.declared.terms.Terms.{Terms}
 use Rattle.claim_core.specs.Lengths.{runs_end, times, once_below}
+use Rattle.claim_core.specs.History.{Log, lengths_of, IsHistoryOf}
 use Rattle.claim_core.specs.Shares.{all_shares}
 
 -- a number of each view, added up
@@ -34,6 +35,29 @@ pub record Fits (limit base size : ℕ) (lengths : List ℕ) (views : List SeatV
   pub owned : (k : ℕ) → total (λ v. times k v.mine) views ≡ once_below k (length lengths)
   pub shares : total (λ v. v.shares) views ≡ all_shares
 
+-- what a seat has seen of the history is a prefix of it, and claims what the seat has seen
+pub record Recalls (all : Log) (v : SeatView) : Type 0 where
+  pub log : IsPrefix v.log all
+  pub one : IsPrefix v.one_log all
+  pub other : IsPrefix v.other_log all
+  pub lengths : IsPrefix v.seen (lengths_of v.log)
+
+-- some seat with shares has seen all of it
+pub record Latest (log : Log) (views : List SeatView) : Type 0 where
+  pub id : ℕ
+  pub view : SeatView
+  pub at : get_elem? views id ≡ some view
+  pub part : 0 < view.shares
+  pub all : view.log ≡ log
+
+-- there is one history. It is legal, it claims these lengths, each once, and each seat has seen a prefix of it
+pub record Logged (limit base : ℕ) (lengths : List ℕ) (views : List SeatView) : Type 0 where
+  pub log : Log
+  pub history : IsHistoryOf limit base log
+  pub claims : lengths_of log ≡ lengths
+  pub each : (id : ℕ) (v : SeatView) → get_elem? views id ≡ some v → Recalls log v
+  pub latest : Latest log views
+
 -- the size is the middle one of 33 words, so that nothing else lies near it
 abbrev pub word_count : ℕ
 word_count = 33
@@ -41,8 +65,9 @@ word_count = 33
 abbrev pub size_at : ℕ
 size_at = 16
 
--- there is a list of lengths that fits the size and all seats
+-- there is a list of lengths that fits the size and all seats, and a history that claims them
 pub record Kept (terms : Terms) (s : State (Unit {0}) SeatView) : Type 0 where
   pub words : length s.words ≡ word_count
   pub lengths : List ℕ
   pub fits : Fits terms.limit terms.base (slice_index s.words size_at) lengths s.views
+  pub logged : Logged terms.limit terms.base lengths s.views

@@ -1,5 +1,5 @@
 -- What a word and a hand keep of their table and seat. Only proofs use it.
-use Rattle.std.specs.Prelude.{◌≡◌, ℕ, ◌<◌, []}
+use Rattle.std.specs.Prelude.{◌≡◌, ℕ, ◌<◌, [], ◌∷◌}
 use Rattle.atomic_table.specs.Seated.{TableId}
 use Rattle.atomic_table.specs.declared.shared.Seat.{Seat}
 use Rattle.claim_core.specs.declared.seat_view.SeatView.{SeatView}
@@ -8,6 +8,7 @@ use Rattle.claim_core.specs.Lengths.{runs_end}
 use Rattle.claim_core.specs.Rule.{word_count, size_at}
 use Rattle.claim_core.specs.Word.{WordView, AreBounds}
 use Rattle.claim_core.specs.Hand.{HandView}
+use Rattle.claim_core.specs.History.{size_event}
 use Rattle.claim_core.specs.SeatView.{IsConsistent, Looks, joined_view, with_own}
 
 -- what a hand holds
@@ -33,6 +34,7 @@ hand_view seat =
       seen = seat.me.0.seen;
       mine = seat.me.0.mine;
       shares = seat.me.0.shares;
+      log = seat.me.0.log;
     }
 
 -- the two numbers are those of the seat, which has a share
@@ -58,7 +60,7 @@ pub record IsPair (table : TableId) (key : Terms) (seat other : ClaimSeat) : Typ
 -- it had
 pub record SeesAsOne (old_seat old_other : ClaimSeat) (found : ℕ) (seat other : ClaimSeat) : Type 0 where
   pub both : SeatView
-  pub looks : Looks (joined_view old_seat.me.0 old_other.me.0) found both
+  pub looks : Looks (joined_view old_seat.me.0 old_other.me.0) found (size_event found ∷ []) both
   pub same : seat.table_id ≡ old_seat.table_id
   pub other_same : other.table_id ≡ old_seat.table_id
   pub me : seat.me ≡ (with_own both old_seat.me.0.mine old_seat.me.0.shares, old_seat.me.1)

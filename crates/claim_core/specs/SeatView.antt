@@ -5,6 +5,9 @@ use mathlib.Core.List.{IsPrefix}
 use Rattle.atomic_table.specs.Table.{Me, Step}
 use Rattle.claim_core.specs.declared.seat_view.SeatView.{SeatView}
 use Rattle.claim_core.specs.declared.terms.Terms.{Terms}
+use Rattle.book_core.specs.declared.events.Event.{Event}
+use Rattle.book_core.specs.declared.events.Reply.{Reply}
+use Rattle.claim_core.specs.History.{Log, lengths_of, IsHistoryOf, AddsEvents, claim_event, raise_event, enough_event, size_event, memory_event}
 use Rattle.claim_core.specs.Lengths.{runs_end, times, once_below}
 use Rattle.claim_core.specs.Shares.{all_shares}
 
@@ -20,18 +23,34 @@ first_view terms =
       shares = all_shares;
       one = [];
       other = [];
+      log = [];
+      one_log = [];
+      other_log = [];
     }
 
 -- a seat that was joined to another has nothing left
 abbrev pub spent_view : SeatView
-spent_view = record { limit = 0; base = 0; mark = []; seen = []; mine = []; shares = 0; one = []; other = [] }
+spent_view =
+    record {
+      limit = 0;
+      base = 0;
+      mark = [];
+      seen = [];
+      mine = [];
+      shares = 0;
+      one = [];
+      other = [];
+      log = [];
+      one_log = [];
+      other_log = [];
+    }
 
 -- the longer of two lists, and the first if both have one length
-abbrev pub longer : List ℕ → List ℕ → List ℕ
+abbrev pub longer : {A : Type 0} → List A → List A → List A
 longer xs ys = if nat_le (length ys) (length xs) then xs else ys
 
--- two views as one. It keeps both lists that were seen, until a load shows that both are prefixes of the
--- longer
+-- two views as one. It keeps both lists that were seen, and both histories, until a load shows that both are prefixes
+-- of the longer
 abbrev pub joined_view : SeatView → SeatView → SeatView
 joined_view v w =
     record {
@@ -43,6 +62,9 @@ joined_view v w =
       shares = v.shares + w.shares;
       one = v.seen;
       other = w.seen;
+      log = longer v.log w.log;
+      one_log = v.log;
+      other_log = w.log;
     }
 
 -- a view with these runs and shares
@@ -57,6 +79,9 @@ with_own v mine shares =
       shares = shares;
       one = [];
       other = [];
+      log = v.log;
+      one_log = [];
+      other_log = [];
     }
 
 -- what a seat keeps that no join has left unsettled
@@ -66,6 +91,9 @@ pub record IsConsistent (v : SeatView) : Type 0 where
   pub shares : v.shares ≤ all_shares
   pub own : (k : ℕ) → times k v.mine ≤ once_below k (length v.seen)
   pub whole : v.shares ≡ all_shares → (k : ℕ) → times k v.mine ≡ once_below k (length v.seen)
+  pub history : IsHistoryOf v.limit v.base v.log
+  pub lengths : IsPrefix v.seen (lengths_of v.log)
+  pub whole_log : v.shares ≡ all_shares → lengths_of v.log ≡ v.seen
 
 -- the seat's word, runs and shares stay
 pub record SameOwn (v w : SeatView) : Type 0 where
@@ -75,29 +103,45 @@ pub record SameOwn (v w : SeatView) : Type 0 where
   pub mine : w.mine ≡ v.mine
   pub shares : w.shares ≡ v.shares
 
--- the seat has seen the list of all lengths, which ends at the size that was found
-pub record Looks (v : SeatView) (found : ℕ) (w : SeatView) : Type 0 where
+-- the seat has seen the list of all lengths, which ends at the size that was found, and added these events to the
+-- history
+pub record Looks (v : SeatView) (found : ℕ) (es : Log) (w : SeatView) : Type 0 where
   pub size : runs_end w.base w.seen ≡ found
   pub seen : IsPrefix v.seen w.seen
   pub one : IsPrefix v.one w.seen
   pub other : IsPrefix v.other w.seen
+  pub log : AddsEvents v.log es w.log
+  pub one_log : IsPrefix v.one_log w.log
+  pub other_log : IsPrefix v.other_log w.log
   pub same : SameOwn v w
   pub consistent : IsConsistent w
 
--- the seat has seen the list of all lengths, and added a run of n places to it, which is its own
-pub record Claims (v : SeatView) (found n : ℕ) (w : SeatView) : Type 0 where
+-- the seat has seen the list of all lengths, and added a run of n places to it, which is its own; and the event of
+-- its index to the history
+pub record Claims (v : SeatView) (found n : ℕ) (event : ℕ → Event × Reply) (w : SeatView) : Type 0 where
   pub between : List ℕ
   pub size : runs_end w.base (v.seen ++ between) ≡ found
   pub seen : w.seen ≡ (v.seen ++ between) ++ n ∷ []
   pub mine : w.mine ≡ length (v.seen ++ between) ∷ v.mine
+  pub log : AddsEvents v.log (event (length (v.seen ++ between)) ∷ []) w.log
   pub same : SameOwn v (record w { mine = v.mine })
   pub consistent : IsConsistent w
 
--- the two lists of a join are prefixes of what the seat has seen; nothing else is learned
+-- the two lists and histories of a join are prefixes of what the seat has seen; nothing else is learned
 pub record Settles (v w : SeatView) : Type 0 where
   pub one : IsPrefix v.one v.seen
   pub other : IsPrefix v.other v.seen
   pub seen : w.seen ≡ v.seen
+  pub one_log : IsPrefix v.one_log v.log
+  pub other_log : IsPrefix v.other_log v.log
+  pub log : w.log ≡ v.log
+  pub same : SameOwn v w
+  pub consistent : IsConsistent w
+
+-- the seat has added these events to the history; nothing else is learned
+pub record Remarks (v : SeatView) (es : Log) (w : SeatView) : Type 0 where
+  pub seen : w.seen ≡ v.seen
+  pub log : AddsEvents v.log es w.log
   pub same : SameOwn v w
   pub consistent : IsConsistent w
 
@@ -107,19 +151,34 @@ Seated = Me (Unit {0}) SeatView
 
 -- a load
 abbrev pub loaded : Step (Unit {0}) → Seated → ℕ → Seated → Type 0
-loaded step v found w = Looks v.0 found w.0 × (w.1 ≡ v.1)
+loaded step v found w = Looks v.0 found (size_event found ∷ []) w.0 × (w.1 ≡ v.1)
+
+-- a load that stands for a note's events of the size that it finds
+abbrev pub loaded_as : (ℕ → Log) → Step (Unit {0}) → Seated → ℕ → Seated → Type 0
+loaded_as note step v found w = Looks v.0 found (note found) w.0 × (w.1 ≡ v.1)
+
+-- a load that stands for a growth without memory
+abbrev pub lacked : Step (Unit {0}) → Seated → ℕ → Seated → Type 0
+lacked step v found w = Remarks v.0 (memory_event ∷ []) w.0 × (w.1 ≡ v.1)
 
 -- the load that ends a join
 abbrev pub settled : Step (Unit {0}) → Seated → ℕ → Seated → Type 0
 settled step v found w = Settles v.0 w.0 × (w.1 ≡ v.1)
 
--- an exchange: it wins if it finds what it expected
-abbrev pub exchanged : Step (Unit {0}) → Seated → ℕ → Seated → Type 0
-exchanged step v found w =
-    MatchBool (found == step.first) (Claims v.0 found (step.second - step.first) w.0) (Looks v.0 found w.0)
+-- an exchange: it wins if it finds what it expected, and otherwise stands for a note's events of the size that it finds
+abbrev pub exchanged_as : (ℕ → Log) → Step (Unit {0}) → Seated → ℕ → Seated → Type 0
+exchanged_as note step v found w =
+    MatchBool (found == step.first)
+    (Claims v.0 found (step.second - step.first)
+    (λ index. claim_event index (record { from = found; n = step.second - step.first })) w.0)
+    (Looks v.0 found (note found) w.0)
     × (w.1 ≡ v.1)
 
 -- a greatest-value step: it grows the size if it finds less
 abbrev pub raised : Step (Unit {0}) → Seated → ℕ → Seated → Type 0
 raised step v found w =
-    MatchBool (nat_lt found step.first) (Claims v.0 found (step.first - found) w.0) (Looks v.0 found w.0) × (w.1 ≡ v.1)
+    MatchBool (nat_lt found step.first)
+    (Claims v.0 found (step.first - found)
+    (λ index. raise_event index step.first (record { from = found; n = step.first - found })) w.0)
+    (Looks v.0 found (enough_event step.first found ∷ []) w.0)
+    × (w.1 ≡ v.1)

@@ -4,6 +4,8 @@ ghost use Rattle.std.specs.List.{IsDistinct};
 ghost use Rattle.claim_core.specs.Lengths.{Tiles, times};
 ghost use Rattle.claim_core.specs.Hand.{IsWholeHand, seen_size, own_places};
 ghost use Rattle.claim_core.specs.Shares.{all_shares};
+ghost use Rattle.claim_core.specs.History.{IsHistoryOf, lengths_of};
+ghost use mathlib.Core.List.{IsPrefix};
 
 use crate::seat_view::SeatView;
 use atomic_table::Seat;
@@ -70,6 +72,9 @@ impl Hand {
         ensures places { self.now.of.base + own_places self.now ≤ seen_size self.now }
         ensures some_shares { 0 < self.now.shares }
         ensures not_more { self.now.shares ≤ all_shares }
+        // The history that it has seen is legal, and claims all runs that the hand has seen, each once.
+        ensures history { IsHistoryOf self.now.of.limit self.now.of.base self.now.log }
+        ensures lengths { IsPrefix self.now.seen (lengths_of self.now.log) }
     {
         // For the proof: reading a field shows the type's invariant.
         let _seen = self.seen;
@@ -82,6 +87,7 @@ impl Hand {
         ensures all { (k : ℕ) → k < length self.now.seen → Contains self.now.mine k }
         ensures tiles { Tiles self.now.of.base self.now.seen self.now.mine }
         ensures size { seen_size self.now ≡ self.now.of.base + own_places self.now }
+        ensures claims { lengths_of self.now.log ≡ self.now.seen }
     {
         // For the proof: reading a field shows the type's invariant.
         let _shares = self.shares;

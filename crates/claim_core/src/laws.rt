@@ -1,4 +1,4 @@
-//! What follows from the definitions of runs and hands alone, for proofs about several hands.
+//! What follows from the definitions of runs, hands and histories alone, for proofs about several hands or steps.
 //! No call does anything.
 ghost use Rattle.claim_core.specs.Laws.{RunsStay, RunsWereThere, RunsAreApart, PlacesStay};
 ghost use Rattle.claim_core.specs.Laws.{AddedRunsAreOwned, AddedRunsAreLast};
@@ -7,6 +7,9 @@ ghost use Rattle.claim_core.specs.Laws.{OwnRunsStay, OwnersAreApart, JoinedOwner
 ghost use Rattle.claim_core.specs.Laws.{AddedPlacesAddUp, JoinedPlacesAddUp, JoinedHandsOwnRuns, SinglePlacesDiffer, OwnRunsAreFacts};
 ghost use Rattle.claim_core.specs.Laws.{OwnPlacesStay, AddedPlacesAreOwned, AddedPlacesAreOfTheRun, JoinedPlacesAreOfEither};
 ghost use Rattle.claim_core.specs.Laws.{OwnCountsStay};
+ghost use Rattle.claim_core.specs.Laws.{EventsFollow, PrefixesAddNothing, StepsGoOn, StepsStay};
+ghost use Rattle.claim_core.specs.Laws.{SizesCountClaims, ClaimsBeginAtTheSize, ClaimsHaveTheirTurn};
+ghost use Rattle.claim_core.specs.Laws.{NothingIsNote, FullIsNote, GrowthIsNote, ReachIsNote, RangeIsNote};
 
 /// States that a run stays where it is when the list grows.
 pub fn runs_stay()
@@ -125,4 +128,42 @@ pub fn single_places_differ()
 /// hold it.
 pub fn own_runs_are_facts()
     ensures { OwnRunsAreFacts }
+{}
+
+/// States that what two steps add to a history is added in two parts, in this order.
+pub fn events_follow()
+    ensures { EventsFollow }
+{}
+
+/// States that a history goes on exactly if no event is added to it.
+pub fn prefixes_add_nothing()
+    ensures { PrefixesAddNothing }
+{}
+
+/// States that a list of steps can have one more.
+pub fn steps_go_on()
+    ensures { StepsGoOn }
+{}
+
+/// States that what was added to a history stays in each history that goes on.
+pub fn steps_stay()
+    ensures { StepsStay }
+{}
+
+/// States that in a legal history a size is that of all claims before it, a claim begins there, and the index of
+/// a claim is the number of claims before it, so that none is there twice.
+pub fn histories_count_claims()
+    ensures sizes { SizesCountClaims }
+    ensures begins { ClaimsBeginAtTheSize }
+    ensures turns { ClaimsHaveTheirTurn }
+{}
+
+/// States that a load or a lost exchange may stand for nothing, for a growth by no places, for one that finds no
+/// room, for a growth up to a size that is not needed or not possible, and for a look past the size.
+pub fn refusals_are_notes()
+    ensures nothing { NothingIsNote }
+    ensures full { FullIsNote }
+    ensures growth { GrowthIsNote }
+    ensures reach { ReachIsNote }
+    ensures range { RangeIsNote }
 {}

@@ -7,8 +7,10 @@
 //!
 //! A caller can prove that a run begins at the end of all runs before it; that every size it learns is a true
 //! one; that two hands that met or were joined own no common run; and that the runs of a hand with all shares
-//! tile the places from the base to the size. `laws` has what follows from these definitions alone. Nothing
-//! is said about the order of callers that never met, nor that a try wins.
+//! tile the places from the base to the size. There is one legal history of all claims, sizes and refusals
+//! (`specs/History.antt`): each hand has seen a prefix of it, and each call says which events it adds. `laws`
+//! has what follows from these definitions alone. Nothing is said of when another hand sees a claim, nor that
+//! a try wins.
 //!
 //! The code is safe, over `atomic_table`. Its rule is `specs/Rule.antt`: there is one list of lengths, and
 //! what each hand has seen is a prefix of it. That each kind of step keeps the rule is `proofs/Kept.antt`,
@@ -19,6 +21,7 @@ mod claims;
 mod hand;
 pub mod laws;
 mod mark;
+mod notes;
 mod rule;
 mod run;
 mod seat_view;
@@ -28,5 +31,6 @@ mod word;
 
 pub use hand::Hand;
 pub use mark::{Mark, Marks};
+pub use notes::Notes;
 pub use run::{Enough, Moved, Run};
 pub use word::{OpenError, Word};

@@ -1,4 +1,5 @@
 //! The rule of the word, and the kinds of step that keep it.
+use crate::notes::Notes;
 use crate::seat_view::SeatView;
 use crate::terms::Terms;
 use atomic_table::{Join, Play, Seat, Split, TableRule};
@@ -31,6 +32,26 @@ impl Play<(), SeatView> for Load {
     ghost then = { loaded };
 }
 
+/// A load that shows the size, and stands for a note's events.
+pub struct LoadAs<N: Notes> {
+    note: PhantomData<N>,
+}
+
+impl<N: Notes> Play<(), SeatView> for LoadAs<N> {
+    ghost use Rattle.claim_core.specs.SeatView.{loaded_as};
+
+    ghost then = { loaded_as N.note };
+}
+
+/// A load that stands for a growth without memory. It shows no size.
+pub struct Lack;
+
+impl Play<(), SeatView> for Lack {
+    ghost use Rattle.claim_core.specs.SeatView.{lacked};
+
+    ghost then = { lacked };
+}
+
 /// The load that ends a join. It shows no size.
 pub struct Settle;
 
@@ -40,13 +61,15 @@ impl Play<(), SeatView> for Settle {
     ghost then = { settled };
 }
 
-/// An exchange of the size.
-pub struct Exchange;
+/// An exchange of the size. If it is lost, it stands for a note's events.
+pub struct ExchangeAs<N: Notes> {
+    note: PhantomData<N>,
+}
 
-impl Play<(), SeatView> for Exchange {
-    ghost use Rattle.claim_core.specs.SeatView.{exchanged};
+impl<N: Notes> Play<(), SeatView> for ExchangeAs<N> {
+    ghost use Rattle.claim_core.specs.SeatView.{exchanged_as};
 
-    ghost then = { exchanged };
+    ghost then = { exchanged_as N.note };
 }
 
 /// A step to the greater of two sizes.

@@ -57,6 +57,8 @@ impl<A: Allocator> Word<A> {
         ensures seen { (hand.new.seen ≡ hand.old.seen) ⊎ (hand.new.seen ≡ other.seen) }
         ensures begins { IsPrefix hand.old.seen hand.new.seen }
         ensures also_begins { IsPrefix other.seen hand.new.seen }
+        ensures begins_log { IsPrefix hand.old.log hand.new.log }
+        ensures also_begins_log { IsPrefix other.log hand.new.log }
         ensures apart { OwnApart hand.old other }
     {
         let Hand { seat, shares, seen } = other;
@@ -77,6 +79,9 @@ impl<A: Allocator> Word<A> {
         ensures begins { IsPrefix a.old.seen a.new.seen }
         ensures also_begins { IsPrefix b.old.seen a.new.seen }
         ensures same { b.new.seen ≡ a.new.seen }
+        ensures begins_log { IsPrefix a.old.log a.new.log }
+        ensures also_begins_log { IsPrefix b.old.log a.new.log }
+        ensures same_log { b.new.log ≡ a.new.log }
         ensures apart { OwnApart a.new b.new }
     {
         let shared = &self.table.shared;

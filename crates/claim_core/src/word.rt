@@ -1,12 +1,16 @@
 //! The word: how it is opened, looked at and closed.
-ghost use Rattle.std.specs.Prelude.{◌≡◌, ◌≤◌, ◌↔◌, IfOk, Err, length, slice_index};
+ghost use Rattle.std.specs.Prelude.{◌≡◌, ◌≤◌, ◌↔◌, [], ◌∷◌, IfOk, Err, length, slice_index};
 ghost use Rattle.claim_core.specs.Rule.{word_count, size_at};
+ghost use Rattle.claim_core.specs.Seat.{hand_view};
+ghost use Rattle.claim_core.specs.SeatView.{first_view};
 ghost use Rattle.claim_core.specs.Word.{AreBounds};
-ghost use Rattle.claim_core.specs.Hand.{IsHandOf, IsWholeHand, IsNewHand, SeesSize, seen_size};
+ghost use Rattle.claim_core.specs.Hand.{IsHandOf, IsWholeHand, IsNewHand, KeepsOwn, SeesSize, seen_size};
+ghost use Rattle.claim_core.specs.History.{AddsEvents, IsNote, size_event, memory_event};
 
 use crate::hand::{Hand, WHOLE};
 use crate::mark::Mark;
-use crate::rule::{Load, OneList};
+use crate::notes::{Notes, SizeNote};
+use crate::rule::{ClaimSeat, Lack, LoadAs, OneList};
 use crate::seat_view::SeatView;
 use crate::terms::Terms;
 use atomic_table::Table;
@@ -31,6 +35,19 @@ fn words_around(size: u64) -> [u64; WORDS]
     let mut words = [0; WORDS];
     words[SIZE_AT] = size;
     words
+}
+
+// The hand that has all shares, around the seat that a new table begins with.
+fn first_hand(seat: ClaimSeat, terms: &Terms) -> Hand
+    requires bounds { AreBounds terms.now.limit terms.now.base }
+    requires first { seat.me ≡ (first_view terms.now, []) }
+    ensures { result ≡ hand_view seat }
+{
+    Hand {
+        seat,
+        shares: WHOLE,
+        seen: terms.base,
+    }
 }
 
 /// The reason why a word was not opened.
@@ -123,11 +140,7 @@ impl<A: Allocator> Word<A> {
         let (table, seat) = Table::of_words(alloc, &words_around(base), &terms).map_err(
             |_| OpenError::NoMemory,
         )?;
-        let hand = Hand {
-            seat,
-            shares: WHOLE,
-            seen: base,
-        };
+        let hand = first_hand(seat, &terms);
         Ok((Word { table, terms }, hand))
     }
 
@@ -158,13 +171,39 @@ impl<A: Allocator> Word<A> {
         requires ours { IsHandOf self.now hand.old }
         ensures seen { SeesSize hand.old hand.new result }
         ensures grows { seen_size hand.old ≤ result }
+        ensures logs { AddsEvents hand.old.log (size_event result ∷ []) hand.new.log }
         // Nobody else can claim while one hand has all shares.
         ensures whole { IsWholeHand hand.old → result ≡ seen_size hand.old }
     {
+        self.size_as::<SizeNote>(hand)
+    }
+
+    /// Returns the size, by one load, which stands for the note's events of that size.
+    #[inline]
+    pub fn size_as<N: Notes>(&self, hand: &mut Hand) -> u64
+        requires ours { IsHandOf self.now hand.old }
+        requires note { IsNote self.now.limit N.note }
+        ensures seen { SeesSize hand.old hand.new result }
+        ensures grows { seen_size hand.old ≤ result }
+        ensures logs { AddsEvents hand.old.log (N.note result) hand.new.log }
+        ensures whole { IsWholeHand hand.old → result ≡ seen_size hand.old }
+    {
         let shared = &self.table.shared;
-        let found = shared.load::<Load>(&mut hand.seat, SIZE_AT);
+        let found = shared.load::<LoadAs<N>>(&mut hand.seat, SIZE_AT);
         hand.seen = found;
         found
+    }
+
+    /// Writes into the history that a growth finds no memory. It takes one load of the word, which shows no
+    /// size.
+    pub fn log_no_memory(&self, hand: &mut Hand)
+        requires ours { IsHandOf self.now hand.old }
+        ensures own { KeepsOwn hand.old hand.new }
+        ensures seen { hand.new.seen ≡ hand.old.seen }
+        ensures logs { AddsEvents hand.old.log (memory_event ∷ []) hand.new.log }
+    {
+        let shared = &self.table.shared;
+        shared.load::<Lack>(&mut hand.seat, SIZE_AT);
     }
 
     /// Returns the size by one load, for a caller without a hand. A proof learns nothing from it.

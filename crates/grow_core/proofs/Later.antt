@@ -12,7 +12,7 @@ use Rattle.grow_core.specs.declared.errors.GrowError.TheVariants.{NoMemory, Full
 use Rattle.grow_core.specs.Vector.{VectorView, SeesMore}
 use Rattle.grow_core.specs.Token.{PlacedView}
 use Rattle.grow_core.specs.Grown.{GrownView, IsGrownOf, values_of}
-use Rattle.grow_core.specs.Growth.{WonPlace, WonRun, Refuses, IsDue, Leaves}
+use Rattle.grow_core.specs.Growth.{WonPlace, WonRun, Refuses, IsDue, Leaves, HasRoom, LacksMemory}
 
 -- a hand sees what it sees
 pub more_self : (a : HandView) → SeesMore a a
@@ -153,3 +153,21 @@ won_run_of vector given a b c run grown sees below alone n some adds owned is to
       tokens = tokens;
       values = values;
     }
+
+-- a hand that has seen the same
+prefix_same : (xs ys : List ℕ) → ys ≡ xs → IsPrefix xs ys
+prefix_same xs ys same = subst (λ (l : List ℕ). IsPrefix xs l) (sym same) ([], append-nil xs)
+
+pub more_of_same : (a b : HandView) → KeepsOwn a b → b.seen ≡ a.seen → SeesMore a b
+more_of_same a b own seen = record { seen = prefix_same a.seen b.seen seen; own = own }
+
+pub size_of_same : (a b : HandView) → KeepsOwn a b → b.seen ≡ a.seen → seen_size b ≡ seen_size a
+size_of_same a b own seen = ap (λ (w : WordView). w.base + sum b.seen) own.of ∙ ap (λ (l : List ℕ). a.of.base + sum l) seen
+
+-- a growth that finds no memory leaves a hand that has seen the same
+pub refuses_memory : {T V E : Type 0} (vector : VectorView T) (n : ℕ) (given : V) (a b : HandView) → 0 < n → KeepsOwn a b
+    → b.seen ≡ a.seen → HasRoom vector n a → Refuses {E = E} vector n given a b (NoMemory given)
+refuses_memory vector n given a b some_places own seen room =
+    let same = size_of_same a b own seen in
+    let still : LacksMemory vector n a b = record { more = more_of_same a b own seen; room = omega (arith, same, room) } in
+    record { some_places = some_places; due = room; left = still; back = refl }

@@ -1,4 +1,5 @@
 pub mod Later
+pub mod Logs
 pub mod Places
 pub mod OpenedValues
 pub mod Filling

@@ -11,6 +11,7 @@ pub mod ShownCells
 pub mod Growth
 pub mod Making
 pub mod AtLeast
+pub mod Logs
 pub mod Segment
 pub mod Stretch
 pub mod Filled
@@ -19,6 +20,7 @@ pub mod Slices
 pub mod PopSegment
 pub mod Errors
 pub use Rattle.claim_core.specs.Hand
+pub use Rattle.claim_core.specs.History
 pub use Rattle.claim_core.specs.Lengths
 pub use Rattle.claim_core.specs.Laws
 pub use Rattle.claim_core.specs.Word

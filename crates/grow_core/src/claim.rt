@@ -1,16 +1,18 @@
 // How every growth claims its run, once it has its memory.
 ghost use Rattle.std.specs.Prelude.{◌≡◌, ◌+◌, ◌<◌, ◌≤◌, IfOk, IfErr, IsErrAnd};
-ghost use Rattle.claim_core.specs.Hand.{AddsRun, seen_size};
+ghost use Rattle.claim_core.specs.Hand.{AddsRun, LogsRun, seen_size};
 ghost use Rattle.grow_core.specs.Vector.{IsHandOf, limit_of};
 ghost use Rattle.grow_core.specs.Keys.{OwnsPlacesOf};
 ghost use Rattle.grow_core.specs.Growth.{Refuses, HasNoRoom, SaysFull, IsNotMoved, ClaimsNothing};
 ghost use Rattle.grow_core.specs.Making.{IsClaimed};
+ghost use Rattle.grow_core.specs.Logs.{LogsGrowth, LogsRefusal};
 
 use crate::errors::GrowError;
 use crate::hand::{Hand, claiming_laws};
 use crate::keys::install;
 use crate::vector::Shared;
 use claim_core::{Moved, Run, laws};
+use std::marker::Brand;
 use std::sync::Wait;
 
 impl<T: Drop> Shared<T> {
@@ -28,10 +30,12 @@ impl<T: Drop> Shared<T> {
         ensures refused { IfErr result (Refuses self.now n value hand.old hand.new) }
         ensures unclaimed { IfErr result ClaimsNothing }
         ensures full { HasNoRoom self.now n hand.old → IsErrAnd result SaysFull }
+        ensures logs { IfOk result (λ (run, _). LogsGrowth hand.old hand.new run) }
+        ensures logs_refusal { IfErr result (LogsRefusal n hand.old hand.new) }
     {
         // For the proof: the hand owns the run that it gains.
         laws::added_runs_are_owned();
-        let from = self.size(hand);
+        let from = self.size_for(hand, n);
         let run = Run { from, n };
         if n == 0 {
             return Ok((run, value));
@@ -60,6 +64,8 @@ impl<T: Drop> Shared<T> {
         ensures refused { IfErr result (Refuses self.now n value hand.old hand.new) }
         ensures unclaimed { IfErr result ClaimsNothing }
         ensures full { HasNoRoom self.now n hand.old → IsErrAnd result SaysFull }
+        ensures logs { IfOk result (λ (run, _). LogsGrowth hand.old hand.new run) }
+        ensures logs_refusal { IfErr result (LogsRefusal n hand.old hand.new) }
         ensures not_moved { IfErr result IsNotMoved }
     {
         for _try in rt.forever() {
@@ -90,14 +96,17 @@ impl<T: Drop> Shared<T> {
         ensures value { IfOk result (λ on. on ≡ value) }
         ensures refused { IfErr result (Refuses self.now n value hand.old hand.new) }
         ensures unclaimed { IfErr result ClaimsNothing }
+        ensures logs { IfOk result (λ _. LogsRun hand.old hand.new record { from = from; n = n }) }
+        ensures logs_refusal { IfErr result (LogsRefusal n hand.old hand.new) }
     {
         // For the proof: the hand keeps its places, and owns those of the run that it gains.
         self.laws();
         claiming_laws(&hand.claims);
         let Ok(()) = install(&self.table, &mut hand.keys, from, n) else {
+            self.word.log_no_memory(&mut hand.claims);
             return Err(GrowError::NoMemory { back: value });
         };
-        match self.word.exchange(&mut hand.claims, from, n) {
+        match self.word.exchange_as::<Brand>(&mut hand.claims, from, n) {
             Ok(_run) => Ok(value),
             Err(Moved { size }) if self.limit() - size < n => Err(GrowError::Full {
                 size,

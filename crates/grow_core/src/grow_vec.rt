@@ -5,6 +5,7 @@ ghost use Rattle.grow_core.specs.Grown.{IsGrownOf, AreKeptFrom, values_of};
 ghost use Rattle.grow_core.specs.Keys.{OwnsPlacesOf};
 ghost use Rattle.grow_core.specs.Growth.{WonRun, WonPlaces, Refuses, HasNoRoom, SaysFull, IsNotMoved};
 ghost use Rattle.grow_core.specs.Making.{StopsIn};
+ghost use Rattle.grow_core.specs.Logs.{LogsGrowth, LogsRefusal};
 
 use crate::errors::{GrowError, Never};
 use crate::grown::Grown;
@@ -29,6 +30,9 @@ impl<T: Drop> Shared<T> {
             (Refuses self.now (vec_len values) values hand.old hand.new) }
         // Room that is missing by what the hand has seen is reported before memory is asked for.
         ensures full { HasNoRoom self.now (vec_len values) hand.old → IsErrAnd result SaysFull }
+        // The history gets the claim of the run, or the event whose reply the refusal is.
+        ensures logs { IfOk result (λ grown. LogsGrowth hand.old hand.new grown.run) }
+        ensures logs_refusal { IfErr result (LogsRefusal (vec_len values) hand.old hand.new) }
     {
         let n = values.len() as u64;
         let (run, values) = self.claim_run(hand, n, values)?;
@@ -49,6 +53,9 @@ impl<T: Drop> Shared<T> {
         // Room that is missing by what the hand has seen is reported before memory is asked for.
         ensures full { HasNoRoom self.now (vec_len values) hand.old → IsErrAnd result SaysFull }
         ensures not_moved { IfErr result IsNotMoved }
+        // The history gets the claim of the run, or the event whose reply the refusal is.
+        ensures logs { IfOk result (λ grown. LogsGrowth hand.old hand.new grown.run) }
+        ensures logs_refusal { IfErr result (LogsRefusal (vec_len values) hand.old hand.new) }
     {
         let n = values.len() as u64;
         let (run, values) = self.claim_again(rt, hand, n, values)?;
@@ -70,6 +77,9 @@ impl<T: Drop> Shared<T> {
         // Room that is missing by what the hand has seen is reported before memory is asked for.
         ensures full { HasNoRoom self.now (vec_len values) hand.old → IsErrAnd result SaysFull }
         ensures not_moved { IfErr result IsNotMoved }
+        // The history gets the claim of the run, or the event whose reply the refusal is.
+        ensures logs { IfOk result (λ run. LogsGrowth hand.old hand.new run) }
+        ensures logs_refusal { IfErr result (LogsRefusal (vec_len values) hand.old hand.new) }
     {
         self.append_by(rt, hand, values, &mut |_placed: Placed<T>| {})
     }
@@ -92,6 +102,8 @@ impl<T: Drop> Shared<T> {
             (Refuses self.now (vec_len values) values hand.old hand.new) }
         ensures full { HasNoRoom self.now (vec_len values) hand.old → IsErrAnd result SaysFull }
         ensures not_moved { IfErr result IsNotMoved }
+        ensures logs { IfOk result (λ run. LogsGrowth hand.old hand.new run) }
+        ensures logs_refusal { IfErr result (LogsRefusal (vec_len values) hand.old hand.new) }
     {
         let n = values.len() as u64;
         let (won, values) = self.claim_again(rt, hand, n, values)?;

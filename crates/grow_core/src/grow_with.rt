@@ -8,6 +8,7 @@ ghost use Rattle.grow_core.specs.Growth.{Refuses, HasNoRoom, SaysFull, IsNotMove
 ghost use Rattle.grow_core.specs.Making.{Makes, StopsAfter, StopsIn, LeavesMaker, IsRefusedBy, IsTakenIn, IsTakenFrom};
 ghost use Rattle.grow_core.specs.Making.{WonMade, WonClones};
 ghost use Rattle.grow_core.specs.Begun.{AreUnwritten, begun_count};
+ghost use Rattle.grow_core.specs.Logs.{LogsGrowth, LogsRefusal};
 
 use crate::begun::{break_begun, count_begun};
 use crate::errors::GrowError;
@@ -41,6 +42,9 @@ impl<T: Drop> Shared<T> {
         ensures cause { IfErr result (IsRefusedBy (StopsAfter F.step make)) }
         // Room that is missing by what the hand has seen is reported before memory is asked for.
         ensures full { HasNoRoom self.now n hand.old → IsErrAnd result SaysFull }
+        // The history gets the claim of the run, or the event whose reply the refusal is.
+        ensures logs { IfOk result (λ grown. LogsGrowth hand.old hand.new grown.run) }
+        ensures logs_refusal { IfErr result (LogsRefusal n hand.old hand.new) }
     {
         self.try_make(hand, n, &mut make)
     }
@@ -59,6 +63,8 @@ impl<T: Drop> Shared<T> {
         ensures refused { IfErr result (Refuses self.now n tt hand.old hand.new) }
         ensures asked { IfErr result (LeavesMaker F.step make.old make.new) }
         ensures full { HasNoRoom self.now n hand.old → IsErrAnd result SaysFull }
+        ensures logs { IfOk result (λ grown. LogsGrowth hand.old hand.new grown.run) }
+        ensures logs_refusal { IfErr result (LogsRefusal n hand.old hand.new) }
     {
         let (run, ()) = self.claim_run(hand, n, ())?;
         self.make_run(hand, run, make)
@@ -80,6 +86,9 @@ impl<T: Drop> Shared<T> {
         ensures cause { IfErr result (IsRefusedBy (StopsAfter F.step make)) }
         ensures full { HasNoRoom self.now n hand.old → IsErrAnd result SaysFull }
         ensures not_moved { IfErr result IsNotMoved }
+        // The history gets the claim of the run, or the event whose reply the refusal is.
+        ensures logs { IfOk result (λ grown. LogsGrowth hand.old hand.new grown.run) }
+        ensures logs_refusal { IfErr result (LogsRefusal n hand.old hand.new) }
     {
         self.make_again(rt, hand, n, &mut make)
     }
@@ -100,6 +109,8 @@ impl<T: Drop> Shared<T> {
         ensures asked { IfErr result (LeavesMaker F.step make.old make.new) }
         ensures full { HasNoRoom self.now n hand.old → IsErrAnd result SaysFull }
         ensures not_moved { IfErr result IsNotMoved }
+        ensures logs { IfOk result (λ grown. LogsGrowth hand.old hand.new grown.run) }
+        ensures logs_refusal { IfErr result (LogsRefusal n hand.old hand.new) }
     {
         let (run, ()) = self.claim_again(rt, hand, n, ())?;
         self.make_run(hand, run, make)
@@ -232,6 +243,9 @@ impl<T: Clone> Shared<T> {
         ensures refused { IfErr result (Refuses self.now n tt hand.old hand.new) }
         ensures made { IfErr result (IsRefusedBy (λ values _. All (T.is_clone value.now) values)) }
         ensures full { HasNoRoom self.now n hand.old → IsErrAnd result SaysFull }
+        // The history gets the claim of the run, or the event whose reply the refusal is.
+        ensures logs { IfOk result (λ grown. LogsGrowth hand.old hand.new grown.run) }
+        ensures logs_refusal { IfErr result (LogsRefusal n hand.old hand.new) }
     {
         let make = |_: u64| -> Result<T, AllocError>
             ensures { IfOk result (T.is_clone value.entry.now) }
@@ -253,6 +267,9 @@ impl<T: Clone> Shared<T> {
         ensures made { IfErr result (IsRefusedBy (λ values _. All (T.is_clone value.now) values)) }
         ensures full { HasNoRoom self.now n hand.old → IsErrAnd result SaysFull }
         ensures not_moved { IfErr result IsNotMoved }
+        // The history gets the claim of the run, or the event whose reply the refusal is.
+        ensures logs { IfOk result (λ grown. LogsGrowth hand.old hand.new grown.run) }
+        ensures logs_refusal { IfErr result (LogsRefusal n hand.old hand.new) }
     {
         let make = |_: u64| -> Result<T, AllocError>
             ensures { IfOk result (T.is_clone value.entry.now) }

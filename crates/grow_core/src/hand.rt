@@ -3,10 +3,12 @@ ghost use Rattle.std.specs.Prelude.{◌≡◌, ℕ, ◌+◌, ◌<◌, ◌≤◌,
 ghost use Rattle.std.specs.List.{IsDistinct};
 ghost use Rattle.claim_core.specs.Lengths.{Tiles, times};
 ghost use Rattle.claim_core.specs.Hand.{IsWholeHand, OwnsPlace, seen_size, own_places};
-ghost use Rattle.claim_core.specs.Laws.{OwnPlacesStay, AddedPlacesAreOfTheRun, AddedPlacesAreOwned, AddedRunsAreOwned};
+ghost use Rattle.claim_core.specs.History.{IsHistoryOf, lengths_of};
+ghost use Rattle.claim_core.specs.Laws.{OwnPlacesStay, AddedPlacesAreOfTheRun, AddedPlacesAreOwned, AddedRunsAreOwned, FullIsNote};
 ghost use Rattle.claim_core.specs.Shares.{all_shares};
 ghost use Rattle.seg_core.specs.Segment.{HasPlace, most_segments};
 ghost use Rattle.grow_core.specs.Keys.{IsKeyed, IsKeyAt, AreKeys, HasKeysOfPlaces, layout_in};
+ghost use mathlib.Core.List.{IsPrefix};
 
 use crate::keys::{Keys, key_of, no_keys};
 use claim_core::{Hand as ClaimHand, laws};
@@ -14,7 +16,8 @@ use std::fmt;
 use std::marker::{Model, PhantomData};
 use table_core::Key;
 
-// Shows a proof what a claim keeps of a hand: its places, and those of the run that it gains. The call does nothing.
+// Shows a proof what a claim keeps of a hand: its places, and those of the run that it gains; and that a lost one may
+// stand for a refusal. The call does nothing.
 pub(crate) fn claiming_laws(claims: &ClaimHand)
     ensures within { seen_size claims.now ≤ claims.now.of.limit }
     ensures below { (k : ℕ) → Contains claims.now.mine k → k < length claims.now.seen }
@@ -22,6 +25,7 @@ pub(crate) fn claiming_laws(claims: &ClaimHand)
     ensures places { AddedPlacesAreOfTheRun }
     ensures owned { AddedPlacesAreOwned }
     ensures runs { AddedRunsAreOwned }
+    ensures full { FullIsNote }
 {
     // For the proof: what holds of the hand's runs, and of any run that is added.
     claims.laws();
@@ -29,6 +33,7 @@ pub(crate) fn claiming_laws(claims: &ClaimHand)
     laws::added_places_are_of_the_run();
     laws::added_places_are_owned();
     laws::added_runs_are_owned();
+    laws::refusals_are_notes();
 }
 
 // The `Hand` of `claim_core`, with the keys of its runs' segments.
@@ -139,6 +144,9 @@ impl<T> Hand<T> {
         ensures places { self.now.of.base + own_places self.now ≤ seen_size self.now }
         ensures some_shares { 0 < self.now.shares }
         ensures not_more { self.now.shares ≤ all_shares }
+        // The history that it has seen is legal, and claims all runs that the hand has seen, each once.
+        ensures history { IsHistoryOf self.now.of.limit self.now.of.base self.now.log }
+        ensures lengths { IsPrefix self.now.seen (lengths_of self.now.log) }
     {
         // For the proof: what holds of the hand's runs.
         self.claims.laws();
@@ -151,6 +159,7 @@ impl<T> Hand<T> {
         ensures all { (k : ℕ) → k < length self.now.seen → Contains self.now.mine k }
         ensures tiles { Tiles self.now.of.base self.now.seen self.now.mine }
         ensures size { seen_size self.now ≡ self.now.of.base + own_places self.now }
+        ensures claims { lengths_of self.now.log ≡ self.now.seen }
     {
         // For the proof: a whole hand owns every place.
         self.claims.whole_laws();

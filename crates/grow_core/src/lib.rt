@@ -45,6 +45,7 @@ mod read;
 mod recall;
 mod settle_cells;
 mod shown_cells;
+mod sizes;
 mod slices;
 mod split_and_join;
 mod stretch;

@@ -7,6 +7,7 @@ ghost use Rattle.table_core.specs.Table.{IsBlockOf, IsKeyIn};
 ghost use Rattle.grow_core.specs.Token.{place_in};
 ghost use Rattle.grow_core.specs.Vector.{IsHandOf, IsOpenedAt, IsPlacedOf, SeesMore, base_of, layout_of, limit_of};
 ghost use Rattle.grow_core.specs.Mend.{IsMendDue, IsUnmendedAt, IsTakenAt, IsSeen, TellsValue};
+ghost use Rattle.grow_core.specs.Logs.{LogsNothing, LogsMendRefusal};
 
 use crate::blocks::cell_of;
 use crate::errors::MendError;
@@ -43,8 +44,12 @@ impl<T> Shared<T> {
         // A place that was claimed stays claimed.
         ensures in_range { place < seen_size hand.old → IfErr result (λ (error, _). IsSeen error) }
         ensures hand { SeesMore hand.old hand.new }
+        // The history gets the look at a place that is not below the size.
+        ensures logs { IfOk result (λ _. LogsNothing hand.old hand.new) }
+        ensures logs_refusal { IfErr result
+            (λ (error, _). LogsMendRefusal place hand.old hand.new error) }
     {
-        let size = self.size(hand);
+        let size = self.size_past(hand, place);
         if place >= size {
             return Err((MendError::OutOfRange { size }, value));
         }

@@ -1,8 +1,9 @@
 //! How one value is appended.
 ghost use Rattle.std.specs.Prelude.{◌≡◌, IfOk, IfErr, IsErrAnd};
-ghost use Rattle.claim_core.specs.Hand.{seen_size};
+ghost use Rattle.claim_core.specs.Hand.{LogsRun, seen_size};
 ghost use Rattle.grow_core.specs.Vector.{IsHandOf};
-ghost use Rattle.grow_core.specs.Growth.{WonPlace, Refuses, HasNoRoom, SaysFull, IsNotMoved};
+ghost use Rattle.grow_core.specs.Growth.{WonPlace, Refuses, HasNoRoom, SaysFull, IsNotMoved, single};
+ghost use Rattle.grow_core.specs.Logs.{LogsRefusal};
 
 use crate::errors::{GrowError, Never};
 use crate::hand::{Hand, claiming_laws};
@@ -11,6 +12,7 @@ use crate::token::Placed;
 use crate::vector::Shared;
 use claim_core::Moved;
 use seg_core::laws::places;
+use std::marker::Brand;
 use std::sync::Wait;
 
 impl<T: Drop> Shared<T> {
@@ -27,8 +29,11 @@ impl<T: Drop> Shared<T> {
         ensures refused { IfErr result (Refuses self.now 1 value hand.old hand.new) }
         // Room that is missing by what the hand has seen is reported before memory is asked for.
         ensures full { HasNoRoom self.now 1 hand.old → IsErrAnd result SaysFull }
+        // The history gets the claim of the place, or the event whose reply the refusal is.
+        ensures logs { IfOk result (λ placed. LogsRun hand.old hand.new (single placed.place)) }
+        ensures logs_refusal { IfErr result (LogsRefusal 1 hand.old hand.new) }
     {
-        let from = self.size(hand);
+        let from = self.look_at_size(hand);
         self.push_at(hand, from, value)
     }
 
@@ -47,6 +52,8 @@ impl<T: Drop> Shared<T> {
         ensures here { IfOk result (λ placed. placed.place ≡ from) }
         ensures refused { IfErr result (Refuses self.now 1 value hand.old hand.new) }
         ensures full { HasNoRoom self.now 1 hand.old → IsErrAnd result SaysFull }
+        ensures logs { IfOk result (λ placed. LogsRun hand.old hand.new (single placed.place)) }
+        ensures logs_refusal { IfErr result (LogsRefusal 1 hand.old hand.new) }
     {
         // For the proof: the hand keeps its places, and owns the one that it gains.
         self.laws();
@@ -54,17 +61,17 @@ impl<T: Drop> Shared<T> {
         places();
         let limit = self.limit();
         if from >= limit {
-            return Err(GrowError::Full {
-                size: from,
-                back: value,
-            });
+            // The limit was reached before: a load stands for the refusal in the history.
+            let size = self.size_for(hand, 1);
+            return Err(GrowError::Full { size, back: value });
         }
         let (segment, offset) = self.table.layout().locate(from);
         let Ok(key) = key_for(&self.table, &mut hand.keys, segment) else {
+            self.word.log_no_memory(&mut hand.claims);
             return Err(GrowError::NoMemory { back: value });
         };
         let block = self.table.known(&key);
-        match self.word.exchange(&mut hand.claims, from, 1) {
+        match self.word.exchange_as::<Brand>(&mut hand.claims, from, 1) {
             Ok(_run) => match self.fill_cell(block, key, offset, value) {
                 Ok(placed) => Ok(placed),
                 Err(found) => Err(GrowError::Taken { place: from, found }),
@@ -88,6 +95,9 @@ impl<T: Drop> Shared<T> {
         ensures refused { IfErr result (Refuses self.now 1 value hand.old hand.new) }
         ensures full { HasNoRoom self.now 1 hand.old → IsErrAnd result SaysFull }
         ensures not_moved { IfErr result IsNotMoved }
+        // The history gets the claim of the place, or the event whose reply the refusal is.
+        ensures logs { IfOk result (λ placed. LogsRun hand.old hand.new (single placed.place)) }
+        ensures logs_refusal { IfErr result (LogsRefusal 1 hand.old hand.new) }
     {
         for _try in rt.forever() {
             let from = hand.seen();

@@ -3,6 +3,7 @@ ghost use Rattle.std.specs.Prelude.{◌≡◌, ◌<◌, IfOk, IfErr, IfSome, IsO
 ghost use Rattle.claim_core.specs.Hand.{seen_size};
 ghost use Rattle.grow_core.specs.Vector.{IsHandOf, IsPlacedOf, IsOpenedAt, SeesMore, base_of, limit_of};
 ghost use Rattle.grow_core.specs.Read.{IsAt, IsShownAt, ShowsValue, IsDueAt, IsInRange};
+ghost use Rattle.grow_core.specs.Logs.{LogsNothing, LogsAtRefusal};
 
 use crate::blocks::cell_of;
 use crate::errors::AtError;
@@ -54,6 +55,9 @@ impl<T> Shared<T> {
         // A place that was claimed stays claimed.
         ensures in_range { place < seen_size hand.old → IfErr result IsInRange }
         ensures hand { SeesMore hand.old hand.new }
+        // The history gets the look at a place that is not below the size.
+        ensures logs { IfOk result (λ _. LogsNothing hand.old hand.new) }
+        ensures logs_refusal { IfErr result (LogsAtRefusal place hand.old hand.new) }
     {
         if let Some(token) = known {
             self.opened_agrees(token);
@@ -62,7 +66,7 @@ impl<T> Shared<T> {
                 placed: token.again(),
             });
         }
-        let size = self.size(hand);
+        let size = self.size_past(hand, place);
         if place >= size {
             return Err(AtError::OutOfRange { size });
         }

@@ -1,7 +1,8 @@
 //! The vector, and how its size is looked at.
-ghost use Rattle.std.specs.Prelude.{◌≡◌, ◌≤◌, length};
+ghost use Rattle.std.specs.Prelude.{◌≡◌, ◌≤◌, [], ◌∷◌, length};
 ghost use Rattle.claim_core.specs.Word.{AreBounds};
 ghost use Rattle.claim_core.specs.Hand.{IsWholeHand, SeesSize, seen_size};
+ghost use Rattle.claim_core.specs.History.{AddsEvents, size_event};
 ghost use Rattle.grow_core.specs.Vector.{IsHandOf, limit_of, layout_of, base_of};
 
 use crate::hand::Hand;
@@ -81,6 +82,7 @@ impl<T> Shared<T> {
         ensures seen { SeesSize hand.old hand.new result }
         ensures grows { seen_size hand.old ≤ result }
         ensures opened { length self.now.opened ≤ result }
+        ensures logs { AddsEvents hand.old.log (size_event result ∷ []) hand.new.log }
         // Nobody else can append while one hand has all shares.
         ensures whole { IsWholeHand hand.old → result ≡ seen_size hand.old }
     {

@@ -2,9 +2,8 @@
 use Rattle.std.specs.Prelude.{◌≡◌, ℕ, ◌+◌, List, ◌++◌, Option, Some, length}
 use Rattle.std.specs.Iterator.{Drains, YieldsThen}
 use mathlib.Core.List.{IsPrefix}
-use base.Stored.{Coded, coded×, coded_ℕ, coded_list, coded_via}
-use Rattle.claim_core.specs.Word.{word_coded}
-use Rattle.claim_core.specs.Hand.{HandView, own_places}
+use base.Stored.{Coded, coded×, coded_via}
+use Rattle.claim_core.specs.Hand.{HandView, hand_coded, own_places}
 use Rattle.grow_core.specs.Vector.{VectorView, vector_coded}
 use Rattle.grow_core.specs.Growth.{Refuses}
 use Rattle.grow_core.specs.declared.errors.GrowError.{GrowError}
@@ -17,13 +16,8 @@ pub record WriterView (T : Type 0) : Type 0 where
 -- how that is stored
 abbrev pub writer_coded : {T : Type 0} → Coded T → Coded (WriterView T)
 writer_coded {T} c =
-    coded_via (coded× (vector_coded c)
-    (coded× word_coded (coded× (coded_list coded_ℕ) (coded× (coded_list coded_ℕ) coded_ℕ))))
-    (λ (w : WriterView T). (w.vector, (w.hand.of, (w.hand.seen, (w.hand.mine, w.hand.shares)))))
-    (λ x y e i. record {
-      vector = (e i).0;
-      hand = record { of = (e i).1.0; seen = (e i).1.1.0; mine = (e i).1.1.1.0; shares = (e i).1.1.1.1 };
-    })
+    coded_via (coded× (vector_coded c) hand_coded) (λ (w : WriterView T). (w.vector, w.hand))
+    (λ x y e i. record { vector = (e i).0; hand = (e i).1 })
 
 -- the writer is of the same vector, and its hand has the same shares
 pub record KeepsWriter {T : Type 0} (old new : WriterView T) : Type 0 where

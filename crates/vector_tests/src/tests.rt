@@ -4,6 +4,7 @@ mod calls;
 mod drops;
 mod edits;
 mod first;
+mod histories;
 mod keys;
 mod large;
 mod layouts;

@@ -1,4 +1,4 @@
-use Rattle.std.proofs.Common.{◌≡◌, ◌≢◌, ◌+◌, ◌-◌, ℕ, Some, sym, ap, ◌∙◌, length, [], ◌∷◌, length-append, subst, arith}
+use Rattle.std.proofs.Common.{◌≡◌, ◌+◌, ◌-◌, ℕ, Some, sym, ap, ◌∙◌, length, [], ◌∷◌, length-append, subst, arith}
 use Rattle.cell_core.specs.Block.{KeepsOtherCells}
 use Rattle.cell_core.specs.Member.{MemberView}
 use Rattle.grow_core.proofs.PopSegment.{last_is, member_here, placed_there, popped_length, popped_more}

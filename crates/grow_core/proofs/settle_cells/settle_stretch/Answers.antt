@@ -1,4 +1,4 @@
-use Rattle.std.proofs.Common.{◌+◌, arith}
+use Rattle.std.proofs.Common.{arith}
 use Rattle.grow_core.proofs.Broken.{filled_count, row_append, stretch_count}
 use Rattle.grow_core.proofs.FoundFilled.{settled_found}
 use Rattle.grow_core.proofs.Settled.{settled_more}

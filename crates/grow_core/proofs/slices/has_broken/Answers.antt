@@ -1,6 +1,4 @@
-use Rattle.std.proofs.Common.{◌≡◌, ◌≢◌, ◌+◌, None, Some, refl, sym, ap, ◌∙◌, subst, arith}
-use Rattle.std.specs.Prelude.{slice_get}
-use Rattle.cell_core.specs.Member.{MemberView}
+use Rattle.std.proofs.Common.{◌+◌, refl, arith}
 use Rattle.grow_core.proofs.Broken.{unbroken_more, value_known}
 use Rattle.grow_core.proofs.Places.{broken_at}
 use Rattle.grow_core.proofs.Sides.{is_broken}

@@ -1,6 +1,6 @@
 use Rattle.std.proofs.Common.{◌≡◌, ◌<◌, List, Option, ap, subst, arith}
 use Rattle.std.proofs.lemmas.Bool.Decides.{nat_tests}
-use Rattle.grow_core.specs.Parts.{PartsView, broken_count, values_in}
+use Rattle.grow_core.specs.Parts.{PartsView, values_in}
 use Rattle.grow_core.specs.PopSegment.{IsUnbroken}
 use Rattle.grow_core.specs.Slices.{HasBroken}
 use Rattle.grow_core.proofs.Broken.{none_counted, some_counted}

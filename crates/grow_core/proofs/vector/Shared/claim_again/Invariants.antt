@@ -1,4 +1,5 @@
 use Rattle.std.proofs.Common.{◌≡◌}
+use mathlib.Core.List.{IsPrefix}
 use Rattle.claim_core.specs.Hand.{IsWholeHand}
 use Rattle.grow_core.specs.Vector.{SeesMore}
 use Rattle.grow_core.proofs.vector.Shared.claim_again.Given as goal
@@ -11,3 +12,4 @@ invariant-loop-try g l =
     × (IsWholeHand l.fn.hand → l.hand ≡ l.fn.hand)
     × (l.hand.of ≡ l.self.word)
     × (l.value ≡ l.fn.value)
+    × IsPrefix l.fn.hand.log l.hand.log

@@ -3,25 +3,26 @@ use Rattle.std.proofs.lemmas.Result.{err_from_is_err_and}
 use Rattle.claim_core.specs.declared.run.Run.{Run}
 use Rattle.claim_core.specs.Hand.{IsWholeHand, seen_size}
 use Rattle.grow_core.proofs.Later.{more_of_size, adds_after, refuses_after}
+use Rattle.grow_core.proofs.Logs.{run_logged_after, refusal_logged_after}
 use Rattle.grow_core.proofs.vector.Shared.claim_run.Goals as goal
 
 pub returns-in_err-value-clause-refused : goal.returns-in_err-value-clause-refused
 returns-in_err-value-clause-refused g c =
     let p = err_from_is_err_and c.from_residual.result c.from_residual.ensures.1 in
-    let size = c.size-from.ensures in
-    let seen = more_of_size c.args.hand.now c.size-from.new.hand c.size-from.result size.seen in
-    let still : IsWholeHand c.args.hand.now → seen_size c.size-from.new.hand ≡ seen_size c.args.hand.now = λ whole. size.seen.ends ∙ size.whole whole in
+    let size = c.size_for-from.ensures in
+    let seen = more_of_size c.args.hand.now c.size_for-from.new.hand c.size_for-from.result size.seen in
+    let still : IsWholeHand c.args.hand.now → seen_size c.size_for-from.new.hand ≡ seen_size c.args.hand.now = λ whole. size.seen.ends ∙ size.whole whole in
     rw (p.1, p.2)
-    (refuses_after c.args.self.now c.args.n c.args.value c.args.hand.now c.size-from.new.hand c.claim.new.hand c.in_err-value.field-0.0 seen still c.in_err-value.ensures.refused)
+    (refuses_after c.args.self.now c.args.n c.args.value c.args.hand.now c.size_for-from.new.hand c.claim.new.hand c.in_err-value.field-0.0 seen still c.in_err-value.ensures.refused)
 
 pub returns-clause-claimed : goal.returns-clause-claimed
 returns-clause-claimed g c =
-    let size = c.size-from.ensures in
-    let run : Run = record { from = c.size-from.result; n = c.args.n } in
-    let seen = more_of_size c.args.hand.now c.size-from.new.hand c.size-from.result size.seen in record {
+    let size = c.size_for-from.ensures in
+    let run : Run = record { from = c.size_for-from.result; n = c.args.n } in
+    let seen = more_of_size c.args.hand.now c.size_for-from.new.hand c.size_for-from.result size.seen in record {
       n = refl;
       grows = record {
-        claimed = λ _. adds_after c.args.hand.now c.size-from.new.hand c.claim.new.hand run seen c.in_ok-value.ensures.run;
+        claimed = λ _. adds_after c.args.hand.now c.size_for-from.new.hand c.claim.new.hand run seen c.in_ok-value.ensures.run;
         empty = λ none. absurd (omega (arith, none));
       };
       owned = λ _. c.added_runs_are_owned.ensures _ _ _ c.in_ok-value.ensures.run;
@@ -29,4 +30,17 @@ returns-clause-claimed g c =
       not_below = size.grows;
       alone = size.whole;
       within = omega arith;
+    }
+
+pub returns-in_err-value-clause-logs_refusal : goal.returns-in_err-value-clause-logs_refusal
+returns-in_err-value-clause-logs_refusal g c =
+    let p = err_from_is_err_and c.from_residual.result c.from_residual.ensures.1 in
+    rw (p.1, p.2)
+    (refusal_logged_after c.args.hand.now c.size_for-from.new.hand c.claim.new.hand c.size_for-from.ensures.goes_on c.args.n c.in_err-value.field-0.0 c.in_err-value.ensures.logs_refusal)
+
+pub returns-clause-logs : goal.returns-clause-logs
+returns-clause-logs g c =
+    let run : Run = record { from = c.size_for-from.result; n = c.args.n } in record {
+      claimed = λ _. run_logged_after c.args.hand.now c.size_for-from.new.hand c.claim.new.hand c.size_for-from.ensures.goes_on run c.in_ok-value.ensures.logs;
+      empty = λ none. absurd (omega (arith, none));
     }

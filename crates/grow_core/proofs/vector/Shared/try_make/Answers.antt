@@ -1,5 +1,6 @@
 use Rattle.std.proofs.lemmas.Result.{err_from_is_err_and}
 use Rattle.grow_core.proofs.Made.{left_by_none, won_made}
+use Rattle.grow_core.proofs.Logs.{grown_all_logged, stopped_all_logged}
 use Rattle.grow_core.proofs.vector.Shared.try_make.Goals as goal
 
 pub returns-in_err-run-clause-asked : goal.returns-in_err-run-clause-asked
@@ -12,3 +13,10 @@ returns-clause-won g c =
     let filled = c.make_run.ensures in
     won_made (goal.F-step g) c.args.make.now c.args.self.now c.args.n c.args.hand.now c.claim_run.new.hand c.in_ok-run.run' c.make_run.result
     c.make_run.new.make c.in_ok-run.ensures.claimed filled.run filled.n filled.tokens filled.made
+
+pub returns-clause-logs : goal.returns-clause-logs
+returns-clause-logs g c = grown_all_logged c.args.hand.now c.claim_run.new.hand c.in_ok-run.run' c.make_run.result c.in_ok-run.ensures.logs c.make_run.ensures.run
+
+pub returns-clause-logs_refusal : goal.returns-clause-logs_refusal
+returns-clause-logs_refusal g c =
+    stopped_all_logged c.args.self.now _ c.args.hand.now c.claim_run.new.hand c.in_ok-run.run' c.make_run.result c.in_ok-run.ensures.claimed.n c.in_ok-run.ensures.logs c.make_run.ensures.stopped

@@ -15,3 +15,4 @@ pub mod Made
 pub mod Sides
 pub mod Broken
 pub mod PopSegment
+pub mod Counted

@@ -17,6 +17,11 @@ published_coded {T} c =
     coded_via (coded× (vector_coded c) (coded× coded_ℕ coded_ℕ)) (λ (p : PublishedView T). (p.vector, (p.place, p.end)))
     (λ x y e i. record { vector = (e i).0; place = (e i).1.0; end = (e i).1.1 })
 
+-- 1 if the place of an item shows a value, otherwise 0
+abbrev pub one_if_shown : {X : Type 0} → Option X → ℕ
+one_if_shown None = 0
+one_if_shown (Some x) = 1
+
 -- a walk goes on by one place, and shows the value that the opened list has there
 abbrev pub StepsOver : {T : Type 0} → PublishedView T → Option (Bor T) → PublishedView T → Type 0
 StepsOver {T} old item new =

@@ -1,7 +1,8 @@
 //! A walk over what a vector shows.
-ghost use Rattle.std.specs.Prelude.{◌≡◌, ◌+◌, ◌<◌, ◌≤◌, length};
+ghost use Rattle.std.specs.Prelude.{◌≡◌, ◌+◌, ◌<◌, ◌≤◌, length, filter, is_some};
+ghost use Rattle.seg_core.specs.Segment.{most_places};
 ghost use Rattle.grow_core.specs.Vector.{base_of, limit_of};
-ghost use Rattle.grow_core.specs.Published.{StepsOver};
+ghost use Rattle.grow_core.specs.Published.{StepsOver, one_if_shown};
 ghost use Rattle.grow_core.specs.ShownCells.{HoldOpened};
 
 use crate::read::Shown;
@@ -41,6 +42,17 @@ impl<'a, T> Model for Published<'a, T> {
         × HoldOpened p.vector.now p.place (iter_rest p.filled) };
 }
 
+// Counts an item: 1 if its place shows a value, otherwise 0.
+fn count_shown<T>(item: &Option<&T>) -> u64
+    ensures value { result ≡ one_if_shown item.now }
+    ensures few { result ≤ 1 }
+{
+    match item {
+        Some(_) => 1,
+        None => 0,
+    }
+}
+
 impl<T> Shared<T> {
     /// Walks over what each place shows, from place 0 to the size that one load finds now, for a caller
     /// without a hand. Each item is what one look shows. It looks at up to 64 places ahead, as long as they are filled,
@@ -51,8 +63,29 @@ impl<T> Shared<T> {
         ensures from { result.place ≡ 0 }
         ensures opened { base_of self.now ≤ result.end }
         ensures within { result.end ≤ limit_of self.now }
+        ensures small { result.end ≤ most_places }
     {
+        // For the proof: the limit is that of a vector.
+        self.laws();
         self.published_from(0, self.claimed())
+    }
+
+    /// Returns how many places show a value now, for a caller without a hand: it walks like `published`, and counts the
+    /// values that it finds. A place that is filled during the walk may be counted or not.
+    ///
+    /// Its time is linear in the size. It takes no memory.
+    pub fn published_count(&self) -> u64
+        // A value of the opened list is shown to everybody.
+        ensures opened { length (filter is_some self.now.opened) ≤ result }
+        ensures within { result ≤ limit_of self.now }
+    {
+        // For the proof: the opened list ends at the vector's base.
+        self.laws();
+        let mut count = 0;
+        for item in self.published() {
+            count += count_shown(&item);
+        }
+        count
     }
 
     /// Returns the size that one load finds now, for a caller without a hand. Each place below it is claimed, or is a

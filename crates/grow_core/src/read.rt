@@ -32,8 +32,8 @@ pub enum Shown<'a, T> {
 }
 
 impl<T> Shared<T> {
-    /// Returns the value at the place. With a token this is one look at the place; without one, a load of the
-    /// size comes first.
+    /// Returns the value at the place. With a token it does what `get` does. Without one it loads the size, and then
+    /// looks once at the place.
     #[inline(always)]
     pub fn at<'a>(
         &'a self,
@@ -191,7 +191,8 @@ impl<T> Shared<T> {
         }
     }
 
-    /// Returns the token's value, by one look at its place.
+    /// Returns the token's value, by one load of the entry of its segment. It looks at no state, since the token says
+    /// that the place is filled.
     #[inline(always)]
     pub fn get<'a>(&'a self, placed: &Placed<T>) -> &'a T
         requires { IsPlacedOf self.now placed.now }

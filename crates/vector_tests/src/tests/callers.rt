@@ -107,7 +107,7 @@ impl<T: Drop> Callers<T> {
         run
     }
 
-    // The size, by one look.
+    // The size, by one load.
     pub(super) fn size_b(&mut self) -> u64 {
         self.vector.size(&mut self.b)
     }

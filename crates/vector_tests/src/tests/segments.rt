@@ -164,7 +164,9 @@ fn the_values_of_an_opened_list_are_shown_by_segments(rt: HostRuntime) {
     let opened = twenty(rt.alloc()).and_then(|parts| Shared::of_parts(parts).ok());
     assert!(rt;
         opened.is_some_and(|(vector, _hand)| {
-            are_seen(&vector, &TWENTY) && walked(&vector) == (181, 1)
+            are_seen(&vector, &TWENTY)
+                && walked(&vector) == (181, 1)
+                && vector.published_count() == 19
         })
     );
 }
@@ -194,4 +196,23 @@ fn a_walk_shows_what_is_filled_before_its_item_is_asked_for(rt: HostRuntime) {
         walk(&mut two),
         [Some(None), Some(Some(7)), Some(None), None]
     );
+}
+
+// How many places show a value: at first, once the maker has made 130 values of 200, once a broken place is mended, and
+// at the limit.
+fn counts<R: AllocGlobal + Wait>(rt: &R, two: &mut Callers<u64>) -> Option<[u64; 4]> {
+    let none = two.vector.published_count();
+    let is_made = makes_few(two, 200, 130);
+    let made = two.vector.published_count();
+    let is_mended = mends(two, 170, 7);
+    let mended = two.vector.published_count();
+    let values = numbers(rt.alloc(), 0, 100)?;
+    let is_full = two.vector.append(rt, &mut two.a, values).is_ok() && two.vector.claimed() == 300;
+    (is_made && is_mended && is_full).then_some([none, made, mended, two.vector.published_count()])
+}
+
+#[test]
+fn places_that_show_a_value_are_counted(rt: HostRuntime) {
+    let mut two = Callers::new(&rt, 300);
+    assert_eq!(rt; counts(&rt, &mut two), Some([0, 130, 131, 231]));
 }

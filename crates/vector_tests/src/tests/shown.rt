@@ -75,6 +75,7 @@ fn appends_a_million<R: AllocGlobal + Wait>(rt: &R, two: &mut Callers<u64>) -> b
     };
     two.vector.append(rt, &mut two.b, values).ok() == Some(run)
         && sum_of(&two.vector) == (499_999_500_000, 1_000_000)
+        && two.vector.published_count() == 1_000_000
 }
 
 #[test]

@@ -1,8 +1,8 @@
 // What callers prove by the public clauses alone.
-ghost use Rattle.std.specs.Prelude.{◌≡◌, ◌+◌, ◌<◌, ◌++◌, ℕ, List, Some, IfSome, slice_get};
+ghost use Rattle.std.specs.Prelude.{◌≡◌, ◌+◌, ◌<◌, ◌≤◌, ◌++◌, ℕ, List, Some, IfSome, slice_get};
 ghost use Rattle.grow_core.specs.Lengths.{Tiles, runs_end};
 ghost use Rattle.grow_core.specs.Hand.{OwnsRun, AreDisjoint, IsWholeHand, seen_size};
-ghost use Rattle.grow_core.specs.Vector.{IsHandOf, IsPlacedOf, IsOpenedAt, base_of};
+ghost use Rattle.grow_core.specs.Vector.{IsHandOf, IsPlacedOf, IsOpenedAt, base_of, limit_of};
 ghost use Rattle.grow_core.specs.Closing.{KeepsValues};
 ghost use Rattle.grow_core.specs.Growth.{single};
 
@@ -65,6 +65,14 @@ fn push_in_two_threads<R: Threads + Sync>(
     let x = x?;
     let y = y?;
     Some((x, y))
+}
+
+// The number of places that a walk finds, and of those that show a value.
+fn count_both(vector: &Shared<u64>) -> (usize, u64)
+    ensures places { result.0 ≤ limit_of vector.now }
+    ensures values { result.1 ≤ limit_of vector.now }
+{
+    (vector.published().count(), vector.published_count())
 }
 
 // A value that one thread appends is the value that another reads by its token.
@@ -226,6 +234,15 @@ fn two_threads_append_and_join(rt: HostRuntime) {
     let read = read_of_two(&rt, &vector, a, b);
     drop(vector);
     assert!(rt; read == Some((5, 6, 1)));
+}
+
+#[test]
+fn a_walk_has_no_more_places_than_the_limit(rt: HostRuntime) {
+    let mut two = Callers::new(&rt, 2);
+    let is_full = two.push_a(5) == Some(0) && two.push_b(6) == Some(1);
+    let counted = count_both(&two.vector);
+    drop(two);
+    assert!(rt; is_full && counted == (2, 2));
 }
 
 #[test]

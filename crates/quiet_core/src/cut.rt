@@ -1,9 +1,10 @@
 //! How a list gets shorter, and gets another limit.
-ghost use Rattle.std.specs.Prelude.{◌≡◌, ◌≤◌, ◌++◌, ◌∷◌, [], MatchOption, length, take};
+ghost use Rattle.std.specs.Prelude.{◌≡◌, ◌≤◌, ◌++◌, ◌∷◌, [], MatchOption, length, take, filter, is_some};
 ghost use Rattle.seg_core.specs.Segment.{IsLimit};
+ghost use Rattle.grow_core.specs.PopSegment.{IsUnbroken};
 
 use crate::quiet::Quiet;
-use crate::room::cut_to;
+use crate::room::{close_up, cut_to};
 
 impl<T: Drop> Quiet<T> {
     /// Moves the last member out. It is `None` if it was broken, and there is none if the list is empty. The capacity
@@ -31,6 +32,23 @@ impl<T: Drop> Quiet<T> {
     {
         if n < self.parts.len() {
             cut_to(&mut self.parts, n);
+        }
+    }
+
+    /// Drops the broken members. The values close up, in order, and the capacity stays. A list without a broken member
+    /// is not changed.
+    ///
+    /// Its time is linear in the members, and constant if none is broken. It takes no memory.
+    pub fn compact(&mut self)
+        ensures members { self.new.members ≡ filter is_some self.old.members }
+        ensures unbroken { IsUnbroken self.new.members }
+        ensures untouched { IsUnbroken self.old.members → self.new ≡ self.old }
+        ensures rest_kept { self.new ≡ record self.old
+            { members = self.new.members; closed = self.new.closed } }
+    {
+        if let Some(first) = self.first_broken() {
+            let values = close_up(&mut self.parts, first);
+            cut_to(&mut self.parts, values);
         }
     }
 }

@@ -1,7 +1,8 @@
 //! The room under a list, and how it is filled and emptied.
-ghost use Rattle.std.specs.Prelude.{◌≡◌, ◌+◌, ◌-◌, ◌<◌, ◌≤◌, ◌++◌, Some, None, OnOk, IfErr, length, map, take, replicate, vec_len};
+ghost use Rattle.std.specs.Prelude.{◌≡◌, ◌+◌, ◌-◌, ◌<◌, ◌≤◌, ◌++◌, Some, None, OnOk, IfErr, length, map, take, replicate, vec_len, slice_get, slice_set, filter, is_some};
 ghost use Rattle.seg_core.specs.Segment.{most_places};
 ghost use Rattle.grow_core.specs.Parts.{capacity_of};
+ghost use Rattle.quiet_core.specs.IntoVec.{IsFirstBroken};
 ghost use Rattle.quiet_core.specs.QuietList.{IsCapacityFor};
 ghost use Rattle.quiet_core.specs.Resizing.{IsMade, IsStopped};
 
@@ -79,4 +80,44 @@ pub(crate) fn break_to<T: Drop>(parts: &mut Parts<T>, n: u64)
     while parts.len() < n {
         parts.append(None);
     }
+}
+
+// Moves a value from one place to another that is not after it, and returns the place after that one. A broken member is
+// not moved.
+fn move_down<T: Drop>(parts: &mut Parts<T>, from: u64, to: u64) -> u64
+    requires order { to ≤ from }
+    requires within { from < length parts.old.members }
+    requires small { from < most_places }
+    ensures moved { (x : T) → slice_get parts.old.members from ≡ Some (Some x) → (result ≡ to + 1)
+        × (parts.new.members ≡ slice_set (slice_set parts.old.members from None) to (Some x)) }
+    ensures broken { slice_get parts.old.members from ≡ Some None → (result ≡ to)
+        × (parts.new.members ≡ slice_set parts.old.members from None) }
+    ensures rest_kept { parts.new ≡ record parts.old
+        { members = parts.new.members; closed = parts.new.closed } }
+{
+    match parts.replace(from, None) {
+        Some(value) => {
+            drop(parts.replace(to, Some(value)));
+            to + 1
+        }
+        None => to,
+    }
+}
+
+// Moves the values down over the broken members, and returns how many values there are. They come first then, in
+// order. The first broken member is at a place.
+pub(crate) fn close_up<T: Drop>(parts: &mut Parts<T>, first: u64) -> u64
+    requires { IsFirstBroken parts.old.members first }
+    ensures values { take result parts.new.members ≡ filter is_some parts.old.members }
+    ensures within { result ≤ length parts.new.members }
+    ensures rest_kept { parts.new ≡ record parts.old
+        { members = parts.new.members; closed = parts.new.closed } }
+{
+    // For the proof: the length is within the limit.
+    let _limit = parts.limit();
+    let mut values = first;
+    for place in first..parts.len() {
+        values = move_down(parts, place, values);
+    }
+    values
 }

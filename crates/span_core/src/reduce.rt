@@ -56,6 +56,14 @@ impl Domain for u32 {
     }
 }
 
+impl Domain for u128 {
+    ghost is_in = { λ n. n < 2 ^ 128 };
+
+    fn tell(&self) {
+        let _value = *self;
+    }
+}
+
 impl Domain for usize {
     ghost is_in = { λ n. n < 2 ^ 64 };
 

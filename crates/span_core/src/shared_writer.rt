@@ -106,7 +106,8 @@ impl<T> SharedWriter<T> {
         self.vector.look(place)
     }
 
-    /// Returns the token's value, by one look at its place.
+    /// Returns the token's value, by one load of the entry of its segment. It looks at no state, since the token says
+    /// that the place is filled.
     #[inline(always)]
     pub fn get(&self, placed: &Placed<T>) -> &T
         requires { IsPlacedOf self.now.vector placed.now }

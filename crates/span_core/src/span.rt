@@ -1,6 +1,6 @@
 //! A span of places, and how it is cut.
-ghost use Rattle.std.specs.Prelude.{◌≡◌, ◌++◌, ◌<◌, ◌≤◌, ◌↔◌, List, IsTrue, IfOk};
-ghost use Rattle.span_core.specs.Span.{IsDivisible, IsSpan, AreLeaves, size_of, lower_half, upper_half};
+ghost use Rattle.std.specs.Prelude.{◌≡◌, ◌+◌, ◌++◌, ◌<◌, ◌≤◌, ◌↔◌, List, IsTrue, IfOk};
+ghost use Rattle.span_core.specs.Span.{IsDivisible, IsSpan, AreLeaves, size_of, lower_half, upper_half, first_part, lower_part, upper_part};
 
 use std::alloc::{AllocError, Global};
 use std::marker::Model;
@@ -80,14 +80,34 @@ impl Span {
         ensures kept { self.new ≡ lower_half self.old }
         ensures given { result ≡ upper_half self.old }
     {
-        let middle = self.from + (self.to - self.from) / 2;
-        let upper = Span {
-            from: middle,
+        self.cut_at(self.from + self.size() / 2)
+    }
+
+    /// Keeps the first places, and returns the rest, in the ratio of `left` to `right`. The first part is rounded down,
+    /// but neither part is empty.
+    pub fn split_at_ratio(&mut self, left: u64, right: u64) -> Span
+        requires divisible { IsDivisible self.old }
+        requires ratio { 0 < left + right }
+        ensures kept { self.new ≡ lower_part self.old left right }
+        ensures given { result ≡ upper_part self.old left right }
+    {
+        self.cut_at(self.from + part_of(self.size(), left, right))
+    }
+
+    // Keeps the places before one of them, and returns the rest.
+    fn cut_at(&mut self, place: u64) -> Span
+        requires from { self.old.from ≤ place }
+        requires to { place ≤ self.old.to }
+        ensures kept { self.new ≡ record self.old { to = place } }
+        ensures given { result ≡ record self.old { from = place } }
+    {
+        let rest = Span {
+            from: place,
             to: self.to,
             grain: self.grain,
         };
-        self.to = middle;
-        upper
+        self.to = place;
+        rest
     }
 
     /// Returns the span itself if it is not divisible, and otherwise the leaves of its two halves in order.
@@ -100,6 +120,19 @@ impl Span {
         push_leaves(*self, &mut leaves)?;
         Ok(leaves)
     }
+}
+
+// The number of places of the first part in the ratio. Neither part is empty.
+fn part_of(size: u64, left: u64, right: u64) -> u64
+    requires some { 1 < size }
+    requires ratio { 0 < left + right }
+    ensures value { result ≡ first_part size left right }
+    ensures some { 0 < result }
+    ensures fewer { result < size }
+{
+    let (left, right) = (left as u128, right as u128);
+    let part = size as u128 * left / (left + right);
+    part.min(size as u128 - 1).max(1) as u64
 }
 
 // Appends the leaves of a span.

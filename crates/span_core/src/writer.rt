@@ -94,8 +94,8 @@ impl<'a, T> Writer<'a, T> {
         vector.size(&mut self.hand)
     }
 
-    /// Returns the value at the place. With a token this is one look at the place; without one, a load of the
-    /// size comes first.
+    /// Returns the value at the place. With a token it does what `get` does. Without one it loads the size, and then
+    /// looks once at the place.
     #[inline(always)]
     pub fn at(&mut self, place: u64, known: Option<&Placed<T>>) -> Result<At<'a, T>, AtError>
         requires known { IfSome known (λ p. IsPlacedOf self.old.vector p.now × (p.now.place ≡ place)) }
@@ -129,7 +129,8 @@ impl<'a, T> Writer<'a, T> {
         vector.look(place)
     }
 
-    /// Returns the token's value, by one look at its place.
+    /// Returns the token's value, by one load of the entry of its segment. It looks at no state, since the token says
+    /// that the place is filled.
     #[inline(always)]
     pub fn get(&self, placed: &Placed<T>) -> &'a T
         requires { IsPlacedOf self.now.vector placed.now }

@@ -44,7 +44,7 @@ fn find_all<R: Threads + Wait + Sync>(
     match with_hands(rt, alloc, vector, hand, FINDERS + 1, &part, &Free) {
         Ok(counts) => Ok(counts),
         Err(Refusal::Worker(error)) => Err(error),
-        Err(Refusal::NoMemory | Refusal::Stuck) => bail!("out of memory"),
+        Err(Refusal::NoMemory | Refusal::NoThread | Refusal::Stuck) => bail!("out of memory"),
     }
 }
 

@@ -99,6 +99,7 @@ IsTeamOf word each worker = IsTeam word 1 (worker * each) ((worker + 1) * each)
 -- what a race reports of a range of workers that has no result
 abbrev pub race_refusal : Refusal RaceError → RaceError
 race_refusal refusals.NoMemory = NoMemory
+race_refusal refusals.NoThread = NoMemory
 race_refusal refusals.Stuck = Stuck
 race_refusal (refusals.Worker e) = e
 

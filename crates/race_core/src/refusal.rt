@@ -57,7 +57,7 @@ impl From<Refusal<RaceError>> for RaceError {
 
     fn from(refusal: Refusal<RaceError>) -> Self {
         match refusal {
-            Refusal::NoMemory => RaceError::NoMemory,
+            Refusal::NoMemory | Refusal::NoThread => RaceError::NoMemory,
             Refusal::Stuck => RaceError::Stuck,
             Refusal::Worker(error) => error,
         }

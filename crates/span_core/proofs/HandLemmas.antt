@@ -10,7 +10,7 @@ use Rattle.span_core.specs.Each.{EachFrom}
 use Rattle.span_core.specs.Workers.{EachGives, IsOfRange}
 use Rattle.span_core.specs.Hands.{IsWithinHand, SaysOfPart, SayInTurn, HaveAnswered, of_answer, of_refusal}
 use Rattle.span_core.specs.declared.errors.Refusal.{Refusal}
-use Rattle.span_core.specs.declared.errors.Refusal.TheVariants.{NoMemory, Stuck, Worker}
+use Rattle.span_core.specs.declared.errors.Refusal.TheVariants.{NoMemory, NoThread, Stuck, Worker}
 use Rattle.span_core.proofs.Ranges.{both-refused}
 
 -- a prefix of a prefix is a prefix
@@ -51,7 +51,7 @@ module _ {X : Type 0} (says : ℕ → HandView → X → Type 0) where
   says-more : (a b : HandView) → IsWithinHand a b → (worker : ℕ) (x : X) → SaysOfPart says a worker x → SaysOfPart says b worker x
   says-more a b part worker x said = (said.0, said.1, part_trans said.0 a b said.2 part)
 
-  turn-more : (a b : HandView) (worker : ℕ) (xs : List X) (mine : List ℕ) → IsWithinHand a b → SayInTurn says a worker xs mine
+  pub turn-more : (a b : HandView) (worker : ℕ) (xs : List X) (mine : List ℕ) → IsWithinHand a b → SayInTurn says a worker xs mine
       → SayInTurn says b worker xs mine
   turn-more a b worker [] mine part said = said
   turn-more a b worker (x ∷ xs) mine part (own, rest, one, within, all, others) =
@@ -74,7 +74,7 @@ module _ {X : Type 0} (says : ℕ → HandView → X → Type 0) where
   )
 
   -- each of them said so of a part
-  turn-each : (all : HandView) (worker : ℕ) (xs : List X) (mine : List ℕ) → SayInTurn says all worker xs mine
+  pub turn-each : (all : HandView) (worker : ℕ) (xs : List X) (mine : List ℕ) → SayInTurn says all worker xs mine
       → EachFrom (SaysOfPart says all) worker xs
   turn-each all worker [] mine said = tt
   turn-each all worker (x ∷ xs) mine (own, rest, one, within, split, others) =
@@ -90,6 +90,7 @@ module _ {A E : Type 0} (gives : ℕ → HandView → A → Type 0) (refuses : �
       → IsOfRange (SaysOfPart gives a) (SaysOfPart refuses a) may_refuse first count e
       → IsOfRange (SaysOfPart gives b) (SaysOfPart refuses b) may_refuse first count e
   range-more a b first count NoMemory part is = is
+  range-more a b first count NoThread part is = is
   range-more a b first count Stuck part is =
       (is.0, each-all (SaysOfPart gives a) (SaysOfPart gives b) (says-more gives a b part) first is.0 is.1, is.2, is.3)
   range-more a b first count (Worker e) part is =

@@ -1,6 +1,7 @@
 pub mod Each
 pub mod Ranges
 pub mod HandLemmas
+pub mod CrewLemmas
 pub mod ShareLemmas
 pub mod MemberLemmas
 pub mod Tiles

@@ -3,7 +3,7 @@ use Rattle.std.proofs.Common.{◌≡◌, ℕ, ◌+◌, ◌<◌, ◌⊎◌, List,
 use Rattle.std.proofs.lemmas.Result.{IfOk-weaker, IfOk-at_ok, IfErr-at_err, IfErr-weaker}
 use Rattle.span_core.specs.Workers.{EachGives, RefusesLowest, IsOfRange}
 use Rattle.span_core.specs.declared.errors.Refusal.{Refusal}
-use Rattle.span_core.specs.declared.errors.Refusal.TheVariants.{NoMemory, Stuck, Worker}
+use Rattle.span_core.specs.declared.errors.Refusal.TheVariants.{NoMemory, NoThread, Stuck, Worker}
 use Rattle.span_core.proofs.Each.{EachFrom-append}
 
 -- the results of both halves, in order
@@ -59,16 +59,18 @@ module _ {A V E : Type 0} (items : V → List A) where
 
 module _ {A V E : Type 0} (items : V → List A) (gives : ℕ → A → Type 0) (refuses : ℕ → E → Type 0) (may_refuse : ℕ → Type 0) where
   -- why the lower half has no result is why the whole has none
-  lower-of-range : (first low high : ℕ) (e : Refusal E) → IsOfRange gives refuses may_refuse first low e
+  pub lower-of-range : (first low high : ℕ) (e : Refusal E) → IsOfRange gives refuses may_refuse first low e
       → IsOfRange gives refuses may_refuse first (low + high) e
   lower-of-range first low high NoMemory is = is
+  lower-of-range first low high NoThread is = is
   lower-of-range first low high Stuck is = lower-refused gives may_refuse first low high is
   lower-of-range first low high (Worker e) is = lower-refused gives (λ worker. refuses worker e) first low high is
 
   -- the same of the upper half, if the lower one has returned
-  upper-of-range : (first low middle high : ℕ) (xs : List A) (e : Refusal E) → first + low ≡ middle → EachGives gives first low xs
+  pub upper-of-range : (first low middle high : ℕ) (xs : List A) (e : Refusal E) → first + low ≡ middle → EachGives gives first low xs
       → IsOfRange gives refuses may_refuse middle high e → IsOfRange gives refuses may_refuse first (low + high) e
   upper-of-range first low middle high xs NoMemory meets answers is = is
+  upper-of-range first low middle high xs NoThread meets answers is = is
   upper-of-range first low middle high xs Stuck meets answers is = upper-refused gives may_refuse first low middle high xs meets answers is
   upper-of-range first low middle high xs (Worker e) meets answers is =
       upper-refused gives (λ worker. refuses worker e) first low middle high xs meets answers is

@@ -4,6 +4,7 @@ pub mod Each
 pub mod Gate
 pub mod Workers
 pub mod Hands
+pub mod Crew
 pub mod Shares
 pub mod Loops
 pub mod Segments

@@ -1,7 +1,7 @@
 -- The results of a range of workers.
 use Rattle.std.specs.Prelude.{◌≡◌, ℕ, ◌+◌, ◌<◌, ◌≤◌, ◌⊎◌, List, length}
 use Rattle.span_core.specs.declared.errors.Refusal.{Refusal}
-use Rattle.span_core.specs.declared.errors.Refusal.TheVariants.{NoMemory, Stuck, Worker}
+use Rattle.span_core.specs.declared.errors.Refusal.TheVariants.{NoMemory, NoThread, Stuck, Worker}
 use Rattle.span_core.specs.Each.{EachFrom}
 
 -- each worker that was let through is ready to work
@@ -21,9 +21,11 @@ abbrev pub RefusesLowest : {A : Type 0} → (ℕ → A → Type 0) → (ℕ → 
 RefusesLowest {A} gives may_refuse first count =
     (lower : List A) × EachFrom gives first lower × (length lower < count) × may_refuse (first + length lower)
 
--- why a range of workers has no result, if each may refuse in this way and the gate may refuse these
+-- why a range of workers has no result, if each may refuse in this way and the gate may refuse these. A thread
+-- that could not be started counts as memory that was refused
 abbrev pub IsOfRange : {A E : Type 0} → (ℕ → A → Type 0) → (ℕ → E → Type 0) → (ℕ → Type 0) → ℕ → ℕ → Refusal E → Type 0
 IsOfRange gives refuses may_refuse first count NoMemory = Unit {0}
+IsOfRange gives refuses may_refuse first count NoThread = ⊥
 IsOfRange gives refuses may_refuse first count Stuck = RefusesLowest gives may_refuse first count
 IsOfRange gives refuses may_refuse first count (Worker e) = RefusesLowest gives (λ worker. refuses worker e) first count
 

@@ -1,8 +1,9 @@
 -- A vector and a hand of it, as one value.
-use Rattle.std.specs.Prelude.{◌≡◌, ℕ, ◌+◌, List, ◌++◌, Option, Some, length}
+use Rattle.std.specs.Prelude.{◌≡◌, ℕ, ◌+◌, List, ◌++◌, Option, Some, None, length}
 use Rattle.std.specs.Iterator.{Drains, YieldsThen}
 use mathlib.Core.List.{IsPrefix}
 use base.Stored.{Coded, coded×, coded_via}
+use Rattle.claim_core.specs.Word.{WordView}
 use Rattle.claim_core.specs.Hand.{HandView, hand_coded, own_places}
 use Rattle.grow_core.specs.Vector.{VectorView, vector_coded}
 use Rattle.grow_core.specs.Growth.{Refuses}
@@ -18,6 +19,11 @@ abbrev pub writer_coded : {T : Type 0} → Coded T → Coded (WriterView T)
 writer_coded {T} c =
     coded_via (coded× (vector_coded c) hand_coded) (λ (w : WriterView T). (w.vector, w.hand))
     (λ x y e i. record { vector = (e i).0; hand = (e i).1 })
+
+-- a writer whose type allows one word alone is of a vector with that word
+abbrev pub IsTied : {T : Type 0} → Option WordView → VectorView T → Type 0
+IsTied None vector = Unit {0}
+IsTied (Some word) vector = vector.word ≡ word
 
 -- the writer is of the same vector, and its hand has the same shares
 pub record KeepsWriter {T : Type 0} (old new : WriterView T) : Type 0 where

@@ -4,6 +4,7 @@ ghost use Rattle.grow_core.specs.Growth.{WonRun, Refuses, HasNoRoom, SaysFull, I
 ghost use Rattle.span_core.specs.Writer.{with_hand};
 ghost use Rattle.span_core.specs.Buffered.{Pushes, LeavesBuffer, RefusesPush, IsOutOfMemory};
 
+use crate::tie::{Tie, Untied};
 use crate::writer::Writer;
 use grow_core::{GrowError, Grown, Never};
 use std::alloc::Global;
@@ -17,14 +18,14 @@ use std::sync::Wait;
 /// values, and `into_parts` returns them. The buffer takes memory for `bound` values, which each run frees and
 /// the next push asks for again.
 #[derive(Drop)]
-pub struct BufferedWriter<'a, T> {
-    writer: Writer<'a, T>,
+pub struct BufferedWriter<'a, T, B: Tie = Untied> {
+    writer: Writer<'a, T, B>,
     buffer: Vec<T>,
     bound: usize,
     alloc: Global,
 }
 
-impl<'a, T> Model for BufferedWriter<'a, T> {
+impl<'a, T, B: Tie> Model for BufferedWriter<'a, T, B> {
     ghost use Rattle.std.specs.Prelude.{◌<◌, ◌≤◌, vec_len};
     ghost use Rattle.span_core.specs.Buffered.{BufferedView, buffered_coded};
 
@@ -37,9 +38,9 @@ impl<'a, T> Model for BufferedWriter<'a, T> {
     ghost invariant = { λ b. (0 < b.bound) × (vec_len b.buffer ≤ b.bound) };
 }
 
-impl<'a, T> BufferedWriter<'a, T> {
+impl<'a, T, B: Tie> BufferedWriter<'a, T, B> {
     /// Makes a writer that buffers up to `bound` values. It takes no memory yet.
-    pub fn new(alloc: Global, writer: Writer<'a, T>, bound: usize) -> Self
+    pub fn new(alloc: Global, writer: Writer<'a, T, B>, bound: usize) -> Self
         requires { 0 < bound }
         ensures { result ≡ record { writer = writer.entry; buffered = []; bound = bound } }
     {
@@ -68,14 +69,14 @@ impl<'a, T> BufferedWriter<'a, T> {
     }
 
     /// Returns the writer, to read the vector and what the hand has seen.
-    pub fn writer(&self) -> &Writer<'a, T>
+    pub fn writer(&self) -> &Writer<'a, T, B>
         ensures { result.now ≡ self.now.writer }
     {
         &self.writer
     }
 
     /// Returns the writer, and the values that are not appended yet, in order.
-    pub fn into_parts(self) -> (Writer<'a, T>, Vec<T>)
+    pub fn into_parts(self) -> (Writer<'a, T, B>, Vec<T>)
         ensures writer { result.0 ≡ self.entry.writer }
         ensures buffered { result.1.items ≡ self.entry.buffered }
     {
@@ -89,7 +90,7 @@ impl<'a, T> BufferedWriter<'a, T> {
     }
 
     /// Returns the writer, if everything is appended.
-    pub fn into_writer(self) -> Writer<'a, T>
+    pub fn into_writer(self) -> Writer<'a, T, B>
         requires flushed { self.buffered ≡ [] }
         ensures value { result ≡ self.entry.writer }
     {
@@ -99,7 +100,7 @@ impl<'a, T> BufferedWriter<'a, T> {
     }
 }
 
-impl<'a, T: Drop> BufferedWriter<'a, T> {
+impl<'a, T: Drop, B: Tie> BufferedWriter<'a, T, B> {
     /// Appends what is buffered, in one run, and returns its token. It retries if another caller was first. A
     /// refusal that claims nothing leaves the buffer as it was.
     pub fn flush<R: Wait>(&mut self, rt: &R) -> Result<Grown<T>, GrowError<T, (), Never>>
@@ -167,9 +168,9 @@ impl<'a, T: Drop> BufferedWriter<'a, T> {
 
 // Appends what is buffered, in one run. The next values then go into this room; if nothing was claimed, those
 // that were buffered are there again.
-fn append_all<T: Drop, R: Wait>(
+fn append_all<T: Drop, B: Tie, R: Wait>(
     rt: &R,
-    writer: &mut Writer<'_, T>,
+    writer: &mut Writer<'_, T, B>,
     buffer: &mut Vec<T>,
     room: Vec<T>,
 ) -> Result<Grown<T>, GrowError<T, (), Never>>

@@ -37,8 +37,10 @@ impl Error for ParError {}
 /// The reason why a range of workers has no result. All workers that were started have ended.
 #[derive(Clone, Copy, Debug, PartialEq, Eq)]
 pub enum Refusal<E> {
-    /// There was no memory, or a thread couldn't be started.
+    /// There was no memory. From `with_hands` and `run_gated` also: a thread couldn't be started.
     NoMemory,
+    /// A thread couldn't be started, so nobody worked. Only `with_writers` returns it.
+    NoThread,
     /// The gate refused a worker.
     Stuck,
     /// A worker refused.

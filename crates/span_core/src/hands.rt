@@ -27,9 +27,9 @@ struct HandWorkers<'a, T, F, G> {
 
 // What a range of workers leaves: one hand, and their results.
 #[derive(Drop)]
-struct Left<T, A, E> {
-    hand: Hand<T>,
-    answers: Result<Vec<A>, Refusal<E>>,
+pub(crate) struct Left<T, A, E> {
+    pub(crate) hand: Hand<T>,
+    pub(crate) answers: Result<Vec<A>, Refusal<E>>,
 }
 
 impl<
@@ -134,7 +134,10 @@ impl<
 }
 
 // The result of one worker as that of a range.
-fn list_result<A: Drop, E>(alloc: Global, answer: Result<A, E>) -> Result<Vec<A>, Refusal<E>>
+pub(crate) fn list_result<A: Drop, E>(
+    alloc: Global,
+    answer: Result<A, E>,
+) -> Result<Vec<A>, Refusal<E>>
     ensures answer { (a : A) → answer ≡ Ok a → IfOk result (λ all. all.items ≡ a ∷ []) }
     ensures memory { (a : A) → answer ≡ Ok a → IfErr result (λ e. e ≡ Refusal.NoMemory) }
     ensures refused { (e : E) → answer ≡ Err e → result ≡ Err (Refusal.Worker e) }

@@ -7,8 +7,9 @@
 //! A caller can prove that `par_map` returns what the function returns for each place, in order, and that
 //! `par_reduce` returns the fold of that (`specs/Loops.antt`), for any number of workers; `laws` has what it
 //! needs to know of the functions that it passes in. Each worker passes a `Gate` before and after its work,
-//! and works only if the gate let it through. `with_hands` lends each worker on a vector a hand, and in the
-//! end the caller's hand has its shares again (`specs/Hands.antt`). `run_workers` starts any `Job`, and
+//! and works only if the gate let it through. `with_writers` lends each worker on a vector a writer, and asks
+//! for nothing that is to be proved of its shares (`specs/Crew.antt`). `with_hands` lends each a hand, and in
+//! the end the caller's hand has its shares again (`specs/Hands.antt`). `run_workers` starts any `Job`, and
 //! `run_gated` any `Gated`, whose workers bring something and may refuse; if one is refused, those below it
 //! have returned (`specs/Workers.antt`). Under them is `fork_join`, which starts any range of workers by
 //! halves. Nothing is said about which worker took a leaf, nor that a loop returns.
@@ -20,6 +21,7 @@
 
 mod buffered_writer;
 mod by_halves;
+mod crew;
 mod cursor;
 mod errors;
 mod even;
@@ -32,9 +34,11 @@ mod reduce;
 mod segments;
 mod shared_writer;
 mod span;
+mod tie;
 mod workers;
 mod writer;
 mod writer_growths;
+mod writers;
 
 pub use buffered_writer::BufferedWriter;
 pub use by_halves::{ForkJoin, fork_join};
@@ -48,5 +52,7 @@ pub use reduce::{Domain, par_reduce};
 pub use segments::{WorkerCells, par_for_segments};
 pub use shared_writer::SharedWriter;
 pub use span::Span;
+pub use tie::{Tie, Untied};
 pub use workers::{Gated, Job, run_gated, run_workers};
 pub use writer::Writer;
+pub use writers::{WriterJob, with_writers};

@@ -256,7 +256,9 @@ pub fn run_workers<R: Threads + Wait + Sync, A: Send + Drop, J: Job<A> + Sync, G
     }
     match run_gated(rt, alloc, &Plain { job }, gate, (), workers) {
         Ok(answers) => Ok(answers),
-        Err(Refusal::NoMemory | Refusal::Worker(AllocError)) => Err(ParError::NoMemory),
+        Err(Refusal::NoMemory | Refusal::NoThread | Refusal::Worker(AllocError)) => {
+            Err(ParError::NoMemory)
+        }
         Err(Refusal::Stuck) => Err(ParError::Stuck),
     }
 }

@@ -6,25 +6,29 @@ ghost use Rattle.grow_core.specs.Vector.{IsHandOf, IsPlacedOf, IsOpenedAt, SeesM
 ghost use Rattle.grow_core.specs.Growth.{WonPlace, Refuses, HasNoRoom, SaysFull, IsNotMoved};
 ghost use Rattle.grow_core.specs.Read.{IsAt, IsShownAt, ShowsValue, IsDueAt, IsInRange};
 ghost use Rattle.span_core.specs.Hands.{split_off};
+ghost use Rattle.span_core.specs.Writer.{IsTied};
 
+use crate::tie::{Tie, Untied};
 use grow_core::{At, AtError, GrowError, Hand, Never, Placed, Published, Shared, Shown};
 use std::fmt;
-use std::marker::Model;
+use std::marker::{Model, PhantomData};
 use std::sync::Wait;
 
 /// A vector and a hand of it. Each call is the vector's call of the same name, with this hand.
 ///
 /// If a writer is dropped, its hand's shares are lost: the vector can then be dropped, but not closed.
-/// `into_hand` and `join` keep them.
+/// `into_hand` and `join` keep them. `B` says whether all writers of this type are of one vector, as those that
+/// `with_writers` lends; a `Writer<'_, T>` may be of any.
 #[derive(Drop)]
-pub struct Writer<'a, T> {
+pub struct Writer<'a, T, B: Tie = Untied> {
     pub(crate) vector: &'a Shared<T>,
     pub(crate) hand: Hand<T>,
+    pub(crate) tie: PhantomData<B>,
 }
 
-impl<'a, T> Model for Writer<'a, T> {
+impl<'a, T, B: Tie> Model for Writer<'a, T, B> {
     ghost use Rattle.grow_core.specs.Vector.{IsHandOf};
-    ghost use Rattle.span_core.specs.Writer.{WriterView, writer_coded};
+    ghost use Rattle.span_core.specs.Writer.{WriterView, IsTied, writer_coded};
 
     ghost Value = { WriterView T };
 
@@ -32,10 +36,10 @@ impl<'a, T> Model for Writer<'a, T> {
 
     ghost view = { λ w. record { vector = w.vector.now; hand = w.hand } };
 
-    ghost invariant = { λ w. IsHandOf w.vector.now w.hand };
+    ghost invariant = { λ w. IsHandOf w.vector.now w.hand × IsTied B.tied w.vector.now };
 }
 
-impl<'a, T> fmt::Debug for Writer<'a, T> {
+impl<'a, T, B: Tie> fmt::Debug for Writer<'a, T, B> {
     fn fmt<W: fmt::Write>(&self, f: &mut fmt::Formatter<W>) -> fmt::Result {
         f.debug_struct("Writer")
             .field("hand", &self.hand)
@@ -50,7 +54,27 @@ impl<'a, T> Writer<'a, T> {
         requires { IsHandOf vector.now hand }
         ensures { result ≡ record { vector = vector.now; hand = hand } }
     {
-        Writer { vector, hand }
+        Writer {
+            vector,
+            hand,
+            tie: PhantomData,
+        }
+    }
+}
+
+impl<'a, T, B: Tie> Writer<'a, T, B> {
+    /// Ties a hand to its vector like `new`, for a type whose writers may be of this vector. So a hand that
+    /// `into_hand` returned becomes a lent writer again.
+    pub fn tied(vector: &'a Shared<T>, hand: Hand<T>) -> Self
+        requires ours { IsHandOf vector.now hand }
+        requires tied { IsTied B.tied vector.now }
+        ensures { result ≡ record { vector = vector.now; hand = hand } }
+    {
+        Writer {
+            vector,
+            hand,
+            tie: PhantomData,
+        }
     }
 
     /// Returns the vector, for calls that take no hand.
@@ -58,6 +82,7 @@ impl<'a, T> Writer<'a, T> {
     pub fn vector(&self) -> &'a Shared<T>
         ensures value { result.now ≡ self.now.vector }
         ensures ours { IsHandOf result.now self.now.hand }
+        ensures tied { IsTied B.tied result.now }
     {
         self.vector
     }
@@ -76,8 +101,13 @@ impl<'a, T> Writer<'a, T> {
     pub fn into_hand(self) -> Hand<T>
         ensures value { result ≡ self.entry.hand }
         ensures ours { IsHandOf self.entry.vector result }
+        ensures tied { IsTied B.tied self.entry.vector }
     {
-        let Writer { vector: _, hand } = self;
+        let Writer {
+            vector: _,
+            hand,
+            tie: _,
+        } = self;
         hand
     }
 
@@ -153,7 +183,7 @@ impl<'a, T> Writer<'a, T> {
     }
 
     /// Splits shares off into a new writer, whose hand has seen the same. It shows no size.
-    pub fn split(&mut self, shares: u32) -> Writer<'a, T>
+    pub fn split(&mut self, shares: u32) -> Writer<'a, T, B>
         requires some_shares { 0 < shares }
         requires not_all { shares < self.old.hand.shares }
         ensures kept { self.new ≡ record self.old
@@ -162,12 +192,16 @@ impl<'a, T> Writer<'a, T> {
     {
         let vector = self.vector;
         let hand = vector.split(&mut self.hand, shares);
-        Writer { vector, hand }
+        Writer {
+            vector,
+            hand,
+            tie: PhantomData,
+        }
     }
 
     /// Joins the other writer's runs and shares into this one, which has then seen whichever is more of what
     /// the two had seen.
-    pub fn join(&mut self, other: Writer<'_, T>)
+    pub fn join(&mut self, other: Writer<'_, T, B>)
         requires same { other.vector ≡ self.old.vector }
         ensures of { self.new.hand.of ≡ self.old.hand.of }
         ensures mine { self.new.hand.mine ≡ self.old.hand.mine ++ other.entry.hand.mine }
@@ -186,7 +220,7 @@ impl<'a, T> Writer<'a, T> {
 
     /// Shows the hands of two writers to each other, by one load of the size: both have then seen all that was
     /// claimed.
-    pub fn meet(&mut self, other: &mut Writer<'_, T>)
+    pub fn meet(&mut self, other: &mut Writer<'_, T, B>)
         requires same { other.old.vector ≡ self.old.vector }
         ensures own { KeepsOwn self.old.hand self.new.hand }
         ensures also_own { KeepsOwn other.old.hand other.new.hand }
@@ -202,7 +236,7 @@ impl<'a, T> Writer<'a, T> {
     }
 }
 
-impl<'a, T: Drop> Writer<'a, T> {
+impl<'a, T: Drop, B: Tie> Writer<'a, T, B> {
     /// Appends a value. It begins at the size that the hand has seen, and retries if another caller was first.
     #[inline(always)]
     pub fn push_back<R: Wait>(

@@ -10,12 +10,13 @@ ghost use Rattle.grow_core.specs.AtLeast.{WonAtLeast, RefusesAtLeast, SaysEnough
 ghost use Rattle.grow_core.specs.Mend.{IsMendDue, IsSeen, TellsValue};
 ghost use Rattle.span_core.specs.Writer.{AppendsAll, StopsAppending};
 
+use crate::tie::Tie;
 use crate::writer::Writer;
 use grow_core::{AtLeast, GrowError, Grown, MendError, Never, Placed, Run, laws};
 use std::alloc::AllocError;
 use std::sync::Wait;
 
-impl<'a, T: Drop> Writer<'a, T> {
+impl<'a, T: Drop, B: Tie> Writer<'a, T, B> {
     /// Appends the values in one run. It tries once, and waits for nobody.
     pub fn try_grow_vec(&mut self, values: Vec<T>) -> Result<Grown<T>, GrowError<T, Vec<T>, Never>>
         ensures won { IfOk result
@@ -138,7 +139,7 @@ impl<'a, T: Drop> Writer<'a, T> {
     }
 }
 
-impl<'a, T: Drop> Writer<'a, T> {
+impl<'a, T: Drop, B: Tie> Writer<'a, T, B> {
     /// Appends the items of an iterator one by one, like `push_back`, and returns their number. If one is
     /// refused, the iterator is not asked again, and the number of the items before that one comes back with
     /// the refusal.
@@ -171,7 +172,7 @@ impl<'a, T: Drop> Writer<'a, T> {
     }
 }
 
-impl<'a, T: Clone> Writer<'a, T> {
+impl<'a, T: Clone, B: Tie> Writer<'a, T, B> {
     /// Appends `n` clones of the value in one run, each made once the run is won. A clone that finds no memory
     /// is a refused construction: the places from there on are broken. It tries once, and waits for nobody.
     pub fn try_grow_by(
@@ -212,7 +213,7 @@ impl<'a, T: Clone> Writer<'a, T> {
     }
 }
 
-impl<'a, T> Writer<'a, T> {
+impl<'a, T, B: Tie> Writer<'a, T, B> {
     /// Fills a broken place. It waits for nobody, and takes no memory.
     pub fn mend(&mut self, place: u64, value: T) -> Result<Placed<T>, (MendError<T>, T)>
         ensures token { IfOk result (IsPlacedOf self.old.vector) }

@@ -1,0 +1,30 @@
+use Rattle.std.proofs.Common.{◌+◌, ◌∙◌, refl, sym, arith}
+use Rattle.std.proofs.lemmas.Result.{IfOk-at_ok}
+use Rattle.span_core.specs.Hands.{of_answer, of_refusal}
+use Rattle.span_core.specs.Crew.{LeavesPart, IsLeftBy}
+use Rattle.span_core.proofs.HandLemmas.{part_left, part_right, both-answer}
+use Rattle.span_core.proofs.CrewLemmas.{both-end}
+use Rattle.span_core.proofs.writers.WriterWorkersForkJoinHandLeftNever.join_halves.Goals as goal
+
+pub returns-clause-answer : goal.returns-clause-answer
+returns-clause-answer g c =
+    let word = c.args.self.now.vector.now.word in
+    let says = LeavesPart (g.W.WriterJob.says c.args.self.now.work.now) c.args.self.now.vector.now c.args.self.now.shares in
+    let may = g.G.Gate.may_refuse c.args.self.now.gate.now in
+    let middle = c.args.first + c.args.low in
+    let a = c.in_ok-hand.field-0 in
+    let b = c.in_ok-other.field-0 in
+    let new = c.join.new.hand in
+    let join = c.join.ensures in
+    let p = IfOk-at_ok (λ left. IsLeftBy says may word c.args.first c.args.low left.hand left.answers) c.in_ok-hand.was c.requires.lower.0 in
+    let q = IfOk-at_ok (λ left. IsLeftBy says may word middle c.args.high left.hand left.answers) c.in_ok-other.was c.requires.upper.0 in
+    let left = part_left a.hand b.hand new join.of join.begins join.mine in
+    let right = part_right a.hand b.hand new (join.of ∙ (p.of ∙ sym q.of)) join.also_begins join.mine in
+    record {
+      of = join.of ∙ p.of;
+      shares = omega (arith, join.shares, p.shares, q.shares);
+      answered = both-answer (λ v. v.items) (of_answer says) (of_refusal says) may a.hand b.hand new c.args.first c.args.low middle c.args.high
+          a.answers b.answers c.join_results-answers.result refl left right join.mine p.answered q.answered c.join_results-answers.ensures.answers;
+      refused = both-end (λ v. v.items) (of_answer says) (of_refusal says) may a.hand b.hand new c.args.first c.args.low middle c.args.high
+          a.answers b.answers c.join_results-answers.result refl left right p.answered p.refused q.refused c.join_results-answers.ensures.refused;
+    }

@@ -41,7 +41,9 @@ impl fmt::Display for ProgramError {
         match self {
             ProgramError::Run(error) => write!(f, "{error}"),
             ProgramError::Race(RaceError::NoMemory) => write!(f, "memory"),
-            ProgramError::Race(error) => write!(f, "race: fault {}", error.number()),
+            ProgramError::Race(RaceError::BadSize) => write!(f, "race: fault 2"),
+            ProgramError::Race(RaceError::Stuck) => write!(f, "race: fault 3"),
+            ProgramError::Race(RaceError::Grow { .. }) => write!(f, "race: fault 4"),
         }
     }
 }

@@ -1,0 +1,90 @@
+//! Workers find which points of a file are near each other, and append the edges between them to one vector,
+//! while the first one reports how many there are. The owner closes the vector, sorts the edges, drops the
+//! duplicates, and prints what no schedule can change.
+//!
+//!   mesh FILE [WORKERS [LIMIT]]
+#![tactic(auto)]
+
+mod points;
+mod search;
+
+use crate::points::{Edge, Point, read_points};
+use crate::search::Search;
+use anyhow::{Context, Result, bail, ensure};
+use quiet_core::Quiet;
+use span_core::{Free, Refusal, with_writers};
+use std::alloc::AllocGlobal;
+use std::env::{self, Env};
+use std::fs;
+use std::rt::Clock;
+use std::sync::Wait;
+use std::sync::atomic::AtomicU64;
+use std::thread::Threads;
+
+// The greatest limit that a vector may have.
+const GREATEST_LIMIT: u64 = 1 << 40;
+
+// Lists the edges that the workers find, in any order. Each is found from both of its points.
+fn find_edges<R: Threads + Wait + Clock + Eprint + AllocGlobal + Sync>(
+    rt: &R,
+    points: &[Point],
+    finders: u8,
+    limit: u64,
+) -> Result<Quiet<Edge>> {
+    ensure!(0 < finders, "no workers");
+    ensure!(0 < limit && limit <= GREATEST_LIMIT, "no such limit");
+    let alloc = rt.alloc();
+    let Ok((vector, mut hand)) = Quiet::new(alloc, limit).open() else {
+        bail!("out of memory");
+    };
+    let search = Search {
+        rt,
+        alloc,
+        points,
+        finders,
+        ended: AtomicU64::new(0),
+    };
+    let workers = u32::from(finders) + 1;
+    let found = with_writers(rt, alloc, &vector, &mut hand, workers, &search, &Free);
+    let Ok(list) = Quiet::try_close(vector, hand) else {
+        bail!("a worker lost its shares");
+    };
+    match found {
+        Ok(_done) => Ok(list),
+        Err(Refusal::Worker(error)) => Err(error),
+        Err(Refusal::NoThread) => bail!("a thread could not be started"),
+        Err(Refusal::NoMemory | Refusal::Stuck) => bail!("out of memory"),
+    }
+}
+
+// Prints how many edges there are, each once, and the first five.
+fn print_edges<R: Print>(rt: &R, list: Quiet<Edge>) -> Result<()> {
+    let mut edges = list.into_vec().map_err(|(error, _list)| error)?;
+    let appended = edges.len();
+    edges.sort_unstable();
+    edges.dedup();
+    let dropped = appended - edges.len();
+    println!(rt; "{} edges, {dropped} duplicates dropped", edges.len())?;
+    for edge in edges.as_slice().iter().take(5) {
+        println!(rt; "{} {}", edge.low, edge.high)?;
+    }
+    Ok(())
+}
+
+// Parses an argument, or returns the default.
+fn parse_number(word: Option<String>, otherwise: u64) -> Result<u64> {
+    match word {
+        Some(word) => word.as_str().parse().context(format_args!("{word:?}")),
+        None => Ok(otherwise),
+    }
+}
+
+fn main(rt: HostRuntime) -> Result<()> {
+    let mut words = env::args(&rt)?.skip(1);
+    let file = words.next().context("mesh FILE [WORKERS [LIMIT]]")?;
+    let finders = u8::try_from(parse_number(words.next(), 8)?).context("WORKERS")?;
+    let limit = parse_number(words.next(), 1 << 32)?;
+    let text = fs::read_to_string(&rt, file.as_str()).context("the file of points")?;
+    let points = read_points(rt.alloc(), text.as_str())?;
+    print_edges(&rt, find_edges(&rt, points.as_slice(), finders, limit)?)
+}

@@ -1,6 +1,8 @@
 //! Facts that no clause states: that the calls succeed if there is memory, and the worked examples.
 ghost use Rattle.seg_core.specs.Segment.{IsLimit};
 
+mod compact;
+mod cuts;
 mod drops;
 mod layouts;
 mod lives;
@@ -11,6 +13,7 @@ mod steps;
 mod uses;
 mod vectors;
 
+pub(crate) use layouts::layout_of;
 use quiet_core::{MemberSegment, Quiet, QuietAt, QuietError};
 use std::alloc::AllocGlobal;
 use std::process::Abort;

@@ -7,7 +7,7 @@ use seg_core::Layout;
 use std::alloc::{AllocGlobal, Global};
 use std::process::Abort;
 
-pub(super) fn layout_of<R: Abort>(rt: &R, f: u32) -> Layout {
+pub(crate) fn layout_of<R: Abort>(rt: &R, f: u32) -> Layout {
     match Layout::new(f) {
         Some(layout) => layout,
         None => panic!(rt; "no layout {f}"),

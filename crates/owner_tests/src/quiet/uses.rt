@@ -1,8 +1,8 @@
 // What callers prove by the public clauses alone.
-ghost use Rattle.std.specs.Prelude.{◌≡◌, ◌^◌, ◌≤◌, Some, IfOk, replicate, slice_get};
+ghost use Rattle.std.specs.Prelude.{◌≡◌, ◌^◌, ◌≤◌, Some, IfOk, IfErr, filter, is_some, map, replicate, slice_get};
 
-use super::{measures, vec_of};
-use quiet_core::{Quiet, QuietAt, QuietError};
+use super::{broken_after, measures, vec_of};
+use quiet_core::{IntoVecError, Quiet, QuietAt, QuietError};
 use std::alloc::Global;
 
 // The member at a place, if there is one, once a list has more room.
@@ -57,6 +57,20 @@ fn zeros(alloc: Global, n: u64) -> Result<Quiet<u64>, QuietError>
     Ok(list)
 }
 
+// The values of a list, whatever else is in it. Only memory can be refused.
+fn values_of(list: Quiet<u64>) -> Result<Vec<u64>, Quiet<u64>>
+    ensures values { IfOk result (λ values. map Some values.items ≡ filter is_some list.members) }
+    ensures back { IfErr result (λ back. back.members ≡ filter is_some list.members) }
+{
+    let mut list = list;
+    list.compact();
+    match list.into_vec() {
+        Ok(values) => Ok(values),
+        Err((IntoVecError::NoMemory, back)) => Err(back),
+        Err((IntoVecError::Broken { .. }, _)) => unreachable!(),
+    }
+}
+
 #[test]
 fn a_value_is_given_back_at_its_place(rt: HostRuntime) {
     for (place, value) in [(0, Some(5)), (2, Some(7)), (3, None)].as_slice() {
@@ -72,6 +86,14 @@ fn a_value_is_given_back_at_its_place(rt: HostRuntime) {
 fn room_that_was_made_is_filled(rt: HostRuntime) {
     match zeros(rt.alloc(), 5) {
         Ok(list) => assert!(rt; measures(&list, 5, 8)),
+        Err(_refused) => panic!(rt; "no memory"),
+    }
+}
+
+#[test]
+fn the_values_of_a_list_with_a_broken_member_are_a_vector(rt: HostRuntime) {
+    match values_of(broken_after(&rt, 7)) {
+        Ok(values) => assert!(rt; values.as_slice() == [7].as_slice()),
         Err(_refused) => panic!(rt; "no memory"),
     }
 }

@@ -1,0 +1,72 @@
+// Writers that own their vector together, and close it into a list.
+ghost use Rattle.std.specs.Prelude.{◌≡◌};
+
+use crate::quiet::layout_of;
+use quiet_core::Quiet;
+use seg_core::Layout;
+use span_core::SharedWriter;
+use std::alloc::Global;
+use std::sync::{Arc, Wait};
+
+// A writer of a new vector with a limit of 100.
+fn writer_in(alloc: Global, layout: Layout) -> Option<SharedWriter<u64>> {
+    let (vector, hand) = Quiet::new_in(alloc, layout, 100).open().ok()?;
+    let vector = Arc::new(alloc, vector).ok()?;
+    Some(SharedWriter::new(vector, hand))
+}
+
+// Tests whether a list has two values, and the limit and the layout of its vector.
+fn is_list_of_two(list: &Quiet<u64>, layout: Layout) -> bool {
+    list.get(0) == Ok(&5)
+        && list.get(1) == Ok(&7)
+        && list.len() == 2
+        && list.limit() == 100
+        && list.layout() == layout
+}
+
+// Tests whether a writer appends a value. It is a writer of the same vector then.
+fn appends<R: Wait>(rt: &R, writer: &mut SharedWriter<u64>, value: u64) -> bool
+    ensures { writer.new.vector ≡ writer.old.vector }
+{
+    writer.push_back(rt, value).is_ok()
+}
+
+// Two writers append a value each, and neither closes the vector. Tests whether they do once they are joined.
+fn closes_with_all_shares<R: Wait>(rt: &R, alloc: Global, layout: Layout) -> Option<bool> {
+    let mut first = writer_in(alloc, layout)?;
+    if first.hand().share() < 2 {
+        return None;
+    }
+    let mut second = first.split(1).ok()?;
+    let five = appends(rt, &mut first, 5);
+    let seven = appends(rt, &mut second, 7);
+    let mut first = first.try_close().err()?;
+    let second = second.try_close().err()?;
+    first.join(second);
+    let list = first.try_close().ok()?;
+    Some(five && seven && is_list_of_two(&list, layout))
+}
+
+// A writer has all shares, and its vector another owner. Tests whether it closes the vector once that is gone.
+fn closes_as_the_last_owner<R: Wait>(rt: &R, alloc: Global, layout: Layout) -> Option<bool> {
+    let mut writer = writer_in(alloc, layout)?;
+    let is_pushed = appends(rt, &mut writer, 5) && appends(rt, &mut writer, 7);
+    let (vector, hand) = writer.into_parts();
+    let other = Arc::try_clone(&vector).ok()?;
+    let writer = SharedWriter::new(vector, hand).try_close().err()?;
+    drop(other);
+    let list = writer.try_close().ok()?;
+    Some(is_pushed && is_list_of_two(&list, layout))
+}
+
+#[test]
+fn a_vector_is_closed_by_its_last_owner_with_all_shares(rt: HostRuntime) {
+    for f in [1, 8u32].as_slice() {
+        let layout = layout_of(&rt, *f);
+        assert!(rt;
+            closes_with_all_shares(&rt, rt.alloc(), layout) == Some(true)
+                && closes_as_the_last_owner(&rt, rt.alloc(), layout) == Some(true),
+            "{f}"
+        );
+    }
+}

@@ -14,7 +14,7 @@ PICTURES = {
     "buffered": ("A push by a writer with a buffer of 64, on fresh memory", "pushes by a buffer of 64, fresh memory"),
     "at": ("at: a read at a random place", "at without a token, random places"),
 }
-# Rows of ours and of boxcar, each with the row to which its boxcar belongs.
+# Rows that compare with boxcar, and the row of the picture that shows its times.
 BOXCAR = {
     "push, beside the kit boxcar": "push, fresh memory",
     "at, beside get of the kit boxcar": "at without a token, random places",

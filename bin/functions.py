@@ -24,11 +24,9 @@ class Function:
     def is_proved_in(self, module, file):
         """Whether the function's proof is this module of proofs/. `file` is the function's."""
         # A function that calls itself has a plus before its name.
-        if module[-1:] not in ([self.name], [f"+{self.name}"]):
-            return False
-        if self.holder:
-            return len(module) > 1 and self.is_owned_by(module[-2])
-        return module[:-1] == module_of(file)
+        is_named = module[-1:] in ([self.name], [f"+{self.name}"])
+        is_here = len(module) > 1 and self.is_owned_by(module[-2]) if self.holder else module[:-1] == module_of(file)
+        return is_named and is_here
 
     def is_owned_by(self, name):
         """Whether proofs have this name for the function's type: the type's, then the trait's and its arguments', if any."""

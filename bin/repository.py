@@ -44,11 +44,8 @@ class Repository:
 
     def below(self, name):
         """The crates of the repository that this one stands on, lowest first."""
-        found = []
-        for dep in self.deps[name]:
-            if dep in self.deps:
-                found += [it for it in [*self.below(dep), dep] if it not in found]
-        return found
+        own = [it for it in self.deps[name] if it in self.deps]
+        return [*dict.fromkeys(it for dep in own for it in [*self.below(dep), dep])]
 
     def changed(self, commit):
         """The crates that differ from a commit, and those above them, lowest first."""
@@ -97,8 +94,7 @@ class Repository:
             with self.room(name) as room:
                 if os.path.isdir(kept):
                     shutil.copytree(kept, f"{room}/out")
-                verb = "check" if os.path.isfile(f"{room}/src/main.rt") else "lib"
-                answer = output(room, ["rt", verb])
+                answer = output(room, ["rt", "check" if os.path.isfile(f"{room}/src/main.rt") else "lib"])
                 shutil.rmtree(kept, ignore_errors=True)
                 shutil.move(f"{room}/out", kept)
                 return answer

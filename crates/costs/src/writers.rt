@@ -6,7 +6,7 @@ use span_core::{BufferedWriter, Writer};
 use std::alloc::AllocGlobal;
 use std::sync::Wait;
 
-// The values of a buffer: as many as those of a growth.
+// The most values in a buffer. The lists of other loads have 64 values too.
 const BUFFER: usize = 64;
 
 /// Pushes values by a writer, and returns how many were appended.

@@ -6,7 +6,7 @@ use Rattle.std.proofs.lemmas.Bool.{cases_lt}
 use mathlib.Core.List.{IsPrefix}
 use Rattle.claim_core.specs.declared.run.Run.{Run}
 use Rattle.claim_core.specs.Hand.{HandView, LogsRun}
-use Rattle.claim_core.specs.History.{Log, AddsEvents, Adds, claim_event, full_event, memory_event}
+use Rattle.claim_core.specs.History.{Log, AddsEvents, Adds, claim_event, full_event, memory_event, size_event}
 use Rattle.claim_core.specs.Laws.{StepsStay}
 use Rattle.grow_core.specs.declared.errors.GrowError.{GrowError}
 use Rattle.grow_core.specs.declared.errors.GrowError.TheVariants.{NoMemory, Full, Moved, Refused, Taken}
@@ -34,9 +34,9 @@ refusal_events run_of n old new (Taken place found) logs =
     (claim_event claimed.index logs.run ∷ [], (claimed.index, logs.run, all, (logs.after, omega arith), refl), claimed.adds)
 
 -- of a growth that won
-win_events : {X T V E : Type 0} (run_of : X → Run) (n : ℕ) (old new : HandView) (x : X) → LogsGrowth old new (run_of x)
+win_events : {X : Type 0} (T V E : Type 0) (run_of : X → Run) (n : ℕ) (old new : HandView) (x : X) → LogsGrowth old new (run_of x)
     → Logged {T = T} {V = V} {E = E} run_of n (Ok x) old.log new.log
-win_events run_of n old new x logs =
+win_events T V E run_of n old new x logs =
     ⊎_elim
     (λ (some_places : 0 < (run_of x).n).
         let claimed = logs.claimed some_places in
@@ -46,7 +46,7 @@ win_events run_of n old new x logs =
 
 pub growth_events : {X T V E : Type 0} (run_of : X → Run) (n : ℕ) (old new : HandView) (result : Result X (GrowError T V E))
     → IfOk result (λ x. LogsGrowth old new (run_of x)) → IfErr result (LogsRefusal n old new) → Logged run_of n result old.log new.log
-growth_events run_of n old new (Ok x) won refused = win_events run_of n old new x won
+growth_events {X} {T} {V} {E} run_of n old new (Ok x) won refused = win_events T V E run_of n old new x won
 growth_events run_of n old new (Err e) won refused = refusal_events run_of n old new e refused
 
 pub push_events : {X T V E : Type 0} (run_of : X → Run) (n : ℕ) (old new : HandView) (result : Result X (GrowError T V E))
@@ -64,4 +64,4 @@ pub still_answered : {T V W E F : Type 0} → StepsStay → (old log more : Log)
     (grown : Result (GrownView T) (GrowError T W F)) (size : ℕ) → IsAnsweredIn old n pushed grown size log → IsPrefix log more
     → IsAnsweredIn old n pushed grown size more
 still_answered law old log more n pushed grown size it p =
-    record { push = it.push; growth = it.growth; pushes = it.pushes; grows = it.grows; part = law old log more _ it.part p }
+    record { push = it.push; growth = it.growth; pushes = it.pushes; grows = it.grows; part = law old log more (it.push ∷ it.growth ∷ (size_event size ∷ []) ∷ []) it.part p }

@@ -1,78 +1,65 @@
 //! The work of each worker: four find contacts, and a fifth reads along.
-ghost use Rattle.grow_core.specs.Vector.{IsHandOf};
-ghost use Rattle.span_core.specs.Hands.{KeepsShares};
-
 use crate::particles::{Contact, Particle, touch};
-use anyhow::{Result, bail};
-use grow_core::{GrowError, Hand, Shared};
+use anyhow::{Error, Result, bail};
+use grow_core::{GrowError, Shared};
+use span_core::{Tie, Writer, WriterJob};
 use std::sync::Wait;
 
-/// The number of workers that find contacts.
+/// The number of workers that find contacts. One more reads.
 pub const FINDERS: u32 = 4;
 
 // How often the reader walks over what is there.
 const WALKS: u32 = 20;
 
-/// Does the work of worker `number`: finds the contacts of every fourth particle, or, for the last worker,
-/// reads those that are there. Returns how many it appended or saw.
-pub fn work<R: Wait>(
-    rt: &R,
-    vector: &Shared<Contact>,
-    hand: &mut Hand<Contact>,
-    particles: &[Particle],
-    number: u32,
-) -> Result<u64>
-    requires ours { IsHandOf vector.now hand.old }
-    ensures { KeepsShares hand.old hand.new }
-{
-    if number == FINDERS {
-        return Ok(read_along(vector));
-    }
-    let mut found: u64 = 0;
-    for first in (number as usize..particles.len()).step_by(FINDERS as usize) {
-        found = found.saturating_add(append_contacts(rt, vector, hand, particles, first)?);
-    }
-    Ok(found)
+/// What all workers use.
+#[derive(Drop)]
+pub struct Search<'a, R> {
+    pub rt: &'a R,
+    pub particles: Vec<Particle>,
 }
 
-// Appends the contacts of one particle with those before it.
-fn append_contacts<R: Wait>(
-    rt: &R,
-    vector: &Shared<Contact>,
-    hand: &mut Hand<Contact>,
-    particles: &[Particle],
-    first: usize,
-) -> Result<u64>
-    requires ours { IsHandOf vector.now hand.old }
-    ensures { KeepsShares hand.old hand.new }
-{
-    let mut found: u64 = 0;
-    for second in 0..first {
-        if let Some(contact) = touch(particles, first, second) {
-            match vector.push_back(rt, hand, contact) {
-                Ok(_placed) => found = found.saturating_add(1),
-                Err(GrowError::Full { size, .. }) => bail!("more than {size} contacts"),
-                Err(refused) => bail!("{refused}"),
+impl<'a, R: Wait> WriterJob<Contact, u64, Error> for Search<'a, R> {
+    // Finds the contacts of every fourth particle, or, as the last worker, reads those that are there. Returns
+    // how many it appended or saw.
+    fn work<B: Tie>(&self, writer: &mut Writer<'_, Contact, B>, worker: u32) -> Result<u64> {
+        if worker == FINDERS {
+            return Ok(read_along(writer.vector()));
+        }
+        let mut found: u64 = 0;
+        for first in (worker as usize..self.particles.len()).step_by(FINDERS as usize) {
+            found = found.saturating_add(self.append_contacts(writer, first)?);
+        }
+        Ok(found)
+    }
+}
+
+impl<'a, R: Wait> Search<'a, R> {
+    // Appends the contacts of one particle with those before it.
+    fn append_contacts<B: Tie>(
+        &self,
+        writer: &mut Writer<'_, Contact, B>,
+        first: usize,
+    ) -> Result<u64> {
+        let mut found: u64 = 0;
+        for second in 0..first {
+            if let Some(contact) = touch(self.particles.as_slice(), first, second) {
+                match writer.push_back(self.rt, contact) {
+                    Ok(_placed) => found = found.saturating_add(1),
+                    Err(GrowError::Full { size, .. }) => bail!("more than {size} contacts"),
+                    Err(refused) => bail!("{refused}"),
+                }
             }
         }
+        Ok(found)
     }
-    Ok(found)
 }
 
 // The most contacts that a walk over the vector shows.
 fn read_along(vector: &Shared<Contact>) -> u64 {
     let mut most = 0;
     for _ in 0..WALKS {
-        most = most.max(count_shown(vector));
+        let shown = vector.published().flatten();
+        most = most.max(shown.fold(0u64, |seen, _contact| seen.saturating_add(1)));
     }
     most
-}
-
-// How many contacts the vector shows now.
-fn count_shown(vector: &Shared<Contact>) -> u64 {
-    let mut seen: u64 = 0;
-    for _contact in vector.published().flatten() {
-        seen = seen.saturating_add(1);
-    }
-    seen
 }

@@ -21,8 +21,8 @@ use std::thread::Threads;
 
 /// The work of each worker that `with_writers` lends a writer.
 ///
-/// It is a trait and no closure, since only a method can be generic in `B`. `B` says that the writer is of one
-/// vector for good: no clause has to.
+/// It is a trait and no closure, since only a method can be generic in `B`. `B` says that the writer is always of
+/// the same vector, so that no clause has to.
 pub trait WriterJob<T, A, E> {
     ghost use Rattle.std.specs.Prelude.{ℕ, Result, ⊤};
     ghost use Rattle.claim_core.specs.Hand.{HandView};
@@ -178,10 +178,10 @@ impl<'a, R, T, W, G, J: Tie> WriterWorkers<'a, R, T, W, G, J> {
 /// Lets workers append to one vector, all except the first in a thread of their own, and returns their
 /// results in order.
 ///
-/// Each worker borrows a writer with an equal part of the shares of `hand`, so that it may split its writer and
-/// lend others in turn. Nothing is required of what it does with them. All hands are joined again, whatever the
-/// workers return, so `hand` has its shares again unless a worker gave some away or dropped them:
-/// `Quiet::try_close` tests that. The refusal of the worker with the lowest number is returned.
+/// Each worker borrows a writer with an equal part of the shares of `hand`, which it may split. Nothing is
+/// required of what it does with them. All hands are joined again, whatever the workers return, so `hand` has
+/// its shares again unless a worker gave some away or dropped them: `Quiet::try_close` tests that. The refusal of
+/// the worker with the lowest number is returned.
 ///
 /// No worker begins before all threads have been started; if one cannot be, nobody passes the gate or works, and
 /// the refusal is `NoThread`. So a worker may wait for any other one.

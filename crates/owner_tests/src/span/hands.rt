@@ -1,7 +1,8 @@
 // Workers that append to one vector, each by a hand of its own: the hand is whole again, whatever they
 // return.
-ghost use Rattle.std.specs.Prelude.{◌≡◌, ◌<◌, ◌≤◌};
+ghost use Rattle.std.specs.Prelude.{◌<◌, ◌≤◌};
 ghost use Rattle.grow_core.specs.Vector.{IsHandOf};
+ghost use Rattle.span_core.specs.Hands.{KeepsShares};
 
 use super::watch::Watch;
 use grow_core::{Hand, Shared};
@@ -59,8 +60,7 @@ fn append_all<R: Wait>(
     task: &Task<'_>,
 ) -> Result<u32, u32>
     requires ours { IsHandOf vector.now hand.old }
-    ensures of { hand.new.of ≡ hand.old.of }
-    ensures shares { hand.new.shares ≡ hand.old.shares }
+    ensures { KeepsShares hand.old hand.new }
 {
     for count in 0..task.begin(worker) {
         if vector.push_back(rt, hand, count).is_err() {
@@ -99,13 +99,11 @@ pub(super) fn append_by<R: Threads + Wait + Sync, G: Gate + Sync>(
     requires ours { IsHandOf vector.now hand.old }
     requires some { 0 < workers }
     requires fewer { workers < hand.old.shares }
-    ensures of { hand.new.of ≡ hand.old.of }
-    ensures shares { hand.new.shares ≡ hand.old.shares }
+    ensures { KeepsShares hand.old hand.new }
 {
     let work = |vector: &Shared<u64>, worker: u32, hand: &mut Hand<u64>| -> Result<u32, u32>
         requires { IsHandOf vector.now hand.old }
-        ensures of { hand.new.of ≡ hand.old.of }
-        ensures shares { hand.new.shares ≡ hand.old.shares }
+        ensures { KeepsShares hand.old hand.new }
     { append_all(rt, vector, worker, hand, task) };
     let numbers = with_hands(rt, alloc, vector, hand, workers, &work, gate)?;
     Ok(are_all(numbers.as_slice(), workers))

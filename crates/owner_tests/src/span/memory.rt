@@ -4,11 +4,12 @@ ghost use Rattle.std.specs.Prelude.{◌≡◌};
 ghost use Rattle.grow_core.specs.Vector.{IsHandOf};
 
 use super::hands::{Task, append_by, append_to_new};
+use super::lent_writers::{Appends, Meets, write_new};
 use super::{maps, sum_of};
 use crate::gates::Refusing;
 use grow_core::{Hand, Shared};
 use quiet_core::Quiet;
-use span_core::{Free, ParError, Span, split_even};
+use span_core::{Free, ParError, Refusal, Span, split_even, with_writers};
 use std::alloc::Global;
 use std::sync::Wait;
 use std::sync::atomic::Ordering;
@@ -95,6 +96,49 @@ fn both_work_or_neither<R: Threads + Wait + Sync>(rt: &R, alloc: Global) -> bool
 #[test]
 fn nobody_works_if_a_thread_cannot_be_started(rt: HostRuntime) {
     assert!(rt; both_work_or_neither(&rt, rt.alloc()));
+}
+
+// Three workers with a writer each append a value, and try again if there was no memory. Returns whether all
+// returned, and the length of the closed list.
+fn write_again<R: Threads + Wait + Sync>(rt: &R, alloc: Global) -> Option<(bool, u64)> {
+    let (vector, mut hand) = Quiet::new(alloc, 100).open().ok()?;
+    let job = Appends::new(rt, 1, 3);
+    let mut told = with_writers(rt, alloc, &vector, &mut hand, 3, &job, &Free);
+    if told.is_err() {
+        told = with_writers(rt, alloc, &vector, &mut hand, 3, &job, &Free);
+    }
+    match Quiet::try_close(vector, hand) {
+        Ok(list) => Some((told.is_ok(), list.len())),
+        Err(_lost) => Some((false, 0)),
+    }
+}
+
+#[test]
+fn workers_with_writers_are_tried_again(rt: HostRuntime) {
+    if let Some((are_done, len)) = write_again(&rt, rt.alloc()) {
+        assert!(rt; are_done && 3 <= len && len <= 6);
+    }
+}
+
+// Tests whether two workers that wait for each other both begin, or neither does and the reason is said.
+fn both_begin_or_neither<R: Threads + Wait + Sync>(rt: &R, alloc: Global) -> bool {
+    let gate = Refusing::new(2, 2);
+    let job = Meets::new(rt, 2);
+    let Some((told, closed)) = write_new(rt, alloc, 8, 2, &job, &gate) else {
+        return true;
+    };
+    let begun = job.begun.load(Ordering::SeqCst);
+    let begins = match told {
+        Ok(_numbers) => 2,
+        Err(Refusal::NoMemory) => 2,
+        Err(_other) => 0,
+    };
+    closed == Ok(0) && gate.is_passed(begins) && begun == begins
+}
+
+#[test]
+fn no_worker_waits_for_one_that_cannot_be_started(rt: HostRuntime) {
+    assert!(rt; both_begin_or_neither(&rt, rt.alloc()));
 }
 
 // Tests whether three hands are split off one with all shares, at the second try if need be. A refusal leaves

@@ -104,25 +104,25 @@ pub adds_run : (seat new : ClaimSeat) {found n : ℕ} {event : ℕ → Event × 
 adds_run seat new {found} {n} {event} {hand} hand_is claims table more =
     subst (λ (h : HandView). AddsRun h (hand_view new) (record { from = found; n = n })) hand_is
     (let v = seat.me.0 in
-     let w = new.me.0 in
-     let front = v.seen ++ claims.between in
-     let size : runs_end v.base front ≡ found = ap (λ b. runs_end b front) (sym claims.same.base) ∙ claims.size in
-     let sums = sum_by_push (λ x. x) front n in
-     let ends : runs_end w.base w.seen ≡ found + n =
-     ap (λ b. runs_end b w.seen) claims.same.base ∙ (ap (runs_end v.base) claims.seen ∙ omega arith) in
-     let within = claims.consistent.within in
-     let limit = claims.same.limit in
-     record {
-       between = claims.between;
-       begins = sym size;
-       positive = more;
-       within = omega arith;
-       seen = claims.seen;
-       ends = ends;
-       mine = claims.mine;
-       shares = claims.same.shares;
-       of = λ i. record { table = table i; limit = claims.same.limit i; base = claims.same.base i; mark = claims.same.mark i };
-     })
+    let w = new.me.0 in
+    let front = v.seen ++ claims.between in
+    let size : runs_end v.base front ≡ found = ap (λ b. runs_end b front) (sym claims.same.base) ∙ claims.size in
+    let sums = sum_by_push (λ x. x) front n in
+    let ends : runs_end w.base w.seen ≡ found + n =
+    ap (λ b. runs_end b w.seen) claims.same.base ∙ (ap (runs_end v.base) claims.seen ∙ omega arith) in
+    let within = claims.consistent.within in
+    let limit = claims.same.limit in
+    record {
+      between = claims.between;
+      begins = sym size;
+      positive = more;
+      within = omega arith;
+      seen = claims.seen;
+      ends = ends;
+      mine = claims.mine;
+      shares = claims.same.shares;
+      of = λ i. record { table = table i; limit = claims.same.limit i; base = claims.same.base i; mark = claims.same.mark i };
+    })
 
 -- the first hand of a word
 pub first_held : {seat : ClaimSeat} (terms : Terms) → AreBounds terms.limit terms.base → seat.me ≡ (first_view terms, [])

@@ -70,7 +70,7 @@ claims_have_their_turn limit base index run before after some_places history =
     let here : owners_of (claim ∷ after) ≡ index ∷ owners_of after =
     owners_of-append (claim ∷ []) after
     ∙ ap (λ (runs : List OwnedRun). map (λ (run : OwnedRun). run.owner) runs ++ owners_of after)
-      (one_claim (record { owner = index; from = run.from; n = run.n }) (nat_lt 0 run.n) refl some_places) in
+    (one_claim (record { owner = index; from = run.from; n = run.n }) (nat_lt 0 run.n) refl some_places) in
     let all = sym (ap (λ (l : List ℕ). owners_of before ++ l) here) ∙ (sym (owners_of-append before (claim ∷ after)) ∙ history.actors) in
     let turn = counted 0 _ index (owners_of before) (owners_of after) all in
     let long : length (owners_of before) ≡ length (lengths_of before) = length-map (claims_in before) _ ∙ sym (length-map (claims_in before) _) in

@@ -134,7 +134,7 @@ module _ (terms : Terms) (slots id : ℕ) (me : Seated) (is_limit : me.0.limit �
         },
       )
 
-  -- a step that finds the size and leaves it stands for a note's events of it
+  -- a step that finds the size and leaves it logs a note's events of it
   looks_as : (note : ℕ → Log) → IsNote terms.limit note → (s : Table) (kept : Kept terms s) → get_elem? s.views id ≡ some me.0
       → (w : SeatView) × Kept terms (stepped s size_at (get_or s.words size_at 0) id me.1 w keeps) × Looks me.0 (get_or s.words size_at 0) (note (get_or s.words size_at 0)) w
   looks_as note is s kept at =
@@ -148,11 +148,11 @@ module _ (terms : Terms) (slots id : ℕ) (me : Seated) (is_limit : me.0.limit �
       → Allows (Kept terms) slots id me size_at (λ n. n) (loaded_as note (step slots size_at 0 0 none) me)
   loads_as note is s kept homes at small = let l = looks_as note is s kept at in (l.0, keeps, tt, l.1, (l.2, refl))
 
-  -- one that stands for the size being asked for
+  -- one that logs the size being asked for
   pub loads : Allows (Kept terms) slots id me size_at (λ n. n) (loaded (step slots size_at 0 0 none) me)
   loads s kept homes at small = loads_as size_note (size_is_note terms.limit) s kept homes at small
 
-  -- one that stands for a growth without memory: the seat learns nothing else
+  -- one that logs a growth without memory: the seat learns nothing else
   pub lacks : Allows (Kept terms) slots id me size_at (λ n. n) (lacked (step slots size_at 0 0 none) me)
   lacks s kept homes at small =
       let v = me.0 in
@@ -202,7 +202,7 @@ module _ (terms : Terms) (slots id : ℕ) (me : Seated) (is_limit : me.0.limit �
       let run : OwnedRun = record { owner = length kept.lengths; from = found; n = n } in
       claims n (claiming found n) s kept at one_place room
       (claims_next terms.limit terms.base logged.log logged.history e.0 e.1 run refl one_place last
-        (claim_legal terms.limit terms.base found logged.log logged.history (log_ends s kept) (length kept.lengths) n room))
+      (claim_legal terms.limit terms.base found logged.log logged.history (log_ends s kept) (length kept.lengths) n room))
       (lengths_with terms.limit terms.base logged.log logged.history e.0 e.1 run refl one_place ∙ ap (λ (l : List ℕ). l ++ n ∷ []) logged.claims)
 
   rises : (to : ℕ) (s : Table) (kept : Kept terms s) → get_elem? s.views id ≡ some me.0 → get_or s.words size_at 0 < to → to ≤ terms.limit
@@ -217,7 +217,7 @@ module _ (terms : Terms) (slots id : ℕ) (me : Seated) (is_limit : me.0.limit �
       let one_place : 0 < n = omega arith in
       claims n (raising to found n) s kept at one_place (omega arith)
       (claims_next terms.limit terms.base logged.log logged.history e.0 e.1 run refl one_place last
-        (raise_legal terms.limit terms.base found logged.log logged.history (log_ends s kept) (length kept.lengths) to less room))
+      (raise_legal terms.limit terms.base found logged.log logged.history (log_ends s kept) (length kept.lengths) to less room))
       (lengths_with terms.limit terms.base logged.log logged.history e.0 e.1 run refl one_place ∙ ap (λ (l : List ℕ). l ++ n ∷ []) logged.claims)
 
   exchange_cases : (note : ℕ → Log) → IsNote terms.limit note → (old new : ℕ) → old < new → new ≤ terms.limit → (s : Table) (kept : Kept terms s)

@@ -102,9 +102,11 @@ raise_cases mid index to false false is is_fit less room = absurd (grind (arith,
 raise_applies : (limit size index to : ℕ) → size < to → to ≤ limit → (mid : CellList) → length mid.cells ≡ size → mid.limit ≡ limit
     → (new : CellList) × (apply_event mid (Raise index to) ≡ Some (new, replies.Run size (to - size)))
 raise_applies limit size index to less room mid is is_limit =
-    let list = with_pending mid index (to - length mid.cells) in
-    (list, raise_cases mid index to (nat_le to (length mid.cells)) (nat_le to mid.limit) refl refl (omega arith) (omega arith)
-      ∙ ap (λ from. Some (list, replies.Run from (to - from))) is)
+    let list = with_pending mid index (to - length mid.cells) in (
+      list,
+      raise_cases mid index to (nat_le to (length mid.cells)) (nat_le to mid.limit) refl refl (omega arith) (omega arith)
+          ∙ ap (λ from. Some (list, replies.Run from (to - from))) is,
+    )
 
 enough_cases : (mid : CellList) (to : ℕ) (enough : Bool) → nat_le to (length mid.cells) ≡ enough → to ≤ length mid.cells
     → apply_event mid (Raise 0 to) ≡ Some (mid, replies.Enough (length mid.cells))
@@ -125,7 +127,7 @@ module _ (limit base size : ℕ) (log : Log) (history : IsHistoryOf limit base l
       record {
         legal = goes_on limit base size log (Raise 0 to) (replies.Enough size) history.legal ends (λ mid is _. enough_applies size to le mid is);
         actors = owners_of-append log _ ∙ (append-nil (owners_of log) ∙ (history.actors
-          ∙ ap (λ (l : List ℕ). range_with_len 0 (length l)) (sym (lengths_of-append log _ ∙ append-nil (lengths_of log)))));
+            ∙ ap (λ (l : List ℕ). range_with_len 0 (length l)) (sym (lengths_of-append log _ ∙ append-nil (lengths_of log)))));
       }
 
 -- a note's events claim nothing
@@ -199,8 +201,8 @@ module _
       record {
         legal = legal;
         actors = owners_with ∙ (ap (λ (l : List ℕ). l ++ run.owner ∷ []) history.actors
-          ∙ (ap (λ k. range_with_len 0 (length (lengths_of log)) ++ k ∷ []) (omega arith)
-          ∙ (sym (count_next 0 (length (lengths_of log))) ∙ ap (range_with_len 0) (sym long))));
+            ∙ (ap (λ k. range_with_len 0 (length (lengths_of log)) ++ k ∷ []) (omega arith)
+            ∙ (sym (count_next 0 (length (lengths_of log))) ∙ ap (range_with_len 0) (sym long))));
       }
 
 -- what was seen of a history is one
@@ -292,14 +294,14 @@ module _
       let latest = logged.latest in
       dite (ℕ_discrete latest.id id)
       (λ same.
-          let is : v ≡ latest.view = some-injective v latest.view (sym at ∙ (ap (get_elem? vs) (sym same) ∙ latest.at)) in
-          record {
-            id = id;
-            view = w;
-            at = at_set_here vs id v w at;
-            part = part (let s = ap (λ (u : SeatView). u.shares) is in let p = latest.part in omega arith);
-            all = log ∙ (ap (λ (u : SeatView). u.log) is ∙ latest.all);
-          })
+      let is : v ≡ latest.view = some-injective v latest.view (sym at ∙ (ap (get_elem? vs) (sym same) ∙ latest.at)) in
+      record {
+        id = id;
+        view = w;
+        at = at_set_here vs id v w at;
+        part = part (let s = ap (λ (u : SeatView). u.shares) is in let p = latest.part in omega arith);
+        all = log ∙ (ap (λ (u : SeatView). u.log) is ∙ latest.all);
+      })
       (λ other. record {
         id = latest.id;
         view = latest.view;
@@ -367,11 +369,11 @@ module _
         let all = lengths_of (longer v.log w.log) in
         ⊎_elim
         (λ (c : (length w.seen ≤ length v.seen) × (longer v.seen w.seen ≡ v.seen)).
-            subst (λ (l : List ℕ). IsPrefix l all) (sym c.1)
-            (prefix_trans v.seen (lengths_of v.log) all (logged.each id v at).lengths (lengths_begin v.log (longer v.log w.log) both_begin.0)))
+        subst (λ (l : List ℕ). IsPrefix l all) (sym c.1)
+        (prefix_trans v.seen (lengths_of v.log) all (logged.each id v at).lengths (lengths_begin v.log (longer v.log w.log) both_begin.0)))
         (λ (c : (length v.seen ≤ length w.seen) × (longer v.seen w.seen ≡ w.seen)).
-            subst (λ (l : List ℕ). IsPrefix l all) (sym c.1)
-            (prefix_trans w.seen (lengths_of w.log) all (logged.each j w was).lengths (lengths_begin w.log (longer v.log w.log) both_begin.1)))
+        subst (λ (l : List ℕ). IsPrefix l all) (sym c.1)
+        (prefix_trans w.seen (lengths_of w.log) all (logged.each j w was).lengths (lengths_begin w.log (longer v.log w.log) both_begin.1)))
         (longer_picks v.seen w.seen (nat_le (length w.seen) (length v.seen)) refl)
 
     -- if one of them had seen all, so has the longer
@@ -397,19 +399,19 @@ module _
         let latest = logged.latest in
         dite (ℕ_discrete latest.id id)
         (λ same.
-            let is : v ≡ latest.view = some-injective v latest.view (sym at ∙ (ap (get_elem? vs) (sym same) ∙ latest.at)) in
-            both_latest v.log both_begin.0 (ap (λ (u : SeatView). u.log) is ∙ latest.all))
+        let is : v ≡ latest.view = some-injective v latest.view (sym at ∙ (ap (get_elem? vs) (sym same) ∙ latest.at)) in
+        both_latest v.log both_begin.0 (ap (λ (u : SeatView). u.log) is ∙ latest.all))
         (λ other. dite (ℕ_discrete latest.id j)
-          (λ same.
-              let is : w ≡ latest.view = some-injective w latest.view (sym was ∙ (ap (get_elem? vs) (sym same) ∙ latest.at)) in
-              both_latest w.log both_begin.1 (ap (λ (u : SeatView). u.log) is ∙ latest.all))
-          (λ more. record {
-            id = latest.id;
-            view = latest.view;
-            at = set_else (set vs id (joined_view v w)) j latest.id spent_view more ∙ (set_else vs id latest.id (joined_view v w) other ∙ latest.at);
-            part = latest.part;
-            all = latest.all;
-          }))
+        (λ same.
+        let is : w ≡ latest.view = some-injective w latest.view (sym was ∙ (ap (get_elem? vs) (sym same) ∙ latest.at)) in
+        both_latest w.log both_begin.1 (ap (λ (u : SeatView). u.log) is ∙ latest.all))
+        (λ more. record {
+          id = latest.id;
+          view = latest.view;
+          at = set_else (set vs id (joined_view v w)) j latest.id spent_view more ∙ (set_else vs id latest.id (joined_view v w) other ∙ latest.at);
+          part = latest.part;
+          all = latest.all;
+        }))
 
     pub joins_log : Logged limit base lengths (set (set vs id (joined_view v w)) j spent_view)
     joins_log =

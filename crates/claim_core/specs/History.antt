@@ -83,7 +83,7 @@ memory_event = (RefusedMemory 0, replies.NoMemory)
 abbrev pub past_event : ℕ → ℕ → Event × Reply
 past_event place size = (Look 0 place, replies.OutOfRange size)
 
--- A note says for each size which events a step that finds it stands for. They claim nothing, and from each list of
+-- A note says for each size which events a step that finds it logs. They claim nothing, and from each list of
 -- that size they are legal and leave it as it is
 pub record IsNote (limit : ℕ) (note : ℕ → Log) : Type 0 where
   pub nothing : (size : ℕ) → claims_in (note size) ≡ []

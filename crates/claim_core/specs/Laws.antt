@@ -155,7 +155,7 @@ StepsGoOn =
 abbrev pub StepsStay : Type 0
 StepsStay = (old mid new : Log) (steps : List Log) → Adds old steps mid → IsPrefix mid new → Adds old steps new
 
--- a step may stand for nothing
+-- a step may log nothing
 abbrev pub NothingIsNote : Type 0
 NothingIsNote = (limit : ℕ) → IsNote limit no_note
 

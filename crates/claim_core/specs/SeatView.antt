@@ -153,11 +153,11 @@ Seated = Me (Unit {0}) SeatView
 abbrev pub loaded : Step (Unit {0}) → Seated → ℕ → Seated → Type 0
 loaded step v found w = Looks v.0 found (size_event found ∷ []) w.0 × (w.1 ≡ v.1)
 
--- a load that stands for a note's events of the size that it finds
+-- a load that logs a note's events of the size that it finds
 abbrev pub loaded_as : (ℕ → Log) → Step (Unit {0}) → Seated → ℕ → Seated → Type 0
 loaded_as note step v found w = Looks v.0 found (note found) w.0 × (w.1 ≡ v.1)
 
--- a load that stands for a growth without memory
+-- a load that logs a growth without memory
 abbrev pub lacked : Step (Unit {0}) → Seated → ℕ → Seated → Type 0
 lacked step v found w = Remarks v.0 (memory_event ∷ []) w.0 × (w.1 ≡ v.1)
 
@@ -165,7 +165,7 @@ lacked step v found w = Remarks v.0 (memory_event ∷ []) w.0 × (w.1 ≡ v.1)
 abbrev pub settled : Step (Unit {0}) → Seated → ℕ → Seated → Type 0
 settled step v found w = Settles v.0 w.0 × (w.1 ≡ v.1)
 
--- an exchange: it wins if it finds what it expected, and otherwise stands for a note's events of the size that it finds
+-- an exchange: it wins if it finds what it expected, and otherwise logs a note's events of the size that it finds
 abbrev pub exchanged_as : (ℕ → Log) → Step (Unit {0}) → Seated → ℕ → Seated → Type 0
 exchanged_as note step v found w =
     MatchBool (found == step.first)

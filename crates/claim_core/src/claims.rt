@@ -33,7 +33,7 @@ impl<A: Allocator> Word<A> {
         self.exchange_as::<NoNote>(hand, from, n)
     }
 
-    /// Tries once like `exchange`. If it is lost, it stands for the note's events of the size that it finds.
+    /// Tries once like `exchange`. If it is lost, it logs the note's events of the size that it finds.
     #[inline]
     pub fn exchange_as<N: Notes>(&self, hand: &mut Hand, from: u64, n: u64) -> Result<Run, Moved>
         requires ours { IsHandOf self.now hand.old }

@@ -158,7 +158,7 @@ pub fn histories_count_claims()
     ensures turns { ClaimsHaveTheirTurn }
 {}
 
-/// States that a load or a lost exchange may stand for nothing, for a growth by no places, for one that finds no
+/// States that a load or a lost exchange may log nothing, for a growth by no places, for one that finds no
 /// room, for a growth up to a size that is not needed or not possible, and for a look past the size.
 pub fn refusals_are_notes()
     ensures nothing { NothingIsNote }

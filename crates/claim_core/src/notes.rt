@@ -1,7 +1,7 @@
-//! The events that a step stands for if it claims nothing.
+//! The events that a step logs if it claims nothing.
 use std::marker::Brand;
 
-/// For each size the events that a step stands for if it finds it and claims nothing: a refusal, for example.
+/// For each size the events that a step logs if it finds it and claims nothing: a refusal, for example.
 /// A call that passes `Brand` chooses them.
 pub trait Notes {
     ghost use Rattle.std.specs.Prelude.{ℕ};

@@ -32,7 +32,7 @@ impl Play<(), SeatView> for Load {
     ghost then = { loaded };
 }
 
-/// A load that shows the size, and stands for a note's events.
+/// A load that shows the size, and logs a note's events.
 pub struct LoadAs<N: Notes> {
     note: PhantomData<N>,
 }
@@ -43,7 +43,7 @@ impl<N: Notes> Play<(), SeatView> for LoadAs<N> {
     ghost then = { loaded_as N.note };
 }
 
-/// A load that stands for a growth without memory. It shows no size.
+/// A load that logs a growth without memory. It shows no size.
 pub struct Lack;
 
 impl Play<(), SeatView> for Lack {
@@ -61,7 +61,7 @@ impl Play<(), SeatView> for Settle {
     ghost then = { settled };
 }
 
-/// An exchange of the size. If it is lost, it stands for a note's events.
+/// An exchange of the size. If it is lost, it logs a note's events.
 pub struct ExchangeAs<N: Notes> {
     note: PhantomData<N>,
 }

@@ -178,7 +178,7 @@ impl<A: Allocator> Word<A> {
         self.size_as::<SizeNote>(hand)
     }
 
-    /// Returns the size, by one load, which stands for the note's events of that size.
+    /// Returns the size, by one load, which logs the note's events of that size.
     #[inline]
     pub fn size_as<N: Notes>(&self, hand: &mut Hand) -> u64
         requires ours { IsHandOf self.now hand.old }

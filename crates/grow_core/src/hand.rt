@@ -17,7 +17,7 @@ use std::marker::{Model, PhantomData};
 use table_core::Key;
 
 // Shows a proof what a claim keeps of a hand: its places, and those of the run that it gains; and that a lost one may
-// stand for a refusal. The call does nothing.
+// log a refusal. The call does nothing.
 pub(crate) fn claiming_laws(claims: &ClaimHand)
     ensures within { seen_size claims.now ≤ claims.now.of.limit }
     ensures below { (k : ℕ) → Contains claims.now.mine k → k < length claims.now.seen }

@@ -61,7 +61,7 @@ impl<T: Drop> Shared<T> {
         places();
         let limit = self.limit();
         if from >= limit {
-            // The limit was reached before: a load stands for the refusal in the history.
+            // The limit was reached before: a load logs the refusal in the history.
             let size = self.size_for(hand, 1);
             return Err(GrowError::Full { size, back: value });
         }

@@ -1,4 +1,4 @@
-//! Loads of the size that stand for what the size decides: a refusal, or that nothing has to be claimed.
+//! Loads of the size that log what the size decides: a refusal, or that nothing has to be claimed.
 ghost use Rattle.std.specs.Prelude.{◌≡◌, ◌+◌, ◌-◌, ◌<◌, ◌≤◌, ◌∷◌, [], length};
 ghost use Rattle.claim_core.specs.Hand.{IsWholeHand, SeesSize, seen_size};
 ghost use Rattle.claim_core.specs.History.{AddsEvents, IsNote, claim_event, enough_event, full_event, past_event};
@@ -11,7 +11,7 @@ use claim_core::{Notes, laws};
 use std::marker::Brand;
 
 impl<T> Shared<T> {
-    // The size now, by one load that stands for the note's events of it. Only the note may speak of the number.
+    // The size now, by one load that logs the note's events of it. Only the note may speak of the number.
     #[inline]
     fn size_as<N: Notes>(&self, hand: &mut Hand<T>, about: u64) -> u64
         requires ours { IsHandOf self.now hand.old }
@@ -31,7 +31,7 @@ impl<T> Shared<T> {
         self.word.size_as::<N>(&mut hand.claims)
     }
 
-    // The size now. The load stands for nothing.
+    // The size now. The load logs nothing.
     #[inline]
     pub(crate) fn look_at_size(&self, hand: &mut Hand<T>) -> u64
         requires ours { IsHandOf self.now hand.old }
@@ -45,7 +45,7 @@ impl<T> Shared<T> {
         self.size_as::<Brand>(hand, 0)
     }
 
-    // The size now. The load stands for a growth by no places, or for the refusal of one by `n`.
+    // The size now. The load logs a growth by no places, or for the refusal of one by `n`.
     #[inline]
     pub(crate) fn size_for(&self, hand: &mut Hand<T>, n: u64) -> u64
         requires ours { IsHandOf self.now hand.old }
@@ -63,7 +63,7 @@ impl<T> Shared<T> {
         self.size_as::<Brand>(hand, n)
     }
 
-    // The size now. The load stands for a growth up to a size that is not needed, or is above the limit.
+    // The size now. The load logs a growth up to a size that is not needed, or is above the limit.
     #[inline]
     pub(crate) fn size_up_to(&self, hand: &mut Hand<T>, to: u64) -> u64
         requires ours { IsHandOf self.now hand.old }
@@ -81,7 +81,7 @@ impl<T> Shared<T> {
         self.size_as::<Brand>(hand, to)
     }
 
-    // The size now. The load stands for a look at the place, if that is not below the size.
+    // The size now. The load logs a look at the place, if that is not below the size.
     #[inline]
     pub(crate) fn size_past(&self, hand: &mut Hand<T>, place: u64) -> u64
         requires ours { IsHandOf self.now hand.old }

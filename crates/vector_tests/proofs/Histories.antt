@@ -1,5 +1,5 @@
 -- The answers of calls, as events of the history that their hand has then seen.
-use Rattle.std.proofs.Common.{ℕ, ◌<◌, ◌≤◌, ◌+◌, List, [], ◌∷◌, ◌++◌, Result, Ok, Err, IfOk, refl, sym, ◌∙◌, arith, ⊎_elim}
+use Rattle.std.proofs.Common.{ℕ, ◌<◌, ◌≤◌, [], ◌∷◌, ◌++◌, Result, Ok, Err, IfOk, refl, sym, ◌∙◌, arith, ⊎_elim}
 use Rattle.std.specs.Prelude.{IfErr}
 use Rattle.std.proofs.lemmas.List.{append-nil}
 use Rattle.std.proofs.lemmas.Bool.{cases_lt}
@@ -39,8 +39,8 @@ win_events : {X : Type 0} (T V E : Type 0) (run_of : X → Run) (n : ℕ) (old n
 win_events T V E run_of n old new x logs =
     ⊎_elim
     (λ (some_places : 0 < (run_of x).n).
-        let claimed = logs.claimed some_places in
-        (claim_event claimed.index (run_of x) ∷ [], (claimed.index, refl), claimed.adds))
+    let claimed = logs.claimed some_places in
+    (claim_event claimed.index (run_of x) ∷ [], (claimed.index, refl), claimed.adds))
     (λ (no_places : (run_of x).n ≤ 0). (claim_event 0 (run_of x) ∷ [], (0, refl), logs.empty (omega arith)))
     (cases_lt 0 (run_of x).n)
 

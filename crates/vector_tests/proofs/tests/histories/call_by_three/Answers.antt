@@ -18,5 +18,5 @@ returns g c =
       still_answered law _ _ _ 2 _ _ _ others.0 c.join.ensures.also_begins_log,
       still_answered law _ _ _ 2 _ _ _ others.1 c.join.ensures.also_begins_log,
       c.len-len.ensures.value ∙ c.into_parts-parts.ensures.length ∙ ap (λ (w : WordView). w.base + sum hand.seen) word_is
-      ∙ ap (runs_end c.args.vector.word.base) (sym c.whole_laws.ensures.claims),
+          ∙ ap (runs_end c.args.vector.word.base) (sym c.whole_laws.ensures.claims),
     )

@@ -53,41 +53,19 @@ static COUNTED: [Row; 3] = [
     ("limit 8\nactor a push 5\nactor b fail 2 7 2\nsteps a b", BAD_COMMAND, ""),
 ];
 
-// A play up to its end, and one with an item that changes nothing.
-#[rattlefmt::skip]
-static TRACED: [Row; 2] = [
-    ("limit 8\nactor a push 5\nsteps a a a a a a", Ok(()),
-        "1      a1 push       Load             loaded     -                        size 0\n\
-        2      a1 push       Scout 0          missing    -                        size 0\n\
-        3      a1 push       Put 0            installed  -                        size 0\n\
-        4      a1 push       Exchange         won        Claim 1: Run 0 1         size 1\n\
-        5      a1 push       Begin 0          taken      -                        size 1\n\
-        6      a1 push       Fill 0           filled     Finish 0 5: Done         size 1\n\
-        a1 push at 0\nsize 1: 5\na1 lost 0 steps 6\n"),
-    ("limit 8\nactor a size\nsteps a a", Ok(()),
-        "1      a1 size       Load             loaded     Size: Size 0             size 0\n\
-        2      a             -                nothing    -                        size 0\n\
-        a1 size 0\nsize 0:\na1 lost 0 steps 1\n"),
-];
-
-// The greatest text of the tables.
-const MOST: usize = 200;
-
-const MOST_TRACED: usize = 600;
-
 // Room for a text, at the second try if need be.
-fn room(alloc: Global, most: usize) -> Vec<u8> {
-    match Vec::with_capacity(alloc, most) {
+fn room(alloc: Global) -> Vec<u8> {
+    match Vec::with_capacity(alloc, 200) {
         Ok(text) => text,
-        Err(_refused) => Vec::with_capacity(alloc, most).unwrap_or(Vec::new(alloc)),
+        Err(_refused) => Vec::with_capacity(alloc, 200).unwrap_or(Vec::new(alloc)),
     }
 }
 
 // Tests whether a run ends as its row says, at the second try if the first had no memory and wrote
 // nothing.
-fn ends(alloc: Global, engine: Engine, row: &Row, most: usize) -> bool {
+fn ends(alloc: Global, engine: Engine, row: &Row) -> bool {
     let (script, want, written) = row;
-    let mut text = room(alloc, most);
+    let mut text = room(alloc);
     let mut got = run(alloc, engine, &mut script.as_bytes(), &mut text);
     if got == Err(RunError::NoMemory) && text.is_empty() {
         got = run(alloc, engine, &mut script.as_bytes(), &mut text);
@@ -98,31 +76,20 @@ fn ends(alloc: Global, engine: Engine, row: &Row, most: usize) -> bool {
 #[test]
 fn whole_calls_are_run_again(rt: HostRuntime) {
     for row in CALLS.as_slice() {
-        assert!(rt; ends(rt.alloc(), Engine::Calls, row, MOST), "{}", row.0);
+        assert!(rt; ends(rt.alloc(), Engine::Calls, row), "{}", row.0);
     }
 }
 
 #[test]
 fn atomic_steps_are_run_again(rt: HostRuntime) {
     for row in STEPS.as_slice() {
-        assert!(rt; ends(rt.alloc(), Engine::Steps, row, MOST), "{}", row.0);
+        assert!(rt; ends(rt.alloc(), Engine::Steps, row), "{}", row.0);
     }
 }
 
 #[test]
 fn counted_steps_are_run_again(rt: HostRuntime) {
     for row in COUNTED.as_slice() {
-        assert!(rt; ends(rt.alloc(), Engine::Counted, row, MOST), "{}", row.0);
-    }
-}
-
-#[test]
-fn traced_steps_are_run_again(rt: HostRuntime) {
-    for row in TRACED.as_slice() {
-        assert!(rt;
-            ends(rt.alloc(), Engine::TracedCounted, row, MOST_TRACED),
-            "{}",
-            row.0
-        );
+        assert!(rt; ends(rt.alloc(), Engine::Counted, row), "{}", row.0);
     }
 }

@@ -95,7 +95,7 @@ module _ (terms : Terms) (slots id : ℕ) (me : Seated) (is_limit : me.0.limit �
         },
       )
 
-  -- where the history ends is the size
+  -- the history ends at the size
   log_ends : (s : Table) (kept : Kept terms s) → runs_end terms.base (lengths_of kept.logged.log) ≡ get_or s.words size_at 0
   log_ends s kept = ap (runs_end terms.base) kept.logged.claims ∙ sym kept.fits.ends
 

@@ -118,7 +118,7 @@ enough_applies : (size to : ℕ) → to ≤ size → (mid : CellList) → length
 enough_applies size to le mid is =
     (mid, enough_cases mid to (nat_le to (length mid.cells)) refl (omega arith) ∙ ap (λ n. Some (mid, replies.Enough n)) is)
 
--- ---- A history with one event more
+-- ---- A history after an event
 
 -- a growth up to a size that is not needed
 module _ (limit base size : ℕ) (log : Log) (history : IsHistoryOf limit base log) (ends : runs_end base (lengths_of log) ≡ size) where

@@ -1,4 +1,4 @@
--- The answers of calls, as events of the history that their hand has then seen.
+-- The results of calls, as events of the history that their hand has then seen.
 use Rattle.std.proofs.Common.{ℕ, ◌<◌, ◌≤◌, [], ◌∷◌, ◌++◌, Result, Ok, Err, IfOk, refl, sym, ◌∙◌, arith, ⊎_elim}
 use Rattle.std.specs.Prelude.{IfErr}
 use Rattle.std.proofs.lemmas.List.{append-nil}
@@ -59,7 +59,7 @@ pub in_turn : (a b c d push growth last : Log) → AddsEvents a push b → AddsE
     → Adds a (push ∷ growth ∷ last ∷ []) d
 in_turn a b c d push growth last first second third = (b, first, (c, second, (d, third, ([], append-nil d))))
 
--- what a thread was answered stays in each history that goes on
+-- the results of a thread stay in each history that goes on
 pub still_answered : {T V W E F : Type 0} → StepsStay → (old log more : Log) (n : ℕ) (pushed : Result (PlacedView T) (GrowError T V E))
     (grown : Result (GrownView T) (GrowError T W F)) (size : ℕ) → IsAnsweredIn old n pushed grown size log → IsPrefix log more
     → IsAnsweredIn old n pushed grown size more

@@ -1,4 +1,4 @@
--- What a thread was answered, as a part of one history.
+-- The results of a thread's calls, as a part of one history.
 use Rattle.std.specs.Prelude.{◌≡◌, ℕ, [], ◌∷◌, Result, Ok, Err}
 use Rattle.claim_core.specs.declared.run.Run.{Run}
 use Rattle.claim_core.specs.Hand.{IsPlaceOf}
@@ -19,7 +19,7 @@ AreEventsOf run_of n (Err (Refused run made cause)) es = (index : ℕ) × (es �
 AreEventsOf run_of n (Err (Taken place found)) es =
     (index : ℕ) × (run : Run) × (run.n ≡ n) × IsPlaceOf run place × (es ≡ claim_event index run ∷ [])
 
--- a thread pushed, grew by n places and asked for the size: what it was answered is in the history, in this order
+-- a thread pushed, grew by n places and asked for the size: the history has the results, in this order
 pub record IsAnsweredIn {T V W E F : Type 0} (old : Log) (n : ℕ) (pushed : Result (PlacedView T) (GrowError T V E))
     (grown : Result (GrownView T) (GrowError T W F)) (size : ℕ) (log : Log) : Type 0 where
   pub push : Log

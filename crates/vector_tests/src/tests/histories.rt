@@ -77,8 +77,8 @@ fn call_by_two<R: Threads + Sync>(
     (all, first, second)
 }
 
-// Three threads do so, and the vector is closed: there is one legal history of which the answers of each are a
-// part, in the thread's order, and the list has the length that this history claims.
+// Three threads do so, and the vector is closed: one legal history has the results of each thread, in its
+// order, and the list has the length that this history claims.
 fn call_by_three<R: Threads + Sync>(
     rt: &R,
     vector: Shared<u64>,

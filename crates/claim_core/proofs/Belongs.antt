@@ -27,6 +27,7 @@ pub record Belongs (seat : ClaimSeat) (table : TableId) (key : Terms) (word : Wo
   pub words : size_at < table.words
   pub limit : seat.me.0.limit ≡ key.limit
   pub base : seat.me.0.base ≡ key.base
+  pub filled : seat.me.0.filled ≡ key.mark.filled
   pub part : 0 < seat.me.0.shares
   pub room : word.limit ≡ key.limit
 
@@ -46,6 +47,7 @@ belongs {seat} {share} {size} {table} {key} {terms} {word} {hand} held opened ha
       words = omega arith;
       limit = ap (λ (w : WordView). w.limit) same ∙ sym (ap (λ (t : Terms). t.limit) opened.key_is);
       base = ap (λ (w : WordView). w.base) same ∙ sym (ap (λ (t : Terms). t.base) opened.key_is);
+      filled = ap (λ (w : WordView). w.filled) same ∙ sym (ap (λ (t : Terms). t.mark.filled) opened.key_is);
       part = omega arith;
       room = sym (ap (λ (w : WordView). w.limit) word_is) ∙ sym (ap (λ (t : Terms). t.limit) opened.key_is);
     }
@@ -121,7 +123,7 @@ adds_run seat new {found} {n} {event} {hand} hand_is claims table more =
       ends = ends;
       mine = claims.mine;
       shares = claims.same.shares;
-      of = λ i. record { table = table i; limit = claims.same.limit i; base = claims.same.base i; mark = claims.same.mark i };
+      of = λ i. record { table = table i; limit = claims.same.limit i; base = claims.same.base i; mark = claims.same.mark i; filled = claims.same.filled i };
     })
 
 -- the first hand of a word
@@ -136,7 +138,7 @@ first_held {seat} terms bounds is =
       shares = omega arith;
       own = λ k. omega arith;
       whole = λ all k. omega arith;
-      history = record { legal = (first_list terms.limit terms.base, refl); actors = refl };
+      history = record { legal = (first_list terms.limit terms.base terms.mark.filled, refl); actors = refl };
       lengths = prefix_nil [];
       whole_log = λ all. refl;
     } in

@@ -1,5 +1,5 @@
 -- The effect of each kind of step on a list of lengths that fits.
-use Rattle.std.proofs.Common.{◌≡◌, ◌≢◌, ℕ, zero, suc, ◌+◌, ◌<◌, ◌≤◌, List, [], ◌∷◌, ◌++◌, length, set, refl, ap, sym, ◌∙◌, subst, ⊎_elim, arith, length-append}
+use Rattle.std.proofs.Common.{◌≡◌, ◌≢◌, ℕ, zero, suc, ◌+◌, ◌<◌, ◌≤◌, Bool, List, [], ◌∷◌, ◌++◌, length, set, refl, ap, sym, ◌∙◌, subst, ⊎_elim, arith, length-append}
 use Rattle.std.proofs.lemmas.List.Sums.{sum_by_push}
 use Rattle.std.proofs.lemmas.List.Elements.{All-nil, All-push}
 use mathlib.Core.Option.{some, some-injective, some-ne-none}
@@ -109,9 +109,9 @@ module _
       prefix_whole v.seen lengths suits.seen (omega arith)
 
   -- each seat is consistent
-  pub consistent : v.limit ≡ limit → v.base ≡ base → IsHistoryOf limit base v.log → IsPrefix v.seen (lengths_of v.log)
+  pub consistent : v.limit ≡ limit → v.base ≡ base → (filled : List Bool) → v.filled ≡ filled → IsHistoryOf limit base filled v.log → IsPrefix v.seen (lengths_of v.log)
       → (v.seen ≡ lengths → lengths_of v.log ≡ v.seen) → IsConsistent v
-  consistent is_limit is_base history known tells =
+  consistent is_limit is_base filled is_filled history known tells =
       let suits = fits.each id v at in
       record {
         positive = prefix_All (λ n. 0 < n) v.seen lengths suits.seen fits.positive;
@@ -124,7 +124,9 @@ module _
             let part = suits.own k in
             omega arith;
         history =
-            subst (λ l. IsHistoryOf l v.base v.log) (sym is_limit) (subst (λ b. IsHistoryOf limit b v.log) (sym is_base) history);
+            subst (λ l. IsHistoryOf l v.base v.filled v.log) (sym is_limit)
+            (subst (λ b. IsHistoryOf limit b v.filled v.log) (sym is_base)
+            (subst (λ (fs : List Bool). IsHistoryOf limit base fs v.log) (sym is_filled) history));
         lengths = known;
         whole_log = λ all. tells (whole_saw all);
       }

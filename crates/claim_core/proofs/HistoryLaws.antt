@@ -1,7 +1,10 @@
 -- The sizes and the claims of a legal history.
 use Rattle.std.proofs.Common.{◌≡◌, ℕ, zero, suc, ◌+◌, Bool, true, false, nat_lt, nat_le, if◌then◌else◌, List, [], ◌∷◌, ◌++◌, length, map, Option, Some, None, refl, ap, sym, ◌∙◌, arith}
 use Rattle.std.proofs.lemmas.List.{length-map}
+use Rattle.std.proofs.lemmas.List.FromFn.{length-map-range_with_len, get_or-map-range_with_len}
+use Rattle.std.proofs.lemmas.Option.{slice_get-get_or}
 use Rattle.std.specs.List.{range_with_len}
+use Rattle.book_core.specs.declared.cells.Cell.{Cell}
 use Rattle.book_core.specs.declared.events.Event.{Event}
 use Rattle.book_core.specs.declared.events.Reply.{Reply}
 use Rattle.book_core.specs.declared.events.Reply.TheVariants as replies
@@ -10,17 +13,25 @@ use Rattle.book_core.specs.History.{IsLegalFrom, OwnedRun}
 use Rattle.book_core.proofs.Histories.{IsHistory-split}
 use Rattle.claim_core.specs.declared.run.Run.{Run}
 use Rattle.claim_core.specs.Lengths.{runs_end}
-use Rattle.claim_core.specs.History.{Log, first_list, claims_in, lengths_of, owners_of, claim_event, size_event}
-use Rattle.claim_core.specs.Laws.{SizesCountClaims, ClaimsBeginAtTheSize, ClaimsHaveTheirTurn}
+use Rattle.claim_core.specs.History.{Log, broken_cell, first_cell, first_list, claims_in, lengths_of, owners_of, claim_event, size_event}
+use Rattle.claim_core.specs.Laws.{FirstPlacesAreTold, SizesCountClaims, ClaimsBeginAtTheSize, ClaimsHaveTheirTurn}
 use Rattle.claim_core.proofs.Logged.{cells_after, owners_of-append, one_claim}
 
+pub first_places : FirstPlacesAreTold
+first_places word place below =
+    let cell : ℕ → Cell = first_cell word.filled in
+    let cells : List Cell = map cell (range_with_len 0 word.base) in
+    let long : length cells ≡ word.base = length-map-range_with_len cell 0 word.base in
+    slice_get-get_or cells place broken_cell (omega (arith, long, below))
+    ∙ ap (λ (c : Cell). Some c) (get_or-map-range_with_len cell 0 word.base place place broken_cell below (omega arith))
+
 -- the list before an event of a legal history
-module _ (limit base : ℕ) (before after : Log) (event : Event) (reply : Reply) where
-  reached : IsLegalFrom (first_list limit base) (before ++ (event, reply) ∷ after)
+module _ (limit base : ℕ) (filled : List Bool) (before after : Log) (event : Event) (reply : Reply) where
+  reached : IsLegalFrom (first_list limit base filled) (before ++ (event, reply) ∷ after)
       → (mid : CellList) × (next : CellList) × (length mid.cells ≡ runs_end base (lengths_of before)) × (apply_event mid event ≡ Some (next, reply))
   reached (new, history) =
-      let (mid, first, (next, applies, rest)) = IsHistory-split (first_list limit base) before ((event, reply) ∷ after) new history in
-      (mid, next, cells_after limit base before mid first, applies)
+      let (mid, first, (next, applies, rest)) = IsHistory-split (first_list limit base filled) before ((event, reply) ∷ after) new history in
+      (mid, next, cells_after limit base filled before mid first, applies)
 
 -- the number that a reply begins with
 abbrev number_in : Reply → ℕ
@@ -40,8 +51,8 @@ number_of None = 0
 number_of (Some (list, reply)) = number_in reply
 
 pub sizes_count_claims : SizesCountClaims
-sizes_count_claims limit base size before after history =
-    let (mid, next, is, applies) = reached limit base before after (size_event size).0 (size_event size).1 history.legal in
+sizes_count_claims limit base size filled before after history =
+    let (mid, next, is, applies) = reached limit base filled before after (size_event size).0 (size_event size).1 history.legal in
     sym (ap number_of applies) ∙ is
 
 abbrev claim_row : (mid : CellList) (index n : ℕ) → Bool → Option (CellList × Reply)
@@ -53,8 +64,8 @@ claim_begins mid next index run true applies = sym (ap number_of applies)
 claim_begins mid next index run false applies = absurd (cc applies)
 
 pub claims_begin : ClaimsBeginAtTheSize
-claims_begin limit base index run before after history =
-    let (mid, next, is, applies) = reached limit base before after (claim_event index run).0 (claim_event index run).1 history.legal in
+claims_begin limit base index filled run before after history =
+    let (mid, next, is, applies) = reached limit base filled before after (claim_event index run).0 (claim_event index run).1 history.legal in
     claim_begins mid next index run (nat_le (length mid.cells + run.n) mid.limit) applies ∙ is
 
 -- a number of a row of numbers that are counted
@@ -65,7 +76,7 @@ counted a zero x (y ∷ xs) ys is = absurd (cc is)
 counted a (suc m) x (y ∷ xs) ys is = let rest = counted (a + 1) m x xs ys (cc is) in omega arith
 
 pub claims_have_their_turn : ClaimsHaveTheirTurn
-claims_have_their_turn limit base index run before after some_places history =
+claims_have_their_turn limit base index filled run before after some_places history =
     let claim = claim_event index run in
     let here : owners_of (claim ∷ after) ≡ index ∷ owners_of after =
     owners_of-append (claim ∷ []) after

@@ -26,7 +26,7 @@ Table = State (Unit {0}) SeatView
 
 -- after a step the word is n, and this list of lengths and this history fit
 placed : (terms : Terms) (s : Table) (kept : Kept terms s) (n id : ℕ) (me : Seated) (w : SeatView) (lengths : List ℕ)
-    → Fits terms.limit terms.base n lengths (set s.views id w) → Logged terms.limit terms.base lengths (set s.views id w)
+    → Fits terms.limit terms.base n lengths (set s.views id w) → Logged terms.limit terms.base terms.mark.filled lengths (set s.views id w)
     → Kept terms (stepped s size_at n id me.1 w keeps)
 placed terms s kept n id me w lengths fits logged =
     let all_words = kept.words in
@@ -39,12 +39,12 @@ placed terms s kept n id me w lengths fits logged =
 
 -- each seat is consistent
 settled_in : (terms : Terms) (size : ℕ) (lengths : List ℕ) (views : List SeatView) → Fits terms.limit terms.base size lengths views
-    → Logged terms.limit terms.base lengths views → (id : ℕ) (w : SeatView) → get_elem? views id ≡ some w
-    → w.limit ≡ terms.limit → w.base ≡ terms.base → IsConsistent w
-settled_in terms size lengths views fits logged id w at is_limit is_base =
-    consistent terms.limit terms.base size lengths views fits id w at is_limit is_base
-    (story terms.limit terms.base lengths views logged id w at) (logged.each id w at).lengths
-    (tells_all terms.limit terms.base lengths views logged id w at)
+    → Logged terms.limit terms.base terms.mark.filled lengths views → (id : ℕ) (w : SeatView) → get_elem? views id ≡ some w
+    → w.limit ≡ terms.limit → w.base ≡ terms.base → w.filled ≡ terms.mark.filled → IsConsistent w
+settled_in terms size lengths views fits logged id w at is_limit is_base is_filled =
+    consistent terms.limit terms.base size lengths views fits id w at is_limit is_base terms.mark.filled is_filled
+    (story terms.limit terms.base terms.mark.filled lengths views logged id w at) (logged.each id w at).lengths
+    (tells_all terms.limit terms.base terms.mark.filled lengths views logged id w at)
 
 -- a prefix of a history goes on with what was added to the whole
 goes_on_with : (old all es : Log) → IsPrefix old all → AddsEvents old es (all ++ es)
@@ -53,10 +53,10 @@ goes_on_with old all es p = record { since = p.0; is = ap (λ (l : Log). l ++ es
 longer_prefix : (old all es : Log) → IsPrefix old all → IsPrefix old (all ++ es)
 longer_prefix old all es p = prefix_trans old all (all ++ es) p (prefix_append all es)
 
-module _ (terms : Terms) (slots id : ℕ) (me : Seated) (is_limit : me.0.limit ≡ terms.limit) (is_base : me.0.base ≡ terms.base) (part : 0 < me.0.shares) where
+module _ (terms : Terms) (slots id : ℕ) (me : Seated) (is_limit : me.0.limit ≡ terms.limit) (is_base : me.0.base ≡ terms.base) (is_filled : me.0.filled ≡ terms.mark.filled) (part : 0 < me.0.shares) where
   -- a step that finds the size and leaves it: the seat has seen the list of all lengths, and adds events that claim nothing
   looks : (es : Log) (s : Table) (kept : Kept terms s) → get_elem? s.views id ≡ some me.0
-      → IsHistoryOf terms.limit terms.base (kept.logged.log ++ es) → lengths_of es ≡ []
+      → IsHistoryOf terms.limit terms.base terms.mark.filled (kept.logged.log ++ es) → lengths_of es ≡ []
       → (w : SeatView) × Kept terms (stepped s size_at (get_or s.words size_at 0) id me.1 w keeps) × Looks me.0 (get_or s.words size_at 0) es w
   looks es s kept at history nothing =
       let v = me.0 in
@@ -66,8 +66,8 @@ module _ (terms : Terms) (slots id : ℕ) (me : Seated) (is_limit : me.0.limit �
       let mine = fits.each id v at in
       let recalls = logged.each id v at in
       let log = logged.log ++ es in
-      let w : SeatView = record { limit = v.limit; base = v.base; mark = v.mark; seen = all; mine = v.mine; shares = v.shares; one = []; other = []; log = log; one_log = []; other_log = [] } in
-      let same : SameOwn v w = record { limit = refl; base = refl; mark = refl; mine = refl; shares = refl } in
+      let w : SeatView = record { limit = v.limit; base = v.base; mark = v.mark; filled = v.filled; seen = all; mine = v.mine; shares = v.shares; one = []; other = []; log = log; one_log = []; other_log = [] } in
+      let same : SameOwn v w = record { limit = refl; base = refl; mark = refl; filled = refl; mine = refl; shares = refl } in
       let suits : Suits all w =
       record {
         seen = prefix_self all;
@@ -78,7 +78,7 @@ module _ (terms : Terms) (slots id : ℕ) (me : Seated) (is_limit : me.0.limit �
       } in
       let fits' = stays terms.limit terms.base (get_or s.words size_at 0) all s.views fits id v at w same suits in
       let claims : lengths_of log ≡ all = lengths_of-append logged.log es ∙ (ap (λ (l : List ℕ). lengths_of logged.log ++ l) nothing ∙ (append-nil (lengths_of logged.log) ∙ logged.claims)) in
-      let logged' = adds terms.limit terms.base all s.views logged id v at es all w history claims refl (prefix_self all) refl refl part in
+      let logged' = adds terms.limit terms.base terms.mark.filled all s.views logged id v at es all w history claims refl (prefix_self all) refl refl part in
       let ends = fits.ends in (
         w,
         placed terms s kept (get_or s.words size_at 0) id me w all fits' logged',
@@ -91,7 +91,7 @@ module _ (terms : Terms) (slots id : ℕ) (me : Seated) (is_limit : me.0.limit �
           one_log = longer_prefix v.one_log logged.log es recalls.one;
           other_log = longer_prefix v.other_log logged.log es recalls.other;
           same = same;
-          consistent = settled_in terms (get_or s.words size_at 0) all (set s.views id w) fits' logged' id w (at_set_here s.views id v w at) is_limit is_base;
+          consistent = settled_in terms (get_or s.words size_at 0) all (set s.views id w) fits' logged' id w (at_set_here s.views id v w at) is_limit is_base is_filled;
         },
       )
 
@@ -102,7 +102,7 @@ module _ (terms : Terms) (slots id : ℕ) (me : Seated) (is_limit : me.0.limit �
   -- a step that adds n to the size: the seat has one more run, which this event claims
   claims : (n : ℕ) (event : ℕ → Event × Reply) (s : Table) (kept : Kept terms s) → get_elem? s.views id ≡ some me.0 → 0 < n
       → get_or s.words size_at 0 + n ≤ terms.limit
-      → IsHistoryOf terms.limit terms.base (kept.logged.log ++ event (length kept.lengths) ∷ [])
+      → IsHistoryOf terms.limit terms.base terms.mark.filled (kept.logged.log ++ event (length kept.lengths) ∷ [])
       → lengths_of (kept.logged.log ++ event (length kept.lengths) ∷ []) ≡ kept.lengths ++ n ∷ []
       → (w : SeatView) × Kept terms (stepped s size_at (get_or s.words size_at 0 + n) id me.1 w keeps) × Claims me.0 (get_or s.words size_at 0) n event w
   claims n event s kept at one_place room history long =
@@ -114,9 +114,9 @@ module _ (terms : Terms) (slots id : ℕ) (me : Seated) (is_limit : me.0.limit �
       let recalls = logged.each id v at in
       let es : Log = event (length all) ∷ [] in
       let log = logged.log ++ es in
-      let w : SeatView = record { limit = v.limit; base = v.base; mark = v.mark; seen = all ++ n ∷ []; mine = length all ∷ v.mine; shares = v.shares; one = []; other = []; log = log; one_log = []; other_log = [] } in
+      let w : SeatView = record { limit = v.limit; base = v.base; mark = v.mark; filled = v.filled; seen = all ++ n ∷ []; mine = length all ∷ v.mine; shares = v.shares; one = []; other = []; log = log; one_log = []; other_log = [] } in
       let fits' = grows terms.limit terms.base (get_or s.words size_at 0) all s.views fits id v at n w one_place room part refl refl refl refl refl in
-      let logged' = adds terms.limit terms.base all s.views logged id v at es (all ++ n ∷ []) w history long refl (prefix_self (all ++ n ∷ [])) refl refl part in
+      let logged' = adds terms.limit terms.base terms.mark.filled all s.views logged id v at es (all ++ n ∷ []) w history long refl (prefix_self (all ++ n ∷ [])) refl refl part in
       let ends = fits.ends in
       let size : runs_end v.base all ≡ get_or s.words size_at 0 = omega arith in (
         w,
@@ -129,8 +129,8 @@ module _ (terms : Terms) (slots id : ℕ) (me : Seated) (is_limit : me.0.limit �
           log =
               subst (λ (l : List ℕ). AddsEvents v.log (event (length l) ∷ []) log) (sym mine.seen.1)
               (goes_on_with v.log logged.log es recalls.log);
-          same = record { limit = refl; base = refl; mark = refl; mine = refl; shares = refl };
-          consistent = settled_in terms (get_or s.words size_at 0 + n) (all ++ n ∷ []) (set s.views id w) fits' logged' id w (at_set_here s.views id v w at) is_limit is_base;
+          same = record { limit = refl; base = refl; mark = refl; filled = refl; mine = refl; shares = refl };
+          consistent = settled_in terms (get_or s.words size_at 0 + n) (all ++ n ∷ []) (set s.views id w) fits' logged' id w (at_set_here s.views id v w at) is_limit is_base is_filled;
         },
       )
 
@@ -140,7 +140,7 @@ module _ (terms : Terms) (slots id : ℕ) (me : Seated) (is_limit : me.0.limit �
   looks_as note is s kept at =
       let found = get_or s.words size_at 0 in
       looks (note found) s kept at
-      (notes_go_on terms.limit terms.base found kept.logged.log kept.logged.history (log_ends s kept) kept.fits.within note is)
+      (notes_go_on terms.limit terms.base terms.mark.filled found kept.logged.log kept.logged.history (log_ends s kept) kept.fits.within note is)
       (note_lengths terms.limit note is found)
 
   -- a load
@@ -163,13 +163,13 @@ module _ (terms : Terms) (slots id : ℕ) (me : Seated) (is_limit : me.0.limit �
       let recalls = logged.each id v at in
       let es : Log = memory_event ∷ [] in
       let log = logged.log ++ es in
-      let w : SeatView = record { limit = v.limit; base = v.base; mark = v.mark; seen = v.seen; mine = v.mine; shares = v.shares; one = []; other = []; log = log; one_log = []; other_log = [] } in
-      let same : SameOwn v w = record { limit = refl; base = refl; mark = refl; mine = refl; shares = refl } in
+      let w : SeatView = record { limit = v.limit; base = v.base; mark = v.mark; filled = v.filled; seen = v.seen; mine = v.mine; shares = v.shares; one = []; other = []; log = log; one_log = []; other_log = [] } in
+      let same : SameOwn v w = record { limit = refl; base = refl; mark = refl; filled = refl; mine = refl; shares = refl } in
       let suits : Suits all w = record { seen = mine.seen; one = prefix_nil all; other = prefix_nil all; own = mine.own; spent = mine.spent } in
       let fits' = stays terms.limit terms.base (get_or s.words size_at 0) all s.views fits id v at w same suits in
-      let history = notes_go_on terms.limit terms.base (get_or s.words size_at 0) logged.log logged.history (log_ends s kept) fits.within memory_note (memory_is_note terms.limit) in
+      let history = notes_go_on terms.limit terms.base terms.mark.filled (get_or s.words size_at 0) logged.log logged.history (log_ends s kept) fits.within memory_note (memory_is_note terms.limit) in
       let claims : lengths_of log ≡ all = lengths_of-append logged.log es ∙ (append-nil (lengths_of logged.log) ∙ logged.claims) in
-      let logged' = adds terms.limit terms.base all s.views logged id v at es all w history claims refl mine.seen refl refl part in (
+      let logged' = adds terms.limit terms.base terms.mark.filled all s.views logged id v at es all w history claims refl mine.seen refl refl part in (
         w,
         keeps,
         tt,
@@ -179,7 +179,7 @@ module _ (terms : Terms) (slots id : ℕ) (me : Seated) (is_limit : me.0.limit �
             seen = refl;
             log = goes_on_with v.log logged.log es recalls.log;
             same = same;
-            consistent = settled_in terms (get_or s.words size_at 0) all (set s.views id w) fits' logged' id w (at_set_here s.views id v w at) is_limit is_base;
+            consistent = settled_in terms (get_or s.words size_at 0) all (set s.views id w) fits' logged' id w (at_set_here s.views id v w at) is_limit is_base is_filled;
           },
           refl,
         ),
@@ -201,9 +201,9 @@ module _ (terms : Terms) (slots id : ℕ) (me : Seated) (is_limit : me.0.limit �
       let e = claiming found n (length kept.lengths) in
       let run : OwnedRun = record { owner = length kept.lengths; from = found; n = n } in
       claims n (claiming found n) s kept at one_place room
-      (claims_next terms.limit terms.base logged.log logged.history e.0 e.1 run refl one_place last
-      (claim_legal terms.limit terms.base found logged.log logged.history (log_ends s kept) (length kept.lengths) n room))
-      (lengths_with terms.limit terms.base logged.log logged.history e.0 e.1 run refl one_place ∙ ap (λ (l : List ℕ). l ++ n ∷ []) logged.claims)
+      (claims_next terms.limit terms.base terms.mark.filled logged.log logged.history e.0 e.1 run refl one_place last
+      (claim_legal terms.limit terms.base terms.mark.filled found logged.log logged.history (log_ends s kept) (length kept.lengths) n room))
+      (lengths_with terms.limit terms.base terms.mark.filled logged.log logged.history e.0 e.1 run refl one_place ∙ ap (λ (l : List ℕ). l ++ n ∷ []) logged.claims)
 
   rises : (to : ℕ) (s : Table) (kept : Kept terms s) → get_elem? s.views id ≡ some me.0 → get_or s.words size_at 0 < to → to ≤ terms.limit
       → (w : SeatView) × Kept terms (stepped s size_at (get_or s.words size_at 0 + (to - get_or s.words size_at 0)) id me.1 w keeps) × Claims me.0 (get_or s.words size_at 0) (to - get_or s.words size_at 0) (raising to (get_or s.words size_at 0) (to - get_or s.words size_at 0)) w
@@ -216,9 +216,9 @@ module _ (terms : Terms) (slots id : ℕ) (me : Seated) (is_limit : me.0.limit �
       let run : OwnedRun = record { owner = length kept.lengths; from = found; n = n } in
       let one_place : 0 < n = omega arith in
       claims n (raising to found n) s kept at one_place (omega arith)
-      (claims_next terms.limit terms.base logged.log logged.history e.0 e.1 run refl one_place last
-      (raise_legal terms.limit terms.base found logged.log logged.history (log_ends s kept) (length kept.lengths) to less room))
-      (lengths_with terms.limit terms.base logged.log logged.history e.0 e.1 run refl one_place ∙ ap (λ (l : List ℕ). l ++ n ∷ []) logged.claims)
+      (claims_next terms.limit terms.base terms.mark.filled logged.log logged.history e.0 e.1 run refl one_place last
+      (raise_legal terms.limit terms.base terms.mark.filled found logged.log logged.history (log_ends s kept) (length kept.lengths) to less room))
+      (lengths_with terms.limit terms.base terms.mark.filled logged.log logged.history e.0 e.1 run refl one_place ∙ ap (λ (l : List ℕ). l ++ n ∷ []) logged.claims)
 
   exchange_cases : (note : ℕ → Log) → IsNote terms.limit note → (old new : ℕ) → old < new → new ≤ terms.limit → (s : Table) (kept : Kept terms s)
       → get_elem? s.views id ≡ some me.0
@@ -248,7 +248,7 @@ module _ (terms : Terms) (slots id : ℕ) (me : Seated) (is_limit : me.0.limit �
   raise_cases to room s kept at false is =
       let found : to ≤ get_or s.words size_at 0 = grind (arith, nat_tests) in
       let same : get_or s.words size_at 0 ≡ max (get_or s.words size_at 0) to = omega arith in
-      let l = looks (enough_event to (get_or s.words size_at 0) ∷ []) s kept at (is_enough terms.limit terms.base (get_or s.words size_at 0) kept.logged.log kept.logged.history (log_ends s kept) to found) refl in
+      let l = looks (enough_event to (get_or s.words size_at 0) ∷ []) s kept at (is_enough terms.limit terms.base terms.mark.filled (get_or s.words size_at 0) kept.logged.log kept.logged.history (log_ends s kept) to found) refl in
       (l.0, subst (λ n. Kept terms (stepped s size_at n id me.1 l.0 keeps)) same l.1, l.2)
 
   -- a greatest-value step
@@ -267,11 +267,11 @@ module _ (terms : Terms) (slots id : ℕ) (me : Seated) (is_limit : me.0.limit �
       let logged = kept.logged in
       let mine = fits.each id v at in
       let recalls = logged.each id v at in
-      let w : SeatView = record { limit = v.limit; base = v.base; mark = v.mark; seen = v.seen; mine = v.mine; shares = v.shares; one = []; other = []; log = v.log; one_log = []; other_log = [] } in
-      let same : SameOwn v w = record { limit = refl; base = refl; mark = refl; mine = refl; shares = refl } in
+      let w : SeatView = record { limit = v.limit; base = v.base; mark = v.mark; filled = v.filled; seen = v.seen; mine = v.mine; shares = v.shares; one = []; other = []; log = v.log; one_log = []; other_log = [] } in
+      let same : SameOwn v w = record { limit = refl; base = refl; mark = refl; filled = refl; mine = refl; shares = refl } in
       let suits : Suits all w = record { seen = mine.seen; one = prefix_nil all; other = prefix_nil all; own = mine.own; spent = mine.spent } in
       let fits' = stays terms.limit terms.base (get_or s.words size_at 0) all s.views fits id v at w same suits in
-      let logged' = keeps_log terms.limit terms.base all s.views logged id v at w refl (λ more. more) (recalls_still terms.limit terms.base all s.views logged id v at w refl refl refl refl) in
+      let logged' = keeps_log terms.limit terms.base terms.mark.filled all s.views logged id v at w refl (λ more. more) (recalls_still terms.limit terms.base terms.mark.filled all s.views logged id v at w refl refl refl refl) in
       let begins = longer_begins v.one v.other all mine.one mine.other in
       let logs = longer_begins v.one_log v.other_log logged.log recalls.one recalls.other in (
         w,
@@ -287,7 +287,7 @@ module _ (terms : Terms) (slots id : ℕ) (me : Seated) (is_limit : me.0.limit �
             other_log = subst (λ (l : Log). IsPrefix v.other_log l) (sym is_longer_log) logs.1;
             log = refl;
             same = same;
-            consistent = settled_in terms (get_or s.words size_at 0) all (set s.views id w) fits' logged' id w (at_set_here s.views id v w at) is_limit is_base;
+            consistent = settled_in terms (get_or s.words size_at 0) all (set s.views id w) fits' logged' id w (at_set_here s.views id v w at) is_limit is_base is_filled;
           },
           refl,
         ),
@@ -301,7 +301,7 @@ opens terms words all is room =
       words = all;
       lengths = [];
       fits = subst (λ size. Fits terms.limit terms.base size [] (first_view terms ∷ [])) (sym is) (begins terms room);
-      logged = logs_nothing terms.limit terms.base (first_view terms) refl refl refl refl (omega arith);
+      logged = logs_nothing terms.limit terms.base terms.mark.filled (first_view terms) refl refl refl refl (omega arith);
     }
 
 -- a seat is cut in two
@@ -329,8 +329,8 @@ cuts terms id v kept_runs given_runs kept_shares given_shares some_kept some_giv
           (suits kept_runs kept_shares some_kept (λ k. let r = runs k in omega arith)) (suits given_runs given_shares some_given (λ k. let r = runs k in omega arith)) runs shares;
       logged =
           let recalls : (xs : List ℕ) (n : ℕ) → Recalls kept.logged.log (with_own v xs n) =
-          λ xs n. recalls_still terms.limit terms.base all s.views kept.logged id v at (with_own v xs n) refl refl refl refl in
-          cuts_log terms.limit terms.base all s.views kept.logged id v at (with_own v kept_runs kept_shares) (with_own v given_runs given_shares)
+          λ xs n. recalls_still terms.limit terms.base terms.mark.filled all s.views kept.logged id v at (with_own v xs n) refl refl refl refl in
+          cuts_log terms.limit terms.base terms.mark.filled all s.views kept.logged id v at (with_own v kept_runs kept_shares) (with_own v given_runs given_shares)
           refl (λ _. some_kept) (recalls kept_runs kept_shares) (recalls given_runs given_shares);
     }
 
@@ -344,7 +344,7 @@ spares terms id v s kept at =
           splits terms.limit terms.base (get_or s.words size_at 0) kept.lengths s.views kept.fits id v at v spent_view (kept.fits.each id v at) (spent_suits kept.lengths)
           (λ k. omega arith) (omega arith);
       logged =
-          cuts_log terms.limit terms.base kept.lengths s.views kept.logged id v at v spent_view refl (λ more. more)
+          cuts_log terms.limit terms.base terms.mark.filled kept.lengths s.views kept.logged id v at v spent_view refl (λ more. more)
           (kept.logged.each id v at) (spent_recalls kept.logged.log);
     }
 
@@ -356,5 +356,5 @@ merges terms id v other w part s kept at apart at' =
       words = kept.words;
       lengths = kept.lengths;
       fits = joins terms.limit terms.base (get_or s.words size_at 0) kept.lengths s.views kept.fits id v at other w apart at' part;
-      logged = joins_log terms.limit terms.base kept.lengths s.views kept.logged id v at other w apart at' part;
+      logged = joins_log terms.limit terms.base terms.mark.filled kept.lengths s.views kept.logged id v at other w apart at' part;
     }

@@ -1,6 +1,7 @@
 -- The effect of each kind of step on the history.
 use Rattle.std.proofs.Common.{◌≡◌, ◌≢◌, ℕ, zero, suc, ◌+◌, ◌-◌, ◌<◌, ◌≤◌, Bool, true, false, nat_lt, nat_le, List, [], ◌∷◌, ◌++◌, length, map, filter, Some, set, refl, ap, sym, ◌∙◌, subst, ⊎_elim, arith, length-append}
-use Rattle.std.proofs.lemmas.List.{append-nil, map-append, length-map, length-replicate}
+use Rattle.std.proofs.lemmas.List.{append-nil, map-append, length-map}
+use Rattle.std.proofs.lemmas.List.FromFn.{length-map-range_with_len}
 use Rattle.std.proofs.lemmas.List.Elements.{filter-append}
 use Rattle.std.proofs.lemmas.List.Sums.{sum_by-append}
 use Rattle.std.proofs.lemmas.Bool.Decides.{nat_tests}
@@ -22,7 +23,7 @@ use Rattle.book_core.proofs.Runs.{runs_of-append}
 use Rattle.book_core.proofs.EventRows.{claims_append}
 use Rattle.claim_core.specs.declared.seat_view.SeatView.{SeatView}
 use Rattle.claim_core.specs.Lengths.{runs_end}
-use Rattle.claim_core.specs.History.{Log, first_list, claims_in, lengths_of, owners_of, IsHistoryOf, IsNote}
+use Rattle.claim_core.specs.History.{Log, first_cell, first_list, claims_in, lengths_of, owners_of, IsHistoryOf, IsNote}
 use Rattle.claim_core.specs.Rule.{Recalls, Latest, Logged}
 use Rattle.claim_core.specs.SeatView.{longer, joined_view, spent_view}
 use Rattle.claim_core.proofs.Prefixes.{prefix_self, prefix_append, prefix_nil, prefix_trans, prefix_length, prefix_whole, longer_picks, longer_begins}
@@ -69,21 +70,21 @@ tile_end start end (run ∷ runs) tile =
     omega arith
 
 -- it is as long as the base and all runs together
-pub cells_after : (limit base : ℕ) (log : Log) (new : CellList) → IsHistory (first_list limit base) log new
+pub cells_after : (limit base : ℕ) (filled : List Bool) (log : Log) (new : CellList) → IsHistory (first_list limit base filled) log new
     → length new.cells ≡ runs_end base (lengths_of log)
-cells_after limit base log new history =
-    let first : length (first_list limit base).cells ≡ base = length-replicate base _ in
-    let end = tile_end (length (first_list limit base).cells) (length new.cells) (runs_of log) (runs_tile (first_list limit base) new log history) in
+cells_after limit base filled log new history =
+    let first : length (first_list limit base filled).cells ≡ base = length-map-range_with_len (first_cell filled) 0 base in
+    let end = tile_end (length (first_list limit base filled).cells) (length new.cells) (runs_of log) (runs_tile (first_list limit base filled) new log history) in
     omega arith
 
 -- an event that the list allows goes on a legal history
-goes_on : (limit base size : ℕ) (log : Log) (event : Event) (reply : Reply) → IsLegalFrom (first_list limit base) log
+goes_on : (limit base : ℕ) (filled : List Bool) (size : ℕ) (log : Log) (event : Event) (reply : Reply) → IsLegalFrom (first_list limit base filled) log
     → runs_end base (lengths_of log) ≡ size
     → ((mid : CellList) → length mid.cells ≡ size → mid.limit ≡ limit → (new : CellList) × (apply_event mid event ≡ Some (new, reply)))
-    → IsLegalFrom (first_list limit base) (log ++ (event, reply) ∷ [])
-goes_on limit base size log event reply (mid, history) ends applies =
-    let (new, is) = applies mid (cells_after limit base log mid history ∙ ends) (history_limit (first_list limit base) log mid history) in
-    (new, IsHistory-push (first_list limit base) log mid new event reply history is)
+    → IsLegalFrom (first_list limit base filled) (log ++ (event, reply) ∷ [])
+goes_on limit base filled size log event reply (mid, history) ends applies =
+    let (new, is) = applies mid (cells_after limit base filled log mid history ∙ ends) (history_limit (first_list limit base filled) log mid history) in
+    (new, IsHistory-push (first_list limit base filled) log mid new event reply history is)
 
 -- ---- The rows of the table that a word's steps are
 
@@ -121,11 +122,11 @@ enough_applies size to le mid is =
 -- ---- A history after an event
 
 -- a growth up to a size that is not needed
-module _ (limit base size : ℕ) (log : Log) (history : IsHistoryOf limit base log) (ends : runs_end base (lengths_of log) ≡ size) where
-  pub is_enough : (to : ℕ) → to ≤ size → IsHistoryOf limit base (log ++ (Raise 0 to, replies.Enough size) ∷ [])
+module _ (limit base : ℕ) (filled : List Bool) (size : ℕ) (log : Log) (history : IsHistoryOf limit base filled log) (ends : runs_end base (lengths_of log) ≡ size) where
+  pub is_enough : (to : ℕ) → to ≤ size → IsHistoryOf limit base filled (log ++ (Raise 0 to, replies.Enough size) ∷ [])
   is_enough to le =
       record {
-        legal = goes_on limit base size log (Raise 0 to) (replies.Enough size) history.legal ends (λ mid is _. enough_applies size to le mid is);
+        legal = goes_on limit base filled size log (Raise 0 to) (replies.Enough size) history.legal ends (λ mid is _. enough_applies size to le mid is);
         actors = owners_of-append log _ ∙ (append-nil (owners_of log) ∙ (history.actors
             ∙ ap (λ (l : List ℕ). range_with_len 0 (length l)) (sym (lengths_of-append log _ ∙ append-nil (lengths_of log)))));
       }
@@ -135,31 +136,31 @@ pub note_lengths : (limit : ℕ) (note : ℕ → Log) → IsNote limit note → 
 note_lengths limit note is size = ap (map (λ (run : OwnedRun). run.n)) (is.nothing size)
 
 -- the events that a note has for the size go on the history
-pub notes_go_on : (limit base size : ℕ) (log : Log) → IsHistoryOf limit base log → runs_end base (lengths_of log) ≡ size
-    → size ≤ limit → (note : ℕ → Log) → IsNote limit note → IsHistoryOf limit base (log ++ note size)
-notes_go_on limit base size log history ends within note is =
+pub notes_go_on : (limit base : ℕ) (filled : List Bool) (size : ℕ) (log : Log) → IsHistoryOf limit base filled log → runs_end base (lengths_of log) ≡ size
+    → size ≤ limit → (note : ℕ → Log) → IsNote limit note → IsHistoryOf limit base filled (log ++ note size)
+notes_go_on limit base filled size log history ends within note is =
     let mid = history.legal.0 in
     let so_far = history.legal.1 in
-    let here = is.legal size mid within (history_limit (first_list limit base) log mid so_far) (cells_after limit base log mid so_far ∙ ends) in
+    let here = is.legal size mid within (history_limit (first_list limit base filled) log mid so_far) (cells_after limit base filled log mid so_far ∙ ends) in
     let owners : owners_of (log ++ note size) ≡ owners_of log =
     owners_of-append log (note size)
     ∙ (ap (λ (runs : List OwnedRun). owners_of log ++ map (λ (run : OwnedRun). run.owner) runs) (is.nothing size) ∙ append-nil (owners_of log)) in
     let lengths : lengths_of (log ++ note size) ≡ lengths_of log =
     lengths_of-append log (note size) ∙ (ap (λ (l : List ℕ). lengths_of log ++ l) (note_lengths limit note is size) ∙ append-nil (lengths_of log)) in
     record {
-      legal = (mid, IsHistory-append (first_list limit base) log (note size) mid mid so_far here);
+      legal = (mid, IsHistory-append (first_list limit base filled) log (note size) mid mid so_far here);
       actors = owners ∙ (history.actors ∙ ap (λ (l : List ℕ). range_with_len 0 (length l)) (sym lengths));
     }
 
 -- a claim, and a growth up to a size, are legal if there is room
-module _ (limit base size : ℕ) (log : Log) (history : IsHistoryOf limit base log) (ends : runs_end base (lengths_of log) ≡ size) where
-  pub claim_legal : (index n : ℕ) → size + n ≤ limit → IsLegalFrom (first_list limit base) (log ++ (Claim index n, replies.Run size n) ∷ [])
+module _ (limit base : ℕ) (filled : List Bool) (size : ℕ) (log : Log) (history : IsHistoryOf limit base filled log) (ends : runs_end base (lengths_of log) ≡ size) where
+  pub claim_legal : (index n : ℕ) → size + n ≤ limit → IsLegalFrom (first_list limit base filled) (log ++ (Claim index n, replies.Run size n) ∷ [])
   claim_legal index n room =
-      goes_on limit base size log (Claim index n) (replies.Run size n) history.legal ends (λ mid is is_limit. claim_applies limit size index n room mid is is_limit)
+      goes_on limit base filled size log (Claim index n) (replies.Run size n) history.legal ends (λ mid is is_limit. claim_applies limit size index n room mid is is_limit)
 
-  pub raise_legal : (index to : ℕ) → size < to → to ≤ limit → IsLegalFrom (first_list limit base) (log ++ (Raise index to, replies.Run size (to - size)) ∷ [])
+  pub raise_legal : (index to : ℕ) → size < to → to ≤ limit → IsLegalFrom (first_list limit base filled) (log ++ (Raise index to, replies.Run size (to - size)) ∷ [])
   raise_legal index to less room =
-      goes_on limit base size log (Raise index to) (replies.Run size (to - size)) history.legal ends (λ mid is is_limit. raise_applies limit size index to less room mid is is_limit)
+      goes_on limit base filled size log (Raise index to) (replies.Run size (to - size)) history.legal ends (λ mid is is_limit. raise_applies limit size index to less room mid is is_limit)
 
 -- the actors of claims are counted
 count_next : (a n : ℕ) → range_with_len a (suc n) ≡ range_with_len a n ++ (a + n) ∷ []
@@ -182,7 +183,7 @@ one_claim run false is more = absurd (grind (arith, nat_tests))
 
 -- an event that claims one run of places
 module _
-    (limit base : ℕ) (log : Log) (history : IsHistoryOf limit base log) (event : Event) (reply : Reply) (run : OwnedRun)
+    (limit base : ℕ) (filled : List Bool) (log : Log) (history : IsHistoryOf limit base filled log) (event : Event) (reply : Reply) (run : OwnedRun)
     (is : runs_of ((event, reply) ∷ []) ≡ run ∷ []) (some_places : 0 < run.n) where
   claims_it : claims_in ((event, reply) ∷ []) ≡ run ∷ []
   claims_it = ap (filter (λ (run : OwnedRun). nat_lt 0 run.n)) is ∙ one_claim run (nat_lt 0 run.n) refl some_places
@@ -193,8 +194,8 @@ module _
   owners_with : owners_of (log ++ (event, reply) ∷ []) ≡ owners_of log ++ run.owner ∷ []
   owners_with = owners_of-append log ((event, reply) ∷ []) ∙ ap (λ (runs : List OwnedRun). owners_of log ++ map (λ (run : OwnedRun). run.owner) runs) claims_it
 
-  pub claims_next : run.owner ≡ length (lengths_of log) → IsLegalFrom (first_list limit base) (log ++ (event, reply) ∷ [])
-      → IsHistoryOf limit base (log ++ (event, reply) ∷ [])
+  pub claims_next : run.owner ≡ length (lengths_of log) → IsLegalFrom (first_list limit base filled) (log ++ (event, reply) ∷ [])
+      → IsHistoryOf limit base filled (log ++ (event, reply) ∷ [])
   claims_next last legal =
       let long : length (lengths_of (log ++ (event, reply) ∷ [])) ≡ suc (length (lengths_of log)) =
       ap length lengths_with ∙ (length-append (lengths_of log) (run.n ∷ []) ∙ omega arith) in
@@ -206,10 +207,10 @@ module _
       }
 
 -- what was seen of a history is one
-pub begins_history : (limit base : ℕ) (es all : Log) → IsHistoryOf limit base all → IsPrefix es all → IsHistoryOf limit base es
-begins_history limit base es all history p =
-    let whole : IsLegalFrom (first_list limit base) (es ++ p.0) = subst (IsLegalFrom (first_list limit base)) (sym p.1) history.legal in
-    let (mid, first, _) = IsHistory-split (first_list limit base) es p.0 whole.0 whole.1 in
+pub begins_history : (limit base : ℕ) (filled : List Bool) (es all : Log) → IsHistoryOf limit base filled all → IsPrefix es all → IsHistoryOf limit base filled es
+begins_history limit base filled es all history p =
+    let whole : IsLegalFrom (first_list limit base filled) (es ++ p.0) = subst (IsLegalFrom (first_list limit base filled)) (sym p.1) history.legal in
+    let (mid, first, _) = IsHistory-split (first_list limit base filled) es p.0 whole.0 whole.1 in
     let owners : IsPrefix (owners_of es) (range_with_len 0 (length (lengths_of all))) =
     (owners_of p.0, sym (owners_of-append es p.0) ∙ (ap owners_of p.1 ∙ history.actors)) in
     let long : length (owners_of es) ≡ length (lengths_of es) = length-map (claims_in es) _ ∙ sym (length-map (claims_in es) _) in
@@ -234,12 +235,12 @@ recalls_more log es v recalls =
     }
 
 -- the first hand of a word has seen that nothing happened
-pub logs_nothing : (limit base : ℕ) (v : SeatView) → v.log ≡ [] → v.one_log ≡ [] → v.other_log ≡ [] → v.seen ≡ [] → 0 < v.shares
-    → Logged limit base [] (v ∷ [])
-logs_nothing limit base v log one other seen part =
+pub logs_nothing : (limit base : ℕ) (filled : List Bool) (v : SeatView) → v.log ≡ [] → v.one_log ≡ [] → v.other_log ≡ [] → v.seen ≡ [] → 0 < v.shares
+    → Logged limit base filled [] (v ∷ [])
+logs_nothing limit base filled v log one other seen part =
     record {
       log = [];
-      history = record { legal = (first_list limit base, refl); actors = refl };
+      history = record { legal = (first_list limit base filled, refl); actors = refl };
       claims = refl;
       each =
           each_one (Recalls []) v
@@ -253,11 +254,11 @@ logs_nothing limit base v log one other seen part =
     }
 
 module _
-    (limit base : ℕ) (lengths : List ℕ) (vs : List SeatView) (logged : Logged limit base lengths vs)
+    (limit base : ℕ) (filled : List Bool) (lengths : List ℕ) (vs : List SeatView) (logged : Logged limit base filled lengths vs)
     (id : ℕ) (v : SeatView) (at : get_elem? vs id ≡ some v) where
   -- what the seat has seen of the history
-  pub story : IsHistoryOf limit base v.log
-  story = begins_history limit base v.log logged.log logged.history (logged.each id v at).log
+  pub story : IsHistoryOf limit base filled v.log
+  story = begins_history limit base filled v.log logged.log logged.history (logged.each id v at).log
 
   -- if it has seen all that was claimed, its history claims just that
   pub tells_all : v.seen ≡ lengths → lengths_of v.log ≡ v.seen
@@ -268,9 +269,9 @@ module _
       sym (prefix_whole v.seen (lengths_of v.log) recalls.lengths (omega arith))
 
   -- the seat has seen the whole history, and adds events; it has seen some of the lengths
-  pub adds : (es : Log) (all : List ℕ) (w : SeatView) → IsHistoryOf limit base (logged.log ++ es) → lengths_of (logged.log ++ es) ≡ all
+  pub adds : (es : Log) (all : List ℕ) (w : SeatView) → IsHistoryOf limit base filled (logged.log ++ es) → lengths_of (logged.log ++ es) ≡ all
       → w.log ≡ logged.log ++ es → IsPrefix w.seen all → w.one_log ≡ [] → w.other_log ≡ [] → 0 < w.shares
-      → Logged limit base all (set vs id w)
+      → Logged limit base filled all (set vs id w)
   adds es all w history claims log seen one other part =
       record {
         log = logged.log ++ es;
@@ -324,7 +325,7 @@ module _
       }
 
   pub keeps_log : (w : SeatView) → w.log ≡ v.log → (0 < v.shares → 0 < w.shares) → Recalls logged.log w
-      → Logged limit base lengths (set vs id w)
+      → Logged limit base filled lengths (set vs id w)
   keeps_log w log part recalls =
       record {
         log = logged.log;
@@ -336,7 +337,7 @@ module _
 
   -- the seat is cut in two
   pub cuts_log : (left right : SeatView) → left.log ≡ v.log → (0 < v.shares → 0 < left.shares) → Recalls logged.log left
-      → Recalls logged.log right → Logged limit base lengths (set vs id left ++ right ∷ [])
+      → Recalls logged.log right → Logged limit base filled lengths (set vs id left ++ right ∷ [])
   cuts_log left right log part recalls_left recalls_right =
       let latest = still_latest left log part in
       record {
@@ -413,7 +414,7 @@ module _
           all = latest.all;
         }))
 
-    pub joins_log : Logged limit base lengths (set (set vs id (joined_view v w)) j spent_view)
+    pub joins_log : Logged limit base filled lengths (set (set vs id (joined_view v w)) j spent_view)
     joins_log =
         record {
           log = logged.log;

@@ -1,9 +1,10 @@
 -- The history of a word: what its callers claimed, asked for and were refused, in one order.
-use Rattle.std.specs.Prelude.{◌≡◌, ℕ, ◌+◌, ◌-◌, ◌≤◌, ◌==◌, nat_lt, nat_le, if◌then◌else◌, List, [], ◌∷◌, ◌++◌, length, map, filter, replicate}
+use Rattle.std.specs.Prelude.{◌≡◌, ℕ, ◌+◌, ◌-◌, ◌≤◌, ◌==◌, nat_lt, nat_le, if◌then◌else◌, Bool, false, List, [], ◌∷◌, ◌++◌, length, map, filter, get_or}
 use Rattle.std.specs.List.{range_with_len}
 use base.Stored.{Coded, coded×, coded_list}
 use mathlib.Core.List.{IsPrefix}
-use Rattle.book_core.specs.declared.cells.Cell.TheVariants.{Broken}
+use Rattle.book_core.specs.declared.cells.Cell.{Cell}
+use Rattle.book_core.specs.declared.cells.Cell.TheVariants.{Filled, Broken}
 use Rattle.book_core.specs.declared.events.Event.{Event}
 use Rattle.book_core.specs.declared.events.Event.TheVariants.{Claim, Raise, Look, Size, RefusedFull, RefusedMemory}
 use Rattle.book_core.specs.declared.events.Reply.{Reply}
@@ -22,9 +23,21 @@ Log = List (Event × Reply)
 abbrev pub log_coded : Coded Log
 log_coded = coded_list (coded× event.the_row.coded reply.the_row.coded)
 
--- the list that a word begins with. The history has nothing of the places below the base, so they are broken in it
-abbrev pub first_list : ℕ → ℕ → CellList
-first_list limit base = record { limit = limit; cells = replicate base Broken }
+-- a place with a value, which the history names by the place
+abbrev pub value_cell : ℕ → Cell
+value_cell place = Filled place
+
+-- a broken place
+abbrev pub broken_cell : Cell
+broken_cell = Broken
+
+-- a place that a word begins with: it has a value if this list says so
+abbrev pub first_cell : List Bool → ℕ → Cell
+first_cell filled place = if get_or filled place false then value_cell place else broken_cell
+
+-- the list that a word begins with, as long as its base
+abbrev pub first_list : ℕ → ℕ → List Bool → CellList
+first_list limit base filled = record { limit = limit; cells = map (first_cell filled) (range_with_len 0 base) }
 
 -- the runs that a history claims, without those of no place
 abbrev pub claims_in : Log → List OwnedRun
@@ -40,8 +53,8 @@ owners_of log = map (λ run. run.owner) (claims_in log)
 
 -- it is legal from the list that the word begins with, and the actor of each claim is its index, so that each is in it
 -- once
-pub record IsHistoryOf (limit base : ℕ) (log : Log) : Type 0 where
-  pub legal : IsLegalFrom (first_list limit base) log
+pub record IsHistoryOf (limit base : ℕ) (filled : List Bool) (log : Log) : Type 0 where
+  pub legal : IsLegalFrom (first_list limit base filled) log
   pub actors : owners_of log ≡ range_with_len 0 (length (lengths_of log))
 
 -- the new history is the old one, then events of others, then these

@@ -1,10 +1,11 @@
 -- What follows from the definitions of runs and hands alone.
-use Rattle.std.specs.Prelude.{◌≡◌, ℕ, ◌+◌, ◌<◌, ◌≤◌, ◌≢◌, ◌↔◌, ◌⊎◌, List, [], ◌∷◌, ◌++◌, length}
+use Rattle.std.specs.Prelude.{◌≡◌, ℕ, ◌+◌, ◌<◌, ◌≤◌, ◌≢◌, ◌↔◌, ◌⊎◌, Bool, List, [], ◌∷◌, ◌++◌, length, Some}
 use Rattle.std.specs.List.{Contains}
 use mathlib.Core.List.{IsPrefix}
 use Rattle.claim_core.specs.declared.run.Run.{Run}
 use Rattle.claim_core.specs.Lengths.{InRun, places_in, runs_end}
-use Rattle.claim_core.specs.History.{Log, AddsEvents, Adds, IsHistoryOf, lengths_of, claim_event, size_event, IsNote, no_note, full_note, growth_note, reach_note, range_note}
+use Rattle.claim_core.specs.History.{Log, AddsEvents, Adds, IsHistoryOf, first_cell, lengths_of, claim_event, size_event, IsNote, no_note, full_note, growth_note, reach_note, range_note}
+use Rattle.claim_core.specs.Word.{WordView, first_at}
 use Rattle.claim_core.specs.Hand.{HandView, KeepsOwn, AddsRun, SeesRun, OwnsRun, OwnsPlace, SeesOwn, GainsRun, OwnApart, IsOwnRun, IsPlaceOf, AreDisjoint, single, seen_size, own_places}
 
 -- a run stays where it is when the list goes on
@@ -175,20 +176,29 @@ ReachIsNote = (limit to : ℕ) → IsNote limit (reach_note limit to)
 abbrev pub RangeIsNote : Type 0
 RangeIsNote = (limit place : ℕ) → IsNote limit (range_note place)
 
+-- a history begins with each place below the word's base, which has a value or is broken
+abbrev pub FirstPlacesAreTold : Type 0
+FirstPlacesAreTold =
+    (word : WordView) (place : ℕ) → place < word.base
+    → first_at word place ≡ Some (first_cell word.filled place)
+
 -- a size in a legal history is that of the list before it: where it began, and all claims so far
 abbrev pub SizesCountClaims : Type 0
 SizesCountClaims =
-    (limit base size : ℕ) (before after : Log) → IsHistoryOf limit base (before ++ size_event size ∷ after)
+    (limit base size : ℕ) (filled : List Bool) (before after : Log)
+    → IsHistoryOf limit base filled (before ++ size_event size ∷ after)
     → size ≡ runs_end base (lengths_of before)
 
 -- a claim of some places begins there too
 abbrev pub ClaimsBeginAtTheSize : Type 0
 ClaimsBeginAtTheSize =
-    (limit base index : ℕ) (run : Run) (before after : Log) → IsHistoryOf limit base (before ++ claim_event index run ∷ after)
+    (limit base index : ℕ) (filled : List Bool) (run : Run) (before after : Log)
+    → IsHistoryOf limit base filled (before ++ claim_event index run ∷ after)
     → run.from ≡ runs_end base (lengths_of before)
 
 -- no claim is in a history twice, since each has the index that is its turn
 abbrev pub ClaimsHaveTheirTurn : Type 0
 ClaimsHaveTheirTurn =
-    (limit base index : ℕ) (run : Run) (before after : Log) → 0 < run.n
-    → IsHistoryOf limit base (before ++ claim_event index run ∷ after) → index ≡ length (lengths_of before)
+    (limit base index : ℕ) (filled : List Bool) (run : Run) (before after : Log) → 0 < run.n
+    → IsHistoryOf limit base filled (before ++ claim_event index run ∷ after)
+    → index ≡ length (lengths_of before)

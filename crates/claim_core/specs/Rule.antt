@@ -1,5 +1,5 @@
 -- The rule of the claim word: what holds between any two steps.
-use Rattle.std.specs.Prelude.{◌≡◌, ℕ, ◌+◌, ◌<◌, ◌≤◌, List, [], ◌∷◌, length, slice_index}
+use Rattle.std.specs.Prelude.{◌≡◌, ℕ, ◌+◌, ◌<◌, ◌≤◌, Bool, List, [], ◌∷◌, length, slice_index}
 use Rattle.std.specs.List.{All}
 use mathlib.Core.Option.{some}
 use mathlib.Core.List.{IsPrefix}
@@ -51,9 +51,9 @@ pub record Latest (log : Log) (views : List SeatView) : Type 0 where
   pub all : view.log ≡ log
 
 -- there is one history. It is legal, it claims these lengths, each once, and each seat has seen a prefix of it
-pub record Logged (limit base : ℕ) (lengths : List ℕ) (views : List SeatView) : Type 0 where
+pub record Logged (limit base : ℕ) (filled : List Bool) (lengths : List ℕ) (views : List SeatView) : Type 0 where
   pub log : Log
-  pub history : IsHistoryOf limit base log
+  pub history : IsHistoryOf limit base filled log
   pub claims : lengths_of log ≡ lengths
   pub each : (id : ℕ) (v : SeatView) → get_elem? views id ≡ some v → Recalls log v
   pub latest : Latest log views
@@ -70,4 +70,4 @@ pub record Kept (terms : Terms) (s : State (Unit {0}) SeatView) : Type 0 where
   pub words : length s.words ≡ word_count
   pub lengths : List ℕ
   pub fits : Fits terms.limit terms.base (slice_index s.words size_at) lengths s.views
-  pub logged : Logged terms.limit terms.base lengths s.views
+  pub logged : Logged terms.limit terms.base terms.mark.filled lengths s.views

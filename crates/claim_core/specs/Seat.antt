@@ -17,7 +17,14 @@ ClaimSeat = Seat (Unit {0}) SeatView
 
 -- the table and its terms as callers see them
 abbrev pub word_view : TableId → Terms → WordView
-word_view table terms = record { table = table; limit = terms.limit; base = terms.base; mark = terms.mark.numbers }
+word_view table terms =
+    record {
+      table = table;
+      limit = terms.limit;
+      base = terms.base;
+      mark = terms.mark.numbers;
+      filled = terms.mark.filled;
+    }
 
 -- the table has its words and no slot, and its rule has these terms
 pub record IsOpened (table : TableId) (key terms : Terms) : Type 0 where
@@ -30,7 +37,13 @@ pub record IsOpened (table : TableId) (key terms : Terms) : Type 0 where
 abbrev pub hand_view : ClaimSeat → HandView
 hand_view seat =
     record {
-      of = record { table = seat.table_id; limit = seat.me.0.limit; base = seat.me.0.base; mark = seat.me.0.mark };
+      of = record {
+        table = seat.table_id;
+        limit = seat.me.0.limit;
+        base = seat.me.0.base;
+        mark = seat.me.0.mark;
+        filled = seat.me.0.filled;
+      };
       seen = seat.me.0.seen;
       mine = seat.me.0.mine;
       shares = seat.me.0.shares;
@@ -53,6 +66,7 @@ pub record IsPair (table : TableId) (key : Terms) (seat other : ClaimSeat) : Typ
   pub no_slot : other.me.1 ≡ []
   pub limit : seat.me.0.limit ≡ key.limit
   pub base : seat.me.0.base ≡ key.base
+  pub filled : seat.me.0.filled ≡ key.mark.filled
   pub part : 0 < seat.me.0.shares
   pub other_part : 0 < other.me.0.shares
 

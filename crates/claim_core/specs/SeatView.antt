@@ -18,6 +18,7 @@ first_view terms =
       limit = terms.limit;
       base = terms.base;
       mark = terms.mark.numbers;
+      filled = terms.mark.filled;
       seen = [];
       mine = [];
       shares = all_shares;
@@ -35,6 +36,7 @@ spent_view =
       limit = 0;
       base = 0;
       mark = [];
+      filled = [];
       seen = [];
       mine = [];
       shares = 0;
@@ -57,6 +59,7 @@ joined_view v w =
       limit = v.limit;
       base = v.base;
       mark = v.mark;
+      filled = v.filled;
       seen = longer v.seen w.seen;
       mine = v.mine ++ w.mine;
       shares = v.shares + w.shares;
@@ -74,6 +77,7 @@ with_own v mine shares =
       limit = v.limit;
       base = v.base;
       mark = v.mark;
+      filled = v.filled;
       seen = v.seen;
       mine = mine;
       shares = shares;
@@ -91,7 +95,7 @@ pub record IsConsistent (v : SeatView) : Type 0 where
   pub shares : v.shares ≤ all_shares
   pub own : (k : ℕ) → times k v.mine ≤ once_below k (length v.seen)
   pub whole : v.shares ≡ all_shares → (k : ℕ) → times k v.mine ≡ once_below k (length v.seen)
-  pub history : IsHistoryOf v.limit v.base v.log
+  pub history : IsHistoryOf v.limit v.base v.filled v.log
   pub lengths : IsPrefix v.seen (lengths_of v.log)
   pub whole_log : v.shares ≡ all_shares → lengths_of v.log ≡ v.seen
 
@@ -100,6 +104,7 @@ pub record SameOwn (v w : SeatView) : Type 0 where
   pub limit : w.limit ≡ v.limit
   pub base : w.base ≡ v.base
   pub mark : w.mark ≡ v.mark
+  pub filled : w.filled ≡ v.filled
   pub mine : w.mine ≡ v.mine
   pub shares : w.shares ≡ v.shares
 

@@ -73,7 +73,8 @@ impl Hand {
         ensures some_shares { 0 < self.now.shares }
         ensures not_more { self.now.shares ≤ all_shares }
         // The history that it has seen is legal, and claims all runs that the hand has seen, each once.
-        ensures history { IsHistoryOf self.now.of.limit self.now.of.base self.now.log }
+        ensures history { IsHistoryOf self.now.of.limit self.now.of.base self.now.of.filled
+            self.now.log }
         ensures lengths { IsPrefix self.now.seen (lengths_of self.now.log) }
     {
         // For the proof: reading a field shows the type's invariant.

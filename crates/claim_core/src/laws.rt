@@ -8,7 +8,7 @@ ghost use Rattle.claim_core.specs.Laws.{AddedPlacesAddUp, JoinedPlacesAddUp, Joi
 ghost use Rattle.claim_core.specs.Laws.{OwnPlacesStay, AddedPlacesAreOwned, AddedPlacesAreOfTheRun, JoinedPlacesAreOfEither};
 ghost use Rattle.claim_core.specs.Laws.{OwnCountsStay};
 ghost use Rattle.claim_core.specs.Laws.{EventsFollow, PrefixesAddNothing, StepsGoOn, StepsStay};
-ghost use Rattle.claim_core.specs.Laws.{SizesCountClaims, ClaimsBeginAtTheSize, ClaimsHaveTheirTurn};
+ghost use Rattle.claim_core.specs.Laws.{FirstPlacesAreTold, SizesCountClaims, ClaimsBeginAtTheSize, ClaimsHaveTheirTurn};
 ghost use Rattle.claim_core.specs.Laws.{NothingIsNote, FullIsNote, GrowthIsNote, ReachIsNote, RangeIsNote};
 
 /// States that a run stays where it is when the list grows.
@@ -148,6 +148,11 @@ pub fn steps_go_on()
 /// States that what was added to a history stays in each history that goes on.
 pub fn steps_stay()
     ensures { StepsStay }
+{}
+
+/// States that a history begins with each place below the word's base, which has a value or is broken.
+pub fn first_places_are_told()
+    ensures { FirstPlacesAreTold }
 {}
 
 /// States that in a legal history a size is that of all claims before it, a claim begins there, and the index of

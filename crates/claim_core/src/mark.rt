@@ -1,19 +1,25 @@
-//! Numbers that a word and its hands are marked with. Only clauses read them.
-ghost use Rattle.std.specs.Prelude.{◌≡◌, ℕ, List, []};
+//! The mark of a word and its hands. Only clauses read it.
+ghost use Rattle.std.specs.Prelude.{◌≡◌, ℕ, Bool, List, []};
 ghost use base.Fml.{ftrue};
+ghost use base.Stored.{coded_bool, coded_list};
 
 use std::marker::{Model, PhantomData};
 
 /// A way to read a mark off a value.
 pub trait Marks<X> {
+    /// The numbers.
     ghost numbers: { X → List ℕ };
+
+    /// For each place that the word begins with, `true` if it has a value.
+    ghost filled: { X → List Bool } = { λ _. [] };
 }
 
-/// The numbers that mark a word and each of its hands: which segments belong to it, for example. A mark has
-/// no bytes and owns nothing.
+/// The numbers that mark a word and each of its hands, for example which segments belong to it; and which of
+/// the places that the word begins with have a value. A mark has no bytes and owns nothing.
 pub struct Mark {
     marker: PhantomData<()>,
     pub ghost numbers: { List ℕ },
+    pub ghost filled: { List Bool } by { coded_list coded_bool },
 }
 
 impl Model for Mark {
@@ -23,7 +29,7 @@ impl Model for Mark {
 impl Mark {
     /// Returns the mark that is read off the value.
     pub fn of<X, M: Marks<X>>(x: &X) -> Mark
-        ensures { result.numbers ≡ M.numbers x.now }
+        ensures { (result.numbers ≡ M.numbers x.now) × (result.filled ≡ M.filled x.now) }
     {
         // Only the contract speaks of `x`.
         let _ = x;
@@ -32,9 +38,10 @@ impl Mark {
         }
     }
 
-    /// Returns the mark without numbers.
+    /// Returns the mark without numbers and without places that have a value.
     pub fn none() -> Mark
-        ensures { result.numbers ≡ [] }
+        ensures numbers { result.numbers ≡ [] }
+        ensures filled { result.filled ≡ [] }
     {
         Mark::of::<(), Nothing>(&())
     }

@@ -9,6 +9,7 @@ pub struct SeatView {
     pub limit: u64,
     pub base: u64,
     pub mark: LinkedList<u64>,
+    pub filled: LinkedList<bool>,
     pub seen: LinkedList<u64>,
     pub mine: LinkedList<u64>,
     pub shares: u64,

@@ -114,6 +114,8 @@ impl<A: Allocator> Word<A> {
     /// 264 bytes, so that nothing else lies on its cache line.
     pub fn open(alloc: A, limit: u64, base: u64) -> Result<(Word<A>, Hand), OpenError>
         ensures word { IfOk result (λ (word, _). (word.limit ≡ limit) × (word.base ≡ base)) }
+        // Its history begins with broken places.
+        ensures filled { IfOk result (λ (word, _). word.filled ≡ []) }
         ensures hand { IfOk result (λ (word, hand). IsNewHand word hand) }
         // The limit is looked at before memory is asked for.
         ensures bad_limit { (result ≡ Err OpenError.BadLimit) ↔ ¬ AreBounds limit base }
@@ -121,7 +123,8 @@ impl<A: Allocator> Word<A> {
         Word::open_marked(alloc, limit, base, Mark::none())
     }
 
-    /// Opens a word like `open`, with a mark that its hands share.
+    /// Opens a word like `open`, with a mark that its hands share. Its history begins with the values that the
+    /// mark tells of.
     pub fn open_marked(
         alloc: A,
         limit: u64,
@@ -130,6 +133,7 @@ impl<A: Allocator> Word<A> {
     ) -> Result<(Word<A>, Hand), OpenError>
         ensures word { IfOk result (λ (word, _). (word.limit ≡ limit) × (word.base ≡ base)) }
         ensures mark { IfOk result (λ (word, _). word.mark ≡ mark.numbers) }
+        ensures filled { IfOk result (λ (word, _). word.filled ≡ mark.filled) }
         ensures hand { IfOk result (λ (word, hand). IsNewHand word hand) }
         ensures bad_limit { (result ≡ Err OpenError.BadLimit) ↔ ¬ AreBounds limit base }
     {

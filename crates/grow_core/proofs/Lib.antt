@@ -7,6 +7,7 @@ pub mod KnownPlaces
 pub mod Stretches
 pub mod BegunPlaces
 pub mod KeyRows
+pub mod FirstPlaces
 pub mod Cells
 pub mod Settled
 pub mod FoundFilled

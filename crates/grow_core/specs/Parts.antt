@@ -1,5 +1,5 @@
 -- What an exclusive owner holds of a vector.
-use Rattle.std.specs.Prelude.{◌≡◌, ℕ, ◌+◌, ◌-◌, ◌<◌, ◌≤◌, List, [], ◌∷◌, Option, Some, None, IsSome, length, map, slice_get}
+use Rattle.std.specs.Prelude.{◌≡◌, ℕ, ◌+◌, ◌-◌, ◌<◌, ◌≤◌, Bool, List, [], ◌∷◌, Option, Some, None, IsSome, is_some, length, map, slice_get}
 use Rattle.std.specs.Coded.{coded_option}
 use base.Fml.{Lft}
 use base.Stored.{Coded, coded×, coded_ℕ, coded_list, coded_via}
@@ -45,6 +45,10 @@ IsSpare parts = (0 < parts.segments) × (length parts.members ≤ segment_start 
 -- the values that are known, in order
 abbrev pub values_in : {T : Type 0} → List (MemberView T) → List (Option T)
 values_in row = map (λ m. m.value) row
+
+-- which of the members have a value
+abbrev pub filled_in : {T : Type 0} → List (Option T) → List Bool
+filled_in members = map (λ member. is_some member) members
 
 -- 1 if the member is broken, otherwise 0
 abbrev pub one_if_broken : {T : Type 0} → Option T → ℕ

@@ -1,16 +1,17 @@
 -- The shared vector as callers see it, and what belongs to it.
-use Rattle.std.specs.Prelude.{◌≡◌, ℕ, List, Option, Some, slice_get}
+use Rattle.std.specs.Prelude.{◌≡◌, ℕ, List, Option, Some, None, slice_get}
 use Rattle.std.specs.Coded.{coded_option}
 use base.Fml.{Lft}
 use base.Stored.{Coded, coded×, coded_list, coded_via}
 use mathlib.Core.List.{IsPrefix}
-use Rattle.claim_core.specs.Word.{WordView, word_coded}
+use Rattle.claim_core.specs.Word.{WordView, word_coded, first_at}
+use Rattle.claim_core.specs.History.{value_cell, broken_cell}
 use Rattle.claim_core.specs.Hand.{HandView, KeepsOwn}
 use Rattle.cell_core.specs.Block.{IsPlacedIn, IsSpoiltIn, IsBegunIn}
 use Rattle.cell_core.specs.Member.{MemberView}
 use Rattle.table_core.specs.Table.{TableView, table_coded, IsKeyIn, IsBlockOf}
 use Rattle.grow_core.specs.Keys.{KeyRow, mark_of}
-use Rattle.grow_core.specs.Parts.{AreWhole, AreBrokenIn}
+use Rattle.grow_core.specs.Parts.{AreWhole, AreBrokenIn, values_in, filled_in}
 use Rattle.grow_core.specs.Token.{PlacedView, SpoiltView, BegunView, place_in}
 
 -- which vector it is: its claim word, with its limit and its base, and its segments; and the list that it was
@@ -43,14 +44,23 @@ base_of vector = vector.word.base
 abbrev pub IsOpenedAt : {T : Type 0} → VectorView T → ℕ → T → Type 0
 IsOpenedAt vector place x = slice_get vector.opened place ≡ Some (Some x)
 
+-- the vector's history begins with the list that it was opened from: with its values, which the history names
+-- by their places, and with its broken members
+pub record BeginsAsOpened {T : Type 0} (vector : VectorView T) : Type 0 where
+  pub values : (place : ℕ) (x : T) → IsOpenedAt vector place x
+      → first_at vector.word place ≡ Some (value_cell place)
+  pub broken : (place : ℕ) → slice_get vector.opened place ≡ Some None
+      → first_at vector.word place ≡ Some broken_cell
+
 -- what holds of a vector at all times: what is known of the list that it was opened from, by the keys of its
--- first segments; the epoch of that list has ended; and the word and its hands are marked with the layout and
--- the names of the segments
+-- first segments; the epoch of that list has ended; and the mark of the word and its hands has the layout and
+-- the names of the segments, and says whether each member of that list has a value
 pub record IsShared {T : Type 0} (word : WordView) (segments : TableView) (keys : KeyRow)
     (known : List (MemberView T)) (ended : Lft) (count : ℕ) : Type 0 where
   pub whole : AreWhole segments.layout segments.names keys known word.base word.limit count
   pub broken : AreBrokenIn ended known
   pub mark : word.mark ≡ mark_of segments
+  pub filled : word.filled ≡ filled_in (values_in known)
 
 -- the hand belongs to the vector
 abbrev pub IsHandOf : {T : Type 0} → VectorView T → HandView → Type 0

@@ -1,11 +1,14 @@
 //! How an owner's list is opened: it becomes a vector that many callers share.
 ghost use Rattle.std.specs.Prelude.{◌≡◌, length, IfOk, IfErr};
 ghost use Rattle.claim_core.specs.Hand.{IsNewHand};
+ghost use Rattle.grow_core.specs.Keys.{mark_of};
+ghost use Rattle.grow_core.specs.Parts.{values_in, filled_in};
 ghost use Rattle.grow_core.specs.Vector.{limit_of, layout_of, base_of};
 
 use crate::hand::Hand;
 use crate::parts::Parts;
 use crate::vector::Shared;
+use cell_core::block::Row;
 use claim_core::{Mark, Marks, OpenError, Word};
 use table_core::Table;
 
@@ -16,6 +19,43 @@ impl<T> Marks<Table<T>> for Segments {
     ghost use Rattle.grow_core.specs.Keys.{mark_of};
 
     ghost numbers = { λ table. mark_of table };
+}
+
+// Its history begins with the values of the list that it is opened on.
+struct ListValues;
+
+impl<T> Marks<Row<T>> for ListValues {
+    ghost use Rattle.std.specs.Prelude.{[]};
+    ghost use Rattle.grow_core.specs.Parts.{values_in, filled_in};
+
+    ghost numbers = { λ _. [] };
+
+    ghost filled = { λ row. filled_in (values_in row) };
+}
+
+// The mark of a vector's segments and that of its list.
+#[derive(Drop)]
+struct TwoMarks {
+    segments: Mark,
+    list: Mark,
+}
+
+struct Opening;
+
+impl Marks<TwoMarks> for Opening {
+    ghost numbers = { λ marks. marks.segments.numbers };
+
+    ghost filled = { λ marks. marks.list.filled };
+}
+
+// The mark of a vector with these segments that is opened on a list of these members.
+fn opening_mark<T>(table: &Table<T>, row: &Row<T>) -> Mark
+    ensures segments { result.numbers ≡ mark_of table.now }
+    ensures values { result.filled ≡ filled_in (values_in row.now) }
+{
+    let segments = Mark::of::<Table<T>, Segments>(table);
+    let list = Mark::of::<Row<T>, ListValues>(row);
+    Mark::of::<TwoMarks, Opening>(&TwoMarks { segments, list })
 }
 
 impl<T> Shared<T> {
@@ -31,7 +71,7 @@ impl<T> Shared<T> {
         ensures back { IfErr result (λ (back, _). back ≡ parts) }
         ensures no_memory { IfErr result (λ (_, error). error ≡ OpenError.NoMemory) }
     {
-        let mark = Mark::of::<Table<T>, Segments>(&parts.table);
+        let mark = opening_mark(&parts.table, &parts.row);
         let (word, claims) = match Word::open_marked(parts.alloc, parts.limit, parts.len, mark) {
             Ok(opened) => opened,
             Err(error) => return Err((parts, error)),

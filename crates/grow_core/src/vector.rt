@@ -3,7 +3,7 @@ ghost use Rattle.std.specs.Prelude.{◌≡◌, ◌≤◌, [], ◌∷◌, length}
 ghost use Rattle.claim_core.specs.Word.{AreBounds};
 ghost use Rattle.claim_core.specs.Hand.{IsWholeHand, SeesSize, seen_size};
 ghost use Rattle.claim_core.specs.History.{AddsEvents, size_event};
-ghost use Rattle.grow_core.specs.Vector.{IsHandOf, limit_of, layout_of, base_of};
+ghost use Rattle.grow_core.specs.Vector.{IsHandOf, BeginsAsOpened, limit_of, layout_of, base_of};
 
 use crate::hand::Hand;
 use crate::keys::Keys;
@@ -67,13 +67,17 @@ impl<T> Shared<T> {
         self.table.layout()
     }
 
-    /// Shows a proof that the vector began with the list that it was opened on. The call does nothing.
+    /// Shows a proof that the vector began with the list that it was opened on, and so did its history. The
+    /// call does nothing.
     pub fn laws(&self)
         ensures bounds { AreBounds (limit_of self.now) (base_of self.now) }
         ensures opened { length self.now.opened ≡ base_of self.now }
+        // In the history a value is named by its place.
+        ensures first { BeginsAsOpened self.now }
     {
         // For the proof: reading a field shows the type's invariant.
         let _table = &self.table;
+        laws::first_places_are_told();
     }
 
     /// Returns the size now, by one load.

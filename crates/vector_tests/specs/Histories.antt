@@ -1,13 +1,19 @@
--- The results of a thread's calls, as a part of one history.
+-- The results of a thread's calls, as a part of one history; and what a history begins with.
 use Rattle.std.specs.Prelude.{◌≡◌, ℕ, [], ◌∷◌, Result, Ok, Err}
 use Rattle.claim_core.specs.declared.run.Run.{Run}
 use Rattle.claim_core.specs.Hand.{IsPlaceOf}
-use Rattle.claim_core.specs.History.{Log, Adds, claim_event, full_event, memory_event, size_event}
+use Rattle.claim_core.specs.Word.{WordView}
+use Rattle.claim_core.specs.History.{Log, Adds, first_list, value_cell, broken_cell, claim_event, full_event, memory_event, size_event}
 use Rattle.grow_core.specs.declared.errors.GrowError.{GrowError}
 use Rattle.grow_core.specs.declared.errors.GrowError.TheVariants.{NoMemory, Full, Moved, Refused, Taken}
 use Rattle.grow_core.specs.Token.{PlacedView}
 use Rattle.grow_core.specs.Grown.{GrownView}
 use Rattle.grow_core.specs.Growth.{single}
+
+-- the word's history begins with a place that has a value and two broken ones
+abbrev pub BeginsWithOneOfThree : WordView → Type 0
+BeginsWithOneOfThree word =
+    (first_list word.limit word.base word.filled).cells ≡ value_cell 0 ∷ broken_cell ∷ broken_cell ∷ []
 
 -- a growth by n places that returned this has these events: its claim, or the one whose reply its refusal is
 abbrev pub AreEventsOf : {X T V E : Type 0} → (X → Run) → ℕ → Result X (GrowError T V E) → Log → Type 0

@@ -1,14 +1,15 @@
-// One legal history of three threads, by the public clauses alone.
-ghost use Rattle.std.specs.Prelude.{◌≡◌, ◌+◌};
+// One legal history of three threads, and what a history begins with, by the public clauses alone.
+ghost use Rattle.std.specs.Prelude.{◌≡◌, ◌+◌, ◌≤◌, [], ◌∷◌, Some, None, IfSome};
 ghost use Rattle.std.specs.Thread.{IsSync};
 ghost use Rattle.seg_core.specs.Segment.{IsLimit};
 ghost use Rattle.claim_core.specs.History.{Log, IsHistoryOf, lengths_of};
 ghost use Rattle.grow_core.specs.Lengths.{runs_end};
+ghost use Rattle.grow_core.specs.Parts.{capacity_of};
 ghost use Rattle.grow_core.specs.Vector.{IsHandOf, base_of, limit_of};
-ghost use Rattle.vector_tests.specs.Histories.{IsAnsweredIn};
+ghost use Rattle.vector_tests.specs.Histories.{BeginsWithOneOfThree, IsAnsweredIn};
 
 use super::callers::empty;
-use grow_core::{GrowError, Grown, Hand, Never, Placed, Shared, laws};
+use grow_core::{GrowError, Grown, Hand, Never, Parts, Placed, Shared, laws};
 use std::alloc::{AllocError, Global};
 use std::thread::{Threads, join};
 
@@ -91,7 +92,7 @@ fn call_by_three<R: Threads + Sync>(
     requires third_ours { IsHandOf vector c }
     requires whole { a.shares + b.shares + c.shares ≡ 65536 }
     ensures { (log : Log)
-        × IsHistoryOf (limit_of vector) (base_of vector) log
+        × IsHistoryOf (limit_of vector) (base_of vector) vector.word.filled log
         × IsAnsweredIn a.log 2 result.1.pushed result.1.grown result.1.size log
         × IsAnsweredIn b.log 2 result.2.pushed result.2.grown result.2.size log
         × IsAnsweredIn c.log 2 result.3.pushed result.3.grown result.3.size log
@@ -146,4 +147,76 @@ fn length_of_three<R: Threads + Sync>(rt: &R, alloc: Global, limit: u64) -> Opti
 fn three_threads_have_one_history(rt: HostRuntime) {
     let len = length_of_three(&rt, rt.alloc(), 5).unwrap_or(0);
     assert!(rt; len > 0 && len <= 5);
+}
+
+// Appends a value and two broken members to an empty list.
+fn append_three(parts: &mut Parts<u64>, value: u64)
+    requires empty { parts.old.members ≡ [] }
+    requires limit { 3 ≤ parts.old.limit }
+    requires room { 3 ≤ capacity_of parts.old }
+    ensures { parts.new.members ≡ Some value ∷ None ∷ None ∷ [] }
+{
+    parts.append(Some(value));
+    parts.append(None);
+    parts.append(None);
+}
+
+// A list of these, if there is memory for it.
+fn one_of_three(alloc: Global, value: u64) -> Option<Parts<u64>>
+    ensures { IfSome result (λ parts. parts.members ≡ Some value ∷ None ∷ None ∷ []) }
+{
+    let mut parts = Parts::new(alloc, 8);
+    match parts.room(3) {
+        Ok(()) => {
+            append_three(&mut parts, value);
+            Some(parts)
+        }
+        Err(_error) => {
+            drop(parts);
+            None
+        }
+    }
+}
+
+// The history of a vector that was opened on such a list begins with just these.
+fn show_first(vector: &Shared<u64>, value: u64)
+    requires opened { vector.now.opened ≡ Some value ∷ None ∷ None ∷ [] }
+    ensures { BeginsWithOneOfThree vector.now.word }
+{
+    // Only the contract speaks of the value.
+    let _ = value;
+    vector.laws();
+}
+
+// So does that of the vector which such a list is opened into.
+fn open_one_of_three(parts: Parts<u64>, value: u64) -> Option<(Shared<u64>, Hand<u64>)>
+    requires members { parts.members ≡ Some value ∷ None ∷ None ∷ [] }
+    ensures ours { IfSome result (λ (vector, hand). IsHandOf vector hand) }
+    ensures first { IfSome result (λ (vector, _). BeginsWithOneOfThree vector.word) }
+{
+    match Shared::of_parts(parts) {
+        Ok((vector, hand)) => {
+            show_first(&vector, value);
+            Some((vector, hand))
+        }
+        Err(refused) => {
+            drop(refused);
+            None
+        }
+    }
+}
+
+// The size of such a vector, if there is memory for it.
+fn size_of_three(alloc: Global, value: u64) -> Option<u64> {
+    let parts = one_of_three(alloc, value)?;
+    let (vector, mut hand) = open_one_of_three(parts, value)?;
+    let size = vector.size(&mut hand);
+    drop(hand);
+    drop(vector);
+    Some(size)
+}
+
+#[test]
+fn a_history_begins_with_the_opened_list(rt: HostRuntime) {
+    assert_eq!(rt; size_of_three(rt.alloc(), 5), Some(3));
 }

@@ -16,7 +16,7 @@ load-size-requires g c =
     let p = c.requires.pair in
     let e = c.join_seat.ensures in
     let part : 0 < c.join_seat.new.seat.me.0.shares = let s = ap {A = Seated} (λ m. m.0.shares) e.2 in let q = p.part in omega arith in
-    (e.0 ∙ p.same, p.words, loads _ _ _ _ (ap {A = Seated} (λ m. m.0.limit) e.2 ∙ p.limit) (ap {A = Seated} (λ m. m.0.base) e.2 ∙ p.base) part)
+    (e.0 ∙ p.same, p.words, loads _ _ _ _ (ap {A = Seated} (λ m. m.0.limit) e.2 ∙ p.limit) (ap {A = Seated} (λ m. m.0.base) e.2 ∙ p.base) (ap {A = Seated} (λ m. m.0.filled) e.2 ∙ p.filled) part)
 
 pub split_seat-requires : goal.split_seat-requires
 split_seat-requires g c =

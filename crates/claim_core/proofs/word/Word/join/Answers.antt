@@ -17,7 +17,7 @@ load-hand-inside-requires g c =
     let part : 0 < c.join_seat.new.seat.me.0.shares = let s = ap {A = Seated} (λ m. m.0.shares) e.2 in let q = b.part in omega arith in
     let seen = ap {A = Seated} (λ m. m.0.seen) e.2 ∙ sym (ap (λ m. longer m.0.one m.0.other) e.2) in
     let log = ap {A = Seated} (λ m. m.0.log) e.2 ∙ sym (ap (λ m. longer m.0.one_log m.0.other_log) e.2) in
-    (e.0 ∙ b.same, b.words, settles _ _ _ _ (ap {A = Seated} (λ m. m.0.limit) e.2 ∙ b.limit) (ap {A = Seated} (λ m. m.0.base) e.2 ∙ b.base) part seen log)
+    (e.0 ∙ b.same, b.words, settles _ _ _ _ (ap {A = Seated} (λ m. m.0.limit) e.2 ∙ b.limit) (ap {A = Seated} (λ m. m.0.base) e.2 ∙ b.base) (ap {A = Seated} (λ m. m.0.filled) e.2 ∙ b.filled) part seen log)
 
 pub returns-clause-apart : goal.returns-clause-apart
 returns-clause-apart g c =

@@ -24,7 +24,7 @@ invariant_of-result-2 g c =
     let places = c.laws-2.ensures.places in let within = c.laws-2.ensures.within in (
       closing_starts vector.table.layout c.of-mark.result.numbers vector.table.names vector.keys c.whole_keys.result.now c.first_keys-before.result.0 c.keys_again.result vector.row c.new.result c.new-2.result c.base-base.result c.limit-limit.result vector.count
           c.first_keys-before.result.1 c.close-size.result (subst (λ (u : ℕ × ℕ). AreWhole vector.table.layout vector.table.names vector.keys vector.row u.0 u.1 vector.count) (λ i. (sym base i, sym limit i)) c.vector.invariant.whole)
-          c.of-mark.ensures c.new.ensures keys.named keys.long keys.there keys.few keys.first keys.none keys.end c.keys_again.ensures (search rules)
+          c.of-mark.ensures.0 c.new.ensures keys.named keys.long keys.there keys.few keys.first keys.none keys.end c.keys_again.ensures (search rules)
           (subst (λ (u : ℕ × ℕ × ℕ). HasKeysOfPlaces u.0 c.whole_keys.result.now u.1 u.2) (λ i. (sym layout i, (hand_base ∙ sym base) i, sym size i)) c.whole_keys.ensures.all)
           (omega (arith, places, base, hand_base, size)) (omega (arith, within, limit, hand_limit, size)),
       sym (ap (λ (xs : List (MemberView g.row.T.Denot)). broken_count (values_in xs)) c.new.ensures),

@@ -13,7 +13,7 @@ returns g c =
     let word_is : hand.of ≡ c.args.vector.word = c.join.ensures.of ∙ c.join-all.ensures.first.0 in
     let others = c.join-all.ensures.second.1.1 in (
       hand.log,
-      subst (λ (w : WordView). IsHistoryOf w.limit w.base hand.log) word_is c.laws.ensures.history,
+      subst (λ (w : WordView). IsHistoryOf w.limit w.base w.filled hand.log) word_is c.laws.ensures.history,
       still_answered law _ _ _ 2 _ _ _ c.join-all.ensures.first.1.1 c.join.ensures.begins_log,
       still_answered law _ _ _ 2 _ _ _ others.0 c.join.ensures.also_begins_log,
       still_answered law _ _ _ 2 _ _ _ others.1 c.join.ensures.also_begins_log,

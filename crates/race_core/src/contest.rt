@@ -1,5 +1,5 @@
 //! Workers that append to one shared vector concurrently, and the check that their wins are a history.
-ghost use Rattle.std.specs.Prelude.{◌≡◌, ℕ, ◌+◌, ◌*◌, ◌↔◌, true, Err, IfOk, IfErr, IsErrOf};
+ghost use Rattle.std.specs.Prelude.{◌≡◌, ℕ, ◌+◌, ◌*◌, ◌<◌, ◌≤◌, ◌↔◌, true, false, Err, IfOk, IfErr, IsErrOf};
 ghost use Rattle.claim_core.specs.Hand.{SeesOwn};
 ghost use Rattle.span_core.specs.Hands.{KeepsShares};
 ghost use Rattle.span_core.specs.Workers.{MayRefuseOne};
@@ -21,6 +21,14 @@ pub const MOST_WORKERS: u32 = 64;
 /// The most values of each worker.
 pub const MOST_EACH: u32 = 100_000;
 
+// Whether there are no workers or no values of each, or too many.
+fn is_bad_size(workers: u32, each: u32) -> bool
+    ensures bad { (result ≡ true) ↔ IsBadSize workers each }
+    ensures within { result ≡ false → (0 < workers * each) × (workers * each ≤ 6400000) }
+{
+    workers == 0 || workers > MOST_WORKERS || each == 0 || each > MOST_EACH
+}
+
 /// Runs workers that append to one shared vector concurrently, and checks what they won.
 ///
 /// Worker w appends w * each + j for j from 0 to each - 1. It passes the gate before its first value and
@@ -41,7 +49,7 @@ pub fn race<R: Threads + Wait + Sync, G: Gate + Sync>(
         → MayRefuseOne (G.may_refuse gate.now) 0 workers }
     ensures grow { (number : ℕ) → result ≡ Err (RaceError.Grow number) → IsGrowth number }
 {
-    if workers == 0 || workers > MOST_WORKERS || each == 0 || each > MOST_EACH {
+    if is_bad_size(workers, each) {
         return Err(RaceError::BadSize);
     }
     let each = u64::from(each);

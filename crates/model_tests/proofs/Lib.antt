@@ -8,4 +8,5 @@ mod PlacesLater
 mod PushPlaces
 mod ReadValues
 mod SteppedPlays
+mod TraceRows
 mod WholeRecords

@@ -1,3 +1,4 @@
 pub mod Uses
 pub mod Places
 pub mod CallSteps
+pub mod Traces

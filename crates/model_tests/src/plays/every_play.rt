@@ -8,6 +8,7 @@ ghost use Rattle.model_tests.specs.Places.{FilledPlacesHaveOneFiller};
 ghost use Rattle.model_tests.specs.Places.{WholeCallsClaimTheirCells, OfEveryRecord, HaveWholeRecordsAtLoad};
 ghost use Rattle.model_tests.specs.Places.{HaveWholeRecordsWhileReading, CallsFollowThePrograms, AnswersAreReplies};
 ghost use Rattle.model_tests.specs.CallSteps.{OfEveryCount, EndedCallsAreWithin, CallsUnderWayAreWithin};
+ghost use Rattle.model_tests.specs.Traces.{EveryItemHasItsRow};
 
 use step_core::laws;
 
@@ -86,4 +87,11 @@ fn calls_known()
     book_core::laws::runs_tile();
     laws::work();
     laws::whole_calls();
+}
+
+// A trace has a row for each item: it is of the item's actor, and shows the size after the item's step.
+fn traces_known()
+    ensures { EveryItemHasItsRow }
+{
+    laws::traces();
 }

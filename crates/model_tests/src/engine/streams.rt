@@ -440,6 +440,41 @@ fn a_long_text_is_written_to_its_end_or_to_a_late_fault(rt: HostRuntime) -> Resu
     Ok(())
 }
 
+// Adds a text this many times.
+fn add_times(text: &mut Vec<u8>, added: &[u8], times: u32) -> Result<(), AllocError> {
+    for _time in 0..times {
+        text.extend_from_slice(added)?;
+    }
+    Ok(())
+}
+
+// A script of a thousand calls, each of which ends at its only step.
+fn many_calls(alloc: Global) -> Result<Vec<u8>, AllocError> {
+    let mut script = Vec::new(alloc);
+    script.extend_from_slice(b"limit 8\nactor a size")?;
+    add_times(&mut script, b", size", 999)?;
+    script.extend_from_slice(b"\nsteps")?;
+    add_times(&mut script, b" a", 1_000)?;
+    Ok(script)
+}
+
+// An engine, and how long the text of that play is: a line of each call, one of no cells, and one of counts for
+// each call.
+#[rattlefmt::skip]
+static MANY_CALLS: [(Engine, usize); 3] = [
+    (Engine::Calls, 11_901), (Engine::Steps, 11_901), (Engine::Counted, 31_794),
+];
+
+#[test]
+fn a_text_of_many_calls_is_flushed(rt: HostRuntime) -> Result<(), AllocError> {
+    let script = many_calls(rt.alloc())?;
+    for (engine, length) in MANY_CALLS.as_slice() {
+        let whole = ends_late(rt.alloc(), *engine, &script, *length, Ok(()));
+        assert!(rt; whole, "{engine:?}");
+    }
+    Ok(())
+}
+
 // Tests whether a play is written whole if few bytes are taken at a time.
 fn is_written_slowly(alloc: Global, row: &Row) -> bool {
     let (engine, script, text) = *row;

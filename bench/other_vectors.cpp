@@ -22,6 +22,8 @@ constexpr Value fresh = 10'000'000;
 constexpr Value filled = (Value{1} << 23) + 1;
 constexpr Value more = 8'000'000;
 constexpr Value list_length = 64;
+// How often a load walks over its places.
+constexpr unsigned rounds = 16;
 
 // How many of the first values are odd.
 template <typename Values> Value count_odd(Values &values, Value times) {
@@ -271,7 +273,10 @@ template <typename Vector> long long run(const char *load, unsigned threads) {
   if (!std::strcmp(load, "get"))
     work = [&] { read_often(times, [&](Value place) { return vector.get(place); }); };
   if (!std::strncmp(load, "walk", 4))
-    work = [&] { walk_over(vector, times); };
+    work = [&] {
+      for (unsigned round = 0; round < rounds; ++round)
+        walk_over(vector, times);
+    };
   std::atomic<bool> is_over{false};
   std::function<void()> other_work = work;
   if (!std::strcmp(load, "walk-pushed")) {

@@ -6,7 +6,7 @@ ghost use Rattle.grow_core.specs.Vector.{IsHandOf};
 
 use crate::other_vectors::push_boxcar;
 use crate::reads::{
-    pick_places, print_get_time, read_at, read_boxcar, read_look, read_segments, read_walk,
+    pick_places, print_get_time, read_at, read_boxcar, read_look, read_segment_walks, read_walks,
 };
 use crate::shared_vector::{hands_for, open_empty_in, push, push_by_calls};
 use crate::trial::{print_nanoseconds, time_hands, time_threads};
@@ -28,6 +28,9 @@ const FILLED: u64 = (1 << 23) + 1;
 
 // The values that are then appended, all in that segment, or read.
 const MORE: u64 = 8_000_000;
+
+// The values that walks read in all: sixteen times as many.
+const WALKED: u64 = 128_000_000;
 
 // The values of a growth.
 const LIST: u64 = 64;
@@ -111,8 +114,8 @@ static ROWS: [(&'static str, Work, u64, u64); 22] = [
     ("at", Work::At, FILLED, MORE),
     ("look", Work::Look, FILLED, MORE),
     ("get", Work::Get, FILLED, MORE),
-    ("walk", Work::Walk, FILLED, MORE),
-    ("walk-segments", Work::Segments, FILLED, MORE),
+    ("walk", Work::Walk, FILLED, WALKED),
+    ("walk-segments", Work::Segments, FILLED, WALKED),
     ("pick", Work::Pick, FILLED, MORE),
 ];
 
@@ -254,8 +257,8 @@ impl Work {
             Work::AtLeast => make(rt, vector, hand, times, true),
             Work::At => read_at(vector, hand, times),
             Work::Look => read_look(vector, vector.size(&mut hand), times),
-            Work::Walk => read_walk(vector, times),
-            Work::Segments => read_segments(vector, times),
+            Work::Walk => read_walks(vector, times),
+            Work::Segments => read_segment_walks(vector, times),
             Work::Get | Work::Pick => pick_places(vector.size(&mut hand), times),
         }
     }

@@ -23,6 +23,10 @@ fn next(random: u64) -> u64 {
         .wrapping_add(1_442_695_040_888_963_407)
 }
 
+// How often a load walks over its places. A single walk by four threads is over in a millisecond, and much of that is
+// their start.
+const ROUNDS: u64 = 16;
+
 // How far a number of the sequence is moved: the places below the greatest power of two that the size has are left.
 fn shift_for(size: u64) -> u32
     ensures { result < 64 }
@@ -120,6 +124,15 @@ pub fn read_walk(vector: &Shared<u64>, reads: u64) -> u64 {
     odd
 }
 
+/// Walks over the first places again and again, with this many reads in all, and returns how many values were odd.
+pub fn read_walks(vector: &Shared<u64>, reads: u64) -> u64 {
+    let mut odd: u64 = 0;
+    for _round in 0..ROUNDS {
+        odd = odd.wrapping_add(read_walk(vector, reads / ROUNDS));
+    }
+    odd
+}
+
 // How many of the values are odd.
 fn count_odd(values: &[u64]) -> u64 {
     let mut odd: u64 = 0;
@@ -129,8 +142,8 @@ fn count_odd(values: &[u64]) -> u64 {
     odd
 }
 
-/// Walks over the first places segment by segment, and returns how many of their values were odd.
-pub fn read_segments(vector: &Shared<u64>, reads: u64) -> u64 {
+// Walks over the first places segment by segment, and returns how many of their values were odd.
+fn read_segments(vector: &Shared<u64>, reads: u64) -> u64 {
     let mut odd: u64 = 0;
     let mut left = reads;
     for cells in vector.segments() {
@@ -140,6 +153,15 @@ pub fn read_segments(vector: &Shared<u64>, reads: u64) -> u64 {
         }
         left -= values.len() as u64;
         odd = odd.wrapping_add(count_odd(values));
+    }
+    odd
+}
+
+/// Walks segment by segment over the first places again and again, as `read_walks` does place by place.
+pub fn read_segment_walks(vector: &Shared<u64>, reads: u64) -> u64 {
+    let mut odd: u64 = 0;
+    for _round in 0..ROUNDS {
+        odd = odd.wrapping_add(read_segments(vector, reads / ROUNDS));
     }
     odd
 }

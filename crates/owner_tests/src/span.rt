@@ -3,6 +3,7 @@
 ghost use Rattle.std.specs.Prelude.{◌<◌, ◌≤◌, length};
 
 mod all_come;
+mod buffered_writers;
 mod hands;
 mod lent_writers;
 mod many_hands;
@@ -14,6 +15,7 @@ mod shared_writers;
 mod stuck;
 mod uses;
 mod watch;
+mod writer_calls;
 mod writers;
 
 use crate::quiet::{list_of, pushes_all};
@@ -115,6 +117,63 @@ fn every_number_of_workers_answers_the_same<R: Threads + Wait + Sync>(
         }
     }
     true
+}
+
+// Sums of numbers of each type that is unsigned, in pairs.
+type Sums = ((u8, u16), ((u32, u128), usize));
+
+fn sums_of_one(n: u8) -> Sums {
+    (
+        (n, u16::from(n)),
+        ((u32::from(n), u128::from(n)), usize::from(n)),
+    )
+}
+
+fn joined(a: Sums, b: Sums) -> Sums {
+    let ((a0, a1), ((a2, a3), a4)) = a;
+    let ((b0, b1), ((b2, b3), b4)) = b;
+    (
+        (a0.wrapping_add(b0), a1.wrapping_add(b1)),
+        (
+            (a2.wrapping_add(b2), a3.wrapping_add(b3)),
+            a4.wrapping_add(b4),
+        ),
+    )
+}
+
+// The sums of the values of a list, by some workers.
+fn sums_of<R: Threads + Wait + Sync>(
+    rt: &R,
+    alloc: Global,
+    list: &Quiet<u64>,
+    workers: u32,
+) -> Result<Sums, ParError> {
+    let f = |_place: u64, value: Option<&u64>| -> Sums {
+        sums_of_one(u8::try_from(value.copied().unwrap_or(0)).unwrap_or(0))
+    };
+    let join = |a: Sums, b: Sums| -> Sums { joined(a, b) };
+    let span = Span::new(0, list.len(), 3);
+    par_reduce(
+        rt,
+        alloc,
+        list,
+        span,
+        workers,
+        f,
+        sums_of_one(0),
+        join,
+        &Free,
+    )
+}
+
+// The sum of the squares is 285, and 29 in eight bits.
+#[test]
+fn numbers_of_all_types_are_summed_in_pairs(rt: HostRuntime) {
+    let list = list_of(&rt, &SQUARES);
+    for workers in [1, 3].as_slice() {
+        let sums = sums_of(&rt, rt.alloc(), &list, *workers);
+        assert!(rt; sums == Ok(((29, 285), ((285, 285), 285))), "{workers}");
+    }
 }
 
 static ALL: [(u64, Option<u64>); 10] = [

@@ -5,12 +5,14 @@ ghost use Rattle.grow_core.specs.Vector.{IsHandOf};
 
 use super::hands::{Task, append_by, append_to_new};
 use super::lent_writers::{Appends, Meets, write_new};
+use super::writer_calls::{LIMIT, fills};
+use super::writers::shows_below;
 use super::{maps, sum_of};
 use crate::gates::Refusing;
-use grow_core::{Hand, Shared};
+use grow_core::{GrowError, Hand, Shared};
 use quiet_core::Quiet;
-use span_core::{Free, ParError, Refusal, Span, split_even, with_writers};
-use std::alloc::Global;
+use span_core::{BufferedWriter, Free, ParError, Refusal, Span, Writer, split_even, with_writers};
+use std::alloc::{AllocGlobal, Global};
 use std::sync::Wait;
 use std::sync::atomic::Ordering;
 use std::thread::Threads;
@@ -139,6 +141,58 @@ fn both_begin_or_neither<R: Threads + Wait + Sync>(rt: &R, alloc: Global) -> boo
 #[test]
 fn no_worker_waits_for_one_that_cannot_be_started(rt: HostRuntime) {
     assert!(rt; both_begin_or_neither(&rt, rt.alloc()));
+}
+
+// Tests whether each way to append of a writer fills a vector, at the second try if need be.
+fn fills_again<R: AllocGlobal + Wait>(rt: &R) -> Option<bool> {
+    let (vector, hand) = Quiet::new(rt.alloc(), LIMIT).open().ok()?;
+    let mut writer = Writer::new(&vector, hand);
+    Some(fills(rt, &mut writer, true) && shows_below(&vector, LIMIT))
+}
+
+#[test]
+fn each_growth_of_a_writer_is_tried_again(rt: HostRuntime) {
+    assert!(rt; fills_again(&rt) != Some(false));
+}
+
+// Tests whether a value is pushed, at the second try if need be. A refusal leaves the buffer as it was.
+fn pushes_again<R: Wait>(rt: &R, writer: &mut BufferedWriter<'_, u64>, value: u64) -> bool {
+    let len = writer.buffered().len();
+    match writer.push(rt, value) {
+        Ok(_grown) => true,
+        Err((GrowError::NoMemory { .. }, back)) => {
+            writer.buffered().len() == len && back == value && writer.push(rt, back).is_ok()
+        }
+        Err(_refused) => false,
+    }
+}
+
+// Tests whether a value that is buffered is appended, at the second try if need be.
+fn flushes_again<R: Wait>(rt: &R, writer: &mut BufferedWriter<'_, u64>) -> bool {
+    match writer.flush(rt) {
+        Ok(_grown) => writer.buffered().len() == 0,
+        Err(GrowError::NoMemory { .. }) => {
+            writer.buffered().len() == 1 && writer.flush(rt).is_ok() && writer.buffered().len() == 0
+        }
+        Err(_refused) => false,
+    }
+}
+
+// Tests whether five values are appended through a buffer of two.
+fn buffers_again<R: Wait>(rt: &R, alloc: Global) -> Option<bool> {
+    let (vector, hand) = Quiet::new(alloc, 8).open().ok()?;
+    let mut writer = BufferedWriter::new(alloc, Writer::new(&vector, hand), 2);
+    for value in 0..5 {
+        if !pushes_again(rt, &mut writer, value) {
+            return Some(false);
+        }
+    }
+    Some(flushes_again(rt, &mut writer) && shows_below(&vector, 5))
+}
+
+#[test]
+fn buffered_values_are_appended_again(rt: HostRuntime) {
+    assert!(rt; buffers_again(&rt, rt.alloc()) != Some(false));
 }
 
 // Tests whether three hands are split off one with all shares, at the second try if need be. A refusal leaves

@@ -1,7 +1,9 @@
-// Writers that own their vector together, and close it into a list.
+// Writers that own their vector together, append to it, and close it into a list.
 ghost use Rattle.std.specs.Prelude.{◌≡◌};
 
+use super::writers::shows_below;
 use crate::quiet::layout_of;
+use grow_core::{GrowError, Never, Run, Shown};
 use quiet_core::Quiet;
 use seg_core::Layout;
 use span_core::SharedWriter;
@@ -69,4 +71,46 @@ fn a_vector_is_closed_by_its_last_owner_with_all_shares(rt: HostRuntime) {
             "{f}"
         );
     }
+}
+
+// Tests whether each way to append appends numbers at their own places, eight in all.
+fn appends_eight<R: Wait>(
+    rt: &R,
+    writer: &mut SharedWriter<u64>,
+    three: Vec<u64>,
+    next: Vec<u64>,
+) -> bool {
+    let make = |i: u64| -> Result<u64, Never> { Ok(i.wrapping_add(7)) };
+    writer.try_push_back(0).is_ok()
+        && writer.grow_vec(rt, three).is_ok()
+        && writer.append(rt, next).ok() == Some(Run { from: 4, n: 3 })
+        && writer.grow_with(rt, 1, make).is_ok()
+        && writer.size() == 8
+}
+
+// Tests whether a place has its own number, read by its token.
+fn reads(writer: &SharedWriter<u64>, place: u64) -> bool {
+    match writer.look(place) {
+        Shown::Filled(at) => *writer.get(&at.placed) == place,
+        _ => false,
+    }
+}
+
+// Tests whether a vector has room for eight numbers, and shows them.
+fn takes_eight<R: Wait>(rt: &R, alloc: Global) -> Option<bool> {
+    let (vector, hand) = Quiet::new(alloc, 8).open().ok()?;
+    let mut writer = SharedWriter::new(Arc::new(alloc, vector).ok()?, hand);
+    let three = Vec::from_slice(alloc, &[1, 2, 3]).ok()?;
+    let next = Vec::from_slice(alloc, &[4, 5, 6]).ok()?;
+    let is_filled = appends_eight(rt, &mut writer, three, next);
+    let is_full = matches!(
+        writer.push_back(rt, 9),
+        Err(GrowError::Full { size: 8, back: 9 })
+    );
+    Some(is_filled && is_full && reads(&writer, 3) && shows_below(writer.vector(), 8))
+}
+
+#[test]
+fn each_way_to_append_fills_a_shared_vector(rt: HostRuntime) {
+    assert!(rt; takes_eight(&rt, rt.alloc()) == Some(true));
 }

@@ -16,7 +16,7 @@ fn push_below<R: Wait>(rt: &R, writer: &mut Writer<'_, u64>, n: u64) -> bool {
 }
 
 // Tests whether a vector shows the numbers below n, in order.
-fn shows_below(vector: &Shared<u64>, n: u64) -> bool {
+pub(super) fn shows_below(vector: &Shared<u64>, n: u64) -> bool {
     let mut next: u64 = 0;
     for shown in vector.published() {
         if shown.copied() != Some(next) {

@@ -204,7 +204,7 @@ fn counts<R: AllocGlobal + Wait>(rt: &R, two: &mut Callers<u64>) -> Option<[u64;
     let none = two.vector.published_count();
     let is_made = makes_few(two, 200, 130);
     let made = two.vector.published_count();
-    let is_mended = mends(two, 170, 7);
+    let is_mended = mends(two, 170, 7) && two.vector.claimed() == 200;
     let mended = two.vector.published_count();
     let values = numbers(rt.alloc(), 0, 100)?;
     let is_full = two.vector.append(rt, &mut two.a, values).is_ok() && two.vector.claimed() == 300;

@@ -1,0 +1,85 @@
+// Writers with a buffer: that they append what they buffered, and give it back if there is no room.
+use super::writers::shows_below;
+use grow_core::{GrowError, Never};
+use quiet_core::Quiet;
+use span_core::{BufferedWriter, Writer};
+use std::alloc::Global;
+use std::sync::Wait;
+
+// Why buffered values were not appended. `push` and `flush` have the same type of error.
+fn reason(refused: &GrowError<u64, (), Never>) -> &'static str {
+    match refused {
+        GrowError::Full { .. } => "the vector is full",
+        GrowError::NoMemory { .. } => "out of memory",
+        _ => "a place was taken",
+    }
+}
+
+// Appends the numbers below n through a buffer.
+fn push_below<R: Wait>(
+    rt: &R,
+    writer: &mut BufferedWriter<'_, u64>,
+    n: u64,
+) -> Result<(), &'static str> {
+    for number in 0..n {
+        writer
+            .push(rt, number)
+            .map_err(|(refused, _back)| reason(&refused))?;
+    }
+    writer.flush(rt).map_err(|refused| reason(&refused))?;
+    Ok(())
+}
+
+// Tests whether a full vector leaves what is buffered, and gives back a value that finds the buffer full.
+fn gives_back<R: Wait>(rt: &R, writer: &mut BufferedWriter<'_, u64>, bound: u64) -> bool {
+    let is_told = push_below(rt, writer, 1) == Err("the vector is full");
+    for number in 1..bound {
+        if writer.push(rt, number).is_err() {
+            return false;
+        }
+    }
+    let is_back = matches!(writer.push(rt, 7), Err((GrowError::Full { .. }, 7)));
+    is_told && is_back && writer.buffered().iter().copied().eq(0..bound)
+}
+
+// Tests whether n numbers fill a vector through a buffer of this bound, and others stay in the buffer.
+fn fills<R: Wait>(rt: &R, alloc: Global, bound: usize, n: u64) -> Option<bool> {
+    if bound == 0 || n == 0 || n > 1000 {
+        return None;
+    }
+    let (vector, hand) = Quiet::new(alloc, n).open().ok()?;
+    let mut writer = BufferedWriter::new(alloc, Writer::new(&vector, hand), bound);
+    let is_filled = push_below(rt, &mut writer, n) == Ok(()) && shows_below(&vector, n);
+    let is_back = gives_back(rt, &mut writer, bound as u64);
+    let (_writer, left) = writer.into_parts();
+    Some(is_filled && is_back && left.len() == bound && shows_below(&vector, n))
+}
+
+// The bounds of buffers, and how many numbers fill the vector: whole runs, and runs of which the last is shorter.
+static FILLS: [(usize, u64); 5] = [(1, 3), (3, 6), (3, 7), (64, 300), (300, 64)];
+
+#[test]
+fn buffered_numbers_fill_a_vector_to_its_limit(rt: HostRuntime) {
+    for (bound, n) in FILLS.as_slice() {
+        assert!(rt;
+            fills(&rt, rt.alloc(), *bound, *n) == Some(true),
+            "{bound} {n}"
+        );
+    }
+}
+
+// The length of the list that a vector is closed into after a push and a flush.
+fn len_of_closed<R: Wait>(rt: &R, alloc: Global) -> Option<u64> {
+    let (vector, hand) = Quiet::new(alloc, 8).open().ok()?;
+    let mut writer = BufferedWriter::new(alloc, Writer::new(&vector, hand), 2);
+    if writer.push(rt, 5).is_err() || writer.flush(rt).is_err() {
+        return None;
+    }
+    let hand = writer.into_writer().into_hand();
+    Some(Quiet::try_close(vector, hand).ok()?.len())
+}
+
+#[test]
+fn a_vector_is_closed_after_a_flush(rt: HostRuntime) {
+    assert!(rt; len_of_closed(&rt, rt.alloc()) == Some(1));
+}

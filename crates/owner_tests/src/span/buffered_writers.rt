@@ -55,7 +55,7 @@ fn fills<R: Wait>(rt: &R, alloc: Global, bound: usize, n: u64) -> Option<bool> {
     Some(is_filled && is_back && left.len() == bound && shows_below(&vector, n))
 }
 
-// The bounds of buffers, and how many numbers fill the vector: whole runs, and runs of which the last is shorter.
+// The bounds of buffers, and how many numbers fill the vector: whole runs, and runs with a shorter one at the end.
 static FILLS: [(usize, u64); 5] = [(1, 3), (3, 6), (3, 7), (64, 300), (300, 64)];
 
 #[test]

@@ -248,8 +248,7 @@ fn broken_places_are_mended_and_items_appended_up_to_the_limit(rt: HostRuntime) 
     assert!(rt; mends_and_stops(&rt, rt.alloc()) == Some(true));
 }
 
-// Tests whether a writer sees what another one appended by a look at the size, and two that meet see what a third one
-// did.
+// Tests whether a look at the size shows what others appended, and two writers that meet see what a third did.
 fn see_each_other<R: Wait>(
     rt: &R,
     a: &mut Writer<'_, u64>,

@@ -30,11 +30,34 @@ fn push_below<R: Wait>(
     Ok(())
 }
 
+// Pushes a value, or says why it is refused.
+pub(super) fn push_one<R: Wait>(
+    rt: &R,
+    writer: &mut BufferedWriter<'_, u64>,
+    value: u64,
+) -> Result<(), &'static str> {
+    match writer.push(rt, value) {
+        Ok(_appended) => Ok(()),
+        Err((refused, _back)) => Err(reason(&refused)),
+    }
+}
+
+// Appends what is buffered, or says why that is refused.
+pub(super) fn flush_all<R: Wait>(
+    rt: &R,
+    writer: &mut BufferedWriter<'_, u64>,
+) -> Result<(), &'static str> {
+    match writer.flush(rt) {
+        Ok(_appended) => Ok(()),
+        Err(refused) => Err(reason(&refused)),
+    }
+}
+
 // Tests whether a full vector leaves what is buffered, and gives back a value that finds the buffer full.
 fn gives_back<R: Wait>(rt: &R, writer: &mut BufferedWriter<'_, u64>, bound: u64) -> bool {
     let is_told = push_below(rt, writer, 1) == Err("the vector is full");
     for number in 1..bound {
-        if writer.push(rt, number).is_err() {
+        if push_one(rt, writer, number) != Ok(()) {
             return false;
         }
     }

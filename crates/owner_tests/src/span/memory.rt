@@ -3,13 +3,14 @@
 ghost use Rattle.std.specs.Prelude.{◌≡◌};
 ghost use Rattle.grow_core.specs.Vector.{IsHandOf};
 
+use super::buffered_writers::{flush_all, push_one};
 use super::hands::{Task, append_by, append_to_new};
 use super::lent_writers::{Appends, Meets, write_new};
 use super::writer_calls::{LIMIT, fills};
 use super::writers::shows_below;
 use super::{maps, sum_of};
 use crate::gates::Refusing;
-use grow_core::{GrowError, Hand, Shared};
+use grow_core::{Hand, Shared};
 use quiet_core::Quiet;
 use span_core::{BufferedWriter, Free, ParError, Refusal, Span, Writer, split_even, with_writers};
 use std::alloc::{AllocGlobal, Global};
@@ -158,36 +159,36 @@ fn each_growth_of_a_writer_is_tried_again(rt: HostRuntime) {
 // Tests whether a value is pushed, at the second try if need be. A refusal leaves the buffer as it was.
 fn pushes_again<R: Wait>(rt: &R, writer: &mut BufferedWriter<'_, u64>, value: u64) -> bool {
     let len = writer.buffered().len();
-    match writer.push(rt, value) {
-        Ok(_grown) => true,
-        Err((GrowError::NoMemory { .. }, back)) => {
-            writer.buffered().len() == len && back == value && writer.push(rt, back).is_ok()
-        }
-        Err(_refused) => false,
+    let mut pushed = push_one(rt, writer, value);
+    if pushed == Err("out of memory") && writer.buffered().len() == len {
+        pushed = push_one(rt, writer, value);
     }
+    pushed == Ok(())
 }
 
 // Tests whether a value that is buffered is appended, at the second try if need be.
 fn flushes_again<R: Wait>(rt: &R, writer: &mut BufferedWriter<'_, u64>) -> bool {
-    match writer.flush(rt) {
-        Ok(_grown) => writer.buffered().len() == 0,
-        Err(GrowError::NoMemory { .. }) => {
-            writer.buffered().len() == 1 && writer.flush(rt).is_ok() && writer.buffered().len() == 0
-        }
-        Err(_refused) => false,
+    let mut flushed = flush_all(rt, writer);
+    if flushed == Err("out of memory") && writer.buffered().len() == 1 {
+        flushed = flush_all(rt, writer);
     }
+    flushed == Ok(()) && writer.buffered().len() == 0
 }
 
-// Tests whether five values are appended through a buffer of two.
+// Tests whether five values are appended through a buffer.
+fn appends_five_again<R: Wait>(rt: &R, writer: &mut BufferedWriter<'_, u64>) -> bool {
+    for value in 0..5 {
+        if !pushes_again(rt, writer, value) {
+            return false;
+        }
+    }
+    flushes_again(rt, writer)
+}
+
 fn buffers_again<R: Wait>(rt: &R, alloc: Global) -> Option<bool> {
     let (vector, hand) = Quiet::new(alloc, 8).open().ok()?;
     let mut writer = BufferedWriter::new(alloc, Writer::new(&vector, hand), 2);
-    for value in 0..5 {
-        if !pushes_again(rt, &mut writer, value) {
-            return Some(false);
-        }
-    }
-    Some(flushes_again(rt, &mut writer) && shows_below(&vector, 5))
+    Some(appends_five_again(rt, &mut writer) && shows_below(&vector, 5))
 }
 
 #[test]

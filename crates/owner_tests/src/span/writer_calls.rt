@@ -72,6 +72,16 @@ fn appended(appended: Result<Run, GrowError<u64, Vec<u64>, Never>>) -> Outcome {
     outcome
 }
 
+fn reached(reached: Result<AtLeast<u64>, GrowError<u64, (), Never>>) -> Outcome {
+    let outcome = match &reached {
+        Ok(AtLeast::Ran(run)) => Ok(run.run()),
+        Ok(AtLeast::Enough { .. }) => Err(Why::Other),
+        Err(refused) => Err(reason_of(refused)),
+    };
+    drop(reached);
+    outcome
+}
+
 // The numbers from one on, in order.
 fn numbers(alloc: Global, first: u64, n: u64) -> Result<Vec<u64>, AllocError> {
     let mut made = Vec::with_capacity(alloc, n as usize)?;
@@ -102,11 +112,7 @@ fn make<R: Wait>(rt: &R, writer: &mut Writer<'_, u64>, way: &Way, first: u64, n:
     match way {
         Way::TryWith => grown(writer.try_grow_with(n, make)),
         Way::With => grown(writer.grow_with(rt, n, make)),
-        _ => match writer.grow_to_at_least(first.wrapping_add(n), make) {
-            Ok(AtLeast::Ran(run)) => Ok(run.run()),
-            Ok(AtLeast::Enough { .. }) => Err(Why::Other),
-            Err(refused) => Err(reason_of(&refused)),
-        },
+        _ => reached(writer.grow_to_at_least(first.wrapping_add(n), make)),
     }
 }
 
@@ -219,14 +225,26 @@ fn each_way_to_append_fills_a_vector_to_its_limit(rt: HostRuntime) {
     assert!(rt; fills_and_reads(&rt) == Some(true));
 }
 
+// Whether a place was mended, or had a value already and 7 came back.
+fn mended(mended: Result<Placed<u64>, (MendError<u64>, u64)>) -> Option<bool> {
+    let is_new = match &mended {
+        Ok(_placed) => Some(true),
+        Err((MendError::Filled(_), 7)) => Some(false),
+        Err(_refused) => None,
+    };
+    drop(mended);
+    is_new
+}
+
 // Tests whether two broken places are mended, one of them once.
 fn mends_once<R: Wait>(rt: &R, writer: &mut Writer<'_, u64>) -> bool {
     let make = |i: u64| -> Result<u64, u64> { if i == 1 { Err(i) } else { Ok(i) } };
     let is_broken = grown(writer.grow_with(rt, 3, make)) == Err(Why::Other)
         && matches!(writer.look(1), Shown::Broken(_));
-    let is_mended = writer.mend(1, 1).is_ok() && writer.mend(2, 2).is_ok();
-    let is_once = matches!(writer.mend(1, 7), Err((MendError::Filled(_), 7)));
-    is_broken && is_mended && is_once
+    is_broken
+        && mended(writer.mend(1, 1)) == Some(true)
+        && mended(writer.mend(2, 2)) == Some(true)
+        && mended(writer.mend(1, 7)) == Some(false)
 }
 
 // Tests whether an iterator of five numbers stops at the fourth, if there is room for three.
@@ -260,9 +278,9 @@ fn see_each_other<R: Wait>(
     ensures b { b.new.vector ≡ b.old.vector }
     ensures c { c.new.vector ≡ c.old.vector }
 {
-    let is_pushed = b.push_back(rt, 5).is_ok();
+    let is_pushed = placed(b.push_back(rt, 5)).is_ok();
     let is_seen = a.hand().seen() == 0 && a.size() == 1;
-    let is_more = c.push_back(rt, 6).is_ok();
+    let is_more = placed(c.push_back(rt, 6)).is_ok();
     a.meet(b);
     is_pushed && is_seen && is_more && a.hand().seen() == 2 && b.hand().seen() == 2
 }

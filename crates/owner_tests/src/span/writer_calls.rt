@@ -225,7 +225,7 @@ fn each_way_to_append_fills_a_vector_to_its_limit(rt: HostRuntime) {
     assert!(rt; fills_and_reads(&rt) == Some(true));
 }
 
-// Whether a place was mended, or had a value already and 7 came back.
+// Tests whether a place was mended. It is false if the place had a value already, and 7 came back.
 fn mended(mended: Result<Placed<u64>, (MendError<u64>, u64)>) -> Option<bool> {
     let is_new = match &mended {
         Ok(_placed) => Some(true),

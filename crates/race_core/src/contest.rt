@@ -21,7 +21,7 @@ pub const MOST_WORKERS: u32 = 64;
 /// The most values of each worker.
 pub const MOST_EACH: u32 = 100_000;
 
-// Whether there are no workers or no values of each, or too many.
+// Tells numbers of workers and values that are zero, or above the most.
 fn is_bad_size(workers: u32, each: u32) -> bool
     ensures bad { (result ≡ true) ↔ IsBadSize workers each }
     ensures within { result ≡ false → (0 < workers * each) × (workers * each ≤ 6400000) }

@@ -448,7 +448,7 @@ fn add_times(text: &mut Vec<u8>, added: &[u8], times: u32) -> Result<(), AllocEr
     Ok(())
 }
 
-// A script of a thousand calls, each of which ends at its only step.
+// A script of a thousand calls that take one step each.
 fn many_calls(alloc: Global) -> Result<Vec<u8>, AllocError> {
     let mut script = Vec::new(alloc);
     script.extend_from_slice(b"limit 8\nactor a size")?;

@@ -23,8 +23,8 @@ fn next(random: u64) -> u64 {
         .wrapping_add(1_442_695_040_888_963_407)
 }
 
-// How often a load walks over its places. A single walk is over in some milliseconds, in which the start of its threads
-// counts.
+// How often a load walks over its places. A single walk takes some milliseconds, so the start of its threads would
+// count.
 const ROUNDS: u64 = 16;
 
 // How far a number of the sequence is moved: the places below the greatest power of two that the size has are left.

@@ -52,7 +52,8 @@ fault_meaning faults.NoMemory = codes "out of memory"
 fault_meaning (faults.Empty line) = codes "there are no bytes"
 fault_meaning (faults.BadLimit line) = codes "the limit is not a number, or not from 1 to 65,536"
 fault_meaning (faults.BadLine line) = codes "a line is of no kind that is allowed at its position"
-fault_meaning (faults.BadName line) = codes "a name is not one letter from a to z, or an item names no actor of the script"
+fault_meaning (faults.BadName line) =
+    codes "a name is not one letter from a to z, or an item names no actor of the script"
 fault_meaning (faults.TwiceNamed line) = codes "an earlier actor has the name"
 fault_meaning (faults.BadCommand line) =
     codes "a command is unknown, has the wrong number of words, or has an argument that it cannot have"

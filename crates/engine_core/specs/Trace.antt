@@ -128,7 +128,8 @@ size_column size = codes "size " ++ decimal size ++ codes "\n"
 -- the line of an item with this number
 abbrev pub trace_line : List ℕ → ℕ → TracedItem → List ℕ
 trace_line names number item =
-    column number_width (decimal number) ++ item_columns (slice_index names item.actor) item.step ++ size_column item.size
+    column number_width (decimal number) ++ item_columns (slice_index names item.actor) item.step
+    ++ size_column item.size
 
 -- the lines of items, numbered from a number on
 abbrev pub trace_lines : List ℕ → ℕ → List TracedItem → List ℕ

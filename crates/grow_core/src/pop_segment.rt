@@ -37,8 +37,8 @@ fn pop_values<T: Drop>(
 }
 
 impl<T: Drop> Parts<T> {
-    // Moves out the members of the last segment, last one first, to the end of a list that has room for them, and frees the
-    // segment.
+    // Moves out the members of the last segment, last one first, to the end of a list that has room for them, and
+    // frees the segment.
     fn pop_segment(&mut self, values: &mut Vec<T>)
         requires some { 0 < length self.old.members }
         requires last { (k : ℕ) → k < self.old.segments
@@ -66,8 +66,8 @@ impl<T: Drop> Parts<T> {
         self.len -= n;
     }
 
-    /// Moves all members out, in order, into a list of their values, and frees the segments. None of them may be broken. It
-    /// asks for memory once, and gives the parts back if there is none.
+    /// Moves all members out, in order, into a list of their values, and frees the segments. None of them may be broken.
+    /// It asks for memory once, and gives the parts back if there is none.
     pub fn into_values(self) -> Result<Vec<T>, Parts<T>>
         requires unbroken { IsUnbroken self.members }
         ensures values { IfOk result (λ values. map Some values.items ≡ self.members) }

@@ -10,7 +10,8 @@ impl<T> Quiet<T> {
     /// Returns the place of the first broken member, if there is one. It looks at the state of each member before it,
     /// and at none if no member is broken.
     pub fn first_broken(&self) -> Option<u64>
-        ensures { MatchOption result (IsUnbroken self.now.members) (IsFirstBroken self.now.members) }
+        ensures { MatchOption result (IsUnbroken self.now.members)
+            (IsFirstBroken self.now.members) }
     {
         if self.parts.is_unbroken() {
             return None;

@@ -82,8 +82,8 @@ pub(crate) fn break_to<T: Drop>(parts: &mut Parts<T>, n: u64)
     }
 }
 
-// Moves a value from one place to another that is not after it, and returns the place after that one. A broken member is
-// not moved.
+// Moves a value from one place to another that is not after it, and returns the place after that one. A broken member
+// is not moved.
 fn move_down<T: Drop>(parts: &mut Parts<T>, from: u64, to: u64) -> u64
     requires order { to ≤ from }
     requires within { from < length parts.old.members }

@@ -64,6 +64,7 @@ impl<'a, T> Cursor<'a, T> {
     pub fn distance(&self, other: &Cursor<'_, T>) -> i64
         ensures { pos self.now.place +ℤ result ≡ pos other.now.place }
     {
+        // For the proof: no list is longer than an `i64` says.
         let _both = (self.list.len(), other.list.len());
         other.place as i64 - self.place as i64
     }

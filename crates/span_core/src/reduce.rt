@@ -28,6 +28,7 @@ impl Domain for u64 {
     ghost is_in = { λ n. n < 2 ^ 64 };
 
     fn tell(&self) {
+        // For the proof: a value that is read is in its type's range.
         let _value = *self;
     }
 }
@@ -36,6 +37,7 @@ impl Domain for u8 {
     ghost is_in = { λ n. n < 2 ^ 8 };
 
     fn tell(&self) {
+        // For the proof: a value that is read is in its type's range.
         let _value = *self;
     }
 }
@@ -44,6 +46,7 @@ impl Domain for u16 {
     ghost is_in = { λ n. n < 2 ^ 16 };
 
     fn tell(&self) {
+        // For the proof: a value that is read is in its type's range.
         let _value = *self;
     }
 }
@@ -52,6 +55,7 @@ impl Domain for u32 {
     ghost is_in = { λ n. n < 2 ^ 32 };
 
     fn tell(&self) {
+        // For the proof: a value that is read is in its type's range.
         let _value = *self;
     }
 }
@@ -60,6 +64,7 @@ impl Domain for u128 {
     ghost is_in = { λ n. n < 2 ^ 128 };
 
     fn tell(&self) {
+        // For the proof: a value that is read is in its type's range.
         let _value = *self;
     }
 }
@@ -68,6 +73,7 @@ impl Domain for usize {
     ghost is_in = { λ n. n < 2 ^ 64 };
 
     fn tell(&self) {
+        // For the proof: a value that is read is in its type's range.
         let _value = *self;
     }
 }

@@ -139,9 +139,9 @@ impl<'a, T, A, F: Fn(WorkerCells<'_, T>) -> A> Job<A> for SegmentWorkers<'a, T, 
 /// Lets a number of workers walk over what a shared vector shows, all except the first in a thread of their own, and
 /// returns their results in order.
 ///
-/// One load finds the size; the places below it are divided into stretches of 4,096, and stretch i is the work of worker
-/// i mod the number of workers. Each worker looks at its places when it asks for them, so what others publish meanwhile
-/// may be shown. It takes memory for the results.
+/// One load finds the size; the places below it are divided into stretches of 4,096, and stretch i is the work of
+/// worker i mod the number of workers. Each worker looks at its places when it asks for them, so what others publish
+/// meanwhile may be shown. It takes memory for the results.
 pub fn par_for_segments<
     R: Threads + Wait + Sync,
     T: Send + Sync,
@@ -157,7 +157,8 @@ pub fn par_for_segments<
     gate: &G,
 ) -> Result<Vec<A>, ParError>
     requires callable { (w : WorkerCellsView T) → w.vector ≡ vector.now → F.pre work.now w }
-    ensures answers { IfOk result (λ answers. AreOfSegments (F.post work.now) vector.now workers answers.items) }
+    ensures answers { IfOk result (λ answers.
+        AreOfSegments (F.post work.now) vector.now workers answers.items) }
     // The number is looked at before anything is started.
     ensures bad_workers { IsErrOf result ParError.BadWorkers ↔ IsBadNumber workers }
     ensures stuck { IsErrOf result ParError.Stuck → MayRefuseOne (G.may_refuse gate.now) 0 workers }

@@ -128,7 +128,8 @@ impl<'a, T, B: Tie> Writer<'a, T, B> {
     /// looks once at the place.
     #[inline(always)]
     pub fn at(&mut self, place: u64, known: Option<&Placed<T>>) -> Result<At<'a, T>, AtError>
-        requires known { IfSome known (λ p. IsPlacedOf self.old.vector p.now × (p.now.place ≡ place)) }
+        requires known { IfSome known (λ p.
+            IsPlacedOf self.old.vector p.now × (p.now.place ≡ place)) }
         ensures at { IfOk result (IsAt self.old.vector place) }
         // Without a token it is a place that the hand has then seen.
         ensures below { known.entry ≡ None → IfOk result (λ _. place < seen_size self.new.hand) }

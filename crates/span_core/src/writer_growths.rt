@@ -229,7 +229,8 @@ impl<'a, T, B: Tie> Writer<'a, T, B> {
         ensures opened { (x : T) → IsOpenedAt self.old.vector place x
             → IsErrAnd result (λ (error, _). TellsValue x error) }
         // A place that was claimed stays claimed.
-        ensures in_range { place < seen_size self.old.hand → IfErr result (λ (error, _). IsSeen error) }
+        ensures in_range { place < seen_size self.old.hand
+            → IfErr result (λ (error, _). IsSeen error) }
         ensures hand { SeesMore self.old.hand self.new.hand }
         ensures vector { self.new.vector ≡ self.old.vector }
     {

@@ -42,7 +42,8 @@ fn come_forwards(list: &Quiet<u64>) -> bool {
     place == LEN
 }
 
-// Ranges that begin and end in the middle of a segment, at a broken member, at the end, past it, and before their beginning.
+// Ranges that begin and end in the middle of a segment, at a broken member, at the end, past it, and before their
+// beginning.
 static RANGES: [(u64, u64); 6] = [
     (1_000, 70_000),
     (40_000, 40_001),

@@ -1,4 +1,4 @@
-//! Tests of `claim_core`, `cell_core` and `table_core`, a module each.
+//! Tests of `claim_core`, `cell_core`, `table_core` and `opaque_core`, a module each.
 //!
 //! A crate with tests is proved once without and once with them. Here only a few lines are proved twice.
 #![tactic(auto)]
@@ -7,5 +7,7 @@
 mod cell;
 #[cfg(test)]
 mod claim;
+#[cfg(test)]
+mod opaque;
 #[cfg(test)]
 mod table;

@@ -17,3 +17,4 @@ pub mod Sides
 pub mod Broken
 pub mod PopSegment
 pub mod Counted
+pub mod Copying

@@ -18,3 +18,4 @@ pub mod Broken
 pub mod PopSegment
 pub mod Counted
 pub mod Copying
+pub mod Breaking

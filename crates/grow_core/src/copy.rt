@@ -189,12 +189,7 @@ impl<T: Drop> Shared<T> {
 
 // Writes the `n` values of the source from this number on into the cells of the run, and publishes them by one step.
 #[inline(always)]
-fn publish_from<T: Drop, S: Source<T>>(
-    pen: RunPen<'_, T>,
-    n: u64,
-    first: u64,
-    source: &S,
-) -> Row<T>
+fn publish_from<T: Drop, S: Source<T>>(pen: RunPen<'_, T>, n: u64, first: u64, source: &S) -> Row<T>
     requires cells { length pen.cells ≡ n }
     requires unwritten { pen.values ≡ [] }
     requires enough { first + n ≤ length (S.values source.now) }

@@ -23,6 +23,7 @@
 
 mod begun;
 mod blocks;
+mod break_run;
 mod claim;
 mod close;
 mod copy;
@@ -44,6 +45,7 @@ mod published;
 mod push;
 mod read;
 mod recall;
+mod reserve;
 mod settle_cells;
 mod shown_cells;
 mod sizes;
@@ -55,7 +57,7 @@ mod token;
 mod vector;
 
 pub use claim_core::{OpenError, Run, laws};
-pub use errors::{AtError, GrowError, MendError, Never};
+pub use errors::{AtError, GrowError, MendError, Never, ReserveError};
 pub use grow_to_at_least::AtLeast;
 pub use grown::Grown;
 pub use hand::Hand;

@@ -1,6 +1,7 @@
 mod asked;
 mod callers;
 mod calls;
+mod copies;
 mod drops;
 mod edits;
 mod first;

@@ -56,8 +56,8 @@ impl<T: Drop> Shared<T> {
         ensures logs { IfOk result (λ placed. LogsRun hand.old hand.new (single placed.place)) }
         ensures logs_refusal { IfErr result (LogsRefusal 1 hand.old hand.new) }
     {
-        let from = hand.seen();
-        self.push_at(hand, from, value)
+        let seen = hand.seen();
+        self.push_at(hand, seen, value)
     }
 
     // One try to append a value at the size that the hand has seen. All that it reads of the segment it reads

@@ -23,6 +23,7 @@ mod shown;
 mod slices;
 mod steps;
 mod tokens;
+mod tries;
 mod uses;
 mod ways;
 

@@ -1,6 +1,7 @@
 mod asked;
 mod callers;
 mod calls;
+mod copies;
 mod drops;
 mod edits;
 mod first;
@@ -22,6 +23,7 @@ mod shown;
 mod slices;
 mod steps;
 mod tokens;
+mod tries;
 mod uses;
 mod ways;
 

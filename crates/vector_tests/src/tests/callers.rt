@@ -91,6 +91,16 @@ impl<T: Drop> Callers<T> {
         place_of(self.vector.try_push_back(&mut self.b, value))
     }
 
+    // The same by a push that begins at what the hand has seen, or by a second one if the size had moved.
+    pub(super) fn push_seen(&mut self, value: T) -> Option<u64> {
+        match self.vector.try_push_seen(&mut self.a, value) {
+            Err(GrowError::Moved { size: _, back }) => {
+                place_of(self.vector.try_push_seen(&mut self.a, back))
+            }
+            other => place_of(other),
+        }
+    }
+
     // The same by a push that tries again.
     pub(super) fn push_waiting<R: Wait>(&mut self, rt: &R, value: T) -> Option<u64> {
         place_of(self.vector.push_back(rt, &mut self.a, value))

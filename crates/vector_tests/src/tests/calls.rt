@@ -30,6 +30,13 @@ pub(super) enum Call {
     Make(Form, u64, u64),
     // A number of clones of a value.
     Clones(u64, u64),
+    // A push that begins at what the hand has seen.
+    PushSeen(u64),
+    // Copies of these values, or a number of copies of one value.
+    Copy(Form, &'static [u64]),
+    Copies(Form, u64, u64),
+    // A number of places that are broken on purpose.
+    Break(Form, u64),
     // A place gets a value if it is broken.
     Mend(u64, u64),
     Read(u64),
@@ -52,7 +59,7 @@ pub(super) enum Reply {
     Enough(u64),
     Full(u64),
     OutOfRange(u64),
-    // A try of a maker's growth lost its exchange.
+    // A try lost its exchange.
     Moved,
     // A size, a share or a value.
     Is(u64),
@@ -87,6 +94,10 @@ pub(super) fn by_hand<R: AllocGlobal + Wait>(
         }
         Call::Make(form, n, refused) => make_sevens(rt, vector, hand, form, n, refused),
         Call::Clones(n, value) => cloned(vector.grow_by(rt, hand, n, &value)),
+        Call::PushSeen(value) => placed(vector.try_push_seen(hand, value), value),
+        Call::Copy(form, values) => copy(rt, vector, hand, form, values),
+        Call::Copies(form, n, value) => copy_one(rt, vector, hand, form, n, value),
+        Call::Break(form, n) => break_places(rt, vector, hand, form, n),
         Call::Mend(place, value) => mend(vector, hand, place, value),
         Call::Read(place) => read(vector, hand, place),
         Call::Size => Reply::Is(vector.size(hand)),
@@ -113,9 +124,85 @@ fn placed(pushed: Result<Placed<u64>, GrowError<u64, u64, Never>>, value: u64) -
     let reply = match &pushed {
         Ok(placed) => Reply::At(placed.place()),
         Err(GrowError::Full { size, back }) if *back == value => Reply::Full(*size),
+        Err(GrowError::Moved { size: _, back }) if *back == value => Reply::Moved,
         Err(_refused) => Reply::Other,
     };
     drop(pushed);
+    reply
+}
+
+// A growth by copies of the values of a slice.
+fn copy<R: Wait>(
+    rt: &R,
+    vector: &Shared<u64>,
+    hand: &mut Hand<u64>,
+    form: Form,
+    values: &[u64],
+) -> Reply
+    requires ours { IsHandOf vector.now hand.old }
+    ensures of { hand.new.of ≡ hand.old.of }
+{
+    match form {
+        Form::Again => copied(vector.grow_from(rt, hand, values)),
+        _ => copied(vector.try_grow_from(hand, values)),
+    }
+}
+
+// A growth by copies of one value.
+fn copy_one<R: Wait>(
+    rt: &R,
+    vector: &Shared<u64>,
+    hand: &mut Hand<u64>,
+    form: Form,
+    n: u64,
+    value: u64,
+) -> Reply
+    requires ours { IsHandOf vector.now hand.old }
+    ensures of { hand.new.of ≡ hand.old.of }
+{
+    match form {
+        Form::Again => copied(vector.grow_copies(rt, hand, n, value)),
+        _ => copied(vector.try_grow_copies(hand, n, value)),
+    }
+}
+
+fn copied(grown: Result<Grown<u64>, GrowError<u64, (), Never>>) -> Reply {
+    let reply = match &grown {
+        Ok(grown) => ran(grown),
+        Err(refused) => not_copied(refused),
+    };
+    drop(grown);
+    reply
+}
+
+fn not_copied(refused: &GrowError<u64, (), Never>) -> Reply {
+    match refused {
+        GrowError::Full { size, .. } => Reply::Full(*size),
+        GrowError::Moved { .. } => Reply::Moved,
+        _other => Reply::Other,
+    }
+}
+
+// A growth whose places are broken on purpose.
+fn break_places<R: Wait>(
+    rt: &R,
+    vector: &Shared<u64>,
+    hand: &mut Hand<u64>,
+    form: Form,
+    n: u64,
+) -> Reply
+    requires ours { IsHandOf vector.now hand.old }
+    ensures of { hand.new.of ≡ hand.old.of }
+{
+    let broken = match form {
+        Form::Again => vector.break_run(rt, hand, n),
+        _ => vector.try_break_run(hand, n),
+    };
+    let reply = match &broken {
+        Ok(run) => Reply::Ran(run.from, run.n),
+        Err(refused) => not_copied(refused),
+    };
+    drop(broken);
     reply
 }
 

@@ -6,18 +6,18 @@ use super::edits::Edit::{Append, Cut, Get, Members, Pop, Replace};
 use super::edits::Found::{Done, Member, Sizes};
 use super::edits::{Edit, Found, ends_as};
 use super::refusals::fresh_again;
-use super::steps::Call::{Make, Mend};
-use super::steps::Reply::{At, Refused};
-use super::steps::Step::{A, B};
+use super::steps::Call::{Break, Copies, Copy, Make, Mend, PushSeen};
+use super::steps::Reply::{At, Ran, Refused};
+use super::steps::Step::{A, B, Walk};
 use super::steps::{Form, Reply, Step};
 use super::ways::{NO_MEMORY, OTHER, Way, append_again, look_at};
-use grow_core::{GrowError, Run, Shared, Shown};
+use grow_core::{GrowError, ReserveError, Run, Shared, Shown};
 use std::alloc::{AllocError, AllocGlobal};
 use std::process::Abort;
 use std::sync::Wait;
 
 // Each growth, the first value that it appends, and how often its maker is asked.
-static GROWTHS: [(Way, u64, u64); 8] = [
+static GROWTHS: [(Way, u64, u64); 12] = [
     (Way::TryVec, 0, 0),
     (Way::Vec, 0, 0),
     (Way::Append, 0, 0),
@@ -26,6 +26,10 @@ static GROWTHS: [(Way, u64, u64); 8] = [
     (Way::TryBy, 2, 0),
     (Way::By, 2, 0),
     (Way::UpTo, 0, 3),
+    (Way::TryFrom, 0, 0),
+    (Way::From, 0, 0),
+    (Way::TryCopies, 2, 0),
+    (Way::Copies, 2, 0),
 ];
 
 // Tests whether two runs are appended. Each wants a segment that is not there yet.
@@ -187,4 +191,41 @@ fn a_mend_a_close_and_changes_of_a_list_take_no_memory(rt: HostRuntime) {
     let mut two = fresh_again(&rt, 8);
     let is_mended = breaks_and_mends(&rt, &mut two);
     assert!(rt; ends_as(two.close(), &CHANGES) && is_mended);
+}
+
+// Room for the first n places, by a second call if memory was refused to the first, which changed nothing that is seen.
+fn reserve_again(two: &mut Callers<u64>, n: u64) -> bool {
+    match two.vector.reserve(&mut two.a, n) {
+        Ok(()) => true,
+        Err(ReserveError::NoMemory) => two.size_b() == 0
+            && two.vector.reserve(&mut two.a, n) == Ok(()),
+        Err(ReserveError::TooLong) => false,
+    }
+}
+
+// The growths of both hands after it, up to the limit.
+static IN_ROOM: [(Step, Reply); 5] = [
+    (A(PushSeen(5)), At(0)),
+    (B(Copy(Form::Try, &[6, 7, 8])), Ran(1, 3)),
+    (A(Copies(Form::Again, 2, 9)), Ran(4, 2)),
+    (B(Break(Form::Try, 2)), Ran(6, 2)),
+    (Walk(&[5, 6, 7, 8, 9, 9, 0, 0]), Reply::Done),
+];
+
+// Tests whether they are, and whether more room than the limit is refused without a request for memory.
+fn grows_in_room<R: AllocGlobal + Wait>(rt: &R, two: &mut Callers<u64>) -> bool {
+    reserve_again(two, 8)
+        && two.vector.reserve(&mut two.b, 8) == Ok(())
+        && two.vector.reserve(&mut two.b, 9) == Err(ReserveError::TooLong)
+        && two.first_wrong(rt, &IN_ROOM) == None
+}
+
+// The count of the requests shows that growths in reserved room take no memory: the vector's, and those of three
+// segments.
+#[test]
+fn growths_in_reserved_room_take_no_memory(rt: HostRuntime) {
+    let mut two = fresh_again(&rt, 8);
+    let grows = grows_in_room(&rt, &mut two);
+    drop(two);
+    assert!(rt; grows);
 }

@@ -124,6 +124,36 @@ fn a_stretch_of_filled_places_ends_at_a_broken_one(rt: HostRuntime) {
     );
 }
 
+// A place, how many places a run from there shows, and the sum of their values.
+static RUNS: [(u64, usize, u64); 8] = [
+    (0, 2, 1),
+    (1, 1, 1),
+    (17, 15, 360),
+    (64, 39, 5937),
+    (102, 1, 1002),
+    (103, 0, 0),
+    (1000, 0, 0),
+    (u64::MAX, 0, 0),
+];
+
+fn runs_are_shown(vector: &Shared<u64>) -> bool {
+    for (place, n, wanted) in RUNS.as_slice() {
+        let run = vector.shown_run(*place);
+        if run.len() != *n || sum(run) != *wanted {
+            return false;
+        }
+    }
+    true
+}
+
+#[test]
+fn a_shown_run_ends_with_its_segment_or_before_a_place_without_a_value(rt: HostRuntime) {
+    let mut two = Callers::new(&rt, 1000);
+    assert!(rt;
+        appends(&rt, &mut two, 100) && makes_few(&mut two, 43, 3) && runs_are_shown(&two.vector)
+    );
+}
+
 // A list of twenty members. The tenth is broken, and each other one is its place.
 fn twenty(alloc: Global) -> Option<Parts<u64>> {
     let mut parts = Parts::new(alloc, 100);

@@ -9,10 +9,11 @@ use std::alloc::AllocGlobal;
 use std::sync::Wait;
 
 // A way to append, once or until it is won: single values, values that are moved in, with or without
-// tokens, values that are made, clones, and values up to a size.
+// tokens, values that are made, clones, values up to a size, copies of a slice, and copies of a value.
 #[derive(Debug)]
 pub(super) enum Way {
     TryPush,
+    PushSeen,
     Push,
     TryVec,
     Vec,
@@ -22,6 +23,10 @@ pub(super) enum Way {
     TryBy,
     By,
     UpTo,
+    TryFrom,
+    From,
+    TryCopies,
+    Copies,
 }
 
 // The value at a place, by a look.
@@ -47,8 +52,7 @@ fn are_in_order(vector: &Shared<u64>, n: u64, first: u64, step: u64) -> bool {
     look_at(vector, n.wrapping_add(1)) == None
 }
 
-// Tests whether n values after the first come to their places, in order: the numbers of the places, or clones
-// of 7.
+// Tests whether n values after the first come to their places, in order: the numbers of the places, or sevens.
 fn appends_in_order<R: AllocGlobal + Wait>(
     rt: &R,
     two: &mut Callers<u64>,
@@ -56,7 +60,7 @@ fn appends_in_order<R: AllocGlobal + Wait>(
     n: u64,
 ) -> bool {
     let (first, step) = match way {
-        Way::TryBy | Way::By => (7, 0),
+        Way::TryBy | Way::By | Way::TryCopies | Way::Copies => (7, 0),
         _ => (1, 1),
     };
     let run = Run { from: 1, n };
@@ -81,8 +85,9 @@ fn appends_in<R: AllocGlobal + Wait>(rt: &R, f: u32, way: &Way, n: u64) -> bool 
     is_so
 }
 
-static WAYS: [Way; 10] = [
+static WAYS: [Way; 15] = [
     Way::TryPush,
+    Way::PushSeen,
     Way::Push,
     Way::TryVec,
     Way::Vec,
@@ -92,6 +97,10 @@ static WAYS: [Way; 10] = [
     Way::TryBy,
     Way::By,
     Way::UpTo,
+    Way::TryFrom,
+    Way::From,
+    Way::TryCopies,
+    Way::Copies,
 ];
 
 // The layouts that are tried: their segments begin with 2, 8 and 256 places. The places from 1 on reach into

@@ -115,6 +115,7 @@ fn push<R: Wait>(rt: &R, two: &mut Callers<u64>, way: &Way, run: Run, first: u64
         let value = first.wrapping_add(i);
         let place = match way {
             Way::TryPush => two.push_a(value),
+            Way::PushSeen => two.push_seen(value),
             _ => two.push_waiting(rt, value),
         };
         if place != Some(run.from.wrapping_add(i)) {
@@ -124,7 +125,7 @@ fn push<R: Wait>(rt: &R, two: &mut Callers<u64>, way: &Way, run: Run, first: u64
     Ok(run)
 }
 
-// Appends values that are moved in.
+// Appends values that are moved in, or copies of them.
 fn move_in<R: Wait>(
     rt: &R,
     two: &mut Callers<u64>,
@@ -136,6 +137,7 @@ fn move_in<R: Wait>(
     let grown = match way {
         Way::TryVec => two.vector.try_grow_vec(&mut two.a, values),
         Way::Vec => two.vector.grow_vec(rt, &mut two.a, values),
+        Way::TryFrom | Way::From => return copy(rt, two, way, first, &values),
         _ => return appended(two.vector.append(rt, &mut two.a, values), first, n),
     };
     moved(&two.vector, grown, first, n)
@@ -167,6 +169,24 @@ fn make<R: Wait>(
     made(&two.vector, grown, first, 1)
 }
 
+// Appends copies of the values.
+fn copy<R: Wait>(rt: &R, two: &mut Callers<u64>, way: &Way, first: u64, values: &[u64]) -> Outcome {
+    let grown = match way {
+        Way::TryFrom => two.vector.try_grow_from(&mut two.a, values),
+        _ => two.vector.grow_from(rt, &mut two.a, values),
+    };
+    made(&two.vector, grown, first, 1)
+}
+
+// Appends copies of one value.
+fn copy_one<R: Wait>(rt: &R, two: &mut Callers<u64>, way: &Way, n: u64, value: u64) -> Outcome {
+    let grown = match way {
+        Way::TryCopies => two.vector.try_grow_copies(&mut two.a, n, value),
+        _ => two.vector.grow_copies(rt, &mut two.a, n, value),
+    };
+    made(&two.vector, grown, value, 0)
+}
+
 // Appends clones.
 fn clone<R: Wait>(rt: &R, two: &mut Callers<u64>, way: &Way, n: u64, value: u64) -> Outcome {
     let grown = match way {
@@ -177,7 +197,7 @@ fn clone<R: Wait>(rt: &R, two: &mut Callers<u64>, way: &Way, n: u64, value: u64)
 }
 
 // Appends this run by any way, and returns the outcome and how often a maker was asked. The values are the
-// numbers from the first on, or clones of the first. A `Vec` of them is asked for again if memory was refused
+// numbers from the first on, or clones or copies of the first. A `Vec` of them is asked for again if memory was refused
 // to it.
 pub(crate) fn append<R: AllocGlobal + Wait>(
     rt: &R,
@@ -188,8 +208,8 @@ pub(crate) fn append<R: AllocGlobal + Wait>(
 ) -> (Outcome, u64) {
     let mut asked = 0u64;
     let outcome = match way {
-        Way::TryPush | Way::Push => push(rt, two, way, run, first),
-        Way::TryVec | Way::Vec | Way::Append => {
+        Way::TryPush | Way::PushSeen | Way::Push => push(rt, two, way, run, first),
+        Way::TryVec | Way::Vec | Way::Append | Way::TryFrom | Way::From => {
             let values = numbers(rt.alloc(), first, run.n);
             match values.or_else(|| numbers(rt.alloc(), first, run.n)) {
                 Some(values) => move_in(rt, two, way, first, values),
@@ -197,6 +217,7 @@ pub(crate) fn append<R: AllocGlobal + Wait>(
             }
         }
         Way::TryBy | Way::By => clone(rt, two, way, run.n, first),
+        Way::TryCopies | Way::Copies => copy_one(rt, two, way, run.n, first),
         _ => make(rt, two, way, run, first, &mut asked),
     };
     (outcome, asked)

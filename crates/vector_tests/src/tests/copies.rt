@@ -1,0 +1,64 @@
+// Pushes that begin at what their hand has seen, copies, and places that are broken on purpose.
+use super::edits::Edit::Members;
+use super::edits::Found::Done;
+use super::steps::Call::{Break, Copies, Copy, Mend, PushSeen, Seen, Size, TryPush};
+use super::steps::Reply::{At, Broken, Full, Is, Moved, Ran};
+use super::steps::Step::{A, B, Look, Walk};
+use super::steps::{Form, Reply, Step, ends_after, first_wrong};
+
+// The second hand has not seen the first two pushes: it learns the size, and wins at its next try.
+static SEEN: [(Step, Reply); 10] = [
+    (A(PushSeen(5)), At(0)),
+    (A(PushSeen(6)), At(1)),
+    (B(PushSeen(7)), Moved),
+    (B(Seen), Is(2)),
+    (B(PushSeen(7)), At(2)),
+    (A(TryPush(8)), At(3)),
+    // By the exchange, and then by a load.
+    (B(PushSeen(9)), Full(4)),
+    (B(Seen), Is(4)),
+    (B(PushSeen(9)), Full(4)),
+    (Walk(&[5, 6, 7, 8]), Reply::Done),
+];
+
+#[test]
+fn a_push_at_a_size_that_has_moved_gives_its_value_back(rt: HostRuntime) {
+    assert_eq!(rt; first_wrong(&rt, 4, &SEEN), None);
+}
+
+// Copies of values and of a value, none of either, and too many.
+static COPIES: [(Step, Reply); 9] = [
+    (A(Copy(Form::Try, &[5, 6, 7])), Ran(0, 3)),
+    (B(Copies(Form::Try, 2, 9)), Ran(3, 2)),
+    (A(Copy(Form::Again, &[])), Ran(5, 0)),
+    (B(Copies(Form::Try, 0, 9)), Ran(5, 0)),
+    (A(Copy(Form::Try, &[1, 2, 3, 4])), Full(5)),
+    (B(Copy(Form::Again, &[1, 2, 3, 4])), Full(5)),
+    (A(Copies(Form::Again, 4, 1)), Full(5)),
+    (B(Size), Is(5)),
+    (Walk(&[5, 6, 7, 9, 9]), Reply::Done),
+];
+
+#[test]
+fn copies_fill_the_next_places_or_claim_nothing(rt: HostRuntime) {
+    assert_eq!(rt; first_wrong(&rt, 7, &COPIES), None);
+}
+
+// Two runs are broken on purpose, and one of their places is mended.
+static BREAKS: [(Step, Reply); 9] = [
+    (A(TryPush(5)), At(0)),
+    (A(Break(Form::Try, 3)), Ran(1, 3)),
+    (B(Break(Form::Again, 2)), Ran(4, 2)),
+    (B(Break(Form::Try, 0)), Ran(6, 0)),
+    (A(Break(Form::Try, 3)), Full(6)),
+    (Look(1), Broken),
+    (B(Mend(3, 8)), At(3)),
+    (A(Copy(Form::Try, &[9])), Ran(6, 1)),
+    (Walk(&[5, 0, 0, 8, 0, 0, 9]), Reply::Done),
+];
+
+#[test]
+fn the_closed_list_has_the_places_that_were_broken_on_purpose(rt: HostRuntime) {
+    let members = Members(&[Some(5), None, None, Some(8), None, None, Some(9)]);
+    assert!(rt; ends_after(&rt, 8, &BREAKS, &[(members, Done)]));
+}

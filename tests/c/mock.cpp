@@ -16,6 +16,8 @@ namespace {
 enum State : uint8_t { EMPTY, BUSY, FILLED, BROKEN };
 
 std::atomic<int64_t> refused{-1}, moved{0}, blocks{0}, handles{0};
+std::atomic<void (*)(void *)> between{nullptr};
+std::atomic<void *> argument{nullptr};
 
 // A block of memory, or null if this request is the one to refuse.
 void *take(size_t bytes) {
@@ -171,6 +173,9 @@ kehldora_status claim(Hand *hand, uint64_t count, uint64_t *place) {
     if (left <= 0 && vector->size.compare_exchange_strong(size, size + count, std::memory_order_acq_rel)) {
       hand->seen = size + count;
       *place = size;
+      if (between.load(std::memory_order_relaxed))
+        if (void (*const call)(void *) = between.exchange(nullptr))
+          call(argument);
       return KEHLDORA_DONE;
     }
     see(hand);
@@ -196,6 +201,10 @@ extern "C" {
 
 void kehldora_mock_refuse(int64_t count) { refused = count; }
 void kehldora_mock_move(int64_t count) { moved = count; }
+void kehldora_mock_between(void (*call)(void *), void *it) {
+  argument = it;
+  between = call;
+}
 int64_t kehldora_mock_blocks(void) { return blocks; }
 int64_t kehldora_mock_handles(void) { return handles; }
 

@@ -14,6 +14,9 @@ void kehldora_mock_refuse(int64_t count);
 /* The next `count` attempts of a growth find that another thread came first. */
 void kehldora_mock_move(int64_t count);
 
+/* The next growth does this call once it has claimed its places, and fills them afterwards. */
+void kehldora_mock_between(void (*call)(void *), void *argument);
+
 /* How many blocks of memory are held. */
 int64_t kehldora_mock_blocks(void);
 

@@ -1,0 +1,240 @@
+// Eight threads grow vectors in all ways, a hundred times over; threads that come and go; vectors and threads that end late.
+#include "check.h"
+#include "mock.h"
+
+#include <kehldora.hpp>
+
+#include <atomic>
+#include <memory>
+#include <numeric>
+#include <string>
+#include <thread>
+#include <vector>
+
+using kehldora::concurrent_vector;
+
+constexpr unsigned THREADS = 8, ROUNDS = 100;
+
+template <typename Call> void in_threads(unsigned count, Call call) {
+  std::vector<std::thread> threads;
+  for (unsigned number = 0; number < count; ++number)
+    threads.emplace_back([&call, number] { call(number); });
+  for (std::thread &thread : threads)
+    thread.join();
+}
+
+// A number made into a value, and back.
+template <typename T> struct As {
+  static T make(uint64_t number) { return T(number); }
+  static uint64_t number(const T &value) { return value; }
+};
+template <> struct As<std::string> {
+  static std::string make(uint64_t number) { return "a text that is not a short one: " + std::to_string(number); }
+  static uint64_t number(const std::string &value) { return strtoull(value.c_str() + value.rfind(' '), nullptr, 10); }
+};
+template <> struct As<std::unique_ptr<uint64_t>> {
+  static std::unique_ptr<uint64_t> make(uint64_t number) { return std::make_unique<uint64_t>(number); }
+  static uint64_t number(const std::unique_ptr<uint64_t> &value) { return *value; }
+};
+
+// Each thread appends its own numbers in another way each time, and looks at once whether they are there.
+template <typename T> void grow(concurrent_vector<T> &v, unsigned thread) {
+  const auto make = [thread](uint64_t i) { return As<T>::make(thread * 1000 + i); };
+  const auto holds = [&](auto it, uint64_t i) { return As<T>::number(*it) == thread * 1000 + i; };
+  uint64_t i = 0;
+  for (; i < 8; ++i)
+    CHECK(holds(v.push_back(make(i)), i));
+  auto hand = v.make_hand();
+  for (; i < 16; ++i)
+    CHECK(holds(hand.emplace_back(make(i)), i));
+  std::vector<T> some;
+  for (uint64_t k = i; k < 32; ++k)
+    some.push_back(make(k));
+  const auto from = v.grow_by(std::make_move_iterator(some.begin()), std::make_move_iterator(some.end()));
+  for (uint64_t k = 0; k < 16; ++k, ++i)
+    CHECK(holds(from + ptrdiff_t(k), i));
+  auto buffer = v.buffered(5);
+  for (; i < 50; ++i)
+    buffer.push_back(make(i));
+}
+
+template <typename T> void all_growths() {
+  for (unsigned round = 0; round < ROUNDS; ++round) {
+    concurrent_vector<T> v;
+    std::atomic<unsigned> left{THREADS};
+    in_threads(THREADS + 1, [&](unsigned number) {
+      if (number < THREADS) {
+        grow(v, number);
+        --left;
+        return;
+      }
+      // What a reader finds is whole.
+      size_t before = 0;
+      do {
+        const size_t count = v.shown([](const T &it) { CHECK(As<T>::number(it) % 1000 < 50); });
+        CHECK(before <= count && count <= v.size());
+        before = count;
+      } while (left);
+    });
+    CHECK(v.size() == THREADS * 50);
+    std::vector<bool> seen(THREADS * 1000);
+    std::vector<uint64_t> last(THREADS, 0);
+    v.shown([&](const T &it) {
+      const uint64_t number = As<T>::number(it);
+      CHECK(!seen[number] && last[number / 1000] <= number);
+      seen[number] = true, last[number / 1000] = number;
+    });
+    CHECK(v.into_vector().size() == THREADS * 50);
+  }
+}
+
+// Growths up to a size, and of copies: together they never leave a gap or pass the size.
+template <typename T> void up_to_sizes() {
+  for (unsigned round = 0; round < ROUNDS; ++round) {
+    concurrent_vector<T> v;
+    std::atomic<size_t> appended{0};
+    in_threads(THREADS, [&](unsigned) {
+      for (size_t size = 10; size <= 200; size += 10) {
+        const auto from = v.grow_to_at_least(size);
+        CHECK(v.size() >= size);
+        appended += from == v.end() ? 0 : 1;
+      }
+    });
+    CHECK(v.size() == 200 && v.shown([](const T &) {}) == 200);
+  }
+}
+
+// Threads write through what growths returned, while others grow.
+void writes_while_others_push() {
+  concurrent_vector<uint64_t> v;
+  in_threads(THREADS, [&](unsigned number) {
+    uint64_t values[10];
+    std::iota(values, values + 10, number * 10);
+    for (unsigned i = 0; i < 200; ++i) {
+      const auto it = v.grow_by(10);
+      std::copy(values, values + 10, it);
+      uint64_t &kept = *v.push_back(0);
+      kept = it[9];
+      it[0] += 1000;
+    }
+  });
+  CHECK(v.size() == THREADS * 200 * 11);
+  CHECK(std::accumulate(v.begin(), v.end(), uint64_t{0}) == 200 * (80 * 79 / 2 + 8 * 1000 + 9 * 8 + 10 * 28));
+}
+
+void twenty_vectors() {
+  for (unsigned round = 0; round < 10; ++round) {
+    std::vector<concurrent_vector<unsigned>> vectors(20);
+    in_threads(THREADS, [&](unsigned number) {
+      for (unsigned i = 0; i < 50; ++i)
+        for (auto &v : vectors)
+          v.push_back(number);
+    });
+    for (auto &v : vectors)
+      CHECK(v.size() == THREADS * 50 && std::accumulate(v.begin(), v.end(), 0u) == 50 * 28);
+  }
+}
+
+// More threads than a vector would have shares for, if each took one away.
+void short_threads() {
+  concurrent_vector<unsigned> v;
+  for (unsigned i = 0; i < 1200; i += THREADS)
+    in_threads(THREADS, [&](unsigned number) { v.push_back(i + number); });
+  CHECK(v.size() == 1200 && std::accumulate(v.begin(), v.end(), 0u) == 1200 * 1199 / 2);
+  CHECK(kehldora_mock_handles() <= int64_t(THREADS) + 2);
+}
+
+// One thread fills and clears vectors, while a second one lives on that has used them.
+void vectors_end_before_threads() {
+  std::atomic<concurrent_vector<int> *> shared{nullptr};
+  std::atomic<bool> is_over{false};
+  std::thread user([&] {
+    while (!is_over)
+      if (auto *const v = shared.exchange(nullptr)) {
+        v->push_back(1);
+        v->push_back(2);
+        shared = v + 1;
+        while (shared == v + 1)
+          std::this_thread::yield();
+      }
+  });
+  for (int round = 0; round < 300; ++round) {
+    auto two = std::make_unique<concurrent_vector<int>[]>(2);
+    shared = &two[0];
+    while (shared != &two[1])
+      std::this_thread::yield();
+    two[0].push_back(3);
+    CHECK(two[0].size() == 3);
+    two[0].clear();
+    CHECK(two[0].empty());
+    shared = nullptr;
+  }
+  is_over = true;
+  user.join();
+}
+
+// A value whose destructor waits for a thread that has a hand of the same vector.
+struct Waits {
+  std::unique_ptr<std::thread> thread;
+  ~Waits() {
+    if (thread)
+      thread->join();
+  }
+};
+
+void destructors_wait_for_threads() {
+  std::atomic<bool> is_over{false};
+  auto v = std::make_unique<concurrent_vector<std::unique_ptr<Waits>>>();
+  auto &vector = *v;
+  std::atomic<bool> has_pushed{false};
+  vector.push_back(std::make_unique<Waits>());
+  vector[0]->thread = std::make_unique<std::thread>([&] {
+    vector.push_back(nullptr);
+    has_pushed = true;
+    while (!is_over)
+      std::this_thread::yield();
+  });
+  while (!has_pushed)
+    std::this_thread::yield();
+  is_over = true;
+  v.reset();
+}
+
+// Pushes from destructors of the thread, and of the program, when the thread's hands are given back already.
+concurrent_vector<std::string> &late() {
+  static concurrent_vector<std::string> it;
+  return it;
+}
+struct PushesLate {
+  const char *who;
+  ~PushesLate() { late().push_back(who); }
+};
+struct LooksLast {
+  ~LooksLast() { CHECK(late().size() == 5 && late().back() == "the program"); }
+};
+
+int main() {
+  late().push_back("main");
+  static LooksLast looks;
+  static PushesLate program{"the program"};
+  std::thread([] {
+    static thread_local PushesLate before{"a thread, before it had a hand"};
+    CHECK(before.who);
+    late().push_back("a thread");
+    static thread_local PushesLate after{"a thread, after it had one"};
+    CHECK(after.who);
+  }).join();
+  CHECK(late().size() == 4);
+  all_growths<uint64_t>();
+  all_growths<int>();
+  all_growths<std::string>();
+  all_growths<std::unique_ptr<uint64_t>>();
+  up_to_sizes<uint64_t>();
+  up_to_sizes<std::string>();
+  up_to_sizes<std::unique_ptr<uint64_t>>();
+  writes_while_others_push();
+  twenty_vectors();
+  short_threads();
+  vectors_end_before_threads();
+  destructors_wait_for_threads();
+}

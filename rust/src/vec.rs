@@ -168,8 +168,11 @@ impl<T> Vec<T> {
 
     fn look(&self, place: usize) -> Option<*mut T> {
         let mut at = null_mut();
-        let status = self.hub.with(|hand| unsafe { raw::kehldora_raw_look(hand, place as u64, &mut at) });
-        (status == raw::DONE).then(|| unsafe { Cell::<T>::value(at) })
+        match self.hub.with(|hand| unsafe { raw::kehldora_raw_look(hand, place as u64, &mut at) }) {
+            raw::DONE => Some(unsafe { Cell::<T>::value(at) }),
+            raw::NO_MEMORY => handle_alloc_error(Layout::new::<T>()),
+            _ => None,
+        }
     }
 
     /// The number of places that are claimed. A value may be on its way to one that others have claimed.
@@ -250,6 +253,7 @@ impl<'a, T> Iterator for Iter<'a, T> {
                     self.left = 0;
                     self.place += 1;
                 }
+                raw::NO_MEMORY => handle_alloc_error(Layout::new::<T>()),
                 _ => return None,
             }
         }

@@ -11,11 +11,11 @@ use std::sync::{Arc, Mutex, MutexGuard, OnceLock, PoisonError};
 
 /// A thread's hand. No two are on one pair of cache lines.
 #[repr(align(128))]
-struct Slot {
+struct KeptHand {
     hand: UnsafeCell<Hand>,
 }
 
-/// The hands of one vector. A slot is used by the thread that took it alone, and all others by whoever has the lock.
+/// The hands of one vector. A kept hand is used by the thread that took it alone, and all others by whoever has the lock.
 pub struct Hub {
     number: u64,
     has_ended: AtomicBool,
@@ -24,8 +24,8 @@ pub struct Hub {
 
 struct Hands {
     root: Hand,
-    slots: Vec<NonNull<Slot>>,
-    spares: Vec<NonNull<Slot>>,
+    all: Vec<NonNull<KeptHand>>,
+    spares: Vec<NonNull<KeptHand>>,
 }
 
 // The pointers of `Hands` are owned by it, and a hand may be used by any thread, one at a time.
@@ -36,51 +36,51 @@ const RECENT: usize = 8;
 #[derive(Clone, Copy)]
 struct Recent {
     number: u64,
-    slot: NonNull<Slot>,
+    kept: NonNull<KeptHand>,
 }
 
 thread_local! {
     static RECENTS: [Cell<Recent>; RECENT] =
-        const { [const { Cell::new(Recent { number: 0, slot: NonNull::dangling() }) }; RECENT] };
+        const { [const { Cell::new(Recent { number: 0, kept: NonNull::dangling() }) }; RECENT] };
     static HANDS: RefCell<ThreadHands> = RefCell::new(ThreadHands::default());
 }
 
 /// The hands that a thread has taken. They go back when it ends.
 #[derive(Default)]
 struct ThreadHands {
-    taken: HashMap<u64, (Arc<Hub>, NonNull<Slot>)>,
+    taken: HashMap<u64, (Arc<Hub>, NonNull<KeptHand>)>,
     next_look: usize,
 }
 
 impl Drop for ThreadHands {
     fn drop(&mut self) {
-        RECENTS.with(|it| it.iter().for_each(|it| it.set(Recent { number: 0, slot: NonNull::dangling() })));
-        for (_, (hub, slot)) in self.taken.drain() {
-            hub.give_back(slot);
+        RECENTS.with(|it| it.iter().for_each(|it| it.set(Recent { number: 0, kept: NonNull::dangling() })));
+        for (_, (hub, kept)) in self.taken.drain() {
+            hub.give_back(kept);
         }
     }
 }
 
 impl ThreadHands {
     /// The thread's hand of a vector, taken if it has none. Without memory, none is taken.
-    fn find(&mut self, hub: &Arc<Hub>) -> Option<NonNull<Slot>> {
-        if let Some((_, slot)) = self.taken.get(&hub.number) {
-            return Some(*slot);
+    fn find(&mut self, hub: &Arc<Hub>) -> Option<NonNull<KeptHand>> {
+        if let Some((_, kept)) = self.taken.get(&hub.number) {
+            return Some(*kept);
         }
         if self.taken.len() >= self.next_look {
-            self.taken.retain(|_, (hub, slot)| {
+            self.taken.retain(|_, (hub, kept)| {
                 let has_ended = hub.has_ended.load(Ordering::Relaxed);
                 if has_ended {
-                    hub.give_back(*slot);
+                    hub.give_back(*kept);
                 }
                 !has_ended
             });
             self.next_look = 2 * self.taken.len() + 16;
         }
         self.taken.try_reserve(1).ok()?;
-        let slot = hub.take()?;
-        self.taken.insert(hub.number, (hub.clone(), slot));
-        Some(slot)
+        let kept = hub.take()?;
+        self.taken.insert(hub.number, (hub.clone(), kept));
+        Some(kept)
     }
 }
 
@@ -93,7 +93,7 @@ impl Hub {
             raw::DONE => {}
             status => return Err(status),
         }
-        let hands = Mutex::new(Hands { root, slots: Vec::new(), spares: Vec::new() });
+        let hands = Mutex::new(Hands { root, all: Vec::new(), spares: Vec::new() });
         Ok(Arc::new(Hub { number: new_number(), has_ended: AtomicBool::new(false), hands }))
     }
 
@@ -101,7 +101,7 @@ impl Hub {
     pub fn with(self: &Arc<Self>, call: impl FnOnce(*mut Hand) -> i32) -> i32 {
         let recent = RECENTS.with(|it| it[self.number as usize % RECENT].get());
         if recent.number == self.number {
-            return self.with_slot(recent.slot, call);
+            return self.with_kept(recent.kept, call);
         }
         self.with_another(call)
     }
@@ -110,19 +110,19 @@ impl Hub {
     fn with_another(self: &Arc<Self>, call: impl FnOnce(*mut Hand) -> i32) -> i32 {
         // A thread whose hands went back already takes one for this call alone.
         let Ok(found) = HANDS.try_with(|it| it.borrow_mut().find(self)) else {
-            let Some(slot) = self.take() else { return raw::NO_MEMORY };
-            let status = self.with_slot(slot, call);
-            self.give_back(slot);
+            let Some(kept) = self.take() else { return raw::NO_MEMORY };
+            let status = self.with_kept(kept, call);
+            self.give_back(kept);
             return status;
         };
-        let Some(slot) = found else { return raw::NO_MEMORY };
-        RECENTS.with(|it| it[self.number as usize % RECENT].set(Recent { number: self.number, slot }));
-        self.with_slot(slot, call)
+        let Some(kept) = found else { return raw::NO_MEMORY };
+        RECENTS.with(|it| it[self.number as usize % RECENT].set(Recent { number: self.number, kept }));
+        self.with_kept(kept, call)
     }
 
-    fn with_slot(&self, slot: NonNull<Slot>, call: impl FnOnce(*mut Hand) -> i32) -> i32 {
-        // The thread took this slot, so nobody else uses it.
-        let hand = unsafe { slot.as_ref() }.hand.get();
+    fn with_kept(&self, kept: NonNull<KeptHand>, call: impl FnOnce(*mut Hand) -> i32) -> i32 {
+        // The thread took this kept hand, so nobody else uses it.
+        let hand = unsafe { kept.as_ref() }.hand.get();
         if !unsafe { (*hand).full } {
             let status = unsafe { raw::kehldora_raw_split(&mut self.lock().root, 1, hand) };
             if status != raw::DONE {
@@ -132,24 +132,24 @@ impl Hub {
         call(hand)
     }
 
-    /// A slot that nobody uses.
-    fn take(&self) -> Option<NonNull<Slot>> {
+    /// A hand that nobody uses.
+    fn take(&self) -> Option<NonNull<KeptHand>> {
         let mut hands = self.lock();
-        if let Some(slot) = hands.spares.pop() {
-            return Some(slot);
+        if let Some(kept) = hands.spares.pop() {
+            return Some(kept);
         }
-        // Each slot can then go back without memory.
-        let count = hands.slots.len() + 1;
-        hands.slots.try_reserve(1).ok()?;
+        // Each hand can then go back without memory.
+        let count = hands.all.len() + 1;
+        hands.all.try_reserve(1).ok()?;
         hands.spares.try_reserve(count).ok()?;
-        let slot = NonNull::new(unsafe { alloc(Layout::new::<Slot>()) }.cast::<Slot>())?;
-        unsafe { slot.write(Slot { hand: UnsafeCell::new(Hand::EMPTY) }) };
-        hands.slots.push(slot);
-        Some(slot)
+        let kept = NonNull::new(unsafe { alloc(Layout::new::<KeptHand>()) }.cast::<KeptHand>())?;
+        unsafe { kept.write(KeptHand { hand: UnsafeCell::new(Hand::EMPTY) }) };
+        hands.all.push(kept);
+        Some(kept)
     }
 
-    fn give_back(&self, slot: NonNull<Slot>) {
-        self.lock().spares.push(slot);
+    fn give_back(&self, kept: NonNull<KeptHand>) {
+        self.lock().spares.push(kept);
     }
 
     fn lock(&self) -> MutexGuard<'_, Hands> {
@@ -160,9 +160,9 @@ impl Hub {
     pub fn end(&self) -> Hand {
         let mut hands = self.lock();
         self.has_ended.store(true, Ordering::Relaxed);
-        let Hands { root, slots, .. } = &mut *hands;
-        for slot in slots {
-            let hand = unsafe { slot.as_ref() }.hand.get();
+        let Hands { root, all, .. } = &mut *hands;
+        for kept in all {
+            let hand = unsafe { kept.as_ref() }.hand.get();
             if unsafe { (*hand).full } {
                 unsafe { raw::kehldora_raw_join(root, hand) };
             }
@@ -173,8 +173,8 @@ impl Hub {
 
 impl Drop for Hub {
     fn drop(&mut self) {
-        for slot in self.lock().slots.drain(..) {
-            drop(unsafe { Box::from_raw(slot.as_ptr()) });
+        for kept in self.lock().all.drain(..) {
+            drop(unsafe { Box::from_raw(kept.as_ptr()) });
         }
     }
 }

@@ -14,8 +14,19 @@ use std::sync::Arc;
 pub struct Vec<T> {
     hub: Arc<Hub>,
     limit: usize,
-    values: PhantomData<T>,
+    // Values come in through a `&`, so a vector is no vector of values with a shorter life.
+    values: PhantomData<std::cell::Cell<T>>,
 }
+
+/// ```compile_fail
+/// fn keep_longer_than_it_lives(vec: &kehldora::Vec<&'static str>) {
+///     let text = String::from("short");
+///     let shorter: &kehldora::Vec<&str> = vec;
+///     shorter.push(&text);
+/// }
+/// ```
+#[cfg(doctest)]
+struct NoShorterLife;
 
 // A vector gives out its values by `&` in all threads that share it, and drops them, and takes new ones, in any of them.
 unsafe impl<T: Send> Send for Vec<T> {}
@@ -168,8 +179,11 @@ impl<T> Vec<T> {
 
     fn look(&self, place: usize) -> Option<*mut T> {
         let mut at = null_mut();
-        let status = self.hub.with(|hand| unsafe { raw::kehldora_raw_look(hand, place as u64, &mut at) });
-        (status == raw::DONE).then(|| unsafe { Cell::<T>::value(at) })
+        match self.hub.with(|hand| unsafe { raw::kehldora_raw_look(hand, place as u64, &mut at) }) {
+            raw::DONE => Some(unsafe { Cell::<T>::value(at) }),
+            raw::NO_MEMORY => handle_alloc_error(Layout::new::<T>()),
+            _ => None,
+        }
     }
 
     /// The number of places that are claimed. A value may be on its way to one that others have claimed.
@@ -250,6 +264,7 @@ impl<'a, T> Iterator for Iter<'a, T> {
                     self.left = 0;
                     self.place += 1;
                 }
+                raw::NO_MEMORY => handle_alloc_error(Layout::new::<T>()),
                 _ => return None,
             }
         }

@@ -110,7 +110,12 @@ fn references_stay_and_readers_see_whole_values() {
 fn threads_that_come_and_go_use_up_no_shares() {
     let vec = Vec::new(100_000);
     for _ in 0..200 {
-        thread::scope(|scope| (0..6).for_each(|i| drop(scope.spawn({ let vec = &vec; move || vec.push(i) }))));
+        thread::scope(|scope| {
+            for i in 0..6 {
+                let vec = &vec;
+                scope.spawn(move || vec.push(i));
+            }
+        });
     }
     assert_eq!(vec.into_iter().sum::<u64>(), 200 * 15);
 }

@@ -8,6 +8,7 @@
 #include <memory>
 #include <sstream>
 #include <string>
+#include <thread>
 
 using kehldora::concurrent_vector;
 
@@ -344,6 +345,26 @@ template <typename T> void without_memory() {
   CHECK(alive == 0 && kehldora_mock_blocks() == 0);
 }
 
+// A thread that has no hand yet walks over what others appended, without memory for one. It finds all or is told.
+template <typename T> void first_walk_without_memory(int library, int header) {
+  concurrent_vector<T> v;
+  v.grow_by(10, T(3));
+  std::thread([&] {
+    std::vector<T> values;
+    size_t count = 0;
+    kehldora_mock_refuse(library);
+    until_no_memory = header;
+    while (throws<std::bad_alloc>([&] { count = v.shown([](const T &) {}); })) {
+    }
+    CHECK(count == 10);
+    while (throws<std::bad_alloc>([&] { values = v.into_vector(); })) {
+    }
+    until_no_memory = -1;
+    kehldora_mock_refuse(-1);
+    CHECK(values.size() == 10 && values[9] == T(3) && v.empty());
+  }).join();
+}
+
 // A vector ends without memory to close it: each value ends once.
 static void ends_without_memory() {
   {
@@ -409,6 +430,12 @@ int main() {
   without_memory<int>();
   without_memory<Counted>();
   without_memory<Relocated>();
+  for (int at = 0; at < 8; ++at) {
+    first_walk_without_memory<int>(at, -1);
+    first_walk_without_memory<int>(-1, at);
+    first_walk_without_memory<Relocated>(at, -1);
+    first_walk_without_memory<Counted>(-1, at);
+  }
   ends_without_memory();
   allocators();
   pending();

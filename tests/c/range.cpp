@@ -2,6 +2,7 @@
 #include "check.h"
 
 #include <kehldora.hpp>
+#include <tbb/blocked_range.h>
 #include <tbb/parallel_for.h>
 #include <tbb/parallel_reduce.h>
 #include <tbb/parallel_sort.h>
@@ -56,6 +57,9 @@ int main() {
       },
       [](size_t a, size_t b) { return a + b; });
   CHECK(sum == 10000 * 24 + 20000 * 9);
+  std::atomic<size_t> count{0};
+  tbb::parallel_for(v.range(9), [&](const tbb::blocked_range<Vector::iterator> &part) { count += part.size(); });
+  CHECK(count == 30000);
   tbb::parallel_sort(v.begin(), v.end());
   CHECK(v.front() == 9 && v.back() == 24);
   const Vector::const_range_type converted = v.range(9);

@@ -14,8 +14,8 @@
 //! The code is safe, over `claim_core`, `table_core` and `cell_core`: the segments of the wanted places
 //! are installed, the places are won by one exchange of the claim word, and each is filled by two atomic
 //! steps on its cell's state, up to sixteen together if the call has their values. A hand carries the keys
-//! of its runs' segments (`specs/Keys.antt`). Only `push_back`, `grow_vec`, `append`, `grow_with` and
-//! `grow_by` may wait.
+//! of its runs' segments (`specs/Keys.antt`). Only the calls that take a runtime may wait: `push_back`,
+//! `grow_vec`, `append`, `grow_with`, `grow_by`, `grow_from`, `grow_copies` and `break_run`.
 //!
 //! A `Parts` is what an exclusive owner holds of a vector. Contracts see it as a list of values and broken
 //! members (`specs/Parts.antt`): exactly what was appended is read, and moved out.

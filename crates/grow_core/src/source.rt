@@ -3,7 +3,7 @@ ghost use Rattle.std.specs.Prelude.{◌≡◌, ◌<◌, List, Some, length, slic
 
 use std::marker::Copy;
 
-// A list of values, each of which can be read at any time.
+// A list of values. Each can be read at any time, by its number.
 pub(crate) trait Source<T> {
     ghost use Rattle.std.specs.Prelude.{List};
 

@@ -51,7 +51,7 @@ fn copy_and_read(vector: &Shared<u64>, hand: &mut Hand<u64>, values: &[u64]) -> 
     Some(read)
 }
 
-// What two tries of a hand come to that has not seen the other's push, and then a read of its copies.
+// Pushes by a hand that has not seen the other's push: first by one try, then by two. Then it reads a copy.
 fn try_and_read(two: &mut Callers<u64>) -> (Option<u64>, Option<u64>, Option<u64>) {
     let first = push_within(&two.vector, &mut two.b, 7, 1);
     let second = push_within(&two.vector, &mut two.b, 7, 2);

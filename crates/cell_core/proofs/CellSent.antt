@@ -13,7 +13,8 @@ use denote.Param.Send.{IsSend, IsSync, part_keyless, sendable}
 use denote.Struct.Owning
 use denote.Struct.Struct
 use Rattle.core.proofs.atomic.Sent.{chain-Keyless}
-use Rattle.cell_core.specs.Slot.{Names, broken_once, Phase, free, busy, full, broken, broken_by_owner, Turn, place, told, tie, lent, cell, cells, kept, known, sighted, gained, slot_owned, pen_owned}
+use Rattle.cell_core.specs.Slot.{Names, broken_once, Phase, stage, free, begun, busy, full, broken, broken_by_owner, Turn, place, told, tie, lent, cell, cells, kept, known, sighted, gained, slot_owned, pen_owned}
+use Rattle.cell_core.specs.Tie.{Tie, Stage, seat_of, seat_at}
 use Rattle.cell_core.specs.Slot.{Rest, resting}
 use Rattle.cell_core.specs.Laid.{Extent, rests, along, along_lent, laid, laid_lent}
 use Rattle.cell_core.specs.Member.{MemberView, known_as, members}
@@ -25,9 +26,19 @@ use Rattle.cell_core.specs.contracts.slot.steps.RawPen as RawPen
 use Rattle.cell_core.specs.contracts.slot.steps.Written as Written
 use Rattle.cell_core.specs.contracts.slot.steps.RawBroken as RawBroken
 
+seat_of_keyless : (t : Tie) (f : Option Stage) (s : Stage) → Keyless (seat_of t f s)
+unfolding types.Keyed.entry
+seat_of_keyless t None s = tt
+seat_of_keyless t (Some a) s = λ _. tt
+
+seat_keyless : (τ : Option Tie) (s : Stage) → Keyless (seat_at τ s)
+seat_keyless None s = tt
+seat_keyless (Some t) s = seat_of_keyless t t.fixed s
+
 module _ (R : RattleType) (γ : Names) where
   told_keyless : (s : Phase R.Denot) → Keyless (told R γ s)
   told_keyless free = (tt, tt)
+  told_keyless begun = (tt, (λ _. tt))
   told_keyless busy = tt
   told_keyless (full x) = (tt, tt)
   told_keyless broken = (tt, (tt, tt))
@@ -35,6 +46,7 @@ module _ (R : RattleType) (γ : Names) where
 
   tie_keyless : (α : Lft) (δ : GName) (b e : ℕ) (s : Phase R.Denot) → Keyless (tie R γ α δ b e s)
   tie_keyless α δ b e free = tt
+  tie_keyless α δ b e begun = tt
   tie_keyless α δ b e busy = tt
   tie_keyless α δ b e (full x) = tt
   tie_keyless α δ b e broken = tt
@@ -62,13 +74,14 @@ module _ (R : RattleType) (γ : Names) where
 
     lent_keyless : (α : Lft) (δ : GName) (b e : ℕ) (p : Phase R.Denot) → Keyless (lent R γ α δ b e p)
     lent_keyless α δ b e free = λ u. (place_keyless u b e, tt)
+    lent_keyless α δ b e begun = tt
     lent_keyless α δ b e busy = tt
     lent_keyless α δ b e (full x) = y.shared x b e α
     lent_keyless α δ b e broken = λ u. (place_keyless u b e, tt)
     lent_keyless α δ b e broken_by_owner = λ u. (place_keyless u b e, tt)
 
     cell_keyless : (α : Lft) (δ : GName) (b e : ℕ) (p : Phase R.Denot) → Keyless (cell R γ α δ b e p)
-    cell_keyless α δ b e p = ((tt, broken_once_keyless), (told_keyless p, (tie_keyless α δ b e p, lent_keyless α δ b e p)))
+    cell_keyless α δ b e p = ((tt, broken_once_keyless), ((told_keyless p, seat_keyless γ.tied (stage p)), (tie_keyless α δ b e p, lent_keyless α δ b e p)))
 
     gained_keyless : (α : Lft) (δ : GName) (b e : ℕ) (won : Bool) (n : ℕ) → Keyless (gained R γ α δ b e won n)
     gained_keyless α δ b e true n = ((tt, tt), (tt, λ u. (place_keyless u b e, tt)))
@@ -80,7 +93,7 @@ module _ (R : RattleType) (s : IsSend R) (y : IsSync R) where
   cells_keyless (γ ∷ γs) α δ b e p = (cell_keyless R γ s y α (δ 0) b e (p 0), cells_keyless γs α (λ i. δ (suc i)) b _ (λ i. p (suc i)))
 
   kept_keyless : (γs : List Names) (t : Turn) (b o c e : ℕ) (κ : Lft) → Keyless (kept R γs t b o c e κ)
-  kept_keyless γs t b o c e κ = ((λ νs. chain-Keyless νs κ t.0), λ p. (tt, cells_keyless γs t.0 t.1 c e p))
+  kept_keyless γs t b o c e κ = ((λ νs. chain-Keyless νs κ t.0), λ n. ((λ _. tt), λ p. (tt, cells_keyless γs t.0 t.1 c e p)))
 
   slot_owned_keyless : (γ : Names) (β : Lft) (p q : Ptr) (i : ℕ) → Keyless (slot_owned R γ β p q i)
   slot_owned_keyless γ β (block_ptr b o) (block_ptr c r) i = λ z. ((λ _. tt), kept_keyless z.0 z.1 b o c z.2 β)
@@ -111,7 +124,7 @@ broken_sync = let fields : IsSync (denote.Struct.Struct.Struct (denote.Struct.Ow
 
 known_as_keyless : (R : RattleType) (v : Option R.Denot) (γ : ℕ) → Keyless (known_as R v γ)
 known_as_keyless R (Some x) γ = tt
-known_as_keyless R None γ = tt
+known_as_keyless R None γ = λ v. ((λ _. tt), tt)
 
 members_keyless : (R : RattleType) (ms : List (MemberView R.Denot)) → Keyless (members R ms)
 members_keyless R [] = tt
@@ -133,7 +146,7 @@ row_sync R = let fields : IsSync (denote.Struct.Struct.Struct (denote.Struct.Own
 
 module _ (R : RattleType) (s : IsSend R) (y : IsSync R) where
   resting_keyless : (γ : Names) (u : Rest R.Denot) → Keyless (resting R γ u)
-  resting_keyless γ u = (((tt, broken_once_keyless R γ), told_keyless R γ u.1), λ _. tt)
+  resting_keyless γ u = (((tt, broken_once_keyless R γ), (told_keyless R γ u.1, seat_keyless γ.tied (stage u.1))), λ _. tt)
 
   rests_keyless : (γs : List Names) (c e : ℕ) (u : ℕ → Rest R.Denot) → Keyless (rests R γs c e u)
   rests_keyless [] c e u = tt

@@ -3,7 +3,7 @@
 ghost use Rattle.std.specs.Prelude.{◌≡◌, ◌≢◌, ℕ, ◌+◌, ◌%◌, ◌^◌, ◌<◌, ◌≤◌, ◌++◌, ◌∷◌, [], List, length};
 ghost use base.Stored.{coded_list};
 ghost use Rattle.cell_core.specs.Fields.{sums};
-ghost use Rattle.cell_core.specs.Slot.{Names, names_coded, empty_state};
+ghost use Rattle.cell_core.specs.Slot.{Names, ArePlain, names_coded, empty_state};
 ghost use Rattle.cell_core.specs.Run.{AreEmptyIn, AreFilledIn, cells_owned, run_owned, sights_owned, members_of};
 
 use crate::slot::member::RawRow;
@@ -59,7 +59,7 @@ impl<'a, T> RawCells<'a, T> {
     // The step from empty to busy of each cell, if the word is the one that is sought. Returns the word as it was.
     pub(crate) fn begin(self, sought: u64, begun: u64) -> (u64, RawRun<'a, T>)
         requires { AreEmptyIn sought self.index (length self.of)
-            × (begun ≡ (sought + sums 1 (length self.of) self.index) % 2 ^ 64) }
+            × (begun ≡ (sought + sums 1 (length self.of) self.index) % 2 ^ 64) × ArePlain self.of }
         ensures { (result.1.of ≡ self.entry.of) × (result.1.index ≡ self.entry.index)
             × (result.1.sought ≡ sought) × (result.1.found ≡ result.0) × (result.1.values ≡ []) }
     {
@@ -117,7 +117,7 @@ impl<'a, T> RawRun<'a, T> {
     // Adds what makes each busy cell filled.
     pub(crate) fn publish(self, added: u64) -> RawRow<T>
         requires { (self.found ≡ self.sought) × (length self.values ≡ length self.of)
-            × (added ≡ sums 2 (length self.of) self.index) }
+            × (added ≡ sums 2 (length self.of) self.index) × ArePlain self.of }
         ensures { result.of ≡ members_of self.entry.of self.entry.values }
     {
         let RawRun {

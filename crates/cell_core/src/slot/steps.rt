@@ -4,7 +4,7 @@ ghost use base.Fml.{ftrue, ffalse};
 ghost use denote.Sharing.{said};
 ghost use Rattle.std.specs.Coded.{coded_option};
 ghost use Rattle.cell_core.specs.Fields.{field};
-ghost use Rattle.cell_core.specs.Slot.{Names, names_coded, slot_owned, pen_owned, sighted, written, was_broken};
+ghost use Rattle.cell_core.specs.Slot.{Names, IsPlain, names_coded, slot_owned, pen_owned, sighted, written, was_broken};
 ghost use Rattle.cell_core.specs.Slot.{empty_state, busy_state, filled_state, broken_state, owner_broken_state};
 ghost use Rattle.cell_core.specs.Member.{HasNames, IsStateOf, MayBeStateOf, IsEpochOf};
 
@@ -106,7 +106,7 @@ impl Model for RawBegun {
 impl<'a, T> RawSlot<'a, T> {
     // The step from empty to busy, which leaves any other state. Returns the word as it was.
     pub(crate) fn begin(self, unit: u64) -> (u64, RawPen<'a, T>)
-        requires { unit ≡ 16 ^ self.index }
+        requires { (unit ≡ 16 ^ self.index) × IsPlain self.of }
         ensures { (result.1.of ≡ self.entry.of) × (result.1.index ≡ self.entry.index)
             × (result.1.sought ≡ empty_state) × (result.1.found ≡ field result.0 self.entry.index) }
     {
@@ -117,7 +117,7 @@ impl<'a, T> RawSlot<'a, T> {
 
     // The step from broken to busy, which leaves any other state.
     pub(crate) fn mend(self, mask: u64) -> (u64, RawPen<'a, T>)
-        requires { mask ≡ 2 ^ 64 - 1 - 4 * 16 ^ self.index }
+        requires { (mask ≡ 2 ^ 64 - 1 - 4 * 16 ^ self.index) × IsPlain self.of }
         ensures { (result.1.of ≡ self.entry.of) × (result.1.index ≡ self.entry.index)
             × (result.1.sought ≡ broken_state) × (result.1.found ≡ field result.0 self.entry.index) }
     {
@@ -135,7 +135,7 @@ impl<'a, T> RawSlot<'a, T> {
     ) -> (u64, RawPen<'a, T>)
         requires { (mask ≡ 2 ^ 64 - 1 - 8 * 16 ^ self.index)
             × HasNames self.of member.now.of.value member.now.of.name member.now.of.epoch
-            × IsEpochOf member.now.of.value member.now.of.epoch (ended.now.of ∷ []) }
+            × IsEpochOf member.now.of.value member.now.of.epoch (ended.now.of ∷ []) × IsPlain self.of }
         ensures { (result.1.of ≡ self.entry.of) × (result.1.index ≡ self.entry.index)
             × (result.1.sought ≡ owner_broken_state) × (result.1.found ≡ field result.0 self.entry.index)
             × MayBeStateOf member.now.of.value (field result.0 self.entry.index) }
@@ -159,6 +159,15 @@ impl<'a, T> RawSlot<'a, T> {
             marker: PhantomData,
         };
         (found, sight)
+    }
+
+    // The same of a cell that is not tied, so that nobody else need know of the look.
+    #[inline(always)]
+    pub(crate) fn look(self) -> (u64, RawSight<T>)
+        requires { IsPlain self.of }
+        ensures { (result.1.of ≡ self.entry.of) × (result.1.found ≡ field result.0 self.entry.index) }
+    {
+        self.sight()
     }
 
     // Returns the value, by evidence that there is one. It takes no step.
@@ -210,7 +219,7 @@ impl<'a, T> RawSlot<'a, T> {
 impl<'a, T> RawPen<'a, T> {
     // Writes the value, and then adds what makes a busy cell filled.
     pub(crate) fn fill(self, value: T, added: u64) -> Written<T>
-        requires { (self.found ≡ self.sought) × (added ≡ 2 * 16 ^ self.index) }
+        requires { (self.found ≡ self.sought) × (added ≡ 2 * 16 ^ self.index) × IsPlain self.of }
         ensures { (result.of ≡ self.entry.of.value_name) × (result.value ≡ value)
             × (result.found ≡ self.entry.found) }
     {
@@ -228,7 +237,7 @@ impl<'a, T> RawPen<'a, T> {
 
     // Adds what makes a busy cell broken.
     pub(crate) fn break_cell(self, bits: u64) -> RawBroken
-        requires { (self.found ≡ self.sought) × (bits ≡ 4 * 16 ^ self.index) }
+        requires { (self.found ≡ self.sought) × (bits ≡ 4 * 16 ^ self.index) × IsPlain self.of }
         ensures { result.of ≡ self.entry.of.broken_name }
     {
         let RawPen {

@@ -4,7 +4,7 @@ use mir.Syntax.{a_type}
 use mir.Val.{Val, vint, vptr, vstruct, vcons, vnil, of_list}
 use mir.MapTy.{inst_fn}
 use base.Logic.{SProp, ent, emp, guard_i}
-use base.Fml.{Lft, Share, Fml, ftrue, fsep, finv, fbor, feq}
+use base.Fml.{Lft, Share, Fml, ftrue, fsep, fbor, feq}
 use base.Before.{before}
 use types.Logic.{sem}
 use types.Kit.{‵, raw, ◌⊛◌, given, at_ret, ◌$◌, ◌∵◌, !, qed, by, move, keep, drop, use0, use1, split, join, fsplit, fsplit3, fjoin, fjoin3, fpick, fpack, learn, rewrite, feq_i}
@@ -24,7 +24,7 @@ use denote.Triple.Walked.{Stays, stay_dropped, walk_of, Goes-dropped}
 use denote.Triple.Entry.{alive}
 use Rattle.atomic_table.proofs.Walks.{proved, leaves}
 use Rattle.core.proofs.atomic.Steps.{tail}
-use Rattle.cell_core.specs.Slot.{Names, Turn, Spot, Cells, IsAt, Right, cell_in, kept, room_at, step, won}
+use Rattle.cell_core.specs.Slot.{above, floors, ArePlain, Names, Turn, Spot, Cells, IsAt, Right, cell_in, kept, room_at, step, won}
 use Rattle.cell_core.specs.Slot.{fact as is_fact}
 use Rattle.cell_core.specs.Run.{IsRunAt, held, if_won, run_owned}
 use Rattle.cell_core.specs.contracts.slot.run.RawRun as RawRun
@@ -33,6 +33,7 @@ use Rattle.cell_core.proofs.CellMade.{PenWords, pointers_val, pointers_good, pen
 use Rattle.cell_core.proofs.LaidMade.{uncapped}
 use Rattle.cell_core.proofs.LaidParts.{room_is, within}
 use Rattle.cell_core.proofs.RunMade.{RunWords, run_told, run_placed, run_holds, run_made, Holds}
+use Rattle.cell_core.proofs.WordSteps.{above_dup}
 use Rattle.cell_core.proofs.RunSteps.{held_first, first_again, first_at, others, others_fewer}
 use Rattle.cell_core.specs.contracts.slot.run.RawRun.first.{ended, clauses}
 use Rattle.cell_core.specs.contracts.slot.run.RawRun.first.Key.{name as #self}
@@ -64,7 +65,7 @@ first_spec 𝓤 𝓛 𝓜 𝓡 wired T L =
     use1 𝓛 (‵ (Right R γ α (t.1 i) d (room_at R f i)) ⊛ ‵ (held R t d f rs (suc i) none)) (held_first 𝓛 R t d f gs i asked.2) $ split ! $
     -- [the right; what the run holds of the others; kept; the lifetimes]
     move ! (2 ∷ []) $ fsplit ! $ use1 𝓛 (‵ (before β α) ⊛ ‵ (before β α)) (before_dup 𝓛 β α) $ split ! $ move ! (2 ∷ []) $
-    use1 𝓛 (‵ (finv J) ⊛ ‵ (finv J)) (𝓛.invs.inv_dup J) $ split ! $ move ! (2 ∷ 0 ∷ []) $ fjoin ! $ move ! (2 ∷ 1 ∷ []) $ fjoin ! $
+    use1 𝓛 (‵ (above (floors Γs) J) ⊛ ‵ (above (floors Γs) J)) (above_dup 𝓛 (floors Γs) J) $ split ! $ move ! (2 ∷ 0 ∷ []) $ fjoin ! $ move ! (2 ∷ 1 ∷ []) $ fjoin ! $
     -- [kept; kept; the right; what the run holds of the others; the lifetimes]
     move ! (2 ∷ []) $ rewrite ! 0 (λ (l : ℕ). ‵ (Right R γ α (t.1 i) d l)) at.2 refl $ move ! (1 ∷ 0 ∷ []) $ fjoin ! $ nothing ! $ fpack ! (IsAt R γ i e s) (λ _. ftrue) (part.0, at.1, part.1, at.2) $ fjoin ! $
     fpack ! Spot (λ u. fsep (is_fact (IsAt R γ i e u)) (fsep (kept R u.0 u.1 b o d u.2 β) (won R γ u.1.0 (u.1.1 i) d e 0 0))) s $

@@ -13,7 +13,7 @@ use denote.Param.Send.{IsSend, IsSync, part_keyless, sendable}
 use denote.Struct.Owning
 use denote.Struct.Struct
 use Rattle.core.proofs.atomic.Sent.{chain-Keyless}
-use Rattle.cell_core.specs.Slot.{Names, broken_once, Phase, stage, free, begun, busy, full, broken, broken_by_owner, Turn, place, told, tie, lent, cell, cells, kept, known, sighted, gained, slot_owned, pen_owned}
+use Rattle.cell_core.specs.Slot.{Names, broken_once, Phase, stage, free, begun, busy, full, broken, broken_by_owner, Turn, place, told, tie, lent, cell, cells, kept, known, sighted, right_of, gained, slot_owned, pen_owned}
 use Rattle.cell_core.specs.Tie.{Tie, Stage, seat_of, seat_at}
 use Rattle.cell_core.specs.Slot.{Rest, resting}
 use Rattle.cell_core.specs.Laid.{Extent, rests, along, along_lent, laid, laid_lent}
@@ -83,9 +83,13 @@ module _ (R : RattleType) (γ : Names) where
     cell_keyless : (α : Lft) (δ : GName) (b e : ℕ) (p : Phase R.Denot) → Keyless (cell R γ α δ b e p)
     cell_keyless α δ b e p = ((tt, broken_once_keyless), ((told_keyless p, seat_keyless γ.tied (stage p)), (tie_keyless α δ b e p, lent_keyless α δ b e p)))
 
-    gained_keyless : (α : Lft) (δ : GName) (b e : ℕ) (won : Bool) (n : ℕ) → Keyless (gained R γ α δ b e won n)
-    gained_keyless α δ b e true n = ((tt, tt), (tt, λ u. (place_keyless u b e, tt)))
-    gained_keyless α δ b e false n = sighted_keyless n
+    right_keyless : (α : Lft) (δ : GName) (b e : ℕ) (first : Bool) → Keyless (right_of R γ α δ b e first)
+    right_keyless α δ b e true = ((tt, tt), (tt, λ u. (place_keyless u b e, tt)))
+    right_keyless α δ b e false = ((tt, tt), (tt, λ u. (place_keyless u b e, tt)))
+
+    gained_keyless : (α : Lft) (δ : GName) (b e : ℕ) (first won : Bool) (n : ℕ) → Keyless (gained R γ α δ b e first won n)
+    gained_keyless α δ b e first true n = right_keyless α δ b e first
+    gained_keyless α δ b e first false n = sighted_keyless n
 
 module _ (R : RattleType) (s : IsSend R) (y : IsSync R) where
   cells_keyless : (γs : List Names) (α : Lft) (δ : ℕ → GName) (b e : ℕ) (p : ℕ → Phase R.Denot) → Keyless (cells R γs α δ b e p)
@@ -100,13 +104,13 @@ module _ (R : RattleType) (s : IsSend R) (y : IsSync R) where
   slot_owned_keyless γ β (block_ptr b o) null_ptr i = tt
   slot_owned_keyless γ β null_ptr q i = tt
 
-  pen_owned_keyless : (γ : Names) (β : Lft) (p q : Ptr) (i sought found : ℕ) → Keyless (pen_owned R γ β p q i sought found)
-  pen_owned_keyless γ β (block_ptr b o) (block_ptr c r) i sought found = λ z. ((λ _. tt), (kept_keyless z.0 z.1 b o c z.2 β, gained_keyless R γ s y z.1.0 (z.1.1 i) c r (eqb found sought) found))
-  pen_owned_keyless γ β (block_ptr b o) null_ptr i sought found = tt
-  pen_owned_keyless γ β null_ptr q i sought found = tt
+  pen_owned_keyless : (γ : Names) (β : Lft) (p q : Ptr) (i : ℕ) (first : Bool) (sought found : ℕ) → Keyless (pen_owned R γ β p q i first sought found)
+  pen_owned_keyless γ β (block_ptr b o) (block_ptr c r) i first sought found = λ z. ((λ _. tt), (kept_keyless z.0 z.1 b o c z.2 β, gained_keyless R γ s y z.1.0 (z.1.1 i) c r first (eqb found sought) found))
+  pen_owned_keyless γ β (block_ptr b o) null_ptr i first sought found = tt
+  pen_owned_keyless γ β null_ptr q i first sought found = tt
 
 pub pen_send : (a : NamedLft) (R : RattleType) → IsSend R → IsSync R → IsSend (RawPen.the_row a R)
-pen_send a R s y = record { owned = λ d vs. ((λ vss. (tt, (tt, (tt, ((λ uss. (tt, tt)), tt))))), pen_owned_keyless R s y d.of a.lft d.word d.room d.index d.sought d.found); leaving = λ k d w. tt }
+pen_send a R s y = record { owned = λ d vs. ((λ vss. (tt, (tt, (tt, ((λ uss. (tt, tt)), tt))))), pen_owned_keyless R s y d.of a.lft d.word d.room d.index d.first d.sought d.found); leaving = λ k d w. tt }
 
 pub written_send : (R : RattleType) → IsSend (Written.the_row R)
 written_send R = record { owned = λ d vs. ((λ vss. (tt, ((λ uss. (tt, tt)), tt))), tt); leaving = λ k f vs. tt }

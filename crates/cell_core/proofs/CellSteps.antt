@@ -184,16 +184,16 @@ module _ {M : Type 1} {𝓤 : Ura M} (𝓛 : Logic 𝓤) (R : RattleType) (γ : 
 
   -- a step from the state m to busy
   abbrev Won : ℕ → ℕ → Fml
-  Won = won R γ α δ b e
+  Won = won R γ α δ b e false
 
   abbrev Leaves : (S R → S R → Type 0) → ℕ → (ℕ → ℕ) → S R → S R → Pr
   Leaves rel m g = BareNext rel g (Won m)
 
   misses : (rel : S R → S R → Type 0) (m : ℕ) (g : ℕ → ℕ) (s : S R) → eqb (state s) m ≡ false → state s ≡ g (state s) → rel s s → ⟦ Cell s ⟧ ⊢ ex 𝓤 (Leaves rel m g s)
-  misses rel m g s miss stays so = qed 𝓛 (‵ (Cell s) ∷ []) ∵ show ! (Leaves rel m g s) s $ check ! (stays, so) $ by ! (subst (λ (h : Bool). ⟦ Cell s ⟧ ⊢ ⟦ Cell s ⟧ ∗ ⟦ gained R γ α δ b e h (state s) ⟧) (sym miss) (looked s))
+  misses rel m g s miss stays so = qed 𝓛 (‵ (Cell s) ∷ []) ∵ show ! (Leaves rel m g s) s $ check ! (stays, so) $ by ! (subst (λ (h : Bool). ⟦ Cell s ⟧ ⊢ ⟦ Cell s ⟧ ∗ ⟦ gained R γ α δ b e false h (state s) ⟧) (sym miss) (looked s))
 
   hits : (rel : S R → S R → Type 0) (m : ℕ) (g : ℕ → ℕ) (s : S R) (P : Pr) → eqb (state s) m ≡ true → 1 ≡ g (state s) → rel s busy → P ⊢ ⟦ Cell busy ⟧ ∗ ⟦ Right R γ α δ b e ⟧ → P ⊢ ex 𝓤 (Leaves rel m g s)
-  hits rel m g s P hit one so gain = qed 𝓛 (raw P ∷ []) ∵ show ! (Leaves rel m g s) busy $ check ! (one, so) $ by ! (subst (λ (h : Bool). P ⊢ ⟦ Cell busy ⟧ ∗ ⟦ gained R γ α δ b e h (state s) ⟧) (sym hit) gain)
+  hits rel m g s P hit one so gain = qed 𝓛 (raw P ∷ []) ∵ show ! (Leaves rel m g s) busy $ check ! (one, so) $ by ! (subst (λ (h : Bool). P ⊢ ⟦ Cell busy ⟧ ∗ ⟦ gained R γ α δ b e false h (state s) ⟧) (sym hit) gain)
 
   seized : ⟦ auths R γ busy ⟧ ∗ ⟦ over R γ ⟧ ∗ ⟦ unset R γ ⟧ ∗ ⟦ rest free ⟧ ⊢ ⟦ Cell busy ⟧ ∗ ⟦ Right R γ α δ b e ⟧
   seized = qed 𝓛 (‵ (auths R γ busy) ∷ ‵ (over R γ) ∷ ‵ (unset R γ) ∷ ‵ (rest free) ∷ []) ∵ move ! (1 ∷ []) $ use1 𝓛 (‵ (over R γ) ⊛ ‵ (over R γ)) (𝓛.lfts.dead_dup γ.epoch) $ split ! $

@@ -76,7 +76,7 @@ module _ {M : Type 1} {𝓤 : Ura M} (𝓛 : Logic 𝓤) (R : RattleType) (Γs :
   pub begins_run : (γs : List Names) (i : ℕ) → AreAt γs i Γs → ArePlain γs → (s : ℕ → S R) → Free γs i s → ent 𝓤 ⟦ Cells s ⟧ (upd 𝓤 (ex 𝓤 (Left 1 γs i (held R t c e γs i []) s)))
   begins_run [] i at plain s is-free = let Z : Pr = ex 𝓤 (Left 1 [] i ftrue s) in qed 𝓛 (‵ (Cells s) ∷ []) ∵ suffices ! _ (upd_i 𝓤 Z) $ nothing ! $ move ! (1 ∷ 0 ∷ []) $ show ! (Left 1 [] i ftrue s) s $ check ! (omega arith) $ done !
   begins_run (γ ∷ γs) i at plain s is-free =
-      let g : ℕ → ℕ = λ n. bit_or n 1 in let after : ℕ → Fml = won R γ α (t.1 i) c (room_at R e i) 0 in let none : state (s i) ≡ 0 = is-free i (omega arith) (omega arith) in
+      let g : ℕ → ℕ = λ n. bit_or n 1 in let after : ℕ → Fml = won R γ α (t.1 i) c (room_at R e i) false 0 in let none : state (s i) ≡ 0 = is-free i (omega arith) (omega arith) in
       let law : Law 𝓛 R α c (cell_in Γs i) (t.1 i) (room_at R e i) g after (emp 𝓤) = subst (λ (n : Names). Law 𝓛 R α c n (t.1 i) (room_at R e i) g after (emp 𝓤)) (sym at.1) (steps.begins 𝓛 R γ α (t.1 i) c (room_at R e i) plain.0) in
       let P : Fml = held R t c e (γ ∷ γs) i [] in let Z : Pr = ex 𝓤 (Left 1 (γ ∷ γs) i P s) in
       qed 𝓛 (‵ (Cells s) ∷ []) ∵ nothing ! $ move ! (1 ∷ 0 ∷ []) $

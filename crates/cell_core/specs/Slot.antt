@@ -305,13 +305,18 @@ module _ (R : RattleType) where
       abbrev pub FirstRight : Fml
       FirstRight = fsep (fsep over reserved) (fsep empty (fbor α Room))
 
-      -- what a step gains if it found n: the right to write, if it found what it sought; otherwise what n shows
-      abbrev pub gained : Bool → ℕ → Fml
-      gained true n = Right
-      gained false n = sights n
+      -- the right to write, by whether the cell is begun and not busy
+      abbrev pub right_of : Bool → Fml
+      right_of true = FirstRight
+      right_of false = Right
 
-      abbrev pub won : ℕ → ℕ → Fml
-      won sought n = gained (eqb n sought) n
+      -- what a step gains if it found n: the right to write, if it found what it sought; otherwise what n shows
+      abbrev pub gained : Bool → Bool → ℕ → Fml
+      gained first true n = right_of first
+      gained first false n = sights n
+
+      abbrev pub won : Bool → ℕ → ℕ → Fml
+      won first sought n = gained first (eqb n sought) n
 
   -- the same of a row of cells, whose rooms begin at an offset
   abbrev pub cells : List Names → Lft → (ℕ → GName) → ℕ → ℕ → (ℕ → Phase R.Denot) → Fml
@@ -348,9 +353,9 @@ module _ (R : RattleType) where
   slot_owned γ κ null_ptr q i = ffalse
 
   -- what a pen owns, in a cell that is lent for κ
-  abbrev pub pen_owned : Names → Lft → Ptr → Ptr → ℕ → ℕ → ℕ → Fml
-  pen_owned γ κ (block_ptr b o) (block_ptr c r) i sought found =
+  abbrev pub pen_owned : Names → Lft → Ptr → Ptr → ℕ → Bool → ℕ → ℕ → Fml
+  pen_owned γ κ (block_ptr b o) (block_ptr c r) i first sought found =
       fex Spot (λ z. fsep (fact (IsAt γ i r z))
-      (fsep (kept z.0 z.1 b o c z.2 κ) (won γ z.1.0 (z.1.1 i) c r sought found)))
-  pen_owned γ κ (block_ptr b o) null_ptr i sought found = ffalse
-  pen_owned γ κ null_ptr q i sought found = ffalse
+      (fsep (kept z.0 z.1 b o c z.2 κ) (won γ z.1.0 (z.1.1 i) c r first sought found)))
+  pen_owned γ κ (block_ptr b o) null_ptr i first sought found = ffalse
+  pen_owned γ κ null_ptr q i first sought found = ffalse

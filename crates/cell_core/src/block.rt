@@ -10,6 +10,7 @@ mod epoch;
 mod fields;
 mod filled;
 mod kind;
+pub(crate) mod offer;
 mod member;
 mod owner;
 mod pen;
@@ -24,8 +25,9 @@ use crate::slot::steps::{BROKEN, BROKEN_BY_OWNER, BUSY, EMPTY, FILLED, RawPen, R
 pub use begun::Begun;
 pub use epoch::{EndedEpoch, Epoch};
 use fields::{WORD_CELLS, all_but, in_field, state_in, word_of, words_for};
-pub use kind::{Kind, Plain, Tied};
+pub use kind::{First, Kind, Plain, Tied};
 pub use member::{Member, Row};
+pub use offer::{Book, Offer};
 pub use pen::Pen;
 pub use placed::Placed;
 pub use run::RunPen;

@@ -5,6 +5,8 @@ ghost use Rattle.std.specs.Prelude.{Bool, true, false};
 pub trait Kind {
     // Whether cells may be tied.
     ghost tied: { Bool };
+    // Whether a pen is of a cell that is begun and not busy.
+    ghost first: { Bool };
 }
 
 /// Marks a block, or a pen, of cells that are not tied.
@@ -13,6 +15,8 @@ pub struct Plain {}
 
 impl Kind for Plain {
     ghost tied = { false };
+
+    ghost first = { false };
 }
 
 /// Marks a block, or a pen, of cells that may each be tied to a seat of a table of `atomic_table`. A step on such a cell
@@ -22,4 +26,17 @@ pub struct Tied {}
 
 impl Kind for Tied {
     ghost tied = { true };
+
+    ghost first = { false };
+}
+
+/// Marks the pen of a tied cell that nobody has begun before: the state of such a cell is still that of an empty one. A
+/// mender's pen is `Tied`.
+#[derive(Drop)]
+pub struct First {}
+
+impl Kind for First {
+    ghost tied = { true };
+
+    ghost first = { true };
 }

@@ -28,7 +28,7 @@ impl<'a, T, B: Kind> Model for Pen<'a, T, B> {
     ghost view = { λ p. record { offset = p.offset; cell = p.pen.of; found = p.pen.found } };
 
     ghost invariant = { λ p. (p.pen.found ≡ p.pen.sought) × (p.pen.index ≡ p.offset % word_cells)
-        × IsOfKind B.tied p.pen.of };
+        × IsOfKind B.tied p.pen.of × (p.pen.first ≡ B.first) };
 }
 
 impl<'a, T> Pen<'a, T> {

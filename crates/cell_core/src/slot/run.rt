@@ -1,6 +1,6 @@
 // The raw steps on a run: cells next to each other whose states are in one word. One step begins them all, one
 // publishes them all, and one load shows them all.
-ghost use Rattle.std.specs.Prelude.{◌≡◌, ◌≢◌, ℕ, ◌+◌, ◌%◌, ◌^◌, ◌<◌, ◌≤◌, ◌++◌, ◌∷◌, [], List, length};
+ghost use Rattle.std.specs.Prelude.{false, ◌≡◌, ◌≢◌, ℕ, ◌+◌, ◌%◌, ◌^◌, ◌<◌, ◌≤◌, ◌++◌, ◌∷◌, [], List, length};
 ghost use base.Stored.{coded_list};
 ghost use Rattle.cell_core.specs.Fields.{sums};
 ghost use Rattle.cell_core.specs.Slot.{Names, ArePlain, names_coded, empty_state};
@@ -135,7 +135,7 @@ impl<'a, T> RawRun<'a, T> {
     pub(crate) fn first(self) -> (RawPen<'a, T>, RawRun<'a, T>)
         requires { (self.found ≡ self.sought) × (self.values ≡ []) × (0 < length self.of) }
         ensures { (result.0.of ∷ result.1.of ≡ self.entry.of) × (result.0.index ≡ self.entry.index)
-            × (result.0.sought ≡ empty_state) × (result.0.found ≡ empty_state)
+            × (result.0.first ≡ false) × (result.0.sought ≡ empty_state) × (result.0.found ≡ empty_state)
             × (result.1.index ≡ self.entry.index + 1) × (result.1.sought ≡ self.entry.sought)
             × (result.1.found ≡ self.entry.sought) × (result.1.values ≡ []) }
     {

@@ -1,5 +1,5 @@
 -- `reopen` takes the right to write, if it finds that an owner broke the cell, whose epoch has ended.
-use Rattle.std.proofs.Common.{◌≡◌, ℕ, ◌-◌, ◌*◌, ◌^◌, List, [], ◌∷◌, ◌++◌, refl, sym, ap, subst, lit<, w64}
+use Rattle.std.proofs.Common.{false, ◌≡◌, ℕ, ◌-◌, ◌*◌, ◌^◌, List, [], ◌∷◌, ◌++◌, refl, sym, ap, subst, lit<, w64}
 use lib.Bits.{bit_and}
 use mir.Syntax.{a_type, named}
 use mir.Val.{Val, vint, vptr, vstruct, vcons, vnil, of_list}
@@ -90,11 +90,11 @@ reopen_spec 𝓤 𝓛 𝓜 𝓡 wired T L =
     -- [the step's; the way back; kept; the others]
     let v : ℕ = field k i in fsplit3 ! $ move ! (2 ∷ []) $ fpick ! (λ so. drop ! $
     move ! (0 ∷ 2 ∷ []) $ use2 𝓛 (later (‵ (flft β q))) (apply∗ 𝓤 (A.lft α w) (H.⇛ (A.lft β q))) $ await ! tt $ move ! (0 ∷ 3 ∷ []) $ join ! $ move ! (2 ∷ 1 ∷ []) $ fjoin ! $ nothing ! $ fpack ! (IsAt R γ i r s) (λ _. ftrue) at $ fjoin ! $
-    fpack ! Spot (λ m. fsep (is_fact (IsAt R γ i r m)) (fsep (kept R m.0 m.1 b o d m.2 β) (won R γ m.1.0 (m.1.1 i) d r 9 v))) s $
-    let p' : Ptr = block_ptr b o in let z' : Ptr = block_ptr d r in let pen : Hr.Denot = record { word = p'; room = z'; marker = record {}; of = γ; index = i; sought = 9; found = v } in
-    let val : Val = vstruct (vcons (vint w64 k) (vcons (pointers_val p' z') vnil)) in let Told : Type 0 = (γ ≡ γ) × (i ≡ i) × (9 ≡ 9) × (v ≡ v) × MayBeStateOf m.value v in
+    fpack ! Spot (λ m. fsep (is_fact (IsAt R γ i r m)) (fsep (kept R m.0 m.1 b o d m.2 β) (won R γ m.1.0 (m.1.1 i) d r false 9 v))) s $
+    let p' : Ptr = block_ptr b o in let z' : Ptr = block_ptr d r in let pen : Hr.Denot = record { word = p'; room = z'; marker = record {}; of = γ; index = i; first = false; sought = 9; found = v } in
+    let val : Val = vstruct (vcons (vint w64 k) (vcons (pointers_val p' z') vnil)) in let Told : Type 0 = (γ ≡ γ) × (i ≡ i) × (false ≡ false) × (9 ≡ 9) × (v ≡ v) × MayBeStateOf m.value v in
     use0 𝓛 (‵ ((PenWords ℓ R).own_val (p', (z', (tt, tt))) (pointers_val p' z' ∷ []))) (pen_made ℓ R 𝓛 p' z') $ fjoin ! $ nothing ! $ flt_i ! k (2 ^ 64) fits $ feq_i ! (List Val) (vint w64 k ∷ []) (vint w64 k ∷ []) refl $ fjoin ! $
     move ! (0 ∷ 2 ∷ 1 ∷ []) $ fjoin3 ! $ feq_i ! (List Val) (val ∷ []) (val ∷ []) refl $ fjoin ! $
     fpack ! (Valss (u64 ∷ Hr ∷ [])) (λ uss. fsep (feq (List Val) (val ∷ []) (vstruct (of_list (uss.0 ++ (uss.1.0 ++ []))) ∷ [])) (owns (u64 ∷ Hr ∷ []) (k, (pen, tt)) uss)) (vint w64 k ∷ [], (pointers_val p' z' ∷ [], tt)) $
-    use0 𝓛 (raw (fact 𝓤 Told)) (fact_i 𝓤 Told (emp 𝓤) (refl, refl, refl, refl, so)) $ nothing ! $ nothing ! $ fjoin ! $ nothing ! $ fjoin ! $ nothing ! $ fjoin ! $ nothing ! $ fjoin ! $
+    use0 𝓛 (raw (fact 𝓤 Told)) (fact_i 𝓤 Told (emp 𝓤) (refl, refl, refl, refl, refl, so)) $ nothing ! $ nothing ! $ fjoin ! $ nothing ! $ fjoin ! $ nothing ! $ fjoin ! $ nothing ! $ fjoin ! $
     returns ! (look_at ! 0 refl) $ free_all ! refl $ keep ! (3 ∷ 0 ∷ 2 ∷ 1 ∷ []) $ by ! (leaves 𝓛 En hs c y val (k, pen) (tt, (tt, (tt, (tt, tt)))) (tt, (tt, (tt, (tt, tt)))))))))))))))

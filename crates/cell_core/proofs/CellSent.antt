@@ -13,7 +13,7 @@ use denote.Param.Send.{IsSend, IsSync, part_keyless, sendable}
 use denote.Struct.Owning
 use denote.Struct.Struct
 use Rattle.core.proofs.atomic.Sent.{chain-Keyless}
-use Rattle.cell_core.specs.Slot.{Names, broken_once, Phase, stage, free, begun, busy, full, broken, broken_by_owner, Turn, place, told, tie, lent, cell, cells, kept, known, sighted, right_of, gained, slot_owned, pen_owned}
+use Rattle.cell_core.specs.Slot.{Names, broken_once, Phase, stage, free, begun, busy, full, broken, broken_by_owner, Turn, place, told, tie, lent, cell, cells, kept, known, sighted, setting, right_of, gained, slot_owned, pen_owned}
 use Rattle.cell_core.specs.Tie.{Tie, Stage, seat_of, seat_at}
 use Rattle.cell_core.specs.Slot.{Rest, resting}
 use Rattle.cell_core.specs.Laid.{Extent, rests, along, along_lent, laid, laid_lent}
@@ -83,9 +83,12 @@ module _ (R : RattleType) (γ : Names) where
     cell_keyless : (α : Lft) (δ : GName) (b e : ℕ) (p : Phase R.Denot) → Keyless (cell R γ α δ b e p)
     cell_keyless α δ b e p = ((tt, broken_once_keyless), ((told_keyless p, seat_keyless γ.tied (stage p)), (tie_keyless α δ b e p, lent_keyless α δ b e p)))
 
+    setting_keyless : (first : Bool) → Keyless (setting R γ first)
+    setting_keyless true = tt
+    setting_keyless false = tt
+
     right_keyless : (α : Lft) (δ : GName) (b e : ℕ) (first : Bool) → Keyless (right_of R γ α δ b e first)
-    right_keyless α δ b e true = ((tt, tt), (tt, λ u. (place_keyless u b e, tt)))
-    right_keyless α δ b e false = ((tt, tt), (tt, λ u. (place_keyless u b e, tt)))
+    right_keyless α δ b e first = ((tt, setting_keyless first), (tt, λ u. (place_keyless u b e, tt)))
 
     gained_keyless : (α : Lft) (δ : GName) (b e : ℕ) (first won : Bool) (n : ℕ) → Keyless (gained R γ α δ b e first won n)
     gained_keyless α δ b e first true n = right_keyless α δ b e first

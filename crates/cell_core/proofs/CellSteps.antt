@@ -1,5 +1,5 @@
 -- The effect of each step on a raw cell. Assumes `Logic`.
-use Rattle.std.proofs.Common.{Bool, true, false, ◌≡◌, ◌≢◌, ℕ, ◌+◌, ◌-◌, eqb, [], ◌∷◌, sym, refl, ap, ◌∙◌, subst, arith}
+use Rattle.std.proofs.Common.{Bool, true, false, ◌≡◌, ◌≢◌, ℕ, ◌+◌, ◌-◌, ◌<◌, eqb, [], ◌∷◌, sym, refl, ap, ◌∙◌, subst, arith}
 use Rattle.std.specs.Prelude.{Option, Some, None}
 use seplogic.Ra.Ura.{Ura}
 use lib.Bits.{bit_and, bit_or}
@@ -20,7 +20,7 @@ use contract.Monad as monad
 use Rattle.core.proofs.once.Turns.{one_value}
 use Rattle.core.proofs.cell.Borrows.{by_one}
 use Rattle.cell_core.specs.Member.{HasNames, IsStateOf, MayBeStateOf, IsEpochOf, unfilled, known_as}
-use Rattle.cell_core.specs.Slot.{Names, IsPlain, fact, free, begun, busy, full, broken, broken_by_owner, state, stage, broken_mark, was_broken, broken_once, content, mark, written, place, auths, unset, over, broken_unset, reserved, told, seat, inside, Room, tie, lent, bare, cell, Right, FirstRight, gained, won, sighted, sights}
+use Rattle.cell_core.specs.Slot.{Names, IsPlain, fact, free, begun, busy, full, broken, broken_by_owner, state, stage, broken_mark, was_broken, broken_once, content, mark, written, place, auths, unset, setting, fill_added, break_added, over, broken_unset, reserved, told, seat, inside, Room, tie, lent, bare, cell, Right, FirstRight, gained, won, sighted, sights}
 use Rattle.cell_core.specs.Tie.{Tie, Stage, Idle, Begun, Mending, Filled, Broken, stage_number, IsTied, Step, begins as beginning, looks as looking, fills as filling, breaks as breaking, mends as mending, Shows, Moves, Gives, HasMade, Made, seat_at, left, update}
 use Rattle.cell_core.proofs.WordSteps.{S, Next, Law}
 
@@ -38,6 +38,14 @@ abbrev numbered : Gv → ℕ
 numbered (gcons a b) = 0
 numbered gnil = 0
 numbered (gnum n) = 1
+
+pub fill_small : (first : Bool) → fill_added first < 7
+fill_small true = omega arith
+fill_small false = omega arith
+
+pub break_small : (first : Bool) → break_added first < 7
+break_small true = omega arith
+break_small false = omega arith
 
 some_is_tied : (t : Tie) → Some t ≡ None → ⊥
 some_is_tied t e = cc
@@ -339,6 +347,11 @@ module _ {M : Type 1} {𝓤 : Ura M} (𝓛 : Logic 𝓤) (R : RattleType) (γ : 
   pub publishes_first : (x : R.Denot) → BareLaw (moved filling) (λ c. c + 3) (λ _. written R γ.value_name x) (⟦ reserved R γ ⟧ ∗ (⟦ over R γ ⟧ ∗ ⟦ frozen x ⟧))
   publishes_first x = only_begun (moved filling) (λ c. c + 3) (λ _. written R γ.value_name x) (⟦ over R γ ⟧ ∗ ⟦ frozen x ⟧) (publishes_at begun 3 x refl (refl, tt, refl))
 
+  -- the same, by whether the writer is the first
+  pub publishes_by : (first : Bool) (x : R.Denot) → BareLaw (moved filling) (λ c. c + fill_added first) (λ _. written R γ.value_name x) (⟦ setting R γ first ⟧ ∗ (⟦ over R γ ⟧ ∗ ⟦ frozen x ⟧))
+  publishes_by true x = publishes_first x
+  publishes_by false x = publishes_bare x
+
   pub publishes : IsPlain γ → (x : R.Denot) → Law 𝓛 R α b γ δ e (λ c. c + 2) (λ _. written R γ.value_name x) (⟦ unset R γ ⟧ ∗ (⟦ over R γ ⟧ ∗ ⟦ frozen x ⟧))
   publishes plain x = untied (moved filling) (λ c. c + 2) (λ _. written R γ.value_name x) (⟦ unset R γ ⟧ ∗ (⟦ over R γ ⟧ ∗ ⟦ frozen x ⟧)) plain (publishes_bare x)
 
@@ -365,6 +378,11 @@ module _ {M : Type 1} {𝓤 : Ura M} (𝓛 : Logic 𝓤) (R : RattleType) (γ : 
   -- the same by the first writer
   pub breaks_first : BareLaw (moved breaking) (λ c. c + 5) (λ _. was_broken γ.broken_name) (⟦ reserved R γ ⟧ ∗ (⟦ over R γ ⟧ ∗ ⟦ rest free ⟧))
   breaks_first = only_begun (moved breaking) (λ c. c + 5) (λ _. was_broken γ.broken_name) (⟦ over R γ ⟧ ∗ ⟦ rest free ⟧) (breaks_at begun 5 refl (refl, tt, refl))
+
+  -- the same, by whether the writer is the first
+  pub breaks_by : (first : Bool) → BareLaw (moved breaking) (λ c. c + break_added first) (λ _. was_broken γ.broken_name) (⟦ setting R γ first ⟧ ∗ (⟦ over R γ ⟧ ∗ ⟦ rest free ⟧))
+  breaks_by true = breaks_first
+  breaks_by false = breaks_bare
 
   pub breaks : IsPlain γ → Law 𝓛 R α b γ δ e (λ c. c + 4) (λ _. was_broken γ.broken_name) (⟦ unset R γ ⟧ ∗ (⟦ over R γ ⟧ ∗ ⟦ rest free ⟧))
   breaks plain = untied (moved breaking) (λ c. c + 4) (λ _. was_broken γ.broken_name) (⟦ unset R γ ⟧ ∗ (⟦ over R γ ⟧ ∗ ⟦ rest free ⟧)) plain breaks_bare

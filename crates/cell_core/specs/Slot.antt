@@ -94,6 +94,15 @@ broken_state = 5
 abbrev pub owner_broken_state : ℕ
 owner_broken_state = 9
 
+-- what makes a cell filled, and broken, that its writer has: by whether it is begun and not busy
+abbrev pub fill_added : Bool → ℕ
+fill_added true = 3
+fill_added false = 2
+
+abbrev pub break_added : Bool → ℕ
+break_added true = 5
+break_added false = 4
+
 -- the state of each phase
 abbrev pub state : {X : Type 0} → Phase X → ℕ
 state free = empty_state
@@ -211,6 +220,11 @@ module _ (R : RattleType) where
     abbrev pub reserved : Fml
     reserved = fobs γ.value_name (mark begun)
 
+    -- the right to set the first name, by whether the cell is begun and not busy
+    abbrev pub setting : Bool → Fml
+    setting true = reserved
+    setting false = unset
+
     -- what a broken cell has: what shows that it is, and the right to set the first name
     abbrev pub broken_unset : Fml
     broken_unset = fsep (was_broken γ.broken_name) unset
@@ -307,8 +321,7 @@ module _ (R : RattleType) where
 
       -- the right to write, by whether the cell is begun and not busy
       abbrev pub right_of : Bool → Fml
-      right_of true = FirstRight
-      right_of false = Right
+      right_of first = fsep (fsep over (setting first)) (fsep empty (fbor α Room))
 
       -- what a step gains if it found n: the right to write, if it found what it sought; otherwise what n shows
       abbrev pub gained : Bool → Bool → ℕ → Fml

@@ -5,8 +5,8 @@ ghost use base.Stored.{coded_bool};
 ghost use denote.Sharing.{said};
 ghost use Rattle.std.specs.Coded.{coded_option};
 ghost use Rattle.cell_core.specs.Fields.{field};
-ghost use Rattle.cell_core.specs.Tie.{HasMade, looks};
-ghost use Rattle.cell_core.specs.Slot.{Names, IsPlain, names_coded, slot_owned, pen_owned, sighted, written, was_broken};
+ghost use Rattle.cell_core.specs.Tie.{HasMade, begins, breaks, fills, looks, mends};
+ghost use Rattle.cell_core.specs.Slot.{Names, IsPlain, names_coded, break_added, fill_added, slot_owned, pen_owned, sighted, written, was_broken};
 ghost use Rattle.cell_core.specs.Slot.{empty_state, busy_state, filled_state, broken_state, owner_broken_state};
 ghost use Rattle.cell_core.specs.Member.{HasNames, IsStateOf, MayBeStateOf, IsEpochOf};
 
@@ -199,6 +199,44 @@ impl<'a, T> RawSlot<'a, T> {
         (found, sight, offer)
     }
 
+    // The load that begins a tied cell. The caller's update runs in it, and shows that nobody has begun the cell.
+    #[inline(always)]
+    pub(crate) fn begin_for<'b, X, K: Book<X>>(
+        self,
+        offer: Offer<'b, X, K>,
+    ) -> (RawPen<'a, T>, Offer<'b, X, K>)
+        requires { (self.of.tied ≡ Some offer.tie) × (offer.step ≡ begins) × (offer.made ≡ None) }
+        ensures { (result.0.of ≡ self.entry.of) × (result.0.index ≡ self.entry.index)
+            × (result.0.first ≡ true) × (result.0.sought ≡ empty_state) × (result.0.found ≡ empty_state)
+            × (result.1.tie ≡ offer.entry.tie) × (result.1.about ≡ offer.entry.about)
+            × (result.1.step ≡ offer.entry.step) × HasMade begins empty_state result.1.made }
+    {
+        let RawSlot { word, room, marker } = self;
+        let _found = unsafe { raw::load::<Brand>(word, SeqCst) };
+        (RawPen { word, room, marker }, offer)
+    }
+
+    // The step of a tied cell from broken to busy, which leaves any other state. The caller's update runs in it.
+    #[inline(always)]
+    pub(crate) fn mend_for<'b, X, K: Book<X>>(
+        self,
+        mask: u64,
+        offer: Offer<'b, X, K>,
+    ) -> (u64, RawPen<'a, T>, Offer<'b, X, K>)
+        requires { (self.of.tied ≡ Some offer.tie) × (offer.step ≡ mends) × (offer.made ≡ None)
+            × (mask ≡ 2 ^ 64 - 1 - 4 * 16 ^ self.index) }
+        ensures { (result.1.of ≡ self.entry.of) × (result.1.index ≡ self.entry.index)
+            × (result.1.first ≡ false) × (result.1.sought ≡ broken_state)
+            × (result.1.found ≡ field result.0 self.entry.index)
+            × (result.2.tie ≡ offer.entry.tie) × (result.2.about ≡ offer.entry.about)
+            × (result.2.step ≡ offer.entry.step)
+            × HasMade mends (field result.0 self.entry.index) result.2.made }
+    {
+        let RawSlot { word, room, marker } = self;
+        let found = unsafe { raw::fetch_and::<Brand>(word, mask, SeqCst) };
+        (found, RawPen { word, room, marker }, offer)
+    }
+
     // Returns the value, by evidence that there is one. It takes no step.
     pub(crate) fn value(self, written: &Written<T>) -> &'a T
         requires { written.now.of ≡ self.of.value_name }
@@ -280,6 +318,59 @@ impl<'a, T> RawPen<'a, T> {
         RawBroken {
             marker: PhantomData,
         }
+    }
+
+    // Writes the value, and then adds what makes the cell filled. The caller's update runs in that step.
+    #[inline(always)]
+    pub(crate) fn fill_for<'b, X, K: Book<X>>(
+        self,
+        value: T,
+        added: u64,
+        offer: Offer<'b, X, K>,
+    ) -> (Written<T>, Offer<'b, X, K>)
+        requires { (self.found ≡ self.sought) × (added ≡ fill_added self.first * 16 ^ self.index)
+            × (self.of.tied ≡ Some offer.tie) × (offer.step ≡ fills) × (offer.made ≡ None) }
+        ensures { (result.0.of ≡ self.entry.of.value_name) × (result.0.value ≡ value)
+            × (result.0.found ≡ self.entry.found) × (result.1.tie ≡ offer.entry.tie)
+            × (result.1.about ≡ offer.entry.about) × (result.1.step ≡ offer.entry.step)
+            × ((n : ℕ) × HasMade fills n result.1.made) }
+    {
+        let RawPen {
+            word,
+            room,
+            marker: _,
+        } = self;
+        unsafe { (room as *mut T).write(value) };
+        unsafe { raw::fetch_add::<Brand>(word, added, SeqCst) };
+        let written = Written {
+            marker: PhantomData,
+        };
+        (written, offer)
+    }
+
+    // Adds what makes the cell broken. The caller's update runs in that step.
+    #[inline(always)]
+    pub(crate) fn break_for<'b, X, K: Book<X>>(
+        self,
+        bits: u64,
+        offer: Offer<'b, X, K>,
+    ) -> (RawBroken, Offer<'b, X, K>)
+        requires { (self.found ≡ self.sought) × (bits ≡ break_added self.first * 16 ^ self.index)
+            × (self.of.tied ≡ Some offer.tie) × (offer.step ≡ breaks) × (offer.made ≡ None) }
+        ensures { (result.0.of ≡ self.entry.of.broken_name) × (result.1.tie ≡ offer.entry.tie)
+            × (result.1.about ≡ offer.entry.about) × (result.1.step ≡ offer.entry.step)
+            × ((n : ℕ) × HasMade breaks n result.1.made) }
+    {
+        let RawPen {
+            word,
+            room: _,
+            marker: _,
+        } = self;
+        unsafe { raw::fetch_add::<Brand>(word, bits, SeqCst) };
+        let broken = RawBroken {
+            marker: PhantomData,
+        };
+        (broken, offer)
     }
 
     // The token of what a lost step found.

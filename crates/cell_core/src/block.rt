@@ -3,7 +3,7 @@ ghost use Rattle.std.specs.Prelude.{◌≡◌, ◌≢◌, ◌+◌, ◌/◌, ◌%
 ghost use Rattle.cell_core.specs.Block.{block_len, cell_at, IsPenAt, IsFresh, IsMending, IsPlacedIn, IsPlacedAt, IsMemberAt};
 ghost use Rattle.cell_core.specs.Slot.{IsPlain, empty_state, filled_state};
 ghost use Rattle.cell_core.specs.Laid.{AreOfKind, HasEachRenamed, IsLinked, IsWhole, word_cells};
-ghost use Rattle.cell_core.specs.Shown.{IsFoundIn, IsNotEmpty, ShowsFilled, IsLookAt};
+ghost use Rattle.cell_core.specs.Shown.{IsFoundIn, IsNotEmpty, ShowsFilled, IsLookAt, IsLookOf};
 
 mod begun;
 mod epoch;
@@ -20,6 +20,7 @@ mod shown;
 mod slice;
 mod spoilt;
 mod steps;
+mod tied;
 
 use crate::slot::steps::{BROKEN, BROKEN_BY_OWNER, BUSY, EMPTY, FILLED, RawPen, RawSight, RawSlot};
 pub use begun::Begun;
@@ -268,7 +269,8 @@ impl<T, A: Allocator, B: Kind> Block<T, A, B> {
     fn unfilled(&self, offset: u64, found: u64, sight: RawSight<T>) -> Look<'_, T>
         requires { (offset < block_len self.now) × (sight.of ≡ cell_at self.now offset)
             × (sight.found ≡ found) × (found ≢ filled_state) }
-        ensures { IsLookAt self.now offset result }
+        ensures look { IsLookAt self.now offset result }
+        ensures state { IsLookOf found result }
     {
         match found {
             EMPTY => {

@@ -240,6 +240,12 @@ module _ {M : Type 1} {𝓤 : Ura M} (𝓛 : Logic 𝓤) (R : RattleType) where
       -- [what rests; the others; the room]
       move ! (2 ∷ 0 ∷ []) $ fjoin ! $ fjoin ! $ show ! (Laying (u ∷ τs) c e) (γ ∷ ns) $ check ! (ap suc long.0, (refl, long.1)) $ done !)))))
 
+  -- the seats of the first cells, and of the others
+  pub seats_split : (n : ℕ) (τs : List (Option Tie)) → ⟦ seats τs ⟧ ⊢ ⟦ seats (take n τs) ⟧ ∗ ⟦ seats (drop n τs) ⟧
+  seats_split zero τs = qed 𝓛 (‵ (seats τs) ∷ []) ∵ nothing ! $ done !
+  seats_split (suc n) [] = qed 𝓛 (‵ ftrue ∷ []) ∵ nothing ! $ done !
+  seats_split (suc n) (u ∷ τs) = qed 𝓛 (‵ (seats (u ∷ τs)) ∷ []) ∵ fsplit ! $ move ! (1 ∷ []) $ use1 𝓛 (‵ (seats (take n τs)) ⊛ ‵ (seats (drop n τs))) (seats_split n τs) $ split ! $ move ! (2 ∷ 0 ∷ []) $ fjoin ! $ done !
+
   -- no ties
   abbrev pub nones : ℕ → List (Option Tie)
   nones zero = []

@@ -20,3 +20,4 @@ mod SliceSteps
 mod SliceParts
 mod PlainCells
 mod OfferMade
+mod SeatsMade

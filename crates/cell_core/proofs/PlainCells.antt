@@ -1,8 +1,9 @@
 -- What kind the cells of a block are, after an owner's step and in a run.
-use Rattle.std.proofs.Common.{Bool, false, ◌≡◌, ◌≢◌, ℕ, zero, suc, ◌+◌, ◌<◌, List, [], ◌∷◌, ◌++◌, length, set, refl, sym, ap, ◌∙◌, subst, arith}
+use Rattle.std.proofs.Common.{Bool, true, false, take, drop, append_assoc, append-nil, take-append-drop, length-append, ◌≡◌, ◌≢◌, ℕ, zero, suc, ◌+◌, ◌<◌, List, [], ◌∷◌, ◌++◌, length, set, refl, sym, ap, ◌∙◌, subst, arith}
 use Rattle.std.specs.Prelude.{Option, None}
-use Rattle.cell_core.specs.Slot.{Names, IsPlain, ArePlain, cell_in}
-use Rattle.cell_core.specs.Laid.{IsOfKind, AreOfKind, HasOneRenamed, HasMore, IsAnother}
+use Rattle.cell_core.specs.Tie.{Tie}
+use Rattle.cell_core.specs.Slot.{Names, IsPlain, ArePlain, AreTied, cell_in}
+use Rattle.cell_core.specs.Laid.{IsOfKind, AreOfKind, HasOneRenamed, HasMore, HasMoreTied, IsAnother}
 use Rattle.cell_core.specs.Member.{Settles}
 use Rattle.cell_core.specs.Run.{cells_from}
 
@@ -42,3 +43,49 @@ none_kind tied = record { plain = λ none j. refl }
 
 pub cell_plain : (γs : List Names) (i : ℕ) → AreOfKind false γs → IsPlain (cell_in γs i)
 cell_plain γs i are = are.plain refl i
+
+true_is_not : true ≡ false → ⊥
+true_is_not e = cc
+
+-- cells that may be tied are of that kind
+pub tied_kind : (γs : List Names) → AreOfKind true γs
+tied_kind γs = record { plain = λ none. absurd (true_is_not none) }
+
+-- cells with ties, and more of them
+tied_join : (τs us : List (Option Tie)) (γs Γs : List Names) → AreTied τs γs → AreTied us Γs → AreTied (τs ++ us) (γs ++ Γs)
+tied_join [] us [] Γs at also = also
+tied_join [] us (γ ∷ γs) Γs at also = absurd at
+tied_join (τ ∷ τs) us [] Γs at also = absurd at
+tied_join (τ ∷ τs) us (γ ∷ γs) Γs at also = (at.0, tied_join τs us γs Γs at.1 also)
+
+-- some cells have the first of some ties, and the others are left
+pub record HaveFirst (all : List (Option Tie)) (left : List (Option Tie)) (γs : List Names) : Type 0 where
+  pub first : List (Option Tie)
+  pub split : all ≡ first ++ left
+  pub tied : AreTied first γs
+
+pub first_none : (all : List (Option Tie)) → HaveFirst all all []
+first_none all = record { first = []; split = refl; tied = tt }
+
+pub first_more : (all left : List (Option Tie)) (old : List Names) (n : ℕ) (new : List Names) → HaveFirst all left old → HasMoreTied old n new left → HaveFirst all (drop n left) new
+first_more all left old n new have more = record {
+  first = have.first ++ take n left;
+  split = have.split ∙ ap (λ (us : List (Option Tie)). have.first ++ us) (sym (take-append-drop n left)) ∙ sym (append_assoc have.first (take n left) (drop n left));
+  tied = subst (λ (γs : List Names). AreTied (have.first ++ take n left) γs) (sym more.2) (tied_join have.first (take n left) old more.0 have.tied more.3);
+}
+
+tied_length : (τs : List (Option Tie)) (γs : List Names) → AreTied τs γs → length τs ≡ length γs
+tied_length [] [] at = refl
+tied_length [] (γ ∷ γs) at = absurd at
+tied_length (τ ∷ τs) [] at = absurd at
+tied_length (τ ∷ τs) (γ ∷ γs) at = ap suc (tied_length τs γs at.1)
+
+none_left : (left : List (Option Tie)) → length left ≡ 0 → left ≡ []
+none_left [] none = refl
+none_left (τ ∷ left) none = absurd (omega arith)
+
+pub first_all : (all left : List (Option Tie)) (γs : List Names) → HaveFirst all left γs → length γs ≡ length all → AreTied all γs
+first_all all left γs have same =
+    let long = ap length have.split ∙ length-append have.first left in let of = tied_length have.first γs have.tied in
+    let none : left ≡ [] = none_left left (omega (arith, long, of)) in
+    subst (λ (τs : List (Option Tie)). AreTied τs γs) (sym (have.split ∙ ap (λ (us : List (Option Tie)). have.first ++ us) none ∙ append-nil have.first)) have.tied

@@ -1,7 +1,7 @@
 //! A block of cells, laid raw in two rows: the values side by side, and words with the states of sixteen cells each.
 ghost use Rattle.std.specs.Prelude.{◌≡◌, ◌≢◌, ◌+◌, ◌/◌, ◌%◌, ◌<◌, [], false, Some, None, IsSomeAnd, IfSome, IfOk, IfErr, IsErrAnd, length};
 ghost use Rattle.cell_core.specs.Block.{block_len, cell_at, IsPenAt, IsFresh, IsMending, IsPlacedIn, IsPlacedAt, IsMemberAt};
-ghost use Rattle.cell_core.specs.Slot.{IsPlain, empty_state, filled_state};
+ghost use Rattle.cell_core.specs.Slot.{AreTied, IsPlain, empty_state, filled_state};
 ghost use Rattle.cell_core.specs.Laid.{AreOfKind, HasEachRenamed, IsLinked, IsWhole, word_cells};
 ghost use Rattle.cell_core.specs.Shown.{IsFoundIn, IsNotEmpty, ShowsFilled, IsLookAt, IsLookOf};
 
@@ -16,6 +16,7 @@ mod owner;
 mod pen;
 mod placed;
 mod run;
+pub(crate) mod seats;
 mod shown;
 mod slice;
 mod spoilt;
@@ -32,6 +33,7 @@ pub use offer::{Book, Offer};
 pub use pen::Pen;
 pub use placed::Placed;
 pub use run::RunPen;
+pub use seats::Seats;
 pub use shown::{Found, Look};
 pub use spoilt::Spoilt;
 use std::alloc::{AllocError, Allocator, Global};
@@ -386,6 +388,26 @@ fn lay<T, A: Allocator>(laid: Laid<T, A>, words: *mut u64, n: u64) -> Laid<T, A>
     'words: while left > 0 {
         let cells = left.min(WORD_CELLS);
         laid.push(words, word, cells as usize);
+        word += 1;
+        left -= cells;
+    }
+    laid
+}
+
+// The words for `n` cells, all empty, with these ties.
+fn lay_for<T, A: Allocator>(laid: Laid<T, A>, words: *mut u64, n: u64, seats: Seats) -> Laid<T, A>
+    requires { IsLinked laid.rows.at words × (laid.cells ≡ []) × (laid.rows.words ≡ 0)
+        × (laid.rows.more ≡ (n + 15) / word_cells) × (laid.rows.left ≡ n) × (length seats.ties ≡ n) }
+    ensures { (result.heap ≡ laid.heap) × (result.rows.at ≡ laid.rows.at) × (result.rows.rooms ≡ laid.rows.rooms)
+        × (length result.cells ≡ n) × IsWhole result.rows n × AreTied seats.ties result.cells }
+{
+    let mut laid = laid;
+    let mut seats = seats;
+    let mut word = 0;
+    let mut left = n;
+    'words: while left > 0 {
+        let cells = left.min(WORD_CELLS);
+        seats = laid.push_for(words, word, cells as usize, seats);
         word += 1;
         left -= cells;
     }

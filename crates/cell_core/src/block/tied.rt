@@ -1,17 +1,47 @@
 // Steps on cells that are tied to a table. Each runs an update that its caller brings, in its one atomic step.
-ghost use Rattle.std.specs.Prelude.{◌≡◌, ◌≢◌, ◌<◌, ℕ, Some, None, IfOk, IfErr};
+ghost use Rattle.std.specs.Prelude.{◌≡◌, ◌≢◌, ◌<◌, ℕ, Some, None, IfOk, IfErr, length};
 ghost use Rattle.cell_core.specs.Block.{block_len, cell_at, IsPenAt, IsFresh, IsMending};
 ghost use Rattle.cell_core.specs.Shown.{IsFoundIn, IsLookAt, IsLookOf};
-ghost use Rattle.cell_core.specs.Slot.{empty_state, broken_state};
+ghost use Rattle.cell_core.specs.Slot.{AreTied, empty_state, broken_state};
 ghost use Rattle.cell_core.specs.Tie.{HasMade, begins, breaks, fills, looks, mends};
 
-use crate::block::fields::{all_but, in_field, state_in};
-use crate::block::{Block, Book, First, Found, Look, Offer, Pen, Placed, Spoilt, Tied};
+use crate::block::fields::{all_but, in_field, state_in, words_for};
+use crate::block::steps::{Laid, Link, Rooms};
+use crate::block::{
+    Block, Book, First, Found, Look, Offer, Pen, Placed, Seats, Spoilt, Tied, lay_for,
+};
 use crate::slot::steps::{BROKEN, BUSY, FILLED};
-use std::alloc::Allocator;
+use std::alloc::{AllocError, Allocator};
 use std::marker::PhantomData;
 
 impl<T, A: Allocator> Block<T, A, Tied> {
+    /// Makes a block of `n` empty cells that are tied to these seats, in order. It requests memory like `new`. If
+    /// memory is refused, the seats are given up.
+    #[tactic(auto, using(crate::proofs::PlainCells::tied_kind))]
+    pub fn new_for(alloc: A, n: u64, seats: Seats) -> Result<Block<T, A, Tied>, AllocError>
+        requires { length seats.ties ≡ n }
+        ensures len { IfOk result (λ block. block_len block ≡ n) }
+        ensures ties { IfOk result (λ block. AreTied seats.ties block.cells) }
+    {
+        let (rooms, values) = Rooms::reserve(&alloc, n as usize)?;
+        let (words, states) = match Rooms::reserve(&alloc, words_for(n)) {
+            Ok(row) => row,
+            Err(error) => {
+                values.free(&alloc, rooms, n as usize);
+                return Err(error);
+            }
+        };
+        let link = Link::of(words, rooms);
+        let laid = lay_for(Laid::new(states, values), words, n, seats);
+        Ok(Block {
+            alloc,
+            link,
+            laid,
+            len: n,
+            marker: PhantomData,
+        })
+    }
+
     /// Looks at what a tied cell shows now, by one load. The offer's update runs in the load. A cell that is begun
     /// shows that it is empty.
     #[inline(always)]

@@ -324,13 +324,13 @@ impl<'a, T> RawPen<'a, T> {
     #[inline(always)]
     pub(crate) fn fill_for<'b, X, K: Book<X>>(
         self,
-        value: T,
-        added: u64,
+        item: T,
+        bits: u64,
         offer: Offer<'b, X, K>,
     ) -> (Written<T>, Offer<'b, X, K>)
-        requires { (self.found ≡ self.sought) × (added ≡ fill_added self.first * 16 ^ self.index)
+        requires { (self.found ≡ self.sought) × (bits ≡ fill_added self.first * 16 ^ self.index)
             × (self.of.tied ≡ Some offer.tie) × (offer.step ≡ fills) × (offer.made ≡ None) }
-        ensures { (result.0.of ≡ self.entry.of.value_name) × (result.0.value ≡ value)
+        ensures { (result.0.of ≡ self.entry.of.value_name) × (result.0.value ≡ item)
             × (result.0.found ≡ self.entry.found) × (result.1.tie ≡ offer.entry.tie)
             × (result.1.about ≡ offer.entry.about) × (result.1.step ≡ offer.entry.step)
             × ((n : ℕ) × HasMade fills n result.1.made) }
@@ -340,8 +340,8 @@ impl<'a, T> RawPen<'a, T> {
             room,
             marker: _,
         } = self;
-        unsafe { (room as *mut T).write(value) };
-        unsafe { raw::fetch_add::<Brand>(word, added, SeqCst) };
+        unsafe { (room as *mut T).write(item) };
+        unsafe { raw::fetch_add::<Brand>(word, bits, SeqCst) };
         let written = Written {
             marker: PhantomData,
         };

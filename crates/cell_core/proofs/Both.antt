@@ -1,4 +1,4 @@
--- A step on a word opens two invariants that hold borrows: that of the word, and another one. Assumes `Logic`.
+-- A step on a word opens the word's invariant and a second one. Both hold borrows. Assumes `Logic`.
 use mathlib.Core.Path.{◌≡◌}
 use mathlib.Core.List.{List, [], ◌∷◌, Mem, mem-cons, not-mem-nil}
 use mathlib.Core.Logic.Or

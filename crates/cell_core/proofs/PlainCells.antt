@@ -1,4 +1,4 @@
--- What kind the cells of a block are, after an owner's step and in a run.
+-- Cells stay of their kind, and get the ties that a new block is given.
 use Rattle.std.proofs.Common.{Bool, true, false, take, drop, append_assoc, append-nil, take-append-drop, length-append, ◌≡◌, ◌≢◌, ℕ, zero, suc, ◌+◌, ◌<◌, List, [], ◌∷◌, ◌++◌, length, set, refl, sym, ap, ◌∙◌, subst, arith}
 use Rattle.std.specs.Prelude.{Option, None}
 use Rattle.cell_core.specs.Tie.{Tie}

@@ -1,11 +1,11 @@
-// Whether cells are tied to a table, as a marker of a block and of its pens.
+// A marker of a block, and of its pens, says whether their cells are tied to a table.
 ghost use Rattle.std.specs.Prelude.{Bool, true, false};
 
-/// What a block's cells are, as a marker. `Plain` has no ties, `Tied` may have some.
+/// Says, as a marker, whether the cells of a block may be tied. `Plain` cells are not.
 pub trait Kind {
-    // Whether cells may be tied.
+    // Cells of this kind may be tied.
     ghost tied: { Bool };
-    // Whether a pen is of a cell that is begun and not busy.
+    // A pen of this kind is of a cell that is begun and not busy.
     ghost first: { Bool };
 }
 

@@ -5,13 +5,13 @@ ghost use Rattle.cell_core.specs.Tie.{Tie, tie_coded, Stage, Step, step_coded, M
 
 use std::marker::{Model, PhantomData};
 
-/// What a caller's table is, and what the caller has once its update has run, by data of its own.
+/// Says what a caller's table is, and what the caller gains once its update has run, by data of its own.
 pub trait Book<X> {
-    // How long the table lends what its invariant holds.
+    // The lifetime for which the table lends the content of its invariant.
     ghost age: { X → Lft };
-    // What its invariant holds.
+    // The content of that invariant.
     ghost inner: { X → Fml };
-    // What the caller has then, by the stages before and after the step.
+    // The gain of the caller, by the stages before and after the step.
     ghost gain: { X → Stage → Stage → Fml };
 }
 

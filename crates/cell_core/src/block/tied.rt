@@ -1,4 +1,5 @@
-// Steps on cells that are tied to a table. Each runs an update that its caller brings, in its one atomic step.
+// Steps on cells that are tied to a table. Each call has one atomic step, which is its linearization point and runs an
+// update that the caller brings.
 ghost use Rattle.std.specs.Prelude.{◌≡◌, ◌≢◌, ◌<◌, ℕ, Some, None, IfOk, IfErr, length};
 ghost use Rattle.cell_core.specs.Block.{block_len, cell_at, IsPenAt, IsFresh, IsMending};
 ghost use Rattle.cell_core.specs.Shown.{IsFoundIn, IsLookAt, IsLookOf};

@@ -1,15 +1,16 @@
 -- A `&` to some cells is made of a borrow of them: they take a turn. Assumes `Logic`.
-use Rattle.std.proofs.Common.{◌≡◌, ℕ, zero, suc, ◌+◌, List, [], ◌∷◌, sym, subst}
+use Rattle.std.proofs.Common.{◌≡◌, ℕ, zero, suc, ◌+◌, ◌<◌, ◌≤◌, arith, List, [], ◌∷◌, sym, subst}
 use Rattle.std.specs.Prelude.{Option, Some, None}
 use seplogic.Ra.Ura.{Ura}
 use base.Fraction.{full_share}
 use base.Share
 use base.Logic.{SProp, ent, sep, ex, wand, emp, upd_i, apply∗, id⊢, wand_i, snd∗}
-use base.Fml.{Lft, GName, Share, Incl, Fml, ftrue, fsep, fseps, fex, fwand, fupd, fdead, fauth, fobs, fres, fbor, flft, finv, Incl-refl, Incl-trans}
+use base.Fml.{Lft, GName, Share, Incl, Fml, ftrue, fsep, fseps, fex, fwand, fupd, fdead, fauth, fobs, fres, fbor, flft, fnamed, Incl-refl, Incl-trans}
 use base.Before.{before}
 use ghost.Rules.{Toks, span, bors}
 use types.Logic.{Logic, sem, lfts}
-use types.Kit.{Item, mean, ‵, raw, ◌⊛◌, some, later, ◌$◌, ◌∵◌, !, qed, by, move, keep, drop, use0, use1, use2, use3, split, split3, join, fsplit, fsplit3, fjoin, fjoin3, fpick, fpack, pick, show, assume, suffices, await, updating, now, done}
+use types.Owned.{named_past}
+use types.Kit.{Item, mean, ‵, raw, ◌⊛◌, some, given, learn, later, ◌$◌, ◌∵◌, !, qed, by, move, keep, drop, use0, use1, use2, use3, split, split3, join, fsplit, fsplit3, fjoin, fjoin3, fpick, fpack, pick, show, assume, suffices, await, updating, now, done}
 use types.Tokens.{bor_open, obor_alter, name_new, name_agree, res_agree, res_dup, one_token}
 use types.Na.{before-Incl}
 use denote.RattleType.{RattleType}
@@ -20,7 +21,7 @@ use denote.Struct.Lending.{Lends}
 use contract.Monad as monad
 use Rattle.core.proofs.cell.Borrows.{by_one}
 use Rattle.cell_core.specs.Fields.{pack}
-use Rattle.cell_core.specs.Slot.{Names, Phase, free, busy, full, broken, broken_by_owner, state, Rest, Turn, step, content, Lies, word, named, inside, Room, tie, lent, cells, standing, Cells, kept, shared_at}
+use Rattle.cell_core.specs.Slot.{Names, Phase, fact, above, floors, free, begun, busy, full, broken, broken_by_owner, state, Rest, Turn, step, content, Lies, word, named, inside, Room, tie, lent, cells, standing, Cells, kept, shared_at}
 use Rattle.cell_core.specs.Laid.{rests, still}
 use Rattle.cell_core.proofs.CellSteps.{pins}
 
@@ -68,6 +69,7 @@ module _ (T : RattleType) (L : Laws T) {M : Type 1} {𝓤 : Ura M} (𝓛 : Logic
 
     lies : (s : S) (v : X) → ⟦ Tie s ⟧ ∗ A.auth η (code v) ⊢ monad.fact 𝓤 (Lies T v s)
     lies free v = qed 𝓛 (‵ (fobs η (code None)) ∷ ‵ (fauth η (code v)) ∷ []) ∵ name_agree ! (content T) {x = None} {y = v} (λ z. by ! (monad.fact_i 𝓤 (v ≡ None) _ (sym z)))
+    lies begun v = monad.fact_i 𝓤 (Unit {0}) _ tt
     lies busy v = monad.fact_i 𝓤 (Unit {0}) _ tt
     lies (full x) v = qed 𝓛 (‵ (fres η (code (Some x))) ∷ ‵ (fauth η (code v)) ∷ []) ∵ res_agree ! (content T) {x = Some x} {y = v} (λ z. by ! (monad.fact_i 𝓤 (v ≡ Some x) _ (sym z)))
     lies broken_by_owner v = qed 𝓛 (‵ (fobs η (code None)) ∷ ‵ (fauth η (code v)) ∷ []) ∵ name_agree ! (content T) {x = None} {y = v} (λ z. by ! (monad.fact_i 𝓤 (v ≡ None) _ (sym z)))
@@ -75,6 +77,7 @@ module _ (T : RattleType) (L : Laws T) {M : Type 1} {𝓤 : Ura M} (𝓛 : Logic
 
     ties : (s : S) (v : X) → Lies T v s → A.obs η (code v) ⊢ ⟦ Tie s ⟧
     ties free v so = subst (λ (u : X). A.obs η (code v) ⊢ A.obs η (code u)) so (id⊢ 𝓤 _)
+    ties begun v so = qed 𝓛 (‵ (fobs η (code v)) ∷ []) ∵ drop ! $ done !
     ties busy v so = qed 𝓛 (‵ (fobs η (code v)) ∷ []) ∵ drop ! $ done !
     ties (full x) v so = subst (λ (u : X). A.obs η (code v) ⊢ A.res η (code u)) so (𝓛.names.obs-res η (code v))
     ties broken_by_owner v so = subst (λ (u : X). A.obs η (code v) ⊢ A.obs η (code u)) so (id⊢ 𝓤 _)
@@ -85,6 +88,7 @@ module _ (T : RattleType) (L : Laws T) {M : Type 1} {𝓤 : Ura M} (𝓛 : Logic
     lends ts inc sp free = 𝓛.laws.⇛_intro _
     lends ts inc sp broken_by_owner = 𝓛.laws.⇛_intro _
     lends ts inc sp broken = 𝓛.laws.⇛_intro _
+    lends ts inc sp begun = qed 𝓛 (‵ ftrue ∷ ‵ (fbor κ V) ∷ raw (lfts 𝓛 ts) ∷ []) ∵ updating ! $ now ! $ nothing ! $ keep ! (0 ∷ 1 ∷ 3 ∷ []) $ done !
     lends ts inc sp busy = qed 𝓛 (‵ ftrue ∷ ‵ (fbor κ V) ∷ raw (lfts 𝓛 ts) ∷ []) ∵ updating ! $ now ! $ nothing ! $ keep ! (0 ∷ 1 ∷ 3 ∷ []) $ done !
     lends ts inc sp (full y) = let Q : Fml = part_at T full_share y c e in let k = code (Some y) in
         qed 𝓛 (‵ (fres η k) ∷ ‵ (fbor κ V) ∷ raw (lfts 𝓛 ts) ∷ []) ∵ updating ! $ res_dup ! $ move ! (0 ∷ 2 ∷ []) $ join ! $ move ! (0 ∷ 2 ∷ []) $
@@ -192,8 +196,9 @@ module _ (T : RattleType) (L : Laws T) {M : Type 1} {𝓤 : Ura M} (𝓛 : Logic
           fpack ! (ℕ → S) (standing T γs t b o c e) s $ nothing ! $ move ! (1 ∷ 0 ∷ []) $ fjoin ! $ use0 𝓛 (raw (A.dead κ -∗ A.dead κ)) (wand_i 𝓤 (emp 𝓤) (A.dead κ) (A.dead κ) (snd∗ 𝓤 (emp 𝓤) (A.dead κ))) $
           use0 𝓛 (‵ Way) cells_back $ join ! $ move ! (1 ∷ 0 ∷ []) $ join ! $ move ! (0 ∷ 2 ∷ []) $
           use2 𝓛 (later ((‵ (fbor κ I) ⊛ ‵ ftrue) ⊛ ‵ (flft μ l) ⊛ raw (A.dead κ -∗ A.bor κ All))) (apply∗ 𝓤 Asks Closed) $ await ! tt $ split3 ! $ split ! $
-          use1 𝓛 (later (‵ (finv (fbor κ I)))) (𝓛.invs.inv_new (fbor κ I)) $ await ! tt $ use0 𝓛 (‵ (before κ κ)) (before-Incl 𝓛 κ κ (Incl-refl κ)) $ fjoin ! $
-          move ! (2 ∷ 4 ∷ []) $ use2 𝓛 (‵ (flft μ q)) (𝓛.lfts.lft_join μ q) $ now ! $ keep ! (1 ∷ 0 ∷ []) $ done !)
+          use1 𝓛 (later (some (λ (n : ℕ). given (floors γs + 1 ≤ n) (‵ (fnamed n (fbor κ I)))))) (named_past 𝓛 (floors γs + 1) (fbor κ I)) $ await ! tt $ pick ! (λ n. learn ! (λ far.
+          nothing ! $ fpack ! (floors γs < n) (λ _. ftrue) (let more : floors γs < n = omega arith in more) $ fjoin ! $ fpack ! ℕ (λ k. fsep (fact (floors γs < k)) (fnamed k (fbor κ I))) n $ use0 𝓛 (‵ (before κ κ)) (before-Incl 𝓛 κ κ (Incl-refl κ)) $ fjoin ! $
+          move ! (2 ∷ 4 ∷ []) $ use2 𝓛 (‵ (flft μ q)) (𝓛.lfts.lft_join μ q) $ now ! $ keep ! (1 ∷ 0 ∷ []) $ done !)))
 
     abbrev Cuts : Item 𝓤
     Cuts = some (λ (η : ℕ → GName). ‵ (fbor κ (All η)) ⊛ raw (bors 𝓤 H A κ (rooms γs η e)))

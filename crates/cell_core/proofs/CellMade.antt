@@ -1,5 +1,5 @@
 -- What the raw steps on a cell hand out, as values. Assumes `Logic`.
-use Rattle.std.proofs.Common.{Bool, eq-eqb, ne_eqb, arith, ◌≡◌, ◌≢◌, ◌<◌, ℕ, zero, suc, T, List, [], ◌∷◌, ◌++◌, refl, ap, ◌∙◌}
+use Rattle.std.proofs.Common.{Bool, false, eq-eqb, ne_eqb, arith, ◌≡◌, ◌≢◌, ◌<◌, ℕ, zero, suc, T, List, [], ◌∷◌, ◌++◌, refl, ap, ◌∙◌}
 use Rattle.std.specs.Prelude.{Option, Some, None}
 use seplogic.Ra.Ura.{Ura}
 use mir.Syntax.{ty_ptr, ty_struct, tcons, tnil}
@@ -16,7 +16,7 @@ use denote.RawPtr.{Ptr, InBlock, block_ptr, null_ptr, ptr_val}
 use denote.Shadow.{makes_shadow}
 use denote.Struct.Struct.{Struct}
 use denote.Struct.Owning.{shape}
-use Rattle.cell_core.specs.Slot.{Names, Spot, IsAt, written, was_broken, known, kept, Right, gained, sights, sighted, slot_owned, pen_owned}
+use Rattle.cell_core.specs.Slot.{Names, Spot, IsAt, written, was_broken, known, kept, right_of, gained, sights, sighted, slot_owned, pen_owned}
 use Rattle.cell_core.specs.Slot.{fact as is_fact}
 use Rattle.cell_core.specs.contracts.slot.steps.RawSlot as RawSlot
 use Rattle.cell_core.specs.contracts.slot.steps.RawPen as RawPen
@@ -76,24 +76,27 @@ module _ {M : Type 1} {𝓤 : Ura M} (𝓛 : Logic 𝓤) (R : RattleType) where
   slot_placed γ β (block_ptr b o) null_ptr i = never_e 𝓤 _
   slot_placed γ β null_ptr q i = never_e 𝓤 _
 
-  pub pen_placed : (γ : Names) (β : Lft) (p q : Ptr) (i m n : ℕ) → ent 𝓤 (sem 𝓛 (pen_owned R γ β p q i m n)) (fact 𝓤 (InBlock p × InBlock q))
-  pen_placed γ β (block_ptr b o) (block_ptr c r) i m n = fact_i 𝓤 (Unit {0} × Unit {0}) _ (tt, tt)
-  pen_placed γ β (block_ptr b o) null_ptr i m n = never_e 𝓤 _
-  pen_placed γ β null_ptr q i m n = never_e 𝓤 _
+  pub pen_placed : (γ : Names) (β : Lft) (p q : Ptr) (i : ℕ) (first : Bool) (m n : ℕ) → ent 𝓤 (sem 𝓛 (pen_owned R γ β p q i first m n)) (fact 𝓤 (InBlock p × InBlock q))
+  pen_placed γ β (block_ptr b o) (block_ptr c r) i first m n = fact_i 𝓤 (Unit {0} × Unit {0}) _ (tt, tt)
+  pen_placed γ β (block_ptr b o) null_ptr i first m n = never_e 𝓤 _
+  pen_placed γ β null_ptr q i first m n = never_e 𝓤 _
 
   -- what a lost step showed
-  pub pen_shows : (γ : Names) (β : Lft) (p q : Ptr) (i m n : ℕ) → n ≢ m → ent 𝓤 (sem 𝓛 (pen_owned R γ β p q i m n)) (sem 𝓛 (sights R γ n))
-  pen_shows γ β (block_ptr b o) (block_ptr c r) i m n lost = qed 𝓛 (‵ (pen_owned R γ β (block_ptr b o) (block_ptr c r) i m n) ∷ []) ∵ fpick ! (λ z. fsplit3 ! $ keep ! (2 ∷ []) $ rewrite ! 0 (λ (h : Bool). ‵ (gained R γ z.1.0 (z.1.1 i) c r h n)) (ne_eqb n m lost) refl $ done !)
-  pen_shows γ β (block_ptr b o) null_ptr i m n lost = never_e 𝓤 _
-  pen_shows γ β null_ptr q i m n lost = never_e 𝓤 _
+  pub pen_shows : (γ : Names) (β : Lft) (p q : Ptr) (i : ℕ) (first : Bool) (m n : ℕ) → n ≢ m → ent 𝓤 (sem 𝓛 (pen_owned R γ β p q i first m n)) (sem 𝓛 (sights R γ n))
+  pen_shows γ β (block_ptr b o) (block_ptr c r) i first m n lost = qed 𝓛 (‵ (pen_owned R γ β (block_ptr b o) (block_ptr c r) i first m n) ∷ []) ∵ fpick ! (λ z. fsplit3 ! $ keep ! (2 ∷ []) $ rewrite ! 0 (λ (h : Bool). ‵ (gained R γ z.1.0 (z.1.1 i) c r first h n)) (ne_eqb n m lost) refl $ done !)
+  pen_shows γ β (block_ptr b o) null_ptr i first m n lost = never_e 𝓤 _
+  pen_shows γ β null_ptr q i first m n lost = never_e 𝓤 _
 
   -- what one that found what it sought gained
-  abbrev pub Held : Names → Lft → ℕ → ℕ → ℕ → ℕ → ℕ → Fml
-  Held γ β b o c r i = fex Spot (λ z. fsep (is_fact (IsAt R γ i r z)) (fsep (kept R z.0 z.1 b o c z.2 β) (Right R γ z.1.0 (z.1.1 i) c r)))
+  abbrev pub Has : Bool → Names → Lft → ℕ → ℕ → ℕ → ℕ → ℕ → Fml
+  Has first γ β b o c r i = fex Spot (λ z. fsep (is_fact (IsAt R γ i r z)) (fsep (kept R z.0 z.1 b o c z.2 β) (right_of R γ z.1.0 (z.1.1 i) c r first)))
 
-  pub pen_gains : (γ : Names) (β : Lft) (b o c r i m n : ℕ) → n ≡ m → ent 𝓤 (sem 𝓛 (pen_owned R γ β (block_ptr b o) (block_ptr c r) i m n)) (sem 𝓛 (Held γ β b o c r i))
-  pen_gains γ β b o c r i m n same = qed 𝓛 (‵ (pen_owned R γ β (block_ptr b o) (block_ptr c r) i m n) ∷ []) ∵ fpick ! (λ z. fsplit3 ! $ rewrite ! 2 (λ (h : Bool). ‵ (gained R γ z.1.0 (z.1.1 i) c r h n)) (eq-eqb n m same) refl $ fjoin3 ! $
-      fpack ! Spot (λ u. fsep (is_fact (IsAt R γ i r u)) (fsep (kept R u.0 u.1 b o c u.2 β) (Right R γ u.1.0 (u.1.1 i) c r))) z $ done !)
+  abbrev pub Held : Names → Lft → ℕ → ℕ → ℕ → ℕ → ℕ → Fml
+  Held = Has false
+
+  pub pen_gains : (γ : Names) (β : Lft) (b o c r i : ℕ) (first : Bool) (m n : ℕ) → n ≡ m → ent 𝓤 (sem 𝓛 (pen_owned R γ β (block_ptr b o) (block_ptr c r) i first m n)) (sem 𝓛 (Has first γ β b o c r i))
+  pen_gains γ β b o c r i first m n same = qed 𝓛 (‵ (pen_owned R γ β (block_ptr b o) (block_ptr c r) i first m n) ∷ []) ∵ fpick ! (λ z. fsplit3 ! $ rewrite ! 2 (λ (h : Bool). ‵ (gained R γ z.1.0 (z.1.1 i) c r first h n)) (eq-eqb n m same) refl $ fjoin3 ! $
+      fpack ! Spot (λ u. fsep (is_fact (IsAt R γ i r u)) (fsep (kept R u.0 u.1 b o c u.2 β) (right_of R γ u.1.0 (u.1.1 i) c r first))) z $ done !)
 
   -- a state that is not that of an empty, a busy or a filled cell showed that the cell is broken
   pub sight_shows_broken : (γ : Names) (n : ℕ) (v : Option R.Denot) → (1 < n) × (n ≢ 3) → ent 𝓤 (sem 𝓛 (sighted R γ n v)) (sem 𝓛 (was_broken γ.broken_name))

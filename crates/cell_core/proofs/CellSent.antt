@@ -13,7 +13,8 @@ use denote.Param.Send.{IsSend, IsSync, part_keyless, sendable}
 use denote.Struct.Owning
 use denote.Struct.Struct
 use Rattle.core.proofs.atomic.Sent.{chain-Keyless}
-use Rattle.cell_core.specs.Slot.{Names, broken_once, Phase, free, busy, full, broken, broken_by_owner, Turn, place, told, tie, lent, cell, cells, kept, known, sighted, gained, slot_owned, pen_owned}
+use Rattle.cell_core.specs.Slot.{Names, broken_once, Phase, stage, free, begun, busy, full, broken, broken_by_owner, Turn, place, told, tie, lent, cell, cells, kept, known, sighted, setting, right_of, gained, slot_owned, pen_owned}
+use Rattle.cell_core.specs.Tie.{Tie, Stage, seat_of, seat_at}
 use Rattle.cell_core.specs.Slot.{Rest, resting}
 use Rattle.cell_core.specs.Laid.{Extent, rests, along, along_lent, laid, laid_lent}
 use Rattle.cell_core.specs.Member.{MemberView, known_as, members}
@@ -25,9 +26,19 @@ use Rattle.cell_core.specs.contracts.slot.steps.RawPen as RawPen
 use Rattle.cell_core.specs.contracts.slot.steps.Written as Written
 use Rattle.cell_core.specs.contracts.slot.steps.RawBroken as RawBroken
 
+seat_of_keyless : (t : Tie) (f : Option Stage) (s : Stage) → Keyless (seat_of t f s)
+unfolding types.Keyed.entry
+seat_of_keyless t None s = tt
+seat_of_keyless t (Some a) s = λ _. tt
+
+seat_keyless : (τ : Option Tie) (s : Stage) → Keyless (seat_at τ s)
+seat_keyless None s = tt
+seat_keyless (Some t) s = seat_of_keyless t t.fixed s
+
 module _ (R : RattleType) (γ : Names) where
   told_keyless : (s : Phase R.Denot) → Keyless (told R γ s)
   told_keyless free = (tt, tt)
+  told_keyless begun = (tt, (λ _. tt))
   told_keyless busy = tt
   told_keyless (full x) = (tt, tt)
   told_keyless broken = (tt, (tt, tt))
@@ -35,6 +46,7 @@ module _ (R : RattleType) (γ : Names) where
 
   tie_keyless : (α : Lft) (δ : GName) (b e : ℕ) (s : Phase R.Denot) → Keyless (tie R γ α δ b e s)
   tie_keyless α δ b e free = tt
+  tie_keyless α δ b e begun = tt
   tie_keyless α δ b e busy = tt
   tie_keyless α δ b e (full x) = tt
   tie_keyless α δ b e broken = tt
@@ -62,17 +74,25 @@ module _ (R : RattleType) (γ : Names) where
 
     lent_keyless : (α : Lft) (δ : GName) (b e : ℕ) (p : Phase R.Denot) → Keyless (lent R γ α δ b e p)
     lent_keyless α δ b e free = λ u. (place_keyless u b e, tt)
+    lent_keyless α δ b e begun = tt
     lent_keyless α δ b e busy = tt
     lent_keyless α δ b e (full x) = y.shared x b e α
     lent_keyless α δ b e broken = λ u. (place_keyless u b e, tt)
     lent_keyless α δ b e broken_by_owner = λ u. (place_keyless u b e, tt)
 
     cell_keyless : (α : Lft) (δ : GName) (b e : ℕ) (p : Phase R.Denot) → Keyless (cell R γ α δ b e p)
-    cell_keyless α δ b e p = ((tt, broken_once_keyless), (told_keyless p, (tie_keyless α δ b e p, lent_keyless α δ b e p)))
+    cell_keyless α δ b e p = ((tt, broken_once_keyless), ((told_keyless p, seat_keyless γ.tied (stage p)), (tie_keyless α δ b e p, lent_keyless α δ b e p)))
 
-    gained_keyless : (α : Lft) (δ : GName) (b e : ℕ) (won : Bool) (n : ℕ) → Keyless (gained R γ α δ b e won n)
-    gained_keyless α δ b e true n = ((tt, tt), (tt, λ u. (place_keyless u b e, tt)))
-    gained_keyless α δ b e false n = sighted_keyless n
+    setting_keyless : (first : Bool) → Keyless (setting R γ first)
+    setting_keyless true = tt
+    setting_keyless false = tt
+
+    right_keyless : (α : Lft) (δ : GName) (b e : ℕ) (first : Bool) → Keyless (right_of R γ α δ b e first)
+    right_keyless α δ b e first = ((tt, setting_keyless first), (tt, λ u. (place_keyless u b e, tt)))
+
+    gained_keyless : (α : Lft) (δ : GName) (b e : ℕ) (first won : Bool) (n : ℕ) → Keyless (gained R γ α δ b e first won n)
+    gained_keyless α δ b e first true n = right_keyless α δ b e first
+    gained_keyless α δ b e first false n = sighted_keyless n
 
 module _ (R : RattleType) (s : IsSend R) (y : IsSync R) where
   cells_keyless : (γs : List Names) (α : Lft) (δ : ℕ → GName) (b e : ℕ) (p : ℕ → Phase R.Denot) → Keyless (cells R γs α δ b e p)
@@ -80,20 +100,20 @@ module _ (R : RattleType) (s : IsSend R) (y : IsSync R) where
   cells_keyless (γ ∷ γs) α δ b e p = (cell_keyless R γ s y α (δ 0) b e (p 0), cells_keyless γs α (λ i. δ (suc i)) b _ (λ i. p (suc i)))
 
   kept_keyless : (γs : List Names) (t : Turn) (b o c e : ℕ) (κ : Lft) → Keyless (kept R γs t b o c e κ)
-  kept_keyless γs t b o c e κ = ((λ νs. chain-Keyless νs κ t.0), λ p. (tt, cells_keyless γs t.0 t.1 c e p))
+  kept_keyless γs t b o c e κ = ((λ νs. chain-Keyless νs κ t.0), λ n. ((λ _. tt), λ p. (tt, cells_keyless γs t.0 t.1 c e p)))
 
   slot_owned_keyless : (γ : Names) (β : Lft) (p q : Ptr) (i : ℕ) → Keyless (slot_owned R γ β p q i)
   slot_owned_keyless γ β (block_ptr b o) (block_ptr c r) i = λ z. ((λ _. tt), kept_keyless z.0 z.1 b o c z.2 β)
   slot_owned_keyless γ β (block_ptr b o) null_ptr i = tt
   slot_owned_keyless γ β null_ptr q i = tt
 
-  pen_owned_keyless : (γ : Names) (β : Lft) (p q : Ptr) (i sought found : ℕ) → Keyless (pen_owned R γ β p q i sought found)
-  pen_owned_keyless γ β (block_ptr b o) (block_ptr c r) i sought found = λ z. ((λ _. tt), (kept_keyless z.0 z.1 b o c z.2 β, gained_keyless R γ s y z.1.0 (z.1.1 i) c r (eqb found sought) found))
-  pen_owned_keyless γ β (block_ptr b o) null_ptr i sought found = tt
-  pen_owned_keyless γ β null_ptr q i sought found = tt
+  pen_owned_keyless : (γ : Names) (β : Lft) (p q : Ptr) (i : ℕ) (first : Bool) (sought found : ℕ) → Keyless (pen_owned R γ β p q i first sought found)
+  pen_owned_keyless γ β (block_ptr b o) (block_ptr c r) i first sought found = λ z. ((λ _. tt), (kept_keyless z.0 z.1 b o c z.2 β, gained_keyless R γ s y z.1.0 (z.1.1 i) c r first (eqb found sought) found))
+  pen_owned_keyless γ β (block_ptr b o) null_ptr i first sought found = tt
+  pen_owned_keyless γ β null_ptr q i first sought found = tt
 
 pub pen_send : (a : NamedLft) (R : RattleType) → IsSend R → IsSync R → IsSend (RawPen.the_row a R)
-pen_send a R s y = record { owned = λ d vs. ((λ vss. (tt, (tt, (tt, ((λ uss. (tt, tt)), tt))))), pen_owned_keyless R s y d.of a.lft d.word d.room d.index d.sought d.found); leaving = λ k d w. tt }
+pen_send a R s y = record { owned = λ d vs. ((λ vss. (tt, (tt, (tt, ((λ uss. (tt, tt)), tt))))), pen_owned_keyless R s y d.of a.lft d.word d.room d.index d.first d.sought d.found); leaving = λ k d w. tt }
 
 pub written_send : (R : RattleType) → IsSend (Written.the_row R)
 written_send R = record { owned = λ d vs. ((λ vss. (tt, ((λ uss. (tt, tt)), tt))), tt); leaving = λ k f vs. tt }
@@ -111,7 +131,7 @@ broken_sync = let fields : IsSync (denote.Struct.Struct.Struct (denote.Struct.Ow
 
 known_as_keyless : (R : RattleType) (v : Option R.Denot) (γ : ℕ) → Keyless (known_as R v γ)
 known_as_keyless R (Some x) γ = tt
-known_as_keyless R None γ = tt
+known_as_keyless R None γ = λ v. ((λ _. tt), tt)
 
 members_keyless : (R : RattleType) (ms : List (MemberView R.Denot)) → Keyless (members R ms)
 members_keyless R [] = tt
@@ -133,7 +153,7 @@ row_sync R = let fields : IsSync (denote.Struct.Struct.Struct (denote.Struct.Own
 
 module _ (R : RattleType) (s : IsSend R) (y : IsSync R) where
   resting_keyless : (γ : Names) (u : Rest R.Denot) → Keyless (resting R γ u)
-  resting_keyless γ u = (((tt, broken_once_keyless R γ), told_keyless R γ u.1), λ _. tt)
+  resting_keyless γ u = (((tt, broken_once_keyless R γ), (told_keyless R γ u.1, seat_keyless γ.tied (stage u.1))), λ _. tt)
 
   rests_keyless : (γs : List Names) (c e : ℕ) (u : ℕ → Rest R.Denot) → Keyless (rests R γs c e u)
   rests_keyless [] c e u = tt

@@ -1,6 +1,7 @@
 -- The parts of the rows of a block: the cell at an index, more cells, and what a `&` to them shows. Assumes `Logic`.
 use Rattle.std.proofs.Common.{Bool, false, ◌≡◌, ℕ, zero, suc, ◌+◌, ◌-◌, ◌*◌, ◌/◌, ◌%◌, ◌^◌, ◌<◌, ◌≤◌, List, [], ◌∷◌, ◌++◌, length, take, drop, set, length-set, length-take, length-drop, length-append, get_or-take, get_or-drop, sym, refl, ap, ◌∙◌, subst, arith, suc-mul, zero-mul, add-mul, mul-le-mul_right, w64}
-use Rattle.std.specs.Prelude.{None}
+use Rattle.std.specs.Prelude.{Option, None}
+use Rattle.cell_core.specs.Tie.{Tie}
 use lib.Seq.{take-set-lt, drop-set-lt}
 use Rattle.std.proofs.lemmas.List.{take-set-le, drop-set-add, take-append-le, drop-append-le, take_all}
 use seplogic.Ra.Ura.{Ura}
@@ -11,12 +12,12 @@ use mir.Raw.{raw as bare}
 use prog.Memory.{size}
 use prog.RawLaws.{size-raw}
 use base.Stored.{gnil}
-use base.Logic.{SProp, ent, sep, ex, wand, all, all_e, guard, apply∗, id⊢}
+use base.Logic.{SProp, ent, sep, ex, emp, wand, all, all_e, guard, apply∗, id⊢}
 use base.Fml.{Lft, Incl, Fml, ftrue, fsep, froom}
 use types.Logic.{Logic, sem}
 use types.Kit as Kit
 use types.Tokens.{lft_new, lft_end, name_new}
-use types.Kit.{‵, ◌⊛◌, given, some, later, updating, await, now, ◌$◌, ◌∵◌, !, qed, by, move, keep, drop as toss, use1, use2, split, fsplit, fsplit3, fjoin, fjoin3, fpick, fpack, pick, learn, show, check, frame, each, assume, rewrite, done}
+use types.Kit.{‵, ◌⊛◌, given, some, later, updating, await, now, ◌$◌, ◌∵◌, !, qed, by, move, keep, drop as toss, use1, use2, split, fsplit, fsplit3, fjoin, fjoin3, fpick, fpack, pick, learn, show, check, frame, each, assume, rewrite, use0, done}
 use denote.RattleType.{RattleType}
 use denote.Memory.{lone}
 use denote.RawPtr.{Ptr, block_ptr, block_of, count_of, InBlock}
@@ -29,7 +30,7 @@ use mir.Val.{vint}
 use denote.Sharing.{ShrLaws, said}
 use denote.SharingLaws.{beside_shr_laws, nothing_shr_laws, said_shr_laws}
 use Rattle.cell_core.specs.Fields.{pack, put}
-use Rattle.cell_core.specs.Slot.{Names, cell_in, state, free, broken_once, Rest, fact, word, place, resting, step, room_at, Spot, IsAt, kept, shared_at, slot_owned}
+use Rattle.cell_core.specs.Slot.{Names, ArePlain, AreTied, seats, cell_in, state, free, broken_once, Rest, fact, word, place, resting, step, room_at, Spot, IsAt, kept, shared_at, slot_owned}
 use Rattle.cell_core.specs.Laid.{Extent, words_ty, rooms_ty, Lies, FitsMemory, lying, rests, still, along, along_lent, laid, laid_lent, rooms_owned}
 use Rattle.cell_core.proofs.Fields.{pack_ap, pack_alike, put_of, packed_none}
 use Rattle.cell_core.proofs.RestParts.{emptied}
@@ -65,7 +66,7 @@ module _ (R : RattleType) where
     pub lies : room_at R z.1 (j % 16) ≡ j * step R + e
 
   abbrev nobody : Names
-  nobody = record { value_name = 0; broken_name = 0; epoch = [] }
+  nobody = record { value_name = 0; broken_name = 0; epoch = []; tied = None }
 
   first_in : (γs : List Names) (e j : ℕ) → j < length γs → j < 16 → IsIn γs e j (take 16 γs, e)
   first_in γs e j near low = let m = length-take 16 γs in let same : j % 16 ≡ j = omega arith in record {
@@ -195,7 +196,7 @@ module _ {M : Type 1} {𝓤 : Ura M} (𝓛 : Logic 𝓤) (R : RattleType) where
       rewrite ! 0 (λ (u : ℕ × ℕ). ‵ (slot_owned R (cell_in γs j) κ (block_ptr b u.0) (block_ptr c (j * step R + e)) u.1)) (λ i. (sym here i, sym same i)) refl $ done !)
       (λ high. let i : ℕ = j - 16 in let is : j ≡ 16 + i = omega arith in let m = length-drop 16 γs in let o' : ℕ = o + 8 in let e' : ℕ = e + 16 * step R in let Ws : List Names = drop 16 γs in
       let far = add-mul 16 i (step R) in let there : i / 16 * 8 + o' ≡ j / 16 * 8 + o = omega arith in let same : i % 16 ≡ j % 16 = omega arith in
-      let names : cell_in Ws i ≡ cell_in γs j = get_or-drop 16 γs i (record { value_name = 0; broken_name = 0; epoch = [] }) ∙ ap (cell_in γs) (sym is) in
+      let names : cell_in Ws i ≡ cell_in γs j = get_or-drop 16 γs i (record { value_name = 0; broken_name = 0; epoch = []; tied = None }) ∙ ap (cell_in γs) (sym is) in
       let room : i * step R + e' ≡ j * step R + e = omega (arith, far, ap (λ (l : ℕ). l * step R) is) in
       qed 𝓛 (‵ (along_lent R (suc k) γs b o c e κ) ∷ []) ∵ fsplit ! $ keep ! (1 ∷ []) $
       use1 𝓛 (‵ (slot_owned R (cell_in Ws i) κ (block_ptr b (i / 16 * 8 + o')) (block_ptr c (i * step R + e')) (i % 16))) (cell_shown k Ws b o' c e' κ i (omega (arith, m)) (omega (arith, m))) $
@@ -224,19 +225,53 @@ module _ {M : Type 1} {𝓤 : Ura M} (𝓛 : Logic 𝓤) (R : RattleType) where
       use1 𝓛 (‵ (empties n c e') ⊛ ‵ (froom (ty_array τ (left - n)) c (n * step R + e'))) (takes_rooms n left c e' (omega arith)) $ split ! $ move ! (2 ∷ 0 ∷ []) $ fjoin ! $ frame ! $
       rewrite ! 0 (λ (u : ℕ × ℕ). ‵ (froom (ty_array τ u.0) c u.1)) (λ i. ((let r : left - n ≡ suc left - suc n = omega arith in r) i, (let r : n * step R + e' ≡ suc n * step R + e = omega arith in r) i)) refl $ done !
 
-  abbrev Laying : ℕ → ℕ → ℕ → List Names → Pr
-  Laying n c e ns = guard 𝓤 (length ns ≡ n) ⟦ rests R ns c e (λ _. (None, free)) ⟧
+  abbrev Laying : List (Option Tie) → ℕ → ℕ → List Names → Pr
+  Laying τs c e ns = guard 𝓤 ((length ns ≡ length τs) × AreTied τs ns) ⟦ rests R ns c e (λ _. (None, free)) ⟧
 
-  -- cells without a value get names, and an epoch that has ended
-  pub lays : (n c e : ℕ) → ⟦ empties n c e ⟧ ⊢ H.⇛ (ex 𝓤 (Laying n c e))
-  lays zero c e = qed 𝓛 (‵ ftrue ∷ []) ∵ updating ! $ now ! $ show ! (Laying 0 c e) [] $ check ! refl $ done !
-  lays (suc n) c e = let e' : ℕ = e + step R in
-      qed 𝓛 (‵ (empties (suc n) c e) ∷ []) ∵ updating ! $ fsplit ! $ move ! (1 ∷ []) $ use1 𝓛 (later (some (λ (ns : List Names). given (length ns ≡ n) (‵ (rests R ns c e' (λ _. (None, free))))))) (lays n c e') $ await ! tt $ pick ! (λ ns. learn ! (λ long.
-      name_new ! tt gnil (λ γv. name_new ! tt gnil (λ γb. lft_new ! tt (λ ν. lft_end ! tt $ let γ : Names = record { value_name = γv; broken_name = γb; epoch = ν ∷ [] } in now ! $
-      -- [the epoch has ended; the right to break; its name; the right to fill; its name; the others; the room]
-      move ! (1 ∷ 2 ∷ []) $ fjoin ! $ fpack ! Bool (broken_once γb) false $ move ! (3 ∷ 0 ∷ []) $ fjoin ! $ move ! (1 ∷ 2 ∷ []) $ fjoin ! $ move ! (1 ∷ 0 ∷ []) $ fjoin ! $ nothing ! $ fpack ! (Rattle.cell_core.specs.Slot.Lies R None free) (λ _. ftrue) refl $ move ! (1 ∷ 0 ∷ []) $ fjoin ! $
+  -- cells without a value get names, an epoch that has ended, and the ties that are given
+  pub lays : (τs : List (Option Tie)) (c e : ℕ) → ⟦ empties (length τs) c e ⟧ ∗ ⟦ seats τs ⟧ ⊢ H.⇛ (ex 𝓤 (Laying τs c e))
+  lays [] c e = qed 𝓛 (‵ ftrue ∷ ‵ ftrue ∷ []) ∵ updating ! $ toss ! $ now ! $ show ! (Laying [] c e) [] $ check ! (refl, tt) $ done !
+  lays (u ∷ τs) c e = let e' : ℕ = e + step R in
+      qed 𝓛 (‵ (empties (length (u ∷ τs)) c e) ∷ ‵ (seats (u ∷ τs)) ∷ []) ∵ updating ! $ fsplit ! $ move ! (2 ∷ []) $ fsplit ! $ move ! (3 ∷ 1 ∷ []) $
+      use2 𝓛 (later (some (λ (ns : List Names). given ((length ns ≡ length τs) × AreTied τs ns) (‵ (rests R ns c e' (λ _. (None, free))))))) (lays τs c e') $ await ! tt $ pick ! (λ ns. learn ! (λ long.
+      name_new ! tt gnil (λ γv. name_new ! tt gnil (λ γb. lft_new ! tt (λ ν. lft_end ! tt $ let γ : Names = record { value_name = γv; broken_name = γb; epoch = ν ∷ []; tied = u } in now ! $
+      -- [the epoch has ended; the right to break; its name; the right to fill; its name; the others; the seat; the room]
+      move ! (1 ∷ 2 ∷ []) $ fjoin ! $ fpack ! Bool (broken_once γb) false $ move ! (3 ∷ 0 ∷ []) $ fjoin ! $ move ! (1 ∷ 2 ∷ []) $ fjoin ! $ move ! (0 ∷ 3 ∷ []) $ fjoin ! $ move ! (1 ∷ 0 ∷ []) $ fjoin ! $ nothing ! $ fpack ! (Rattle.cell_core.specs.Slot.Lies R None free) (λ _. ftrue) refl $ move ! (1 ∷ 0 ∷ []) $ fjoin ! $
       -- [what rests; the others; the room]
-      move ! (2 ∷ 0 ∷ []) $ fjoin ! $ fjoin ! $ show ! (Laying (suc n) c e) (γ ∷ ns) $ check ! (ap suc long) $ done !)))))
+      move ! (2 ∷ 0 ∷ []) $ fjoin ! $ fjoin ! $ show ! (Laying (u ∷ τs) c e) (γ ∷ ns) $ check ! (ap suc long.0, (refl, long.1)) $ done !)))))
+
+  -- the seats of the first cells, and of the others
+  pub seats_split : (n : ℕ) (τs : List (Option Tie)) → ⟦ seats τs ⟧ ⊢ ⟦ seats (take n τs) ⟧ ∗ ⟦ seats (drop n τs) ⟧
+  seats_split zero τs = qed 𝓛 (‵ (seats τs) ∷ []) ∵ nothing ! $ done !
+  seats_split (suc n) [] = qed 𝓛 (‵ ftrue ∷ []) ∵ nothing ! $ done !
+  seats_split (suc n) (u ∷ τs) = qed 𝓛 (‵ (seats (u ∷ τs)) ∷ []) ∵ fsplit ! $ move ! (1 ∷ []) $ use1 𝓛 (‵ (seats (take n τs)) ⊛ ‵ (seats (drop n τs))) (seats_split n τs) $ split ! $ move ! (2 ∷ 0 ∷ []) $ fjoin ! $ done !
+
+  -- no ties
+  abbrev pub nones : ℕ → List (Option Tie)
+  nones zero = []
+  nones (suc n) = None ∷ nones n
+
+  nones_length : (n : ℕ) → length (nones n) ≡ n
+  nones_length zero = refl
+  nones_length (suc n) = ap suc (nones_length n)
+
+  no_seats : (n : ℕ) → emp 𝓤 ⊢ ⟦ seats (nones n) ⟧
+  no_seats zero = id⊢ 𝓤 _
+  no_seats (suc n) = qed 𝓛 [] ∵ use0 𝓛 (‵ (seats (nones n))) (no_seats n) $ nothing ! $ fjoin ! $ done !
+
+  are_plain : (n : ℕ) (ns : List Names) → AreTied (nones n) ns → ArePlain ns
+  are_plain zero [] at = tt
+  are_plain zero (γ ∷ ns) at = absurd at
+  are_plain (suc n) [] at = absurd at
+  are_plain (suc n) (γ ∷ ns) at = (at.0, are_plain n ns at.1)
+
+  abbrev LayingPlain : ℕ → ℕ → ℕ → List Names → Pr
+  LayingPlain n c e ns = guard 𝓤 ((length ns ≡ n) × ArePlain ns) ⟦ rests R ns c e (λ _. (None, free)) ⟧
+
+  pub lays_plain : (n c e : ℕ) → ⟦ empties n c e ⟧ ⊢ H.⇛ (ex 𝓤 (LayingPlain n c e))
+  lays_plain n c e = let τs : List (Option Tie) = nones n in qed 𝓛 (‵ (empties n c e) ∷ []) ∵ updating ! $ rewrite ! 0 (λ (m : ℕ). ‵ (empties m c e)) (sym (nones_length n)) refl $ use0 𝓛 (‵ (seats τs)) (no_seats n) $ move ! (1 ∷ 0 ∷ []) $
+      use2 𝓛 (later (some (λ (ns : List Names). given ((length ns ≡ length τs) × AreTied τs ns) (‵ (rests R ns c e (λ _. (None, free))))))) (lays τs c e) $ await ! tt $ pick ! (λ ns. learn ! (λ so. now ! $
+      show ! (LayingPlain n c e) ns $ check ! (so.0 ∙ nones_length n, are_plain n ns so.1) $ done !))
 
   -- a word of new cells
   pub laid_word : (ns : List Names) (b o c e : ℕ) → ⟦ word b o 0 ⟧ ∗ ⟦ rests R ns c e (λ _. (None, free)) ⟧ ⊢ ⟦ still R ns b o c e ⟧

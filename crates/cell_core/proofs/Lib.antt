@@ -1,4 +1,5 @@
 mod Fields
+mod Both
 mod WordSteps
 mod Twice
 mod CellSteps
@@ -17,3 +18,6 @@ mod RunParts
 mod RunFields
 mod SliceSteps
 mod SliceParts
+mod PlainCells
+mod OfferMade
+mod SeatsMade

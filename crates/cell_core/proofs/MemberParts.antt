@@ -1,16 +1,16 @@
 -- What is known of a cell, and of each cell of a row. Assumes `Logic`.
-use Rattle.std.proofs.Common.{◌≡◌, ℕ, zero, suc, ◌<◌, ◌≢◌, List, [], ◌∷◌, ◌++◌, length, refl, ap, ◌∙◌, subst, arith}
+use Rattle.std.proofs.Common.{◌≡◌, ℕ, zero, suc, ◌<◌, ◌≢◌, List, [], ◌∷◌, ◌++◌, length, refl, sym, ap, ◌∙◌, subst, arith}
 use Rattle.std.specs.Prelude.{Option, Some, None, slice_get, slice_set}
 use mathlib.Core.Logic.{dite}
 use native.Mathlib.Decide.{ℕ_discrete}
 use seplogic.Ra.Ura.{Ura}
 use base.Stored.{Gv, gnil, gcons}
-use base.Logic.{SProp, ent, sep, guard, wand, emp, upd, upd_i, via}
+use base.Logic.{SProp, ent, sep, guard, emp, upd, upd_i}
 use base.Fml.{Fml, ftrue, fsep, fauth, fres, finv}
 use mir.Val.{Val, vstruct, vnil, of_list}
 use denote.Laws.{Is}
 use types.Logic.{Logic, sem}
-use types.Kit.{‵, raw, ◌⊛◌, given, later, await, updating, now, fpack, ◌$◌, ◌∵◌, !, qed, by, move, keep, drop, frame, assume, suffices, use0, use1, use2, split, learn, fsplit, fjoin, done}
+use types.Kit.{‵, raw, ◌⊛◌, given, later, await, updating, now, fpick, fpack, ◌$◌, ◌∵◌, !, qed, by, move, keep, drop, frame, assume, suffices, use0, use1, use2, split, learn, fsplit, fjoin, done}
 use denote.RattleType.{RattleType}
 use denote.Shadow.{makes_shadow}
 use denote.Struct.Struct.{Struct}
@@ -19,7 +19,7 @@ use denote.Steps.{nothing, heard}
 use contract.Monad as monad
 use base.Fml.{fex}
 use Rattle.cell_core.specs.Slot.{fact, written, mark, full}
-use Rattle.cell_core.specs.Member.{MemberView, unfilled, known_as, member, members}
+use Rattle.cell_core.specs.Member.{MemberView, IsUnset, unfilled, known_as, member, members}
 use Rattle.cell_core.specs.contracts.slot.member.RawMember as RawMember
 use Rattle.cell_core.specs.contracts.slot.member.RawRow as RawRow
 use Rattle.cell_core.proofs.CellMade.{token_val}
@@ -62,7 +62,9 @@ module _ {M : Type 1} {𝓤 : Ura M} (𝓛 : Logic 𝓤) (R : RattleType) where
 
   pub known_twice : (v : Option R.Denot) (γ : ℕ) → ⟦ known_as R v γ ⟧ ⊢ ⟦ known_as R v γ ⟧ ∗ ⟦ known_as R v γ ⟧
   known_twice (Some x) γ = 𝓛.names.res_dup γ (mark R (full x))
-  known_twice None γ = 𝓛.invs.inv_dup (fauth γ gnil)
+  known_twice None γ = let F : Gv → Fml = λ v. fsep (fact (IsUnset v)) (finv (fauth γ v)) in qed 𝓛 (‵ (unfilled γ) ∷ []) ∵ fpick ! (λ v. fsplit ! $ fpick ! (λ none. drop ! $
+      use1 𝓛 (‵ (finv (fauth γ v)) ⊛ ‵ (finv (fauth γ v))) (𝓛.invs.inv_dup (fauth γ v)) $ split ! $ nothing ! $ fpack ! (IsUnset v) (λ _. ftrue) none $ fjoin ! $ fpack ! Gv F v $ frame ! $
+      nothing ! $ fpack ! (IsUnset v) (λ _. ftrue) none $ fjoin ! $ fpack ! Gv F v $ done !))
 
   pub members_twice : (ms : List View) → ⟦ members R ms ⟧ ⊢ ⟦ members R ms ⟧ ∗ ⟦ members R ms ⟧
   members_twice [] = qed 𝓛 (‵ ftrue ∷ []) ∵ nothing ! $ done !
@@ -90,15 +92,20 @@ module _ {M : Type 1} {𝓤 : Ura M} (𝓛 : Logic 𝓤) (R : RattleType) where
   members_at (h ∷ ms) zero m is = qed 𝓛 (‵ (members R (h ∷ ms)) ∷ []) ∵ fsplit ! $ keep ! (0 ∷ []) $ by ! (subst (λ (u : View). ⟦ member R h ⟧ ⊢ ⟦ member R u ⟧) (let same : h ≡ m = (let z = is in cc) in same) (base.Logic.id⊢ 𝓤 ⟦ member R h ⟧))
   members_at (h ∷ ms) (suc i) m is = qed 𝓛 (‵ (members R (h ∷ ms)) ∷ []) ∵ fsplit ! $ keep ! (1 ∷ []) $ by ! (members_at ms i m is)
 
-  nil_is_not_full : (x y : Gv) → gcons x y ≡ gnil → ⊥
-  nil_is_not_full x y e = cc
+  -- a name that has no value now gets none
+  pub never_gets : (γ : ℕ) (v : Gv) → IsUnset v → A.auth γ v ⊢ H.⇛ ⟦ unfilled γ ⟧
+  never_gets γ v none = qed 𝓛 (‵ (fauth γ v) ∷ []) ∵ updating ! $ use1 𝓛 (later (‵ (finv (fauth γ v)))) (𝓛.invs.inv_new (fauth γ v)) $ await ! tt $ now ! $
+      nothing ! $ fpack ! (IsUnset v) (λ _. ftrue) none $ fjoin ! $ fpack ! Gv (λ w. fsep (fact (IsUnset w)) (finv (fauth γ w))) v $ done !
+
+  unset_is_not_full : (x y v : Gv) → gcons x y ≡ v → IsUnset v → ⊥
+  unset_is_not_full x y v e none = subst IsUnset (sym e) none
 
   -- a name that never gets a value has none
   pub never_filled : (γ : ℕ) (x : R.Denot) → ⟦ unfilled γ ⟧ ∗ ⟦ written R γ x ⟧ ⊢ H.⇛ (guard 𝓤 ⊥ (emp 𝓤))
-  never_filled γ x = let P : Fml = fauth γ gnil in let Q : Pr = guard 𝓤 ⊥ (emp 𝓤) in let w : Gv = mark R (full x) in let G : Pr = ⟦ P ⟧ ∗ Q in
-      via 𝓤 (A.inv P ∗ wand 𝓤 ⟦ P ⟧ (upd 𝓤 G)) (qed 𝓛 (‵ (finv P) ∷ ‵ (written R γ x) ∷ []) ∵ frame ! $ assume ! (‵ P) $ suffices ! _ (upd_i 𝓤 G) $ move ! (1 ∷ 0 ∷ []) $
-      use2 𝓛 (given (w ≡ gnil) (‵ (fres γ w) ⊛ ‵ (fauth γ gnil))) (𝓛.names.res_agree γ w gnil) $ learn ! (λ z. absurd (nil_is_not_full (R.coded.code x) gnil z)))
-      (𝓛.invs.inv_acc P Q)
+  never_filled γ x = let Q : Pr = guard 𝓤 ⊥ (emp 𝓤) in let w : Gv = mark R (full x) in
+      qed 𝓛 (‵ (unfilled γ) ∷ ‵ (written R γ x) ∷ []) ∵ fpick ! (λ v. fsplit ! $ fpick ! (λ none. drop ! $ let P : Fml = fauth γ v in let G : Pr = ⟦ P ⟧ ∗ Q in
+      suffices ! _ (𝓛.invs.inv_acc P Q) $ frame ! $ assume ! (‵ P) $ suffices ! _ (upd_i 𝓤 G) $ move ! (1 ∷ 0 ∷ []) $
+      use2 𝓛 (given (w ≡ v) (‵ (fres γ w) ⊛ ‵ (fauth γ v))) (𝓛.names.res_agree γ w v) $ learn ! (λ z. absurd (unset_is_not_full (R.coded.code x) gnil v z none))))
 
   -- what is known of a cell with a value is that value
   abbrev pub Valued : Option R.Denot → ℕ → R.Denot → Fml

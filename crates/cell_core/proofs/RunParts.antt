@@ -1,5 +1,5 @@
 -- Some cells of one word, out of the rows of a block. Assumes `Logic`.
-use Rattle.std.proofs.Common.{◌≡◌, ℕ, zero, suc, ◌+◌, ◌-◌, ◌*◌, ◌/◌, ◌%◌, ◌^◌, ◌<◌, ◌≤◌, List, [], ◌∷◌, length, take, drop, length-take, length-drop, get_or-take, get_or-drop, sym, refl, ap, ◌∙◌, arith, add-mul}
+use Rattle.std.proofs.Common.{None, ◌≡◌, ℕ, zero, suc, ◌+◌, ◌-◌, ◌*◌, ◌/◌, ◌%◌, ◌^◌, ◌<◌, ◌≤◌, List, [], ◌∷◌, length, take, drop, length-take, length-drop, get_or-take, get_or-drop, sym, refl, ap, ◌∙◌, arith, add-mul}
 use seplogic.Ra.Ura.{Ura}
 use mathlib.Core.Logic.{dite}
 use native.Mathlib.Decide.{dec_lt}
@@ -16,7 +16,7 @@ use Rattle.cell_core.specs.Run.{AreAt, cells_from, IsRunAt, cells_owned}
 use Rattle.cell_core.proofs.LaidParts.{room_is}
 
 abbrev nobody : Names
-nobody = record { value_name = 0; broken_name = 0; epoch = [] }
+nobody = record { value_name = 0; broken_name = 0; epoch = []; tied = None }
 
 pub from_length : (n i : ℕ) (Γs : List Names) → length (cells_from n i Γs) ≡ n
 from_length zero i Γs = refl

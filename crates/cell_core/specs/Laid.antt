@@ -1,6 +1,7 @@
 -- What a block of raw cells owns and lends: a row of words, which hold the states of sixteen cells each, and a row of
 -- rooms.
-use Rattle.std.specs.Prelude.{◌≡◌, ◌≢◌, ℕ, zero, suc, ◌+◌, ◌-◌, ◌*◌, ◌/◌, ◌%◌, ◌^◌, ◌<◌, ◌≤◌, List, [], ◌∷◌, ◌++◌, length, take, drop, slice_set}
+use Rattle.cell_core.specs.Tie.{Tie}
+use Rattle.std.specs.Prelude.{◌≡◌, ◌≢◌, Option, Bool, false, ℕ, zero, suc, ◌+◌, ◌-◌, ◌*◌, ◌/◌, ◌%◌, ◌^◌, ◌<◌, ◌≤◌, List, [], ◌∷◌, ◌++◌, length, take, drop, slice_set}
 use base.Stored.{Coded, coded×, coded_ℕ, coded_via}
 use base.Fml.{Lft, Fml, ftrue, fsep, fex, froom}
 use mir.Syntax.{Ty, w64, ty_int, ty_array}
@@ -10,19 +11,32 @@ use denote.Memory.{lone}
 use denote.Sharing.{said, beside, nothing}
 use denote.RawPtr.{Ptr, coded_ptr, block_ptr, block_of, count_of, InBlock}
 use Rattle.cell_core.specs.Fields.{pack}
-use Rattle.cell_core.specs.Slot.{Names, cell_in, Rest, fact, word, place, resting, state, step, shared_at}
+use Rattle.cell_core.specs.Slot.{Names, IsPlain, ArePlain, AreTied, cell_in, Rest, fact, word, place, resting, state, step, shared_at}
 
 -- a row that lies at the first pointer has the second for its link, which is into memory
 abbrev pub IsLinked : Ptr → Ptr → Type 0
 IsLinked at link = (at ≡ link) × (link ≡ block_ptr (block_of link) (count_of link))
 
--- the new cells are the old ones, and n more
-abbrev pub HasMore : List Names → ℕ → List Names → Type 0
-HasMore old n new = (γs : List Names) × (length γs ≡ n) × (new ≡ old ++ γs)
+-- the cell is not tied, if cells of this kind are not
+pub record IsOfKind (tied : Bool) (γ : Names) : Type 0 where
+  pub plain : tied ≡ false → IsPlain γ
 
--- a cell that has none of the names of the other
+-- the same of each of some cells
+pub record AreOfKind (tied : Bool) (γs : List Names) : Type 0 where
+  pub plain : tied ≡ false → (i : ℕ) → IsPlain (cell_in γs i)
+
+-- the new cells are the old ones, and n more, which are not tied
+abbrev pub HasMore : List Names → ℕ → List Names → Type 0
+HasMore old n new = (γs : List Names) × (length γs ≡ n) × (new ≡ old ++ γs) × ArePlain γs
+
+-- the same, and they have the first n of some ties
+abbrev pub HasMoreTied : List Names → ℕ → List Names → List (Option Tie) → Type 0
+HasMoreTied old n new τs = (γs : List Names) × (length γs ≡ n) × (new ≡ old ++ γs) × AreTied (take n τs) γs
+
+-- a cell that has none of the names of the other, and is not tied if the other is not
 abbrev pub IsAnother : Names → Names → Type 0
-IsAnother old new = (new.value_name ≢ old.value_name) × (new.broken_name ≢ old.broken_name)
+IsAnother old new =
+    (new.value_name ≢ old.value_name) × (new.broken_name ≢ old.broken_name) × (IsPlain old → IsPlain new)
 
 -- the cell at the index has fresh names, and each other cell keeps its names
 abbrev pub HasOneRenamed : List Names → ℕ → List Names → Type 0

@@ -1,3 +1,4 @@
+pub mod Tie
 pub mod Slot
 pub mod Laid
 pub mod Member

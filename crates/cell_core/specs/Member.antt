@@ -1,10 +1,10 @@
 -- What is known of a cell, and of each cell of a row.
 use Rattle.std.specs.Prelude.{◌≡◌, ℕ, suc, Option, Some, None, List, [], ◌∷◌, ◌++◌, slice_set}
 use Rattle.std.specs.Coded.{coded_option}
-use base.Stored.{Coded, gnil, coded×, coded_ℕ, coded_list, coded_via}
-use base.Fml.{Lft, GName, Fml, ftrue, fsep, fauth, finv}
+use base.Stored.{Gv, Coded, gnil, gcons, gnum, coded×, coded_ℕ, coded_list, coded_via}
+use base.Fml.{Lft, GName, Fml, ftrue, fsep, fex, fauth, finv}
 use denote.RattleType.{RattleType}
-use Rattle.cell_core.specs.Slot.{Names, cell_in, written, filled_state, owner_broken_state}
+use Rattle.cell_core.specs.Slot.{Names, cell_in, fact, written, filled_state, owner_broken_state}
 use Rattle.cell_core.specs.Laid.{IsAnother}
 
 -- what is known of a cell: the value that it always keeps and the value's name; or otherwise the epoch in
@@ -21,9 +21,15 @@ member_coded {T} c =
     (λ (m : MemberView T). (m.value, (m.name, m.epoch)))
     (λ x y e i. record { value = (e i).0; name = (e i).1.0; epoch = (e i).1.1 })
 
+-- a name that has this has no value
+abbrev pub IsUnset : Gv → Type 0
+IsUnset gnil = Unit {0}
+IsUnset (gcons x y) = ⊥
+IsUnset (gnum n) = Unit {0}
+
 -- what shows that a name never gets a value
 abbrev pub unfilled : GName → Fml
-unfilled γ = finv (fauth γ gnil)
+unfilled γ = fex Gv (λ v. fsep (fact (IsUnset v)) (finv (fauth γ v)))
 
 module _ (R : RattleType) where
   -- what shows what is known

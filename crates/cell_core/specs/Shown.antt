@@ -1,10 +1,11 @@
 -- What the calls of a block return about a cell.
-use Rattle.std.specs.Prelude.{◌≡◌, ℕ}
+use Rattle.std.specs.Prelude.{◌≡◌, ◌≢◌, ◌<◌, ℕ}
 use Rattle.cell_core.specs.declared.block.shown.Found.{Found}
 use Rattle.cell_core.specs.declared.block.shown.Found.TheVariants as found
 use Rattle.cell_core.specs.declared.block.shown.Look.{Look}
 use Rattle.cell_core.specs.declared.block.shown.Look.TheVariants as look
 use Rattle.cell_core.specs.Block.{BlockView, IsPlacedAt, IsSpoiltAt, IsBegunAt}
+use Rattle.cell_core.specs.Slot.{empty_state, busy_state, filled_state}
 
 -- what a call found in the cell at the offset
 abbrev pub IsFoundIn : {T : Type 0} → BlockView → ℕ → Found T → Type 0
@@ -33,3 +34,10 @@ IsLookAt block offset look.Empty = Unit {0}
 IsLookAt block offset look.Busy = Unit {0}
 IsLookAt block offset (look.Filled value placed) = IsPlacedAt block offset placed × (placed.value ≡ value.now)
 IsLookAt block offset (look.Broken spoilt) = IsSpoiltAt block offset spoilt
+
+-- the state that a look found shows this
+abbrev pub IsLookOf : {T : Type 0} → ℕ → Look T → Type 0
+IsLookOf n look.Empty = n ≡ empty_state
+IsLookOf n look.Busy = n ≡ busy_state
+IsLookOf n (look.Filled value placed) = n ≡ filled_state
+IsLookOf n (look.Broken spoilt) = (busy_state < n) × (n ≢ filled_state)

@@ -9,35 +9,70 @@ use mir.Syntax.{w64, ty_int}
 use mir.Raw.{raw}
 use mir.Val.{vint}
 use base.Fraction.{full_share}
-use base.Stored.{Gv, Coded, gnil, gcons, coded×, coded_ℕ, coded_list, coded_via}
-use base.Fml.{Lft, GName, Fml, ftrue, ffalse, fsep, fex, fat, fobs, fauth, fres, froom, fbor, fdead, finv}
+use base.Stored.{Gv, Coded, gnil, gcons, gnum, coded×, coded_ℕ, coded_list, coded_via}
+use base.Fml.{Lft, GName, Fml, ftrue, ffalse, fsep, fex, fat, fobs, fauth, fres, froom, fbor, fdead, fnamed}
 use base.Before.{before}
 use prog.Memory.{size}
 use denote.RattleType.{RattleType}
 use denote.Memory.{lone, part_at, shared_of}
 use denote.RawPtr.{Ptr, block_ptr, null_ptr}
 use Rattle.cell_core.specs.Fields.{pack}
+use Rattle.cell_core.specs.Tie.{Tie, tie_coded, Stage, Idle, Begun, Mending, Filled, Broken, IsTied, seat_at, floor_of}
 
--- the names of a cell: one gets the value that fills it, another is set when it breaks; and its epoch
+-- the names of a cell: one gets the value that fills it, another is set when it breaks; its epoch, and its tie
 pub record Names : Type 0 where
   pub value_name : GName
   pub broken_name : GName
   pub epoch : Lft
+  pub tied : Option Tie
 
 -- how the names are stored
 abbrev pub names_coded : Coded Names
 names_coded =
-    coded_via (coded× coded_ℕ (coded× coded_ℕ (coded_list coded_ℕ)))
-    (λ (n : Names). (n.value_name, (n.broken_name, n.epoch)))
-    (λ x y e i. record { value_name = (e i).0; broken_name = (e i).1.0; epoch = (e i).1.1 })
+    coded_via (coded× coded_ℕ (coded× coded_ℕ (coded× (coded_list coded_ℕ) (coded_option tie_coded))))
+    (λ (n : Names). (n.value_name, (n.broken_name, (n.epoch, n.tied))))
+    (λ x y e i. record {
+      value_name = (e i).0;
+      broken_name = (e i).1.0;
+      epoch = (e i).1.1.0;
+      tied = (e i).1.1.1;
+    })
 
 -- the names of the cell at an index
 abbrev pub cell_in : List Names → ℕ → Names
-cell_in γs i = get_or γs i (record { value_name = 0; broken_name = 0; epoch = [] })
+cell_in γs i = get_or γs i (record { value_name = 0; broken_name = 0; epoch = []; tied = None })
 
--- a cell is free, busy with one writer, full, broken, or broken by an owner for its epoch
+-- the cell is not tied
+abbrev pub IsPlain : Names → Type 0
+IsPlain γ = γ.tied ≡ None
+
+-- the same of each of some cells
+abbrev pub ArePlain : List Names → Type 0
+ArePlain [] = Unit {0}
+ArePlain (γ ∷ γs) = IsPlain γ × ArePlain γs
+
+-- some cells have these ties
+abbrev pub AreTied : List (Option Tie) → List Names → Type 0
+AreTied [] [] = Unit {0}
+AreTied [] (γ ∷ γs) = ⊥
+AreTied (τ ∷ τs) [] = ⊥
+AreTied (τ ∷ τs) (γ ∷ γs) = (γ.tied ≡ τ) × AreTied τs γs
+
+-- the seats of some cells that nobody has begun
+abbrev pub seats : List (Option Tie) → Fml
+seats [] = ftrue
+seats (τ ∷ τs) = fsep (seat_at τ Idle) (seats τs)
+
+-- a number above those of the invariants that some cells are tied to
+abbrev pub floors : List Names → ℕ
+floors [] = 0
+floors (γ ∷ γs) = floor_of γ.tied + floors γs
+
+-- a cell is free, begun, busy with one writer, full, broken, or broken by an owner for its epoch; only a tied cell is
+-- begun, and a busy one that is tied is being mended
 pub data Phase (X : Type 0) : Type 0 where
   free : Phase X
+  begun : Phase X
   busy : Phase X
   full : X → Phase X
   broken : Phase X
@@ -59,13 +94,32 @@ broken_state = 5
 abbrev pub owner_broken_state : ℕ
 owner_broken_state = 9
 
+-- what makes a cell filled, and broken, that its writer has: by whether it is begun and not busy
+abbrev pub fill_added : Bool → ℕ
+fill_added true = 3
+fill_added false = 2
+
+abbrev pub break_added : Bool → ℕ
+break_added true = 5
+break_added false = 4
+
 -- the state of each phase
 abbrev pub state : {X : Type 0} → Phase X → ℕ
 state free = empty_state
+state begun = empty_state
 state busy = busy_state
 state (full x) = filled_state
 state broken = broken_state
 state broken_by_owner = owner_broken_state
+
+-- how far a cell is, in each phase
+abbrev pub stage : {X : Type 0} → Phase X → Stage
+stage free = Idle
+stage begun = Begun
+stage busy = Mending
+stage (full x) = Filled
+stage broken = Broken
+stage broken_by_owner = Broken
 
 -- what the room holds, and the phase
 abbrev pub Rest : Type 0 → Type 0
@@ -86,6 +140,10 @@ fact φ = fex φ (λ _. ftrue)
 -- the word at a place of memory
 abbrev pub word : ℕ → ℕ → ℕ → Fml
 word b o n = fat full_share (ty_int w64) b o (vint w64 n)
+
+-- an invariant whose number is above another
+abbrev pub above : ℕ → Fml → Fml
+above m P = fex ℕ (λ n. fsep (fact (m < n)) (fnamed n P))
 
 -- what the second name has once the cell was broken
 abbrev pub broken_mark : Gv
@@ -117,6 +175,7 @@ module _ (R : RattleType) where
   -- what the first name has in each phase
   abbrev pub mark : Phase R.Denot → Gv
   mark free = gnil
+  mark begun = gnum 0
   mark busy = gnil
   mark (full x) = gcons (R.coded.code x) gnil
   mark broken = gnil
@@ -134,6 +193,7 @@ module _ (R : RattleType) where
   -- what the room holds in each phase
   abbrev pub Lies : Option R.Denot → Phase R.Denot → Type 0
   Lies v free = v ≡ None
+  Lies v begun = Unit {0}
   Lies v busy = Unit {0}
   Lies v (full x) = v ≡ Some x
   Lies v broken = v ≡ None
@@ -156,6 +216,15 @@ module _ (R : RattleType) where
     abbrev pub settable : Fml
     settable = fsep over unset
 
+    -- the right to set the first name of a begun cell
+    abbrev pub reserved : Fml
+    reserved = fobs γ.value_name (mark begun)
+
+    -- the right to set the first name, by whether the cell is begun and not busy
+    abbrev pub setting : Bool → Fml
+    setting true = reserved
+    setting false = unset
+
     -- what a broken cell has: what shows that it is, and the right to set the first name
     abbrev pub broken_unset : Fml
     broken_unset = fsep (was_broken γ.broken_name) unset
@@ -163,14 +232,23 @@ module _ (R : RattleType) where
     -- what goes with each phase
     abbrev pub told : Phase R.Denot → Fml
     told free = settable
+    told begun = fsep over (fact (IsTied γ.tied))
     told busy = over
     told (full x) = fsep over (written γ.value_name x)
     told broken = fsep over broken_unset
     told broken_by_owner = broken_unset
 
+    -- the seat, as the phase has it
+    abbrev pub seat : Phase R.Denot → Fml
+    seat s = seat_at γ.tied (stage s)
+
+    -- what goes with each phase, and the seat
+    abbrev pub told_tied : Phase R.Denot → Fml
+    told_tied s = fsep (told s) (seat s)
+
     -- the names, and what goes with the phase
     abbrev pub named : Phase R.Denot → Fml
-    named s = fsep (auths s) (told s)
+    named s = fsep (auths s) (told_tied s)
 
     -- a cell that is not lent: its names, and what its room holds
     abbrev pub resting : Rest R.Denot → Fml
@@ -210,6 +288,7 @@ module _ (R : RattleType) where
       -- what the invariant knows of the room in each phase
       abbrev pub tie : Phase R.Denot → Fml
       tie free = empty
+      tie begun = ftrue
       tie busy = ftrue
       tie (full x) = fres δ (content.code (Some x))
       tie broken = empty
@@ -218,26 +297,39 @@ module _ (R : RattleType) where
       -- what the invariant has of the room in each phase
       abbrev pub lent : Phase R.Denot → Fml
       lent free = fbor α Room
+      lent begun = ftrue
       lent busy = ftrue
       lent (full x) = shared_of R x b e α
       lent broken = fbor α Room
       lent broken_by_owner = fbor α Room
 
-      -- all that the invariant has of the cell, but its state
+      -- all that the invariant has of the cell, but its state and its seat
+      abbrev pub bare : Phase R.Denot → Fml
+      bare s = fsep (auths s) (fsep (told s) (fsep (tie s) (lent s)))
+
+      -- the same with its seat
       abbrev pub cell : Phase R.Denot → Fml
-      cell s = fsep (auths s) (fsep (told s) (fsep (tie s) (lent s)))
+      cell s = fsep (auths s) (fsep (told_tied s) (fsep (tie s) (lent s)))
 
       -- the right to write
       abbrev pub Right : Fml
       Right = fsep settable (fsep empty (fbor α Room))
 
-      -- what a step gains if it found n: the right to write, if it found what it sought; otherwise what n shows
-      abbrev pub gained : Bool → ℕ → Fml
-      gained true n = Right
-      gained false n = sights n
+      -- the right to write a begun cell
+      abbrev pub FirstRight : Fml
+      FirstRight = fsep (fsep over reserved) (fsep empty (fbor α Room))
 
-      abbrev pub won : ℕ → ℕ → Fml
-      won sought n = gained (eqb n sought) n
+      -- the right to write, by whether the cell is begun and not busy
+      abbrev pub right_of : Bool → Fml
+      right_of first = fsep (fsep over (setting first)) (fsep empty (fbor α Room))
+
+      -- what a step gains if it found n: the right to write, if it found what it sought; otherwise what n shows
+      abbrev pub gained : Bool → Bool → ℕ → Fml
+      gained first true n = right_of first
+      gained first false n = sights n
+
+      abbrev pub won : Bool → ℕ → ℕ → Fml
+      won first sought n = gained first (eqb n sought) n
 
   -- the same of a row of cells, whose rooms begin at an offset
   abbrev pub cells : List Names → Lft → (ℕ → GName) → ℕ → ℕ → (ℕ → Phase R.Denot) → Fml
@@ -256,7 +348,7 @@ module _ (R : RattleType) where
 
     -- a lending of the cells that is valid for a while
     abbrev pub kept : Lft → Fml
-    kept κ = fsep (before κ t.0) (finv (fbor t.0 Cells))
+    kept κ = fsep (before κ t.0) (above (floors γs) (fbor t.0 Cells))
 
   -- what a `&` to the cells holds
   abbrev pub shared_at : List Names → ℕ → ℕ → ℕ → ℕ → Lft → Fml
@@ -274,9 +366,9 @@ module _ (R : RattleType) where
   slot_owned γ κ null_ptr q i = ffalse
 
   -- what a pen owns, in a cell that is lent for κ
-  abbrev pub pen_owned : Names → Lft → Ptr → Ptr → ℕ → ℕ → ℕ → Fml
-  pen_owned γ κ (block_ptr b o) (block_ptr c r) i sought found =
+  abbrev pub pen_owned : Names → Lft → Ptr → Ptr → ℕ → Bool → ℕ → ℕ → Fml
+  pen_owned γ κ (block_ptr b o) (block_ptr c r) i first sought found =
       fex Spot (λ z. fsep (fact (IsAt γ i r z))
-      (fsep (kept z.0 z.1 b o c z.2 κ) (won γ z.1.0 (z.1.1 i) c r sought found)))
-  pen_owned γ κ (block_ptr b o) null_ptr i sought found = ffalse
-  pen_owned γ κ null_ptr q i sought found = ffalse
+      (fsep (kept z.0 z.1 b o c z.2 κ) (won γ z.1.0 (z.1.1 i) c r first sought found)))
+  pen_owned γ κ (block_ptr b o) null_ptr i first sought found = ffalse
+  pen_owned γ κ null_ptr q i first sought found = ffalse

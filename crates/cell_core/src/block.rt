@@ -1,50 +1,58 @@
 //! A block of cells, laid raw in two rows: the values side by side, and words with the states of sixteen cells each.
-ghost use Rattle.std.specs.Prelude.{◌≡◌, ◌≢◌, ◌+◌, ◌/◌, ◌%◌, ◌<◌, [], Some, None, IsSomeAnd, IfSome, IfOk, IfErr, IsErrAnd, length};
+ghost use Rattle.std.specs.Prelude.{◌≡◌, ◌≢◌, ◌+◌, ◌/◌, ◌%◌, ◌<◌, [], false, Some, None, IsSomeAnd, IfSome, IfOk, IfErr, IsErrAnd, length};
 ghost use Rattle.cell_core.specs.Block.{block_len, cell_at, IsPenAt, IsFresh, IsMending, IsPlacedIn, IsPlacedAt, IsMemberAt};
-ghost use Rattle.cell_core.specs.Slot.{empty_state, filled_state};
-ghost use Rattle.cell_core.specs.Laid.{HasEachRenamed, IsLinked, IsWhole, word_cells};
-ghost use Rattle.cell_core.specs.Shown.{IsFoundIn, IsNotEmpty, ShowsFilled, IsLookAt};
+ghost use Rattle.cell_core.specs.Slot.{AreTied, IsPlain, empty_state, filled_state};
+ghost use Rattle.cell_core.specs.Laid.{AreOfKind, HasEachRenamed, IsLinked, IsWhole, word_cells};
+ghost use Rattle.cell_core.specs.Shown.{IsFoundIn, IsNotEmpty, ShowsFilled, IsLookAt, IsLookOf};
 
 mod begun;
 mod epoch;
 mod fields;
 mod filled;
+mod kind;
 mod member;
+pub(crate) mod offer;
 mod owner;
 mod pen;
 mod placed;
 mod run;
+pub(crate) mod seats;
 mod shown;
 mod slice;
 mod spoilt;
 mod steps;
+mod tied;
 
 use crate::slot::steps::{BROKEN, BROKEN_BY_OWNER, BUSY, EMPTY, FILLED, RawPen, RawSight, RawSlot};
 pub use begun::Begun;
 pub use epoch::{EndedEpoch, Epoch};
 use fields::{WORD_CELLS, all_but, in_field, state_in, word_of, words_for};
+pub use kind::{First, Kind, Plain, Tied};
 pub use member::{Member, Row};
+pub use offer::{Book, Offer};
 pub use pen::Pen;
 pub use placed::Placed;
 pub use run::RunPen;
+pub use seats::Seats;
 pub use shown::{Found, Look};
 pub use spoilt::Spoilt;
 use std::alloc::{AllocError, Allocator, Global};
-use std::marker::Model;
+use std::marker::{Model, PhantomData};
 use steps::{Laid, Link, Rooms};
 
 /// A row of cells that are each filled at most once and keep their value; a broken one may be mended. Each
-/// has four bits of state beyond its value.
-pub struct Block<T, A: Allocator = Global> {
+/// has four bits of state beyond its value. `B` says whether cells are tied to a table.
+pub struct Block<T, A: Allocator = Global, B: Kind = Plain> {
     alloc: A,
     link: Link<T>,
     laid: Laid<T, A>,
     len: u64,
+    marker: PhantomData<B>,
 }
 
-impl<T, A: Allocator> Model for Block<T, A> {
+impl<T, A: Allocator, B: Kind> Model for Block<T, A, B> {
     ghost use Rattle.cell_core.specs.Block.{BlockView, block_coded};
-    ghost use Rattle.cell_core.specs.Laid.{IsLinked, IsWhole};
+    ghost use Rattle.cell_core.specs.Laid.{AreOfKind, IsLinked, IsWhole};
     ghost use Rattle.std.specs.Prelude.{◌≡◌, length};
 
     ghost Value = { BlockView };
@@ -55,7 +63,7 @@ impl<T, A: Allocator> Model for Block<T, A> {
 
     ghost invariant = { λ b. (b.laid.heap ≡ b.alloc) × IsLinked b.laid.rows.at b.link.words
         × IsLinked b.laid.rows.rooms b.link.rooms × (length b.laid.cells ≡ b.len)
-        × IsWhole b.laid.rows b.len };
+        × IsWhole b.laid.rows b.len × AreOfKind B.tied b.laid.cells };
 }
 
 impl<T, A: Allocator> Block<T, A> {
@@ -79,9 +87,12 @@ impl<T, A: Allocator> Block<T, A> {
             link,
             laid,
             len: n,
+            marker: PhantomData,
         })
     }
+}
 
+impl<T, A: Allocator, B: Kind> Block<T, A, B> {
     /// Returns the number of cells.
     pub fn len(&self) -> u64
         ensures { result ≡ block_len self.now }
@@ -95,7 +106,20 @@ impl<T, A: Allocator> Block<T, A> {
     {
         self.laid.cell(self.link, word_of(offset), offset as usize)
     }
+}
 
+impl<T, A: Allocator> Block<T, A> {
+    // The same of a block whose cells are not tied.
+    #[tactic(auto, using(crate::proofs::PlainCells::cell_plain))]
+    fn plain_cell(&self, offset: u64) -> RawSlot<'_, T>
+        requires { offset < block_len self.now }
+        ensures { (result.of ≡ cell_at self.now offset) × (result.index ≡ offset % word_cells) × IsPlain result.of }
+    {
+        self.laid.cell(self.link, word_of(offset), offset as usize)
+    }
+}
+
+impl<T, A: Allocator, B: Kind> Block<T, A, B> {
     // What a step that lost a cell found there.
     fn lost(&self, offset: u64, found: u64, pen: RawPen<'_, T>) -> Found<T>
         requires { (offset < block_len self.now) × (pen.of ≡ cell_at self.now offset)
@@ -122,7 +146,9 @@ impl<T, A: Allocator> Block<T, A> {
             }
         }
     }
+}
 
+impl<T, A: Allocator> Block<T, A> {
     /// Begins a cell by one step from empty to busy. The pen is the right to fill or break the cell. Calls on the
     /// other cells whose states are in the same word, up to fifteen, may make the processor retry the step.
     pub fn begin(&self, offset: u64) -> Result<Pen<'_, T>, Found<T>>
@@ -132,10 +158,14 @@ impl<T, A: Allocator> Block<T, A> {
         ensures found { IfErr result (IsFoundIn self.now offset) }
         ensures not_empty { IfErr result IsNotEmpty }
     {
-        let (word, pen) = self.cell(offset).begin(in_field(BUSY, offset));
+        let (word, pen) = self.plain_cell(offset).begin(in_field(BUSY, offset));
         let found = state_in(word, offset);
         if found == EMPTY {
-            Ok(Pen { offset, pen })
+            Ok(Pen {
+                offset,
+                pen,
+                marker: PhantomData,
+            })
         } else {
             Err(self.lost(offset, found, pen))
         }
@@ -149,10 +179,14 @@ impl<T, A: Allocator> Block<T, A> {
         ensures broken { IfOk result IsMending }
         ensures found { IfErr result (IsFoundIn self.now offset) }
     {
-        let (word, pen) = self.cell(offset).mend(all_but(BROKEN - BUSY, offset));
+        let (word, pen) = self.plain_cell(offset).mend(all_but(BROKEN - BUSY, offset));
         let found = state_in(word, offset);
         if found == BROKEN {
-            Ok(Pen { offset, pen })
+            Ok(Pen {
+                offset,
+                pen,
+                marker: PhantomData,
+            })
         } else {
             Err(self.lost(offset, found, pen))
         }
@@ -173,10 +207,16 @@ impl<T, A: Allocator> Block<T, A> {
         ensures filled { (x : T) → member.now.value ≡ Some x → IsErrAnd result (ShowsFilled x) }
     {
         let mask = all_but(BROKEN_BY_OWNER - BUSY, offset);
-        let (word, pen) = self.cell(offset).reopen(mask, &member.member, &ended.ended);
+        let (word, pen) = self
+            .plain_cell(offset)
+            .reopen(mask, &member.member, &ended.ended);
         let found = state_in(word, offset);
         match found {
-            BROKEN_BY_OWNER => Ok(Pen { offset, pen }),
+            BROKEN_BY_OWNER => Ok(Pen {
+                offset,
+                pen,
+                marker: PhantomData,
+            }),
             BROKEN => {
                 pen.unused();
                 self.mend(offset)
@@ -196,7 +236,7 @@ impl<T, A: Allocator> Block<T, A> {
         requires { offset < block_len self.now }
         ensures { IsLookAt self.now offset result }
     {
-        let (word, sight) = self.cell(offset).sight();
+        let (word, sight) = self.plain_cell(offset).look();
         let found = state_in(word, offset);
         if found == FILLED {
             let written = sight.written();
@@ -206,7 +246,9 @@ impl<T, A: Allocator> Block<T, A> {
             self.look_unfilled(offset, found, sight)
         }
     }
+}
 
+impl<T, A: Allocator, B: Kind> Block<T, A, B> {
     // Looks at a cell that is not filled. It is a function of its own, so that only calls that come here clear the room
     // for the result of `unfilled`.
     #[inline(always)]
@@ -229,7 +271,8 @@ impl<T, A: Allocator> Block<T, A> {
     fn unfilled(&self, offset: u64, found: u64, sight: RawSight<T>) -> Look<'_, T>
         requires { (offset < block_len self.now) × (sight.of ≡ cell_at self.now offset)
             × (sight.found ≡ found) × (found ≢ filled_state) }
-        ensures { IsLookAt self.now offset result }
+        ensures look { IsLookAt self.now offset result }
+        ensures state { IsLookOf found result }
     {
         match found {
             EMPTY => {
@@ -297,18 +340,20 @@ impl<T, A: Allocator> Block<T, A> {
             link,
             laid,
             len,
+            marker: _,
         } = self;
         free_rows(&alloc, link, laid, len);
     }
 }
 
-impl<T: Drop, A: Allocator> Drop for Block<T, A> {
+impl<T: Drop, A: Allocator, B: Kind> Drop for Block<T, A, B> {
     fn drop(self) {
         let Block {
             alloc,
             link,
             laid,
             len,
+            marker: _,
         } = self;
         let laid = drop_values(laid, link, len);
         free_rows(&alloc, link, laid, len);
@@ -330,12 +375,12 @@ fn drop_values<T: Drop, A: Allocator>(laid: Laid<T, A>, link: Link<T>, len: u64)
     laid
 }
 
-// The words for `n` cells, all empty.
+// The words for `n` cells, all empty and none of them tied.
 fn lay<T, A: Allocator>(laid: Laid<T, A>, words: *mut u64, n: u64) -> Laid<T, A>
     requires { IsLinked laid.rows.at words × (laid.cells ≡ []) × (laid.rows.words ≡ 0)
         × (laid.rows.more ≡ (n + 15) / word_cells) × (laid.rows.left ≡ n) }
     ensures { (result.heap ≡ laid.heap) × (result.rows.at ≡ laid.rows.at) × (result.rows.rooms ≡ laid.rows.rooms)
-        × (length result.cells ≡ n) × IsWhole result.rows n }
+        × (length result.cells ≡ n) × IsWhole result.rows n × AreOfKind false result.cells }
 {
     let mut laid = laid;
     let mut word = 0;
@@ -343,6 +388,26 @@ fn lay<T, A: Allocator>(laid: Laid<T, A>, words: *mut u64, n: u64) -> Laid<T, A>
     'words: while left > 0 {
         let cells = left.min(WORD_CELLS);
         laid.push(words, word, cells as usize);
+        word += 1;
+        left -= cells;
+    }
+    laid
+}
+
+// The words for `n` cells, all empty, with these ties.
+fn lay_for<T, A: Allocator>(laid: Laid<T, A>, words: *mut u64, n: u64, seats: Seats) -> Laid<T, A>
+    requires { IsLinked laid.rows.at words × (laid.cells ≡ []) × (laid.rows.words ≡ 0)
+        × (laid.rows.more ≡ (n + 15) / word_cells) × (laid.rows.left ≡ n) × (length seats.ties ≡ n) }
+    ensures { (result.heap ≡ laid.heap) × (result.rows.at ≡ laid.rows.at) × (result.rows.rooms ≡ laid.rows.rooms)
+        × (length result.cells ≡ n) × IsWhole result.rows n × AreTied seats.ties result.cells }
+{
+    let mut laid = laid;
+    let mut seats = seats;
+    let mut word = 0;
+    let mut left = n;
+    'words: while left > 0 {
+        let cells = left.min(WORD_CELLS);
+        seats = laid.push_for(words, word, cells as usize, seats);
         word += 1;
         left -= cells;
     }

@@ -5,6 +5,8 @@ use Rattle.std.specs.contracts.alloc.Global as heap
 use Rattle.std.specs.contracts.impls.GlobalAllocator.TheImpl.{ghosts}
 use Rattle.cell_core.specs.Block.{BlockView}
 use Rattle.cell_core.specs.contracts.block.Block as block
+use Rattle.cell_core.specs.contracts.block.kind.Plain as plain
+use Rattle.cell_core.specs.contracts.block.kind.PlainKind.TheImpl.{ghosts as kind}
 use Rattle.table_core.specs.Table.{TableView, KeepsOtherEntries}
 use Rattle.table_core.specs.contracts.table.Table.{the_row}
 
@@ -15,5 +17,5 @@ KeepsOthers old new k = (new.layout ≡ old.layout) × KeepsOtherEntries old new
 -- the table ends with all entries but this one as they were
 abbrev pub LendsBlock : RattleType → MutBor TableView → ℕ → Option (MutBor BlockView) → Fml
 LendsBlock T table k r =
-    LendsSo (the_row T) (block.the_row T heap.the_row ghosts) table r
+    LendsSo (the_row T) (block.the_row T heap.the_row plain.the_row ghosts kind) table r
     (λ n _. OnSome r (KeepsOthers table.now n k)) (λ n. KeepsOthers table.now n k)

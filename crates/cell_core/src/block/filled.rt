@@ -4,10 +4,10 @@ ghost use Rattle.cell_core.specs.Block.{block_len, AreFilledFrom, IsPlacedAt};
 ghost use Rattle.cell_core.specs.Laid.{word_cells};
 
 use crate::block::fields::{filled_in, word_of};
-use crate::block::{Block, Placed, Row};
+use crate::block::{Block, Kind, Placed, Row};
 use std::alloc::Allocator;
 
-impl<T, A: Allocator> Block<T, A> {
+impl<T, A: Allocator, B: Kind> Block<T, A, B> {
     /// Returns how many cells from an offset on are filled, up to the first that is not and `n` at most, and what is
     /// known of them then. The states of the `n` cells are in one word, which is loaded once.
     #[inline]

@@ -3,11 +3,11 @@ ghost use Rattle.std.specs.Prelude.{◌≡◌, ◌≢◌, ◌<◌, Some, None, M
 ghost use Rattle.cell_core.specs.Block.{block_len, cell_at, IsPlacedIn, IsPlacedAt, IsMemberAt, KeepsOtherCells, RenewsCell};
 
 use crate::block::fields::{in_field, keep_of, state_in, word_of};
-use crate::block::{Block, Epoch, Look, Member, Placed};
+use crate::block::{Block, Epoch, Kind, Member, Placed};
 use crate::slot::steps::{BROKEN_BY_OWNER, FILLED, Written};
 use std::alloc::Allocator;
 
-impl<T, A: Allocator> Block<T, A> {
+impl<T, A: Allocator, B: Kind> Block<T, A, B> {
     /// Moves the cell's value out, if it holds one. The cell is then empty and has fresh names, so no older
     /// token applies to it.
     pub fn take(&mut self, offset: u64) -> Option<T>
@@ -100,9 +100,16 @@ impl<T, A: Allocator> Block<T, A> {
         ensures placed { IfSome result (IsPlacedAt self.new offset) }
         ensures unchanged { self.new ≡ self.old }
     {
-        match self.look(offset) {
-            Look::Filled(_, placed) => Some(placed),
-            _ => None,
+        let (word, sight) = self.cell(offset).sight();
+        match state_in(word, offset) {
+            FILLED => {
+                let written = sight.written();
+                Some(Placed { offset, written })
+            }
+            _ => {
+                sight.unused();
+                None
+            }
         }
     }
 
@@ -175,7 +182,7 @@ impl<T, A: Allocator> Block<T, A> {
     }
 }
 
-impl<T: Drop, A: Allocator> Block<T, A> {
+impl<T: Drop, A: Allocator, B: Kind> Block<T, A, B> {
     /// Moves the cell's value out, or returns `None` if it is broken. The epoch must last. The cell is then
     /// empty and has fresh names, so no older token applies to it.
     pub fn take_member(&mut self, offset: u64, member: &Member<T>, epoch: &Epoch) -> Option<T>

@@ -2,15 +2,16 @@
 ghost use Rattle.std.specs.Prelude.{◌≡◌, ◌+◌, ◌%◌, ◌<◌, ◌≤◌, ◌++◌, ◌∷◌, ◌⊎◌, [], length, IfSome};
 ghost use Rattle.cell_core.specs.Block.{block_len};
 ghost use Rattle.cell_core.specs.Laid.{word_cells};
-ghost use Rattle.cell_core.specs.Run.{IsRunPenAt, PartsFirst, members_of};
+ghost use Rattle.cell_core.specs.Run.{IsRunPenAt, PartsFirst, cells_from, members_of};
+ghost use Rattle.cell_core.specs.Slot.{ArePlain};
 
 use crate::block::fields::{WORD_CELLS, are_empty, in_fields, word_of};
 use crate::block::pen::Pen;
-use crate::block::{Block, Row};
-use crate::slot::run::RawRun;
+use crate::block::{Block, Kind, Row};
+use crate::slot::run::{RawCells, RawRun};
 use crate::slot::steps::{BUSY, FILLED};
 use std::alloc::Allocator;
-use std::marker::Model;
+use std::marker::{Model, PhantomData};
 
 /// The right to fill the cells of a run, which are busy until then. A run must be spent: by `publish`, once each of its
 /// cells has its value, or cell by cell, by `first`.
@@ -25,6 +26,7 @@ impl<'a, T> Model for RunPen<'a, T> {
     ghost use Rattle.std.specs.Prelude.{◌≡◌, ◌+◌, ◌%◌, ◌<◌, ◌≤◌, length};
     ghost use Rattle.cell_core.specs.Laid.{word_cells};
     ghost use Rattle.cell_core.specs.Run.{RunView, run_coded};
+    ghost use Rattle.cell_core.specs.Slot.{ArePlain};
 
     ghost Value = { RunView T };
 
@@ -34,10 +36,10 @@ impl<'a, T> Model for RunPen<'a, T> {
 
     ghost invariant = { λ p. (p.run.found ≡ p.run.sought) × (p.run.index ≡ p.offset % word_cells)
         × (length p.run.of ≡ p.n) × (length p.run.values ≡ p.written) × (0 < p.n)
-        × (p.offset % word_cells + p.n ≤ word_cells) };
+        × (p.offset % word_cells + p.n ≤ word_cells) × ArePlain p.run.of };
 }
 
-impl<T, A: Allocator> Block<T, A> {
+impl<T, A: Allocator, B: Kind> Block<T, A, B> {
     /// Returns how many cells a run from an offset on can have: these, up to the end of the block, whose states are in
     /// one word.
     pub fn longest_run(&self, offset: u64) -> u64
@@ -49,6 +51,19 @@ impl<T, A: Allocator> Block<T, A> {
     {
         (WORD_CELLS - offset % WORD_CELLS).min(self.len - offset)
     }
+}
+
+impl<T, A: Allocator> Block<T, A> {
+    // `n` cells that are not tied, from an offset on, whose states are in one word.
+    #[tactic(auto, using(crate::proofs::PlainCells::plain_from))]
+    fn plain_cells(&self, offset: u64, n: u64) -> RawCells<'_, T>
+        requires { (offset + n ≤ block_len self.now) × (0 < n) × (offset % word_cells + n ≤ word_cells) }
+        ensures { (result.of ≡ cells_from n offset self.now.cells) × (result.index ≡ offset % word_cells)
+            × ArePlain result.of }
+    {
+        self.laid
+            .cells(self.link, word_of(offset), offset as usize, n as usize)
+    }
 
     /// Begins `n` cells from an offset on, whose states are in one word, by one step. Returns `None`, and begins none,
     /// if one of them is not empty, or if another call changed the word meanwhile.
@@ -59,16 +74,13 @@ impl<T, A: Allocator> Block<T, A> {
         requires word { offset % word_cells + n ≤ word_cells }
         ensures { IfSome result (IsRunPenAt self.now offset n) }
     {
-        let (word, sight) = self.cell(offset).sight();
+        let (word, sight) = self.plain_cell(offset).look();
         sight.unused();
         if !are_empty(word, n, offset) {
             return None;
         }
         let begun = word.wrapping_add(in_fields(BUSY, n, offset));
-        let cells = self
-            .laid
-            .cells(self.link, word_of(offset), offset as usize, n as usize);
-        let (found, run) = cells.begin(word, begun);
+        let (found, run) = self.plain_cells(offset, n).begin(word, begun);
         if found == word {
             Some(RunPen {
                 offset,
@@ -126,7 +138,11 @@ impl<'a, T> RunPen<'a, T> {
             run,
         } = self;
         let (pen, others) = run.first();
-        let pen = Pen { offset, pen };
+        let pen = Pen {
+            offset,
+            pen,
+            marker: PhantomData,
+        };
         if n == 1 {
             others.end();
             return (pen, None);

@@ -4,7 +4,7 @@ ghost use Rattle.cell_core.specs.Block.{block_len, AreFilledFrom};
 ghost use Rattle.cell_core.specs.Member.{HaveValues};
 
 use crate::block::steps::{Laid, Link};
-use crate::block::{Block, Row};
+use crate::block::{Block, Kind, Row};
 use crate::slot::member::RawRow;
 use std::alloc::Allocator;
 use std::slice::from_raw_parts;
@@ -29,7 +29,7 @@ impl<T, A: Allocator> Laid<T, A> {
     }
 }
 
-impl<T, A: Allocator> Block<T, A> {
+impl<T, A: Allocator, B: Kind> Block<T, A, B> {
     /// Returns the values of `n` cells from an offset on as a slice, by a row that shows that each has one. It takes no
     /// step.
     pub fn values<'a>(&'a self, offset: u64, n: u64, row: &Row<T>) -> &'a [T]

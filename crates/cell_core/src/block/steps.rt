@@ -1,15 +1,16 @@
 // The raw steps on the two rows of a block, one of words and one of rooms: their memory, the states of more cells, and
 // what an exclusive owner does with the cell at an index.
-ghost use Rattle.std.specs.Prelude.{◌≡◌, ℕ, ◌+◌, ◌*◌, ◌-◌, ◌/◌, ◌%◌, ◌^◌, ◌<◌, ◌≤◌, true, List, [], ◌∷◌, length, None, IfOk};
+ghost use Rattle.std.specs.Prelude.{◌≡◌, ℕ, ◌+◌, ◌*◌, ◌-◌, ◌/◌, ◌%◌, ◌^◌, ◌<◌, ◌≤◌, true, List, [], ◌∷◌, drop, length, None, IfOk};
 ghost use base.Stored.{coded_list};
 ghost use prog.Memory.{capped};
 ghost use denote.RawPtr.{Ptr, coded_ptr};
 ghost use Rattle.cell_core.specs.Slot.{Names, names_coded, cell_in, step, filled_state, owner_broken_state};
-ghost use Rattle.cell_core.specs.Laid.{Extent, extent_coded, rooms_owned, laid, laid_lent, word_cells, FitsMemory, IsLinked, IsFieldOf, HasMore, HasOneRenamed};
+ghost use Rattle.cell_core.specs.Laid.{Extent, extent_coded, rooms_owned, laid, laid_lent, word_cells, FitsMemory, IsLinked, IsFieldOf, HasMore, HasMoreTied, HasOneRenamed};
 ghost use Rattle.cell_core.specs.Member.{Settles};
 ghost use Rattle.cell_core.specs.Run.{cells_from};
 
 use crate::block::fields::{keep_of, state_in, word_of};
+use crate::block::seats::Seats;
 use crate::slot::epoch::RawEpoch;
 use crate::slot::member::RawMember;
 use crate::slot::run::RawCells;
@@ -181,6 +182,33 @@ impl<T, A: Allocator> Laid<T, A> {
         unsafe {
             words.add(word).write(0);
         }
+    }
+
+    // One more word, of `n` empty cells, with the first `n` ties. Returns the others.
+    pub(crate) fn push_for(
+        &mut self,
+        states: *mut u64,
+        word: usize,
+        n: usize,
+        seats: Seats,
+    ) -> Seats
+        requires { IsLinked self.old.rows.at states × (word ≡ self.old.rows.words) × (0 < self.old.rows.more)
+            × (length self.old.cells ≡ word * word_cells) × (n ≤ word_cells) × (n ≤ self.old.rows.left)
+            × (n ≤ length seats.ties) }
+        ensures { (self.new.heap ≡ self.old.heap) × HasMoreTied self.old.cells n self.new.cells seats.ties
+            × (self.new.rows ≡ record self.old.rows {
+              words = self.old.rows.words + 1;
+              more = self.old.rows.more - 1;
+              left = self.old.rows.left - n;
+            })
+            × (result.ties ≡ drop n seats.ties) }
+    {
+        // For the proof: the contract alone speaks of how many cells there are.
+        let _n = n;
+        unsafe {
+            states.add(word).write(0);
+        }
+        seats
     }
 
     // The cell at an index, whose state is in this word.

@@ -1,9 +1,9 @@
 // The raw steps on a run: cells next to each other whose states are in one word. One step begins them all, one
 // publishes them all, and one load shows them all.
-ghost use Rattle.std.specs.Prelude.{◌≡◌, ◌≢◌, ℕ, ◌+◌, ◌%◌, ◌^◌, ◌<◌, ◌≤◌, ◌++◌, ◌∷◌, [], List, length};
+ghost use Rattle.std.specs.Prelude.{false, ◌≡◌, ◌≢◌, ℕ, ◌+◌, ◌%◌, ◌^◌, ◌<◌, ◌≤◌, ◌++◌, ◌∷◌, [], List, length};
 ghost use base.Stored.{coded_list};
 ghost use Rattle.cell_core.specs.Fields.{sums};
-ghost use Rattle.cell_core.specs.Slot.{Names, names_coded, empty_state};
+ghost use Rattle.cell_core.specs.Slot.{Names, ArePlain, names_coded, empty_state};
 ghost use Rattle.cell_core.specs.Run.{AreEmptyIn, AreFilledIn, cells_owned, run_owned, sights_owned, members_of};
 
 use crate::slot::member::RawRow;
@@ -59,7 +59,7 @@ impl<'a, T> RawCells<'a, T> {
     // The step from empty to busy of each cell, if the word is the one that is sought. Returns the word as it was.
     pub(crate) fn begin(self, sought: u64, begun: u64) -> (u64, RawRun<'a, T>)
         requires { AreEmptyIn sought self.index (length self.of)
-            × (begun ≡ (sought + sums 1 (length self.of) self.index) % 2 ^ 64) }
+            × (begun ≡ (sought + sums 1 (length self.of) self.index) % 2 ^ 64) × ArePlain self.of }
         ensures { (result.1.of ≡ self.entry.of) × (result.1.index ≡ self.entry.index)
             × (result.1.sought ≡ sought) × (result.1.found ≡ result.0) × (result.1.values ≡ []) }
     {
@@ -117,7 +117,7 @@ impl<'a, T> RawRun<'a, T> {
     // Adds what makes each busy cell filled.
     pub(crate) fn publish(self, added: u64) -> RawRow<T>
         requires { (self.found ≡ self.sought) × (length self.values ≡ length self.of)
-            × (added ≡ sums 2 (length self.of) self.index) }
+            × (added ≡ sums 2 (length self.of) self.index) × ArePlain self.of }
         ensures { result.of ≡ members_of self.entry.of self.entry.values }
     {
         let RawRun {
@@ -135,7 +135,7 @@ impl<'a, T> RawRun<'a, T> {
     pub(crate) fn first(self) -> (RawPen<'a, T>, RawRun<'a, T>)
         requires { (self.found ≡ self.sought) × (self.values ≡ []) × (0 < length self.of) }
         ensures { (result.0.of ∷ result.1.of ≡ self.entry.of) × (result.0.index ≡ self.entry.index)
-            × (result.0.sought ≡ empty_state) × (result.0.found ≡ empty_state)
+            × (result.0.first ≡ false) × (result.0.sought ≡ empty_state) × (result.0.found ≡ empty_state)
             × (result.1.index ≡ self.entry.index + 1) × (result.1.sought ≡ self.entry.sought)
             × (result.1.found ≡ self.entry.sought) × (result.1.values ≡ []) }
     {

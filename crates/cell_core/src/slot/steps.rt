@@ -1,13 +1,16 @@
 // The raw steps on one cell, each a few lines around one atomic step on the word that holds the cell's state.
-ghost use Rattle.std.specs.Prelude.{◌≡◌, ◌≢◌, ℕ, ◌+◌, ◌*◌, ◌-◌, ◌^◌, ◌<◌, [], ◌∷◌, Option};
+ghost use Rattle.std.specs.Prelude.{Bool, true, false, ◌≡◌, ◌≢◌, ℕ, ◌+◌, ◌*◌, ◌-◌, ◌^◌, ◌<◌, [], ◌∷◌, Option, Some, None};
 ghost use base.Fml.{ftrue, ffalse};
+ghost use base.Stored.{coded_bool};
 ghost use denote.Sharing.{said};
 ghost use Rattle.std.specs.Coded.{coded_option};
 ghost use Rattle.cell_core.specs.Fields.{field};
-ghost use Rattle.cell_core.specs.Slot.{Names, names_coded, slot_owned, pen_owned, sighted, written, was_broken};
+ghost use Rattle.cell_core.specs.Tie.{HasMade, begins, breaks, fills, looks, mends};
+ghost use Rattle.cell_core.specs.Slot.{Names, IsPlain, names_coded, break_added, fill_added, slot_owned, pen_owned, sighted, written, was_broken};
 ghost use Rattle.cell_core.specs.Slot.{empty_state, busy_state, filled_state, broken_state, owner_broken_state};
 ghost use Rattle.cell_core.specs.Member.{HasNames, IsStateOf, MayBeStateOf, IsEpochOf};
 
+use crate::block::offer::{Book, Offer};
 use crate::slot::epoch::{RawEnded, RawEpoch};
 use crate::slot::member::RawMember;
 use std::marker::{Brand, Model, PhantomData};
@@ -39,19 +42,21 @@ impl<'a, T> Model for RawSlot<'a, T> {
     ghost also_owns = { λ s. slot_owned T.row s.of 'a s.word s.room s.index };
 }
 
-// What a step that sought a state gained when it found another or this one. It must be spent.
+// What a step that sought a state gained when it found another or this one: `first` says whether the cell is begun and
+// not busy. It must be spent.
 pub(crate) struct RawPen<'a, T> {
     pub(crate) word: *const u64,
     pub(crate) room: *const T,
     pub(crate) marker: PhantomData<&'a T>,
     pub(crate) ghost of: { Names } by { names_coded },
     pub(crate) ghost index: { ℕ },
+    pub(crate) ghost first: { Bool } by { coded_bool },
     pub(crate) ghost sought: { ℕ },
     pub(crate) ghost found: { ℕ },
 }
 
 impl<'a, T> Model for RawPen<'a, T> {
-    ghost also_owns = { λ c. pen_owned T.row c.of 'a c.word c.room c.index c.sought c.found };
+    ghost also_owns = { λ c. pen_owned T.row c.of 'a c.word c.room c.index c.first c.sought c.found };
 }
 
 // What a load of the state `found` showed. It has no bytes.
@@ -106,9 +111,9 @@ impl Model for RawBegun {
 impl<'a, T> RawSlot<'a, T> {
     // The step from empty to busy, which leaves any other state. Returns the word as it was.
     pub(crate) fn begin(self, unit: u64) -> (u64, RawPen<'a, T>)
-        requires { unit ≡ 16 ^ self.index }
+        requires { (unit ≡ 16 ^ self.index) × IsPlain self.of }
         ensures { (result.1.of ≡ self.entry.of) × (result.1.index ≡ self.entry.index)
-            × (result.1.sought ≡ empty_state) × (result.1.found ≡ field result.0 self.entry.index) }
+            × (result.1.first ≡ false) × (result.1.sought ≡ empty_state) × (result.1.found ≡ field result.0 self.entry.index) }
     {
         let RawSlot { word, room, marker } = self;
         let found = unsafe { raw::fetch_or::<Brand>(word, unit, SeqCst) };
@@ -117,9 +122,9 @@ impl<'a, T> RawSlot<'a, T> {
 
     // The step from broken to busy, which leaves any other state.
     pub(crate) fn mend(self, mask: u64) -> (u64, RawPen<'a, T>)
-        requires { mask ≡ 2 ^ 64 - 1 - 4 * 16 ^ self.index }
+        requires { (mask ≡ 2 ^ 64 - 1 - 4 * 16 ^ self.index) × IsPlain self.of }
         ensures { (result.1.of ≡ self.entry.of) × (result.1.index ≡ self.entry.index)
-            × (result.1.sought ≡ broken_state) × (result.1.found ≡ field result.0 self.entry.index) }
+            × (result.1.first ≡ false) × (result.1.sought ≡ broken_state) × (result.1.found ≡ field result.0 self.entry.index) }
     {
         let RawSlot { word, room, marker } = self;
         let found = unsafe { raw::fetch_and::<Brand>(word, mask, SeqCst) };
@@ -135,9 +140,9 @@ impl<'a, T> RawSlot<'a, T> {
     ) -> (u64, RawPen<'a, T>)
         requires { (mask ≡ 2 ^ 64 - 1 - 8 * 16 ^ self.index)
             × HasNames self.of member.now.of.value member.now.of.name member.now.of.epoch
-            × IsEpochOf member.now.of.value member.now.of.epoch (ended.now.of ∷ []) }
+            × IsEpochOf member.now.of.value member.now.of.epoch (ended.now.of ∷ []) × IsPlain self.of }
         ensures { (result.1.of ≡ self.entry.of) × (result.1.index ≡ self.entry.index)
-            × (result.1.sought ≡ owner_broken_state) × (result.1.found ≡ field result.0 self.entry.index)
+            × (result.1.first ≡ false) × (result.1.sought ≡ owner_broken_state) × (result.1.found ≡ field result.0 self.entry.index)
             × MayBeStateOf member.now.of.value (field result.0 self.entry.index) }
     {
         let RawSlot { word, room, marker } = self;
@@ -159,6 +164,77 @@ impl<'a, T> RawSlot<'a, T> {
             marker: PhantomData,
         };
         (found, sight)
+    }
+
+    // The same of a cell that is not tied, so that nobody else need know of the look.
+    #[inline(always)]
+    pub(crate) fn look(self) -> (u64, RawSight<T>)
+        requires { IsPlain self.of }
+        ensures { (result.1.of ≡ self.entry.of) × (result.1.found ≡ field result.0 self.entry.index) }
+    {
+        self.sight()
+    }
+
+    // The word, and what the state of a tied cell shows. The caller's update runs in the load.
+    #[inline(always)]
+    pub(crate) fn sight_for<'b, X, K: Book<X>>(
+        self,
+        offer: Offer<'b, X, K>,
+    ) -> (u64, RawSight<T>, Offer<'b, X, K>)
+        requires { (self.of.tied ≡ Some offer.tie) × (offer.step ≡ looks) × (offer.made ≡ None) }
+        ensures { (result.1.of ≡ self.entry.of) × (result.1.found ≡ field result.0 self.entry.index)
+            × (result.2.tie ≡ offer.entry.tie) × (result.2.about ≡ offer.entry.about)
+            × (result.2.step ≡ offer.entry.step)
+            × HasMade looks (field result.0 self.entry.index) result.2.made }
+    {
+        let RawSlot {
+            word,
+            room: _,
+            marker: _,
+        } = self;
+        let found = unsafe { raw::load::<Brand>(word, SeqCst) };
+        let sight = RawSight {
+            marker: PhantomData,
+        };
+        (found, sight, offer)
+    }
+
+    // The load that begins a tied cell. The caller's update runs in it, and shows that nobody has begun the cell.
+    #[inline(always)]
+    pub(crate) fn begin_for<'b, X, K: Book<X>>(
+        self,
+        offer: Offer<'b, X, K>,
+    ) -> (RawPen<'a, T>, Offer<'b, X, K>)
+        requires { (self.of.tied ≡ Some offer.tie) × (offer.step ≡ begins) × (offer.made ≡ None) }
+        ensures { (result.0.of ≡ self.entry.of) × (result.0.index ≡ self.entry.index)
+            × (result.0.first ≡ true) × (result.0.sought ≡ empty_state) × (result.0.found ≡ empty_state)
+            × (result.1.tie ≡ offer.entry.tie) × (result.1.about ≡ offer.entry.about)
+            × (result.1.step ≡ offer.entry.step) × HasMade begins empty_state result.1.made }
+    {
+        let RawSlot { word, room, marker } = self;
+        let _found = unsafe { raw::load::<Brand>(word, SeqCst) };
+        (RawPen { word, room, marker }, offer)
+    }
+
+    // The step of a tied cell from broken to busy, which leaves any other state. The caller's update runs in it.
+    #[inline(always)]
+    pub(crate) fn mend_for<'b, X, K: Book<X>>(
+        self,
+        mask: u64,
+        offer: Offer<'b, X, K>,
+    ) -> (u64, RawPen<'a, T>, Offer<'b, X, K>)
+        requires { (self.of.tied ≡ Some offer.tie) × (offer.step ≡ mends) × (offer.made ≡ None)
+            × (mask ≡ 2 ^ 64 - 1 - 4 * 16 ^ self.index) }
+        ensures { (result.1.of ≡ self.entry.of) × (result.1.index ≡ self.entry.index)
+            × (result.1.first ≡ false) × (result.1.sought ≡ broken_state)
+            × (result.1.found ≡ field result.0 self.entry.index)
+            × (result.2.tie ≡ offer.entry.tie) × (result.2.about ≡ offer.entry.about)
+            × (result.2.step ≡ offer.entry.step)
+            × HasMade mends (field result.0 self.entry.index) result.2.made }
+    {
+        let RawSlot { word, room, marker } = self;
+        let found = unsafe { raw::fetch_and::<Brand>(word, mask, SeqCst) };
+        (found, RawPen { word, room, marker }, offer)
     }
 
     // Returns the value, by evidence that there is one. It takes no step.
@@ -210,7 +286,8 @@ impl<'a, T> RawSlot<'a, T> {
 impl<'a, T> RawPen<'a, T> {
     // Writes the value, and then adds what makes a busy cell filled.
     pub(crate) fn fill(self, value: T, added: u64) -> Written<T>
-        requires { (self.found ≡ self.sought) × (added ≡ 2 * 16 ^ self.index) }
+        requires { (self.found ≡ self.sought) × (added ≡ 2 * 16 ^ self.index) × IsPlain self.of
+            × (self.first ≡ false) }
         ensures { (result.of ≡ self.entry.of.value_name) × (result.value ≡ value)
             × (result.found ≡ self.entry.found) }
     {
@@ -228,7 +305,8 @@ impl<'a, T> RawPen<'a, T> {
 
     // Adds what makes a busy cell broken.
     pub(crate) fn break_cell(self, bits: u64) -> RawBroken
-        requires { (self.found ≡ self.sought) × (bits ≡ 4 * 16 ^ self.index) }
+        requires { (self.found ≡ self.sought) × (bits ≡ 4 * 16 ^ self.index) × IsPlain self.of
+            × (self.first ≡ false) }
         ensures { result.of ≡ self.entry.of.broken_name }
     {
         let RawPen {
@@ -240,6 +318,59 @@ impl<'a, T> RawPen<'a, T> {
         RawBroken {
             marker: PhantomData,
         }
+    }
+
+    // Writes the value, and then adds what makes the cell filled. The caller's update runs in that step.
+    #[inline(always)]
+    pub(crate) fn fill_for<'b, X, K: Book<X>>(
+        self,
+        item: T,
+        bits: u64,
+        offer: Offer<'b, X, K>,
+    ) -> (Written<T>, Offer<'b, X, K>)
+        requires { (self.found ≡ self.sought) × (bits ≡ fill_added self.first * 16 ^ self.index)
+            × (self.of.tied ≡ Some offer.tie) × (offer.step ≡ fills) × (offer.made ≡ None) }
+        ensures { (result.0.of ≡ self.entry.of.value_name) × (result.0.value ≡ item)
+            × (result.0.found ≡ self.entry.found) × (result.1.tie ≡ offer.entry.tie)
+            × (result.1.about ≡ offer.entry.about) × (result.1.step ≡ offer.entry.step)
+            × ((n : ℕ) × HasMade fills n result.1.made) }
+    {
+        let RawPen {
+            word,
+            room,
+            marker: _,
+        } = self;
+        unsafe { (room as *mut T).write(item) };
+        unsafe { raw::fetch_add::<Brand>(word, bits, SeqCst) };
+        let written = Written {
+            marker: PhantomData,
+        };
+        (written, offer)
+    }
+
+    // Adds what makes the cell broken. The caller's update runs in that step.
+    #[inline(always)]
+    pub(crate) fn break_for<'b, X, K: Book<X>>(
+        self,
+        bits: u64,
+        offer: Offer<'b, X, K>,
+    ) -> (RawBroken, Offer<'b, X, K>)
+        requires { (self.found ≡ self.sought) × (bits ≡ break_added self.first * 16 ^ self.index)
+            × (self.of.tied ≡ Some offer.tie) × (offer.step ≡ breaks) × (offer.made ≡ None) }
+        ensures { (result.0.of ≡ self.entry.of.broken_name) × (result.1.tie ≡ offer.entry.tie)
+            × (result.1.about ≡ offer.entry.about) × (result.1.step ≡ offer.entry.step)
+            × ((n : ℕ) × HasMade breaks n result.1.made) }
+    {
+        let RawPen {
+            word,
+            room: _,
+            marker: _,
+        } = self;
+        unsafe { raw::fetch_add::<Brand>(word, bits, SeqCst) };
+        let broken = RawBroken {
+            marker: PhantomData,
+        };
+        (broken, offer)
     }
 
     // The token of what a lost step found.

@@ -44,7 +44,7 @@ use Rattle.cell_core.specs.Slot.{broken_by_owner}
 use Rattle.cell_core.specs.Member.{MemberView, unfilled}
 use Rattle.cell_core.specs.contracts.slot.epoch.RawEpoch as RawEpoch
 use Rattle.cell_core.specs.contracts.slot.member.RawMember as member
-use Rattle.cell_core.proofs.MemberParts.{member_made}
+use Rattle.cell_core.proofs.MemberParts.{member_made, never_gets}
 use Rattle.cell_core.proofs.CellMade.{token_val}
 use types.Run.{no_more, and_then}
 use types.Part.{agg}
@@ -102,10 +102,10 @@ break_cell_spec 𝓤 𝓛 𝓜 𝓡 wired T Al L _ ga da dd _ _ =
     move ! (1 ∷ 0 ∷ []) $ rewrite ! 1 (λ (v : ℕ). ‵ (lying R d v γ' (None, broken_by_owner))) (sym is.lies) refl $ use3 𝓛 (‵ (still R (set W i γ') b O d r)) (parts.closes_word 𝓛 R W b O d r s i γ' (None, broken_by_owner) N (sets_field W f i fit is.near is.short 9)) $
     move ! (1 ∷ []) $ use1 𝓛 (raw (Way w γ')) (all_e 𝓤 (Way w) γ') $ move ! (1 ∷ 0 ∷ []) $
     use2 𝓛 (‵ (laid R token x (set cs j γ'))) (apply∗ 𝓤 (sem 𝓛 (still R (set W i γ') b O d r)) (sem 𝓛 (laid R token x (set cs j γ')))) $
-    name_new ! tt gnil (λ δ. move ! (1 ∷ []) $ use1 𝓛 (later (‵ (unfilled δ))) (𝓛.invs.inv_new (fauth δ gnil)) $ await ! tt $
+    name_new ! tt gnil (λ δ. move ! (1 ∷ []) $ use1 𝓛 (later (‵ (unfilled δ))) (never_gets 𝓛 R δ gnil tt) $ await ! tt $
     let mb : MemberView T.Denot = record { value = None; name = δ; epoch = γ'.epoch } in let made : Mb.Denot = record { marker = record {}; of = mb } in
     use1 𝓛 (‵ (Mb.own_val made (token_val ∷ []))) (member_made 𝓛 R mb) $ sets ! (agg ! (no_more !)) refl (tt, tt) $ sets ! (agg ! (and_then ! (get ! refl) (no_more !))) refl (tt, (tt, tt)) $ move ! (1 ∷ []) $ drop ! $ move ! (1 ∷ 0 ∷ []) $
-    let h' : Lo.Denot = record { marker = h.marker; heap = h.heap; rows = x; cells = set cs j γ' } in let there : cell_in h'.cells j ≡ γ' = get_or-set_same cs j γ' (record { value_name = 0; broken_name = 0; epoch = [] }) asked.2.0 in
+    let h' : Lo.Denot = record { marker = h.marker; heap = h.heap; rows = x; cells = set cs j γ' } in let there : cell_in h'.cells j ≡ γ' = get_or-set_same cs j γ' (record { value_name = 0; broken_name = 0; epoch = []; tied = None }) asked.2.0 in
     let Kept : Type 0 = (h.heap ≡ h.heap) × (x ≡ h.rows) × HasOneRenamed cs j h'.cells × (γ'.epoch ≡ (cell_in h'.cells j).epoch) × (mb.value ≡ None) × (γ'.epoch ≡ ε) in
     move ! (2 ∷ 0 ∷ []) $ fjoin ! $ move ! (2 ∷ 0 ∷ 3 ∷ 4 ∷ 5 ∷ []) $ closes ! tt Lo h' ts b' o' $ feq_i ! (List Val) (vptr b' o' ∷ []) (vptr b' o' ∷ []) refl $ fjoin3 ! $ nothing ! $ nothing ! $ fjoin ! $ nothing ! $ fjoin ! $ nothing ! $ fjoin ! $ nothing ! $ fjoin ! $ nothing ! $ fjoin ! $ nothing ! $ fjoin ! $ move ! (1 ∷ 0 ∷ []) $ fjoin ! $ move ! (1 ∷ 3 ∷ []) $ join ! $
     use0 𝓛 (raw (fact 𝓤 Kept)) (fact_i 𝓤 Kept (emp 𝓤) (refl, (λ l. record { at = sym asked.0.0 l; rooms = sym asked.1.0 l; words = h.rows.words; more = h.rows.more; left = h.rows.left }), (γ', new.0, refl), ap (λ (u : Names). u.epoch) (sym there), refl, new.1)) $

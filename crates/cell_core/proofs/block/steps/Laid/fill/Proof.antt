@@ -1,6 +1,6 @@
 -- `fill` sets the state of a filled cell, which takes fresh names, and writes its value.
 use lib.Seq.{get_or-set_same}
-use Rattle.std.proofs.Common.{◌≡◌, ℕ, ◌+◌, length, set, ◌*◌, ◌/◌, ◌%◌, ◌^◌, ◌<◌, List, [], ◌∷◌, sym, refl, ap, subst, arith, w64, ◌-◌, lit<}
+use Rattle.std.proofs.Common.{None, ◌≡◌, ℕ, ◌+◌, length, set, ◌*◌, ◌/◌, ◌%◌, ◌^◌, ◌<◌, List, [], ◌∷◌, sym, refl, ap, subst, arith, w64, ◌-◌, lit<}
 use mir.Syntax.{Ty, a_type, dcons, dnil, named}
 use mir.Val.{Val, vint, vptr}
 use mir.MapTy.{inst_fn}
@@ -111,7 +111,7 @@ fill_spec 𝓤 𝓛 𝓜 𝓡 wired T Al L _ ga da dd _ _ =
     move ! (2 ∷ 1 ∷ 3 ∷ []) $ rewrite ! 1 (λ (v : ℕ). ‵ (lying R d v γ' (Some value, full value))) (sym isin.lies) refl $ use3 𝓛 (‵ (still R (set W i γ') b O d r)) (parts.closes_word 𝓛 R W b O d r s i γ' (Some value, full value) N (sets_field W f i fit isin.near isin.short 3)) $
     move ! (2 ∷ []) $ use1 𝓛 (raw (Way w γ')) (all_e 𝓤 (Way w) γ') $ move ! (1 ∷ 0 ∷ []) $
     use2 𝓛 (‵ (laid R token x (set cs j γ'))) (apply∗ 𝓤 (sem 𝓛 (still R (set W i γ') b O d r)) (sem 𝓛 (laid R token x (set cs j γ')))) $
-    let h' : Lo.Denot = record { marker = h.marker; heap = h.heap; rows = x; cells = set cs j γ' } in let there : cell_in h'.cells j ≡ γ' = get_or-set_same cs j γ' (record { value_name = 0; broken_name = 0; epoch = [] }) asked.2.0 in
+    let h' : Lo.Denot = record { marker = h.marker; heap = h.heap; rows = x; cells = set cs j γ' } in let there : cell_in h'.cells j ≡ γ' = get_or-set_same cs j γ' (record { value_name = 0; broken_name = 0; epoch = []; tied = None }) asked.2.0 in
     let Kept : Type 0 = (h.heap ≡ h.heap) × (x ≡ h.rows) × HasOneRenamed cs j h'.cells × (γ'.value_name ≡ (cell_in h'.cells j).value_name) × (value ≡ value) in
     move ! (2 ∷ 0 ∷ []) $ fjoin ! $ move ! (2 ∷ 0 ∷ 3 ∷ 4 ∷ 5 ∷ []) $ closes ! tt Lo h' ts b' o' $ feq_i ! (List Val) (vptr b' o' ∷ []) (vptr b' o' ∷ []) refl $ fjoin3 ! $ nothing ! $ nothing ! $ fjoin ! $ nothing ! $ fjoin ! $ nothing ! $ fjoin ! $ nothing ! $ fjoin ! $ nothing ! $ fjoin ! $ nothing ! $ fjoin ! $ move ! (1 ∷ 0 ∷ []) $ fjoin ! $ move ! (1 ∷ 3 ∷ []) $ join ! $
     use0 𝓛 (raw (fact 𝓤 Kept)) (fact_i 𝓤 Kept (emp 𝓤) (refl, (λ l. record { at = sym asked.0.0 l; rooms = sym asked.1.0 l; words = h.rows.words; more = h.rows.more; left = h.rows.left }), (γ', apart, refl), ap (λ (u : Names). u.value_name) (sym there), refl)) $

@@ -26,7 +26,7 @@ use denote.Plain.{uint_vals, uint_Tells}
 use denote.Triple.Walked.{Stays, stay_dropped, stay_ref, walk_of, Goes-dropped, Goes-ref}
 use Rattle.core.proofs.atomic.Steps.{tail}
 use Rattle.atomic_table.proofs.Walks.{proved, leaves}
-use Rattle.cell_core.specs.Slot.{Names, step, free}
+use Rattle.cell_core.specs.Slot.{Names, ArePlain, step, free}
 use Rattle.cell_core.specs.Laid.{Extent, laid, still, rests, IsLinked, HasMore}
 use Rattle.cell_core.specs.contracts.block.steps.Laid as loose
 use Rattle.cell_core.proofs.LaidParts as parts
@@ -58,11 +58,11 @@ push_spec 𝓤 𝓛 𝓜 𝓡 wired T Al L _ ga da dd _ _ =
     sets ! (of_opd ! (get ! refl)) refl (tt, record { fits = are.1.1.1.0.1 }) $ first ! $ blocks ! $ sets ! (bin ! (get ! refl) (lit ! tt) (record { fits = small })) refl (tt, record { fits = small }) $ sets ! (bin ! (get ! refl) (get ! refl) tt) refl (tt, tt) $
     assigns_last ! (of_opd ! (lit ! tt)) (through ! refl (stop !)) (init ! 0 refl (tt, record { fits = lit< tt })) $ exec ! 𝓣.C 𝓣.Λ Ev (tail (tail fn.body)) (at_ret Ev Post) $ sets ! (of_opd ! (unit_lit !)) refl (tt, tt) $
     -- [the word; the rooms; the way to more; ..]
-    move ! (1 ∷ []) $ use1 𝓛 (later (some (λ (ns : List Names). given (length ns ≡ n) (‵ (rests R ns d e (λ _. (None, free))))))) (parts.lays 𝓛 R n d e) $ await ! tt $ pick ! (λ ns. learn ! (λ long. move ! (1 ∷ 0 ∷ []) $
+    move ! (1 ∷ []) $ use1 𝓛 (later (some (λ (ns : List Names). given ((length ns ≡ n) × ArePlain ns) (‵ (rests R ns d e (λ _. (None, free))))))) (parts.lays_plain 𝓛 R n d e) $ await ! tt $ pick ! (λ ns. learn ! (λ new. let long : length ns ≡ n = new.0 in move ! (1 ∷ 0 ∷ []) $
     use2 𝓛 (‵ (still R ns b (k * 8 + o) d e)) (parts.laid_word 𝓛 R ns b (k * 8 + o) d e) $ move ! (1 ∷ []) $ use1 𝓛 (raw (Again (ns, long))) (all_e 𝓤 Again (ns, long)) $ move ! (1 ∷ 0 ∷ []) $ let x' : Extent = parts.longer 𝓛 R token x n in
     use2 𝓛 (‵ (laid R token x' (cs ++ ns))) (apply∗ 𝓤 (sem 𝓛 (still R ns b (k * 8 + o) d e)) (sem 𝓛 (laid R token x' (cs ++ ns)))) $
     let h' : Lo.Denot = record { marker = h.marker; heap = h.heap; rows = x'; cells = cs ++ ns } in move ! (1 ∷ 0 ∷ []) $ fjoin ! $ move ! (1 ∷ 0 ∷ []) $
     closes ! tt Lo h' ts b' o' $ feq_i ! (List Val) (vptr b' o' ∷ []) (vptr b' o' ∷ []) refl $ fjoin3 ! $ nothing ! $ nothing ! $ fjoin ! $ nothing ! $ fjoin ! $ nothing ! $ fjoin ! $ move ! (1 ∷ 0 ∷ []) $ fjoin ! $ move ! (1 ∷ 2 ∷ []) $ join ! $
     let Kept : Type 0 = (h.heap ≡ h.heap) × HasMore cs n h'.cells × (x' ≡ record { at = h.rows.at; rooms = h.rows.rooms; words = h.rows.words + 1; more = h.rows.more - 1; left = h.rows.left - n }) in
-    use0 𝓛 (raw (fact 𝓤 Kept)) (fact_i 𝓤 Kept (emp 𝓤) (refl, (ns, long, refl), (λ i. record { at = sym asked.0.0 i; rooms = h.rows.rooms; words = asked.1 i + 1; more = h.rows.more - 1; left = h.rows.left - n }))) $ feq_i ! (List Val) (vunit ∷ []) (vunit ∷ []) refl $
+    use0 𝓛 (raw (fact 𝓤 Kept)) (fact_i 𝓤 Kept (emp 𝓤) (refl, (ns, long, refl, new.1), (λ i. record { at = sym asked.0.0 i; rooms = h.rows.rooms; words = asked.1 i + 1; more = h.rows.more - 1; left = h.rows.left - n }))) $ feq_i ! (List Val) (vunit ∷ []) (vunit ∷ []) refl $
     returns ! (look_at ! 0 refl) $ free_all ! refl $ keep ! (2 ∷ 3 ∷ 0 ∷ 1 ∷ []) $ by ! (leaves 𝓛 En hs c y vunit tt (h', (tt, (tt, (tt, tt)))) (tt, (tt, (tt, (tt, tt))))))))))))

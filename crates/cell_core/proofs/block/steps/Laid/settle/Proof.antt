@@ -45,7 +45,7 @@ use Rattle.cell_core.specs.Slot.{broken_by_owner, written}
 use Rattle.cell_core.specs.Member.{MemberView, unfilled, Settles}
 use Rattle.cell_core.specs.contracts.slot.epoch.RawEpoch as RawEpoch
 use Rattle.cell_core.specs.contracts.slot.member.RawMember as member
-use Rattle.cell_core.proofs.MemberParts.{member_made}
+use Rattle.cell_core.proofs.MemberParts.{member_made, never_gets}
 use Rattle.cell_core.proofs.CellMade.{token_val}
 use types.Run.{no_more, and_then, branches, skips}
 use types.Part.{agg}
@@ -53,7 +53,7 @@ use denote.Plain.{uint_vals, uint_Tells}
 use denote.Triple.Walked.{Stays, stay_dropped, stay_ref, walk_of, Goes-dropped, Goes-ref}
 use Rattle.core.proofs.atomic.Steps.{tail}
 use Rattle.atomic_table.proofs.Walks.{proved, leaves}
-use Rattle.cell_core.specs.Slot.{Names, Rest, cell_in, state, step, room_at, word, resting}
+use Rattle.cell_core.specs.Slot.{Names, Rest, cell_in, state, step, room_at, word, resting, mark}
 use Rattle.cell_core.specs.Laid.{Extent, laid, still, lying, IsLinked}
 use Rattle.cell_core.specs.contracts.block.steps.Laid as loose
 use Rattle.cell_core.proofs.LaidParts as parts
@@ -103,7 +103,7 @@ settle_spec 𝓤 𝓛 𝓜 𝓡 wired T Al L _ ga da dd _ _ =
     -- [the names; the room; the word; the way back into the word; the way back; ..]
     use2 𝓛 (later (‵ (rest.Rebroken 𝓛 R γ (s i).1 ε d q'))) (rest.rebroken 𝓛 R γ ε d q' (s i).1) $ await ! tt $ fpick ! (λ γ'. fsplit ! $ fpick ! (λ new. drop ! $ fsplit ! $
     -- [the new cell; the old names; the word; the way back into the word; the way back; ..]
-    move ! (1 ∷ []) $ fsplit ! $ rewrite ! 0 (λ (v : Gv). ‵ (fauth γ.value_name v)) blank refl $ use1 𝓛 (later (‵ (unfilled γ.value_name))) (𝓛.invs.inv_new (fauth γ.value_name gnil)) $ await ! tt $
+    move ! (1 ∷ []) $ fsplit ! $ use1 𝓛 (later (‵ (unfilled γ.value_name))) (never_gets 𝓛 R γ.value_name (mark R (s i).1) blank) $ await ! tt $
     let mb : MemberView T.Denot = record { value = None; name = γ.value_name; epoch = γ'.epoch } in let made : Mb.Denot = record { marker = record {}; of = mb } in
     use1 𝓛 (‵ (Mb.own_val made (token_val ∷ []))) (member_made 𝓛 R mb) $ sets ! (agg ! (no_more !)) refl (tt, tt) $ sets ! (agg ! (and_then ! (get ! refl) (no_more !))) refl (tt, (tt, tt)) $ move ! (1 ∷ []) $ drop ! $
     -- [the member; the new cell; the word; the way back into the word; the way back; ..]
@@ -123,7 +123,7 @@ settle_spec 𝓤 𝓛 𝓜 𝓡 wired T Al L _ ga da dd _ _ =
     move ! (2 ∷ 1 ∷ 3 ∷ []) $ rewrite ! 1 (λ (v : ℕ). ‵ (lying R d v γ (s i))) (sym isin.lies) refl $ use3 𝓛 (‵ (still R (set W i γ) b O d r)) (parts.closes_word 𝓛 R W b O d r s i γ (s i) n (pack_ap W (put_own i f))) $
     move ! (2 ∷ []) $ use1 𝓛 (raw (Way w γ)) (all_e 𝓤 (Way w) γ) $ move ! (1 ∷ 0 ∷ []) $
     use2 𝓛 (‵ (laid R token x (set cs j γ))) (apply∗ 𝓤 (sem 𝓛 (still R (set W i γ) b O d r)) (sem 𝓛 (laid R token x (set cs j γ)))) $
-    rewrite ! 0 (λ (u : List Names). ‵ (laid R token x u)) (set-get_or cs j (record { value_name = 0; broken_name = 0; epoch = [] })) refl $
+    rewrite ! 0 (λ (u : List Names). ‵ (laid R token x u)) (set-get_or cs j (record { value_name = 0; broken_name = 0; epoch = []; tied = None })) refl $
     let h' : Lo.Denot = record { marker = h.marker; heap = h.heap; rows = x; cells = cs } in
     let Kept : Type 0 = (h.heap ≡ h.heap) × (x ≡ h.rows) × (γ.value_name ≡ γ.value_name) × Settles cs j h'.cells mb.value mb.epoch × (mb.epoch ≡ ε) in
     move ! (2 ∷ 0 ∷ []) $ fjoin ! $ move ! (2 ∷ 0 ∷ 3 ∷ 4 ∷ 5 ∷ []) $ closes ! tt Lo h' ts b' o' $ feq_i ! (List Val) (vptr b' o' ∷ []) (vptr b' o' ∷ []) refl $ fjoin3 ! $ nothing ! $ nothing ! $ fjoin ! $ nothing ! $ fjoin ! $ nothing ! $ fjoin ! $ nothing ! $ fjoin ! $ nothing ! $ fjoin ! $ nothing ! $ fjoin ! $ nothing ! $ fjoin ! $ move ! (1 ∷ 0 ∷ []) $ fjoin ! $ move ! (1 ∷ 3 ∷ []) $ join ! $

@@ -4,7 +4,7 @@ use mir.Syntax.{a_type}
 use mir.Val.{Val, vint, vptr, vstruct, vcons, vnil, of_list}
 use mir.MapTy.{inst_fn}
 use base.Logic.{SProp, wand, emp, via, apply∗, guard_i}
-use base.Fml.{Lft, Share, Fml, ftrue, fsep, flft, finv, fbor, feq}
+use base.Fml.{Lft, Share, Fml, ftrue, fsep, flft, fbor, feq}
 use base.Before.{before}
 use types.Logic.{sem}
 use types.Kit.{mean, ‵, raw, ◌⊛◌, some, given, later, at_ret, ◌$◌, ◌∵◌, !, qed, by, move, keep, drop, use0, use1, use2, use3, split, join, fsplit, fjoin, fjoin3, fpick, fpack, pick, learn, await, rewrite, feq_i, flt_i}
@@ -28,13 +28,14 @@ use Rattle.atomic_table.proofs.Walks.{proved, leaves}
 use Rattle.atomic_table.proofs.Calls.{fm, found, exchanges, finds}
 use Rattle.core.proofs.atomic.Steps.{tail}
 use Rattle.cell_core.specs.Fields.{sums}
-use Rattle.cell_core.specs.Slot.{Names, Turn, Spot, Cells, kept}
+use Rattle.cell_core.specs.Slot.{above, floors, ArePlain, Names, Turn, Spot, Cells, kept}
 use Rattle.cell_core.specs.Run.{AreEmptyIn, IsRunAt, held, if_won, cells_owned}
 use Rattle.cell_core.specs.Slot.{fact as is_fact}
 use Rattle.cell_core.specs.contracts.slot.run.RawCells as RawCells
 use Rattle.cell_core.specs.contracts.slot.run.RawRun as RawRun
 use Rattle.cell_core.proofs.CellMade.{pointers_val, pointers_good}
 use Rattle.cell_core.proofs.RunMade.{RunWords, cells_told, cells_placed, run_made}
+use Rattle.cell_core.proofs.WordSteps.{above_dup}
 use Rattle.cell_core.proofs.RunSteps.{begins_all}
 use Rattle.cell_core.specs.contracts.slot.run.RawCells.begin.{ended, clauses}
 use Rattle.cell_core.specs.contracts.slot.run.RawCells.begin.Key.{name as #self}
@@ -49,7 +50,7 @@ begin_spec 𝓤 𝓛 𝓜 𝓡 wired T L =
     proved 𝓛 En hs c 𝓜 𝓡 (Goes-dropped 𝓛 2 self no (λ κs x f. refl), (Goes-dropped 𝓛 2 (plain (λ _. u64)) yes (λ κs x f. refl), (Goes-dropped 𝓛 2 (plain (λ _. u64)) yes (λ κs x f. refl), tt))) (#self inst) fn (code.unfolded 𝓤 H 𝓜 𝓡 wired (T, tt))
     (λ κs. ((λ h. pointers_val h.word h.room ∷ []), (uint_vals w64, (uint_vals w64, tt)))) (λ κs. ((λ h vs so. cells_told (named_lft 2 0 tt κs) R h.word h.room vs so.0), (uint_Tells w64, (uint_Tells w64, tt)))) (λ κs qs bounds a gh are.
     let ℓ = named_lft 2 0 tt κs in let Sr : RattleType = RawCells.the_row ℓ R in let Hr : RattleType = RawRun.the_row ℓ R in let h : Sr.Denot = a.0 in let p : Ptr = h.word in let z : Ptr = h.room in let b : ℕ = block_of p in let o : ℕ = count_of p in let d : ℕ = block_of z in let r : ℕ = count_of z in
-    let β : Lft = κs.0 in let q : Share = qs.0 in let gs : List Names = h.of in let i : ℕ = h.index in let n : ℕ = a.1.0 in let m : ℕ = a.1.1.0 in let others : Fml = fsep (flft κs.1.0 qs.1.0) ftrue in let Asked : Type 0 = AreEmptyIn n i (length gs) × (m ≡ (n + sums 1 (length gs) i) % 2 ^ 64) in
+    let β : Lft = κs.0 in let q : Share = qs.0 in let gs : List Names = h.of in let i : ℕ = h.index in let n : ℕ = a.1.0 in let m : ℕ = a.1.1.0 in let others : Fml = fsep (flft κs.1.0 qs.1.0) ftrue in let Asked : Type 0 = AreEmptyIn n i (length gs) × (m ≡ (n + sums 1 (length gs) i) % 2 ^ 64) × ArePlain gs in
     let y : (walk_of 𝓛 En hs c).Ghost = ((κs, qs, bounds, a, (pointers_val p z ∷ [], (vint w64 n ∷ [], (vint w64 m ∷ [], tt)))), gh) in let Post : Val → SProp 𝓤 = (walk_of 𝓛 En hs c).post y in
     qed 𝓛 (((‵ (flft β q) ⊛ ‵ others) ⊛ ‵ (owns (types_at En.signature.params κs) a y.0.4)) ∷ raw (fact 𝓤 _) ∷ raw (fact 𝓤 Asked) ∷ []) ∵
     keep ! (2 ∷ 0 ∷ []) $ heard ! Asked (λ asked. split ! $ split ! $ move ! (2 ∷ []) $ fsplit ! $ fsplit ! $ keep ! (1 ∷ 3 ∷ 4 ∷ []) $
@@ -58,7 +59,7 @@ begin_spec 𝓤 𝓛 𝓜 𝓡 wired T L =
     enter ! 𝓣.C 𝓣.Λ fn (pointers_val p z ∷ vint w64 n ∷ vint w64 m ∷ []) Post $ alloc_all ! (λ l. pass_all ! refl (pointers_good p z, ((tt, record { fits = are.1.0.1 }), ((tt, record { fits = are.1.1.0.1 }), tt))) $ let Ev = env fn.locals l in
     fpick ! (λ s. fsplit ! $ fpick ! (λ at. drop ! $ let γs : List Names = s.0 in let t : Turn = s.1 in let e : ℕ = s.2 in let α : Lft = t.0 in let J : Fml = fbor α (Cells R γs t b o d e) in
     fsplit ! $ use1 𝓛 (‵ (before β α) ⊛ ‵ (before β α)) (before_dup 𝓛 β α) $ split ! $ move ! (2 ∷ []) $
-    use1 𝓛 (‵ (finv J) ⊛ ‵ (finv J)) (𝓛.invs.inv_dup J) $ split ! $ move ! (2 ∷ 0 ∷ []) $ fjoin ! $ move ! (2 ∷ 3 ∷ []) $
+    use1 𝓛 (‵ (above (floors γs) J) ⊛ ‵ (above (floors γs) J)) (above_dup 𝓛 (floors γs) J) $ split ! $ move ! (2 ∷ 0 ∷ []) $ fjoin ! $ move ! (2 ∷ 3 ∷ []) $
     use2 𝓛 (later (some (λ (w : Share). ‵ (flft α w) ⊛ raw (wand 𝓤 (A.lft α w) (H.⇛ (A.lft β q)))))) (Lends-one 𝓛 𝓜 𝓡 β α q) $ await ! tt $ pick ! (λ w. split ! $
     -- [the turn's token; the way back; the lending; the invariant; the others]
     let Won : ℕ → Fml = λ k. if_won (eqb k n) (held R t d e gs i []) in let after : ℕ → Fml = λ k. fsep (flft α w) (Won k) in
@@ -67,7 +68,7 @@ begin_spec 𝓤 𝓛 𝓜 𝓡 wired T L =
     sets ! (of_opd ! (get_in ! (fld ! refl (stop !)) (sub ! 2 refl (whole !)))) refl (tt, tt) $
     first ! $ blocks ! $ nothing ! $ move ! (4 ∷ 1 ∷ 0 ∷ []) $
     use3 𝓛 (raw (𝓣.C _ (vptr b o ∷ vint w64 n ∷ vint w64 m ∷ []) (λ u. mean 𝓛 (found after u))))
-    (via 𝓤 _ (begins_all 𝓛 R γs t d e b o gs i at.0 at.1 n m asked.0 asked.1 w) (exchanges 𝓛 𝓜 𝓡 (code.calls-atomic_table::exchange 𝓡.env wired) (block_ptr b o) n m are.1.0.1 are.1.1.0.1 after)) $
+    (via 𝓤 _ (begins_all 𝓛 R γs t d e b o gs i at.0 asked.2 at.1 n m asked.0 asked.1 w) (exchanges 𝓛 𝓜 𝓡 (code.calls-atomic_table::exchange 𝓡.env wired) (block_ptr b o) n m are.1.0.1 are.1.1.0.1 after)) $
     Calls-last ! (fm 𝓛 𝓜 𝓡) (found after) (and_then ! (get ! refl) (and_then ! (get ! refl) (and_then ! (get ! refl) (no_more !)))) (λ u. finds ! after (λ k fits.
     lands_last ! refl (tt, record { fits = fits }) $ exec ! 𝓣.C 𝓣.Λ Ev (tail (tail (tail (tail fn.body)))) (at_ret Ev Post) $
     sets ! (of_opd ! (get ! refl)) refl (tt, record { fits = fits }) $

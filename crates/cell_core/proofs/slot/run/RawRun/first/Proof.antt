@@ -1,10 +1,10 @@
 -- `first` parts the first cell of a run from those after it.
-use Rattle.std.proofs.Common.{Bool, eqb, eq-eqb, add-mul, arith, length, ◌∙◌, ◌<◌, ◌≡◌, ℕ, suc, ◌+◌, ◌*◌, ◌^◌, List, [], ◌∷◌, ◌++◌, sym, refl, ap, subst, w64}
+use Rattle.std.proofs.Common.{false, Bool, eqb, eq-eqb, add-mul, arith, length, ◌∙◌, ◌<◌, ◌≡◌, ℕ, suc, ◌+◌, ◌*◌, ◌^◌, List, [], ◌∷◌, ◌++◌, sym, refl, ap, subst, w64}
 use mir.Syntax.{a_type}
 use mir.Val.{Val, vint, vptr, vstruct, vcons, vnil, of_list}
 use mir.MapTy.{inst_fn}
 use base.Logic.{SProp, ent, emp, guard_i}
-use base.Fml.{Lft, Share, Fml, ftrue, fsep, finv, fbor, feq}
+use base.Fml.{Lft, Share, Fml, ftrue, fsep, fbor, feq}
 use base.Before.{before}
 use types.Logic.{sem}
 use types.Kit.{‵, raw, ◌⊛◌, given, at_ret, ◌$◌, ◌∵◌, !, qed, by, move, keep, drop, use0, use1, split, join, fsplit, fsplit3, fjoin, fjoin3, fpick, fpack, learn, rewrite, feq_i}
@@ -24,7 +24,7 @@ use denote.Triple.Walked.{Stays, stay_dropped, walk_of, Goes-dropped}
 use denote.Triple.Entry.{alive}
 use Rattle.atomic_table.proofs.Walks.{proved, leaves}
 use Rattle.core.proofs.atomic.Steps.{tail}
-use Rattle.cell_core.specs.Slot.{Names, Turn, Spot, Cells, IsAt, Right, cell_in, kept, room_at, step, won}
+use Rattle.cell_core.specs.Slot.{above, floors, ArePlain, Names, Turn, Spot, Cells, IsAt, Right, cell_in, kept, room_at, step, won}
 use Rattle.cell_core.specs.Slot.{fact as is_fact}
 use Rattle.cell_core.specs.Run.{IsRunAt, held, if_won, run_owned}
 use Rattle.cell_core.specs.contracts.slot.run.RawRun as RawRun
@@ -33,6 +33,7 @@ use Rattle.cell_core.proofs.CellMade.{PenWords, pointers_val, pointers_good, pen
 use Rattle.cell_core.proofs.LaidMade.{uncapped}
 use Rattle.cell_core.proofs.LaidParts.{room_is, within}
 use Rattle.cell_core.proofs.RunMade.{RunWords, run_told, run_placed, run_holds, run_made, Holds}
+use Rattle.cell_core.proofs.WordSteps.{above_dup}
 use Rattle.cell_core.proofs.RunSteps.{held_first, first_again, first_at, others, others_fewer}
 use Rattle.cell_core.specs.contracts.slot.run.RawRun.first.{ended, clauses}
 use Rattle.cell_core.specs.contracts.slot.run.RawRun.first.Key.{name as #self}
@@ -64,17 +65,17 @@ first_spec 𝓤 𝓛 𝓜 𝓡 wired T L =
     use1 𝓛 (‵ (Right R γ α (t.1 i) d (room_at R f i)) ⊛ ‵ (held R t d f rs (suc i) none)) (held_first 𝓛 R t d f gs i asked.2) $ split ! $
     -- [the right; what the run holds of the others; kept; the lifetimes]
     move ! (2 ∷ []) $ fsplit ! $ use1 𝓛 (‵ (before β α) ⊛ ‵ (before β α)) (before_dup 𝓛 β α) $ split ! $ move ! (2 ∷ []) $
-    use1 𝓛 (‵ (finv J) ⊛ ‵ (finv J)) (𝓛.invs.inv_dup J) $ split ! $ move ! (2 ∷ 0 ∷ []) $ fjoin ! $ move ! (2 ∷ 1 ∷ []) $ fjoin ! $
+    use1 𝓛 (‵ (above (floors Γs) J) ⊛ ‵ (above (floors Γs) J)) (above_dup 𝓛 (floors Γs) J) $ split ! $ move ! (2 ∷ 0 ∷ []) $ fjoin ! $ move ! (2 ∷ 1 ∷ []) $ fjoin ! $
     -- [kept; kept; the right; what the run holds of the others; the lifetimes]
     move ! (2 ∷ []) $ rewrite ! 0 (λ (l : ℕ). ‵ (Right R γ α (t.1 i) d l)) at.2 refl $ move ! (1 ∷ 0 ∷ []) $ fjoin ! $ nothing ! $ fpack ! (IsAt R γ i e s) (λ _. ftrue) (part.0, at.1, part.1, at.2) $ fjoin ! $
-    fpack ! Spot (λ u. fsep (is_fact (IsAt R γ i e u)) (fsep (kept R u.0 u.1 b o d u.2 β) (won R γ u.1.0 (u.1.1 i) d e 0 0))) s $
+    fpack ! Spot (λ u. fsep (is_fact (IsAt R γ i e u)) (fsep (kept R u.0 u.1 b o d u.2 β) (won R γ u.1.0 (u.1.1 i) d e false 0 0))) s $
     -- [the pen; kept; what the run holds of the others; the lifetimes]
     move ! (2 ∷ []) $ rewrite ! 0 (λ (l : Bool). ‵ (if_won l (held R t d f rs (suc i) none))) (sym (eq-eqb m m refl)) refl $ move ! (2 ∷ 0 ∷ []) $ fjoin ! $ nothing ! $ fpack ! (IsRunAt R rs (suc i) e' s) (λ _. ftrue) (part.2, at.1, more, fewer) $ fjoin ! $
     fpack ! Spot (λ u. fsep (is_fact (IsRunAt R rs (suc i) e' u)) (fsep (kept R u.0 u.1 b o d u.2 β) (if_won (eqb m m) (held R u.1 d u.2 rs (suc i) none)))) s $
     -- [the others; the pen; the lifetimes]
-    let p' : Ptr = block_ptr b o in let z' : Ptr = block_ptr d e in let z'' : Ptr = block_ptr d e' in let pen : Hp.Denot = record { word = p'; room = z'; marker = record {}; of = γ; index = i; sought = 0; found = 0 } in let run : Hr.Denot = record { word = p'; room = z''; marker = record {}; of = rs; index = suc i; sought = m; found = m; values = none } in
+    let p' : Ptr = block_ptr b o in let z' : Ptr = block_ptr d e in let z'' : Ptr = block_ptr d e' in let pen : Hp.Denot = record { word = p'; room = z'; marker = record {}; of = γ; index = i; first = false; sought = 0; found = 0 } in let run : Hr.Denot = record { word = p'; room = z''; marker = record {}; of = rs; index = suc i; sought = m; found = m; values = none } in
     let val : Val = vstruct (vcons (pointers_val p' z') (vcons (pointers_val p' z'') vnil)) in
-    let free : ℕ = 0 in let Told : Type 0 = (γ ∷ rs ≡ gs) × (i ≡ i) × (free ≡ free) × (free ≡ free) × (suc i ≡ i + 1) × (m ≡ m) × (m ≡ m) × (none ≡ none) in
+    let free : ℕ = 0 in let Told : Type 0 = (γ ∷ rs ≡ gs) × (i ≡ i) × (false ≡ false) × (free ≡ free) × (free ≡ free) × (suc i ≡ i + 1) × (m ≡ m) × (m ≡ m) × (none ≡ none) in
     sets ! (is ! (of_opd ! (get_in ! (fld ! refl (stop !)) (sub ! 0 refl (whole !)))) (ap ptr_val is_at)) refl (tt, tt) $
     sets ! (is ! (of_opd ! (get_in ! (fld ! refl (stop !)) (sub ! 1 refl (whole !)))) (ap ptr_val is_room)) refl (tt, tt) $
     sets ! (of_opd ! (get_in ! (fld ! refl (stop !)) (sub ! 2 refl (whole !)))) refl (tt, tt) $ first ! $ blocks ! $
@@ -87,5 +88,5 @@ first_spec 𝓤 𝓛 𝓜 𝓡 wired T L =
     use0 𝓛 (‵ ((RunWords ℓ R).own_val (p', (z'', (tt, tt))) (pointers_val p' z'' ∷ []))) (run_made ℓ R 𝓛 p' z'') $ fjoin ! $ nothing ! $ move ! (1 ∷ 0 ∷ []) $ fjoin ! $ move ! (1 ∷ []) $
     use0 𝓛 (‵ ((PenWords ℓ R).own_val (p', (z', (tt, tt))) (pointers_val p' z' ∷ []))) (pen_made ℓ R 𝓛 p' z') $ fjoin ! $ fjoin ! $ feq_i ! (List Val) (val ∷ []) (val ∷ []) refl $ fjoin ! $
     fpack ! (Valss (Hp ∷ Hr ∷ [])) (λ uss. fsep (feq (List Val) (val ∷ []) (vstruct (of_list (uss.0 ++ (uss.1.0 ++ []))) ∷ [])) (owns (Hp ∷ Hr ∷ []) (pen, (run, tt)) uss)) (pointers_val p' z' ∷ [], (pointers_val p' z'' ∷ [], tt)) $
-    let next : suc i ≡ i + 1 = omega arith in use0 𝓛 (raw (fact 𝓤 Told)) (fact_i 𝓤 Told (emp 𝓤) (first_again gs asked.2, refl, refl, refl, next, refl, refl, refl)) $ nothing ! $ nothing ! $ fjoin ! $
+    let next : suc i ≡ i + 1 = omega arith in use0 𝓛 (raw (fact 𝓤 Told)) (fact_i 𝓤 Told (emp 𝓤) (first_again gs asked.2, refl, refl, refl, refl, next, refl, refl, refl)) $ nothing ! $ nothing ! $ fjoin ! $
     returns ! (look_at ! 0 refl) $ free_all ! refl $ keep ! (3 ∷ 0 ∷ 2 ∷ 1 ∷ []) $ by ! (leaves 𝓛 En hs c y val (pen, run) (tt, tt) (tt, tt))))))))

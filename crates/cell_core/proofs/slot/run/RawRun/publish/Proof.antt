@@ -26,7 +26,7 @@ use Rattle.atomic_table.proofs.Walks.{proved, leaves}
 use Rattle.atomic_table.proofs.Calls.{fm, seq_cst, found, adds, finds}
 use Rattle.core.proofs.atomic.Steps.{tail}
 use Rattle.cell_core.specs.Fields.{sums}
-use Rattle.cell_core.specs.Slot.{Names, Turn}
+use Rattle.cell_core.specs.Slot.{Names, ArePlain, Turn}
 use Rattle.cell_core.specs.Member.{MemberView}
 use Rattle.cell_core.specs.Run.{all_written, members_of, run_owned}
 use Rattle.cell_core.specs.contracts.slot.member.RawRow as RawRow
@@ -48,7 +48,7 @@ publish_spec 𝓤 𝓛 𝓜 𝓡 wired T L =
     proved 𝓛 En hs c 𝓜 𝓡 (Goes-dropped 𝓛 2 self no (λ κs x f. refl), (Goes-dropped 𝓛 2 (plain (λ _. u64)) yes (λ κs x f. refl), tt)) (#self inst) fn (code.unfolded 𝓤 H 𝓜 𝓡 wired (T, tt))
     (λ κs. ((λ h. pointers_val h.word h.room ∷ []), (uint_vals w64, tt))) (λ κs. ((λ h vs so. run_told (named_lft 2 0 tt κs) R h.word h.room vs so.0), (uint_Tells w64, tt))) (λ κs qs bounds a gh are.
     let ℓ = named_lft 2 0 tt κs in let Hr : RattleType = RawRun.the_row ℓ R in let S : RattleType = RawRow.the_row R in let h : Hr.Denot = a.0 in let p : Ptr = h.word in let z : Ptr = h.room in let b : ℕ = block_of p in let o : ℕ = count_of p in let d : ℕ = block_of z in let r : ℕ = count_of z in
-    let β : Lft = κs.0 in let q : Share = qs.0 in let gs : List Names = h.of in let xs : List T.Denot = h.values in let i : ℕ = h.index in let n : ℕ = a.1.0 in let others : Fml = fsep (flft κs.1.0 qs.1.0) ftrue in let Asked : Type 0 = (h.found ≡ h.sought) × (length xs ≡ length gs) × (n ≡ sums 2 (length gs) i) in
+    let β : Lft = κs.0 in let q : Share = qs.0 in let gs : List Names = h.of in let xs : List T.Denot = h.values in let i : ℕ = h.index in let n : ℕ = a.1.0 in let others : Fml = fsep (flft κs.1.0 qs.1.0) ftrue in let Asked : Type 0 = (h.found ≡ h.sought) × (length xs ≡ length gs) × (n ≡ sums 2 (length gs) i) × ArePlain gs in
     let y : (walk_of 𝓛 En hs c).Ghost = ((κs, qs, bounds, a, (pointers_val p z ∷ [], (vint w64 n ∷ [], tt))), gh) in let Post : Val → SProp 𝓤 = (walk_of 𝓛 En hs c).post y in let Owned : Ptr × Ptr → Fml = λ u. run_owned R gs β u.0 u.1 i h.sought h.found xs in
     qed 𝓛 (((‵ (flft β q) ⊛ ‵ others) ⊛ ‵ (owns (types_at En.signature.params κs) a y.0.4)) ∷ raw (fact 𝓤 _) ∷ raw (fact 𝓤 Asked) ∷ []) ∵
     keep ! (2 ∷ 0 ∷ []) $ heard ! Asked (λ asked. split ! $ split ! $ move ! (2 ∷ []) $ fsplit ! $ fsplit ! $ keep ! (1 ∷ 3 ∷ 4 ∷ []) $
@@ -63,7 +63,7 @@ publish_spec 𝓤 𝓛 𝓜 𝓡 wired T L =
     sets ! (is ! (of_opd ! (get_in ! (fld ! refl (stop !)) (sub ! 0 refl (whole !)))) (ap ptr_val is_at)) refl (tt, tt) $
     first ! $ blocks ! $ move ! (2 ∷ 0 ∷ 3 ∷ []) $
     use3 𝓛 (raw (𝓣.C _ (vptr b o ∷ vint w64 n ∷ seq_cst ∷ []) (λ u. mean 𝓛 (found after u))))
-    (via 𝓤 _ (publishes_all 𝓛 R γs t d e b o gs i at.0 at.1 xs asked.1 n asked.2 w)
+    (via 𝓤 _ (publishes_all 𝓛 R γs t d e b o gs i at.0 asked.3 at.1 xs asked.1 n asked.2 w)
     (adds 𝓛 𝓜 𝓡 (code.calls-core::raw_atomic::fetch_add 𝓡.env wired) (block_ptr b o) n are.1.0.1 after)) $
     sets ! (agg ! (and_then ! (lit ! tt) (no_more !))) refl (tt, (record { fits = lit< tt }, tt)) $
     Calls-last ! (fm 𝓛 𝓜 𝓡) (found after) (and_then ! (get ! refl) (and_then ! (get ! refl) (and_then ! (get ! refl) (no_more !)))) (λ u. finds ! after (λ k fits.

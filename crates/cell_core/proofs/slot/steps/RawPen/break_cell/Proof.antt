@@ -1,5 +1,5 @@
 -- `break_cell` gives the right to write back, and says that the cell is broken.
-use Rattle.std.proofs.Common.{◌≡◌, ℕ, ◌+◌, ◌*◌, ◌^◌, ◌%◌, List, [], ◌∷◌, refl, sym, ap, subst, lit<, w64}
+use Rattle.std.proofs.Common.{Bool, false, ◌≡◌, ℕ, ◌+◌, ◌*◌, ◌^◌, ◌%◌, List, [], ◌∷◌, refl, sym, ap, subst, lit<, w64}
 use mir.Syntax.{a_type}
 use mir.Val.{Val, vint, vptr}
 use mir.MapTy.{inst_fn}
@@ -26,10 +26,10 @@ use Rattle.atomic_table.proofs.Walks.{proved, leaves}
 use Rattle.atomic_table.proofs.Calls.{fm, seq_cst, found, adds, finds}
 use Rattle.core.proofs.atomic.Steps.{tail}
 use Rattle.cell_core.specs.Fields.{field}
-use Rattle.cell_core.specs.Slot.{Names, Turn, pen_owned, was_broken, unset, over, empty, Room}
+use Rattle.cell_core.specs.Slot.{Names, IsPlain, Turn, pen_owned, was_broken, unset, over, empty, Room}
 use Rattle.cell_core.specs.contracts.slot.steps.RawBroken as RawBroken
 use Rattle.cell_core.specs.contracts.slot.steps.RawPen as RawPen
-use Rattle.cell_core.proofs.CellMade.{pointers_val, pointers_good, token_val, pen_told, pen_placed, pen_gains, Held, broken_made}
+use Rattle.cell_core.proofs.CellMade.{pointers_val, pointers_good, token_val, pen_told, pen_placed, pen_gains, Has, broken_made}
 use Rattle.cell_core.proofs.CellSteps as steps
 use Rattle.cell_core.proofs.WordSteps.{Turns, stepped_at, turns_add}
 use Rattle.cell_core.specs.contracts.slot.steps.RawPen.break_cell.{ended, clauses}
@@ -45,12 +45,12 @@ break_cell_spec 𝓤 𝓛 𝓜 𝓡 wired T L =
     proved 𝓛 En hs c 𝓜 𝓡 (Goes-dropped 𝓛 2 self no (λ κs x f. refl), (Goes-dropped 𝓛 2 (plain (λ _. u64)) yes (λ κs x f. refl), tt)) (#self inst) fn (code.unfolded 𝓤 H 𝓜 𝓡 wired (T, tt))
     (λ κs. ((λ h. pointers_val h.word h.room ∷ []), (uint_vals w64, tt))) (λ κs. ((λ h vs so. pen_told (named_lft 2 0 tt κs) R h.word h.room vs so.0), (uint_Tells w64, tt))) (λ κs qs bounds a gh are.
     let ℓ = named_lft 2 0 tt κs in let Hr : RattleType = RawPen.the_row ℓ R in let S : RattleType = RawBroken.the_row in let h : Hr.Denot = a.0 in let p : Ptr = h.word in let z : Ptr = h.room in let b : ℕ = block_of p in let o : ℕ = count_of p in let d : ℕ = block_of z in let r : ℕ = count_of z in
-    let β : Lft = κs.0 in let q : Share = qs.0 in let γ : Names = h.of in let i : ℕ = h.index in let n : ℕ = a.1.0 in let others : Fml = fsep (flft κs.1.0 qs.1.0) ftrue in let Asked : Type 0 = (h.found ≡ h.sought) × (n ≡ 4 * 16 ^ i) in
-    let y : (walk_of 𝓛 En hs c).Ghost = ((κs, qs, bounds, a, (pointers_val p z ∷ [], (vint w64 n ∷ [], tt))), gh) in let Post : Val → SProp 𝓤 = (walk_of 𝓛 En hs c).post y in let Owned : Ptr × Ptr → Fml = λ u. pen_owned R γ β u.0 u.1 i h.sought h.found in
+    let β : Lft = κs.0 in let q : Share = qs.0 in let γ : Names = h.of in let i : ℕ = h.index in let n : ℕ = a.1.0 in let others : Fml = fsep (flft κs.1.0 qs.1.0) ftrue in let Asked : Type 0 = (h.found ≡ h.sought) × (n ≡ 4 * 16 ^ i) × IsPlain γ × (h.first ≡ false) in
+    let y : (walk_of 𝓛 En hs c).Ghost = ((κs, qs, bounds, a, (pointers_val p z ∷ [], (vint w64 n ∷ [], tt))), gh) in let Post : Val → SProp 𝓤 = (walk_of 𝓛 En hs c).post y in let Owned : Ptr × Ptr → Fml = λ u. pen_owned R γ β u.0 u.1 i h.first h.sought h.found in
     qed 𝓛 (((‵ (flft β q) ⊛ ‵ others) ⊛ ‵ (owns (types_at En.signature.params κs) a y.0.4)) ∷ raw (fact 𝓤 _) ∷ raw (fact 𝓤 Asked) ∷ []) ∵
     keep ! (2 ∷ 0 ∷ []) $ heard ! Asked (λ asked. split ! $ split ! $ move ! (2 ∷ []) $ fsplit ! $ fsplit ! $ keep ! (1 ∷ 3 ∷ 4 ∷ []) $
-    use1 𝓛 (given (InBlock p × InBlock z) (‵ (Owned (p, z)))) (fact_use 𝓤 _ (pen_placed 𝓛 R γ β p z i h.sought h.found) (guard_i 𝓤 (InBlock p × InBlock z) (sem 𝓛 (Owned (p, z))))) $ learn ! (λ inb. let is_at : p ≡ block_ptr b o = at_block p inb.0 in let is_room : z ≡ block_ptr d r = at_block z inb.1 in
-    rewrite ! 0 (λ (u : Ptr × Ptr). ‵ (Owned u)) (λ l. (is_at l, is_room l)) refl $ use1 𝓛 (‵ (Held 𝓛 R γ β b o d r i)) (pen_gains 𝓛 R γ β b o d r i h.sought h.found asked.0) $
+    use1 𝓛 (given (InBlock p × InBlock z) (‵ (Owned (p, z)))) (fact_use 𝓤 _ (pen_placed 𝓛 R γ β p z i h.first h.sought h.found) (guard_i 𝓤 (InBlock p × InBlock z) (sem 𝓛 (Owned (p, z))))) $ learn ! (λ inb. let is_at : p ≡ block_ptr b o = at_block p inb.0 in let is_room : z ≡ block_ptr d r = at_block z inb.1 in
+    rewrite ! 0 (λ (u : Ptr × Ptr). ‵ (Owned u)) (λ l. (is_at l, is_room l)) refl $ use1 𝓛 (‵ (Has 𝓛 R h.first γ β b o d r i)) (pen_gains 𝓛 R γ β b o d r i h.first h.sought h.found asked.0) $ rewrite ! 0 (λ (u : Bool). ‵ (Has 𝓛 R u γ β b o d r i)) asked.3 refl $
     enter ! 𝓣.C 𝓣.Λ fn (pointers_val p z ∷ vint w64 n ∷ []) Post $ alloc_all ! (λ l. pass_all ! refl (pointers_good p z, ((tt, record { fits = are.1.0.1 }), tt)) $ let Ev = env fn.locals l in
     fpick ! (λ s. fsplit3 ! $ fpick ! (λ at. drop ! $ let γs : List Names = s.0 in let t : Turn = s.1 in let α : Lft = t.0 in fsplit ! $
     -- [before; the invariant; the right to write; the token; the others]
@@ -61,7 +61,7 @@ break_cell_spec 𝓤 𝓛 𝓜 𝓡 wired T L =
     first ! $ blocks ! $ move ! (3 ∷ []) $ fsplit ! $ fsplit ! $ move ! (0 ∷ 2 ∷ []) $ join ! $ move ! (1 ∷ 0 ∷ []) $ join ! $ move ! (3 ∷ 1 ∷ 0 ∷ []) $
     use3 𝓛 (raw (𝓣.C _ (vptr b o ∷ vint w64 n ∷ seq_cst ∷ []) (λ u. mean 𝓛 (found after u))))
     (via 𝓤 _ (stepped_at 𝓛 R γ b o d r i s at w (λ k. (k + n) % 2 ^ 64) (λ k. k + 4) (λ within short. subst (λ (m : ℕ). Turns R γs i (λ k. (k + m) % 2 ^ 64) (λ k. k + 4)) (sym asked.1) (turns_add R γs i within short 4 (lit< tt))) Gone
-    (sep 𝓤 (sem 𝓛 (unset R γ)) (sep 𝓤 (sem 𝓛 (over R γ)) (sem 𝓛 Free))) (steps.breaks 𝓛 R γ α (t.1 i) d r))
+    (sep 𝓤 (sem 𝓛 (unset R γ)) (sep 𝓤 (sem 𝓛 (over R γ)) (sem 𝓛 Free))) (steps.breaks 𝓛 R γ α (t.1 i) d r asked.2))
     (adds 𝓛 𝓜 𝓡 (code.calls-core::raw_atomic::fetch_add 𝓡.env wired) (block_ptr b o) n are.1.0.1 after)) $
     sets ! (agg ! (and_then ! (lit ! tt) (no_more !))) refl (tt, (record { fits = lit< tt }, tt)) $
     Calls-last ! (fm 𝓛 𝓜 𝓡) (found after) (and_then ! (get ! refl) (and_then ! (get ! refl) (and_then ! (get ! refl) (no_more !)))) (λ u. finds ! after (λ k fits.

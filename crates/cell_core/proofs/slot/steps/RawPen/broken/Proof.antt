@@ -41,8 +41,8 @@ broken_spec 𝓤 𝓛 𝓜 𝓡 wired T L =
     let y : (walk_of 𝓛 En hs c).Ghost = ((κs, qs, bounds, a, (pointers_val p z ∷ [], tt)), gh) in let Post : Val → SProp 𝓤 = (walk_of 𝓛 En hs c).post y in
     qed 𝓛 ((raw (alive 𝓛 En.signature κs qs) ⊛ ‵ (owns (types_at En.signature.params κs) a y.0.4)) ∷ raw (fact 𝓤 _) ∷ raw (fact 𝓤 Asked) ∷ []) ∵
     keep ! (2 ∷ 0 ∷ []) $ heard ! Asked (λ asked. split ! $ move ! (1 ∷ []) $ fsplit ! $ fsplit ! $ keep ! (1 ∷ 3 ∷ []) $
-    use1 𝓛 (given (InBlock p × InBlock z) (‵ (pen_owned R γ β p z h.index h.sought h.found))) (fact_use 𝓤 _ (pen_placed 𝓛 R γ β p z h.index h.sought h.found) (guard_i 𝓤 (InBlock p × InBlock z) (sem 𝓛 (pen_owned R γ β p z h.index h.sought h.found)))) $ learn ! (λ inb.
-    use1 𝓛 (‵ (sights R γ h.found)) (pen_shows 𝓛 R γ β p z h.index h.sought h.found asked.1) $ fpick ! (λ v. use1 𝓛 (‵ (was_broken γ.broken_name)) (sight_shows_broken 𝓛 R γ h.found v asked.0) $
+    use1 𝓛 (given (InBlock p × InBlock z) (‵ (pen_owned R γ β p z h.index h.first h.sought h.found))) (fact_use 𝓤 _ (pen_placed 𝓛 R γ β p z h.index h.first h.sought h.found) (guard_i 𝓤 (InBlock p × InBlock z) (sem 𝓛 (pen_owned R γ β p z h.index h.first h.sought h.found)))) $ learn ! (λ inb.
+    use1 𝓛 (‵ (sights R γ h.found)) (pen_shows 𝓛 R γ β p z h.index h.first h.sought h.found asked.1) $ fpick ! (λ v. use1 𝓛 (‵ (was_broken γ.broken_name)) (sight_shows_broken 𝓛 R γ h.found v asked.0) $
     let r : S.Denot = record { marker = record {}; of = γ.broken_name } in let Told : Type 0 = γ.broken_name ≡ γ.broken_name in use1 𝓛 (‵ (S.own_val r (token_val ∷ []))) (broken_made 𝓛 γ.broken_name) $
     enter ! 𝓣.C 𝓣.Λ fn (pointers_val p z ∷ []) Post $ alloc_all ! (λ l. pass_all ! refl (pointers_good p z, tt) $
     sets ! (agg ! (no_more !)) refl (tt, tt) $ sets ! (agg ! (and_then ! (get ! refl) (no_more !))) refl (tt, (tt, tt)) $

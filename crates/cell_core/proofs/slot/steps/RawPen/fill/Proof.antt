@@ -1,5 +1,5 @@
 -- `fill` writes the room, shares the value and says so.
-use Rattle.std.proofs.Common.{◌≡◌, ℕ, ◌+◌, ◌*◌, ◌%◌, ◌^◌, List, [], ◌∷◌, sym, refl, ap, subst, lit<, w64, Option, Some}
+use Rattle.std.proofs.Common.{Bool, false, ◌≡◌, ℕ, ◌+◌, ◌*◌, ◌%◌, ◌^◌, List, [], ◌∷◌, sym, refl, ap, subst, lit<, w64, Option, Some}
 use mir.Syntax.{a_type}
 use mir.Val.{Val, vint, vptr}
 use mir.MapTy.{inst_fn}
@@ -38,10 +38,10 @@ use mir.Raw.{raw as bare}
 use denote.Struct.Members.{Member}
 use types.Tokens.{name_agree, name_set}
 use Rattle.std.specs.Prelude.{None}
-use Rattle.cell_core.specs.Slot.{Names, Turn, content, written, place, inside, Room, unset, over, pen_owned}
+use Rattle.cell_core.specs.Slot.{Names, IsPlain, Turn, content, written, place, inside, Room, unset, over, pen_owned}
 use Rattle.cell_core.specs.contracts.slot.steps.RawPen as RawPen
 use Rattle.cell_core.specs.contracts.slot.steps.Written as Written
-use Rattle.cell_core.proofs.CellMade.{Held, pen_gains, token_val, pointers_val, pointers_good, pen_told, pen_placed, written_made}
+use Rattle.cell_core.proofs.CellMade.{Has, pen_gains, token_val, pointers_val, pointers_good, pen_told, pen_placed, written_made}
 use Rattle.cell_core.proofs.CellSteps as steps
 use Rattle.cell_core.specs.contracts.slot.steps.RawPen.fill.{ended, clauses}
 use Rattle.cell_core.specs.contracts.slot.steps.RawPen.fill.Key.{name as #self}
@@ -56,7 +56,7 @@ fill_spec 𝓤 𝓛 𝓜 𝓡 wired T L =
     let hs : Stays En.signature.params En.kept = (stay_dropped self no, (stay_dropped item no, (stay_dropped (plain (λ _. u64)) yes, tt))) in
     proved_at 𝓛 En hs c 𝓜 𝓡 (Goes-dropped 𝓛 2 self no (λ κs x f. refl), (Goes-dropped 𝓛 2 item no (λ κs x f. refl), (Goes-dropped 𝓛 2 (plain (λ _. u64)) yes (λ κs x f. refl), tt))) (#self inst) fn (code.unfolded 𝓤 H 𝓜 𝓡 wired (T, tt)) (λ g are.
     let κs = g.0.0 in let qs = g.0.1 in let a = g.0.3 in let ℓ = named_lft 2 0 tt κs in let Hr : RattleType = RawPen.the_row ℓ R in let h : Hr.Denot = a.0 in let p : Ptr = h.word in let z : Ptr = h.room in let b : ℕ = block_of p in let o : ℕ = count_of p in let d : ℕ = block_of z in let e : ℕ = count_of z in let β : Lft = κs.0 in let q : Share = qs.0 in
-    let γ : Names = h.of in let j : ℕ = h.index in let x : T.Denot = a.1.0 in let n : ℕ = a.1.1.0 in let τ : Lft = κs.1.0 in let r : Share = qs.1.0 in let Asked : Type 0 = (h.found ≡ h.sought) × (n ≡ 2 * 16 ^ j) in let Owned : Ptr × Ptr → Fml = λ u. pen_owned R γ β u.0 u.1 j h.sought h.found in
+    let γ : Names = h.of in let j : ℕ = h.index in let x : T.Denot = a.1.0 in let n : ℕ = a.1.1.0 in let τ : Lft = κs.1.0 in let r : Share = qs.1.0 in let Asked : Type 0 = (h.found ≡ h.sought) × (n ≡ 2 * 16 ^ j) × IsPlain γ × (h.first ≡ false) in let Owned : Ptr × Ptr → Fml = λ u. pen_owned R γ β u.0 u.1 j h.first h.sought h.found in
     let got = one (layout T) g.0.4.1.0 (LR.typed x g.0.4.1.0 are.1.0) in let vy : Val = got.0 in let fy : Good (layout T) vy = got.2 in
     let At : List Val × (List Val × (List Val × Unit {0})) → (walk_of 𝓛 En hs c).Ghost = λ vss. ((κs, qs, g.0.2, a, vss), g.1) in
     let y : (walk_of 𝓛 En hs c).Ghost = At (pointers_val p z ∷ [], (vy ∷ [], (vint w64 n ∷ [], tt))) in let Post : Val → SProp 𝓤 = (walk_of 𝓛 En hs c).post y in let S : RattleType = Written.the_row R in
@@ -64,8 +64,8 @@ fill_spec 𝓤 𝓛 𝓜 𝓡 wired T L =
     (λ i. (sym (pen_told ℓ R p z g.0.4.0 are.0.0) i, (sym got.1 i, (sym are.1.1.0.0 i, tt)))) (
     qed 𝓛 (((‵ (flft β q) ⊛ ‵ (flft τ r) ⊛ ‵ ftrue) ⊛ ‵ (owns (types_at En.signature.params κs) a y.0.4)) ∷ raw (fact 𝓤 (τ ⊑ T.lives)) ∷ raw (fact 𝓤 Asked) ∷ []) ∵
     move ! (1 ∷ 2 ∷ []) $ heard ! (τ ⊑ T.lives) (λ le. heard ! Asked (λ asked. split ! $ split3 ! $ move ! (3 ∷ []) $ fsplit3 ! $ fsplit ! $ keep ! (1 ∷ 2 ∷ 4 ∷ 5 ∷ 6 ∷ []) $
-    use1 𝓛 (given (InBlock p × InBlock z) (‵ (Owned (p, z)))) (fact_use 𝓤 _ (pen_placed 𝓛 R γ β p z j h.sought h.found) (guard_i 𝓤 (InBlock p × InBlock z) (sem 𝓛 (Owned (p, z))))) $ learn ! (λ inb. let is_at : p ≡ block_ptr b o = at_block p inb.0 in let is_room : z ≡ block_ptr d e = at_block z inb.1 in
-    rewrite ! 0 (λ (u : Ptr × Ptr). ‵ (Owned u)) (λ l. (is_at l, is_room l)) refl $ use1 𝓛 (‵ (Held 𝓛 R γ β b o d e j)) (pen_gains 𝓛 R γ β b o d e j h.sought h.found asked.0) $
+    use1 𝓛 (given (InBlock p × InBlock z) (‵ (Owned (p, z)))) (fact_use 𝓤 _ (pen_placed 𝓛 R γ β p z j h.first h.sought h.found) (guard_i 𝓤 (InBlock p × InBlock z) (sem 𝓛 (Owned (p, z))))) $ learn ! (λ inb. let is_at : p ≡ block_ptr b o = at_block p inb.0 in let is_room : z ≡ block_ptr d e = at_block z inb.1 in
+    rewrite ! 0 (λ (u : Ptr × Ptr). ‵ (Owned u)) (λ l. (is_at l, is_room l)) refl $ use1 𝓛 (‵ (Has 𝓛 R h.first γ β b o d e j)) (pen_gains 𝓛 R γ β b o d e j h.first h.sought h.found asked.0) $ rewrite ! 0 (λ (u : Bool). ‵ (Has 𝓛 R u γ β b o d e j)) asked.3 refl $
     enter ! 𝓣.C 𝓣.Λ fn (pointers_val p z ∷ vy ∷ vint w64 n ∷ []) Post $ alloc_all ! (λ l. pass_all ! refl (pointers_good p z, (fy, ((tt, record { fits = are.1.1.0.1 }), tt))) $ let Ev = env fn.locals l in
     fpick ! (λ y'. fsplit3 ! $ fpick ! (λ at. drop ! $ let t : Turn = y'.1 in let α : Lft = t.0 in let δ = t.1 j in let V : Fml = Room R γ α δ d e in fsplit ! $ move ! (2 ∷ []) $ fsplit ! $ move ! (1 ∷ []) $ fsplit ! $
     -- [empty; the room's borrow; settable; before; the invariant; the value; the token; T's token; the rest]
@@ -90,7 +90,7 @@ fill_spec 𝓤 𝓛 𝓜 𝓡 wired T L =
     first ! $ blocks ! $ move ! (4 ∷ []) $ fsplit ! $ move ! (0 ∷ 2 ∷ []) $ join ! $ move ! (1 ∷ 0 ∷ []) $ join ! $ move ! (4 ∷ 1 ∷ 0 ∷ []) $
     use3 𝓛 (raw (𝓣.C _ (vptr b o ∷ vint w64 n ∷ seq_cst ∷ []) (λ u. mean 𝓛 (found after u))))
     (via 𝓤 _ (stepped_at 𝓛 R γ b o d e j y' at s (λ k. (k + n) % 2 ^ 64) (λ k. k + 2) (λ within short. subst (λ (l : ℕ). Turns R y'.0 j (λ k. (k + l) % 2 ^ 64) (λ k. k + 2)) (sym asked.1) (turns_add R y'.0 j within short 2 (lit< tt))) Filled
-    (sep 𝓤 (sem 𝓛 (unset R γ)) (sep 𝓤 (sem 𝓛 (over R γ)) (sem 𝓛 F))) (steps.publishes 𝓛 R γ α δ d e x))
+    (sep 𝓤 (sem 𝓛 (unset R γ)) (sep 𝓤 (sem 𝓛 (over R γ)) (sem 𝓛 F))) (steps.publishes 𝓛 R γ α δ d e asked.2 x))
     (adds 𝓛 𝓜 𝓡 (code.calls-core::raw_atomic::fetch_add 𝓡.env wired) (block_ptr b o) n are.1.1.0.1 after)) $
     sets ! (agg ! (and_then ! (lit ! tt) (no_more !))) refl (tt, (record { fits = lit< tt }, tt)) $
     Calls-last ! (fm 𝓛 𝓜 𝓡) (found after) (and_then ! (get ! refl) (and_then ! (get ! refl) (and_then ! (get ! refl) (no_more !)))) (λ u. finds ! after (λ k fits.

@@ -41,8 +41,8 @@ written_spec 𝓤 𝓛 𝓜 𝓡 wired T L =
     let y : (walk_of 𝓛 En hs c).Ghost = ((κs, qs, bounds, a, (pointers_val p z ∷ [], tt)), gh) in let Post : Val → SProp 𝓤 = (walk_of 𝓛 En hs c).post y in
     qed 𝓛 ((raw (alive 𝓛 En.signature κs qs) ⊛ ‵ (owns (types_at En.signature.params κs) a y.0.4)) ∷ raw (fact 𝓤 _) ∷ raw (fact 𝓤 Asked) ∷ []) ∵
     keep ! (2 ∷ 0 ∷ []) $ heard ! Asked (λ asked. split ! $ move ! (1 ∷ []) $ fsplit ! $ fsplit ! $ keep ! (1 ∷ 3 ∷ []) $
-    use1 𝓛 (given (InBlock p × InBlock z) (‵ (pen_owned R γ β p z h.index h.sought h.found))) (fact_use 𝓤 _ (pen_placed 𝓛 R γ β p z h.index h.sought h.found) (guard_i 𝓤 (InBlock p × InBlock z) (sem 𝓛 (pen_owned R γ β p z h.index h.sought h.found)))) $ learn ! (λ inb.
-    use1 𝓛 (‵ (sights R γ h.found)) (pen_shows 𝓛 R γ β p z h.index h.sought h.found asked.1) $ fpick ! (λ v. rewrite ! 0 (λ (k : ℕ). ‵ (sighted R γ k v)) asked.0 refl $ use1 𝓛 (‵ (fex R.Denot (written R γ.value_name))) (known_some 𝓛 R γ v) $ fpick ! (λ x.
+    use1 𝓛 (given (InBlock p × InBlock z) (‵ (pen_owned R γ β p z h.index h.first h.sought h.found))) (fact_use 𝓤 _ (pen_placed 𝓛 R γ β p z h.index h.first h.sought h.found) (guard_i 𝓤 (InBlock p × InBlock z) (sem 𝓛 (pen_owned R γ β p z h.index h.first h.sought h.found)))) $ learn ! (λ inb.
+    use1 𝓛 (‵ (sights R γ h.found)) (pen_shows 𝓛 R γ β p z h.index h.first h.sought h.found asked.1) $ fpick ! (λ v. rewrite ! 0 (λ (k : ℕ). ‵ (sighted R γ k v)) asked.0 refl $ use1 𝓛 (‵ (fex R.Denot (written R γ.value_name))) (known_some 𝓛 R γ v) $ fpick ! (λ x.
     let r : S.Denot = record { marker = record {}; of = γ.value_name; value = x; found = 0 } in let Told : Type 0 = γ.value_name ≡ γ.value_name in use1 𝓛 (‵ (S.own_val r (token_val ∷ []))) (written_made 𝓛 R γ.value_name x 0) $
     enter ! 𝓣.C 𝓣.Λ fn (pointers_val p z ∷ []) Post $ alloc_all ! (λ l. pass_all ! refl (pointers_good p z, tt) $
     sets ! (agg ! (no_more !)) refl (tt, tt) $ sets ! (agg ! (and_then ! (get ! refl) (no_more !))) refl (tt, (tt, tt)) $

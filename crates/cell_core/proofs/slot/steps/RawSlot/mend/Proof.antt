@@ -1,11 +1,11 @@
 -- `mend` takes the right to write, if it finds the cell broken.
-use Rattle.std.proofs.Common.{◌≡◌, ℕ, ◌-◌, ◌*◌, ◌^◌, List, [], ◌∷◌, ◌++◌, refl, sym, ap, subst, lit<, w64}
+use Rattle.std.proofs.Common.{false, ◌≡◌, ℕ, ◌-◌, ◌*◌, ◌^◌, List, [], ◌∷◌, ◌++◌, refl, sym, ap, subst, lit<, w64}
 use lib.Bits.{bit_and}
 use mir.Syntax.{a_type}
 use mir.Val.{Val, vint, vptr, vstruct, vcons, vnil, of_list}
 use mir.MapTy.{inst_fn}
 use base.Logic.{SProp, wand, emp, via, apply∗, guard_i}
-use base.Fml.{Lft, Share, Fml, ftrue, fsep, flft, finv, fbor, feq}
+use base.Fml.{Lft, Share, Fml, ftrue, fsep, flft, fbor, feq}
 use base.Before.{before}
 use types.Logic.{sem}
 use types.Kit.{mean, ‵, raw, ◌⊛◌, some, given, later, at_ret, ◌$◌, ◌∵◌, !, qed, by, move, keep, drop, use0, use1, use2, use3, split, join, fsplit, fjoin, fjoin3, fpick, fpack, pick, learn, await, rewrite, feq_i, flt_i}
@@ -29,13 +29,13 @@ use Rattle.atomic_table.proofs.Walks.{proved, leaves}
 use Rattle.atomic_table.proofs.Calls.{fm, seq_cst, found, ands, finds}
 use Rattle.core.proofs.atomic.Steps.{tail}
 use Rattle.cell_core.specs.Fields.{field}
-use Rattle.cell_core.specs.Slot.{Names, Turn, Spot, IsAt, Cells, kept, won, slot_owned}
+use Rattle.cell_core.specs.Slot.{above, floors, IsPlain, Names, Turn, Spot, IsAt, Cells, kept, won, slot_owned}
 use Rattle.cell_core.specs.Slot.{fact as is_fact}
 use Rattle.cell_core.specs.contracts.slot.steps.RawSlot as RawSlot
 use Rattle.cell_core.specs.contracts.slot.steps.RawPen as RawPen
 use Rattle.cell_core.proofs.CellMade.{pointers_val, pointers_good, PenWords, slot_told, slot_placed, pen_made}
 use Rattle.cell_core.proofs.CellSteps as steps
-use Rattle.cell_core.proofs.WordSteps.{Turns, stepped_at, turns_and}
+use Rattle.cell_core.proofs.WordSteps.{above_dup, Turns, stepped_at, turns_and}
 use Rattle.cell_core.specs.contracts.slot.steps.RawSlot.mend.{ended, clauses}
 use Rattle.cell_core.specs.contracts.slot.steps.RawSlot.mend.Key.{name as #self}
 use Rattle.cell_core.proofs.slot.steps.RawSlot.mend.Statement.{statement}
@@ -49,7 +49,7 @@ mend_spec 𝓤 𝓛 𝓜 𝓡 wired T L =
     proved 𝓛 En hs c 𝓜 𝓡 (Goes-dropped 𝓛 2 self no (λ κs x f. refl), (Goes-dropped 𝓛 2 (plain (λ _. u64)) yes (λ κs x f. refl), tt)) (#self inst) fn (code.unfolded 𝓤 H 𝓜 𝓡 wired (T, tt))
     (λ κs. ((λ h. pointers_val h.word h.room ∷ []), (uint_vals w64, tt))) (λ κs. ((λ h vs so. slot_told (named_lft 2 0 tt κs) R h.word h.room vs so.0), (uint_Tells w64, tt))) (λ κs qs bounds a gh are.
     let ℓ = named_lft 2 0 tt κs in let Sr : RattleType = RawSlot.the_row ℓ R in let Hr : RattleType = RawPen.the_row ℓ R in let h : Sr.Denot = a.0 in let p : Ptr = h.word in let z : Ptr = h.room in let b : ℕ = block_of p in let o : ℕ = count_of p in let d : ℕ = block_of z in let r : ℕ = count_of z in
-    let β : Lft = κs.0 in let q : Share = qs.0 in let γ : Names = h.of in let i : ℕ = h.index in let n : ℕ = a.1.0 in let others : Fml = fsep (flft κs.1.0 qs.1.0) ftrue in let Asked : Type 0 = n ≡ 2 ^ 64 - 1 - 4 * 16 ^ i in
+    let β : Lft = κs.0 in let q : Share = qs.0 in let γ : Names = h.of in let i : ℕ = h.index in let n : ℕ = a.1.0 in let others : Fml = fsep (flft κs.1.0 qs.1.0) ftrue in let Asked : Type 0 = (n ≡ 2 ^ 64 - 1 - 4 * 16 ^ i) × IsPlain γ in
     let y : (walk_of 𝓛 En hs c).Ghost = ((κs, qs, bounds, a, (pointers_val p z ∷ [], (vint w64 n ∷ [], tt))), gh) in let Post : Val → SProp 𝓤 = (walk_of 𝓛 En hs c).post y in
     qed 𝓛 (((‵ (flft β q) ⊛ ‵ others) ⊛ ‵ (owns (types_at En.signature.params κs) a y.0.4)) ∷ raw (fact 𝓤 _) ∷ raw (fact 𝓤 Asked) ∷ []) ∵
     keep ! (2 ∷ 0 ∷ []) $ heard ! Asked (λ asked. split ! $ split ! $ move ! (2 ∷ []) $ fsplit ! $ fsplit ! $ keep ! (1 ∷ 3 ∷ 4 ∷ []) $
@@ -58,16 +58,16 @@ mend_spec 𝓤 𝓛 𝓜 𝓡 wired T L =
     enter ! 𝓣.C 𝓣.Λ fn (pointers_val p z ∷ vint w64 n ∷ []) Post $ alloc_all ! (λ l. pass_all ! refl (pointers_good p z, ((tt, record { fits = are.1.0.1 }), tt)) $ let Ev = env fn.locals l in
     fpick ! (λ s. fsplit ! $ fpick ! (λ at. drop ! $ let γs : List Names = s.0 in let t : Turn = s.1 in let e : ℕ = s.2 in let α : Lft = t.0 in let J : Fml = fbor α (Cells R γs t b o d e) in
     fsplit ! $ use1 𝓛 (‵ (before β α) ⊛ ‵ (before β α)) (before_dup 𝓛 β α) $ split ! $ move ! (2 ∷ []) $
-    use1 𝓛 (‵ (finv J) ⊛ ‵ (finv J)) (𝓛.invs.inv_dup J) $ split ! $ move ! (2 ∷ 0 ∷ []) $ fjoin ! $ move ! (2 ∷ 3 ∷ []) $
+    use1 𝓛 (‵ (above (floors γs) J) ⊛ ‵ (above (floors γs) J)) (above_dup 𝓛 (floors γs) J) $ split ! $ move ! (2 ∷ 0 ∷ []) $ fjoin ! $ move ! (2 ∷ 3 ∷ []) $
     use2 𝓛 (later (some (λ (w : Share). ‵ (flft α w) ⊛ raw (wand 𝓤 (A.lft α w) (H.⇛ (A.lft β q)))))) (Lends-one 𝓛 𝓜 𝓡 β α q) $ await ! tt $ pick ! (λ w. split ! $
     -- [the turn's token; the way back; the lending; the invariant; the others]
-    let Won : ℕ → Fml = won R γ α (t.1 i) d r 5 in let after : ℕ → Fml = λ k. fsep (flft α w) (Won (field k i)) in
+    let Won : ℕ → Fml = won R γ α (t.1 i) d r false 5 in let after : ℕ → Fml = λ k. fsep (flft α w) (Won (field k i)) in
     sets ! (is ! (of_opd ! (get_in ! (fld ! refl (stop !)) (sub ! 0 refl (whole !)))) (ap ptr_val is_at)) refl (tt, tt) $
     sets ! (is ! (of_opd ! (get_in ! (fld ! refl (stop !)) (sub ! 1 refl (whole !)))) (ap ptr_val is_room)) refl (tt, tt) $
     sets ! (of_opd ! (get_in ! (fld ! refl (stop !)) (sub ! 2 refl (whole !)))) refl (tt, tt) $
     first ! $ blocks ! $ nothing ! $ move ! (4 ∷ 1 ∷ 0 ∷ []) $
     use3 𝓛 (raw (𝓣.C _ (vptr b o ∷ vint w64 n ∷ seq_cst ∷ []) (λ u. mean 𝓛 (found after u))))
-    (via 𝓤 _ (stepped_at 𝓛 R γ b o d r i s at w (λ k. bit_and k n) (λ k. bit_and k (15 - 4)) (λ within short. subst (λ (m : ℕ). Turns R γs i (λ k. bit_and k m) (λ k. bit_and k (15 - 4))) (sym asked) (turns_and R γs i within short 4 (lit< tt))) Won (emp 𝓤) (steps.mends 𝓛 R γ α (t.1 i) d r))
+    (via 𝓤 _ (stepped_at 𝓛 R γ b o d r i s at w (λ k. bit_and k n) (λ k. bit_and k (15 - 4)) (λ within short. subst (λ (m : ℕ). Turns R γs i (λ k. bit_and k m) (λ k. bit_and k (15 - 4))) (sym asked.0) (turns_and R γs i within short 4 (lit< tt))) Won (emp 𝓤) (steps.mends 𝓛 R γ α (t.1 i) d r asked.1))
     (ands 𝓛 𝓜 𝓡 (code.calls-core::raw_atomic::fetch_and 𝓡.env wired) (block_ptr b o) n are.1.0.1 after)) $
     sets ! (agg ! (and_then ! (lit ! tt) (no_more !))) refl (tt, (record { fits = lit< tt }, tt)) $
     Calls-last ! (fm 𝓛 𝓜 𝓡) (found after) (and_then ! (get ! refl) (and_then ! (get ! refl) (and_then ! (get ! refl) (no_more !)))) (λ u. finds ! after (λ k fits.
@@ -76,11 +76,11 @@ mend_spec 𝓤 𝓛 𝓜 𝓡 wired T L =
     sets ! (agg ! (and_then ! (get ! refl) (and_then ! (get ! refl) (and_then ! (get ! refl) (no_more !))))) refl (pointers_good (block_ptr b o) (block_ptr d r)) $
     sets ! (agg ! (and_then ! (get ! refl) (and_then ! (get ! refl) (no_more !)))) refl (tt, (record { fits = fits }, ((tt, (tt, (tt, tt))), tt))) $
     fsplit ! $ move ! (0 ∷ 2 ∷ []) $ use2 𝓛 (later (‵ (flft β q))) (apply∗ 𝓤 (A.lft α w) (H.⇛ (A.lft β q))) $ await ! tt $ move ! (0 ∷ 3 ∷ []) $ join ! $ move ! (2 ∷ 1 ∷ []) $ fjoin ! $ nothing ! $ fpack ! (IsAt R γ i r s) (λ _. ftrue) at $ fjoin ! $
-    let v : ℕ = field k i in fpack ! Spot (λ m. fsep (is_fact (IsAt R γ i r m)) (fsep (kept R m.0 m.1 b o d m.2 β) (won R γ m.1.0 (m.1.1 i) d r 5 v))) s $
-    let p' : Ptr = block_ptr b o in let z' : Ptr = block_ptr d r in let pen : Hr.Denot = record { word = p'; room = z'; marker = record {}; of = γ; index = i; sought = 5; found = v } in
-    let val : Val = vstruct (vcons (vint w64 k) (vcons (pointers_val p' z') vnil)) in let Told : Type 0 = (γ ≡ γ) × (i ≡ i) × (5 ≡ 5) × (v ≡ v) in
+    let v : ℕ = field k i in fpack ! Spot (λ m. fsep (is_fact (IsAt R γ i r m)) (fsep (kept R m.0 m.1 b o d m.2 β) (won R γ m.1.0 (m.1.1 i) d r false 5 v))) s $
+    let p' : Ptr = block_ptr b o in let z' : Ptr = block_ptr d r in let pen : Hr.Denot = record { word = p'; room = z'; marker = record {}; of = γ; index = i; first = false; sought = 5; found = v } in
+    let val : Val = vstruct (vcons (vint w64 k) (vcons (pointers_val p' z') vnil)) in let Told : Type 0 = (γ ≡ γ) × (i ≡ i) × (false ≡ false) × (5 ≡ 5) × (v ≡ v) in
     use0 𝓛 (‵ ((PenWords ℓ R).own_val (p', (z', (tt, tt))) (pointers_val p' z' ∷ []))) (pen_made ℓ R 𝓛 p' z') $ fjoin ! $ nothing ! $ flt_i ! k (2 ^ 64) fits $ feq_i ! (List Val) (vint w64 k ∷ []) (vint w64 k ∷ []) refl $ fjoin ! $
     move ! (0 ∷ 2 ∷ 1 ∷ []) $ fjoin3 ! $ feq_i ! (List Val) (val ∷ []) (val ∷ []) refl $ fjoin ! $
     fpack ! (Valss (u64 ∷ Hr ∷ [])) (λ uss. fsep (feq (List Val) (val ∷ []) (vstruct (of_list (uss.0 ++ (uss.1.0 ++ []))) ∷ [])) (owns (u64 ∷ Hr ∷ []) (k, (pen, tt)) uss)) (vint w64 k ∷ [], (pointers_val p' z' ∷ [], tt)) $
-    use0 𝓛 (raw (fact 𝓤 Told)) (fact_i 𝓤 Told (emp 𝓤) (refl, refl, refl, refl)) $ nothing ! $ nothing ! $ fjoin ! $ nothing ! $ fjoin ! $
+    use0 𝓛 (raw (fact 𝓤 Told)) (fact_i 𝓤 Told (emp 𝓤) (refl, refl, refl, refl, refl)) $ nothing ! $ nothing ! $ fjoin ! $ nothing ! $ fjoin ! $
     returns ! (look_at ! 0 refl) $ free_all ! refl $ keep ! (3 ∷ 0 ∷ 2 ∷ 1 ∷ []) $ by ! (leaves 𝓛 En hs c y val (k, pen) (tt, (tt, tt)) (tt, (tt, tt))))))))))))

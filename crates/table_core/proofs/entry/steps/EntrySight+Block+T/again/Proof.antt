@@ -25,6 +25,8 @@ use Rattle.table_core.specs.contracts.entry.steps.EntrySight as EntrySight
 use Rattle.std.specs.contracts.alloc.Global.{the_row as Heap}
 use Rattle.std.specs.contracts.impls.GlobalAllocator.TheImpl.{ghosts}
 use Rattle.cell_core.specs.contracts.block.Block as Block
+use Rattle.cell_core.specs.contracts.block.kind.Plain.{the_row as Kind}
+use Rattle.cell_core.specs.contracts.block.kind.PlainKind.TheImpl.{ghosts as kind}
 use Rattle.table_core.proofs.Sights.{token, sight_made}
 use Rattle.table_core.specs.contracts.entry.steps.EntrySight+Block+T.again.{ended, clauses}
 use Rattle.table_core.specs.contracts.entry.steps.EntrySight+Block+T.again.Key.{name as #self}
@@ -33,7 +35,7 @@ use Rattle.table_core.proofs.entry.steps.EntrySight+Block+T.again.Code as code
 
 pub again_spec : {M : Type 1} → statement M
 again_spec 𝓤 𝓛 𝓜 𝓡 wired T U L _ =
-    let H = 𝓛.H in let 𝓣 = tables 𝓤 H 𝓜 𝓡 𝓡.env in let R : RattleType = param 0 T in let R' : RattleType = param 1 U in let En = ended T U in let B : RattleType = Block.the_row R Heap ghosts in let S : RattleType = EntrySight.the_row B in let B' : RattleType = Block.the_row R' Heap ghosts in let S' : RattleType = EntrySight.the_row B' in
+    let H = 𝓛.H in let 𝓣 = tables 𝓤 H 𝓜 𝓡 𝓡.env in let R : RattleType = param 0 T in let R' : RattleType = param 1 U in let En = ended T U in let B : RattleType = Block.the_row R Heap Kind ghosts kind in let S : RattleType = EntrySight.the_row B in let B' : RattleType = Block.the_row R' Heap Kind ghosts kind in let S' : RattleType = EntrySight.the_row B' in
     let inst = layouts (a_type ∷ a_type ∷ []) (T, (U, tt)) in let fn = inst_fn inst code.function in let c = clauses T U 𝓛 𝓜.mem 𝓡.returns in
     let self = RefOf (0 ∷ []) tt (plain (λ _. S)) (λ _. tt) in let hs : Stays En.signature.params En.kept = (stay_dropped self yes, tt) in
     proved 𝓛 En hs c 𝓜 𝓡 (Goes-dropped 𝓛 3 self yes (λ κs x f. refl), tt) (#self inst) fn (code.unfolded 𝓤 H 𝓜 𝓡 wired (T, (U, tt)))

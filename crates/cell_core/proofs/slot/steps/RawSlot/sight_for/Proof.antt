@@ -1,0 +1,99 @@
+-- `sight_for` keeps what the state shows, and runs the caller's update.
+use Rattle.std.specs.Prelude.{Option, Some, None}
+use Rattle.std.proofs.Common.{◌≡◌, ◌≤◌, le_refl, ℕ, ◌^◌, List, [], ◌∷◌, ◌++◌, refl, sym, ap, subst, lit<, w64}
+use mir.Syntax.{a_type, dcons, dnil}
+use mir.Val.{Val, vint, vptr, vstruct, vcons, vnil, of_list}
+use mir.MapTy.{inst_fn}
+use base.Logic.{SProp, sep, wand, emp, via, apply∗, guard_i}
+use base.Fml.{Lft, Share, Fml, ftrue, fsep, flft, fex, feq, fbor, fnamed}
+use base.Before.{before}
+use types.Logic.{sem}
+use types.Kit.{mean, ‵, raw, ◌⊛◌, some, given, later, at_ret, ◌$◌, ◌∵◌, !, qed, by, move, keep, drop, use0, use1, use2, use3, split, split3, join, fsplit, fsplit3, fjoin, fjoin3, fpick, fpack, pick, learn, await, rewrite, feq_i, flt_i}
+use types.Run.{stop, fld, lit, of_opd, no_more, and_then, first, blocks, exec, Calls-last, returns, enter}
+use types.ByLocal.{alloc_all, pass_all, free_all, look_at, get, get_in, sets, lands_last, is, env}
+use types.Part.{agg, sub, whole}
+use contract.Running.{tables}
+use contract.Monad.{fact, fact_i, fact_use}
+use contract.Shared.{Lends-one}
+use denote.Exit.{no, yes}
+use denote.RattleType.{RattleType, owns, Valss}
+use denote.Signature.{types_at, plain, named_lft}
+use denote.RawPtr.{Ptr, InBlock, block_ptr, ptr_val, block_of, count_of, at_block}
+use denote.Steps.{nothing, heard}
+use denote.Param.{param, bounded}
+use denote.Builtin.{u64}
+use denote.Triple.Walked.{Stays, stay_dropped, walk_of, Goes-dropped}
+use Rattle.atomic_table.proofs.Walks.{proved, leaves}
+use Rattle.atomic_table.proofs.Calls.{fm, seq_cst, found, loads, finds}
+use Rattle.core.proofs.atomic.Steps.{tail}
+use Rattle.cell_core.specs.Fields.{field}
+use Rattle.cell_core.specs.Tie.{Tie, Step, looks, Stage, Made, HasMade, floor_of, offer_owns, update}
+use Rattle.cell_core.specs.Slot.{Names, Turn, Cells, above, floors, sighted, sights, slot_owned}
+use Rattle.cell_core.specs.contracts.slot.steps.RawSlot as RawSlot
+use Rattle.cell_core.specs.contracts.slot.steps.RawSight as RawSight
+use Rattle.cell_core.specs.contracts.block.offer.Offer as Offer
+use Rattle.cell_core.proofs.CellMade.{pointers_val, pointers_good, token_val, slot_told, slot_placed, sight_made}
+use Rattle.cell_core.proofs.OfferMade.{OfferWords, offer_told, offer_made}
+use Rattle.cell_core.proofs.CellSteps as steps
+use Rattle.cell_core.proofs.WordSteps.{stepped_both_at, turns_same}
+use Rattle.cell_core.specs.contracts.slot.steps.RawSlot.sight_for.{ended, clauses}
+use Rattle.cell_core.specs.contracts.slot.steps.RawSlot.sight_for.Key.{name as #self}
+use Rattle.cell_core.proofs.slot.steps.RawSlot.sight_for.Statement.{statement}
+use Rattle.cell_core.proofs.slot.steps.RawSlot.sight_for.Code as code
+
+pub sight_for_spec : {M : Type 1} → statement M
+sight_for_spec 𝓤 𝓛 𝓜 𝓡 wired T X K _ _ _ g dict _ =
+    let H = 𝓛.H in let A = 𝓛.A in let 𝓣 = tables 𝓤 H 𝓜 𝓡 𝓡.env in let R : RattleType = param 0 T in let Xr : RattleType = param 1 X in let Kr : RattleType = param 2 K in let En = ended T X K g dict in let c = clauses T X K g dict 𝓛 𝓜.mem 𝓡.returns in
+    let inst = bounded (a_type ∷ a_type ∷ a_type ∷ []) (T, (X, (K, tt))) (dcons dict dnil) in let fn = inst_fn inst code.function in
+    let self = plain (λ κs. RawSlot.the_row (named_lft 5 0 tt κs) R) in let item = plain (λ κs. Offer.the_row (named_lft 5 1 tt κs) Xr Kr g) in
+    let hs : Stays En.signature.params En.kept = (stay_dropped self no, (stay_dropped item no, tt)) in
+    proved 𝓛 En hs c 𝓜 𝓡 (Goes-dropped 𝓛 5 self no (λ κs x f. refl), (Goes-dropped 𝓛 5 item no (λ κs x f. refl), tt)) (#self inst) fn (code.unfolded 𝓤 H 𝓜 𝓡 wired (T, (X, (K, tt))) dict)
+    (λ κs. ((λ h. pointers_val h.word h.room ∷ []), ((λ h. token_val ∷ []), tt))) (λ κs. ((λ h vs so. slot_told (named_lft 5 0 tt κs) R h.word h.room vs so.0), ((λ h vs so. offer_told (named_lft 5 1 tt κs) Xr Kr g vs so.0), tt))) (λ κs qs bounds a gh are.
+    let ℓ = named_lft 5 0 tt κs in let ℓ' = named_lft 5 1 tt κs in let Sr : RattleType = RawSlot.the_row ℓ R in let Or : RattleType = Offer.the_row ℓ' Xr Kr g in let Hr : RattleType = RawSight.the_row R in
+    let h : Sr.Denot = a.0 in let f : Or.Denot = a.1.0 in let p : Ptr = h.word in let z : Ptr = h.room in let b : ℕ = block_of p in let o : ℕ = count_of p in let d : ℕ = block_of z in let r : ℕ = count_of z in
+    let β : Lft = κs.0 in let q : Share = qs.0 in let μ : Lft = κs.1.0 in let q' : Share = qs.1.0 in let γ : Names = h.of in let i : ℕ = h.index in let others : Fml = fsep (flft κs.1.1.0 qs.1.1.0) (fsep (flft κs.1.1.1.0 qs.1.1.1.0) (fsep (flft κs.1.1.1.1.0 qs.1.1.1.1.0) ftrue)) in
+    let θ : Lft = g.age f.about in let J : Fml = g.inner f.about in let gain : Stage → Stage → Fml = g.gain f.about in let tie : Tie = f.tie in
+    let Asked : Type 0 = (γ.tied ≡ Some tie) × (f.step ≡ looks) × (f.made ≡ None) in
+    let y : (walk_of 𝓛 En hs c).Ghost = ((κs, qs, bounds, a, (pointers_val p z ∷ [], (token_val ∷ [], tt))), gh) in let Post : Val → SProp 𝓤 = (walk_of 𝓛 En hs c).post y in
+    qed 𝓛 (((‵ (flft β q) ⊛ ‵ (flft μ q') ⊛ ‵ others) ⊛ ‵ (owns (types_at En.signature.params κs) a y.0.4)) ∷ raw (fact 𝓤 _) ∷ raw (fact 𝓤 _) ∷ raw (fact 𝓤 _) ∷ raw (fact 𝓤 Asked) ∷ []) ∵
+    keep ! (4 ∷ 0 ∷ []) $ heard ! Asked (λ asked. split ! $ split3 ! $ move ! (3 ∷ []) $ fsplit ! $ fsplit ! $ move ! (2 ∷ []) $ fsplit ! $ fsplit ! $ keep ! (4 ∷ 1 ∷ 5 ∷ 6 ∷ 7 ∷ []) $
+    -- [the cell; the offer; its token; the offer's; the others]
+    rewrite ! 1 (λ (u : Step × Option Made). ‵ (offer_owns θ J gain tie u.0 μ u.1)) (λ l. (asked.1 l, asked.2 l)) refl $
+    use1 𝓛 (given (InBlock p × InBlock z) (‵ (slot_owned R γ β p z i))) (fact_use 𝓤 _ (slot_placed 𝓛 R γ β p z i) (guard_i 𝓤 (InBlock p × InBlock z) (sem 𝓛 (slot_owned R γ β p z i)))) $ learn ! (λ inb. let is_at : p ≡ block_ptr b o = at_block p inb.0 in let is_room : z ≡ block_ptr d r = at_block z inb.1 in
+    rewrite ! 0 (λ (u : Ptr × Ptr). ‵ (slot_owned R γ β u.0 u.1 i)) (λ l. (is_at l, is_room l)) refl $
+    enter ! 𝓣.C 𝓣.Λ fn (pointers_val p z ∷ token_val ∷ []) Post $ alloc_all ! (λ l. pass_all ! refl (pointers_good p z, ((tt, (tt, tt)), tt)) $ let Ev = env fn.locals l in
+    fpick ! (λ s. fsplit ! $ fpick ! (λ at. drop ! $ let γs : List Names = s.0 in let t : Turn = s.1 in let α : Lft = t.0 in fsplit ! $
+    -- [before; the invariant; the offer; the token; the offer's; the others]
+    move ! (0 ∷ 3 ∷ []) $ use2 𝓛 (later (some (λ (w : Share). ‵ (flft α w) ⊛ raw (wand 𝓤 (A.lft α w) (H.⇛ (A.lft β q)))))) (Lends-one 𝓛 𝓜 𝓡 β α q) $ await ! tt $ pick ! (λ w. split ! $
+    -- [the turn's token; the way back; the invariant; the offer; the offer's token; the others]
+    move ! (3 ∷ []) $ fsplit3 ! $ move ! (0 ∷ 6 ∷ []) $ use2 𝓛 (later (some (λ (v : Share). ‵ (flft θ v) ⊛ raw (wand 𝓤 (A.lft θ v) (H.⇛ (A.lft μ q')))))) (Lends-one 𝓛 𝓜 𝓡 μ θ q') $ await ! tt $ pick ! (λ v. split ! $
+    -- [the table's token; its way back; its invariant; the update; the turn's token; the way back; the invariant; the others]
+    let Update : Fml = update θ J gain tie looks in let Shown : ℕ → Fml = λ k. fsep (sights R γ k) (steps.ran 𝓛 R γ α (t.1 i) d r θ J gain tie looks k) in let after : ℕ → Fml = λ k. fsep (flft α w) (fsep (flft θ v) (Shown (field k i))) in
+    sets ! (is ! (of_opd ! (get_in ! (fld ! refl (stop !)) (sub ! 0 refl (whole !)))) (ap ptr_val is_at)) refl (tt, tt) $
+    first ! $ blocks ! $ nothing ! $ move ! (4 ∷ 0 ∷ []) $ join ! $ move ! (1 ∷ 0 ∷ []) $ join ! $ move ! (3 ∷ 0 ∷ []) $ join ! $ move ! (4 ∷ 2 ∷ 0 ∷ []) $
+    use3 𝓛 (raw (𝓣.C _ (vptr b o ∷ seq_cst ∷ []) (λ u. mean 𝓛 (found after u))))
+    (via 𝓤 _ (stepped_both_at 𝓛 R γ b o d r i s at w (λ k. k) (λ k. k) (turns_same R γs i) tie.floor θ v J (subst (λ (τ : Option Tie). tie.floor ≤ floor_of τ) (sym asked.0) (le_refl tie.floor)) Shown (sep 𝓤 (sem 𝓛 Update) (emp 𝓤))
+    (steps.asks_by 𝓛 R γ α (t.1 i) d r θ J gain tie looks (λ k. k) (sights R γ) (emp 𝓤) asked.0 (steps.looks_bare 𝓛 R γ α (t.1 i) d r)))
+    (loads 𝓛 𝓜 𝓡 (code.calls-core::raw_atomic::load 𝓡.env wired) (block_ptr b o) after)) $
+    sets ! (agg ! (and_then ! (lit ! tt) (no_more !))) refl (tt, (record { fits = lit< tt }, tt)) $
+    Calls-last ! (fm 𝓛 𝓜 𝓡) (found after) (and_then ! (get ! refl) (and_then ! (get ! refl) (no_more !))) (λ u. finds ! after (λ n fits.
+    lands_last ! refl (tt, record { fits = fits }) $ exec ! 𝓣.C 𝓣.Λ Ev (tail (tail fn.body)) (at_ret Ev Post) $
+    sets ! (of_opd ! (get ! refl)) refl (tt, record { fits = fits }) $ sets ! (agg ! (no_more !)) refl (tt, tt) $ sets ! (agg ! (and_then ! (get ! refl) (no_more !))) refl (tt, (tt, tt)) $
+    sets ! (of_opd ! (get ! refl)) refl (tt, (tt, tt)) $ sets ! (of_opd ! (get ! refl)) refl (tt, (tt, tt)) $
+    sets ! (agg ! (and_then ! (get ! refl) (and_then ! (get ! refl) (and_then ! (get ! refl) (no_more !))))) refl (tt, (record { fits = fits }, ((tt, tt), ((tt, tt), tt)))) $
+    -- [the step's; the table's way back; the way back; the others]
+    fsplit ! $ move ! (0 ∷ 3 ∷ []) $ use2 𝓛 (later (‵ (flft β q))) (apply∗ 𝓤 (A.lft α w) (H.⇛ (A.lft β q))) $ await ! tt $ move ! (1 ∷ []) $ fsplit ! $
+    -- [the table's token; what is shown; the token; its way back; the others]
+    move ! (0 ∷ 3 ∷ []) $ use2 𝓛 (later (‵ (flft μ q'))) (apply∗ 𝓤 (A.lft θ v) (H.⇛ (A.lft μ q'))) $ await ! tt $
+    -- [the offer's token; what is shown; the token; the others]
+    move ! (0 ∷ 3 ∷ []) $ join ! $ move ! (2 ∷ 0 ∷ []) $ join ! $ move ! (1 ∷ []) $ fsplit ! $ let k : ℕ = field n i in
+    -- [what the state shows; what is told; the tokens]
+    fpick ! (λ u'. let sees : Hr.Denot = record { marker = record {}; of = γ; found = k; value = u' } in use1 𝓛 (‵ (Hr.own_val sees (token_val ∷ []))) (sight_made 𝓛 R γ k u') $
+    move ! (1 ∷ []) $ fpick ! (λ m. fsplit ! $ move ! (1 ∷ []) $ fpick ! (λ has. drop ! $ let f' : Or.Denot = record { marker = record {}; tie = tie; about = f.about; step = f.step; made = Some m } in
+    use0 𝓛 (‵ ((OfferWords ℓ' Xr Kr g).own_val (record {}, tt) (token_val ∷ []))) (offer_made ℓ' Xr Kr g 𝓛) $ fjoin ! $
+    -- [the offer; what the state shows; the tokens]
+    let val : Val = vstruct (vcons (vint w64 n) (vcons token_val (vcons token_val vnil))) in let Told : Type 0 = (γ ≡ γ) × (k ≡ k) × (tie ≡ tie) × (f.about ≡ f.about) × (f.step ≡ f.step) × HasMade looks k (Some m) in
+    nothing ! $ move ! (1 ∷ 0 ∷ []) $ fjoin ! $ move ! (1 ∷ 0 ∷ []) $ fjoin ! $ nothing ! $ flt_i ! n (2 ^ 64) fits $ feq_i ! (List Val) (vint w64 n ∷ []) (vint w64 n ∷ []) refl $ fjoin ! $ move ! (0 ∷ 2 ∷ []) $ fjoin ! $ feq_i ! (List Val) (val ∷ []) (val ∷ []) refl $ fjoin ! $
+    fpack ! (Valss (u64 ∷ Hr ∷ Or ∷ [])) (λ uss. fsep (feq (List Val) (val ∷ []) (vstruct (of_list (uss.0 ++ (uss.1.0 ++ (uss.1.1.0 ++ [])))) ∷ [])) (owns (u64 ∷ Hr ∷ Or ∷ []) (n, (sees, (f', tt))) uss)) (vint w64 n ∷ [], (token_val ∷ [], (token_val ∷ [], tt))) $
+    use0 𝓛 (raw (fact 𝓤 Told)) (fact_i 𝓤 Told (emp 𝓤) (refl, refl, refl, refl, refl, has)) $ nothing ! $ nothing ! $ fjoin ! $ nothing ! $ fjoin ! $
+    returns ! (look_at ! 0 refl) $ free_all ! refl $ keep ! (4 ∷ 0 ∷ 2 ∷ 1 ∷ []) $ by ! (leaves 𝓛 En hs c y val (n, sees, f') (tt, (tt, tt)) (tt, (tt, tt))))))))))))))))

@@ -1,0 +1,219 @@
+// Steps on cells that are tied to a table. Each call has one atomic step, which is its linearization point and runs an
+// update that the caller brings.
+ghost use Rattle.std.specs.Prelude.{◌≡◌, ◌≢◌, ◌<◌, ℕ, Some, None, IfOk, IfErr, length};
+ghost use Rattle.cell_core.specs.Block.{block_len, cell_at, IsPenAt, IsFresh, IsMending};
+ghost use Rattle.cell_core.specs.Shown.{IsFoundIn, IsLookAt, IsLookOf};
+ghost use Rattle.cell_core.specs.Slot.{AreTied, empty_state, broken_state};
+ghost use Rattle.cell_core.specs.Tie.{HasMade, begins, breaks, fills, looks, mends};
+
+use crate::block::fields::{all_but, in_field, state_in, words_for};
+use crate::block::steps::{Laid, Link, Rooms};
+use crate::block::{
+    Block, Book, First, Found, Look, Offer, Pen, Placed, Seats, Spoilt, Tied, lay_for,
+};
+use crate::slot::steps::{BROKEN, BUSY, FILLED};
+use std::alloc::{AllocError, Allocator};
+use std::marker::PhantomData;
+
+impl<T, A: Allocator> Block<T, A, Tied> {
+    /// Makes a block of `n` empty cells that are tied to these seats, in order. It requests memory like `new`. If
+    /// memory is refused, the seats are given up.
+    #[tactic(auto, using(crate::proofs::PlainCells::tied_kind))]
+    pub fn new_for(alloc: A, n: u64, seats: Seats) -> Result<Block<T, A, Tied>, AllocError>
+        requires { length seats.ties ≡ n }
+        ensures len { IfOk result (λ block. block_len block ≡ n) }
+        ensures ties { IfOk result (λ block. AreTied seats.ties block.cells) }
+    {
+        let (rooms, values) = Rooms::reserve(&alloc, n as usize)?;
+        let (words, states) = match Rooms::reserve(&alloc, words_for(n)) {
+            Ok(row) => row,
+            Err(error) => {
+                values.free(&alloc, rooms, n as usize);
+                return Err(error);
+            }
+        };
+        let link = Link::of(words, rooms);
+        let laid = lay_for(Laid::new(states, values), words, n, seats);
+        Ok(Block {
+            alloc,
+            link,
+            laid,
+            len: n,
+            marker: PhantomData,
+        })
+    }
+
+    /// Looks at what a tied cell shows now, by one load. The offer's update runs in the load. A cell that is begun
+    /// shows that it is empty.
+    #[inline(always)]
+    pub fn look_for<'a, 'b, X, K: Book<X>>(
+        &'a self,
+        offset: u64,
+        offer: Offer<'b, X, K>,
+    ) -> (Look<'a, T>, Offer<'b, X, K>)
+        requires within { offset < block_len self.now }
+        requires tie { (cell_at self.now offset).tied ≡ Some offer.tie }
+        requires step { (offer.step ≡ looks) × (offer.made ≡ None) }
+        ensures look { IsLookAt self.now offset result.0 }
+        ensures made { (n : ℕ) × HasMade looks n result.1.made × IsLookOf n result.0 }
+        ensures offer { (result.1.tie ≡ offer.entry.tie) × (result.1.about ≡ offer.entry.about) }
+    {
+        let (word, sight, offer) = self.cell(offset).sight_for(offer);
+        let found = state_in(word, offset);
+        if found == FILLED {
+            let written = sight.written();
+            let value = self.cell(offset).value(&written);
+            (Look::Filled(value, Placed { offset, written }), offer)
+        } else {
+            (self.unfilled(offset, found, sight), offer)
+        }
+    }
+
+    /// Begins a tied cell, by one load. The offer's update runs in the load and shows that nobody has begun the cell, so
+    /// this never fails. The pen is the right to fill or break the cell.
+    #[inline(always)]
+    pub fn begin_for<'a, 'b, X, K: Book<X>>(
+        &'a self,
+        offset: u64,
+        offer: Offer<'b, X, K>,
+    ) -> (Pen<'a, T, First>, Offer<'b, X, K>)
+        requires within { offset < block_len self.now }
+        requires tie { (cell_at self.now offset).tied ≡ Some offer.tie }
+        requires step { (offer.step ≡ begins) × (offer.made ≡ None) }
+        ensures pen { IsPenAt self.now offset result.0 }
+        ensures fresh { IsFresh result.0 }
+        ensures made { HasMade begins empty_state result.1.made }
+        ensures offer { (result.1.tie ≡ offer.entry.tie) × (result.1.about ≡ offer.entry.about) }
+    {
+        let (pen, offer) = self.cell(offset).begin_for(offer);
+        let pen = Pen {
+            offset,
+            pen,
+            marker: PhantomData,
+        };
+        (pen, offer)
+    }
+
+    /// Takes a tied cell that is broken by one step from broken to busy. The offer's update runs in the step, whatever
+    /// the step finds. If an owner broke the cell, this returns `Found::Broken`.
+    pub fn mend_for<'a, 'b, X, K: Book<X>>(
+        &'a self,
+        offset: u64,
+        offer: Offer<'b, X, K>,
+    ) -> (Result<Pen<'a, T, Tied>, Found<T>>, Offer<'b, X, K>)
+        requires within { offset < block_len self.now }
+        requires tie { (cell_at self.now offset).tied ≡ Some offer.tie }
+        requires step { (offer.step ≡ mends) × (offer.made ≡ None) }
+        ensures pen { IfOk result.0 (IsPenAt self.now offset) }
+        ensures broken { IfOk result.0 IsMending }
+        ensures found { IfErr result.0 (IsFoundIn self.now offset) }
+        ensures made { IfOk result.0 (λ _. HasMade mends broken_state result.1.made) }
+        ensures lost { IfErr result.0 (λ _. (n : ℕ) × HasMade mends n result.1.made × (n ≢ broken_state)) }
+        ensures offer { (result.1.tie ≡ offer.entry.tie) × (result.1.about ≡ offer.entry.about) }
+    {
+        let mask = all_but(BROKEN - BUSY, offset);
+        let (word, pen, offer) = self.cell(offset).mend_for(mask, offer);
+        let found = state_in(word, offset);
+        if found == BROKEN {
+            let pen = Pen {
+                offset,
+                pen,
+                marker: PhantomData,
+            };
+            (Ok(pen), offer)
+        } else {
+            (Err(self.lost(offset, found, pen)), offer)
+        }
+    }
+}
+
+impl<'a, T> Pen<'a, T, First> {
+    /// Writes the value, and then the state, which publishes it. The offer's update runs in that step.
+    #[inline(always)]
+    pub fn fill_for<'b, X, K: Book<X>>(
+        self,
+        value: T,
+        offer: Offer<'b, X, K>,
+    ) -> (Placed<T>, Offer<'b, X, K>)
+        requires tie { self.cell.tied ≡ Some offer.tie }
+        requires step { (offer.step ≡ fills) × (offer.made ≡ None) }
+        ensures offset { result.0.offset ≡ self.entry.offset }
+        ensures value { result.0.value ≡ value }
+        ensures name { result.0.name ≡ self.entry.cell.value_name }
+        ensures found { result.0.found ≡ self.entry.found }
+        ensures made { (n : ℕ) × HasMade fills n result.1.made }
+        ensures offer { (result.1.tie ≡ offer.entry.tie) × (result.1.about ≡ offer.entry.about) }
+    {
+        let Pen {
+            offset,
+            pen,
+            marker: _,
+        } = self;
+        let (written, offer) = pen.fill_for(value, in_field(FILLED, offset), offer);
+        (Placed { offset, written }, offer)
+    }
+
+    /// Breaks the cell: it holds no value until somebody mends it. The offer's update runs in that step.
+    pub fn spoil_for<'b, X, K: Book<X>>(self, offer: Offer<'b, X, K>) -> (Spoilt, Offer<'b, X, K>)
+        requires tie { self.cell.tied ≡ Some offer.tie }
+        requires step { (offer.step ≡ breaks) × (offer.made ≡ None) }
+        ensures offset { result.0.offset ≡ self.entry.offset }
+        ensures name { result.0.name ≡ self.entry.cell.broken_name }
+        ensures made { (n : ℕ) × HasMade breaks n result.1.made }
+        ensures offer { (result.1.tie ≡ offer.entry.tie) × (result.1.about ≡ offer.entry.about) }
+    {
+        let Pen {
+            offset,
+            pen,
+            marker: _,
+        } = self;
+        let (broken, offer) = pen.break_for(in_field(BROKEN, offset), offer);
+        (Spoilt { offset, broken }, offer)
+    }
+}
+
+impl<'a, T> Pen<'a, T, Tied> {
+    /// Writes the value of a cell that this pen mends, and then the state, which publishes it. The offer's update runs
+    /// in that step.
+    #[inline(always)]
+    pub fn fill_for<'b, X, K: Book<X>>(
+        self,
+        value: T,
+        offer: Offer<'b, X, K>,
+    ) -> (Placed<T>, Offer<'b, X, K>)
+        requires tie { self.cell.tied ≡ Some offer.tie }
+        requires step { (offer.step ≡ fills) × (offer.made ≡ None) }
+        ensures offset { result.0.offset ≡ self.entry.offset }
+        ensures value { result.0.value ≡ value }
+        ensures name { result.0.name ≡ self.entry.cell.value_name }
+        ensures found { result.0.found ≡ self.entry.found }
+        ensures made { (n : ℕ) × HasMade fills n result.1.made }
+        ensures offer { (result.1.tie ≡ offer.entry.tie) × (result.1.about ≡ offer.entry.about) }
+    {
+        let Pen {
+            offset,
+            pen,
+            marker: _,
+        } = self;
+        let (written, offer) = pen.fill_for(value, in_field(FILLED - BUSY, offset), offer);
+        (Placed { offset, written }, offer)
+    }
+
+    /// Breaks the cell again: it holds no value until somebody mends it. The offer's update runs in that step.
+    pub fn spoil_for<'b, X, K: Book<X>>(self, offer: Offer<'b, X, K>) -> (Spoilt, Offer<'b, X, K>)
+        requires tie { self.cell.tied ≡ Some offer.tie }
+        requires step { (offer.step ≡ breaks) × (offer.made ≡ None) }
+        ensures offset { result.0.offset ≡ self.entry.offset }
+        ensures name { result.0.name ≡ self.entry.cell.broken_name }
+        ensures made { (n : ℕ) × HasMade breaks n result.1.made }
+        ensures offer { (result.1.tie ≡ offer.entry.tie) × (result.1.about ≡ offer.entry.about) }
+    {
+        let Pen {
+            offset,
+            pen,
+            marker: _,
+        } = self;
+        let (broken, offer) = pen.break_for(in_field(BROKEN - BUSY, offset), offer);
+        (Spoilt { offset, broken }, offer)
+    }
+}

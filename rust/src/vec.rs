@@ -14,8 +14,19 @@ use std::sync::Arc;
 pub struct Vec<T> {
     hub: Arc<Hub>,
     limit: usize,
-    values: PhantomData<T>,
+    // Values come in through a `&`, so a vector is no vector of values with a shorter life.
+    values: PhantomData<std::cell::Cell<T>>,
 }
+
+/// ```compile_fail
+/// fn keep_longer_than_it_lives(vec: &kehldora::Vec<&'static str>) {
+///     let text = String::from("short");
+///     let shorter: &kehldora::Vec<&str> = vec;
+///     shorter.push(&text);
+/// }
+/// ```
+#[cfg(doctest)]
+struct NoShorterLife;
 
 // A vector gives out its values by `&` in all threads that share it, and drops them, and takes new ones, in any of them.
 unsafe impl<T: Send> Send for Vec<T> {}

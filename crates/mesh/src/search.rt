@@ -77,12 +77,20 @@ impl<'a, R: Clock + Eprint> Search<'a, R> {
     fn report(&self, vector: &Shared<Edge>) {
         for look in 1..=LOOKS {
             thread::sleep(self.rt, Duration::from_millis(PAUSE_IN_MILLIS));
-            if self.ended.load(Ordering::SeqCst) >= u64::from(self.finders) {
+            if self.have_ended() {
                 return;
             }
             if look % LOOKS_PER_LINE == 0 {
-                let _ = eprintln!(self.rt; "{} edges so far", vector.claimed());
+                self.print_size(vector);
             }
         }
+    }
+
+    fn have_ended(&self) -> bool {
+        self.ended.load(Ordering::SeqCst) >= u64::from(self.finders)
+    }
+
+    fn print_size(&self, vector: &Shared<Edge>) {
+        let _ = eprintln!(self.rt; "{} edges so far", vector.claimed());
     }
 }

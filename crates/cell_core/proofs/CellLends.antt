@@ -21,7 +21,7 @@ use denote.Struct.Lending.{Lends}
 use contract.Monad as monad
 use Rattle.core.proofs.cell.Borrows.{by_one}
 use Rattle.cell_core.specs.Fields.{pack}
-use Rattle.cell_core.specs.Slot.{Names, Phase, fact, above, floors, free, begun, busy, full, broken, broken_by_owner, state, Rest, Turn, step, content, Lies, word, named, inside, Room, tie, lent, cells, standing, Cells, kept, shared_at}
+use Rattle.cell_core.specs.Slot.{Names, Phase, fact, floors, free, begun, busy, full, broken, broken_by_owner, state, Rest, Turn, step, content, Lies, word, named, inside, Room, tie, lent, cells, standing, Cells, kept, shared_at}
 use Rattle.cell_core.specs.Laid.{rests, still}
 use Rattle.cell_core.proofs.CellSteps.{pins}
 

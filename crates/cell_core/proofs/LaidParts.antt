@@ -30,7 +30,7 @@ use mir.Val.{vint}
 use denote.Sharing.{ShrLaws, said}
 use denote.SharingLaws.{beside_shr_laws, nothing_shr_laws, said_shr_laws}
 use Rattle.cell_core.specs.Fields.{pack, put}
-use Rattle.cell_core.specs.Slot.{Names, ArePlain, AreTied, seats, cell_in, state, free, broken_once, Rest, fact, word, place, resting, step, room_at, Spot, IsAt, kept, shared_at, slot_owned}
+use Rattle.cell_core.specs.Slot.{Names, ArePlain, AreTied, seats, cell_in, state, free, broken_once, Rest, fact, word, step, room_at, Spot, IsAt, kept, shared_at, slot_owned}
 use Rattle.cell_core.specs.Laid.{Extent, words_ty, rooms_ty, Lies, FitsMemory, lying, rests, still, along, along_lent, laid, laid_lent, rooms_owned}
 use Rattle.cell_core.proofs.Fields.{pack_ap, pack_alike, put_of, packed_none}
 use Rattle.cell_core.proofs.RestParts.{emptied}

@@ -5,7 +5,7 @@ use mathlib.Core.Logic.{dite}
 use native.Mathlib.Decide.{ℕ_discrete}
 use seplogic.Ra.Ura.{Ura}
 use base.Stored.{Gv, gnil, gcons}
-use base.Logic.{SProp, ent, sep, guard, emp, upd, upd_i}
+use base.Logic.{SProp, ent, sep, guard, emp, upd_i}
 use base.Fml.{Fml, ftrue, fsep, fauth, fres, finv}
 use mir.Val.{Val, vstruct, vnil, of_list}
 use denote.Laws.{Is}

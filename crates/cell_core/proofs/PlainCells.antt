@@ -1,10 +1,9 @@
 -- Cells stay of their kind, and get the ties that a new block is given.
-use Rattle.std.proofs.Common.{Bool, true, false, take, drop, append_assoc, append-nil, take-append-drop, length-append, ◌≡◌, ◌≢◌, ℕ, zero, suc, ◌+◌, ◌<◌, List, [], ◌∷◌, ◌++◌, length, set, refl, sym, ap, ◌∙◌, subst, arith}
-use Rattle.std.specs.Prelude.{Option, None}
+use Rattle.std.proofs.Common.{Bool, true, false, take, drop, append_assoc, append-nil, take-append-drop, length-append, ◌≡◌, ℕ, zero, suc, ◌+◌, List, [], ◌∷◌, ◌++◌, length, set, refl, sym, ap, ◌∙◌, subst, arith}
+use Rattle.std.specs.Prelude.{Option}
 use Rattle.cell_core.specs.Tie.{Tie}
 use Rattle.cell_core.specs.Slot.{Names, IsPlain, ArePlain, AreTied, cell_in}
-use Rattle.cell_core.specs.Laid.{IsOfKind, AreOfKind, HasOneRenamed, HasMore, HasMoreTied, IsAnother}
-use Rattle.cell_core.specs.Member.{Settles}
+use Rattle.cell_core.specs.Laid.{AreOfKind, HasOneRenamed, HasMore, HasMoreTied}
 use Rattle.cell_core.specs.Run.{cells_from}
 
 -- one cell that is renamed, if the former is plain

@@ -1,5 +1,5 @@
 -- What ties a cell to a table of `atomic_table`: a seat of the table, whose view shows how far the cell is.
-use Rattle.std.specs.Prelude.{◌≡◌, ◌≢◌, ℕ, zero, suc, ◌+◌, ◌<◌, Option, Some, None}
+use Rattle.std.specs.Prelude.{◌≡◌, ◌≢◌, ℕ, zero, suc, ◌<◌, Option, Some, None}
 use Rattle.std.specs.Coded.{coded_option}
 use Rattle.std.proofs.Common.{refl, sym, ap, ◌∙◌}
 use base.Share.{three_quarters}

@@ -1,6 +1,6 @@
-use Rattle.std.proofs.Common.{rules, arith, length-drop, ap, ◌∙◌}
+use Rattle.std.proofs.Common.{rules, arith, length-drop}
 use Rattle.std.proofs.lemmas.Grind.{common_steps}
-use Rattle.cell_core.proofs.PlainCells.{first_none, first_more, first_all}
+use Rattle.cell_core.proofs.PlainCells.{first_more}
 use Rattle.cell_core.proofs.block.lay_for.Goals as goal
 
 pub words-preserved : goal.words-preserved

@@ -1,4 +1,5 @@
-use Rattle.std.proofs.Common.{◌≡◌, Some, ap, ◌∙◌, subst}
+use Rattle.std.proofs.Common.{rules, arith, ◌≡◌, Some, ap, ◌∙◌, subst}
+use Rattle.std.proofs.lemmas.Grind.{common_steps}
 use Rattle.std.specs.Prelude.{IsErrAnd, slice_get}
 use Rattle.cell_core.specs.Shown.{ShowsFilled}
 use Rattle.grow_core.specs.Vector.{VectorView}
@@ -7,6 +8,16 @@ use Rattle.grow_core.proofs.vector.Shared.take_opened.Goals as goal
 
 pub mend_member-requires-clause-epoch : goal.mend_member-requires-clause-epoch
 mend_member-requires-clause-epoch g c = broken_at c.self.inside.ended c.self.inside.row c.args.place c.at.result c.self.invariant.broken c.at.ensures
+
+pub returns-in-Ok-clause-taken : goal.returns-in-Ok-clause-taken
+returns-in-Ok-clause-taken g c = record {
+  key = first_of (search rules, grind (arith, common_steps));
+  long = first_of (search rules, grind (arith, common_steps));
+  within = first_of (search rules, grind (arith, common_steps));
+  pen = first_of (search rules, grind (arith, common_steps));
+  broken = c.in-Ok.ensures.broken;
+  here = first_of (search rules, grind (arith, common_steps));
+}
 
 pub returns-in-Ok-clause-opened : goal.returns-in-Ok-clause-opened
 returns-in-Ok-clause-opened g c = λ x there.

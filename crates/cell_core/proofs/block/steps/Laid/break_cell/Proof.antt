@@ -38,7 +38,7 @@ use denote.Builtin.{usize, u64}
 use denote.Ref.{mut_vals, mut_Tells, shr_vals, shr_Tells}
 use denote.Builtin.{RefOf}
 use base.Stored.{gnil}
-use base.Fml.{Lft, fauth}
+use base.Fml.{Lft}
 use types.Tokens.{name_new}
 use Rattle.cell_core.specs.Slot.{broken_by_owner}
 use Rattle.cell_core.specs.Member.{MemberView, unfilled}

@@ -2,7 +2,7 @@
 use Rattle.std.proofs.Common.{take, drop, length-take, ◌∙◌, ◌≡◌, ℕ, ◌+◌, length, ◌*◌, ◌^◌, ◌<◌, ◌≤◌, List, [], ◌∷◌, ◌++◌, sym, refl, subst, arith, w64, ◌-◌, lit<}
 use Rattle.std.specs.Prelude.{Option, None}
 use mir.Syntax.{Ty, a_type, dcons, dnil, named}
-use mir.Val.{Val, vint, vptr, vunit}
+use mir.Val.{Val, vint, vptr}
 use mir.MapTy.{inst_fn}
 use base.Logic.{SProp, ent, emp, id⊢, apply∗, all, all_e}
 use base.Fml.{Fml, ftrue, fsep, flft, froom}
@@ -10,7 +10,7 @@ use mir.Syntax.{ty_int}
 use prog.Wp.{WpFn}
 use types.Logic.{sem}
 use types.Kit.{◌∵◌, ‵, raw, ◌⊛◌, given, some, later, await, pick, split3, at_ret, ◌$◌, !, qed, by, move, keep, use0, use1, use2, split, join, fsplit, fsplit3, fjoin, fjoin3, learn, suffices, rewrite, feq_i}
-use types.Run.{stop, of_opd, bin, first, blocks, exec, returns, enter, unit_lit, init, assigns_last, lit}
+use types.Run.{stop, of_opd, bin, first, blocks, exec, returns, enter, init, assigns_last, lit}
 use types.ByLocal.{alloc_all, pass_all, free_all, look_at, get, through, sets, env}
 use contract.Running.{tables}
 use contract.Monad.{fact, fact_i}

@@ -37,8 +37,7 @@ use denote.Param.{param, bounded}
 use denote.Builtin.{usize, u64}
 use denote.Ref.{mut_vals, mut_Tells, shr_vals, shr_Tells}
 use denote.Builtin.{RefOf}
-use base.Stored.{Gv, gnil}
-use base.Fml.{Lft, fauth, fex}
+use base.Fml.{Lft, fex}
 use Rattle.std.specs.Prelude.{Some}
 use Rattle.std.proofs.Common.{◌∙◌, ◌≢◌}
 use Rattle.cell_core.specs.Slot.{broken_by_owner, written}

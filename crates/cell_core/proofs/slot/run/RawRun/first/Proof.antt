@@ -1,13 +1,13 @@
 -- `first` parts the first cell of a run from those after it.
-use Rattle.std.proofs.Common.{false, Bool, eqb, eq-eqb, add-mul, arith, length, ◌∙◌, ◌<◌, ◌≡◌, ℕ, suc, ◌+◌, ◌*◌, ◌^◌, List, [], ◌∷◌, ◌++◌, sym, refl, ap, subst, w64}
+use Rattle.std.proofs.Common.{false, Bool, eqb, eq-eqb, add-mul, arith, length, ◌<◌, ◌≡◌, ℕ, suc, ◌+◌, ◌*◌, ◌^◌, List, [], ◌∷◌, ◌++◌, sym, refl, ap, subst, w64}
 use mir.Syntax.{a_type}
-use mir.Val.{Val, vint, vptr, vstruct, vcons, vnil, of_list}
+use mir.Val.{Val, vint, vstruct, vcons, vnil, of_list}
 use mir.MapTy.{inst_fn}
-use base.Logic.{SProp, ent, emp, guard_i}
-use base.Fml.{Lft, Share, Fml, ftrue, fsep, fbor, feq}
+use base.Logic.{SProp, emp, guard_i}
+use base.Fml.{Lft, Fml, ftrue, fsep, fbor, feq}
 use base.Before.{before}
 use types.Logic.{sem}
-use types.Kit.{‵, raw, ◌⊛◌, given, at_ret, ◌$◌, ◌∵◌, !, qed, by, move, keep, drop, use0, use1, split, join, fsplit, fsplit3, fjoin, fjoin3, fpick, fpack, learn, rewrite, feq_i}
+use types.Kit.{‵, raw, ◌⊛◌, given, at_ret, ◌$◌, ◌∵◌, !, qed, by, move, keep, drop, use0, use1, split, fsplit, fsplit3, fjoin, fpick, fpack, learn, rewrite, feq_i}
 use types.Run.{stop, fld, of_opd, bin, lit, size_word, no_more, and_then, first, blocks, exec, returns, enter}
 use types.ByLocal.{alloc_all, pass_all, free_all, look_at, get, get_in, sets, sets_last, is, env}
 use types.Part.{agg, sub, whole}
@@ -24,7 +24,7 @@ use denote.Triple.Walked.{Stays, stay_dropped, walk_of, Goes-dropped}
 use denote.Triple.Entry.{alive}
 use Rattle.atomic_table.proofs.Walks.{proved, leaves}
 use Rattle.core.proofs.atomic.Steps.{tail}
-use Rattle.cell_core.specs.Slot.{above, floors, ArePlain, Names, Turn, Spot, Cells, IsAt, Right, cell_in, kept, room_at, step, won}
+use Rattle.cell_core.specs.Slot.{above, floors, Names, Turn, Spot, Cells, IsAt, Right, cell_in, kept, room_at, step, won}
 use Rattle.cell_core.specs.Slot.{fact as is_fact}
 use Rattle.cell_core.specs.Run.{IsRunAt, held, if_won, run_owned}
 use Rattle.cell_core.specs.contracts.slot.run.RawRun as RawRun

@@ -26,7 +26,7 @@ use Rattle.atomic_table.proofs.Walks.{proved, leaves}
 use Rattle.atomic_table.proofs.Calls.{fm, seq_cst, found, adds, finds}
 use Rattle.core.proofs.atomic.Steps.{tail}
 use Rattle.cell_core.specs.Fields.{field}
-use Rattle.cell_core.specs.Slot.{Names, setting, break_added, Turn, pen_owned, was_broken, unset, over, empty, Room}
+use Rattle.cell_core.specs.Slot.{Names, setting, break_added, Turn, pen_owned, was_broken, over, empty, Room}
 use Rattle.cell_core.specs.contracts.slot.steps.RawBroken as RawBroken
 use Rattle.cell_core.specs.contracts.slot.steps.RawPen as RawPen
 use Rattle.cell_core.proofs.CellMade.{pointers_val, pointers_good, token_val, pen_told, pen_placed, pen_gains, Has, broken_made}

@@ -38,7 +38,7 @@ use mir.Raw.{raw as bare}
 use denote.Struct.Members.{Member}
 use types.Tokens.{name_agree, name_set}
 use Rattle.std.specs.Prelude.{None}
-use Rattle.cell_core.specs.Slot.{Names, setting, fill_added, Turn, content, written, place, inside, Room, unset, over, pen_owned}
+use Rattle.cell_core.specs.Slot.{Names, setting, fill_added, Turn, content, written, place, inside, Room, over, pen_owned}
 use Rattle.cell_core.specs.contracts.slot.steps.RawPen as RawPen
 use Rattle.cell_core.specs.contracts.slot.steps.Written as Written
 use Rattle.cell_core.proofs.CellMade.{Has, pen_gains, token_val, pointers_val, pointers_good, pen_told, pen_placed, written_made}

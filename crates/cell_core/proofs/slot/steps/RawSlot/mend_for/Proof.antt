@@ -5,10 +5,9 @@ use mir.Syntax.{a_type, dcons, dnil}
 use mir.Val.{Val, vint, vptr, vstruct, vcons, vnil, of_list}
 use mir.MapTy.{inst_fn}
 use base.Logic.{SProp, sep, wand, emp, via, apply∗, guard_i}
-use base.Fml.{Lft, Share, Fml, ftrue, fsep, flft, fex, feq, fbor, fnamed}
-use base.Before.{before}
+use base.Fml.{Lft, Share, Fml, ftrue, fsep, flft, feq}
 use types.Logic.{sem}
-use types.Kit.{mean, ‵, raw, ◌⊛◌, some, given, later, at_ret, ◌$◌, ◌∵◌, !, qed, by, move, keep, drop, use0, use1, use2, use3, split, split3, join, fsplit, fsplit3, fjoin, fjoin3, fpick, fpack, pick, learn, await, rewrite, feq_i, flt_i}
+use types.Kit.{mean, ‵, raw, ◌⊛◌, some, given, later, at_ret, ◌$◌, ◌∵◌, !, qed, by, move, keep, drop, use0, use1, use2, use3, split, split3, join, fsplit, fsplit3, fjoin, fpick, fpack, pick, learn, await, rewrite, feq_i, flt_i}
 use types.Run.{stop, fld, lit, of_opd, no_more, and_then, first, blocks, exec, Calls-last, returns, enter}
 use types.ByLocal.{alloc_all, pass_all, free_all, look_at, get, get_in, sets, lands_last, is, env}
 use types.Part.{agg, sub, whole}

@@ -5,17 +5,16 @@ use mir.Syntax.{a_type, dcons, dnil}
 use mir.Val.{Val, vint, vptr, vstruct, vcons, vnil, of_list}
 use mir.MapTy.{inst_fn}
 use base.Logic.{SProp, sep, wand, emp, via, apply∗, guard_i}
-use base.Fml.{Lft, Share, Fml, ftrue, fsep, flft, fex, feq, fbor, fnamed}
-use base.Before.{before}
+use base.Fml.{Lft, Share, Fml, ftrue, fsep, flft, feq}
 use types.Logic.{sem}
-use types.Kit.{mean, ‵, raw, ◌⊛◌, some, given, later, at_ret, ◌$◌, ◌∵◌, !, qed, by, move, keep, drop, use0, use1, use2, use3, split, split3, join, fsplit, fsplit3, fjoin, fjoin3, fpick, fpack, pick, learn, await, rewrite, feq_i, flt_i}
+use types.Kit.{mean, ‵, raw, ◌⊛◌, some, given, later, at_ret, ◌$◌, ◌∵◌, !, qed, by, move, keep, drop, use0, use1, use2, use3, split, split3, join, fsplit, fsplit3, fjoin, fpick, fpack, pick, learn, await, rewrite, feq_i, flt_i}
 use types.Run.{stop, fld, lit, of_opd, no_more, and_then, first, blocks, exec, Calls-last, returns, enter}
 use types.ByLocal.{alloc_all, pass_all, free_all, look_at, get, get_in, sets, lands_last, is, env}
 use types.Part.{agg, sub, whole}
 use contract.Running.{tables}
 use contract.Monad.{fact, fact_i, fact_use}
 use contract.Shared.{Lends-one}
-use denote.Exit.{no, yes}
+use denote.Exit.{no}
 use denote.RattleType.{RattleType, owns, Valss}
 use denote.Signature.{types_at, plain, named_lft}
 use denote.RawPtr.{Ptr, InBlock, block_ptr, ptr_val, block_of, count_of, at_block}
@@ -28,7 +27,7 @@ use Rattle.atomic_table.proofs.Calls.{fm, seq_cst, found, loads, finds}
 use Rattle.core.proofs.atomic.Steps.{tail}
 use Rattle.cell_core.specs.Fields.{field}
 use Rattle.cell_core.specs.Tie.{Tie, Step, looks, Stage, Made, HasMade, floor_of, offer_owns, update}
-use Rattle.cell_core.specs.Slot.{Names, Turn, Cells, above, floors, sighted, sights, slot_owned}
+use Rattle.cell_core.specs.Slot.{Names, Turn, sights, slot_owned}
 use Rattle.cell_core.specs.contracts.slot.steps.RawSlot as RawSlot
 use Rattle.cell_core.specs.contracts.slot.steps.RawSight as RawSight
 use Rattle.cell_core.specs.contracts.block.offer.Offer as Offer

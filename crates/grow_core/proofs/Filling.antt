@@ -19,7 +19,7 @@ slice_get-append (z ∷ zs) ys (suc i) x h =
 pub all_none : {X : Type 0} (P : X → Type 0) → All P []
 all_none P k d below = absurd (omega (arith, below))
 
-all_one : {X : Type 0} (P : X → Type 0) (x : X) → P x → All P (x ∷ [])
+pub all_one : {X : Type 0} (P : X → Type 0) (x : X) → P x → All P (x ∷ [])
 all_one P x p zero d lt = p
 all_one P x p (suc k) d lt = absurd (omega arith)
 

@@ -17,3 +17,5 @@ pub mod Sides
 pub mod Broken
 pub mod PopSegment
 pub mod Counted
+pub mod Copying
+pub mod Breaking

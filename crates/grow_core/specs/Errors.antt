@@ -6,6 +6,8 @@ use Rattle.grow_core.specs.declared.errors.AtError.{AtError}
 use Rattle.grow_core.specs.declared.errors.AtError.TheVariants.{OutOfRange, Pending, Broken}
 use Rattle.grow_core.specs.declared.errors.MendError.{MendError}
 use Rattle.grow_core.specs.declared.errors.MendError.TheVariants as mend
+use Rattle.grow_core.specs.declared.errors.ReserveError.{ReserveError}
+use Rattle.grow_core.specs.declared.errors.ReserveError.TheVariants as reserve
 
 -- why a growth was refused
 abbrev pub grow_error_text : {T V E : Type 0} → GrowError T V E → List ℕ
@@ -27,3 +29,8 @@ abbrev pub mend_error_text : {T : Type 0} → MendError T → List ℕ
 mend_error_text (mend.OutOfRange size) = codes "not below size " ++ decimal size
 mend_error_text mend.Pending = codes "not finished yet"
 mend_error_text (mend.Filled placed) = codes "filled"
+
+-- why no room was reserved
+abbrev pub reserve_error_text : ReserveError → List ℕ
+reserve_error_text reserve.NoMemory = codes "out of memory"
+reserve_error_text reserve.TooLong = codes "longer than the limit"

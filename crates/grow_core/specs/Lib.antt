@@ -16,6 +16,7 @@ pub mod Segment
 pub mod Stretch
 pub mod Filled
 pub mod Begun
+pub mod BrokenRun
 pub mod Slices
 pub mod PopSegment
 pub mod Errors

@@ -1,5 +1,5 @@
 -- Places next to each other that a growth fills together.
-use Rattle.std.specs.Prelude.{◌≡◌, ℕ, ◌+◌, ◌<◌, List, ◌++◌, Some, length, map, slice_get}
+use Rattle.std.specs.Prelude.{◌≡◌, ℕ, ◌+◌, ◌<◌, ◌≤◌, List, ◌++◌, Some, length, map, take, drop, slice_get}
 use Rattle.std.specs.Vec.Iter.{into_iter_items, into_iter_len}
 use Rattle.std.specs.declared.vec.IntoIter.{IntoIter}
 use Rattle.cell_core.specs.Block.{IsMemberAt}
@@ -34,3 +34,14 @@ pub record Takes {T A : Type 0} (vector : VectorView T) (from : ℕ) (old new : 
   pub some : 0 < stretch.n
   pub first : into_iter_items old ≡ values ++ into_iter_items new
   pub counted : IsCounted new
+
+-- n of the values, from this number on
+abbrev pub values_from : {T : Type 0} → List T → ℕ → ℕ → List T
+values_from values first n = take n (drop first values)
+
+-- the stretch took the values from this number on, one or more, and `left` of them at most
+pub record TakesFrom {T : Type 0} (vector : VectorView T) (from : ℕ) (values : List T) (first left : ℕ)
+    (stretch : Stretch T) : Type 0 where
+  pub is : IsStretchOf vector from (values_from values first stretch.n) stretch
+  pub some : 0 < stretch.n
+  pub few : stretch.n ≤ left

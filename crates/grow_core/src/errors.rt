@@ -48,6 +48,15 @@ pub enum MendError<T> {
     Filled(Placed<T>),
 }
 
+/// The reason why no room was reserved.
+#[derive(Clone, Copy, Debug, PartialEq, Eq)]
+pub enum ReserveError {
+    /// There was no memory. Segments that were installed before stay.
+    NoMemory,
+    /// The places are more than the limit. No memory was asked for.
+    TooLong,
+}
+
 impl<T, V, E> fmt::Display for GrowError<T, V, E> {
     ghost use Rattle.std.specs.Prelude.{Some};
     ghost use Rattle.grow_core.specs.Errors.{grow_error_text};
@@ -125,3 +134,19 @@ impl<T> fmt::Debug for MendError<T> {
 }
 
 impl<T: Drop> Error for MendError<T> {}
+
+impl fmt::Display for ReserveError {
+    ghost use Rattle.std.specs.Prelude.{Some};
+    ghost use Rattle.grow_core.specs.Errors.{reserve_error_text};
+
+    ghost output = { λ error. Some (reserve_error_text error) };
+
+    fn fmt<W: fmt::Write>(&self, f: &mut fmt::Formatter<W>) -> fmt::Result {
+        match self {
+            ReserveError::NoMemory => write!(f, "out of memory"),
+            ReserveError::TooLong => write!(f, "longer than the limit"),
+        }
+    }
+}
+
+impl Error for ReserveError {}

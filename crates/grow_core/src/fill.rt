@@ -142,7 +142,7 @@ impl<T: Drop> Shared<T> {
 
     // Fills this place of the segment with the value.
     #[cold]
-    fn fill_alone(
+    pub(crate) fn fill_alone(
         &self,
         segment: &Segment<'_, T>,
         place: u64,

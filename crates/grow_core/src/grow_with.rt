@@ -5,7 +5,7 @@ ghost use Rattle.grow_core.specs.Grown.{IsGrownOf, values_of};
 ghost use Rattle.grow_core.specs.Filled.{IsFilledOf};
 ghost use Rattle.grow_core.specs.Keys.{OwnsPlacesOf};
 ghost use Rattle.grow_core.specs.Growth.{Refuses, HasNoRoom, SaysFull, IsNotMoved};
-ghost use Rattle.grow_core.specs.Making.{Makes, StopsAfter, StopsIn, LeavesMaker, IsRefusedBy, IsTakenIn, IsTakenFrom};
+ghost use Rattle.grow_core.specs.Making.{Makes, StopsAfter, StopsIn, LeavesMaker, IsRefusedBy, IsTakenFrom};
 ghost use Rattle.grow_core.specs.Making.{WonMade, WonClones};
 ghost use Rattle.grow_core.specs.Begun.{AreUnwritten, begun_count};
 ghost use Rattle.grow_core.specs.Logs.{LogsGrowth, LogsRefusal};
@@ -15,7 +15,7 @@ use crate::errors::GrowError;
 use crate::filled::Filled;
 use crate::grown::Grown;
 use crate::hand::Hand;
-use crate::token::Found;
+use crate::token::{Found, Spoilt};
 use crate::vector::Shared;
 use cell_core::block::RunPen;
 use claim_core::Run;
@@ -192,7 +192,7 @@ impl<T: Drop> Shared<T> {
         let made = Run { from: run.from, n };
         let first = n + count_begun(&begun);
         break_begun(begun);
-        match self.break_rest(hand, run, first) {
+        match self.break_rest(hand, run, first, &mut |_spoilt: Spoilt| {}) {
             Ok(()) => GrowError::Refused {
                 run,
                 made: self.grown(made, filled),
@@ -200,31 +200,6 @@ impl<T: Drop> Shared<T> {
             },
             Err((place, found)) => GrowError::Taken { place, found },
         }
-    }
-
-    // Breaks the places of a run of the hand's from the one with this number on. It stops at a place that was taken.
-    fn break_rest(&self, hand: &Hand<T>, run: Run, first: u64) -> Result<(), (u64, Found<T>)>
-        requires ours { IsHandOf self.now hand.now }
-        requires owned { OwnsPlacesOf hand.now run }
-        requires within { run.from + run.n ≤ limit_of self.now }
-        requires not_past { first ≤ run.n }
-        ensures taken { IfErr result (λ (place, found). IsTakenIn self.now run place found) }
-        ensures after { IfErr result (λ (place, _). run.from + first ≤ place) }
-    {
-        // For the proof: the vector's base is within its limit.
-        self.laws();
-        if first == run.n {
-            return Ok(());
-        }
-        let end = run.from + run.n;
-        let mut segment = self.find_segment(hand, run.from + first);
-        for place in run.from + first..end {
-            segment = self.next_segment(hand, segment, place);
-            if let Err(found) = self.break_place(&segment, place) {
-                return Err((place, found));
-            }
-        }
-        Ok(())
     }
 }
 

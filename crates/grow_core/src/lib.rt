@@ -23,8 +23,10 @@
 
 mod begun;
 mod blocks;
+mod break_run;
 mod claim;
 mod close;
+mod copy;
 mod errors;
 mod fill;
 mod filled;
@@ -43,17 +45,19 @@ mod published;
 mod push;
 mod read;
 mod recall;
+mod reserve;
 mod settle_cells;
 mod shown_cells;
 mod sizes;
 mod slices;
+mod source;
 mod split_and_join;
 mod stretch;
 mod token;
 mod vector;
 
 pub use claim_core::{OpenError, Run, laws};
-pub use errors::{AtError, GrowError, MendError, Never};
+pub use errors::{AtError, GrowError, MendError, Never, ReserveError};
 pub use grow_to_at_least::AtLeast;
 pub use grown::Grown;
 pub use hand::Hand;

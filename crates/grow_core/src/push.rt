@@ -37,6 +37,29 @@ impl<T: Drop> Shared<T> {
         self.push_at(hand, from, value)
     }
 
+    /// Appends a value like `try_push_back`, but begins at the size that the hand has seen: it loads the size only if
+    /// that leaves no room. So it wins the place that follows what the hand has seen, or none. After `Moved` the hand
+    /// has seen the size that the exchange found, and the next try begins there.
+    #[inline(always)]
+    pub fn try_push_seen(
+        &self,
+        hand: &mut Hand<T>,
+        value: T,
+    ) -> Result<Placed<T>, GrowError<T, T, Never>>
+        requires ours { IsHandOf self.now hand.old }
+        ensures won { IfOk result (WonPlace self.now value hand.old hand.new) }
+        ensures here { IfOk result (λ placed. placed.place ≡ seen_size hand.old) }
+        ensures refused { IfErr result (Refuses self.now 1 value hand.old hand.new) }
+        // Room that is missing by what the hand has seen is reported before memory is asked for.
+        ensures full { HasNoRoom self.now 1 hand.old → IsErrAnd result SaysFull }
+        // The history gets the claim of the place, or the event whose reply the refusal is.
+        ensures logs { IfOk result (λ placed. LogsRun hand.old hand.new (single placed.place)) }
+        ensures logs_refusal { IfErr result (LogsRefusal 1 hand.old hand.new) }
+    {
+        let from = hand.seen();
+        self.push_at(hand, from, value)
+    }
+
     // One try to append a value at the size that the hand has seen. All that it reads of the segment it reads
     // before the exchange: what comes after a locked step waits for it.
     #[inline(always)]

@@ -109,6 +109,25 @@ impl<T> Shared<T> {
         }
     }
 
+    /// Returns the values of the filled places of one segment from `place` on, up to the first that is not filled now, for
+    /// a caller without a hand. It loads each of their words of states once, and no size; the slice is empty if the
+    /// place is not filled, or not below the limit.
+    pub fn shown_run(&self, place: u64) -> &[T]
+        ensures within { 0 < length result.now
+            → place + length result.now ≤ limit_of self.now }
+        ensures segment { 0 < length result.now
+            → IsInOneSegment (layout_of self.now) place (length result.now) }
+        ensures opened { HoldOpened self.now place result.now }
+    {
+        // For the proof: the limit is that of a vector.
+        self.laws();
+        let limit = self.limit();
+        if place >= limit {
+            return &[];
+        }
+        self.cells(place, limit).filled(0)
+    }
+
     // The values of the filled places of one segment from this one on, up to the first that is not filled, and `n` at
     // most.
     pub(crate) fn filled_places(&self, segment: u32, place: u64, n: u64) -> &[T]

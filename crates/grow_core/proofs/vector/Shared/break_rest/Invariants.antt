@@ -1,6 +1,15 @@
-use Rattle.std.proofs.Common.{◌≤◌}
+use Rattle.std.proofs.Common.{◌≡◌, ◌+◌, ◌≤◌, List, length}
+use Rattle.std.specs.List.{FoldsTo}
+use Rattle.grow_core.specs.Token.{SpoiltView}
+use Rattle.grow_core.specs.BrokenRun.{AreBrokenFrom}
 use Rattle.grow_core.specs.Segment.{IsSegmentOf}
 use Rattle.grow_core.proofs.vector.Shared.break_rest.Given as goal
 
 abbrev pub invariant-loop-place : goal.invariant-loop-place
-invariant-loop-place g l = IsSegmentOf l.self l.segment × (l.segment.from ≤ l.place) × (l.place ≤ l.segment.end)
+invariant-loop-place g l =
+    ((tokens : List SpoiltView) × AreBrokenFrom l.self (l.fn.run.from + l.fn.first) tokens
+    × FoldsTo (λ k token next. goal.K-step g k token tt next) l.fn.keep tokens l.keep × (l.place ≡ l.fn.run.from + l.fn.first + length tokens))
+    × IsSegmentOf l.self l.segment
+    × (l.segment.from ≤ l.place)
+    × (l.place ≤ l.segment.end)
+    × goal.K-IsAlwaysCallable g l.keep

@@ -1,0 +1,15 @@
+use Rattle.std.proofs.Common.{◌+◌, ◌-◌, ◌≤◌, take}
+use Rattle.grow_core.specs.Filled.{IsFilledOf}
+use Rattle.grow_core.specs.Segment.{IsSegmentOf}
+use Rattle.grow_core.proofs.vector.Shared.copy_run.Given as goal
+
+abbrev pub invariant-loop-done : goal.invariant-loop-done
+invariant-loop-done g l =
+    IsFilledOf l.self l.run.from (take l.done (g.S.Source.values l.source)) l.filled
+    × (l.done ≤ l.run.n)
+    × IsSegmentOf l.self l.segment
+    × (l.segment.from ≤ l.run.from + l.done)
+    × (l.run.from + l.done ≤ l.segment.end)
+
+abbrev pub decreases-loop-done : goal.decreases-loop-done
+decreases-loop-done g l = l.run.n - l.done

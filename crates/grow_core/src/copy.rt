@@ -1,0 +1,204 @@
+//! Growths by copies: of the values of a slice, or of one value.
+ghost use Rattle.std.specs.Prelude.{◌≡◌, ◌+◌, ◌<◌, ◌≤◌, [], IfOk, IfErr, IsErrAnd, length, replicate, take};
+ghost use Rattle.seg_core.specs.Segment.{most_places};
+ghost use Rattle.cell_core.specs.Run.{members_of};
+ghost use Rattle.grow_core.specs.Vector.{IsHandOf, limit_of};
+ghost use Rattle.grow_core.specs.Grown.{IsGrownOf, values_of};
+ghost use Rattle.grow_core.specs.Keys.{OwnsPlacesOf};
+ghost use Rattle.grow_core.specs.Segment.{IsSegmentOf};
+ghost use Rattle.grow_core.specs.Stretch.{TakesFrom, values_from};
+ghost use Rattle.grow_core.specs.Growth.{WonRun, Refuses, HasNoRoom, SaysFull, IsNotMoved, IsFoundAt};
+ghost use Rattle.grow_core.specs.Making.{StopsIn};
+ghost use Rattle.grow_core.specs.Logs.{LogsGrowth, LogsRefusal};
+
+use crate::errors::{GrowError, Never};
+use crate::fill::Segment;
+use crate::grown::Grown;
+use crate::hand::Hand;
+use crate::source::{Copies, FromSlice, Source};
+use crate::stretch::Stretch;
+use crate::token::Found;
+use crate::vector::Shared;
+use cell_core::block::{Row, RunPen};
+use claim_core::Run;
+use std::sync::Wait;
+
+impl<T: Copy> Shared<T> {
+    /// Appends copies of the values in one run. It tries once, and waits for nobody. The exchange that wins the run is
+    /// its linearization point, or, if there is no value, the load of the size. It takes no memory except that of the
+    /// segments, and up to sixteen values next to each other are published by one step.
+    pub fn try_grow_from(
+        &self,
+        hand: &mut Hand<T>,
+        values: &[T],
+    ) -> Result<Grown<T>, GrowError<T, (), Never>>
+        requires ours { IsHandOf self.now hand.old }
+        ensures won { IfOk result (WonRun self.now values.now hand.old hand.new) }
+        ensures refused { IfErr result
+            (Refuses self.now (length values.now) tt hand.old hand.new) }
+        // Room that is missing by what the hand has seen is reported before memory is asked for.
+        ensures full { HasNoRoom self.now (length values.now) hand.old → IsErrAnd result SaysFull }
+        // The history gets the claim of the run, or the event whose reply the refusal is.
+        ensures logs { IfOk result (λ grown. LogsGrowth hand.old hand.new grown.run) }
+        ensures logs_refusal { IfErr result (LogsRefusal (length values.now) hand.old hand.new) }
+    {
+        let n = values.len() as u64;
+        let (run, ()) = self.claim_run(hand, n, ())?;
+        self.copy_run(hand, run, &FromSlice { slice: values })
+    }
+
+    /// Appends copies of the values like `try_grow_from`, and retries if another caller was first.
+    pub fn grow_from<R: Wait>(
+        &self,
+        rt: &R,
+        hand: &mut Hand<T>,
+        values: &[T],
+    ) -> Result<Grown<T>, GrowError<T, (), Never>>
+        requires ours { IsHandOf self.now hand.old }
+        ensures won { IfOk result (WonRun self.now values.now hand.old hand.new) }
+        ensures refused { IfErr result
+            (Refuses self.now (length values.now) tt hand.old hand.new) }
+        ensures full { HasNoRoom self.now (length values.now) hand.old → IsErrAnd result SaysFull }
+        ensures not_moved { IfErr result IsNotMoved }
+        // The history gets the claim of the run, or the event whose reply the refusal is.
+        ensures logs { IfOk result (λ grown. LogsGrowth hand.old hand.new grown.run) }
+        ensures logs_refusal { IfErr result (LogsRefusal (length values.now) hand.old hand.new) }
+    {
+        let n = values.len() as u64;
+        let (run, ()) = self.claim_again(rt, hand, n, ())?;
+        self.copy_run(hand, run, &FromSlice { slice: values })
+    }
+
+    /// Appends `n` copies of the value in one run, like `try_grow_from`.
+    pub fn try_grow_copies(
+        &self,
+        hand: &mut Hand<T>,
+        n: u64,
+        value: T,
+    ) -> Result<Grown<T>, GrowError<T, (), Never>>
+        requires ours { IsHandOf self.now hand.old }
+        ensures won { IfOk result (WonRun self.now (replicate n value) hand.old hand.new) }
+        ensures refused { IfErr result (Refuses self.now n tt hand.old hand.new) }
+        // Room that is missing by what the hand has seen is reported before memory is asked for.
+        ensures full { HasNoRoom self.now n hand.old → IsErrAnd result SaysFull }
+        // The history gets the claim of the run, or the event whose reply the refusal is.
+        ensures logs { IfOk result (λ grown. LogsGrowth hand.old hand.new grown.run) }
+        ensures logs_refusal { IfErr result (LogsRefusal n hand.old hand.new) }
+    {
+        let (run, ()) = self.claim_run(hand, n, ())?;
+        self.copy_run(hand, run, &Copies { n, value })
+    }
+
+    /// Appends `n` copies of the value like `try_grow_copies`, and retries if another caller was first.
+    pub fn grow_copies<R: Wait>(
+        &self,
+        rt: &R,
+        hand: &mut Hand<T>,
+        n: u64,
+        value: T,
+    ) -> Result<Grown<T>, GrowError<T, (), Never>>
+        requires ours { IsHandOf self.now hand.old }
+        ensures won { IfOk result (WonRun self.now (replicate n value) hand.old hand.new) }
+        ensures refused { IfErr result (Refuses self.now n tt hand.old hand.new) }
+        ensures full { HasNoRoom self.now n hand.old → IsErrAnd result SaysFull }
+        ensures not_moved { IfErr result IsNotMoved }
+        // The history gets the claim of the run, or the event whose reply the refusal is.
+        ensures logs { IfOk result (λ grown. LogsGrowth hand.old hand.new grown.run) }
+        ensures logs_refusal { IfErr result (LogsRefusal n hand.old hand.new) }
+    {
+        let (run, ()) = self.claim_again(rt, hand, n, ())?;
+        self.copy_run(hand, run, &Copies { n, value })
+    }
+}
+
+impl<T: Drop> Shared<T> {
+    // Fills the places of a run of the hand's with the values of the source. It stops at a place that was taken.
+    fn copy_run<S: Source<T>>(
+        &self,
+        hand: &Hand<T>,
+        run: Run,
+        source: &S,
+    ) -> Result<Grown<T>, GrowError<T, (), Never>>
+        requires ours { IsHandOf self.now hand.now }
+        requires owned { OwnsPlacesOf hand.now run }
+        requires within { run.from + run.n ≤ limit_of self.now }
+        requires values { length (S.values source.now) ≡ run.n }
+        ensures run { IfOk result (λ grown. grown.run ≡ run) }
+        ensures tokens { IfOk result (IsGrownOf self.now) }
+        ensures values { IfOk result (λ grown. values_of grown ≡ S.values source.now) }
+        ensures stopped { IfErr result (StopsIn self.now run) }
+    {
+        // For the proof: the vector's base is within its limit.
+        self.laws();
+        let mut filled = self.no_places();
+        if run.n == 0 {
+            return Ok(self.grown(run, filled));
+        }
+        let mut segment = self.find_segment(hand, run.from);
+        let mut done = 0;
+        while done < run.n {
+            let place = run.from + done;
+            segment = self.next_segment(hand, segment, place);
+            match self.copy_next(&segment, place, done, run.n - done, source) {
+                Ok(stretch) => {
+                    done += stretch.n;
+                    filled = self.know(filled, stretch);
+                }
+                Err(found) => return Err(GrowError::Taken { place, found }),
+            }
+        }
+        Ok(self.grown(run, filled))
+    }
+
+    // Fills places of the segment with values of the source from this number on, `left` of them at most: a run that
+    // begins at this place, or this place alone.
+    #[inline(always)]
+    fn copy_next<S: Source<T>>(
+        &self,
+        segment: &Segment<'_, T>,
+        place: u64,
+        first: u64,
+        left: u64,
+        source: &S,
+    ) -> Result<Stretch<T>, Found<T>>
+        requires segment { IsSegmentOf self.now segment.now }
+        requires from { segment.now.from ≤ place }
+        requires before { place < segment.now.end }
+        requires some { 0 < left }
+        requires values { first + left ≤ length (S.values source.now) }
+        requires small { first + left ≤ most_places }
+        ensures filled { IfOk result (TakesFrom self.now place (S.values source.now) first left) }
+        ensures within { IfOk result (λ stretch. place + stretch.n ≤ segment.now.end) }
+        ensures found { IfErr result (IsFoundAt self.now place) }
+    {
+        let key = segment.key.again();
+        let offset = place - segment.from;
+        let n = segment.block.longest_run(offset).min(left);
+        let Some(pen) = segment.block.begin_run(offset, n) else {
+            return self.fill_alone(segment, place, source.value(first));
+        };
+        let row = publish_from(pen, n, first, source);
+        Ok(Stretch {
+            key,
+            offset,
+            n,
+            row,
+        })
+    }
+}
+
+// Writes the `n` values of the source from this number on into the cells of the run, and publishes them by one step.
+#[inline(always)]
+fn publish_from<T: Drop, S: Source<T>>(pen: RunPen<'_, T>, n: u64, first: u64, source: &S) -> Row<T>
+    requires cells { length pen.cells ≡ n }
+    requires unwritten { pen.values ≡ [] }
+    requires enough { first + n ≤ length (S.values source.now) }
+    requires small { first + n ≤ most_places }
+    ensures { result ≡ members_of pen.entry.cells (values_from (S.values source.now) first n) }
+{
+    let mut pen = pen;
+    for i in 0..n {
+        pen = pen.write(source.value(first + i));
+    }
+    pen.publish()
+}

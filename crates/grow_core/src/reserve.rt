@@ -1,0 +1,49 @@
+//! Room for growths to come.
+ghost use Rattle.std.specs.Prelude.{◌≡◌, ◌<◌, ◌↔◌, IfOk, IsErrOf};
+ghost use Rattle.grow_core.specs.Vector.{IsHandOf, limit_of, layout_of};
+ghost use Rattle.grow_core.specs.Keys.{AreKeys, HasKeysOfRun, KeepsKeys, mark_of};
+
+use crate::errors::ReserveError;
+use crate::hand::Hand;
+use crate::keys::{Keys, install};
+use crate::vector::Shared;
+
+impl<T: Drop> Shared<T> {
+    /// Installs the segments of the first `n` places, in all, unless they are there: growths up to that size then ask for
+    /// no memory, by this hand or by any other. It claims nothing, and looks at no size. Each segment that is missing
+    /// takes one request for memory, or more if another caller installs it meanwhile. A refused request leaves the
+    /// segments that were installed before it.
+    pub fn reserve(&self, hand: &mut Hand<T>, n: u64) -> Result<(), ReserveError>
+        requires ours { IsHandOf self.now hand.old }
+        // The limit is looked at before memory is asked for.
+        ensures too_long { IsErrOf result ReserveError.TooLong ↔ (limit_of self.now < n) }
+        // It logs nothing, and the hand has seen what it had seen.
+        ensures hand { hand.new ≡ hand.old }
+    {
+        // For the proof: reading a field shows the type's invariant.
+        let _table = &self.table;
+        self.keep_keys(&mut hand.keys, n)
+    }
+
+    // Installs the segments of the first `n` places unless they are there, and puts their keys into the row.
+    fn keep_keys(&self, keys: &mut Keys, n: u64) -> Result<(), ReserveError>
+        requires keys { AreKeys (mark_of self.now.segments) keys.old }
+        ensures too_long { IsErrOf result ReserveError.TooLong ↔ (limit_of self.now < n) }
+        ensures keys { AreKeys (mark_of self.now.segments) keys.new }
+        ensures kept { KeepsKeys keys.old keys.new }
+        ensures all { IfOk result (λ _. HasKeysOfRun (layout_of self.now) keys.new 0 n) }
+    {
+        // For the proof: the limit is that of a vector.
+        self.laws();
+        if self.limit() < n {
+            return Err(ReserveError::TooLong);
+        }
+        if n == 0 {
+            return Ok(());
+        }
+        match install(&self.table, keys, 0, n) {
+            Ok(()) => Ok(()),
+            Err(_) => Err(ReserveError::NoMemory),
+        }
+    }
+}

@@ -1,0 +1,57 @@
+// The values that a growth copies into its places.
+ghost use Rattle.std.specs.Prelude.{◌≡◌, ◌<◌, List, Some, length, slice_get, replicate};
+
+use std::marker::Copy;
+
+// A list of values, each of which can be read at any time.
+pub(crate) trait Source<T> {
+    ghost use Rattle.std.specs.Prelude.{List};
+
+    ghost values: { Self → List T };
+
+    // The value with this number.
+    fn value(&self, i: u64) -> T
+        requires { i < length (values self.now) }
+        ensures { slice_get (values self.now) i ≡ Some result };
+}
+
+// The values of a slice, by copies.
+#[derive(Drop)]
+pub(crate) struct FromSlice<'a, T> {
+    pub(crate) slice: &'a [T],
+}
+
+impl<'a, T: Copy> Source<T> for FromSlice<'a, T> {
+    ghost values = { λ s. s.slice.now };
+
+    #[inline(always)]
+    fn value(&self, i: u64) -> T
+        requires { i < length self.now.slice.now }
+        ensures { slice_get self.now.slice.now i ≡ Some result }
+    {
+        self.slice[i as usize]
+    }
+}
+
+// `n` copies of one value.
+#[derive(Drop)]
+pub(crate) struct Copies<T> {
+    pub(crate) n: u64,
+    pub(crate) value: T,
+}
+
+impl<T: Copy> Source<T> for Copies<T> {
+    ghost use Rattle.std.specs.Prelude.{replicate};
+
+    ghost values = { λ c. replicate c.n c.value };
+
+    #[inline(always)]
+    fn value(&self, i: u64) -> T
+        requires { i < length (replicate self.now.n self.now.value) }
+        ensures { slice_get (replicate self.now.n self.now.value) i ≡ Some result }
+    {
+        // Only the contract speaks of the number.
+        let _ = i;
+        self.value
+    }
+}

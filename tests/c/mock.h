@@ -1,0 +1,30 @@
+/* What only the mock of the exports has: refusals on purpose, and what it holds. */
+#ifndef KEHLDORA_MOCK_H
+#define KEHLDORA_MOCK_H
+
+#include <stdint.h>
+
+#ifdef __cplusplus
+extern "C" {
+#endif
+
+/* The request for memory after `count` further ones is refused, and no other. A negative number refuses none. */
+void kehldora_mock_refuse(int64_t count);
+
+/* The next `count` attempts of a growth find that another thread came first. */
+void kehldora_mock_move(int64_t count);
+
+/* The next growth does this call once it has claimed its places, and fills them afterwards. */
+void kehldora_mock_between(void (*call)(void *), void *argument);
+
+/* How many blocks of memory are held. */
+int64_t kehldora_mock_blocks(void);
+
+/* How many hands and lists there are. */
+int64_t kehldora_mock_handles(void);
+
+#ifdef __cplusplus
+}
+#endif
+
+#endif

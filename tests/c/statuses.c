@@ -1,0 +1,343 @@
+/* Meets each status of each call, in each size of an element, of both kinds, and looks at what the call left behind. */
+#include "check.h"
+#include "mock.h"
+
+#include <kehldora.h>
+#include <string.h>
+
+static const uint64_t SIZES[] = {1, 2, 3, 4, 6, 8};
+enum { MOST_WORDS = 8 };
+
+/* A value whose words all tell its number. */
+static const uint64_t *value(uint64_t number) {
+  static uint64_t words[MOST_WORDS];
+  for (int i = 0; i < MOST_WORDS; ++i)
+    words[i] = number * 10 + (uint64_t)i;
+  return words;
+}
+
+static bool is_value(const uint64_t *at, uint64_t words, uint64_t number) { return memcmp(at, value(number), words * 8) == 0; }
+
+static kehldora_hand opened(uint64_t limit, uint64_t words, bool opaque) {
+  kehldora_hand hand = KEHLDORA_EMPTY_HAND;
+  EXPECT(kehldora_open(limit, words, 2, opaque, &hand), KEHLDORA_DONE);
+  return hand;
+}
+
+static void opening(uint64_t words, bool opaque) {
+  kehldora_hand hand = KEHLDORA_EMPTY_HAND;
+  kehldora_hand_facts facts;
+  EXPECT(kehldora_open(KEHLDORA_MOST_PLACES + 1, words, 1, opaque, &hand), KEHLDORA_BAD_LIMIT);
+  EXPECT(kehldora_open(9, words, 0, opaque, &hand), KEHLDORA_BAD_NUMBER);
+  EXPECT(kehldora_open(9, words, 9, opaque, &hand), KEHLDORA_BAD_NUMBER);
+  EXPECT(kehldora_open(9, 5, 1, opaque, &hand), KEHLDORA_BAD_SIZE);
+  EXPECT(kehldora_open(9, 0, 1, opaque, &hand), KEHLDORA_BAD_SIZE);
+  EXPECT(kehldora_open(9, words, 1, opaque, NULL), KEHLDORA_NULL);
+  CHECK(!hand.full);
+  EXPECT(kehldora_open(KEHLDORA_MOST_PLACES, words, 8, opaque, &hand), KEHLDORA_DONE);
+  EXPECT(kehldora_open(9, words, 1, opaque, &hand), KEHLDORA_BAD_HANDLE);
+  EXPECT(kehldora_about(&hand, &facts), KEHLDORA_DONE);
+  CHECK(facts.shares == KEHLDORA_ALL_SHARES && facts.seen == 0 && facts.limit == KEHLDORA_MOST_PLACES && facts.words == words);
+  EXPECT(kehldora_free(&hand), KEHLDORA_DONE);
+  EXPECT(kehldora_free(&hand), KEHLDORA_BAD_HANDLE);
+}
+
+static void hands(uint64_t words, bool opaque) {
+  kehldora_hand a = opened(9, words, opaque), b = KEHLDORA_EMPTY_HAND, other = opened(9, words, opaque);
+  kehldora_list list = KEHLDORA_EMPTY_LIST;
+  kehldora_hand_facts facts;
+  const void *first, *second;
+  EXPECT(kehldora_split(&a, 0, &b), KEHLDORA_BAD_NUMBER);
+  EXPECT(kehldora_split(&a, KEHLDORA_ALL_SHARES, &b), KEHLDORA_BAD_NUMBER);
+  EXPECT(kehldora_split(&a, 1, &a), KEHLDORA_BAD_HANDLE);
+  EXPECT(kehldora_split(&b, 1, &b), KEHLDORA_BAD_HANDLE);
+  EXPECT(kehldora_split(&a, 1, &other), KEHLDORA_BAD_HANDLE);
+  EXPECT(kehldora_split(&a, 1, NULL), KEHLDORA_NULL);
+  EXPECT(kehldora_split(&a, 5, &b), KEHLDORA_DONE);
+  EXPECT(kehldora_about(&b, &facts), KEHLDORA_DONE);
+  CHECK(facts.shares == 5);
+  EXPECT(kehldora_where(&a, &first), KEHLDORA_DONE);
+  EXPECT(kehldora_where(&b, &second), KEHLDORA_DONE);
+  CHECK(first == second);
+  EXPECT(kehldora_where(&other, &second), KEHLDORA_DONE);
+  CHECK(first != second);
+  EXPECT(kehldora_close(&a, &list), KEHLDORA_NOT_WHOLE);
+  EXPECT(kehldora_join(&a, &other), KEHLDORA_OTHER_VECTOR);
+  EXPECT(kehldora_join(&a, &a), KEHLDORA_BAD_HANDLE);
+  EXPECT(kehldora_join(&a, NULL), KEHLDORA_NULL);
+  CHECK(a.full && b.full && other.full && !list.full);
+  EXPECT(kehldora_join(&a, &b), KEHLDORA_DONE);
+  EXPECT(kehldora_join(&a, &b), KEHLDORA_BAD_HANDLE);
+  CHECK(!b.full);
+  EXPECT(kehldora_close(&a, &list), KEHLDORA_DONE);
+  EXPECT(kehldora_close(&other, &list), KEHLDORA_BAD_HANDLE);
+  EXPECT(kehldora_list_free(&list), KEHLDORA_DONE);
+  EXPECT(kehldora_free(&other), KEHLDORA_DONE);
+}
+
+static void growths(uint64_t words, bool opaque) {
+  kehldora_hand hand = opened(12, words, opaque);
+  uint64_t many[3 * MOST_WORDS], place = 99, count = 99, size;
+  for (uint64_t i = 0; i < 3; ++i)
+    memcpy(many + i * words, value(1 + i), words * 8);
+  EXPECT(kehldora_push(&hand, value(0), words + 1, &place), KEHLDORA_BAD_SIZE);
+  EXPECT(kehldora_push(&hand, NULL, words, &place), KEHLDORA_NULL);
+  EXPECT(kehldora_fill(&hand, value(0), words + 1, 2, &place), KEHLDORA_BAD_SIZE);
+  if (words > 1)
+    EXPECT(kehldora_grow(&hand, many, words + 1, &place), KEHLDORA_BAD_SIZE);
+  EXPECT(kehldora_at_least(&hand, 4, many, 3 * words, &place, &count), KEHLDORA_BAD_SIZE);
+  CHECK(place == 99);
+  EXPECT(kehldora_push(&hand, value(0), words, &place), KEHLDORA_DONE);
+  CHECK(place == 0);
+  EXPECT(kehldora_grow(&hand, many, 3 * words, &place), KEHLDORA_DONE);
+  CHECK(place == 1);
+  EXPECT(kehldora_fill(&hand, value(4), words, 2, &place), KEHLDORA_DONE);
+  CHECK(place == 4);
+  EXPECT(kehldora_at_least(&hand, 6, value(9), words, &place, &count), KEHLDORA_DONE);
+  CHECK(count == 0);
+  EXPECT(kehldora_at_least(&hand, 9, many, 3 * words, &place, &count), KEHLDORA_DONE);
+  CHECK(place == 6 && count == 3);
+  EXPECT(kehldora_at_least(&hand, 11, value(9), words, &place, &count), KEHLDORA_DONE);
+  CHECK(place == 9 && count == 2);
+  EXPECT(kehldora_grow(&hand, many, 2 * words, &place), KEHLDORA_FULL);
+  EXPECT(kehldora_fill(&hand, value(0), words, 2, &place), KEHLDORA_FULL);
+  EXPECT(kehldora_leave(&hand, 2, &place), KEHLDORA_FULL);
+  EXPECT(kehldora_at_least(&hand, 13, value(0), words, &place, &count), KEHLDORA_FULL);
+  EXPECT(kehldora_reserve(&hand, 13), KEHLDORA_FULL);
+  EXPECT(kehldora_fill(&hand, value(0), words, 0, &place), KEHLDORA_DONE);
+  kehldora_mock_move(100);
+  EXPECT(kehldora_raw_push(&hand, value(0), words, &place), KEHLDORA_MOVED);
+  EXPECT(kehldora_raw_grow(&hand, many, words, &place), KEHLDORA_MOVED);
+  EXPECT(kehldora_raw_fill(&hand, value(0), words, 1, &place), KEHLDORA_MOVED);
+  EXPECT(kehldora_raw_leave(&hand, 1, &place), KEHLDORA_MOVED);
+  EXPECT(kehldora_push(&hand, value(0), words, &place), KEHLDORA_DONE);
+  kehldora_mock_move(0);
+  EXPECT(kehldora_push(&hand, value(0), words, &place), KEHLDORA_FULL);
+  EXPECT(kehldora_size(&hand, &size), KEHLDORA_DONE);
+  CHECK(size == 12 && place == 11);
+  static const uint64_t expected[] = {0, 1, 2, 3, 4, 4, 1, 2, 3, 9, 9, 0};
+  for (uint64_t i = 0; i < 12; ++i) {
+    uint64_t *at;
+    EXPECT(kehldora_look(&hand, i, &at), KEHLDORA_DONE);
+    CHECK(is_value(at, words, expected[i]));
+  }
+  EXPECT(kehldora_free(&hand), KEHLDORA_DONE);
+}
+
+static void reads(uint64_t words, bool opaque) {
+  kehldora_hand hand = opened(20, words, opaque);
+  uint64_t got[MOST_WORDS + 1], place, count, *at;
+  EXPECT(kehldora_fill(&hand, value(7), words, 6, &place), KEHLDORA_DONE);
+  EXPECT(kehldora_leave(&hand, 2, &place), KEHLDORA_DONE);
+  CHECK(place == 6);
+  EXPECT(kehldora_look(&hand, 8, &at), KEHLDORA_OUT_OF_RANGE);
+  EXPECT(kehldora_look(&hand, 6, &at), KEHLDORA_BROKEN);
+  EXPECT(kehldora_run(&hand, 8, &at, &count), KEHLDORA_OUT_OF_RANGE);
+  EXPECT(kehldora_run(&hand, 7, &at, &count), KEHLDORA_BROKEN);
+  EXPECT(kehldora_run(&hand, 1, &at, &count), KEHLDORA_DONE);
+  CHECK(count == 3 && is_value(at + 2 * words, words, 7));
+  EXPECT(kehldora_run(&hand, 4, &at, &count), KEHLDORA_DONE);
+  CHECK(count == 2);
+  EXPECT(kehldora_at(&hand, 0, got, words + 1), KEHLDORA_BAD_SIZE);
+  if (opaque) {
+    EXPECT(kehldora_at(&hand, 0, got, words), KEHLDORA_BAD_SIZE);
+  } else {
+    EXPECT(kehldora_at(&hand, 8, got, words), KEHLDORA_OUT_OF_RANGE);
+    EXPECT(kehldora_at(&hand, 7, got, words), KEHLDORA_BROKEN);
+    EXPECT(kehldora_at(&hand, 5, got, words), KEHLDORA_DONE);
+    CHECK(is_value(got, words, 7));
+  }
+  EXPECT(kehldora_mend(&hand, 8, value(8), words), KEHLDORA_OUT_OF_RANGE);
+  EXPECT(kehldora_mend(&hand, 5, value(8), words), KEHLDORA_FILLED);
+  EXPECT(kehldora_mend(&hand, 7, value(8), words + 1), KEHLDORA_BAD_SIZE);
+  EXPECT(kehldora_mend(&hand, 7, value(8), words), KEHLDORA_DONE);
+  EXPECT(kehldora_look(&hand, 7, &at), KEHLDORA_DONE);
+  CHECK(is_value(at, words, 8));
+  EXPECT(kehldora_free(&hand), KEHLDORA_DONE);
+}
+
+/* What another hand finds at a place that a growth has claimed and not filled yet. */
+static void look_between(void *argument) {
+  kehldora_hand *hand = argument;
+  kehldora_hand_facts facts;
+  uint64_t got[MOST_WORDS], size, count, *at;
+  EXPECT(kehldora_about(hand, &facts), KEHLDORA_DONE);
+  EXPECT(kehldora_size(hand, &size), KEHLDORA_DONE);
+  CHECK(size == 1);
+  EXPECT(kehldora_look(hand, 0, &at), KEHLDORA_PENDING);
+  EXPECT(kehldora_run(hand, 0, &at, &count), KEHLDORA_PENDING);
+  EXPECT(kehldora_mend(hand, 0, value(1), facts.words), KEHLDORA_PENDING);
+  if (kehldora_at(hand, 0, got, facts.words) != KEHLDORA_BAD_SIZE)
+    EXPECT(kehldora_at(hand, 0, got, facts.words), KEHLDORA_PENDING);
+}
+
+static void pending(uint64_t words, bool opaque) {
+  kehldora_hand hand = opened(20, words, opaque), other = KEHLDORA_EMPTY_HAND;
+  uint64_t place, *at;
+  EXPECT(kehldora_split(&hand, 1, &other), KEHLDORA_DONE);
+  kehldora_mock_between(look_between, &other);
+  EXPECT(kehldora_push(&hand, value(1), words, &place), KEHLDORA_DONE);
+  EXPECT(kehldora_look(&other, 0, &at), KEHLDORA_DONE);
+  EXPECT(kehldora_free(&hand), KEHLDORA_DONE);
+  CHECK(is_value(at, words, 1));
+  EXPECT(kehldora_free(&other), KEHLDORA_DONE);
+}
+
+static void lists(uint64_t words, bool opaque) {
+  kehldora_hand hand = opened(20, words, opaque);
+  kehldora_list list = KEHLDORA_EMPTY_LIST;
+  kehldora_list_facts facts;
+  uint64_t got[3 * MOST_WORDS], place, *at;
+  EXPECT(kehldora_list_free(&list), KEHLDORA_BAD_HANDLE);
+  EXPECT(kehldora_fill(&hand, value(7), words, 9, &place), KEHLDORA_DONE);
+  EXPECT(kehldora_leave(&hand, 1, &place), KEHLDORA_DONE);
+  EXPECT(kehldora_close(&hand, &list), KEHLDORA_DONE);
+  CHECK(!hand.full && list.full);
+  EXPECT(kehldora_list_about(&list, &facts), KEHLDORA_DONE);
+  CHECK(facts.size == 10 && facts.limit == 20 && facts.words == words);
+  EXPECT(kehldora_list_set(&list, 3, value(5), words), KEHLDORA_DONE);
+  EXPECT(kehldora_list_set(&list, 10, value(5), words), KEHLDORA_OUT_OF_RANGE);
+  EXPECT(kehldora_list_set(&list, 3, value(5), words + 1), KEHLDORA_BAD_SIZE);
+  EXPECT(kehldora_list_look(&list, 3, &at), KEHLDORA_DONE);
+  CHECK(is_value(at, words, 5));
+  EXPECT(kehldora_list_look(&list, 9, &at), KEHLDORA_BROKEN);
+  EXPECT(kehldora_list_look(&list, 10, &at), KEHLDORA_OUT_OF_RANGE);
+  EXPECT(kehldora_list_get(&list, 3, got, words + 1), KEHLDORA_BAD_SIZE);
+  if (opaque) {
+    EXPECT(kehldora_list_get(&list, 3, got, words), KEHLDORA_BAD_SIZE);
+    EXPECT(kehldora_list_copy(&list, 3, got, words), KEHLDORA_BAD_SIZE);
+  } else {
+    EXPECT(kehldora_list_get(&list, 3, got, words), KEHLDORA_DONE);
+    CHECK(is_value(got, words, 5));
+    EXPECT(kehldora_list_get(&list, 9, got, words), KEHLDORA_BROKEN);
+    EXPECT(kehldora_list_get(&list, 10, got, words), KEHLDORA_OUT_OF_RANGE);
+    EXPECT(kehldora_list_copy(&list, 2, got, 3 * words), KEHLDORA_DONE);
+    CHECK(is_value(got, words, 7) && is_value(got + words, words, 5) && is_value(got + 2 * words, words, 7));
+    EXPECT(kehldora_list_copy(&list, 7, got, 3 * words), KEHLDORA_BROKEN);
+    EXPECT(kehldora_list_copy(&list, 8, got, 3 * words), KEHLDORA_OUT_OF_RANGE);
+  }
+  EXPECT(kehldora_list_set(&list, 9, value(6), words), KEHLDORA_DONE);
+  EXPECT(kehldora_list_look(&list, 9, &at), KEHLDORA_DONE);
+  EXPECT(kehldora_list_cut(&list, 4), KEHLDORA_DONE);
+  EXPECT(kehldora_list_shrink(&list), KEHLDORA_DONE);
+  EXPECT(kehldora_list_open(&list, &hand), KEHLDORA_DONE);
+  EXPECT(kehldora_list_open(&list, &hand), KEHLDORA_BAD_HANDLE);
+  EXPECT(kehldora_push(&hand, value(4), words, &place), KEHLDORA_DONE);
+  CHECK(place == 4);
+  EXPECT(kehldora_close(&hand, &list), KEHLDORA_DONE);
+  EXPECT(kehldora_list_free(&list), KEHLDORA_DONE);
+}
+
+/* Each call on an empty handle, and with a null pointer in the place of the handle. */
+static void empty_handles(void) {
+  kehldora_hand hand = KEHLDORA_EMPTY_HAND, other = KEHLDORA_EMPTY_HAND;
+  kehldora_list list = KEHLDORA_EMPTY_LIST;
+  kehldora_hand_facts facts;
+  kehldora_list_facts list_facts;
+  const void *where;
+  uint64_t word = 0, *at;
+  for (int round = 0; round < 2; ++round) {
+    kehldora_hand *h = round ? NULL : &hand;
+    kehldora_list *l = round ? NULL : &list;
+    const int expected = round ? KEHLDORA_NULL : KEHLDORA_BAD_HANDLE;
+    EXPECT(kehldora_size(h, &word), expected);
+    EXPECT(kehldora_about(h, &facts), expected);
+    EXPECT(kehldora_split(h, 1, &other), expected);
+    EXPECT(kehldora_join(h, &other), expected);
+    EXPECT(kehldora_where(h, &where), expected);
+    EXPECT(kehldora_reserve(h, 1), expected);
+    EXPECT(kehldora_close(h, &list), expected);
+    EXPECT(kehldora_free(h), expected);
+    EXPECT(kehldora_push(h, &word, 1, &word), expected);
+    EXPECT(kehldora_grow(h, &word, 1, &word), expected);
+    EXPECT(kehldora_fill(h, &word, 1, 1, &word), expected);
+    EXPECT(kehldora_at_least(h, 1, &word, 1, &word, &word), expected);
+    EXPECT(kehldora_at(h, 0, &word, 1), expected);
+    EXPECT(kehldora_look(h, 0, &at), expected);
+    EXPECT(kehldora_run(h, 0, &at, &word), expected);
+    EXPECT(kehldora_leave(h, 1, &word), expected);
+    EXPECT(kehldora_mend(h, 0, &word, 1), expected);
+    EXPECT(kehldora_list_about(l, &list_facts), expected);
+    EXPECT(kehldora_list_get(l, 0, &word, 1), expected);
+    EXPECT(kehldora_list_set(l, 0, &word, 1), expected);
+    EXPECT(kehldora_list_copy(l, 0, &word, 1), expected);
+    EXPECT(kehldora_list_look(l, 0, &at), expected);
+    EXPECT(kehldora_list_cut(l, 0), expected);
+    EXPECT(kehldora_list_shrink(l), expected);
+    EXPECT(kehldora_list_open(l, &hand), expected);
+    EXPECT(kehldora_list_free(l), expected);
+  }
+}
+
+static void texts(void) {
+  for (int a = KEHLDORA_DONE; a <= KEHLDORA_NULL; ++a)
+    for (int b = KEHLDORA_DONE; b < a; ++b)
+      CHECK(strcmp(kehldora_text(a), kehldora_text(b)) != 0);
+  CHECK(strcmp(kehldora_text(99), "no such status") == 0);
+  CHECK(kehldora_version() == KEHLDORA_VERSION);
+}
+
+/* A life of a vector in which each call that may request memory does so. */
+static kehldora_status life(uint64_t words, kehldora_hand *hand, kehldora_list *list) {
+  kehldora_hand other = KEHLDORA_EMPTY_HAND;
+  kehldora_status status;
+  uint64_t place, count, *at;
+  int done = 0;
+  /* Each step is called again until it isn't refused. What was there before must still be there. */
+  for (; done < 8; done += status == KEHLDORA_DONE) {
+    const bool had_hand = hand->full, had_list = list->full;
+    switch (done) {
+    case 0: status = kehldora_open(500, words, 1, false, hand); break;
+    case 1: status = kehldora_push(hand, value(1), words, &place); break;
+    case 2: status = kehldora_fill(hand, value(2), words, 9, &place); break;
+    case 3: status = kehldora_at_least(hand, 40, value(3), words, &place, &count); break;
+    case 4: status = kehldora_reserve(hand, 100); break;
+    case 5:
+      status = kehldora_split(hand, 1, &other);
+      if (!status)
+        EXPECT(kehldora_join(hand, &other), KEHLDORA_DONE);
+      break;
+    case 6: status = kehldora_close(hand, list); break;
+    default: status = kehldora_list_open(list, hand); break;
+    }
+    if (status == KEHLDORA_NO_MEMORY)
+      CHECK(hand->full == had_hand && list->full == had_list && !other.full);
+    else
+      EXPECT(status, KEHLDORA_DONE);
+  }
+  for (uint64_t i = 0; i < 40; ++i) {
+    EXPECT(kehldora_look(hand, i, &at), KEHLDORA_DONE);
+    CHECK(is_value(at, words, i < 1 ? 1 : i < 10 ? 2 : 3));
+  }
+  return kehldora_free(hand);
+}
+
+/* The same life for each request for memory, which is refused in turn. */
+static void refusals(uint64_t words) {
+  const int64_t blocks = kehldora_mock_blocks();
+  for (int64_t refused = 0; refused < 40; ++refused) {
+    kehldora_hand hand = KEHLDORA_EMPTY_HAND;
+    kehldora_list list = KEHLDORA_EMPTY_LIST;
+    kehldora_mock_refuse(refused);
+    EXPECT(life(words, &hand, &list), KEHLDORA_DONE);
+    kehldora_mock_refuse(-1);
+    CHECK(kehldora_mock_blocks() == blocks);
+  }
+}
+
+int main(void) {
+  for (int i = 0; i < 6; ++i)
+    for (int opaque = 0; opaque < 2; ++opaque) {
+      opening(SIZES[i], opaque);
+      hands(SIZES[i], opaque);
+      growths(SIZES[i], opaque);
+      reads(SIZES[i], opaque);
+      pending(SIZES[i], opaque);
+      lists(SIZES[i], opaque);
+      refusals(SIZES[i]);
+    }
+  empty_handles();
+  texts();
+  CHECK(kehldora_mock_blocks() == 0 && kehldora_mock_handles() == 0);
+  return 0;
+}

@@ -1,5 +1,5 @@
 //! How a caller reads.
-ghost use Rattle.std.specs.Prelude.{◌≡◌, ◌<◌, Some, Ok, IfErr, IfSome, IsSomeAnd};
+ghost use Rattle.std.specs.Prelude.{◌≡◌, ◌<◌, Some, IfErr, IfSome, IsSomeAnd, IsOkAnd};
 ghost use Rattle.claim_core.specs.Hand.{seen_size};
 ghost use Rattle.grow_core.specs.Vector.{IsHandOf, IsOpenedAt, SeesMore};
 ghost use Rattle.grow_core.specs.Read.{IsDueAt, IsInRange};
@@ -28,8 +28,8 @@ fn copy_at<T: Copy>(
 ) -> Result<T, AtError>
     requires ours { IsHandOf vector.now hand.old }
     requires last_ours { IsLastOf vector.now last.now }
-    ensures own { (x : T) → HasLast place x last.now → result ≡ Ok x }
-    ensures opened { (x : T) → IsOpenedAt vector.now place x → result ≡ Ok x }
+    ensures own { (x : T) → HasLast place x last.now → IsOkAnd result (λ value. value ≡ x) }
+    ensures opened { (x : T) → IsOpenedAt vector.now place x → IsOkAnd result (λ value. value ≡ x) }
     ensures refused { IfErr result (IsDueAt vector.now place hand.old hand.new) }
     ensures in_range { place < seen_size hand.old → IfErr result IsInRange }
     ensures hand { SeesMore hand.old hand.new }
@@ -42,9 +42,10 @@ impl<T: Copy> Caller<T> {
     /// Copies the value at the place.
     pub fn at(&mut self, place: u64) -> Result<T, AtError>
         // The caller's last place has its value.
-        ensures own { (x : T) → HasLast place x self.old.last → result ≡ Ok x }
+        ensures own { (x : T) → HasLast place x self.old.last → IsOkAnd result (λ value. value ≡ x) }
         // A value of the opened list is read by everybody.
-        ensures opened { (x : T) → IsOpenedAt self.old.vector place x → result ≡ Ok x }
+        ensures opened { (x : T) → IsOpenedAt self.old.vector place x
+            → IsOkAnd result (λ value. value ≡ x) }
         ensures refused { IfErr result
             (IsDueAt self.old.vector place self.old.hand self.new.hand) }
         ensures in_range { place < seen_size self.old.hand → IfErr result IsInRange }

@@ -1,4 +1,4 @@
-use Rattle.std.proofs.Common.{Ok, ap, ◌∙◌}
+use Rattle.std.proofs.Common.{◌∙◌}
 use Rattle.caller_core.proofs.Cases.{of_both}
 use Rattle.caller_core.proofs.read.copy_at.Goals as goal
 
@@ -8,4 +8,4 @@ returns-in_err-at-clause-own g c x last =
 
 pub returns-clause-own : goal.returns-clause-own
 returns-clause-own g c x last =
-    ap Ok (of_both c.token_of.result (λ token value same. same ∙ value) (c.token_of.ensures.of x last) c.in_ok-at.ensures.known)
+    of_both c.token_of.result (λ token value same. same ∙ value) (c.token_of.ensures.of x last) c.in_ok-at.ensures.known

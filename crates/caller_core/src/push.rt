@@ -1,0 +1,24 @@
+//! How a caller appends one value.
+ghost use Rattle.std.specs.Prelude.{◌≡◌, IfOk, IfErr, OnErr, IsErrAnd};
+ghost use Rattle.grow_core.specs.Growth.{Refuses, HasNoRoom, SaysFull};
+ghost use Rattle.caller_core.specs.Caller.{KeepsCaller, Pushes};
+
+use crate::caller::Caller;
+use grow_core::{GrowError, Never};
+
+impl<T: Drop> Caller<T> {
+    /// Appends a value and returns its place. It tries once, from the size that the hand has seen.
+    pub fn push(&mut self, value: T) -> Result<u64, GrowError<T, T, Never>>
+        ensures pushed { IfOk result (Pushes value self.old self.new) }
+        ensures refused { IfErr result
+            (Refuses self.old.vector 1 value self.old.hand self.new.hand) }
+        ensures full { HasNoRoom self.old.vector 1 self.old.hand → IsErrAnd result SaysFull }
+        ensures kept { KeepsCaller self.old self.new }
+        ensures last { OnErr result (self.new.last ≡ self.old.last) }
+    {
+        let placed = self.hub.vector.try_push_seen(&mut self.hand, value)?;
+        let place = placed.place();
+        self.last = Some(placed);
+        Ok(place)
+    }
+}

@@ -1,0 +1,12 @@
+//! The library for C: one set of exports over vectors whose elements have 1, 2, 3, 4, 6 or 8 words.
+#![tactic(auto)]
+
+mod calls;
+mod contents;
+mod exports;
+mod handle;
+mod held;
+mod open;
+mod owned;
+mod parts;
+mod status;

@@ -7,7 +7,7 @@ use std::marker::{Model, PhantomData};
 
 /// Says what a caller's table is, and what the caller gains once its update has run, by data of its own.
 pub trait Book<X> {
-    // The lifetime for which the table lends the content of its invariant.
+    // How long the table lends the content of its invariant: a lifetime.
     ghost age: { X → Lft };
     // The content of that invariant.
     ghost inner: { X → Fml };

@@ -29,10 +29,11 @@ class Function:
         return is_named and is_here
 
     def is_owned_by(self, name):
-        """Whether proofs have this name for the function's type: the type's, then the trait's and its arguments', if any."""
-        words = without_types(self.holder.partition("where")[0])
+        """Whether proofs name the function's type so: by it, then the trait and its arguments; or by it, then its arguments."""
+        words, (name, *arguments) = without_types(self.holder.partition("where")[0]), name.split("+")
         names = [it.strip().split("::")[-1].strip("&' ") for it in re.split(r"\bimpl\b|\bfor\b", words) if it.strip()]
-        return name == names[-1] or len(names) > 1 and name.startswith(names[-1] + names[0])
+        is_own = name == names[-1] or len(names) > 1 and name.startswith(names[-1] + names[0])
+        return is_own and all(re.search(rf"\b{it}\b", self.holder) for it in arguments)
 
 
 def module_of(file):

@@ -10,7 +10,7 @@ use Rattle.book_core.specs.Cells.{CellList}
 use Rattle.book_core.specs.History.{IsHistory, runs_of, owner_of}
 use Rattle.claim_core.specs.History.{Log, AddsEvents, Adds, IsHistoryOf, first_list, value_cell, fill_event, first_cell, lengths_of, claim_event, size_event, IsNote, no_note, full_note, growth_note, reach_note, range_note}
 use Rattle.claim_core.specs.Word.{WordView, first_at}
-use Rattle.claim_core.specs.Hand.{HandView, KeepsOwn, AddsRun, SeesRun, OwnsRun, OwnsPlace, SeesOwn, GainsRun, OwnApart, IsOwnRun, IsPlaceOf, AreDisjoint, single, seen_size, own_places}
+use Rattle.claim_core.specs.Hand.{HandView, KeepsOwn, KeepsCells, SeesBegun, AddsRun, SeesRun, OwnsRun, OwnsPlace, SeesOwn, GainsRun, OwnApart, IsOwnRun, IsPlaceOf, AreDisjoint, single, seen_size, own_places}
 
 -- a run stays where it is when the list goes on
 abbrev pub RunsStay : Type 0
@@ -226,3 +226,9 @@ FillsHaveOwners =
     (limit base actor place : ℕ) (filled : List Bool) (before after : Log)
     → IsHistoryOf limit base filled (before ++ fill_event actor place ∷ after)
     → (owner_of (runs_of before) place ≡ Some actor) ⊎ Contains before (Mend actor place, replies.Done)
+
+-- of a run that a step adds, the hand knows no place begun
+abbrev pub AddedPlacesAreNotBegun : Type 0
+AddedPlacesAreNotBegun =
+    (old new : HandView) (run : Run) (place : ℕ) → SeesBegun old → KeepsCells old new → AddsRun old new run
+    → IsPlaceOf run place → Contains new.begun place → ⊥

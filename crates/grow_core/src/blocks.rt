@@ -12,6 +12,7 @@ use cell_core::block::{Block, Epoch, Member};
 use table_core::{Key, Table};
 
 // The position of a place of the installed segments: its segment, the cell there, and the segment's key.
+#[inline(always)]
 pub(crate) fn cell_of<T>(table: &Table<T>, keys: &Keys, count: u32, place: u64) -> (u32, u64, Key)
     requires few { count ≤ segment_count table.now.layout }
     requires there { HasFirstKeys keys.now count }

@@ -14,24 +14,20 @@ pub const MOST_SEGMENTS: usize = 40;
 /// as many as all those before it.
 #[derive(Clone, Copy, Debug, PartialEq, Eq)]
 pub struct Layout {
-    // One less than f: the exponent of half of the first segment, which is what `locate` needs.
-    half: u8,
+    f: u8,
 }
 
 impl Model for Layout {
-    ghost use Rattle.std.specs.Prelude.{◌≡◌, ℕ, ◌+◌, ◌-◌};
-    ghost use Rattle.std.proofs.Common.{arith};
+    ghost use Rattle.std.specs.Prelude.{ℕ};
     ghost use Rattle.seg_core.specs.Segment.{IsLayout};
 
     ghost Value = { ℕ };
 
-    ghost view = { λ l. l.half + 1 };
+    ghost view = { λ l. l.f };
 
-    ghost invariant = { λ l. IsLayout (l.half + 1) };
+    ghost invariant = { λ l. IsLayout l.f };
 
-    ghost inverse = { λ f. record { half = f - 1 } };
-
-    ghost inverse_ok = { λ l h i. let same : l.half + 1 - 1 ≡ l.half = omega arith in record { half = same i } };
+    ghost inverse = { λ f. record { f = f } };
 }
 
 impl Default for Layout {
@@ -39,7 +35,7 @@ impl Default for Layout {
     fn default() -> Layout
         ensures { result ≡ 1 }
     {
-        Layout { half: 0 }
+        Layout { f: 1 }
     }
 }
 
@@ -52,9 +48,7 @@ impl Layout {
         if f < 1 || 8 < f {
             return None;
         }
-        Some(Layout {
-            half: (f - 1) as u8,
-        })
+        Some(Layout { f: f as u8 })
     }
 
     /// Returns the number f: the first segment has 2^f places.
@@ -62,7 +56,7 @@ impl Layout {
         ensures value { result ≡ self }
         ensures layout { IsLayout self }
     {
-        self.half as u32 + 1
+        self.f as u32
     }
 
     /// Returns the number of segments of the places below 2^40.

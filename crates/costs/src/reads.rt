@@ -1,4 +1,5 @@
-//! Reads at places that are picked at random, and walks over all places.
+//! Reads at places that are picked at random, and walks over all places. The loop of each load is in a function of its
+//! own, as in the other program, so that no other loop takes its registers.
 ghost use Rattle.std.specs.Prelude.{◌≡◌, ◌<◌, ◌≤◌, ℕ};
 ghost use Rattle.grow_core.specs.Vector.{IsHandOf};
 ghost use Rattle.grow_core.specs.Grown.{IsGrownOf};
@@ -71,6 +72,7 @@ fn at_once(vector: &Shared<u64>, hand: &mut Hand<u64>, place: u64) -> u64
 }
 
 /// Reads by `at` without a token, and returns how many values were odd.
+#[inline(never)]
 pub fn read_at(vector: &Shared<u64>, mut hand: Hand<u64>, reads: u64) -> u64
     requires ours { IsHandOf vector.now hand }
 {
@@ -103,6 +105,7 @@ fn boxcar_once(list: &boxcar::Vec<u64>, place: u64) -> u64 {
 }
 
 /// Reads by `get` of a `boxcar::Vec`, and returns how many values were odd.
+#[inline(never)]
 pub fn read_boxcar(list: &boxcar::Vec<u64>, reads: u64) -> u64 {
     sum_at_random(
         last_place(list.count() as u64),
@@ -112,6 +115,7 @@ pub fn read_boxcar(list: &boxcar::Vec<u64>, reads: u64) -> u64 {
 }
 
 /// Reads by `look`, and returns how many values were odd.
+#[inline(never)]
 pub fn read_look(vector: &Shared<u64>, size: u64, reads: u64) -> u64 {
     sum_at_random(
         last_place(size),
@@ -121,6 +125,7 @@ pub fn read_look(vector: &Shared<u64>, size: u64, reads: u64) -> u64 {
 }
 
 /// Walks over the first places, and returns how many of their values were odd.
+#[inline(never)]
 pub fn read_walk(vector: &Shared<u64>, reads: u64) -> u64 {
     let mut odd: u64 = 0;
     let mut left = reads;
@@ -153,6 +158,7 @@ fn count_odd(values: &[u64]) -> u64 {
 }
 
 // Walks over the first places segment by segment, and returns how many of their values were odd.
+#[inline(never)]
 fn read_segments(vector: &Shared<u64>, reads: u64) -> u64 {
     let mut odd: u64 = 0;
     let mut left = reads;
@@ -177,6 +183,7 @@ pub fn read_segment_walks(vector: &Shared<u64>, reads: u64) -> u64 {
 }
 
 /// Picks places, and returns how many were odd: what the other loads do beyond their reads.
+#[inline(never)]
 pub fn pick_places(size: u64, reads: u64) -> u64 {
     sum_at_random(last_place(size), reads, &|place: u64| -> u64 { place & 1 })
 }
@@ -191,6 +198,7 @@ fn get_once(vector: &Shared<u64>, grown: &Grown<u64>, i: u64) -> u64
 }
 
 // Reads by `get`, and returns how many values were odd.
+#[inline(never)]
 fn read_get(vector: &Shared<u64>, grown: &Grown<u64>, reads: u64) -> u64
     requires ours { IsGrownOf vector.now grown.now }
 {

@@ -4,8 +4,8 @@ use std::rt::Clock;
 use std::sync::atomic::{AtomicU64, Ordering};
 use std::time::Instant;
 
-// The steps of arithmetic that each of several threads does first: about 100 milliseconds. The kernel may start a thread
-// on a processor that another one uses, and has then moved it to a processor of its own.
+// The steps of arithmetic that each of several threads does first: about 100 milliseconds. The kernel may start a
+// thread on a processor that another one uses, and has then moved it to a processor of its own.
 const STEPS: u64 = 75_000_000;
 
 // How often a thread looks at most whether all have come: seconds, so that it waits in vain only if a thread could not

@@ -5,7 +5,7 @@ ghost use Rattle.grow_core.specs.Vector.{IsHandOf, IsPlacedOf, IsOpenedAt, SeesM
 ghost use Rattle.grow_core.specs.Read.{IsAt, IsShownAt, ShowsValue, IsDueAt, IsInRange};
 ghost use Rattle.grow_core.specs.Logs.{LogsNothing, LogsAtRefusal};
 
-use crate::blocks::cell_of;
+use crate::blocks::{cell_of, find_cell};
 use crate::errors::AtError;
 use crate::hand::Hand;
 use crate::token::{Placed, Spoilt};
@@ -176,8 +176,8 @@ impl<T> Shared<T> {
         })
     }
 
-    // Shows a proof that a token has the value of the opened list, if that has one at its place. It leaves no
-    // instruction, since it is laid into its callers.
+    // Shows a proof that a token has the value of the opened list, if that has one at its place. It is laid into its
+    // callers, and leaves no instruction there.
     #[inline(always)]
     fn opened_agrees(&self, placed: &Placed<T>)
         requires { IsPlacedOf self.now placed.now }
@@ -186,9 +186,13 @@ impl<T> Shared<T> {
         let place = placed.place();
         if place < self.word.base() {
             places();
-            let (_, _, key) = cell_of(&self.table, &self.keys, self.count, place);
-            self.table.agree(&key, &placed.key);
-            self.row.at(place).agree(&placed.cell);
+            // The key is there. `unreachable!` would stop the program in its place, and so leave the test.
+            if let Some((_segment, _offset, key)) =
+                find_cell(&self.table, &self.keys, self.count, place)
+            {
+                self.table.agree(&key, &placed.key);
+                self.row.at(place).agree(&placed.cell);
+            }
         }
     }
 

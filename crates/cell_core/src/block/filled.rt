@@ -3,7 +3,7 @@ ghost use Rattle.std.specs.Prelude.{◌≡◌, ◌+◌, ◌%◌, ◌<◌, ◌≤
 ghost use Rattle.cell_core.specs.Block.{block_len, AreFilledFrom, IsPlacedAt};
 ghost use Rattle.cell_core.specs.Laid.{word_cells};
 
-use crate::block::fields::{filled_in, word_of};
+use crate::block::fields::{WORD_CELLS, filled_in, word_of};
 use crate::block::{Block, Kind, Placed, Row};
 use std::alloc::Allocator;
 
@@ -42,7 +42,7 @@ impl<T, A: Allocator, B: Kind> Block<T, A, B> {
         let mut count = 0;
         'words: while count < n {
             let at = offset + count;
-            let asked = self.longest_run(at).min(n - count);
+            let asked = (WORD_CELLS - at % WORD_CELLS).min(n - count);
             let (found, more) = self.filled_run(at, asked);
             row.append(more);
             if found < asked {

@@ -41,6 +41,12 @@ fn do_steps() -> u64 {
 }
 
 impl Timed {
+    /// Returns what a thread did that began then and ends now; `None` if the clock cannot be read.
+    pub fn until_now<R: Clock>(rt: &R, begun: Instant, wins: u64) -> Option<Timed> {
+        let ended = Instant::now(rt).ok()?;
+        Some(Timed { begun, ended, wins })
+    }
+
     /// Returns the two together: from the beginning of the first to the end of the last.
     pub fn with(self, other: Timed) -> Timed {
         Timed {
@@ -80,20 +86,9 @@ impl Start {
         }
     }
 
-    /// Waits for the other threads, does this one's tries, and returns when these began and ended; `None` if the clock
-    /// cannot be read.
-    pub fn time<R: Clock, J: Drop, F: Fn(J) -> u64>(
-        &self,
-        rt: &R,
-        job: J,
-        tries_of: &F,
-    ) -> Option<Timed>
-        requires callable { F.pre tries_of.now job }
-    {
+    /// Waits for the other threads, and returns when this one goes on; `None` if the clock cannot be read.
+    pub fn begin<R: Clock>(&self, rt: &R) -> Option<Instant> {
         self.gather();
-        let begun = Instant::now(rt).ok()?;
-        let wins = tries_of(job);
-        let ended = Instant::now(rt).ok()?;
-        Some(Timed { begun, ended, wins })
+        Instant::now(rt).ok()
     }
 }

@@ -58,7 +58,10 @@ pub fn time_threads<R: Threads + Clock + AllocGlobal + Sync, F: Fn(usize) -> u64
         threads,
         &|i: usize| -> Option<Timed>
             requires { IsSync R.row × IsSync F.row × F.pre tries_of.now i }
-        { start.time(rt, i, tries_of) },
+        {
+            let begun = start.begin(rt)?;
+            Timed::until_now(rt, begun, tries_of(i))
+        },
     )?;
     total_of(parts.as_slice())
 }
@@ -77,7 +80,10 @@ pub fn time_hands<R: Threads + Clock + Sync, H: Send + Drop, F: Fn(H) -> u64 + S
         hands,
         &|hand: H| -> Option<Timed>
             requires { IsSync R.row × IsSync F.row × F.pre tries_of.now hand }
-        { start.time(rt, hand, tries_of) },
+        {
+            let begun = start.begin(rt)?;
+            Timed::until_now(rt, begun, tries_of(hand))
+        },
     )?;
     total_of(parts.as_slice())
 }

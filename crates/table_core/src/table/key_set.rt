@@ -85,7 +85,10 @@ fn sight_at(sights: &Sights, at: usize) -> EntrySight<Block<()>>
     requires { at < most_segments }
     ensures { IsSameSight result (sight_in sights.now at) }
 {
-    sights[at].again()
+    match sights.get(at) {
+        Some(sight) => sight.again(),
+        None => unreachable!(),
+    }
 }
 
 // Duplicates of the sights, but of the entry with this number a duplicate of the given sight.

@@ -2,10 +2,10 @@ use Rattle.std.proofs.Common.{◌≡◌, ℕ, ◌<◌, ◌≤◌, false, true, s
 use Rattle.seg_core.specs.Segment.{segment_start, segment_count}
 use Rattle.std.specs.Prelude.{IsSome}
 use Rattle.grow_core.proofs.Places.{segment_below, starts_le, all_places}
-use Rattle.grow_core.proofs.blocks.cell_of.Goals as goal
+use Rattle.grow_core.proofs.blocks.find_cell.Goals as goal
 
-pub unreachable-requires : goal.unreachable-requires
-unreachable-requires g c =
+pub returns-in-None-clause-some : goal.returns-in-None-clause-some
+returns-in-None-clause-some g c =
     let lost : false ≡ true = subst IsSome (sym c.key_of.ensures ∙ c.in-None.is)
     (c.requires.there c.locate-segment.result.0 (segment_below c.layout-layout.result c.locate-segment.result.0 c.args.place c.args.count c.locate-segment.ensures.segment (subst (λ (f : ℕ). c.args.place < segment_start f c.args.count) (sym c.layout-layout.ensures.value) c.requires.inside))) in
     absurd (let z = lost in cc)

@@ -1,4 +1,4 @@
--- A block of the entry's length, as a type. Assumes `Logic`.
+-- A block of the entry's length, or of another measure, as a type. Assumes `Logic`.
 use Rattle.std.proofs.Common.{◌≡◌, ℕ, List, [], ◌∷◌}
 use seplogic.Ra.Ura.{Ura}
 use mir.Val.{Val}
@@ -23,7 +23,7 @@ use Rattle.once_cell.specs.Once.{boxed}
 use Rattle.once_cell.specs.Once as once
 use Rattle.table_core.specs.Entry.{noted, fits, Fit}
 
-module _ (R : RattleType) (measure : R.Denot → ℕ) (n : ℕ) where
+module _ (R : RattleType) {N : Type 0} (measure : R.Denot → N) (n : N) where
   -- such blocks have the laws of all blocks
   pub fit_laws : Laws R → Laws (Fit R measure n)
   fit_laws L = by_fields_laws R R.Denot R.coded (λ x. x) (fits R measure n) (λ x b o. said (fits R measure n x)) L
@@ -36,7 +36,7 @@ module _ (R : RattleType) (measure : R.Denot → ℕ) (n : ℕ) where
   fit_noted 𝓛 γ (Some x) = qed 𝓛 (‵ (noted R γ (Some x)) ∷ []) ∵ done !
 
   module _ {M : Type 1} {𝓤 : Ura M} (𝓛 : Logic 𝓤) (a : Global) where
-    -- a box of a block of the length is a box of such a block
+    -- a box of a block of the measure is a box of such a block
     pub fit_in : (p : Ptr) (x : R.Denot) → measure x ≡ n → ent 𝓤 (sem 𝓛 (boxed R a p x)) (sem 𝓛 (boxed (Fit R measure n) a p x))
     unfolding part_of
     fit_in null_ptr x so = qed 𝓛 (‵ (boxed R a null_ptr x) ∷ []) ∵ done !
@@ -44,7 +44,7 @@ module _ (R : RattleType) (measure : R.Denot → ℕ) (n : ℕ) where
         nothing ! $ fpack ! (measure x ≡ n) (λ _. ftrue) so $ move ! (1 ∷ 0 ∷ []) $ fjoin ! $ move ! (1 ∷ 0 ∷ []) $ fjoin ! $
         fpack ! (List Val) (λ us. fsep (cell_raw full_share (raw_all R.mir) us b o) ((Fit R measure n).own_val x us)) vs $ fjoin ! $ done !)
 
-    -- and the way back, which tells the length
+    -- and the way back, which tells the measure
     pub fit_out : (p : Ptr) (x : R.Denot) → ent 𝓤 (sem 𝓛 (boxed (Fit R measure n) a p x)) (guard 𝓤 (measure x ≡ n) (sem 𝓛 (boxed R a p x)))
     unfolding part_of
     fit_out null_ptr x = qed 𝓛 (‵ (boxed (Fit R measure n) a null_ptr x) ∷ []) ∵ fsplit ! $ keep ! (0 ∷ []) $ by ! (never_e 𝓤 _)
@@ -52,7 +52,7 @@ module _ (R : RattleType) (measure : R.Denot → ℕ) (n : ℕ) where
         fpick ! (λ so. drop ! $ check ! so $ move ! (1 ∷ 0 ∷ []) $ fjoin ! $
         fpack ! (List Val) (λ us. fsep (cell_raw full_share (raw_all R.mir) us b o) (R.own_val x us)) vs $ fjoin ! $ done !))
 
-    -- a `&` to such a block is a `&` to a block, and tells its length
+    -- a `&` to such a block is a `&` to a block, and tells its measure
     pub fit_lent : (b o : ℕ) (x : R.Denot) (κ : Lft)
         → ent 𝓤 (sem 𝓛 (lent_at (Fit R measure n) (block_ptr b o) x κ)) (guard 𝓤 (measure x ≡ n) (sem 𝓛 (shared_of R x b o κ)))
     fit_lent b o x κ = qed 𝓛 (‵ (lent_at (Fit R measure n) (block_ptr b o) x κ) ∷ []) ∵ fsplit ! $ drop ! $ fsplit ! $ move ! (1 ∷ []) $ fpick ! (λ so. drop ! $ check ! so $ done !)

@@ -34,22 +34,23 @@ abbrev pub noted : (R : RattleType) → ℕ → Option R.Denot → Fml
 noted R γ None = ftrue
 noted R γ (Some x) = fres γ (gcons gnil (R.coded.code x))
 
-module _ (R : RattleType) (measure : R.Denot → ℕ) where
-  -- a block is of this length
-  abbrev pub fits : ℕ → R.Denot → Fml
+module _ (R : RattleType) {N : Type 0} (measure : R.Denot → N) where
+  -- a block is of this measure, mostly its length
+  abbrev pub fits : N → R.Denot → Fml
   fits n x = fex (measure x ≡ n) (λ _. ftrue)
 
-  -- the type of the blocks of this length
-  abbrev pub Fit : ℕ → RattleType
+  -- the type of the blocks of this measure
+  abbrev pub Fit : N → RattleType
   Fit n = ByFields R R.Denot R.coded (λ x. x) (fits n) (λ x b o. said (fits n x))
 
+module _ (R : RattleType) (measure : R.Denot → ℕ) where
   -- what an entry owns, besides its fields
   abbrev pub entry_owned : EntryView → (Ptr → Fml) → Fml
-  entry_owned e fields = once.owned (Fit (length_of e)) e.0 (name_of e) fields
+  entry_owned e fields = once.owned (Fit R measure (length_of e)) e.0 (name_of e) fields
 
   -- the word at a place, with what is shared of its block, borrowed for α
   abbrev pub borrowed : EntryView → ℕ → ℕ → Lft → Fml
-  borrowed e b o α = fbor α (once.Held (Fit (length_of e)) e.0 (name_of e) α b o)
+  borrowed e b o α = fbor α (once.Held (Fit R measure (length_of e)) e.0 (name_of e) α b o)
 
   -- what a `&` to an entry holds
   abbrev pub entry_shared : EntryView → Ptr → Lft → Fml

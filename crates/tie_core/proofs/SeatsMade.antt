@@ -9,8 +9,8 @@ use denote.Laws.{Is}
 use denote.Shadow.{makes_shadow}
 use denote.Struct.Struct.{Struct}
 use denote.Struct.Owning.{shape}
-use Rattle.cell_core.specs.contracts.block.seats.Seats as Seats
-use Rattle.cell_core.proofs.CellMade.{token_val}
+use Rattle.tie_core.specs.contracts.seats.Seats as Seats
+use Rattle.atomic_table.proofs.Fields.{token_val}
 
 abbrev pub SeatWords : RattleType
 SeatWords = Struct (shape Seats.the_type)

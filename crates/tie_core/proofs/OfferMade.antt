@@ -10,9 +10,9 @@ use denote.Ref.{NamedLft}
 use denote.Shadow.{makes_shadow}
 use denote.Struct.Struct.{Struct}
 use denote.Struct.Owning.{shape}
-use Rattle.cell_core.specs.declared.block.offer.Book.{Ghosts}
-use Rattle.cell_core.specs.contracts.block.offer.Offer as Offer
-use Rattle.cell_core.proofs.CellMade.{token_val}
+use Rattle.tie_core.specs.declared.offer.Book.{Ghosts}
+use Rattle.tie_core.specs.contracts.offer.Offer as Offer
+use Rattle.atomic_table.proofs.Fields.{token_val}
 
 module _ (a : NamedLft) (X K : RattleType) (g : Ghosts K.Denot X.Denot) where
   abbrev pub OfferWords : RattleType

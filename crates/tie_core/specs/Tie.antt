@@ -1,5 +1,5 @@
 -- What ties a cell to a table of `atomic_table`: a seat of the table, whose view shows how far the cell is.
-use Rattle.std.specs.Prelude.{◌≡◌, ◌≢◌, ℕ, zero, suc, ◌<◌, Option, Some, None}
+use Rattle.std.specs.Prelude.{◌≡◌, ◌≢◌, ℕ, zero, suc, ◌+◌, ◌<◌, Option, Some, None, List, [], ◌∷◌}
 use Rattle.std.specs.Coded.{coded_option}
 use Rattle.std.proofs.Common.{refl, sym, ap, ◌∙◌}
 use base.Share.{three_quarters}
@@ -90,6 +90,24 @@ seat_of t (Some a) s = fex (s ≡ a) (λ _. ftrue)
 abbrev pub seat_at : Option Tie → Stage → Fml
 seat_at None s = ftrue
 seat_at (Some t) s = seat_of t t.fixed s
+
+-- the seats of some cells that nobody has begun
+abbrev pub seats : List (Option Tie) → Fml
+seats [] = ftrue
+seats (τ ∷ τs) = fsep (seat_at τ Idle) (seats τs)
+
+-- the tie of the seat that is n seats further
+abbrev pub tie_further : Tie → ℕ → Tie
+tie_further t n = record t { id = t.id + n }
+
+-- the tie of the seat with this number, which has the same codes
+abbrev pub tie_numbered : Tie → ℕ → Tie
+tie_numbered t k = record t { id = k }
+
+-- the ties of n seats with numbers in a row, of which this is the first
+abbrev pub row_of : Tie → ℕ → List (Option Tie)
+row_of t zero = []
+row_of t (suc n) = Some t ∷ row_of (tie_further t 1) n
 
 -- the same tie, fixed at a stage
 abbrev pub fixed_at : Option Tie → Stage → Option Tie
@@ -183,6 +201,11 @@ made_coded = coded_option (coded_via (coded× stage_coded stage_coded) (λ (m : 
 abbrev pub HasMade : Step → ℕ → Option Made → Type 0
 HasMade step n None = ⊥
 HasMade step n (Some m) = Moves step n m.0 m.1 × Gives step m.0
+
+-- an update has run
+abbrev pub IsMade : Option Made → Type 0
+IsMade None = ⊥
+IsMade (Some m) = Unit {0}
 
 -- a table's lifetime, what its invariant holds, and what a caller has once its update has run
 module _ (age : Lft) (inner : Fml) (gain : Stage → Stage → Fml) (t : Tie) (step : Step) where

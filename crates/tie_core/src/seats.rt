@@ -2,8 +2,7 @@
 ghost use Rattle.std.specs.Prelude.{List, Option};
 ghost use Rattle.std.specs.Coded.{coded_option};
 ghost use base.Stored.{coded_list};
-ghost use Rattle.cell_core.specs.Tie.{Tie, tie_coded};
-ghost use Rattle.cell_core.specs.Slot.{seats};
+ghost use Rattle.tie_core.specs.Tie.{Tie, tie_coded, seats};
 
 use std::marker::{Model, PhantomData};
 

@@ -157,10 +157,10 @@ module _ {M : Type 1} {𝓤 : Ura M} (𝓛 : Logic 𝓤) (R : RattleType) {V : T
 
   -- a new seat has the next number
   next : (vs : List V) (k : ℕ) (u : V) → ⟦ roster cv.code γ k vs ⟧ ⊢ upd 𝓤 (⟦ roster cv.code γ k (vs ++ u ∷ []) ⟧ ∗ ⟦ half (k + length vs) u ⟧)
-  next [] k u = let Z : Pr = ⟦ roster cv.code γ k (u ∷ []) ⟧ ∗ ⟦ half k u ⟧ in qed 𝓛 (‵ (roster cv.code γ k []) ∷ []) ∵ fpick ! (λ d.
+  next [] k u = let Z : Pr = ⟦ roster cv.code γ k (u ∷ []) ⟧ ∗ ⟦ half (k + 0) u ⟧ in let is : k ≡ k + 0 = omega arith in qed 𝓛 (‵ (roster cv.code γ k []) ∷ []) ∵ fpick ! (λ d.
       use1 𝓛 (‵ (seen cv.code γ k full_share d) ⊛ ‵ (unused cv.code γ (suc k) d)) (entries_take halved 𝓛 γ k (λ _. (full_share, cv.code d))) $ split ! $
-      use1 𝓛 (raw (upd 𝓤 (⟦ seen cv.code γ k quarter u ⟧ ∗ ⟦ half k u ⟧))) (resets 𝓛 cv γ k d u) $ settle 𝓛 Z (‵ (seen cv.code γ k quarter u) ⊛ ‵ (half k u)) $ split ! $ suffices ! _ (upd_i 𝓤 Z) $
-      move ! (2 ∷ []) $ fpack ! V (unused cv.code γ (suc k)) d $ move ! (1 ∷ 0 ∷ []) $ join ! $ done !)
+      use1 𝓛 (raw (upd 𝓤 (⟦ seen cv.code γ k quarter u ⟧ ∗ ⟦ half k u ⟧))) (resets 𝓛 cv γ k d u) $ settle 𝓛 Z (‵ (seen cv.code γ k quarter u) ⊛ ‵ (half k u)) $ split ! $
+      rewrite ! 1 (λ (m : ℕ). ‵ (half m u)) is refl $ suffices ! _ (upd_i 𝓤 Z) $ move ! (2 ∷ []) $ fpack ! V (unused cv.code γ (suc k)) d $ move ! (1 ∷ 0 ∷ []) $ join ! $ done !)
   next (x ∷ xs) k u = let Z : Pr = ⟦ roster cv.code γ k ((x ∷ xs) ++ u ∷ []) ⟧ ∗ ⟦ half (k + length (x ∷ xs)) u ⟧ in let n : ℕ = length xs in let is : suc k + n ≡ k + suc n = omega arith in
       qed 𝓛 (‵ (seen cv.code γ k quarter x) ∷ ‵ (roster cv.code γ (suc k) xs) ∷ []) ∵ move ! (1 ∷ []) $
       use1 𝓛 (raw (upd 𝓤 (⟦ roster cv.code γ (suc k) (xs ++ u ∷ []) ⟧ ∗ ⟦ half (suc k + n) u ⟧))) (next xs (suc k) u) $ settle 𝓛 Z (‵ (roster cv.code γ (suc k) (xs ++ u ∷ [])) ⊛ ‵ (half (suc k + n) u)) $ split ! $

@@ -17,8 +17,8 @@ use crate::visit::{Entered, EntryPlay, EntrySeat, EntryTag, SeatVisit, Visit};
 use atomic_table::{Badge, Shared, TableRule};
 use std::marker::{Model, PhantomData};
 
-/// The right to name the invariant of a table by one number, `floor`. It has no bytes. All that takes part in one step must
-/// come from one desk or from its duplicates.
+/// The right to name the invariant of a table by one number, `floor`. It has no bytes. All that takes part in one step
+/// must come from one desk or from its duplicates.
 pub struct Desk<S, V, K, P: TableRule<S, V, K>> {
     marker: PhantomData<(S, V, K, P)>,
     pub ghost table_id: { TableId } by { table_id_coded },
@@ -28,7 +28,8 @@ pub struct Desk<S, V, K, P: TableRule<S, V, K>> {
 }
 
 impl<S, V, K, P: TableRule<S, V, K>> Model for Desk<S, V, K, P> {
-    ghost also_owns = { λ d. desk_owns S.row V.row.coded.code (P.holds d.key) d.words d.table_id d.floor };
+    ghost also_owns = { λ d.
+        desk_owns S.row V.row.coded.code (P.holds d.key) d.words d.table_id d.floor };
 
     ghost also_shares = { λ d _ κ.
         said (desk_owns S.row V.row.coded.code (P.holds d.key) d.words d.table_id d.floor) κ };
@@ -56,9 +57,9 @@ impl<S, V, K, P: TableRule<S, V, K>> Desk<S, V, K, P> {
 }
 
 impl<S, V, K, P: TableRule<S, V, K> + Staged<V>> Desk<S, V, K, P> {
-    /// Takes the caller's seat out of its badge and makes an offer of it, for one step on the cell that has the tag. The
-    /// rule must allow the step for the view that the seat has, and for the number `told`. `Offer::back` gives the seat
-    /// back after the step; if the offer is dropped, the seat is lost.
+    /// Takes the caller's seat out of its badge and makes an offer of it, for one step on the cell that has the tag.
+    /// The rule must allow the step for the view that the seat has, and for the number `told`. `Offer::back` gives the
+    /// seat back after the step; if the offer is dropped, the seat is lost.
     #[inline(always)]
     pub fn offer<'a, M: CellPlay<V>>(
         table: &'a Shared<S, V, K, P>,
@@ -67,12 +68,15 @@ impl<S, V, K, P: TableRule<S, V, K> + Staged<V>> Desk<S, V, K, P> {
         tag: &Tag<V, P>,
         told: u64,
     ) -> Offer<'a, Moving<V, K>, SeatMove<S, V, K, P, M>>
-        requires table { (desk.now.table_id ≡ table.now.table_id) × (badge.old.table_id ≡ table.now.table_id) }
+        requires table { (desk.now.table_id ≡ table.now.table_id)
+            × (badge.old.table_id ≡ table.now.table_id) }
         requires tie { IsTieOf table.now.table_id desk.now.floor tag.now.tie }
         requires permits { (v : V) × (badge.old.views ≡ v ∷ [])
-            × PermitsCell (P.holds desk.now.key) P.shows M.step badge.old.id v tag.now.tie.id (M.then told v) }
+            × PermitsCell (P.holds desk.now.key) P.shows M.step badge.old.id v tag.now.tie.id
+            (M.then told v) }
         ensures blank { badge.new.views ≡ [] }
-        ensures seat { (result.about.table_id ≡ badge.old.table_id) × (result.about.id ≡ badge.old.id)
+        ensures seat { (result.about.table_id ≡ badge.old.table_id)
+            × (result.about.id ≡ badge.old.id)
             × (badge.old.views ≡ result.about.view ∷ []) × (result.about.told ≡ told) }
         ensures offer { (result.tie ≡ tag.now.tie) × (result.step ≡ M.step) × (result.made ≡ None) }
     {
@@ -81,8 +85,8 @@ impl<S, V, K, P: TableRule<S, V, K> + Staged<V>> Desk<S, V, K, P> {
         }
     }
 
-    /// Makes the seats of `n` new cells, with numbers in a row, and one more behind them, which goes into a blank badge.
-    /// The tag is of the first cell. No step is taken.
+    /// Makes the seats of `n` new cells, with numbers in a row, and one more behind them, which goes into a blank
+    /// badge. The tag is of the first cell. No step is taken.
     pub fn lay<O: RowPlay<V>>(
         table: &Shared<S, V, K, P>,
         desk: &Desk<S, V, K, P>,
@@ -94,7 +98,8 @@ impl<S, V, K, P: TableRule<S, V, K> + Staged<V>> Desk<S, V, K, P> {
         requires permits { PermitsRow (P.holds desk.now.key) P.shows O.owner n }
         ensures seats { (result.0.ties ≡ row_of result.1.tie n) × (length result.0.ties ≡ n) }
         ensures tie { IsTieOf table.now.table_id desk.now.floor result.1.tie }
-        ensures seat { (badge.new.table_id ≡ table.now.table_id) × (badge.new.id ≡ result.1.tie.id + n)
+        ensures seat { (badge.new.table_id ≡ table.now.table_id)
+            × (badge.new.id ≡ result.1.tie.id + n)
             × (badge.new.views ≡ O.owner result.1.tie.id n ∷ []) }
     {
         (
@@ -109,8 +114,8 @@ impl<S, V, K, P: TableRule<S, V, K> + Staged<V>> Desk<S, V, K, P> {
 }
 
 impl<S, V, K, P: TableRule<S, V, K> + Entered<V>> Desk<S, V, K, P> {
-    /// Makes the own seat of a new entry for `n` places from `from` on, and the entry's tag. The caller's seat goes along.
-    /// No step is taken.
+    /// Makes the own seat of a new entry for `n` places from `from` on, and the entry's tag. The caller's seat goes
+    /// along. No step is taken.
     pub fn enter<M: EntryPlay<V>>(
         table: &Shared<S, V, K, P>,
         desk: &Desk<S, V, K, P>,
@@ -118,13 +123,17 @@ impl<S, V, K, P: TableRule<S, V, K> + Entered<V>> Desk<S, V, K, P> {
         from: u64,
         n: u64,
     ) -> (EntrySeat, EntryTag<V, P>)
-        requires table { (desk.now.table_id ≡ table.now.table_id) × (badge.old.table_id ≡ table.now.table_id) }
+        requires table { (desk.now.table_id ≡ table.now.table_id)
+            × (badge.old.table_id ≡ table.now.table_id) }
         requires permits { (v : V) × (badge.old.views ≡ v ∷ [])
-            × PermitsEntry (P.holds desk.now.key) badge.old.id v (P.empty from n) (M.then from v None) }
-        ensures entry { IsEntryOf table.now.table_id desk.now.floor result.1.tie × (result.0.tie ≡ result.1.tie)
+            × PermitsEntry (P.holds desk.now.key) badge.old.id v (P.empty from n)
+            (M.then from v None) }
+        ensures entry { IsEntryOf table.now.table_id desk.now.floor result.1.tie
+            × (result.0.tie ≡ result.1.tie)
             × (result.1.from ≡ from) × (result.1.n ≡ n) }
         ensures seat { (badge.new.table_id ≡ badge.old.table_id) × (badge.new.id ≡ badge.old.id)
-            × ((v : V) × (u : V) × (badge.old.views ≡ v ∷ []) × (badge.new.views ≡ u ∷ []) × M.then from v None u) }
+            × ((v : V) × (u : V) × (badge.old.views ≡ v ∷ []) × (badge.new.views ≡ u ∷ [])
+            × M.then from v None u) }
     {
         (
             EntrySeat {
@@ -146,15 +155,19 @@ impl<S, V, K, P: TableRule<S, V, K> + Entered<V>> Desk<S, V, K, P> {
         tag: &EntryTag<V, P>,
         told: u64,
     ) -> Visit<'a, Moving<V, K>, SeatVisit<S, V, K, P, M>>
-        requires table { (desk.now.table_id ≡ table.now.table_id) × (badge.old.table_id ≡ table.now.table_id) }
+        requires table { (desk.now.table_id ≡ table.now.table_id)
+            × (badge.old.table_id ≡ table.now.table_id) }
         requires tie { IsEntryOf table.now.table_id desk.now.floor tag.now.tie }
         requires permits { (v : V) × (badge.old.views ≡ v ∷ [])
-            × PermitsVisit (P.holds desk.now.key) badge.old.id v tag.now.tie (P.empty tag.now.from tag.now.n)
-                (P.placed tag.now.from tag.now.n) (M.then told v) }
+            × PermitsVisit (P.holds desk.now.key) badge.old.id v tag.now.tie
+            (P.empty tag.now.from tag.now.n)
+            (P.placed tag.now.from tag.now.n) (M.then told v) }
         ensures blank { badge.new.views ≡ [] }
-        ensures seat { (result.about.table_id ≡ badge.old.table_id) × (result.about.id ≡ badge.old.id)
+        ensures seat { (result.about.table_id ≡ badge.old.table_id)
+            × (result.about.id ≡ badge.old.id)
             × (badge.old.views ≡ result.about.view ∷ []) × (result.about.told ≡ told) }
-        ensures visit { (result.tie ≡ tag.now.tie) × (result.brought ≡ None) × (result.made ≡ None) }
+        ensures visit { (result.tie ≡ tag.now.tie) × (result.brought ≡ None)
+            × (result.made ≡ None) }
     {
         Visit {
             marker: PhantomData,
@@ -172,16 +185,21 @@ impl<S, V, K, P: TableRule<S, V, K> + Entered<V>> Desk<S, V, K, P> {
         tag: &EntryTag<V, P>,
         told: u64,
     ) -> Visit<'a, Moving<V, K>, SeatVisit<S, V, K, P, M>>
-        requires table { (desk.now.table_id ≡ table.now.table_id) × (badge.old.table_id ≡ table.now.table_id)
+        requires table { (desk.now.table_id ≡ table.now.table_id)
+            × (badge.old.table_id ≡ table.now.table_id)
             × (block.old.table_id ≡ table.now.table_id) }
         requires tie { IsEntryOf table.now.table_id desk.now.floor tag.now.tie }
-        requires permits { (v : V) × (y : V) × (badge.old.views ≡ v ∷ []) × (block.old.views ≡ y ∷ [])
-            × PermitsPublish (P.holds desk.now.key) badge.old.id v tag.now.tie (P.empty tag.now.from tag.now.n) P.spent
-                (P.placed tag.now.from tag.now.n) block.old.id y (M.then told v) }
+        requires permits { (v : V) × (y : V)
+            × (badge.old.views ≡ v ∷ []) × (block.old.views ≡ y ∷ [])
+            × PermitsPublish (P.holds desk.now.key) badge.old.id v tag.now.tie
+            (P.empty tag.now.from tag.now.n) P.spent
+            (P.placed tag.now.from tag.now.n) block.old.id y (M.then told v) }
         ensures blank { (badge.new.views ≡ []) × (block.new.views ≡ []) }
-        ensures seat { (result.about.table_id ≡ badge.old.table_id) × (result.about.id ≡ badge.old.id)
+        ensures seat { (result.about.table_id ≡ badge.old.table_id)
+            × (result.about.id ≡ badge.old.id)
             × (badge.old.views ≡ result.about.view ∷ []) × (result.about.told ≡ told) }
-        ensures visit { (result.tie ≡ tag.now.tie) × (result.brought ≡ Some block.old.id) × (result.made ≡ None) }
+        ensures visit { (result.tie ≡ tag.now.tie) × (result.brought ≡ Some block.old.id)
+            × (result.made ≡ None) }
     {
         Visit {
             marker: PhantomData,

@@ -8,8 +8,8 @@
 //! after the step. A desk also makes the seats of new cells. What the rule must allow is `specs/Permits.antt`, facts
 //! about plain data. Nothing here has bytes, and no call is an instruction.
 //!
-//! An entry is tied too, by one seat (`specs/Visit.antt`): its own while it is empty, and then that of the block that is
-//! published there. A `Visit` is to an entry what an offer is to a cell.
+//! An entry is tied too, by one seat (`specs/Visit.antt`): its own while it is empty, and then that of the block that
+//! is published there. A `Visit` is to an entry what an offer is to a cell.
 //!
 //! A caller can prove what its seat knows after the step, by the stages of the cell before and after it. All offers for
 //! one cell come from one desk, or from its duplicates, since two desks may have two numbers of one invariant.

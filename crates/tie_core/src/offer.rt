@@ -30,17 +30,24 @@ pub struct Offer<'a, X, K: Book<X>> {
 }
 
 impl<'a, X, K: Book<X>> Model for Offer<'a, X, K> {
-    ghost also_owns = { λ o. offer_owns (K.age o.about) (K.inner o.about) (K.gain o.about) o.tie o.step 'a o.made };
+    ghost also_owns = { λ o.
+        offer_owns (K.age o.about) (K.inner o.about) (K.gain o.about) o.tie o.step 'a o.made };
 }
 
-impl<'a, S, V, K, P: TableRule<S, V, K>, M: CellPlay<V>> Offer<'a, Moving<V, K>, SeatMove<S, V, K, P, M>> {
+impl<'a, S, V, K, P: TableRule<S, V, K>, M: CellPlay<V>> Offer<
+    'a,
+    Moving<V, K>,
+    SeatMove<S, V, K, P, M>,
+> {
     /// Gives the seat back into a blank badge, with the view that the step gave it, once the step has run.
     #[inline(always)]
     pub fn back(self, badge: &mut Badge<V>)
         requires made { IsMade self.made }
         requires blank { badge.old.views ≡ [] }
-        ensures seat { (badge.new.table_id ≡ self.entry.about.table_id) × (badge.new.id ≡ self.entry.about.id) }
-        ensures view { IsBack (M.then self.entry.about.told self.entry.about.view) self.entry.made badge.new.views }
+        ensures seat { (badge.new.table_id ≡ self.entry.about.table_id)
+            × (badge.new.id ≡ self.entry.about.id) }
+        ensures view { IsBack (M.then self.entry.about.told self.entry.about.view) self.entry.made
+            badge.new.views }
     {
         let Offer { marker: _ } = self;
     }

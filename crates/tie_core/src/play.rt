@@ -19,8 +19,8 @@ pub trait Staged<V> {
 pub trait CellPlay<V> {
     // The step.
     ghost step: { Step };
-    // What the step tells its caller: of the number told, the view before it, the stages before and after it, and the view
-    // after it.
+    // What the step tells its caller: of the number told, the view before it, the stages before and after it, and the
+    // view after it.
     ghost then: { ℕ → V → Stage → Stage → V → Type 0 };
 }
 
@@ -33,7 +33,7 @@ pub trait RowPlay<V> {
 /// The data of an offer from a table's seat: the table, the seat's number, its view before the step, and a number that
 /// the caller tells. No value of it is made.
 pub struct Moving<V, K> {
-    marker: PhantomData<(V, K)>,
+    pub(crate) marker: PhantomData<(V, K)>,
     pub ghost table_id: { TableId } by { table_id_coded },
     pub ghost key: { K },
     pub ghost words: { Ptr } by { coded_ptr },
@@ -58,10 +58,12 @@ pub struct SeatMove<S, V, K, P, M> {
     marker: PhantomData<(S, V, K, P, M)>,
 }
 
-impl<S, V, K, P: TableRule<S, V, K>, M: CellPlay<V>> Book<Moving<V, K>> for SeatMove<S, V, K, P, M> {
+impl<S, V, K, P: TableRule<S, V, K>, M: CellPlay<V>> Book<Moving<V, K>>
+    for SeatMove<S, V, K, P, M> {
     ghost age = { λ a. age_of a.table_id };
 
     ghost inner = { λ a. content S.row V.row.coded.code (P.holds a.key) a.words a.table_id };
 
-    ghost gain = { λ a from to. gone V.row.coded.code a.table_id a.id (M.then a.told a.view from to) };
+    ghost gain = { λ a from to.
+        gone V.row.coded.code a.table_id a.id (M.then a.told a.view from to) };
 }

@@ -30,7 +30,8 @@ impl<V, P: Staged<V>> Tag<V, P> {
     /// Returns the tag of the seat whose number is larger by `n`.
     pub fn further(&self, n: u64) -> Tag<V, P>
         ensures tie { result.tie ≡ tie_further self.now.tie n }
-        ensures table { (z : TableId) (floor : ℕ) → IsTieOf z floor self.now.tie → IsTieOf z floor result.tie }
+        ensures table { (z : TableId) (floor : ℕ) → IsTieOf z floor self.now.tie
+            → IsTieOf z floor result.tie }
     {
         Tag {
             marker: PhantomData,
@@ -40,7 +41,8 @@ impl<V, P: Staged<V>> Tag<V, P> {
     /// Returns the tag of the seat that has this number.
     pub fn numbered<B: Numbered>(&self, of: &B) -> Tag<V, P>
         ensures tie { result.tie ≡ tie_numbered self.now.tie (B.number of.now) }
-        ensures table { (z : TableId) (floor : ℕ) → IsTieOf z floor self.now.tie → IsTieOf z floor result.tie }
+        ensures table { (z : TableId) (floor : ℕ) → IsTieOf z floor self.now.tie
+            → IsTieOf z floor result.tie }
     {
         Tag {
             marker: PhantomData,

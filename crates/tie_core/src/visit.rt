@@ -29,6 +29,7 @@ pub trait EntryPlay<V> {
 /// Says what a caller's table is, and what the caller gains once its update of an entry has run, by data of its own.
 pub trait EntryBook<X> {
     ghost age: { X → Lft };
+
     ghost inner: { X → Fml };
     // The gain of the caller, by the content that the step found.
     ghost gain: { X → Content → Fml };
@@ -40,7 +41,8 @@ pub struct SeatVisit<S, V, K, P, M> {
     marker: PhantomData<(S, V, K, P, M)>,
 }
 
-impl<S, V, K, P: TableRule<S, V, K>, M: EntryPlay<V>> EntryBook<Moving<V, K>> for SeatVisit<S, V, K, P, M> {
+impl<S, V, K, P: TableRule<S, V, K>, M: EntryPlay<V>> EntryBook<Moving<V, K>>
+    for SeatVisit<S, V, K, P, M> {
     ghost age = { λ a. age_of a.table_id };
 
     ghost inner = { λ a. content S.row V.row.coded.code (P.holds a.key) a.words a.table_id };
@@ -59,17 +61,24 @@ pub struct Visit<'a, X, K: EntryBook<X>> {
 }
 
 impl<'a, X, K: EntryBook<X>> Model for Visit<'a, X, K> {
-    ghost also_owns = { λ o. visit_owns (K.age o.about) (K.inner o.about) (K.gain o.about) o.tie o.brought 'a o.made };
+    ghost also_owns = { λ o.
+        visit_owns (K.age o.about) (K.inner o.about) (K.gain o.about) o.tie o.brought 'a o.made };
 }
 
-impl<'a, S, V, K, P: TableRule<S, V, K>, M: EntryPlay<V>> Visit<'a, Moving<V, K>, SeatVisit<S, V, K, P, M>> {
+impl<'a, S, V, K, P: TableRule<S, V, K>, M: EntryPlay<V>> Visit<
+    'a,
+    Moving<V, K>,
+    SeatVisit<S, V, K, P, M>,
+> {
     /// Gives the seat back into a blank badge, with the view that the step gave it, once the step has run.
     #[inline(always)]
     pub fn back(self, badge: &mut Badge<V>)
         requires made { HasVisited self.made }
         requires blank { badge.old.views ≡ [] }
-        ensures seat { (badge.new.table_id ≡ self.entry.about.table_id) × (badge.new.id ≡ self.entry.about.id) }
-        ensures view { IsBackFrom (M.then self.entry.about.told self.entry.about.view) self.entry.made badge.new.views }
+        ensures seat { (badge.new.table_id ≡ self.entry.about.table_id)
+            × (badge.new.id ≡ self.entry.about.id) }
+        ensures view { IsBackFrom (M.then self.entry.about.told self.entry.about.view)
+            self.entry.made badge.new.views }
     {
         let Visit { marker: _ } = self;
     }
@@ -90,7 +99,8 @@ pub struct EntryTag<V, P: Entered<V>> {
 }
 
 impl<V, P: Entered<V>> Model for EntryTag<V, P> {
-    ghost also_owns = { λ t. entry_tagged V.row.coded.code (P.empty t.from t.n) (P.placed t.from t.n) t.tie };
+    ghost also_owns = { λ t.
+        entry_tagged V.row.coded.code (P.empty t.from t.n) (P.placed t.from t.n) t.tie };
 
     ghost also_shares = { λ t _ κ.
         said (entry_tagged V.row.coded.code (P.empty t.from t.n) (P.placed t.from t.n) t.tie) κ };

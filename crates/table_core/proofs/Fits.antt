@@ -1,5 +1,5 @@
 -- A block of the entry's length, or of another measure, as a type. Assumes `Logic`.
-use Rattle.std.proofs.Common.{◌≡◌, ℕ, List, [], ◌∷◌}
+use Rattle.std.proofs.Common.{◌≡◌, ℕ, List, [], ◌∷◌, sym, ap}
 use seplogic.Ra.Ura.{Ura}
 use mir.Val.{Val}
 use base.Fraction.{full_share}
@@ -21,7 +21,8 @@ use Rattle.std.specs.declared.option.Option.{Option}
 use Rattle.std.specs.declared.option.Option.TheVariants.{None, Some}
 use Rattle.once_cell.specs.Once.{boxed}
 use Rattle.once_cell.specs.Once as once
-use Rattle.table_core.specs.Entry.{noted, fits, Fit}
+use Rattle.tie_core.specs.Visit.{EntryTie}
+use Rattle.table_core.specs.Entry.{Bond, Mould, tie_in, mould_in, seen_as, noted, fits, Fit}
 
 module _ (R : RattleType) {N : Type 0} (measure : R.Denot → N) (n : N) where
   -- such blocks have the laws of all blocks
@@ -56,3 +57,27 @@ module _ (R : RattleType) {N : Type 0} (measure : R.Denot → N) (n : N) where
     pub fit_lent : (b o : ℕ) (x : R.Denot) (κ : Lft)
         → ent 𝓤 (sem 𝓛 (lent_at (Fit R measure n) (block_ptr b o) x κ)) (guard 𝓤 (measure x ≡ n) (sem 𝓛 (shared_of R x b o κ)))
     fit_lent b o x κ = qed 𝓛 (‵ (lent_at (Fit R measure n) (block_ptr b o) x κ) ∷ []) ∵ fsplit ! $ drop ! $ fsplit ! $ move ! (1 ∷ []) $ fpick ! (λ so. drop ! $ check ! so $ done !)
+
+-- what an entry sees of a block has the block's length
+pub length_seen : {X : Type 0} (measure : X → ℕ) (mould : X → Mould) (β : Option Bond) (x : X) (n : ℕ) (m : Mould)
+    → seen_as measure mould β x ≡ (n, m) → measure x ≡ n
+length_seen measure mould None x n m e = ap (λ (u : ℕ × Mould). u.0) e
+length_seen measure mould (Some u) x n m e = ap (λ (u : ℕ × Mould). u.0) e
+
+-- a block of the length fits an entry that is not tied
+pub fits_plain : {X : Type 0} (measure : X → ℕ) (mould : X → Mould) (β : Option Bond) (x : X) (n : ℕ)
+    → tie_in β ≡ None → measure x ≡ n → seen_as measure mould β x ≡ (n, mould_in β)
+fits_plain measure mould None x n plain e = λ i. (e i, [])
+fits_plain measure mould (Some u) x n plain e = absurd (mathlib.Core.Option.some-ne-none u.0 plain)
+
+-- a block of the length and the mould fits an entry that is tied
+pub fits_tied : {X : Type 0} (measure : X → ℕ) (mould : X → Mould) (β : Option Bond) (x : X) (n : ℕ) (t : EntryTie)
+    → tie_in β ≡ Some t → measure x ≡ n → mould x ≡ mould_in β → seen_as measure mould β x ≡ (n, mould_in β)
+fits_tied measure mould None x n t tied e f = absurd (mathlib.Core.Option.some-ne-none t (sym tied))
+fits_tied measure mould (Some u) x n t tied e f = λ i. (e i, f i)
+
+-- what a tied entry sees of a block has the block's mould
+pub mould_seen : {X : Type 0} (measure : X → ℕ) (mould : X → Mould) (β : Option Bond) (x : X) (n : ℕ) (t : EntryTie)
+    → tie_in β ≡ Some t → seen_as measure mould β x ≡ (n, mould_in β) → mould x ≡ mould_in β
+mould_seen measure mould None x n t tied e = absurd (mathlib.Core.Option.some-ne-none t (sym tied))
+mould_seen measure mould (Some u) x n t tied e = ap (λ (v : ℕ × Mould). v.1) e

@@ -1,5 +1,5 @@
--- What a tied entry owns and lends: what an entry does, with the seat that shows whether a block is published there. Each
--- block says the number of its seat, so the seat that the entry holds follows from the block.
+-- What an entry owns, and what a `&` to it holds: what a `OnceBox` does, with the seat that shows whether a block is
+-- published there, if the entry is tied. Each block says the number of its seat.
 use Rattle.std.specs.Prelude.{ℕ, ◌+◌, ◌<◌}
 use base.Fml.{Lft, Share, Fml, ftrue, ffalse, fsep, fex, fbor, fnamed}
 use denote.RattleType.{RattleType}
@@ -13,16 +13,8 @@ use Rattle.std.specs.declared.option.Option.{Option}
 use Rattle.std.specs.declared.option.Option.TheVariants.{None, Some}
 use Rattle.std.specs.declared.alloc.Global.{Global}
 use Rattle.once_cell.specs.Once.{pending, settled, testable, resting, lent}
-use Rattle.table_core.specs.Entry.{Fit}
+use Rattle.table_core.specs.Entry.{EntryView, Mould, Cast, name_of, tie_of}
 use Rattle.tie_core.specs.Visit.{EntryTie, entry_seat, entry_floor}
-
--- a tied entry: the allocator's handle, how long its block is, its name, its tie, and the mould of its block
-abbrev pub TiedView : (Mould : Type 0) → Type 0
-TiedView Mould = Global × ℕ × ℕ × Option EntryTie × Mould
-
--- the type of the blocks of this length and mould
-abbrev pub Cast : (R : RattleType) {Mould : Type 0} → (R.Denot → ℕ) → (R.Denot → Mould) → ℕ → Mould → RattleType
-Cast R measure mould n m = Fit R (λ x. (measure x, mould x)) (n, m)
 
 -- a number above another one, of an invariant
 abbrev pub past : ℕ → Fml → Fml
@@ -61,3 +53,12 @@ module _ (R : RattleType) (number : R.Denot → ℕ) (a : Global) (γ : ℕ) (τ
       beside (some Lft (λ α. beside (ends α) (said (past (entry_floor τ) (fbor α (Tied_held α b (o + 0)))))))
       (shared_of (the_row R) (atomic_ptr_holding null_ptr) b (o + 0)) κ
   tied_shared null_ptr κ = ffalse
+
+module _ (R : RattleType) (measure : R.Denot → ℕ) (mould : R.Denot → Mould) (number : R.Denot → ℕ) where
+  -- what an entry owns, besides its fields
+  abbrev pub entry_owned : EntryView → (Ptr → Fml) → Fml
+  entry_owned e fields = tied_owned (Cast R measure mould e) number e.0 (name_of e) (tie_of e) fields
+
+  -- what a `&` to an entry holds
+  abbrev pub entry_shared : EntryView → Ptr → Lft → Fml
+  entry_shared e = tied_shared (Cast R measure mould e) number e.0 (name_of e) (tie_of e)

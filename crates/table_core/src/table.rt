@@ -1,8 +1,8 @@
 //! The table of segments.
-ghost use Rattle.std.specs.Prelude.{◌≡◌, ◌<◌, ◌≤◌, ℕ, slice_index, IfSome, IfOk};
+ghost use Rattle.std.specs.Prelude.{◌≡◌, ◌<◌, ◌≤◌, ℕ, None, slice_index, IfSome, IfOk};
 ghost use Rattle.table_core.specs.Table.{IsBlockOf, IsKeyIn, IsKeyOf, IsLengthOf};
 ghost use Rattle.seg_core.specs.Segment.{IsLayout, segment_count, most_segments};
-ghost use Rattle.table_core.specs.Entry.{length_of};
+ghost use Rattle.table_core.specs.Entry.{length_of, tie_of};
 
 mod key;
 mod key_set;
@@ -21,8 +21,13 @@ use std::marker::Model;
 
 impl<T> Measured for Block<T> {
     ghost use Rattle.cell_core.specs.Block.{block_len};
+    ghost use Rattle.cell_core.specs.Mould.{last_seat, mould_of};
 
     ghost measure = { block_len };
+
+    ghost mould = { λ block. mould_of block.cells };
+
+    ghost seat = { λ block. last_seat block.cells };
 }
 
 /// The table of a vector's segments: 41 - f entries, each set at most once, to the block of its segment. It
@@ -41,7 +46,7 @@ impl<T> Model for Table<T> {
     ghost use Rattle.std.specs.Option.{ForSome};
     ghost use Rattle.table_core.specs.Entry.{name_of};
     ghost use Rattle.seg_core.specs.Segment.{IsLayout};
-    ghost use Rattle.table_core.specs.Table.{TableView, AllFit};
+    ghost use Rattle.table_core.specs.Table.{TableView, AllFit, AllPlain};
 
     ghost Value = { TableView };
 
@@ -52,12 +57,13 @@ impl<T> Model for Table<T> {
       held = option_map (λ h. h.segment) t.held;
     } };
 
-    ghost invariant = { λ t. IsLayout t.layout × AllFit t.layout t.entries
+    ghost invariant = { λ t. IsLayout t.layout × AllFit t.layout t.entries × AllPlain t.layout t.entries
         × ForSome t.held (λ h. slice_index (map name_of t.entries) h.segment ≡ h.sight.of) };
 }
 
 fn empty_entry<T>(alloc: Global, layout: Layout, segment: u32) -> Entry<Block<T>>
-    ensures { segment < segment_count layout → IsLengthOf layout segment (length_of result) }
+    ensures length { segment < segment_count layout → IsLengthOf layout segment (length_of result) }
+    ensures plain { tie_of result ≡ None }
 {
     let len = if segment < layout.segments() {
         layout.len(segment)
@@ -85,8 +91,8 @@ impl<T> Table<T> {
         let entries = array::from_fn(
             |segment: usize| -> Entry<Block<T>>
                 requires { segment < most_segments }
-                ensures { segment < segment_count layout
-                    → IsLengthOf layout segment (length_of result) }
+                ensures { (segment < segment_count layout
+                    → IsLengthOf layout segment (length_of result)) × (tie_of result ≡ None) }
             { empty_entry(alloc, layout, segment as u32) },
         );
         Table {

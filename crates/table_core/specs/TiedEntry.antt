@@ -22,7 +22,7 @@ TiedView Mould = Global × ℕ × ℕ × Option EntryTie × Mould
 
 -- the type of the blocks of this length and mould
 abbrev pub Cast : (R : RattleType) {Mould : Type 0} → (R.Denot → ℕ) → (R.Denot → Mould) → ℕ → Mould → RattleType
-Cast R measure mould n m = Fit R (λ x. (measure x, mould x)) (n, m)
+Cast R {Mould} measure mould n m = Fit R {N = ℕ × Mould} (λ x. (measure x, mould x)) (n, m)
 
 -- a number above another one, of an invariant
 abbrev pub past : ℕ → Fml → Fml

@@ -13,14 +13,19 @@ row_relative t k j (suc n) [] at = absurd at
 row_relative t k j (suc n) (γ ∷ γs) at =
     let one : (k + j) - k ≡ j = omega arith in
     let here : relative k γ.tied ≡ Some (tie_numbered t j) = ap (relative k) at.0 ∙ ap (λ (i : ℕ). Some (tie_numbered t i)) one in
-    λ i. here i ∷ row_relative t k (j + 1) n γs at.1 i
+    let next : (k + j) + 1 ≡ k + (j + 1) = omega arith in
+    let others : AreTied (row_of (tie_numbered t (k + (j + 1))) n) γs = subst (λ (m : ℕ). AreTied (row_of (tie_numbered t m) n) γs) next at.1 in
+    λ i. here i ∷ row_relative t k (j + 1) n γs others i
 
 -- cells with seats in a row have the row's mould
 pub mould_row : (t : Tie) (n : ℕ) (γs : List Names) → AreTied (row_of t n) γs → mould_of γs ≡ row_mould t n
 mould_row t zero [] at = refl
 mould_row t zero (γ ∷ γs) at = absurd at
 mould_row t (suc n) [] at = absurd at
-mould_row t (suc n) (γ ∷ γs) at = subst (λ (k : ℕ). relatives k (γ ∷ γs) ≡ row_mould t (suc n)) (sym (ap id_of at.0)) (row_relative t t.id 0 (suc n) (γ ∷ γs) at)
+mould_row t (suc n) (γ ∷ γs) at =
+    let same : t.id ≡ t.id + 0 = omega arith in
+    let from_0 : AreTied (row_of (tie_numbered t (t.id + 0)) (suc n)) (γ ∷ γs) = subst (λ (m : ℕ). AreTied (row_of (tie_numbered t m) (suc n)) (γ ∷ γs)) same at in
+    subst (λ (k : ℕ). relatives k (γ ∷ γs) ≡ row_mould t (suc n)) (sym (ap id_of at.0)) (row_relative t t.id 0 (suc n) (γ ∷ γs) from_0)
 
 abbrev head_or : Option Tie → List (Option Tie) → Option Tie
 head_or d [] = d
@@ -48,7 +53,8 @@ relative_row t k j zero more [] e = tt
 relative_row t k j zero more (γ ∷ γs) e = absurd (let z : suc (length (relatives k γs)) ≡ 0 = ap length e in omega (arith, z))
 relative_row t k j (suc n) more [] e = absurd (let z : 0 ≡ suc (length (row_of (tie_numbered t (j + 1)) n)) = ap length e in omega (arith, z))
 relative_row t k j (suc n) more (γ ∷ γs) e =
-    (tied_from t k j more γ.tied (ap (head_or None) e), relative_row t k (j + 1) n (omega (arith, more)) γs (ap rest e))
+    let next : k + (j + 1) ≡ (k + j) + 1 = omega arith in
+    (tied_from t k j more γ.tied (ap (head_or None) e), subst (λ (m : ℕ). AreTied (row_of (tie_numbered t m) n) γs) next (relative_row t k (j + 1) n (omega (arith, more)) γs (ap rest e)))
 
 -- the first cell's tie
 first_tied : (t : Tie) (τ : Option Tie) → relative (id_of τ) τ ≡ Some (tie_numbered t 0) → τ ≡ Some (tie_numbered t (id_of τ))
@@ -68,6 +74,6 @@ row_mould_tied t (suc n) (γ ∷ γs) e =
 pub row_tied : (t : Tie) (n : ℕ) (γs : List Names) → AreTied (row_of t n) γs → (i : ℕ) → i < n → (cell_in γs i).tied ≡ Some (tie_further t i)
 row_tied t zero γs at i less = absurd (omega arith)
 row_tied t (suc n) [] at i less = absurd at
-row_tied t (suc n) (γ ∷ γs) at zero less = at.0
+row_tied t (suc n) (γ ∷ γs) at zero less = let same : t.id ≡ t.id + 0 = omega arith in at.0 ∙ ap (λ (k : ℕ). Some (tie_numbered t k)) same
 row_tied t (suc n) (γ ∷ γs) at (suc i) less = let e : (t.id + 1) + i ≡ t.id + suc i = omega arith in
     row_tied (tie_further t 1) n γs at.1 i (omega (arith, less)) ∙ ap (λ (k : ℕ). Some (tie_numbered t k)) e

@@ -1,5 +1,5 @@
 -- What desks, tags and badges are as values, and what a desk makes of a seat. Assumes `Logic`.
-use Rattle.std.proofs.Common.{◌≡◌, ℕ, zero, suc, length, ◌+◌, [], ◌∷◌, ◌++◌, refl, sym, ap}
+use Rattle.std.proofs.Common.{◌≡◌, ℕ, zero, suc, length, [], ◌∷◌, ◌++◌, refl, sym, ap}
 use Rattle.std.specs.Prelude.{Option, Some, None}
 use mathlib.Core.List.{not-mem-nil, mem-append_left}
 use seplogic.Ra.Ura.{Ura}

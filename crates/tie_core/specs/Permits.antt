@@ -1,5 +1,5 @@
 -- What the rule of a table must allow, so that seats of it move in one step on a cell or an entry, or are made.
-use Rattle.std.specs.Prelude.{◌≡◌, ◌≢◌, ℕ, ◌+◌, List, [], ◌∷◌, ◌++◌, length, slice_set}
+use Rattle.std.specs.Prelude.{◌≡◌, ◌≢◌, ℕ, List, [], ◌∷◌, ◌++◌, length, slice_set}
 use mathlib.Core.Option.{some}
 use lib.ListN.{get_elem?, replicate}
 use Rattle.atomic_table.specs.Table.{State}

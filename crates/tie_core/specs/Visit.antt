@@ -82,9 +82,9 @@ module _ (age : Lft) (inner : Fml) (gain : Content → Fml) (t : EntryTie) (brou
   visit_owns κ (Some v) = gain v
 
 -- the codes of an entry are those of two views
-pub record HasEntryCodes {V : Type 0} (c : V → Gv) (empty placed : V) (t : EntryTie) : Type 0 where
-  pub empty : t.empty ≡ c empty
-  pub placed : t.placed ≡ c placed
+pub record HasEntryCodes {V : Type 0} (c : V → Gv) (none block : V) (t : EntryTie) : Type 0 where
+  pub empty : t.empty ≡ c none
+  pub placed : t.placed ≡ c block
 
 -- the same, as a formula
 abbrev pub entry_tagged : {V : Type 0} → (V → Gv) → V → V → EntryTie → Fml

@@ -50,7 +50,6 @@ impl<T, A: Allocator> Block<T, A, Tied> {
 
     /// Shows a proof how cells whose seats have numbers in a row are tied, and what the mould of a block tells: the
     /// seats have numbers in a row from the first one's on. The call does nothing.
-    #[tactic(auto, using(crate::proofs::Moulds::row_tied, crate::proofs::Moulds::mould_row, crate::proofs::Moulds::row_mould_tied))]
     pub fn ties_laws(&self)
         ensures row { (t : Tie) (n i : ℕ) → AreTied (row_of t n) self.now.cells → i < n
             → (cell_at self.now i).tied ≡ Some (tie_further t i) }

@@ -1,5 +1,6 @@
 -- A block of the entry's length, or of another measure, as a type. Assumes `Logic`.
 use Rattle.std.proofs.Common.{◌≡◌, ℕ, List, [], ◌∷◌, sym, ap}
+use Rattle.std.proofs.lemmas.Option.{none-some}
 use seplogic.Ra.Ura.{Ura}
 use mir.Val.{Val}
 use base.Fraction.{full_share}
@@ -68,16 +69,16 @@ length_seen measure mould (Some u) x n m e = ap (λ (u : ℕ × Mould). u.0) e
 pub fits_plain : {X : Type 0} (measure : X → ℕ) (mould : X → Mould) (β : Option Bond) (x : X) (n : ℕ)
     → tie_in β ≡ None → measure x ≡ n → seen_as measure mould β x ≡ (n, mould_in β)
 fits_plain measure mould None x n plain e = λ i. (e i, [])
-fits_plain measure mould (Some u) x n plain e = absurd (mathlib.Core.Option.some-ne-none u.0 plain)
+fits_plain measure mould (Some u) x n plain e = absurd (none-some u.0 (sym plain))
 
 -- a block of the length and the mould fits an entry that is tied
 pub fits_tied : {X : Type 0} (measure : X → ℕ) (mould : X → Mould) (β : Option Bond) (x : X) (n : ℕ) (t : EntryTie)
     → tie_in β ≡ Some t → measure x ≡ n → mould x ≡ mould_in β → seen_as measure mould β x ≡ (n, mould_in β)
-fits_tied measure mould None x n t tied e f = absurd (mathlib.Core.Option.some-ne-none t (sym tied))
+fits_tied measure mould None x n t tied e f = absurd (none-some t tied)
 fits_tied measure mould (Some u) x n t tied e f = λ i. (e i, f i)
 
 -- what a tied entry sees of a block has the block's mould
 pub mould_seen : {X : Type 0} (measure : X → ℕ) (mould : X → Mould) (β : Option Bond) (x : X) (n : ℕ) (t : EntryTie)
     → tie_in β ≡ Some t → seen_as measure mould β x ≡ (n, mould_in β) → mould x ≡ mould_in β
-mould_seen measure mould None x n t tied e = absurd (mathlib.Core.Option.some-ne-none t (sym tied))
+mould_seen measure mould None x n t tied e = absurd (none-some t tied)
 mould_seen measure mould (Some u) x n t tied e = ap (λ (v : ℕ × Mould). v.1) e

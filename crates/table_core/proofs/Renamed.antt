@@ -8,7 +8,7 @@ use base.Stored.{Gv, gnil, gcons, gnum}
 use base.Logic.{SProp, ent, sep, guard}
 use base.Fml.{Lft, Fml, ftrue, fsep, fex, fobs, fauth}
 use types.Logic.{Logic, sem}
-use types.Kit.{‵, ◌⊛◌, given, later, ◌$◌, ◌∵◌, !, qed, move, keep, check, learn, await, updating, now, split, split3, fsplit, fjoin, fpick, fpack, use2, use3, rewrite, done}
+use types.Kit.{‵, ◌⊛◌, given, later, ◌$◌, ◌∵◌, !, qed, move, keep, drop, check, learn, await, updating, now, split, split3, fsplit, fjoin, fpick, fpack, use2, use3, rewrite, done}
 use types.Tokens.{name_new, name_done}
 use denote.RattleType.{RattleType}
 use denote.RawPtr.{Ptr, block_ptr, null_ptr}

@@ -55,6 +55,10 @@ mould_in (Some u) = u.1
 abbrev pub tie_of : EntryView → Option EntryTie
 tie_of e = tie_in e.3
 
+-- how the cells of its block are tied; nothing if it is not tied
+abbrev pub mould_at : EntryView → Mould
+mould_at e = mould_in e.3
+
 -- the block x is the one that is known, if any is
 abbrev pub Agrees : {X : Type 0} → Option X → X → Type 0
 Agrees k x = IfSome k (λ y. y ≡ x)

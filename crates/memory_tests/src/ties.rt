@@ -6,6 +6,7 @@ ghost use Rattle.tie_core.specs.Tie.{looks};
 use atomic_table::{Badge, Table, TableRule};
 use cell_core::block::{Block, Look, Tied};
 use std::alloc::Global;
+use std::mem::forget;
 use std::test::Fail;
 use tie_core::{CellPlay, Desk, Entered, EntryPlay, RowPlay, Staged};
 
@@ -73,9 +74,10 @@ fn an_entry_gets_a_seat_and_a_visit_is_made(rt: HostRuntime) -> Result<(), Fail>
     let (table, seat) = Table::<u8, (), (), Anything, Global>::of_words(rt.alloc(), &[3], &())?;
     let desk = Desk::of(&table.shared);
     let mut badge = seat.into_badge();
-    let (_own, tag) = Desk::enter::<Anything>(&table.shared, &desk, &mut badge, 0, 2);
+    let (own, tag) = Desk::enter::<Anything>(&table.shared, &desk, &mut badge, 0, 2);
     let visit = Desk::visit::<Anything>(&table.shared, &desk, &mut badge, &tag, 0);
     drop(visit);
+    forget(own);
     assert!(rt; table.shared.peek(0) == 3);
     Ok(())
 }

@@ -116,7 +116,7 @@ unsafe impl<V, P: Entered<V>> Send for EntryTag<V, P> {}
 
 unsafe impl<V, P: Entered<V>> Sync for EntryTag<V, P> {}
 
-/// The own seat of an entry that is empty. An entry takes it when it is made.
+/// The own seat of an entry that is empty. An entry takes it when it is made. It must be spent.
 pub struct EntrySeat {
     pub marker: PhantomData<()>,
     pub ghost tie: { EntryTie } by { entry_tie_coded },
@@ -124,10 +124,4 @@ pub struct EntrySeat {
 
 impl Model for EntrySeat {
     ghost also_owns = { λ s. entry_seat (Some s.tie) None };
-}
-
-impl Drop for EntrySeat {
-    fn drop(self) {
-        let Self { marker: _ } = self;
-    }
 }

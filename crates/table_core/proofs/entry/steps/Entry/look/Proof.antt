@@ -43,7 +43,7 @@ use Rattle.core.proofs.option.Made.{Some-of, none_of}
 use Rattle.std.specs.contracts.alloc.Global as heap
 use Rattle.std.proofs.alloc.Global.TheLaws as heap_laws
 use Rattle.once_cell.specs.Once as once
-use Rattle.tie_core.specs.Visit.{EntryTie, entry_floor}
+use Rattle.tie_core.specs.Visit.{entry_floor}
 use Rattle.table_core.specs.Entry.{EntryView, Mould, Agrees, Cast, tie_of, mould_in, seen_as, noted}
 use Rattle.table_core.specs.TiedEntry.{Tied_held}
 use Rattle.table_core.proofs.Fits.{fit_laws, fit_noted, fit_lent, length_seen}

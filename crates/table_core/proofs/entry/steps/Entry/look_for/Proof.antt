@@ -1,11 +1,11 @@
 -- `look_for` does what `look` does, and runs the caller's update in the load.
-use Rattle.std.proofs.Common.{◌≡◌, ℕ, ◌+◌, ◌<◌, List, [], ◌∷◌, ◌++◌, refl, sym, subst, lit<, arith}
+use Rattle.std.proofs.Common.{◌≡◌, ℕ, ◌+◌, List, [], ◌∷◌, ◌++◌, refl, sym, subst, lit<, arith}
 use mir.Syntax.{dcons, dnil, Body, seq, assign, place, rv_opd, copy, aggregate, int, w8, a_type, named}
 use mir.Val.{Val, vptr, vcons, vnil}
 use mir.MapTy.{inst_fn}
 use base.Fraction.{left, right}
 use base.Logic.{SProp, ent, wand, emp, id⊢, apply∗, all, all_e}
-use base.Fml.{Lft, Share, Fml, ftrue, fsep, flft, fbor, fnamed}
+use base.Fml.{Lft, Share, Fml, ftrue, fsep, flft, fbor}
 use base.Before.{before}
 use prog.Wp.{WpFn, Wp, after_seq, at_return}
 use types.Logic.{sem}
@@ -40,7 +40,7 @@ use Rattle.core.proofs.cell.Inside.{Good}
 use Rattle.core.proofs.option.Made.{Some-of, none_of}
 use Rattle.once_cell.specs.Once as once
 use Rattle.atomic_table.proofs.Fields.{token_val}
-use Rattle.tie_core.specs.Visit.{EntryTie, Content, entry_floor, visit, visit_owns}
+use Rattle.tie_core.specs.Visit.{EntryTie, Content, entry_floor, visit_owns}
 use Rattle.tie_core.specs.contracts.visit.Visit as Visit
 use Rattle.tie_core.proofs.VisitParts.{VisitWords, visit_told, visit_made}
 use Rattle.table_core.specs.Entry.{EntryView, Mould, Agrees, Cast, tie_of, mould_in, seen_as, noted}

@@ -1,11 +1,11 @@
 -- `offer_for` does what `offer` does, and runs the caller's update in the exchange.
-use Rattle.std.proofs.Common.{◌≡◌, ℕ, ◌+◌, ◌<◌, arith, List, [], ◌∷◌, ◌++◌, refl, sym, ap, subst, lit<}
+use Rattle.std.proofs.Common.{◌≡◌, ℕ, ◌+◌, arith, List, [], ◌∷◌, ◌++◌, refl, sym, ap, subst, lit<}
 use mir.Syntax.{dcons, dnil, Body, a_type, named}
 use mir.Val.{Val, vnull, vptr, vstruct, vcons, vnil, of_list}
 use mir.MapTy.{inst_fn}
 use base.Fraction.{full_share, left, right}
 use base.Logic.{SProp, ent, wand, emp, never, id⊢, apply∗, all, all_e}
-use base.Fml.{Lft, Share, Fml, ftrue, ffalse, fsep, feq, flft, fbor, fnamed}
+use base.Fml.{Lft, Share, Fml, ftrue, ffalse, fsep, feq, flft, fbor}
 use base.Before.{before}
 use prog.Wp.{WpFn, Wp, after_seq, at_return}
 use types.Logic.{sem}

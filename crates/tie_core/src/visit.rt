@@ -125,3 +125,10 @@ pub struct EntrySeat {
 impl Model for EntrySeat {
     ghost also_owns = { λ s. entry_seat (Some s.tie) None };
 }
+
+impl EntrySeat {
+    /// Gives the seat up.
+    pub fn lose(self) {
+        let Self { marker: _ } = self;
+    }
+}

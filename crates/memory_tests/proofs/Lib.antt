@@ -1,2 +1,1 @@
 mod KeyRows
-mod Ties

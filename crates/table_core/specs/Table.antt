@@ -1,5 +1,5 @@
 -- A table of entries as callers see it, and the keys of its entries.
-use Rattle.std.specs.Prelude.{◌≡◌, ◌≢◌, ℕ, ◌+◌, ◌<◌, List, [], slice_index, slice_index_or}
+use Rattle.std.specs.Prelude.{Bool, true, false, ◌≡◌, ◌≢◌, ℕ, ◌+◌, ◌<◌, List, [], slice_index, slice_index_or}
 use Rattle.std.specs.Coded.{coded_option}
 use base.Stored.{Coded, coded×, coded_ℕ, coded_list, coded_via}
 use Rattle.std.specs.declared.option.Option.{Option}
@@ -74,6 +74,11 @@ AllFit f entries =
 abbrev pub AllPlain : ℕ → List EntryView → Type 0
 AllPlain f entries =
     (k : ℕ) (e : EntryView) → k < segment_count f → tie_of (slice_index_or entries k e) ≡ None
+
+-- no entry is tied, unless entries may be
+abbrev pub AllOf : Bool → ℕ → List EntryView → Type 0
+AllOf false f entries = AllPlain f entries
+AllOf true f entries = Unit {0}
 
 -- the block that is known, if any is
 abbrev pub block_or_empty : Option BlockView → BlockView

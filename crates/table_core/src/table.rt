@@ -9,7 +9,7 @@ mod key_set;
 mod owner;
 
 use crate::entry::{Entry, EntrySight, Measured};
-use cell_core::block::Block;
+use cell_core::block::{Block, Kind, Plain};
 pub use key::Key;
 pub use key_set::KeySet;
 use key_set::no_sights;
@@ -19,7 +19,7 @@ use std::alloc::{AllocError, Global};
 use std::array;
 use std::marker::Model;
 
-impl<T> Measured for Block<T> {
+impl<T, B: Kind> Measured for Block<T, Global, B> {
     ghost use Rattle.cell_core.specs.Block.{block_len};
     ghost use Rattle.cell_core.specs.Mould.{last_seat, mould_of};
 
@@ -31,22 +31,22 @@ impl<T> Measured for Block<T> {
 }
 
 /// The table of a vector's segments: 41 - f entries, each set at most once, to the block of its segment. It
-/// has room for 40 pointers.
+/// has room for 40 pointers. `B` says whether entries and their blocks are tied to a table of `atomic_table`.
 #[derive(Drop)]
-pub struct Table<T> {
+pub struct Table<T, B: Kind = Plain> {
     layout: Layout,
     alloc: Global,
-    entries: [Entry<Block<T>>; MOST_SEGMENTS],
-    lent: Option<Lent<T>>,
+    entries: [Entry<Block<T, Global, B>>; MOST_SEGMENTS],
+    lent: Option<Lent<T, B>>,
     held: Option<Held>,
 }
 
-impl<T> Model for Table<T> {
+impl<T, B: Kind> Model for Table<T, B> {
     ghost use Rattle.std.specs.Prelude.{◌≡◌, map, option_map, slice_index};
     ghost use Rattle.std.specs.Option.{ForSome};
     ghost use Rattle.table_core.specs.Entry.{name_of};
     ghost use Rattle.seg_core.specs.Segment.{IsLayout};
-    ghost use Rattle.table_core.specs.Table.{TableView, AllFit, AllPlain};
+    ghost use Rattle.table_core.specs.Table.{TableView, AllFit, AllOf};
 
     ghost Value = { TableView };
 
@@ -57,7 +57,7 @@ impl<T> Model for Table<T> {
       held = option_map (λ h. h.segment) t.held;
     } };
 
-    ghost invariant = { λ t. IsLayout t.layout × AllFit t.layout t.entries × AllPlain t.layout t.entries
+    ghost invariant = { λ t. IsLayout t.layout × AllFit t.layout t.entries × AllOf B.tied t.layout t.entries
         × ForSome t.held (λ h. slice_index (map name_of t.entries) h.segment ≡ h.sight.of) };
 }
 

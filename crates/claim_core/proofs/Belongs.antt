@@ -141,6 +141,7 @@ first_held {seat} terms bounds is =
       history = record { legal = (first_list terms.limit terms.base terms.mark.filled, refl); actors = refl };
       lengths = prefix_nil [];
       whole_log = λ all. refl;
+      begun = λ place there. let t = there.1 in absurd (omega arith);
     } in
     record {
       no_slot = ap {A = Seated} (λ m. m.1) is;

@@ -36,7 +36,7 @@ Contains-first : (x : ℕ) (xs : List ℕ) → Contains (x ∷ xs) x
 Contains-first x xs = (zero, omega arith, refl)
 
 Contains-later : (x y : ℕ) (xs : List ℕ) → Contains xs y → Contains (x ∷ xs) y
-Contains-later x y xs there = (suc (there.0), let lt = there.1 in omega arith, there.2)
+Contains-later x y xs there = (suc (there.0), (let lt = there.1 in omega arith), there.2)
 
 -- ---- Owners
 

@@ -1,5 +1,5 @@
 -- What fills places in a legal history.
-use Rattle.std.proofs.Common.{◌≡◌, ◌⊎◌, ℕ, zero, suc, get_or, ◌+◌, ◌<◌, ◌≤◌, ◌==◌, Bool, true, false, if◌then◌else◌, List, [], ◌∷◌, ◌++◌, length, replicate, Some, None, slice_get, refl, ap, sym, ◌∙◌, subst, inl, inr, ⊎_elim, append_assoc, arith}
+use Rattle.std.proofs.Common.{◌≡◌, ◌⊎◌, ℕ, zero, suc, get_or, ◌+◌, ◌<◌, ◌≤◌, ◌==◌, Bool, true, false, if◌then◌else◌, List, [], ◌∷◌, ◌++◌, length, replicate, Option, Some, None, slice_get, refl, ap, sym, ◌∙◌, subst, inl, inr, ⊎_elim, append_assoc, arith}
 use Rattle.std.specs.List.{Contains}
 use Rattle.std.proofs.lemmas.Bool.{cases_lt}
 use Rattle.std.proofs.lemmas.Bool.Decides.{eqb_tells}
@@ -40,6 +40,10 @@ filled_by v actor place w reply applies =
     ]
     refl applies
 
+-- a filled place is not pending
+filled_or_pending : (place k : ℕ) (cell : Option Cell) → cell ≡ Some (value_cell place) → cell ≡ Some (Pending k) → ⊥
+filled_or_pending place k cell filled pending = cc (filled, pending)
+
 pub fills_are_once : FillsAreOnce
 fills_are_once limit base actor other place filled before between after history =
     let first = first_list limit base filled in
@@ -49,7 +53,7 @@ fills_are_once limit base actor other place filled before between after history 
     let (mid, one, (next, applies, rest)) = IsHistory-split first es (fill_event other place ∷ after) legal.0 legal.1 in
     let here : slice_get mid.cells place ≡ Some (value_cell place) = filled_places_stay limit base actor place filled before between mid one in
     let pending = filled_by mid other place next replies.Done applies in
-    absurd (cc (here, pending))
+    filled_or_pending place other (slice_get mid.cells place) here pending
 
 -- ---- Whose each pending place is
 
@@ -117,7 +121,10 @@ module _ (start : CellList) (es : Log) (v : CellList) (so_far : IsHistory start 
   mended write place k at is =
       let by : (k ≡ write.actor) × (event ≡ Mend write.actor write.at) × (reply ≡ replies.Done) =
       subst (λ (c : Cell). IsWriteOf write.actor write.at c event reply) is write.write in
-      Contains-append_right es (e ∷ []) (Mend k place, replies.Done) (0, omega arith, cc (by.0, by.1, by.2, at))
+      let is_event : event ≡ Mend k place =
+      by.1 ∙ (ap (λ (j : ℕ). Mend j write.at) (sym (by.0)) ∙ ap (λ (p : ℕ). Mend k p) (sym at)) in
+      let is_reply : reply ≡ replies.Done = by.2 in
+      Contains-append_right es (e ∷ []) (Mend k place, replies.Done) (0, omega arith, λ i. (is_event i, is_reply i))
 
   -- a place is written
   written_owes : (write : WritesCell v event w reply) → Owes (es ++ e ∷ []) w

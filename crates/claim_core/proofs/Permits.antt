@@ -18,7 +18,7 @@ use Rattle.claim_core.specs.SeatView.{spent_view, Remarks}
 use Rattle.claim_core.specs.SeatSteps.{ClaimState, with_views, look_event, writer_of, try_event, MovesByLook, MovesByBegin, MovesByTry, MovesByFill, MovesByBreak, MovesByMend, SeesPlace, SeesIn, Begins, LearnsRow, LearnsEnd, PermitsCell, PermitsEntry, PermitsTrade, PermitsMore, block_roles, entry_roles, placed_roles}
 use Rattle.claim_core.specs.Ties.{Ties, role_view, cell_view, first_stage, Matches, IsInRow, Finds, TiedBy}
 use Rattle.claim_core.specs.Rule.{Kept, size_at}
-use Rattle.claim_core.proofs.TiedViews.{at_below, two_seats, each_at, tie_hand}
+use Rattle.claim_core.proofs.TiedViews.{at_below, two_seats, each_at, hand_is_no_block, hand_is_no_entry, entry_is_no_block, tie_hand}
 use Rattle.claim_core.proofs.TiedRows.{first_idle, finds_cases, seat_new, set_front, tie_block, with_row, with_entry, entry_here, placed_here, knows_published, tie_publish}
 use Rattle.claim_core.proofs.TiedEntries.{with_both, others_spent, tie_enter, tie_adopt}
 use Rattle.claim_core.proofs.RoleSeats.{fits_role, logged_role, fits_all, logged_all}
@@ -242,9 +242,9 @@ module _
       let empty = roles.EmptyEntry from n in
       let block = roles.Block first n in
       let placed = roles.Placed from n in
-      let apart = two_seats s.views entry seat (role_view empty) (role_view block) at_entry at_seat (λ same. cc same) in
-      let no_entry = two_seats s.views id entry v (role_view empty) at at_entry (λ same. absurd (cc (hand, same))) in
-      let no_seat = two_seats s.views id seat v (role_view block) at at_seat (λ same. absurd (cc (hand, same))) in
+      let apart = two_seats s.views entry seat (role_view empty) (role_view block) at_entry at_seat (λ same. entry_is_no_block from n first n same) in
+      let no_entry = two_seats s.views id entry v (role_view empty) at at_entry (λ same. hand_is_no_entry from n (sym hand ∙ same)) in
+      let no_seat = two_seats s.views id seat v (role_view block) at at_seat (λ same. hand_is_no_block first n (sym hand ∙ same)) in
       let vs1 = set s.views entry spent_view in
       let at_seat1 : get_elem? vs1 seat ≡ some (role_view block) = set_else s.views entry seat spent_view (λ e. apart (sym e)) ∙ at_seat in
       let vs2 = set vs1 seat (role_view placed) in

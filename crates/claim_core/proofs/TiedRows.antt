@@ -5,7 +5,7 @@ use Rattle.std.proofs.lemmas.Bool.{cases_lt}
 use Rattle.std.proofs.lemmas.Bool.Decides.{nat_tests}
 use Rattle.std.proofs.lemmas.List.{append-nil, map-append, length-map, length-replicate}
 use Rattle.std.proofs.lemmas.Option.{none-some, same_Some}
-use mathlib.Core.Option.{some}
+use mathlib.Core.Option.{some, some-injective, some-ne-none}
 use lib.ListN.{get_elem?}
 use Rattle.atomic_table.proofs.Lists.{at_longer, set_else}
 use Rattle.book_core.specs.Cells.{CellList}
@@ -17,13 +17,13 @@ use Rattle.claim_core.specs.declared.seat_view.SeatView.{SeatView}
 use Rattle.claim_core.specs.SeatView.{spent_view}
 use Rattle.claim_core.specs.SeatSteps.{cell_roles, block_roles}
 use Rattle.claim_core.specs.Ties.{Ties, role_view, cell_view, first_stage, IsInRow, Finds, Knows, IsBlock, IsEmptyEntry, IsPlaced, IsRole, TiedBy}
-use Rattle.claim_core.proofs.TiedViews.{at_below, same_view, two_seats, each_at, cell_is_no_hand, hand_role, cell_role, is_hand_role, role_knows, tie_snoc}
+use Rattle.claim_core.proofs.TiedViews.{at_below, same_view, two_seats, each_at, cell_is_no_hand, cell_is_no_block, cell_is_no_entry, hand_role, cell_role, is_hand_role, role_knows, tie_snoc}
 
 -- ---- Lists of views
 
 -- a member of the second of two lists
 pub at_middle : (vs ws : List SeatView) (i : ℕ) → get_elem? (vs ++ ws) (length vs + i) ≡ get_elem? ws i
-at_middle [] ws i = ap (get_elem? ws) (omega arith)
+at_middle [] ws i = let same : 0 + i ≡ i = omega arith in ap (get_elem? ws) same
 at_middle (v ∷ vs) ws i =
     let next : length (v ∷ vs) + i ≡ suc (length vs + i) = omega arith in
     ap (get_elem? (v ∷ (vs ++ ws))) next ∙ at_middle vs ws i
@@ -37,8 +37,8 @@ set_front (v ∷ vs) ws (suc i) w lt = ap (λ (l : List SeatView). v ∷ l) (set
 -- the views of cells, one by one
 pub cells_at : (xs : List CellStage) (i : ℕ) (a : CellStage) → get_elem? xs i ≡ some a
     → get_elem? (map role_view (cell_roles xs)) i ≡ some (cell_view a)
-cells_at [] i a at = cc at
-cells_at (x ∷ xs) zero a at = ap (λ (b : CellStage). some (cell_view b)) (cc at)
+cells_at [] i a at = absurd (some-ne-none a (sym at))
+cells_at (x ∷ xs) zero a at = ap (λ (b : CellStage). some (cell_view b)) (some-injective x a at)
 cells_at (x ∷ xs) (suc i) a at = cells_at xs i a at
 
 pub copies_at : (n i : ℕ) (a : CellStage) → i < n → get_elem? (replicate n a) i ≡ some a
@@ -49,9 +49,10 @@ copies_at (suc n) (suc i) a lt = copies_at n i a (omega arith)
 pub stages_at : (stage : ℕ → CellStage) (from n i : ℕ) → i < n
     → get_elem? (map stage (range_with_len from n)) i ≡ some (stage (from + i))
 stages_at stage from zero i lt = absurd (omega arith)
-stages_at stage from (suc n) zero lt = ap (λ (p : ℕ). some (stage p)) (omega arith)
+stages_at stage from (suc n) zero lt = let same : from ≡ from + 0 = omega arith in ap (λ (p : ℕ). some (stage p)) same
 stages_at stage from (suc n) (suc i) lt =
-    stages_at stage (from + 1) n i (omega arith) ∙ ap (λ (p : ℕ). some (stage p)) (omega arith)
+    let same : (from + 1) + i ≡ from + suc i = omega arith in
+    stages_at stage (from + 1) n i (omega arith) ∙ ap (λ (p : ℕ). some (stage p)) same
 
 -- ---- A row of places
 
@@ -59,18 +60,25 @@ stages_at stage from (suc n) (suc i) lt =
 abbrev pub in_row : ℕ → ℕ → ℕ → Bool
 in_row from n place = nat_le from place && nat_lt place (from + n)
 
+row_inside : (from n place : ℕ) → from ≤ place → place < from + n → in_row from n place ≡ true
+row_inside from n place after inside = grind (arith, nat_tests)
+
+row_before : (from n place : ℕ) → place < from → in_row from n place ≡ false
+row_before from n place before = grind (arith, nat_tests)
+
+row_past : (from n place : ℕ) → from + n ≤ place → in_row from n place ≡ false
+row_past from n place past = grind (arith, nat_tests)
+
 -- it is, or is not
 pub row_cases : (from n place : ℕ)
     → ((in_row from n place ≡ true) × (from ≤ place) × (place < from + n)) ⊎ ((in_row from n place ≡ false) × ((i : ℕ) → i < n → place ≢ from + i))
 row_cases from n place =
     ⊎_elim
-    (λ (before : place < from).
-    let no : in_row from n place ≡ false = grind (arith, nat_tests) in inr (no, λ i less is. absurd (omega arith)))
+    (λ (before : place < from). inr (row_before from n place before, (λ i less is. absurd (omega arith))))
     (λ (after : from ≤ place).
     ⊎_elim
-    (λ (inside : place < from + n). let yes : in_row from n place ≡ true = grind (arith, nat_tests) in inl (yes, after, inside))
-    (λ (beyond : from + n ≤ place).
-    let no : in_row from n place ≡ false = grind (arith, nat_tests) in inr (no, λ i less is. absurd (omega arith)))
+    (λ (inside : place < from + n). inl (row_inside from n place after inside, after, inside))
+    (λ (beyond : from + n ≤ place). inr (row_past from n place beyond, (λ i less is. absurd (omega arith))))
     (cases_lt place (from + n)))
     (cases_lt place from)
 
@@ -122,7 +130,9 @@ pub seat_new : (ties : Ties) (from n first i : ℕ) → i < n → (with_row ties
 seat_new ties from n first i less =
     ⊎_elim
     (λ (c : (k : ℕ) × (k < n) × (from + i ≡ from + k) × ((with_row ties from n first).seat_of (from + i) ≡ Some (first + k))).
-    let same = c.2 in c.3 ∙ ap (λ (k : ℕ). Some (first + k)) (omega arith))
+    let is = c.2 in
+    let same : c.0 ≡ i = omega arith in
+    c.3 ∙ ap (λ (k : ℕ). Some (first + k)) same)
     (λ (c : ((k : ℕ) → k < n → from + i ≢ from + k) × ((with_row ties from n first).seat_of (from + i) ≡ ties.seat_of (from + i))).
     absurd (c.0 i less refl))
     (seat_cases ties from n first (from + i))
@@ -144,6 +154,44 @@ pub finds_cases : (row : RowAt) (rows : List RowAt) (place seat : ℕ) → Finds
     → IsInRow row place seat ⊎ Finds rows place seat
 finds_cases row rows place seat (r, (zero, lt, is), there) = inl (subst (λ (x : RowAt). IsInRow x place seat) (sym is) there)
 finds_cases row rows place seat (r, (suc i, lt, is), there) = inr (r, (i, omega arith, is), there)
+
+-- ---- Roles
+
+-- the role of a block
+pub block_role : (ties : Ties) (views : List SeatView) (id first n : ℕ) → IsBlock ties views id first n
+    → IsRole ties views id (roles.Block first n)
+block_role ties views id first n is_block = record {
+  block = λ f m is.
+      let same_first : first ≡ f = cc is in
+      let same_n : n ≡ m = cc is in
+      subst (λ (k : ℕ). IsBlock ties views id k m) same_first (subst (IsBlock ties views id first) same_n is_block);
+  empty = λ from m is. absurd (cc is);
+  placed = λ from m is. absurd (cc is);
+}
+
+-- the role of a block that an entry is set to
+pub placed_role : (ties : Ties) (views : List SeatView) (id from n : ℕ) → IsPlaced ties id from n
+    → IsRole ties views id (roles.Placed from n)
+placed_role ties views id from n is_placed = record {
+  block = λ first m is. absurd (cc is);
+  empty = λ f m is. absurd (cc is);
+  placed = λ f m is.
+      let same_from : from ≡ f = cc is in
+      let same_n : n ≡ m = cc is in
+      subst (λ (k : ℕ). IsPlaced ties id k m) same_from (subst (IsPlaced ties id from) same_n is_placed);
+}
+
+-- the role of an entry that is not set
+pub empty_role : (ties : Ties) (views : List SeatView) (id from n : ℕ) → IsEmptyEntry ties id from n
+    → IsRole ties views id (roles.EmptyEntry from n)
+empty_role ties views id from n is_empty = record {
+  block = λ first m is. absurd (cc is);
+  empty = λ f m is.
+      let same_from : from ≡ f = cc is in
+      let same_n : n ≡ m = cc is in
+      subst (λ (k : ℕ). IsEmptyEntry ties id k m) same_from (subst (IsEmptyEntry ties id from) same_n is_empty);
+  placed = λ f m is. absurd (cc is);
+}
 
 -- ---- Blocks
 
@@ -183,15 +231,7 @@ module _
       subst (TiedBy limit base filled lengths list ties) split
       (tie_snoc limit base filled lengths list ties mid (tie_cells (replicate n stages.Idle) vs tied) block
       (role_knows base lengths ties (roles.Block (length vs) n))
-      (record {
-        block = λ first m is.
-            let same_first : length vs ≡ first = cc is in
-            let same_n : n ≡ m = cc is in
-            subst (λ (f : ℕ). IsBlock ties (mid ++ block ∷ []) (length mid) f m) same_first
-            (subst (IsBlock ties (mid ++ block ∷ []) (length mid) (length vs)) same_n is_block);
-        empty = λ from m is. absurd (cc is);
-        placed = λ from m is. absurd (cc is);
-      }))
+      (block_role ties (mid ++ block ∷ []) (length mid) (length vs) n is_block))
 
 -- ---- A row whose cells get seats
 
@@ -262,30 +302,6 @@ pub placed_here : (ties : Ties) (views : List SeatView) (id from n : ℕ) → Is
     → IsPlaced ties id from n
 placed_here ties views id from n role = role.placed from n refl
 
--- the role of a block that an entry is set to
-pub placed_role : (ties : Ties) (views : List SeatView) (id from n : ℕ) → IsPlaced ties id from n
-    → IsRole ties views id (roles.Placed from n)
-placed_role ties views id from n is_placed = record {
-  block = λ first m is. absurd (cc is);
-  empty = λ f m is. absurd (cc is);
-  placed = λ f m is.
-      let same_from : from ≡ f = cc is in
-      let same_n : n ≡ m = cc is in
-      subst (λ (k : ℕ). IsPlaced ties id k m) same_from (subst (IsPlaced ties id from) same_n is_placed);
-}
-
--- the role of an entry that is not set
-pub empty_role : (ties : Ties) (views : List SeatView) (id from n : ℕ) → IsEmptyEntry ties id from n
-    → IsRole ties views id (roles.EmptyEntry from n)
-empty_role ties views id from n is_empty = record {
-  block = λ first m is. absurd (cc is);
-  empty = λ f m is.
-      let same_from : from ≡ f = cc is in
-      let same_n : n ≡ m = cc is in
-      subst (λ (k : ℕ). IsEmptyEntry ties id k m) same_from (subst (IsEmptyEntry ties id from) same_n is_empty);
-  placed = λ f m is. absurd (cc is);
-}
-
 module _
     (limit base : ℕ) (filled : List Bool) (lengths : List ℕ) (list : CellList) (ties : Ties) (vs : List SeatView)
     (tied : TiedBy limit base filled lengths list ties vs) where
@@ -339,9 +355,9 @@ module _
         set_else (set (set vs entry spent_view) seat (role_view (roles.Placed from n))) id j w
         (two_seats vs j id (cell_view a) v here at (λ same. cell_is_no_hand a (same ∙ is_hand)))
         ∙ (set_else (set vs entry spent_view) seat j (role_view (roles.Placed from n))
-          (two_seats vs j seat (cell_view a) (role_view (roles.Block first n)) here at_seat (λ same. cc same))
+          (two_seats vs j seat (cell_view a) (role_view (roles.Block first n)) here at_seat (λ same. cell_is_no_block a first n same))
         ∙ (set_else vs entry j spent_view
-          (two_seats vs j entry (cell_view a) (role_view (roles.EmptyEntry from n)) here at_entry (λ same. cc same))
+          (two_seats vs j entry (cell_view a) (role_view (roles.EmptyEntry from n)) here at_entry (λ same. cell_is_no_entry a from n same))
         ∙ here))
 
     -- a place that had a seat has it still
@@ -398,7 +414,7 @@ module _
                     ⊎_elim
                     (λ (c : (i : ℕ) × (i < n) × (q ≡ from + i) × (ties'.seat_of q ≡ Some (first + i))).
                     blocks_apart seat j first n first' n' (c.0) i' is_block b (role_view (roles.Block first n)) u at_seat here
-                    (λ a same. cc same) (λ a same. cc (is, same)) not_seat (c.1) less'
+                    (λ a same. cell_is_no_block a first n (sym same)) (λ a same. cell_is_no_block a first' n' (sym same ∙ is)) not_seat (c.1) less'
                     (same_Some (first + c.0) (first' + i') (sym (c.3) ∙ has)))
                     (λ (c : ((i : ℕ) → i < n → q ≢ from + i) × (ties'.seat_of q ≡ ties.seat_of q)).
                     b.nowhere i' q less' (sym (c.1) ∙ has))

@@ -2,7 +2,7 @@
 use Rattle.std.proofs.Common.{◌≡◌, ◌≢◌, ◌⊎◌, ℕ, zero, suc, ◌+◌, ◌-◌, ◌<◌, ◌==◌, if◌then◌else◌, Bool, true, false, List, [], ◌∷◌, ◌++◌, length, set, Some, None, slice_get, refl, ap, sym, ◌∙◌, subst, inl, inr, ⊎_elim, arith}
 use Rattle.std.specs.List.{Contains}
 use Rattle.std.proofs.lemmas.Bool.Decides.{nat_tests, eqb_tells}
-use Rattle.std.proofs.lemmas.Option.{same_Some}
+use Rattle.std.proofs.lemmas.Option.{none-some, same_Some}
 use mathlib.Core.Option.{some, some-injective, some-ne-none}
 use lib.ListN.{get_elem?}
 use Rattle.atomic_table.proofs.Lists.{at_set, at_longer, set_else}
@@ -53,7 +53,7 @@ at_end (x ∷ xs) w v zero at = inl at
 at_end (x ∷ xs) w v (suc j) at =
     ⊎_elim
     (λ (c : get_elem? xs j ≡ some v). inl c)
-    (λ (c : (j ≡ length xs) × (w ≡ v)). inr (let e = c.0 in omega arith, c.1))
+    (λ (c : (j ≡ length xs) × (w ≡ v)). inr ((let e = c.0 in omega arith), c.1))
     (at_end xs w v j at)
 
 pub each_at_end : (F : ℕ → SeatView → Type 0) (vs : List SeatView) (w : SeatView) → F (length vs) w
@@ -67,8 +67,24 @@ each_at_end F vs w new old j v at =
 
 -- ---- Roles
 
+-- roles of two kinds differ
 pub cell_is_no_hand : (stage : CellStage) → roles.Cell stage ≡ roles.Hand → ⊥
 cell_is_no_hand stage e = cc e
+
+pub cell_is_no_block : (stage : CellStage) (first n : ℕ) → roles.Cell stage ≡ roles.Block first n → ⊥
+cell_is_no_block stage first n e = cc e
+
+pub cell_is_no_entry : (stage : CellStage) (from n : ℕ) → roles.Cell stage ≡ roles.EmptyEntry from n → ⊥
+cell_is_no_entry stage from n e = cc e
+
+pub hand_is_no_block : (first n : ℕ) → roles.Hand ≡ roles.Block first n → ⊥
+hand_is_no_block first n e = cc e
+
+pub hand_is_no_entry : (from n : ℕ) → roles.Hand ≡ roles.EmptyEntry from n → ⊥
+hand_is_no_entry from n e = cc e
+
+pub entry_is_no_block : (from n first m : ℕ) → roles.EmptyEntry from n ≡ roles.Block first m → ⊥
+entry_is_no_block from n first m e = cc e
 
 -- two cells at one seat are at one stage
 pub same_stage : (a b : CellStage) → cell_view a ≡ cell_view b → a ≡ b
@@ -279,7 +295,7 @@ module _
         bare_moved : (q : ℕ) → ties.seat_of q ≡ None → (with_stage ties place b).stage q ≡ ties.stage q
         bare_moved q none =
             ⊎_elim
-            (λ (c : (q ≡ place) × ((with_stage ties place b).stage q ≡ b)). absurd (cc (none, there, c.0)))
+            (λ (c : (q ≡ place) × ((with_stage ties place b).stage q ≡ b)). absurd (none-some seat (sym none ∙ (ap ties.seat_of (c.0) ∙ there))))
             (λ (c : (q ≢ place) × ((with_stage ties place b).stage q ≡ ties.stage q)). c.1)
             (stage_cases ties place q b)
 

@@ -81,7 +81,7 @@ look_legal limit base lengths list place a below m = (
   list,
   look_applies list 0 place (slice_get list.cells place) refl
       ∙ ap (λ (r : Reply). Some (list, r))
-        (shown_reply limit base (length list.cells) lengths place (slice_get list.cells place) a (claimed list place below) m),
+      (shown_reply limit base (length list.cells) lengths place (slice_get list.cells place) a (claimed list place below) m),
   refl,
 )
 

@@ -108,7 +108,7 @@ module _ (start : CellList) (es : Log) (v : CellList) (so_far : IsHistory start 
       let is : run.actor ≡ k = pending_one run.actor k (sym (get_appended v.cells run.n place (Pending run.actor) past inside) ∙ now) in
       inl (ap (λ rs. owner_of rs place) (runs_of-append es (e ∷ []) ∙ ap (λ rs. runs_of es ++ (rs ++ [])) run.run)
       ∙ (owner_new (runs_of es) (record { owner = run.actor; from = length v.cells; n = run.n } ∷ []) place
-        (none_past (length start.cells) (length v.cells) (runs_of es) place (runs_tile start v es so_far) past)
+      (none_past (length start.cells) (length v.cells) (runs_of es) place (runs_tile start v es so_far) past)
       ∙ (ap (λ b. if b then Some run.actor else None) (has_place-true (record { owner = run.actor; from = length v.cells; n = run.n }) place past inside)
       ∙ ap Some is))))
       (λ (beyond : length v.cells + run.n ≤ place). absurd (none-some (Pending k) (sym (slice_get_past all place (omega arith)) ∙ now)))

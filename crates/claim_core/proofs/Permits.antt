@@ -234,7 +234,7 @@ module _
   -- a block's entry is set, if it was not: the hand then knows the row
   pub permits_publish : (entry seat from first n : ℕ) → v.base ≤ from
       → PermitsTrade (Kept terms) id v entry (role_view (roles.EmptyEntry from n)) spent_view seat (role_view (roles.Block first n))
-        (role_view (roles.Placed from n)) (LearnsRow v (record { from = from; n = n; seat = first }))
+      (role_view (roles.Placed from n)) (LearnsRow v (record { from = from; n = n; seat = first }))
   permits_publish entry seat from first n past s kept at at_entry at_seat =
       let row : RowAt = record { from = from; n = n; seat = first } in
       let size = get_or s.words size_at 0 in
@@ -285,7 +285,7 @@ module _
   -- Seats are made beside a hand that adds no events, and may know another end of the entries
   makes : (s : ClaimState) (kept : Kept terms s) (at : get_elem? s.views id ≡ some v) (made : List Role) (laid : ℕ) (ties' : Ties)
       → ((log : Log) → TiedBy terms.limit terms.base terms.mark.filled kept.lengths kept.list ties'
-        (set s.views id (noted v log v.begun v.rows laid) ++ map role_view made))
+      (set s.views id (noted v log v.begun v.rows laid) ++ map role_view made))
       → Noted terms s (s.views ++ map role_view made) id v [] v.begun v.rows laid
   makes s kept at made laid ties' tied =
       let ms = map role_view made in

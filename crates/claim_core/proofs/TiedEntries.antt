@@ -275,7 +275,7 @@ module _
         let split : adopted ≡ vs ++ map role_view (placed_roles stage from n (length vs)) =
         append_assoc vs cells (role_view (roles.Placed from n) ∷ [])
         ∙ ap (λ (l : List SeatView). vs ++ l)
-          (sym (map-append role_view (cell_roles (map stage (range_with_len from n))) (roles.Placed from n ∷ []))) in
+        (sym (map-append role_view (cell_roles (map stage (range_with_len from n))) (roles.Placed from n ∷ []))) in
         subst (TiedBy limit base filled lengths list entered_ties) split
         (record {
           shown = tied.shown;

@@ -103,7 +103,7 @@ with_entry ties from n seat =
 -- a place is one of the row, or has the seat that it had
 pub seat_cases : (ties : Ties) (from n first q : ℕ)
     → ((i : ℕ) × (i < n) × (q ≡ from + i) × ((with_row ties from n first).seat_of q ≡ Some (first + i)))
-      ⊎ (((i : ℕ) → i < n → q ≢ from + i) × ((with_row ties from n first).seat_of q ≡ ties.seat_of q))
+    ⊎ (((i : ℕ) → i < n → q ≢ from + i) × ((with_row ties from n first).seat_of q ≡ ties.seat_of q))
 seat_cases ties from n first q =
     ⊎_elim
     (λ (c : (in_row from n q ≡ true) × (from ≤ q) × (q < from + n)).
@@ -115,7 +115,7 @@ seat_cases ties from n first q =
 
 pub entry_cases : (ties : Ties) (from n seat q : ℕ)
     → ((i : ℕ) × (i < n) × (q ≡ from + i) × ((with_entry ties from n seat).entry_of q ≡ Some seat))
-      ⊎ (((i : ℕ) → i < n → q ≢ from + i) × ((with_entry ties from n seat).entry_of q ≡ ties.entry_of q))
+    ⊎ (((i : ℕ) → i < n → q ≢ from + i) × ((with_entry ties from n seat).entry_of q ≡ ties.entry_of q))
 entry_cases ties from n seat q =
     ⊎_elim
     (λ (c : (in_row from n q ≡ true) × (from ≤ q) × (q < from + n)).
@@ -355,9 +355,9 @@ module _
         set_else (set (set vs entry spent_view) seat (role_view (roles.Placed from n))) id j w
         (two_seats vs j id (cell_view a) v here at (λ same. cell_is_no_hand a (same ∙ is_hand)))
         ∙ (set_else (set vs entry spent_view) seat j (role_view (roles.Placed from n))
-          (two_seats vs j seat (cell_view a) (role_view (roles.Block first n)) here at_seat (λ same. cell_is_no_block a first n same))
+        (two_seats vs j seat (cell_view a) (role_view (roles.Block first n)) here at_seat (λ same. cell_is_no_block a first n same))
         ∙ (set_else vs entry j spent_view
-          (two_seats vs j entry (cell_view a) (role_view (roles.EmptyEntry from n)) here at_entry (λ same. cell_is_no_entry a from n same))
+        (two_seats vs j entry (cell_view a) (role_view (roles.EmptyEntry from n)) here at_entry (λ same. cell_is_no_entry a from n same))
         ∙ here))
 
     -- a place that had a seat has it still

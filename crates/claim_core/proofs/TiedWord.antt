@@ -46,7 +46,7 @@ first_matches limit base place lengths false = refl
 -- the stage that a word begins with matches its list
 first_shown : (limit base : ℕ) (filled : List Bool) (place : ℕ) (below : Bool) → nat_lt place base ≡ below
     → Matches limit base [] place (slice_get (first_list limit base filled).cells place)
-      (if below then (if get_or filled place false then stages.Filled else stages.Broken) else stages.Idle)
+    (if below then (if get_or filled place false then stages.Filled else stages.Broken) else stages.Idle)
 first_shown limit base filled place true is =
     let there : place < base = grind (arith, nat_tests) in
     subst (λ (c : Option Cell). Matches limit base [] place c (if get_or filled place false then stages.Filled else stages.Broken))
@@ -60,7 +60,7 @@ first_shown limit base filled place false is =
 -- a word begins with one hand, and nothing is tied
 pub ties_begin : (terms : Terms)
     → TiedBy terms.limit terms.base terms.mark.filled [] (first_list terms.limit terms.base terms.mark.filled) (no_ties terms.base terms.mark.filled)
-      (first_view terms ∷ [])
+    (first_view terms ∷ [])
 ties_begin terms =
     let ties = no_ties terms.base terms.mark.filled in
     let views : List SeatView = first_view terms ∷ [] in

@@ -49,21 +49,21 @@ abbrev pub FillsArePermitted : Type 0
 FillsArePermitted =
     (terms : Terms) (id seat place index : ℕ) (v : SeatView) → FindsPlace terms v place seat → SeesIn v index place
     → PermitsCell (Kept terms) id v seat MovesByFill
-      (λ stage after. Remarks v (fill_event (writer_of terms.limit index place stage) place ∷ []))
+    (λ stage after. Remarks v (fill_event (writer_of terms.limit index place stage) place ∷ []))
 
 -- so does a break
 abbrev pub BreaksArePermitted : Type 0
 BreaksArePermitted =
     (terms : Terms) (id seat place index : ℕ) (v : SeatView) → FindsPlace terms v place seat → SeesIn v index place
     → PermitsCell (Kept terms) id v seat MovesByBreak
-      (λ stage after. Remarks v (break_event (writer_of terms.limit index place stage) place ∷ []))
+    (λ stage after. Remarks v (break_event (writer_of terms.limit index place stage) place ∷ []))
 
 -- a try to mend logs the mend, or what a look shows
 abbrev pub MendsArePermitted : Type 0
 MendsArePermitted =
     (terms : Terms) (id seat place : ℕ) (v : SeatView) → FindsPlace terms v place seat → SeesPlace v place
     → PermitsCell (Kept terms) id v seat MovesByMend
-      (λ stage after. Remarks v (try_event terms.limit place stage after ∷ []))
+    (λ stage after. Remarks v (try_event terms.limit place stage after ∷ []))
 
 -- a begin by a load, of an own place that the hand does not know begun, finds it idle
 abbrev pub BeginsArePermitted : Type 0
@@ -96,7 +96,7 @@ abbrev pub PublishingIsPermitted : Type 0
 PublishingIsPermitted =
     (terms : Terms) (id entry seat from first n : ℕ) (v : SeatView) → IsHandSeat terms v → v.base ≤ from
     → PermitsTrade (Kept terms) id v entry (role_view (roles.EmptyEntry from n)) spent_view seat
-      (role_view (roles.Block first n)) (role_view (roles.Placed from n)) (LearnsRow v (record { from = from; n = n; seat = first }))
+    (role_view (roles.Block first n)) (role_view (roles.Placed from n)) (LearnsRow v (record { from = from; n = n; seat = first }))
 
 -- a block and its cells may be made
 abbrev pub LayingIsPermitted : Type 0

@@ -12,15 +12,11 @@ pub fn looks_are_permitted()
 {}
 
 /// States that a cell which one call has may be filled or broken, and that this logs the event of the actor whose
-/// run has the place, or of its mender.
+/// run has the place, or of its mender; and that a try to mend a cell logs the mend, or what a look shows.
 pub fn writes_are_permitted()
     ensures fills { FillsArePermitted }
     ensures breaks { BreaksArePermitted }
-{}
-
-/// States that a try to mend a cell logs the mend, or what a look shows.
-pub fn mends_are_permitted()
-    ensures { MendsArePermitted }
+    ensures mends { MendsArePermitted }
 {}
 
 /// States that a hand may begin its own places: by a load, one that it does not know begun, which was idle; by an

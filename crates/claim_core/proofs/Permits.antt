@@ -1,5 +1,5 @@
 -- What the rule permits: steps on cells and entries by a hand that knows enough.
-use Rattle.std.proofs.Common.{◌≡◌, ◌≢◌, ◌⊎◌, ℕ, ◌+◌, ◌-◌, ◌<◌, ◌≤◌, List, [], ◌∷◌, ◌++◌, length, map, set, get_or, Some, None, slice_get, refl, ap, sym, ◌∙◌, subst, ⊎_elim, arith, length-set}
+use Rattle.std.proofs.Common.{◌≡◌, ◌≢◌, ℕ, ◌+◌, ◌-◌, ◌<◌, ◌≤◌, List, [], ◌∷◌, ◌++◌, length, map, set, get_or, Some, None, slice_get, refl, ap, sym, ◌∙◌, subst, ⊎_elim, arith, length-set}
 use Rattle.std.specs.List.{Contains}
 use mathlib.Core.Option.{some}
 use lib.ListN.{get_elem?}

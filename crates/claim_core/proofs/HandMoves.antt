@@ -83,13 +83,21 @@ module _
         consistent = settled_in terms size kept.lengths list' ties' (set vs id w) fits' logged' (tied log) id w (at_set_here vs id v w at) is_limit is_base is_filled;
       }
 
-  -- a step that leaves the view of another seat: the list stays, and what the hand then knows is true
+  -- a step that leaves all other seats: the list stays, and what the hand then knows is true
+  pub learns : get_elem? s.views id ≡ some v → (es : Log) → claims_in es ≡ [] → IsHistory kept.list es kept.list
+      → (begun : List ℕ) (rows : List RowAt) (laid : ℕ)
+      → ((log : Log) → Knows terms.base kept.lengths kept.ties (noted v log begun rows laid))
+      → Noted terms s s.views id v es begun rows laid
+  learns at es nothing here begun rows laid knows =
+      let hand : v.role ≡ Hand = (kept.tied.each id v at).hand part in
+      moves_on s.views kept.fits kept.logged at es nothing kept.list here begun rows laid kept.ties
+      (λ log. tie_hand terms.limit terms.base terms.mark.filled kept.lengths kept.list kept.ties s.views kept.tied id v at hand (noted v log begun rows laid) hand (knows log))
+
+  -- the same, said of a seat that has the view that it had
   pub leaves : get_elem? s.views id ≡ some v → (seat : ℕ) (x : SeatView) → get_elem? s.views seat ≡ some x
       → (es : Log) → claims_in es ≡ [] → IsHistory kept.list es kept.list → (begun : List ℕ) (rows : List RowAt) (laid : ℕ)
       → ((log : Log) → Knows terms.base kept.lengths kept.ties (noted v log begun rows laid))
       → Noted terms s (set s.views seat x) id v es begun rows laid
   leaves at seat x there es nothing here begun rows laid knows =
-      let hand : v.role ≡ Hand = (kept.tied.each id v at).hand part in
       subst (λ (vs : List SeatView). Noted terms s vs id v es begun rows laid) (sym (set_again s.views seat x there))
-      (moves_on s.views kept.fits kept.logged at es nothing kept.list here begun rows laid kept.ties
-      (λ log. tie_hand terms.limit terms.base terms.mark.filled kept.lengths kept.list kept.ties s.views kept.tied id v at hand (noted v log begun rows laid) hand (knows log)))
+      (learns at es nothing here begun rows laid knows)

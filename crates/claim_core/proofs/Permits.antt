@@ -3,6 +3,7 @@ use Rattle.std.proofs.Common.{◌≡◌, ◌≢◌, ℕ, ◌+◌, ◌-◌, ◌<�
 use Rattle.std.specs.List.{Contains}
 use mathlib.Core.Option.{some}
 use lib.ListN.{get_elem?}
+use Rattle.std.proofs.Math.Seq.{set_comm}
 use Rattle.atomic_table.proofs.Lists.{at_longer, set_else}
 use Rattle.claim_core.specs.declared.role.CellStage.{CellStage}
 use Rattle.claim_core.specs.declared.role.CellStage.TheVariants as stages
@@ -15,14 +16,14 @@ use Rattle.claim_core.specs.Lengths.{InRun}
 use Rattle.claim_core.specs.History.{Log, fill_event, break_event, mend_event}
 use Rattle.claim_core.specs.Shares.{all_shares}
 use Rattle.claim_core.specs.SeatView.{spent_view, Remarks}
-use Rattle.claim_core.specs.SeatSteps.{ClaimState, with_views, look_event, writer_of, try_event, MovesByLook, MovesByBegin, MovesByTry, MovesByFill, MovesByBreak, MovesByMend, SeesPlace, SeesIn, Begins, LearnsRow, LearnsEnd, PermitsCell, PermitsEntry, PermitsTrade, PermitsMore, block_roles, entry_roles, placed_roles}
+use Rattle.claim_core.specs.SeatSteps.{ClaimState, with_views, look_event, writer_of, try_event, MovesByLook, MovesByBegin, MovesByTry, MovesByFill, MovesByBreak, MovesByMend, SeesPlace, SeesIn, Begins, LearnsRow, LearnsEnd, PermitsCell, PermitsEntry, PermitsTrade, PermitsBlock, PermitsMore, entry_roles, placed_roles}
 use Rattle.claim_core.specs.Ties.{Ties, role_view, cell_view, first_stage, Matches, IsInRow, Finds, TiedBy}
 use Rattle.claim_core.specs.Rule.{Kept, size_at}
-use Rattle.claim_core.proofs.TiedViews.{at_below, two_seats, each_at, hand_is_no_block, hand_is_no_entry, entry_is_no_block, tie_hand}
-use Rattle.claim_core.proofs.TiedRows.{first_idle, finds_cases, seat_new, set_front, tie_block, with_row, with_entry, entry_here, placed_here, knows_published, tie_publish}
+use Rattle.claim_core.proofs.TiedViews.{at_below, two_seats, each_at, cell_is_no_hand, hand_is_no_block, hand_is_no_entry, entry_is_no_block, tie_hand}
+use Rattle.claim_core.proofs.TiedRows.{first_idle, finds_cases, seat_new, set_front, block_roles, block_seen, tie_block, with_row, with_entry, entry_here, placed_here, knows_published, tie_publish}
 use Rattle.claim_core.proofs.TiedEntries.{with_both, others_spent, tie_enter, tie_adopt}
 use Rattle.claim_core.proofs.RoleSeats.{fits_role, logged_role, fits_all, logged_all}
-use Rattle.claim_core.proofs.HandMoves.{noted, Noted, moves_on, leaves}
+use Rattle.claim_core.proofs.HandMoves.{noted, Noted, moves_on, learns}
 use Rattle.claim_core.proofs.CellEvents.{look_legal}
 use Rattle.claim_core.proofs.CellSteps.{looks_at, fills, breaks_at, mends, misses, begins, finds_begun, not_begun, seen_below}
 
@@ -85,16 +86,53 @@ told_end terms s vs id v laid step = (
   },
 )
 
+-- one other seat has moved, or two
+told_seat : (terms : Terms) (s : ClaimState) (k : ℕ) (x : SeatView) (id : ℕ) (then : SeatView → Type 0) → k ≢ id
+    → Told terms s (set s.views k x) id then → (w : SeatView) × Kept terms (with_views s (set (set s.views id w) k x)) × then w
+told_seat terms s k x id then apart told =
+    (told.0, subst (λ (l : List SeatView). Kept terms (with_views s l)) (set_comm s.views k id x (told.0) apart) (told.1), told.2)
+
+told_trade : (terms : Terms) (s : ClaimState) (k : ℕ) (x : SeatView) (j : ℕ) (y : SeatView) (id : ℕ) (then : SeatView → Type 0)
+    → k ≢ id → j ≢ id → Told terms s (set (set s.views k x) j y) id then
+    → (w : SeatView) × Kept terms (with_views s (set (set (set s.views id w) k x) j y)) × then w
+told_trade terms s k x j y id then apart other_apart told =
+    let order : set (set (set s.views k x) j y) id (told.0) ≡ set (set (set s.views id (told.0)) k x) j y =
+    set_comm (set s.views k x) j id y (told.0) other_apart
+    ∙ ap (λ (l : List SeatView). set l j y) (set_comm s.views k id x (told.0) apart) in
+    (told.0, subst (λ (l : List SeatView). Kept terms (with_views s l)) order (told.1), told.2)
+
 -- seats were made behind the hand's
 told_front : (terms : Terms) (s : ClaimState) (vs ms : List SeatView) (id : ℕ) (then : SeatView → Type 0) → id < length vs
     → Told terms s (vs ++ ms) id then → (w : SeatView) × Kept terms (with_views s (set vs id w ++ ms)) × then w
 told_front terms s vs ms id then lt told =
     (told.0, subst (λ (l : List SeatView). Kept terms (with_views s l)) (set_front vs ms id (told.0) lt) (told.1), told.2)
 
+-- a block and its cells are made
+pub permits_laying : (terms : Terms) (n : ℕ) → PermitsBlock (Kept terms) n
+permits_laying terms n s kept =
+    let made = block_roles n (length s.views) in
+    let laid : Kept terms (with_views s (s.views ++ map role_view made)) =
+    record {
+      words = kept.words;
+      lengths = kept.lengths;
+      list = kept.list;
+      ties = kept.ties;
+      fits = fits_all terms.limit terms.base (get_or s.words size_at 0) kept.lengths made s.views kept.fits;
+      logged = logged_all terms.limit terms.base terms.mark.filled kept.lengths kept.list made s.views kept.logged;
+      tied = tie_block terms.limit terms.base terms.mark.filled kept.lengths kept.list kept.ties n s.views kept.tied;
+    } in
+    subst (λ (l : List SeatView). Kept terms (with_views s l)) (block_seen s.views n (length s.views)) laid
+
 module _
     (terms : Terms) (id : ℕ) (v : SeatView) (is_limit : v.limit ≡ terms.limit) (is_base : v.base ≡ terms.base)
     (is_filled : v.filled ≡ terms.mark.filled) (part : 0 < v.shares) where
   -- ---- Cells
+
+  -- a cell's seat is not the hand's
+  cell_apart : (s : ClaimState) (kept : Kept terms s) → get_elem? s.views id ≡ some v → (seat : ℕ) (a : CellStage)
+      → get_elem? s.views seat ≡ some (cell_view a) → seat ≢ id
+  cell_apart s kept at seat a cell =
+      two_seats s.views seat id (cell_view a) v cell at (λ same. cell_is_no_hand a (same ∙ (kept.tied.each id v at).hand part))
 
   module _ (place seat : ℕ) (found : Finds v.rows place seat) where
     -- the seat is that of the place
@@ -105,27 +143,30 @@ module _
     pub permits_look : SeesPlace v place
         → PermitsCell (Kept terms) id v seat MovesByLook (λ a b. Remarks v (look_event place a ∷ []))
     permits_look below a b moves s kept at cell =
-        subst (λ (c : CellStage). Told terms s (set s.views seat (cell_view c)) id (Remarks v (look_event place a ∷ []))) (sym moves)
+        told_seat terms s seat (cell_view b) id (Remarks v (look_event place a ∷ [])) (cell_apart s kept at seat a cell)
+        (subst (λ (c : CellStage). Told terms s (set s.views seat (cell_view c)) id (Remarks v (look_event place a ∷ []))) (sym moves)
         (told_remarks terms s (set s.views seat (cell_view a)) id v (look_event place a ∷ [])
-        (looks_at terms s kept id v is_limit is_base is_filled part at place seat (there s kept at) a cell below))
+        (looks_at terms s kept id v is_limit is_base is_filled part at place seat (there s kept at) a cell below)))
 
     -- a fill of a cell that one call has, in a run that the hand has seen
     pub permits_fill : (index : ℕ) → SeesIn v index place
         → PermitsCell (Kept terms) id v seat MovesByFill (λ a b. Remarks v (fill_event (writer_of terms.limit index place a) place ∷ []))
     permits_fill index known a b moves s kept at cell =
         let es : Log = fill_event (writer_of terms.limit index place a) place ∷ [] in
-        subst (λ (c : CellStage). Told terms s (set s.views seat (cell_view c)) id (Remarks v es)) (sym (moves.1))
+        told_seat terms s seat (cell_view b) id (Remarks v es) (cell_apart s kept at seat a cell)
+        (subst (λ (c : CellStage). Told terms s (set s.views seat (cell_view c)) id (Remarks v es)) (sym (moves.1))
         (told_remarks terms s (set s.views seat (cell_view stages.Filled)) id v es
-        (fills terms s kept id v is_limit is_base is_filled part at place seat (there s kept at) a cell (moves.0) index known))
+        (fills terms s kept id v is_limit is_base is_filled part at place seat (there s kept at) a cell (moves.0) index known)))
 
     -- a break of such a cell
     pub permits_break : (index : ℕ) → SeesIn v index place
         → PermitsCell (Kept terms) id v seat MovesByBreak (λ a b. Remarks v (break_event (writer_of terms.limit index place a) place ∷ []))
     permits_break index known a b moves s kept at cell =
         let es : Log = break_event (writer_of terms.limit index place a) place ∷ [] in
-        subst (λ (c : CellStage). Told terms s (set s.views seat (cell_view c)) id (Remarks v es)) (sym (moves.1))
+        told_seat terms s seat (cell_view b) id (Remarks v es) (cell_apart s kept at seat a cell)
+        (subst (λ (c : CellStage). Told terms s (set s.views seat (cell_view c)) id (Remarks v es)) (sym (moves.1))
         (told_remarks terms s (set s.views seat (cell_view stages.Broken)) id v es
-        (breaks_at terms s kept id v is_limit is_base is_filled part at place seat (there s kept at) a cell (moves.0) index known))
+        (breaks_at terms s kept id v is_limit is_base is_filled part at place seat (there s kept at) a cell (moves.0) index known)))
 
     -- a broken cell that is taken for mending
     mends_broken : (s : ClaimState) (kept : Kept terms s) → get_elem? s.views id ≡ some v → (a : CellStage)
@@ -141,7 +182,8 @@ module _
     pub permits_mend : SeesPlace v place
         → PermitsCell (Kept terms) id v seat MovesByMend (λ a b. Remarks v (try_event terms.limit place a b ∷ []))
     permits_mend below a b moves s kept at cell =
-        ⊎_elim
+        told_seat terms s seat (cell_view b) id (Remarks v (try_event terms.limit place a b ∷ [])) (cell_apart s kept at seat a cell)
+        (⊎_elim
         (λ (c : (a ≡ stages.Broken) × (b ≡ stages.Mending)).
         subst (λ (y : CellStage). Told terms s (set s.views seat (cell_view y)) id (Remarks v (try_event terms.limit place a y ∷ []))) (sym (c.1))
         (mends_broken s kept at a cell (c.0)))
@@ -149,7 +191,7 @@ module _
         subst (λ (y : CellStage). Told terms s (set s.views seat (cell_view y)) id (Remarks v (try_event terms.limit place a y ∷ []))) (sym c)
         (told_remarks terms s (set s.views seat (cell_view a)) id v (try_event terms.limit place a a ∷ [])
         (misses terms s kept id v is_limit is_base is_filled part at place seat (there s kept at) a cell below)))
-        moves
+        moves)
 
     module _ (index : ℕ) (owned : Contains v.mine index) (in_run : InRun v.base v.seen index place) where
       -- a begin of an idle cell
@@ -168,19 +210,21 @@ module _
       permits_begin unknown a b moves s kept at cell =
           let idle : a ≡ stages.Idle =
           not_begun terms s kept id v is_limit is_base is_filled part at place seat (there s kept at) index owned in_run a cell unknown in
-          let told = begins_idle s kept at a b cell idle (moves.1) in
+          let told =
+          told_seat terms s seat (cell_view b) id (Begins v place) (cell_apart s kept at seat a cell) (begins_idle s kept at a b cell idle (moves.1)) in
           (told.0, told.1, (idle, told.2))
 
       -- a begin by an exchange, won or lost
       pub permits_try : PermitsCell (Kept terms) id v seat MovesByTry (λ a b. Begins v place)
       permits_try a b moves s kept at cell =
-          ⊎_elim
+          told_seat terms s seat (cell_view b) id (Begins v place) (cell_apart s kept at seat a cell)
+          (⊎_elim
           (λ (c : (a ≡ stages.Idle) × (b ≡ stages.Begun)). begins_idle s kept at a b cell (c.0) (c.1))
           (λ (c : (a ≢ stages.Idle) × (b ≡ a)).
           subst (λ (y : CellStage). Told terms s (set s.views seat (cell_view y)) id (Begins v place)) (sym (c.1))
           (told_begins terms s (set s.views seat (cell_view a)) id v place
           (finds_begun terms s kept id v is_limit is_base is_filled part at place seat (there s kept at) index owned in_run a cell (c.0))))
-          moves
+          moves)
 
   -- ---- Entries
 
@@ -195,8 +239,8 @@ module _
       let idle : kept.ties.stage place ≡ stages.Idle =
       kept.tied.bare place none ∙ first_idle terms.base terms.mark.filled place (let e = is_base in omega arith) in
       let matches = subst (Matches terms.limit terms.base kept.lengths place (slice_get kept.list.cells place)) idle (kept.tied.shown place) in
-      told_remarks terms s (set s.views seat (role_view (roles.EmptyEntry from n))) id v es
-      (leaves terms s kept id v is_limit is_base is_filled part at seat (role_view (roles.EmptyEntry from n)) entry es refl
+      told_remarks terms s s.views id v es
+      (learns terms s kept id v is_limit is_base is_filled part at es refl
       (look_legal terms.limit terms.base kept.lengths kept.list place stages.Idle
       (seen_below terms s kept id v is_limit is_base is_filled part at place below) matches)
       v.begun v.rows v.laid
@@ -211,8 +255,8 @@ module _
       let row : RowAt = record { from = from; n = n; seat = seat - n } in
       let is_placed = placed_here kept.ties s.views seat from n (kept.tied.each_role seat (role_view (roles.Placed from n)) entry) in
       let ends = is_placed.ends in
-      told_row terms s (set s.views seat (role_view (roles.Placed from n))) id v row
-      (leaves terms s kept id v is_limit is_base is_filled part at seat (role_view (roles.Placed from n)) entry [] refl refl
+      told_row terms s s.views id v row
+      (learns terms s kept id v is_limit is_base is_filled part at [] refl refl
       v.begun (row ∷ v.rows) v.laid
       (λ log.
       let knows = kept.tied.each id v at in
@@ -256,7 +300,8 @@ module _
       logged_role terms.limit terms.base terms.mark.filled kept.lengths kept.list vs1
       (logged_role terms.limit terms.base terms.mark.filled kept.lengths kept.list s.views kept.logged entry empty roles.Hand at_entry) seat block placed at_seat1 in
       let past_base : terms.base ≤ from = let e = is_base in omega arith in
-      told_row terms s vs2 id v row
+      told_trade terms s entry spent_view seat (role_view placed) id (LearnsRow v row) (λ e. no_entry (sym e)) (λ e. no_seat (sym e))
+      (told_row terms s vs2 id v row
       (moves_on terms s kept id v is_limit is_base is_filled part vs2 fits2 logged2 at2 [] refl kept.list refl v.begun (row ∷ v.rows) v.laid
       (with_row kept.ties from n first)
       (λ log.
@@ -278,7 +323,7 @@ module _
         own = knows.own;
         unlaid = knows.unlaid;
         hand = knows.hand;
-      })))
+      }))))
 
   -- ---- Seats that are made
 
@@ -314,20 +359,6 @@ module _
         unlaid = λ some_part place later. knows.unlaid some_part place (omega arith);
         hand = knows.hand;
       })
-
-  -- a block and its cells are made
-  pub permits_laying : (n : ℕ) → PermitsMore (Kept terms) id v (block_roles n) (Remarks v [])
-  permits_laying n s kept at =
-      let made = block_roles n (length s.views) in
-      told_front terms s s.views (map role_view made) id (Remarks v []) (at_below s.views id v at)
-      (told_remarks terms s (s.views ++ map role_view made) id v []
-      (makes s kept at made v.laid kept.ties
-      (λ log.
-      let w = noted v log v.begun v.rows v.laid in
-      subst (λ (k : ℕ). TiedBy terms.limit terms.base terms.mark.filled kept.lengths kept.list kept.ties (set s.views id w ++ map role_view (block_roles n k)))
-      (length-set s.views id w)
-      (tie_block terms.limit terms.base terms.mark.filled kept.lengths kept.list kept.ties n (set s.views id w)
-      (tied_hand s kept at v.laid (omega arith) log)))))
 
   module _ (whole : v.shares ≡ all_shares) (from n : ℕ) (unlaid : v.laid ≤ from) where
     -- no other seat has shares

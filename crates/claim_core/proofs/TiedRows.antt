@@ -11,11 +11,12 @@ use Rattle.atomic_table.proofs.Lists.{at_longer, set_else}
 use Rattle.book_core.specs.Cells.{CellList}
 use Rattle.claim_core.specs.declared.role.CellStage.{CellStage}
 use Rattle.claim_core.specs.declared.role.CellStage.TheVariants as stages
+use Rattle.claim_core.specs.declared.role.Role.{Role}
 use Rattle.claim_core.specs.declared.role.Role.TheVariants as roles
 use Rattle.claim_core.specs.declared.role.RowAt.{RowAt}
 use Rattle.claim_core.specs.declared.seat_view.SeatView.{SeatView}
 use Rattle.claim_core.specs.SeatView.{spent_view}
-use Rattle.claim_core.specs.SeatSteps.{cell_roles, block_roles}
+use Rattle.claim_core.specs.SeatSteps.{cell_roles}
 use Rattle.claim_core.specs.Ties.{Ties, role_view, cell_view, first_stage, IsInRow, Finds, Knows, IsBlock, IsEmptyEntry, IsPlaced, IsRole, TiedBy}
 use Rattle.claim_core.proofs.TiedViews.{at_below, same_view, two_seats, each_at, cell_is_no_hand, cell_is_no_block, cell_is_no_entry, hand_role, cell_role, is_hand_role, role_knows, tie_snoc}
 
@@ -194,6 +195,25 @@ empty_role ties views id from n is_empty = record {
 }
 
 -- ---- Blocks
+
+-- the roles of n idle cells, and of the block that they are
+abbrev pub block_roles : ℕ → ℕ → List Role
+block_roles n first = cell_roles (replicate n stages.Idle) ++ roles.Block first n ∷ []
+
+-- the views of cells that are all at one stage
+copies_seen : (n : ℕ) (a : CellStage) → map role_view (cell_roles (replicate n a)) ≡ replicate n (cell_view a)
+copies_seen zero a = refl
+copies_seen (suc n) a = ap (λ (l : List SeatView). cell_view a ∷ l) (copies_seen n a)
+
+-- the views with those of a block and its cells
+pub block_seen : (vs : List SeatView) (n first : ℕ)
+    → vs ++ map role_view (block_roles n first) ≡ (vs ++ replicate n (cell_view stages.Idle)) ++ role_view (roles.Block first n) ∷ []
+block_seen vs n first =
+    let cells = cell_roles (replicate n stages.Idle) in
+    let block = roles.Block first n ∷ [] in
+    ap (λ (l : List SeatView). vs ++ l) (map-append role_view cells block)
+    ∙ (sym (append_assoc vs (map role_view cells) (map role_view block))
+    ∙ ap (λ (l : List SeatView). (vs ++ l) ++ map role_view block) (copies_seen n stages.Idle))
 
 module _
     (limit base : ℕ) (filled : List Bool) (lengths : List ℕ) (list : CellList) (ties : Ties) where

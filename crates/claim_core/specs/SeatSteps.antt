@@ -122,11 +122,11 @@ ClaimState = State (Unit {0}) SeatView
 abbrev pub with_views : ClaimState → List SeatView → ClaimState
 with_views s views = record { words = s.words; homes = s.homes; views = views }
 
--- whatever the table is, if the seat k has one view, it may have another, and the seat id a new one
+-- whatever the table is, if the seat k has one view, the seat id may have a new one, and k another
 abbrev pub PermitsSeat : (ClaimState → Type 0) → ℕ → SeatView → ℕ → SeatView → SeatView → (SeatView → Type 0) → Type 0
 PermitsSeat holds id v k before after then =
     (s : ClaimState) → holds s → get_elem? s.views id ≡ some v → get_elem? s.views k ≡ some before
-    → (w : SeatView) × holds (with_views s (slice_set (slice_set s.views k after) id w)) × then w
+    → (w : SeatView) × holds (with_views s (slice_set (slice_set s.views id w) k after)) × then w
 
 -- the same, if the seat k is that of a cell, for each two stages between which a step may move it
 abbrev pub PermitsCell : (ClaimState → Type 0) → ℕ → SeatView → ℕ → (CellStage → CellStage → Type 0)
@@ -135,20 +135,28 @@ PermitsCell holds id v k moves then =
     (stage after : CellStage) → moves stage after
     → PermitsSeat holds id v k (cell_view stage) (cell_view after) (then stage after)
 
--- the same, if the seat k is that of an entry, whose view stays
+-- whatever the table is, if the seat k is that of an entry with this role, the seat id may have a new view
 abbrev pub PermitsEntry : (ClaimState → Type 0) → ℕ → SeatView → ℕ → Role → (SeatView → Type 0) → Type 0
-PermitsEntry holds id v k role then = PermitsSeat holds id v k (role_view role) (role_view role) then
+PermitsEntry holds id v k role then =
+    (s : ClaimState) → holds s → get_elem? s.views id ≡ some v → get_elem? s.views k ≡ some (role_view role)
+    → (w : SeatView) × holds (with_views s (slice_set s.views id w)) × then w
 
--- the same, if two more seats may have other views
+-- the same, if two other seats have given views, and are to have others
 abbrev pub PermitsTrade : (ClaimState → Type 0) → ℕ → SeatView → ℕ → SeatView → SeatView → ℕ → SeatView → SeatView
     → (SeatView → Type 0) → Type 0
 PermitsTrade holds id v k before after j other_before other_after then =
     (s : ClaimState) → holds s → get_elem? s.views id ≡ some v → get_elem? s.views k ≡ some before
     → get_elem? s.views j ≡ some other_before
-    → (w : SeatView) × holds (with_views s (slice_set (slice_set (slice_set s.views k after) j other_after) id w)) × then w
+    → (w : SeatView) × holds (with_views s (slice_set (slice_set (slice_set s.views id w) k after) j other_after)) × then w
 
--- The same, if seats are made that have these roles and nothing else. They have the next numbers, which their roles may
--- use
+-- whatever the table is, n seats of idle cells may be made, and behind them that of their block. No other seat moves
+abbrev pub PermitsBlock : (ClaimState → Type 0) → ℕ → Type 0
+PermitsBlock holds n =
+    (s : ClaimState) → holds s
+    → holds (with_views s ((s.views ++ replicate n (cell_view stages.Idle)) ++ role_view (roles.Block (length s.views) n) ∷ []))
+
+-- Whatever the table is, the seat id may have a new view, and seats be made that have these roles and nothing else. They
+-- have the next numbers, which their roles may use
 abbrev pub PermitsMore : (ClaimState → Type 0) → ℕ → SeatView → (ℕ → List Role) → (SeatView → Type 0) → Type 0
 PermitsMore holds id v made then =
     (s : ClaimState) → holds s → get_elem? s.views id ≡ some v
@@ -157,10 +165,6 @@ PermitsMore holds id v made then =
 -- the roles of the seats of cells
 abbrev pub cell_roles : List CellStage → List Role
 cell_roles = map (λ (stage : CellStage). roles.Cell stage)
-
--- those of n idle cells, and of the block that they are
-abbrev pub block_roles : ℕ → ℕ → List Role
-block_roles n first = cell_roles (replicate n stages.Idle) ++ roles.Block first n ∷ []
 
 -- that of an entry that is not set
 abbrev pub entry_roles : ℕ → ℕ → ℕ → List Role

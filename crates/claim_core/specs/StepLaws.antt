@@ -19,7 +19,7 @@ use Rattle.claim_core.specs.Shares.{all_shares}
 use Rattle.claim_core.specs.SeatView.{spent_view, IsConsistent, Remarks, Claims}
 use Rattle.claim_core.specs.Ties.{role_view, cell_view, first_stage, Finds, Matches}
 use Rattle.claim_core.specs.Rule.{Kept}
-use Rattle.claim_core.specs.SeatSteps.{ClaimState, look_event, writer_of, try_event, MovesByLook, MovesByBegin, MovesByTry, MovesByFill, MovesByBreak, MovesByMend, SeesPlace, SeesIn, Begins, LearnsRow, LearnsEnd, PermitsCell, PermitsEntry, PermitsTrade, PermitsMore, block_roles, entry_roles, placed_roles}
+use Rattle.claim_core.specs.SeatSteps.{ClaimState, look_event, writer_of, try_event, MovesByLook, MovesByBegin, MovesByTry, MovesByFill, MovesByBreak, MovesByMend, SeesPlace, SeesIn, Begins, LearnsRow, LearnsEnd, PermitsCell, PermitsEntry, PermitsTrade, PermitsBlock, PermitsMore, entry_roles, placed_roles}
 
 -- the seat is one of a hand of a word with these terms
 pub record IsHandSeat (terms : Terms) (v : SeatView) : Type 0 where
@@ -100,9 +100,7 @@ PublishingIsPermitted =
 
 -- a block and its cells may be made
 abbrev pub LayingIsPermitted : Type 0
-LayingIsPermitted =
-    (terms : Terms) (id n : ℕ) (v : SeatView) → IsHandSeat terms v
-    → PermitsMore (Kept terms) id v (block_roles n) (Remarks v [])
+LayingIsPermitted = (terms : Terms) (n : ℕ) → PermitsBlock (Kept terms) n
 
 -- a whole hand may make an entry past all that there are
 abbrev pub EntriesArePermitted : Type 0

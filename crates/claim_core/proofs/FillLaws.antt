@@ -8,9 +8,9 @@ use Rattle.std.proofs.lemmas.List.Elements.{Contains-append_left, Contains-appen
 use Rattle.std.proofs.lemmas.List.FromFn.{length-map-range_with_len}
 use Rattle.std.proofs.lemmas.Option.{none-some, same_Some, slice_get_past}
 use Rattle.book_core.specs.declared.cells.Cell.{Cell}
-use Rattle.book_core.specs.declared.cells.Cell.TheVariants.{Pending, Filled}
+use Rattle.book_core.specs.declared.cells.Cell.TheVariants.{Pending, Filled, Broken}
 use Rattle.book_core.specs.declared.events.Event.{Event}
-use Rattle.book_core.specs.declared.events.Event.TheVariants.{Finish, Mend}
+use Rattle.book_core.specs.declared.events.Event.TheVariants.{Finish, Break, Mend}
 use Rattle.book_core.specs.declared.events.Reply.{Reply}
 use Rattle.book_core.specs.declared.events.Reply.TheVariants as replies
 use Rattle.book_core.specs.Cells.{CellList, with_cell, is_pending_for, apply_event}
@@ -19,8 +19,8 @@ use Rattle.book_core.proofs.EventEffects.{IsWriteOf, ChangesNothing, AppendsRun,
 use Rattle.book_core.proofs.Histories.{IsHistory-push, IsHistory-split, runs_tile, finishes_fill}
 use Rattle.book_core.proofs.Lists.{get_other, get_set, get_appended}
 use Rattle.book_core.proofs.Runs.{has_place-true, owner_kept, owner_new, none_past, runs_of-append}
-use Rattle.claim_core.specs.History.{Log, value_cell, broken_cell, first_cell, first_list, fill_event}
-use Rattle.claim_core.specs.Laws.{FilledPlacesStay, FillsAreOnce, FillsHaveOwners}
+use Rattle.claim_core.specs.History.{Log, value_cell, broken_cell, first_cell, first_list, fill_event, break_event}
+use Rattle.claim_core.specs.Laws.{FilledPlacesStay, FillsAreOnce, FillsHaveOwners, BreaksHaveOwners}
 use Rattle.claim_core.proofs.Logged.{first_at_place}
 
 pub filled_places_stay : FilledPlacesStay
@@ -28,17 +28,27 @@ filled_places_stay limit base actor place filled before after list history =
     finishes_fill (first_list limit base filled) list (before ++ fill_event actor place ∷ after) actor place place history
     (Contains-append_right before (fill_event actor place ∷ after) (fill_event actor place) (0, omega arith, refl))
 
--- what a fill needs
-filled_by : (v : CellList) (actor place : ℕ) (w : CellList) (reply : Reply) → apply_event v (Finish actor place place) ≡ Some (w, reply)
+-- what a write by the actor of a pending place needs
+pending_by : (v : CellList) (actor place : ℕ) (after : CellList × Reply) (told : CellList × Reply)
+    → (if is_pending_for actor (slice_get v.cells place) then Some after else None) ≡ Some told
     → slice_get v.cells place ≡ Some (Pending actor)
-filled_by v actor place w reply applies =
-    let after : CellList × Reply = (with_cell v place (Filled place), replies.Done) in
-    let told : CellList × Reply = (w, reply) in
+pending_by v actor place after told applies =
     elim (is_pending_for actor (slice_get v.cells place)) as (λ b. is_pending_for actor (slice_get v.cells place) ≡ b → (if b then Some after else None) ≡ Some told → slice_get v.cells place ≡ Some (Pending actor)) [
       | true ↦ (λ pending is. pending_is actor (slice_get v.cells place) pending)
       | false ↦ (λ _ is. absurd (none-some told is))
     ]
     refl applies
+
+-- what a fill needs, and a break
+filled_by : (v : CellList) (actor place : ℕ) (w : CellList) (reply : Reply) → apply_event v (Finish actor place place) ≡ Some (w, reply)
+    → slice_get v.cells place ≡ Some (Pending actor)
+filled_by v actor place w reply applies =
+    pending_by v actor place (with_cell v place (Filled place), replies.Done) (w, reply) applies
+
+broken_by : (v : CellList) (actor place : ℕ) (w : CellList) (reply : Reply) → apply_event v (Break actor place) ≡ Some (w, reply)
+    → slice_get v.cells place ≡ Some (Pending actor)
+broken_by v actor place w reply applies =
+    pending_by v actor place (with_cell v place Broken, replies.Done) (w, reply) applies
 
 -- a filled place is not pending
 filled_or_pending : (place k : ℕ) (cell : Option Cell) → cell ≡ Some (value_cell place) → cell ≡ Some (Pending k) → ⊥
@@ -171,8 +181,19 @@ first_owes limit base filled place k here =
     absurd (none-some (Pending k) (sym (slice_get_past (first_list limit base filled).cells place (omega (arith, long, past))) ∙ here)))
     (cases_lt place base)
 
+-- who owes a place, before an event of a legal history
+owed_before : (limit base : ℕ) (filled : List Bool) (before : Log) (mid : CellList) → IsHistory (first_list limit base filled) before mid
+    → Owes before mid
+owed_before limit base filled before mid one =
+    let first = first_list limit base filled in
+    history_owes first [] first before mid refl (first_owes limit base filled) one
+
 pub fills_have_owners : FillsHaveOwners
 fills_have_owners limit base actor place filled before after history =
-    let first = first_list limit base filled in
-    let (mid, one, (next, applies, rest)) = IsHistory-split first before (fill_event actor place ∷ after) history.legal.0 history.legal.1 in
-    history_owes first [] first before mid refl (first_owes limit base filled) one place actor (filled_by mid actor place next replies.Done applies)
+    let (mid, one, (next, applies, rest)) = IsHistory-split (first_list limit base filled) before (fill_event actor place ∷ after) history.legal.0 history.legal.1 in
+    owed_before limit base filled before mid one place actor (filled_by mid actor place next replies.Done applies)
+
+pub breaks_have_owners : BreaksHaveOwners
+breaks_have_owners limit base actor place filled before after history =
+    let (mid, one, (next, applies, rest)) = IsHistory-split (first_list limit base filled) before (break_event actor place ∷ after) history.legal.0 history.legal.1 in
+    owed_before limit base filled before mid one place actor (broken_by mid actor place next replies.Done applies)

@@ -8,7 +8,7 @@ use Rattle.book_core.specs.declared.events.Event.TheVariants.{Mend}
 use Rattle.book_core.specs.declared.events.Reply.TheVariants as replies
 use Rattle.book_core.specs.Cells.{CellList}
 use Rattle.book_core.specs.History.{IsHistory, runs_of, owner_of}
-use Rattle.claim_core.specs.History.{Log, AddsEvents, Adds, IsHistoryOf, first_list, value_cell, fill_event, first_cell, lengths_of, claim_event, size_event, IsNote, no_note, full_note, growth_note, reach_note, range_note}
+use Rattle.claim_core.specs.History.{Log, AddsEvents, Adds, IsHistoryOf, first_list, value_cell, fill_event, break_event, first_cell, lengths_of, claim_event, size_event, IsNote, no_note, full_note, growth_note, reach_note, range_note}
 use Rattle.claim_core.specs.Word.{WordView, first_at}
 use Rattle.claim_core.specs.Hand.{HandView, KeepsOwn, KeepsCells, SeesBegun, AddsRun, SeesRun, OwnsRun, OwnsPlace, SeesOwn, GainsRun, OwnApart, IsOwnRun, IsPlaceOf, AreDisjoint, single, seen_size, own_places}
 
@@ -225,6 +225,13 @@ abbrev pub FillsHaveOwners : Type 0
 FillsHaveOwners =
     (limit base actor place : ℕ) (filled : List Bool) (before after : Log)
     → IsHistoryOf limit base filled (before ++ fill_event actor place ∷ after)
+    → (owner_of (runs_of before) place ≡ Some actor) ⊎ Contains before (Mend actor place, replies.Done)
+
+-- so is what breaks a place
+abbrev pub BreaksHaveOwners : Type 0
+BreaksHaveOwners =
+    (limit base actor place : ℕ) (filled : List Bool) (before after : Log)
+    → IsHistoryOf limit base filled (before ++ break_event actor place ∷ after)
     → (owner_of (runs_of before) place ≡ Some actor) ⊎ Contains before (Mend actor place, replies.Done)
 
 -- of a run that a step adds, the hand knows no place begun

@@ -1,0 +1,5 @@
+mod AsBox
+pub mod Codes
+pub mod Due
+pub mod Made
+pub mod Chunks

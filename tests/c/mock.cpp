@@ -216,10 +216,10 @@ kehldora_status kehldora_raw_open(uint64_t limit, uint64_t words, uint32_t first
     return KEHLDORA_BAD_HANDLE;
   if (limit < 1 || limit > KEHLDORA_MOST_PLACES)
     return KEHLDORA_BAD_LIMIT;
-  if (words < 1 || words > 8 || words == 5 || words == 7)
-    return KEHLDORA_BAD_SIZE;
   if (first < 1 || first > 8)
     return KEHLDORA_BAD_NUMBER;
+  if (words < 1 || words > 8 || words == 5 || words == 7)
+    return KEHLDORA_BAD_SIZE;
   Hand *it = make<Hand>();
   if (!it)
     return KEHLDORA_NO_MEMORY;

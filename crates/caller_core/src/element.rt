@@ -1,5 +1,5 @@
 //! Elements that are made of words, and have an address.
-ghost use Rattle.std.specs.Prelude.{◌≡◌, ◌≢◌, ◌<◌, ◌/◌, ℕ, List, Some, MatchOption, length, slice_get};
+ghost use Rattle.std.specs.Prelude.{◌≡◌, ◌≢◌, ◌<◌, ◌/◌, ◌%◌, ℕ, List, Some, MatchOption, length, slice_get};
 ghost use Rattle.std.specs.Simd.{first_chunks};
 ghost use Rattle.caller_core.specs.Words.{AreElements};
 
@@ -22,8 +22,8 @@ pub trait Element: Drop {
 
     /// Returns the number of elements that these words make, side by side, or `None` if words are left over.
     fn count(words: &[u64]) -> Option<u64>
-        ensures { MatchOption result ((n : ℕ) → ¬ AreElements width words.now n)
-            (AreElements width words.now) };
+        requires { 0 < width }
+        ensures { MatchOption result (length words.now % width ≢ 0) (AreElements width words.now) };
 
     /// Makes the element with this number of those that the words make.
     fn nth(words: &[u64], i: u64) -> Self
@@ -54,8 +54,8 @@ impl<const N: usize> Element for [u64; N] {
 
     #[inline]
     fn count(words: &[u64]) -> Option<u64>
-        ensures { MatchOption result ((n : ℕ) → ¬ AreElements N words.now n)
-            (AreElements N words.now) }
+        requires { 0 < N }
+        ensures { MatchOption result (length words.now % N ≢ 0) (AreElements N words.now) }
     {
         count_of::<N>(words)
     }
@@ -98,8 +98,8 @@ impl<const N: usize> Element for Opaque<N> {
 
     #[inline]
     fn count(words: &[u64]) -> Option<u64>
-        ensures { MatchOption result ((n : ℕ) → ¬ AreElements N words.now n)
-            (AreElements N words.now) }
+        requires { 0 < N }
+        ensures { MatchOption result (length words.now % N ≢ 0) (AreElements N words.now) }
     {
         count_of::<N>(words)
     }
@@ -124,12 +124,9 @@ impl<const N: usize> Element for Opaque<N> {
 // The number of elements of N words that these words make, unless words are left over.
 #[inline]
 fn count_of<const N: usize>(words: &[u64]) -> Option<u64>
-    ensures { MatchOption result ((n : ℕ) → ¬ AreElements N words.now n)
-        (AreElements N words.now) }
+    requires { 0 < N }
+    ensures { MatchOption result (length words.now % N ≢ 0) (AreElements N words.now) }
 {
-    if N == 0 {
-        return None;
-    }
     let (elements, rest) = words.as_chunks::<N>();
     if rest.is_empty() {
         Some(elements.len() as u64)

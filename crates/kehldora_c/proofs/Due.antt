@@ -1,6 +1,7 @@
 -- What a refusal of the crates below says of the status that is made of it.
-use Rattle.std.proofs.Common.{◌≡◌, ◌+◌, ◌<◌, ◌≤◌, ℕ, Result, refl, sym, subst}
-use Rattle.claim_core.specs.Hand.{seen_size}
+use Rattle.std.proofs.Common.{◌≡◌, ◌∙◌, ◌+◌, ◌<◌, ◌≤◌, ℕ, Result, refl, sym, subst}
+use Rattle.std.specs.Prelude.{Bool, true, false, IsTrue, ◌↔◌}
+use Rattle.claim_core.specs.Hand.{IsWholeHand, seen_size}
 use Rattle.grow_core.specs.declared.errors.GrowError.{GrowError}
 use Rattle.grow_core.specs.declared.errors.GrowError.TheVariants as grow
 use Rattle.grow_core.specs.declared.errors.AtError.{AtError}
@@ -20,79 +21,64 @@ use Rattle.quiet_core.specs.QuietList.{QuietList}
 use Rattle.quiet_core.specs.QuietAt.{IsRefusalAt}
 use Rattle.caller_core.specs.Caller.{CallerView, KeepsCaller}
 use Rattle.caller_core.specs.Grows.{GrowsMade, GrowsUpTo, WinsPlaces}
-use Rattle.kehldora_c.specs.Outcomes.{growth_status, read_status, mend_status, reserve_status, member_status}
-use Rattle.kehldora_c.specs.Calls.{GrowthDue, ReachDue, ReadDue, SizeDue, ReachesSize}
+use Rattle.kehldora_c.specs.Outcomes.{growth_status, read_status, mend_status, reserve_status, close_status, member_status}
+use Rattle.kehldora_c.specs.Calls.{GrowthDue, ReachDue, RoomDue, ReadDue, MendDue, CloseDue, ReachesSize}
 use Rattle.kehldora_c.specs.Lists.{MemberDue}
 
--- a growth that has no room
-pub growth_due : {T V E : Type 0} (n : ℕ) (given : V) (old new : CallerView T) (refused : GrowError T V E)
+-- a growth that has no room, or was overtaken
+pub growth_due : {T V E : Type 0} (n : ℕ) (bad_size : Type 0) (given : V) (old new : CallerView T) (refused : GrowError T V E)
     → KeepsCaller old new → Refuses old.vector n given old.hand new.hand refused
-    → GrowthDue n T new (growth_status refused)
-growth_due n given old new (grow.NoMemory back) kept r = tt
-growth_due n given old new (grow.Full size back) kept r =
+    → GrowthDue n bad_size T new (growth_status refused)
+growth_due n bad_size given old new (grow.NoMemory back) kept r = tt
+growth_due n bad_size given old new (grow.Full size back) kept r =
     subst (λ v. limit_of v < seen_size new.hand + n) (sym kept.vector)
     (subst (λ s. limit_of old.vector < s + n) (sym r.left.ends) r.due)
-growth_due n given old new (grow.Moved size back) kept r = tt
-growth_due n given old new (grow.Refused run made cause) kept r = tt
-growth_due n given old new (grow.Taken place found) kept r = tt
-
--- a growth that was refused was not refused for the size of what was given
-pub growth_size : {T V E : Type 0} (width words : ℕ) (refused : GrowError T V E) → SizeDue width words (growth_status refused)
-growth_size width words (grow.NoMemory back) = tt
-growth_size width words (grow.Full size back) = tt
-growth_size width words (grow.Moved size back) = tt
-growth_size width words (grow.Refused run made cause) = tt
-growth_size width words (grow.Taken place found) = tt
+growth_due n bad_size given old new (grow.Moved size back) kept r = λ whole. r.due.others (sym kept.shares ∙ whole)
+growth_due n bad_size given old new (grow.Refused run made cause) kept r = tt
+growth_due n bad_size given old new (grow.Taken place found) kept r = tt
 
 -- a growth up to a size that is above the limit
-pub reach_due : {T V E : Type 0} (size : ℕ) (old new : CallerView T) (refused : GrowError T V E)
+pub reach_due : {T V E : Type 0} (size : ℕ) (bad_size : Type 0) (old new : CallerView T) (refused : GrowError T V E)
     → KeepsCaller old new → RefusesAtLeast old.vector size old.hand new.hand refused
-    → ReachDue size T new (growth_status refused)
-reach_due size old new (grow.NoMemory back) kept r = tt
-reach_due size old new (grow.Full found back) kept r = subst (λ v. limit_of v < size) (sym kept.vector) r.due
-reach_due size old new (grow.Moved found back) kept r = tt
-reach_due size old new (grow.Refused run made cause) kept r = tt
-reach_due size old new (grow.Taken place found) kept r = tt
+    → ReachDue size bad_size T new (growth_status refused)
+reach_due size bad_size old new (grow.NoMemory back) kept r = tt
+reach_due size bad_size old new (grow.Full found back) kept r =
+    subst (λ v. limit_of v < size) (sym kept.vector) r.due
+reach_due size bad_size old new (grow.Moved found back) kept r = absurd r.due
+reach_due size bad_size old new (grow.Refused run made cause) kept r = tt
+reach_due size bad_size old new (grow.Taken place found) kept r = tt
 
 -- room that is above the limit
-pub reserve_due : {T : Type 0} (size : ℕ) (caller : CallerView T) (refused : ReserveError)
-    → (refused ≡ reserve.TooLong → limit_of caller.vector < size) → ReachDue size T caller (reserve_status refused)
-reserve_due size caller reserve.NoMemory long = tt
-reserve_due size caller reserve.TooLong long = long refl
+pub room_due : {T : Type 0} (size width : ℕ) (caller : CallerView T) (refused : ReserveError)
+    → (refused ≡ reserve.TooLong → limit_of caller.vector < size) → RoomDue size T width caller (reserve_status refused)
+room_due size width caller reserve.NoMemory long = tt
+room_due size width caller reserve.TooLong long = long refl
 
 -- a read of a place that has nothing to read
-pub read_due : {T : Type 0} (place : ℕ) (old new : CallerView T) (refused : AtError)
-    → IsDueAt old.vector place old.hand new.hand refused → ReadDue place T new (read_status refused)
-read_due place old new (at.OutOfRange size) due = subst (λ s. s ≤ place) (sym due.1.ends) due.0
-read_due place old new at.Pending due = due
-read_due place old new (at.Broken spoilt) due = due.0
-
-pub read_size : (width words : ℕ) (refused : AtError) → SizeDue width words (read_status refused)
-read_size width words (at.OutOfRange size) = tt
-read_size width words at.Pending = tt
-read_size width words (at.Broken spoilt) = tt
+pub read_due : {T : Type 0} (place : ℕ) (bad_size : Type 0) (old new : CallerView T) (refused : AtError)
+    → IsDueAt old.vector place old.hand new.hand refused → ReadDue place bad_size T new (read_status refused)
+read_due place bad_size old new (at.OutOfRange size) due = subst (λ s. s ≤ place) (sym due.1.ends) due.0
+read_due place bad_size old new at.Pending due = due
+read_due place bad_size old new (at.Broken spoilt) due = due.0
 
 -- a mend of a place that is not broken
-pub mend_due : {T : Type 0} (place : ℕ) (old new : CallerView T) (refused : MendError T)
-    → IsMendDue old.vector place old.hand new.hand refused → ReadDue place T new (mend_status refused)
-mend_due place old new (mend.OutOfRange size) due = subst (λ s. s ≤ place) (sym due.1.ends) due.0
-mend_due place old new mend.Pending due = due
-mend_due place old new (mend.Filled placed) due = due.0
+pub mend_due : {T : Type 0} (place : ℕ) (bad_size : Type 0) (old new : CallerView T) (refused : MendError T)
+    → IsMendDue old.vector place old.hand new.hand refused → MendDue place bad_size T new (mend_status refused)
+mend_due place bad_size old new (mend.OutOfRange size) due = subst (λ s. s ≤ place) (sym due.1.ends) due.0
+mend_due place bad_size old new mend.Pending due = due
+mend_due place bad_size old new (mend.Filled placed) due = due.0
 
-pub mend_size : {T : Type 0} (width words : ℕ) (refused : MendError T) → SizeDue width words (mend_status refused)
-mend_size width words (mend.OutOfRange size) = tt
-mend_size width words mend.Pending = tt
-mend_size width words (mend.Filled placed) = tt
+-- a vector that was not closed
+pub close_due : {T : Type 0} (width : ℕ) (caller : CallerView T) (whole : Bool) → IsTrue whole ↔ IsWholeHand caller.hand
+    → CloseDue T width caller (close_status whole)
+close_due width caller true is = is.0 refl
+close_due width caller false is = λ all. let wrong : false ≡ true = is.1 all in absurd (cc)
 
 -- a member that is not there, or broken
-pub member_due : {T : Type 0} (place : ℕ) (list : QuietList T) (refused : QuietAt)
-    → IsRefusalAt list.members place refused → MemberDue place T list (member_status refused)
-member_due place list (quiet.OutOfRange size) due = due.1
-member_due place list quiet.Broken due = due
-
-pub member_size : (width words : ℕ) (refused : QuietAt) → SizeDue width words (member_status refused)
-member_size width words (quiet.OutOfRange size) = tt
-member_size width words quiet.Broken = tt
+pub member_due : {T : Type 0} (place : ℕ) (bad_size : Type 0) (list : QuietList T) (refused : QuietAt)
+    → IsRefusalAt list.members place refused → MemberDue place bad_size T list (member_status refused)
+member_due place bad_size list (quiet.OutOfRange size) due = due.1
+member_due place bad_size list quiet.Broken due = due
 
 -- a growth by a maker wins its places
 pub wins_made : {F T E : Type 0} (step : F → ℕ → Result T E → F → Type 0) (maker : F) (n : ℕ) (old new : CallerView T) (place : ℕ)

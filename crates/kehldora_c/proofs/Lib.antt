@@ -3,3 +3,4 @@ pub mod Codes
 pub mod Due
 pub mod Made
 pub mod Chunks
+pub mod Again

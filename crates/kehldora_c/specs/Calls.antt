@@ -1,8 +1,8 @@
 -- What each call on a hand leaves, and when each of its refusals comes.
-use Rattle.std.specs.Prelude.{◌≡◌, ◌≢◌, ℕ, ◌+◌, ◌-◌, ◌/◌, ◌<◌, ◌≤◌, ◌⊎◌, min, [], Bool, true, false, List, Option, Some, None, length, slice_get, replicate}
+use Rattle.std.specs.Prelude.{◌≡◌, ◌≢◌, ℕ, ◌+◌, ◌-◌, ◌/◌, ◌%◌, ◌<◌, ◌≤◌, ◌⊎◌, min, [], Bool, true, false, List, Option, Some, None, IsSome, length, slice_get, replicate}
 use Rattle.std.specs.Simd.{first_chunks}
 use Rattle.seg_core.specs.Segment.{IsLimit, IsLayout}
-use Rattle.claim_core.specs.Hand.{SeesSize, seen_size}
+use Rattle.claim_core.specs.Hand.{IsWholeHand, SeesSize, seen_size}
 use Rattle.grow_core.specs.Vector.{limit_of}
 use Rattle.caller_core.specs.Caller.{CallerView, IsNewCaller, JoinsCallers, Pushes, HasLast}
 use Rattle.caller_core.specs.Grows.{GrowsBy, WinsPlaces, Mends}
@@ -10,7 +10,7 @@ use Rattle.kehldora_c.specs.declared.held.Held.{Held}
 use Rattle.kehldora_c.specs.declared.held.Held.TheVariants as held
 use Rattle.kehldora_c.specs.declared.status.Status.{Status}
 use Rattle.kehldora_c.specs.declared.status.Status.TheVariants as status
-use Rattle.kehldora_c.specs.Held.{OnHands, caller_of, words_of, opaque_of, opaque_words, list_words, opaque_list_words, width_of}
+use Rattle.kehldora_c.specs.Held.{OnHands, caller_of, words_of, opaque_of, opaque_words}
 
 -- the elements that these words make side by side, as lists of their words
 abbrev pub elements_in : ℕ → List ℕ → List (List ℕ)
@@ -127,83 +127,144 @@ abbrev pub JoinsInto : Option Held → Option Held → Option Held → Type 0
 JoinsInto (Some old) (Some other) (Some new) = JoinsHeld old other new
 JoinsInto old other new = ⊥
 
--- A call on a hand is refused for the reasons below, and a handle without a hand is a bad handle.
-abbrev pub IsDueOn : ((T : Type 0) → CallerView T → Status → Type 0) → Held → Status → Type 0
-IsDueOn due (held.Hand any) why = due (List ℕ) (caller_of any) why
-IsDueOn due (held.OpaqueHand any) why = due (Unit {0}) (opaque_of any) why
+-- When each refusal comes. What is due of a hand is said of the words of an element, and of the hand after the call. A
+-- status that is not named never comes. A handle without a hand is a bad handle
+abbrev pub IsDueOn : ((T : Type 0) → ℕ → CallerView T → Status → Type 0) → Held → Status → Type 0
+IsDueOn due (held.Hand any) why = due (List ℕ) (words_of any) (caller_of any) why
+IsDueOn due (held.OpaqueHand any) why = due (Unit {0}) (opaque_words any) (opaque_of any) why
 IsDueOn due other why = why ≡ status.BadHandle
 
--- a growth of n places lacks room, by what the hand has then seen
-abbrev pub GrowthDue : ℕ → (T : Type 0) → CallerView T → Status → Type 0
-GrowthDue n T caller status.Full = limit_of caller.vector < seen_size caller.hand + n
-GrowthDue n T caller status.BadHandle = ⊥
-GrowthDue n T caller why = Unit {0}
+-- the same of a copy, which there is none of an opaque element
+abbrev pub IsCopyDueOn : (ℕ → CallerView (List ℕ) → Status → Type 0) → Held → Status → Type 0
+IsCopyDueOn due (held.Hand any) why = due (words_of any) (caller_of any) why
+IsCopyDueOn due (held.OpaqueHand any) why = why ≡ status.BadSize
+IsCopyDueOn due other why = why ≡ status.BadHandle
+
+-- a growth of n places lacks room, by what the hand has then seen, or is overtaken by another hand; or the words that
+-- were given are of a bad size
+abbrev pub GrowthDue : ℕ → Type 0 → (T : Type 0) → CallerView T → Status → Type 0
+GrowthDue n bad_size T caller status.NoMemory = Unit {0}
+GrowthDue n bad_size T caller status.Moved = ¬ IsWholeHand caller.hand
+GrowthDue n bad_size T caller status.BadSize = bad_size
+GrowthDue n bad_size T caller status.Full = limit_of caller.vector < seen_size caller.hand + n
+GrowthDue n bad_size T caller status.Taken = Unit {0}
+GrowthDue n bad_size T caller other = ⊥
 
 -- a size that was asked for is above the limit
-abbrev pub ReachDue : ℕ → (T : Type 0) → CallerView T → Status → Type 0
-ReachDue size T caller status.Full = limit_of caller.vector < size
-ReachDue size T caller status.BadHandle = ⊥
-ReachDue size T caller why = Unit {0}
+abbrev pub ReachDue : ℕ → Type 0 → (T : Type 0) → CallerView T → Status → Type 0
+ReachDue size bad_size T caller status.NoMemory = Unit {0}
+ReachDue size bad_size T caller status.BadSize = bad_size
+ReachDue size bad_size T caller status.Full = limit_of caller.vector < size
+ReachDue size bad_size T caller status.Taken = Unit {0}
+ReachDue size bad_size T caller other = ⊥
 
--- a place has nothing to read, or nothing to mend, by what the hand has then seen
-abbrev pub ReadDue : ℕ → (T : Type 0) → CallerView T → Status → Type 0
-ReadDue place T caller status.OutOfRange = seen_size caller.hand ≤ place
-ReadDue place T caller status.Pending = place < seen_size caller.hand
-ReadDue place T caller status.Broken = place < seen_size caller.hand
-ReadDue place T caller status.Filled = place < seen_size caller.hand
-ReadDue place T caller status.BadHandle = ⊥
-ReadDue place T caller why = Unit {0}
+-- the same of room
+abbrev pub RoomDue : ℕ → (T : Type 0) → ℕ → CallerView T → Status → Type 0
+RoomDue size T width caller status.NoMemory = Unit {0}
+RoomDue size T width caller status.Full = limit_of caller.vector < size
+RoomDue size T width caller other = ⊥
+
+-- a place has nothing to read, by what the hand has then seen
+abbrev pub ReadDue : ℕ → Type 0 → (T : Type 0) → CallerView T → Status → Type 0
+ReadDue place bad_size T caller status.BadSize = bad_size
+ReadDue place bad_size T caller status.OutOfRange = seen_size caller.hand ≤ place
+ReadDue place bad_size T caller status.Pending = place < seen_size caller.hand
+ReadDue place bad_size T caller status.Broken = place < seen_size caller.hand
+ReadDue place bad_size T caller other = ⊥
+
+-- a place has nothing to mend, by what the hand has then seen
+abbrev pub MendDue : ℕ → Type 0 → (T : Type 0) → CallerView T → Status → Type 0
+MendDue place bad_size T caller status.BadSize = bad_size
+MendDue place bad_size T caller status.OutOfRange = seen_size caller.hand ≤ place
+MendDue place bad_size T caller status.Pending = place < seen_size caller.hand
+MendDue place bad_size T caller status.Filled = place < seen_size caller.hand
+MendDue place bad_size T caller other = ⊥
 
 -- as many shares cannot be split off
-abbrev pub SplitDue : ℕ → (T : Type 0) → CallerView T → Status → Type 0
-SplitDue shares T caller status.BadNumber = (shares ≡ 0) ⊎ (caller.hand.shares ≤ shares)
-SplitDue shares T caller why = Unit {0}
+abbrev pub SplitDue : ℕ → (T : Type 0) → ℕ → CallerView T → Status → Type 0
+SplitDue shares T width caller status.NoMemory = Unit {0}
+SplitDue shares T width caller status.BadNumber = (shares ≡ 0) ⊎ (caller.hand.shares ≤ shares)
+SplitDue shares T width caller other = ⊥
 
--- a vector was not opened: its limit is none, or its first segment has no such length
-abbrev pub OpenDue : ℕ → ℕ → Status → Type 0
-OpenDue limit first status.BadLimit = ¬ IsLimit limit
-OpenDue limit first status.BadNumber = ¬ IsLayout first
-OpenDue limit first why = Unit {0}
+-- a vector cannot be closed: not by a hand without all shares. A hand with all shares finds that somebody else owns the
+-- vector, which does not come
+abbrev pub CloseDue : (T : Type 0) → ℕ → CallerView T → Status → Type 0
+CloseDue T width caller status.NotWhole = ¬ IsWholeHand caller.hand
+CloseDue T width caller status.Taken = IsWholeHand caller.hand
+CloseDue T width caller other = ⊥
 
 -- a call that no hand is refused
-abbrev pub NeverDue : (T : Type 0) → CallerView T → Status → Type 0
-NeverDue T caller why = ⊥
+abbrev pub NeverDue : (T : Type 0) → ℕ → CallerView T → Status → Type 0
+NeverDue T width caller why = ⊥
 
--- these words are not one element of this many
-abbrev pub SizeDue : ℕ → ℕ → Status → Type 0
-SizeDue width words status.BadSize = words ≢ width
-SizeDue width words why = Unit {0}
+-- no element has this many words
+pub record IsNoSize (words : ℕ) : Type 0 where
+  pub one : words ≢ 1
+  pub two : words ≢ 2
+  pub three : words ≢ 3
+  pub four : words ≢ 4
+  pub six : words ≢ 6
+  pub eight : words ≢ 8
 
--- the words that were given are not one element
-abbrev pub IsSizeDue : ℕ → Held → Status → Type 0
-IsSizeDue words (held.Hand any) why = SizeDue (words_of any) words why
-IsSizeDue words (held.OpaqueHand any) why = SizeDue (opaque_words any) words why
-IsSizeDue words (held.List any) why = SizeDue (list_words any) words why
-IsSizeDue words (held.OpaqueList any) why = SizeDue (opaque_list_words any) words why
-IsSizeDue words held.Empty why = Unit {0}
+-- a vector was not opened: its limit is none, its first segment has no such length, or its elements no such size
+abbrev pub OpenDue : ℕ → ℕ → ℕ → Status → Type 0
+OpenDue limit words first status.NoMemory = Unit {0}
+OpenDue limit words first status.BadLimit = ¬ IsLimit limit
+OpenDue limit words first status.BadNumber = ¬ IsLayout first
+OpenDue limit words first status.BadSize = IsNoSize words
+OpenDue limit words first other = ⊥
 
--- the same of a copy, which there is none of an opaque element
-abbrev pub IsCopySizeDue : ℕ → Held → Status → Type 0
-IsCopySizeDue words (held.Hand any) why = SizeDue (words_of any) words why
-IsCopySizeDue words (held.List any) why = SizeDue (list_words any) words why
-IsCopySizeDue words other why = Unit {0}
+-- this many elements are neither one nor one for each place from what was seen up to a size
+abbrev pub AreTooFew : ℕ → ℕ → ℕ → Type 0
+AreTooFew count seen size = (count ≡ 0) ⊎ ((1 < count) × (seen + count < size))
+
+-- When each call is refused. `words` is how many words were given
+abbrev pub PushDue : ℕ → (T : Type 0) → ℕ → CallerView T → Status → Type 0
+PushDue words T width = GrowthDue 1 (words ≢ width) T
+
+abbrev pub GrowDue : ℕ → (T : Type 0) → ℕ → CallerView T → Status → Type 0
+GrowDue words T width = GrowthDue (words / width) (words % width ≢ 0) T
+
+abbrev pub FillDue : ℕ → ℕ → (T : Type 0) → ℕ → CallerView T → Status → Type 0
+FillDue n words T width = GrowthDue n (words ≢ width) T
+
+abbrev pub LeaveDue : ℕ → (T : Type 0) → ℕ → CallerView T → Status → Type 0
+LeaveDue n T width = GrowthDue n ⊥ T
+
+abbrev pub AtLeastDue : ℕ → ℕ → (T : Type 0) → ℕ → CallerView T → Status → Type 0
+AtLeastDue size words T width caller =
+    ReachDue size ((words % width ≢ 0) ⊎ AreTooFew (words / width) (seen_size caller.hand) size) T caller
+
+abbrev pub AtDue : ℕ → ℕ → ℕ → CallerView (List ℕ) → Status → Type 0
+AtDue place words width = ReadDue place (words ≢ width) (List ℕ)
+
+abbrev pub LookDue : ℕ → (T : Type 0) → ℕ → CallerView T → Status → Type 0
+LookDue place T width = ReadDue place ⊥ T
+
+abbrev pub MendsDue : ℕ → ℕ → (T : Type 0) → ℕ → CallerView T → Status → Type 0
+MendsDue place words T width = MendDue place (words ≢ width) T
 
 -- what a refusal says of the handle: of an empty one, that it is a bad handle
 abbrev pub IsDueIn : (Held → Status → Type 0) → Option Held → Status → Type 0
 IsDueIn due None why = why ≡ status.BadHandle
 IsDueIn due (Some held) why = due held why
 
--- the same of the size of what was given, of which an empty handle says nothing
-abbrev pub IsSizeIn : (ℕ → Held → Status → Type 0) → ℕ → Option Held → Status → Type 0
-IsSizeIn due words None why = Unit {0}
-IsSizeIn due words (Some held) why = due words held why
+-- the same of a call that fills another handle: that one was full already, and so it is a bad handle
+abbrev pub IsDueOrFull : (Held → Status → Type 0) → Option Held → Option Held → Status → Type 0
+IsDueOrFull due other handle why = (IsSome other × (why ≡ status.BadHandle)) ⊎ IsDueIn due handle why
 
--- the same of a growth of the elements that this many words make
-abbrev pub IsGrowthDueIn : ℕ → Option Held → Status → Type 0
-IsGrowthDueIn words None why = why ≡ status.BadHandle
-IsGrowthDueIn words (Some held) why = IsDueOn (GrowthDue (words / width_of held)) held why
+-- the same of a call that opens a vector into a handle
+abbrev pub IsOpenDueIn : (Status → Type 0) → Option Held → Status → Type 0
+IsOpenDueIn due handle why = (IsSome handle × (why ≡ status.BadHandle)) ⊎ due why
 
--- the same of shares that were to be split off: the other handle may have been full
-abbrev pub IsSplitDue : ℕ → Option Held → Status → Type 0
-IsSplitDue shares (Some held) status.BadNumber = IsDueOn (SplitDue shares) held status.BadNumber
-IsSplitDue shares handle why = Unit {0}
+-- a hand that was joined is of another kind or size; and what has no hand is a bad handle
+abbrev pub JoinDue : Held → Held → Status → Type 0
+JoinDue (held.Hand any) (held.Hand other) why = why ≡ status.OtherVector
+JoinDue (held.Hand any) (held.OpaqueHand other) why = why ≡ status.OtherVector
+JoinDue (held.OpaqueHand any) (held.Hand other) why = why ≡ status.OtherVector
+JoinDue (held.OpaqueHand any) (held.OpaqueHand other) why = why ≡ status.OtherVector
+JoinDue any other why = why ≡ status.BadHandle
+
+abbrev pub IsJoinDue : Option Held → Option Held → Status → Type 0
+IsJoinDue (Some any) (Some other) why = JoinDue any other why
+IsJoinDue any other why = why ≡ status.BadHandle

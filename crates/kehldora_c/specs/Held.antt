@@ -138,12 +138,6 @@ width_of (held.List any) = list_words any
 width_of (held.OpaqueList any) = opaque_list_words any
 width_of held.Empty = 0
 
--- the elements are opaque
-abbrev pub IsOpaque : Held → Type 0
-IsOpaque (held.OpaqueHand any) = Unit {0}
-IsOpaque (held.OpaqueList any) = Unit {0}
-IsOpaque other = ⊥
-
 -- the handle is not empty, and this is true of what it has
 abbrev pub OnHeld : (Held → Type 0) → Option Held → Type 0
 OnHeld says (Some it) = says it
@@ -154,9 +148,6 @@ abbrev pub OnBoth : (Held → Held → Type 0) → Option Held → Option Held �
 OnBoth says (Some old) (Some new) = says old new
 OnBoth says old new = ⊥
 
--- there is a hand, and a list
+-- there is a hand
 abbrev pub IsHand : Held → Type 0
 IsHand = OnHand (λ T caller. Unit {0})
-
-abbrev pub IsList : Held → Type 0
-IsList = OnList (λ T it. Unit {0})

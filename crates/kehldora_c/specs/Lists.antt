@@ -1,5 +1,5 @@
 -- What each call on a list leaves, and how a hand becomes a list and a list a hand.
-use Rattle.std.specs.Prelude.{◌≡◌, ℕ, ◌+◌, ◌/◌, ◌<◌, ◌≤◌, List, Option, Some, None, length, take, slice_get, slice_set}
+use Rattle.std.specs.Prelude.{◌≡◌, ◌≢◌, ℕ, ◌+◌, ◌/◌, ◌%◌, ◌<◌, ◌≤◌, List, Option, Some, None, length, take, slice_get, slice_set}
 use Rattle.claim_core.specs.Hand.{IsWholeHand, seen_size}
 use Rattle.grow_core.specs.Vector.{limit_of, layout_of}
 use Rattle.grow_core.specs.Closing.{KeepsValues}
@@ -10,7 +10,7 @@ use Rattle.kehldora_c.specs.declared.held.Held.{Held}
 use Rattle.kehldora_c.specs.declared.held.Held.TheVariants as held
 use Rattle.kehldora_c.specs.declared.status.Status.{Status}
 use Rattle.kehldora_c.specs.declared.status.Status.TheVariants as status
-use Rattle.kehldora_c.specs.Held.{OnList, caller_of, words_of, opaque_of, opaque_words, list_of, list_words, opaque_list_of, opaque_list_words, width_of}
+use Rattle.kehldora_c.specs.Held.{OnList, caller_of, words_of, opaque_of, opaque_words, list_of, list_words, opaque_list_of, opaque_list_words}
 use Rattle.kehldora_c.specs.Calls.{elements_in}
 
 -- the list has the values of the list that the vector was opened on, and is as long as the size that the hand had seen
@@ -75,6 +75,10 @@ SetsWords place words old new = ⊥
 abbrev pub AreValues : {T : Type 0} → ℕ → ℕ → QuietList T → Type 0
 AreValues {T} place n list = (i : ℕ) → i < n → (x : T) × (slice_get list.members (place + i) ≡ Some (Some x))
 
+-- one of the n members from this place on is broken
+abbrev pub HasBroken : {T : Type 0} → ℕ → ℕ → QuietList T → Type 0
+HasBroken place n list = (i : ℕ) × (i < n) × (slice_get list.members (place + i) ≡ Some None)
+
 -- the members from this place on are the elements that these words make, in order
 abbrev pub AreMembersFrom : ℕ → ℕ → List ℕ → QuietList (List ℕ) → Type 0
 AreMembersFrom width place words list =
@@ -99,31 +103,56 @@ pub record ShrinksList {T : Type 0} (old new : QuietList T) : Type 0 where
   pub layout : new.layout ≡ old.layout
   pub capacity : IsCapacityFor old.layout (length old.members) new.capacity
 
--- A call on a list is refused for the reasons below, and a handle without a list is a bad handle.
-abbrev pub IsDueOnList : ((T : Type 0) → QuietList T → Status → Type 0) → Held → Status → Type 0
-IsDueOnList due (held.List any) why = due (List ℕ) (list_of any) why
-IsDueOnList due (held.OpaqueList any) why = due (Unit {0}) (opaque_list_of any) why
+-- When each refusal of a call on a list comes, as for a hand. A handle without a list is a bad handle
+abbrev pub IsDueOnList : ((T : Type 0) → ℕ → QuietList T → Status → Type 0) → Held → Status → Type 0
+IsDueOnList due (held.List any) why = due (List ℕ) (list_words any) (list_of any) why
+IsDueOnList due (held.OpaqueList any) why = due (Unit {0}) (opaque_list_words any) (opaque_list_of any) why
 IsDueOnList due other why = why ≡ status.BadHandle
 
+-- the same of a copy, which there is none of an opaque element
+abbrev pub IsCopyDueOnList : (ℕ → QuietList (List ℕ) → Status → Type 0) → Held → Status → Type 0
+IsCopyDueOnList due (held.List any) why = due (list_words any) (list_of any) why
+IsCopyDueOnList due (held.OpaqueList any) why = why ≡ status.BadSize
+IsCopyDueOnList due other why = why ≡ status.BadHandle
+
 -- there is no member at the place, or it is broken
-abbrev pub MemberDue : ℕ → (T : Type 0) → QuietList T → Status → Type 0
-MemberDue place T list status.OutOfRange = length list.members ≤ place
-MemberDue place T list status.Broken = slice_get list.members place ≡ Some None
-MemberDue place T list status.BadHandle = ⊥
-MemberDue place T list why = Unit {0}
+abbrev pub MemberDue : ℕ → Type 0 → (T : Type 0) → QuietList T → Status → Type 0
+MemberDue place bad_size T list status.BadSize = bad_size
+MemberDue place bad_size T list status.OutOfRange = length list.members ≤ place
+MemberDue place bad_size T list status.Broken = slice_get list.members place ≡ Some None
+MemberDue place bad_size T list other = ⊥
+
+-- there is no member to set at the place
+abbrev pub SetDue : ℕ → Type 0 → (T : Type 0) → QuietList T → Status → Type 0
+SetDue place bad_size T list status.BadSize = bad_size
+SetDue place bad_size T list status.OutOfRange = length list.members ≤ place
+SetDue place bad_size T list other = ⊥
 
 -- some of the n members from this place on are not there, or one of them is broken
-abbrev pub CopyDue : ℕ → ℕ → (T : Type 0) → QuietList T → Status → Type 0
-CopyDue place n T list status.OutOfRange = length list.members < place + n
-CopyDue place n T list status.Broken = (i : ℕ) × (i < n) × (slice_get list.members (place + i) ≡ Some None)
-CopyDue place n T list status.BadHandle = ⊥
-CopyDue place n T list why = Unit {0}
+abbrev pub CopyDue : ℕ → ℕ → Type 0 → (T : Type 0) → QuietList T → Status → Type 0
+CopyDue place n bad_size T list status.BadSize = bad_size
+CopyDue place n bad_size T list status.OutOfRange = length list.members < place + n
+CopyDue place n bad_size T list status.Broken = HasBroken place n list
+CopyDue place n bad_size T list other = ⊥
+
+-- a call that no list is refused, except for memory
+abbrev pub MemoryDue : (T : Type 0) → ℕ → QuietList T → Status → Type 0
+MemoryDue T width list status.NoMemory = Unit {0}
+MemoryDue T width list other = ⊥
 
 -- a call that no list is refused
-abbrev pub NeverDueOfList : (T : Type 0) → QuietList T → Status → Type 0
-NeverDueOfList T list why = ⊥
+abbrev pub NeverDueOfList : (T : Type 0) → ℕ → QuietList T → Status → Type 0
+NeverDueOfList T width list why = ⊥
 
--- the same of a copy into this many words, by a handle
-abbrev pub IsCopyDueIn : ℕ → ℕ → Option Held → Status → Type 0
-IsCopyDueIn place words None why = why ≡ status.BadHandle
-IsCopyDueIn place words (Some held) why = IsDueOnList (CopyDue place (words / width_of held)) held why
+-- When each call is refused. `words` is how many words were given
+abbrev pub GetDue : ℕ → ℕ → ℕ → QuietList (List ℕ) → Status → Type 0
+GetDue place words width = MemberDue place (words ≢ width) (List ℕ)
+
+abbrev pub ListLookDue : ℕ → (T : Type 0) → ℕ → QuietList T → Status → Type 0
+ListLookDue place T width = MemberDue place ⊥ T
+
+abbrev pub ListSetDue : ℕ → ℕ → (T : Type 0) → ℕ → QuietList T → Status → Type 0
+ListSetDue place words T width = SetDue place (words ≢ width) T
+
+abbrev pub ListCopyDue : ℕ → ℕ → ℕ → QuietList (List ℕ) → Status → Type 0
+ListCopyDue place words width = CopyDue place (words / width) (words % width ≢ 0) (List ℕ)

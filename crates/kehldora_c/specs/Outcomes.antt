@@ -1,4 +1,5 @@
 -- The status of each refusal of the crates below.
+use Rattle.std.specs.Prelude.{Bool, true, false}
 use Rattle.grow_core.specs.declared.errors.GrowError.{GrowError}
 use Rattle.grow_core.specs.declared.errors.GrowError.TheVariants as grow
 use Rattle.grow_core.specs.declared.errors.AtError.{AtError}
@@ -41,3 +42,8 @@ reserve_status reserve.TooLong = status.Full
 abbrev pub member_status : QuietAt → Status
 member_status (quiet.OutOfRange size) = status.OutOfRange
 member_status quiet.Broken = status.Broken
+
+-- of a vector that was not closed, by whether its hand has all shares
+abbrev pub close_status : Bool → Status
+close_status true = status.Taken
+close_status false = status.NotWhole

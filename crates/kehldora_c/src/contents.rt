@@ -1,11 +1,13 @@
 //! What the exports do with the hand that a handle has.
-ghost use Rattle.std.specs.Prelude.{◌≡◌, ◌/◌, ◌<◌, ℕ, List, IfOk, IfErr, IsOkAnd, OnOk, OnErr, length};
+ghost use Rattle.std.specs.Prelude.{◌≡◌, ◌<◌, ℕ, List, IfOk, IfErr, IsOkAnd, OnOk, OnErr, length};
 ghost use Rattle.claim_core.specs.Hand.{SeesSize, seen_size};
 ghost use Rattle.grow_core.specs.Vector.{limit_of};
 ghost use Rattle.caller_core.specs.Grows.{AreSideBySide};
 ghost use Rattle.kehldora_c.specs.Held.{KeepsHeld, OnHand, OnHands, IsHand, width_of};
-ghost use Rattle.kehldora_c.specs.Calls.{PushesWords, GrowsByWords, GrowsByCopies, GrowsUpToWords, WinsPlacesOf, MendsWords, HasLastValue};
-ghost use Rattle.kehldora_c.specs.Calls.{IsDueOn, GrowthDue, ReachDue, ReadDue, NeverDue, IsSizeDue, IsCopySizeDue};
+ghost use Rattle.kehldora_c.specs.Calls.{PushesWords, GrowsByWords, GrowsByCopies, GrowsUpToWords, WinsPlacesOf};
+ghost use Rattle.kehldora_c.specs.Calls.{MendsWords, HasLastValue};
+ghost use Rattle.kehldora_c.specs.Calls.{IsDueOn, IsCopyDueOn, PushDue, GrowDue, FillDue, AtLeastDue, LeaveDue};
+ghost use Rattle.kehldora_c.specs.Calls.{AtDue, LookDue, MendsDue, RoomDue, NeverDue};
 
 use crate::held::Held;
 use crate::status::Status;
@@ -14,8 +16,7 @@ use crate::{hands, opaque_hands};
 // Appends the element that these words make.
 pub(crate) fn push(held: &mut Held, words: &[u64]) -> Result<u64, Status>
     ensures pushed { IfOk result (λ place. PushesWords words.now place held.old held.new) }
-    ensures refused { IfErr result (IsDueOn (GrowthDue 1) held.new) }
-    ensures size { IfErr result (IsSizeDue (length words.now) held.old) }
+    ensures refused { IfErr result (IsDueOn (PushDue (length words.now)) held.new) }
     ensures kept { KeepsHeld held.old held.new }
 {
     match held {
@@ -28,8 +29,7 @@ pub(crate) fn push(held: &mut Held, words: &[u64]) -> Result<u64, Status>
 // Appends the elements that these words make.
 pub(crate) fn grow(held: &mut Held, words: &[u64]) -> Result<u64, Status>
     ensures grown { IfOk result (λ place. GrowsByWords words.now place held.old held.new) }
-    ensures refused { IfErr result
-        (IsDueOn (GrowthDue (length words.now / width_of held.old)) held.new) }
+    ensures refused { IfErr result (IsDueOn (GrowDue (length words.now)) held.new) }
     ensures kept { KeepsHeld held.old held.new }
 {
     match held {
@@ -42,8 +42,7 @@ pub(crate) fn grow(held: &mut Held, words: &[u64]) -> Result<u64, Status>
 // Appends `count` copies of the element that these words make.
 pub(crate) fn fill(held: &mut Held, words: &[u64], count: u64) -> Result<u64, Status>
     ensures grown { IfOk result (λ place. GrowsByCopies count words.now place held.old held.new) }
-    ensures refused { IfErr result (IsDueOn (GrowthDue count) held.new) }
-    ensures size { IfErr result (IsSizeDue (length words.now) held.old) }
+    ensures refused { IfErr result (IsDueOn (FillDue count (length words.now)) held.new) }
     ensures kept { KeepsHeld held.old held.new }
 {
     match held {
@@ -57,7 +56,7 @@ pub(crate) fn fill(held: &mut Held, words: &[u64], count: u64) -> Result<u64, St
 pub(crate) fn at_least(held: &mut Held, size: u64, words: &[u64]) -> Result<(u64, u64), Status>
     ensures grown { IfOk result
         (λ (place, n). GrowsUpToWords size words.now place n held.old held.new) }
-    ensures refused { IfErr result (IsDueOn (ReachDue size) held.new) }
+    ensures refused { IfErr result (IsDueOn (AtLeastDue size (length words.now)) held.new) }
     ensures kept { KeepsHeld held.old held.new }
 {
     match held {
@@ -70,7 +69,7 @@ pub(crate) fn at_least(held: &mut Held, size: u64, words: &[u64]) -> Result<(u64
 // Claims `count` places and breaks them.
 pub(crate) fn leave(held: &mut Held, count: u64) -> Result<u64, Status>
     ensures broken { IfOk result (λ place. WinsPlacesOf count place held.old held.new) }
-    ensures refused { IfErr result (IsDueOn (GrowthDue count) held.new) }
+    ensures refused { IfErr result (IsDueOn (LeaveDue count) held.new) }
     ensures kept { KeepsHeld held.old held.new }
 {
     match held {
@@ -84,8 +83,7 @@ pub(crate) fn leave(held: &mut Held, count: u64) -> Result<u64, Status>
 pub(crate) fn copy(held: &mut Held, place: u64, value: &mut [u64]) -> Result<(), Status>
     ensures own { (x : List ℕ) → HasLastValue (length value.old) place x held.old
         → IsOkAnd result (λ _. value.new ≡ x) }
-    ensures refused { IfErr result (IsDueOn (ReadDue place) held.new) }
-    ensures size { IfErr result (IsCopySizeDue (length value.old) held.old) }
+    ensures refused { IfErr result (IsCopyDueOn (AtDue place (length value.old)) held.new) }
     ensures kept { KeepsHeld held.old held.new }
     ensures unchanged { OnErr result (value.new ≡ value.old) }
     ensures length { length value.new ≡ length value.old }
@@ -101,7 +99,7 @@ pub(crate) fn copy(held: &mut Held, place: u64, value: &mut [u64]) -> Result<(),
 // Returns the address of the value at a place.
 pub(crate) fn look(held: &mut Held, place: u64) -> Result<*mut u64, Status>
     ensures below { IfOk result (λ _. OnHand (λ T caller. place < seen_size caller.hand) held.new) }
-    ensures refused { IfErr result (IsDueOn (ReadDue place) held.new) }
+    ensures refused { IfErr result (IsDueOn (LookDue place) held.new) }
     ensures kept { KeepsHeld held.old held.new }
 {
     match held {
@@ -115,7 +113,7 @@ pub(crate) fn look(held: &mut Held, place: u64) -> Result<*mut u64, Status>
 pub(crate) fn run(held: &mut Held, place: u64) -> Result<(*mut u64, u64), Status>
     ensures run { IfOk result
         (λ (_, n). OnHand (λ T caller. AreSideBySide caller.vector place n) held.old) }
-    ensures refused { IfErr result (IsDueOn (ReadDue place) held.new) }
+    ensures refused { IfErr result (IsDueOn (LookDue place) held.new) }
     ensures kept { KeepsHeld held.old held.new }
 {
     match held {
@@ -128,8 +126,7 @@ pub(crate) fn run(held: &mut Held, place: u64) -> Result<(*mut u64, u64), Status
 // Fills a broken place.
 pub(crate) fn mend(held: &mut Held, place: u64, words: &[u64]) -> Result<(), Status>
     ensures mended { OnOk result (MendsWords place words.now held.old held.new) }
-    ensures refused { IfErr result (IsDueOn (ReadDue place) held.new) }
-    ensures size { IfErr result (IsSizeDue (length words.now) held.old) }
+    ensures refused { IfErr result (IsDueOn (MendsDue place (length words.now)) held.new) }
     ensures kept { KeepsHeld held.old held.new }
 {
     match held {
@@ -142,7 +139,7 @@ pub(crate) fn mend(held: &mut Held, place: u64, words: &[u64]) -> Result<(), Sta
 // Makes room for this many places in all.
 pub(crate) fn reserve(held: &mut Held, size: u64) -> Result<(), Status>
     ensures hand { OnOk result (IsHand held.old) }
-    ensures refused { IfErr result (IsDueOn (ReachDue size) held.new) }
+    ensures refused { IfErr result (IsDueOn (RoomDue size) held.new) }
     ensures kept { KeepsHeld held.old held.new }
 {
     match held {

@@ -1,6 +1,5 @@
 //! Words as elements, for growths whose values are made in place.
-ghost use Rattle.std.specs.Prelude.{◌≡◌, ◌≢◌, ◌<◌, ℕ, List, Some, MatchOption, length, slice_get};
-ghost use Rattle.caller_core.specs.Words.{AreElements};
+ghost use Rattle.std.specs.Prelude.{◌≡◌, ◌≢◌, ◌<◌, ◌/◌, ℕ, List, Some, MatchOption, length, slice_get};
 ghost use Rattle.kehldora_c.specs.Calls.{elements_in, source_of};
 
 use caller_core::Element;
@@ -12,15 +11,17 @@ pub(crate) struct Elements<'a, E: Element> {
     words: &'a [u64],
     count: u64,
     of: PhantomData<E>,
+    ghost wide: { 0 < E.width },
     ghost some: { 0 < count },
-    ghost all: { AreElements E.width words.now count },
+    ghost all: { count ≡ length words.now / E.width },
 }
 
 impl<'a, E: Element> Elements<'a, E> {
     // These words as this many elements.
     pub(crate) fn new(words: &'a [u64], count: u64) -> Elements<'a, E>
+        requires wide { 0 < E.width }
         requires some { 0 < count }
-        requires all { AreElements E.width words.now count }
+        requires all { count ≡ length words.now / E.width }
         ensures words { result.words.now ≡ words.now }
         ensures count { result.count ≡ count }
     {

@@ -3,7 +3,7 @@ ghost use Rattle.std.specs.Prelude.{◌≡◌, ◌<◌, None, IfOk, IfErr};
 ghost use Rattle.claim_core.specs.Hand.{SeesSize, seen_size};
 ghost use Rattle.grow_core.specs.Vector.{limit_of};
 ghost use Rattle.kehldora_c.specs.Held.{Keeps, OnBoth, OnHeld, OnHand, OnHands, IsHand, width_of};
-ghost use Rattle.kehldora_c.specs.Calls.{IsNewHand, OpenDue, IsDueIn, IsDueOn, NeverDue, ReachDue};
+ghost use Rattle.kehldora_c.specs.Calls.{IsNewHand, OpenDue, IsOpenDueIn, IsDueIn, IsDueOn, NeverDue, RoomDue};
 ghost use Rattle.kehldora_c.specs.Status.{IsDone, IfRefused};
 
 use crate::contents;
@@ -31,7 +31,7 @@ fn new_hand(
     opaque: bool,
 ) -> Result<Box<Held>, Status>
     ensures new { IfOk result (λ held. IsNewHand limit words first opaque held.value) }
-    ensures refused { IfErr result (OpenDue limit first) }
+    ensures refused { IfErr result (OpenDue limit words first) }
 {
     if limit == 0 || limit > MOST_PLACES {
         return Err(Status::BadLimit);
@@ -51,7 +51,7 @@ fn new_hand(
 }
 
 /// Opens a vector. Its first hand has all shares.
-#[tactic(auto, using(crate::proofs::Codes::if_done, crate::proofs::Codes::if_refused))]
+#[tactic(auto, using(crate::proofs::Codes::if_done, crate::proofs::Codes::refused_open, crate::proofs::Codes::refused_open_full))]
 #[unsafe(no_mangle)]
 pub extern "C" fn kehldora_raw_open(
     alloc: Global,
@@ -63,7 +63,8 @@ pub extern "C" fn kehldora_raw_open(
 ) -> i32
     ensures opened { IsDone result → OnHeld
         (IsNewHand limit words first opaque) hand.new.owned.held }
-    ensures refused { IfRefused result (OpenDue limit first) }
+    ensures refused { IfRefused result
+        (IsOpenDueIn (OpenDue limit words first) hand.old.owned.held) }
     ensures empty { IsDone result → hand.old.owned.held ≡ None }
     ensures kept { (IsDone result → ⊥) → hand.new ≡ hand.old }
 {
@@ -102,7 +103,7 @@ pub struct HandFacts {
 }
 
 /// Tells what a hand knows. It loads nothing.
-#[tactic(auto, using(crate::proofs::Codes::if_done, crate::proofs::Codes::if_refused))]
+#[tactic(auto, using(crate::proofs::Codes::if_done, crate::proofs::Codes::refused_in, crate::proofs::Codes::refused_empty))]
 #[unsafe(no_mangle)]
 pub extern "C" fn kehldora_raw_about(
     alloc: Global,
@@ -139,7 +140,7 @@ pub extern "C" fn kehldora_raw_about(
 }
 
 /// Loads the size.
-#[tactic(auto, using(crate::proofs::Codes::if_done, crate::proofs::Codes::if_refused))]
+#[tactic(auto, using(crate::proofs::Codes::if_done, crate::proofs::Codes::refused_in, crate::proofs::Codes::refused_empty))]
 #[unsafe(no_mangle)]
 pub extern "C" fn kehldora_raw_size(alloc: Global, hand: &mut Handle, size: &mut u64) -> i32
     ensures seen { IsDone result → OnBoth (OnHands
@@ -162,7 +163,7 @@ pub extern "C" fn kehldora_raw_size(alloc: Global, hand: &mut Handle, size: &mut
 }
 
 /// Gives an address that is the same for all hands of a vector, and another for each other open vector.
-#[tactic(auto, using(crate::proofs::Codes::if_done, crate::proofs::Codes::if_refused))]
+#[tactic(auto, using(crate::proofs::Codes::if_done, crate::proofs::Codes::refused_in, crate::proofs::Codes::refused_empty))]
 #[unsafe(no_mangle)]
 pub extern "C" fn kehldora_raw_where(alloc: Global, hand: &mut Handle, at: &mut *mut u64) -> i32
     ensures hand { IsDone result → OnHeld IsHand hand.old.owned.held }
@@ -184,11 +185,11 @@ pub extern "C" fn kehldora_raw_where(alloc: Global, hand: &mut Handle, at: &mut 
 }
 
 /// Makes room for a number of places in all.
-#[tactic(auto, using(crate::proofs::Codes::if_done, crate::proofs::Codes::if_refused))]
+#[tactic(auto, using(crate::proofs::Codes::if_done, crate::proofs::Codes::refused_in, crate::proofs::Codes::refused_empty))]
 #[unsafe(no_mangle)]
 pub extern "C" fn kehldora_raw_reserve(alloc: Global, hand: &mut Handle, size: u64) -> i32
     ensures hand { IsDone result → OnHeld IsHand hand.old.owned.held }
-    ensures refused { IfRefused result (IsDueIn (IsDueOn (ReachDue size)) hand.new.owned.held) }
+    ensures refused { IfRefused result (IsDueIn (IsDueOn (RoomDue size)) hand.new.owned.held) }
     ensures kept { Keeps hand.old.owned.held hand.new.owned.held }
 {
     let Some(mut held) = hand.take(alloc) else {

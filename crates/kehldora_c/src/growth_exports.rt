@@ -2,7 +2,7 @@
 ghost use Rattle.std.specs.Prelude.{length};
 ghost use Rattle.kehldora_c.specs.Held.{Keeps, OnBoth};
 ghost use Rattle.kehldora_c.specs.Calls.{PushesWords, GrowsByWords, GrowsByCopies, GrowsUpToWords, WinsPlacesOf, MendsWords};
-ghost use Rattle.kehldora_c.specs.Calls.{IsDueIn, IsDueOn, GrowthDue, ReachDue, ReadDue, IsGrowthDueIn, IsSizeIn, IsSizeDue};
+ghost use Rattle.kehldora_c.specs.Calls.{IsDueIn, IsDueOn, PushDue, GrowDue, FillDue, AtLeastDue, LeaveDue, MendsDue};
 ghost use Rattle.kehldora_c.specs.Status.{IsDone, IfRefused};
 
 use crate::contents;
@@ -10,8 +10,8 @@ use crate::handle::Handle;
 use crate::status::{DONE, Status};
 use std::alloc::Global;
 
-/// Appends a value, and tells its place. It tries once.
-#[tactic(auto, using(crate::proofs::Codes::if_done, crate::proofs::Codes::if_refused))]
+/// Appends a value, and tells its place. It tries three times.
+#[tactic(auto, using(crate::proofs::Codes::if_done, crate::proofs::Codes::refused_in, crate::proofs::Codes::refused_empty))]
 #[unsafe(no_mangle)]
 pub extern "C" fn kehldora_raw_push(
     alloc: Global,
@@ -21,8 +21,8 @@ pub extern "C" fn kehldora_raw_push(
 ) -> i32
     ensures pushed { IsDone result → OnBoth
         (PushesWords value.now place.new) hand.old.owned.held hand.new.owned.held }
-    ensures refused { IfRefused result (IsDueIn (IsDueOn (GrowthDue 1)) hand.new.owned.held) }
-    ensures size { IfRefused result (IsSizeIn IsSizeDue (length value.now) hand.old.owned.held) }
+    ensures refused { IfRefused result
+        (IsDueIn (IsDueOn (PushDue (length value.now))) hand.new.owned.held) }
     ensures kept { Keeps hand.old.owned.held hand.new.owned.held }
 {
     let Some(mut held) = hand.take(alloc) else {
@@ -40,7 +40,7 @@ pub extern "C" fn kehldora_raw_push(
 }
 
 /// Appends the elements of an array, and tells the place of the first one. It tries once.
-#[tactic(auto, using(crate::proofs::Codes::if_done, crate::proofs::Codes::if_refused))]
+#[tactic(auto, using(crate::proofs::Codes::if_done, crate::proofs::Codes::refused_in, crate::proofs::Codes::refused_empty))]
 #[unsafe(no_mangle)]
 pub extern "C" fn kehldora_raw_grow(
     alloc: Global,
@@ -50,7 +50,8 @@ pub extern "C" fn kehldora_raw_grow(
 ) -> i32
     ensures grown { IsDone result → OnBoth
         (GrowsByWords values.now place.new) hand.old.owned.held hand.new.owned.held }
-    ensures refused { IfRefused result (IsGrowthDueIn (length values.now) hand.new.owned.held) }
+    ensures refused { IfRefused result
+        (IsDueIn (IsDueOn (GrowDue (length values.now))) hand.new.owned.held) }
     ensures kept { Keeps hand.old.owned.held hand.new.owned.held }
 {
     let Some(mut held) = hand.take(alloc) else {
@@ -68,7 +69,7 @@ pub extern "C" fn kehldora_raw_grow(
 }
 
 /// Appends copies of a value, and tells the place of the first one. It tries once.
-#[tactic(auto, using(crate::proofs::Codes::if_done, crate::proofs::Codes::if_refused))]
+#[tactic(auto, using(crate::proofs::Codes::if_done, crate::proofs::Codes::refused_in, crate::proofs::Codes::refused_empty))]
 #[unsafe(no_mangle)]
 pub extern "C" fn kehldora_raw_fill(
     alloc: Global,
@@ -79,8 +80,8 @@ pub extern "C" fn kehldora_raw_fill(
 ) -> i32
     ensures grown { IsDone result → OnBoth
         (GrowsByCopies count value.now place.new) hand.old.owned.held hand.new.owned.held }
-    ensures refused { IfRefused result (IsDueIn (IsDueOn (GrowthDue count)) hand.new.owned.held) }
-    ensures size { IfRefused result (IsSizeIn IsSizeDue (length value.now) hand.old.owned.held) }
+    ensures refused { IfRefused result
+        (IsDueIn (IsDueOn (FillDue count (length value.now))) hand.new.owned.held) }
     ensures kept { Keeps hand.old.owned.held hand.new.owned.held }
 {
     let Some(mut held) = hand.take(alloc) else {
@@ -98,7 +99,7 @@ pub extern "C" fn kehldora_raw_fill(
 }
 
 /// Appends what is missing up to a size, and tells the place of the first one and how many there are.
-#[tactic(auto, using(crate::proofs::Codes::if_done, crate::proofs::Codes::if_refused))]
+#[tactic(auto, using(crate::proofs::Codes::if_done, crate::proofs::Codes::refused_in, crate::proofs::Codes::refused_empty))]
 #[unsafe(no_mangle)]
 pub extern "C" fn kehldora_raw_at_least(
     alloc: Global,
@@ -110,7 +111,8 @@ pub extern "C" fn kehldora_raw_at_least(
 ) -> i32
     ensures grown { IsDone result → OnBoth
         (GrowsUpToWords size values.now place.new count.new) hand.old.owned.held hand.new.owned.held }
-    ensures refused { IfRefused result (IsDueIn (IsDueOn (ReachDue size)) hand.new.owned.held) }
+    ensures refused { IfRefused result
+        (IsDueIn (IsDueOn (AtLeastDue size (length values.now))) hand.new.owned.held) }
     ensures kept { Keeps hand.old.owned.held hand.new.owned.held }
 {
     let Some(mut held) = hand.take(alloc) else {
@@ -129,7 +131,7 @@ pub extern "C" fn kehldora_raw_at_least(
 }
 
 /// Claims places and breaks them, and tells the first one. It tries once.
-#[tactic(auto, using(crate::proofs::Codes::if_done, crate::proofs::Codes::if_refused))]
+#[tactic(auto, using(crate::proofs::Codes::if_done, crate::proofs::Codes::refused_in, crate::proofs::Codes::refused_empty))]
 #[unsafe(no_mangle)]
 pub extern "C" fn kehldora_raw_leave(
     alloc: Global,
@@ -139,7 +141,7 @@ pub extern "C" fn kehldora_raw_leave(
 ) -> i32
     ensures broken { IsDone result → OnBoth
         (WinsPlacesOf count place.new) hand.old.owned.held hand.new.owned.held }
-    ensures refused { IfRefused result (IsDueIn (IsDueOn (GrowthDue count)) hand.new.owned.held) }
+    ensures refused { IfRefused result (IsDueIn (IsDueOn (LeaveDue count)) hand.new.owned.held) }
     ensures kept { Keeps hand.old.owned.held hand.new.owned.held }
 {
     let Some(mut held) = hand.take(alloc) else {
@@ -157,7 +159,7 @@ pub extern "C" fn kehldora_raw_leave(
 }
 
 /// Fills a broken place.
-#[tactic(auto, using(crate::proofs::Codes::if_done, crate::proofs::Codes::if_refused))]
+#[tactic(auto, using(crate::proofs::Codes::if_done, crate::proofs::Codes::refused_in, crate::proofs::Codes::refused_empty))]
 #[unsafe(no_mangle)]
 pub extern "C" fn kehldora_raw_mend(
     alloc: Global,
@@ -167,8 +169,8 @@ pub extern "C" fn kehldora_raw_mend(
 ) -> i32
     ensures mended { IsDone result → OnBoth
         (MendsWords place value.now) hand.old.owned.held hand.new.owned.held }
-    ensures refused { IfRefused result (IsDueIn (IsDueOn (ReadDue place)) hand.new.owned.held) }
-    ensures size { IfRefused result (IsSizeIn IsSizeDue (length value.now) hand.old.owned.held) }
+    ensures refused { IfRefused result
+        (IsDueIn (IsDueOn (MendsDue place (length value.now))) hand.new.owned.held) }
     ensures kept { Keeps hand.old.owned.held hand.new.owned.held }
 {
     let Some(mut held) = hand.take(alloc) else {

@@ -1,32 +1,22 @@
 //! What the exports do with a hand of value elements, whatever their size.
-ghost use Rattle.std.specs.Prelude.{◌≡◌, ◌<◌, ◌/◌, ℕ, List, IfOk, IfErr, OnOk, OnErr, IsOkAnd, length, replicate};
+ghost use Rattle.std.specs.Prelude.{◌≡◌, ◌<◌, ◌↔◌, ℕ, List, IfOk, IfErr, OnOk, OnErr, IsOkAnd, IsTrue, length, replicate};
 ghost use Rattle.seg_core.specs.Segment.{IsLimit};
-ghost use Rattle.claim_core.specs.Hand.{SeesSize, seen_size};
+ghost use Rattle.claim_core.specs.Hand.{IsWholeHand, SeesSize, seen_size};
 ghost use Rattle.grow_core.specs.Vector.{limit_of};
 ghost use Rattle.caller_core.specs.Caller.{IsNewCaller, HasLast, Pushes};
 ghost use Rattle.caller_core.specs.Grows.{AreSideBySide, GrowsBy, Mends, WinsPlaces};
 ghost use Rattle.kehldora_c.specs.Held.{KeepsAny, caller_of, words_of, list_of, list_words};
-ghost use Rattle.kehldora_c.specs.Calls.{GrowthDue, ReachDue, ReadDue, SizeDue, SplitDue, SplitsCaller, ReachesSize, HasLastElement, elements_in};
+ghost use Rattle.kehldora_c.specs.Calls.{OpenDue, PushDue, GrowDue, FillDue, AtLeastDue, GrowthDue, AtDue, ReadDue, MendsDue, RoomDue, SplitDue, SplitsCaller, ReachesSize, HasLastElement, elements_in};
 ghost use Rattle.kehldora_c.specs.Lists.{ClosesCaller};
 
 use crate::growths;
 use crate::held::{AnyCaller, AnyList};
 use crate::reads;
-use crate::sizes::{by_size, keep_size, try_size};
+use crate::sizes::{by_size, keep_size, opened, try_size};
 use crate::status::Status;
-use caller_core::{Caller, Element};
+use caller_core::Caller;
 use seg_core::Layout;
 use std::alloc::Global;
-
-fn open_one<E: Element>(alloc: Global, limit: u64, layout: Layout) -> Result<Caller<E>, Status>
-    requires { IsLimit limit }
-    ensures { IfOk result (IsNewCaller limit layout) }
-{
-    match Caller::open(alloc, limit, layout) {
-        Ok(caller) => Ok(caller),
-        Err(_no_memory) => Err(Status::NoMemory),
-    }
-}
 
 // Opens a vector.
 pub(crate) fn open(
@@ -38,23 +28,24 @@ pub(crate) fn open(
     requires { IsLimit limit }
     ensures new { IfOk result (λ any. IsNewCaller limit layout (caller_of any)) }
     ensures words { IfOk result (λ any. words_of any ≡ words) }
+    ensures refused { IfErr result (OpenDue limit words layout) }
 {
-    Ok(match words {
-        1 => AnyCaller::One(open_one(alloc, limit, layout)?),
-        2 => AnyCaller::Two(open_one(alloc, limit, layout)?),
-        3 => AnyCaller::Three(open_one(alloc, limit, layout)?),
-        4 => AnyCaller::Four(open_one(alloc, limit, layout)?),
-        6 => AnyCaller::Six(open_one(alloc, limit, layout)?),
-        8 => AnyCaller::Eight(open_one(alloc, limit, layout)?),
-        _ => return Err(Status::BadSize),
-    })
+    match words {
+        1 => opened!(AnyCaller, One, Caller::open(alloc, limit, layout)),
+        2 => opened!(AnyCaller, Two, Caller::open(alloc, limit, layout)),
+        3 => opened!(AnyCaller, Three, Caller::open(alloc, limit, layout)),
+        4 => opened!(AnyCaller, Four, Caller::open(alloc, limit, layout)),
+        6 => opened!(AnyCaller, Six, Caller::open(alloc, limit, layout)),
+        8 => opened!(AnyCaller, Eight, Caller::open(alloc, limit, layout)),
+        _ => Err(Status::BadSize),
+    }
 }
 
 // Appends the element that these words make.
 pub(crate) fn push(any: &mut AnyCaller, words: &[u64]) -> Result<u64, Status>
     ensures pushed { IfOk result (Pushes words.now (caller_of any.old) (caller_of any.new)) }
-    ensures refused { IfErr result (GrowthDue 1 (List ℕ) (caller_of any.new)) }
-    ensures size { IfErr result (SizeDue (words_of any.old) (length words.now)) }
+    ensures refused { IfErr result
+        (PushDue (length words.now) (List ℕ) (words_of any.new) (caller_of any.new)) }
     ensures kept { KeepsAny any.old any.new }
 {
     by_size!(AnyCaller, any, caller => growths::push(caller, words))
@@ -65,7 +56,7 @@ pub(crate) fn grow(any: &mut AnyCaller, words: &[u64]) -> Result<u64, Status>
     ensures grown { IfOk result
         (GrowsBy (elements_in (words_of any.old) words.now) (caller_of any.old) (caller_of any.new)) }
     ensures refused { IfErr result
-        (GrowthDue (length words.now / words_of any.old) (List ℕ) (caller_of any.new)) }
+        (GrowDue (length words.now) (List ℕ) (words_of any.new) (caller_of any.new)) }
     ensures kept { KeepsAny any.old any.new }
 {
     by_size!(AnyCaller, any, caller => growths::grow_values(caller, words))
@@ -74,8 +65,8 @@ pub(crate) fn grow(any: &mut AnyCaller, words: &[u64]) -> Result<u64, Status>
 // Appends `count` copies of the element that these words make.
 pub(crate) fn fill(any: &mut AnyCaller, words: &[u64], count: u64) -> Result<u64, Status>
     ensures grown { IfOk result (GrowsBy (replicate count words.now) (caller_of any.old) (caller_of any.new)) }
-    ensures refused { IfErr result (GrowthDue count (List ℕ) (caller_of any.new)) }
-    ensures size { IfErr result (SizeDue (words_of any.old) (length words.now)) }
+    ensures refused { IfErr result
+        (FillDue count (length words.now) (List ℕ) (words_of any.new) (caller_of any.new)) }
     ensures kept { KeepsAny any.old any.new }
 {
     by_size!(AnyCaller, any, caller => growths::fill_values(caller, words, count))
@@ -90,7 +81,8 @@ pub(crate) fn at_least(
     ensures grown { IfOk result (λ (place, n). ReachesSize size place n (caller_of any.old) (caller_of any.new)) }
     ensures last { IfOk result (λ (place, n).
         HasLastElement (λ ws. ws) (words_of any.old) words.now place n (caller_of any.new)) }
-    ensures refused { IfErr result (ReachDue size (List ℕ) (caller_of any.new)) }
+    ensures refused { IfErr result
+        (AtLeastDue size (length words.now) (List ℕ) (words_of any.new) (caller_of any.new)) }
     ensures kept { KeepsAny any.old any.new }
 {
     by_size!(AnyCaller, any, caller => growths::at_least(caller, size, words))
@@ -99,7 +91,7 @@ pub(crate) fn at_least(
 // Claims `count` places and breaks them.
 pub(crate) fn leave(any: &mut AnyCaller, count: u64) -> Result<u64, Status>
     ensures broken { IfOk result (WinsPlaces count (caller_of any.old) (caller_of any.new)) }
-    ensures refused { IfErr result (GrowthDue count (List ℕ) (caller_of any.new)) }
+    ensures refused { IfErr result (GrowthDue count ⊥ (List ℕ) (caller_of any.new)) }
     ensures kept { KeepsAny any.old any.new }
 {
     by_size!(AnyCaller, any, caller => growths::leave(caller, count))
@@ -109,8 +101,8 @@ pub(crate) fn leave(any: &mut AnyCaller, count: u64) -> Result<u64, Status>
 pub(crate) fn copy(any: &mut AnyCaller, place: u64, value: &mut [u64]) -> Result<(), Status>
     ensures own { (x : List ℕ) → length value.old ≡ words_of any.old
         → HasLast place x (caller_of any.old).last → IsOkAnd result (λ _. value.new ≡ x) }
-    ensures refused { IfErr result (ReadDue place (List ℕ) (caller_of any.new)) }
-    ensures size { IfErr result (SizeDue (words_of any.old) (length value.old)) }
+    ensures refused { IfErr result
+        (AtDue place (length value.old) (words_of any.new) (caller_of any.new)) }
     ensures kept { KeepsAny any.old any.new }
     ensures unchanged { OnErr result (value.new ≡ value.old) }
     ensures length { length value.new ≡ length value.old }
@@ -121,7 +113,7 @@ pub(crate) fn copy(any: &mut AnyCaller, place: u64, value: &mut [u64]) -> Result
 // Returns the address of the value at a place.
 pub(crate) fn look(any: &mut AnyCaller, place: u64) -> Result<*mut u64, Status>
     ensures below { IfOk result (λ _. place < seen_size (caller_of any.new).hand) }
-    ensures refused { IfErr result (ReadDue place (List ℕ) (caller_of any.new)) }
+    ensures refused { IfErr result (ReadDue place ⊥ (List ℕ) (caller_of any.new)) }
     ensures kept { KeepsAny any.old any.new }
 {
     by_size!(AnyCaller, any, caller => reads::look(caller, place))
@@ -130,7 +122,7 @@ pub(crate) fn look(any: &mut AnyCaller, place: u64) -> Result<*mut u64, Status>
 // Returns the address of the value at a place, and how many filled ones lie there side by side.
 pub(crate) fn run(any: &mut AnyCaller, place: u64) -> Result<(*mut u64, u64), Status>
     ensures run { IfOk result (λ (_, n). AreSideBySide (caller_of any.old).vector place n) }
-    ensures refused { IfErr result (ReadDue place (List ℕ) (caller_of any.new)) }
+    ensures refused { IfErr result (ReadDue place ⊥ (List ℕ) (caller_of any.new)) }
     ensures kept { KeepsAny any.old any.new }
 {
     by_size!(AnyCaller, any, caller => reads::run(caller, place))
@@ -139,8 +131,8 @@ pub(crate) fn run(any: &mut AnyCaller, place: u64) -> Result<(*mut u64, u64), St
 // Fills a broken place.
 pub(crate) fn mend(any: &mut AnyCaller, place: u64, words: &[u64]) -> Result<(), Status>
     ensures mended { OnOk result (Mends place words.now (caller_of any.old) (caller_of any.new)) }
-    ensures refused { IfErr result (ReadDue place (List ℕ) (caller_of any.new)) }
-    ensures size { IfErr result (SizeDue (words_of any.old) (length words.now)) }
+    ensures refused { IfErr result
+        (MendsDue place (length words.now) (List ℕ) (words_of any.new) (caller_of any.new)) }
     ensures kept { KeepsAny any.old any.new }
 {
     by_size!(AnyCaller, any, caller => reads::mend(caller, place, words))
@@ -148,7 +140,7 @@ pub(crate) fn mend(any: &mut AnyCaller, place: u64, words: &[u64]) -> Result<(),
 
 // Makes room for this many places in all.
 pub(crate) fn reserve(any: &mut AnyCaller, size: u64) -> Result<(), Status>
-    ensures refused { IfErr result (ReachDue size (List ℕ) (caller_of any.new)) }
+    ensures refused { IfErr result (RoomDue size (List ℕ) (words_of any.new) (caller_of any.new)) }
     ensures kept { KeepsAny any.old any.new }
 {
     by_size!(AnyCaller, any, caller => reads::reserve(caller, size))
@@ -186,8 +178,7 @@ pub(crate) fn words(any: &AnyCaller) -> u64
 }
 
 // Returns an address that tells open vectors apart.
-pub(crate) fn address(any: &AnyCaller) -> *mut u64
-{
+pub(crate) fn address(any: &AnyCaller) -> *mut u64 {
     by_size!(AnyCaller, any, caller => caller.address())
 }
 
@@ -195,11 +186,18 @@ pub(crate) fn address(any: &AnyCaller) -> *mut u64
 pub(crate) fn split(any: &mut AnyCaller, shares: u32) -> Result<AnyCaller, Status>
     ensures split { IfOk result (λ other. SplitsCaller shares (caller_of any.old) (caller_of any.new) (caller_of other)) }
     ensures words { IfOk result (λ other. words_of other ≡ words_of any.old) }
-    ensures refused { IfErr result (SplitDue shares (List ℕ) (caller_of any.old)) }
+    ensures refused { IfErr result (SplitDue shares (List ℕ) (words_of any.old) (caller_of any.old)) }
     ensures unchanged { OnErr result (any.new ≡ any.old) }
     ensures words_kept { words_of any.new ≡ words_of any.old }
 {
     Ok(keep_size!(AnyCaller, any, caller => AnyCaller, reads::split(caller, shares)?))
+}
+
+// Tests whether the hand has all shares.
+pub(crate) fn is_whole(any: &AnyCaller) -> bool
+    ensures { IsTrue result ↔ IsWholeHand (caller_of any.now).hand }
+{
+    by_size!(AnyCaller, any, caller => caller.is_whole())
 }
 
 // Closes the vector into a list, or gives the hand back.

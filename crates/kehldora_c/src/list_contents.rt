@@ -1,9 +1,9 @@
 //! What the exports do with the list that a handle has.
-ghost use Rattle.std.specs.Prelude.{◌≡◌, ◌/◌, IfOk, IfErr, OnOk, OnErr, length};
+ghost use Rattle.std.specs.Prelude.{◌≡◌, IfOk, IfErr, OnOk, OnErr, length};
 ghost use Rattle.kehldora_c.specs.Held.{OnList, OnLists, width_of};
-ghost use Rattle.kehldora_c.specs.Calls.{IsSizeDue, IsCopySizeDue};
 ghost use Rattle.kehldora_c.specs.Lists.{HasMember, HasValueAt, AreMembersOf, SetsWords, CutsList, ShrinksList};
-ghost use Rattle.kehldora_c.specs.Lists.{IsDueOnList, MemberDue, CopyDue, NeverDueOfList};
+ghost use Rattle.kehldora_c.specs.Lists.{IsDueOnList, IsCopyDueOnList, GetDue, ListCopyDue, ListSetDue, ListLookDue};
+ghost use Rattle.kehldora_c.specs.Lists.{NeverDueOfList};
 
 use crate::held::Held;
 use crate::status::Status;
@@ -34,8 +34,7 @@ pub(crate) fn facts(held: &Held) -> Result<(u64, u64, u64), Status>
 // Copies the member at a place.
 pub(crate) fn copy(held: &Held, place: u64, value: &mut [u64]) -> Result<(), Status>
     ensures value { OnOk result (HasMember place value.new held.now) }
-    ensures refused { IfErr result (IsDueOnList (MemberDue place) held.now) }
-    ensures size { IfErr result (IsCopySizeDue (length value.old) held.now) }
+    ensures refused { IfErr result (IsCopyDueOnList (GetDue place (length value.old)) held.now) }
     ensures unchanged { OnErr result (value.new ≡ value.old) }
 {
     match held {
@@ -50,7 +49,7 @@ pub(crate) fn copy(held: &Held, place: u64, value: &mut [u64]) -> Result<(), Sta
 pub(crate) fn copy_all(held: &Held, place: u64, values: &mut [u64]) -> Result<(), Status>
     ensures copied { OnOk result (AreMembersOf place values.new held.now) }
     ensures refused { IfErr result
-        (IsDueOnList (CopyDue place (length values.old / width_of held.now)) held.now) }
+        (IsCopyDueOnList (ListCopyDue place (length values.old)) held.now) }
     ensures unchanged { OnErr result (values.new ≡ values.old) }
 {
     match held {
@@ -63,8 +62,7 @@ pub(crate) fn copy_all(held: &Held, place: u64, values: &mut [u64]) -> Result<()
 // Replaces the member at a place, or mends it.
 pub(crate) fn set(held: &mut Held, place: u64, words: &[u64]) -> Result<(), Status>
     ensures set { OnOk result (SetsWords place words.now held.old held.new) }
-    ensures refused { IfErr result (IsDueOnList (MemberDue place) held.old) }
-    ensures size { IfErr result (IsSizeDue (length words.now) held.old) }
+    ensures refused { IfErr result (IsDueOnList (ListSetDue place (length words.now)) held.old) }
     ensures unchanged { OnErr result (held.new ≡ held.old) }
 {
     match held {
@@ -77,7 +75,7 @@ pub(crate) fn set(held: &mut Held, place: u64, words: &[u64]) -> Result<(), Stat
 // Returns the address of the member at a place.
 pub(crate) fn look(held: &Held, place: u64) -> Result<*mut u64, Status>
     ensures there { IfOk result (λ _. HasValueAt place held.now) }
-    ensures refused { IfErr result (IsDueOnList (MemberDue place) held.now) }
+    ensures refused { IfErr result (IsDueOnList (ListLookDue place) held.now) }
 {
     match held {
         Held::List(any) => lists::look(any, place),

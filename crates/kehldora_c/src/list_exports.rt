@@ -1,9 +1,10 @@
 //! The exports over a list.
 ghost use Rattle.std.specs.Prelude.{◌≡◌, None, length};
 ghost use Rattle.kehldora_c.specs.Held.{OnBoth, OnHeld, OnList, OnLists, width_of};
-ghost use Rattle.kehldora_c.specs.Calls.{IsDueIn, IsSizeIn, IsSizeDue, IsCopySizeDue};
+ghost use Rattle.kehldora_c.specs.Calls.{IsDueIn};
 ghost use Rattle.kehldora_c.specs.Lists.{HasMember, HasValueAt, AreMembersOf, SetsWords, CutsList, ShrinksList};
-ghost use Rattle.kehldora_c.specs.Lists.{IsDueOnList, MemberDue, IsCopyDueIn, NeverDueOfList};
+ghost use Rattle.kehldora_c.specs.Lists.{IsDueOnList, IsCopyDueOnList, GetDue, ListCopyDue, ListSetDue, ListLookDue};
+ghost use Rattle.kehldora_c.specs.Lists.{NeverDueOfList};
 ghost use Rattle.kehldora_c.specs.Status.{IsDone, IfRefused};
 
 use crate::handle::Handle;
@@ -21,7 +22,7 @@ pub struct ListFacts {
 }
 
 /// Tells how long a list is.
-#[tactic(auto, using(crate::proofs::Codes::if_done, crate::proofs::Codes::if_refused))]
+#[tactic(auto, using(crate::proofs::Codes::if_done, crate::proofs::Codes::refused_in, crate::proofs::Codes::refused_empty))]
 #[unsafe(no_mangle)]
 pub extern "C" fn kehldora_raw_list_about(
     alloc: Global,
@@ -51,7 +52,7 @@ pub extern "C" fn kehldora_raw_list_about(
 }
 
 /// Copies the member at a place.
-#[tactic(auto, using(crate::proofs::Codes::if_done, crate::proofs::Codes::if_refused))]
+#[tactic(auto, using(crate::proofs::Codes::if_done, crate::proofs::Codes::refused_in, crate::proofs::Codes::refused_empty))]
 #[unsafe(no_mangle)]
 pub extern "C" fn kehldora_raw_list_get(
     alloc: Global,
@@ -60,8 +61,8 @@ pub extern "C" fn kehldora_raw_list_get(
     value: &mut [u64],
 ) -> i32
     ensures value { IsDone result → OnHeld (HasMember place value.new) list.old.owned.held }
-    ensures refused { IfRefused result (IsDueIn (IsDueOnList (MemberDue place)) list.old.owned.held) }
-    ensures size { IfRefused result (IsSizeIn IsCopySizeDue (length value.old) list.old.owned.held) }
+    ensures refused { IfRefused result
+        (IsDueIn (IsCopyDueOnList (GetDue place (length value.old))) list.old.owned.held) }
     ensures unchanged { (IsDone result → ⊥) → value.new ≡ value.old }
     ensures kept { list.new.owned.held ≡ list.old.owned.held }
 {
@@ -77,7 +78,7 @@ pub extern "C" fn kehldora_raw_list_get(
 }
 
 /// Replaces the member at a place, or mends it.
-#[tactic(auto, using(crate::proofs::Codes::if_done, crate::proofs::Codes::if_refused))]
+#[tactic(auto, using(crate::proofs::Codes::if_done, crate::proofs::Codes::refused_in, crate::proofs::Codes::refused_empty))]
 #[unsafe(no_mangle)]
 pub extern "C" fn kehldora_raw_list_set(
     alloc: Global,
@@ -86,8 +87,8 @@ pub extern "C" fn kehldora_raw_list_set(
     value: &[u64],
 ) -> i32
     ensures set { IsDone result → OnBoth (SetsWords place value.now) list.old.owned.held list.new.owned.held }
-    ensures refused { IfRefused result (IsDueIn (IsDueOnList (MemberDue place)) list.old.owned.held) }
-    ensures size { IfRefused result (IsSizeIn IsSizeDue (length value.now) list.old.owned.held) }
+    ensures refused { IfRefused result
+        (IsDueIn (IsDueOnList (ListSetDue place (length value.now))) list.old.owned.held) }
     ensures kept { (IsDone result → ⊥) → list.new.owned.held ≡ list.old.owned.held }
 {
     let Some(mut held) = list.take(alloc) else {
@@ -102,7 +103,7 @@ pub extern "C" fn kehldora_raw_list_set(
 }
 
 /// Copies members side by side from a place on, as many as there is room for, or none.
-#[tactic(auto, using(crate::proofs::Codes::if_done, crate::proofs::Codes::if_refused))]
+#[tactic(auto, using(crate::proofs::Codes::if_done, crate::proofs::Codes::refused_in, crate::proofs::Codes::refused_empty))]
 #[unsafe(no_mangle)]
 pub extern "C" fn kehldora_raw_list_copy(
     alloc: Global,
@@ -111,7 +112,8 @@ pub extern "C" fn kehldora_raw_list_copy(
     values: &mut [u64],
 ) -> i32
     ensures copied { IsDone result → OnHeld (AreMembersOf place values.new) list.old.owned.held }
-    ensures refused { IfRefused result (IsCopyDueIn place (length values.old) list.old.owned.held) }
+    ensures refused { IfRefused result
+        (IsDueIn (IsCopyDueOnList (ListCopyDue place (length values.old))) list.old.owned.held) }
     ensures unchanged { (IsDone result → ⊥) → values.new ≡ values.old }
     ensures kept { list.new.owned.held ≡ list.old.owned.held }
 {
@@ -127,7 +129,7 @@ pub extern "C" fn kehldora_raw_list_copy(
 }
 
 /// Gives the address of the member at a place.
-#[tactic(auto, using(crate::proofs::Codes::if_done, crate::proofs::Codes::if_refused))]
+#[tactic(auto, using(crate::proofs::Codes::if_done, crate::proofs::Codes::refused_in, crate::proofs::Codes::refused_empty))]
 #[unsafe(no_mangle)]
 pub extern "C" fn kehldora_raw_list_look(
     alloc: Global,
@@ -136,7 +138,7 @@ pub extern "C" fn kehldora_raw_list_look(
     at: &mut *mut u64,
 ) -> i32
     ensures there { IsDone result → OnHeld (HasValueAt place) list.old.owned.held }
-    ensures refused { IfRefused result (IsDueIn (IsDueOnList (MemberDue place)) list.old.owned.held) }
+    ensures refused { IfRefused result (IsDueIn (IsDueOnList (ListLookDue place)) list.old.owned.held) }
     ensures kept { list.new.owned.held ≡ list.old.owned.held }
 {
     let Some(held) = list.take(alloc) else {
@@ -154,7 +156,7 @@ pub extern "C" fn kehldora_raw_list_look(
 }
 
 /// Drops the members from a place on. Their memory stays.
-#[tactic(auto, using(crate::proofs::Codes::if_done, crate::proofs::Codes::if_refused))]
+#[tactic(auto, using(crate::proofs::Codes::if_done, crate::proofs::Codes::refused_in, crate::proofs::Codes::refused_empty))]
 #[unsafe(no_mangle)]
 pub extern "C" fn kehldora_raw_list_cut(alloc: Global, list: &mut Handle, size: u64) -> i32
     ensures cut { IsDone result → OnBoth
@@ -174,7 +176,7 @@ pub extern "C" fn kehldora_raw_list_cut(alloc: Global, list: &mut Handle, size: 
 }
 
 /// Frees the segments that have no member.
-#[tactic(auto, using(crate::proofs::Codes::if_done, crate::proofs::Codes::if_refused))]
+#[tactic(auto, using(crate::proofs::Codes::if_done, crate::proofs::Codes::refused_in, crate::proofs::Codes::refused_empty))]
 #[unsafe(no_mangle)]
 pub extern "C" fn kehldora_raw_list_shrink(alloc: Global, list: &mut Handle) -> i32
     ensures shrunk { IsDone result → OnBoth

@@ -1,9 +1,8 @@
 //! What the exports do with a list of value elements, whatever their size.
-ghost use Rattle.std.specs.Prelude.{◌≡◌, ◌/◌, ℕ, List, Some, IfOk, IfErr, OnOk, OnErr, length, slice_get};
+ghost use Rattle.std.specs.Prelude.{◌≡◌, ℕ, List, Some, IfOk, IfErr, OnOk, OnErr, length, slice_get};
 ghost use Rattle.caller_core.specs.Grows.{OpensList, IsSameList};
 ghost use Rattle.kehldora_c.specs.Held.{caller_of, words_of, list_of, list_words};
-ghost use Rattle.kehldora_c.specs.Calls.{SizeDue};
-ghost use Rattle.kehldora_c.specs.Lists.{AreMembersFrom, CopyDue, CutsList, MemberDue, SetsMember, ShrinksList};
+ghost use Rattle.kehldora_c.specs.Lists.{AreMembersFrom, CutsList, GetDue, ListCopyDue, ListSetDue, MemberDue, SetsMember, ShrinksList};
 
 use crate::held::{AnyCaller, AnyList};
 use crate::members;
@@ -37,8 +36,8 @@ pub(crate) fn words(any: &AnyList) -> u64
 // Copies the member at a place.
 pub(crate) fn copy(any: &AnyList, place: u64, value: &mut [u64]) -> Result<(), Status>
     ensures value { OnOk result (slice_get (list_of any.now).members place ≡ Some (Some value.new)) }
-    ensures refused { IfErr result (MemberDue place (List ℕ) (list_of any.now)) }
-    ensures size { IfErr result (SizeDue (list_words any.now) (length value.old)) }
+    ensures refused { IfErr result
+        (GetDue place (length value.old) (list_words any.now) (list_of any.now)) }
     ensures unchanged { OnErr result (value.new ≡ value.old) }
 {
     by_size!(AnyList, any, list => members::copy(list, place, value))
@@ -49,7 +48,7 @@ pub(crate) fn copy_all(any: &AnyList, place: u64, values: &mut [u64]) -> Result<
     ensures copied { OnOk result
         (AreMembersFrom (list_words any.now) place values.new (list_of any.now)) }
     ensures refused { IfErr result
-        (CopyDue place (length values.old / list_words any.now) (List ℕ) (list_of any.now)) }
+        (ListCopyDue place (length values.old) (list_words any.now) (list_of any.now)) }
     ensures unchanged { OnErr result (values.new ≡ values.old) }
     ensures length { length values.new ≡ length values.old }
 {
@@ -59,8 +58,8 @@ pub(crate) fn copy_all(any: &AnyList, place: u64, values: &mut [u64]) -> Result<
 // Replaces the member at a place, or mends it.
 pub(crate) fn set(any: &mut AnyList, place: u64, words: &[u64]) -> Result<(), Status>
     ensures set { OnOk result (SetsMember place words.now (list_of any.old) (list_of any.new)) }
-    ensures refused { IfErr result (MemberDue place (List ℕ) (list_of any.old)) }
-    ensures size { IfErr result (SizeDue (list_words any.old) (length words.now)) }
+    ensures refused { IfErr result
+        (ListSetDue place (length words.now) (List ℕ) (list_words any.old) (list_of any.old)) }
     ensures unchanged { OnErr result (any.new ≡ any.old) }
     ensures words { list_words any.new ≡ list_words any.old }
 {
@@ -71,7 +70,7 @@ pub(crate) fn set(any: &mut AnyList, place: u64, words: &[u64]) -> Result<(), St
 pub(crate) fn look(any: &AnyList, place: u64) -> Result<*mut u64, Status>
     ensures there { IfOk result
         (λ _. (x : List ℕ) × (slice_get (list_of any.now).members place ≡ Some (Some x))) }
-    ensures refused { IfErr result (MemberDue place (List ℕ) (list_of any.now)) }
+    ensures refused { IfErr result (MemberDue place ⊥ (List ℕ) (list_of any.now)) }
 {
     by_size!(AnyList, any, list => members::look(list, place))
 }

@@ -1,7 +1,6 @@
 //! What is done with a list of elements of one size.
-ghost use Rattle.std.specs.Prelude.{◌≡◌, ◌+◌, ◌*◌, ◌/◌, ◌++◌, ◌<◌, ◌≤◌, ℕ, List, Some, IfOk, IfErr, OnOk, OnErr, length, take, drop, slice_get};
-ghost use Rattle.kehldora_c.specs.Calls.{SizeDue};
-ghost use Rattle.kehldora_c.specs.Lists.{SetsMember, AreMembersFrom, AreValues, MemberDue, CopyDue};
+ghost use Rattle.std.specs.Prelude.{◌≡◌, ◌≢◌, ◌+◌, ◌*◌, ◌++◌, ◌<◌, ◌≤◌, Some, IfOk, IfErr, OnOk, OnErr, IsTrue, IsFalse, length, take, drop, slice_get};
+ghost use Rattle.kehldora_c.specs.Lists.{SetsMember, AreMembersFrom, AreValues, HasBroken, MemberDue, SetDue, GetDue, ListCopyDue};
 
 use crate::reads::copy_out;
 use crate::status::{Status, of_member};
@@ -9,15 +8,14 @@ use caller_core::Element;
 use quiet_core::{Quiet, QuietAt};
 
 // Copies the member at a place.
-#[tactic(auto, using(crate::proofs::Due::member_due, crate::proofs::Due::member_size))]
+#[tactic(auto, using(crate::proofs::Due::member_due))]
 pub(crate) fn copy<const N: usize>(
     list: &Quiet<[u64; N]>,
     place: u64,
     value: &mut [u64],
 ) -> Result<(), Status>
     ensures value { OnOk result (slice_get list.now.members place ≡ Some (Some value.new)) }
-    ensures refused { IfErr result (MemberDue place (List ℕ) list.now) }
-    ensures size { IfErr result (SizeDue N (length value.old)) }
+    ensures refused { IfErr result (GetDue place (length value.old) N list.now) }
     ensures unchanged { OnErr result (value.new ≡ value.old) }
 {
     if value.len() != N {
@@ -33,19 +31,21 @@ pub(crate) fn copy<const N: usize>(
 }
 
 // Tests that `n` members from a place on are values.
-fn check_values<const N: usize>(list: &Quiet<[u64; N]>, place: u64, n: u64) -> Result<(), Status>
+fn are_values<const N: usize>(list: &Quiet<[u64; N]>, place: u64, n: u64) -> bool
     requires { place + n ≤ length list.now.members }
-    ensures values { OnOk result (AreValues place n list.now) }
-    ensures refused { IfErr result (CopyDue place n (List ℕ) list.now) }
+    ensures values { IsTrue result → AreValues place n list.now }
+    ensures broken { IsFalse result → HasBroken place n list.now }
 {
     // For the proof: places are small.
     let _len = list.len();
     for i in 0..n {
-        if list.get(place + i).is_err() {
-            return Err(Status::Broken);
+        match list.get(place + i) {
+            Ok(_) => {}
+            Err(QuietAt::Broken) => return false,
+            Err(QuietAt::OutOfRange { .. }) => unreachable!(),
         }
     }
-    Ok(())
+    true
 }
 
 // Writes words into an array from one of its words on.
@@ -82,8 +82,9 @@ pub(crate) fn copy_all<const N: usize>(
     place: u64,
     values: &mut [u64],
 ) -> Result<(), Status>
+    requires { 0 < N }
     ensures copied { OnOk result (AreMembersFrom N place values.new list.now) }
-    ensures refused { IfErr result (CopyDue place (length values.old / N) (List ℕ) list.now) }
+    ensures refused { IfErr result (ListCopyDue place (length values.old) N list.now) }
     ensures unchanged { OnErr result (values.new ≡ values.old) }
     ensures length { length values.new ≡ length values.old }
 {
@@ -94,21 +95,21 @@ pub(crate) fn copy_all<const N: usize>(
     if place > len || n > len - place {
         return Err(Status::OutOfRange);
     }
-    check_values(list, place, n)?;
+    if !are_values(list, place, n) {
+        return Err(Status::Broken);
+    }
     copy_values(list, place, n, values);
     Ok(())
 }
 
 // Replaces the member at a place, or mends it.
-#[tactic(auto, using(crate::proofs::Due::member_due, crate::proofs::Due::member_size))]
 pub(crate) fn set<E: Element>(
     list: &mut Quiet<E>,
     place: u64,
     words: &[u64],
 ) -> Result<(), Status>
     ensures set { OnOk result (SetsMember place (E.element_of words.now) list.old list.new) }
-    ensures refused { IfErr result (MemberDue place E list.old) }
-    ensures size { IfErr result (SizeDue E.width (length words.now)) }
+    ensures refused { IfErr result (SetDue place (length words.now ≢ E.width) E list.old) }
     ensures unchanged { OnErr result (list.new ≡ list.old) }
 {
     let Some(element) = E::from_words(words) else {
@@ -128,7 +129,7 @@ pub(crate) fn set<E: Element>(
 #[tactic(auto, using(crate::proofs::Due::member_due))]
 pub(crate) fn look<E: Element>(list: &Quiet<E>, place: u64) -> Result<*mut u64, Status>
     ensures there { IfOk result (λ _. (x : E) × (slice_get list.now.members place ≡ Some (Some x))) }
-    ensures refused { IfErr result (MemberDue place E list.now) }
+    ensures refused { IfErr result (MemberDue place ⊥ E list.now) }
 {
     match list.get(place) {
         Ok(element) => Ok(element.address()),

@@ -1,10 +1,10 @@
 //! How what a handle has is cut in two, put together, closed and opened.
 ghost use Rattle.std.specs.Prelude.{◌≡◌, IfOk, IfErr, OnOk, OnErr};
-ghost use Rattle.kehldora_c.specs.Calls.{IsDueOn, SplitDue, SplitsHeld, AreOfOne, JoinsHeld};
-ghost use Rattle.kehldora_c.specs.Lists.{ClosesHeld, OpensHeld, KeepsOrReopens};
+ghost use Rattle.kehldora_c.specs.Calls.{IsDueOn, SplitDue, SplitsHeld, AreOfOne, JoinsHeld, JoinDue, CloseDue};
+ghost use Rattle.kehldora_c.specs.Lists.{ClosesHeld, OpensHeld, KeepsOrReopens, IsDueOnList, MemoryDue};
 
 use crate::held::{AnyCaller, AnyOpaque, Held};
-use crate::status::Status;
+use crate::status::{Status, of_close};
 use crate::{hands, joins, lists, opaque_hands, opaque_joins, opaque_lists};
 use std::alloc::Global;
 use std::mem;
@@ -44,6 +44,7 @@ pub(crate) fn split(alloc: Global, held: &mut Held, shares: u32) -> Result<Box<H
 fn join_values(any: &mut AnyCaller, more: &mut Held) -> Result<(), Status>
     requires same { AreOfOne (Held.Hand any.old) more.old }
     ensures joined { OnOk result (JoinsHeld (Held.Hand any.old) more.old (Held.Hand any.new)) }
+    ensures refused { IfErr result (JoinDue (Held.Hand any.old) more.old) }
     ensures unchanged { OnErr result (any.new ≡ any.old) }
     ensures other_unchanged { OnErr result (more.new ≡ more.old) }
 {
@@ -71,6 +72,7 @@ fn join_opaque(any: &mut AnyOpaque, more: &mut Held) -> Result<(), Status>
     requires same { AreOfOne (Held.OpaqueHand any.old) more.old }
     ensures joined { OnOk result
         (JoinsHeld (Held.OpaqueHand any.old) more.old (Held.OpaqueHand any.new)) }
+    ensures refused { IfErr result (JoinDue (Held.OpaqueHand any.old) more.old) }
     ensures unchanged { OnErr result (any.new ≡ any.old) }
     ensures other_unchanged { OnErr result (more.new ≡ more.old) }
 {
@@ -97,6 +99,7 @@ fn join_opaque(any: &mut AnyOpaque, more: &mut Held) -> Result<(), Status>
 pub(crate) fn join(held: &mut Held, more: &mut Held) -> Result<(), Status>
     requires same { AreOfOne held.old more.old }
     ensures joined { OnOk result (JoinsHeld held.old more.old held.new) }
+    ensures refused { IfErr result (JoinDue held.old more.old) }
     ensures unchanged { OnErr result (held.new ≡ held.old) }
     ensures other_unchanged { OnErr result (more.new ≡ more.old) }
 {
@@ -108,31 +111,39 @@ pub(crate) fn join(held: &mut Held, more: &mut Held) -> Result<(), Status>
 }
 
 // Closes the vector of a hand into a list.
+#[tactic(auto, using(crate::proofs::Due::close_due))]
 pub(crate) fn close(held: &mut Held) -> Result<(), Status>
     ensures closed { OnOk result (ClosesHeld held.old held.new) }
+    ensures refused { IfErr result (IsDueOn CloseDue held.old) }
     ensures unchanged { OnErr result (held.new ≡ held.old) }
 {
     match mem::replace(held, Held::Empty) {
-        Held::Hand(any) => match hands::close(any) {
-            Ok(list) => {
-                *held = Held::List(list);
-                Ok(())
+        Held::Hand(any) => {
+            let whole = hands::is_whole(&any);
+            match hands::close(any) {
+                Ok(list) => {
+                    *held = Held::List(list);
+                    Ok(())
+                }
+                Err(back) => {
+                    *held = Held::Hand(back);
+                    Err(of_close(whole))
+                }
             }
-            Err(back) => {
-                *held = Held::Hand(back);
-                Err(Status::NotWhole)
+        }
+        Held::OpaqueHand(any) => {
+            let whole = opaque_hands::is_whole(&any);
+            match opaque_hands::close(any) {
+                Ok(list) => {
+                    *held = Held::OpaqueList(list);
+                    Ok(())
+                }
+                Err(back) => {
+                    *held = Held::OpaqueHand(back);
+                    Err(of_close(whole))
+                }
             }
-        },
-        Held::OpaqueHand(any) => match opaque_hands::close(any) {
-            Ok(list) => {
-                *held = Held::OpaqueList(list);
-                Ok(())
-            }
-            Err(back) => {
-                *held = Held::OpaqueHand(back);
-                Err(Status::NotWhole)
-            }
-        },
+        }
         other => {
             *held = other;
             Err(Status::BadHandle)
@@ -143,6 +154,7 @@ pub(crate) fn close(held: &mut Held) -> Result<(), Status>
 // Opens a list into a vector. Without memory the list has what it had.
 pub(crate) fn open_list(alloc: Global, held: &mut Held) -> Result<(), Status>
     ensures opened { OnOk result (OpensHeld held.old held.new) }
+    ensures refused { IfErr result (IsDueOnList MemoryDue held.old) }
     ensures kept { OnErr result (KeepsOrReopens held.old held.new) }
 {
     match mem::replace(held, Held::Empty) {

@@ -1,32 +1,22 @@
 //! What the exports do with a hand of opaque elements, whatever their size.
-ghost use Rattle.std.specs.Prelude.{◌≡◌, ◌<◌, ◌/◌, IfOk, IfErr, OnOk, OnErr, length};
+ghost use Rattle.std.specs.Prelude.{◌≡◌, ◌<◌, ◌/◌, ◌↔◌, IfOk, IfErr, OnOk, OnErr, IsTrue, length};
 ghost use Rattle.seg_core.specs.Segment.{IsLimit};
-ghost use Rattle.claim_core.specs.Hand.{SeesSize, seen_size};
+ghost use Rattle.claim_core.specs.Hand.{IsWholeHand, SeesSize, seen_size};
 ghost use Rattle.grow_core.specs.Vector.{limit_of};
 ghost use Rattle.caller_core.specs.Caller.{IsNewCaller, Pushes};
 ghost use Rattle.caller_core.specs.Grows.{AreSideBySide, Mends, WinsPlaces};
 ghost use Rattle.kehldora_c.specs.Held.{KeepsOpaque, opaque_of, opaque_words, opaque_list_of, opaque_list_words};
-ghost use Rattle.kehldora_c.specs.Calls.{GrowthDue, ReachDue, ReadDue, SizeDue, SplitDue, SplitsCaller, ReachesSize};
+ghost use Rattle.kehldora_c.specs.Calls.{OpenDue, PushDue, GrowDue, FillDue, AtLeastDue, GrowthDue, ReadDue, MendsDue, RoomDue, SplitDue, SplitsCaller, ReachesSize};
 ghost use Rattle.kehldora_c.specs.Lists.{ClosesCaller};
 
 use crate::growths;
 use crate::held::{AnyOpaque, AnyOpaqueList};
 use crate::reads;
-use crate::sizes::{by_size, keep_size, try_size};
+use crate::sizes::{by_size, keep_size, opened, try_size};
 use crate::status::Status;
-use caller_core::{Caller, Element};
+use caller_core::Caller;
 use seg_core::Layout;
 use std::alloc::Global;
-
-fn open_one<E: Element>(alloc: Global, limit: u64, layout: Layout) -> Result<Caller<E>, Status>
-    requires { IsLimit limit }
-    ensures { IfOk result (IsNewCaller limit layout) }
-{
-    match Caller::open(alloc, limit, layout) {
-        Ok(caller) => Ok(caller),
-        Err(_no_memory) => Err(Status::NoMemory),
-    }
-}
 
 // Opens a vector.
 pub(crate) fn open(
@@ -38,23 +28,24 @@ pub(crate) fn open(
     requires { IsLimit limit }
     ensures new { IfOk result (λ any. IsNewCaller limit layout (opaque_of any)) }
     ensures words { IfOk result (λ any. opaque_words any ≡ words) }
+    ensures refused { IfErr result (OpenDue limit words layout) }
 {
-    Ok(match words {
-        1 => AnyOpaque::One(open_one(alloc, limit, layout)?),
-        2 => AnyOpaque::Two(open_one(alloc, limit, layout)?),
-        3 => AnyOpaque::Three(open_one(alloc, limit, layout)?),
-        4 => AnyOpaque::Four(open_one(alloc, limit, layout)?),
-        6 => AnyOpaque::Six(open_one(alloc, limit, layout)?),
-        8 => AnyOpaque::Eight(open_one(alloc, limit, layout)?),
-        _ => return Err(Status::BadSize),
-    })
+    match words {
+        1 => opened!(AnyOpaque, One, Caller::open(alloc, limit, layout)),
+        2 => opened!(AnyOpaque, Two, Caller::open(alloc, limit, layout)),
+        3 => opened!(AnyOpaque, Three, Caller::open(alloc, limit, layout)),
+        4 => opened!(AnyOpaque, Four, Caller::open(alloc, limit, layout)),
+        6 => opened!(AnyOpaque, Six, Caller::open(alloc, limit, layout)),
+        8 => opened!(AnyOpaque, Eight, Caller::open(alloc, limit, layout)),
+        _ => Err(Status::BadSize),
+    }
 }
 
 // Appends the element that these words make.
 pub(crate) fn push(any: &mut AnyOpaque, words: &[u64]) -> Result<u64, Status>
     ensures pushed { IfOk result (Pushes tt (opaque_of any.old) (opaque_of any.new)) }
-    ensures refused { IfErr result (GrowthDue 1 (Unit {0}) (opaque_of any.new)) }
-    ensures size { IfErr result (SizeDue (opaque_words any.old) (length words.now)) }
+    ensures refused { IfErr result
+        (PushDue (length words.now) (Unit {0}) (opaque_words any.new) (opaque_of any.new)) }
     ensures kept { KeepsOpaque any.old any.new }
 {
     by_size!(AnyOpaque, any, caller => growths::push(caller, words))
@@ -65,7 +56,7 @@ pub(crate) fn grow(any: &mut AnyOpaque, words: &[u64]) -> Result<u64, Status>
     ensures grown { IfOk result
         (WinsPlaces (length words.now / opaque_words any.old) (opaque_of any.old) (opaque_of any.new)) }
     ensures refused { IfErr result
-        (GrowthDue (length words.now / opaque_words any.old) (Unit {0}) (opaque_of any.new)) }
+        (GrowDue (length words.now) (Unit {0}) (opaque_words any.new) (opaque_of any.new)) }
     ensures kept { KeepsOpaque any.old any.new }
 {
     by_size!(AnyOpaque, any, caller => growths::grow_opaque(caller, words))
@@ -74,8 +65,8 @@ pub(crate) fn grow(any: &mut AnyOpaque, words: &[u64]) -> Result<u64, Status>
 // Appends `count` elements, each of which these words make.
 pub(crate) fn fill(any: &mut AnyOpaque, words: &[u64], count: u64) -> Result<u64, Status>
     ensures grown { IfOk result (WinsPlaces count (opaque_of any.old) (opaque_of any.new)) }
-    ensures refused { IfErr result (GrowthDue count (Unit {0}) (opaque_of any.new)) }
-    ensures size { IfErr result (SizeDue (opaque_words any.old) (length words.now)) }
+    ensures refused { IfErr result
+        (FillDue count (length words.now) (Unit {0}) (opaque_words any.new) (opaque_of any.new)) }
     ensures kept { KeepsOpaque any.old any.new }
 {
     by_size!(AnyOpaque, any, caller => growths::fill_opaque(caller, words, count))
@@ -88,7 +79,8 @@ pub(crate) fn at_least(
     words: &[u64],
 ) -> Result<(u64, u64), Status>
     ensures grown { IfOk result (λ (place, n). ReachesSize size place n (opaque_of any.old) (opaque_of any.new)) }
-    ensures refused { IfErr result (ReachDue size (Unit {0}) (opaque_of any.new)) }
+    ensures refused { IfErr result
+        (AtLeastDue size (length words.now) (Unit {0}) (opaque_words any.new) (opaque_of any.new)) }
     ensures kept { KeepsOpaque any.old any.new }
 {
     by_size!(AnyOpaque, any, caller => growths::at_least(caller, size, words))
@@ -97,7 +89,7 @@ pub(crate) fn at_least(
 // Claims `count` places and breaks them.
 pub(crate) fn leave(any: &mut AnyOpaque, count: u64) -> Result<u64, Status>
     ensures broken { IfOk result (WinsPlaces count (opaque_of any.old) (opaque_of any.new)) }
-    ensures refused { IfErr result (GrowthDue count (Unit {0}) (opaque_of any.new)) }
+    ensures refused { IfErr result (GrowthDue count ⊥ (Unit {0}) (opaque_of any.new)) }
     ensures kept { KeepsOpaque any.old any.new }
 {
     by_size!(AnyOpaque, any, caller => growths::leave(caller, count))
@@ -106,7 +98,7 @@ pub(crate) fn leave(any: &mut AnyOpaque, count: u64) -> Result<u64, Status>
 // Returns the address of the value at a place.
 pub(crate) fn look(any: &mut AnyOpaque, place: u64) -> Result<*mut u64, Status>
     ensures below { IfOk result (λ _. place < seen_size (opaque_of any.new).hand) }
-    ensures refused { IfErr result (ReadDue place (Unit {0}) (opaque_of any.new)) }
+    ensures refused { IfErr result (ReadDue place ⊥ (Unit {0}) (opaque_of any.new)) }
     ensures kept { KeepsOpaque any.old any.new }
 {
     by_size!(AnyOpaque, any, caller => reads::look(caller, place))
@@ -115,7 +107,7 @@ pub(crate) fn look(any: &mut AnyOpaque, place: u64) -> Result<*mut u64, Status>
 // Returns the address of the value at a place, and how many filled ones lie there side by side.
 pub(crate) fn run(any: &mut AnyOpaque, place: u64) -> Result<(*mut u64, u64), Status>
     ensures run { IfOk result (λ (_, n). AreSideBySide (opaque_of any.old).vector place n) }
-    ensures refused { IfErr result (ReadDue place (Unit {0}) (opaque_of any.new)) }
+    ensures refused { IfErr result (ReadDue place ⊥ (Unit {0}) (opaque_of any.new)) }
     ensures kept { KeepsOpaque any.old any.new }
 {
     by_size!(AnyOpaque, any, caller => reads::run(caller, place))
@@ -124,8 +116,8 @@ pub(crate) fn run(any: &mut AnyOpaque, place: u64) -> Result<(*mut u64, u64), St
 // Fills a broken place.
 pub(crate) fn mend(any: &mut AnyOpaque, place: u64, words: &[u64]) -> Result<(), Status>
     ensures mended { OnOk result (Mends place tt (opaque_of any.old) (opaque_of any.new)) }
-    ensures refused { IfErr result (ReadDue place (Unit {0}) (opaque_of any.new)) }
-    ensures size { IfErr result (SizeDue (opaque_words any.old) (length words.now)) }
+    ensures refused { IfErr result
+        (MendsDue place (length words.now) (Unit {0}) (opaque_words any.new) (opaque_of any.new)) }
     ensures kept { KeepsOpaque any.old any.new }
 {
     by_size!(AnyOpaque, any, caller => reads::mend(caller, place, words))
@@ -133,7 +125,7 @@ pub(crate) fn mend(any: &mut AnyOpaque, place: u64, words: &[u64]) -> Result<(),
 
 // Makes room for this many places in all.
 pub(crate) fn reserve(any: &mut AnyOpaque, size: u64) -> Result<(), Status>
-    ensures refused { IfErr result (ReachDue size (Unit {0}) (opaque_of any.new)) }
+    ensures refused { IfErr result (RoomDue size (Unit {0}) (opaque_words any.new) (opaque_of any.new)) }
     ensures kept { KeepsOpaque any.old any.new }
 {
     by_size!(AnyOpaque, any, caller => reads::reserve(caller, size))
@@ -171,8 +163,7 @@ pub(crate) fn words(any: &AnyOpaque) -> u64
 }
 
 // Returns an address that tells open vectors apart.
-pub(crate) fn address(any: &AnyOpaque) -> *mut u64
-{
+pub(crate) fn address(any: &AnyOpaque) -> *mut u64 {
     by_size!(AnyOpaque, any, caller => caller.address())
 }
 
@@ -180,11 +171,18 @@ pub(crate) fn address(any: &AnyOpaque) -> *mut u64
 pub(crate) fn split(any: &mut AnyOpaque, shares: u32) -> Result<AnyOpaque, Status>
     ensures split { IfOk result (λ other. SplitsCaller shares (opaque_of any.old) (opaque_of any.new) (opaque_of other)) }
     ensures words { IfOk result (λ other. opaque_words other ≡ opaque_words any.old) }
-    ensures refused { IfErr result (SplitDue shares (Unit {0}) (opaque_of any.old)) }
+    ensures refused { IfErr result (SplitDue shares (Unit {0}) (opaque_words any.old) (opaque_of any.old)) }
     ensures unchanged { OnErr result (any.new ≡ any.old) }
     ensures words_kept { opaque_words any.new ≡ opaque_words any.old }
 {
     Ok(keep_size!(AnyOpaque, any, caller => AnyOpaque, reads::split(caller, shares)?))
+}
+
+// Tests whether the hand has all shares.
+pub(crate) fn is_whole(any: &AnyOpaque) -> bool
+    ensures { IsTrue result ↔ IsWholeHand (opaque_of any.now).hand }
+{
+    by_size!(AnyOpaque, any, caller => caller.is_whole())
 }
 
 // Closes the vector into a list, or gives the hand back.

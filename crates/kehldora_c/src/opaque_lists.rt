@@ -2,8 +2,7 @@
 ghost use Rattle.std.specs.Prelude.{◌≡◌, Some, IfOk, IfErr, OnOk, OnErr, length, slice_get};
 ghost use Rattle.caller_core.specs.Grows.{OpensList, IsSameList};
 ghost use Rattle.kehldora_c.specs.Held.{opaque_of, opaque_words, opaque_list_of, opaque_list_words};
-ghost use Rattle.kehldora_c.specs.Calls.{SizeDue};
-ghost use Rattle.kehldora_c.specs.Lists.{CutsList, MemberDue, SetsMember, ShrinksList};
+ghost use Rattle.kehldora_c.specs.Lists.{CutsList, ListSetDue, MemberDue, SetsMember, ShrinksList};
 
 use crate::held::{AnyOpaque, AnyOpaqueList};
 use crate::members;
@@ -37,8 +36,8 @@ pub(crate) fn words(any: &AnyOpaqueList) -> u64
 // Replaces the member at a place, or mends it.
 pub(crate) fn set(any: &mut AnyOpaqueList, place: u64, words: &[u64]) -> Result<(), Status>
     ensures set { OnOk result (SetsMember place tt (opaque_list_of any.old) (opaque_list_of any.new)) }
-    ensures refused { IfErr result (MemberDue place (Unit {0}) (opaque_list_of any.old)) }
-    ensures size { IfErr result (SizeDue (opaque_list_words any.old) (length words.now)) }
+    ensures refused { IfErr result
+        (ListSetDue place (length words.now) (Unit {0}) (opaque_list_words any.old) (opaque_list_of any.old)) }
     ensures unchanged { OnErr result (any.new ≡ any.old) }
     ensures words { opaque_list_words any.new ≡ opaque_list_words any.old }
 {
@@ -49,7 +48,7 @@ pub(crate) fn set(any: &mut AnyOpaqueList, place: u64, words: &[u64]) -> Result<
 pub(crate) fn look(any: &AnyOpaqueList, place: u64) -> Result<*mut u64, Status>
     ensures there { IfOk result
         (λ _. (x : Unit {0}) × (slice_get (opaque_list_of any.now).members place ≡ Some (Some x))) }
-    ensures refused { IfErr result (MemberDue place (Unit {0}) (opaque_list_of any.now)) }
+    ensures refused { IfErr result (MemberDue place ⊥ (Unit {0}) (opaque_list_of any.now)) }
 {
     by_size!(AnyOpaqueList, any, list => members::look(list, place))
 }

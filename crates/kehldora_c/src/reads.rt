@@ -1,10 +1,10 @@
 //! How a hand reads and mends places of one size, and what it knows.
-ghost use Rattle.std.specs.Prelude.{◌≡◌, ◌<◌, ℕ, List, IfOk, IfErr, OnOk, OnErr, IsOkAnd, length};
+ghost use Rattle.std.specs.Prelude.{◌≡◌, ◌≢◌, ◌<◌, ℕ, List, IfOk, IfErr, OnOk, OnErr, IsOkAnd, length};
 ghost use Rattle.claim_core.specs.Hand.{seen_size};
 ghost use Rattle.grow_core.specs.Vector.{limit_of};
 ghost use Rattle.caller_core.specs.Caller.{KeepsCaller, HasLast};
 ghost use Rattle.caller_core.specs.Grows.{AreSideBySide, Mends};
-ghost use Rattle.kehldora_c.specs.Calls.{ReachDue, ReadDue, SizeDue, SplitDue, SplitsCaller};
+ghost use Rattle.kehldora_c.specs.Calls.{AtDue, ReadDue, MendDue, RoomDue, SplitDue, SplitsCaller};
 
 use crate::status::{Status, of_mend, of_read, of_reserve};
 use caller_core::{Caller, Element};
@@ -18,7 +18,7 @@ pub(crate) fn copy_out<const N: usize>(words: [u64; N], value: &mut [u64])
 }
 
 // Copies the value at a place.
-#[tactic(auto, using(crate::proofs::Due::read_due, crate::proofs::Due::read_size))]
+#[tactic(auto, using(crate::proofs::Due::read_due))]
 pub(crate) fn copy<const N: usize>(
     caller: &mut Caller<[u64; N]>,
     place: u64,
@@ -26,8 +26,7 @@ pub(crate) fn copy<const N: usize>(
 ) -> Result<(), Status>
     ensures own { (x : List ℕ) → length value.old ≡ N → HasLast place x caller.old.last
         → IsOkAnd result (λ _. value.new ≡ x) }
-    ensures refused { IfErr result (ReadDue place (List ℕ) caller.new) }
-    ensures size { IfErr result (SizeDue N (length value.old)) }
+    ensures refused { IfErr result (AtDue place (length value.old) N caller.new) }
     ensures kept { KeepsCaller caller.old caller.new }
     ensures unchanged { OnErr result (value.new ≡ value.old) }
     ensures length { length value.new ≡ length value.old }
@@ -48,7 +47,7 @@ pub(crate) fn copy<const N: usize>(
 #[tactic(auto, using(crate::proofs::Due::read_due))]
 pub(crate) fn look<E: Element>(caller: &mut Caller<E>, place: u64) -> Result<*mut u64, Status>
     ensures below { IfOk result (λ _. place < seen_size caller.new.hand) }
-    ensures refused { IfErr result (ReadDue place E caller.new) }
+    ensures refused { IfErr result (ReadDue place ⊥ E caller.new) }
     ensures kept { KeepsCaller caller.old caller.new }
 {
     match caller.look(place) {
@@ -64,7 +63,7 @@ pub(crate) fn run<E: Element>(
     place: u64,
 ) -> Result<(*mut u64, u64), Status>
     ensures run { IfOk result (λ (_, n). AreSideBySide caller.old.vector place n) }
-    ensures refused { IfErr result (ReadDue place E caller.new) }
+    ensures refused { IfErr result (ReadDue place ⊥ E caller.new) }
     ensures kept { KeepsCaller caller.old caller.new }
 {
     match caller.run(place) {
@@ -74,7 +73,7 @@ pub(crate) fn run<E: Element>(
 }
 
 // Fills a broken place.
-#[tactic(auto, using(crate::proofs::Due::mend_due, crate::proofs::Due::mend_size))]
+#[tactic(auto, using(crate::proofs::Due::mend_due))]
 pub(crate) fn mend<E: Element>(
     caller: &mut Caller<E>,
     place: u64,
@@ -82,8 +81,7 @@ pub(crate) fn mend<E: Element>(
 ) -> Result<(), Status>
     ensures mended { OnOk result
         (Mends place (E.element_of words.now) caller.old caller.new) }
-    ensures refused { IfErr result (ReadDue place E caller.new) }
-    ensures size { IfErr result (SizeDue E.width (length words.now)) }
+    ensures refused { IfErr result (MendDue place (length words.now ≢ E.width) E caller.new) }
     ensures kept { KeepsCaller caller.old caller.new }
 {
     let Some(element) = E::from_words(words) else {
@@ -96,9 +94,9 @@ pub(crate) fn mend<E: Element>(
 }
 
 // Makes room for this many places in all.
-#[tactic(auto, using(crate::proofs::Due::reserve_due))]
+#[tactic(auto, using(crate::proofs::Due::room_due))]
 pub(crate) fn reserve<E: Element>(caller: &mut Caller<E>, size: u64) -> Result<(), Status>
-    ensures refused { IfErr result (ReachDue size E caller.new) }
+    ensures refused { IfErr result (RoomDue size E E.width caller.new) }
     ensures unchanged { caller.new ≡ caller.old }
 {
     match caller.reserve(size) {
@@ -119,7 +117,7 @@ pub(crate) fn facts<E: Element>(caller: &Caller<E>) -> (u64, u64, u64)
 // Moves shares into a new hand.
 pub(crate) fn split<E: Element>(caller: &mut Caller<E>, shares: u32) -> Result<Caller<E>, Status>
     ensures split { IfOk result (SplitsCaller shares caller.old caller.new) }
-    ensures refused { IfErr result (SplitDue shares E caller.old) }
+    ensures refused { IfErr result (SplitDue shares E E.width caller.old) }
     ensures unchanged { OnErr result (caller.new ≡ caller.old) }
 {
     if shares == 0 || shares >= caller.shares() {

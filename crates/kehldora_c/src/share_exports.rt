@@ -1,8 +1,9 @@
 //! The exports that cut a hand in two, put hands together, close a vector and open a list.
 ghost use Rattle.std.specs.Prelude.{◌≡◌, None};
 ghost use Rattle.kehldora_c.specs.Held.{OnBoth};
-ghost use Rattle.kehldora_c.specs.Calls.{AreOfOneVector, SplitsFrom, JoinsInto, IsSplitDue};
-ghost use Rattle.kehldora_c.specs.Lists.{ClosesHeld, OpensHeld, KeepsList};
+ghost use Rattle.kehldora_c.specs.Calls.{AreOfOneVector, SplitsFrom, JoinsInto};
+ghost use Rattle.kehldora_c.specs.Calls.{IsDueOn, IsDueOrFull, IsJoinDue, SplitDue, CloseDue};
+ghost use Rattle.kehldora_c.specs.Lists.{ClosesHeld, OpensHeld, KeepsList, IsDueOnList, MemoryDue};
 ghost use Rattle.kehldora_c.specs.Status.{IsDone, IfRefused};
 
 use crate::handle::Handle;
@@ -11,7 +12,7 @@ use crate::status::{DONE, Status};
 use std::alloc::Global;
 
 /// Moves shares of a hand, not all, into a new one.
-#[tactic(auto, using(crate::proofs::Codes::if_done, crate::proofs::Codes::if_refused))]
+#[tactic(auto, using(crate::proofs::Codes::if_done, crate::proofs::Codes::refused_also_in, crate::proofs::Codes::refused_also_empty, crate::proofs::Codes::refused_full))]
 #[unsafe(no_mangle)]
 pub extern "C" fn kehldora_raw_split(
     alloc: Global,
@@ -21,7 +22,8 @@ pub extern "C" fn kehldora_raw_split(
 ) -> i32
     ensures split { IsDone result → SplitsFrom shares
         hand.old.owned.held hand.new.owned.held other.new.owned.held }
-    ensures number { IfRefused result (IsSplitDue shares hand.old.owned.held) }
+    ensures refused { IfRefused result (IsDueOrFull (IsDueOn (SplitDue shares))
+        other.old.owned.held hand.old.owned.held) }
     ensures kept { (IsDone result → ⊥) → hand.new.owned.held ≡ hand.old.owned.held }
     ensures other_kept { (IsDone result → ⊥) → other.new ≡ other.old }
 {
@@ -43,12 +45,14 @@ pub extern "C" fn kehldora_raw_split(
 }
 
 /// Joins another hand of the same vector into a hand.
+#[tactic(auto, using(crate::proofs::Codes::if_done, crate::proofs::Codes::refused_join, crate::proofs::Codes::refused_join_empty, crate::proofs::Codes::refused_join_other))]
 #[unsafe(no_mangle)]
 pub extern "C" fn kehldora_raw_join(alloc: Global, hand: &mut Handle, other: &mut Handle) -> i32
     requires same { AreOfOneVector hand.old.owned.held other.old.owned.held }
     ensures joined { IsDone result → JoinsInto
         hand.old.owned.held other.old.owned.held hand.new.owned.held }
     ensures ended { IsDone result → other.new.owned.held ≡ None }
+    ensures refused { IfRefused result (IsJoinDue hand.old.owned.held other.old.owned.held) }
     ensures kept { (IsDone result → ⊥) → hand.new.owned.held ≡ hand.old.owned.held }
     ensures other_kept { (IsDone result → ⊥) → other.new.owned.held ≡ other.old.owned.held }
 {
@@ -71,10 +75,13 @@ pub extern "C" fn kehldora_raw_join(alloc: Global, hand: &mut Handle, other: &mu
 }
 
 /// Closes the vector of a hand into a list. The hand's box becomes the list's, so it takes no memory.
+#[tactic(auto, using(crate::proofs::Codes::if_done, crate::proofs::Codes::refused_also_in, crate::proofs::Codes::refused_also_empty, crate::proofs::Codes::refused_full))]
 #[unsafe(no_mangle)]
 pub extern "C" fn kehldora_raw_close(alloc: Global, hand: &mut Handle, list: &mut Handle) -> i32
     ensures closed { IsDone result → OnBoth ClosesHeld hand.old.owned.held list.new.owned.held }
     ensures ended { IsDone result → hand.new.owned.held ≡ None }
+    ensures refused { IfRefused result (IsDueOrFull (IsDueOn CloseDue)
+        list.old.owned.held hand.old.owned.held) }
     ensures kept { (IsDone result → ⊥) → hand.new.owned.held ≡ hand.old.owned.held }
     ensures list_kept { (IsDone result → ⊥) → list.new ≡ list.old }
 {
@@ -97,6 +104,7 @@ pub extern "C" fn kehldora_raw_close(alloc: Global, hand: &mut Handle, list: &mu
 }
 
 /// Opens a list into a vector again. Its first hand has all shares. Without memory the list keeps its values.
+#[tactic(auto, using(crate::proofs::Codes::if_done, crate::proofs::Codes::refused_also_in, crate::proofs::Codes::refused_also_empty, crate::proofs::Codes::refused_full))]
 #[unsafe(no_mangle)]
 pub extern "C" fn kehldora_raw_list_open(
     alloc: Global,
@@ -105,6 +113,8 @@ pub extern "C" fn kehldora_raw_list_open(
 ) -> i32
     ensures opened { IsDone result → OnBoth OpensHeld list.old.owned.held hand.new.owned.held }
     ensures ended { IsDone result → list.new.owned.held ≡ None }
+    ensures refused { IfRefused result (IsDueOrFull (IsDueOnList MemoryDue)
+        hand.old.owned.held list.old.owned.held) }
     ensures kept { (IsDone result → ⊥) → KeepsList list.old.owned.held list.new.owned.held }
     ensures hand_kept { (IsDone result → ⊥) → hand.new ≡ hand.old }
 {

@@ -60,6 +60,17 @@ macro_rules! try_size {
     };
 }
 
+// An enum with what this call opens, as its variant for one size, unless there is no memory.
+macro_rules! opened {
+    ($kind:ident, $size:ident, $call:expr) => {
+        match $call {
+            Ok(opened) => Ok($kind::$size(opened)),
+            Err(_no_memory) => Err(Status::NoMemory),
+        }
+    };
+}
+
 pub(crate) use by_size;
 pub(crate) use keep_size;
+pub(crate) use opened;
 pub(crate) use try_size;

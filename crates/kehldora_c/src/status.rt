@@ -1,7 +1,8 @@
 //! Why a call was refused.
 ghost use Rattle.std.specs.Prelude.{◌≡◌, pos};
 ghost use Rattle.kehldora_c.specs.Status.{IsDone, number_of};
-ghost use Rattle.kehldora_c.specs.Outcomes.{growth_status, read_status, mend_status, reserve_status, member_status};
+ghost use Rattle.kehldora_c.specs.Outcomes.{growth_status, read_status, mend_status, reserve_status, close_status};
+ghost use Rattle.kehldora_c.specs.Outcomes.{member_status};
 
 use grow_core::{AtError, GrowError, MendError, Never, ReserveError};
 use quiet_core::QuietAt;
@@ -104,5 +105,17 @@ pub(crate) fn of_member(refused: QuietAt) -> Status
     match refused {
         QuietAt::OutOfRange { .. } => Status::OutOfRange,
         QuietAt::Broken => Status::Broken,
+    }
+}
+
+// The status of a vector that was not closed, by whether its hand has all shares.
+pub(crate) fn of_close(whole: bool) -> Status
+    ensures { result ≡ close_status whole }
+{
+    if whole {
+        // Somebody else owns a part of the vector, which does not come.
+        Status::Taken
+    } else {
+        Status::NotWhole
     }
 }

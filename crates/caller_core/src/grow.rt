@@ -97,7 +97,10 @@ impl<T: Drop> Caller<T> {
         ensures kept { KeepsCaller self.old self.new }
         ensures last { OnErr result (self.new.last ≡ self.old.last) }
     {
-        let reached = self.hub.vector.grow_to_at_least(&mut self.hand, size, make)?;
+        let reached = self
+            .hub
+            .vector
+            .grow_to_at_least(&mut self.hand, size, make)?;
         match reached {
             AtLeast::Enough { size } => Ok((size, 0)),
             AtLeast::Ran(grown) => {

@@ -49,7 +49,7 @@ keeps_twice a b c p q = record { vector = q.vector ∙ p.vector; shares = q.shar
 adds_after : (a b c : HandView) (run : Run) → SeesMore a b → AddsRun b c run → AddsRun a c run
 adds_after a b c run p q =
     let same : b.seen ++ q.between ≡ a.seen ++ (p.seen.0 ++ q.between) =
-        ap (λ w. w ++ q.between) (sym p.seen.1) ∙ append_assoc a.seen p.seen.0 q.between in record {
+    ap (λ w. w ++ q.between) (sym p.seen.1) ∙ append_assoc a.seen p.seen.0 q.between in record {
       between = p.seen.0 ++ q.between;
       begins = q.begins ∙ (ap (λ w. w.base + sum (b.seen ++ q.between)) p.own.of ∙ ap (λ xs. a.of.base + sum xs) same);
       positive = q.positive;

@@ -33,9 +33,9 @@ written-before v w rest from k n before within =
     let all : length (take from v ++ w) ≡ length (take from v) + length w = length-append (take from v) w in
     sym (drop-take k n ((take from v ++ w) ++ rest))
     ∙ ap (λ ys. drop k ys)
-      (take-append-le (k + n) (take from v ++ w) rest (omega arith)
-      ∙ take-append-le (k + n) (take from v) w (omega arith)
-      ∙ take-take (k + n) from v before)
+    (take-append-le (k + n) (take from v ++ w) rest (omega arith)
+    ∙ take-append-le (k + n) (take from v) w (omega arith)
+    ∙ take-take (k + n) from v before)
     ∙ drop-take k n v
 
 -- and they are where they were written
@@ -51,5 +51,5 @@ pub elements_at : (w i : ℕ) (words x : List ℕ) → slice_get (elements_in w 
 elements_at w i words x at =
     let within : i < length (elements_in w words) = slice_get_within (elements_in w words) i x at in
     let same : Some x ≡ Some (take w (drop (i * w) words)) =
-        sym at ∙ first_chunks-at w (length words / w) i words (subst (λ n. i < n) (elements_length w words) within) in
+    sym at ∙ first_chunks-at w (length words / w) i words (subst (λ n. i < n) (elements_length w words) within) in
     cc

@@ -33,7 +33,7 @@ module _ {F T E : Type 0} (step : F → ℕ → Result T E → F → Type 0) (ke
 pub last_made : {F T E : Type 0} (step : F → ℕ → Result T E → F → Type 0) (keeps : F → Type 0)
     (element_of : List ℕ → T) (width : ℕ) (words : List ℕ) (count : ℕ)
     → ((f : F) (i : ℕ) (x : T) (g : F) → keeps f → step f i (Ok x) g
-        → keeps g × ((ws : List ℕ) → slice_get (elements_in width words) (source_of count i) ≡ Some ws → x ≡ element_of ws))
+    → keeps g × ((ws : List ℕ) → slice_get (elements_in width words) (source_of count i) ≡ Some ws → x ≡ element_of ws))
     → (maker : F) (size : ℕ) (old new : CallerView T) (place n : ℕ) → keeps maker
     → count ≡ length words / width → GrowsUpTo step maker size old new place n
     → HasLastElement element_of width words place n new
@@ -44,10 +44,10 @@ last_made step keeps element_of width words count on maker size old new place n 
     elim ((slice_get_cases values (n - 1)).1) [
       | inl (x, below, there, same) ↦
           let is : x ≡ element_of ws =
-              made_at step keeps
-              (λ i x. (ws : List ℕ) → slice_get (elements_in width words) (source_of count i) ≡ Some ws → x ≡ element_of ws)
-              on maker won.won.made.0 values (n - 1) x kept won.won.made.1 there ws
-              (subst (λ c. slice_get (elements_in width words) (source_of c (n - 1)) ≡ Some ws) (sym counted) at) in
+          made_at step keeps
+          (λ i x. (ws : List ℕ) → slice_get (elements_in width words) (source_of count i) ≡ Some ws → x ≡ element_of ws)
+          on maker won.won.made.0 values (n - 1) x kept won.won.made.1 there ws
+          (subst (λ c. slice_get (elements_in width words) (source_of c (n - 1)) ≡ Some ws) (sym counted) at) in
           let count_is : won.grown.run.n ≡ n = won.won.n in
           subst (λ y. HasLast (place + (n - 1)) y new.last) is
           (subst (λ from. HasLast (from + (n - 1)) x new.last) won.here

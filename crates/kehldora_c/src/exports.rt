@@ -6,11 +6,10 @@ ghost use Rattle.kehldora_c.specs.Held.{Keeps, OnBoth, OnHeld, OnHand, OnHands, 
 ghost use Rattle.kehldora_c.specs.Calls.{IsNewHand, OpenDue, IsOpenDueIn, IsDueIn, IsDueOn, NeverDue, RoomDue};
 ghost use Rattle.kehldora_c.specs.Status.{IsDone, IfRefused};
 
-use crate::contents;
 use crate::handle::Handle;
 use crate::held::Held;
 use crate::status::{DONE, Status};
-use crate::{hands, opaque_hands};
+use crate::{contents, hands, opaque_hands};
 use seg_core::{Layout, MOST_PLACES};
 use std::alloc::Global;
 
@@ -105,11 +104,7 @@ pub struct HandFacts {
 /// Tells what a hand knows. It loads nothing.
 #[tactic(auto, using(crate::proofs::Codes::if_done, crate::proofs::Codes::refused_in, crate::proofs::Codes::refused_empty))]
 #[unsafe(no_mangle)]
-pub extern "C" fn kehldora_raw_about(
-    alloc: Global,
-    hand: &mut Handle,
-    facts: &mut HandFacts,
-) -> i32
+pub extern "C" fn kehldora_raw_about(alloc: Global, hand: &mut Handle, facts: &mut HandFacts) -> i32
     ensures shares { IsDone result → OnHeld
         (OnHand (λ T caller. facts.new.shares ≡ caller.hand.shares)) hand.old.owned.held }
     ensures seen { IsDone result → OnHeld

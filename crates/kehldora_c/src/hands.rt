@@ -9,11 +9,10 @@ ghost use Rattle.kehldora_c.specs.Held.{KeepsAny, caller_of, words_of, list_of, 
 ghost use Rattle.kehldora_c.specs.Calls.{OpenDue, PushDue, GrowDue, FillDue, AtLeastDue, GrowthDue, AtDue, ReadDue, MendsDue, RoomDue, SplitDue, SplitsCaller, ReachesSize, HasLastElement, elements_in};
 ghost use Rattle.kehldora_c.specs.Lists.{ClosesCaller};
 
-use crate::growths;
 use crate::held::{AnyCaller, AnyList};
-use crate::reads;
 use crate::sizes::{by_size, keep_size, opened, try_size};
 use crate::status::Status;
+use crate::{growths, reads};
 use caller_core::Caller;
 use seg_core::Layout;
 use std::alloc::Global;
@@ -73,11 +72,7 @@ pub(crate) fn fill(any: &mut AnyCaller, words: &[u64], count: u64) -> Result<u64
 }
 
 // Appends what is missing up to this size.
-pub(crate) fn at_least(
-    any: &mut AnyCaller,
-    size: u64,
-    words: &[u64],
-) -> Result<(u64, u64), Status>
+pub(crate) fn at_least(any: &mut AnyCaller, size: u64, words: &[u64]) -> Result<(u64, u64), Status>
     ensures grown { IfOk result (λ (place, n). ReachesSize size place n (caller_of any.old) (caller_of any.new)) }
     ensures last { IfOk result (λ (place, n).
         HasLastElement (λ ws. ws) (words_of any.old) words.now place n (caller_of any.new)) }

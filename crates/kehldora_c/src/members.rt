@@ -103,11 +103,7 @@ pub(crate) fn copy_all<const N: usize>(
 }
 
 // Replaces the member at a place, or mends it.
-pub(crate) fn set<E: Element>(
-    list: &mut Quiet<E>,
-    place: u64,
-    words: &[u64],
-) -> Result<(), Status>
+pub(crate) fn set<E: Element>(list: &mut Quiet<E>, place: u64, words: &[u64]) -> Result<(), Status>
     ensures set { OnOk result (SetsMember place (E.element_of words.now) list.old list.new) }
     ensures refused { IfErr result (SetDue place (length words.now ≢ E.width) E list.old) }
     ensures unchanged { OnErr result (list.new ≡ list.old) }

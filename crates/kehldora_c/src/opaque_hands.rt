@@ -9,11 +9,10 @@ ghost use Rattle.kehldora_c.specs.Held.{KeepsOpaque, opaque_of, opaque_words, op
 ghost use Rattle.kehldora_c.specs.Calls.{OpenDue, PushDue, GrowDue, FillDue, AtLeastDue, GrowthDue, ReadDue, MendsDue, RoomDue, SplitDue, SplitsCaller, ReachesSize};
 ghost use Rattle.kehldora_c.specs.Lists.{ClosesCaller};
 
-use crate::growths;
 use crate::held::{AnyOpaque, AnyOpaqueList};
-use crate::reads;
 use crate::sizes::{by_size, keep_size, opened, try_size};
 use crate::status::Status;
+use crate::{growths, reads};
 use caller_core::Caller;
 use seg_core::Layout;
 use std::alloc::Global;
@@ -73,11 +72,7 @@ pub(crate) fn fill(any: &mut AnyOpaque, words: &[u64], count: u64) -> Result<u64
 }
 
 // Appends what is missing up to this size.
-pub(crate) fn at_least(
-    any: &mut AnyOpaque,
-    size: u64,
-    words: &[u64],
-) -> Result<(u64, u64), Status>
+pub(crate) fn at_least(any: &mut AnyOpaque, size: u64, words: &[u64]) -> Result<(u64, u64), Status>
     ensures grown { IfOk result (λ (place, n). ReachesSize size place n (opaque_of any.old) (opaque_of any.new)) }
     ensures refused { IfErr result
         (AtLeastDue size (length words.now) (Unit {0}) (opaque_words any.new) (opaque_of any.new)) }

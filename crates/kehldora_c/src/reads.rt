@@ -58,10 +58,7 @@ pub(crate) fn look<E: Element>(caller: &mut Caller<E>, place: u64) -> Result<*mu
 
 // The address of the value at a place, and how many filled ones lie there side by side.
 #[tactic(auto, using(crate::proofs::Due::read_due))]
-pub(crate) fn run<E: Element>(
-    caller: &mut Caller<E>,
-    place: u64,
-) -> Result<(*mut u64, u64), Status>
+pub(crate) fn run<E: Element>(caller: &mut Caller<E>, place: u64) -> Result<(*mut u64, u64), Status>
     ensures run { IfOk result (λ (_, n). AreSideBySide caller.old.vector place n) }
     ensures refused { IfErr result (ReadDue place ⊥ E caller.new) }
     ensures kept { KeepsCaller caller.old caller.new }

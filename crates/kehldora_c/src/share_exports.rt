@@ -106,11 +106,7 @@ pub extern "C" fn kehldora_raw_close(alloc: Global, hand: &mut Handle, list: &mu
 /// Opens a list into a vector again. Its first hand has all shares. Without memory the list keeps its values.
 #[tactic(auto, using(crate::proofs::Codes::if_done, crate::proofs::Codes::refused_also_in, crate::proofs::Codes::refused_also_empty, crate::proofs::Codes::refused_full))]
 #[unsafe(no_mangle)]
-pub extern "C" fn kehldora_raw_list_open(
-    alloc: Global,
-    list: &mut Handle,
-    hand: &mut Handle,
-) -> i32
+pub extern "C" fn kehldora_raw_list_open(alloc: Global, list: &mut Handle, hand: &mut Handle) -> i32
     ensures opened { IsDone result → OnBoth OpensHeld list.old.owned.held hand.new.owned.held }
     ensures ended { IsDone result → list.new.owned.held ≡ None }
     ensures refused { IfRefused result (IsDueOrFull (IsDueOnList MemoryDue)

@@ -127,9 +127,8 @@ fn count_of<const N: usize>(words: &[u64]) -> Option<u64>
     requires { 0 < N }
     ensures { MatchOption result (length words.now % N ≢ 0) (AreElements N words.now) }
 {
-    let (elements, rest) = words.as_chunks::<N>();
-    if rest.is_empty() {
-        Some(elements.len() as u64)
+    if words.len() % N == 0 {
+        Some((words.len() / N) as u64)
     } else {
         None
     }

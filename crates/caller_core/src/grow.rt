@@ -1,5 +1,5 @@
 //! How a caller appends several values, or claims places and breaks them.
-ghost use Rattle.std.specs.Prelude.{◌≡◌, ◌<◌, IfOk, IfErr, OnErr, IsErrAnd, IsOkAnd, length, replicate};
+ghost use Rattle.std.specs.Prelude.{◌≡◌, ◌<◌, ◌≤◌, IfOk, IfErr, OnErr, IsErrAnd, IsOkAnd, length, replicate};
 ghost use Rattle.claim_core.specs.Hand.{seen_size};
 ghost use Rattle.grow_core.specs.Vector.{VectorView, limit_of};
 ghost use Rattle.grow_core.specs.Grown.{IsGrownOf};

@@ -8,11 +8,11 @@ ghost use Rattle.caller_core.specs.Grows.{AreSideBySide};
 
 use crate::caller::Caller;
 use crate::element::Element;
-use grow_core::{AtError, Hand, Shared};
+use grow_core::{AtError, Hand, Placed, Shared};
 
 // The address of the value at the place.
-fn address_at<T: Element>(
-    vector: &Shared<T>,
+fn address_at<'a, T: Element>(
+    vector: &'a Shared<T>,
     hand: &mut Hand<T>,
     place: u64,
 ) -> Result<*mut u64, AtError>
@@ -22,7 +22,8 @@ fn address_at<T: Element>(
     ensures in_range { place < seen_size hand.old → IfErr result IsInRange }
     ensures hand { SeesMore hand.old hand.new }
 {
-    let at = vector.at(hand, place, None)?;
+    let no_token: Option<&'a Placed<T>> = None;
+    let at = vector.at(hand, place, no_token)?;
     Ok(at.value.address())
 }
 

@@ -15,6 +15,6 @@ returns-clause-grown g c =
           (subst (λ h. WonRun h.vector (replicate c.args.n c.args.value) c.self.inside.hand c.try_grow_copies.new.hand c.in_ok-grown.grown)
           c.deref.ensures c.in_ok-grown.ensures.won);
       last =
-          subst (λ (w : CallerView _). TellsLast c.in_ok-grown.grown w.last c.keep_last.last.new)
+          subst (λ (w : CallerView _). TellsLast c.in_ok-grown.grown w.last c.keep_last.new.last)
           c.self.view_is c.keep_last.ensures.last;
     }

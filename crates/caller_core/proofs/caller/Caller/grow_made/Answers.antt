@@ -15,6 +15,6 @@ returns-clause-grown g c =
           (subst (λ h. WonMade (goal.F-step g) c.args.make h.vector c.args.n c.self.inside.hand c.try_grow_with.new.hand c.in_ok-grown.grown)
           c.deref.ensures c.in_ok-grown.ensures.won);
       last =
-          subst (λ (w : CallerView _). TellsLast c.in_ok-grown.grown w.last c.keep_last.last.new)
+          subst (λ (w : CallerView _). TellsLast c.in_ok-grown.grown w.last c.keep_last.new.last)
           c.self.view_is c.keep_last.ensures.last;
     }

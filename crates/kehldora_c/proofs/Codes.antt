@@ -8,7 +8,7 @@ use Rattle.kehldora_c.specs.Status.{IfRefused, number_of}
 use Rattle.kehldora_c.specs.Calls.{IsDueIn, IsDueOrFull, IsOpenDueIn, IsJoinDue, JoinDue}
 
 -- the number behind an integer that is not negative
-magnitude : ℤ → ℕ
+abbrev magnitude : ℤ → ℕ
 magnitude (pos n) = n
 magnitude other = 0
 

@@ -1,5 +1,5 @@
 //! Elements that are made of words, and have an address.
-ghost use Rattle.std.specs.Prelude.{◌≡◌, ◌≢◌, ◌<◌, ◌/◌, ◌%◌, ℕ, List, Some, MatchOption, length, slice_get};
+ghost use Rattle.std.specs.Prelude.{◌≡◌, ◌≢◌, ◌<◌, ◌/◌, ◌%◌, ℕ, List, Some, MatchOption, IfSome, length, slice_get};
 ghost use Rattle.std.specs.Simd.{first_chunks};
 ghost use Rattle.caller_core.specs.Words.{AreElements};
 
@@ -18,7 +18,9 @@ pub trait Element: Drop {
 
     /// Makes the element of these words, if they are as many as an element has.
     fn from_words(words: &[u64]) -> Option<Self>
-        ensures { MatchOption result (length words.now ≢ width) (λ x. x ≡ element_of words.now) };
+        ensures made { MatchOption result (length words.now ≢ width)
+            (λ x. x ≡ element_of words.now) }
+        ensures fits { IfSome result (λ _. length words.now ≡ width) };
 
     /// Returns the number of elements that these words make, side by side, or `None` if words are left over.
     fn count(words: &[u64]) -> Option<u64>
@@ -44,7 +46,8 @@ impl<const N: usize> Element for [u64; N] {
 
     #[inline]
     fn from_words(words: &[u64]) -> Option<[u64; N]>
-        ensures { MatchOption result (length words.now ≢ N) (λ x. x ≡ words.now) }
+        ensures made { MatchOption result (length words.now ≢ N) (λ x. x ≡ words.now) }
+        ensures fits { IfSome result (λ _. length words.now ≡ N) }
     {
         match words.as_array::<N>() {
             Some(words) => Some(*words),
@@ -88,7 +91,8 @@ impl<const N: usize> Element for Opaque<N> {
 
     #[inline]
     fn from_words(words: &[u64]) -> Option<Opaque<N>>
-        ensures { MatchOption result (length words.now ≢ N) (λ x. x ≡ tt) }
+        ensures made { MatchOption result (length words.now ≢ N) (λ x. x ≡ tt) }
+        ensures fits { IfSome result (λ _. length words.now ≡ N) }
     {
         match words.as_array::<N>() {
             Some(words) => Some(Opaque::from_words(*words)),

@@ -26,7 +26,8 @@ module _ {F T E : Type 0} (step : F → ℕ → Result T E → F → Type 0) (ke
   -- from one that was not asked yet
   pub made_at : (maker last : F) (values : List T) (j : ℕ) (x : T) → keeps maker → Makes step maker values last
       → slice_get values j ≡ Some x → says j x
-  made_at maker last values j x kept made at = made_from (0, maker) (length values, last) values j x kept made at
+  made_at maker last values j x kept made at =
+      subst (λ i. says i x) (omega arith) (made_from (0, maker) (length values, last) values j x kept made at)
 
 -- a growth up to a size by a maker that returns the elements of some words: the last token has the element of the
 -- last place

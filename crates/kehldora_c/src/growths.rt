@@ -1,5 +1,5 @@
 //! How a hand appends elements of one size, and claims places and breaks them.
-ghost use Rattle.std.specs.Prelude.{◌≢◌, ◌<◌, ◌/◌, ◌%◌, ℕ, List, IfOk, IfErr, IsTrue, IsFalse, length, replicate};
+ghost use Rattle.std.specs.Prelude.{◌≢◌, ◌<◌, ◌≤◌, ◌/◌, ◌%◌, ℕ, List, IfOk, IfErr, IsTrue, IsFalse, length, replicate};
 ghost use Rattle.caller_core.specs.Caller.{KeepsCaller, Pushes};
 ghost use Rattle.caller_core.specs.Grows.{GrowsBy, WinsPlaces};
 ghost use Rattle.kehldora_c.specs.Calls.{GrowthDue, AtLeastDue, AreTooFew, ReachesSize, HasLastElement, elements_in};
@@ -41,7 +41,8 @@ pub(crate) fn grow_values<const N: usize>(
     caller: &mut Caller<[u64; N]>,
     words: &[u64],
 ) -> Result<u64, Status>
-    requires { 0 < N }
+    requires some { 0 < N }
+    requires small { N ≤ 8 }
     ensures grown { IfOk result (GrowsBy (elements_in N words.now) caller.old caller.new) }
     ensures refused { IfErr result
         (GrowthDue (length words.now / N) (length words.now % N ≢ 0) (List ℕ) caller.new) }

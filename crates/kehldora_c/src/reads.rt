@@ -12,7 +12,7 @@ use caller_core::{Caller, Element};
 // Copies the words of an element.
 pub(crate) fn copy_out<const N: usize>(words: [u64; N], value: &mut [u64])
     requires { length value.old ≡ N }
-    ensures { value.new ≡ words }
+    ensures { value.new ≡ words.entry }
 {
     value.copy_from_slice(words.as_slice());
 }

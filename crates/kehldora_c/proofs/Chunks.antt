@@ -4,6 +4,8 @@ use Rattle.std.specs.Prelude.{slice_get}
 use Rattle.std.specs.Simd.{first_chunks}
 use Rattle.std.proofs.lemmas.List.{append_assoc, drop-drop, drop-take, drop_at, length-append, length-take-le, take-append-le, take-take, take_at}
 use Rattle.std.proofs.lemmas.Option.{slice_get_within}
+use Rattle.std.proofs.lemmas.Nat.{div-mul-add, row_fits}
+use borrow.Author.Count.{below_more}
 use Rattle.kehldora_c.specs.Calls.{elements_in}
 
 -- there are as many parts as were asked for
@@ -53,3 +55,26 @@ elements_at w i words x at =
     let same : Some x ≡ Some (take w (drop (i * w) words)) =
     sym at ∙ first_chunks-at w (length words / w) i words (subst (λ n. i < n) (elements_length w words) within) in
     cc
+
+-- words that were written as the next part of a list: each part so far is there, and the new one
+pub written_parts : {X : Type 0} (P : ℕ → List X → Type 0) (v w rest new : List X) (width i : ℕ) → length w ≡ width
+    → i * width + width ≤ length v → new ≡ (take (i * width) v ++ w) ++ rest
+    → ((j : ℕ) → j < i → P j (take width (drop (j * width) v))) → P i w
+    → (j : ℕ) → j < i + 1 → P j (take width (drop (j * width) new))
+written_parts P v w rest new width i long fits is before now =
+    let here : take width (drop (i * width) new) ≡ w =
+        ap (λ ys. take width (drop (i * width) ys)) is ∙ written-here v w rest (i * width) width long (omega arith) in
+    below_more (λ j. P j (take width (drop (j * width) new))) i
+    (λ j below.
+        let fits_before = row_fits j width i width below (omega arith) in
+        let same : take width (drop (j * width) new) ≡ take width (drop (j * width) v) =
+            ap (λ ys. take width (drop (j * width) ys)) is
+            ∙ written-before v w rest (i * width) (j * width) width (omega (arith, fits_before)) (omega arith) in
+        subst (P j) (sym same) (before j below))
+    (subst (P i) (sym here) now)
+
+-- a list of n parts has n of them
+pub parts_count : (n w length : ℕ) → 0 < w → length ≡ n * w → length / w ≡ n
+parts_count n w length some is =
+    let padded : length ≡ n * w + 0 = omega (arith, is) in
+    ap (λ k. k / w) padded ∙ div-mul-add n w 0 some

@@ -1,5 +1,5 @@
 -- What is true of each result of a maker is true of each value that it made.
-use Rattle.std.proofs.Common.{zero, suc, ◌≡◌, ◌+◌, ◌-◌, ◌/◌, ℕ, List, [], ◌∷◌, length, Result, Ok, Some, sym, subst, ◌∙◌, inl, inr, arith}
+use Rattle.std.proofs.Common.{zero, suc, ◌≡◌, ◌+◌, ◌-◌, ◌/◌, ℕ, List, [], ◌∷◌, length, Result, Ok, Some, refl, sym, subst, ◌∙◌, inl, inr, arith}
 use Rattle.std.specs.Prelude.{slice_get}
 use Rattle.std.specs.List.{FoldsTo}
 use Rattle.std.proofs.lemmas.Option.{slice_get_cases}
@@ -56,3 +56,15 @@ last_made step keeps element_of width words count on maker size old new place n 
           (won.last.some x (subst (λ k. slice_get values (k - 1) ≡ Some x) (sym count_is) there))))
       | inr past ↦ absurd (omega (arith, past.0, long, some))
     ]
+
+-- the same of a maker that never changes
+pub last_of : {F T E : Type 0} (step : F → ℕ → Result T E → F → Type 0) (element_of : List ℕ → T) (width : ℕ) (words : List ℕ) (count : ℕ) (maker : F)
+    → ((i : ℕ) (x : T) (next : F) → step maker i (Ok x) next
+        → (next ≡ maker) × ((ws : List ℕ) → slice_get (elements_in width words) (source_of count i) ≡ Some ws → x ≡ element_of ws))
+    → (size : ℕ) (old new : CallerView T) (place n : ℕ)
+    → count ≡ length words / width → GrowsUpTo step maker size old new place n
+    → HasLastElement element_of width words place n new
+last_of step element_of width words count maker each size old new place n counted g =
+    last_made step (λ f. f ≡ maker) element_of width words count
+    (λ f i x next kept call. each i x next (subst (λ from. step from i (Ok x) next) kept call))
+    maker size old new place n refl counted g

@@ -1,8 +1,8 @@
 //! How a hand appends elements of one size, and claims places and breaks them.
-ghost use Rattle.std.specs.Prelude.{◌≢◌, ◌<◌, ◌≤◌, ◌/◌, ◌%◌, ℕ, List, IfOk, IfErr, IsTrue, IsFalse, length, replicate};
+ghost use Rattle.std.specs.Prelude.{◌≡◌, ◌≢◌, ◌<◌, ◌≤◌, ◌/◌, ◌%◌, ℕ, List, IfOk, IfErr, IsTrue, IsFalse, Some, length, replicate, slice_get};
 ghost use Rattle.caller_core.specs.Caller.{KeepsCaller, Pushes};
 ghost use Rattle.caller_core.specs.Grows.{GrowsBy, WinsPlaces};
-ghost use Rattle.kehldora_c.specs.Calls.{GrowthDue, AtLeastDue, AreTooFew, ReachesSize, HasLastElement, elements_in};
+ghost use Rattle.kehldora_c.specs.Calls.{GrowthDue, AtLeastDue, AreTooFew, ReachesSize, HasLastElement, elements_in, source_of};
 
 use crate::elements::{Elements, One};
 use crate::status::{Status, of_growth};
@@ -138,7 +138,7 @@ fn are_enough(count: u64, seen: u64, size: u64) -> bool
 
 // Appends what is missing up to this size: copies of the only element that these words make, or the first of those
 // elements. There must be one for each place that the hand has not seen.
-#[tactic(auto, using(crate::proofs::Due::reach_due, crate::proofs::Due::reaches, crate::proofs::Made::last_made))]
+#[tactic(auto, using(crate::proofs::Due::reach_due, crate::proofs::Due::reaches))]
 pub(crate) fn at_least<E: Element>(
     caller: &mut Caller<E>,
     size: u64,
@@ -159,7 +159,11 @@ pub(crate) fn at_least<E: Element>(
         return Err(Status::BadSize);
     }
     let elements = Elements::<E>::new(words, count);
-    match caller.grow_to_at_least(size, |i: u64| -> Result<E, Never> { Ok(elements.at(i)) }) {
+    let make = |i: u64| -> Result<E, Never>
+        ensures { (ws : List ℕ) → slice_get (elements_in E.width elements.entry.words.now)
+            (source_of elements.entry.count i) ≡ Some ws → IfOk result (λ x. x ≡ E.element_of ws) }
+    { Ok(elements.at(i)) };
+    match caller.grow_to_at_least(size, make) {
         Ok((place, n)) => Ok((place, n)),
         Err(refused) => Err(of_growth(refused)),
     }

@@ -63,14 +63,18 @@ fn write_words(values: &mut [u64], from: usize, words: &[u64])
 fn copy_values<const N: usize>(list: &Quiet<[u64; N]>, place: u64, n: u64, values: &mut [u64])
     requires some { 0 < N }
     requires room { length values.old ≡ n * N }
+    requires within { place + n ≤ length list.now.members }
     requires members { AreValues place n list.now }
     ensures copied { AreMembersFrom N place values.new list.now }
     ensures length { length values.new ≡ length values.old }
 {
+    // For the proof: places are small.
+    let _len = list.len();
     for i in 0..n {
         match list.get(place + i) {
             Ok(words) => write_words(values, i as usize * N, words.as_slice()),
-            Err(_) => unreachable!(),
+            Err(QuietAt::Broken) => unreachable!(),
+            Err(QuietAt::OutOfRange { .. }) => unreachable!(),
         }
     }
 }

@@ -63,14 +63,14 @@ pub written_parts : {X : Type 0} (P : ℕ → List X → Type 0) (v w rest new :
     → (j : ℕ) → j < i + 1 → P j (take width (drop (j * width) new))
 written_parts P v w rest new width i long fits is before now =
     let here : take width (drop (i * width) new) ≡ w =
-        ap (λ ys. take width (drop (i * width) ys)) is ∙ written-here v w rest (i * width) width long (omega arith) in
+    ap (λ ys. take width (drop (i * width) ys)) is ∙ written-here v w rest (i * width) width long (omega arith) in
     below_more (λ j. P j (take width (drop (j * width) new))) i
     (λ j below.
-        let fits_before = row_fits j width i width below (omega arith) in
-        let same : take width (drop (j * width) new) ≡ take width (drop (j * width) v) =
-            ap (λ ys. take width (drop (j * width) ys)) is
-            ∙ written-before v w rest (i * width) (j * width) width (omega (arith, fits_before)) (omega arith) in
-        subst (P j) (sym same) (before j below))
+    let fits_before = row_fits j width i width below (omega arith) in
+    let same : take width (drop (j * width) new) ≡ take width (drop (j * width) v) =
+    ap (λ ys. take width (drop (j * width) ys)) is
+    ∙ written-before v w rest (i * width) (j * width) width (omega (arith, fits_before)) (omega arith) in
+    subst (P j) (sym same) (before j below))
     (subst (P i) (sym here) now)
 
 -- a list of n parts has n of them

@@ -60,7 +60,7 @@ last_made step keeps element_of width words count on maker size old new place n 
 -- the same of a maker that never changes
 pub last_of : {F T E : Type 0} (step : F → ℕ → Result T E → F → Type 0) (element_of : List ℕ → T) (width : ℕ) (words : List ℕ) (count : ℕ) (maker : F)
     → ((i : ℕ) (x : T) (next : F) → step maker i (Ok x) next
-        → (next ≡ maker) × ((ws : List ℕ) → slice_get (elements_in width words) (source_of count i) ≡ Some ws → x ≡ element_of ws))
+    → (next ≡ maker) × ((ws : List ℕ) → slice_get (elements_in width words) (source_of count i) ≡ Some ws → x ≡ element_of ws))
     → (size : ℕ) (old new : CallerView T) (place n : ℕ)
     → count ≡ length words / width → GrowsUpTo step maker size old new place n
     → HasLastElement element_of width words place n new

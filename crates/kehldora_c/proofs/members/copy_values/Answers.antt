@@ -17,6 +17,6 @@ pub returns-clause-copied : goal.returns-clause-copied
 returns-clause-copied g c i x at =
     let within = slice_get_within (elements_in g.row.N c.loop-i.values) i x at in
     let below : i < c.loop-i.i =
-        omega (arith, within, elements_length g.row.N c.loop-i.values, parts_count c.args.n g.row.N (length c.loop-i.values) c.requires.some (omega arith)) in
+    omega (arith, within, elements_length g.row.N c.loop-i.values, parts_count c.args.n g.row.N (length c.loop-i.values) c.requires.some (omega arith)) in
     subst (λ (ws : List ℕ). slice_get c.args.list.now.members (c.args.place + i) ≡ Some (Some ws))
     (sym (elements_at g.row.N i c.loop-i.values x at)) (c.loop-i.invariant.0 i below)

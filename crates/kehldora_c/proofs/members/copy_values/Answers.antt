@@ -1,0 +1,22 @@
+use Rattle.std.proofs.Common.{◌≡◌, ◌+◌, ◌*◌, ◌<◌, ◌/◌, ℕ, List, Some, length, take, drop, sym, subst, arith}
+use Rattle.std.specs.Prelude.{slice_get}
+use Rattle.std.proofs.lemmas.Nat.{row_fits}
+use Rattle.std.proofs.lemmas.Option.{slice_get_within}
+use Rattle.kehldora_c.specs.Calls.{elements_in}
+use Rattle.kehldora_c.proofs.Chunks.{elements_at, elements_length, parts_count, written_parts}
+use Rattle.kehldora_c.proofs.members.copy_values.Goals as goal
+
+pub write_words-requires : goal.write_words-requires
+write_words-requires g c =
+    omega (arith, c.as_slice.type_inv, row_fits c.loop-i.i g.row.N c.args.n g.row.N c.loop-i-test.true (omega arith))
+
+pub loop-i-preserved : goal.loop-i-preserved
+loop-i-preserved g c = ?
+
+pub returns-clause-copied : goal.returns-clause-copied
+returns-clause-copied g c i x at =
+    let within = slice_get_within (elements_in g.row.N c.loop-i.values) i x at in
+    let below : i < c.loop-i.i =
+    omega (arith, within, elements_length g.row.N c.loop-i.values, parts_count c.args.n g.row.N (length c.loop-i.values) c.requires.some (omega arith)) in
+    subst (λ (ws : List ℕ). slice_get c.args.list.now.members (c.args.place + i) ≡ Some (Some ws))
+    (sym (elements_at g.row.N i c.loop-i.values x at)) (c.loop-i.invariant.0 i below)

@@ -48,15 +48,16 @@ fn are_values<const N: usize>(list: &Quiet<[u64; N]>, place: u64, n: u64) -> boo
     true
 }
 
-// Writes words into an array from one of its words on.
-fn write_words(values: &mut [u64], from: usize, words: &[u64])
-    requires { from + length words.now ≤ length values.old }
-    ensures { values.new ≡ (take from values.old ++ words.now)
-        ++ drop (from + length words.now) values.old }
+// Writes an element into an array from one of its words on.
+fn write_element<const N: usize>(values: &mut [u64], from: usize, words: [u64; N])
+    requires { from + N ≤ length values.old }
+    ensures written { values.new ≡ (take from values.old ++ words.entry)
+        ++ drop (from + N) values.old }
+    ensures long { length words.entry ≡ N }
 {
     let (_, rest) = values.split_at_mut(from);
-    let (room, _) = rest.split_at_mut(words.len());
-    room.copy_from_slice(words);
+    let (room, _) = rest.split_at_mut(N);
+    room.copy_from_slice(words.as_slice());
 }
 
 // Copies members from a place on, as many as the array has room for. They are values.
@@ -72,7 +73,7 @@ fn copy_values<const N: usize>(list: &Quiet<[u64; N]>, place: u64, n: u64, value
     let _len = list.len();
     for i in 0..n {
         match list.get(place + i) {
-            Ok(words) => write_words(values, i as usize * N, words.as_slice()),
+            Ok(words) => write_element(values, i as usize * N, *words),
             Err(QuietAt::Broken) => unreachable!(),
             Err(QuietAt::OutOfRange { .. }) => unreachable!(),
         }

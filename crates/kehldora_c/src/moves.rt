@@ -9,6 +9,20 @@ use crate::{hands, joins, lists, opaque_hands, opaque_joins, opaque_lists};
 use std::alloc::Global;
 use std::mem;
 
+// A box that waits for its content, if there is memory.
+fn empty_box(alloc: Global) -> Option<Box<Held>> {
+    match Box::new(alloc, Held::Empty) {
+        Ok(room) => Some(room),
+        Err(_no_memory) => None,
+    }
+}
+
+// Ends what a handle had.
+fn drop_held(_held: Held) {}
+
+// Ends a box.
+fn drop_box(_room: Box<Held>) {}
+
 // Moves shares of a hand of value elements into a new one, in a box. The box is made first, so that no share is lost
 // without memory.
 fn split_values(alloc: Global, any: &mut AnyCaller, shares: u32) -> Result<Box<Held>, Status>
@@ -17,15 +31,18 @@ fn split_values(alloc: Global, any: &mut AnyCaller, shares: u32) -> Result<Box<H
     ensures refused { IfErr result (IsDueOn (SplitDue shares) (Held.Hand any.old)) }
     ensures unchanged { OnErr result (any.new ≡ any.old) }
 {
-    let Ok(mut room) = Box::new(alloc, Held::Empty) else {
+    let Some(mut room) = empty_box(alloc) else {
         return Err(Status::NoMemory);
     };
     match hands::split(any, shares) {
         Ok(other) => {
-            *room = Held::Hand(other);
+            drop_held(mem::replace(&mut *room, Held::Hand(other)));
             Ok(room)
         }
-        Err(status) => Err(status),
+        Err(status) => {
+            drop_box(room);
+            Err(status)
+        }
     }
 }
 
@@ -36,15 +53,18 @@ fn split_opaque(alloc: Global, any: &mut AnyOpaque, shares: u32) -> Result<Box<H
     ensures refused { IfErr result (IsDueOn (SplitDue shares) (Held.OpaqueHand any.old)) }
     ensures unchanged { OnErr result (any.new ≡ any.old) }
 {
-    let Ok(mut room) = Box::new(alloc, Held::Empty) else {
+    let Some(mut room) = empty_box(alloc) else {
         return Err(Status::NoMemory);
     };
     match opaque_hands::split(any, shares) {
         Ok(other) => {
-            *room = Held::OpaqueHand(other);
+            drop_held(mem::replace(&mut *room, Held::OpaqueHand(other)));
             Ok(room)
         }
-        Err(status) => Err(status),
+        Err(status) => {
+            drop_box(room);
+            Err(status)
+        }
     }
 }
 

@@ -1,5 +1,5 @@
 // What callers prove of steps on cells, by the laws of the word's rule alone.
-ghost use Rattle.memory_tests.specs.Steps.{BegunPlacesAreFilled, UnknownPlacesAreNotBegun};
+ghost use Rattle.memory_tests.specs.Steps.{BegunPlacesAreFilled, UnknownPlacesAreNotBegun, PlacesArePublished};
 
 use claim_core::{laws, step_laws};
 
@@ -13,7 +13,16 @@ fn begun_places_are_filled()
     laws::events_follow();
 }
 
+// A whole hand may lay a cell for a place past all entries, and publish it.
+fn places_are_published()
+    ensures { PlacesArePublished }
+{
+    step_laws::entries_are_permitted();
+    step_laws::blocks_are_permitted();
+}
+
 #[test]
 fn steps_follow_one_another() {
+    places_are_published();
     begun_places_are_filled();
 }

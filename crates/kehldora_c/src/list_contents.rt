@@ -1,8 +1,8 @@
 //! What the exports do with the list that a handle has.
 ghost use Rattle.std.specs.Prelude.{◌≡◌, IfOk, IfErr, OnOk, OnErr, length};
 ghost use Rattle.kehldora_c.specs.Held.{OnList, OnLists, width_of};
-ghost use Rattle.kehldora_c.specs.Lists.{HasMember, HasValueAt, SetsWords, CutsList, ShrinksList};
-ghost use Rattle.kehldora_c.specs.Lists.{IsDueOnList, IsCopyDueOnList, GetDue, ListSetDue, ListLookDue};
+ghost use Rattle.kehldora_c.specs.Lists.{HasMember, HasValueAt, AreMembersOf, SetsWords, CutsList, ShrinksList};
+ghost use Rattle.kehldora_c.specs.Lists.{IsDueOnList, IsCopyDueOnList, GetDue, ListCopyDue, ListSetDue, ListLookDue};
 ghost use Rattle.kehldora_c.specs.Lists.{NeverDueOfList};
 
 use crate::held::Held;
@@ -40,6 +40,20 @@ pub(crate) fn copy(held: &Held, place: u64, value: &mut [u64]) -> Result<(), Sta
     match held {
         Held::List(any) => lists::copy(any, place, value),
         // An opaque element is copied by its address.
+        Held::OpaqueList(_) => Err(Status::BadSize),
+        Held::Hand(_) | Held::OpaqueHand(_) | Held::Empty => Err(Status::BadHandle),
+    }
+}
+
+// Copies members from a place on, as many as the array has room for, or none.
+pub(crate) fn copy_all(held: &Held, place: u64, values: &mut [u64]) -> Result<(), Status>
+    ensures copied { OnOk result (AreMembersOf place values.new held.now) }
+    ensures refused { IfErr result
+        (IsCopyDueOnList (ListCopyDue place (length values.old)) held.now) }
+    ensures unchanged { OnErr result (values.new ≡ values.old) }
+{
+    match held {
+        Held::List(any) => lists::copy_all(any, place, values),
         Held::OpaqueList(_) => Err(Status::BadSize),
         Held::Hand(_) | Held::OpaqueHand(_) | Held::Empty => Err(Status::BadHandle),
     }

@@ -2,8 +2,8 @@
 ghost use Rattle.std.specs.Prelude.{◌≡◌, None, length};
 ghost use Rattle.kehldora_c.specs.Held.{OnBoth, OnHeld, OnList, OnLists, width_of};
 ghost use Rattle.kehldora_c.specs.Calls.{IsDueIn};
-ghost use Rattle.kehldora_c.specs.Lists.{HasMember, HasValueAt, SetsWords, CutsList, ShrinksList};
-ghost use Rattle.kehldora_c.specs.Lists.{IsDueOnList, IsCopyDueOnList, GetDue, ListSetDue, ListLookDue};
+ghost use Rattle.kehldora_c.specs.Lists.{HasMember, HasValueAt, AreMembersOf, SetsWords, CutsList, ShrinksList};
+ghost use Rattle.kehldora_c.specs.Lists.{IsDueOnList, IsCopyDueOnList, GetDue, ListCopyDue, ListSetDue, ListLookDue};
 ghost use Rattle.kehldora_c.specs.Lists.{NeverDueOfList};
 ghost use Rattle.kehldora_c.specs.Status.{IsDone, IfRefused};
 
@@ -95,6 +95,32 @@ pub extern "C" fn kehldora_raw_list_set(
         return Status::BadHandle.code();
     };
     let answer = list_contents::set(&mut held, place, value);
+    *list = Handle::of(held);
+    match answer {
+        Ok(()) => DONE,
+        Err(status) => status.code(),
+    }
+}
+
+/// Copies members side by side from a place on, as many as there is room for, or none.
+#[tactic(auto, using(crate::proofs::Codes::if_done, crate::proofs::Codes::refused_in, crate::proofs::Codes::refused_empty))]
+#[unsafe(no_mangle)]
+pub extern "C" fn kehldora_raw_list_copy(
+    alloc: Global,
+    list: &mut Handle,
+    place: u64,
+    values: &mut [u64],
+) -> i32
+    ensures copied { IsDone result → OnHeld (AreMembersOf place values.new) list.old.owned.held }
+    ensures refused { IfRefused result
+        (IsDueIn (IsCopyDueOnList (ListCopyDue place (length values.old))) list.old.owned.held) }
+    ensures unchanged { (IsDone result → ⊥) → values.new ≡ values.old }
+    ensures kept { list.new.owned.held ≡ list.old.owned.held }
+{
+    let Some(held) = list.take(alloc) else {
+        return Status::BadHandle.code();
+    };
+    let answer = list_contents::copy_all(&held, place, values);
     *list = Handle::of(held);
     match answer {
         Ok(()) => DONE,

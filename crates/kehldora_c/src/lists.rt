@@ -2,7 +2,7 @@
 ghost use Rattle.std.specs.Prelude.{◌≡◌, ℕ, List, Some, IfOk, IfErr, OnOk, OnErr, length, slice_get};
 ghost use Rattle.caller_core.specs.Grows.{OpensList, IsSameList};
 ghost use Rattle.kehldora_c.specs.Held.{caller_of, words_of, list_of, list_words};
-ghost use Rattle.kehldora_c.specs.Lists.{CutsList, GetDue, ListSetDue, MemberDue, SetsMember, ShrinksList};
+ghost use Rattle.kehldora_c.specs.Lists.{AreMembersFrom, CutsList, GetDue, ListCopyDue, ListSetDue, MemberDue, SetsMember, ShrinksList};
 
 use crate::held::{AnyCaller, AnyList};
 use crate::members;
@@ -41,6 +41,18 @@ pub(crate) fn copy(any: &AnyList, place: u64, value: &mut [u64]) -> Result<(), S
     ensures unchanged { OnErr result (value.new ≡ value.old) }
 {
     by_size!(AnyList, any, list => members::copy(list, place, value))
+}
+
+// Copies members from a place on, as many as the array has room for, or none.
+pub(crate) fn copy_all(any: &AnyList, place: u64, values: &mut [u64]) -> Result<(), Status>
+    ensures copied { OnOk result
+        (AreMembersFrom (list_words any.now) place values.new (list_of any.now)) }
+    ensures refused { IfErr result
+        (ListCopyDue place (length values.old) (list_words any.now) (list_of any.now)) }
+    ensures unchanged { OnErr result (values.new ≡ values.old) }
+    ensures length { length values.new ≡ length values.old }
+{
+    by_size!(AnyList, any, list => members::copy_all(list, place, values))
 }
 
 // Replaces the member at a place, or mends it.

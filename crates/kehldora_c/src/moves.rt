@@ -1,6 +1,6 @@
 //! How what a handle has is cut in two, put together, closed and opened.
-ghost use Rattle.std.specs.Prelude.{◌≡◌, IfErr, OnOk, OnErr};
-ghost use Rattle.kehldora_c.specs.Calls.{IsDueOn, AreOfOne, JoinsHeld, JoinDue, CloseDue};
+ghost use Rattle.std.specs.Prelude.{◌≡◌, IfOk, IfErr, OnOk, OnErr};
+ghost use Rattle.kehldora_c.specs.Calls.{IsDueOn, SplitDue, SplitsHeld, AreOfOne, JoinsHeld, JoinDue, CloseDue};
 ghost use Rattle.kehldora_c.specs.Lists.{ClosesHeld, OpensHeld, KeepsOrReopens, IsDueOnList, MemoryDue};
 
 use crate::held::{AnyCaller, AnyOpaque, Held};
@@ -8,6 +8,69 @@ use crate::status::{Status, of_close};
 use crate::{hands, joins, lists, opaque_hands, opaque_joins, opaque_lists};
 use std::alloc::Global;
 use std::mem;
+
+// A box that waits for its content, if there is memory.
+fn empty_box(alloc: Global) -> Option<Box<Held>> {
+    Box::new(alloc, Held::Empty).ok()
+}
+
+// Moves shares of a hand of value elements into a new one, in a box. The box is made first, so that no share is lost
+// without memory.
+fn split_values(alloc: Global, any: &mut AnyCaller, shares: u32) -> Result<Box<Held>, Status>
+    ensures split { IfOk result
+        (λ other. SplitsHeld shares (Held.Hand any.old) (Held.Hand any.new) other.value) }
+    ensures refused { IfErr result (IsDueOn (SplitDue shares) (Held.Hand any.old)) }
+    ensures unchanged { OnErr result (any.new ≡ any.old) }
+{
+    let Some(mut room) = empty_box(alloc) else {
+        return Err(Status::NoMemory);
+    };
+    match hands::split(any, shares) {
+        Ok(other) => {
+            drop(mem::replace(&mut *room, Held::Hand(other)));
+            Ok(room)
+        }
+        Err(status) => {
+            drop(room);
+            Err(status)
+        }
+    }
+}
+
+// Moves shares of a hand of opaque elements into a new one, in a box.
+fn split_opaque(alloc: Global, any: &mut AnyOpaque, shares: u32) -> Result<Box<Held>, Status>
+    ensures split { IfOk result
+        (λ other. SplitsHeld shares (Held.OpaqueHand any.old) (Held.OpaqueHand any.new) other.value) }
+    ensures refused { IfErr result (IsDueOn (SplitDue shares) (Held.OpaqueHand any.old)) }
+    ensures unchanged { OnErr result (any.new ≡ any.old) }
+{
+    let Some(mut room) = empty_box(alloc) else {
+        return Err(Status::NoMemory);
+    };
+    match opaque_hands::split(any, shares) {
+        Ok(other) => {
+            drop(mem::replace(&mut *room, Held::OpaqueHand(other)));
+            Ok(room)
+        }
+        Err(status) => {
+            drop(room);
+            Err(status)
+        }
+    }
+}
+
+// Moves shares of a hand into a new one, in a box.
+pub(crate) fn split(alloc: Global, held: &mut Held, shares: u32) -> Result<Box<Held>, Status>
+    ensures split { IfOk result (λ other. SplitsHeld shares held.old held.new other.value) }
+    ensures refused { IfErr result (IsDueOn (SplitDue shares) held.old) }
+    ensures unchanged { OnErr result (held.new ≡ held.old) }
+{
+    match held {
+        Held::Hand(any) => split_values(alloc, any, shares),
+        Held::OpaqueHand(any) => split_opaque(alloc, any, shares),
+        Held::List(_) | Held::OpaqueList(_) | Held::Empty => Err(Status::BadHandle),
+    }
+}
 
 // Joins what another handle has into a hand of value elements.
 fn join_values(any: &mut AnyCaller, more: &mut Held) -> Result<(), Status>

@@ -1,8 +1,8 @@
 //! The exports that cut a hand in two, put hands together, close a vector and open a list.
 ghost use Rattle.std.specs.Prelude.{◌≡◌, None};
 ghost use Rattle.kehldora_c.specs.Held.{OnBoth};
-ghost use Rattle.kehldora_c.specs.Calls.{AreOfOneVector, JoinsInto};
-ghost use Rattle.kehldora_c.specs.Calls.{IsDueOn, IsDueOrFull, IsJoinDue, CloseDue};
+ghost use Rattle.kehldora_c.specs.Calls.{AreOfOneVector, SplitsFrom, JoinsInto};
+ghost use Rattle.kehldora_c.specs.Calls.{IsDueOn, IsDueOrFull, IsJoinDue, SplitDue, CloseDue};
 ghost use Rattle.kehldora_c.specs.Lists.{ClosesHeld, OpensHeld, KeepsList, IsDueOnList, MemoryDue};
 ghost use Rattle.kehldora_c.specs.Status.{IsDone, IfRefused};
 
@@ -10,6 +10,39 @@ use crate::handle::Handle;
 use crate::moves;
 use crate::status::{DONE, Status};
 use std::alloc::Global;
+
+/// Moves shares of a hand, not all, into a new one.
+#[tactic(auto, using(crate::proofs::Codes::if_done, crate::proofs::Codes::refused_also_in, crate::proofs::Codes::refused_also_empty, crate::proofs::Codes::refused_full))]
+#[unsafe(no_mangle)]
+pub extern "C" fn kehldora_raw_split(
+    alloc: Global,
+    hand: &mut Handle,
+    shares: u32,
+    other: &mut Handle,
+) -> i32
+    ensures split { IsDone result → SplitsFrom shares
+        hand.old.owned.held hand.new.owned.held other.new.owned.held }
+    ensures refused { IfRefused result (IsDueOrFull (IsDueOn (SplitDue shares))
+        other.old.owned.held hand.old.owned.held) }
+    ensures kept { (IsDone result → ⊥) → hand.new.owned.held ≡ hand.old.owned.held }
+    ensures other_kept { (IsDone result → ⊥) → other.new ≡ other.old }
+{
+    if other.is_full() {
+        return Status::BadHandle.code();
+    }
+    let Some(mut held) = hand.take(alloc) else {
+        return Status::BadHandle.code();
+    };
+    let answer = moves::split(alloc, &mut held, shares);
+    *hand = Handle::of(held);
+    match answer {
+        Ok(more) => {
+            *other = Handle::of(more);
+            DONE
+        }
+        Err(status) => status.code(),
+    }
+}
 
 /// Joins another hand of the same vector into a hand.
 #[tactic(auto, using(crate::proofs::Codes::if_done, crate::proofs::Codes::refused_join, crate::proofs::Codes::refused_join_empty, crate::proofs::Codes::refused_join_other))]

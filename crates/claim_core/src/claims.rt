@@ -1,6 +1,7 @@
 //! The two steps that claim places.
 ghost use Rattle.std.specs.Prelude.{◌≡◌, ◌+◌, ◌<◌, ◌≤◌, [], ◌∷◌, IsOk, IfOk, IfErr};
-ghost use Rattle.claim_core.specs.Hand.{IsHandOf, IsWholeHand, KeepsCells, AddsRun, SeesSize, LogsRun, LogsRaise, seen_size};
+ghost use Rattle.claim_core.specs.Hand.{IsHandOf, IsWholeHand, KeepsCells, seen_size};
+ghost use Rattle.claim_core.specs.Hand.{AddsRun, SeesSize, LogsRun, LogsRaise};
 ghost use Rattle.claim_core.specs.History.{AddsEvents, IsNote, enough_event};
 
 use crate::hand::Hand;

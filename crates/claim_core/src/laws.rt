@@ -9,7 +9,8 @@ ghost use Rattle.claim_core.specs.Laws.{OwnPlacesStay, AddedPlacesAreOwned, Adde
 ghost use Rattle.claim_core.specs.Laws.{OwnCountsStay};
 ghost use Rattle.claim_core.specs.Laws.{EventsFollow, PrefixesAddNothing, StepsGoOn, StepsStay};
 ghost use Rattle.claim_core.specs.Laws.{FirstPlacesAreTold, SizesCountClaims, ClaimsBeginAtTheSize, ClaimsHaveTheirTurn};
-ghost use Rattle.claim_core.specs.Laws.{FilledPlacesStay, FillsAreOnce, FillsHaveOwners, BreaksHaveOwners, AddedPlacesAreNotBegun};
+ghost use Rattle.claim_core.specs.Laws.{FilledPlacesStay, FillsAreOnce, FillsHaveOwners, BreaksHaveOwners};
+ghost use Rattle.claim_core.specs.Laws.{AddedPlacesAreNotBegun};
 ghost use Rattle.claim_core.specs.Laws.{NothingIsNote, FullIsNote, GrowthIsNote, ReachIsNote, RangeIsNote};
 
 /// States that a run stays where it is when the list grows.

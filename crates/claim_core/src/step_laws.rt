@@ -1,6 +1,7 @@
 //! What the rule of the word permits beside seats of cells and entries, for proofs that tie them to a word. No call
 //! does anything.
-ghost use Rattle.claim_core.specs.StepLaws.{LooksArePermitted, FillsArePermitted, BreaksArePermitted, MendsArePermitted};
+ghost use Rattle.claim_core.specs.StepLaws.{LooksArePermitted, FillsArePermitted, BreaksArePermitted};
+ghost use Rattle.claim_core.specs.StepLaws.{MendsArePermitted};
 ghost use Rattle.claim_core.specs.StepLaws.{BeginsArePermitted, TriesArePermitted};
 ghost use Rattle.claim_core.specs.StepLaws.{BareLooksArePermitted, RowsArePermitted, PublishingIsPermitted};
 ghost use Rattle.claim_core.specs.StepLaws.{LayingIsPermitted, EntriesArePermitted, AdoptionIsPermitted};

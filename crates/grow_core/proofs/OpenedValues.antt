@@ -3,7 +3,6 @@ use Rattle.std.proofs.Common.{◌≡◌, ℕ, suc, ◌+◌, List, ◌∷◌, len
 use Rattle.std.specs.Prelude.{slice_get}
 use Rattle.grow_core.specs.Vector.{VectorView, IsOpenedAt}
 use Rattle.grow_core.specs.ShownCells.{HoldOpened}
-use Rattle.grow_core.proofs.Places.{within_length}
 
 -- those after the first
 pub hold_rest : {T : Type 0} (vector : VectorView T) (place : ℕ) (all : List T) (x : T) (rest : List T) → all ≡ x ∷ rest → HoldOpened vector place all → HoldOpened vector (place + 1) rest
@@ -18,7 +17,3 @@ hold_first {T} vector place all x rest is hold y there = let same : place ≡ pl
 -- no value is left
 pub hold_none : {T : Type 0} (vector : VectorView T) (place : ℕ) (all : List T) → length all ≡ 0 → HoldOpened vector place all
 hold_none vector place all none i y less there = absurd (omega (arith, none, less))
-
--- the one at an index
-pub hold_at : {T : Type 0} (vector : VectorView T) (place : ℕ) (all : List T) (i : ℕ) (x : T) → slice_get all i ≡ Some x → HoldOpened vector place all → (y : T) → IsOpenedAt vector (place + i) y → x ≡ y
-hold_at vector place all i x is hold y there = let got : Some x ≡ Some y = sym is ∙ hold i y (within_length all i x is) there in (let z = got in cc)

@@ -1,8 +1,7 @@
 //! A walk over what a vector shows.
-ghost use Rattle.std.specs.Prelude.{◌≡◌, ◌+◌, ◌<◌, ◌≤◌, Some, length, filter, is_some};
-ghost use Rattle.std.specs.Option.{option_copied};
+ghost use Rattle.std.specs.Prelude.{◌≡◌, ◌+◌, ◌<◌, ◌≤◌, length, filter, is_some};
 ghost use Rattle.seg_core.specs.Segment.{most_places};
-ghost use Rattle.grow_core.specs.Vector.{IsOpenedAt, base_of, limit_of};
+ghost use Rattle.grow_core.specs.Vector.{base_of, limit_of};
 ghost use Rattle.grow_core.specs.Published.{StepsOver, one_if_shown};
 ghost use Rattle.grow_core.specs.ShownCells.{HoldOpened};
 
@@ -10,6 +9,7 @@ use crate::read::Shown;
 use crate::vector::Shared;
 use std::iter::FusedIterator;
 use std::marker::Model;
+use std::slice;
 
 // How many places a walk looks at together.
 const LOOKED_AHEAD: u64 = 256;
@@ -19,15 +19,15 @@ const LOOKED_AHEAD: u64 = 256;
 #[derive(Drop)]
 pub struct Published<'a, T> {
     vector: &'a Shared<T>,
-    // The values of places from `from` on, which are known to be filled, and how many of them were shown.
-    values: &'a [T],
-    shown: usize,
-    from: u64,
+    place: u64,
     end: u64,
+    // The values of the next places, which are known to be filled.
+    filled: slice::Iter<'a, T>,
 }
 
 impl<'a, T> Model for Published<'a, T> {
     ghost use Rattle.std.specs.Prelude.{◌+◌, ◌<◌, ◌≤◌, length};
+    ghost use Rattle.std.specs.Slice.Iter.{iter_rest};
     ghost use Rattle.grow_core.specs.Vector.{limit_of};
     ghost use Rattle.grow_core.specs.Published.{PublishedView, published_coded};
     ghost use Rattle.grow_core.specs.ShownCells.{HoldOpened};
@@ -36,10 +36,10 @@ impl<'a, T> Model for Published<'a, T> {
 
     ghost coded = { published_coded T.code };
 
-    ghost view = { λ p. record { vector = p.vector.now; place = p.from + p.shown; end = p.end } };
+    ghost view = { λ p. record { vector = p.vector.now; place = p.place; end = p.end } };
 
-    ghost invariant = { λ p. (p.shown ≤ length p.values.now) × (p.from + length p.values.now ≤ p.end)
-        × (p.end ≤ limit_of p.vector.now) × HoldOpened p.vector.now p.from p.values.now };
+    ghost invariant = { λ p. (p.place + length (iter_rest p.filled) ≤ p.end) × (p.end ≤ limit_of p.vector.now)
+        × HoldOpened p.vector.now p.place (iter_rest p.filled) };
 }
 
 // Counts an item: 1 if its place shows a value, otherwise 0.
@@ -110,12 +110,12 @@ impl<T> Shared<T> {
         ensures from { result.place ≡ place }
         ensures end { result.end ≡ end }
     {
+        let none: &[T] = &[];
         Published {
             vector: self,
-            values: &[],
-            shown: 0,
-            from: place,
+            place,
             end,
+            filled: none.iter(),
         }
     }
 
@@ -137,26 +137,11 @@ impl<T> Shared<T> {
     }
 }
 
-impl<T> Shared<T> {
-    // What a place shows at which a walk found no value. It is a function of its own, so that it is not laid into the
-    // loops of walks.
-    #[cold]
-    #[inline(never)]
-    fn opened_shown(&self, place: u64) -> Option<&T>
-        ensures { (x : T) → IsOpenedAt self.now place x → option_copied result ≡ Some x }
-    {
-        match self.look(place) {
-            Shown::Filled(at) => Some(at.value),
-            Shown::Pending | Shown::Broken(_) => None,
-        }
-    }
-}
-
 impl<'a, T> Published<'a, T> {
     // What the next place shows, by a look. It is laid into the loop of a walk, and passes no `&mut` on, so that the
     // fields of the walk can lie in registers.
     #[inline(always)]
-    #[tactic(auto, using(crate::proofs::OpenedValues::hold_at, crate::proofs::OpenedValues::hold_none))]
+    #[tactic(auto, using(crate::proofs::OpenedValues::hold_first, crate::proofs::OpenedValues::hold_none))]
     fn next_look(&mut self) -> Option<&'a T>
         requires { self.old.place < self.old.end }
         ensures { StepsOver self.old result self.new }
@@ -164,21 +149,19 @@ impl<'a, T> Published<'a, T> {
         let vector = self.vector;
         // For the proof: the opened list ends at the vector's base.
         vector.laws();
-        let place = self.from + self.shown as u64;
-        let values = vector.look_along(place, self.end - place);
-        self.values = values;
-        if !values.is_empty() {
-            self.from = place;
-            self.shown = 1;
-            return Some(&values[0]);
-        }
-        self.from = place + 1;
-        self.shown = 0;
-        // A value of the opened list is shown.
-        if place < vector.word.base() {
-            vector.opened_shown(place)
-        } else {
-            None
+        let place = self.place;
+        let mut filled = vector.look_along(place, self.end - place).iter();
+        let first = filled.next();
+        self.place += 1;
+        self.filled = filled;
+        match first {
+            Some(value) => Some(value),
+            // A value of the opened list is shown.
+            None if place < vector.word.base() => match vector.look(place) {
+                Shown::Filled(at) => Some(at.value),
+                Shown::Pending | Shown::Broken(_) => None,
+            },
+            None => None,
         }
     }
 }
@@ -195,15 +178,13 @@ impl<'a, T> Iterator for Published<'a, T> {
     ghost remaining = { λ p. at_most (p.end - p.place) };
 
     #[inline(always)]
-    #[tactic(auto, using(crate::proofs::OpenedValues::hold_at))]
+    #[tactic(auto, using(crate::proofs::OpenedValues::hold_first))]
     fn next(&mut self) -> Option<Option<&'a T>> {
-        let values = self.values;
-        if self.shown < values.len() {
-            let value = &values[self.shown];
-            self.shown += 1;
+        if let Some(value) = self.filled.next() {
+            self.place += 1;
             return Some(Some(value));
         }
-        if self.from + self.shown as u64 == self.end {
+        if self.place == self.end {
             return None;
         }
         Some(self.next_look())

@@ -187,9 +187,12 @@ impl<T> Shared<T> {
         if place < self.word.base() {
             places();
             // The key is there. `unreachable!` would stop the program in its place, and so leave the test.
-            if let Some((_segment, _offset, key)) =
-                find_cell(&self.table, &self.keys, self.count, place)
-            {
+            if let Some((_segment, _offset, key)) = find_cell(
+                &self.table,
+                &self.keys,
+                self.count,
+                place,
+            ) {
                 self.table.agree(&key, &placed.key);
                 self.row.at(place).agree(&placed.cell);
             }

@@ -175,9 +175,12 @@ impl<T> Shared<T> {
         for i in 0..n {
             // For the proof: each place is one cell of one segment.
             places();
-            if let Some((_segment, _offset, known)) =
-                find_cell(&self.table, &self.keys, self.count, place + i)
-            {
+            if let Some((_segment, _offset, known)) = find_cell(
+                &self.table,
+                &self.keys,
+                self.count,
+                place + i,
+            ) {
                 self.table.agree(&known, key);
                 self.row
                     .at(place + i)

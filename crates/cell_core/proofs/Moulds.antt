@@ -3,7 +3,7 @@ use Rattle.std.proofs.Common.{◌≡◌, ℕ, zero, suc, ◌+◌, ◌-◌, ◌<�
 use Rattle.std.specs.Prelude.{Option, Some, None}
 use Rattle.tie_core.specs.Tie.{Tie, row_of, tie_further, tie_numbered}
 use Rattle.cell_core.specs.Slot.{Names, AreTied, cell_in}
-use Rattle.cell_core.specs.Mould.{id_of, relative, relatives, first_seat, mould_of, row_mould}
+use Rattle.cell_core.specs.Mould.{id_of, relative, relatives, first_seat, mould_of, row_mould, last_seat}
 
 -- cells with seats in a row from number k + j on have numbers from j on, relative to k
 row_relative : (t : Tie) (k j n : ℕ) (γs : List Names) → AreTied (row_of (tie_numbered t (k + j)) n) γs → relatives k γs ≡ row_of (tie_numbered t j) n
@@ -77,3 +77,18 @@ row_tied t (suc n) [] at i less = absurd at
 row_tied t (suc n) (γ ∷ γs) at zero less = let same : t.id ≡ t.id + 0 = omega arith in at.0 ∙ ap (λ (k : ℕ). Some (tie_numbered t k)) same
 row_tied t (suc n) (γ ∷ γs) at (suc i) less = let e : (t.id + 1) + i ≡ t.id + suc i = omega arith in
     row_tied (tie_further t 1) n γs at.1 i (omega (arith, less)) ∙ ap (λ (k : ℕ). Some (tie_numbered t k)) e
+
+-- a row of seats has a cell for each
+row_long : (t : Tie) (n : ℕ) (γs : List Names) → AreTied (row_of t n) γs → length γs ≡ n
+row_long t zero [] at = refl
+row_long t zero (γ ∷ γs) at = absurd at
+row_long t (suc n) [] at = absurd at
+row_long t (suc n) (γ ∷ γs) at = ap suc (row_long (tie_further t 1) n γs at.1)
+
+-- the seat behind a row of seats
+pub row_seat : (t : Tie) (n : ℕ) (γs : List Names) → AreTied (row_of t n) γs → 0 < n → last_seat γs ≡ t.id + n
+row_seat t zero γs at some = absurd (omega (arith, some))
+row_seat t (suc n) [] at some = absurd at
+row_seat t (suc n) (γ ∷ γs) at some =
+    let first : id_of γ.tied ≡ t.id = ap id_of at.0 in let long : length (γ ∷ γs) ≡ suc n = row_long t (suc n) (γ ∷ γs) at in
+    λ i. first i + long i

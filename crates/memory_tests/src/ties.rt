@@ -1,5 +1,5 @@
-//! Tables whose rules permit everything, and a block whose cells are tied to one: the whole way of a seat, from the table
-//! through an offer and a step back to its caller, and what its caller then knows.
+//! Tables whose rules permit everything, and a block whose cells are tied to one: the whole way of a seat, from the
+//! table through an offer and a step back to its caller, and what its caller then knows.
 ghost use Rattle.std.specs.Prelude.{◌≡◌, ◌+◌, ◌*◌, ◌<◌, ◌⊎◌, ℕ, [], ◌∷◌, Some, IsTrue};
 ghost use Rattle.cell_core.specs.Block.{block_len, cell_at};
 ghost use Rattle.tie_core.specs.Tie.{looks, stage_number};
@@ -46,8 +46,8 @@ impl EntryPlay<()> for Anything {
     ghost then = { λ _ _ _ _. Unit {0} };
 }
 
-// Any table is right. Views are numbers: a stage shows as its number, and a look tells the seat of its caller the number
-// that was told, and how far the cell was.
+// Any table is right. Views are numbers: a stage shows as its number, and a look tells the seat of its caller the
+// number that was told, and how far the cell was.
 struct Telling;
 
 impl<S> TableRule<S, u64, ()> for Telling {

@@ -173,7 +173,7 @@ impl<T> Table<T> {
         ensures block { result.now ≡ key.now.block }
         ensures length { IsBlockOf self.now.layout key.now.segment result.now }
     {
-        let mut sight = key.sight.again::<T>();
+        let mut sight = key.sight.again::<T, Plain>();
         match self.entries[key.segment as usize].look(&mut sight) {
             Some(block) => block,
             None => unreachable!(),

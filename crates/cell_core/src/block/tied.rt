@@ -1,10 +1,10 @@
 // Steps on cells that are tied to a table. Each call has one atomic step, which is its linearization point and runs an
 // update that the caller brings.
-ghost use Rattle.std.specs.Prelude.{◌≡◌, ◌≢◌, ◌<◌, ℕ, Some, None, IfOk, IfErr, length};
+ghost use Rattle.std.specs.Prelude.{◌≡◌, ◌≢◌, ◌<◌, ◌+◌, ℕ, Some, None, IfOk, IfErr, length};
 ghost use Rattle.cell_core.specs.Block.{block_len, cell_at, IsPenAt, IsFresh, IsMending};
 ghost use Rattle.cell_core.specs.Shown.{IsFoundIn, IsLookAt, IsLookOf};
 ghost use Rattle.cell_core.specs.Slot.{AreTied, empty_state, broken_state};
-ghost use Rattle.cell_core.specs.Mould.{first_seat, mould_of, row_mould};
+ghost use Rattle.cell_core.specs.Mould.{first_seat, last_seat, mould_of, row_mould};
 ghost use Rattle.tie_core.specs.Tie.{Tie, HasMade, begins, breaks, fills, looks, mends, row_of, tie_further, tie_numbered};
 
 use crate::block::fields::{all_but, in_field, state_in, words_for};
@@ -49,7 +49,8 @@ impl<T, A: Allocator> Block<T, A, Tied> {
     }
 
     /// Shows a proof how cells whose seats have numbers in a row are tied, and what the mould of a block tells: the
-    /// seats have numbers in a row from the first one's on. The call does nothing.
+    /// seats have numbers in a row from the first one's on, and the block's own seat is the one behind them. The call
+    /// does nothing.
     pub fn ties_laws(&self)
         ensures row { (t : Tie) (n i : ℕ) → AreTied (row_of t n) self.now.cells → i < n
             → (cell_at self.now i).tied ≡ Some (tie_further t i) }
@@ -57,6 +58,8 @@ impl<T, A: Allocator> Block<T, A, Tied> {
             → mould_of self.now.cells ≡ row_mould t n }
         ensures tied { (t : Tie) (n : ℕ) → mould_of self.now.cells ≡ row_mould t n
             → AreTied (row_of (tie_numbered t (first_seat self.now.cells)) n) self.now.cells }
+        ensures last { (t : Tie) (n : ℕ) → AreTied (row_of t n) self.now.cells → 0 < n
+            → last_seat self.now.cells ≡ t.id + n }
     {}
 
     /// Looks at what a tied cell shows now, by one load. The offer's update runs in the load. A cell that is begun

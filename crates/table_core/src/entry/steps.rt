@@ -14,7 +14,7 @@ ghost use Rattle.table_core.specs.TiedEntry.{entry_owned, entry_shared};
 mod tied;
 
 use crate::entry::loose::Loose;
-use cell_core::block::Block;
+use cell_core::block::{Block, Kind};
 use std::alloc::Global;
 use std::marker::{Brand, Model, Move, Owns, PhantomData};
 use std::ptr::null_mut;
@@ -248,9 +248,10 @@ impl<B> EntrySight<B> {
     {}
 }
 
-impl<T> EntrySight<Block<T>> {
-    // Duplicates the sight. What is known of an entry says nothing of the type of the values.
-    pub(crate) fn again<U>(&self) -> EntrySight<Block<U>>
+impl<T, B: Kind> EntrySight<Block<T, Global, B>> {
+    // Duplicates the sight. What is known of an entry says nothing of the type of the values, or of the kind of
+    // the block.
+    pub(crate) fn again<U, C: Kind>(&self) -> EntrySight<Block<U, Global, C>>
         ensures { (result.of ≡ self.now.of) × (result.known ≡ self.now.known) }
     {
         EntrySight {

@@ -1,4 +1,5 @@
-// The raw steps on an entry that is tied to a table. In each the update of a visit runs, and the entry's seat goes along.
+// The raw steps on an entry that is tied to a table. In each the update of a visit runs, and the entry's seat goes
+// along.
 ghost use Rattle.std.specs.Prelude.{◌≡◌, ℕ, List, MatchOption, IfSome};
 ghost use denote.RawPtr.{null_ptr};
 ghost use Rattle.std.specs.Sync.Atomic.Pointer.{atomic_ptr_value};

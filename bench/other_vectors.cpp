@@ -25,6 +25,62 @@ constexpr Value list_length = 64;
 // How often a load walks over its places.
 constexpr unsigned rounds = 16;
 
+using Clock = std::chrono::steady_clock;
+
+// When one thread began its part, and when it ended.
+struct Timed {
+  Clock::time_point begun, ended;
+};
+
+// Where threads gather before their time starts, as in crates/costs/src/start.rt: each first does some arithmetic, until
+// the kernel has moved it to a processor of its own.
+class Start {
+  static constexpr Value steps = 75'000'000;
+  const unsigned threads;
+  std::atomic<unsigned> come{0};
+  std::atomic<Value> sum{0};
+  static Value do_steps() {
+    Value sum = 1;
+    for (Value step = 0; step < steps; ++step)
+      sum = sum * 6364136223846793005 + step;
+    return sum;
+  }
+  void gather() {
+    if (threads < 2)
+      return;
+    sum += do_steps();
+    ++come;
+    while (come < threads)
+      ;
+  }
+
+public:
+  explicit Start(unsigned threads) : threads(threads) {}
+  Timed time(const std::function<void()> &work) {
+    gather();
+    Timed timed{Clock::now(), {}};
+    work();
+    timed.ended = Clock::now();
+    return timed;
+  }
+};
+
+// The time that the threads take, from when all have come to the end of the last one.
+long long time_threads(unsigned threads, const std::function<void()> &work) {
+  Start start(threads);
+  std::vector<Timed> parts(threads);
+  std::vector<std::thread> others;
+  for (unsigned i = 1; i < threads; ++i)
+    others.emplace_back([&, i] { parts[i] = start.time(work); });
+  parts[0] = start.time(work);
+  for (auto &other : others)
+    other.join();
+  Timed all = parts[0];
+  for (const Timed &part : parts)
+    all = {std::min(all.begun, part.begun), std::max(all.ended, part.ended)};
+  return std::chrono::duration_cast<std::chrono::nanoseconds>(all.ended - all.begun).count();
+}
+
 // How many of the first values are odd.
 template <typename Values> Value count_odd(Values &values, Value times) {
   Value odd = 0;
@@ -277,22 +333,19 @@ template <typename Vector> long long run(const char *load, unsigned threads) {
       for (unsigned round = 0; round < rounds; ++round)
         walk_over(vector, times);
     };
+  // The first thread walks, and the others push meanwhile.
   std::atomic<bool> is_over{false};
-  std::function<void()> other_work = work;
+  std::atomic<unsigned> begun{0};
   if (!std::strcmp(load, "walk-pushed")) {
     ++threads;
-    work = [&] { walk_over(vector, more), is_over = true; };
-    other_work = [&] { push_until(vector, is_over); };
+    work = [&] {
+      if (begun++)
+        push_until(vector, is_over);
+      else
+        walk_over(vector, more), is_over = true;
+    };
   }
-  auto start = std::chrono::steady_clock::now();
-  std::vector<std::thread> others;
-  for (unsigned i = 1; i < threads; ++i)
-    others.emplace_back(other_work);
-  work();
-  for (auto &other : others)
-    other.join();
-  auto took = std::chrono::steady_clock::now() - start;
-  return std::chrono::duration_cast<std::chrono::nanoseconds>(took).count();
+  return time_threads(threads, work);
 }
 
 // A std::vector of values moved into a concurrent_vector, or copied out of one.

@@ -2,7 +2,7 @@
 
 import re
 
-HEAD = re.compile(r"(?P<indent> *)(?P<kind>(?:pub(?:\([a-z]+\))? |const |unsafe )*)(?:fn (?P<name>\w+)|impl|trait)\b")
+HEAD = re.compile(r"""(?P<indent> *)(?P<kind>(?:pub(?:\([a-z]+\))? |const |unsafe |extern "C" )*)(?:fn (?P<name>\w+)|impl|trait)\b""")
 
 
 class Function:

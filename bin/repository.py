@@ -81,7 +81,7 @@ class Repository:
             + [word for it in given for word in ("--extern", it)]
             + [word for it in places for word in ("-L", f"dependency={it}")]
             + ["--antt-project", f"{KIT}/rattle/logic/antt-project.json", "--logic-built", f"{KIT}/logic_built"]
-            + ["--links", f"{name}=", "--incremental", kept, *words],
+            + ["--links", f"{name}=", "--incremental", kept, *["--crate-type", "staticlib"] * ("staticlib:" in self.lines[name]), *words],
         )[1]
 
     def prove(self, name):

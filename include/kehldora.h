@@ -58,7 +58,7 @@ static inline const char *kehldora_text(kehldora_status status) {
   switch (status) {
   case KEHLDORA_DONE: return "done";
   case KEHLDORA_NO_MEMORY: return "out of memory";
-  case KEHLDORA_BAD_LIMIT: return "the limit is above 2^40";
+  case KEHLDORA_BAD_LIMIT: return "the limit is 0 or above 2^40";
   case KEHLDORA_MOVED: return "other threads came first each time";
   case KEHLDORA_BAD_HANDLE: return "a handle is empty that must not be, or the reverse";
   case KEHLDORA_BAD_NUMBER: return "a number is not one of those allowed";
@@ -110,6 +110,7 @@ kehldora_status kehldora_raw_open(uint64_t limit, uint64_t words, uint32_t first
 kehldora_status kehldora_raw_size(kehldora_hand *hand, uint64_t *size);
 kehldora_status kehldora_raw_about(kehldora_hand *hand, kehldora_hand_facts *facts);
 kehldora_status kehldora_raw_split(kehldora_hand *hand, uint32_t shares, kehldora_hand *other);
+/* The two hands must be of one vector: compare where they are first, as kehldora_join does. */
 kehldora_status kehldora_raw_join(kehldora_hand *hand, kehldora_hand *other);
 kehldora_status kehldora_raw_where(kehldora_hand *hand, const void **at);
 kehldora_status kehldora_raw_reserve(kehldora_hand *hand, uint64_t size);
@@ -138,7 +139,7 @@ kehldora_status kehldora_raw_list_free(kehldora_list *list);
 /* The version of the library that the program runs with. It fits this header if it is KEHLDORA_VERSION. */
 static inline uint32_t kehldora_version(void) { return kehldora_raw_version(); }
 
-/* Opens a vector of at most `limit` elements of `words` words, whose first segment has 2^first places, with `first` from 1 to 8.
+/* Opens a vector of at most `limit` elements, at least one, of `words` words, whose first segment has 2^first places, with `first` from 1 to 8.
    Its first hand has all shares. */
 static inline kehldora_status kehldora_open(uint64_t limit, uint64_t words, uint32_t first, bool opaque, kehldora_hand *hand) {
   return hand ? kehldora_raw_open(limit, words, first, opaque, hand) : KEHLDORA_NULL;
@@ -163,9 +164,18 @@ static inline kehldora_status kehldora_split(kehldora_hand *hand, uint32_t share
 
 /* Moves the other hand and its shares into the first one. */
 static inline kehldora_status kehldora_join(kehldora_hand *hand, kehldora_hand *other) {
+  const void *at, *other_at;
+  kehldora_status status;
   if (!hand || !other)
     return KEHLDORA_NULL;
-  return hand == other ? KEHLDORA_BAD_HANDLE : kehldora_raw_join(hand, other);
+  if (hand == other)
+    return KEHLDORA_BAD_HANDLE;
+  status = kehldora_raw_where(hand, &at);
+  if (!status)
+    status = kehldora_raw_where(other, &other_at);
+  if (status)
+    return status;
+  return at == other_at ? kehldora_raw_join(hand, other) : KEHLDORA_OTHER_VECTOR;
 }
 
 /* Returns an address that is the same for all hands of a vector, and another for any other vector that is open. */

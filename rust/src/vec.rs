@@ -112,9 +112,9 @@ impl<T> Cell<T> {
 impl<T> Vec<T> {
     /// Makes a vector of at most `limit` values.
     ///
-    /// Panics if the limit is above [`MOST_PLACES`](crate::MOST_PLACES), and ends the program without memory.
+    /// Panics if the limit is 0 or above [`MOST_PLACES`](crate::MOST_PLACES), and ends the program without memory.
     pub fn new(limit: usize) -> Self {
-        assert!(limit <= crate::MOST_PLACES, "the limit is above 2^40");
+        assert!((1..=crate::MOST_PLACES).contains(&limit), "the limit is 0 or above 2^40");
         Self::try_new(limit).unwrap_or_else(|_| handle_alloc_error(Layout::new::<T>()))
     }
 

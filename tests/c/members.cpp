@@ -402,7 +402,8 @@ static void pending() {
   concurrent_vector<int> v;
   // The hand of the growth is not the thread's own.
   auto hand = v.make_hand();
-  kehldora_mock_between(look_between, &v);
+  if (kehldora_mock_forces())
+    kehldora_mock_between(look_between, &v);
   hand.push_back(7);
   CHECK(v.at(0) == 7);
 }

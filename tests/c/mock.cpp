@@ -205,6 +205,7 @@ void kehldora_mock_between(void (*call)(void *), void *it) {
   argument = it;
   between = call;
 }
+bool kehldora_mock_forces(void) { return true; }
 int64_t kehldora_mock_blocks(void) { return blocks; }
 int64_t kehldora_mock_handles(void) { return handles; }
 
@@ -213,12 +214,12 @@ uint32_t kehldora_raw_version(void) { return KEHLDORA_VERSION; }
 kehldora_status kehldora_raw_open(uint64_t limit, uint64_t words, uint32_t first, bool opaque, kehldora_hand *hand) {
   if (hand->full)
     return KEHLDORA_BAD_HANDLE;
-  if (limit > KEHLDORA_MOST_PLACES)
+  if (limit < 1 || limit > KEHLDORA_MOST_PLACES)
     return KEHLDORA_BAD_LIMIT;
-  if (words < 1 || words > 8 || words == 5 || words == 7)
-    return KEHLDORA_BAD_SIZE;
   if (first < 1 || first > 8)
     return KEHLDORA_BAD_NUMBER;
+  if (words < 1 || words > 8 || words == 5 || words == 7)
+    return KEHLDORA_BAD_SIZE;
   Hand *it = make<Hand>();
   if (!it)
     return KEHLDORA_NO_MEMORY;

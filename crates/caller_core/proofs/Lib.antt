@@ -1,1 +1,3 @@
 mod Cases
+pub mod Kept
+pub mod LastTokens

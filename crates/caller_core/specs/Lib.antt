@@ -1,1 +1,3 @@
 pub mod Caller
+pub mod Grows
+pub mod Words

@@ -10,13 +10,14 @@ use quiet_core::Quiet;
 use seg_core::Layout;
 use std::alloc::{AllocError, Global};
 use std::marker::Model;
+use std::ptr::NonNull;
 use std::sync::Arc;
 
 // What the callers of a vector share: the vector, and a word whose address tells it from others.
 #[derive(Drop)]
 pub(crate) struct Hub<T> {
     pub(crate) vector: Shared<T>,
-    pub(crate) mark: [u64; 1],
+    pub(crate) mark: u64,
 }
 
 /// One thread's hand of a vector, with the vector and the token of the last place that it filled.
@@ -51,7 +52,7 @@ impl<T: Drop> Caller<T> {
         let Ok((vector, hand)) = Quiet::new_in(alloc, layout, limit).open() else {
             return Err(AllocError);
         };
-        let hub = Arc::new(alloc, Hub { vector, mark: [0] })?;
+        let hub = Arc::new(alloc, Hub { vector, mark: 0 })?;
         Ok(Caller {
             hub,
             hand,
@@ -101,9 +102,9 @@ impl<T> Caller<T> {
         self.hand.is_whole()
     }
 
-    /// Returns a word whose address is the same for all callers of the vector, and another for those of any other
-    /// vector.
-    pub fn mark(&self) -> &[u64] {
-        self.hub.mark.as_slice()
+    /// Returns an address that is the same for all callers of the vector, and another for those of any other vector
+    /// that is open.
+    pub fn address(&self) -> *mut u64 {
+        NonNull::from_ref(&self.hub.mark).as_ptr()
     }
 }

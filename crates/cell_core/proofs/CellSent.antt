@@ -14,7 +14,7 @@ use denote.Struct.Owning
 use denote.Struct.Struct
 use Rattle.core.proofs.atomic.Sent.{chain-Keyless}
 use Rattle.cell_core.specs.Slot.{Names, broken_once, Phase, stage, free, begun, busy, full, broken, broken_by_owner, Turn, place, told, tie, lent, cell, cells, kept, known, sighted, setting, right_of, gained, slot_owned, pen_owned}
-use Rattle.cell_core.specs.Tie.{Tie, Stage, seat_of, seat_at}
+use Rattle.tie_core.specs.Tie.{Tie, Stage, seat_of, seat_at}
 use Rattle.cell_core.specs.Slot.{Rest, resting}
 use Rattle.cell_core.specs.Laid.{Extent, rests, along, along_lent, laid, laid_lent}
 use Rattle.cell_core.specs.Member.{MemberView, known_as, members}

@@ -21,7 +21,7 @@ use Rattle.core.proofs.once.Turns.{one_value}
 use Rattle.core.proofs.cell.Borrows.{by_one}
 use Rattle.cell_core.specs.Member.{HasNames, IsStateOf, MayBeStateOf, IsEpochOf, unfilled, known_as}
 use Rattle.cell_core.specs.Slot.{Names, IsPlain, fact, free, begun, busy, full, broken, broken_by_owner, state, stage, broken_mark, was_broken, broken_once, content, mark, written, place, auths, unset, setting, fill_added, break_added, over, broken_unset, reserved, told, seat, inside, Room, tie, lent, bare, cell, Right, FirstRight, gained, won, sighted, sights}
-use Rattle.cell_core.specs.Tie.{Tie, Stage, Idle, Begun, stage_number, IsTied, Step, begins as beginning, looks as looking, fills as filling, breaks as breaking, mends as mending, Shows, Moves, Gives, HasMade, Made, seat_at, left, update}
+use Rattle.tie_core.specs.Tie.{Tie, Stage, Idle, Begun, stage_number, IsTied, Step, begins as beginning, looks as looking, fills as filling, breaks as breaking, mends as mending, Shows, Moves, Gives, HasMade, Made, seat_at, left, update}
 use Rattle.cell_core.proofs.WordSteps.{S, Next, Law}
 
 abbrev head : Gv → Gv

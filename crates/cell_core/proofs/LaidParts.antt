@@ -1,7 +1,7 @@
 -- The parts of the rows of a block: the cell at an index, more cells, and what a `&` to them shows. Assumes `Logic`.
 use Rattle.std.proofs.Common.{Bool, false, ◌≡◌, ℕ, zero, suc, ◌+◌, ◌-◌, ◌*◌, ◌/◌, ◌%◌, ◌^◌, ◌<◌, ◌≤◌, List, [], ◌∷◌, ◌++◌, length, take, drop, set, length-set, length-take, length-drop, length-append, get_or-take, get_or-drop, sym, refl, ap, ◌∙◌, subst, arith, suc-mul, zero-mul, add-mul, mul-le-mul_right, w64}
 use Rattle.std.specs.Prelude.{Option, None}
-use Rattle.cell_core.specs.Tie.{Tie}
+use Rattle.tie_core.specs.Tie.{Tie, seats}
 use lib.Seq.{take-set-lt, drop-set-lt}
 use Rattle.std.proofs.lemmas.List.{take-set-le, drop-set-add, take-append-le, drop-append-le, take_all}
 use seplogic.Ra.Ura.{Ura}
@@ -30,7 +30,7 @@ use mir.Val.{vint}
 use denote.Sharing.{ShrLaws, said}
 use denote.SharingLaws.{beside_shr_laws, nothing_shr_laws, said_shr_laws}
 use Rattle.cell_core.specs.Fields.{pack, put}
-use Rattle.cell_core.specs.Slot.{Names, ArePlain, AreTied, seats, cell_in, state, free, broken_once, Rest, fact, word, step, room_at, Spot, IsAt, kept, shared_at, slot_owned}
+use Rattle.cell_core.specs.Slot.{Names, ArePlain, AreTied, cell_in, state, free, broken_once, Rest, fact, word, step, room_at, Spot, IsAt, kept, shared_at, slot_owned}
 use Rattle.cell_core.specs.Laid.{Extent, words_ty, rooms_ty, Lies, FitsMemory, lying, rests, still, along, along_lent, laid, laid_lent, rooms_owned}
 use Rattle.cell_core.proofs.Fields.{pack_ap, pack_alike, put_of, packed_none}
 use Rattle.cell_core.proofs.RestParts.{emptied}

@@ -19,5 +19,4 @@ mod RunFields
 mod SliceSteps
 mod SliceParts
 mod PlainCells
-mod OfferMade
-mod SeatsMade
+mod Moulds

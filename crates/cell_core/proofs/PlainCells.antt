@@ -1,7 +1,7 @@
 -- Cells stay of their kind, and get the ties that a new block is given.
-use Rattle.std.proofs.Common.{Bool, true, false, take, drop, append_assoc, append-nil, take-append-drop, length-append, ◌≡◌, ℕ, zero, suc, ◌+◌, List, [], ◌∷◌, ◌++◌, length, set, refl, sym, ap, ◌∙◌, subst, arith}
+use Rattle.std.proofs.Common.{Bool, true, false, take, drop, append_assoc, append-nil, take-append-drop, length-append, ◌≡◌, ℕ, zero, suc, List, [], ◌∷◌, ◌++◌, length, set, refl, sym, ap, ◌∙◌, subst, arith}
 use Rattle.std.specs.Prelude.{Option}
-use Rattle.cell_core.specs.Tie.{Tie}
+use Rattle.tie_core.specs.Tie.{Tie}
 use Rattle.cell_core.specs.Slot.{Names, IsPlain, ArePlain, AreTied, cell_in}
 use Rattle.cell_core.specs.Laid.{AreOfKind, HasOneRenamed, HasMore, HasMoreTied}
 use Rattle.cell_core.specs.Run.{cells_from}

@@ -24,7 +24,7 @@ use Rattle.core.proofs.cell.Inside.{spread}
 use Rattle.cell_core.specs.Slot.{Names, Phase, free, begun, busy, full, broken, broken_by_owner, state, Lies, Rest, fact, place, resting, mark, broken_mark, broken_once, auths, unset, settable, written, was_broken}
 use Rattle.cell_core.specs.Laid.{IsAnother, lying}
 use Rattle.cell_core.specs.Member.{IsUnset}
-use Rattle.cell_core.specs.Tie.{Tie, Stage, Idle, Filled, Broken, seat_at, fixed_at}
+use Rattle.tie_core.specs.Tie.{Tie, Stage, Idle, Filled, Broken, seat_at, fixed_at}
 use Rattle.cell_core.proofs.CellSteps.{one_written}
 
 -- what the room of a cell holds is given up

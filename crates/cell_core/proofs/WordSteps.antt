@@ -18,7 +18,7 @@ use denote.RawPtr.{block_ptr}
 use Rattle.core.specs.Sync.RawAtomic.{asks, always}
 use Rattle.core.proofs.raw_atomic.Asked.{borrowed, Lies, Again}
 use Rattle.cell_core.specs.Fields.{pack, field, put}
-use Rattle.cell_core.specs.Tie.{floor_of}
+use Rattle.tie_core.specs.Tie.{floor_of}
 use Rattle.cell_core.specs.Slot.{Names, cell_in, Phase, free, begun, busy, full, broken, broken_by_owner, state, Turn, step, room_at, word, cell, cells, standing, Cells, kept, shared_at, Spot, IsAt, above, floors, fact}
 use Rattle.cell_core.proofs.Both.{borrowed_both}
 use Rattle.cell_core.proofs.Fields.{Fit, field_of, pack_ap, or_field, and_field, add_field, packed_below, put_fits, put_own, sixteens}

@@ -1,6 +1,6 @@
 -- What a block of raw cells owns and lends: a row of words, which hold the states of sixteen cells each, and a row of
 -- rooms.
-use Rattle.cell_core.specs.Tie.{Tie}
+use Rattle.tie_core.specs.Tie.{Tie}
 use Rattle.std.specs.Prelude.{◌≡◌, ◌≢◌, Option, Bool, false, ℕ, zero, suc, ◌+◌, ◌-◌, ◌*◌, ◌/◌, ◌%◌, ◌^◌, ◌<◌, ◌≤◌, List, [], ◌∷◌, ◌++◌, length, take, drop, slice_set}
 use base.Stored.{Coded, coded×, coded_ℕ, coded_via}
 use base.Fml.{Lft, Fml, ftrue, fsep, fex, froom}

@@ -1,4 +1,3 @@
-pub mod Tie
 pub mod Slot
 pub mod Laid
 pub mod Member
@@ -6,3 +5,4 @@ pub mod Block
 pub mod Shown
 pub mod Fields
 pub mod Run
+pub mod Mould

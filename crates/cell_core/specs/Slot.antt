@@ -17,7 +17,7 @@ use denote.RattleType.{RattleType}
 use denote.Memory.{lone, part_at, shared_of}
 use denote.RawPtr.{Ptr, block_ptr, null_ptr}
 use Rattle.cell_core.specs.Fields.{pack}
-use Rattle.cell_core.specs.Tie.{Tie, tie_coded, Stage, Idle, Begun, Mending, Filled, Broken, IsTied, seat_at, floor_of}
+use Rattle.tie_core.specs.Tie.{Tie, tie_coded, Stage, Idle, Begun, Mending, Filled, Broken, IsTied, seat_at, floor_of}
 
 -- the names of a cell: one gets the value that fills it, another is set when it breaks; its epoch, and its tie
 pub record Names : Type 0 where
@@ -57,11 +57,6 @@ AreTied [] [] = Unit {0}
 AreTied [] (γ ∷ γs) = ⊥
 AreTied (τ ∷ τs) [] = ⊥
 AreTied (τ ∷ τs) (γ ∷ γs) = (γ.tied ≡ τ) × AreTied τs γs
-
--- the seats of some cells that nobody has begun
-abbrev pub seats : List (Option Tie) → Fml
-seats [] = ftrue
-seats (τ ∷ τs) = fsep (seat_at τ Idle) (seats τs)
 
 -- a number above those of the invariants that some cells are tied to
 abbrev pub floors : List Names → ℕ

@@ -11,12 +11,10 @@ mod fields;
 mod filled;
 mod kind;
 mod member;
-pub(crate) mod offer;
 mod owner;
 mod pen;
 mod placed;
 mod run;
-pub(crate) mod seats;
 mod shown;
 mod slice;
 mod spoilt;
@@ -29,16 +27,15 @@ pub use epoch::{EndedEpoch, Epoch};
 use fields::{WORD_CELLS, all_but, in_field, state_in, word_of, words_for};
 pub use kind::{First, Kind, Plain, Tied};
 pub use member::{Member, Row};
-pub use offer::{Book, Offer};
 pub use pen::Pen;
 pub use placed::Placed;
 pub use run::RunPen;
-pub use seats::Seats;
 pub use shown::{Found, Look};
 pub use spoilt::Spoilt;
 use std::alloc::{AllocError, Allocator, Global};
 use std::marker::{Model, PhantomData};
 use steps::{Laid, Link, Rooms};
+use tie_core::Seats;
 
 /// A row of cells that are each filled at most once and keep their value; a broken one may be mended. Each
 /// has four bits of state beyond its value. `B` says whether cells are tied to a table.

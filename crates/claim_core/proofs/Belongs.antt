@@ -13,10 +13,10 @@ use Rattle.book_core.specs.declared.events.Reply.{Reply}
 use Rattle.claim_core.specs.History.{first_list}
 use Rattle.claim_core.specs.Lengths.{runs_end, times}
 use Rattle.claim_core.specs.Word.{WordView, AreBounds}
-use Rattle.claim_core.specs.Hand.{HandView, AddsRun, seen_size, own_places}
-use Rattle.claim_core.specs.Seat.{ClaimSeat, word_view, IsOpened, hand_view, IsHeld}
+use Rattle.claim_core.specs.Hand.{HandView, SeesBegun, AddsRun, seen_size, own_places}
+use Rattle.claim_core.specs.Seat.{ClaimSeat, word_view, IsOpened, hand_view, IsHeld, SeesAsOne}
 use Rattle.claim_core.specs.Rule.{size_at}
-use Rattle.claim_core.specs.SeatView.{Seated, IsConsistent, Claims, first_view}
+use Rattle.claim_core.specs.SeatView.{Seated, IsConsistent, Claims, first_view, with_own}
 use Rattle.claim_core.proofs.Prefixes.{prefix_nil}
 use Rattle.claim_core.proofs.Places.{places_in-le}
 use Rattle.claim_core.proofs.Counts.{times-from_Contains, times-append, IsDistinct-from_times}
@@ -84,6 +84,61 @@ owns_part {seat} {share} {size} {hand} held hand_is =
     subst (λ (h : HandView). h.of.base + own_places h ≤ seen_size h) hand_is
     (let p = places_in-le seat.me.0.seen seat.me.0.mine held.consistent.own in omega arith)
 
+-- and it has seen the places that it knows begun
+pub sees_begun : {seat : ClaimSeat} {share size : ℕ} {hand : HandView} → IsHeld seat share size → hand_view seat ≡ hand
+    → SeesBegun hand
+sees_begun {seat} {share} {size} {hand} held hand_is = subst SeesBegun hand_is held.consistent.begun
+
+-- a part of a seat that has not all shares is as consistent as the whole
+pub cut_consistent : (v : SeatView) (mine : List ℕ) (shares : ℕ) → IsConsistent v → shares < 65536
+    → ((k : ℕ) → times k mine ≤ times k v.mine) → IsConsistent (with_own v mine shares)
+cut_consistent v mine shares consistent less part =
+    record {
+      positive = consistent.positive;
+      within = consistent.within;
+      shares = omega arith;
+      own = λ k. let p = part k in let o = consistent.own k in omega arith;
+      whole = λ all. absurd (omega arith);
+      history = consistent.history;
+      lengths = consistent.lengths;
+      whole_log = λ all. absurd (omega arith);
+      begun = consistent.begun;
+    }
+
+-- a seat that was cut off another one
+pub held_cut : (v : SeatView) (seat : ClaimSeat) (mine : List ℕ) (shares share size : ℕ) → IsConsistent v
+    → size ≡ runs_end v.base v.seen → seat.me.0 ≡ with_own v mine shares → seat.me.1 ≡ [] → share ≡ shares
+    → 0 < shares → shares < 65536 → ((k : ℕ) → times k mine ≤ times k v.mine) → IsHeld seat share size
+held_cut v seat mine shares share size consistent ends is none same more less part =
+    record {
+      no_slot = none;
+      shares = same ∙ sym (ap (λ (w : SeatView). w.shares) is);
+      seen = ends ∙ sym (ap (λ (w : SeatView). runs_end w.base w.seen) is);
+      positive = omega arith;
+      consistent = subst IsConsistent (sym is) (cut_consistent v mine shares consistent less part);
+    }
+
+-- the first of two seats that were shown to each other, and the second
+pub held_shown : {seat other new new_other : ClaimSeat} {found : ℕ} → SeesAsOne seat other found new new_other
+    → 0 < other.me.0.shares → seat.me.1 ≡ [] → 0 < seat.me.0.shares → (share : ℕ) → share ≡ seat.me.0.shares → IsHeld new share found
+held_shown {seat} {other} {new} {new_other} {found} sees other_part none part share same =
+    let looks = sees.looks in
+    let shares = looks.same.shares in
+    let most = looks.consistent.shares in
+    held_cut sees.both new seat.me.0.mine seat.me.0.shares share found looks.consistent (sym looks.size)
+    (ap {A = Seated} (λ m. m.0) sees.me) (ap {A = Seated} (λ m. m.1) sees.me ∙ none) same part (omega arith)
+    (λ k. let e = ap (times k) looks.same.mine in let t = times-append k seat.me.0.mine other.me.0.mine in omega arith)
+
+pub held_other : {seat other new new_other : ClaimSeat} {found : ℕ} → SeesAsOne seat other found new new_other
+    → 0 < seat.me.0.shares → 0 < other.me.0.shares → (share : ℕ) → share ≡ other.me.0.shares → IsHeld new_other share found
+held_other {seat} {other} {new} {new_other} {found} sees part other_part share same =
+    let looks = sees.looks in
+    let shares = looks.same.shares in
+    let most = looks.consistent.shares in
+    held_cut sees.both new_other other.me.0.mine other.me.0.shares share found looks.consistent (sym looks.size)
+    (ap {A = Seated} (λ m. m.0) sees.other_me) (ap {A = Seated} (λ m. m.1) sees.other_me) same other_part (omega arith)
+    (λ k. let e = ap (times k) looks.same.mine in let t = times-append k seat.me.0.mine other.me.0.mine in omega arith)
+
 -- a step that grew the size
 pub grew : (a b : ℕ) (t : Bool) (P Q : Type 0) → nat_lt a b ≡ t → a < b → MatchBool t P Q → P
 grew a b true P Q is less p = p
@@ -141,6 +196,7 @@ first_held {seat} terms bounds is =
       history = record { legal = (first_list terms.limit terms.base terms.mark.filled, refl); actors = refl };
       lengths = prefix_nil [];
       whole_log = λ all. refl;
+      begun = λ place there. let t = there.1 in absurd (omega arith);
     } in
     record {
       no_slot = ap {A = Seated} (λ m. m.1) is;

@@ -8,7 +8,8 @@ use lib.ListN.{get_elem?}
 use Rattle.atomic_table.proofs.Lists.{at_set, at_snoc, set_else}
 use Rattle.claim_core.specs.declared.seat_view.SeatView.{SeatView}
 use Rattle.claim_core.specs.declared.terms.Terms.{Terms}
-use Rattle.claim_core.specs.Lengths.{times, once_below}
+use Rattle.std.specs.List.{Contains}
+use Rattle.claim_core.specs.Lengths.{runs_end, times, once_below}
 use Rattle.claim_core.specs.History.{lengths_of, IsHistoryOf}
 use Rattle.claim_core.specs.Rule.{Suits, Fits}
 use Rattle.claim_core.specs.SeatView.{SameOwn, IsConsistent, longer, joined_view, first_view, spent_view}
@@ -110,8 +111,9 @@ module _
 
   -- each seat is consistent
   pub consistent : v.limit ≡ limit → v.base ≡ base → (filled : List Bool) → v.filled ≡ filled → IsHistoryOf limit base filled v.log → IsPrefix v.seen (lengths_of v.log)
-      → (v.seen ≡ lengths → lengths_of v.log ≡ v.seen) → IsConsistent v
-  consistent is_limit is_base filled is_filled history known tells =
+      → (v.seen ≡ lengths → lengths_of v.log ≡ v.seen) → ((place : ℕ) → Contains v.begun place → place < runs_end base v.seen)
+      → IsConsistent v
+  consistent is_limit is_base filled is_filled history known tells begun =
       let suits = fits.each id v at in
       record {
         positive = prefix_All (λ n. 0 < n) v.seen lengths suits.seen fits.positive;
@@ -129,11 +131,13 @@ module _
             (subst (λ (fs : List Bool). IsHistoryOf limit base fs v.log) (sym is_filled) history));
         lengths = known;
         whole_log = λ all. tells (whole_saw all);
+        begun = subst (λ b. (place : ℕ) → Contains v.begun place → place < runs_end b v.seen) (sym is_base) begun;
       }
 
   -- a seat with the same runs and shares, whose lists are prefixes of the list of all lengths
-  pub stays : (w : SeatView) → SameOwn v w → Suits lengths w → Fits limit base size lengths (set vs id w)
-  stays w same suits =
+  pub stays_by : (w : SeatView) → w.mine ≡ v.mine → w.shares ≡ v.shares → Suits lengths w
+      → Fits limit base size lengths (set vs id w)
+  stays_by w mine same_shares suits =
       record {
         ends = fits.ends;
         within = fits.within;
@@ -141,11 +145,14 @@ module _
         each = each_set (Suits lengths) vs id w suits fits.each;
         owned = λ k.
             let t = total-set (owned k) vs id v w at in
-            let e : times k w.mine ≡ times k v.mine = ap (times k) same.mine in
+            let e : times k w.mine ≡ times k v.mine = ap (times k) mine in
             let o = fits.owned k in
             omega arith;
-        shares = let t = total-set share vs id v w at in let e = same.shares in let o = fits.shares in omega arith;
+        shares = let t = total-set share vs id v w at in let e = same_shares in let o = fits.shares in omega arith;
       }
+
+  pub stays : (w : SeatView) → SameOwn v w → Suits lengths w → Fits limit base size lengths (set vs id w)
+  stays w same suits = stays_by w same.mine same.shares suits
 
   -- the seat has added a run to the list of all lengths
   pub grows : (n : ℕ) (w : SeatView) → 0 < n → size + n ≤ limit → 0 < v.shares → w.shares ≡ v.shares

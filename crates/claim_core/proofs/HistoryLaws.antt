@@ -1,10 +1,7 @@
 -- The sizes and the claims of a legal history.
 use Rattle.std.proofs.Common.{◌≡◌, ℕ, zero, suc, ◌+◌, Bool, true, false, nat_lt, nat_le, if◌then◌else◌, List, [], ◌∷◌, ◌++◌, length, map, Option, Some, None, refl, ap, sym, ◌∙◌, arith}
 use Rattle.std.proofs.lemmas.List.{length-map}
-use Rattle.std.proofs.lemmas.List.FromFn.{length-map-range_with_len, get_or-map-range_with_len}
-use Rattle.std.proofs.lemmas.Option.{slice_get-get_or}
 use Rattle.std.specs.List.{range_with_len}
-use Rattle.book_core.specs.declared.cells.Cell.{Cell}
 use Rattle.book_core.specs.declared.events.Event.{Event}
 use Rattle.book_core.specs.declared.events.Reply.{Reply}
 use Rattle.book_core.specs.declared.events.Reply.TheVariants as replies
@@ -13,17 +10,12 @@ use Rattle.book_core.specs.History.{IsLegalFrom, OwnedRun}
 use Rattle.book_core.proofs.Histories.{IsHistory-split}
 use Rattle.claim_core.specs.declared.run.Run.{Run}
 use Rattle.claim_core.specs.Lengths.{runs_end}
-use Rattle.claim_core.specs.History.{Log, broken_cell, first_cell, first_list, claims_in, lengths_of, owners_of, claim_event, size_event}
+use Rattle.claim_core.specs.History.{Log, first_list, claims_in, lengths_of, owners_of, claim_event, size_event}
 use Rattle.claim_core.specs.Laws.{FirstPlacesAreTold, SizesCountClaims, ClaimsBeginAtTheSize, ClaimsHaveTheirTurn}
-use Rattle.claim_core.proofs.Logged.{cells_after, owners_of-append, one_claim}
+use Rattle.claim_core.proofs.Logged.{first_at_place, cells_after, owners_of-append, one_claim}
 
 pub first_places : FirstPlacesAreTold
-first_places word place below =
-    let cell : ℕ → Cell = first_cell word.filled in
-    let cells : List Cell = map cell (range_with_len 0 word.base) in
-    let long : length cells ≡ word.base = length-map-range_with_len cell 0 word.base in
-    slice_get-get_or cells place broken_cell (omega (arith, long, below))
-    ∙ ap (λ (c : Cell). Some c) (get_or-map-range_with_len cell 0 word.base place place broken_cell below (omega arith))
+first_places word place below = first_at_place word.base word.filled place below
 
 -- the list before an event of a legal history
 module _ (limit base : ℕ) (filled : List Bool) (before after : Log) (event : Event) (reply : Reply) where

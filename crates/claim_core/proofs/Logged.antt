@@ -1,7 +1,8 @@
 -- The effect of each kind of step on the history.
-use Rattle.std.proofs.Common.{◌≡◌, ◌≢◌, ℕ, zero, suc, ◌+◌, ◌-◌, ◌<◌, ◌≤◌, Bool, true, false, nat_lt, nat_le, List, [], ◌∷◌, ◌++◌, length, map, filter, Some, set, refl, ap, sym, ◌∙◌, subst, ⊎_elim, arith, length-append}
+use Rattle.std.proofs.Common.{◌≡◌, ◌≢◌, ℕ, zero, suc, ◌+◌, ◌-◌, ◌<◌, ◌≤◌, Bool, true, false, nat_lt, nat_le, List, [], ◌∷◌, ◌++◌, length, map, filter, Some, slice_get, set, refl, ap, sym, ◌∙◌, subst, ⊎_elim, arith, length-append}
 use Rattle.std.proofs.lemmas.List.{append-nil, map-append, length-map}
-use Rattle.std.proofs.lemmas.List.FromFn.{length-map-range_with_len}
+use Rattle.std.proofs.lemmas.List.FromFn.{length-map-range_with_len, get_or-map-range_with_len}
+use Rattle.std.proofs.lemmas.Option.{slice_get-get_or}
 use Rattle.std.proofs.lemmas.List.Elements.{filter-append}
 use Rattle.std.proofs.lemmas.List.Sums.{sum_by-append}
 use Rattle.std.proofs.lemmas.Bool.Decides.{nat_tests}
@@ -12,6 +13,7 @@ use mathlib.Core.Logic.{dite}
 use native.Mathlib.Decide.{ℕ_discrete}
 use lib.ListN.{get_elem?}
 use Rattle.atomic_table.proofs.Lists.{at_longer, set_else}
+use Rattle.book_core.specs.declared.cells.Cell.{Cell}
 use Rattle.book_core.specs.declared.events.Event.{Event}
 use Rattle.book_core.specs.declared.events.Event.TheVariants.{Claim, Raise}
 use Rattle.book_core.specs.declared.events.Reply.{Reply}
@@ -23,7 +25,7 @@ use Rattle.book_core.proofs.Runs.{runs_of-append}
 use Rattle.book_core.proofs.EventRows.{claims_append}
 use Rattle.claim_core.specs.declared.seat_view.SeatView.{SeatView}
 use Rattle.claim_core.specs.Lengths.{runs_end}
-use Rattle.claim_core.specs.History.{Log, first_cell, first_list, claims_in, lengths_of, owners_of, IsHistoryOf, IsNote}
+use Rattle.claim_core.specs.History.{Log, broken_cell, first_cell, first_list, claims_in, lengths_of, owners_of, IsHistoryOf, IsNote}
 use Rattle.claim_core.specs.Rule.{Recalls, Latest, Logged}
 use Rattle.claim_core.specs.SeatView.{longer, joined_view, spent_view}
 use Rattle.claim_core.proofs.Prefixes.{prefix_self, prefix_append, prefix_nil, prefix_trans, prefix_length, prefix_whole, longer_picks, longer_begins}
@@ -68,6 +70,16 @@ tile_end start end (run ∷ runs) tile =
     let rest = tile_end (start + run.n) end runs tile.1 in
     let next = sum_of_next run runs (nat_lt 0 run.n) refl in
     omega arith
+
+-- the list that a word begins with, at a place below its base
+pub first_at_place : (base : ℕ) (filled : List Bool) (place : ℕ) → place < base
+    → slice_get (map (first_cell filled) (range_with_len 0 base)) place ≡ Some (first_cell filled place)
+first_at_place base filled place below =
+    let cell : ℕ → Cell = first_cell filled in
+    let cells : List Cell = map cell (range_with_len 0 base) in
+    let long : length cells ≡ base = length-map-range_with_len cell 0 base in
+    slice_get-get_or cells place broken_cell (omega (arith, long, below))
+    ∙ ap (λ (c : Cell). Some c) (get_or-map-range_with_len cell 0 base place place broken_cell below (omega arith))
 
 -- it is as long as the base and all runs together
 pub cells_after : (limit base : ℕ) (filled : List Bool) (log : Log) (new : CellList) → IsHistory (first_list limit base filled) log new
@@ -134,6 +146,12 @@ module _ (limit base : ℕ) (filled : List Bool) (size : ℕ) (log : Log) (histo
 -- a note's events claim nothing
 pub note_lengths : (limit : ℕ) (note : ℕ → Log) → IsNote limit note → (size : ℕ) → lengths_of (note size) ≡ []
 note_lengths limit note is size = ap (map (λ (run : OwnedRun). run.n)) (is.nothing size)
+
+-- events that claim nothing leave the lengths
+pub others_lengths : (log es : Log) → claims_in es ≡ [] → lengths_of (log ++ es) ≡ lengths_of log
+others_lengths log es nothing =
+    lengths_of-append log es
+    ∙ (ap (λ (runs : List OwnedRun). lengths_of log ++ map (λ (run : OwnedRun). run.n) runs) nothing ∙ append-nil (lengths_of log))
 
 -- the events that a note has for the size go on the history
 pub notes_go_on : (limit base : ℕ) (filled : List Bool) (size : ℕ) (log : Log) → IsHistoryOf limit base filled log → runs_end base (lengths_of log) ≡ size
@@ -206,6 +224,20 @@ module _
             ∙ (sym (count_next 0 (length (lengths_of log))) ∙ ap (range_with_len 0) (sym long))));
       }
 
+-- events that claim nothing go on a history, if they are legal after it
+pub others_go_on : (limit base : ℕ) (filled : List Bool) (log es : Log) (list list' : CellList) → IsHistoryOf limit base filled log
+    → IsHistory (first_list limit base filled) log list → IsHistory list es list' → claims_in es ≡ []
+    → IsHistoryOf limit base filled (log ++ es)
+others_go_on limit base filled log es list list' history leads here nothing =
+    let owners : owners_of (log ++ es) ≡ owners_of log =
+    owners_of-append log es
+    ∙ (ap (λ (runs : List OwnedRun). owners_of log ++ map (λ (run : OwnedRun). run.owner) runs) nothing ∙ append-nil (owners_of log)) in
+    let lengths : lengths_of (log ++ es) ≡ lengths_of log = others_lengths log es nothing in
+    record {
+      legal = (list', IsHistory-append (first_list limit base filled) log es list list' leads here);
+      actors = owners ∙ (history.actors ∙ ap (λ (l : List ℕ). range_with_len 0 (length l)) (sym lengths));
+    }
+
 -- what was seen of a history is one
 pub begins_history : (limit base : ℕ) (filled : List Bool) (es all : Log) → IsHistoryOf limit base filled all → IsPrefix es all → IsHistoryOf limit base filled es
 begins_history limit base filled es all history p =
@@ -236,11 +268,12 @@ recalls_more log es v recalls =
 
 -- the first hand of a word has seen that nothing happened
 pub logs_nothing : (limit base : ℕ) (filled : List Bool) (v : SeatView) → v.log ≡ [] → v.one_log ≡ [] → v.other_log ≡ [] → v.seen ≡ [] → 0 < v.shares
-    → Logged limit base filled [] (v ∷ [])
+    → Logged limit base filled [] (first_list limit base filled) (v ∷ [])
 logs_nothing limit base filled v log one other seen part =
     record {
       log = [];
       history = record { legal = (first_list limit base filled, refl); actors = refl };
+      leads = refl;
       claims = refl;
       each =
           each_one (Recalls []) v
@@ -254,7 +287,7 @@ logs_nothing limit base filled v log one other seen part =
     }
 
 module _
-    (limit base : ℕ) (filled : List Bool) (lengths : List ℕ) (vs : List SeatView) (logged : Logged limit base filled lengths vs)
+    (limit base : ℕ) (filled : List Bool) (lengths : List ℕ) (list : CellList) (vs : List SeatView) (logged : Logged limit base filled lengths list vs)
     (id : ℕ) (v : SeatView) (at : get_elem? vs id ≡ some v) where
   -- what the seat has seen of the history
   pub story : IsHistoryOf limit base filled v.log
@@ -268,14 +301,16 @@ module _
       let same = ap length (logged.claims ∙ sym all) in
       sym (prefix_whole v.seen (lengths_of v.log) recalls.lengths (omega arith))
 
-  -- the seat has seen the whole history, and adds events; it has seen some of the lengths
-  pub adds : (es : Log) (all : List ℕ) (w : SeatView) → IsHistoryOf limit base filled (logged.log ++ es) → lengths_of (logged.log ++ es) ≡ all
+  -- the seat has seen the whole history, and adds events, which lead to another list; it has seen some of the lengths
+  pub adds : (es : Log) (all : List ℕ) (list' : CellList) (w : SeatView) → IsHistory list es list'
+      → IsHistoryOf limit base filled (logged.log ++ es) → lengths_of (logged.log ++ es) ≡ all
       → w.log ≡ logged.log ++ es → IsPrefix w.seen all → w.one_log ≡ [] → w.other_log ≡ [] → 0 < w.shares
-      → Logged limit base filled all (set vs id w)
-  adds es all w history claims log seen one other part =
+      → Logged limit base filled all list' (set vs id w)
+  adds es all list' w here history claims log seen one other part =
       record {
         log = logged.log ++ es;
         history = history;
+        leads = IsHistory-append (first_list limit base filled) logged.log es list list' logged.leads here;
         claims = claims;
         each =
             each_set (Recalls (logged.log ++ es)) vs id w
@@ -325,11 +360,12 @@ module _
       }
 
   pub keeps_log : (w : SeatView) → w.log ≡ v.log → (0 < v.shares → 0 < w.shares) → Recalls logged.log w
-      → Logged limit base filled lengths (set vs id w)
+      → Logged limit base filled lengths list (set vs id w)
   keeps_log w log part recalls =
       record {
         log = logged.log;
         history = logged.history;
+        leads = logged.leads;
         claims = logged.claims;
         each = each_set (Recalls logged.log) vs id w recalls logged.each;
         latest = still_latest w log part;
@@ -337,12 +373,13 @@ module _
 
   -- the seat is cut in two
   pub cuts_log : (left right : SeatView) → left.log ≡ v.log → (0 < v.shares → 0 < left.shares) → Recalls logged.log left
-      → Recalls logged.log right → Logged limit base filled lengths (set vs id left ++ right ∷ [])
+      → Recalls logged.log right → Logged limit base filled lengths list (set vs id left ++ right ∷ [])
   cuts_log left right log part recalls_left recalls_right =
       let latest = still_latest left log part in
       record {
         log = logged.log;
         history = logged.history;
+        leads = logged.leads;
         claims = logged.claims;
         each =
             each_snoc (Recalls logged.log) (set vs id left) right recalls_right
@@ -414,11 +451,12 @@ module _
           all = latest.all;
         }))
 
-    pub joins_log : Logged limit base filled lengths (set (set vs id (joined_view v w)) j spent_view)
+    pub joins_log : Logged limit base filled lengths list (set (set vs id (joined_view v w)) j spent_view)
     joins_log =
         record {
           log = logged.log;
           history = logged.history;
+          leads = logged.leads;
           claims = logged.claims;
           each =
               each_set (Recalls logged.log) (set vs id (joined_view v w)) j spent_view (spent_recalls logged.log)

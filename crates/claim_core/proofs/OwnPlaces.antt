@@ -1,5 +1,5 @@
 -- Which places a hand owns after a step.
-use Rattle.std.proofs.Common.{◌≡◌, ◌≢◌, ℕ, inl, inr, ⊎_elim, sym, subst}
+use Rattle.std.proofs.Common.{◌≡◌, ◌≢◌, ℕ, ◌++◌, List, arith, inl, inr, ⊎_elim, sym, subst}
 use Rattle.std.specs.List.{Contains}
 use Rattle.std.proofs.lemmas.Bool.{cases_eq}
 use Rattle.std.proofs.lemmas.List.Elements.{Contains-append_cases, Contains-append_left, Contains-append_right}
@@ -9,7 +9,8 @@ use Rattle.claim_core.specs.Lengths.{InRun}
 use Rattle.claim_core.specs.Word.{WordView}
 use Rattle.claim_core.specs.declared.run.Run.{Run}
 use Rattle.claim_core.specs.Hand.{HandView, OwnsRun, OwnsPlace, SeesOwn}
-use Rattle.claim_core.specs.Laws.{OwnPlacesStay, AddedPlacesAreOwned, AddedPlacesAreOfTheRun, JoinedPlacesAreOfEither, JoinedHandsOwnRuns}
+use Rattle.claim_core.specs.Laws.{OwnPlacesStay, AddedPlacesAreNotBegun, AddedPlacesAreOwned, AddedPlacesAreOfTheRun, JoinedPlacesAreOfEither, JoinedHandsOwnRuns}
+use Rattle.claim_core.proofs.Prefixes.{prefix_append, prefix_sum}
 use Rattle.claim_core.proofs.Tiles.{run_was_there}
 use Rattle.claim_core.proofs.RunLaws.{added_last, added_owned, seen_places, seen_stay}
 
@@ -56,3 +57,12 @@ joined_own a b new run of also_of more also_more mine owns =
     (λ (was : OwnsRun a run). takes_over a new run of more (λ k there. subst (λ m. Contains m k) (sym mine) (Contains-append_left a.mine b.mine k there)) was)
     (λ (was : OwnsRun b run). takes_over b new run also_of also_more (λ k there. subst (λ m. Contains m k) (sym mine) (Contains-append_right a.mine b.mine k there)) was)
     owns
+
+-- the places of an added run lie past all that the hand had seen
+pub added_not_begun : AddedPlacesAreNotBegun
+added_not_begun old new run place sees cells adds is_place there =
+    let below = sees place (subst (λ (b : List ℕ). Contains b place) cells.begun there) in
+    let begins = adds.begins in
+    let le = prefix_sum old.seen (old.seen ++ adds.between) (prefix_append old.seen adds.between) in
+    let from = is_place.0 in
+    absurd (omega arith)

@@ -13,7 +13,7 @@ use Rattle.claim_core.proofs.Prefixes.{prefix_self, prefix_length}
 use Rattle.claim_core.proofs.Tiles.{run_within, run_apart, run_stays, starts_there, reads_there}
 
 -- the last member of a list
-last_at : (xs : List ℕ) (n : ℕ) → get_or (xs ++ n ∷ []) (length xs) 0 ≡ n
+pub last_at : (xs : List ℕ) (n : ℕ) → get_or (xs ++ n ∷ []) (length xs) 0 ≡ n
 last_at [] n = refl
 last_at (x ∷ xs) n = last_at xs n
 

@@ -3,33 +3,43 @@ use Rattle.std.specs.Prelude.{◌≡◌, ℕ, ◌+◌, ◌<◌, ◌≤◌, ◌==
 use Rattle.std.specs.List.{Contains, list_any}
 use base.Stored.{Coded, coded×, coded_ℕ, coded_list, coded_via}
 use mathlib.Core.List.{IsPrefix}
+use Rattle.claim_core.specs.declared.role.RowAt.{RowAt}
+use Rattle.claim_core.specs.contracts.role.RowAt as row_at
 use Rattle.claim_core.specs.declared.run.Run.{Run}
 use Rattle.claim_core.specs.Lengths.{InRun, run_start, runs_end, places_in}
 use Rattle.claim_core.specs.Shares.{all_shares}
 use Rattle.claim_core.specs.Word.{WordView, word_coded}
 use Rattle.claim_core.specs.History.{Log, log_coded, AddsEvents, claim_event, raise_event}
 
--- the word that it belongs to, the lengths of all runs that it has seen, the indices of its own runs among
--- them, its shares, and the history that it has seen
+-- The word that it belongs to, the lengths of all runs that it has seen, the indices of its own runs among
+-- them, its shares, and the history that it has seen; places that it knows are begun, rows of cells that it knows,
+-- and a place from which on no place has an entry
 pub record HandView : Type 0 where
   pub of : WordView
   pub seen : List ℕ
   pub mine : List ℕ
   pub shares : ℕ
   pub log : Log
+  pub begun : List ℕ
+  pub rows : List RowAt
+  pub laid : ℕ
 
 -- how that is stored
 abbrev pub hand_coded : Coded HandView
 hand_coded =
     coded_via
-    (coded× word_coded (coded× (coded_list coded_ℕ) (coded× (coded_list coded_ℕ) (coded× coded_ℕ log_coded))))
-    (λ (h : HandView). (h.of, (h.seen, (h.mine, (h.shares, h.log)))))
+    (coded× word_coded (coded× (coded_list coded_ℕ) (coded× (coded_list coded_ℕ) (coded× coded_ℕ (coded× log_coded
+    (coded× (coded_list coded_ℕ) (coded× (coded_list row_at.the_row.coded) coded_ℕ)))))))
+    (λ (h : HandView). (h.of, (h.seen, (h.mine, (h.shares, (h.log, (h.begun, (h.rows, h.laid))))))))
     (λ x y e i. record {
       of = (e i).0;
       seen = (e i).1.0;
       mine = (e i).1.1.0;
       shares = (e i).1.1.1.0;
-      log = (e i).1.1.1.1;
+      log = (e i).1.1.1.1.0;
+      begun = (e i).1.1.1.1.1.0;
+      rows = (e i).1.1.1.1.1.1.0;
+      laid = (e i).1.1.1.1.1.1.1;
     })
 
 -- the size that the hand has seen
@@ -50,13 +60,30 @@ IsWholeHand hand = hand.shares ≡ all_shares
 
 -- the word's first hand has all shares, and has seen nothing
 abbrev pub IsNewHand : WordView → HandView → Type 0
-IsNewHand word hand = hand ≡ record { of = word; seen = []; mine = []; shares = all_shares; log = [] }
+IsNewHand word hand =
+    hand ≡ record { of = word; seen = []; mine = []; shares = all_shares; log = []; begun = []; rows = []; laid = 0 }
 
 -- the hand's word, indices and shares are as before
 pub record KeepsOwn (old new : HandView) : Type 0 where
   pub of : new.of ≡ old.of
   pub mine : new.mine ≡ old.mine
   pub shares : new.shares ≡ old.shares
+
+-- what the hand knows of cells and entries is as before
+pub record KeepsCells (old new : HandView) : Type 0 where
+  pub begun : new.begun ≡ old.begun
+  pub rows : new.rows ≡ old.rows
+  pub laid : new.laid ≡ old.laid
+
+-- the hand knows of cells and entries what either of two knew, and where entries end as the first knew it
+pub record KnowsBoth (a b new : HandView) : Type 0 where
+  pub begun : new.begun ≡ a.begun ++ b.begun
+  pub rows : new.rows ≡ a.rows ++ b.rows
+  pub laid : new.laid ≡ a.laid
+
+-- the places that the hand knows begun are below the size that it has seen
+abbrev pub SeesBegun : HandView → Type 0
+SeesBegun hand = (place : ℕ) → Contains hand.begun place → place < seen_size hand
 
 -- the hand has one more run. It begins where the runs before it end, all that the hand had seen is a prefix
 -- of them, and the size that the hand has seen is then where the run ends

@@ -6,7 +6,7 @@ use mathlib.Core.List.{IsPrefix}
 use Rattle.book_core.specs.declared.cells.Cell.{Cell}
 use Rattle.book_core.specs.declared.cells.Cell.TheVariants.{Filled, Broken}
 use Rattle.book_core.specs.declared.events.Event.{Event}
-use Rattle.book_core.specs.declared.events.Event.TheVariants.{Claim, Raise, Look, Size, RefusedFull, RefusedMemory}
+use Rattle.book_core.specs.declared.events.Event.TheVariants.{Claim, Raise, Finish, Break, Mend, Look, Size, RefusedFull, RefusedMemory}
 use Rattle.book_core.specs.declared.events.Reply.{Reply}
 use Rattle.book_core.specs.declared.events.Reply.TheVariants as replies
 use Rattle.book_core.specs.Cells.{CellList}
@@ -95,6 +95,22 @@ memory_event = (RefusedMemory 0, replies.NoMemory)
 -- somebody looks at a place that is not below the size
 abbrev pub past_event : ℕ → ℕ → Event × Reply
 past_event place size = (Look 0 place, replies.OutOfRange size)
+
+-- an actor fills a place: its value is the place, since tokens of a place agree on its value
+abbrev pub fill_event : ℕ → ℕ → Event × Reply
+fill_event actor place = (Finish actor place place, replies.Done)
+
+-- or breaks it
+abbrev pub break_event : ℕ → ℕ → Event × Reply
+break_event actor place = (Break actor place, replies.Done)
+
+-- the actor that mends a place: no claim has its number, since there are fewer claims than the limit
+abbrev pub mender_of : ℕ → ℕ → ℕ
+mender_of limit place = limit + place
+
+-- a broken place is taken for mending
+abbrev pub mend_event : ℕ → ℕ → Event × Reply
+mend_event limit place = (Mend (mender_of limit place) place, replies.Done)
 
 -- A note says for each size which events a step that finds it logs. They claim nothing, and from each list of
 -- that size they are legal and leave it as it is

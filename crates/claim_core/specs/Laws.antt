@@ -1,12 +1,16 @@
 -- What follows from the definitions of runs and hands alone.
-use Rattle.std.specs.Prelude.{◌≡◌, ℕ, ◌+◌, ◌<◌, ◌≤◌, ◌≢◌, ◌↔◌, ◌⊎◌, Bool, List, [], ◌∷◌, ◌++◌, length, Some}
+use Rattle.std.specs.Prelude.{◌≡◌, ℕ, ◌+◌, ◌<◌, ◌≤◌, ◌≢◌, ◌↔◌, ◌⊎◌, Bool, List, [], ◌∷◌, ◌++◌, length, Some, slice_get}
 use Rattle.std.specs.List.{Contains}
 use mathlib.Core.List.{IsPrefix}
 use Rattle.claim_core.specs.declared.run.Run.{Run}
 use Rattle.claim_core.specs.Lengths.{InRun, places_in, runs_end}
-use Rattle.claim_core.specs.History.{Log, AddsEvents, Adds, IsHistoryOf, first_cell, lengths_of, claim_event, size_event, IsNote, no_note, full_note, growth_note, reach_note, range_note}
+use Rattle.book_core.specs.declared.events.Event.TheVariants.{Mend}
+use Rattle.book_core.specs.declared.events.Reply.TheVariants as replies
+use Rattle.book_core.specs.Cells.{CellList}
+use Rattle.book_core.specs.History.{IsHistory, runs_of, owner_of}
+use Rattle.claim_core.specs.History.{Log, AddsEvents, Adds, IsHistoryOf, first_list, value_cell, fill_event, break_event, first_cell, lengths_of, claim_event, size_event, IsNote, no_note, full_note, growth_note, reach_note, range_note}
 use Rattle.claim_core.specs.Word.{WordView, first_at}
-use Rattle.claim_core.specs.Hand.{HandView, KeepsOwn, AddsRun, SeesRun, OwnsRun, OwnsPlace, SeesOwn, GainsRun, OwnApart, IsOwnRun, IsPlaceOf, AreDisjoint, single, seen_size, own_places}
+use Rattle.claim_core.specs.Hand.{HandView, KeepsOwn, KeepsCells, SeesBegun, AddsRun, SeesRun, OwnsRun, OwnsPlace, SeesOwn, GainsRun, OwnApart, IsOwnRun, IsPlaceOf, AreDisjoint, single, seen_size, own_places}
 
 -- a run stays where it is when the list goes on
 abbrev pub RunsStay : Type 0
@@ -202,3 +206,36 @@ ClaimsHaveTheirTurn =
     (limit base index : ℕ) (filled : List Bool) (run : Run) (before after : Log) → 0 < run.n
     → IsHistoryOf limit base filled (before ++ claim_event index run ∷ after)
     → index ≡ length (lengths_of before)
+
+-- a place that a history fills has its value from then on
+abbrev pub FilledPlacesStay : Type 0
+FilledPlacesStay =
+    (limit base actor place : ℕ) (filled : List Bool) (before after : Log) (list : CellList)
+    → IsHistory (first_list limit base filled) (before ++ fill_event actor place ∷ after) list
+    → slice_get list.cells place ≡ Some (value_cell place)
+
+-- no place is filled twice
+abbrev pub FillsAreOnce : Type 0
+FillsAreOnce =
+    (limit base actor other place : ℕ) (filled : List Bool) (before between after : Log)
+    → IsHistoryOf limit base filled (before ++ fill_event actor place ∷ (between ++ fill_event other place ∷ after)) → ⊥
+
+-- what fills a place is the claim whose run has it, or an actor that took it for mending
+abbrev pub FillsHaveOwners : Type 0
+FillsHaveOwners =
+    (limit base actor place : ℕ) (filled : List Bool) (before after : Log)
+    → IsHistoryOf limit base filled (before ++ fill_event actor place ∷ after)
+    → (owner_of (runs_of before) place ≡ Some actor) ⊎ Contains before (Mend actor place, replies.Done)
+
+-- so is what breaks a place
+abbrev pub BreaksHaveOwners : Type 0
+BreaksHaveOwners =
+    (limit base actor place : ℕ) (filled : List Bool) (before after : Log)
+    → IsHistoryOf limit base filled (before ++ break_event actor place ∷ after)
+    → (owner_of (runs_of before) place ≡ Some actor) ⊎ Contains before (Mend actor place, replies.Done)
+
+-- of a run that a step adds, the hand knows no place begun
+abbrev pub AddedPlacesAreNotBegun : Type 0
+AddedPlacesAreNotBegun =
+    (old new : HandView) (run : Run) (place : ℕ) → SeesBegun old → KeepsCells old new → AddsRun old new run
+    → IsPlaceOf run place → Contains new.begun place → ⊥

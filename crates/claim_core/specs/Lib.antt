@@ -5,6 +5,9 @@ pub mod History
 pub mod Hand
 pub mod Laws
 pub mod Errors
-pub mod Rule
 pub mod SeatView
+pub mod Ties
+pub mod Rule
+pub mod SeatSteps
+pub mod StepLaws
 pub mod Seat

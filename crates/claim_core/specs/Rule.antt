@@ -8,7 +8,10 @@ use Rattle.atomic_table.specs.Table.{State}
 use Rattle.claim_core.specs.declared.seat_view.SeatView.{SeatView}
 use Rattle.claim_core.specs.declared.terms.Terms.{Terms}
 use Rattle.claim_core.specs.Lengths.{runs_end, times, once_below}
-use Rattle.claim_core.specs.History.{Log, lengths_of, IsHistoryOf}
+use Rattle.book_core.specs.Cells.{CellList}
+use Rattle.book_core.specs.History.{IsHistory}
+use Rattle.claim_core.specs.History.{Log, first_list, lengths_of, IsHistoryOf}
+use Rattle.claim_core.specs.Ties.{Ties, TiedBy}
 use Rattle.claim_core.specs.Shares.{all_shares}
 
 -- a number of each view, added up
@@ -50,10 +53,12 @@ pub record Latest (log : Log) (views : List SeatView) : Type 0 where
   pub part : 0 < view.shares
   pub all : view.log ≡ log
 
--- there is one history. It is legal, it claims these lengths, each once, and each seat has seen a prefix of it
-pub record Logged (limit base : ℕ) (filled : List Bool) (lengths : List ℕ) (views : List SeatView) : Type 0 where
+-- there is one history, which leads to this list. It is legal, it claims these lengths, each once, and each seat has
+-- seen a prefix of it
+pub record Logged (limit base : ℕ) (filled : List Bool) (lengths : List ℕ) (list : CellList) (views : List SeatView) : Type 0 where
   pub log : Log
   pub history : IsHistoryOf limit base filled log
+  pub leads : IsHistory (first_list limit base filled) log list
   pub claims : lengths_of log ≡ lengths
   pub each : (id : ℕ) (v : SeatView) → get_elem? views id ≡ some v → Recalls log v
   pub latest : Latest log views
@@ -65,9 +70,13 @@ word_count = 33
 abbrev pub size_at : ℕ
 size_at = 16
 
--- there is a list of lengths that fits the size and all seats, and a history that claims them
+-- there is a list of lengths that fits the size and all seats, a history that claims them and leads to a list of
+-- cells, and the seats of cells and entries that show this list
 pub record Kept (terms : Terms) (s : State (Unit {0}) SeatView) : Type 0 where
   pub words : length s.words ≡ word_count
   pub lengths : List ℕ
+  pub list : CellList
+  pub ties : Ties
   pub fits : Fits terms.limit terms.base (slice_index s.words size_at) lengths s.views
-  pub logged : Logged terms.limit terms.base terms.mark.filled lengths s.views
+  pub logged : Logged terms.limit terms.base terms.mark.filled lengths list s.views
+  pub tied : TiedBy terms.limit terms.base terms.mark.filled lengths list ties s.views

@@ -48,6 +48,9 @@ hand_view seat =
       mine = seat.me.0.mine;
       shares = seat.me.0.shares;
       log = seat.me.0.log;
+      begun = seat.me.0.begun;
+      rows = seat.me.0.rows;
+      laid = seat.me.0.laid;
     }
 
 -- the two numbers are those of the seat, which has a share

@@ -1,9 +1,10 @@
 -- What one step shows the seat that makes it. Only proofs use it.
 use Rattle.std.specs.Prelude.{◌≡◌, ℕ, ◌+◌, ◌-◌, ◌<◌, ◌≤◌, ◌==◌, nat_lt, nat_le, if◌then◌else◌, List, [], ◌∷◌, ◌++◌, length, MatchBool}
-use Rattle.std.specs.List.{All}
+use Rattle.std.specs.List.{All, Contains}
 use mathlib.Core.List.{IsPrefix}
 use Rattle.atomic_table.specs.Table.{Me, Step}
 use Rattle.claim_core.specs.declared.seat_view.SeatView.{SeatView}
+use Rattle.claim_core.specs.declared.role.Role.TheVariants.{Hand}
 use Rattle.claim_core.specs.declared.terms.Terms.{Terms}
 use Rattle.book_core.specs.declared.events.Event.{Event}
 use Rattle.book_core.specs.declared.events.Reply.{Reply}
@@ -27,6 +28,10 @@ first_view terms =
       log = [];
       one_log = [];
       other_log = [];
+      role = Hand;
+      begun = [];
+      rows = [];
+      laid = 0;
     }
 
 -- a seat that was joined to another has nothing left
@@ -45,6 +50,10 @@ spent_view =
       log = [];
       one_log = [];
       other_log = [];
+      role = Hand;
+      begun = [];
+      rows = [];
+      laid = 0;
     }
 
 -- the longer of two lists, and the first if both have one length
@@ -52,7 +61,7 @@ abbrev pub longer : {A : Type 0} → List A → List A → List A
 longer xs ys = if nat_le (length ys) (length xs) then xs else ys
 
 -- two views as one. It keeps both lists that were seen, and both histories, until a load shows that both are prefixes
--- of the longer
+-- of the longer. It knows what either knew
 abbrev pub joined_view : SeatView → SeatView → SeatView
 joined_view v w =
     record {
@@ -68,6 +77,10 @@ joined_view v w =
       log = longer v.log w.log;
       one_log = v.log;
       other_log = w.log;
+      role = v.role;
+      begun = v.begun ++ w.begun;
+      rows = v.rows ++ w.rows;
+      laid = v.laid;
     }
 
 -- a view with these runs and shares
@@ -86,6 +99,10 @@ with_own v mine shares =
       log = v.log;
       one_log = [];
       other_log = [];
+      role = v.role;
+      begun = v.begun;
+      rows = v.rows;
+      laid = v.laid;
     }
 
 -- what a seat keeps that no join has left unsettled
@@ -98,8 +115,9 @@ pub record IsConsistent (v : SeatView) : Type 0 where
   pub history : IsHistoryOf v.limit v.base v.filled v.log
   pub lengths : IsPrefix v.seen (lengths_of v.log)
   pub whole_log : v.shares ≡ all_shares → lengths_of v.log ≡ v.seen
+  pub begun : (place : ℕ) → Contains v.begun place → place < runs_end v.base v.seen
 
--- the seat's word, runs and shares stay
+-- the seat's word, runs and shares stay, and what it knows of cells
 pub record SameOwn (v w : SeatView) : Type 0 where
   pub limit : w.limit ≡ v.limit
   pub base : w.base ≡ v.base
@@ -107,6 +125,9 @@ pub record SameOwn (v w : SeatView) : Type 0 where
   pub filled : w.filled ≡ v.filled
   pub mine : w.mine ≡ v.mine
   pub shares : w.shares ≡ v.shares
+  pub begun : w.begun ≡ v.begun
+  pub rows : w.rows ≡ v.rows
+  pub laid : w.laid ≡ v.laid
 
 -- the seat has seen the list of all lengths, which ends at the size that was found, and added these events to the
 -- history

@@ -1,6 +1,7 @@
 //! The two steps that claim places.
 ghost use Rattle.std.specs.Prelude.{◌≡◌, ◌+◌, ◌<◌, ◌≤◌, [], ◌∷◌, IsOk, IfOk, IfErr};
-ghost use Rattle.claim_core.specs.Hand.{IsHandOf, IsWholeHand, AddsRun, SeesSize, LogsRun, LogsRaise, seen_size};
+ghost use Rattle.claim_core.specs.Hand.{IsHandOf, IsWholeHand, KeepsCells, seen_size};
+ghost use Rattle.claim_core.specs.Hand.{AddsRun, SeesSize, LogsRun, LogsRaise};
 ghost use Rattle.claim_core.specs.History.{AddsEvents, IsNote, enough_event};
 
 use crate::hand::Hand;
@@ -27,6 +28,8 @@ impl<A: Allocator> Word<A> {
         // The history gets the claim of the run, or nothing.
         ensures logs { IfOk result (λ run. LogsRun hand.old hand.new run) }
         ensures logs_nothing { IfErr result (λ _. AddsEvents hand.old.log [] hand.new.log) }
+        // What the hand knows of cells stays.
+        ensures cells { KeepsCells hand.old hand.new }
         // Nobody else can claim while one hand has all shares.
         ensures whole { IsWholeHand hand.old → from ≡ seen_size hand.old → IsOk result }
     {
@@ -49,6 +52,7 @@ impl<A: Allocator> Word<A> {
         ensures logs { IfOk result (λ run. LogsRun hand.old hand.new run) }
         ensures logs_note { IfErr result
             (λ lost. AddsEvents hand.old.log (N.note lost.size) hand.new.log) }
+        ensures cells { KeepsCells hand.old hand.new }
         ensures whole { IsWholeHand hand.old → from ≡ seen_size hand.old → IsOk result }
     {
         let shared = &self.table.shared;
@@ -83,6 +87,8 @@ impl<A: Allocator> Word<A> {
         ensures logs { IfOk result (λ run. LogsRaise hand.old hand.new to run) }
         ensures logs_enough { IfErr result (λ enough.
             AddsEvents hand.old.log (enough_event to enough.size ∷ []) hand.new.log) }
+        // What the hand knows of cells stays.
+        ensures cells { KeepsCells hand.old hand.new }
         // Nobody else can claim while one hand has all shares.
         ensures whole { IsWholeHand hand.old → IfOk result (λ run. run.from ≡ seen_size hand.old) }
         ensures whole_enough { IsWholeHand hand.old

@@ -2,7 +2,7 @@
 ghost use Rattle.std.specs.Prelude.{◌≡◌, ℕ, ◌+◌, ◌<◌, ◌≤◌, ◌↔◌, nat_eq, IsTrue, All, Contains, length};
 ghost use Rattle.std.specs.List.{IsDistinct};
 ghost use Rattle.claim_core.specs.Lengths.{Tiles, times};
-ghost use Rattle.claim_core.specs.Hand.{IsWholeHand, seen_size, own_places};
+ghost use Rattle.claim_core.specs.Hand.{IsWholeHand, SeesBegun, seen_size, own_places};
 ghost use Rattle.claim_core.specs.Shares.{all_shares};
 ghost use Rattle.claim_core.specs.History.{IsHistoryOf, lengths_of};
 ghost use mathlib.Core.List.{IsPrefix};
@@ -76,6 +76,8 @@ impl Hand {
         ensures history { IsHistoryOf self.now.of.limit self.now.of.base self.now.of.filled
             self.now.log }
         ensures lengths { IsPrefix self.now.seen (lengths_of self.now.log) }
+        // It has seen the places that it knows begun.
+        ensures begun { SeesBegun self.now }
     {
         // For the proof: reading a field shows the type's invariant.
         let _seen = self.seen;

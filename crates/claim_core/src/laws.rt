@@ -9,6 +9,8 @@ ghost use Rattle.claim_core.specs.Laws.{OwnPlacesStay, AddedPlacesAreOwned, Adde
 ghost use Rattle.claim_core.specs.Laws.{OwnCountsStay};
 ghost use Rattle.claim_core.specs.Laws.{EventsFollow, PrefixesAddNothing, StepsGoOn, StepsStay};
 ghost use Rattle.claim_core.specs.Laws.{FirstPlacesAreTold, SizesCountClaims, ClaimsBeginAtTheSize, ClaimsHaveTheirTurn};
+ghost use Rattle.claim_core.specs.Laws.{FilledPlacesStay, FillsAreOnce, FillsHaveOwners, BreaksHaveOwners};
+ghost use Rattle.claim_core.specs.Laws.{AddedPlacesAreNotBegun};
 ghost use Rattle.claim_core.specs.Laws.{NothingIsNote, FullIsNote, GrowthIsNote, ReachIsNote, RangeIsNote};
 
 /// States that a run stays where it is when the list grows.
@@ -171,4 +173,18 @@ pub fn refusals_are_notes()
     ensures growth { GrowthIsNote }
     ensures reach { ReachIsNote }
     ensures range { RangeIsNote }
+{}
+
+/// States that a place which a history fills has its value from then on, and is filled once. What fills or breaks a
+/// place is the claim whose run has it, or an actor that took it for mending.
+pub fn places_are_filled_once()
+    ensures stay { FilledPlacesStay }
+    ensures once { FillsAreOnce }
+    ensures owners { FillsHaveOwners }
+    ensures breakers { BreaksHaveOwners }
+{}
+
+/// States that a hand knows no place begun of a run that a step adds.
+pub fn added_places_are_not_begun()
+    ensures { AddedPlacesAreNotBegun }
 {}

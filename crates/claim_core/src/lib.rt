@@ -22,10 +22,12 @@ mod hand;
 pub mod laws;
 mod mark;
 mod notes;
+mod role;
 mod rule;
 mod run;
 mod seat_view;
 mod split_and_join;
+pub mod step_laws;
 mod terms;
 mod word;
 

@@ -1,7 +1,7 @@
 //! How hands are cut in two, put together, and shown to each other.
 ghost use Rattle.std.specs.Prelude.{◌≡◌, ◌+◌, ◌-◌, ◌<◌, ◌++◌, ◌⊎◌, []};
 ghost use mathlib.Core.List.{IsPrefix};
-ghost use Rattle.claim_core.specs.Hand.{IsHandOf, KeepsOwn, OwnApart};
+ghost use Rattle.claim_core.specs.Hand.{IsHandOf, KeepsOwn, KnowsBoth, OwnApart};
 ghost use Rattle.claim_core.specs.Seat.{IsPair, SeesAsOne};
 
 use crate::hand::Hand;
@@ -59,6 +59,7 @@ impl<A: Allocator> Word<A> {
         ensures also_begins { IsPrefix other.seen hand.new.seen }
         ensures begins_log { IsPrefix hand.old.log hand.new.log }
         ensures also_begins_log { IsPrefix other.log hand.new.log }
+        ensures cells { KnowsBoth hand.old other hand.new }
         ensures apart { OwnApart hand.old other }
     {
         let Hand { seat, shares, seen } = other;
@@ -82,6 +83,8 @@ impl<A: Allocator> Word<A> {
         ensures begins_log { IsPrefix a.old.log a.new.log }
         ensures also_begins_log { IsPrefix b.old.log a.new.log }
         ensures same_log { b.new.log ≡ a.new.log }
+        ensures cells { KnowsBoth a.old b.old a.new }
+        ensures also_cells { KnowsBoth a.old b.old b.new }
         ensures apart { OwnApart a.new b.new }
     {
         let shared = &self.table.shared;

@@ -4,7 +4,7 @@ ghost use Rattle.claim_core.specs.Rule.{word_count, size_at};
 ghost use Rattle.claim_core.specs.Seat.{hand_view};
 ghost use Rattle.claim_core.specs.SeatView.{first_view};
 ghost use Rattle.claim_core.specs.Word.{AreBounds};
-ghost use Rattle.claim_core.specs.Hand.{IsHandOf, IsWholeHand, IsNewHand, KeepsOwn, SeesSize, seen_size};
+ghost use Rattle.claim_core.specs.Hand.{IsHandOf, IsWholeHand, IsNewHand, KeepsOwn, KeepsCells, SeesSize, seen_size};
 ghost use Rattle.claim_core.specs.History.{AddsEvents, IsNote, size_event, memory_event};
 
 use crate::hand::{Hand, WHOLE};
@@ -176,6 +176,8 @@ impl<A: Allocator> Word<A> {
         ensures seen { SeesSize hand.old hand.new result }
         ensures grows { seen_size hand.old ≤ result }
         ensures logs { AddsEvents hand.old.log (size_event result ∷ []) hand.new.log }
+        // What the hand knows of cells stays.
+        ensures cells { KeepsCells hand.old hand.new }
         // Nobody else can claim while one hand has all shares.
         ensures whole { IsWholeHand hand.old → result ≡ seen_size hand.old }
     {
@@ -190,6 +192,7 @@ impl<A: Allocator> Word<A> {
         ensures seen { SeesSize hand.old hand.new result }
         ensures grows { seen_size hand.old ≤ result }
         ensures logs { AddsEvents hand.old.log (N.note result) hand.new.log }
+        ensures cells { KeepsCells hand.old hand.new }
         ensures whole { IsWholeHand hand.old → result ≡ seen_size hand.old }
     {
         let shared = &self.table.shared;
@@ -205,6 +208,7 @@ impl<A: Allocator> Word<A> {
         ensures own { KeepsOwn hand.old hand.new }
         ensures seen { hand.new.seen ≡ hand.old.seen }
         ensures logs { AddsEvents hand.old.log (memory_event ∷ []) hand.new.log }
+        ensures cells { KeepsCells hand.old hand.new }
     {
         let shared = &self.table.shared;
         shared.load::<Lack>(&mut hand.seat, SIZE_AT);

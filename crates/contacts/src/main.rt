@@ -12,7 +12,7 @@ use crate::particles::{Contact, scatter};
 use crate::workers::{FINDERS, Search};
 use anyhow::{Result, bail, ensure};
 use quiet_core::Quiet;
-use span_core::{Free, Refusal, with_writers};
+use span_core::{Free, with_writers};
 use std::alloc::AllocGlobal;
 use std::env::{self, Env};
 use std::sync::Wait;
@@ -38,16 +38,9 @@ fn find_contacts<R: Threads + Wait + AllocGlobal + Sync>(
     let Ok(list) = Quiet::try_close(vector, hand) else {
         bail!("a worker lost its shares");
     };
-    match counts {
-        Ok(counts) => {
-            let seen = counts.as_slice().iter().all(|count| *count <= list.len());
-            ensure!(seen, "a worker saw too much");
-            Ok(list)
-        }
-        Err(Refusal::Worker(error)) => Err(error),
-        Err(Refusal::NoThread) => bail!("a thread could not be started"),
-        Err(Refusal::NoMemory | Refusal::Stuck) => bail!("out of memory"),
-    }
+    let seen = counts?.as_slice().iter().all(|count| *count <= list.len());
+    ensure!(seen, "a worker saw too much");
+    Ok(list)
 }
 
 // The contacts that there are, in order.

@@ -25,6 +25,7 @@ mod other_vectors;
 mod pushed_walk;
 mod reads;
 mod shared_vector;
+mod start;
 mod stress;
 mod trial;
 mod writers;

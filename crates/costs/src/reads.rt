@@ -1,5 +1,6 @@
-//! Reads at places that are picked at random, and walks over all places.
-ghost use Rattle.std.specs.Prelude.{◌≡◌, ◌<◌};
+//! Reads at places that are picked at random, and walks over all places. The loop of each load is in a function of its
+//! own, as in the other program, so that no other loop takes its registers.
+ghost use Rattle.std.specs.Prelude.{◌≡◌, ◌<◌, ◌≤◌, ℕ};
 ghost use Rattle.grow_core.specs.Vector.{IsHandOf};
 ghost use Rattle.grow_core.specs.Grown.{IsGrownOf};
 
@@ -27,24 +28,34 @@ fn next(random: u64) -> u64 {
 // count.
 const ROUNDS: u64 = 16;
 
-// How far a number of the sequence is moved: the places below the greatest power of two that the size has are left.
-fn shift_for(size: u64) -> u32
-    ensures { result < 64 }
+// How many bits of a number are cut off: the first 23 are left, as in the other program.
+const CUT: u32 = 41;
+
+// The last place at which a load reads: the greatest power of two that the size has, less one.
+fn last_place(size: u64) -> u64
+    ensures { 0 < size → result < size }
 {
-    (size.leading_zeros() + 1).min(63)
+    (1 << size.max(1).ilog2()) - 1
 }
 
-// What the reads at random places below the size add up to.
+// The place that a number of the sequence picks.
 #[inline(always)]
-fn sum_at_random<F: Fn(u64) -> u64>(size: u64, reads: u64, read: &F) -> u64
-    requires callable { F.IsAlwaysCallable read.now }
+fn place_of(random: u64, last: u64) -> u64
+    ensures { result ≤ last }
 {
-    let shift = shift_for(size);
+    (random >> CUT) & last
+}
+
+// What the reads at random places up to the last one add up to.
+#[inline(always)]
+fn sum_at_random<F: Fn(u64) -> u64>(last: u64, reads: u64, read: &F) -> u64
+    requires callable { (place : ℕ) → place ≤ last → F.pre read.now place }
+{
     let mut sum: u64 = 0;
     let mut random = FIRST;
     for _read in 0..reads {
         random = next(random);
-        sum = sum.wrapping_add(read(random >> shift));
+        sum = sum.wrapping_add(read(place_of(random, last)));
     }
     sum
 }
@@ -61,15 +72,16 @@ fn at_once(vector: &Shared<u64>, hand: &mut Hand<u64>, place: u64) -> u64
 }
 
 /// Reads by `at` without a token, and returns how many values were odd.
+#[inline(never)]
 pub fn read_at(vector: &Shared<u64>, mut hand: Hand<u64>, reads: u64) -> u64
     requires ours { IsHandOf vector.now hand }
 {
-    let shift = shift_for(vector.size(&mut hand));
+    let last = last_place(vector.size(&mut hand));
     let mut sum: u64 = 0;
     let mut random = FIRST;
     for _read in 0..reads {
         random = next(random);
-        sum = sum.wrapping_add(at_once(vector, &mut hand, random >> shift));
+        sum = sum.wrapping_add(at_once(vector, &mut hand, place_of(random, last)));
     }
     sum
 }
@@ -93,24 +105,27 @@ fn boxcar_once(list: &boxcar::Vec<u64>, place: u64) -> u64 {
 }
 
 /// Reads by `get` of a `boxcar::Vec`, and returns how many values were odd.
+#[inline(never)]
 pub fn read_boxcar(list: &boxcar::Vec<u64>, reads: u64) -> u64 {
     sum_at_random(
-        list.count() as u64,
+        last_place(list.count() as u64),
         reads,
         &|place: u64| -> u64 { boxcar_once(list, place) },
     )
 }
 
 /// Reads by `look`, and returns how many values were odd.
+#[inline(never)]
 pub fn read_look(vector: &Shared<u64>, size: u64, reads: u64) -> u64 {
     sum_at_random(
-        size,
+        last_place(size),
         reads,
         &|place: u64| -> u64 { look_once(vector, place) },
     )
 }
 
 /// Walks over the first places, and returns how many of their values were odd.
+#[inline(never)]
 pub fn read_walk(vector: &Shared<u64>, reads: u64) -> u64 {
     let mut odd: u64 = 0;
     let mut left = reads;
@@ -143,6 +158,7 @@ fn count_odd(values: &[u64]) -> u64 {
 }
 
 // Walks over the first places segment by segment, and returns how many of their values were odd.
+#[inline(never)]
 fn read_segments(vector: &Shared<u64>, reads: u64) -> u64 {
     let mut odd: u64 = 0;
     let mut left = reads;
@@ -167,31 +183,34 @@ pub fn read_segment_walks(vector: &Shared<u64>, reads: u64) -> u64 {
 }
 
 /// Picks places, and returns how many were odd: what the other loads do beyond their reads.
+#[inline(never)]
 pub fn pick_places(size: u64, reads: u64) -> u64 {
-    sum_at_random(size, reads, &|place: u64| -> u64 { place & 1 })
+    sum_at_random(last_place(size), reads, &|place: u64| -> u64 { place & 1 })
 }
 
-// The last bit of a value that was appended, if it is one of them.
+// The last bit of a value that was appended.
 #[inline(always)]
 fn get_once(vector: &Shared<u64>, grown: &Grown<u64>, i: u64) -> u64
     requires ours { IsGrownOf vector.now grown.now }
+    requires inside { i < grown.now.run.n }
 {
-    if i < grown.run().n {
-        *vector.get(&grown.placed(i)) & 1
-    } else {
-        0
-    }
+    *vector.get(&grown.placed(i)) & 1
 }
 
 // Reads by `get`, and returns how many values were odd.
+#[inline(never)]
 fn read_get(vector: &Shared<u64>, grown: &Grown<u64>, reads: u64) -> u64
     requires ours { IsGrownOf vector.now grown.now }
 {
+    let n = grown.run().n;
+    if n == 0 {
+        return 0;
+    }
     sum_at_random(
-        grown.run().n,
+        last_place(n),
         reads,
         &|i: u64| -> u64
-            requires { IsGrownOf vector.now grown.now }
+            requires { IsGrownOf vector.now grown.now × (i < grown.now.run.n) }
         { get_once(vector, grown, i) },
     )
 }

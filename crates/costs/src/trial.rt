@@ -1,12 +1,14 @@
 //! What one run of a measured operation gives, and the time that its threads take.
 ghost use Rattle.std.specs.Fork.{AcceptsJobs};
+ghost use Rattle.std.specs.Thread.{IsSync};
 
-use anyhow::Result;
+use crate::start::{Start, Timed};
+use anyhow::{Result, bail};
 use std::alloc::AllocGlobal;
 use std::rt::Clock;
 use std::thread;
 use std::thread::Threads;
-use std::time::{Duration, Instant};
+use std::time::Duration;
 
 /// The time of the tries, the number of wins, and the size that they left; the last two are equal if no win
 /// is lost.
@@ -17,16 +19,31 @@ pub struct Trial {
     pub size: u64,
 }
 
-// All wins of the threads.
-fn sum_of(wins: &[u64]) -> u64 {
-    let mut sum: u64 = 0;
-    for won in wins {
-        sum = sum.wrapping_add(*won);
+// What all threads did together. The list is empty if there was no thread.
+fn all_of(parts: &[Option<Timed>]) -> Result<Option<Timed>> {
+    let mut all: Option<Timed> = None;
+    for part in parts {
+        let Some(timed) = *part else {
+            bail!("the clock cannot be read")
+        };
+        all = match all {
+            Some(before) => Some(before.with(timed)),
+            None => Some(timed),
+        };
     }
-    sum
+    Ok(all)
 }
 
-/// Runs the tries in this many threads, and returns their time and the number of wins.
+// The time from the beginning of the first thread's tries to the end of the last one's, and all wins.
+fn total_of(parts: &[Option<Timed>]) -> Result<(Duration, u64)> {
+    match all_of(parts)? {
+        Some(all) => Ok((all.ended.duration_since(all.begun), all.wins)),
+        None => Ok((Duration::ZERO, 0)),
+    }
+}
+
+/// Runs the tries in this many threads, and returns their time and the number of wins. Several threads first gather
+/// (`Start`): the time goes from when all have come to the end of the last one's tries.
 pub fn time_threads<R: Threads + Clock + AllocGlobal + Sync, F: Fn(usize) -> u64 + Sync>(
     rt: &R,
     threads: usize,
@@ -34,10 +51,19 @@ pub fn time_threads<R: Threads + Clock + AllocGlobal + Sync, F: Fn(usize) -> u64
 ) -> Result<(Duration, u64)>
     requires callable { F.IsAlwaysCallable tries_of.now }
 {
-    let start = Instant::now(rt)?;
-    let wins = thread::map_indices(rt, rt.alloc(), threads, tries_of)?;
-    let took = start.elapsed(rt)?;
-    Ok((took, sum_of(wins.as_slice())))
+    let start = Start::new(threads);
+    let parts = thread::map_indices(
+        rt,
+        rt.alloc(),
+        threads,
+        &|i: usize| -> Option<Timed>
+            requires { IsSync R.row × IsSync F.row × F.pre tries_of.now i }
+        {
+            let begun = start.begin(rt)?;
+            Timed::until_now(rt, begun, tries_of(i))
+        },
+    )?;
+    total_of(parts.as_slice())
 }
 
 /// Times the tries like `time_threads`, with one thread per hand.
@@ -48,10 +74,18 @@ pub fn time_hands<R: Threads + Clock + Sync, H: Send + Drop, F: Fn(H) -> u64 + S
 ) -> Result<(Duration, u64)>
     requires callable { AcceptsJobs F.Fn tries_of.now hands.items }
 {
-    let start = Instant::now(rt)?;
-    let wins = thread::map_vec(rt, hands, tries_of)?;
-    let took = start.elapsed(rt)?;
-    Ok((took, sum_of(wins.as_slice())))
+    let start = Start::new(hands.len());
+    let parts = thread::map_vec(
+        rt,
+        hands,
+        &|hand: H| -> Option<Timed>
+            requires { IsSync R.row × IsSync F.row × F.pre tries_of.now hand }
+        {
+            let begun = start.begin(rt)?;
+            Timed::until_now(rt, begun, tries_of(hand))
+        },
+    )?;
+    total_of(parts.as_slice())
 }
 
 /// Prints the nanoseconds of a time.

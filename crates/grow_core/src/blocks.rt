@@ -1,5 +1,5 @@
 // The blocks and cells of an owner's places.
-ghost use Rattle.std.specs.Prelude.{◌≡◌, ◌<◌, ◌≤◌, Some, None};
+ghost use Rattle.std.specs.Prelude.{◌≡◌, ◌<◌, ◌≤◌, Some, None, IfSome, IsSome};
 ghost use Rattle.seg_core.specs.Segment.{segment_start, segment_end, segment_count, segment_of, most_segments};
 ghost use Rattle.cell_core.specs.Block.{block_len, IsMemberAt, KeepsOtherCells};
 ghost use Rattle.table_core.specs.Table.{IsBlockOf, KeepsOtherEntries};
@@ -11,7 +11,40 @@ use crate::keys::{Keys, key_of};
 use cell_core::block::{Block, Epoch, Member};
 use table_core::{Key, Table};
 
-// The position of a place of the installed segments: its segment, the cell there, and the segment's key.
+// The position of a place of the installed segments: its segment, the cell there, and the segment's key. It is always
+// found: a caller that only proves something by it, and tests for it, leaves no instruction.
+#[inline(always)]
+pub(crate) fn find_cell<T>(
+    table: &Table<T>,
+    keys: &Keys,
+    count: u32,
+    place: u64,
+) -> Option<(u32, u64, Key)>
+    requires few { count ≤ segment_count table.now.layout }
+    requires there { HasFirstKeys keys.now count }
+    requires inside { place < segment_start table.now.layout count }
+    ensures some { IsSome result }
+    ensures small { IfSome result (λ (segment, _, _). segment < most_segments) }
+    ensures segment { IfSome result (λ (segment, _, _). segment < segment_count table.now.layout) }
+    ensures number { IfSome result (λ (segment, _, _).
+        segment ≡ segment_of table.now.layout place) }
+    ensures place { IfSome result (λ (segment, offset, _).
+        place_in table.now.layout segment offset ≡ place) }
+    ensures within { IfSome result (λ (segment, _, _).
+        place < segment_end table.now.layout segment) }
+    ensures key { IfSome result (λ (segment, _, key). key_at keys.now segment ≡ Some key) }
+{
+    let layout = table.layout();
+    // For the proof: its f is that of a layout.
+    let _f = layout.f();
+    let (segment, offset) = layout.locate(place);
+    match key_of(keys, segment) {
+        Some(key) => Some((segment, offset, key)),
+        None => None,
+    }
+}
+
+// The same, where it is needed.
 pub(crate) fn cell_of<T>(table: &Table<T>, keys: &Keys, count: u32, place: u64) -> (u32, u64, Key)
     requires few { count ≤ segment_count table.now.layout }
     requires there { HasFirstKeys keys.now count }
@@ -23,12 +56,8 @@ pub(crate) fn cell_of<T>(table: &Table<T>, keys: &Keys, count: u32, place: u64) 
     ensures within { place < segment_end table.now.layout result.0 }
     ensures key { key_at keys.now result.0 ≡ Some result.2 }
 {
-    let layout = table.layout();
-    // For the proof: its f is that of a layout.
-    let _f = layout.f();
-    let (segment, offset) = layout.locate(place);
-    match key_of(keys, segment) {
-        Some(key) => (segment, offset, key),
+    match find_cell(table, keys, count, place) {
+        Some(cell) => cell,
         None => unreachable!(),
     }
 }

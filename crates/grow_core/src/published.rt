@@ -12,7 +12,7 @@ use std::marker::Model;
 use std::slice;
 
 // How many places a walk looks at together.
-const LOOKED_AHEAD: u64 = 64;
+const LOOKED_AHEAD: u64 = 256;
 
 /// The values that the places of a vector show, in order. An item is `None` if its place shows no value: not
 /// yet, or because it is broken.
@@ -55,9 +55,10 @@ fn count_shown<T>(item: &Option<&T>) -> u64
 
 impl<T> Shared<T> {
     /// Walks over what each place shows, from place 0 to the size that one load finds now, for a caller
-    /// without a hand. Each item is what one look shows. It looks at up to 64 places ahead, as long as they are filled,
-    /// by one load for each word of states. A place that is not filled then is looked at again when its item is asked
-    /// for.
+    /// without a hand. Each item is what one look shows. It looks at up to 256 places ahead, as long as they are
+    /// filled, by one load for each word of states. A place that is not filled then is looked at again when its item
+    /// is asked for.
+    #[inline(always)]
     pub fn published(&self) -> Published<'_, T>
         ensures vector { result.vector ≡ self.now }
         ensures from { result.place ≡ 0 }
@@ -101,6 +102,7 @@ impl<T> Shared<T> {
     }
 
     // A walk from a place on, up to an end.
+    #[inline(always)]
     pub(crate) fn published_from(&self, place: u64, end: u64) -> Published<'_, T>
         requires order { place ≤ end }
         requires within { end ≤ limit_of self.now }
@@ -118,7 +120,8 @@ impl<T> Shared<T> {
     }
 
     // The values of the filled places from this one on, up to the first that is not filled, and `n` or LOOKED_AHEAD at
-    // most.
+    // most. It is not laid into the loops of walks.
+    #[inline(never)]
     fn look_along(&self, place: u64, n: u64) -> &[T]
         requires some { 0 < n }
         requires within { place + n ≤ limit_of self.now }
@@ -135,7 +138,9 @@ impl<T> Shared<T> {
 }
 
 impl<'a, T> Published<'a, T> {
-    // What the next place shows, by a look.
+    // What the next place shows, by a look. It is laid into the loop of a walk, and passes no `&mut` on, so that the
+    // fields of the walk can lie in registers.
+    #[inline(always)]
     #[tactic(auto, using(crate::proofs::OpenedValues::hold_first, crate::proofs::OpenedValues::hold_none))]
     fn next_look(&mut self) -> Option<&'a T>
         requires { self.old.place < self.old.end }
@@ -172,7 +177,7 @@ impl<'a, T> Iterator for Published<'a, T> {
 
     ghost remaining = { λ p. at_most (p.end - p.place) };
 
-    #[inline]
+    #[inline(always)]
     #[tactic(auto, using(crate::proofs::OpenedValues::hold_first))]
     fn next(&mut self) -> Option<Option<&'a T>> {
         if let Some(value) = self.filled.next() {

@@ -5,7 +5,7 @@ ghost use Rattle.grow_core.specs.Vector.{IsHandOf, IsPlacedOf, IsOpenedAt, SeesM
 ghost use Rattle.grow_core.specs.Read.{IsAt, IsShownAt, ShowsValue, IsDueAt, IsInRange};
 ghost use Rattle.grow_core.specs.Logs.{LogsNothing, LogsAtRefusal};
 
-use crate::blocks::cell_of;
+use crate::blocks::{cell_of, find_cell};
 use crate::errors::AtError;
 use crate::hand::Hand;
 use crate::token::{Placed, Spoilt};
@@ -32,8 +32,8 @@ pub enum Shown<'a, T> {
 }
 
 impl<T> Shared<T> {
-    /// Returns the value at the place. With a token it does what `get` does. Without one it loads the size, and then
-    /// looks once at the place.
+    /// Returns the value at the place. With a token it does what `get` does. Without one it loads the size, unless the
+    /// hand has seen that it is above the place, and then looks once at the place.
     #[inline(always)]
     pub fn at<'a>(
         &'a self,
@@ -66,7 +66,7 @@ impl<T> Shared<T> {
                 placed: token.again(),
             });
         }
-        let size = self.size_past(hand, place);
+        let size = self.size_seen(hand, place);
         if place >= size {
             return Err(AtError::OutOfRange { size });
         }
@@ -96,17 +96,38 @@ impl<T> Shared<T> {
         }
     }
 
-    // What a place within the limit shows.
+    // What a place within the limit shows. A value is shown without a look at the length of the opened list, whose
+    // values all lie in filled cells.
     #[inline(always)]
     fn look_within(&self, place: u64) -> Shown<'_, T>
         requires { place < limit_of self.now }
         ensures shown { IsShownAt self.now place result }
         ensures opened { (x : T) → IsOpenedAt self.now place x → ShowsValue x result }
     {
+        match self.look_into(place) {
+            Shown::Filled(at) => {
+                self.opened_agrees(&at.placed);
+                Shown::Filled(at)
+            }
+            Shown::Pending => self.look_again(place, Shown::Pending),
+            Shown::Broken(spoilt) => self.look_again(place, Shown::Broken(spoilt)),
+        }
+    }
+
+    // What a place shows at which a look found no value: that, or the value that the opened list has there.
+    #[inline(always)]
+    #[tactic(auto, using(crate::proofs::Places::within_length))]
+    fn look_again<'a>(&'a self, place: u64, found: Shown<'a, T>) -> Shown<'a, T>
+        requires { IsShownAt self.now place found }
+        ensures shown { IsShownAt self.now place result }
+        ensures opened { (x : T) → IsOpenedAt self.now place x → ShowsValue x result }
+    {
+        // For the proof: the opened list ends at the vector's base.
+        self.laws();
         if place < self.word.base() {
             return self.look_opened(place);
         }
-        self.look_into(place)
+        found
     }
 
     // Looks at a place below the length of the opened list. It is a function of its own, so that only calls that come
@@ -155,7 +176,9 @@ impl<T> Shared<T> {
         })
     }
 
-    // Shows a proof that a token has the value of the opened list, if that has one at its place.
+    // Shows a proof that a token has the value of the opened list, if that has one at its place. It is laid into its
+    // callers, and leaves no instruction there.
+    #[inline(always)]
     fn opened_agrees(&self, placed: &Placed<T>)
         requires { IsPlacedOf self.now placed.now }
         ensures { (x : T) → IsOpenedAt self.now placed.now.place x → placed.now.value ≡ x }
@@ -163,9 +186,16 @@ impl<T> Shared<T> {
         let place = placed.place();
         if place < self.word.base() {
             places();
-            let (_, _, key) = cell_of(&self.table, &self.keys, self.count, place);
-            self.table.agree(&key, &placed.key);
-            self.row.at(place).agree(&placed.cell);
+            // The key is there. `unreachable!` would stop the program in its place, and so leave the test.
+            if let Some((_segment, _offset, key)) = find_cell(
+                &self.table,
+                &self.keys,
+                self.count,
+                place,
+            ) {
+                self.table.agree(&key, &placed.key);
+                self.row.at(place).agree(&placed.cell);
+            }
         }
     }
 

@@ -11,7 +11,7 @@ ghost use Rattle.grow_core.specs.Slices.{IsInOneSegment, IsToTheEnd};
 ghost use Rattle.seg_core.specs.Segment.{HasPlace, segment_count, segment_end};
 ghost use Rattle.grow_core.specs.Vector.{IsOpenedAt, base_of, limit_of, layout_of};
 
-use crate::blocks::cell_of;
+use crate::blocks::find_cell;
 use crate::published::Published;
 use crate::read::Shown;
 use crate::vector::Shared;
@@ -149,7 +149,8 @@ impl<T> Shared<T> {
         values
     }
 
-    // Shows a proof that cells which were found filled have the values of the opened list at their places.
+    // Shows a proof that cells which were found filled have the values of the opened list at their places. It leaves no
+    // instruction in its callers.
     fn opened_cells_agree(
         &self,
         block: &Block<T>,
@@ -174,11 +175,17 @@ impl<T> Shared<T> {
         for i in 0..n {
             // For the proof: each place is one cell of one segment.
             places();
-            let (_, _, known) = cell_of(&self.table, &self.keys, self.count, place + i);
-            self.table.agree(&known, key);
-            self.row
-                .at(place + i)
-                .agree(&block.token_at(offset, found, i));
+            if let Some((_segment, _offset, known)) = find_cell(
+                &self.table,
+                &self.keys,
+                self.count,
+                place + i,
+            ) {
+                self.table.agree(&known, key);
+                self.row
+                    .at(place + i)
+                    .agree(&block.token_at(offset, found, i));
+            }
         }
     }
 }

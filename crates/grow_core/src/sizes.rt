@@ -97,4 +97,26 @@ impl<T> Shared<T> {
         laws::refusals_are_notes();
         self.size_as::<Brand>(hand, place)
     }
+
+    // A size that the hand has seen: the one that it knows if that is above the place, otherwise the size now. The load
+    // logs a look at the place, if that is not below the size.
+    #[inline(always)]
+    pub(crate) fn size_seen(&self, hand: &mut Hand<T>, place: u64) -> u64
+        requires ours { IsHandOf self.now hand.old }
+        ensures seen { SeesSize hand.old hand.new result }
+        ensures grows { seen_size hand.old ≤ result }
+        ensures opened { length self.now.opened ≤ result }
+        ensures past { result ≤ place
+            → AddsEvents hand.old.log (past_event place result ∷ []) hand.new.log }
+        ensures goes_on { LogsNothing hand.old hand.new }
+    {
+        // For the proof: a hand has seen the opened list.
+        self.laws();
+        hand.laws();
+        let seen = hand.seen();
+        if place < seen {
+            return seen;
+        }
+        self.size_past(hand, place)
+    }
 }

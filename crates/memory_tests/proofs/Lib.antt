@@ -1,1 +1,2 @@
 mod KeyRows
+mod StepsInARow

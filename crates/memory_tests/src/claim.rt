@@ -5,5 +5,6 @@ mod looks;
 mod owners;
 mod race;
 mod shown;
+mod steps;
 mod unfinished;
 mod uses;

@@ -1,4 +1,4 @@
-//! Tests of `claim_core`, `cell_core`, `table_core` and `opaque_core`, a module each.
+//! Tests of `claim_core`, `tie_core`, `cell_core`, `table_core` and `opaque_core`, a module each.
 //!
 //! A crate with tests is proved once without and once with them. Here only a few lines are proved twice.
 #![tactic(auto)]
@@ -11,3 +11,5 @@ mod claim;
 mod opaque;
 #[cfg(test)]
 mod table;
+#[cfg(test)]
+mod ties;

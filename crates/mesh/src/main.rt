@@ -12,7 +12,7 @@ use crate::points::{Edge, Point, read_points};
 use crate::search::Search;
 use anyhow::{Context, Result, bail, ensure};
 use quiet_core::Quiet;
-use span_core::{Free, Refusal, with_writers};
+use span_core::{Free, with_writers};
 use std::alloc::AllocGlobal;
 use std::env::{self, Env};
 use std::fs;
@@ -25,36 +25,29 @@ use std::thread::Threads;
 const GREATEST_LIMIT: u64 = 1 << 40;
 
 // Lists the edges that the workers find, in any order. Each is found from both of its points.
-fn find_edges<R: Threads + Wait + Clock + Eprint + AllocGlobal + Sync>(
-    rt: &R,
-    points: &[Point],
-    finders: u8,
+fn find_edges<R: Threads + Wait + Clock + Eprint + Sync>(
+    search: &Search<'_, R>,
     limit: u64,
 ) -> Result<Quiet<Edge>> {
-    ensure!(0 < finders, "no workers");
     ensure!(0 < limit && limit <= GREATEST_LIMIT, "no such limit");
-    let alloc = rt.alloc();
-    let Ok((vector, mut hand)) = Quiet::new(alloc, limit).open() else {
+    let Ok((vector, mut hand)) = Quiet::new(search.alloc, limit).open() else {
         bail!("out of memory");
     };
-    let search = Search {
-        rt,
-        alloc,
-        points,
-        finders,
-        ended: AtomicU64::new(0),
-    };
-    let workers = u32::from(finders) + 1;
-    let found = with_writers(rt, alloc, &vector, &mut hand, workers, &search, &Free);
+    let workers = u32::from(search.finders) + 1;
+    let found = with_writers(
+        search.rt,
+        search.alloc,
+        &vector,
+        &mut hand,
+        workers,
+        search,
+        &Free,
+    );
     let Ok(list) = Quiet::try_close(vector, hand) else {
         bail!("a worker lost its shares");
     };
-    match found {
-        Ok(_done) => Ok(list),
-        Err(Refusal::Worker(error)) => Err(error),
-        Err(Refusal::NoThread) => bail!("a thread could not be started"),
-        Err(Refusal::NoMemory | Refusal::Stuck) => bail!("out of memory"),
-    }
+    found?;
+    Ok(list)
 }
 
 // Prints how many edges there are, each once, and the first five.
@@ -86,5 +79,13 @@ fn main(rt: HostRuntime) -> Result<()> {
     let limit = parse_number(words.next(), 1 << 32)?;
     let text = fs::read_to_string(&rt, file.as_str()).context("the file of points")?;
     let points = read_points(rt.alloc(), text.as_str())?;
-    print_edges(&rt, find_edges(&rt, points.as_slice(), finders, limit)?)
+    ensure!(0 < finders, "no workers");
+    let search = Search {
+        rt: &rt,
+        alloc: rt.alloc(),
+        points: points.as_slice(),
+        finders,
+        ended: AtomicU64::new(0),
+    };
+    print_edges(&rt, find_edges(&search, limit)?)
 }

@@ -54,3 +54,20 @@ impl<E> From<AllocError> for Refusal<E> {
         Refusal::NoMemory
     }
 }
+
+impl<E: fmt::Display> fmt::Display for Refusal<E> {
+    ghost use Rattle.span_core.specs.Errors.{refusal_text};
+
+    ghost output = { refusal_text E.output };
+
+    fn fmt<W: fmt::Write>(&self, f: &mut fmt::Formatter<W>) -> fmt::Result {
+        match self {
+            Refusal::NoMemory => write!(f, "out of memory"),
+            Refusal::NoThread => write!(f, "a thread could not be started"),
+            Refusal::Stuck => write!(f, "the gate refused a worker"),
+            Refusal::Worker(error) => write!(f, "{error}"),
+        }
+    }
+}
+
+impl<E: fmt::Display + fmt::Debug + Drop> Error for Refusal<E> {}

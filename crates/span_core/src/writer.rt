@@ -124,8 +124,8 @@ impl<'a, T, B: Tie> Writer<'a, T, B> {
         vector.size(&mut self.hand)
     }
 
-    /// Returns the value at the place. With a token it does what `get` does. Without one it loads the size, and then
-    /// looks once at the place.
+    /// Returns the value at the place. With a token it does what `get` does. Without one it loads the size, unless the
+    /// hand has seen that it is above the place, and then looks once at the place.
     #[inline(always)]
     pub fn at(&mut self, place: u64, known: Option<&Placed<T>>) -> Result<At<'a, T>, AtError>
         requires known { IfSome known (λ p.

@@ -6,3 +6,8 @@ mod Renamed
 mod Sent
 mod Sights
 mod Values
+mod EntryBoth
+mod BlockParts
+mod TiedMoves
+mod TiedRests
+mod PlainMoves

@@ -1,29 +1,63 @@
--- What an entry owns, and what a `&` to it holds: what a `OnceBox` does, of blocks that are as long as the
--- entry says.
-use Rattle.std.specs.Prelude.{◌≡◌, ℕ, ◌+◌, IfSome}
-use base.Stored.{gnil, gcons}
-use base.Fml.{Lft, Fml, ftrue, ffalse, fex, fbor, fres}
+-- An entry as contracts see it, and the blocks that fit it: those that are as long as the entry says, and whose cells are
+-- tied as it says, if it is tied.
+use Rattle.std.specs.Prelude.{◌≡◌, ℕ, List, [], IfSome}
+use Rattle.std.specs.Coded.{coded_option}
+use base.Stored.{Coded, coded×, coded_ℕ, coded_list, coded_via, gnil, gcons}
+use base.Fml.{Fml, ftrue, fex, fres}
 use denote.RattleType.{RattleType}
 use denote.Model.{ByFields}
-use denote.Memory.{shared_of}
-use denote.RawPtr.{Ptr, block_ptr, null_ptr}
-use denote.Sharing.{said, beside, some, ends, always}
-use Rattle.core.specs.Sync.Atomic.Pointer.{atomic_ptr_holding}
-use Rattle.core.specs.contracts.atomic.ptr.AtomicPtr.{the_row}
+use denote.Sharing.{said}
 use Rattle.std.specs.declared.option.Option.{Option}
 use Rattle.std.specs.declared.option.Option.TheVariants.{None, Some}
 use Rattle.std.specs.declared.alloc.Global.{Global}
-use Rattle.once_cell.specs.Once as once
+use Rattle.std.specs.contracts.alloc.Global as heap
+use Rattle.tie_core.specs.Tie.{Tie, tie_coded}
+use Rattle.tie_core.specs.Visit.{EntryTie, entry_tie_coded}
 
--- an entry: the allocator's handle, how long its block is, and its name
+-- how the cells of a block are tied, by numbers that begin at the first cell's seat
+abbrev pub Mould : Type 0
+Mould = List (Option Tie)
+
+-- what ties an entry: its tie, and the mould of its block
+abbrev pub Bond : Type 0
+Bond = EntryTie × Mould
+
+-- an entry: the allocator's handle, how long its block is, its name, and what ties it
 abbrev pub EntryView : Type 0
-EntryView = Global × ℕ × ℕ
+EntryView = Global × ℕ × ℕ × Option Bond
+
+-- how that is stored
+abbrev pub bond_coded : Coded (Option Bond)
+bond_coded =
+    coded_option (coded_via (coded× entry_tie_coded (coded_list (coded_option tie_coded))) (λ (u : Bond). (u.0, u.1))
+    (λ x y e i. ((e i).0, (e i).1)))
+
+abbrev pub entry_coded : Coded EntryView
+entry_coded =
+    coded_via (coded× heap.the_row.coded (coded× coded_ℕ (coded× coded_ℕ bond_coded)))
+    (λ (e : EntryView). (e.0, (e.1, (e.2, e.3))))
+    (λ x y e i. ((e i).0, (e i).1.0, (e i).1.1.0, (e i).1.1.1))
 
 abbrev pub length_of : EntryView → ℕ
 length_of e = e.1
 
 abbrev pub name_of : EntryView → ℕ
 name_of e = e.2
+
+abbrev pub tie_in : Option Bond → Option EntryTie
+tie_in None = None
+tie_in (Some u) = Some u.0
+
+abbrev pub mould_in : Option Bond → Mould
+mould_in None = []
+mould_in (Some u) = u.1
+
+abbrev pub tie_of : EntryView → Option EntryTie
+tie_of e = tie_in e.3
+
+-- how the cells of its block are tied; nothing if it is not tied
+abbrev pub mould_at : EntryView → Mould
+mould_at e = mould_in e.3
 
 -- the block x is the one that is known, if any is
 abbrev pub Agrees : {X : Type 0} → Option X → X → Type 0
@@ -34,26 +68,20 @@ abbrev pub noted : (R : RattleType) → ℕ → Option R.Denot → Fml
 noted R γ None = ftrue
 noted R γ (Some x) = fres γ (gcons gnil (R.coded.code x))
 
-module _ (R : RattleType) (measure : R.Denot → ℕ) where
-  -- a block is of this length
-  abbrev pub fits : ℕ → R.Denot → Fml
+module _ (R : RattleType) {N : Type 0} (measure : R.Denot → N) where
+  -- a block is of this measure, mostly its length
+  abbrev pub fits : N → R.Denot → Fml
   fits n x = fex (measure x ≡ n) (λ _. ftrue)
 
-  -- the type of the blocks of this length
-  abbrev pub Fit : ℕ → RattleType
+  -- the type of the blocks of this measure
+  abbrev pub Fit : N → RattleType
   Fit n = ByFields R R.Denot R.coded (λ x. x) (fits n) (λ x b o. said (fits n x))
 
-  -- what an entry owns, besides its fields
-  abbrev pub entry_owned : EntryView → (Ptr → Fml) → Fml
-  entry_owned e fields = once.owned (Fit (length_of e)) e.0 (name_of e) fields
+-- what an entry sees of a block: its length, and its mould if the entry is tied
+abbrev pub seen_as : {X : Type 0} → (X → ℕ) → (X → Mould) → Option Bond → X → ℕ × Mould
+seen_as measure mould None x = (measure x, [])
+seen_as measure mould (Some u) x = (measure x, mould x)
 
-  -- the word at a place, with what is shared of its block, borrowed for α
-  abbrev pub borrowed : EntryView → ℕ → ℕ → Lft → Fml
-  borrowed e b o α = fbor α (once.Held (Fit (length_of e)) e.0 (name_of e) α b o)
-
-  -- what a `&` to an entry holds
-  abbrev pub entry_shared : EntryView → Ptr → Lft → Fml
-  entry_shared e (block_ptr b o) κ =
-      beside (some Lft (λ α. beside (ends α) (always (borrowed e b (o + 0) α))))
-      (shared_of (the_row R) (atomic_ptr_holding null_ptr) b (o + 0)) κ
-  entry_shared e null_ptr κ = ffalse
+-- the type of the blocks that fit an entry
+abbrev pub Cast : (R : RattleType) → (R.Denot → ℕ) → (R.Denot → Mould) → EntryView → RattleType
+Cast R measure mould e = Fit R (seen_as measure mould e.3) (length_of e, mould_in e.3)

@@ -17,5 +17,5 @@ KeepsOthers old new k = (new.layout ≡ old.layout) × KeepsOtherEntries old new
 -- the table ends with all entries but this one as they were
 abbrev pub LendsBlock : RattleType → MutBor TableView → ℕ → Option (MutBor BlockView) → Fml
 LendsBlock T table k r =
-    LendsSo (the_row T) (block.the_row T heap.the_row plain.the_row ghosts kind) table r
+    LendsSo (the_row T plain.the_row kind) (block.the_row T heap.the_row plain.the_row ghosts kind) table r
     (λ n _. OnSome r (KeepsOthers table.now n k)) (λ n. KeepsOthers table.now n k)

@@ -1,12 +1,12 @@
 -- A table of entries as callers see it, and the keys of its entries.
-use Rattle.std.specs.Prelude.{◌≡◌, ◌≢◌, ℕ, ◌+◌, ◌<◌, List, [], slice_index, slice_index_or}
+use Rattle.std.specs.Prelude.{Bool, true, false, ◌≡◌, ◌≢◌, ℕ, ◌+◌, ◌<◌, List, [], slice_index, slice_index_or}
 use Rattle.std.specs.Coded.{coded_option}
 use base.Stored.{Coded, coded×, coded_ℕ, coded_list, coded_via}
 use Rattle.std.specs.declared.option.Option.{Option}
 use Rattle.std.specs.declared.option.Option.TheVariants.{None, Some}
 use Rattle.seg_core.specs.Segment.{segment_start, segment_end, segment_count, most_segments}
 use Rattle.cell_core.specs.Block.{BlockView, block_coded, block_len}
-use Rattle.table_core.specs.Entry.{EntryView, length_of}
+use Rattle.table_core.specs.Entry.{EntryView, length_of, tie_of}
 
 -- a table: the layout of its segments, the name of each entry, the entry whose block is lent, if one is, and
 -- the entry that `holds_now` last named, if no entry changed since
@@ -69,6 +69,16 @@ RenewsEntry old new k = slice_index new.names k ≢ slice_index old.names k
 abbrev pub AllFit : ℕ → List EntryView → Type 0
 AllFit f entries =
     (k : ℕ) (e : EntryView) → k < segment_count f → IsLengthOf f k (length_of (slice_index_or entries k e))
+
+-- no entry is tied
+abbrev pub AllPlain : ℕ → List EntryView → Type 0
+AllPlain f entries =
+    (k : ℕ) (e : EntryView) → k < segment_count f → tie_of (slice_index_or entries k e) ≡ None
+
+-- no entry is tied, unless entries may be
+abbrev pub AllOf : Bool → ℕ → List EntryView → Type 0
+AllOf false f entries = AllPlain f entries
+AllOf true f entries = Unit {0}
 
 -- the block that is known, if any is
 abbrev pub block_or_empty : Option BlockView → BlockView

@@ -1,15 +1,15 @@
 //! The table of segments.
-ghost use Rattle.std.specs.Prelude.{◌≡◌, ◌<◌, ◌≤◌, ℕ, slice_index, IfSome, IfOk};
+ghost use Rattle.std.specs.Prelude.{◌≡◌, ◌<◌, ◌≤◌, ℕ, None, slice_index, IfSome, IfOk};
 ghost use Rattle.table_core.specs.Table.{IsBlockOf, IsKeyIn, IsKeyOf, IsLengthOf};
 ghost use Rattle.seg_core.specs.Segment.{IsLayout, segment_count, most_segments};
-ghost use Rattle.table_core.specs.Entry.{length_of};
+ghost use Rattle.table_core.specs.Entry.{length_of, tie_of};
 
 mod key;
 mod key_set;
 mod owner;
 
 use crate::entry::{Entry, EntrySight, Measured};
-use cell_core::block::Block;
+use cell_core::block::{Block, Kind, Plain};
 pub use key::Key;
 pub use key_set::KeySet;
 use key_set::no_sights;
@@ -19,29 +19,34 @@ use std::alloc::{AllocError, Global};
 use std::array;
 use std::marker::Model;
 
-impl<T> Measured for Block<T> {
+impl<T, B: Kind> Measured for Block<T, Global, B> {
     ghost use Rattle.cell_core.specs.Block.{block_len};
+    ghost use Rattle.cell_core.specs.Mould.{last_seat, mould_of};
 
     ghost measure = { block_len };
+
+    ghost mould = { λ block. mould_of block.cells };
+
+    ghost seat = { λ block. last_seat block.cells };
 }
 
 /// The table of a vector's segments: 41 - f entries, each set at most once, to the block of its segment. It
-/// has room for 40 pointers.
+/// has room for 40 pointers. `B` says whether entries and their blocks are tied to a table of `atomic_table`.
 #[derive(Drop)]
-pub struct Table<T> {
+pub struct Table<T, B: Kind = Plain> {
     layout: Layout,
     alloc: Global,
-    entries: [Entry<Block<T>>; MOST_SEGMENTS],
-    lent: Option<Lent<T>>,
+    entries: [Entry<Block<T, Global, B>>; MOST_SEGMENTS],
+    lent: Option<Lent<T, B>>,
     held: Option<Held>,
 }
 
-impl<T> Model for Table<T> {
+impl<T, B: Kind> Model for Table<T, B> {
     ghost use Rattle.std.specs.Prelude.{◌≡◌, map, option_map, slice_index};
     ghost use Rattle.std.specs.Option.{ForSome};
     ghost use Rattle.table_core.specs.Entry.{name_of};
     ghost use Rattle.seg_core.specs.Segment.{IsLayout};
-    ghost use Rattle.table_core.specs.Table.{TableView, AllFit};
+    ghost use Rattle.table_core.specs.Table.{TableView, AllFit, AllOf};
 
     ghost Value = { TableView };
 
@@ -52,12 +57,13 @@ impl<T> Model for Table<T> {
       held = option_map (λ h. h.segment) t.held;
     } };
 
-    ghost invariant = { λ t. IsLayout t.layout × AllFit t.layout t.entries
+    ghost invariant = { λ t. IsLayout t.layout × AllFit t.layout t.entries × AllOf B.tied t.layout t.entries
         × ForSome t.held (λ h. slice_index (map name_of t.entries) h.segment ≡ h.sight.of) };
 }
 
 fn empty_entry<T>(alloc: Global, layout: Layout, segment: u32) -> Entry<Block<T>>
-    ensures { segment < segment_count layout → IsLengthOf layout segment (length_of result) }
+    ensures length { segment < segment_count layout → IsLengthOf layout segment (length_of result) }
+    ensures plain { tie_of result ≡ None }
 {
     let len = if segment < layout.segments() {
         layout.len(segment)
@@ -85,8 +91,8 @@ impl<T> Table<T> {
         let entries = array::from_fn(
             |segment: usize| -> Entry<Block<T>>
                 requires { segment < most_segments }
-                ensures { segment < segment_count layout
-                    → IsLengthOf layout segment (length_of result) }
+                ensures { (segment < segment_count layout
+                    → IsLengthOf layout segment (length_of result)) × (tie_of result ≡ None) }
             { empty_entry(alloc, layout, segment as u32) },
         );
         Table {
@@ -167,7 +173,7 @@ impl<T> Table<T> {
         ensures block { result.now ≡ key.now.block }
         ensures length { IsBlockOf self.now.layout key.now.segment result.now }
     {
-        let mut sight = key.sight.again::<T>();
+        let mut sight = key.sight.again::<T, Plain>();
         match self.entries[key.segment as usize].look(&mut sight) {
             Some(block) => block,
             None => unreachable!(),

@@ -3,7 +3,7 @@ ghost use Rattle.std.specs.Prelude.{◌≡◌, ◌+◌, ◌%◌, ◌<◌, ◌≤
 ghost use Rattle.cell_core.specs.Block.{block_len, AreFilledFrom, IsPlacedAt};
 ghost use Rattle.cell_core.specs.Laid.{word_cells};
 
-use crate::block::fields::{filled_in, word_of};
+use crate::block::fields::{WORD_CELLS, filled_in, word_of};
 use crate::block::{Block, Kind, Placed, Row};
 use std::alloc::Allocator;
 
@@ -28,6 +28,27 @@ impl<T, A: Allocator, B: Kind> Block<T, A, B> {
         (count, Row { row })
     }
 
+    // The same of those of `n` cells whose states are in one word. Returns how many these are, how many of them are
+    // filled, and what is known of those.
+    #[inline(always)]
+    fn filled_word(&self, offset: u64, n: u64) -> (u64, u64, Row<T>)
+        requires within { offset + n ≤ block_len self.now }
+        requires some { 0 < n }
+        ensures asked { (0 < result.0) × (result.0 ≤ n) }
+        ensures most { result.1 ≤ result.0 }
+        ensures row { length result.2 ≡ result.1 }
+        ensures filled { AreFilledFrom self.now offset result.2 }
+    {
+        // A whole word is compared with one that is filled: the compiler knows both numbers.
+        if offset % WORD_CELLS == 0 && WORD_CELLS <= n {
+            let (found, row) = self.filled_run(offset, WORD_CELLS);
+            return (WORD_CELLS, found, row);
+        }
+        let asked = (WORD_CELLS - offset % WORD_CELLS).min(n);
+        let (found, row) = self.filled_run(offset, asked);
+        (asked, found, row)
+    }
+
     /// Returns the same of any `n` cells. It loads each of their words once, up to the first with a cell that is not
     /// filled.
     pub fn filled_row(&self, offset: u64, n: u64) -> (u64, Row<T>)
@@ -41,9 +62,7 @@ impl<T, A: Allocator, B: Kind> Block<T, A, B> {
         let mut row = Row::new();
         let mut count = 0;
         'words: while count < n {
-            let at = offset + count;
-            let asked = self.longest_run(at).min(n - count);
-            let (found, more) = self.filled_run(at, asked);
+            let (asked, found, more) = self.filled_word(offset + count, n - count);
             row.append(more);
             if found < asked {
                 count += found;

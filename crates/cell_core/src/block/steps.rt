@@ -10,7 +10,6 @@ ghost use Rattle.cell_core.specs.Member.{Settles};
 ghost use Rattle.cell_core.specs.Run.{cells_from};
 
 use crate::block::fields::{keep_of, state_in, word_of};
-use crate::block::seats::Seats;
 use crate::slot::epoch::RawEpoch;
 use crate::slot::member::RawMember;
 use crate::slot::run::RawCells;
@@ -18,6 +17,7 @@ use crate::slot::steps::{FILLED, RawSlot, Written};
 use std::alloc::{AllocError, Allocator};
 use std::marker::{Model, PhantomData};
 use std::mem::{align_of, size_of};
+use tie_core::Seats;
 
 // The addresses of the row of words and of the row of rooms. It owns nothing.
 pub(crate) struct Link<T> {

@@ -1,19 +1,24 @@
 // Steps on cells that are tied to a table. Each call has one atomic step, which is its linearization point and runs an
 // update that the caller brings.
-ghost use Rattle.std.specs.Prelude.{◌≡◌, ◌≢◌, ◌<◌, ℕ, Some, None, IfOk, IfErr, length};
+ghost use Rattle.std.specs.Prelude.{◌≡◌, ◌≢◌, ◌<◌, ◌+◌, ℕ, Some, None, IfOk, IfErr, length};
 ghost use Rattle.cell_core.specs.Block.{block_len, cell_at, IsPenAt, IsFresh, IsMending};
 ghost use Rattle.cell_core.specs.Shown.{IsFoundIn, IsLookAt, IsLookOf};
 ghost use Rattle.cell_core.specs.Slot.{AreTied, empty_state, broken_state};
-ghost use Rattle.cell_core.specs.Tie.{HasMade, begins, breaks, fills, looks, mends};
+ghost use Rattle.cell_core.specs.Mould.{first_seat, last_seat, mould_of, row_mould};
+ghost use Rattle.tie_core.specs.Tie.{Tie, HasMade, begins, breaks, fills, looks, mends, row_of, tie_further, tie_numbered};
 
 use crate::block::fields::{all_but, in_field, state_in, words_for};
 use crate::block::steps::{Laid, Link, Rooms};
-use crate::block::{
-    Block, Book, First, Found, Look, Offer, Pen, Placed, Seats, Spoilt, Tied, lay_for,
-};
+use crate::block::{Block, First, Found, Look, Pen, Placed, Spoilt, Tied, lay_for};
 use crate::slot::steps::{BROKEN, BUSY, FILLED};
 use std::alloc::{AllocError, Allocator};
 use std::marker::PhantomData;
+use tie_core::{Book, Numbered, Offer, Seats};
+
+// A block has the number of its first cell's seat.
+impl<T, A: Allocator> Numbered for Block<T, A, Tied> {
+    ghost number = { λ block. first_seat block.cells };
+}
 
 impl<T, A: Allocator> Block<T, A, Tied> {
     /// Makes a block of `n` empty cells that are tied to these seats, in order. It requests memory like `new`. If
@@ -42,6 +47,20 @@ impl<T, A: Allocator> Block<T, A, Tied> {
             marker: PhantomData,
         })
     }
+
+    /// Shows a proof how cells whose seats have numbers in a row are tied, and what the mould of a block tells: the
+    /// seats have numbers in a row from the first one's on, and the block's own seat is the one behind them. The call
+    /// does nothing.
+    pub fn ties_laws(&self)
+        ensures row { (t : Tie) (n i : ℕ) → AreTied (row_of t n) self.now.cells → i < n
+            → (cell_at self.now i).tied ≡ Some (tie_further t i) }
+        ensures mould { (t : Tie) (n : ℕ) → AreTied (row_of t n) self.now.cells
+            → mould_of self.now.cells ≡ row_mould t n }
+        ensures tied { (t : Tie) (n : ℕ) → mould_of self.now.cells ≡ row_mould t n
+            → AreTied (row_of (tie_numbered t (first_seat self.now.cells)) n) self.now.cells }
+        ensures last { (t : Tie) (n : ℕ) → AreTied (row_of t n) self.now.cells → 0 < n
+            → last_seat self.now.cells ≡ t.id + n }
+    {}
 
     /// Looks at what a tied cell shows now, by one load. The offer's update runs in the load. A cell that is begun
     /// shows that it is empty.

@@ -5,17 +5,17 @@ ghost use base.Stored.{coded_bool};
 ghost use denote.Sharing.{said};
 ghost use Rattle.std.specs.Coded.{coded_option};
 ghost use Rattle.cell_core.specs.Fields.{field};
-ghost use Rattle.cell_core.specs.Tie.{HasMade, begins, breaks, fills, looks, mends};
+ghost use Rattle.tie_core.specs.Tie.{HasMade, begins, breaks, fills, looks, mends};
 ghost use Rattle.cell_core.specs.Slot.{Names, IsPlain, names_coded, break_added, fill_added, slot_owned, pen_owned, sighted, written, was_broken};
 ghost use Rattle.cell_core.specs.Slot.{empty_state, busy_state, filled_state, broken_state, owner_broken_state};
 ghost use Rattle.cell_core.specs.Member.{HasNames, IsStateOf, MayBeStateOf, IsEpochOf};
 
-use crate::block::offer::{Book, Offer};
 use crate::slot::epoch::{RawEnded, RawEpoch};
 use crate::slot::member::RawMember;
 use std::marker::{Brand, Model, PhantomData};
 use std::sync::atomic::Ordering::SeqCst;
 use std::sync::atomic::raw;
+use tie_core::{Book, Offer};
 
 // The state of a cell, in four bits of a word: it is empty, one thread has it, it is filled, it is broken, or an owner
 // broke it and its epoch may still last. All but the first have the lowest bit.

@@ -1,42 +1,52 @@
 // The raw steps on one entry, each a few lines around one atomic step. The word is null, or points to a block
 // that the entry owns.
-ghost use Rattle.std.specs.Prelude.{◌≡◌, ◌≢◌, ℕ, MatchOption, IfSome};
+ghost use Rattle.std.specs.Prelude.{◌≡◌, ◌≢◌, ℕ, List, MatchOption, IfSome};
 ghost use denote.RawPtr.{null_ptr};
 ghost use denote.Sharing.{said};
 ghost use Rattle.std.specs.Coded.{coded_option};
 ghost use Rattle.std.specs.Sync.Atomic.Pointer.{atomic_ptr_value, atomic_ptr_holding};
 ghost use Rattle.std.specs.declared.option.Option.{Option};
 ghost use Rattle.std.specs.declared.option.Option.TheVariants.{None, Some};
-ghost use Rattle.std.specs.declared.alloc.Global.{Global as Heap};
-ghost use Rattle.table_core.specs.Entry.{entry_owned, entry_shared, noted, Agrees, length_of, name_of};
+ghost use Rattle.tie_core.specs.Tie.{Tie};
+ghost use Rattle.table_core.specs.Entry.{EntryView, entry_coded, noted, Agrees, length_of, name_of, tie_of};
+ghost use Rattle.table_core.specs.TiedEntry.{entry_owned, entry_shared};
+
+mod tied;
 
 use crate::entry::loose::Loose;
-use cell_core::block::Block;
+use cell_core::block::{Block, Kind};
 use std::alloc::Global;
 use std::marker::{Brand, Model, Move, Owns, PhantomData};
 use std::ptr::null_mut;
 use std::sync::atomic::AtomicPtr;
 use std::sync::atomic::Ordering::SeqCst;
 
-// How long a block is.
+// How long a block is, and how it is tied.
 pub(crate) trait Measured {
     ghost measure: { Self → ℕ };
+    // How its cells are tied, by numbers that begin at the first cell's seat.
+    ghost mould: { Self → List (Option Tie) };
+    // The number of the block's own seat.
+    ghost seat: { Self → ℕ };
 }
 
-// A word that is set at most once, to a block of the entry's length.
+// A word that is set at most once, to a block of the entry's length. It may be tied to a table, by a seat that
+// shows whether it is set (`specs/TiedEntry.antt`).
 pub(crate) struct Entry<B: Measured> {
     word: AtomicPtr<B>,
     alloc: Global,
 }
 
 impl<B: Measured> Owns for Entry<B> {
-    ghost Value = { Heap × ℕ × ℕ };
+    ghost Value = { EntryView };
 
-    ghost shr_at = { λ e p κ. entry_shared B.row B.measure e p κ };
+    ghost coded = { entry_coded };
+
+    ghost shr_at = { λ e p κ. entry_shared B.row B.measure B.mould B.seat e p κ };
 }
 
 impl<B: Measured> Move for Entry<B> {
-    ghost own_val = { λ e vs. entry_owned B.row B.measure e
+    ghost own_val = { λ e vs. entry_owned B.row B.measure B.mould B.seat e
         (λ p. Fields.own_val (record { word = atomic_ptr_holding p; alloc = e.0 }) vs) };
 }
 
@@ -54,16 +64,16 @@ impl<B> Model for EntrySight<B> {
 }
 
 impl<B: Measured> Entry<B> {
-    // An entry for blocks of this length, which only proofs read. Nothing is installed.
+    // An entry for blocks of this length, which only proofs read. It is not tied, and nothing is installed.
     pub(crate) fn new(alloc: Global, length: u64) -> Entry<B>
-        ensures { length_of result ≡ length }
+        ensures { (length_of result ≡ length) × (tie_of result ≡ None) }
     {
         Entry::empty(AtomicPtr::new(null_mut()), alloc, length)
     }
 
     fn empty(word: AtomicPtr<B>, alloc: Global, length: u64) -> Entry<B>
         requires { atomic_ptr_value word ≡ null_ptr }
-        ensures { length_of result ≡ length }
+        ensures { (length_of result ≡ length) × (tie_of result ≡ None) }
     {
         Entry { word, alloc }
     }
@@ -94,8 +104,8 @@ impl<B: Measured> Entry<B> {
         }
     }
 
-    // The setting once: one exchange of null. It gives the entry's block, and `block` back if another came
-    // first.
+    // The setting once of an entry that is not tied: one exchange of null. It gives the entry's block, and
+    // `block` back if another came first.
     fn offer<'a>(
         &'a self,
         block: Loose<B, Global>,
@@ -103,6 +113,7 @@ impl<B: Measured> Entry<B> {
     ) -> (&'a B, Option<Loose<B, Global>>)
         requires of { sight.old.of ≡ name_of self.now }
         requires length { B.measure block.value ≡ length_of self.now }
+        requires plain { tie_of self.now ≡ None }
         ensures same { sight.new.of ≡ sight.old.of }
         ensures block { (sight.new.known ≡ Some result.0.now)
             × Agrees sight.old.known result.0.now }
@@ -127,7 +138,7 @@ impl<B: Measured> Entry<B> {
     // Gives an entry that is owned a name that the other has not.
     pub(crate) fn rename(&mut self, other: &mut Entry<B>)
         ensures { (name_of self.new ≢ name_of other.old) × (length_of self.new ≡ length_of self.old)
-            × (other.new ≡ other.old) }
+            × (tie_of self.new ≡ tie_of self.old) × (other.new ≡ other.old) }
     {}
 
     // Takes the pointer of a box out.
@@ -143,6 +154,7 @@ impl<B: Measured> Entry<B> {
     fn full(word: AtomicPtr<B>, block: Loose<B, Global>) -> (Entry<B>, EntrySight<B>)
         requires { atomic_ptr_value word ≡ block.at }
         ensures length { length_of result.0 ≡ B.measure block.value }
+        ensures plain { tie_of result.0 ≡ None }
         ensures of { result.1.of ≡ name_of result.0 }
         ensures known { result.1.known ≡ Some block.value }
     {
@@ -180,6 +192,7 @@ impl<B: Measured + Drop> Entry<B> {
     ) -> (&'a B, Option<Box<B>>)
         requires of { sight.old.of ≡ name_of self.now }
         requires length { B.measure block.value ≡ length_of self.now }
+        requires plain { tie_of self.now ≡ None }
         ensures same { sight.new.of ≡ sight.old.of }
         ensures block { (sight.new.known ≡ Some result.0.now)
             × Agrees sight.old.known result.0.now }
@@ -198,6 +211,7 @@ impl<B: Measured + Drop> Entry<B> {
     // An entry that is set to the block, which the sight knows.
     pub(crate) fn filled(block: Box<B>) -> (Entry<B>, EntrySight<B>)
         ensures length { length_of result.0 ≡ B.measure block.value }
+        ensures plain { tie_of result.0 ≡ None }
         ensures of { result.1.of ≡ name_of result.0 }
         ensures known { result.1.known ≡ Some block.value }
     {
@@ -234,9 +248,10 @@ impl<B> EntrySight<B> {
     {}
 }
 
-impl<T> EntrySight<Block<T>> {
-    // Duplicates the sight. What is known of an entry says nothing of the type of the values.
-    pub(crate) fn again<U>(&self) -> EntrySight<Block<U>>
+impl<T, B: Kind> EntrySight<Block<T, Global, B>> {
+    // Duplicates the sight. What is known of an entry says nothing of the type of the values, or of the kind of
+    // the block.
+    pub(crate) fn again<U, C: Kind>(&self) -> EntrySight<Block<U, Global, C>>
         ensures { (result.of ≡ self.now.of) × (result.known ≡ self.now.known) }
     {
         EntrySight {

@@ -6,15 +6,16 @@ ghost use Rattle.seg_core.specs.Segment.{segment_count, most_segments};
 
 use crate::entry::{Entry, EntrySight};
 use crate::table::{Key, Table, empty_entry};
-use cell_core::block::Block;
+use cell_core::block::{Block, Kind, Plain};
 use seg_core::Layout;
+use std::alloc::Global;
 use std::mem::replace;
 
 // A block that was taken out of its entry, and is not back.
 #[derive(Drop)]
-pub(crate) struct Lent<T> {
+pub(crate) struct Lent<T, B: Kind = Plain> {
     pub(crate) segment: u32,
-    pub(crate) block: Box<Block<T>>,
+    pub(crate) block: Box<Block<T, Global, B>>,
     ghost within: { segment < most_segments },
 }
 

@@ -9,7 +9,7 @@ use Rattle.claim_core.proofs.split_and_join.show.Goals as goal
 pub join_seat-requires : goal.join_seat-requires
 join_seat-requires g c =
     let p = c.requires.pair in
-    (p.same, p.other_same, p.no_slot, some_words p.words, merges _ _ _ _ _ p.part)
+    (p.same, p.other_same, p.no_slot, some_words p.words, merges _ _ _ _ _ p.part p.other_part)
 
 pub load-size-requires : goal.load-size-requires
 load-size-requires g c =

@@ -7,11 +7,11 @@ use Rattle.cell_core.proofs.block.Block.filled_row.Goals.{else-words-test, then-
 
 pub words-preserved : goal.words-preserved
 words-preserved g c =
-    let old = c.words.row in let more = c.filled_run-found.result.1 in let all = c.append.new.self in let is = c.append.ensures in
+    let old = c.words.row in let more = c.filled_word-asked.result.2 in let all = c.append.new.self in let is = c.append.ensures in
     let long = ap length is ∙ length-append old more in (
-      omega (arith, c.min-asked.ensures),
-      omega (arith, long, c.words.invariant.1, c.filled_run-found.ensures.row, c.filled_run-found.ensures.most),
-      filled_more c.args.self.now c.args.offset c.words.count old more all c.words.invariant.1 is c.words.invariant.2 c.filled_run-found.ensures.filled,
+      omega (arith, c.filled_word-asked.ensures.asked),
+      omega (arith, long, c.words.invariant.1, c.filled_word-asked.ensures.row, c.filled_word-asked.ensures.most),
+      filled_more c.args.self.now c.args.offset c.words.count old more all c.words.invariant.1 is c.words.invariant.2 c.filled_word-asked.ensures.filled,
     )
 
 pub returns-clause-filled : goal.returns-clause-filled
@@ -20,5 +20,5 @@ returns-clause-filled g c =
     elim c.words-test.branch [
       | else-words-test w ↦ subst (λ (us : List (MemberView g.row.T.Denot)). AreFilledFrom block offset us) (sym w.row-is) c.words.invariant.2
       | then-words-test+then-found-asked w ↦ subst (λ (us : List (MemberView g.row.T.Denot)). AreFilledFrom block offset us) (sym w.row-is)
-          (filled_more block offset c.words.count old w.filled_run-found.result.1 w.append.new.self c.words.invariant.1 w.append.ensures c.words.invariant.2 w.filled_run-found.ensures.filled)
+          (filled_more block offset c.words.count old w.filled_word-asked.result.2 w.append.new.self c.words.invariant.1 w.append.ensures c.words.invariant.2 w.filled_word-asked.ensures.filled)
     ]

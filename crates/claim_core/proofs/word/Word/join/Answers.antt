@@ -8,7 +8,7 @@ pub join_seat-requires : goal.join_seat-requires
 join_seat-requires g c =
     let b = belongs c.hand.invariant c.self.invariant c.hand.view_is c.self.view_is c.requires.ours in
     let d = belongs c.other.invariant c.self.invariant c.other.view_is c.self.view_is c.requires.also_ours in
-    (b.same, d.same, c.other.invariant.no_slot, some_words b.words, merges _ _ _ _ _ b.part)
+    (b.same, d.same, c.other.invariant.no_slot, some_words b.words, merges _ _ _ _ _ b.part d.part)
 
 pub load-hand-inside-requires : goal.load-hand-inside-requires
 load-hand-inside-requires g c =

@@ -12,9 +12,9 @@ use Rattle.grow_core.proofs.Places.{value_at, within_length}
 use Rattle.grow_core.proofs.Settled.{token_cell, opened_is}
 use Rattle.grow_core.proofs.vector.Shared.opened_agrees.Goals as goal
 
-pub returns-then-place-base : goal.returns-then-place-base
-returns-then-place-base g c = λ x there.
-    let whole = c.self.invariant.whole in let f : ℕ = c.self.inside.table.layout in let here = c.cell_of-key in let segment : ℕ = here.result.0 in let offset : ℕ = here.result.1 in let key = here.result.2 in let placed = c.placed.inside in let m = c.at.result in
+pub returns-in-Some : goal.returns-in-Some
+returns-in-Some g c = λ x there.
+    let whole = c.self.invariant.whole in let f : ℕ = c.self.inside.table.layout in let here = c.in-Some in let segment : ℕ = here._segment in let offset : ℕ = here._offset in let key = here.key in let placed = c.placed.inside in let m = c.at.result in
     let at = ap (λ (p : PlacedView g.row.T.Denot). p.place) c.placed.view_is in
     let token = subst (λ (p : PlacedView g.row.T.Denot). IsPlacedOf c.args.self.now p) (sym c.placed.view_is) c.requires in
     let cell = token_cell f c.places.ensures.one_place segment offset c.args.self.now _ (ap (λ (v : VectorView g.row.T.Denot). v.segments.layout) (sym c.self.view_is)) token (here.ensures.place ∙ c.place-place.ensures ∙ sym at)
@@ -28,7 +28,7 @@ returns-then-place-base g c = λ x there.
     ∙ ap (λ (v : VectorView g.row.T.Denot). slice_get v.opened c.args.placed.now.place) c.self.view_is ∙ there in
     let is : m.value ≡ Some x = (let z = opened in cc) in
     let named : placed.cell.name ≡ (cell_at key.block offset).value_name = token.cell.named ∙ (λ i. (cell_at (sym same i) (cell.1 i)).value_name) in
-    sym (ap (λ (p : PlacedView g.row.T.Denot). p.value) c.placed.view_is) ∙ opened_is key.block offset m placed.cell.name placed.cell.value x member is named c.agree-then-place-base-2.ensures
+    sym (ap (λ (p : PlacedView g.row.T.Denot). p.value) c.placed.view_is) ∙ opened_is key.block offset m placed.cell.name placed.cell.value x member is named c.agree-in-Some-2.ensures
 
 pub returns-else-place-base : goal.returns-else-place-base
 returns-else-place-base g c = λ x there.

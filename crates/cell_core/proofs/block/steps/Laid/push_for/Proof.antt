@@ -26,11 +26,11 @@ use denote.Plain.{uint_vals, uint_Tells}
 use denote.Triple.Walked.{Stays, stay_dropped, stay_ref, walk_of, Goes-dropped, Goes-ref}
 use Rattle.core.proofs.atomic.Steps.{tail}
 use Rattle.atomic_table.proofs.Walks.{proved, leaves}
-use Rattle.cell_core.specs.Slot.{Names, AreTied, seats, step, free}
-use Rattle.cell_core.specs.Tie.{Tie}
-use Rattle.cell_core.specs.contracts.block.seats.Seats as Seats
+use Rattle.cell_core.specs.Slot.{Names, AreTied, step, free}
+use Rattle.tie_core.specs.Tie.{Tie, seats}
+use Rattle.tie_core.specs.contracts.seats.Seats as Seats
 use Rattle.cell_core.proofs.CellMade.{token_val}
-use Rattle.cell_core.proofs.SeatsMade.{SeatWords, seats_told, seats_made, min_of}
+use Rattle.tie_core.proofs.SeatsMade.{SeatWords, seats_told, seats_made, min_of}
 use Rattle.cell_core.specs.Laid.{Extent, laid, still, rests, IsLinked, HasMoreTied}
 use Rattle.cell_core.specs.contracts.block.steps.Laid as loose
 use Rattle.cell_core.proofs.LaidParts as parts

@@ -30,9 +30,9 @@ use Rattle.cell_core.specs.Slot.{Names, setting, break_added, Turn, pen_owned, w
 use Rattle.cell_core.specs.contracts.slot.steps.RawBroken as RawBroken
 use Rattle.cell_core.specs.contracts.slot.steps.RawPen as RawPen
 use Rattle.cell_core.proofs.CellMade.{pointers_val, pointers_good, token_val, pen_told, pen_placed, pen_gains, Has, broken_made}
-use Rattle.cell_core.specs.contracts.block.offer.Offer as Offer
-use Rattle.cell_core.specs.Tie.{Tie, Step, breaks, Stage, Made, HasMade, floor_of, offer_owns, update}
-use Rattle.cell_core.proofs.OfferMade.{OfferWords, offer_told, offer_made}
+use Rattle.tie_core.specs.contracts.offer.Offer as Offer
+use Rattle.tie_core.specs.Tie.{Tie, Step, breaks, Stage, Made, HasMade, floor_of, offer_owns, update}
+use Rattle.tie_core.proofs.OfferMade.{OfferWords, offer_told, offer_made}
 use Rattle.cell_core.proofs.CellSteps.{break_small}
 use Rattle.cell_core.proofs.CellSteps as steps
 use Rattle.cell_core.proofs.WordSteps.{Turns, stepped_both_at, turns_add}

@@ -42,9 +42,9 @@ use Rattle.cell_core.specs.Slot.{Names, setting, fill_added, Turn, content, writ
 use Rattle.cell_core.specs.contracts.slot.steps.RawPen as RawPen
 use Rattle.cell_core.specs.contracts.slot.steps.Written as Written
 use Rattle.cell_core.proofs.CellMade.{Has, pen_gains, token_val, pointers_val, pointers_good, pen_told, pen_placed, written_made}
-use Rattle.cell_core.specs.contracts.block.offer.Offer as Offer
-use Rattle.cell_core.specs.Tie.{Tie, Step, fills, Stage, Made, HasMade, floor_of, offer_owns, update}
-use Rattle.cell_core.proofs.OfferMade.{OfferWords, offer_told, offer_made}
+use Rattle.tie_core.specs.contracts.offer.Offer as Offer
+use Rattle.tie_core.specs.Tie.{Tie, Step, fills, Stage, Made, HasMade, floor_of, offer_owns, update}
+use Rattle.tie_core.proofs.OfferMade.{OfferWords, offer_told, offer_made}
 use Rattle.cell_core.proofs.CellSteps.{fill_small}
 use Rattle.cell_core.proofs.CellSteps as steps
 use Rattle.cell_core.specs.contracts.slot.steps.RawPen.fill_for.{ended, clauses}

@@ -25,14 +25,14 @@ use Rattle.atomic_table.proofs.Walks.{proved, leaves}
 use Rattle.atomic_table.proofs.Calls.{fm, seq_cst, found, loads, finds}
 use Rattle.core.proofs.atomic.Steps.{tail}
 use Rattle.cell_core.specs.Fields.{field}
-use Rattle.cell_core.specs.Tie.{Tie, Step, begins, Shows, Stage, Made, HasMade, floor_of, offer_owns, update}
+use Rattle.tie_core.specs.Tie.{Tie, Step, begins, Shows, Stage, Made, HasMade, floor_of, offer_owns, update}
 use Rattle.cell_core.specs.Slot.{Names, Turn, Spot, IsAt, kept, won, FirstRight, slot_owned}
 use Rattle.cell_core.specs.Slot.{fact as is_fact}
 use Rattle.cell_core.specs.contracts.slot.steps.RawSlot as RawSlot
 use Rattle.cell_core.specs.contracts.slot.steps.RawPen as RawPen
-use Rattle.cell_core.specs.contracts.block.offer.Offer as Offer
+use Rattle.tie_core.specs.contracts.offer.Offer as Offer
 use Rattle.cell_core.proofs.CellMade.{PenWords, pen_made, pointers_val, pointers_good, token_val, slot_told, slot_placed}
-use Rattle.cell_core.proofs.OfferMade.{OfferWords, offer_told, offer_made}
+use Rattle.tie_core.proofs.OfferMade.{OfferWords, offer_told, offer_made}
 use Rattle.cell_core.proofs.CellSteps as steps
 use Rattle.cell_core.proofs.WordSteps.{stepped_both_at, turns_same, kept_dup}
 use Rattle.cell_core.specs.contracts.slot.steps.RawSlot.begin_for.{ended, clauses}

@@ -26,13 +26,13 @@ use Rattle.atomic_table.proofs.Walks.{proved, leaves}
 use Rattle.atomic_table.proofs.Calls.{fm, seq_cst, found, loads, finds}
 use Rattle.core.proofs.atomic.Steps.{tail}
 use Rattle.cell_core.specs.Fields.{field}
-use Rattle.cell_core.specs.Tie.{Tie, Step, looks, Stage, Made, HasMade, floor_of, offer_owns, update}
+use Rattle.tie_core.specs.Tie.{Tie, Step, looks, Stage, Made, HasMade, floor_of, offer_owns, update}
 use Rattle.cell_core.specs.Slot.{Names, Turn, sights, slot_owned}
 use Rattle.cell_core.specs.contracts.slot.steps.RawSlot as RawSlot
 use Rattle.cell_core.specs.contracts.slot.steps.RawSight as RawSight
-use Rattle.cell_core.specs.contracts.block.offer.Offer as Offer
+use Rattle.tie_core.specs.contracts.offer.Offer as Offer
 use Rattle.cell_core.proofs.CellMade.{pointers_val, pointers_good, token_val, slot_told, slot_placed, sight_made}
-use Rattle.cell_core.proofs.OfferMade.{OfferWords, offer_told, offer_made}
+use Rattle.tie_core.proofs.OfferMade.{OfferWords, offer_told, offer_made}
 use Rattle.cell_core.proofs.CellSteps as steps
 use Rattle.cell_core.proofs.WordSteps.{stepped_both_at, turns_same}
 use Rattle.cell_core.specs.contracts.slot.steps.RawSlot.sight_for.{ended, clauses}

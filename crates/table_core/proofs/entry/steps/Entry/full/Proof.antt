@@ -6,7 +6,7 @@ use mir.MapTy.{inst_fn}
 use base.Logic.{SProp, ent, emp, id⊢}
 use base.Fml.{ftrue, fsep}
 use prog.Wp.{WpFn}
-use types.Kit.{join, ‵, raw, ◌⊛◌, ◌$◌, ◌∵◌, !, qed, by, move, keep, split, fsplit3, fjoin, fpack, suffices, rewrite, later, await, use0, use1, use2}
+use types.Kit.{join, ‵, raw, ◌⊛◌, ◌$◌, ◌∵◌, !, qed, by, move, keep, split, fsplit3, fjoin, fpack, suffices, rewrite, later, await, use0, use1, use3}
 use base.Stored.{gnil, gcons}
 use types.Tokens.{name_new, name_done, res_dup}
 use types.Run.{stop, fld, of_opd, no_more, and_then, returns, enter}
@@ -31,9 +31,9 @@ use Rattle.core.proofs.alloc.Calls.{Goes-blank}
 use Rattle.core.proofs.cell.Inside.{Good, one}
 use Rattle.std.specs.contracts.alloc.Global as heap
 use Rattle.std.proofs.alloc.Global.TheLaws as heap_laws
-use Rattle.once_cell.specs.Once.{kept}
 use denote.Triple.Entry.{alive}
-use Rattle.table_core.specs.Entry.{EntryView, Fit}
+use Rattle.table_core.specs.Entry.{EntryView, Cast, seen_as, tie_of}
+use Rattle.table_core.specs.TiedEntry.{tied_kept}
 use Rattle.table_core.specs.contracts.entry.steps.Entry.TheInside as inside
 use Rattle.table_core.proofs.Values.{both_tt}
 use Rattle.std.proofs.raw_atomic.Walks.{proved_at, leaves}
@@ -43,7 +43,7 @@ use Rattle.table_core.proofs.Sights.{sight_made, token}
 use Rattle.table_core.specs.contracts.entry.steps.EntrySight as sight
 use Rattle.table_core.specs.contracts.entry.steps.Entry as entry
 use Rattle.std.specs.contracts.impls.GlobalAllocator.TheImpl.{ghosts}
-use Rattle.std.specs.declared.option.Option.TheVariants.{Some}
+use Rattle.std.specs.declared.option.Option.TheVariants.{None, Some}
 use Rattle.table_core.specs.contracts.entry.steps.Entry.full.{ended, clauses}
 use Rattle.table_core.specs.contracts.entry.steps.Entry.full.Key.{name as #self}
 use Rattle.table_core.proofs.entry.steps.Entry.full.Statement.{statement}
@@ -68,14 +68,14 @@ full_spec 𝓤 𝓛 𝓜 𝓡 wired T L g d _ =
     suffices ! (Run (v.0 ∷ w' ∷ [])) (subst (λ (us : List Val). ent 𝓤 (Run (v.0 ∷ w' ∷ [])) (Run us)) (sym (λ i. v.1 i ++ (ev i ++ []))) (id⊢ 𝓤 (Run (v.0 ∷ w' ∷ [])))) $
     enter ! 𝓣.C 𝓣.Λ fn (v.0 ∷ w' ∷ []) Post $ alloc_all ! (λ l. pass_all ! refl (v.2, (loose_good R Z LZ ghosts k o h gh, tt)) $ name_new ! tt m (λ γ. name_done ! tt $ res_dup ! $
     -- [the value, twice; the name; the fields; the box; ..]
-    use1 𝓛 (‵ (S.own_val (record { marker = record {}; of = γ; known = Some y }) (token ∷ []))) (sight_made 𝓛 R γ (Some y)) $ move ! (2 ∷ 1 ∷ []) $ fjoin ! $ move ! (3 ∷ 0 ∷ []) $
-    use2 𝓛 (later (‵ (kept (Fit R g.measure n) a γ p))) (kept_made R g.measure n a γ 𝓛 LR k o y refl) $ await ! tt $
+    use1 𝓛 (‵ (S.own_val (record { marker = record {}; of = γ; known = Some y }) (token ∷ []))) (sight_made 𝓛 R γ (Some y)) $ move ! (2 ∷ 1 ∷ []) $ fjoin ! $ move ! (3 ∷ 0 ∷ []) $ let e : EntryView = (a, n, γ, None) in nothing ! $ move ! (1 ∷ 2 ∷ 0 ∷ []) $
+    use3 𝓛 (later (‵ (tied_kept (Cast R g.measure g.mould e) g.seat a γ None p))) (kept_made R (seen_as g.measure g.mould None) (n, []) g.seat None a γ 𝓛 LR k o y refl) $ await ! tt $
     -- [the entry's; the sight; the fields; ..]
-    move ! (2 ∷ 0 ∷ []) $ fjoin ! $ fpack ! Ptr (λ u. fsep ((inside.the_row R g).own_val (record { word = atomic_ptr_holding u; alloc = a }) (w ∷ [])) (kept (Fit R g.measure n) a γ u)) p $ nothing ! $ fpack ! (Typed E.mir (w ∷ [])) (λ _. ftrue) (good, tt) $ fjoin ! $
+    move ! (2 ∷ 0 ∷ []) $ fjoin ! $ fpack ! Ptr (λ u. fsep ((inside.the_row R g).own_val (record { word = atomic_ptr_holding u; alloc = a }) (w ∷ [])) (tied_kept (Cast R g.measure g.mould e) g.seat a γ None u)) p $ nothing ! $ fpack ! (Typed E.mir (w ∷ [])) (λ _. ftrue) (good, tt) $ fjoin ! $
     sets ! (of_opd ! (get_in ! (fld ! refl (stop !)) (sub ! 1 refl (whole !)))) refl gh $ sets ! (agg ! (no_more !)) refl (tt, tt) $ sets ! (agg ! (and_then ! (get ! refl) (no_more !))) refl (tt, (tt, tt)) $
-    let e : EntryView = (a, n, γ) in let k' : S.Denot = record { marker = record {}; of = γ; known = Some y } in let r : Val = both w token in
+    let k' : S.Denot = record { marker = record {}; of = γ; known = Some y } in let r : Val = both w token in
     let fine : Good (layout (type_at En.signature.result κs)) r = (both_tt (has_ty (layout E) w) (has_ty (layout S) token) good.0 tt, (good.1, ((tt, tt), tt))) in
     sets ! (of_opd ! (get ! refl)) refl v.2 $ sets ! (agg ! (and_then ! (get ! refl) (and_then ! (get ! refl) (no_more !)))) refl good $ sets ! (of_opd ! (get ! refl)) refl (tt, (tt, tt)) $
     sets ! (agg ! (and_then ! (get ! refl) (and_then ! (get ! refl) (no_more !)))) refl fine $ pair_in E S ! e k' w token $
-    use0 𝓛 (raw (fact 𝓤 (Some y ≡ Some y))) (fact_i 𝓤 (Some y ≡ Some y) (emp 𝓤) refl) $ use0 𝓛 (raw (fact 𝓤 (γ ≡ γ))) (fact_i 𝓤 (γ ≡ γ) (emp 𝓤) refl) $ join ! $ use0 𝓛 (raw (fact 𝓤 (n ≡ n))) (fact_i 𝓤 (n ≡ n) (emp 𝓤) refl) $ join ! $
+    use0 𝓛 (raw (fact 𝓤 (Some y ≡ Some y))) (fact_i 𝓤 (Some y ≡ Some y) (emp 𝓤) refl) $ use0 𝓛 (raw (fact 𝓤 (γ ≡ γ))) (fact_i 𝓤 (γ ≡ γ) (emp 𝓤) refl) $ join ! $ use0 𝓛 (raw (fact 𝓤 (tie_of e ≡ None))) (fact_i 𝓤 (tie_of e ≡ None) (emp 𝓤) refl) $ join ! $ use0 𝓛 (raw (fact 𝓤 (n ≡ n))) (fact_i 𝓤 (n ≡ n) (emp 𝓤) refl) $ join ! $
     nothing ! $ nothing ! $ fjoin ! $ nothing ! $ fjoin ! $ returns ! (look_at ! 0 refl) $ free_all ! refl $ keep ! (4 ∷ 0 ∷ 2 ∷ 1 ∷ []) $ by ! (leaves 𝓛 En hs c z r (e, k') (_, (tt, tt)) (tt, (tt, tt))))))))

@@ -48,8 +48,8 @@ use Rattle.core.specs.contracts.atomic.ptr.AtomicPtr.into_inner as callee
 use Rattle.core.proofs.atomic.ptr.AtomicPtr.into_inner.Met.{met}
 use Rattle.once_cell.specs.Once.{boxed}
 use Rattle.table_core.proofs.Known.{either_known}
-use Rattle.table_core.specs.Entry.{Agrees, Fit, noted}
-use Rattle.table_core.proofs.Fits.{fit_out}
+use Rattle.table_core.specs.Entry.{EntryView, Mould, Agrees, mould_in, seen_as, tie_of, noted}
+use Rattle.table_core.proofs.Fits.{fit_out, length_seen}
 use Rattle.table_core.specs.contracts.entry.steps.Entry.into_loose.{ended, clauses}
 use Rattle.table_core.specs.contracts.entry.steps.Entry.into_loose.Key.{name as #self}
 use Rattle.table_core.proofs.entry.steps.Entry.into_loose.Statement.{statement}
@@ -62,7 +62,7 @@ into_loose_spec 𝓤 𝓛 𝓜 𝓡 wired T L g d _ =
     let Lr : RattleType = Loose R Z LZ ghosts in let S : RattleType = sight.the_row R in let token = RefOf (0 ∷ []) tt (plain (λ _. S)) (λ _. tt) in let hs : Stays En.signature.params En.kept = (stay_dropped (plain (λ _. entry.the_row R g)) no, (stay_dropped token yes, tt)) in
     proved_at 𝓛 En hs c 𝓜 𝓡 (Goes-dropped 𝓛 2 (plain (λ _. entry.the_row R g)) no (λ κs x f. refl), (Goes-dropped 𝓛 2 token yes (λ κs x f. refl), tt)) (#self inst) fn (code.unfolded 𝓤 H 𝓜 𝓡 wired (T, tt) d) (λ z are.
     let κs = z.0.0 in let qs = z.0.1 in let Post : Val → SProp 𝓤 = (walk_of 𝓛 En hs c).post z in let Run : List Val → SProp 𝓤 = λ ws. WpFn 𝓤 H 𝓣.C 𝓣.Λ fn ws Post in let Out : RattleType = type_at En.signature.result κs in
-    let a = z.0.3.0.0 in let long : ℕ = z.0.3.0.1 in let γ : ℕ = z.0.3.0.2 in let F : RattleType = Fit R g.measure long in let toks = ‵ (flft κs.1.0 qs.1.0) ⊛ ‵ ftrue in let k = triple_of 𝓛 (callee.signature T) (callee.spec T 𝓛 𝓜.mem 𝓡.returns) in
+    let a = z.0.3.0.0 in let long : ℕ = z.0.3.0.1 in let γ : ℕ = z.0.3.0.2 in let e₀ : EntryView = z.0.3.0 in let look : R.Denot → ℕ × Mould = seen_as g.measure g.mould e₀.3 in let size : ℕ × Mould = (long, mould_in e₀.3) in let toks = ‵ (flft κs.1.0 qs.1.0) ⊛ ‵ ftrue in let k = triple_of 𝓛 (callee.signature T) (callee.spec T 𝓛 𝓜.mem 𝓡.returns) in
     let known = z.0.3.1.0.now.known in let q : Val = vptr z.0.3.1.0.ref_ptr.0 z.0.3.1.0.ref_ptr.1 in let Asked : Type 0 = z.0.3.1.0.now.of ≡ γ in
     qed 𝓛 (((‵ (flft κs.0 qs.0) ⊛ toks) ⊛ ‵ (owns (types_at En.signature.params κs) z.0.3 z.0.4)) ∷ raw (fact 𝓤 _) ∷ raw (fact 𝓤 Asked) ∷ []) ∵ keep ! (2 ∷ 0 ∷ 1 ∷ []) $ heard ! Asked (λ asked. split ! $ split ! $ move ! (2 ∷ []) $ fsplit3 ! $
     -- [the entry; the sight; ..]
@@ -79,12 +79,12 @@ into_loose_spec 𝓤 𝓛 𝓜 𝓡 wired T L g d _ =
     await ! tt $ pick ! (λ r. split ! $ move ! (1 ∷ []) $ pick ! (λ _. split ! $ drop ! $ heard ! (r ≡ p) (λ same. split ! $ move ! (1 ∷ []) $ feq_l ! (λ e.
     -- [T's token; the allocator; the word; what is known; the sight's token]
     move ! (4 ∷ 0 ∷ []) $ join ! $ move ! (2 ∷ 3 ∷ []) $
-    let told : u ≡ ptr_val p = ap only e ∙ ap ptr_val same in either_known R g.measure long a γ ! tt p known
+    let told : u ≡ ptr_val p = ap only e ∙ ap ptr_val same in either_known R look size g.seat (tie_of e₀) a γ ! tt p known
     (λ is none. lands_as ! (told ∙ ap ptr_val is) refl (Ptr-Good null_ptr) $ sets ! (bin ! (get ! refl) (lit ! tt) tt) refl (tt, tt) $ first ! $ branches ! (get ! refl)
     (λ _. sets_last ! (agg ! (and_then ! (lit ! tt) (no_more !))) refl (tt, (record { fits = lit< tt }, tt)) $ exec ! 𝓣.C 𝓣.Λ Ev (after 6 fn.body) (at_ret Ev Post) $ sets ! (of_opd ! (get ! refl)) refl (tt, (record { fits = lit< tt }, tt)) $
     use0 𝓛 (‵ (Out.own_val None (live 0 vnil ∷ []))) (none_of 𝓛 Lr) $ use0 𝓛 (raw (fact 𝓤 (known ≡ None))) (fact_i 𝓤 (known ≡ None) (emp 𝓤) none) $ use0 𝓛 (raw (fact 𝓤 (Unit {0}))) (fact_i 𝓤 (Unit {0}) (emp 𝓤) tt) $ join ! $ nothing ! $ nothing ! $ fjoin ! $ nothing ! $ fjoin ! $
     returns ! (look_at ! 0 refl) $ free_all ! refl $ keep ! (3 ∷ 0 ∷ 2 ∷ 1 ∷ []) $ by ! (leaves 𝓛 En hs c z (live 0 vnil) None (tt, (tt, tt)) (tt, (tt, tt)))) (λ wrong. absurd wrong))
-    (λ b o x is t agrees. use1 𝓛 (given (g.measure x ≡ long) (‵ (boxed R a (block_ptr b o) x))) (fit_out R g.measure long 𝓛 a (block_ptr b o) x) $ learn ! (λ so_long. let made : Val = both (vptr b o) h in let typed = loose_good R Z LZ ghosts b o h gh in let v₁ : Val = live 1 (vcons made vnil) in let d : Lr.Denot = record { at = block_ptr b o; alloc = a; value = x } in
+    (λ b o x is t agrees. use1 𝓛 (given (look x ≡ size) (‵ (boxed R a (block_ptr b o) x))) (fit_out R look size 𝓛 a (block_ptr b o) x) $ learn ! (λ so_cast. let so_long : g.measure x ≡ long = length_seen g.measure g.mould e₀.3 x long (mould_in e₀.3) so_cast in let made : Val = both (vptr b o) h in let typed = loose_good R Z LZ ghosts b o h gh in let v₁ : Val = live 1 (vcons made vnil) in let d : Lr.Denot = record { at = block_ptr b o; alloc = a; value = x } in
     let good : Good (layout Out) v₁ = (and_tt _ typed.0, (record { fits = lit< tt }, (typed.1, tt))) in
     lands_as ! (told ∙ ap ptr_val is) refl (tt, tt) $ sets ! (bin ! (get ! refl) (lit ! tt) (tests_null (block_ptr b o) t)) refl (tt, tt) $ first ! $ branches ! (get ! refl) (λ wrong. absurd wrong) (λ _.
     sets ! (agg ! (and_then ! (get ! refl) (and_then ! (get ! refl) (no_more !)))) refl typed $ sets_last ! (agg ! (and_then ! (lit ! tt) (and_then ! (get ! refl) (no_more !)))) refl good $

@@ -1,0 +1,407 @@
+-- What the rule permits: steps on cells and entries by a hand that knows enough.
+use Rattle.std.proofs.Common.{◌≡◌, ◌≢◌, ℕ, ◌+◌, ◌-◌, ◌<◌, ◌≤◌, List, [], ◌∷◌, ◌++◌, length, map, set, get_or, Some, None, slice_get, refl, ap, sym, ◌∙◌, subst, ⊎_elim, arith, length-set}
+use Rattle.std.specs.List.{Contains}
+use mathlib.Core.Option.{some}
+use lib.ListN.{get_elem?}
+use Rattle.std.proofs.Math.Seq.{set_comm}
+use Rattle.atomic_table.proofs.Lists.{at_longer, set_else}
+use Rattle.claim_core.specs.declared.role.CellStage.{CellStage}
+use Rattle.claim_core.specs.declared.role.CellStage.TheVariants as stages
+use Rattle.claim_core.specs.declared.role.Role.{Role}
+use Rattle.claim_core.specs.declared.role.Role.TheVariants as roles
+use Rattle.claim_core.specs.declared.role.RowAt.{RowAt}
+use Rattle.claim_core.specs.declared.seat_view.SeatView.{SeatView}
+use Rattle.claim_core.specs.declared.terms.Terms.{Terms}
+use Rattle.claim_core.specs.Lengths.{InRun}
+use Rattle.claim_core.specs.History.{Log, fill_event, break_event, mend_event}
+use Rattle.claim_core.specs.Shares.{all_shares}
+use Rattle.claim_core.specs.SeatView.{spent_view, Remarks}
+use Rattle.claim_core.specs.SeatSteps.{ClaimState, with_views, look_event, writer_of, try_event, MovesByLook, MovesByBegin, MovesByTry, MovesByFill, MovesByBreak, MovesByMend, SeesPlace, SeesIn, Begins, LearnsRow, LearnsEnd, PermitsCell, PermitsEntry, PermitsTrade, PermitsBlock, PermitsMore, entry_roles, placed_roles}
+use Rattle.claim_core.specs.Ties.{Ties, role_view, cell_view, first_stage, Matches, IsInRow, Finds, TiedBy}
+use Rattle.claim_core.specs.Rule.{Kept, size_at}
+use Rattle.claim_core.proofs.TiedViews.{at_below, two_seats, each_at, cell_is_no_hand, hand_is_no_block, hand_is_no_entry, entry_is_no_block, tie_hand}
+use Rattle.claim_core.proofs.TiedRows.{first_idle, finds_cases, seat_new, set_front, block_roles, block_seen, tie_block, with_row, with_entry, entry_here, placed_here, knows_published, tie_publish}
+use Rattle.claim_core.proofs.TiedEntries.{with_both, others_spent, tie_enter, tie_adopt}
+use Rattle.claim_core.proofs.RoleSeats.{fits_role, logged_role, fits_all, logged_all}
+use Rattle.claim_core.proofs.HandMoves.{noted, Noted, moves_on, learns}
+use Rattle.claim_core.proofs.CellEvents.{look_legal}
+use Rattle.claim_core.proofs.CellSteps.{looks_at, fills, breaks_at, mends, misses, begins, finds_begun, not_begun, seen_below}
+
+-- a step that has added events
+abbrev pub Told : Terms → ClaimState → List SeatView → ℕ → (SeatView → Type 0) → Type 0
+Told terms s vs id then = (w : SeatView) × Kept terms (with_views s (set vs id w)) × then w
+
+told_remarks : (terms : Terms) (s : ClaimState) (vs : List SeatView) (id : ℕ) (v : SeatView) (es : Log)
+    → Noted terms s vs id v es v.begun v.rows v.laid → Told terms s vs id (Remarks v es)
+told_remarks terms s vs id v es step = (
+  noted v step.log v.begun v.rows v.laid,
+  step.kept,
+  record {
+    seen = refl;
+    log = step.adds_events;
+    same = record { limit = refl; base = refl; mark = refl; filled = refl; mine = refl; shares = refl; begun = refl; rows = refl; laid = refl };
+    consistent = step.consistent;
+  },
+)
+
+told_begins : (terms : Terms) (s : ClaimState) (vs : List SeatView) (id : ℕ) (v : SeatView) (place : ℕ)
+    → Noted terms s vs id v [] (place ∷ v.begun) v.rows v.laid → Told terms s vs id (Begins v place)
+told_begins terms s vs id v place step = (
+  noted v step.log (place ∷ v.begun) v.rows v.laid,
+  step.kept,
+  record {
+    seen = refl;
+    log = step.adds_events;
+    begun = refl;
+    same = record { limit = refl; base = refl; mark = refl; filled = refl; mine = refl; shares = refl; begun = refl; rows = refl; laid = refl };
+    consistent = step.consistent;
+  },
+)
+
+told_row : (terms : Terms) (s : ClaimState) (vs : List SeatView) (id : ℕ) (v : SeatView) (row : RowAt)
+    → Noted terms s vs id v [] v.begun (row ∷ v.rows) v.laid → Told terms s vs id (LearnsRow v row)
+told_row terms s vs id v row step = (
+  noted v step.log v.begun (row ∷ v.rows) v.laid,
+  step.kept,
+  record {
+    seen = refl;
+    log = step.adds_events;
+    rows = refl;
+    same = record { limit = refl; base = refl; mark = refl; filled = refl; mine = refl; shares = refl; begun = refl; rows = refl; laid = refl };
+    consistent = step.consistent;
+  },
+)
+
+told_end : (terms : Terms) (s : ClaimState) (vs : List SeatView) (id : ℕ) (v : SeatView) (laid : ℕ)
+    → Noted terms s vs id v [] v.begun v.rows laid → Told terms s vs id (LearnsEnd v laid)
+told_end terms s vs id v laid step = (
+  noted v step.log v.begun v.rows laid,
+  step.kept,
+  record {
+    seen = refl;
+    log = step.adds_events;
+    end = refl;
+    same = record { limit = refl; base = refl; mark = refl; filled = refl; mine = refl; shares = refl; begun = refl; rows = refl; laid = refl };
+    consistent = step.consistent;
+  },
+)
+
+-- one other seat has moved, or two
+told_seat : (terms : Terms) (s : ClaimState) (k : ℕ) (x : SeatView) (id : ℕ) (then : SeatView → Type 0) → k ≢ id
+    → Told terms s (set s.views k x) id then → (w : SeatView) × Kept terms (with_views s (set (set s.views id w) k x)) × then w
+told_seat terms s k x id then apart told =
+    (told.0, subst (λ (l : List SeatView). Kept terms (with_views s l)) (set_comm s.views k id x (told.0) apart) (told.1), told.2)
+
+told_trade : (terms : Terms) (s : ClaimState) (k : ℕ) (x : SeatView) (j : ℕ) (y : SeatView) (id : ℕ) (then : SeatView → Type 0)
+    → k ≢ id → j ≢ id → Told terms s (set (set s.views k x) j y) id then
+    → (w : SeatView) × Kept terms (with_views s (set (set (set s.views id w) k x) j y)) × then w
+told_trade terms s k x j y id then apart other_apart told =
+    let order : set (set (set s.views k x) j y) id (told.0) ≡ set (set (set s.views id (told.0)) k x) j y =
+    set_comm (set s.views k x) j id y (told.0) other_apart
+    ∙ ap (λ (l : List SeatView). set l j y) (set_comm s.views k id x (told.0) apart) in
+    (told.0, subst (λ (l : List SeatView). Kept terms (with_views s l)) order (told.1), told.2)
+
+-- seats were made behind the hand's
+told_front : (terms : Terms) (s : ClaimState) (vs ms : List SeatView) (id : ℕ) (then : SeatView → Type 0) → id < length vs
+    → Told terms s (vs ++ ms) id then → (w : SeatView) × Kept terms (with_views s (set vs id w ++ ms)) × then w
+told_front terms s vs ms id then lt told =
+    (told.0, subst (λ (l : List SeatView). Kept terms (with_views s l)) (set_front vs ms id (told.0) lt) (told.1), told.2)
+
+-- a block and its cells are made
+pub permits_laying : (terms : Terms) (n : ℕ) → PermitsBlock (Kept terms) n
+permits_laying terms n s kept =
+    let made = block_roles n (length s.views) in
+    let laid : Kept terms (with_views s (s.views ++ map role_view made)) =
+    record {
+      words = kept.words;
+      lengths = kept.lengths;
+      list = kept.list;
+      ties = kept.ties;
+      fits = fits_all terms.limit terms.base (get_or s.words size_at 0) kept.lengths made s.views kept.fits;
+      logged = logged_all terms.limit terms.base terms.mark.filled kept.lengths kept.list made s.views kept.logged;
+      tied = tie_block terms.limit terms.base terms.mark.filled kept.lengths kept.list kept.ties n s.views kept.tied;
+    } in
+    subst (λ (l : List SeatView). Kept terms (with_views s l)) (block_seen s.views n (length s.views)) laid
+
+module _
+    (terms : Terms) (id : ℕ) (v : SeatView) (is_limit : v.limit ≡ terms.limit) (is_base : v.base ≡ terms.base)
+    (is_filled : v.filled ≡ terms.mark.filled) (part : 0 < v.shares) where
+  -- ---- Cells
+
+  -- a cell's seat is not the hand's
+  cell_apart : (s : ClaimState) (kept : Kept terms s) → get_elem? s.views id ≡ some v → (seat : ℕ) (a : CellStage)
+      → get_elem? s.views seat ≡ some (cell_view a) → seat ≢ id
+  cell_apart s kept at seat a cell =
+      two_seats s.views seat id (cell_view a) v cell at (λ same. cell_is_no_hand a (same ∙ (kept.tied.each id v at).hand part))
+
+  module _ (place seat : ℕ) (found : Finds v.rows place seat) where
+    -- the seat is that of the place
+    there : (s : ClaimState) (kept : Kept terms s) → get_elem? s.views id ≡ some v → kept.ties.seat_of place ≡ Some seat
+    there s kept at = (kept.tied.each id v at).finds place seat found
+
+    -- a look at a place that the hand has seen
+    pub permits_look : SeesPlace v place
+        → PermitsCell (Kept terms) id v seat MovesByLook (λ a b. Remarks v (look_event place a ∷ []))
+    permits_look below a b moves s kept at cell =
+        told_seat terms s seat (cell_view b) id (Remarks v (look_event place a ∷ [])) (cell_apart s kept at seat a cell)
+        (subst (λ (c : CellStage). Told terms s (set s.views seat (cell_view c)) id (Remarks v (look_event place a ∷ []))) (sym moves)
+        (told_remarks terms s (set s.views seat (cell_view a)) id v (look_event place a ∷ [])
+        (looks_at terms s kept id v is_limit is_base is_filled part at place seat (there s kept at) a cell below)))
+
+    -- a fill of a cell that one call has, in a run that the hand has seen
+    pub permits_fill : (index : ℕ) → SeesIn v index place
+        → PermitsCell (Kept terms) id v seat MovesByFill (λ a b. Remarks v (fill_event (writer_of terms.limit index place a) place ∷ []))
+    permits_fill index known a b moves s kept at cell =
+        let es : Log = fill_event (writer_of terms.limit index place a) place ∷ [] in
+        told_seat terms s seat (cell_view b) id (Remarks v es) (cell_apart s kept at seat a cell)
+        (subst (λ (c : CellStage). Told terms s (set s.views seat (cell_view c)) id (Remarks v es)) (sym (moves.1))
+        (told_remarks terms s (set s.views seat (cell_view stages.Filled)) id v es
+        (fills terms s kept id v is_limit is_base is_filled part at place seat (there s kept at) a cell (moves.0) index known)))
+
+    -- a break of such a cell
+    pub permits_break : (index : ℕ) → SeesIn v index place
+        → PermitsCell (Kept terms) id v seat MovesByBreak (λ a b. Remarks v (break_event (writer_of terms.limit index place a) place ∷ []))
+    permits_break index known a b moves s kept at cell =
+        let es : Log = break_event (writer_of terms.limit index place a) place ∷ [] in
+        told_seat terms s seat (cell_view b) id (Remarks v es) (cell_apart s kept at seat a cell)
+        (subst (λ (c : CellStage). Told terms s (set s.views seat (cell_view c)) id (Remarks v es)) (sym (moves.1))
+        (told_remarks terms s (set s.views seat (cell_view stages.Broken)) id v es
+        (breaks_at terms s kept id v is_limit is_base is_filled part at place seat (there s kept at) a cell (moves.0) index known)))
+
+    -- a broken cell that is taken for mending
+    mends_broken : (s : ClaimState) (kept : Kept terms s) → get_elem? s.views id ≡ some v → (a : CellStage)
+        → get_elem? s.views seat ≡ some (cell_view a) → a ≡ stages.Broken
+        → Told terms s (set s.views seat (cell_view stages.Mending)) id (Remarks v (try_event terms.limit place a stages.Mending ∷ []))
+    mends_broken s kept at a cell is_broken =
+        subst (λ (x : CellStage). Told terms s (set s.views seat (cell_view stages.Mending)) id (Remarks v (try_event terms.limit place x stages.Mending ∷ []))) (sym is_broken)
+        (told_remarks terms s (set s.views seat (cell_view stages.Mending)) id v (mend_event terms.limit place ∷ [])
+        (mends terms s kept id v is_limit is_base is_filled part at place seat (there s kept at)
+        (subst (λ (x : CellStage). get_elem? s.views seat ≡ some (cell_view x)) is_broken cell)))
+
+    -- a try to mend a place that the hand has seen
+    pub permits_mend : SeesPlace v place
+        → PermitsCell (Kept terms) id v seat MovesByMend (λ a b. Remarks v (try_event terms.limit place a b ∷ []))
+    permits_mend below a b moves s kept at cell =
+        told_seat terms s seat (cell_view b) id (Remarks v (try_event terms.limit place a b ∷ [])) (cell_apart s kept at seat a cell)
+        (⊎_elim
+        (λ (c : (a ≡ stages.Broken) × (b ≡ stages.Mending)).
+        subst (λ (y : CellStage). Told terms s (set s.views seat (cell_view y)) id (Remarks v (try_event terms.limit place a y ∷ []))) (sym (c.1))
+        (mends_broken s kept at a cell (c.0)))
+        (λ (c : b ≡ a).
+        subst (λ (y : CellStage). Told terms s (set s.views seat (cell_view y)) id (Remarks v (try_event terms.limit place a y ∷ []))) (sym c)
+        (told_remarks terms s (set s.views seat (cell_view a)) id v (try_event terms.limit place a a ∷ [])
+        (misses terms s kept id v is_limit is_base is_filled part at place seat (there s kept at) a cell below)))
+        moves)
+
+    module _ (index : ℕ) (owned : Contains v.mine index) (in_run : InRun v.base v.seen index place) where
+      -- a begin of an idle cell
+      begins_idle : (s : ClaimState) (kept : Kept terms s) → get_elem? s.views id ≡ some v → (a b : CellStage)
+          → get_elem? s.views seat ≡ some (cell_view a) → a ≡ stages.Idle → b ≡ stages.Begun
+          → Told terms s (set s.views seat (cell_view b)) id (Begins v place)
+      begins_idle s kept at a b cell is_idle is_begun =
+          subst (λ (y : CellStage). Told terms s (set s.views seat (cell_view y)) id (Begins v place)) (sym is_begun)
+          (told_begins terms s (set s.views seat (cell_view stages.Begun)) id v place
+          (begins terms s kept id v is_limit is_base is_filled part at place seat (there s kept at) index owned in_run
+          (subst (λ (x : CellStage). get_elem? s.views seat ≡ some (cell_view x)) is_idle cell)))
+
+      -- a begin by a load, of a place of an own run that the hand does not know begun: the cell was idle
+      pub permits_begin : (Contains v.begun place → ⊥)
+          → PermitsCell (Kept terms) id v seat MovesByBegin (λ a b w. (a ≡ stages.Idle) × Begins v place w)
+      permits_begin unknown a b moves s kept at cell =
+          let idle : a ≡ stages.Idle =
+          not_begun terms s kept id v is_limit is_base is_filled part at place seat (there s kept at) index owned in_run a cell unknown in
+          let told =
+          told_seat terms s seat (cell_view b) id (Begins v place) (cell_apart s kept at seat a cell) (begins_idle s kept at a b cell idle (moves.1)) in
+          (told.0, told.1, (idle, told.2))
+
+      -- a begin by an exchange, won or lost
+      pub permits_try : PermitsCell (Kept terms) id v seat MovesByTry (λ a b. Begins v place)
+      permits_try a b moves s kept at cell =
+          told_seat terms s seat (cell_view b) id (Begins v place) (cell_apart s kept at seat a cell)
+          (⊎_elim
+          (λ (c : (a ≡ stages.Idle) × (b ≡ stages.Begun)). begins_idle s kept at a b cell (c.0) (c.1))
+          (λ (c : (a ≢ stages.Idle) × (b ≡ a)).
+          subst (λ (y : CellStage). Told terms s (set s.views seat (cell_view y)) id (Begins v place)) (sym (c.1))
+          (told_begins terms s (set s.views seat (cell_view a)) id v place
+          (finds_begun terms s kept id v is_limit is_base is_filled part at place seat (there s kept at) index owned in_run a cell (c.0))))
+          moves)
+
+  -- ---- Entries
+
+  -- a look that finds no entry for a place that the hand has seen, past those that the word began with: it is pending
+  pub permits_no_entry : (place seat from n : ℕ) → from ≤ place → place < from + n → v.base ≤ place → SeesPlace v place
+      → PermitsEntry (Kept terms) id v seat (roles.EmptyEntry from n) (Remarks v (look_event place stages.Idle ∷ []))
+  permits_no_entry place seat from n low high past below s kept at entry =
+      let es : Log = look_event place stages.Idle ∷ [] in
+      let is_empty = entry_here kept.ties s.views seat from n (kept.tied.each_role seat (role_view (roles.EmptyEntry from n)) entry) in
+      let is : from + (place - from) ≡ place = omega arith in
+      let none : kept.ties.seat_of place ≡ None = ap kept.ties.seat_of (sym is) ∙ is_empty.bare (place - from) (omega arith) in
+      let idle : kept.ties.stage place ≡ stages.Idle =
+      kept.tied.bare place none ∙ first_idle terms.base terms.mark.filled place (let e = is_base in omega arith) in
+      let matches = subst (Matches terms.limit terms.base kept.lengths place (slice_get kept.list.cells place)) idle (kept.tied.shown place) in
+      told_remarks terms s s.views id v es
+      (learns terms s kept id v is_limit is_base is_filled part at es refl
+      (look_legal terms.limit terms.base kept.lengths kept.list place stages.Idle
+      (seen_below terms s kept id v is_limit is_base is_filled part at place below) matches)
+      v.begun v.rows v.laid
+      (λ log.
+      let knows = kept.tied.each id v at in
+      record { finds = knows.finds; busy = knows.busy; within = knows.within; own = knows.own; unlaid = knows.unlaid; hand = knows.hand }))
+
+  -- a look that finds an entry: the hand then knows the row
+  pub permits_row : (seat from n : ℕ)
+      → PermitsEntry (Kept terms) id v seat (roles.Placed from n) (LearnsRow v (record { from = from; n = n; seat = seat - n }))
+  permits_row seat from n s kept at entry =
+      let row : RowAt = record { from = from; n = n; seat = seat - n } in
+      let is_placed = placed_here kept.ties s.views seat from n (kept.tied.each_role seat (role_view (roles.Placed from n)) entry) in
+      let ends = is_placed.ends in
+      told_row terms s s.views id v row
+      (learns terms s kept id v is_limit is_base is_filled part at [] refl refl
+      v.begun (row ∷ v.rows) v.laid
+      (λ log.
+      let knows = kept.tied.each id v at in
+      record {
+        finds = λ place k found.
+            ⊎_elim
+            (λ (c : IsInRow row place k).
+            let first : is_placed.first + c.i ≡ k = let e = c.in_seat in omega arith in
+            ap kept.ties.seat_of c.at ∙ (is_placed.cells c.i c.less ∙ ap Some first))
+            (λ (c : Finds v.rows place k). knows.finds place k c)
+            (finds_cases row v.rows place k found);
+        busy = knows.busy;
+        within = knows.within;
+        own = knows.own;
+        unlaid = knows.unlaid;
+        hand = knows.hand;
+      }))
+
+  -- a block's entry is set, if it was not: the hand then knows the row
+  pub permits_publish : (entry seat from first n : ℕ) → v.base ≤ from
+      → PermitsTrade (Kept terms) id v entry (role_view (roles.EmptyEntry from n)) spent_view seat (role_view (roles.Block first n))
+      (role_view (roles.Placed from n)) (LearnsRow v (record { from = from; n = n; seat = first }))
+  permits_publish entry seat from first n past s kept at at_entry at_seat =
+      let row : RowAt = record { from = from; n = n; seat = first } in
+      let size = get_or s.words size_at 0 in
+      let hand : v.role ≡ roles.Hand = (kept.tied.each id v at).hand part in
+      let empty = roles.EmptyEntry from n in
+      let block = roles.Block first n in
+      let placed = roles.Placed from n in
+      let apart = two_seats s.views entry seat (role_view empty) (role_view block) at_entry at_seat (λ same. entry_is_no_block from n first n same) in
+      let no_entry = two_seats s.views id entry v (role_view empty) at at_entry (λ same. hand_is_no_entry from n (sym hand ∙ same)) in
+      let no_seat = two_seats s.views id seat v (role_view block) at at_seat (λ same. hand_is_no_block first n (sym hand ∙ same)) in
+      let vs1 = set s.views entry spent_view in
+      let at_seat1 : get_elem? vs1 seat ≡ some (role_view block) = set_else s.views entry seat spent_view (λ e. apart (sym e)) ∙ at_seat in
+      let vs2 = set vs1 seat (role_view placed) in
+      let at2 : get_elem? vs2 id ≡ some v = set_else vs1 seat id (role_view placed) no_seat ∙ (set_else s.views entry id spent_view no_entry ∙ at) in
+      let fits2 =
+      fits_role terms.limit terms.base size kept.lengths vs1
+      (fits_role terms.limit terms.base size kept.lengths s.views kept.fits entry empty roles.Hand at_entry) seat block placed at_seat1 in
+      let logged2 =
+      logged_role terms.limit terms.base terms.mark.filled kept.lengths kept.list vs1
+      (logged_role terms.limit terms.base terms.mark.filled kept.lengths kept.list s.views kept.logged entry empty roles.Hand at_entry) seat block placed at_seat1 in
+      let past_base : terms.base ≤ from = let e = is_base in omega arith in
+      told_trade terms s entry spent_view seat (role_view placed) id (LearnsRow v row) (λ e. no_entry (sym e)) (λ e. no_seat (sym e))
+      (told_row terms s vs2 id v row
+      (moves_on terms s kept id v is_limit is_base is_filled part vs2 fits2 logged2 at2 [] refl kept.list refl v.begun (row ∷ v.rows) v.laid
+      (with_row kept.ties from n first)
+      (λ log.
+      let w = noted v log v.begun (row ∷ v.rows) v.laid in
+      let knows =
+      knows_published terms.limit terms.base terms.mark.filled kept.lengths kept.list kept.ties s.views kept.tied id v at hand entry seat from first n at_entry at_seat past_base w v
+      (kept.tied.each id v at) in
+      tie_publish terms.limit terms.base terms.mark.filled kept.lengths kept.list kept.ties s.views kept.tied id v at hand entry seat from first n at_entry at_seat past_base w
+      hand
+      (record {
+        finds = λ place k found.
+            ⊎_elim
+            (λ (c : IsInRow row place k).
+            ap (with_row kept.ties from n first).seat_of c.at ∙ (seat_new kept.ties from n first c.i c.less ∙ ap Some (sym c.in_seat)))
+            (λ (c : Finds v.rows place k). knows.finds place k c)
+            (finds_cases row v.rows place k found);
+        busy = knows.busy;
+        within = knows.within;
+        own = knows.own;
+        unlaid = knows.unlaid;
+        hand = knows.hand;
+      }))))
+
+  -- ---- Seats that are made
+
+  -- Seats are made beside a hand that adds no events, and may know another end of the entries
+  makes : (s : ClaimState) (kept : Kept terms s) (at : get_elem? s.views id ≡ some v) (made : List Role) (laid : ℕ) (ties' : Ties)
+      → ((log : Log) → TiedBy terms.limit terms.base terms.mark.filled kept.lengths kept.list ties'
+      (set s.views id (noted v log v.begun v.rows laid) ++ map role_view made))
+      → Noted terms s (s.views ++ map role_view made) id v [] v.begun v.rows laid
+  makes s kept at made laid ties' tied =
+      let ms = map role_view made in
+      moves_on terms s kept id v is_limit is_base is_filled part (s.views ++ ms)
+      (fits_all terms.limit terms.base (get_or s.words size_at 0) kept.lengths made s.views kept.fits)
+      (logged_all terms.limit terms.base terms.mark.filled kept.lengths kept.list made s.views kept.logged)
+      (at_longer s.views ms id v at) [] refl kept.list refl v.begun v.rows laid ties'
+      (λ log.
+      subst (TiedBy terms.limit terms.base terms.mark.filled kept.lengths kept.list ties')
+      (sym (set_front s.views ms id (noted v log v.begun v.rows laid) (at_below s.views id v at)))
+      (tied log))
+
+  -- the hand with another end of the entries, past the one that it knew
+  tied_hand : (s : ClaimState) (kept : Kept terms s) (at : get_elem? s.views id ≡ some v) (laid : ℕ) → v.laid ≤ laid → (log : Log)
+      → TiedBy terms.limit terms.base terms.mark.filled kept.lengths kept.list kept.ties (set s.views id (noted v log v.begun v.rows laid))
+  tied_hand s kept at laid more log =
+      let knows = kept.tied.each id v at in
+      let hand : v.role ≡ roles.Hand = knows.hand part in
+      tie_hand terms.limit terms.base terms.mark.filled kept.lengths kept.list kept.ties s.views kept.tied id v at hand
+      (noted v log v.begun v.rows laid) hand
+      (record {
+        finds = knows.finds;
+        busy = knows.busy;
+        within = knows.within;
+        own = knows.own;
+        unlaid = λ some_part place later. knows.unlaid some_part place (omega arith);
+        hand = knows.hand;
+      })
+
+  module _ (whole : v.shares ≡ all_shares) (from n : ℕ) (unlaid : v.laid ≤ from) where
+    -- no other seat has shares
+    only : (s : ClaimState) (kept : Kept terms s) (at : get_elem? s.views id ≡ some v) (w : SeatView) → w.laid ≡ from + n
+        → (j : ℕ) (u : SeatView) → get_elem? (set s.views id w) j ≡ some u → 0 < u.shares → from + n ≤ u.laid
+    only s kept at w is =
+        each_at (λ _ u. 0 < u.shares → from + n ≤ u.laid) s.views id w (λ _. omega (arith, is))
+        (λ j u apart here some_part.
+        let none = others_spent terms.limit terms.base (get_or s.words size_at 0) kept.lengths s.views kept.fits id j v u at here apart whole in
+        absurd (omega arith))
+
+    -- no place there has an entry
+    free : (s : ClaimState) (kept : Kept terms s) (at : get_elem? s.views id ≡ some v) (i : ℕ) → i < n
+        → kept.ties.entry_of (from + i) ≡ None
+    free s kept at i less = (kept.tied.each id v at).unlaid part (from + i) (omega arith)
+
+    -- an entry is made that is not set
+    pub permits_entry : PermitsMore (Kept terms) id v (entry_roles from n) (LearnsEnd v (from + n))
+    permits_entry s kept at =
+        let made = entry_roles from n (length s.views) in
+        told_front terms s s.views (map role_view made) id (LearnsEnd v (from + n)) (at_below s.views id v at)
+        (told_end terms s (s.views ++ map role_view made) id v (from + n)
+        (makes s kept at made (from + n) (with_entry kept.ties from n (length s.views))
+        (λ log.
+        let w = noted v log v.begun v.rows (from + n) in
+        subst (λ (k : ℕ). TiedBy terms.limit terms.base terms.mark.filled kept.lengths kept.list (with_entry kept.ties from n k) (set s.views id w ++ map role_view (entry_roles from n k)))
+        (length-set s.views id w)
+        (tie_enter terms.limit terms.base terms.mark.filled kept.lengths kept.list kept.ties (set s.views id w)
+        (tied_hand s kept at (from + n) (omega arith) log) from n (free s kept at) (only s kept at w refl)))))
+
+    -- an entry is made that is set to a block, whose cells are as the word was opened
+    pub permits_adoption : PermitsMore (Kept terms) id v (placed_roles (first_stage terms.base terms.mark.filled) from n) (LearnsEnd v (from + n))
+    permits_adoption s kept at =
+        let stage = first_stage terms.base terms.mark.filled in
+        let made = placed_roles stage from n (length s.views) in
+        told_front terms s s.views (map role_view made) id (LearnsEnd v (from + n)) (at_below s.views id v at)
+        (told_end terms s (s.views ++ map role_view made) id v (from + n)
+        (makes s kept at made (from + n) (with_both kept.ties from n (length s.views))
+        (λ log.
+        let w = noted v log v.begun v.rows (from + n) in
+        let tied = tied_hand s kept at (from + n) (omega arith) log in
+        let opened : (i : ℕ) → i < n → kept.ties.stage (from + i) ≡ stage (from + i) =
+        λ i less. kept.tied.bare (from + i) (kept.tied.entered (from + i) (free s kept at i less)) in
+        subst (λ (k : ℕ). TiedBy terms.limit terms.base terms.mark.filled kept.lengths kept.list (with_both kept.ties from n k) (set s.views id w ++ map role_view (placed_roles stage from n k)))
+        (length-set s.views id w)
+        (tie_adopt terms.limit terms.base terms.mark.filled kept.lengths kept.list kept.ties (set s.views id w) tied from n (free s kept at) (only s kept at w refl) stage opened))))

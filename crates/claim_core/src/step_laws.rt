@@ -1,0 +1,58 @@
+//! What the rule of the word permits beside seats of cells and entries, for proofs that tie them to a word. No call
+//! does anything.
+ghost use Rattle.claim_core.specs.StepLaws.{LooksArePermitted, FillsArePermitted, BreaksArePermitted};
+ghost use Rattle.claim_core.specs.StepLaws.{MendsArePermitted};
+ghost use Rattle.claim_core.specs.StepLaws.{BeginsArePermitted, TriesArePermitted};
+ghost use Rattle.claim_core.specs.StepLaws.{BareLooksArePermitted, RowsArePermitted, PublishingIsPermitted};
+ghost use Rattle.claim_core.specs.StepLaws.{LayingIsPermitted, EntriesArePermitted, AdoptionIsPermitted};
+ghost use Rattle.claim_core.specs.StepLaws.{WholeHandsShowAll, ClaimsAreNotBegun};
+
+/// States that a look at a cell logs what the cell's stage says.
+pub fn looks_are_permitted()
+    ensures { LooksArePermitted }
+{}
+
+/// States that a cell which one call has may be filled or broken, and that this logs the event of the actor whose
+/// run has the place, or of its mender; and that a try to mend a cell logs the mend, or what a look shows.
+pub fn writes_are_permitted()
+    ensures fills { FillsArePermitted }
+    ensures breaks { BreaksArePermitted }
+    ensures mends { MendsArePermitted }
+{}
+
+/// States that a hand may begin its own places: by a load, one that it does not know begun, which was idle; by an
+/// exchange, any of them.
+pub fn begins_are_permitted()
+    ensures load { BeginsArePermitted }
+    ensures exchange { TriesArePermitted }
+{}
+
+/// States that a look which finds no entry logs that the place is pending, and that a hand which finds an entry
+/// learns where its places stand.
+pub fn entries_are_found()
+    ensures bare { BareLooksArePermitted }
+    ensures rows { RowsArePermitted }
+{}
+
+/// States that a block may be made, and that an entry which is not set may be set to it.
+pub fn blocks_are_permitted()
+    ensures laying { LayingIsPermitted }
+    ensures publishing { PublishingIsPermitted }
+{}
+
+/// States that a whole hand may make an entry past all that there are, not set, or set to a block whose cells are
+/// as the word was opened.
+pub fn entries_are_permitted()
+    ensures empty { EntriesArePermitted }
+    ensures adopted { AdoptionIsPermitted }
+{}
+
+/// States that the history of a hand with all shares shows each place as its cell is.
+pub fn whole_hands_show_all()
+    ensures { WholeHandsShowAll }
+{}
+
+/// States that after a claim the hand knows none of its places begun.
+pub fn claims_are_not_begun()
+    ensures { ClaimsAreNotBegun }
+{}

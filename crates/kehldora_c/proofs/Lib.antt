@@ -1,0 +1,6 @@
+mod AsBox
+pub mod Codes
+pub mod Due
+pub mod Made
+pub mod Chunks
+pub mod Again

@@ -1,0 +1,185 @@
+//! The exports that append, break and mend.
+ghost use Rattle.std.specs.Prelude.{length};
+ghost use Rattle.kehldora_c.specs.Held.{Keeps, OnBoth};
+ghost use Rattle.kehldora_c.specs.Calls.{PushesWords, GrowsByWords, GrowsByCopies, GrowsUpToWords, WinsPlacesOf, MendsWords};
+ghost use Rattle.kehldora_c.specs.Calls.{IsDueIn, IsDueOn, PushDue, GrowDue, FillDue, AtLeastDue, LeaveDue, MendsDue};
+ghost use Rattle.kehldora_c.specs.Status.{IsDone, IfRefused};
+
+use crate::contents;
+use crate::handle::Handle;
+use crate::status::{DONE, Status};
+use std::alloc::Global;
+
+/// Appends a value, and tells its place. It tries three times.
+#[tactic(auto, using(crate::proofs::Codes::if_done, crate::proofs::Codes::refused_in, crate::proofs::Codes::refused_empty))]
+#[unsafe(no_mangle)]
+pub extern "C" fn kehldora_raw_push(
+    alloc: Global,
+    hand: &mut Handle,
+    value: &[u64],
+    place: &mut u64,
+) -> i32
+    ensures pushed { IsDone result → OnBoth
+        (PushesWords value.now place.new) hand.old.owned.held hand.new.owned.held }
+    ensures refused { IfRefused result
+        (IsDueIn (IsDueOn (PushDue (length value.now))) hand.new.owned.held) }
+    ensures kept { Keeps hand.old.owned.held hand.new.owned.held }
+{
+    let Some(mut held) = hand.take(alloc) else {
+        return Status::BadHandle.code();
+    };
+    let answer = contents::push(&mut held, value);
+    *hand = Handle::of(held);
+    match answer {
+        Ok(at) => {
+            *place = at;
+            DONE
+        }
+        Err(status) => status.code(),
+    }
+}
+
+/// Appends the elements of an array, and tells the place of the first one. It tries once.
+#[tactic(auto, using(crate::proofs::Codes::if_done, crate::proofs::Codes::refused_in, crate::proofs::Codes::refused_empty))]
+#[unsafe(no_mangle)]
+pub extern "C" fn kehldora_raw_grow(
+    alloc: Global,
+    hand: &mut Handle,
+    values: &[u64],
+    place: &mut u64,
+) -> i32
+    ensures grown { IsDone result → OnBoth
+        (GrowsByWords values.now place.new) hand.old.owned.held hand.new.owned.held }
+    ensures refused { IfRefused result
+        (IsDueIn (IsDueOn (GrowDue (length values.now))) hand.new.owned.held) }
+    ensures kept { Keeps hand.old.owned.held hand.new.owned.held }
+{
+    let Some(mut held) = hand.take(alloc) else {
+        return Status::BadHandle.code();
+    };
+    let answer = contents::grow(&mut held, values);
+    *hand = Handle::of(held);
+    match answer {
+        Ok(at) => {
+            *place = at;
+            DONE
+        }
+        Err(status) => status.code(),
+    }
+}
+
+/// Appends copies of a value, and tells the place of the first one. It tries once.
+#[tactic(auto, using(crate::proofs::Codes::if_done, crate::proofs::Codes::refused_in, crate::proofs::Codes::refused_empty))]
+#[unsafe(no_mangle)]
+pub extern "C" fn kehldora_raw_fill(
+    alloc: Global,
+    hand: &mut Handle,
+    value: &[u64],
+    count: u64,
+    place: &mut u64,
+) -> i32
+    ensures grown { IsDone result → OnBoth
+        (GrowsByCopies count value.now place.new) hand.old.owned.held hand.new.owned.held }
+    ensures refused { IfRefused result
+        (IsDueIn (IsDueOn (FillDue count (length value.now))) hand.new.owned.held) }
+    ensures kept { Keeps hand.old.owned.held hand.new.owned.held }
+{
+    let Some(mut held) = hand.take(alloc) else {
+        return Status::BadHandle.code();
+    };
+    let answer = contents::fill(&mut held, value, count);
+    *hand = Handle::of(held);
+    match answer {
+        Ok(at) => {
+            *place = at;
+            DONE
+        }
+        Err(status) => status.code(),
+    }
+}
+
+/// Appends what is missing up to a size, and tells the place of the first one and how many there are.
+#[tactic(auto, using(crate::proofs::Codes::if_done, crate::proofs::Codes::refused_in, crate::proofs::Codes::refused_empty))]
+#[unsafe(no_mangle)]
+pub extern "C" fn kehldora_raw_at_least(
+    alloc: Global,
+    hand: &mut Handle,
+    size: u64,
+    values: &[u64],
+    place: &mut u64,
+    count: &mut u64,
+) -> i32
+    ensures grown { IsDone result → OnBoth
+        (GrowsUpToWords size values.now place.new count.new) hand.old.owned.held hand.new.owned.held }
+    ensures refused { IfRefused result
+        (IsDueIn (IsDueOn (AtLeastDue size (length values.now))) hand.new.owned.held) }
+    ensures kept { Keeps hand.old.owned.held hand.new.owned.held }
+{
+    let Some(mut held) = hand.take(alloc) else {
+        return Status::BadHandle.code();
+    };
+    let answer = contents::at_least(&mut held, size, values);
+    *hand = Handle::of(held);
+    match answer {
+        Ok((at, n)) => {
+            *place = at;
+            *count = n;
+            DONE
+        }
+        Err(status) => status.code(),
+    }
+}
+
+/// Claims places and breaks them, and tells the first one. It tries once.
+#[tactic(auto, using(crate::proofs::Codes::if_done, crate::proofs::Codes::refused_in, crate::proofs::Codes::refused_empty))]
+#[unsafe(no_mangle)]
+pub extern "C" fn kehldora_raw_leave(
+    alloc: Global,
+    hand: &mut Handle,
+    count: u64,
+    place: &mut u64,
+) -> i32
+    ensures broken { IsDone result → OnBoth
+        (WinsPlacesOf count place.new) hand.old.owned.held hand.new.owned.held }
+    ensures refused { IfRefused result (IsDueIn (IsDueOn (LeaveDue count)) hand.new.owned.held) }
+    ensures kept { Keeps hand.old.owned.held hand.new.owned.held }
+{
+    let Some(mut held) = hand.take(alloc) else {
+        return Status::BadHandle.code();
+    };
+    let answer = contents::leave(&mut held, count);
+    *hand = Handle::of(held);
+    match answer {
+        Ok(at) => {
+            *place = at;
+            DONE
+        }
+        Err(status) => status.code(),
+    }
+}
+
+/// Fills a broken place.
+#[tactic(auto, using(crate::proofs::Codes::if_done, crate::proofs::Codes::refused_in, crate::proofs::Codes::refused_empty))]
+#[unsafe(no_mangle)]
+pub extern "C" fn kehldora_raw_mend(
+    alloc: Global,
+    hand: &mut Handle,
+    place: u64,
+    value: &[u64],
+) -> i32
+    ensures mended { IsDone result → OnBoth
+        (MendsWords place value.now) hand.old.owned.held hand.new.owned.held }
+    ensures refused { IfRefused result
+        (IsDueIn (IsDueOn (MendsDue place (length value.now))) hand.new.owned.held) }
+    ensures kept { Keeps hand.old.owned.held hand.new.owned.held }
+{
+    let Some(mut held) = hand.take(alloc) else {
+        return Status::BadHandle.code();
+    };
+    let answer = contents::mend(&mut held, place, value);
+    *hand = Handle::of(held);
+    match answer {
+        Ok(()) => DONE,
+        Err(status) => status.code(),
+    }
+}

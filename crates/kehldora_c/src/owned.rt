@@ -1,0 +1,50 @@
+//! A box that may be there, as C sees it: an address.
+ghost use Rattle.std.specs.Prelude.{◌≡◌, Option, Some, None, IsSome};
+ghost use Rattle.kehldora_c.specs.declared.held.Held.{Held};
+ghost use Rattle.kehldora_c.specs.Owned.{held_coded, held_owns};
+
+use crate::held::Held;
+use crate::parts::Parts;
+use std::alloc::Global;
+use std::marker::Model;
+
+#[repr(C)]
+#[derive(Drop)]
+pub struct Owned {
+    at: *mut u64,
+    alloc: Global,
+    pub ghost held: { Option Held } by { held_coded },
+}
+
+impl Model for Owned {
+    ghost also_owns = { λ s. held_owns s.alloc s.at s.held };
+}
+
+impl Owned {
+    pub(crate) fn empty(at: *mut u64, alloc: Global) -> Owned
+        ensures { result.held ≡ None }
+    {
+        Owned { at, alloc }
+    }
+
+    pub(crate) fn of_parts(parts: Parts<Held, Global>) -> Owned
+        ensures { result.held ≡ Some parts.value }
+    {
+        let Parts { ptr, alloc } = parts;
+        Owned {
+            at: ptr.cast::<u64>(),
+            alloc,
+        }
+    }
+
+    pub(crate) fn into_parts(self) -> Parts<Held, Global>
+        requires { IsSome self.held }
+        ensures { self.held ≡ Some result.value }
+    {
+        let Owned { at, alloc } = self;
+        Parts {
+            ptr: at.cast::<Held>(),
+            alloc,
+        }
+    }
+}

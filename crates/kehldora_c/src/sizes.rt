@@ -1,0 +1,76 @@
+//! How a call is done for each size of an element.
+
+// Does the same with what an enum has, whatever its size.
+macro_rules! by_size {
+    ($kind:ident, $any:expr, $it:ident => $call:expr) => {
+        match $any {
+            $kind::One($it) => $call,
+            $kind::Two($it) => $call,
+            $kind::Three($it) => $call,
+            $kind::Four($it) => $call,
+            $kind::Six($it) => $call,
+            $kind::Eight($it) => $call,
+        }
+    };
+}
+
+// The same, if what it gives is of the same size: it is put into an enum.
+macro_rules! keep_size {
+    ($kind:ident, $any:expr, $it:ident => $to:ident, $call:expr) => {
+        match $any {
+            $kind::One($it) => $to::One($call),
+            $kind::Two($it) => $to::Two($call),
+            $kind::Three($it) => $to::Three($call),
+            $kind::Four($it) => $to::Four($call),
+            $kind::Six($it) => $to::Six($call),
+            $kind::Eight($it) => $to::Eight($call),
+        }
+    };
+}
+
+// The same for a call that gives back what it had if it is refused.
+macro_rules! try_size {
+    ($kind:ident, $any:expr, $it:ident => $to:ident, $call:expr) => {
+        match $any {
+            $kind::One($it) => match $call {
+                Ok(done) => Ok($to::One(done)),
+                Err(back) => Err($kind::One(back)),
+            },
+            $kind::Two($it) => match $call {
+                Ok(done) => Ok($to::Two(done)),
+                Err(back) => Err($kind::Two(back)),
+            },
+            $kind::Three($it) => match $call {
+                Ok(done) => Ok($to::Three(done)),
+                Err(back) => Err($kind::Three(back)),
+            },
+            $kind::Four($it) => match $call {
+                Ok(done) => Ok($to::Four(done)),
+                Err(back) => Err($kind::Four(back)),
+            },
+            $kind::Six($it) => match $call {
+                Ok(done) => Ok($to::Six(done)),
+                Err(back) => Err($kind::Six(back)),
+            },
+            $kind::Eight($it) => match $call {
+                Ok(done) => Ok($to::Eight(done)),
+                Err(back) => Err($kind::Eight(back)),
+            },
+        }
+    };
+}
+
+// An enum with what this call opens, as its variant for one size, unless there is no memory.
+macro_rules! opened {
+    ($kind:ident, $size:ident, $call:expr) => {
+        match $call {
+            Ok(opened) => Ok($kind::$size(opened)),
+            Err(_no_memory) => Err(Status::NoMemory),
+        }
+    };
+}
+
+pub(crate) use by_size;
+pub(crate) use keep_size;
+pub(crate) use opened;
+pub(crate) use try_size;

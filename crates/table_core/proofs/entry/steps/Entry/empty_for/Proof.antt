@@ -1,0 +1,73 @@
+-- `empty_for` puts the two fields together, and owns the entry's own seat at null.
+use Rattle.std.proofs.Common.{◌≡◌, ℕ, List, [], ◌∷◌, ◌++◌, refl, sym, subst}
+use mir.Syntax.{dcons, dnil, a_type, w64}
+use mir.Val.{Val, vint, vptr, has_ty}
+use mir.MapTy.{inst_fn}
+use base.Logic.{SProp, ent, emp, id⊢}
+use base.Fml.{ftrue, fsep}
+use prog.Wp.{WpFn}
+use types.Kit.{‵, raw, ◌⊛◌, ◌$◌, ◌∵◌, !, qed, by, move, keep, split, fsplit, fsplit3, fjoin, fpack, suffices, rewrite, use0}
+use base.Stored.{gnil}
+use types.Tokens.{name_new}
+use types.Run.{of_opd, no_more, and_then, returns, enter}
+use types.ByLocal.{alloc_all, pass_all, free_all, look_at, get, sets}
+use types.Part.{agg}
+use contract.Monad.{fact, fact_i}
+use contract.Running.{tables}
+use denote.Exit.{yes, no}
+use denote.RattleType.{RattleType, owns}
+use denote.Laws.{Typed}
+use denote.Signature.{types_at, type_at, plain}
+use denote.Builtin.{u64, RefOf}
+use denote.RawPtr.{Ptr, null_ptr}
+use denote.Steps.{nothing, heard}
+use denote.Param.{param, layout, bounded}
+use denote.Param.Laws.{param_laws}
+use denote.Triple.Walked.{Stays, stay_dropped, walk_of, Goes-dropped}
+use Rattle.core.specs.Sync.Atomic.Pointer.{atomic_ptr_value, atomic_ptr_holding}
+use Rattle.core.specs.contracts.atomic.ptr.AtomicPtr as atomic
+use Rattle.core.proofs.atomic.ptr.AtomicPtr.TheLaws as atomic_laws
+use Rattle.core.proofs.alloc.Calls.{Goes-blank}
+use Rattle.core.proofs.cell.Inside.{Good, one}
+use Rattle.std.specs.contracts.alloc.Global as heap
+use Rattle.std.proofs.alloc.Global.TheLaws as heap_laws
+use Rattle.std.specs.declared.option.Option.{Option}
+use Rattle.std.specs.declared.option.Option.TheVariants.{Some}
+use Rattle.atomic_table.proofs.Fields.{token_val}
+use Rattle.tie_core.specs.Visit.{EntryTie}
+use Rattle.tie_core.specs.contracts.visit.EntrySeat as own
+use Rattle.tie_core.proofs.VisitParts.{entry_seat_told}
+use denote.Triple.Entry.{alive}
+use Rattle.table_core.specs.Entry.{EntryView, Mould, Cast, tie_of, mould_at}
+use Rattle.table_core.specs.TiedEntry.{tied_kept}
+use Rattle.table_core.specs.contracts.entry.steps.Entry.TheInside as inside
+use Rattle.table_core.proofs.Values.{both_tt}
+use Rattle.std.proofs.raw_atomic.Walks.{proved_at, leaves}
+use Rattle.table_core.proofs.Values.{both, two_in}
+use Rattle.table_core.specs.contracts.entry.steps.Entry.empty_for.{ended, clauses}
+use Rattle.table_core.specs.contracts.entry.steps.Entry.empty_for.Key.{name as #self}
+use Rattle.table_core.proofs.entry.steps.Entry.empty_for.Statement.{statement}
+use Rattle.table_core.proofs.entry.steps.Entry.empty_for.Code as code
+
+pub empty_for_spec : {M : Type 1} → statement M
+empty_for_spec 𝓤 𝓛 𝓜 𝓡 wired T Mt L _ g d g' d' _ _ =
+    let H = 𝓛.H in let 𝓣 = tables 𝓤 H 𝓜 𝓡 𝓡.env in let R : RattleType = param 0 T in let LR = param_laws 0 T L in let Mr : RattleType = param 1 Mt in let En = ended T Mt g d g' d' in let c = clauses T Mt g d g' d' 𝓛 𝓜.mem 𝓡.returns in
+    let inst = bounded (a_type ∷ a_type ∷ []) (T, (Mt, tt)) (dcons d (dcons d' dnil)) in let fn = inst_fn inst code.function in let Z : RattleType = heap.the_row in let LZ = heap_laws.the_row_laws in let P : RattleType = atomic.the_row R in let LP = atomic_laws.the_row_laws R LR in
+    let S : RattleType = own.the_row in let like = RefOf (0 ∷ []) tt (plain (λ _. Mr)) (λ _. tt) in
+    let hs : Stays En.signature.params En.kept = (stay_dropped (plain (λ _. P)) no, (stay_dropped (plain (λ _. Z)) yes, (stay_dropped (plain (λ _. u64)) yes, (stay_dropped (plain (λ _. S)) yes, (stay_dropped like yes, tt))))) in
+    proved_at 𝓛 En hs c 𝓜 𝓡 (Goes-blank 𝓛 3 (plain (λ _. P)) no (λ κs x f. tt), (Goes-dropped 𝓛 3 (plain (λ _. Z)) yes (λ κs x f. refl), (Goes-dropped 𝓛 3 (plain (λ _. u64)) yes (λ κs x f. refl), (Goes-dropped 𝓛 3 (plain (λ _. S)) yes (λ κs x f. refl), (Goes-dropped 𝓛 3 like yes (λ κs x f. refl), tt))))) (#self inst) fn (code.unfolded 𝓤 H 𝓜 𝓡 wired (T, (Mt, tt)) d d') (λ z are.
+    let κs = z.0.0 in let qs = z.0.1 in let Post : Val → SProp 𝓤 = (walk_of 𝓛 En hs c).post z in let Run : List Val → SProp 𝓤 = λ ws. WpFn 𝓤 H 𝓣.C 𝓣.Λ fn ws Post in let Out : RattleType = type_at En.signature.result κs in
+    let x = z.0.3.0 in let a = z.0.3.1.0 in let n : ℕ = z.0.3.1.1.0 in let len : Val = vint w64 n in let t : EntryTie = z.0.3.1.1.1.0.tie in let τ : Option EntryTie = Some t in let mould : Mould = g'.mould z.0.3.1.1.1.1.0.now n in let q : Val = vptr z.0.3.1.1.1.1.0.ref_ptr.0 z.0.3.1.1.1.1.0.ref_ptr.1 in
+    let v = one (layout P) z.0.4.0 ((LP.lawful 𝓛).typed x z.0.4.0 are.0) in let h = one (layout Z) z.0.4.1.0 ((LZ.lawful 𝓛).typed a z.0.4.1.0 are.1.0) in let w : Val = both v.0 h.0 in
+    let good : Good (layout Out) w = (both_tt (has_ty (layout P) v.0) (has_ty (layout Z) h.0) v.2.0 h.2.0, (v.2.1, (h.2.1, tt))) in
+    qed 𝓛 ((raw (alive 𝓛 En.signature κs qs) ⊛ ‵ (owns (types_at En.signature.params κs) z.0.3 z.0.4)) ∷ raw (fact 𝓤 _) ∷ raw (fact 𝓤 _) ∷ raw (fact 𝓤 (atomic_ptr_value x ≡ null_ptr)) ∷ []) ∵
+    move ! (3 ∷ []) $ heard ! (atomic_ptr_value x ≡ null_ptr) (λ empty. split ! $ move ! (1 ∷ []) $ fsplit3 ! $ move ! (2 ∷ []) $ fsplit3 ! $ move ! (1 ∷ []) $ fsplit ! $ move ! (4 ∷ 5 ∷ 1 ∷ []) $
+    -- [the word; the allocator; the seat; its words; the length; the `&`; the tokens]
+    rewrite ! 0 (λ (us : List Val). ‵ (P.own_val x us)) v.1 refl $ rewrite ! 1 (λ (us : List Val). ‵ (Z.own_val a us)) h.1 refl $ rewrite ! 0 (λ (p : Ptr). ‵ (P.own_val (atomic_ptr_holding p) (v.0 ∷ []))) empty refl $
+    two_in P Z (atomic_ptr_holding null_ptr) a ! v.0 h.0 $
+    suffices ! (Run (v.0 ∷ h.0 ∷ len ∷ token_val ∷ q ∷ [])) (subst (λ (us : List Val). ent 𝓤 (Run (v.0 ∷ h.0 ∷ len ∷ token_val ∷ q ∷ [])) (Run us)) (sym (λ i. v.1 i ++ (h.1 i ++ (are.1.1.0.0 i ++ (entry_seat_told z.0.4.1.1.1.0 are.1.1.1.0.0 i ++ (are.1.1.1.1.0.0 i ++ [])))))) (id⊢ 𝓤 (Run (v.0 ∷ h.0 ∷ len ∷ token_val ∷ q ∷ [])))) $
+    enter ! 𝓣.C 𝓣.Λ fn (v.0 ∷ h.0 ∷ len ∷ token_val ∷ q ∷ []) Post $ alloc_all ! (λ l. pass_all ! refl (v.2, (h.2, ((tt, record { fits = are.1.1.0.1 }), ((tt, (tt, tt)), ((tt, tt), tt))))) $ name_new ! tt gnil (λ γ. let e : EntryView = (a, n, γ, Some (t, mould)) in fjoin ! $ move ! (0 ∷ 2 ∷ []) $ fjoin ! $ move ! (1 ∷ 0 ∷ []) $ fjoin ! $
+    fpack ! Ptr (λ p. fsep ((inside.the_row R g).own_val (record { word = atomic_ptr_holding p; alloc = a }) (w ∷ [])) (tied_kept (Cast R g.measure g.mould e) g.seat a γ τ p)) null_ptr $ nothing ! $ fpack ! (Typed Out.mir (w ∷ [])) (λ _. ftrue) (good, tt) $ fjoin ! $ sets ! (of_opd ! (get ! refl)) refl v.2 $
+    sets ! (agg ! (and_then ! (get ! refl) (and_then ! (get ! refl) (no_more !)))) refl good $
+    let Told : Type 0 = (n ≡ n) × (tie_of e ≡ τ) × (mould_at e ≡ mould) in use0 𝓛 (raw (fact 𝓤 Told)) (fact_i 𝓤 Told (emp 𝓤) (refl, refl, refl)) $ nothing ! $ nothing ! $ fjoin ! $ nothing ! $ fjoin ! $ nothing ! $ fjoin ! $ nothing ! $ fjoin ! $ nothing ! $ fjoin ! $
+    returns ! (look_at ! 0 refl) $ free_all ! refl $ keep ! (6 ∷ 0 ∷ 2 ∷ 1 ∷ []) $ by ! (leaves 𝓛 En hs c z w e (_, (tt, (tt, (tt, (tt, tt))))) (tt, (tt, (tt, (tt, (tt, tt))))))))))

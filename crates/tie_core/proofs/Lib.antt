@@ -1,0 +1,7 @@
+mod Twice
+mod SeatSteps
+mod DeskParts
+mod DeskSent
+pub mod VisitParts
+pub mod OfferMade
+pub mod SeatsMade

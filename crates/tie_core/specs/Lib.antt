@@ -1,0 +1,4 @@
+pub mod Tie
+pub mod Desk
+pub mod Permits
+pub mod Visit

@@ -1,5 +1,6 @@
 //! The exports that open, end and describe a hand.
-ghost use Rattle.std.specs.Prelude.{◌≡◌, ◌<◌, None, IfOk, IfErr};
+ghost use Rattle.std.specs.Prelude.{◌≡◌, ◌<◌, None, true, false, IfOk, IfErr, IfSome};
+ghost use Rattle.seg_core.specs.Segment.{IsLimit};
 ghost use Rattle.claim_core.specs.Hand.{SeesSize, seen_size};
 ghost use Rattle.grow_core.specs.Vector.{limit_of};
 ghost use Rattle.kehldora_c.specs.Held.{Keeps, OnBoth, OnHeld, OnHand, OnHands, IsHand, width_of};
@@ -21,6 +22,33 @@ pub extern "C" fn kehldora_raw_version() -> u32
     1
 }
 
+// What a handle is to have, in a box, if there is memory.
+fn boxed(alloc: Global, held: Held) -> Option<Box<Held>>
+    ensures { IfSome result (λ boxed. boxed.value ≡ held) }
+{
+    Box::new(alloc, held).ok()
+}
+
+// A box with a hand of value elements, of a new vector.
+fn new_values(alloc: Global, limit: u64, words: u64, layout: Layout) -> Result<Box<Held>, Status>
+    requires { IsLimit limit }
+    ensures new { IfOk result (λ held. IsNewHand limit words layout false held.value) }
+    ensures refused { IfErr result (OpenDue limit words layout) }
+{
+    let any = hands::open(alloc, limit, words, layout)?;
+    boxed(alloc, Held::Hand(any)).ok_or(Status::NoMemory)
+}
+
+// A box with a hand of opaque elements, of a new vector.
+fn new_opaque(alloc: Global, limit: u64, words: u64, layout: Layout) -> Result<Box<Held>, Status>
+    requires { IsLimit limit }
+    ensures new { IfOk result (λ held. IsNewHand limit words layout true held.value) }
+    ensures refused { IfErr result (OpenDue limit words layout) }
+{
+    let any = opaque_hands::open(alloc, limit, words, layout)?;
+    boxed(alloc, Held::OpaqueHand(any)).ok_or(Status::NoMemory)
+}
+
 // A box with a hand of a new vector.
 fn new_hand(
     alloc: Global,
@@ -38,14 +66,10 @@ fn new_hand(
     let Some(layout) = Layout::new(first) else {
         return Err(Status::BadNumber);
     };
-    let held = if opaque {
-        Held::OpaqueHand(opaque_hands::open(alloc, limit, words, layout)?)
+    if opaque {
+        new_opaque(alloc, limit, words, layout)
     } else {
-        Held::Hand(hands::open(alloc, limit, words, layout)?)
-    };
-    match Box::new(alloc, held) {
-        Ok(held) => Ok(held),
-        Err(_no_memory) => Err(Status::NoMemory),
+        new_values(alloc, limit, words, layout)
     }
 }
 

@@ -152,6 +152,24 @@ fn list_from<R: AllocGlobal>(rt: &R, from: u64) -> Result<Vec<u64>, AllocError> 
     Ok(list)
 }
 
+// Appends the values with tokens, and returns whether that was done.
+#[inline(always)]
+fn grow_by_list<R: Wait>(rt: &R, vector: &Shared<u64>, hand: &mut Hand<u64>, list: Vec<u64>) -> bool
+    requires ours { IsHandOf vector.now hand.old }
+    ensures of { hand.new.of ≡ hand.old.of }
+{
+    vector.grow_vec(rt, hand, list).is_ok()
+}
+
+// Appends the values without tokens, and returns whether that was done.
+#[inline(always)]
+fn append_list<R: Wait>(rt: &R, vector: &Shared<u64>, hand: &mut Hand<u64>, list: Vec<u64>) -> bool
+    requires ours { IsHandOf vector.now hand.old }
+    ensures of { hand.new.of ≡ hand.old.of }
+{
+    vector.append(rt, hand, list).is_ok()
+}
+
 // Appends a list of values, with tokens or without: whether that was done, or nothing without memory for the list.
 fn grow_once<R: Wait + AllocGlobal>(
     rt: &R,
@@ -163,10 +181,11 @@ fn grow_once<R: Wait + AllocGlobal>(
     requires ours { IsHandOf vector.now hand.old }
     ensures of { hand.new.of ≡ hand.old.of }
 {
-    match list_from(rt, from) {
-        Ok(list) if has_tokens => Some(vector.grow_vec(rt, hand, list).is_ok()),
-        Ok(list) => Some(vector.append(rt, hand, list).is_ok()),
-        Err(AllocError) => None,
+    let list = list_from(rt, from).ok()?;
+    if has_tokens {
+        Some(grow_by_list(rt, vector, hand, list))
+    } else {
+        Some(append_list(rt, vector, hand, list))
     }
 }
 

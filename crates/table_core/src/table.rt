@@ -111,7 +111,6 @@ impl<T> Table<T> {
     }
 
     /// Makes a table without blocks. It takes no memory from the allocator.
-    #[tactic(auto, using(crate::proofs::Bonds::plain_kind))]
     pub fn new_in(alloc: Global, layout: Layout) -> Table<T>
         ensures { result.layout ≡ layout }
     {

@@ -13,7 +13,7 @@ use tie_core::{EntryBook, EntrySeat, Staged, Tag, Visit};
 
 impl<T> Table<T, Tied> {
     /// Makes a table without blocks, whose entries may be tied; none is yet. It takes no memory from the allocator.
-    #[tactic(auto, using(crate::proofs::Bonds::plain_kind, crate::proofs::Bonds::plain_among))]
+    #[tactic(auto, using(crate::proofs::Bonds::plain_among))]
     pub fn new_for(alloc: Global, layout: Layout) -> Table<T, Tied>
         ensures layout { result.layout ≡ layout }
         ensures untied { (k : ℕ) → k < segment_count layout → entry_tie result k ≡ None }

@@ -1,6 +1,6 @@
 //! The table of segments.
 ghost use Rattle.std.specs.Prelude.{◌≡◌, ◌<◌, ◌≤◌, ℕ, None, slice_index, IfSome, IfOk};
-ghost use Rattle.table_core.specs.Table.{AllFit, AllPlain, IsBlockOf, IsKeyIn, IsKeyOf, IsLengthOf};
+ghost use Rattle.table_core.specs.Table.{AllFit, AllPlain, IsBlockOf, IsKeyIn, IsKeyOf, IsLengthOf, entry_tie};
 ghost use Rattle.seg_core.specs.Segment.{IsLayout, segment_count, most_segments};
 ghost use Rattle.table_core.specs.Entry.{length_of, tie_of};
 
@@ -114,6 +114,17 @@ impl<T> Table<T> {
     pub fn new_in(alloc: Global, layout: Layout) -> Table<T>
         ensures { result.layout ≡ layout }
     {
+        Table::without_blocks(alloc, layout)
+    }
+}
+
+impl<T, B: Kind> Table<T, B> {
+    // A table of entries of which none is set or tied.
+    #[tactic(auto, using(crate::proofs::Bonds::plain_among))]
+    fn without_blocks(alloc: Global, layout: Layout) -> Table<T, B>
+        ensures layout { result.layout ≡ layout }
+        ensures untied { (k : ℕ) → k < segment_count layout → entry_tie result k ≡ None }
+    {
         // It is one from 1 to 8.
         let _f = layout.f();
         let entries = empty_entries(alloc, layout);
@@ -125,9 +136,7 @@ impl<T> Table<T> {
             held: None,
         }
     }
-}
 
-impl<T, B: Kind> Table<T, B> {
     /// Returns how the places are divided into segments.
     pub fn layout(&self) -> Layout
         ensures value { result ≡ self.now.layout }

@@ -5,7 +5,7 @@ ghost use Rattle.seg_core.specs.Segment.{segment_count};
 ghost use Rattle.table_core.specs.Table.{HasSet, IsKeyOf, IsTiedBlockOf, IsTiedBy, KeepsOtherBonds, KeepsOtherEntries, RenewsEntry, content_in, entry_tie};
 
 use crate::entry::{Entry, EntrySight};
-use crate::table::{Key, Table, empty_entries};
+use crate::table::{Key, Table};
 use cell_core::block::{Block, Tied};
 use seg_core::Layout;
 use std::alloc::Global;
@@ -13,21 +13,11 @@ use tie_core::{EntryBook, EntrySeat, Staged, Tag, Visit};
 
 impl<T> Table<T, Tied> {
     /// Makes a table without blocks, whose entries may be tied; none is yet. It takes no memory from the allocator.
-    #[tactic(auto, using(crate::proofs::Bonds::plain_among))]
     pub fn new_for(alloc: Global, layout: Layout) -> Table<T, Tied>
         ensures layout { result.layout ≡ layout }
         ensures untied { (k : ℕ) → k < segment_count layout → entry_tie result k ≡ None }
     {
-        // It is one from 1 to 8.
-        let _f = layout.f();
-        let entries = empty_entries(alloc, layout);
-        Table {
-            layout,
-            alloc,
-            entries,
-            lent: None,
-            held: None,
-        }
+        Table::without_blocks(alloc, layout)
     }
 
     /// Returns the entry's block if it is set now, by one load. The visit's update runs in the load, and the visit

@@ -1,6 +1,6 @@
 use Rattle.std.proofs.lemmas.Option.{none-some}
 use Rattle.table_core.proofs.Bonds.{plain_kind}
-use Rattle.table_core.proofs.table.Table+T.new_in.Goals as goal
+use Rattle.table_core.proofs.table.Table.without_blocks.Goals as goal
 
 pub invariant_of-result : goal.invariant_of-result
 invariant_of-result g c = (

@@ -120,9 +120,20 @@ true_is_not e = cc
 pub tied_kind : (f : ℕ) (entries : List EntryView) → AreOfKind true f None entries
 tied_kind f entries = record { plain = λ none. absurd (true_is_not none); untied = λ k some. absurd (none-some k some) }
 
--- what follows for a table once an entry is replaced, or is set to a block, or is tied
+-- the entry of a block that is lent is not tied
+pub untied_lent : (tied : Bool) (f : ℕ) (lent : Option ℕ) (entries : List EntryView) (k : ℕ) → AreOfKind tied f lent entries → lent ≡ Some k
+    → tie_among entries k ≡ None
+untied_lent tied f lent entries k are some = are.untied k some
+
+pub plain_lent : (tied : Bool) (f : ℕ) (lent : Option ℕ) (entries : List EntryView) (k : ℕ) (e : EntryView) → AreOfKind tied f lent entries
+    → lent ≡ Some k → k < length entries → e ≡ get_or entries k e → tie_of e ≡ None
+plain_lent tied f lent entries k e are some near is = sym (ap tie_in (bond_read entries k e near is)) ∙ are.untied k some
+
+-- what follows for a table once an entry is replaced, is set to a block, or is tied; and once a block is lent or comes back
 pub ruleset replaced = (names_kept, renamed_there, bonds_kept, untied_replaced, kind_replaced)
 
 pub ruleset attached = (names_kept, name_there, bonds_kept, untied_there, kind_set)
 
 pub ruleset retied = (names_kept, renamed_there, bonds_kept, tied_kind)
+
+pub ruleset lending = (kind_back, kind_lent, untied_lent, plain_lent)

@@ -46,7 +46,7 @@ impl<T: Drop, B: Kind> Table<T, B> {
 
     /// Puts the block that `block_mut` lent back into its entry if it is still as long as the segment, and
     /// drops it otherwise. The other exclusive calls do so too.
-    #[tactic(auto, using(crate::proofs::Bonds::kind_back))]
+    #[tactic(auto, using(crate::proofs::Bonds::lending))]
     pub fn put_back(&mut self)
         ensures layout { self.new.layout ≡ self.old.layout }
         ensures names { self.new.names ≡ self.old.names }
@@ -101,6 +101,7 @@ impl<T: Drop, B: Kind> Table<T, B> {
     }
 
     // The block of the entry, taken out of it or out before.
+    #[tactic(auto, using(crate::proofs::Bonds::lending))]
     fn lend(&mut self, segment: u32) -> Option<Lent<T, B>>
         requires { segment < segment_count self.old.layout }
         ensures layout { self.new.layout ≡ self.old.layout }
@@ -156,7 +157,7 @@ impl<T: Drop, B: Kind> Table<T, B> {
 
     /// Lends the entry's block if it is set. The entry then has a fresh name and no tie, and shows its block to shared
     /// calls only from the next exclusive call on.
-    #[tactic(auto, using(crate::proofs::Bonds::kind_lent))]
+    #[tactic(auto, using(crate::proofs::Bonds::lending))]
     pub fn block_mut(&mut self, segment: u32) -> Option<&mut Block<T, Global, B>>
         requires { segment < segment_count self.old.layout }
         ensures* others { sem 𝓛 (LendsBlock T.row B.row B.Kind self.entry segment result) }

@@ -3,8 +3,9 @@ use Rattle.std.proofs.Common.{◌≡◌, Bool, true, false, ℕ, zero, suc, ◌<
 use Rattle.std.specs.Prelude.{Option, None, Some}
 use Rattle.std.proofs.lemmas.Option.{none-some}
 use Rattle.seg_core.specs.Segment.{segment_count}
-use Rattle.table_core.specs.Entry.{EntryView, bond_of, tie_of, tie_in}
-use Rattle.table_core.specs.Table.{AllPlain, AreOfKind, tie_among}
+use Rattle.tie_core.specs.Visit.{EntryTie}
+use Rattle.table_core.specs.Entry.{EntryView, Mould, bond_of, length_of, mould_at, mould_in, tie_of, tie_in}
+use Rattle.table_core.specs.Table.{AllFit, AllPlain, AreOfKind, IsLengthOf, tie_among}
 use Rattle.table_core.proofs.Names.{names_kept, name_there, renamed_there}
 
 -- every other entry is tied as it was
@@ -42,6 +43,15 @@ untied_there entries k e near bare = ap tie_in (bond_there entries k e near) ∙
 pub untied_replaced : (entries : List EntryView) (k : ℕ) (x e : EntryView) → k < length entries → tie_of e ≡ None
     → tie_among (slice_set (slice_set entries k x) k e) k ≡ None
 untied_replaced entries k x e near bare = ap tie_in (bond_replaced entries k x e near) ∙ bare
+
+-- one that is tied has its tie and its mould there
+pub tied_replaced : (entries : List EntryView) (k : ℕ) (x e : EntryView) (own : EntryTie) → k < length entries → tie_of e ≡ Some own
+    → tie_among (slice_set (slice_set entries k x) k e) k ≡ Some own
+tied_replaced entries k x e own near tied = ap tie_in (bond_replaced entries k x e near) ∙ tied
+
+pub mould_replaced : (entries : List EntryView) (k : ℕ) (x e : EntryView) (m : Mould) → k < length entries → mould_at e ≡ m
+    → mould_in (slice_index_or (map bond_of (slice_set (slice_set entries k x) k e)) k None) ≡ m
+mould_replaced entries k x e m near is = ap mould_in (bond_replaced entries k x e near) ∙ is
 
 -- an entry that is read at a place is tied as the one there
 pub bond_read : (entries : List EntryView) (k : ℕ) (e : EntryView) → k < length entries → e ≡ get_or entries k e
@@ -97,6 +107,20 @@ pub kind_replaced : (tied : Bool) (f : ℕ) (lent : Option ℕ) (entries : List 
     → tie_of e ≡ None → AreOfKind tied f lent (slice_set (slice_set entries k x) k e)
 kind_replaced tied f lent entries k x e are bare =
     subst (λ (es : List EntryView). AreOfKind tied f lent es) (sym (set_twice entries k x e)) (kind_set tied f lent entries k e are bare)
+
+-- what holds of each entry by its place holds after one was replaced, if it holds of the new one
+each_set : (P : ℕ → EntryView → Type 0) (entries : List EntryView) (k : ℕ) (e : EntryView) → ((j : ℕ) (d : EntryView) → P j (get_or entries j d)) → P k e
+    → (j : ℕ) (d : EntryView) → P j (get_or (slice_set entries k e) j d)
+each_set P [] k e all here j d = all j d
+each_set P (x ∷ xs) zero e all here zero d = here
+each_set P (x ∷ xs) zero e all here (suc j) d = all (suc j) d
+each_set P (x ∷ xs) (suc k) e all here zero d = all 0 d
+each_set P (x ∷ xs) (suc k) e all here (suc j) d = each_set (λ (i : ℕ) (y : EntryView). P (suc i) y) xs k e (λ i c. all (suc i) c) here j d
+
+-- each entry is as long as its segment, if the new one is
+pub fit_set : (f : ℕ) (entries : List EntryView) (k : ℕ) (e : EntryView) → AllFit f entries → IsLengthOf f k (length_of e) → AllFit f (slice_set entries k e)
+fit_set f entries k e all here j d less =
+    each_set (λ (i : ℕ) (y : EntryView). i < segment_count f → IsLengthOf f i (length_of y)) entries k e (λ i c. all i c) (λ within. here) j d less
 
 -- no block is lent any more
 pub kind_back : (tied : Bool) (f : ℕ) (lent : Option ℕ) (entries : List EntryView) → AreOfKind tied f lent entries → AreOfKind tied f None entries

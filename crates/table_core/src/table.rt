@@ -39,6 +39,8 @@ pub struct Table<T, B: Kind = Plain> {
     alloc: Global,
     entries: [Entry<Block<T, Global, B>>; MOST_SEGMENTS],
     lent: Option<Lent<T, B>>,
+    // The entry whose block is lent.
+    out: Option<u32>,
     held: Option<Held>,
 }
 
@@ -56,13 +58,13 @@ impl<T, B: Kind> Model for Table<T, B> {
     ghost view = { λ t. record {
       layout = t.layout;
       names = map name_of t.entries;
-      lent = option_map (λ l. l.segment) t.lent;
+      lent = t.out;
       held = option_map (λ h. h.segment) t.held;
       bonds = map bond_of t.entries;
     } };
 
     ghost invariant = { λ t. IsLayout t.layout × AllFit t.layout t.entries
-        × AreOfKind B.tied t.layout (option_map (λ l. l.segment) t.lent) t.entries
+        × AreOfKind B.tied t.layout t.out t.entries
         × ForSome t.held (λ h. slice_index (map name_of t.entries) h.segment ≡ h.sight.of) };
 }
 
@@ -133,6 +135,7 @@ impl<T, B: Kind> Table<T, B> {
             alloc,
             entries,
             lent: None,
+            out: None,
             held: None,
         }
     }

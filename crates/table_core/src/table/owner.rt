@@ -2,7 +2,7 @@
 ghost use Rattle.std.specs.Prelude.{◌≡◌, ◌≢◌, ◌<◌, Some, None, slice_index, MatchOption, IfSome, IsSome, IsTrue};
 ghost use Rattle.table_core.specs.Entry.{Agrees};
 ghost use Rattle.table_core.specs.Table.{IsBlockOf, IsKeyIn, IsKeyOf, KeepsOtherBonds, KeepsOtherEntries, RenewsEntry, entry_tie};
-ghost use Rattle.seg_core.specs.Segment.{segment_count, most_segments};
+ghost use Rattle.seg_core.specs.Segment.{segment_count};
 
 use crate::entry::{Entry, EntrySight};
 use crate::table::{Key, Table, empty_entry};
@@ -14,9 +14,7 @@ use std::mem::replace;
 // A block that was taken out of its entry, and is not back.
 #[derive(Drop)]
 pub(crate) struct Lent<T, B: Kind = Plain> {
-    pub(crate) segment: u32,
     pub(crate) block: Box<Block<T, Global, B>>,
-    ghost within: { segment < most_segments },
 }
 
 // An entry that is known to be set.
@@ -27,15 +25,14 @@ pub(crate) struct Held {
     ghost set: { sight.known ≢ None },
 }
 
-// Tests whether the entry's block is lent, and as long as its segment.
-fn is_out<T, B: Kind>(lent: &Option<Lent<T, B>>, layout: Layout, segment: u32) -> bool
+// Tests whether the block that is lent is as long as the segment.
+fn has_length_of<T, B: Kind>(lent: &Option<Lent<T, B>>, layout: Layout, segment: u32) -> bool
     requires { segment < segment_count layout }
-    ensures of { IsTrue result → IfSome lent.now (λ l. l.segment ≡ segment) }
     ensures length { IsTrue result → IfSome lent.now (λ l. IsBlockOf layout segment l.block.value) }
     ensures some { IsTrue result → IsSome lent.now }
 {
     match lent {
-        Some(lent) => lent.segment == segment && lent.block.len() == layout.len(segment),
+        Some(lent) => lent.block.len() == layout.len(segment),
         None => false,
     }
 }
@@ -53,7 +50,8 @@ impl<T: Drop, B: Kind> Table<T, B> {
         ensures bonds { self.new.bonds ≡ self.old.bonds }
         ensures back { self.new.lent ≡ None }
     {
-        if let Some(Lent { segment, block }) = self.lent.take() {
+        let out = self.out.take();
+        if let (Some(segment), Some(Lent { block })) = (out, self.lent.take()) {
             if segment < self.layout.segments() && block.len() == self.layout.len(segment) {
                 let entry = &self.entries[segment as usize];
                 drop(entry.set(block, &mut entry.sight()));
@@ -107,16 +105,18 @@ impl<T: Drop, B: Kind> Table<T, B> {
         ensures layout { self.new.layout ≡ self.old.layout }
         ensures others { KeepsOtherEntries self.old self.new segment }
         ensures bonds { KeepsOtherBonds self.old self.new segment }
-        ensures untied { IfSome result (λ l. entry_tie self.new l.segment ≡ None) }
         ensures there { self.old.held ≡ Some segment → IsSome result }
         ensures length { IfSome result (λ l. IsBlockOf self.old.layout segment l.block.value) }
     {
-        if is_out(&self.lent, self.layout, segment) {
+        if self.out == Some(segment) && has_length_of(&self.lent, self.layout, segment) {
             return self.lent.take();
         }
         let sight = self.sight(segment);
         match self.take_out(segment, &sight) {
-            Some(block) => Some(Lent { segment, block }),
+            Some(block) => {
+                self.out = Some(segment);
+                Some(Lent { block })
+            }
             None => None,
         }
     }
@@ -157,7 +157,6 @@ impl<T: Drop, B: Kind> Table<T, B> {
 
     /// Lends the entry's block if it is set. The entry then has a fresh name and no tie, and shows its block to shared
     /// calls only from the next exclusive call on.
-    #[tactic(auto, using(crate::proofs::Bonds::lending))]
     pub fn block_mut(&mut self, segment: u32) -> Option<&mut Block<T, Global, B>>
         requires { segment < segment_count self.old.layout }
         ensures* others { sem 𝓛 (LendsBlock T.row B.row B.Kind self.entry segment result) }

@@ -200,11 +200,11 @@ fn is_attached_again(
     requires layout { segments.old.layout ≡ 1 }
     requires length { block_len block.value ≡ 2 }
 {
-    let _layout = segments.layout();
     let key = segments.attach(1, block);
     let block = segments.detach(&key);
     let _key = segments.attach(1, block);
     let is_lent = segments.block_mut(1).is_some();
+    let _layout = segments.layout();
     let is_back = segments.key_now(1).is_some();
     segments.give_up(1);
     is_lent && is_back && segments.scout(1).is_none() && segments.installed() == 0

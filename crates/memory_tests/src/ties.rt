@@ -4,6 +4,9 @@ ghost use Rattle.std.specs.Prelude.{◌≡◌, ◌+◌, ◌*◌, ◌<◌, ◌⊎
 ghost use Rattle.cell_core.specs.Block.{block_len, cell_at};
 ghost use Rattle.tie_core.specs.Tie.{looks, stage_number};
 ghost use Rattle.tie_core.specs.Desk.{IsTieOf};
+ghost use Rattle.memory_tests.specs.Found.{content_number};
+
+mod entries;
 
 use atomic_table::{Badge, Shared, Table, TableRule};
 use cell_core::block::{Block, Look, Tied};
@@ -46,8 +49,8 @@ impl EntryPlay<()> for Anything {
     ghost then = { λ _ _ _ _. Unit {0} };
 }
 
-// Any table is right. Views are numbers: a stage shows as its number, and a look tells the seat of its caller the
-// number that was told, and how far the cell was.
+// Any table is right. Views are numbers: a stage shows as its number, and a look at a cell tells the seat of its caller
+// the number that was told, and how far the cell was. A step on an entry tells the number of the seat that it found.
 struct Telling;
 
 impl<S> TableRule<S, u64, ()> for Telling {
@@ -64,6 +67,22 @@ impl CellPlay<u64> for Telling {
     ghost step = { looks };
 
     ghost then = { λ told _ from _ after. after ≡ told * 8 + stage_number from };
+}
+
+impl RowPlay<u64> for Telling {
+    ghost owner = { λ _ _. 0 };
+}
+
+impl Entered<u64> for Telling {
+    ghost empty = { λ _ _. 0 };
+
+    ghost placed = { λ _ _. 0 };
+
+    ghost spent = { 0 };
+}
+
+impl EntryPlay<u64> for Telling {
+    ghost then = { λ _ _ found after. after ≡ content_number found };
 }
 
 // A look that finds a cell empty tells the caller's seat that nobody had begun it, or that it was begun.

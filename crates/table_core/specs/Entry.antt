@@ -44,6 +44,9 @@ length_of e = e.1
 abbrev pub name_of : EntryView → ℕ
 name_of e = e.2
 
+abbrev pub bond_of : EntryView → Option Bond
+bond_of e = e.3
+
 abbrev pub tie_in : Option Bond → Option EntryTie
 tie_in None = None
 tie_in (Some u) = Some u.0

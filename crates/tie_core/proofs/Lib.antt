@@ -4,4 +4,5 @@ mod DeskParts
 mod DeskSent
 pub mod VisitParts
 pub mod OfferMade
+pub mod RunOfferMade
 pub mod SeatsMade

@@ -18,6 +18,7 @@
 mod desk;
 mod offer;
 mod play;
+mod run;
 mod seats;
 mod tag;
 mod visit;
@@ -25,6 +26,7 @@ mod visit;
 pub use desk::Desk;
 pub use offer::{Book, Offer};
 pub use play::{CellPlay, Moving, RowPlay, SeatMove, Staged};
+pub use run::{RunBook, RunOffer, RunPlay, SeatRun};
 pub use seats::Seats;
 pub use tag::{Numbered, Tag};
 pub use visit::{Entered, EntryBook, EntryPlay, EntrySeat, EntryTag, SeatVisit, Visit};

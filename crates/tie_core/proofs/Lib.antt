@@ -2,6 +2,7 @@ mod Twice
 mod SeatSteps
 mod DeskParts
 mod DeskSent
+mod FixedParts
 pub mod VisitParts
 pub mod OfferMade
 pub mod RunOfferMade

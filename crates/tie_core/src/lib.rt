@@ -16,6 +16,7 @@
 #![tactic(auto)]
 
 mod desk;
+mod fixed;
 mod offer;
 mod play;
 mod run;
@@ -24,6 +25,7 @@ mod tag;
 mod visit;
 
 pub use desk::Desk;
+pub use fixed::TiedCells;
 pub use offer::{Book, Offer};
 pub use play::{CellPlay, Moving, RowPlay, SeatMove, Staged};
 pub use run::{RunBook, RunOffer, RunPlay, SeatRun};

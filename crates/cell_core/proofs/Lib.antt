@@ -4,6 +4,7 @@ mod WordSteps
 mod Twice
 mod CellSteps
 mod RunSteps
+mod TiedRuns
 mod RunMade
 mod CellSent
 mod CellMade

@@ -3,8 +3,8 @@ use Rattle.std.proofs.Common.{Bool, true, false, take, drop, append_assoc, appen
 use Rattle.std.specs.Prelude.{Option}
 use Rattle.tie_core.specs.Tie.{Tie}
 use Rattle.cell_core.specs.Slot.{Names, IsPlain, ArePlain, AreTied, cell_in}
-use Rattle.cell_core.specs.Laid.{AreOfKind, HasOneRenamed, HasMore, HasMoreTied}
-use Rattle.cell_core.specs.Run.{cells_from}
+use Rattle.cell_core.specs.Laid.{IsOfKind, AreOfKind, HasOneRenamed, HasMore, HasMoreTied}
+use Rattle.cell_core.specs.Run.{AreRunOfKind, cells_from}
 
 -- one cell that is renamed, if the former is plain
 plain_set : (γs : List Names) (i : ℕ) (c : Names) → (IsPlain (cell_in γs i) → IsPlain c) → ((j : ℕ) → IsPlain (cell_in γs j)) → (j : ℕ) → IsPlain (cell_in (set γs i c) j)
@@ -49,6 +49,17 @@ true_is_not e = cc
 -- cells that may be tied are of that kind
 pub tied_kind : (γs : List Names) → AreOfKind true γs
 tied_kind γs = record { plain = λ none. absurd (true_is_not none) }
+
+-- the same of a run of them
+pub tied_run_kind : (γs : List Names) → AreRunOfKind true γs
+tied_run_kind γs = record { plain = λ none. absurd (true_is_not none) }
+
+-- the first cell of a run of a kind is of that kind, and so are the others
+pub run_first : (tied : Bool) (γ : Names) (γs Γs : List Names) → γ ∷ γs ≡ Γs → AreRunOfKind tied Γs → IsOfKind tied γ
+run_first tied γ γs Γs is are = record { plain = λ none. (subst ArePlain (sym is) (are.plain none)).0 }
+
+pub run_others : (tied : Bool) (γ : Names) (γs Γs : List Names) → γ ∷ γs ≡ Γs → AreRunOfKind tied Γs → AreRunOfKind tied γs
+run_others tied γ γs Γs is are = record { plain = λ none. (subst ArePlain (sym is) (are.plain none)).1 }
 
 -- cells with ties, and more of them
 tied_join : (τs us : List (Option Tie)) (γs Γs : List Names) → AreTied τs γs → AreTied us Γs → AreTied (τs ++ us) (γs ++ Γs)

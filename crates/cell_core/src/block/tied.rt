@@ -1,11 +1,13 @@
 // Steps on cells that are tied to a table. Each call has one atomic step, which is its linearization point and runs an
 // update that the caller brings.
-ghost use Rattle.std.specs.Prelude.{◌≡◌, ◌≢◌, ◌<◌, ◌+◌, ℕ, Some, None, IfOk, IfErr, length};
+ghost use Rattle.std.specs.Prelude.{◌≡◌, ◌≢◌, ◌<◌, ◌≤◌, ◌+◌, ℕ, Some, None, IfOk, IfErr, length};
 ghost use Rattle.cell_core.specs.Block.{block_len, cell_at, IsPenAt, IsFresh, IsMending};
 ghost use Rattle.cell_core.specs.Shown.{IsFoundIn, IsLookAt, IsLookOf};
 ghost use Rattle.cell_core.specs.Slot.{AreTied, empty_state, broken_state};
 ghost use Rattle.cell_core.specs.Mould.{first_seat, last_seat, mould_of, row_mould};
+ghost use Rattle.cell_core.specs.Run.{AreTiedTo, cells_from};
 ghost use Rattle.tie_core.specs.Tie.{Tie, HasMade, begins, breaks, fills, looks, mends, row_of, tie_further, tie_numbered};
+ghost use Rattle.tie_core.specs.Run.{run_of};
 
 use crate::block::fields::{all_but, in_field, state_in, words_for};
 use crate::block::steps::{Laid, Link, Rooms};
@@ -58,6 +60,8 @@ impl<T, A: Allocator> Block<T, A, Tied> {
             → mould_of self.now.cells ≡ row_mould t n }
         ensures tied { (t : Tie) (n : ℕ) → mould_of self.now.cells ≡ row_mould t n
             → AreTied (row_of (tie_numbered t (first_seat self.now.cells)) n) self.now.cells }
+        ensures run { (t : Tie) (m offset n : ℕ) → AreTied (row_of t m) self.now.cells → offset + n ≤ m
+            → AreTiedTo (run_of (tie_further t offset) n) (cells_from n offset self.now.cells) }
         ensures last { (t : Tie) (n : ℕ) → AreTied (row_of t n) self.now.cells → 0 < n
             → last_seat self.now.cells ≡ t.id + n }
     {}

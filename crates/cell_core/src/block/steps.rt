@@ -5,7 +5,8 @@ ghost use base.Stored.{coded_list};
 ghost use prog.Memory.{capped};
 ghost use denote.RawPtr.{Ptr, coded_ptr};
 ghost use Rattle.cell_core.specs.Slot.{Names, names_coded, cell_in, step, filled_state, owner_broken_state};
-ghost use Rattle.cell_core.specs.Laid.{Extent, extent_coded, rooms_owned, laid, laid_lent, word_cells, FitsMemory, IsLinked, IsFieldOf, HasMore, HasMoreTied, HasOneRenamed};
+ghost use Rattle.cell_core.specs.Laid.{Extent, extent_coded, rooms_owned, laid, laid_lent, word_cells, FitsMemory, IsLinked, IsFieldOf, HasMore, HasMoreTied, HasOneRenamed, IsFixedAt};
+ghost use Rattle.tie_core.specs.Tie.{Idle, Filled, Broken};
 ghost use Rattle.cell_core.specs.Member.{Settles};
 ghost use Rattle.cell_core.specs.Run.{cells_from};
 
@@ -264,7 +265,8 @@ impl<T, A: Allocator> Laid<T, A> {
             × IsFieldOf self.old.cells index word keep
             × (written.now.of ≡ (cell_in self.old.cells index).value_name) }
         ensures { (self.new.heap ≡ self.old.heap) × (self.new.rows ≡ self.old.rows)
-            × HasOneRenamed self.old.cells index self.new.cells × (result ≡ written.now.value) }
+            × HasOneRenamed self.old.cells index self.new.cells × (result ≡ written.now.value)
+            × IsFixedAt self.old.cells index self.new.cells Idle }
     {
         unsafe {
             let place = link.words.add(word);
@@ -280,7 +282,8 @@ impl<T, A: Allocator> Laid<T, A> {
         requires { IsLinked self.old.rows.at link.words × IsLinked self.old.rows.rooms link.rooms
             × IsFieldOf self.old.cells index word keep }
         ensures { (self.new.heap ≡ self.old.heap) × (self.new.rows ≡ self.old.rows)
-            × HasOneRenamed self.old.cells index self.new.cells }
+            × HasOneRenamed self.old.cells index self.new.cells
+            × IsFixedAt self.old.cells index self.new.cells Idle }
     {
         unsafe {
             let place = link.words.add(word);
@@ -305,7 +308,8 @@ impl<T, A: Allocator> Laid<T, A> {
             × (state ≡ filled_state * 16 ^ (index % word_cells)) }
         ensures { (self.new.heap ≡ self.old.heap) × (self.new.rows ≡ self.old.rows)
             × HasOneRenamed self.old.cells index self.new.cells
-            × (result.of ≡ (cell_in self.new.cells index).value_name) × (result.value ≡ value) }
+            × (result.of ≡ (cell_in self.new.cells index).value_name) × (result.value ≡ value)
+            × IsFixedAt self.old.cells index self.new.cells Filled }
     {
         unsafe {
             let place = link.words.add(word);
@@ -335,7 +339,8 @@ impl<T, A: Allocator> Laid<T, A> {
         ensures { (self.new.heap ≡ self.old.heap) × (self.new.rows ≡ self.old.rows)
             × HasOneRenamed self.old.cells index self.new.cells
             × (result.of.epoch ≡ (cell_in self.new.cells index).epoch) × (result.of.value ≡ None)
-            × (result.of.epoch ≡ epoch.now.of ∷ []) }
+            × (result.of.epoch ≡ epoch.now.of ∷ [])
+            × IsFixedAt self.old.cells index self.new.cells Broken }
     {
         unsafe {
             let place = link.words.add(word);
@@ -365,7 +370,8 @@ impl<T, A: Allocator> Laid<T, A> {
         ensures { (self.new.heap ≡ self.old.heap) × (self.new.rows ≡ self.old.rows)
             × (result.of.name ≡ (cell_in self.old.cells index).value_name)
             × Settles self.old.cells index self.new.cells result.of.value result.of.epoch
-            × (result.of.epoch ≡ epoch.now.of ∷ []) }
+            × (result.of.epoch ≡ epoch.now.of ∷ [])
+            × (result.of.value ≡ None → IsFixedAt self.old.cells index self.new.cells Broken) }
     {
         unsafe {
             let place = link.words.add(word);
@@ -385,7 +391,8 @@ impl<T, A: Allocator> Laid<T, A> {
         requires { IsLinked self.old.rows.at link.words × IsLinked self.old.rows.rooms link.rooms
             × (offset < length self.old.cells) }
         ensures { (self.new.heap ≡ self.old.heap) × (self.new.rows ≡ self.old.rows)
-            × HasOneRenamed self.old.cells offset self.new.cells }
+            × HasOneRenamed self.old.cells offset self.new.cells
+            × IsFixedAt self.old.cells offset self.new.cells Idle }
     {
         let (word, index, keep) = (word_of(offset), offset as usize, keep_of(offset));
         let (found, sight) = self.cell(link, word, index).sight();

@@ -4,7 +4,7 @@ ghost use Rattle.std.specs.Prelude.{◌≡◌, ◌≢◌, ◌<◌, ◌≤◌, �
 ghost use Rattle.cell_core.specs.Block.{block_len, cell_at, IsPenAt, IsFresh, IsMending};
 ghost use Rattle.cell_core.specs.Shown.{IsFoundIn, IsLookAt, IsLookOf};
 ghost use Rattle.cell_core.specs.Slot.{AreTied, empty_state, broken_state};
-ghost use Rattle.cell_core.specs.Mould.{first_seat, last_seat, mould_of, row_mould};
+ghost use Rattle.cell_core.specs.Mould.{first_seat, last_seat, mould_of, row_mould, tie_in};
 ghost use Rattle.cell_core.specs.Run.{AreTiedTo, cells_from};
 ghost use Rattle.tie_core.specs.Tie.{Tie, HasMade, begins, breaks, fills, looks, mends, row_of, tie_further, tie_numbered};
 ghost use Rattle.tie_core.specs.Run.{run_of};
@@ -15,11 +15,16 @@ use crate::block::{Block, First, Found, Look, Pen, Placed, Spoilt, Tied, lay_for
 use crate::slot::steps::{BROKEN, BUSY, FILLED};
 use std::alloc::{AllocError, Allocator};
 use std::marker::PhantomData;
-use tie_core::{Book, Numbered, Offer, Seats};
+use tie_core::{Book, Numbered, Offer, Seats, TiedCells};
 
 // A block has the number of its first cell's seat.
 impl<T, A: Allocator> Numbered for Block<T, A, Tied> {
     ghost number = { λ block. first_seat block.cells };
+}
+
+// It has the ties of its cells.
+impl<T, A: Allocator> TiedCells for Block<T, A, Tied> {
+    ghost tie_at = { λ block i. tie_in (cell_at block i).tied };
 }
 
 impl<T, A: Allocator> Block<T, A, Tied> {

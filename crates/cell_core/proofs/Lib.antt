@@ -15,6 +15,7 @@ mod CellLends
 mod RestParts
 mod LaidParts
 mod LaidMade
+mod Untied
 mod RunParts
 mod RunFields
 mod SliceSteps

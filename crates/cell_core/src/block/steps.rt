@@ -7,12 +7,12 @@ ghost use denote.RawPtr.{Ptr, coded_ptr};
 ghost use Rattle.cell_core.specs.Slot.{Names, names_coded, cell_in, step, filled_state, owner_broken_state};
 ghost use Rattle.cell_core.specs.Laid.{Extent, extent_coded, rooms_owned, laid, laid_lent, word_cells, FitsMemory, IsLinked, IsFieldOf, HasMore, HasMoreTied, HasOneRenamed, IsFixedAt};
 ghost use Rattle.tie_core.specs.Tie.{Idle, Filled, Broken};
-ghost use Rattle.cell_core.specs.Member.{Settles};
+ghost use Rattle.cell_core.specs.Member.{AreUntied, KnowsCells, Settles};
 ghost use Rattle.cell_core.specs.Run.{cells_from};
 
 use crate::block::fields::{keep_of, state_in, word_of};
 use crate::slot::epoch::RawEpoch;
-use crate::slot::member::RawMember;
+use crate::slot::member::{RawMember, RawRow};
 use crate::slot::run::RawCells;
 use crate::slot::steps::{FILLED, RawSlot, Written};
 use std::alloc::{AllocError, Allocator};
@@ -165,6 +165,19 @@ impl<T, A: Allocator> Laid<T, A> {
                 marker: PhantomData,
             },
         )
+    }
+
+    // The same cells without their ties: each seat is given up. What is known of cells by the row, from an index on, stays
+    // known. It is no instruction.
+    pub(crate) fn untie(self, row: &RawRow<T>, from: u64) -> Laid<T, A>
+        requires { KnowsCells row.now.of from self.cells }
+        ensures { (result.heap ≡ self.heap) × (result.rows ≡ self.rows)
+            × AreUntied self.cells result.cells × KnowsCells row.now.of from result.cells }
+    {
+        let Laid { marker: _ } = self;
+        Laid {
+            marker: PhantomData,
+        }
     }
 
     // One more word, of `n` empty cells.

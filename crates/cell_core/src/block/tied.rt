@@ -4,6 +4,7 @@ ghost use Rattle.std.specs.Prelude.{◌≡◌, ◌≢◌, ◌<◌, ◌≤◌, �
 ghost use Rattle.cell_core.specs.Block.{block_len, cell_at, IsPenAt, IsFresh, IsMending};
 ghost use Rattle.cell_core.specs.Shown.{IsFoundIn, IsLookAt, IsLookOf};
 ghost use Rattle.cell_core.specs.Slot.{AreTied, empty_state, broken_state};
+ghost use Rattle.cell_core.specs.Member.{IsUntied, KnowsCells};
 ghost use Rattle.cell_core.specs.Mould.{first_seat, last_seat, mould_of, row_mould, tie_in};
 ghost use Rattle.cell_core.specs.Run.{AreTiedTo, cells_from};
 ghost use Rattle.tie_core.specs.Tie.{Tie, HasMade, begins, breaks, fills, looks, mends, row_of, tie_further, tie_numbered};
@@ -11,7 +12,7 @@ ghost use Rattle.tie_core.specs.Run.{run_of};
 
 use crate::block::fields::{all_but, in_field, state_in, words_for};
 use crate::block::steps::{Laid, Link, Rooms};
-use crate::block::{Block, First, Found, Look, Pen, Placed, Spoilt, Tied, lay_for};
+use crate::block::{Block, First, Found, Look, Pen, Placed, Row, Spoilt, Tied, lay_for};
 use crate::slot::steps::{BROKEN, BUSY, FILLED};
 use std::alloc::{AllocError, Allocator};
 use std::marker::PhantomData;
@@ -53,6 +54,32 @@ impl<T, A: Allocator> Block<T, A, Tied> {
             len: n,
             marker: PhantomData,
         })
+    }
+
+    /// Makes the block one of cells that are not tied: each cell's seat is given up. What is known of the cells by a row,
+    /// whose member at `from` is the first cell, stays known; tokens of these cells stay good. The call does nothing.
+    #[tactic(auto, using(crate::proofs::Untied::untied_kind, crate::proofs::Untied::untied_length, crate::proofs::Untied::untied_at))]
+    pub fn untie(self, row: &Row<T>, from: u64) -> Block<T, A>
+        requires { KnowsCells row.now from self.cells }
+        ensures len { block_len result ≡ block_len self }
+        ensures known { KnowsCells row.now from result.cells }
+        ensures each { (i : ℕ) → i < block_len self
+            → IsUntied (cell_at self i) (cell_at result i) }
+    {
+        let Block {
+            alloc,
+            link,
+            laid,
+            len,
+            marker: _,
+        } = self;
+        Block {
+            alloc,
+            link,
+            laid: laid.untie(&row.row, from),
+            len,
+            marker: PhantomData,
+        }
     }
 
     /// Shows a proof how cells whose seats have numbers in a row are tied, and what the mould of a block tells: the

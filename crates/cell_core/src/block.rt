@@ -20,6 +20,7 @@ mod slice;
 mod spoilt;
 mod steps;
 mod tied;
+mod tied_run;
 
 use crate::slot::steps::{BROKEN, BROKEN_BY_OWNER, BUSY, EMPTY, FILLED, RawPen, RawSight, RawSlot};
 pub use begun::Begun;

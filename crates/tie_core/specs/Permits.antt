@@ -17,6 +17,11 @@ module _ {S V : Type 0} (holds : State S V → Type 0) where
       → get_elem? s.views k ≡ some (shows a) → Moves step n a b
       → (u : V) × holds (with_views s (slice_set (slice_set s.views id u) k (shows b))) × Gives step a × then a b u
 
+  -- The seat `id`, at the view v, goes along with a look at a cell that has no seat.
+  abbrev pub PermitsAlone : ℕ → V → (V → Type 0) → Type 0
+  PermitsAlone id v then = (s : State S V) → holds s → get_elem? s.views id ≡ some v
+      → (u : V) × holds (with_views s (slice_set s.views id u)) × then u
+
   -- The seat `id`, at the view v, goes along with a step on an entry that leaves its seat k, at the view x.
   abbrev pub PermitsLook : ℕ → V → ℕ → V → (V → Type 0) → Type 0
   PermitsLook id v k x then = (s : State S V) → holds s → get_elem? s.views id ≡ some v → k ≢ id → get_elem? s.views k ≡ some x

@@ -96,7 +96,8 @@ template <typename T> void up_to_sizes() {
     in_threads(THREADS, [&](unsigned) {
       for (size_t size = 10; size <= 200; size += 10) {
         const auto from = v.grow_to_at_least(size);
-        CHECK(v.size() >= size);
+        // Also what other threads have claimed is there.
+        CHECK(v.size() >= size && v.find(size - 1) && v.find(size - 10));
         appended += from == v.end() ? 0 : 1;
       }
     });

@@ -1,94 +1,14 @@
 // The loads of crates/costs on oneTBB's concurrent_vector, on a std::vector under a mutex, and on bare rows of cells.
 //
 //   other_vectors LIBRARY LOAD THREADS    prints the nanoseconds that the load took
-#include <algorithm>
-#include <atomic>
-#include <chrono>
-#include <cstdint>
+#include "loads.hpp"
+
 #include <cstdio>
 #include <cstdlib>
 #include <cstring>
-#include <functional>
 #include <iterator>
 #include <mutex>
 #include <oneapi/tbb/concurrent_vector.h>
-#include <thread>
-#include <vector>
-
-using Value = std::uint64_t;
-
-// As in crates/costs/src/loads.rt.
-constexpr Value fresh = 10'000'000;
-constexpr Value filled = (Value{1} << 23) + 1;
-constexpr Value more = 8'000'000;
-constexpr Value list_length = 64;
-// How often a load walks over its places.
-constexpr unsigned rounds = 16;
-
-using Clock = std::chrono::steady_clock;
-
-// When one thread began its part, and when it ended.
-struct Timed {
-  Clock::time_point begun, ended;
-};
-
-// Where threads gather before their time starts, as in crates/costs/src/start.rt: each first does some arithmetic, until
-// the kernel has moved it to a processor of its own.
-class Start {
-  static constexpr Value steps = 75'000'000;
-  const unsigned threads;
-  std::atomic<unsigned> come{0};
-  std::atomic<Value> sum{0};
-  static Value do_steps() {
-    Value sum = 1;
-    for (Value step = 0; step < steps; ++step)
-      sum = sum * 6364136223846793005 + step;
-    return sum;
-  }
-  void gather() {
-    if (threads < 2)
-      return;
-    sum += do_steps();
-    ++come;
-    while (come < threads)
-      ;
-  }
-
-public:
-  explicit Start(unsigned threads) : threads(threads) {}
-  Timed time(const std::function<void()> &work) {
-    gather();
-    Timed timed{Clock::now(), {}};
-    work();
-    timed.ended = Clock::now();
-    return timed;
-  }
-};
-
-// The time that the threads take, from when all have come to the end of the last one.
-long long time_threads(unsigned threads, const std::function<void()> &work) {
-  Start start(threads);
-  std::vector<Timed> parts(threads);
-  std::vector<std::thread> others;
-  for (unsigned i = 1; i < threads; ++i)
-    others.emplace_back([&, i] { parts[i] = start.time(work); });
-  parts[0] = start.time(work);
-  for (auto &other : others)
-    other.join();
-  Timed all = parts[0];
-  for (const Timed &part : parts)
-    all = {std::min(all.begun, part.begun), std::max(all.ended, part.ended)};
-  return std::chrono::duration_cast<std::chrono::nanoseconds>(all.ended - all.begun).count();
-}
-
-// How many of the first values are odd.
-template <typename Values> Value count_odd(Values &values, Value times) {
-  Value odd = 0;
-  auto end = values.end();
-  for (auto value = values.begin(); value != end && times; ++value, --times)
-    odd += *value & 1;
-  return odd;
-}
 
 struct OneTbb {
   tbb::concurrent_vector<Value> values;
@@ -288,18 +208,6 @@ template <typename Vector> void make_often(Vector &vector, Value times) {
 template <typename Vector> void raise_often(Vector &vector, Value times) {
   for (Value i = 0; i < times / list_length; ++i)
     vector.grow_up_to(vector.size() + list_length, i);
-}
-
-// Reads at places that are picked at random.
-template <typename Read> void read_often(Value times, Read read) {
-  Value found = 0;
-  Value random = 88172645463325252;
-  for (Value i = 0; i < times; ++i) {
-    random = random * 6364136223846793005 + 1442695040888963407;
-    found += read(random >> 41) & 1;
-  }
-  volatile Value kept = found;
-  (void)kept;
 }
 
 template <typename Vector> void walk_over(Vector &vector, Value times) {

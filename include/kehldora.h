@@ -21,6 +21,23 @@
 #include <stddef.h>
 #include <stdint.h>
 
+/* ThreadSanitizer does not see the library's atomic steps. So under it the calls below mark their order: what a thread did before it
+   filled a place comes before what others do after they have looked. Its other reports of the library are in tsan.supp. */
+#if defined(__has_feature)
+#if __has_feature(thread_sanitizer)
+#define KEHLDORA_MARKS
+#endif
+#endif
+#if defined(__SANITIZE_THREAD__)
+#define KEHLDORA_MARKS
+#endif
+#if defined(KEHLDORA_WITHOUT_MARKS)
+#undef KEHLDORA_MARKS
+#endif
+#ifdef KEHLDORA_MARKS
+#include <sanitizer/tsan_interface.h>
+#endif
+
 #ifdef __cplusplus
 extern "C" {
 #endif
@@ -139,8 +156,22 @@ kehldora_status kehldora_raw_list_free(kehldora_list *list);
 /* The version of the library that the program runs with. It fits this header if it is KEHLDORA_VERSION. */
 static inline uint32_t kehldora_version(void) { return kehldora_raw_version(); }
 
-/* Opens a vector of at most `limit` elements, at least one, of `words` words, whose first segment has 2^first places, with `first` from 1 to 8.
-   Its first hand has all shares. */
+/* The marks for ThreadSanitizer: before a call that fills a place, and after one that has looked. */
+#ifdef KEHLDORA_MARKS
+static inline void *kehldora_mark(kehldora_hand *hand) {
+  const void *at = hand;
+  kehldora_raw_where(hand, &at);
+  return (void *)(uintptr_t)at;
+}
+#define KEHLDORA_FILLS(hand) __tsan_release(kehldora_mark(hand))
+#define KEHLDORA_HAS_LOOKED(hand) __tsan_acquire(kehldora_mark(hand))
+#else
+#define KEHLDORA_FILLS(hand) ((void)(hand))
+#define KEHLDORA_HAS_LOOKED(hand) ((void)(hand))
+#endif
+
+/* Opens a vector of at most `limit` elements, at least one, of `words` words, whose first segment has 2^first places, with `first`
+   from 1 to 8. Its first hand has all shares. */
 static inline kehldora_status kehldora_open(uint64_t limit, uint64_t words, uint32_t first, bool opaque, kehldora_hand *hand) {
   return hand ? kehldora_raw_open(limit, words, first, opaque, hand) : KEHLDORA_NULL;
 }
@@ -201,6 +232,7 @@ static inline kehldora_status kehldora_push(kehldora_hand *hand, const uint64_t 
   kehldora_status status;
   if (!hand || !value || !place)
     return KEHLDORA_NULL;
+  KEHLDORA_FILLS(hand);
   do
     status = kehldora_raw_push(hand, value, words, place);
   while (status == KEHLDORA_MOVED);
@@ -212,6 +244,7 @@ static inline kehldora_status kehldora_grow(kehldora_hand *hand, const uint64_t 
   kehldora_status status;
   if (!hand || !values || !place)
     return KEHLDORA_NULL;
+  KEHLDORA_FILLS(hand);
   do
     status = kehldora_raw_grow(hand, values, words, place);
   while (status == KEHLDORA_MOVED);
@@ -224,6 +257,7 @@ static inline kehldora_status kehldora_fill(kehldora_hand *hand, const uint64_t 
   kehldora_status status;
   if (!hand || !value || !place)
     return KEHLDORA_NULL;
+  KEHLDORA_FILLS(hand);
   do
     status = kehldora_raw_fill(hand, value, words, count, place);
   while (status == KEHLDORA_MOVED);
@@ -234,23 +268,41 @@ static inline kehldora_status kehldora_fill(kehldora_hand *hand, const uint64_t 
    or an array with one for each place from what the hand has seen up to `size`; its first `count` are appended. */
 static inline kehldora_status kehldora_at_least(kehldora_hand *hand, uint64_t size, const uint64_t *values, size_t words,
                                                 uint64_t *place, uint64_t *count) {
-  return hand && values && place && count ? kehldora_raw_at_least(hand, size, values, words, place, count) : KEHLDORA_NULL;
+  if (!hand || !values || !place || !count)
+    return KEHLDORA_NULL;
+  KEHLDORA_FILLS(hand);
+  return kehldora_raw_at_least(hand, size, values, words, place, count);
 }
 
 /* Copies the value at a place. */
 static inline kehldora_status kehldora_at(kehldora_hand *hand, uint64_t place, uint64_t *value, size_t words) {
-  return hand && value ? kehldora_raw_at(hand, place, value, words) : KEHLDORA_NULL;
+  kehldora_status status;
+  if (!hand || !value)
+    return KEHLDORA_NULL;
+  status = kehldora_raw_at(hand, place, value, words);
+  KEHLDORA_HAS_LOOKED(hand);
+  return status;
 }
 
 /* Returns the address of the value at a place. It stays there until the vector, or the list it is closed into, has ended. */
 static inline kehldora_status kehldora_look(kehldora_hand *hand, uint64_t place, uint64_t **at) {
-  return hand && at ? kehldora_raw_look(hand, place, at) : KEHLDORA_NULL;
+  kehldora_status status;
+  if (!hand || !at)
+    return KEHLDORA_NULL;
+  status = kehldora_raw_look(hand, place, at);
+  KEHLDORA_HAS_LOOKED(hand);
+  return status;
 }
 
 /* Returns the address of the value at a place, and the number of values that are filled from there on in its segment. They lie
    side by side. */
 static inline kehldora_status kehldora_run(kehldora_hand *hand, uint64_t place, uint64_t **at, uint64_t *count) {
-  return hand && at && count ? kehldora_raw_run(hand, place, at, count) : KEHLDORA_NULL;
+  kehldora_status status;
+  if (!hand || !at || !count)
+    return KEHLDORA_NULL;
+  status = kehldora_raw_run(hand, place, at, count);
+  KEHLDORA_HAS_LOOKED(hand);
+  return status;
 }
 
 /* Claims places side by side and breaks them, and returns the first one. Each can be mended later. */
@@ -266,7 +318,10 @@ static inline kehldora_status kehldora_leave(kehldora_hand *hand, uint64_t count
 
 /* Fills a broken place. One thread can. */
 static inline kehldora_status kehldora_mend(kehldora_hand *hand, uint64_t place, const uint64_t *value, size_t words) {
-  return hand && value ? kehldora_raw_mend(hand, place, value, words) : KEHLDORA_NULL;
+  if (!hand || !value)
+    return KEHLDORA_NULL;
+  KEHLDORA_FILLS(hand);
+  return kehldora_raw_mend(hand, place, value, words);
 }
 
 /* Says how long a list is, and of what elements. */

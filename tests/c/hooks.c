@@ -1,10 +1,14 @@
-/* What mock.h declares, over the proved library. The runner gives the library's requests for memory these names. */
-#include "mock.h"
+/* The requests of the library for memory, which the runner gives these names, and those of the mock. */
+#include "hooks.h"
 
 #include <stdatomic.h>
+#include <stdbool.h>
 #include <stdlib.h>
 
+/* Relaxed steps, so that ThreadSanitizer takes none of them for an order of the threads. */
 static _Atomic int64_t refused = -1, blocks = 0;
+static void (*between)(void *) = NULL;
+static void *argument = NULL;
 
 void *library_malloc(size_t bytes);
 void *library_realloc(void *block, size_t bytes);
@@ -12,32 +16,40 @@ void library_free(void *block);
 
 /* Whether this request is the one to refuse. */
 static bool is_refused(void) {
-  int64_t left = refused;
-  while (left >= 0 && !atomic_compare_exchange_weak(&refused, &left, left - 1)) {
+  void (*const call)(void *) = between;
+  int64_t left = atomic_load_explicit(&refused, memory_order_relaxed);
+  if (call) {
+    between = NULL;
+    call(argument);
+    between = call;
+  }
+  while (left >= 0 && !atomic_compare_exchange_weak_explicit(&refused, &left, left - 1, memory_order_relaxed, memory_order_relaxed)) {
   }
   return left == 0;
 }
 
+static void count(int64_t more) { atomic_fetch_add_explicit(&blocks, more, memory_order_relaxed); }
+
 void *library_malloc(size_t bytes) {
   void *const block = is_refused() ? NULL : malloc(bytes);
-  blocks += block != NULL;
+  count(block != NULL);
   return block;
 }
 
 void *library_realloc(void *block, size_t bytes) {
   void *const moved = is_refused() ? NULL : realloc(block, bytes);
-  blocks += moved != NULL && block == NULL;
+  count(moved != NULL && block == NULL);
   return moved;
 }
 
 void library_free(void *block) {
-  blocks -= block != NULL;
+  count(-(block != NULL));
   free(block);
 }
 
-void kehldora_mock_refuse(int64_t count) { refused = count; }
-void kehldora_mock_move(int64_t count) { (void)count; }
-void kehldora_mock_between(void (*call)(void *), void *argument) { (void)call, (void)argument; }
-bool kehldora_mock_forces(void) { return false; }
-int64_t kehldora_mock_blocks(void) { return blocks; }
-int64_t kehldora_mock_handles(void) { return 0; }
+int64_t hook_refuse(int64_t requests) { return atomic_exchange_explicit(&refused, requests, memory_order_relaxed); }
+void hook_between(void (*call)(void *), void *it) {
+  argument = it;
+  between = call;
+}
+int64_t hook_blocks(void) { return atomic_load_explicit(&blocks, memory_order_relaxed); }

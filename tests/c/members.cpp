@@ -1,6 +1,6 @@
 // Calls each member of the table at the head of kehldora.hpp, over elements that lie in the vector and behind a pointer.
 #include "check.h"
-#include "mock.h"
+#include "hooks.h"
 
 #include <kehldora.hpp>
 
@@ -255,7 +255,7 @@ template <typename T> void all() {
   access<T>();
   one_thread<T>();
   hands_and_buffers<T>();
-  CHECK(alive == 0 && kehldora_mock_blocks() == 0);
+  CHECK(alive == 0 && hook_blocks() == 0);
 }
 
 // Types that can only be moved.
@@ -302,7 +302,7 @@ template <typename T> void throwing() {
     refused([&] { concurrent_vector<T> other(4); });
     refused([&] { v = concurrent_vector<T>(v); });
   }
-  CHECK(alive == 0 && kehldora_mock_blocks() == 0);
+  CHECK(alive == 0 && hook_blocks() == 0);
 }
 
 // A life of a vector. Each call is done again until memory is there, and each time what was there is still there.
@@ -310,7 +310,7 @@ template <typename T> void life(int library, int header) {
   concurrent_vector<T> v;
   std::vector<int> expected;
   expected.reserve(40);
-  kehldora_mock_refuse(library);
+  hook_refuse(library);
   until_no_memory = header;
   const auto again = [&](auto call) {
     while (throws<std::bad_alloc>(call))
@@ -332,7 +332,7 @@ template <typename T> void life(int library, int header) {
   again([&] { v.grow_to_at_least(20, T(9)); });
   expected.resize(20, 9);
   until_no_memory = -1;
-  kehldora_mock_refuse(-1);
+  hook_refuse(-1);
   CHECK(v.size() == 20 && std::equal(v.begin(), v.end(), expected.begin(), [](const T &a, int b) { return a == T(b); }));
 }
 
@@ -342,7 +342,7 @@ template <typename T> void without_memory() {
     life<T>(at, -1);
     life<T>(-1, at);
   }
-  CHECK(alive == 0 && kehldora_mock_blocks() == 0);
+  CHECK(alive == 0 && hook_blocks() == 0);
 }
 
 // A thread that has no hand yet walks over what others appended, without memory for one. It finds all or is told.
@@ -352,7 +352,7 @@ template <typename T> void first_walk_without_memory(int library, int header) {
   std::thread([&] {
     std::vector<T> values;
     size_t count = 0;
-    kehldora_mock_refuse(library);
+    hook_refuse(library);
     until_no_memory = header;
     while (throws<std::bad_alloc>([&] { count = v.shown([](const T &) {}); })) {
     }
@@ -360,7 +360,7 @@ template <typename T> void first_walk_without_memory(int library, int header) {
     while (throws<std::bad_alloc>([&] { values = v.into_vector(); })) {
     }
     until_no_memory = -1;
-    kehldora_mock_refuse(-1);
+    hook_refuse(-1);
     CHECK(values.size() == 10 && values[9] == T(3) && v.empty());
   }).join();
 }
@@ -369,11 +369,11 @@ template <typename T> void first_walk_without_memory(int library, int header) {
 static void ends_without_memory() {
   {
     concurrent_vector<Counted> v(100);
-    kehldora_mock_refuse(0);
+    hook_refuse(0);
     concurrent_vector<Counted> other(std::move(v));
   }
-  kehldora_mock_refuse(-1);
-  CHECK(alive == 0 && kehldora_mock_blocks() == 0);
+  hook_refuse(-1);
+  CHECK(alive == 0 && hook_blocks() == 0);
 }
 
 static void allocators() {
@@ -391,21 +391,28 @@ static void allocators() {
   CHECK(Named<Counted>::blocks == 0 && alive == 0);
 }
 
-// What readers find at a place that was claimed and is not filled, and at one that is broken.
-static void look_between(void *argument) {
-  auto &v = *static_cast<concurrent_vector<int> *>(argument);
-  CHECK(v.size() == 1 && v.find(0) == nullptr && v.try_at(0).status() == KEHLDORA_PENDING);
-  CHECK(throws<std::range_error>([&] { v.at(0); }) && v.shown([](int) {}) == 0);
-}
-
+// What a reader finds at the last place of a long growth, which is claimed and not filled yet. It may come too late: then there are
+// further growths, until it has found that in each way.
 static void pending() {
-  concurrent_vector<int> v;
-  // The hand of the growth is not the thread's own.
-  auto hand = v.make_hand();
-  if (kehldora_mock_forces())
-    kehldora_mock_between(look_between, &v);
-  hand.push_back(7);
-  CHECK(v.at(0) == 7);
+  constexpr size_t COUNT = 1 << 18;
+  bool by_try_at = false, by_at = false, by_find = false, by_shown = false;
+  for (unsigned round = 0; !(by_try_at && by_at && by_find && by_shown); ++round) {
+    CHECK(round < 10000);
+    concurrent_vector<int> v;
+    std::thread other([&] { v.grow_by(COUNT, 7); });
+    while (v.empty()) {
+    }
+    CHECK(v.size() == COUNT);
+    const auto found = v.try_at(COUNT - 1);
+    by_try_at |= found.status() == KEHLDORA_PENDING;
+    by_at |= throws<std::range_error>([&] { v.at(COUNT - 1); });
+    by_find |= v.find(COUNT - 1) == nullptr;
+    by_shown |= v.shown([](int it) { CHECK(it == 7); }) < COUNT;
+    // Nobody has used the last segment, so this waits.
+    CHECK(v[COUNT - 1] == 7 && (!found || **found == 7));
+    other.join();
+    CHECK(v.shown([](int) {}) == COUNT);
+  }
 }
 
 static void runs() {
@@ -441,5 +448,5 @@ int main() {
   allocators();
   pending();
   runs();
-  CHECK(alive == 0 && kehldora_mock_blocks() == 0 && kehldora_mock_handles() == 0);
+  CHECK(alive == 0 && hook_blocks() == 0);
 }

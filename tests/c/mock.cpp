@@ -1,47 +1,28 @@
 // The exports of kehldora.h in C++, for tests: the statuses and the layout in segments are those of the library, and no line is
 // proved. A tool that watches C++, such as ThreadSanitizer, sees everything that happens in it.
-#include "mock.h"
-
 #include <kehldora.h>
 
 #include <atomic>
-#include <cstdlib>
 #include <cstring>
-#include <mutex>
 #include <new>
 #include <utility>
+
+// In hooks.c.
+extern "C" void *library_malloc(size_t bytes);
+extern "C" void library_free(void *block);
 
 namespace {
 
 enum State : uint8_t { EMPTY, BUSY, FILLED, BROKEN };
 
-std::atomic<int64_t> refused{-1}, moved{0}, blocks{0}, handles{0};
-std::atomic<void (*)(void *)> between{nullptr};
-std::atomic<void *> argument{nullptr};
-
-// A block of memory, or null if this request is the one to refuse.
-void *take(size_t bytes) {
-  int64_t left = refused.load();
-  while (left >= 0 && !refused.compare_exchange_weak(left, left - 1)) {
-  }
-  void *block = left == 0 ? nullptr : malloc(bytes);
-  blocks += block != nullptr;
-  return block;
-}
-
-void give(void *block) {
-  blocks -= block != nullptr;
-  free(block);
-}
-
 template <typename T, typename... Args> T *make(Args &&...args) {
-  void *block = take(sizeof(T));
+  void *block = library_malloc(sizeof(T));
   return block ? new (block) T{std::forward<Args>(args)...} : nullptr;
 }
 
 template <typename T> void end(T *it) {
   it->~T();
-  give(it);
+  library_free(it);
 }
 
 // The cells of one segment.
@@ -56,14 +37,13 @@ struct Vector {
   bool opaque;
   std::atomic<uint64_t> size{0}, hands{1};
   std::atomic<Segment *> segments[40] = {};
-  std::mutex lock;
 
   Vector(uint64_t limit, uint64_t words, uint32_t first, bool opaque)
       : limit(limit), words(words), first(first), opaque(opaque) {}
 
   ~Vector() {
-    for (unsigned k = 0; k < 40; ++k)
-      drop(k);
+    for (auto &segment : segments)
+      drop(segment);
   }
 
   unsigned segment_of(uint64_t place) const {
@@ -82,23 +62,22 @@ struct Vector {
     return segments[k].load(std::memory_order_acquire)->words + (place - begin_of(k)) * words;
   }
 
-  // Makes a segment, unless it is there.
+  // Makes a segment. It is of no use if another thread makes it first.
   bool install(unsigned k) {
-    std::lock_guard<std::mutex> guard(lock);
-    if (segments[k].load())
-      return true;
     const uint64_t length = length_of(k);
-    void *cells = take(length * words * 8), *states = cells ? take(length) : nullptr;
+    void *cells = library_malloc(length * words * 8), *states = cells ? library_malloc(length) : nullptr;
     Segment *segment = states ? make<Segment>() : nullptr;
     if (!segment) {
-      give(states);
-      give(cells);
+      library_free(states);
+      library_free(cells);
       return false;
     }
     *segment = {static_cast<uint64_t *>(cells), static_cast<std::atomic<uint8_t> *>(states)};
     for (uint64_t i = 0; i < length; ++i)
       new (segment->states + i) std::atomic<uint8_t>(EMPTY);
-    segments[k].store(segment, std::memory_order_release);
+    Segment *found = nullptr;
+    if (!segments[k].compare_exchange_strong(found, segment, std::memory_order_acq_rel))
+      drop(segment);
     return true;
   }
 
@@ -109,12 +88,11 @@ struct Vector {
     return true;
   }
 
-  void drop(unsigned k) {
-    Segment *segment = segments[k].exchange(nullptr);
+  static void drop(Segment *segment) {
     if (!segment)
       return;
-    give(segment->words);
-    give(segment->states);
+    library_free(segment->words);
+    library_free(segment->states);
     end(segment);
   }
 
@@ -129,17 +107,11 @@ struct Hand {
   uint64_t shares, seen;
 };
 
-struct List {
-  Vector *vector;
-};
-
 Hand *of(kehldora_hand *hand) { return static_cast<Hand *>(hand->at); }
-Vector *of(kehldora_list *list) { return static_cast<List *>(list->at)->vector; }
+// A list keeps the hand that closed the vector.
+Vector *of(kehldora_list *list) { return static_cast<Hand *>(list->at)->vector; }
 
-template <typename Handle> void set(Handle *handle, void *at) {
-  *handle = Handle{at, at != nullptr};
-  handles += at ? 1 : -1;
-}
+template <typename Handle> void set(Handle *handle, void *at) { *handle = Handle{at, at != nullptr}; }
 
 // Loads the size for a hand.
 uint64_t see(Hand *hand) { return hand->seen = hand->vector->size.load(std::memory_order_acquire); }
@@ -155,10 +127,10 @@ kehldora_status shown(Vector *vector, uint64_t size, uint64_t place) {
   }
 }
 
-// One attempt to claim places from what the hand has seen, three times.
-kehldora_status claim(Hand *hand, uint64_t count, uint64_t *place) {
+// One attempt to claim places, or a few, from what the hand has seen.
+kehldora_status claim(Hand *hand, uint64_t count, int attempts, uint64_t *place) {
   Vector *vector = hand->vector;
-  for (int attempt = 0; attempt < 3; ++attempt) {
+  for (; attempts > 0; --attempts) {
     uint64_t size = hand->seen;
     if (count > vector->limit - size) {
       if (see(hand) == size)
@@ -167,15 +139,9 @@ kehldora_status claim(Hand *hand, uint64_t count, uint64_t *place) {
     }
     if (!vector->reserve(size, size + count))
       return KEHLDORA_NO_MEMORY;
-    int64_t left = moved.load();
-    while (left > 0 && !moved.compare_exchange_weak(left, left - 1)) {
-    }
-    if (left <= 0 && vector->size.compare_exchange_strong(size, size + count, std::memory_order_acq_rel)) {
+    if (vector->size.compare_exchange_strong(size, size + count, std::memory_order_acq_rel)) {
       hand->seen = size + count;
       *place = size;
-      if (between.load(std::memory_order_relaxed))
-        if (void (*const call)(void *) = between.exchange(nullptr))
-          call(argument);
       return KEHLDORA_DONE;
     }
     see(hand);
@@ -183,13 +149,24 @@ kehldora_status claim(Hand *hand, uint64_t count, uint64_t *place) {
   return KEHLDORA_MOVED;
 }
 
-// Claims places and fills each from an array, or all with one value.
+// Claims places by one attempt, from the size as it is now.
+kehldora_status claim_once(Hand *hand, uint64_t count, uint64_t *place) {
+  see(hand);
+  return claim(hand, count, 1, place);
+}
+
+// Fills claimed places, each from an array, or all with one value.
+void fill(Hand *hand, uint64_t from, const uint64_t *values, uint64_t count, uint64_t step) {
+  for (uint64_t i = 0; i < count; ++i)
+    hand->vector->fill(from + i, values + i * step);
+}
+
+// Claims places and fills them.
 kehldora_status append(Hand *hand, const uint64_t *values, uint64_t count, uint64_t step, uint64_t *place) {
   uint64_t from = 0;
-  const kehldora_status status = claim(hand, count, &from);
+  const kehldora_status status = claim_once(hand, count, &from);
   if (status == KEHLDORA_DONE) {
-    for (uint64_t i = 0; i < count; ++i)
-      hand->vector->fill(from + i, values + i * step);
+    fill(hand, from, values, count, step);
     *place = from;
   }
   return status;
@@ -198,16 +175,6 @@ kehldora_status append(Hand *hand, const uint64_t *values, uint64_t count, uint6
 } // namespace
 
 extern "C" {
-
-void kehldora_mock_refuse(int64_t count) { refused = count; }
-void kehldora_mock_move(int64_t count) { moved = count; }
-void kehldora_mock_between(void (*call)(void *), void *it) {
-  argument = it;
-  between = call;
-}
-bool kehldora_mock_forces(void) { return true; }
-int64_t kehldora_mock_blocks(void) { return blocks; }
-int64_t kehldora_mock_handles(void) { return handles; }
 
 uint32_t kehldora_raw_version(void) { return KEHLDORA_VERSION; }
 
@@ -296,12 +263,8 @@ kehldora_status kehldora_raw_close(kehldora_hand *hand, kehldora_list *list) {
     return KEHLDORA_BAD_HANDLE;
   if (of(hand)->shares != KEHLDORA_ALL_SHARES)
     return KEHLDORA_NOT_WHOLE;
-  List *it = make<List>(List{of(hand)->vector});
-  if (!it)
-    return KEHLDORA_NO_MEMORY;
-  end(of(hand));
+  set(list, hand->at);
   set(hand, nullptr);
-  set(list, it);
   return KEHLDORA_DONE;
 }
 
@@ -320,7 +283,13 @@ kehldora_status kehldora_raw_push(kehldora_hand *hand, const uint64_t *value, si
     return KEHLDORA_BAD_HANDLE;
   if (words != of(hand)->vector->words)
     return KEHLDORA_BAD_SIZE;
-  return append(of(hand), value, 1, 0, place);
+  uint64_t from = 0;
+  const kehldora_status status = claim(of(hand), 1, 3, &from);
+  if (status == KEHLDORA_DONE) {
+    fill(of(hand), from, value, 1, 0);
+    *place = from;
+  }
+  return status;
 }
 
 kehldora_status kehldora_raw_grow(kehldora_hand *hand, const uint64_t *values, size_t words, uint64_t *place) {
@@ -355,8 +324,7 @@ kehldora_status kehldora_raw_at_least(kehldora_hand *hand, uint64_t size, const 
   *place = from;
   *count = from < size ? size - from : 0;
   it->seen = from + *count;
-  for (uint64_t i = 0; i < *count; ++i)
-    vector->fill(from + i, values + i * step);
+  fill(it, from, values, *count, step);
   return KEHLDORA_DONE;
 }
 
@@ -397,7 +365,7 @@ kehldora_status kehldora_raw_run(kehldora_hand *hand, uint64_t place, uint64_t *
 kehldora_status kehldora_raw_leave(kehldora_hand *hand, uint64_t count, uint64_t *place) {
   if (!hand->full)
     return KEHLDORA_BAD_HANDLE;
-  const kehldora_status status = claim(of(hand), count, place);
+  const kehldora_status status = claim_once(of(hand), count, place);
   for (uint64_t i = 0; status == KEHLDORA_DONE && i < count; ++i)
     of(hand)->vector->state(*place + i).store(BROKEN, std::memory_order_release);
   return status;
@@ -482,17 +450,18 @@ kehldora_status kehldora_raw_list_shrink(kehldora_list *list) {
     return KEHLDORA_BAD_HANDLE;
   for (unsigned k = 0; k <= 40 - of(list)->first; ++k)
     if (of(list)->begin_of(k) >= of(list)->size)
-      of(list)->drop(k);
+      Vector::drop(of(list)->segments[k].exchange(nullptr));
   return KEHLDORA_DONE;
 }
 
 kehldora_status kehldora_raw_list_open(kehldora_list *list, kehldora_hand *hand) {
   if (!list->full || hand->full)
     return KEHLDORA_BAD_HANDLE;
+  // The library requests memory here, and may be refused it.
   Hand *it = make<Hand>(Hand{of(list), KEHLDORA_ALL_SHARES, of(list)->size});
   if (!it)
     return KEHLDORA_NO_MEMORY;
-  end(static_cast<List *>(list->at));
+  end(static_cast<Hand *>(list->at));
   set(list, nullptr);
   set(hand, it);
   return KEHLDORA_DONE;
@@ -502,7 +471,7 @@ kehldora_status kehldora_raw_list_free(kehldora_list *list) {
   if (!list->full)
     return KEHLDORA_BAD_HANDLE;
   end(of(list));
-  end(static_cast<List *>(list->at));
+  end(static_cast<Hand *>(list->at));
   set(list, nullptr);
   return KEHLDORA_DONE;
 }

@@ -1,12 +1,54 @@
-/* Meets each status of each call, in each size of an element, of both kinds, and looks at what the call left behind. */
+/* Meets each status of each call except taken, in each size of an element, of both kinds, and looks at what the call left behind.
+   Prints a line for each call: its name, and the statuses that it had. */
+#define _DEFAULT_SOURCE
 #include "check.h"
-#include "mock.h"
+#include "hooks.h"
 
 #include <kehldora.h>
+#include <signal.h>
 #include <string.h>
+#include <sys/mman.h>
+#include <unistd.h>
 
 static const uint64_t SIZES[] = {1, 2, 3, 4, 6, 8};
-enum { MOST_WORDS = 8 };
+enum { MOST_WORDS = 8, MOST_CALLS = 40 };
+
+/* The statuses that each call had, a bit for each. */
+static struct {
+  const char *name;
+  int length;
+  unsigned statuses;
+} calls[MOST_CALLS];
+
+/* Notes the status of a call of the library, and returns it. */
+static kehldora_status noted(const char *call, kehldora_status status) {
+  int i = 0;
+  if (strncmp(call, "kehldora_", 9) != 0)
+    return status;
+  call += strncmp(call, "kehldora_raw_", 13) == 0 ? 13 : 9;
+  const int length = (int)strcspn(call, "(");
+  while (calls[i].name && (calls[i].length != length || strncmp(calls[i].name, call, (size_t)length) != 0))
+    ++i;
+  CHECK(i < MOST_CALLS - 1);
+  calls[i].name = call;
+  calls[i].length = length;
+  calls[i].statuses |= 1u << status;
+  return status;
+}
+
+static void print_noted(void) {
+  for (int i = 0; calls[i].name; ++i) {
+    printf("%.*s", calls[i].length, calls[i].name);
+    for (int status = KEHLDORA_DONE; status <= KEHLDORA_NULL; ++status)
+      if (calls[i].statuses >> status & 1)
+        printf(" %d", status);
+    printf("\n");
+  }
+}
+
+#undef EXPECT
+#define EXPECT(call, status) check_status(__FILE__, __LINE__, #call, noted(#call, (call)), (status))
+#define STATUS(call) noted(#call, (call))
 
 /* A value whose words all tell its number. */
 static const uint64_t *value(uint64_t number) {
@@ -106,15 +148,7 @@ static void growths(uint64_t words, bool opaque) {
   EXPECT(kehldora_at_least(&hand, 13, value(0), words, &place, &count), KEHLDORA_FULL);
   EXPECT(kehldora_reserve(&hand, 13), KEHLDORA_FULL);
   EXPECT(kehldora_fill(&hand, value(0), words, 0, &place), KEHLDORA_DONE);
-  if (kehldora_mock_forces()) {
-    kehldora_mock_move(100);
-    EXPECT(kehldora_raw_push(&hand, value(0), words, &place), KEHLDORA_MOVED);
-    EXPECT(kehldora_raw_grow(&hand, many, words, &place), KEHLDORA_MOVED);
-    EXPECT(kehldora_raw_fill(&hand, value(0), words, 1, &place), KEHLDORA_MOVED);
-    EXPECT(kehldora_raw_leave(&hand, 1, &place), KEHLDORA_MOVED);
-  }
   EXPECT(kehldora_push(&hand, value(0), words, &place), KEHLDORA_DONE);
-  kehldora_mock_move(0);
   EXPECT(kehldora_push(&hand, value(0), words, &place), KEHLDORA_FULL);
   EXPECT(kehldora_size(&hand, &size), KEHLDORA_DONE);
   CHECK(size == 12 && place == 11);
@@ -159,32 +193,97 @@ static void reads(uint64_t words, bool opaque) {
   EXPECT(kehldora_free(&hand), KEHLDORA_DONE);
 }
 
-/* What another hand finds at a place that a growth has claimed and not filled yet. */
-static void look_between(void *argument) {
-  kehldora_hand *hand = argument;
-  kehldora_hand_facts facts;
-  uint64_t got[MOST_WORDS], size, count, *at;
-  EXPECT(kehldora_about(hand, &facts), KEHLDORA_DONE);
-  EXPECT(kehldora_size(hand, &size), KEHLDORA_DONE);
-  CHECK(size == 1);
-  EXPECT(kehldora_look(hand, 0, &at), KEHLDORA_PENDING);
-  EXPECT(kehldora_run(hand, 0, &at, &count), KEHLDORA_PENDING);
-  EXPECT(kehldora_mend(hand, 0, value(1), facts.words), KEHLDORA_PENDING);
-  if (kehldora_at(hand, 0, got, facts.words) != KEHLDORA_BAD_SIZE)
-    EXPECT(kehldora_at(hand, 0, got, facts.words), KEHLDORA_PENDING);
+/* Another hand of a vector, with the words of its elements. */
+struct other {
+  kehldora_hand hand;
+  uint64_t words;
+};
+
+static struct other split_off(kehldora_hand *hand, uint64_t words) {
+  struct other it = {KEHLDORA_EMPTY_HAND, words};
+  EXPECT(kehldora_split(hand, 1, &it.hand), KEHLDORA_DONE);
+  return it;
 }
 
-static void pending(uint64_t words, bool opaque) {
-  kehldora_hand hand = opened(20, words, opaque), other = KEHLDORA_EMPTY_HAND;
-  uint64_t place, *at;
-  EXPECT(kehldora_split(&hand, 1, &other), KEHLDORA_DONE);
-  if (kehldora_mock_forces())
-    kehldora_mock_between(look_between, &other);
-  EXPECT(kehldora_push(&hand, value(1), words, &place), KEHLDORA_DONE);
-  EXPECT(kehldora_look(&other, 0, &at), KEHLDORA_DONE);
+/* Appends up to the end of a segment, so that any further growth requests memory. The first segment has 4 places. */
+static void come_first(void *argument) {
+  static const uint64_t zeros[MOST_WORDS];
+  struct other *const it = argument;
+  uint64_t size, place, end = 4;
+  EXPECT(kehldora_size(&it->hand, &size), KEHLDORA_DONE);
+  while (end <= size)
+    end *= 2;
+  EXPECT(kehldora_fill(&it->hand, zeros, it->words, end - size, &place), KEHLDORA_DONE);
+  CHECK(place == size);
+}
+
+/* Another hand appends each time that a growth requests memory, after that growth has seen the size. */
+static void moves(uint64_t words, bool opaque) {
+  kehldora_hand hand = opened(KEHLDORA_MOST_PLACES, words, opaque);
+  struct other other = split_off(&hand, words);
+  uint64_t place = 99, size;
+  hook_between(come_first, &other);
+  EXPECT(kehldora_raw_push(&hand, value(1), words, &place), KEHLDORA_MOVED);
+  EXPECT(kehldora_raw_grow(&hand, value(1), words, &place), KEHLDORA_MOVED);
+  EXPECT(kehldora_raw_fill(&hand, value(1), words, 1, &place), KEHLDORA_MOVED);
+  EXPECT(kehldora_raw_leave(&hand, 1, &place), KEHLDORA_MOVED);
+  CHECK(place == 99);
+  hook_between(NULL, NULL);
+  EXPECT(kehldora_size(&hand, &size), KEHLDORA_DONE);
+  EXPECT(kehldora_raw_push(&hand, value(1), words, &place), KEHLDORA_DONE);
+  CHECK(place == size);
   EXPECT(kehldora_free(&hand), KEHLDORA_DONE);
-  CHECK(is_value(at, words, 1));
-  EXPECT(kehldora_free(&other), KEHLDORA_DONE);
+  EXPECT(kehldora_free(&other.hand), KEHLDORA_DONE);
+}
+
+/* Where the second half of an array lies that cannot be read, and who looks at the vector when a growth tries to. */
+static struct {
+  unsigned char *page;
+  size_t bytes;
+  struct other *other;
+  int count;
+} unreadable;
+
+/* What another hand finds at the last place of a growth, which is claimed and not filled yet. */
+static void look_between(int signal) {
+  kehldora_hand *const hand = &unreadable.other->hand;
+  static const uint64_t zeros[MOST_WORDS];
+  uint64_t got[MOST_WORDS], size, count, *at;
+  (void)signal;
+  EXPECT(kehldora_size(hand, &size), KEHLDORA_DONE);
+  CHECK(size == 3);
+  EXPECT(kehldora_look(hand, 2, &at), KEHLDORA_PENDING);
+  EXPECT(kehldora_run(hand, 2, &at, &count), KEHLDORA_PENDING);
+  EXPECT(kehldora_mend(hand, 2, zeros, unreadable.other->words), KEHLDORA_PENDING);
+  if (STATUS(kehldora_at(hand, 2, got, unreadable.other->words)) != KEHLDORA_BAD_SIZE)
+    EXPECT(kehldora_at(hand, 2, got, unreadable.other->words), KEHLDORA_PENDING);
+  ++unreadable.count;
+  CHECK(mprotect(unreadable.page, unreadable.bytes, PROT_READ) == 0);
+}
+
+/* Appends three values, of which the second and the third one cannot be read until another hand has looked. */
+static void pending(uint64_t words, bool opaque) {
+  kehldora_hand hand = opened(20, words, opaque);
+  struct other other = split_off(&hand, words);
+  const size_t bytes = (size_t)sysconf(_SC_PAGESIZE);
+  unsigned char *const pages = mmap(NULL, 2 * bytes, PROT_READ | PROT_WRITE, MAP_PRIVATE | MAP_ANONYMOUS, -1, 0);
+  struct sigaction look = {0}, before;
+  uint64_t place, *at, *values;
+  CHECK(pages != MAP_FAILED);
+  values = (uint64_t *)(void *)(pages + bytes) - words;
+  for (uint64_t i = 0; i < 3; ++i)
+    memcpy(values + i * words, value(i), words * 8);
+  unreadable.page = pages + bytes, unreadable.bytes = bytes, unreadable.other = &other, unreadable.count = 0;
+  look.sa_handler = look_between;
+  look.sa_flags = (int)SA_RESETHAND;
+  CHECK(sigaction(SIGSEGV, &look, &before) == 0 && mprotect(unreadable.page, bytes, PROT_NONE) == 0);
+  EXPECT(kehldora_grow(&hand, values, 3 * words, &place), KEHLDORA_DONE);
+  CHECK(unreadable.count == 1 && place == 0);
+  CHECK(sigaction(SIGSEGV, &before, NULL) == 0 && munmap(pages, 2 * bytes) == 0);
+  EXPECT(kehldora_look(&other.hand, 2, &at), KEHLDORA_DONE);
+  EXPECT(kehldora_free(&hand), KEHLDORA_DONE);
+  CHECK(is_value(at, words, 2));
+  EXPECT(kehldora_free(&other.hand), KEHLDORA_DONE);
 }
 
 static void lists(uint64_t words, bool opaque) {
@@ -217,6 +316,8 @@ static void lists(uint64_t words, bool opaque) {
     EXPECT(kehldora_list_get(&list, 10, got, words), KEHLDORA_OUT_OF_RANGE);
     EXPECT(kehldora_list_copy(&list, 2, got, 3 * words), KEHLDORA_DONE);
     CHECK(is_value(got, words, 7) && is_value(got + words, words, 5) && is_value(got + 2 * words, words, 7));
+    if (words > 1)
+      EXPECT(kehldora_list_copy(&list, 2, got, words + 1), KEHLDORA_BAD_SIZE);
     EXPECT(kehldora_list_copy(&list, 7, got, 3 * words), KEHLDORA_BROKEN);
     EXPECT(kehldora_list_copy(&list, 8, got, 3 * words), KEHLDORA_OUT_OF_RANGE);
   }
@@ -224,6 +325,11 @@ static void lists(uint64_t words, bool opaque) {
   EXPECT(kehldora_list_look(&list, 9, &at), KEHLDORA_DONE);
   EXPECT(kehldora_list_cut(&list, 4), KEHLDORA_DONE);
   EXPECT(kehldora_list_shrink(&list), KEHLDORA_DONE);
+  EXPECT(kehldora_list_about(&list, &facts), KEHLDORA_DONE);
+  CHECK(facts.size == 4);
+  hand = opened(20, words, opaque);
+  EXPECT(kehldora_list_open(&list, &hand), KEHLDORA_BAD_HANDLE);
+  EXPECT(kehldora_free(&hand), KEHLDORA_DONE);
   EXPECT(kehldora_list_open(&list, &hand), KEHLDORA_DONE);
   EXPECT(kehldora_list_open(&list, &hand), KEHLDORA_BAD_HANDLE);
   EXPECT(kehldora_push(&hand, value(4), words, &place), KEHLDORA_DONE);
@@ -281,51 +387,70 @@ static void texts(void) {
   CHECK(kehldora_version() == KEHLDORA_VERSION);
 }
 
-/* A life of a vector in which each call that may request memory does so. */
-static kehldora_status life(uint64_t words, kehldora_hand *hand, kehldora_list *list) {
+enum { OPEN, PUSH, GROW, FILL, AT_LEAST, LEAVE, RESERVE, SPLIT, CLOSE, LIST_OPEN, STEPS };
+
+/* A call of a life in which each one that may request memory does so. */
+static kehldora_status step(int it, uint64_t words, bool opaque, kehldora_hand *hand, kehldora_list *list) {
   kehldora_hand other = KEHLDORA_EMPTY_HAND;
   kehldora_status status;
-  uint64_t place, count, *at;
-  int done = 0;
-  /* Each step is called again until it isn't refused. What was there before must still be there. */
-  for (; done < 8; done += status == KEHLDORA_DONE) {
+  uint64_t many[3 * MOST_WORDS], place, count;
+  switch (it) {
+  case OPEN: return STATUS(kehldora_open(500, words, 1, opaque, hand));
+  case PUSH: return STATUS(kehldora_push(hand, value(1), words, &place));
+  case GROW:
+    for (uint64_t i = 0; i < 3; ++i)
+      memcpy(many + i * words, value(2), words * 8);
+    return STATUS(kehldora_grow(hand, many, 3 * words, &place));
+  case FILL: return STATUS(kehldora_fill(hand, value(3), words, 6, &place));
+  case AT_LEAST: return STATUS(kehldora_at_least(hand, 40, value(4), words, &place, &count));
+  case LEAVE: return STATUS(kehldora_leave(hand, 30, &place));
+  case RESERVE: return STATUS(kehldora_reserve(hand, 200));
+  case SPLIT:
+    status = STATUS(kehldora_split(hand, 1, &other));
+    if (!status)
+      EXPECT(kehldora_join(hand, &other), KEHLDORA_DONE);
+    CHECK(!other.full);
+    return status;
+  case CLOSE: return STATUS(kehldora_close(hand, list));
+  default: return STATUS(kehldora_list_open(list, hand));
+  }
+}
+
+/* Each step of a life is done again until it isn't refused. What was there before must still be there. Returns the number of
+   refused calls. */
+static int life(uint64_t words, bool opaque, kehldora_hand *hand, kehldora_list *list) {
+  int refused = 0;
+  for (int done = 0; done < STEPS;) {
     const bool had_hand = hand->full, had_list = list->full;
-    switch (done) {
-    case 0: status = kehldora_open(500, words, 1, false, hand); break;
-    case 1: status = kehldora_push(hand, value(1), words, &place); break;
-    case 2: status = kehldora_fill(hand, value(2), words, 9, &place); break;
-    case 3: status = kehldora_at_least(hand, 40, value(3), words, &place, &count); break;
-    case 4: status = kehldora_reserve(hand, 100); break;
-    case 5:
-      status = kehldora_split(hand, 1, &other);
-      if (!status)
-        EXPECT(kehldora_join(hand, &other), KEHLDORA_DONE);
-      break;
-    case 6: status = kehldora_close(hand, list); break;
-    default: status = kehldora_list_open(list, hand); break;
-    }
-    if (status == KEHLDORA_NO_MEMORY)
-      CHECK(hand->full == had_hand && list->full == had_list && !other.full);
-    else
+    const kehldora_status status = step(done, words, opaque, hand, list);
+    if (status == KEHLDORA_NO_MEMORY) {
+      CHECK(hand->full == had_hand && list->full == had_list);
+      ++refused;
+    } else {
       EXPECT(status, KEHLDORA_DONE);
+      ++done;
+    }
   }
-  for (uint64_t i = 0; i < 40; ++i) {
-    EXPECT(kehldora_look(hand, i, &at), KEHLDORA_DONE);
-    CHECK(is_value(at, words, i < 1 ? 1 : i < 10 ? 2 : 3));
+  for (uint64_t i = 0; i < 70; ++i) {
+    uint64_t *at;
+    EXPECT(kehldora_look(hand, i, &at), i < 40 ? KEHLDORA_DONE : KEHLDORA_BROKEN);
+    CHECK(i >= 40 || is_value(at, words, i < 1 ? 1 : i < 4 ? 2 : i < 10 ? 3 : 4));
   }
-  return kehldora_free(hand);
+  EXPECT(kehldora_free(hand), KEHLDORA_DONE);
+  return refused;
 }
 
 /* The same life for each request for memory, which is refused in turn. */
-static void refusals(uint64_t words) {
-  const int64_t blocks = kehldora_mock_blocks();
-  for (int64_t refused = 0; refused < 40; ++refused) {
+static void refusals(uint64_t words, bool opaque) {
+  const int64_t blocks = hook_blocks();
+  bool is_over = false;
+  for (int64_t request = 0; !is_over; ++request) {
     kehldora_hand hand = KEHLDORA_EMPTY_HAND;
     kehldora_list list = KEHLDORA_EMPTY_LIST;
-    kehldora_mock_refuse(refused);
-    EXPECT(life(words, &hand, &list), KEHLDORA_DONE);
-    kehldora_mock_refuse(-1);
-    CHECK(kehldora_mock_blocks() == blocks);
+    hook_refuse(request);
+    const int refused = life(words, opaque, &hand, &list);
+    is_over = hook_refuse(-1) >= 0;
+    CHECK(refused == (is_over ? 0 : 1) && hook_blocks() == blocks);
   }
 }
 
@@ -336,12 +461,14 @@ int main(void) {
       hands(SIZES[i], opaque);
       growths(SIZES[i], opaque);
       reads(SIZES[i], opaque);
+      moves(SIZES[i], opaque);
       pending(SIZES[i], opaque);
       lists(SIZES[i], opaque);
-      refusals(SIZES[i]);
+      refusals(SIZES[i], opaque);
     }
   empty_handles();
   texts();
-  CHECK(kehldora_mock_blocks() == 0 && kehldora_mock_handles() == 0);
+  CHECK(hook_blocks() == 0);
+  print_noted();
   return 0;
 }

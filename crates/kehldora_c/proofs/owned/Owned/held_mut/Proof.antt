@@ -123,4 +123,4 @@ held_mut_spec 𝓤 𝓛 𝓜 𝓡 wired =
     (walk_Meets 𝓛 F.ended stayed (Goes-spent_ref 𝓛 1 (0 ∷ []) tt (plain (λ _. Owned.the_row)), tt) c (WpFn 𝓤 𝓛.H 𝓣.C 𝓣.Λ code.function) (WpFn-mono 𝓤 𝓛.H 𝓛.laws 𝓣 code.function)
     (walked 𝓛 F.ended stayed c (WpFn 𝓤 𝓛.H 𝓣.C 𝓣.Λ code.function) (λ κs. (mut_vals, tt)) (λ κs. (mut_Tells (named 0) κs.0 Owned.the_row, tt))
     (λ κs qs bounds a g are. needs 𝓤 (IsSome a.0.now.held) _ (λ there.
-    walk 𝓛 𝓜.mem 𝓡.returns κs.0 qs.0 a.0.ref_ptr.0 a.0.ref_ptr.1 a.0.ghost_name a.0.now (there_of a.0.now.held there) (is_there a.0.now.held there) 𝓣)))
+    walk 𝓛 𝓜.mem 𝓡.returns κs.0 qs.0 a.0.ref_ptr.0 a.0.ref_ptr.1 a.0.ghost_name a.0.now (there_of a.0.now.held there) (is_there a.0.now.held there) 𝓣))))

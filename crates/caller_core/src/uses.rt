@@ -9,12 +9,18 @@ use seg_core::Layout;
 use std::alloc::Global;
 
 // Appends a value, and reads it at its place.
+#[tactic(auto, using(crate::proofs::LastTokens::pushes_last))]
 fn pushed_and_read(caller: &mut Caller<u64>, value: u64) -> Option<u64>
     ensures read { IfSome result (λ read. read ≡ value) }
     ensures kept { KeepsCaller caller.old caller.new }
 {
-    let place = caller.push(value).ok()?;
-    caller.at(place).ok()
+    let Ok(place) = caller.push(value) else {
+        return None;
+    };
+    match caller.at(place) {
+        Ok(read) => Some(read),
+        Err(_refused) => None,
+    }
 }
 
 // Splits a caller off, which appends a value, and joins it: no share is lost.
@@ -46,5 +52,8 @@ fn read_reopened(alloc: Global, list: Quiet<u64>, place: u64) -> Option<u64>
         → IfSome result (λ read. read ≡ x) }
 {
     let mut caller = Caller::of_list(alloc, list).ok()?;
-    caller.at(place).ok()
+    match caller.at(place) {
+        Ok(read) => Some(read),
+        Err(_refused) => None,
+    }
 }

@@ -7,10 +7,10 @@ pub returns-in-Ok-clause-own : goal.returns-in-Ok-clause-own
 returns-in-Ok-clause-own c x last = (
   refl,
   c.in-Ok.ensures.own x
-      (subst (λ held. IsSomeAnd held (HasLastValue (length c.args.value.now) c.args.place x)) c.held_mut.ensures.value last),
+      (subst (λ held. IsSomeAnd held (HasLastValue (length c.args.value.now) c.args.place x)) c.held_mut-held.ensures.value last),
 )
 
 pub returns-in-Err-clause-own : goal.returns-in-Err-clause-own
 returns-in-Err-clause-own c x last =
     absurd (c.in-Err.ensures.own x
-    (subst (λ held. IsSomeAnd held (HasLastValue (length c.args.value.now) c.args.place x)) c.held_mut.ensures.value last))
+    (subst (λ held. IsSomeAnd held (HasLastValue (length c.args.value.now) c.args.place x)) c.held_mut-held.ensures.value last))

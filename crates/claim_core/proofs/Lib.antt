@@ -20,8 +20,10 @@ mod CellEvents
 mod CellSteps
 mod Permits
 mod TiedLaws
+mod Badges
 mod Belongs
 mod WholeHand
+mod HandSteps
 mod OwnCounts
 mod OwnPlaces
 mod OwnFacts

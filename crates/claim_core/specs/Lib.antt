@@ -3,6 +3,7 @@ pub mod Shares
 pub mod Word
 pub mod History
 pub mod Hand
+pub mod Lent
 pub mod Laws
 pub mod Errors
 pub mod SeatView

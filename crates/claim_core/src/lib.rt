@@ -25,6 +25,7 @@ mod notes;
 mod role;
 mod rule;
 mod run;
+mod seat;
 mod seat_view;
 mod split_and_join;
 pub mod step_laws;

@@ -30,22 +30,26 @@ rest_same e = cc e
 
 -- ---- A badge with a seat, and a blank one
 
+-- a badge with this view
+pub kept_view : {w : SeatView} {share size : ℕ} {views : List SeatView} → 0 < share → IsOf w share size → views ≡ w ∷ []
+    → IsKept views share size
+kept_view {w} {share} {size} {views} positive numbers here =
+    let shares = numbers.shares in
+    let most = numbers.consistent.shares in
+    record {
+      positive = positive;
+      most = omega arith;
+      of = λ v vs is.
+          let same : w ∷ [] ≡ v ∷ vs = sym here ∙ is in
+          (sym (rest_same same), subst (λ (u : SeatView). IsOf u share size) (first_same same) numbers);
+    }
+
 -- a badge that a seat went into
 pub kept_seat : {seat : ClaimSeat} {share size : ℕ} {views : List SeatView} → IsHeld seat share size → views ≡ seat.me.0 ∷ []
     → IsKept views share size
 kept_seat {seat} {share} {size} {views} held here =
-    let shares = held.shares in
-    let most = held.consistent.shares in
-    record {
-      positive = held.positive;
-      most = omega arith;
-      of = λ v vs is.
-          let same : seat.me.0 ∷ [] ≡ v ∷ vs = sym here ∙ is in (
-            sym (rest_same same),
-            subst (λ (u : SeatView). IsOf u share size) (first_same same)
-                (record { shares = held.shares; seen = held.seen; consistent = held.consistent }),
-          );
-    }
+    let numbers : IsOf seat.me.0 share size = record { shares = held.shares; seen = held.seen; consistent = held.consistent } in
+    kept_view held.positive numbers here
 
 -- the hand is then the seat's
 pub put_view : (floor : ℕ) (table : TableId) (views : List SeatView) (share size : ℕ) (seat : ClaimSeat)
@@ -127,27 +131,31 @@ has_seat floor table (v ∷ vs) share size hand kept hand_is here =
 
 module _
     (floor : ℕ) (table : TableId) (views : List SeatView) (share size : ℕ) (hand : HandView)
-    (has : HasSeat floor table views share size hand) (seat : ClaimSeat) (same : seat.table_id ≡ table)
-    (here : views ≡ seat.me.0 ∷ []) (none : seat.me.1 ≡ []) where
-  view_is : has.view ≡ seat.me.0
-  view_is = first_same (sym has.one ∙ here)
+    (has : HasSeat floor table views share size hand) where
+  view_is : (v : SeatView) → views ≡ v ∷ [] → has.view ≡ v
+  view_is v here = first_same (sym has.one ∙ here)
 
-  -- the seat that was taken out is the hand's
-  pub taken_view : hand_view hand.of.floor seat ≡ hand
-  taken_view =
-      ap (λ (f : ℕ). seat_hand f seat.table_id seat.me.0) (sym (ap (λ (h : HandView). h.of.floor) has.is))
-      ∙ (ap (λ (z : TableId). seat_hand floor z seat.me.0) same ∙ (ap (λ (v : SeatView). seat_hand floor table v) (sym view_is) ∙ has.is))
+  -- the hand is that of its seat
+  pub seat_is : (other : TableId) (v : SeatView) → other ≡ table → views ≡ v ∷ [] → seat_hand hand.of.floor other v ≡ hand
+  seat_is other v same here =
+      ap (λ (f : ℕ). seat_hand f other v) (sym (ap (λ (h : HandView). h.of.floor) has.is))
+      ∙ (ap (λ (z : TableId). seat_hand floor z v) same ∙ (ap (λ (u : SeatView). seat_hand floor table u) (sym (view_is v here)) ∙ has.is))
 
-  pub taken_held : IsHeld seat hand.shares (seen_size hand)
-  taken_held =
+  -- so it is of a seat that was taken out
+  pub taken_view : (seat : ClaimSeat) → seat.table_id ≡ table → views ≡ seat.me.0 ∷ [] → hand_view hand.of.floor seat ≡ hand
+  taken_view seat same here = seat_is seat.table_id seat.me.0 same here
+
+  pub taken_held : (seat : ClaimSeat) → seat.table_id ≡ table → views ≡ seat.me.0 ∷ [] → seat.me.1 ≡ [] → IsHeld seat hand.shares (seen_size hand)
+  taken_held seat same here none =
       let part = has.part in
       let shares = ap (λ (h : HandView). h.shares) has.is in
+      let is = taken_view seat same here in
       record {
         no_slot = none;
-        shares = sym (ap (λ (h : HandView). h.shares) taken_view);
-        seen = sym (ap seen_size taken_view);
+        shares = sym (ap (λ (h : HandView). h.shares) is);
+        seen = sym (ap seen_size is);
         positive = omega arith;
-        consistent = subst IsConsistent view_is has.numbers.consistent;
+        consistent = subst IsConsistent (view_is seat.me.0 here) has.numbers.consistent;
       }
 
 -- ---- What holds of each hand

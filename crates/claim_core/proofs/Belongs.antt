@@ -5,6 +5,9 @@ use Rattle.std.proofs.lemmas.List.Elements.{All-nil}
 use Rattle.std.proofs.lemmas.Bool.Decides.{nat_tests}
 use Rattle.std.specs.List.{Contains}
 use Rattle.atomic_table.specs.Seated.{TableId}
+use Rattle.tie_core.specs.Tie.{Tie}
+use Rattle.tie_core.specs.Desk.{IsTieOf}
+use Rattle.tie_core.specs.Visit.{EntryTie, IsEntryOf}
 use Rattle.claim_core.specs.declared.seat_view.SeatView.{SeatView}
 use Rattle.claim_core.specs.declared.terms.Terms.{Terms}
 use Rattle.book_core.specs.declared.events.Event.{Event}
@@ -13,10 +16,12 @@ use Rattle.claim_core.specs.History.{first_list}
 use Rattle.claim_core.specs.Lengths.{runs_end, times}
 use Rattle.claim_core.specs.Word.{WordView, AreBounds}
 use Rattle.claim_core.specs.Hand.{HandView, AddsRun}
-use Rattle.claim_core.specs.Lent.{lent_hand}
+use Rattle.claim_core.specs.Lent.{lent_hand, seat_hand}
+use Rattle.claim_core.specs.Gain.{IsTiedTo, IsEntryTo}
 use Rattle.claim_core.specs.Seat.{ClaimSeat, word_view, IsOpened, hand_view, IsHeld, IsPair, SeesAsOne}
 use Rattle.claim_core.specs.Rule.{word_count, size_at}
 use Rattle.claim_core.specs.SeatView.{Seated, IsConsistent, Claims, first_view, with_own}
+use Rattle.claim_core.specs.StepLaws.{IsHandSeat}
 use Rattle.claim_core.proofs.Prefixes.{prefix_nil}
 use Rattle.claim_core.proofs.Counts.{times-from_Contains, times-append}
 
@@ -72,6 +77,48 @@ belongs {seat} {share} {size} {floor} {number} {table} {desk} {key} {terms} {des
 pub is_here : {number : ℕ} {table desk : TableId} {key terms desk_key : Terms} {word : WordView} {hand : HandView}
     → IsOpened table key terms desk desk_key → word_view table terms number ≡ word → hand.of ≡ word → hand.of.table.words ≡ word_count
 is_here opened word_is ours = ap (λ (w : WordView). w.table.words) (ours ∙ sym word_is) ∙ opened.words
+
+-- its seat is a hand's of this table, with the terms of the table's desk
+pub same_table : {number floor : ℕ} {table other : TableId} {terms : Terms} {word : WordView} {hand : HandView} {v : SeatView}
+    → word_view table terms number ≡ word → hand.of ≡ word → seat_hand floor other v ≡ hand → other ≡ table
+same_table word_is ours hand_is =
+    ap (λ (h : HandView). h.of.table) hand_is ∙ ap (λ (w : WordView). w.table) (ours ∙ sym word_is)
+
+pub hand_seat : {number floor : ℕ} {table desk other : TableId} {key terms desk_key : Terms} {word : WordView} {hand : HandView} {v : SeatView}
+    → IsOpened table key terms desk desk_key → word_view table terms number ≡ word → hand.of ≡ word → seat_hand floor other v ≡ hand
+    → 0 < v.shares → IsHandSeat desk_key v
+hand_seat {number} {floor} {table} {desk} {other} {key} {terms} {desk_key} {word} {hand} {v} opened word_is ours hand_is part =
+    let same : (seat_hand floor other v).of ≡ word_view table terms number = ap (λ (h : HandView). h.of) hand_is ∙ (ours ∙ sym word_is) in
+    let key_is : terms ≡ desk_key = sym (opened.desk_terms ∙ opened.key_is) in
+    record {
+      limit = ap (λ (w : WordView). w.limit) same ∙ ap (λ (t : Terms). t.limit) key_is;
+      base = ap (λ (w : WordView). w.base) same ∙ ap (λ (t : Terms). t.base) key_is;
+      filled = ap (λ (w : WordView). w.filled) same ∙ ap (λ (t : Terms). t.mark.filled) key_is;
+      part = part;
+    }
+
+-- a block's seat is one of this table
+pub table_here : {number : ℕ} {table other : TableId} {terms : Terms} {word : WordView} → word_view table terms number ≡ word
+    → other ≡ word.table → other ≡ table
+table_here word_is same = same ∙ sym (ap (λ (w : WordView). w.table) word_is)
+
+-- the tie is of a cell that is tied by the word's desk, or of an entry
+pub tied_here : {number : ℕ} {table : TableId} {terms : Terms} {word : WordView} {tie : Tie} → word_view table terms number ≡ word
+    → IsTiedTo word tie → IsTieOf table number tie
+tied_here {number} {table} {terms} {word} {tie} word_is tied = subst (λ (w : WordView). IsTieOf w.table w.floor tie) (sym word_is) tied
+
+pub entry_here : {number : ℕ} {table : TableId} {terms : Terms} {word : WordView} {tie : EntryTie} → word_view table terms number ≡ word
+    → IsEntryTo word tie → IsEntryOf table number tie
+entry_here {number} {table} {terms} {word} {tie} word_is tied = subst (λ (w : WordView). IsEntryOf w.table w.floor tie) (sym word_is) tied
+
+-- and the other way round
+pub tied_there : {number : ℕ} {table : TableId} {terms : Terms} {word : WordView} {tie : Tie} → word_view table terms number ≡ word
+    → IsTieOf table number tie → IsTiedTo word tie
+tied_there {number} {table} {terms} {word} {tie} word_is tied = subst (λ (w : WordView). IsTieOf w.table w.floor tie) word_is tied
+
+pub entry_there : {number : ℕ} {table : TableId} {terms : Terms} {word : WordView} {tie : EntryTie} → word_view table terms number ≡ word
+    → IsEntryOf table number tie → IsEntryTo word tie
+entry_there {number} {table} {terms} {word} {tie} word_is tied = subst (λ (w : WordView). IsEntryOf w.table w.floor tie) word_is tied
 
 -- two lists of runs that a consistent view has together have none in common
 pub owned_apart : {both : SeatView} (xs ys : List ℕ) → IsConsistent both → both.mine ≡ xs ++ ys → (k : ℕ)

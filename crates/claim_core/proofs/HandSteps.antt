@@ -333,3 +333,7 @@ meets_on {seat} {other} {new} {new_other} {found} {a} {b} {lent} {also_lent} {ha
     between (λ (old now : HandView). Met old b now also_hand) a_is lent_is hand_is
     (between (λ (old now : HandView). Met (hand_view a.of.floor seat) old (hand_view a.of.floor new) now) b_is also_lent_is also_hand_is
     (met a.of.floor b.of.floor found seat other new new_other same_word sees))
+
+-- a hand that has lent its seat has seen the size that it had seen
+pub nothing_more : {size : ℕ} → runs_end size [] ≡ size
+nothing_more {size} = omega arith

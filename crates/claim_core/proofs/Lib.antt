@@ -24,6 +24,8 @@ mod Badges
 mod Belongs
 mod WholeHand
 mod HandSteps
+mod MaySteps
+mod GainsBack
 mod OwnCounts
 mod OwnPlaces
 mod OwnFacts

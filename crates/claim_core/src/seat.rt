@@ -46,6 +46,15 @@ impl Hand {
         mem::replace(&mut self.badge, Badge::blank()).into_seat()
     }
 
+    // Puts a seat into the badge, which has seen the same size.
+    #[inline(always)]
+    pub(crate) fn put_back(&mut self, seat: ClaimSeat)
+        requires { IsHeld seat self.old.shares (seen_size self.old) }
+        ensures { self.new ≡ hand_view self.old.of.floor seat }
+    {
+        self.badge = seat.into_badge();
+    }
+
     // Puts a seat into the badge, which has seen this size.
     #[inline(always)]
     pub(crate) fn put_seat(&mut self, seat: ClaimSeat, seen: u64)

@@ -222,10 +222,9 @@ impl<A: Allocator> Word<A> {
         ensures cells { KeepsCells hand.old hand.new }
     {
         let shared = &self.table.shared;
-        let seen = hand.seen();
         let mut seat = hand.take_seat();
         shared.load::<Lack>(&mut seat, SIZE_AT);
-        hand.put_seat(seat, seen);
+        hand.put_back(seat);
     }
 
     /// Returns the size by one load, for a caller without a hand. A proof learns nothing from it.

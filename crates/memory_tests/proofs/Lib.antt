@@ -1,2 +1,3 @@
 mod KeyRows
 mod StepsInARow
+mod OffersInARow

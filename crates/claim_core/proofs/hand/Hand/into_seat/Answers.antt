@@ -13,7 +13,7 @@ returns-clause-seat c =
     let i = c.self.inside in
     let has = has_seat (floor_in i.floor.numbers) i.badge.table_id i.badge.views i.shares i.seen _ c.self.invariant c.self.view_is c.requires in
     let s = c.into_seat.ensures in
-    taken_view _ _ _ _ _ _ has c.into_seat.result s.0 s.2 s.3
+    taken_view _ _ _ _ _ _ has c.into_seat.result s.0 s.2
 
 pub returns-clause-held : goal.returns-clause-held
 returns-clause-held c =

@@ -15,7 +15,7 @@ returns-clause-seat c =
     let has = has_seat (floor_in i.floor.numbers) i.badge.table_id i.badge.views i.shares i.seen _ c.self.invariant c.self.view_is c.requires in
     let s = c.into_seat.ensures in
     taken_view _ _ _ _ _ _ has c.into_seat.result (s.0 ∙ ap (λ b. b.table_id) c.replace.ensures.value)
-    (sym (ap (λ b. b.views) c.replace.ensures.value) ∙ s.2) s.3
+    (sym (ap (λ b. b.views) c.replace.ensures.value) ∙ s.2)
 
 pub returns-clause-held : goal.returns-clause-held
 returns-clause-held c =

@@ -1,5 +1,4 @@
-use Rattle.std.proofs.Common.{◌≡◌, ℕ, ◌+◌, ◌-◌, ap, refl, ◌∙◌, sym, subst, arith}
-use Rattle.claim_core.specs.Lengths.{runs_end}
+use Rattle.std.proofs.Common.{ℕ, ap, refl, ◌∙◌, sym, subst, arith}
 use Rattle.claim_core.specs.Hand.{HandView}
 use Rattle.claim_core.specs.History.{IsNote}
 use Rattle.claim_core.proofs.Kept.{exchanges}

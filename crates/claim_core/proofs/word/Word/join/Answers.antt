@@ -1,4 +1,4 @@
-use Rattle.std.proofs.Common.{◌≡◌, ◌<◌, ◌∙◌, ap, sym, arith}
+use Rattle.std.proofs.Common.{◌<◌, ◌∙◌, ap, sym, arith}
 use Rattle.claim_core.specs.Hand.{HandView}
 use Rattle.claim_core.specs.SeatView.{Seated, longer}
 use Rattle.claim_core.proofs.Kept.{merges, settles}

@@ -1,0 +1,60 @@
+-- By the public clauses of the hand and of the cell.
+use Rattle.std.proofs.Common.{◌∙◌, ap}
+use Rattle.memory_tests.proofs.OffersInARow.{is_made, lent_on, begun, still_found, still_seen, filled}
+use Rattle.memory_tests.proofs.claim.offers.fill_own.Goals as goal
+
+pub take_back-requires-clause-made : goal.take_back-requires-clause-made
+take_back-requires-clause-made g c = is_made _ _ _ c.begin_for-pen.ensures.made
+
+pub take_back-requires-clause-lent : goal.take_back-requires-clause-lent
+take_back-requires-clause-lent g c =
+    let about = c.begin_for-pen.ensures.offer.1 in
+    (c.args.hand.now, lent_on (ap (λ a. a.table_id) about) (ap (λ a. a.view) about) c.offer_begin-offer.ensures.lent)
+
+pub offer_fill-offer-requires-clause-ours : goal.offer_fill-offer-requires-clause-ours
+offer_fill-offer-requires-clause-ours g c =
+    let about = c.begin_for-pen.ensures.offer.1 in
+    let first =
+    begun _ _ _ _ _ _ (ap (λ a. a.told) about ∙ c.offer_begin-offer.ensures.offer.3)
+    (c.take_back.ensures.gained c.args.hand.now
+    (lent_on (ap (λ a. a.table_id) about) (ap (λ a. a.view) about) c.offer_begin-offer.ensures.lent)) in
+    first.of ∙ c.requires.ours
+
+pub offer_fill-offer-requires-clause-found : goal.offer_fill-offer-requires-clause-found
+offer_fill-offer-requires-clause-found g c =
+    let about = c.begin_for-pen.ensures.offer.1 in
+    let first =
+    begun _ _ _ _ _ _ (ap (λ a. a.told) about ∙ c.offer_begin-offer.ensures.offer.3)
+    (c.take_back.ensures.gained c.args.hand.now
+    (lent_on (ap (λ a. a.table_id) about) (ap (λ a. a.view) about) c.offer_begin-offer.ensures.lent)) in
+    still_found _ _ _ first _ c.requires.found
+
+pub offer_fill-offer-requires-clause-seen : goal.offer_fill-offer-requires-clause-seen
+offer_fill-offer-requires-clause-seen g c =
+    let about = c.begin_for-pen.ensures.offer.1 in
+    let first =
+    begun _ _ _ _ _ _ (ap (λ a. a.told) about ∙ c.offer_begin-offer.ensures.offer.3)
+    (c.take_back.ensures.gained c.args.hand.now
+    (lent_on (ap (λ a. a.table_id) about) (ap (λ a. a.view) about) c.offer_begin-offer.ensures.lent)) in
+    still_seen _ _ _ first c.requires.own
+
+pub take_back-requires-clause-made-2 : goal.take_back-requires-clause-made-2
+take_back-requires-clause-made-2 g c = is_made _ _ _ c.fill_for-placed.ensures.made.1
+
+pub take_back-requires-clause-lent-2 : goal.take_back-requires-clause-lent-2
+take_back-requires-clause-lent-2 g c =
+    let about = c.fill_for-placed.ensures.offer.1 in
+    (c.take_back.new.self, lent_on (ap (λ a. a.table_id) about) (ap (λ a. a.view) about) c.offer_fill-offer.ensures.lent)
+
+pub returns-clause-filled : goal.returns-clause-filled
+returns-clause-filled g c =
+    let about = c.begin_for-pen.ensures.offer.1 in
+    let first =
+    begun _ _ _ _ _ _ (ap (λ a. a.told) about ∙ c.offer_begin-offer.ensures.offer.3)
+    (c.take_back.ensures.gained c.args.hand.now
+    (lent_on (ap (λ a. a.table_id) about) (ap (λ a. a.view) about) c.offer_begin-offer.ensures.lent)) in
+    let kept = c.fill_for-placed.ensures.offer.1 in
+    let lent = lent_on (ap (λ a. a.table_id) kept) (ap (λ a. a.view) kept) c.offer_fill-offer.ensures.lent in
+    filled c.runs_are_apart.ensures c.events_follow.ensures _ _ _ _ _ _ _ _ _ _ c.requires.own first lent.seat c.fill_for-placed.ensures.made.1
+    (ap (λ a. a.told) kept ∙ c.offer_fill-offer.ensures.offer.3)
+    (c.take_back-2.ensures.gained c.take_back.new.self lent)

@@ -1,0 +1,107 @@
+// A hand lends its seat to steps on tied cells, and takes it back: what its caller then proves, by the public clauses
+// of the crates alone.
+ghost use Rattle.std.specs.Prelude.{◌≡◌, ◌<◌, ◌≤◌, Some};
+ghost use Rattle.std.specs.List.{Contains};
+ghost use Rattle.cell_core.specs.Block.{block_len, cell_at};
+ghost use Rattle.claim_core.specs.Hand.{IsHandOf, IsWholeHand, OwnsPlace, seen_size};
+ghost use Rattle.claim_core.specs.Gain.{IsTiedTo};
+ghost use Rattle.claim_core.specs.Ties.{Finds};
+ghost use Rattle.memory_tests.specs.Offers.{HasFilled, HasLooked};
+
+use atomic_table::Badge;
+use cell_core::block::{Block, Look, Placed, Tied};
+use claim_core::{CellTag, EntryAt, Hand, Word, laws};
+use std::alloc::{Allocator, Global};
+use std::marker::Brand;
+use std::test::Fail;
+
+// A look at a place that the hand has seen is logged with what the cell shows.
+fn look_at<'a, A: Allocator>(
+    word: &Word<A>,
+    hand: &mut Hand,
+    cells: &'a Block<u64, Global, Tied>,
+    tag: &CellTag,
+    offset: u64,
+    place: u64,
+) -> Look<'a, u64>
+    requires ours { IsHandOf word.now hand.old }
+    requires within { offset < block_len cells.now }
+    requires cell { (cell_at cells.now offset).tied ≡ Some tag.now.tie }
+    requires tied { IsTiedTo word.now tag.now.tie }
+    requires found { Finds hand.old.rows place tag.now.tie.id }
+    requires seen { place < seen_size hand.old }
+    ensures looked { HasLooked place hand.old hand.new }
+{
+    let offer = hand.offer_look(word, tag, place);
+    let (look, offer) = cells.look_for(offset, offer);
+    hand.take_back(offer);
+    look
+}
+
+// A hand that owns a place, and does not know it begun, may begin and fill it. Its history then has the fill.
+fn fill_own<A: Allocator>(
+    word: &Word<A>,
+    hand: &mut Hand,
+    cells: &Block<u64, Global, Tied>,
+    tag: &CellTag,
+    offset: u64,
+    place: u64,
+) -> Placed<u64>
+    requires ours { IsHandOf word.now hand.old }
+    requires within { offset < block_len cells.now }
+    requires cell { (cell_at cells.now offset).tied ≡ Some tag.now.tie }
+    requires tied { IsTiedTo word.now tag.now.tie }
+    requires found { Finds hand.old.rows place tag.now.tie.id }
+    requires own { OwnsPlace hand.old place }
+    requires unknown { Contains hand.old.begun place → ⊥ }
+    ensures filled { HasFilled place hand.old hand.new }
+{
+    laws::runs_are_apart();
+    laws::events_follow();
+    let offer = hand.offer_begin(word, tag, place);
+    let (pen, offer) = cells.begin_for(offset, offer);
+    hand.take_back(offer);
+    let offer = hand.offer_fill(word, tag, place);
+    let (placed, offer) = pen.fill_for(place, offer);
+    hand.take_back(offer);
+    placed
+}
+
+// A whole hand makes an entry, lays cells for it, claims their places, and lends its seat to a look at the entry. The
+// seat is lost with the visit, and the hand still says what it has seen.
+fn lend_to_visit<R: EntryAt, A: Allocator>(word: &Word<A>, hand: &mut Hand) -> Option<u64>
+    requires ours { IsHandOf word.now hand.old }
+    requires whole { IsWholeHand hand.old }
+    requires unlaid { hand.old.laid ≤ 0 }
+    requires start { word.now.base ≡ 0 }
+    requires room { 2 ≤ word.now.limit }
+    requires places { (R.from ≡ 0) × (R.n ≡ 2) }
+{
+    let (own, tag) = word.enter(hand, 0, 2);
+    own.lose();
+    let mut block = Badge::blank();
+    let (seats, _cell) = word.lay(&mut block, 2);
+    drop(seats);
+    word.exchange(hand, 0, 2).ok()?;
+    let visit = hand.visit_look::<R, A>(word, &tag, 0);
+    drop(visit);
+    Some(hand.seen())
+}
+
+// The same, for the places 0 and 1.
+fn lend_first<A: Allocator>(word: &Word<A>, hand: &mut Hand) -> Option<u64>
+    requires ours { IsHandOf word.now hand.old }
+    requires whole { IsWholeHand hand.old }
+    requires unlaid { hand.old.laid ≤ 0 }
+    requires start { word.now.base ≡ 0 }
+    requires room { 2 ≤ word.now.limit }
+{
+    lend_to_visit::<Brand, A>(word, hand)
+}
+
+#[test]
+fn a_hand_lends_its_seat_to_a_visit(rt: HostRuntime) -> Result<(), Fail> {
+    let (word, mut hand) = Word::open(rt.alloc(), 8, 0)?;
+    assert!(rt; lend_first(&word, &mut hand) == Some(2));
+    Ok(())
+}

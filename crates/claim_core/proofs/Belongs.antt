@@ -79,15 +79,15 @@ pub is_here : {number : ℕ} {table desk : TableId} {key terms desk_key : Terms}
 is_here opened word_is ours = ap (λ (w : WordView). w.table.words) (ours ∙ sym word_is) ∙ opened.words
 
 -- its seat is a hand's of this table, with the terms of the table's desk
-pub same_table : {number floor : ℕ} {table other : TableId} {terms : Terms} {word : WordView} {hand : HandView} {v : SeatView}
+pub same_table : {number floor : ℕ} {table other : TableId} {terms : Terms} {word : WordView} {hand : HandView} (v : SeatView)
     → word_view table terms number ≡ word → hand.of ≡ word → seat_hand floor other v ≡ hand → other ≡ table
-same_table word_is ours hand_is =
+same_table v word_is ours hand_is =
     ap (λ (h : HandView). h.of.table) hand_is ∙ ap (λ (w : WordView). w.table) (ours ∙ sym word_is)
 
-pub hand_seat : {number floor : ℕ} {table desk other : TableId} {key terms desk_key : Terms} {word : WordView} {hand : HandView} {v : SeatView}
+pub hand_seat : {number floor : ℕ} {table desk other : TableId} {key terms desk_key : Terms} {word : WordView} {hand : HandView} (v : SeatView)
     → IsOpened table key terms desk desk_key → word_view table terms number ≡ word → hand.of ≡ word → seat_hand floor other v ≡ hand
     → 0 < v.shares → IsHandSeat desk_key v
-hand_seat {number} {floor} {table} {desk} {other} {key} {terms} {desk_key} {word} {hand} {v} opened word_is ours hand_is part =
+hand_seat {number} {floor} {table} {desk} {other} {key} {terms} {desk_key} {word} {hand} v opened word_is ours hand_is part =
     let same : (seat_hand floor other v).of ≡ word_view table terms number = ap (λ (h : HandView). h.of) hand_is ∙ (ours ∙ sym word_is) in
     let key_is : terms ≡ desk_key = sym (opened.desk_terms ∙ opened.key_is) in
     record {
@@ -146,9 +146,9 @@ held_on {seat} {share} {size} new more found held slots shares same ends consist
     }
 
 -- the hand that a seat is put back into is then the seat's
-pub put_back : {seat : ClaimSeat} {old lent new : HandView} → lent ≡ lent_hand old → new ≡ hand_view lent.of.floor seat
+pub put_back : (seat : ClaimSeat) {old lent new : HandView} → lent ≡ lent_hand old → new ≡ hand_view lent.of.floor seat
     → new ≡ hand_view old.of.floor seat
-put_back {seat} {old} {lent} {new} is now =
+put_back seat {old} {lent} {new} is now =
     now ∙ ap (λ (f : ℕ). hand_view f seat) (ap (λ (h : HandView). h.of.floor) is)
 
 -- a part of a seat that has not all shares is as consistent as the whole

@@ -32,12 +32,12 @@ keeps_cells : (floor : ℕ) (seat new : ClaimSeat) → SameOwn seat.me.0 new.me.
 keeps_cells floor seat new same = record { begun = same.begun; rows = same.rows; laid = same.laid }
 
 -- a fact of two hands, of which the second is the first with a seat put back
-pub between : {seat new : ClaimSeat} {old lent hand : HandView} (P : HandView → HandView → Type 0)
+pub between : {old lent hand : HandView} (seat new : ClaimSeat) (P : HandView → HandView → Type 0)
     → hand_view old.of.floor seat ≡ old → lent ≡ lent_hand old → hand ≡ hand_view lent.of.floor new
     → P (hand_view old.of.floor seat) (hand_view old.of.floor new) → P old hand
-between {seat} {new} {old} {lent} {hand} P old_is lent_is hand_is fact =
+between {old} {lent} {hand} seat new P old_is lent_is hand_is fact =
     subst (λ (h : HandView). P h hand) old_is
-    (subst (λ (h : HandView). P (hand_view old.of.floor seat) h) (sym (put_back lent_is hand_is)) fact)
+    (subst (λ (h : HandView). P (hand_view old.of.floor seat) h) (sym (put_back new lent_is hand_is)) fact)
 
 -- ---- A look
 
@@ -66,11 +66,11 @@ looked floor seat new found es table looks =
       cells = keeps_cells floor seat new looks.same;
     }
 
-pub looks_on : {seat new : ClaimSeat} {found : ℕ} {es : Log} {old lent hand : HandView} → hand_view old.of.floor seat ≡ old
+pub looks_on : (seat new : ClaimSeat) {found : ℕ} {es : Log} {old lent hand : HandView} → hand_view old.of.floor seat ≡ old
     → lent ≡ lent_hand old → hand ≡ hand_view lent.of.floor new → new.table_id ≡ seat.table_id
     → Looks seat.me.0 found es new.me.0 → Looked found es old hand
-looks_on {seat} {new} {found} {es} {old} {lent} {hand} old_is lent_is hand_is table looks =
-    between (Looked found es) old_is lent_is hand_is (looked old.of.floor seat new found es table looks)
+looks_on seat new {found} {es} {old} {lent} {hand} old_is lent_is hand_is table looks =
+    between seat new (Looked found es) old_is lent_is hand_is (looked old.of.floor seat new found es table looks)
 
 -- ---- A step that only logs
 
@@ -80,11 +80,11 @@ pub record Remarked (es : Log) (old new : HandView) : Type 0 where
   pub logs : AddsEvents old.log es new.log
   pub cells : KeepsCells old new
 
-pub remarks_on : {seat new : ClaimSeat} {es : Log} {old lent hand : HandView} → hand_view old.of.floor seat ≡ old
+pub remarks_on : (seat new : ClaimSeat) {es : Log} {old lent hand : HandView} → hand_view old.of.floor seat ≡ old
     → lent ≡ lent_hand old → hand ≡ hand_view lent.of.floor new → new.table_id ≡ seat.table_id
     → Remarks seat.me.0 es new.me.0 → Remarked es old hand
-remarks_on {seat} {new} {es} {old} {lent} {hand} old_is lent_is hand_is table remarks =
-    between (Remarked es) old_is lent_is hand_is
+remarks_on seat new {es} {old} {lent} {hand} old_is lent_is hand_is table remarks =
+    between seat new (Remarked es) old_is lent_is hand_is
     (record {
       own = keeps_own old.of.floor seat new table remarks.same;
       seen = remarks.seen;
@@ -121,63 +121,63 @@ claimed floor seat new found n event table more claims =
       cells = record { begun = claims.same.begun; rows = claims.same.rows; laid = claims.same.laid };
     }
 
-pub claims_on : {seat new : ClaimSeat} {found n : ℕ} {event : ℕ → Event × Reply} {old lent hand : HandView}
+pub claims_on : (seat new : ClaimSeat) {found n : ℕ} {event : ℕ → Event × Reply} {old lent hand : HandView}
     → hand_view old.of.floor seat ≡ old → lent ≡ lent_hand old → hand ≡ hand_view lent.of.floor new → new.table_id ≡ seat.table_id
     → 0 < n → Claims seat.me.0 found n event new.me.0 → Claimed (record { from = found; n = n }) event old hand
-claims_on {seat} {new} {found} {n} {event} {old} {lent} {hand} old_is lent_is hand_is table more claims =
-    between (Claimed (record { from = found; n = n }) event) old_is lent_is hand_is
+claims_on seat new {found} {n} {event} {old} {lent} {hand} old_is lent_is hand_is table more claims =
+    between seat new (Claimed (record { from = found; n = n }) event) old_is lent_is hand_is
     (claimed old.of.floor seat new found n event table more claims)
 
 -- a won exchange claims the run that was asked for
-pub wins_on : {seat new : ClaimSeat} {from n found : ℕ} {old lent hand : HandView}
+pub wins_on : (seat new : ClaimSeat) {from n found : ℕ} {old lent hand : HandView}
     → hand_view old.of.floor seat ≡ old → lent ≡ lent_hand old → hand ≡ hand_view lent.of.floor new → new.table_id ≡ seat.table_id
     → 0 < n → found ≡ from
     → Claims seat.me.0 found ((from + n) - from) (λ index. claim_event index (record { from = found; n = (from + n) - from })) new.me.0
     → Claimed (record { from = from; n = n }) (λ index. claim_event index (record { from = from; n = n })) old hand
-wins_on {seat} {new} {from} {n} {found} {old} {lent} {hand} old_is lent_is hand_is table more found_is claims =
+wins_on seat new {from} {n} {found} {old} {lent} {hand} old_is lent_is hand_is table more found_is claims =
     let long : (from + n) - from ≡ n = omega arith in
     let here : Claims seat.me.0 found n (λ index. claim_event index (record { from = found; n = n })) new.me.0 =
     subst (λ (m : ℕ). Claims seat.me.0 found m (λ index. claim_event index (record { from = found; n = m })) new.me.0) long claims in
-    claims_on old_is lent_is hand_is table more
+    claims_on seat new old_is lent_is hand_is table more
     (subst (λ (f : ℕ). Claims seat.me.0 f n (λ index. claim_event index (record { from = f; n = n })) new.me.0) found_is here)
 
 -- a step that only logs shows no other size
-pub stays_seen : {seat new : ClaimSeat} {share size : ℕ} {es : Log} → IsHeld seat share size → Remarks seat.me.0 es new.me.0
+pub stays_seen : {seat : ClaimSeat} (new : ClaimSeat) {share size : ℕ} {es : Log} → IsHeld seat share size → Remarks seat.me.0 es new.me.0
     → size ≡ runs_end new.me.0.base new.me.0.seen
-stays_seen {seat} {new} {share} {size} {es} held remarks =
+stays_seen {seat} new {share} {size} {es} held remarks =
     held.seen ∙ (ap (λ (b : ℕ). runs_end b seat.me.0.seen) (sym remarks.same.base) ∙ ap (runs_end new.me.0.base) (sym remarks.seen))
 
 -- ---- A seat that is cut in two
 
 -- a hand of one part is the hand of both, with its own runs and shares
-cut_view : {seat part : ClaimSeat} {old : HandView} {runs : List ℕ} {shares : ℕ} → hand_view old.of.floor seat ≡ old
+cut_view : (seat part : ClaimSeat) {old : HandView} {runs : List ℕ} {shares : ℕ} → hand_view old.of.floor seat ≡ old
     → part.table_id ≡ seat.table_id → part.me.0 ≡ with_own seat.me.0 runs shares
     → hand_view old.of.floor part ≡ record old { mine = runs; shares = shares }
-cut_view {seat} {part} {old} {runs} {shares} old_is table part_is =
+cut_view seat part {old} {runs} {shares} old_is table part_is =
     ap (λ (z : TableId). seat_hand old.of.floor z part.me.0) table
     ∙ (ap (λ (v : SeatView). seat_hand old.of.floor seat.table_id v) part_is
     ∙ ap (λ (h : HandView). record h { mine = runs; shares = shares }) old_is)
 
 -- the part that stays
-pub cut_on : {seat new : ClaimSeat} {old lent hand : HandView} {runs : List ℕ} {shares left : ℕ} → hand_view old.of.floor seat ≡ old
+pub cut_on : (seat new : ClaimSeat) {old lent hand : HandView} {runs : List ℕ} {shares left : ℕ} → hand_view old.of.floor seat ≡ old
     → lent ≡ lent_hand old → hand ≡ hand_view lent.of.floor new → new.table_id ≡ seat.table_id
     → new.me.0 ≡ with_own seat.me.0 runs shares → runs ≡ old.mine → shares ≡ left → hand ≡ record old { shares = left }
-cut_on {seat} {new} {old} {lent} {hand} {runs} {shares} {left} old_is lent_is hand_is table new_is runs_is shares_is =
-    put_back lent_is hand_is
-    ∙ (cut_view old_is table new_is
+cut_on seat new {old} {lent} {hand} {runs} {shares} {left} old_is lent_is hand_is table new_is runs_is shares_is =
+    put_back new lent_is hand_is
+    ∙ (cut_view seat new old_is table new_is
     ∙ (ap (λ (r : List ℕ). record old { mine = r; shares = shares }) runs_is ∙ ap (λ (n : ℕ). record old { shares = n }) shares_is))
 
 -- the part that is given away
-pub cut_off : {seat new part : ClaimSeat} {old lent hand given : HandView} {runs : List ℕ} {shares left : ℕ}
+pub cut_off : (seat new part : ClaimSeat) {old lent hand given : HandView} {runs : List ℕ} {shares left : ℕ}
     → hand_view old.of.floor seat ≡ old → lent ≡ lent_hand old → hand ≡ hand_view lent.of.floor new → given ≡ hand_view hand.of.floor part
     → part.table_id ≡ seat.table_id → part.me.0 ≡ with_own seat.me.0 runs shares → runs ≡ [] → shares ≡ left
     → given ≡ record old { mine = []; shares = left }
-cut_off {seat} {new} {part} {old} {lent} {hand} {given} {runs} {shares} {left} old_is lent_is hand_is given_is table part_is runs_is shares_is =
+cut_off seat new part {old} {lent} {hand} {given} {runs} {shares} {left} old_is lent_is hand_is given_is table part_is runs_is shares_is =
     let floor : hand.of.floor ≡ old.of.floor =
     ap (λ (h : HandView). h.of.floor) hand_is ∙ ap (λ (h : HandView). h.of.floor) lent_is in
     given_is
     ∙ (ap (λ (f : ℕ). hand_view f part) floor
-    ∙ (cut_view old_is table part_is
+    ∙ (cut_view seat part old_is table part_is
     ∙ (ap (λ (r : List ℕ). record old { mine = r; shares = shares }) runs_is ∙ ap (λ (n : ℕ). record old { mine = []; shares = n }) shares_is)))
 
 -- ---- Two seats that become one
@@ -227,20 +227,20 @@ joined floor other_floor seat other new table settles =
       apart = owned_apart v.mine w.mine settles.consistent same.mine;
     }
 
-pub joins_on : {seat other mid new : ClaimSeat} {a b lent hand : HandView} → hand_view a.of.floor seat ≡ a
+pub joins_on : (seat other mid new : ClaimSeat) {a b lent hand : HandView} → hand_view a.of.floor seat ≡ a
     → hand_view b.of.floor other ≡ b → lent ≡ lent_hand a → hand ≡ hand_view lent.of.floor new → mid.table_id ≡ seat.table_id
     → new.table_id ≡ mid.table_id → mid.me.0 ≡ joined_view seat.me.0 other.me.0 → Settles mid.me.0 new.me.0 → Joined a b hand
-joins_on {seat} {other} {mid} {new} {a} {b} {lent} {hand} a_is b_is lent_is hand_is table still mid_is settles =
-    between (λ (old now : HandView). Joined old b now) a_is lent_is hand_is
+joins_on seat other mid new {a} {b} {lent} {hand} a_is b_is lent_is hand_is table still mid_is settles =
+    between seat new (λ (old now : HandView). Joined old b now) a_is lent_is hand_is
     (subst (λ (h : HandView). Joined (hand_view a.of.floor seat) h (hand_view a.of.floor new)) b_is
     (joined a.of.floor b.of.floor seat other new (still ∙ table)
     (subst (λ (v : SeatView). Settles v new.me.0) mid_is settles)))
 
 -- the two numbers of a hand that another was joined to
-pub join_held : {seat other mid new : ClaimSeat} {share size more long : ℕ} (all end : ℕ) → IsHeld seat share size → IsHeld other more long
+pub join_held : {seat other : ClaimSeat} (mid new : ClaimSeat) {share size more long : ℕ} (all end : ℕ) → IsHeld seat share size → IsHeld other more long
     → other.me.0.base ≡ seat.me.0.base → mid.me ≡ (joined_view seat.me.0 other.me.0, seat.me.1) → new.me.1 ≡ mid.me.1
     → Settles mid.me.0 new.me.0 → all ≡ share + more → end ≡ max size long → IsHeld new all end
-join_held {seat} {other} {mid} {new} {share} {size} {more} {long} all end held other_held base mid_is slots settled all_is end_is =
+join_held {seat} {other} mid new {share} {size} {more} {long} all end held other_held base mid_is slots settled all_is end_is =
     let v = seat.me.0 in
     let w = other.me.0 in
     let n = new.me.0 in
@@ -330,8 +330,8 @@ pub meets_on : {seat other new new_other : ClaimSeat} {found : ℕ} {a b lent al
 meets_on {seat} {other} {new} {new_other} {found} {a} {b} {lent} {also_lent} {hand} {also_hand} a_is b_is lent_is also_lent_is hand_is also_hand_is same sees =
     let same_word : (hand_view a.of.floor seat).of ≡ (hand_view b.of.floor other).of =
     ap (λ (h : HandView). h.of) a_is ∙ (same ∙ sym (ap (λ (h : HandView). h.of) b_is)) in
-    between (λ (old now : HandView). Met old b now also_hand) a_is lent_is hand_is
-    (between (λ (old now : HandView). Met (hand_view a.of.floor seat) old (hand_view a.of.floor new) now) b_is also_lent_is also_hand_is
+    between seat new (λ (old now : HandView). Met old b now also_hand) a_is lent_is hand_is
+    (between other new_other (λ (old now : HandView). Met (hand_view a.of.floor seat) old (hand_view a.of.floor new) now) b_is also_lent_is also_hand_is
     (met a.of.floor b.of.floor found seat other new new_other same_word sees))
 
 -- a hand that has lent its seat has seen the size that it had seen

@@ -49,10 +49,10 @@ held_is Broken held = absurd held
 
 -- only a broken cell shows 5
 broken_is : (a : Stage) → Shows a 5 → a ≡ Broken
-broken_is Idle e = absurd (omega arith)
-broken_is Begun e = absurd (omega arith)
-broken_is Mending e = absurd (omega arith)
-broken_is Filled e = absurd (omega arith)
+broken_is Idle e = let five : 5 ≡ 0 = e in absurd (omega arith)
+broken_is Begun e = let five : 5 ≡ 0 = e in absurd (omega arith)
+broken_is Mending e = let five : 5 ≡ 1 = e in absurd (omega arith)
+broken_is Filled e = let five : 5 ≡ 3 = e in absurd (omega arith)
 broken_is Broken e = refl
 
 -- ---- What a seat learns

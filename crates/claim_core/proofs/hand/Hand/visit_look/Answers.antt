@@ -9,7 +9,7 @@ pub visit-requires-clause-table : goal.visit-requires-clause-table
 visit-requires-clause-table g c =
     let i = c.self.inside in
     let has = has_seat (floor_in i.floor.numbers) i.badge.table_id i.badge.views i.shares i.seen _ c.self.invariant c.self.view_is (is_here c.word.invariant c.word.view_is c.requires.ours) in
-    (c.word.invariant.desk_of, same_table c.word.view_is c.requires.ours has.is)
+    (c.word.invariant.desk_of, same_table has.view c.word.view_is c.requires.ours has.is)
 
 pub visit-requires-clause-tie : goal.visit-requires-clause-tie
 visit-requires-clause-tie g c = entry_here c.word.view_is c.requires.tied
@@ -23,7 +23,7 @@ visit-requires-clause-permits g c =
       has.view,
       has.one,
       find_here c.requires.places.0 c.requires.places.1
-          (may_find _ _ _ _ _ _ (hand_seat c.word.invariant c.word.view_is c.requires.ours has.is has.part) has.is _ _ _ _ there.0 there.1 claimed.0 claimed.1),
+          (may_find _ _ _ _ _ _ (hand_seat has.view c.word.invariant c.word.view_is c.requires.ours has.is has.part) has.is _ _ _ _ there.0 there.1 claimed.0 claimed.1),
     )
 
 pub invariant_of-self : goal.invariant_of-self

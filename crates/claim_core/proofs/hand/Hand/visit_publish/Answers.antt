@@ -9,7 +9,7 @@ pub publish-requires-clause-table : goal.publish-requires-clause-table
 publish-requires-clause-table g c =
     let i = c.self.inside in
     let has = has_seat (floor_in i.floor.numbers) i.badge.table_id i.badge.views i.shares i.seen _ c.self.invariant c.self.view_is (is_here c.word.invariant c.word.view_is c.requires.ours) in
-    (c.word.invariant.desk_of, same_table c.word.view_is c.requires.ours has.is, table_here c.word.view_is c.requires.block.0)
+    (c.word.invariant.desk_of, same_table has.view c.word.view_is c.requires.ours has.is, table_here c.word.view_is c.requires.block.0)
 
 pub publish-requires-clause-tie : goal.publish-requires-clause-tie
 publish-requires-clause-tie g c = entry_here c.word.view_is c.requires.tied
@@ -23,7 +23,7 @@ publish-requires-clause-permits g c =
       has.one,
       c.requires.block.1,
       publish_here c.requires.places.0 c.requires.places.1
-          (may_publish _ _ _ _ _ _ (hand_seat c.word.invariant c.word.view_is c.requires.ours has.is has.part) has.is _ _ _ _ _ _ c.requires.past),
+          (may_publish _ _ _ _ _ _ (hand_seat has.view c.word.invariant c.word.view_is c.requires.ours has.is has.part) has.is _ _ _ _ _ _ c.requires.past),
     )
 
 pub invariant_of-self : goal.invariant_of-self

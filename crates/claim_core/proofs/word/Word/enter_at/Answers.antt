@@ -9,7 +9,7 @@ pub enter-requires-clause-table : goal.enter-requires-clause-table
 enter-requires-clause-table g c =
     let i = c.hand.inside in
     let has = has_seat (floor_in i.floor.numbers) i.badge.table_id i.badge.views i.shares i.seen _ c.hand.invariant c.hand.view_is (is_here c.self.invariant c.self.view_is c.requires.ours) in
-    (c.self.invariant.desk_of, same_table c.self.view_is c.requires.ours has.is)
+    (c.self.invariant.desk_of, same_table has.view c.self.view_is c.requires.ours has.is)
 
 pub enter-requires-clause-permits : goal.enter-requires-clause-permits
 enter-requires-clause-permits g c =
@@ -18,7 +18,7 @@ enter-requires-clause-permits g c =
       has.view,
       has.one,
       enter_here c.requires.places
-          (may_enter _ _ _ _ _ _ (hand_seat c.self.invariant c.self.view_is c.requires.ours has.is has.part) has.is _ _ c.requires.whole c.requires.unlaid),
+          (may_enter _ _ _ _ _ _ (hand_seat has.view c.self.invariant c.self.view_is c.requires.ours has.is has.part) has.is _ _ c.requires.whole c.requires.unlaid),
     )
 
 pub invariant_of-hand : goal.invariant_of-hand

@@ -31,7 +31,7 @@ returns-then-found-from-clause-claimed g c =
     let t = c.take_seat-seat.ensures in
     let e = c.compare_exchange-found.ensures in
     let won =
-    wins_on t.seat t.lent c.put_seat.ensures e.0 c.requires.some_places c.if-found-from.true (found_it _ _ _ _ _ refl c.if-found-from.true e.2.0) in
+    wins_on c.take_seat-seat.result c.compare_exchange-found.new.seat t.seat t.lent c.put_seat.ensures e.0 c.requires.some_places c.if-found-from.true (found_it _ _ _ _ _ refl c.if-found-from.true e.2.0) in
     won.adds
 
 pub returns-then-found-from-clause-not_below : goal.returns-then-found-from-clause-not_below
@@ -39,7 +39,7 @@ returns-then-found-from-clause-not_below g c =
     let t = c.take_seat-seat.ensures in
     let e = c.compare_exchange-found.ensures in
     let won =
-    wins_on t.seat t.lent c.put_seat.ensures e.0 c.requires.some_places c.if-found-from.true (found_it _ _ _ _ _ refl c.if-found-from.true e.2.0) in
+    wins_on c.take_seat-seat.result c.compare_exchange-found.new.seat t.seat t.lent c.put_seat.ensures e.0 c.requires.some_places c.if-found-from.true (found_it _ _ _ _ _ refl c.if-found-from.true e.2.0) in
     won.grows
 
 pub returns-then-found-from-clause-logs : goal.returns-then-found-from-clause-logs
@@ -47,7 +47,7 @@ returns-then-found-from-clause-logs g c =
     let t = c.take_seat-seat.ensures in
     let e = c.compare_exchange-found.ensures in
     let won =
-    wins_on t.seat t.lent c.put_seat.ensures e.0 c.requires.some_places c.if-found-from.true (found_it _ _ _ _ _ refl c.if-found-from.true e.2.0) in
+    wins_on c.take_seat-seat.result c.compare_exchange-found.new.seat t.seat t.lent c.put_seat.ensures e.0 c.requires.some_places c.if-found-from.true (found_it _ _ _ _ _ refl c.if-found-from.true e.2.0) in
     record { index = won.index; last = won.last; adds = won.logs }
 
 pub returns-then-found-from-clause-cells : goal.returns-then-found-from-clause-cells
@@ -55,7 +55,7 @@ returns-then-found-from-clause-cells g c =
     let t = c.take_seat-seat.ensures in
     let e = c.compare_exchange-found.ensures in
     let won =
-    wins_on t.seat t.lent c.put_seat.ensures e.0 c.requires.some_places c.if-found-from.true (found_it _ _ _ _ _ refl c.if-found-from.true e.2.0) in
+    wins_on c.take_seat-seat.result c.compare_exchange-found.new.seat t.seat t.lent c.put_seat.ensures e.0 c.requires.some_places c.if-found-from.true (found_it _ _ _ _ _ refl c.if-found-from.true e.2.0) in
     won.cells
 
 -- ---- Lost
@@ -72,28 +72,28 @@ pub returns-else-found-from-clause-seen : goal.returns-else-found-from-clause-se
 returns-else-found-from-clause-seen g c =
     let t = c.take_seat-seat.ensures in
     let e = c.compare_exchange-found.ensures in
-    let lost = looks_on t.seat t.lent c.put_seat-else-found-from.ensures e.0 (missed _ _ _ _ _ refl c.if-found-from.false e.2.0) in
+    let lost = looks_on c.take_seat-seat.result c.compare_exchange-found.new.seat t.seat t.lent c.put_seat-else-found-from.ensures e.0 (missed _ _ _ _ _ refl c.if-found-from.false e.2.0) in
     lost.sees
 
 pub returns-else-found-from-clause-logs_note : goal.returns-else-found-from-clause-logs_note
 returns-else-found-from-clause-logs_note g c =
     let t = c.take_seat-seat.ensures in
     let e = c.compare_exchange-found.ensures in
-    let lost = looks_on t.seat t.lent c.put_seat-else-found-from.ensures e.0 (missed _ _ _ _ _ refl c.if-found-from.false e.2.0) in
+    let lost = looks_on c.take_seat-seat.result c.compare_exchange-found.new.seat t.seat t.lent c.put_seat-else-found-from.ensures e.0 (missed _ _ _ _ _ refl c.if-found-from.false e.2.0) in
     lost.logs
 
 pub returns-else-found-from-clause-cells : goal.returns-else-found-from-clause-cells
 returns-else-found-from-clause-cells g c =
     let t = c.take_seat-seat.ensures in
     let e = c.compare_exchange-found.ensures in
-    let lost = looks_on t.seat t.lent c.put_seat-else-found-from.ensures e.0 (missed _ _ _ _ _ refl c.if-found-from.false e.2.0) in
+    let lost = looks_on c.take_seat-seat.result c.compare_exchange-found.new.seat t.seat t.lent c.put_seat-else-found-from.ensures e.0 (missed _ _ _ _ _ refl c.if-found-from.false e.2.0) in
     lost.cells
 
 pub returns-else-found-from-clause-moved : goal.returns-else-found-from-clause-moved
 returns-else-found-from-clause-moved g c =
     let t = c.take_seat-seat.ensures in
     let e = c.compare_exchange-found.ensures in
-    let lost = looks_on t.seat t.lent c.put_seat-else-found-from.ensures e.0 (missed _ _ _ _ _ refl c.if-found-from.false e.2.0) in
+    let lost = looks_on c.take_seat-seat.result c.compare_exchange-found.new.seat t.seat t.lent c.put_seat-else-found-from.ensures e.0 (missed _ _ _ _ _ refl c.if-found-from.false e.2.0) in
     let grows = lost.grows in let other = c.if-found-from.false in let below = c.requires.not_ahead in omega arith
 
 pub returns-else-found-from-clause-whole : goal.returns-else-found-from-clause-whole

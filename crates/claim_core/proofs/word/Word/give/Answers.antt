@@ -49,10 +49,10 @@ pub returns-clause-kept : goal.returns-clause-kept
 returns-clause-kept g c =
     let t = c.take_seat-seat.ensures in
     let e = c.split_seat-part.ensures in
-    cut_on t.seat t.lent c.put_shares.ensures e.0 (ap {A = Seated} (λ m. m.0) e.2) c.requires.kept_runs c.requires.kept_shares
+    cut_on c.take_seat-seat.result c.split_seat-part.new.seat t.seat t.lent c.put_shares.ensures e.0 (ap {A = Seated} (λ m. m.0) e.2) c.requires.kept_runs c.requires.kept_shares
 
 pub returns-clause-given : goal.returns-clause-given
 returns-clause-given g c =
     let t = c.take_seat-seat.ensures in
     let e = c.split_seat-part.ensures in
-    cut_off t.seat t.lent c.put_shares.ensures c.like.ensures e.3 (ap {A = Seated} (λ m. m.0) e.4) c.requires.given_runs c.requires.given_shares
+    cut_off c.take_seat-seat.result c.split_seat-part.new.seat c.split_seat-part.result t.seat t.lent c.put_shares.ensures c.like.ensures e.3 (ap {A = Seated} (λ m. m.0) e.4) c.requires.given_runs c.requires.given_shares

@@ -53,74 +53,74 @@ put_shares-requires g c =
     let first = c.seen.ensures in
     let second = c.seen-2.ensures in
     let most = c.max-seen.ensures in
-    join_held _ _ t.held u.held (d.base ∙ sym b.base) c.join_seat.ensures.2 s.2.1 s.2.0 (cc) (cc)
+    join_held c.join_seat.new.seat c.load.new.seat _ _ t.held u.held (d.base ∙ sym b.base) c.join_seat.ensures.2 s.2.1 s.2.0 (cc) (cc)
 
 pub returns-clause-of : goal.returns-clause-of
 returns-clause-of g c =
     let t = c.take_seat-seat.ensures in
     let e = c.join_seat.ensures in
     let s = c.load.ensures in
-    (joins_on t.seat c.into_seat-part.ensures.seat t.lent c.put_shares.ensures e.0 s.0 (ap {A = Seated} (λ m. m.0) e.2) s.2.0).of
+    (joins_on c.take_seat-seat.result c.into_seat-part.result c.join_seat.new.seat c.load.new.seat t.seat c.into_seat-part.ensures.seat t.lent c.put_shares.ensures e.0 s.0 (ap {A = Seated} (λ m. m.0) e.2) s.2.0).of
 
 pub returns-clause-mine : goal.returns-clause-mine
 returns-clause-mine g c =
     let t = c.take_seat-seat.ensures in
     let e = c.join_seat.ensures in
     let s = c.load.ensures in
-    (joins_on t.seat c.into_seat-part.ensures.seat t.lent c.put_shares.ensures e.0 s.0 (ap {A = Seated} (λ m. m.0) e.2) s.2.0).mine
+    (joins_on c.take_seat-seat.result c.into_seat-part.result c.join_seat.new.seat c.load.new.seat t.seat c.into_seat-part.ensures.seat t.lent c.put_shares.ensures e.0 s.0 (ap {A = Seated} (λ m. m.0) e.2) s.2.0).mine
 
 pub returns-clause-shares : goal.returns-clause-shares
 returns-clause-shares g c =
     let t = c.take_seat-seat.ensures in
     let e = c.join_seat.ensures in
     let s = c.load.ensures in
-    (joins_on t.seat c.into_seat-part.ensures.seat t.lent c.put_shares.ensures e.0 s.0 (ap {A = Seated} (λ m. m.0) e.2) s.2.0).shares
+    (joins_on c.take_seat-seat.result c.into_seat-part.result c.join_seat.new.seat c.load.new.seat t.seat c.into_seat-part.ensures.seat t.lent c.put_shares.ensures e.0 s.0 (ap {A = Seated} (λ m. m.0) e.2) s.2.0).shares
 
 pub returns-clause-seen : goal.returns-clause-seen
 returns-clause-seen g c =
     let t = c.take_seat-seat.ensures in
     let e = c.join_seat.ensures in
     let s = c.load.ensures in
-    (joins_on t.seat c.into_seat-part.ensures.seat t.lent c.put_shares.ensures e.0 s.0 (ap {A = Seated} (λ m. m.0) e.2) s.2.0).seen
+    (joins_on c.take_seat-seat.result c.into_seat-part.result c.join_seat.new.seat c.load.new.seat t.seat c.into_seat-part.ensures.seat t.lent c.put_shares.ensures e.0 s.0 (ap {A = Seated} (λ m. m.0) e.2) s.2.0).seen
 
 pub returns-clause-begins : goal.returns-clause-begins
 returns-clause-begins g c =
     let t = c.take_seat-seat.ensures in
     let e = c.join_seat.ensures in
     let s = c.load.ensures in
-    (joins_on t.seat c.into_seat-part.ensures.seat t.lent c.put_shares.ensures e.0 s.0 (ap {A = Seated} (λ m. m.0) e.2) s.2.0).begins
+    (joins_on c.take_seat-seat.result c.into_seat-part.result c.join_seat.new.seat c.load.new.seat t.seat c.into_seat-part.ensures.seat t.lent c.put_shares.ensures e.0 s.0 (ap {A = Seated} (λ m. m.0) e.2) s.2.0).begins
 
 pub returns-clause-also_begins : goal.returns-clause-also_begins
 returns-clause-also_begins g c =
     let t = c.take_seat-seat.ensures in
     let e = c.join_seat.ensures in
     let s = c.load.ensures in
-    (joins_on t.seat c.into_seat-part.ensures.seat t.lent c.put_shares.ensures e.0 s.0 (ap {A = Seated} (λ m. m.0) e.2) s.2.0).also_begins
+    (joins_on c.take_seat-seat.result c.into_seat-part.result c.join_seat.new.seat c.load.new.seat t.seat c.into_seat-part.ensures.seat t.lent c.put_shares.ensures e.0 s.0 (ap {A = Seated} (λ m. m.0) e.2) s.2.0).also_begins
 
 pub returns-clause-begins_log : goal.returns-clause-begins_log
 returns-clause-begins_log g c =
     let t = c.take_seat-seat.ensures in
     let e = c.join_seat.ensures in
     let s = c.load.ensures in
-    (joins_on t.seat c.into_seat-part.ensures.seat t.lent c.put_shares.ensures e.0 s.0 (ap {A = Seated} (λ m. m.0) e.2) s.2.0).begins_log
+    (joins_on c.take_seat-seat.result c.into_seat-part.result c.join_seat.new.seat c.load.new.seat t.seat c.into_seat-part.ensures.seat t.lent c.put_shares.ensures e.0 s.0 (ap {A = Seated} (λ m. m.0) e.2) s.2.0).begins_log
 
 pub returns-clause-also_begins_log : goal.returns-clause-also_begins_log
 returns-clause-also_begins_log g c =
     let t = c.take_seat-seat.ensures in
     let e = c.join_seat.ensures in
     let s = c.load.ensures in
-    (joins_on t.seat c.into_seat-part.ensures.seat t.lent c.put_shares.ensures e.0 s.0 (ap {A = Seated} (λ m. m.0) e.2) s.2.0).also_begins_log
+    (joins_on c.take_seat-seat.result c.into_seat-part.result c.join_seat.new.seat c.load.new.seat t.seat c.into_seat-part.ensures.seat t.lent c.put_shares.ensures e.0 s.0 (ap {A = Seated} (λ m. m.0) e.2) s.2.0).also_begins_log
 
 pub returns-clause-cells : goal.returns-clause-cells
 returns-clause-cells g c =
     let t = c.take_seat-seat.ensures in
     let e = c.join_seat.ensures in
     let s = c.load.ensures in
-    (joins_on t.seat c.into_seat-part.ensures.seat t.lent c.put_shares.ensures e.0 s.0 (ap {A = Seated} (λ m. m.0) e.2) s.2.0).cells
+    (joins_on c.take_seat-seat.result c.into_seat-part.result c.join_seat.new.seat c.load.new.seat t.seat c.into_seat-part.ensures.seat t.lent c.put_shares.ensures e.0 s.0 (ap {A = Seated} (λ m. m.0) e.2) s.2.0).cells
 
 pub returns-clause-apart : goal.returns-clause-apart
 returns-clause-apart g c =
     let t = c.take_seat-seat.ensures in
     let e = c.join_seat.ensures in
     let s = c.load.ensures in
-    (joins_on t.seat c.into_seat-part.ensures.seat t.lent c.put_shares.ensures e.0 s.0 (ap {A = Seated} (λ m. m.0) e.2) s.2.0).apart
+    (joins_on c.take_seat-seat.result c.into_seat-part.result c.join_seat.new.seat c.load.new.seat t.seat c.into_seat-part.ensures.seat t.lent c.put_shares.ensures e.0 s.0 (ap {A = Seated} (λ m. m.0) e.2) s.2.0).apart

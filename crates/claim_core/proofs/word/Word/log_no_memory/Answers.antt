@@ -18,26 +18,26 @@ pub put_back-requires : goal.put_back-requires
 put_back-requires g c =
     let t = c.take_seat-seat.ensures in
     let remarks = c.load.ensures.2.0 in
-    let seen = ap seen_size t.lent ∙ (nothing_more ∙ stays_seen t.held remarks) in
+    let seen = ap seen_size t.lent ∙ (nothing_more ∙ stays_seen c.load.new.seat t.held remarks) in
     held_on c.load.new.seat _ _ t.held c.load.ensures.2.1 remarks.same.shares (ap (λ (h : HandView). h.shares) t.lent) seen
     remarks.consistent
 
 pub returns-clause-own : goal.returns-clause-own
 returns-clause-own g c =
     let t = c.take_seat-seat.ensures in
-    (remarks_on t.seat t.lent c.put_back.ensures c.load.ensures.0 c.load.ensures.2.0).own
+    (remarks_on c.take_seat-seat.result c.load.new.seat t.seat t.lent c.put_back.ensures c.load.ensures.0 c.load.ensures.2.0).own
 
 pub returns-clause-seen : goal.returns-clause-seen
 returns-clause-seen g c =
     let t = c.take_seat-seat.ensures in
-    (remarks_on t.seat t.lent c.put_back.ensures c.load.ensures.0 c.load.ensures.2.0).seen
+    (remarks_on c.take_seat-seat.result c.load.new.seat t.seat t.lent c.put_back.ensures c.load.ensures.0 c.load.ensures.2.0).seen
 
 pub returns-clause-logs : goal.returns-clause-logs
 returns-clause-logs g c =
     let t = c.take_seat-seat.ensures in
-    (remarks_on t.seat t.lent c.put_back.ensures c.load.ensures.0 c.load.ensures.2.0).logs
+    (remarks_on c.take_seat-seat.result c.load.new.seat t.seat t.lent c.put_back.ensures c.load.ensures.0 c.load.ensures.2.0).logs
 
 pub returns-clause-cells : goal.returns-clause-cells
 returns-clause-cells g c =
     let t = c.take_seat-seat.ensures in
-    (remarks_on t.seat t.lent c.put_back.ensures c.load.ensures.0 c.load.ensures.2.0).cells
+    (remarks_on c.take_seat-seat.result c.load.new.seat t.seat t.lent c.put_back.ensures c.load.ensures.0 c.load.ensures.2.0).cells

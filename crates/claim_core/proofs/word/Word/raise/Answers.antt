@@ -31,7 +31,7 @@ returns-then-found-to-clause-claimed g c =
     let t = c.take_seat-seat.ensures in
     let e = c.fetch_max-found.ensures in
     let less = c.if-found-to.true in
-    let grown = claims_on t.seat t.lent c.put_seat.ensures e.0 (omega arith) (grew _ _ _ _ _ refl less e.2.0) in
+    let grown = claims_on c.take_seat-seat.result c.fetch_max-found.new.seat t.seat t.lent c.put_seat.ensures e.0 (omega arith) (grew _ _ _ _ _ refl less e.2.0) in
     grown.adds
 
 pub returns-then-found-to-clause-not_below : goal.returns-then-found-to-clause-not_below
@@ -39,7 +39,7 @@ returns-then-found-to-clause-not_below g c =
     let t = c.take_seat-seat.ensures in
     let e = c.fetch_max-found.ensures in
     let less = c.if-found-to.true in
-    let grown = claims_on t.seat t.lent c.put_seat.ensures e.0 (omega arith) (grew _ _ _ _ _ refl less e.2.0) in
+    let grown = claims_on c.take_seat-seat.result c.fetch_max-found.new.seat t.seat t.lent c.put_seat.ensures e.0 (omega arith) (grew _ _ _ _ _ refl less e.2.0) in
     grown.grows
 
 pub returns-then-found-to-clause-logs : goal.returns-then-found-to-clause-logs
@@ -47,7 +47,7 @@ returns-then-found-to-clause-logs g c =
     let t = c.take_seat-seat.ensures in
     let e = c.fetch_max-found.ensures in
     let less = c.if-found-to.true in
-    let grown = claims_on t.seat t.lent c.put_seat.ensures e.0 (omega arith) (grew _ _ _ _ _ refl less e.2.0) in
+    let grown = claims_on c.take_seat-seat.result c.fetch_max-found.new.seat t.seat t.lent c.put_seat.ensures e.0 (omega arith) (grew _ _ _ _ _ refl less e.2.0) in
     record { index = grown.index; last = grown.last; adds = grown.logs }
 
 pub returns-then-found-to-clause-cells : goal.returns-then-found-to-clause-cells
@@ -55,7 +55,7 @@ returns-then-found-to-clause-cells g c =
     let t = c.take_seat-seat.ensures in
     let e = c.fetch_max-found.ensures in
     let less = c.if-found-to.true in
-    let grown = claims_on t.seat t.lent c.put_seat.ensures e.0 (omega arith) (grew _ _ _ _ _ refl less e.2.0) in
+    let grown = claims_on c.take_seat-seat.result c.fetch_max-found.new.seat t.seat t.lent c.put_seat.ensures e.0 (omega arith) (grew _ _ _ _ _ refl less e.2.0) in
     grown.cells
 
 pub returns-then-found-to-clause-whole : goal.returns-then-found-to-clause-whole
@@ -77,21 +77,21 @@ pub returns-else-found-to-clause-seen : goal.returns-else-found-to-clause-seen
 returns-else-found-to-clause-seen g c =
     let t = c.take_seat-seat.ensures in
     let e = c.fetch_max-found.ensures in
-    let enough = looks_on t.seat t.lent c.put_seat-else-found-to.ensures e.0 (stayed _ _ _ _ _ refl c.if-found-to.false e.2.0) in
+    let enough = looks_on c.take_seat-seat.result c.fetch_max-found.new.seat t.seat t.lent c.put_seat-else-found-to.ensures e.0 (stayed _ _ _ _ _ refl c.if-found-to.false e.2.0) in
     enough.sees
 
 pub returns-else-found-to-clause-logs_enough : goal.returns-else-found-to-clause-logs_enough
 returns-else-found-to-clause-logs_enough g c =
     let t = c.take_seat-seat.ensures in
     let e = c.fetch_max-found.ensures in
-    let enough = looks_on t.seat t.lent c.put_seat-else-found-to.ensures e.0 (stayed _ _ _ _ _ refl c.if-found-to.false e.2.0) in
+    let enough = looks_on c.take_seat-seat.result c.fetch_max-found.new.seat t.seat t.lent c.put_seat-else-found-to.ensures e.0 (stayed _ _ _ _ _ refl c.if-found-to.false e.2.0) in
     enough.logs
 
 pub returns-else-found-to-clause-cells : goal.returns-else-found-to-clause-cells
 returns-else-found-to-clause-cells g c =
     let t = c.take_seat-seat.ensures in
     let e = c.fetch_max-found.ensures in
-    let enough = looks_on t.seat t.lent c.put_seat-else-found-to.ensures e.0 (stayed _ _ _ _ _ refl c.if-found-to.false e.2.0) in
+    let enough = looks_on c.take_seat-seat.result c.fetch_max-found.new.seat t.seat t.lent c.put_seat-else-found-to.ensures e.0 (stayed _ _ _ _ _ refl c.if-found-to.false e.2.0) in
     enough.cells
 
 pub returns-else-found-to-clause-whole_enough : goal.returns-else-found-to-clause-whole_enough

@@ -26,22 +26,22 @@ put_seat-requires g c =
 pub returns-clause-seen : goal.returns-clause-seen
 returns-clause-seen g c =
     let t = c.take_seat-seat.ensures in
-    (looks_on t.seat t.lent c.put_seat.ensures c.load-found.ensures.0 c.load-found.ensures.2.0).sees
+    (looks_on c.take_seat-seat.result c.load-found.new.seat t.seat t.lent c.put_seat.ensures c.load-found.ensures.0 c.load-found.ensures.2.0).sees
 
 pub returns-clause-grows : goal.returns-clause-grows
 returns-clause-grows g c =
     let t = c.take_seat-seat.ensures in
-    (looks_on t.seat t.lent c.put_seat.ensures c.load-found.ensures.0 c.load-found.ensures.2.0).grows
+    (looks_on c.take_seat-seat.result c.load-found.new.seat t.seat t.lent c.put_seat.ensures c.load-found.ensures.0 c.load-found.ensures.2.0).grows
 
 pub returns-clause-logs : goal.returns-clause-logs
 returns-clause-logs g c =
     let t = c.take_seat-seat.ensures in
-    (looks_on t.seat t.lent c.put_seat.ensures c.load-found.ensures.0 c.load-found.ensures.2.0).logs
+    (looks_on c.take_seat-seat.result c.load-found.new.seat t.seat t.lent c.put_seat.ensures c.load-found.ensures.0 c.load-found.ensures.2.0).logs
 
 pub returns-clause-cells : goal.returns-clause-cells
 returns-clause-cells g c =
     let t = c.take_seat-seat.ensures in
-    (looks_on t.seat t.lent c.put_seat.ensures c.load-found.ensures.0 c.load-found.ensures.2.0).cells
+    (looks_on c.take_seat-seat.result c.load-found.new.seat t.seat t.lent c.put_seat.ensures c.load-found.ensures.0 c.load-found.ensures.2.0).cells
 
 pub returns-clause-whole : goal.returns-clause-whole
 returns-clause-whole g c =

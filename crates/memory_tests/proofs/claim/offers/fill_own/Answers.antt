@@ -1,10 +1,11 @@
 -- By the public clauses of the hand and of the cell.
 use Rattle.std.proofs.Common.{◌∙◌, ap}
+use Rattle.tie_core.specs.Tie.{begins, fills}
 use Rattle.memory_tests.proofs.OffersInARow.{is_made, lent_on, begun, still_found, still_seen, filled}
 use Rattle.memory_tests.proofs.claim.offers.fill_own.Goals as goal
 
 pub take_back-requires-clause-made : goal.take_back-requires-clause-made
-take_back-requires-clause-made g c = is_made _ _ _ c.begin_for-pen.ensures.made
+take_back-requires-clause-made g c = is_made begins _ c.begin_for-pen.result.1.made c.begin_for-pen.ensures.made
 
 pub take_back-requires-clause-lent : goal.take_back-requires-clause-lent
 take_back-requires-clause-lent g c =
@@ -15,7 +16,8 @@ pub offer_fill-offer-requires-clause-ours : goal.offer_fill-offer-requires-claus
 offer_fill-offer-requires-clause-ours g c =
     let about = c.begin_for-pen.ensures.offer.1 in
     let first =
-    begun _ _ _ _ _ _ (ap (λ a. a.told) about ∙ c.offer_begin-offer.ensures.offer.3)
+    begun c.begin_for-pen.result.1.about.told c.args.place c.begin_for-pen.result.1.about.view c.begin_for-pen.result.1.made c.args.hand.now
+    c.take_back.new.self (ap (λ a. a.told) about ∙ c.offer_begin-offer.ensures.offer.3)
     (c.take_back.ensures.gained c.args.hand.now
     (lent_on (ap (λ a. a.table_id) about) (ap (λ a. a.view) about) c.offer_begin-offer.ensures.lent)) in
     first.of ∙ c.requires.ours
@@ -24,7 +26,8 @@ pub offer_fill-offer-requires-clause-found : goal.offer_fill-offer-requires-clau
 offer_fill-offer-requires-clause-found g c =
     let about = c.begin_for-pen.ensures.offer.1 in
     let first =
-    begun _ _ _ _ _ _ (ap (λ a. a.told) about ∙ c.offer_begin-offer.ensures.offer.3)
+    begun c.begin_for-pen.result.1.about.told c.args.place c.begin_for-pen.result.1.about.view c.begin_for-pen.result.1.made c.args.hand.now
+    c.take_back.new.self (ap (λ a. a.told) about ∙ c.offer_begin-offer.ensures.offer.3)
     (c.take_back.ensures.gained c.args.hand.now
     (lent_on (ap (λ a. a.table_id) about) (ap (λ a. a.view) about) c.offer_begin-offer.ensures.lent)) in
     still_found _ _ _ first _ c.requires.found
@@ -33,13 +36,14 @@ pub offer_fill-offer-requires-clause-seen : goal.offer_fill-offer-requires-claus
 offer_fill-offer-requires-clause-seen g c =
     let about = c.begin_for-pen.ensures.offer.1 in
     let first =
-    begun _ _ _ _ _ _ (ap (λ a. a.told) about ∙ c.offer_begin-offer.ensures.offer.3)
+    begun c.begin_for-pen.result.1.about.told c.args.place c.begin_for-pen.result.1.about.view c.begin_for-pen.result.1.made c.args.hand.now
+    c.take_back.new.self (ap (λ a. a.told) about ∙ c.offer_begin-offer.ensures.offer.3)
     (c.take_back.ensures.gained c.args.hand.now
     (lent_on (ap (λ a. a.table_id) about) (ap (λ a. a.view) about) c.offer_begin-offer.ensures.lent)) in
     still_seen _ _ _ first c.requires.own
 
 pub take_back-requires-clause-made-2 : goal.take_back-requires-clause-made-2
-take_back-requires-clause-made-2 g c = is_made _ _ _ c.fill_for-placed.ensures.made.1
+take_back-requires-clause-made-2 g c = is_made fills _ c.fill_for-placed.result.1.made c.fill_for-placed.ensures.made.1
 
 pub take_back-requires-clause-lent-2 : goal.take_back-requires-clause-lent-2
 take_back-requires-clause-lent-2 g c =
@@ -50,11 +54,13 @@ pub returns-clause-filled : goal.returns-clause-filled
 returns-clause-filled g c =
     let about = c.begin_for-pen.ensures.offer.1 in
     let first =
-    begun _ _ _ _ _ _ (ap (λ a. a.told) about ∙ c.offer_begin-offer.ensures.offer.3)
+    begun c.begin_for-pen.result.1.about.told c.args.place c.begin_for-pen.result.1.about.view c.begin_for-pen.result.1.made c.args.hand.now
+    c.take_back.new.self (ap (λ a. a.told) about ∙ c.offer_begin-offer.ensures.offer.3)
     (c.take_back.ensures.gained c.args.hand.now
     (lent_on (ap (λ a. a.table_id) about) (ap (λ a. a.view) about) c.offer_begin-offer.ensures.lent)) in
     let kept = c.fill_for-placed.ensures.offer.1 in
     let lent = lent_on (ap (λ a. a.table_id) kept) (ap (λ a. a.view) kept) c.offer_fill-offer.ensures.lent in
-    filled c.runs_are_apart.ensures c.events_follow.ensures _ _ _ _ _ _ _ _ _ _ c.requires.own first lent.seat c.fill_for-placed.ensures.made.1
+    filled c.runs_are_apart.ensures c.events_follow.ensures c.fill_for-placed.result.1.about.told c.args.place _ _ _ c.fill_for-placed.result.1.about.view
+    c.fill_for-placed.result.1.made c.args.hand.now c.take_back.new.self c.take_back-2.new.self c.requires.own first lent.seat c.fill_for-placed.ensures.made.1
     (ap (λ a. a.told) kept ∙ c.offer_fill-offer.ensures.offer.3)
     (c.take_back-2.ensures.gained c.take_back.new.self lent)

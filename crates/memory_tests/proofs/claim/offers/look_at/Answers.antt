@@ -1,10 +1,11 @@
 -- By the public clauses of the hand and of the cell.
 use Rattle.std.proofs.Common.{◌∙◌, ap}
+use Rattle.tie_core.specs.Tie.{looks}
 use Rattle.memory_tests.proofs.OffersInARow.{is_made, lent_on, looked}
 use Rattle.memory_tests.proofs.claim.offers.look_at.Goals as goal
 
 pub take_back-requires-clause-made : goal.take_back-requires-clause-made
-take_back-requires-clause-made g c = is_made _ _ _ c.look_for-look.ensures.made.1
+take_back-requires-clause-made g c = is_made looks _ c.look_for-look.result.1.made c.look_for-look.ensures.made.1
 
 pub take_back-requires-clause-lent : goal.take_back-requires-clause-lent
 take_back-requires-clause-lent g c =
@@ -14,6 +15,7 @@ take_back-requires-clause-lent g c =
 pub returns-clause-looked : goal.returns-clause-looked
 returns-clause-looked g c =
     let about = c.look_for-look.ensures.offer.1 in
-    looked _ _ _ _ _ _ (ap (λ a. a.told) about ∙ c.offer_look-offer.ensures.offer.3)
+    looked c.look_for-look.result.1.about.told c.args.place c.look_for-look.result.1.about.view c.look_for-look.result.1.made c.args.hand.now
+    c.take_back.new.self (ap (λ a. a.told) about ∙ c.offer_look-offer.ensures.offer.3)
     (c.take_back.ensures.gained c.args.hand.now
     (lent_on (ap (λ a. a.table_id) about) (ap (λ a. a.view) about) c.offer_look-offer.ensures.lent))

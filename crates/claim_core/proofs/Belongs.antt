@@ -74,9 +74,9 @@ belongs {seat} {share} {size} {floor} {number} {table} {desk} {key} {terms} {des
     }
 
 -- a hand of a word has a seat
-pub is_here : {number : ℕ} {table desk : TableId} {key terms desk_key : Terms} {word : WordView} {hand : HandView}
+pub is_here : {number : ℕ} {table desk : TableId} {key terms desk_key : Terms} {word : WordView} (hand : HandView)
     → IsOpened table key terms desk desk_key → word_view table terms number ≡ word → hand.of ≡ word → hand.of.table.words ≡ word_count
-is_here opened word_is ours = ap (λ (w : WordView). w.table.words) (ours ∙ sym word_is) ∙ opened.words
+is_here hand opened word_is ours = ap (λ (w : WordView). w.table.words) (ours ∙ sym word_is) ∙ opened.words
 
 -- its seat is a hand's of this table, with the terms of the table's desk
 pub same_table : {number floor : ℕ} {table other : TableId} {terms : Terms} {word : WordView} {hand : HandView} (v : SeatView)
@@ -146,9 +146,9 @@ held_on {seat} {share} {size} new more found held slots shares same ends consist
     }
 
 -- the hand that a seat is put back into is then the seat's
-pub put_back : (seat : ClaimSeat) {old lent new : HandView} → lent ≡ lent_hand old → new ≡ hand_view lent.of.floor seat
+pub put_back : (seat : ClaimSeat) (old : HandView) {lent new : HandView} → lent ≡ lent_hand old → new ≡ hand_view lent.of.floor seat
     → new ≡ hand_view old.of.floor seat
-put_back seat {old} {lent} {new} is now =
+put_back seat old {lent} {new} is now =
     now ∙ ap (λ (f : ℕ). hand_view f seat) (ap (λ (h : HandView). h.of.floor) is)
 
 -- a part of a seat that has not all shares is as consistent as the whole

@@ -172,10 +172,10 @@ entered_kept {floor} {table} {views} {now} {share} {size} {end} {hand} {v} {w} k
     record { shares = was.shares ∙ sym same.shares; seen = was.seen ∙ sym size_now; consistent = learns.consistent } in
     kept_view kept.positive numbers there
 
-pub entered_ends : {floor from n also_n : ℕ} {table other : TableId} {views now : List SeatView} {share size : ℕ} {hand : HandView} {v w : SeatView}
+pub entered_ends : (from : ℕ) {floor n also_n : ℕ} {table other : TableId} {views now : List SeatView} {share size : ℕ} {hand : HandView} {v w : SeatView}
     → also_n ≡ n → HasSeat floor table views share size hand → other ≡ table → views ≡ v ∷ [] → now ≡ w ∷ [] → LearnsEnd v (from + also_n) w
     → EndsAt (from + n) hand (hand_by floor other now share size)
-entered_ends {floor} {from} {n} {also_n} {table} {other} {views} {now} {share} {size} {hand} {v} {w} long has same here there learns =
+entered_ends from {floor} {n} {also_n} {table} {other} {views} {now} {share} {size} {hand} {v} {w} long has same here there learns =
     let was : seat_hand hand.of.floor table v ≡ hand = seat_is floor table views share size hand has table v refl here in
     let is : hand_by floor other now share size ≡ seat_hand hand.of.floor table w =
     ap (λ (vs : List SeatView). hand_by floor other vs share size) there

@@ -37,7 +37,7 @@ pub between : {old lent hand : HandView} (seat new : ClaimSeat) (P : HandView �
     → P (hand_view old.of.floor seat) (hand_view old.of.floor new) → P old hand
 between {old} {lent} {hand} seat new P old_is lent_is hand_is fact =
     subst (λ (h : HandView). P h hand) old_is
-    (subst (λ (h : HandView). P (hand_view old.of.floor seat) h) (sym (put_back new lent_is hand_is)) fact)
+    (subst (λ (h : HandView). P (hand_view old.of.floor seat) h) (sym (put_back new old lent_is hand_is)) fact)
 
 -- ---- A look
 
@@ -163,7 +163,7 @@ pub cut_on : (seat new : ClaimSeat) {old lent hand : HandView} {runs : List ℕ}
     → lent ≡ lent_hand old → hand ≡ hand_view lent.of.floor new → new.table_id ≡ seat.table_id
     → new.me.0 ≡ with_own seat.me.0 runs shares → runs ≡ old.mine → shares ≡ left → hand ≡ record old { shares = left }
 cut_on seat new {old} {lent} {hand} {runs} {shares} {left} old_is lent_is hand_is table new_is runs_is shares_is =
-    put_back new lent_is hand_is
+    put_back new old lent_is hand_is
     ∙ (cut_view seat new old_is table new_is
     ∙ (ap (λ (r : List ℕ). record old { mine = r; shares = shares }) runs_is ∙ ap (λ (n : ℕ). record old { shares = n }) shares_is))
 

@@ -1,5 +1,5 @@
 -- What the rule permits, as desks ask it: steps on cells and entries by a hand's seat, from what callers see of the hand.
-use Rattle.std.proofs.Common.{◌≡◌, ◌≢◌, ◌⊎◌, ℕ, ◌+◌, ◌<◌, ◌≤◌, List, [], ◌∷◌, None, refl, ap, sym, subst, inl, inr, ⊎_elim, arith}
+use Rattle.std.proofs.Common.{◌≡◌, ◌≢◌, ◌⊎◌, ℕ, ◌+◌, ◌<◌, ◌≤◌, List, [], ◌∷◌, None, refl, ap, sym, subst, inl, inr, ⊎_elim, lit<, arith}
 use Rattle.std.proofs.lemmas.Bool.{cases_eq}
 use Rattle.std.specs.List.{Contains}
 use mathlib.Core.Logic.{dite}
@@ -47,12 +47,15 @@ held_is Mending held = inr refl
 held_is Filled held = absurd held
 held_is Broken held = absurd held
 
+five_else : (n : ℕ) → 5 ≡ n → n < 5 → ⊥
+five_else n is less = omega arith
+
 -- only a broken cell shows 5
 broken_is : (a : Stage) → Shows a 5 → a ≡ Broken
-broken_is Idle e = let five : 5 ≡ 0 = e in absurd (omega arith)
-broken_is Begun e = let five : 5 ≡ 0 = e in absurd (omega arith)
-broken_is Mending e = let five : 5 ≡ 1 = e in absurd (omega arith)
-broken_is Filled e = let five : 5 ≡ 3 = e in absurd (omega arith)
+broken_is Idle e = absurd (five_else 0 e (lit< tt))
+broken_is Begun e = absurd (five_else 0 e (lit< tt))
+broken_is Mending e = absurd (five_else 1 e (lit< tt))
+broken_is Filled e = absurd (five_else 3 e (lit< tt))
 broken_is Broken e = refl
 
 -- ---- What a seat learns
@@ -245,7 +248,7 @@ publish_here {terms} {id} {j} {v} {y} {t} {from} {n} {also_from} {also_n} {then}
     subst (λ (m : ℕ). PermitsPublish (Kept terms) id v t (empty_view also_from m) spent_view (placed_view also_from m) j y then) long
     (subst (λ (f : ℕ). PermitsPublish (Kept terms) id v t (empty_view f n) spent_view (placed_view f n) j y then) same permits)
 
-pub enter_here : {terms : Terms} {id from n also_n : ℕ} {v x : SeatView} → also_n ≡ n
+pub enter_here : (from : ℕ) {terms : Terms} {id n also_n : ℕ} {v x : SeatView} → also_n ≡ n
     → PermitsEntry (Kept terms) id v x (entered n from v None) → PermitsEntry (Kept terms) id v x (entered also_n from v None)
-enter_here {terms} {id} {from} {n} {also_n} {v} {x} long permits =
+enter_here from {terms} {id} {n} {also_n} {v} {x} long permits =
     subst (λ (m : ℕ). PermitsEntry (Kept terms) id v x (entered m from v None)) (sym long) permits

@@ -4,7 +4,7 @@ use Rattle.claim_core.proofs.WholeHand.{closes}
 use Rattle.claim_core.proofs.word.Word.close.Goals as goal
 
 pub into_seat-requires : goal.into_seat-requires
-into_seat-requires g c = is_here c.self.invariant c.self.view_is c.requires.ours
+into_seat-requires g c = is_here c.args.hand c.self.invariant c.self.view_is c.requires.ours
 
 pub close_with-closed-requires : goal.close_with-closed-requires
 close_with-closed-requires g c =

@@ -1,4 +1,4 @@
-use Rattle.std.proofs.Common.{ℕ, ap, refl, ◌∙◌, sym, subst, arith}
+use Rattle.std.proofs.Common.{ℕ, ◌+◌, ap, refl, ◌∙◌, sym, subst, arith}
 use Rattle.claim_core.specs.Hand.{HandView}
 use Rattle.claim_core.specs.History.{IsNote}
 use Rattle.claim_core.proofs.Kept.{exchanges}
@@ -8,7 +8,7 @@ use Rattle.claim_core.proofs.HandSteps.{looks_on, wins_on}
 use Rattle.claim_core.proofs.word.Word.exchange_as.Goals as goal
 
 pub take_seat-seat-requires : goal.take_seat-seat-requires
-take_seat-seat-requires g c = is_here c.self.invariant c.self.view_is c.requires.ours
+take_seat-seat-requires g c = is_here c.args.hand.now c.self.invariant c.self.view_is c.requires.ours
 
 pub compare_exchange-found-requires : goal.compare_exchange-found-requires
 compare_exchange-found-requires g c =
@@ -23,7 +23,7 @@ put_seat-requires g c =
     let t = c.take_seat-seat.ensures in
     let e = c.compare_exchange-found.ensures in
     let claims = found_it _ _ _ _ _ refl c.if-found-from.true e.2.0 in
-    held_on c.compare_exchange-found.new.seat _ _ t.held e.2.1 claims.same.shares (ap (λ (h : HandView). h.shares) t.lent)
+    held_on c.compare_exchange-found.new.seat c.take_seat-seat.new.self.shares (c.args.from + c.args.n) t.held e.2.1 claims.same.shares (ap (λ (h : HandView). h.shares) t.lent)
     (let ends = claims_end claims in let f = c.if-found-from.true in omega arith) claims.consistent
 
 pub returns-then-found-from-clause-claimed : goal.returns-then-found-from-clause-claimed
@@ -65,7 +65,7 @@ put_seat-requires-else-found-from g c =
     let t = c.take_seat-seat.ensures in
     let e = c.compare_exchange-found.ensures in
     let looks = missed _ _ _ _ _ refl c.if-found-from.false e.2.0 in
-    held_on c.compare_exchange-found.new.seat _ _ t.held e.2.1 looks.same.shares (ap (λ (h : HandView). h.shares) t.lent)
+    held_on c.compare_exchange-found.new.seat c.take_seat-seat.new.self.shares c.compare_exchange-found.result t.held e.2.1 looks.same.shares (ap (λ (h : HandView). h.shares) t.lent)
     (sym looks.size) looks.consistent
 
 pub returns-else-found-from-clause-seen : goal.returns-else-found-from-clause-seen

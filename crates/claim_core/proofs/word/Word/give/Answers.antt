@@ -8,7 +8,7 @@ use Rattle.claim_core.proofs.HandSteps.{cut_on, cut_off}
 use Rattle.claim_core.proofs.word.Word.give.Goals as goal
 
 pub take_seat-seat-requires : goal.take_seat-seat-requires
-take_seat-seat-requires g c = is_here c.self.invariant c.self.view_is c.requires.ours
+take_seat-seat-requires g c = is_here c.args.hand.now c.self.invariant c.self.view_is c.requires.ours
 
 pub split_seat-part-requires : goal.split_seat-part-requires
 split_seat-part-requires g c =

@@ -7,10 +7,10 @@ use Rattle.claim_core.proofs.HandSteps.{joins_on, join_held}
 use Rattle.claim_core.proofs.word.Word.join.Goals as goal
 
 pub take_seat-seat-requires : goal.take_seat-seat-requires
-take_seat-seat-requires g c = is_here c.self.invariant c.self.view_is c.requires.ours
+take_seat-seat-requires g c = is_here c.args.hand.now c.self.invariant c.self.view_is c.requires.ours
 
 pub into_seat-part-requires : goal.into_seat-part-requires
-into_seat-part-requires g c = is_here c.self.invariant c.self.view_is c.requires.also_ours
+into_seat-part-requires g c = is_here c.args.other c.self.invariant c.self.view_is c.requires.also_ours
 
 pub overflow_add-shares : goal.overflow_add-shares
 overflow_add-shares g c =

@@ -6,7 +6,7 @@ use Rattle.claim_core.proofs.HandSteps.{remarks_on, stays_seen, nothing_more}
 use Rattle.claim_core.proofs.word.Word.log_no_memory.Goals as goal
 
 pub take_seat-seat-requires : goal.take_seat-seat-requires
-take_seat-seat-requires g c = is_here c.self.invariant c.self.view_is c.requires.ours
+take_seat-seat-requires g c = is_here c.args.hand.now c.self.invariant c.self.view_is c.requires.ours
 
 pub load-requires : goal.load-requires
 load-requires g c =

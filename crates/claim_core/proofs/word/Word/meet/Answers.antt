@@ -5,10 +5,10 @@ use Rattle.claim_core.proofs.HandSteps.{meets_on}
 use Rattle.claim_core.proofs.word.Word.meet.Goals as goal
 
 pub take_seat-seat-requires : goal.take_seat-seat-requires
-take_seat-seat-requires g c = is_here c.self.invariant c.self.view_is c.requires.ours
+take_seat-seat-requires g c = is_here c.args.a.now c.self.invariant c.self.view_is c.requires.ours
 
 pub take_seat-part-requires : goal.take_seat-part-requires
-take_seat-part-requires g c = is_here c.self.invariant c.self.view_is c.requires.also_ours
+take_seat-part-requires g c = is_here c.args.b.now c.self.invariant c.self.view_is c.requires.also_ours
 
 pub show-size-requires-clause-pair : goal.show-size-requires-clause-pair
 show-size-requires-clause-pair g c =

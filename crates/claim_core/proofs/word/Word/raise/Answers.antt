@@ -7,7 +7,7 @@ use Rattle.claim_core.proofs.HandSteps.{looks_on, claims_on}
 use Rattle.claim_core.proofs.word.Word.raise.Goals as goal
 
 pub take_seat-seat-requires : goal.take_seat-seat-requires
-take_seat-seat-requires g c = is_here c.self.invariant c.self.view_is c.requires.ours
+take_seat-seat-requires g c = is_here c.args.hand.now c.self.invariant c.self.view_is c.requires.ours
 
 pub fetch_max-found-requires : goal.fetch_max-found-requires
 fetch_max-found-requires g c =
@@ -23,7 +23,7 @@ put_seat-requires g c =
     let e = c.fetch_max-found.ensures in
     let less = c.if-found-to.true in
     let claims = grew _ _ _ _ _ refl less e.2.0 in
-    held_on c.fetch_max-found.new.seat _ _ t.held e.2.1 claims.same.shares (ap (λ (h : HandView). h.shares) t.lent)
+    held_on c.fetch_max-found.new.seat c.take_seat-seat.new.self.shares c.args.to t.held e.2.1 claims.same.shares (ap (λ (h : HandView). h.shares) t.lent)
     (let ends = claims_end claims in omega arith) claims.consistent
 
 pub returns-then-found-to-clause-claimed : goal.returns-then-found-to-clause-claimed
@@ -70,7 +70,7 @@ put_seat-requires-else-found-to g c =
     let t = c.take_seat-seat.ensures in
     let e = c.fetch_max-found.ensures in
     let looks = stayed _ _ _ _ _ refl c.if-found-to.false e.2.0 in
-    held_on c.fetch_max-found.new.seat _ _ t.held e.2.1 looks.same.shares (ap (λ (h : HandView). h.shares) t.lent)
+    held_on c.fetch_max-found.new.seat c.take_seat-seat.new.self.shares c.fetch_max-found.result t.held e.2.1 looks.same.shares (ap (λ (h : HandView). h.shares) t.lent)
     (sym looks.size) looks.consistent
 
 pub returns-else-found-to-clause-seen : goal.returns-else-found-to-clause-seen

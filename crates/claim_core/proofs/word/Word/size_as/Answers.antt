@@ -8,7 +8,7 @@ use Rattle.claim_core.proofs.HandSteps.{looks_on}
 use Rattle.claim_core.proofs.word.Word.size_as.Goals as goal
 
 pub take_seat-seat-requires : goal.take_seat-seat-requires
-take_seat-seat-requires g c = is_here c.self.invariant c.self.view_is c.requires.ours
+take_seat-seat-requires g c = is_here c.args.hand.now c.self.invariant c.self.view_is c.requires.ours
 
 pub load-found-requires : goal.load-found-requires
 load-found-requires g c =
@@ -20,7 +20,7 @@ pub put_seat-requires : goal.put_seat-requires
 put_seat-requires g c =
     let t = c.take_seat-seat.ensures in
     let looks = c.load-found.ensures.2.0 in
-    held_on c.load-found.new.seat _ _ t.held c.load-found.ensures.2.1 looks.same.shares (ap (λ (h : HandView). h.shares) t.lent)
+    held_on c.load-found.new.seat c.take_seat-seat.new.self.shares c.load-found.result t.held c.load-found.ensures.2.1 looks.same.shares (ap (λ (h : HandView). h.shares) t.lent)
     (sym looks.size) looks.consistent
 
 pub returns-clause-seen : goal.returns-clause-seen

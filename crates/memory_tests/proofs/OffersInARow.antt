@@ -1,5 +1,5 @@
 -- Steps of a hand on a tied cell, by what it gains at each.
-use Rattle.std.proofs.Common.{◌≡◌, ℕ, Option, Some, None, List, [], ◌∷◌, refl, ap, sym, ◌∙◌, subst, inl, inr}
+use Rattle.std.proofs.Common.{◌≡◌, ℕ, Option, Some, None, List, [], ◌∷◌, refl, ap, sym, ◌∙◌, subst, inl, inr, arith}
 use Rattle.atomic_table.specs.Seated.{TableId}
 use Rattle.tie_core.specs.Tie.{Stage, Idle, Begun, Mending, Filled, Broken, Made, Step, IsHeld, IsMade, HasMade, fills}
 use Rattle.claim_core.specs.declared.role.RowAt.{RowAt}
@@ -8,8 +8,8 @@ use Rattle.claim_core.specs.Lengths.{InRun}
 use Rattle.claim_core.specs.History.{fill_event}
 use Rattle.claim_core.specs.Laws.{RunsAreApart, EventsFollow}
 use Rattle.claim_core.specs.Word.{WordView}
-use Rattle.claim_core.specs.Hand.{HandView, OwnsPlace}
-use Rattle.claim_core.specs.Lent.{seat_hand}
+use Rattle.claim_core.specs.Hand.{HandView, OwnsPlace, seen_size}
+use Rattle.claim_core.specs.Lent.{lent_hand, seat_hand}
 use Rattle.claim_core.specs.Gain.{Gain, Gains, GainsBy, IsLent, HasSeenPlace, an_event, a_begin}
 use Rattle.claim_core.specs.Plays.{cell_stage, look_gains, begin_gains, fill_gains}
 use Rattle.claim_core.specs.SeatSteps.{writer_of, IsHeldAt}
@@ -97,3 +97,7 @@ pub filled : RunsAreApart → EventsFollow → (told place floor n : ℕ) (table
 filled apart follow told place floor n table v made old mid new owns first seat has is gains =
     filled_at apart follow place floor n table v made old mid new owns first seat has
     (subst (λ (p : ℕ). GainsBy (fill_gains p v) made mid new) is gains)
+
+-- a hand that has lent its seat has seen the size that it had seen
+pub lent_seen : (hand : HandView) → seen_size (lent_hand hand) ≡ seen_size hand
+lent_seen hand = omega arith

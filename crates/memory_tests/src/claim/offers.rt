@@ -1,16 +1,17 @@
 // A hand lends its seat to steps on tied cells, and takes it back: what its caller then proves, by the public clauses
 // of the crates alone.
-ghost use Rattle.std.specs.Prelude.{◌≡◌, ◌<◌, ◌≤◌, Some};
+ghost use Rattle.std.specs.Prelude.{◌≡◌, ◌<◌, ◌≤◌, [], ◌∷◌, Some};
 ghost use Rattle.std.specs.List.{Contains};
 ghost use Rattle.cell_core.specs.Block.{block_len, cell_at};
 ghost use Rattle.claim_core.specs.Hand.{IsHandOf, IsWholeHand, OwnsPlace, seen_size};
-ghost use Rattle.claim_core.specs.Gain.{IsTiedTo};
+ghost use Rattle.claim_core.specs.Gain.{IsEntryTo, IsTiedTo};
+ghost use Rattle.claim_core.specs.Plays.{block_view};
 ghost use Rattle.claim_core.specs.Ties.{Finds};
 ghost use Rattle.memory_tests.specs.Offers.{HasFilled, HasLooked};
 
 use atomic_table::Badge;
 use cell_core::block::{Block, Look, Placed, Tied};
-use claim_core::{CellTag, EntryAt, Hand, Word, laws};
+use claim_core::{BlockSeat, CellTag, EntryAt, Hand, RowTag, Word, laws};
 use std::alloc::{Allocator, Global};
 use std::marker::Brand;
 use std::test::Fail;
@@ -67,41 +68,48 @@ fn fill_own<A: Allocator>(
     placed
 }
 
-// A whole hand makes an entry, lays cells for it, claims their places, and lends its seat to a look at the entry. The
-// seat is lost with the visit, and the hand still says what it has seen.
-fn lend_to_visit<R: EntryAt, A: Allocator>(word: &Word<A>, hand: &mut Hand) -> Option<u64>
+// A hand lends its seat to the exchange that sets an entry to a block. Both seats are lost with the visit, and the hand
+// still says what it has seen.
+fn lend_to_exchange<R: EntryAt, A: Allocator>(
+    word: &Word<A>,
+    hand: &mut Hand,
+    tag: &RowTag,
+    cell: &CellTag,
+    block: &mut BlockSeat,
+) -> u64
+    requires ours { IsHandOf word.now hand.old }
+    requires tied { IsEntryTo word.now tag.now.tie }
+    requires places { (R.from ≡ tag.now.from) × (R.n ≡ tag.now.n) × (R.first ≡ cell.now.tie.id) }
+    requires past { hand.old.of.base ≤ R.from }
+    requires block { (block.old.table_id ≡ word.now.table)
+        × (block.old.views ≡ block_view R.first R.n ∷ []) }
+    ensures seen { result ≡ seen_size hand.old }
+{
+    // Only the contract speaks of the cell.
+    let _ = cell;
+    let visit = hand.visit_publish::<R, A>(word, tag, block);
+    drop(visit);
+    hand.seen()
+}
+
+// A whole hand makes an entry for two places and lays a block of two cells for it, and lends its seat.
+fn lend_whole<A: Allocator>(word: &Word<A>, hand: &mut Hand) -> u64
     requires ours { IsHandOf word.now hand.old }
     requires whole { IsWholeHand hand.old }
     requires unlaid { hand.old.laid ≤ 0 }
     requires start { word.now.base ≡ 0 }
-    requires room { 2 ≤ word.now.limit }
-    requires places { (R.from ≡ 0) × (R.n ≡ 2) }
 {
     let (own, tag) = word.enter(hand, 0, 2);
     own.lose();
     let mut block = Badge::blank();
-    let (seats, _cell) = word.lay(&mut block, 2);
+    let (seats, cell) = word.lay(&mut block, 2);
     drop(seats);
-    word.exchange(hand, 0, 2).ok()?;
-    let visit = hand.visit_look::<R, A>(word, &tag, 0);
-    drop(visit);
-    Some(hand.seen())
-}
-
-// The same, for the places 0 and 1.
-fn lend_first<A: Allocator>(word: &Word<A>, hand: &mut Hand) -> Option<u64>
-    requires ours { IsHandOf word.now hand.old }
-    requires whole { IsWholeHand hand.old }
-    requires unlaid { hand.old.laid ≤ 0 }
-    requires start { word.now.base ≡ 0 }
-    requires room { 2 ≤ word.now.limit }
-{
-    lend_to_visit::<Brand, A>(word, hand)
+    lend_to_exchange::<Brand, A>(word, hand, &tag, &cell, &mut block)
 }
 
 #[test]
 fn a_hand_lends_its_seat_to_a_visit(rt: HostRuntime) -> Result<(), Fail> {
     let (word, mut hand) = Word::open(rt.alloc(), 8, 0)?;
-    assert!(rt; lend_first(&word, &mut hand) == Some(2));
+    assert!(rt; lend_whole(&word, &mut hand) == 0);
     Ok(())
 }

@@ -22,8 +22,8 @@ lent_view floor share size =
       laid = 0;
     }
 
--- The hand while its seat is lent. It keeps its shares and the size that it has seen, and is the hand of no word, so that
--- no call of a word takes it until it has its seat back
+-- The hand while its seat is lent. It keeps its shares and the size that it has seen, and is a hand of no word, so
+-- that no call of a word takes it until it has its seat back
 abbrev pub lent_hand : HandView → HandView
 lent_hand hand = lent_view hand.of.floor hand.shares (seen_size hand)
 

@@ -18,8 +18,8 @@ pub(crate) const WHOLE: u32 = 65536;
 
 // `grow_core` has a `Hand` too: this one, with the keys of its runs' segments.
 /// A caller's knowledge of the size, and its shares. Closing the word needs all shares, so once a hand is
-/// dropped the word can only be dropped. It takes 16 bytes. While an offer or a visit has its seat, it is the hand of
-/// no word, so no call of a word takes it.
+/// dropped the word can only be dropped. It takes 16 bytes. While an offer or a visit has its seat, it is a
+/// hand of no word, so no call of a word takes it.
 #[derive(Drop)]
 pub struct Hand {
     pub(crate) badge: Badge<SeatView>,

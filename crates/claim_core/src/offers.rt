@@ -68,8 +68,8 @@ impl Hand {
         self.lend::<LookAt, A>(word, tag, place)
     }
 
-    /// Lends the seat for a begin of the cell of an own place that the hand does not know begun. Nobody else has
-    /// begun it.
+    /// Lends the seat for a begin of the cell of an own place that the hand does not know begun. Nobody else
+    /// has begun it.
     #[inline(always)]
     pub fn offer_begin<'a, A: Allocator>(
         &mut self,
@@ -184,8 +184,8 @@ impl Hand {
         self.lend::<SpoilMended, A>(word, tag, place)
     }
 
-    /// Takes the seat back from an offer whose step has run. The hand is then what it was when it lent the seat, and
-    /// has gained what the step says of the stages before and after it.
+    /// Takes the seat back from an offer whose step has run. The hand is then what it was when it lent the
+    /// seat, and has gained what the step says of the stages before and after it.
     #[inline(always)]
     pub fn take_back<'a, M: HandPlay>(&mut self, offer: HandOffer<'a, M>)
         requires made { IsMade offer.made }

@@ -140,8 +140,8 @@ impl HandPlay for SpoilMended {
     ghost gains = { spoil_mended_gains };
 }
 
-/// The places of an entry, and the seat of the first cell of a block that it may be set to. A call that passes
-/// `Brand` chooses them.
+/// The places of an entry, and the seat of the first cell of a block that it may be set to. A call of a
+/// caller's own function that passes `Brand` chooses them.
 pub trait EntryAt {
     ghost use Rattle.std.specs.Prelude.{ℕ};
 

@@ -1,5 +1,5 @@
-//! How a hand lends its seat to a visit, for one step on an entry that is tied to its word; and how seats of new
-//! blocks and entries are made.
+//! How a hand lends its seat to a visit, for one step on an entry that is tied to its word; and how seats of
+//! new blocks and entries are made.
 ghost use Rattle.std.specs.Prelude.{◌≡◌, ◌+◌, ◌<◌, ◌≤◌, [], ◌∷◌, Some, None, length};
 ghost use Rattle.tie_core.specs.Tie.{row_of};
 ghost use Rattle.tie_core.specs.Visit.{HasVisited};
@@ -33,8 +33,8 @@ pub type HandVisit<'a, M> = Visit<
 >;
 
 impl<A: Allocator> Word<A> {
-    /// Makes the seats of `n` new cells, and that of their block, which goes into a blank badge. The tag is of the
-    /// first cell. No step is taken.
+    /// Makes the seats of `n` new cells, and that of their block, which goes into a blank badge. The tag is of
+    /// the first cell. No step is taken.
     pub fn lay(&self, block: &mut BlockSeat, n: u64) -> (Seats, CellTag)
         requires blank { block.old.views ≡ [] }
         ensures seats { (result.0.ties ≡ row_of result.1.tie n) × (length result.0.ties ≡ n) }
@@ -47,8 +47,8 @@ impl<A: Allocator> Word<A> {
         Desk::lay::<NewBlock>(shared, &self.desk, block, n)
     }
 
-    /// Makes the seat of a new entry for the `n` places from `from` on, and its tag. Only a whole hand may, past all
-    /// entries that it knows. No step is taken.
+    /// Makes the seat of a new entry for the `n` places from `from` on, and its tag. Only a whole hand may, past
+    /// all entries that it knows. No step is taken.
     pub fn enter(&self, hand: &mut Hand, from: u64, n: u64) -> (EntrySeat, RowTag)
         requires ours { IsHandOf self.now hand.old }
         requires whole { IsWholeHand hand.old }
@@ -76,7 +76,8 @@ impl<A: Allocator> Word<A> {
 }
 
 impl Hand {
-    /// Lends the seat for a look at the entry of a place that was claimed since the word was opened.
+    /// Lends the seat for a look at the entry of a place that was claimed since the word was opened. Callers
+    /// pass a type parameter of their own for the entry's places.
     #[inline(always)]
     pub fn visit_look<'a, R: EntryAt, A: Allocator>(
         &mut self,
@@ -120,8 +121,8 @@ impl Hand {
         Desk::publish::<EntryGain<SetRow<R>>>(shared, &word.desk, &mut self.badge, block, tag, 0)
     }
 
-    /// Takes the seat back from a visit whose step has run. The hand is then what it was when it lent the seat, and
-    /// has gained what the step says of what it found.
+    /// Takes the seat back from a visit whose step has run. The hand is then what it was when it lent the seat,
+    /// and has gained what the step says of what it found.
     #[inline(always)]
     pub fn take_back_visit<'a, M: VisitPlay>(&mut self, visit: HandVisit<'a, M>)
         requires made { HasVisited visit.made }

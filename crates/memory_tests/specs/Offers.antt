@@ -11,8 +11,8 @@ use Rattle.claim_core.specs.SeatSteps.{look_event, writer_of, IsHeldAt}
 abbrev pub HasLooked : ℕ → HandView → HandView → Type 0
 HasLooked place old new = (stage : CellStage) × AddsEvents old.log (look_event place stage ∷ []) new.log
 
--- It knows that its own place is begun, and the last event that it has seen is the fill: by the claim that has the index
--- of its run, or by the mender if the cell was being mended
+-- It knows that its own place is begun, and the last event that it has seen is the fill: by the claim that has the
+-- index of its run, or by the mender if the cell was being mended
 pub record HasFilled (place : ℕ) (old new : HandView) : Type 0 where
   pub index : ℕ
   pub owned : Contains old.mine index

@@ -1,5 +1,5 @@
-// A hand lends its seat to steps on tied cells, and takes it back: what its caller then proves, by the public clauses
-// of the crates alone.
+// A hand lends its seat to steps on tied cells, and takes it back: what its caller then proves, by the public
+// clauses of the crates alone.
 ghost use Rattle.std.specs.Prelude.{◌≡◌, ◌<◌, ◌≤◌, [], ◌∷◌, Some};
 ghost use Rattle.std.specs.List.{Contains};
 ghost use Rattle.cell_core.specs.Block.{block_len, cell_at};
@@ -68,8 +68,8 @@ fn fill_own<A: Allocator>(
     placed
 }
 
-// A hand lends its seat to the exchange that sets an entry to a block. Both seats are lost with the visit, and the hand
-// still says what it has seen.
+// A hand lends its seat to the exchange that sets an entry to a block. Both seats are lost with the visit, and
+// the hand still says what it has seen.
 fn lend_to_exchange<R: EntryAt, A: Allocator>(
     word: &Word<A>,
     hand: &mut Hand,

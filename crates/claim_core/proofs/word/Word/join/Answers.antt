@@ -52,7 +52,6 @@ put_shares-requires g c =
     let lent = ap (λ (h : HandView). h.shares) t.lent in
     let first = c.seen.ensures in
     let second = c.seen-2.ensures in
-    let most = c.max-seen.ensures in
     join_held c.join_seat.new.seat c.load.new.seat _ _ t.held u.held (d.base ∙ sym b.base) c.join_seat.ensures.2 s.2.1 s.2.0 (cc) (cc)
 
 pub returns-clause-of : goal.returns-clause-of

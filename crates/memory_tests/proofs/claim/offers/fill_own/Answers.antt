@@ -59,11 +59,11 @@ fill_for-placed-requires-clause-step g c =
     let offer = c.offer_fill-offer.ensures.offer in
     (offer.1, offer.2)
 
-pub take_back-requires-clause-made-2 : goal.take_back-requires-clause-made-2
-take_back-requires-clause-made-2 g c = is_made fills _ c.fill_for-placed.result.1.made c.fill_for-placed.ensures.made.1
+pub take_back-requires-2-clause-made : goal.take_back-requires-2-clause-made
+take_back-requires-2-clause-made g c = is_made fills _ c.fill_for-placed.result.1.made c.fill_for-placed.ensures.made.1
 
-pub take_back-requires-clause-lent-2 : goal.take_back-requires-clause-lent-2
-take_back-requires-clause-lent-2 g c =
+pub take_back-requires-2-clause-lent : goal.take_back-requires-2-clause-lent
+take_back-requires-2-clause-lent g c =
     let about = c.fill_for-placed.ensures.offer.1 in
     (c.take_back.new.self, lent_on (ap (λ a. a.table_id) about) (ap (λ a. a.view) about) c.offer_fill-offer.ensures.lent)
 

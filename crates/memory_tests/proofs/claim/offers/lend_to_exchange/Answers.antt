@@ -8,4 +8,4 @@ pub visit_publish-visit-requires-clause-places : goal.visit_publish-visit-requir
 visit_publish-visit-requires-clause-places g c = (c.requires.places.0, c.requires.places.1)
 
 pub returns : goal.returns
-returns g c = record { seen = c.seen.ensures ∙ (ap seen_size c.visit_publish-visit.ensures.lent.is ∙ lent_seen _) }
+returns g c = record { seen = c.seen.ensures ∙ (ap seen_size c.visit_publish-visit.ensures.lent.is ∙ lent_seen c.args.hand.now) }

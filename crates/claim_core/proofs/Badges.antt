@@ -1,17 +1,14 @@
 -- What a hand's badge has: the seat's view, or none while the seat is lent.
 use Rattle.std.proofs.Common.{◌≡◌, ℕ, ◌+◌, ◌<◌, ◌≤◌, List, [], ◌∷◌, length, refl, ap, sym, ◌∙◌, subst, arith}
 use Rattle.std.proofs.lemmas.List.Elements.{All-nil}
-use Rattle.std.specs.Prelude.{nat_eq}
-use Rattle.std.specs.List.{All, Contains, IsDistinct}
-use mathlib.Core.List.{IsPrefix}
+use Rattle.std.specs.List.{Contains}
 use Rattle.atomic_table.specs.Seated.{TableId}
 use Rattle.claim_core.specs.declared.seat_view.SeatView.{SeatView}
-use Rattle.claim_core.specs.Lengths.{times}
-use Rattle.claim_core.specs.History.{first_list, lengths_of, IsHistoryOf}
-use Rattle.claim_core.specs.Hand.{HandView, IsWholeHand, SeesBegun, seen_size, own_places}
+use Rattle.claim_core.specs.History.{first_list, lengths_of}
+use Rattle.claim_core.specs.Hand.{HandView, IsWholeHand, seen_size, own_places}
 use Rattle.claim_core.specs.Lent.{lent_view, lent_hand, seat_hand}
 use Rattle.claim_core.specs.Rule.{word_count}
-use Rattle.claim_core.specs.Seat.{ClaimSeat, hand_view, hand_by, IsHeld, IsOf, IsKept}
+use Rattle.claim_core.specs.Seat.{ClaimSeat, hand_view, hand_by, IsHeld, IsOf, IsKept, IsSound}
 use Rattle.claim_core.specs.SeatView.{IsConsistent}
 use Rattle.claim_core.proofs.Prefixes.{prefix_nil}
 use Rattle.claim_core.proofs.Places.{places_in-le, places_in-all}
@@ -160,22 +157,9 @@ module _
 
 -- ---- What holds of each hand
 
-pub record Sound (hand : HandView) : Type 0 where
-  pub positive : All (λ n. 0 < n) hand.seen
-  pub within : seen_size hand ≤ hand.of.limit
-  pub below : (k : ℕ) → Contains hand.mine k → k < length hand.seen
-  pub once : (k : ℕ) → times k hand.mine ≤ 1
-  pub distinct : IsDistinct nat_eq hand.mine
-  pub places : hand.of.base + own_places hand ≤ seen_size hand
-  pub some_shares : 0 < hand.shares
-  pub not_more : hand.shares ≤ 65536
-  pub history : IsHistoryOf hand.of.limit hand.of.base hand.of.filled hand.log
-  pub lengths : IsPrefix hand.seen (lengths_of hand.log)
-  pub begun : SeesBegun hand
-
 -- of one with its seat: it has seen each run that it owns, and owns none twice, and its runs have no more places than
 -- there are from the base to the size that it has seen
-seat_sound : (floor : ℕ) (table : TableId) (v : SeatView) → IsConsistent v → 0 < v.shares → Sound (seat_hand floor table v)
+seat_sound : (floor : ℕ) (table : TableId) (v : SeatView) → IsConsistent v → 0 < v.shares → IsSound (seat_hand floor table v)
 seat_sound floor table v consistent part =
     record {
       positive = consistent.positive;
@@ -192,7 +176,7 @@ seat_sound floor table v consistent part =
     }
 
 -- of one that has lent it
-lent_sound : (floor share size : ℕ) → 0 < share → share ≤ 65536 → Sound (lent_view floor share size)
+lent_sound : (floor share size : ℕ) → 0 < share → share ≤ 65536 → IsSound (lent_view floor share size)
 lent_sound floor share size part most =
     record {
       positive = All-nil (λ n. 0 < n);
@@ -209,7 +193,7 @@ lent_sound floor share size part most =
     }
 
 sound_by : (floor : ℕ) (table : TableId) (views : List SeatView) (share size : ℕ) → IsKept views share size
-    → Sound (hand_by floor table views share size)
+    → IsSound (hand_by floor table views share size)
 sound_by floor table [] share size kept = lent_sound floor share size kept.positive kept.most
 sound_by floor table (v ∷ vs) share size kept =
     let known = kept.of v vs refl in
@@ -243,8 +227,8 @@ whole_by floor table (v ∷ vs) share size kept all =
 module _
     (floor : ℕ) (table : TableId) (views : List SeatView) (share size : ℕ) (hand : HandView) (kept : IsKept views share size)
     (hand_is : hand_by floor table views share size ≡ hand) where
-  pub sound : Sound hand
-  sound = subst Sound hand_is (sound_by floor table views share size kept)
+  pub sound : IsSound hand
+  sound = subst IsSound hand_is (sound_by floor table views share size kept)
 
   pub sound_whole : IsWholeHand hand → SoundWhole hand
   sound_whole all =

@@ -1,16 +1,18 @@
 -- What a word and a hand keep of their table and seat. Only proofs use it.
-use Rattle.std.specs.Prelude.{◌≡◌, ℕ, ◌<◌, ◌≤◌, List, [], ◌∷◌}
+use Rattle.std.specs.Prelude.{◌≡◌, ℕ, ◌+◌, ◌<◌, ◌≤◌, nat_eq, List, [], ◌∷◌, length}
+use Rattle.std.specs.List.{All, Contains, IsDistinct}
+use mathlib.Core.List.{IsPrefix}
 use Rattle.atomic_table.specs.Seated.{TableId}
 use Rattle.atomic_table.specs.declared.shared.Seat.{Seat}
 use Rattle.claim_core.specs.declared.seat_view.SeatView.{SeatView}
 use Rattle.claim_core.specs.declared.terms.Terms.{Terms}
-use Rattle.claim_core.specs.Lengths.{runs_end}
+use Rattle.claim_core.specs.Lengths.{runs_end, times}
 use Rattle.claim_core.specs.Rule.{word_count, size_at}
 use Rattle.claim_core.specs.Shares.{all_shares}
 use Rattle.claim_core.specs.Word.{WordView, AreBounds}
-use Rattle.claim_core.specs.Hand.{HandView}
+use Rattle.claim_core.specs.Hand.{HandView, SeesBegun, seen_size, own_places}
 use Rattle.claim_core.specs.Lent.{lent_view, seat_hand}
-use Rattle.claim_core.specs.History.{size_event}
+use Rattle.claim_core.specs.History.{IsHistoryOf, lengths_of, size_event}
 use Rattle.claim_core.specs.SeatView.{IsConsistent, Looks, joined_view, with_own}
 
 -- what a hand steps with
@@ -71,6 +73,20 @@ pub record IsKept (views : List SeatView) (share size : ℕ) : Type 0 where
   pub positive : 0 < share
   pub most : share ≤ all_shares
   pub of : (v : SeatView) (vs : List SeatView) → views ≡ v ∷ vs → (vs ≡ []) × IsOf v share size
+
+-- what every hand keeps, also while its seat is lent
+pub record IsSound (hand : HandView) : Type 0 where
+  pub positive : All (λ n. 0 < n) hand.seen
+  pub within : seen_size hand ≤ hand.of.limit
+  pub below : (k : ℕ) → Contains hand.mine k → k < length hand.seen
+  pub once : (k : ℕ) → times k hand.mine ≤ 1
+  pub distinct : IsDistinct nat_eq hand.mine
+  pub places : hand.of.base + own_places hand ≤ seen_size hand
+  pub some_shares : 0 < hand.shares
+  pub not_more : hand.shares ≤ all_shares
+  pub history : IsHistoryOf hand.of.limit hand.of.base hand.of.filled hand.log
+  pub lengths : IsPrefix hand.seen (lengths_of hand.log)
+  pub begun : SeesBegun hand
 
 -- two seats of one table, with its terms, which both have shares
 pub record IsPair (table : TableId) (key : Terms) (seat other : ClaimSeat) : Type 0 where

@@ -84,8 +84,7 @@ impl Hand {
         // It has seen the places that it knows begun.
         ensures begun { SeesBegun self.now }
     {
-        // For the proof: reading a field shows the type's invariant.
-        let _seen = self.seen;
+        self.show_kept();
     }
 
     /// Shows a proof what a whole hand keeps: it has seen all that was claimed, and owns it. The size is the

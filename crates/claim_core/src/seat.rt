@@ -3,7 +3,7 @@ ghost use Rattle.std.specs.Prelude.{◌≡◌};
 ghost use Rattle.claim_core.specs.Hand.{seen_size};
 ghost use Rattle.claim_core.specs.Lent.{lent_hand};
 ghost use Rattle.claim_core.specs.Rule.{word_count};
-ghost use Rattle.claim_core.specs.Seat.{IsHeld, floor_in, hand_view};
+ghost use Rattle.claim_core.specs.Seat.{IsHeld, IsSound, floor_in, hand_view};
 
 use crate::hand::Hand;
 use crate::mark::Mark;
@@ -74,6 +74,14 @@ impl Hand {
         self.badge = seat.into_badge();
         self.shares = shares;
         self.seen = seen;
+    }
+
+    // Shows a proof what every hand keeps.
+    pub(crate) fn show_kept(&self)
+        ensures { IsSound self.now }
+    {
+        // For the proof: reading a field shows the type's invariant.
+        let _seen = self.seen;
     }
 
     // Takes the seat out of a hand that is given up.

@@ -1,3 +1,4 @@
 mod KeyRows
 mod StepsInARow
 mod InOrder
+mod OffersInARow

@@ -1,7 +1,8 @@
 //! A walk over what a vector shows.
-ghost use Rattle.std.specs.Prelude.{◌≡◌, ◌+◌, ◌<◌, ◌≤◌, length, filter, is_some};
+ghost use Rattle.std.specs.Prelude.{◌≡◌, ◌+◌, ◌<◌, ◌≤◌, Some, length, filter, is_some, slice_get};
+ghost use Rattle.std.specs.Option.{option_copied};
 ghost use Rattle.seg_core.specs.Segment.{most_places};
-ghost use Rattle.grow_core.specs.Vector.{base_of, limit_of};
+ghost use Rattle.grow_core.specs.Vector.{IsOpenedAt, base_of, limit_of};
 ghost use Rattle.grow_core.specs.Published.{StepsOver, one_if_shown};
 ghost use Rattle.grow_core.specs.ShownCells.{HoldOpened};
 
@@ -9,7 +10,6 @@ use crate::read::Shown;
 use crate::vector::Shared;
 use std::iter::FusedIterator;
 use std::marker::Model;
-use std::slice;
 
 // How many places a walk looks at together.
 const LOOKED_AHEAD: u64 = 256;
@@ -19,15 +19,16 @@ const LOOKED_AHEAD: u64 = 256;
 #[derive(Drop)]
 pub struct Published<'a, T> {
     vector: &'a Shared<T>,
-    place: u64,
     end: u64,
-    // The values of the next places, which are known to be filled.
-    filled: slice::Iter<'a, T>,
+    // The values of places that were found filled: those from this place on.
+    from: u64,
+    filled: &'a [T],
+    // How many of them were shown. An item that is one of them changes this number alone.
+    shown: usize,
 }
 
 impl<'a, T> Model for Published<'a, T> {
     ghost use Rattle.std.specs.Prelude.{◌+◌, ◌<◌, ◌≤◌, length};
-    ghost use Rattle.std.specs.Slice.Iter.{iter_rest};
     ghost use Rattle.grow_core.specs.Vector.{limit_of};
     ghost use Rattle.grow_core.specs.Published.{PublishedView, published_coded};
     ghost use Rattle.grow_core.specs.ShownCells.{HoldOpened};
@@ -36,10 +37,10 @@ impl<'a, T> Model for Published<'a, T> {
 
     ghost coded = { published_coded T.code };
 
-    ghost view = { λ p. record { vector = p.vector.now; place = p.place; end = p.end } };
+    ghost view = { λ p. record { vector = p.vector.now; place = p.from + p.shown; end = p.end } };
 
-    ghost invariant = { λ p. (p.place + length (iter_rest p.filled) ≤ p.end) × (p.end ≤ limit_of p.vector.now)
-        × HoldOpened p.vector.now p.place (iter_rest p.filled) };
+    ghost invariant = { λ p. (p.shown ≤ length p.filled.now) × (p.from + length p.filled.now ≤ p.end)
+        × (p.end ≤ limit_of p.vector.now) × HoldOpened p.vector.now p.from p.filled.now };
 }
 
 // Counts an item: 1 if its place shows a value, otherwise 0.
@@ -51,6 +52,15 @@ fn count_shown<T>(item: &Option<&T>) -> u64
         Some(_) => 1,
         None => 0,
     }
+}
+
+// The value with this number.
+#[inline(always)]
+fn value_at<T>(values: &[T], i: usize) -> &T
+    requires { i < length values.now }
+    ensures { slice_get values.now i ≡ Some result.now }
+{
+    &values[i]
 }
 
 impl<T> Shared<T> {
@@ -113,9 +123,10 @@ impl<T> Shared<T> {
         let none: &[T] = &[];
         Published {
             vector: self,
-            place,
             end,
-            filled: none.iter(),
+            from: place,
+            filled: none,
+            shown: 0,
         }
     }
 
@@ -135,34 +146,54 @@ impl<T> Shared<T> {
         let left = layout.first(segment) + layout.len(segment) - place;
         self.filled_places(segment, place, n.min(left).min(LOOKED_AHEAD))
     }
+
+    // The value that the opened list has at a place, by a look, if it has one there.
+    #[inline(always)]
+    #[tactic(auto, using(crate::proofs::Places::within_length))]
+    fn opened_value(&self, place: u64) -> Option<&T>
+        ensures { (x : T) → IsOpenedAt self.now place x → option_copied result ≡ Some x }
+    {
+        // For the proof: the opened list ends at the vector's base.
+        self.laws();
+        if place < self.word.base() {
+            return self.look_for_value(place);
+        }
+        None
+    }
+
+    // The value that a look shows at a place, by a call: a walk seldom comes here.
+    #[cold]
+    #[inline(never)]
+    fn look_for_value(&self, place: u64) -> Option<&T>
+        ensures { (x : T) → IsOpenedAt self.now place x → option_copied result ≡ Some x }
+    {
+        match self.look(place) {
+            Shown::Filled(at) => Some(at.value),
+            Shown::Pending | Shown::Broken(_) => None,
+        }
+    }
 }
 
 impl<'a, T> Published<'a, T> {
-    // What the next place shows, by a look. It is laid into the loop of a walk, and passes no `&mut` on, so that the
-    // fields of the walk can lie in registers.
+    // What the next place shows, by a look, if no value is left of those that were found. It is laid into the loop of a
+    // walk, and passes no `&mut` on, so that the fields of the walk can lie in registers.
     #[inline(always)]
-    #[tactic(auto, using(crate::proofs::OpenedValues::hold_first, crate::proofs::OpenedValues::hold_none))]
     fn next_look(&mut self) -> Option<&'a T>
         requires { self.old.place < self.old.end }
         ensures { StepsOver self.old result self.new }
     {
         let vector = self.vector;
-        // For the proof: the opened list ends at the vector's base.
-        vector.laws();
-        let place = self.place;
-        let mut filled = vector.look_along(place, self.end - place).iter();
-        let first = filled.next();
-        self.place += 1;
+        let place = self.from + self.shown as u64;
+        let filled = vector.look_along(place, self.end - place);
         self.filled = filled;
-        match first {
-            Some(value) => Some(value),
-            // A value of the opened list is shown.
-            None if place < vector.word.base() => match vector.look(place) {
-                Shown::Filled(at) => Some(at.value),
-                Shown::Pending | Shown::Broken(_) => None,
-            },
-            None => None,
+        if 0 < filled.len() {
+            self.from = place;
+            self.shown = 1;
+            return Some(value_at(filled, 0));
         }
+        self.from = place + 1;
+        self.shown = 0;
+        vector.opened_value(place)
     }
 }
 
@@ -178,13 +209,13 @@ impl<'a, T> Iterator for Published<'a, T> {
     ghost remaining = { λ p. at_most (p.end - p.place) };
 
     #[inline(always)]
-    #[tactic(auto, using(crate::proofs::OpenedValues::hold_first))]
     fn next(&mut self) -> Option<Option<&'a T>> {
-        if let Some(value) = self.filled.next() {
-            self.place += 1;
-            return Some(Some(value));
+        let (filled, shown) = (self.filled, self.shown);
+        if shown < filled.len() {
+            self.shown = shown + 1;
+            return Some(Some(value_at(filled, shown)));
         }
-        if self.place == self.end {
+        if self.from + shown as u64 == self.end {
             return None;
         }
         Some(self.next_look())

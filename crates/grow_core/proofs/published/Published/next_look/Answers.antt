@@ -1,24 +1,20 @@
-use Rattle.std.proofs.Common.{◌+◌, length, Some, ap, sym, ◌∙◌, arith}
-use Rattle.std.specs.Prelude.{slice_get}
-use Rattle.std.specs.Slice.Iter.{iter_rest}
+use Rattle.std.proofs.Common.{◌+◌, ◌<◌, ◌≤◌, ◌∙◌, length, sym, ap, arith}
 use Rattle.grow_core.specs.Published.{PublishedView}
-use Rattle.grow_core.specs.Vector.{VectorView}
-use Rattle.grow_core.proofs.Places.{within_length}
-use Rattle.grow_core.proofs.OpenedValues.{hold_rest}
+use Rattle.grow_core.proofs.OpenedValues.{hold_at, hold_none, steps_over}
 use Rattle.grow_core.proofs.published.Published.next_look.Goals as goal
 
 pub invariant_of-self : goal.invariant_of-self
 invariant_of-self g c =
-    let is = c.iter-filled.ensures.rest in let steps = c.in-Some.ensures.steps in let few = c.look_along.ensures.few in let i = c.self.invariant in
-    (let l = ap length steps in let m = i.0 in omega (arith, l, m, few, ap length is), i.1, hold_rest c.self.inside.vector.now c.self.inside.place _ _ (iter_rest c.next-first.new.self) (sym is ∙ steps) c.look_along.ensures.opened)
+    let p = c.self.inside in let i = c.self.invariant in let here = ap (λ (v : PublishedView g.row.T.Denot). v.place) c.self.view_is in let stop = ap (λ (v : PublishedView g.row.T.Denot). v.end) c.self.view_is in
+    (omega arith, omega (arith, c.requires, here, stop, c.look_along-filled.ensures.few), i.2, hold_none p.vector.now (p.from + p.shown + 1) c.look_along-filled.result.now (omega arith))
+
+pub returns-then : goal.returns-then
+returns-then g c =
+    let p = c.self.inside in let here = ap (λ (v : PublishedView g.row.T.Denot). v.place) c.self.view_is in let stop = ap (λ (v : PublishedView g.row.T.Denot). v.end) c.self.view_is in
+    steps_over _ p.vector.now (p.from + p.shown) (p.from + p.shown + 1) p.end c.self.view_is (omega (arith, c.requires, here, stop)) (omega arith) _
+    (hold_at p.vector.now (p.from + p.shown) 0 (p.from + p.shown) c.look_along-filled.result.now _ (omega arith) c.value_at.ensures c.look_along-filled.ensures.opened)
 
 pub returns : goal.returns
-returns g c = (
-  c.requires,
-  ap (λ (p : PublishedView g.row.T.Denot). record p { place = p.place + 1 }) c.self.view_is,
-  λ x there.
-      let got = ap (λ (p : PublishedView g.row.T.Denot). slice_get p.vector.opened p.place) c.self.view_is ∙ there in
-      let near = within_length c.self.inside.vector.now.opened c.self.inside.place (Some x) got in
-      let long = c.laws.ensures.opened in let base = c.base.ensures in let same = ap (λ (v : VectorView g.row.T.Denot). v.word.base) c.vector.view_is in
-      absurd (omega (arith, near, long, base, same, c.if-place-base.false)),
-)
+returns g c =
+    let p = c.self.inside in let here = ap (λ (v : PublishedView g.row.T.Denot). v.place) c.self.view_is in let stop = ap (λ (v : PublishedView g.row.T.Denot). v.end) c.self.view_is in
+    steps_over _ p.vector.now (p.from + p.shown) (p.from + p.shown + 1 + 0) p.end c.self.view_is (omega (arith, c.requires, here, stop)) (omega arith) _ c.opened_value.ensures

@@ -1,9 +1,10 @@
-use Rattle.std.proofs.Common.{length, ap, arith}
-use Rattle.std.specs.Slice.Iter.{iter_rest}
-use Rattle.grow_core.proofs.OpenedValues.{hold_rest}
+use Rattle.std.proofs.Common.{◌+◌, ◌<◌, ◌≤◌, length, arith}
+use Rattle.grow_core.proofs.Places.{within_length}
+use Rattle.grow_core.proofs.OpenedValues.{hold_at, steps_over}
 use Rattle.grow_core.proofs.published.PublishedIterator.next.Goals as goal
 
-pub invariant_of-self : goal.invariant_of-self
-invariant_of-self g c =
-    let steps = c.in-Some.ensures.steps in let i = c.self.invariant in
-    (let l = ap length steps in let m = i.0 in omega (arith, l, m), i.1, hold_rest c.self.inside.vector.now c.self.inside.place _ _ (iter_rest c.next.new.self) steps i.2)
+pub returns-then-shown-filled-clause-steps : goal.returns-then-shown-filled-clause-steps
+returns-then-shown-filled-clause-steps g c =
+    let p = c.self.inside in let got = c.value_at.ensures in let i = c.self.invariant in let near = within_length p.filled.now p.shown _ got in
+    steps_over _ p.vector.now (p.from + p.shown) (p.from + (p.shown + 1)) p.end c.self.view_is (omega (arith, near, i.1)) (omega arith) _
+    (hold_at p.vector.now p.from p.shown (p.from + p.shown) p.filled.now _ (omega arith) got i.3)

@@ -1,5 +1,5 @@
 //! The members of a list, one by one, from both ends.
-ghost use Rattle.std.specs.Prelude.{◌≡◌, ⊤, ◌+◌, ◌<◌, ◌≤◌, ◌∷◌, length, IfSome};
+ghost use Rattle.std.specs.Prelude.{◌≡◌, ⊤, ◌+◌, ◌<◌, ◌≤◌, ◌∷◌, Some, length, slice_get, IfSome};
 ghost use Rattle.std.specs.Option.{option_copied};
 ghost use Rattle.std.specs.Iterator.{YieldsFirstBy, YieldsLastBy, UpTo, at_most, item_count};
 ghost use Rattle.std.specs.Iterator.SizeHint.{IsWithinCount};
@@ -10,23 +10,23 @@ use grow_core::Parts;
 use std::alloc::AllocError;
 use std::iter::FusedIterator;
 use std::marker::Model;
-use std::slice;
 
 /// The members that are left, in order. An item is `None` for a broken member.
 #[derive(Drop)]
 pub struct Members<'a, T> {
     parts: &'a Parts<T>,
-    from: u64,
     to: u64,
-    // The values of the next members, which lie side by side.
-    ahead: slice::Iter<'a, T>,
+    // The values of members that lie side by side: those from this place on.
+    from: u64,
+    ahead: &'a [T],
+    // How many of them were returned from the front. An item that is one of them changes this number alone.
+    passed: usize,
     // Up to this place it is known whether there are such values.
     known_to: u64,
 }
 
 impl<'a, T> Model for Members<'a, T> {
     ghost use Rattle.std.specs.Prelude.{◌+◌, ◌≤◌, List, Option, length};
-    ghost use Rattle.std.specs.Slice.Iter.{iter_rest};
     ghost use Rattle.std.specs.Coded.{coded_option};
     ghost use base.Stored.{coded_list};
     ghost use Rattle.quiet_core.specs.Between.{between, AreValuesFrom};
@@ -35,11 +35,20 @@ impl<'a, T> Model for Members<'a, T> {
 
     ghost coded = { coded_list (coded_option T.code) };
 
-    ghost view = { λ m. between m.parts.now.members m.from m.to };
+    ghost view = { λ m. between m.parts.now.members (m.from + m.passed) m.to };
 
-    ghost invariant = { λ m. (m.from + length (iter_rest m.ahead) ≤ m.to)
+    ghost invariant = { λ m. (m.passed ≤ length m.ahead.now) × (m.from + length m.ahead.now ≤ m.to)
         × (m.to ≤ length m.parts.now.members)
-        × AreValuesFrom m.parts.now.members m.from (iter_rest m.ahead) };
+        × AreValuesFrom m.parts.now.members m.from m.ahead.now };
+}
+
+// The value with this number.
+#[inline(always)]
+fn value_at<T>(values: &[T], i: usize) -> &T
+    requires { i < length values.now }
+    ensures { slice_get values.now i ≡ Some result.now }
+{
+    &values[i]
 }
 
 // The values of the members from a place on that lie side by side, up to `to`, and the place after those members. There
@@ -71,9 +80,10 @@ impl<T> Quiet<T> {
         let none: &[T] = &[];
         Members {
             parts: &self.parts,
-            from: 0,
             to: self.parts.len(),
-            ahead: none.iter(),
+            from: 0,
+            ahead: none,
+            passed: 0,
             known_to: 0,
         }
     }
@@ -86,32 +96,36 @@ impl<T> Quiet<T> {
         let to = to.min(self.parts.len());
         Members {
             parts: &self.parts,
-            from: from.min(to),
             to,
-            ahead: none.iter(),
+            from: from.min(to),
+            ahead: none,
+            passed: 0,
             known_to: 0,
         }
     }
 }
 
 impl<'a, T> Members<'a, T> {
-    // The next member, by a look at those of its segment.
-    #[tactic(auto, using(crate::proofs::Betweens::values_none))]
+    // The next member, by a look at those of its segment. It is laid into the loop of a walk, and passes no `&mut` on, so
+    // that the fields of the walk can lie in registers.
+    #[inline(always)]
     fn next_member(&mut self) -> Option<&'a T>
         requires { 0 < length self.old }
         ensures { self.old ≡ option_copied result ∷ self.new }
     {
-        let (parts, from) = (self.parts, self.from);
-        let (values, known_to) = look_ahead(parts, from, self.to, self.known_to);
-        let mut ahead = values.iter();
-        let first = ahead.next();
-        self.from += 1;
+        let parts = self.parts;
+        let place = self.from + self.passed as u64;
+        let (ahead, known_to) = look_ahead(parts, place, self.to, self.known_to);
         self.ahead = ahead;
         self.known_to = known_to;
-        if let Some(value) = first {
-            return Some(value);
+        if 0 < ahead.len() {
+            self.from = place;
+            self.passed = 1;
+            return Some(value_at(ahead, 0));
         }
-        parts.get(from)
+        self.from = place + 1;
+        self.passed = 0;
+        parts.get(place)
     }
 }
 
@@ -134,13 +148,14 @@ impl<'a, T> Iterator for Members<'a, T> {
 
     ghost remaining = { item_count (λ rest. rest) };
 
-    #[inline]
+    #[inline(always)]
     fn next(&mut self) -> Option<Option<&'a T>> {
-        if let Some(value) = self.ahead.next() {
-            self.from += 1;
-            return Some(Some(value));
+        let (ahead, passed) = (self.ahead, self.passed);
+        if passed < ahead.len() {
+            self.passed = passed + 1;
+            return Some(Some(value_at(ahead, passed)));
         }
-        if self.from == self.to {
+        if self.from + passed as u64 == self.to {
             return None;
         }
         let first = self.next_member();
@@ -161,20 +176,20 @@ impl<'a, T> DoubleEndedIterator for Members<'a, T> {
     ghost next_back_gives = { YieldsLastBy option_copied (λ rest. rest) };
 
     fn next_back(&mut self) -> Option<Option<&'a T>> {
-        if self.from == self.to {
+        if self.from + self.passed as u64 == self.to {
             return None;
         }
         self.to -= 1;
-        let ahead = self.ahead.as_slice();
+        let ahead = self.ahead;
         let left = (self.to - self.from) as usize;
-        self.ahead = ahead[..ahead.len().min(left)].iter();
+        self.ahead = &ahead[..ahead.len().min(left)];
         Some(self.parts.get(self.to))
     }
 }
 
 impl<'a, T> ExactSizeIterator for Members<'a, T> {
     fn len(&self) -> usize {
-        (self.to - self.from) as usize
+        (self.to - (self.from + self.passed as u64)) as usize
     }
 }
 
@@ -188,9 +203,10 @@ impl<'a, T> Clone for Members<'a, T> {
     fn clone(&self) -> Result<Self, AllocError> {
         Ok(Members {
             parts: self.parts,
-            from: self.from,
             to: self.to,
-            ahead: self.ahead.as_slice().iter(),
+            from: self.from,
+            ahead: self.ahead,
+            passed: self.passed,
             known_to: self.known_to,
         })
     }

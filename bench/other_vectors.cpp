@@ -315,8 +315,8 @@ template <typename Vector> long long run(const char *load, unsigned threads) {
     push_often(vector, filled);
   Value times = (installed ? more : fresh) / threads;
   std::function<void()> work = [&] { push_often(vector, times); };
-  // oneTBB has no tokens.
-  if (!std::strncmp(load, "grow", 4) || !std::strncmp(load, "append", 6))
+  // oneTBB has no tokens, and its growths copy.
+  if (!std::strncmp(load, "grow", 4) || !std::strncmp(load, "append", 6) || !std::strncmp(load, "copy", 4))
     work = [&] { grow_often(vector, times); };
   if (!std::strncmp(load, "buffered", 8))
     work = [&] { push_buffered(vector, times); };

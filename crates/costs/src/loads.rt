@@ -53,6 +53,8 @@ pub enum Work {
     Grow,
     /// Makes a list of 64 values, and appends it without tokens.
     Append,
+    /// Makes a list of 64 values, and appends copies of them.
+    Copy,
     /// Appends 64 values that are made in place.
     Make,
     /// Grows the vector up to 64 places above the size that the hand has seen.
@@ -94,7 +96,7 @@ pub fn layout_of(name: &str) -> Layout {
 
 // The name of a load, what is done, how many values there are before its time starts, and how many while it
 // runs.
-static ROWS: [(&'static str, Work, u64, u64); 22] = [
+static ROWS: [(&'static str, Work, u64, u64); 24] = [
     ("push", Work::Push, 0, FRESH),
     ("push-256", Work::Push, 0, FRESH),
     ("push-installed", Work::Push, FILLED, MORE),
@@ -107,6 +109,8 @@ static ROWS: [(&'static str, Work, u64, u64); 22] = [
     ("grow-installed", Work::Grow, FILLED, MORE),
     ("append", Work::Append, 0, FRESH),
     ("append-installed", Work::Append, FILLED, MORE),
+    ("copy", Work::Copy, 0, FRESH),
+    ("copy-installed", Work::Copy, FILLED, MORE),
     ("make", Work::Make, 0, FRESH),
     ("make-installed", Work::Make, FILLED, MORE),
     ("at-least", Work::AtLeast, 0, FRESH),
@@ -152,21 +156,32 @@ fn list_from<R: AllocGlobal>(rt: &R, from: u64) -> Result<Vec<u64>, AllocError> 
     Ok(list)
 }
 
-// Appends a list of values, with tokens or without: whether that was done, or nothing without memory for the list.
+// How a list is appended: by a call that returns tokens, by one that returns none, or by copies of its values.
+#[derive(Clone, Copy)]
+enum Way {
+    Tokens,
+    Plain,
+    Copies,
+}
+
+// Appends a list of values: whether that was done, or nothing without memory for the list.
 fn grow_once<R: Wait + AllocGlobal>(
     rt: &R,
     vector: &Shared<u64>,
     hand: &mut Hand<u64>,
     from: u64,
-    has_tokens: bool,
+    way: Way,
 ) -> Option<bool>
     requires ours { IsHandOf vector.now hand.old }
     ensures of { hand.new.of ≡ hand.old.of }
 {
-    match list_from(rt, from) {
-        Ok(list) if has_tokens => Some(vector.grow_vec(rt, hand, list).is_ok()),
-        Ok(list) => Some(vector.append(rt, hand, list).is_ok()),
-        Err(AllocError) => None,
+    let Ok(list) = list_from(rt, from) else {
+        return None;
+    };
+    match way {
+        Way::Tokens => Some(vector.grow_vec(rt, hand, list).is_ok()),
+        Way::Plain => Some(vector.append(rt, hand, list).is_ok()),
+        Way::Copies => Some(vector.grow_from(rt, hand, list.as_slice()).is_ok()),
     }
 }
 
@@ -176,13 +191,13 @@ fn grow<R: Wait + AllocGlobal>(
     vector: &Shared<u64>,
     mut hand: Hand<u64>,
     values: u64,
-    has_tokens: bool,
+    way: Way,
 ) -> u64
     requires ours { IsHandOf vector.now hand }
 {
     let mut won: u64 = 0;
     for i in 0..values / LIST {
-        let Some(is_done) = grow_once(rt, vector, &mut hand, i, has_tokens) else {
+        let Some(is_done) = grow_once(rt, vector, &mut hand, i, way) else {
             break;
         };
         if is_done {
@@ -251,8 +266,9 @@ impl Work {
             Work::CallPush => push_by_calls(rt, vector, hand, times),
             Work::WriterPush => push_by_writer(rt, vector, hand, times),
             Work::BufferedPush => push_buffered(rt, vector, hand, times),
-            Work::Grow => grow(rt, vector, hand, times, true),
-            Work::Append => grow(rt, vector, hand, times, false),
+            Work::Grow => grow(rt, vector, hand, times, Way::Tokens),
+            Work::Append => grow(rt, vector, hand, times, Way::Plain),
+            Work::Copy => grow(rt, vector, hand, times, Way::Copies),
             Work::Make => make(rt, vector, hand, times, false),
             Work::AtLeast => make(rt, vector, hand, times, true),
             Work::At => read_at(vector, hand, times),

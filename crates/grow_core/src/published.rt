@@ -1,9 +1,8 @@
 //! A walk over what a vector shows.
-ghost use Rattle.std.specs.Prelude.{◌≡◌, ◌+◌, ◌<◌, ◌≤◌, Some, length, filter, is_some, slice_get};
-ghost use Rattle.std.specs.Option.{option_copied};
+ghost use Rattle.std.specs.Prelude.{◌≡◌, ◌+◌, ◌<◌, ◌≤◌, [], ◌∷◌, Some, IfSome, IsSome, length, filter, is_some, slice_get};
 ghost use Rattle.seg_core.specs.Segment.{most_places};
 ghost use Rattle.grow_core.specs.Vector.{IsOpenedAt, base_of, limit_of};
-ghost use Rattle.grow_core.specs.Published.{StepsOver, one_if_shown};
+ghost use Rattle.grow_core.specs.Published.{one_if_shown};
 ghost use Rattle.grow_core.specs.ShownCells.{HoldOpened};
 
 use crate::read::Shown;
@@ -130,70 +129,71 @@ impl<T> Shared<T> {
         }
     }
 
-    // The values of the filled places from this one on, up to the first that is not filled, and `n` or LOOKED_AHEAD at
-    // most. It is not laid into the loops of walks.
+    // The values of the places from this one on that are found filled, up to the first that is not, and `n` or LOOKED_AHEAD
+    // at most. A walk comes here once for all of them, by a call, so that its loop has little else.
+    #[cold]
     #[inline(never)]
+    #[tactic(auto, using(crate::proofs::Places::within_length, crate::proofs::OpenedValues::hold_one))]
     fn look_along(&self, place: u64, n: u64) -> &[T]
         requires some { 0 < n }
         requires within { place + n ≤ limit_of self.now }
         ensures few { length result.now ≤ n }
         ensures opened { HoldOpened self.now place result.now }
+        ensures shown { (x : T) → IsOpenedAt self.now place x → 0 < length result.now }
     {
-        // For the proof: the vector's base is within its limit.
+        // For the proof: the opened list ends at the vector's base, which is within its limit.
         self.laws();
         let layout = self.layout();
         let (segment, _) = layout.locate(place);
         let left = layout.first(segment) + layout.len(segment) - place;
-        self.filled_places(segment, place, n.min(left).min(LOOKED_AHEAD))
-    }
-
-    // The value that the opened list has at a place, by a look, if it has one there.
-    #[inline(always)]
-    #[tactic(auto, using(crate::proofs::Places::within_length))]
-    fn opened_value(&self, place: u64) -> Option<&T>
-        ensures { (x : T) → IsOpenedAt self.now place x → option_copied result ≡ Some x }
-    {
-        // For the proof: the opened list ends at the vector's base.
-        self.laws();
+        let filled = self.filled_places(segment, place, n.min(left).min(LOOKED_AHEAD));
+        if 0 < filled.len() {
+            return filled;
+        }
         if place < self.word.base() {
             return self.look_for_value(place);
         }
-        None
+        filled
     }
 
-    // The value that a look shows at a place, by a call: a walk seldom comes here.
-    #[cold]
-    #[inline(never)]
-    fn look_for_value(&self, place: u64) -> Option<&T>
-        ensures { (x : T) → IsOpenedAt self.now place x → option_copied result ≡ Some x }
+    // The value that a look shows at a place, as a slice. There is none if it shows no value.
+    fn look_for_value(&self, place: u64) -> &[T]
+        ensures few { length result.now ≤ 1 }
+        ensures opened { (x : T) → IsOpenedAt self.now place x → result.now ≡ x ∷ [] }
     {
         match self.look(place) {
-            Shown::Filled(at) => Some(at.value),
-            Shown::Pending | Shown::Broken(_) => None,
+            Shown::Filled(at) => self.slice_of(&at.placed),
+            Shown::Pending | Shown::Broken(_) => &[],
         }
     }
 }
 
 impl<'a, T> Published<'a, T> {
-    // What the next place shows, by a look, if no value is left of those that were found. It is laid into the loop of a
-    // walk, and passes no `&mut` on, so that the fields of the walk can lie in registers.
+    // The values with the next item, the place of the first of them, and how many come before the item: the values that
+    // are left, or, if none is, those that a look finds. There are none if the next place shows no value, or at the end.
     #[inline(always)]
-    fn next_look(&mut self) -> Option<&'a T>
-        requires { self.old.place < self.old.end }
-        ensures { StepsOver self.old result self.new }
+    fn values_ahead(&self) -> Option<(u64, &'a [T], usize)>
+        ensures place { IfSome result (λ (from, _, shown). from + shown ≡ self.now.place) }
+        ensures more { IfSome result (λ (_, filled, shown). shown < length filled.now) }
+        ensures within { IfSome result (λ (from, filled, _). from + length filled.now ≤ self.now.end) }
+        ensures opened { IfSome result
+            (λ (from, filled, _). HoldOpened self.now.vector from filled.now) }
+        ensures shown { (x : T) → self.now.place < self.now.end
+            → IsOpenedAt self.now.vector self.now.place x → IsSome result }
     {
-        let vector = self.vector;
-        let place = self.from + self.shown as u64;
-        let filled = vector.look_along(place, self.end - place);
-        self.filled = filled;
-        if 0 < filled.len() {
-            self.from = place;
-            self.shown = 1;
-            return Some(value_at(filled, 0));
+        if self.shown < self.filled.len() {
+            return Some((self.from, self.filled, self.shown));
         }
-        self.from = place + 1;
-        self.shown = 0;
-        vector.opened_value(place)
+        let place = self.from + self.shown as u64;
+        if place == self.end {
+            return None;
+        }
+        let vector = self.vector;
+        let filled = vector.look_along(place, self.end - place);
+        if 0 < filled.len() {
+            return Some((place, filled, 0));
+        }
+        None
     }
 }
 
@@ -208,17 +208,24 @@ impl<'a, T> Iterator for Published<'a, T> {
 
     ghost remaining = { λ p. at_most (p.end - p.place) };
 
+    // It is laid into the loop of a walk, and passes no `&mut` on, so that the fields of the walk can lie in registers.
     #[inline(always)]
     fn next(&mut self) -> Option<Option<&'a T>> {
-        let (filled, shown) = (self.filled, self.shown);
-        if shown < filled.len() {
+        if let Some((from, filled, shown)) = self.values_ahead() {
+            self.from = from;
+            self.filled = filled;
             self.shown = shown + 1;
             return Some(Some(value_at(filled, shown)));
         }
-        if self.from + shown as u64 == self.end {
+        let place = self.from + self.shown as u64;
+        if place == self.end {
             return None;
         }
-        Some(self.next_look())
+        let none: &[T] = &[];
+        self.from = place + 1;
+        self.filled = none;
+        self.shown = 0;
+        Some(None)
     }
 }
 

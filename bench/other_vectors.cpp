@@ -256,14 +256,24 @@ template <typename Vector> void push_until(Vector &vector, const std::atomic<boo
     vector.push(value);
 }
 
+std::vector<Value> list_from(Value first) {
+  std::vector<Value> list;
+  list.reserve(list_length);
+  for (Value j = 0; j < list_length; ++j)
+    list.push_back(first + j);
+  return list;
+}
+
 template <typename Vector> void grow_often(Vector &vector, Value times) {
-  for (Value i = 0; i < times / list_length; ++i) {
-    std::vector<Value> list;
-    list.reserve(list_length);
-    for (Value j = 0; j < list_length; ++j)
-      list.push_back(i + j);
+  for (Value i = 0; i < times / list_length; ++i)
+    vector.grow(list_from(i));
+}
+
+// Appends copies of one list.
+template <typename Vector> void copy_often(Vector &vector, Value times) {
+  const std::vector<Value> list = list_from(0);
+  for (Value i = 0; i < times / list_length; ++i)
     vector.grow(list);
-  }
 }
 
 // Pushes values through a buffer, which is appended whenever it is full, and at the end.
@@ -315,9 +325,11 @@ template <typename Vector> long long run(const char *load, unsigned threads) {
     push_often(vector, filled);
   Value times = (installed ? more : fresh) / threads;
   std::function<void()> work = [&] { push_often(vector, times); };
-  // oneTBB has no tokens, and its growths copy.
-  if (!std::strncmp(load, "grow", 4) || !std::strncmp(load, "append", 6) || !std::strncmp(load, "copy", 4))
+  // oneTBB has no tokens.
+  if (!std::strncmp(load, "grow", 4) || !std::strncmp(load, "append", 6))
     work = [&] { grow_often(vector, times); };
+  if (!std::strncmp(load, "copy", 4))
+    work = [&] { copy_often(vector, times); };
   if (!std::strncmp(load, "buffered", 8))
     work = [&] { push_buffered(vector, times); };
   if (!std::strncmp(load, "make", 4))

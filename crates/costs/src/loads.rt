@@ -53,7 +53,7 @@ pub enum Work {
     Grow,
     /// Makes a list of 64 values, and appends it without tokens.
     Append,
-    /// Makes a list of 64 values, and appends copies of them.
+    /// Appends copies of one list of 64 values.
     Copy,
     /// Appends 64 values that are made in place.
     Make,
@@ -156,32 +156,21 @@ fn list_from<R: AllocGlobal>(rt: &R, from: u64) -> Result<Vec<u64>, AllocError> 
     Ok(list)
 }
 
-// How a list is appended: by a call that returns tokens, by one that returns none, or by copies of its values.
-#[derive(Clone, Copy)]
-enum Way {
-    Tokens,
-    Plain,
-    Copies,
-}
-
-// Appends a list of values: whether that was done, or nothing without memory for the list.
+// Appends a list of values, with tokens or without: whether that was done, or nothing without memory for the list.
 fn grow_once<R: Wait + AllocGlobal>(
     rt: &R,
     vector: &Shared<u64>,
     hand: &mut Hand<u64>,
     from: u64,
-    way: Way,
+    has_tokens: bool,
 ) -> Option<bool>
     requires ours { IsHandOf vector.now hand.old }
     ensures of { hand.new.of ≡ hand.old.of }
 {
-    let Ok(list) = list_from(rt, from) else {
-        return None;
-    };
-    match way {
-        Way::Tokens => Some(vector.grow_vec(rt, hand, list).is_ok()),
-        Way::Plain => Some(vector.append(rt, hand, list).is_ok()),
-        Way::Copies => Some(vector.grow_from(rt, hand, list.as_slice()).is_ok()),
+    match list_from(rt, from) {
+        Ok(list) if has_tokens => Some(vector.grow_vec(rt, hand, list).is_ok()),
+        Ok(list) => Some(vector.append(rt, hand, list).is_ok()),
+        Err(AllocError) => None,
     }
 }
 
@@ -191,16 +180,37 @@ fn grow<R: Wait + AllocGlobal>(
     vector: &Shared<u64>,
     mut hand: Hand<u64>,
     values: u64,
-    way: Way,
+    has_tokens: bool,
 ) -> u64
     requires ours { IsHandOf vector.now hand }
 {
     let mut won: u64 = 0;
     for i in 0..values / LIST {
-        let Some(is_done) = grow_once(rt, vector, &mut hand, i, way) else {
+        let Some(is_done) = grow_once(rt, vector, &mut hand, i, has_tokens) else {
             break;
         };
         if is_done {
+            won = won.wrapping_add(LIST);
+        }
+    }
+    won
+}
+
+// Appends copies of one list, and returns how many values were appended.
+fn copy<R: Wait + AllocGlobal>(
+    rt: &R,
+    vector: &Shared<u64>,
+    mut hand: Hand<u64>,
+    values: u64,
+) -> u64
+    requires ours { IsHandOf vector.now hand }
+{
+    let Ok(list) = list_from(rt, 0) else {
+        return 0;
+    };
+    let mut won: u64 = 0;
+    for _growth in 0..values / LIST {
+        if vector.grow_from(rt, &mut hand, list.as_slice()).is_ok() {
             won = won.wrapping_add(LIST);
         }
     }
@@ -266,9 +276,9 @@ impl Work {
             Work::CallPush => push_by_calls(rt, vector, hand, times),
             Work::WriterPush => push_by_writer(rt, vector, hand, times),
             Work::BufferedPush => push_buffered(rt, vector, hand, times),
-            Work::Grow => grow(rt, vector, hand, times, Way::Tokens),
-            Work::Append => grow(rt, vector, hand, times, Way::Plain),
-            Work::Copy => grow(rt, vector, hand, times, Way::Copies),
+            Work::Grow => grow(rt, vector, hand, times, true),
+            Work::Append => grow(rt, vector, hand, times, false),
+            Work::Copy => copy(rt, vector, hand, times),
             Work::Make => make(rt, vector, hand, times, false),
             Work::AtLeast => make(rt, vector, hand, times, true),
             Work::At => read_at(vector, hand, times),

@@ -91,9 +91,10 @@ between_length xs from to within = let rest = length-drop from xs in length-take
 pub between_some : {X : Type 0} (xs : List X) (from to : ℕ) → 0 < length (between xs from to) → from < to
 between_some xs from to some = let long = length-take (to - from) (drop from xs) in omega (arith, some, long)
 
--- the first of the values from a place on
-pub value_first : {T : Type 0} (members : List (Option T)) (from : ℕ) (values : List T) (x : T) → slice_get values 0 ≡ Some x → AreValuesFrom members from values → slice_get members from ≡ Some (Some x)
-value_first members from values x at are = ap (slice_get members) (let e : from ≡ from + 0 = omega arith in e) ∙ are 0 x at
+-- the value at a place
+pub value_there : {T : Type 0} (members : List (Option T)) (from i place : ℕ) (values : List T) (x : T) → from + i ≡ place → slice_get values i ≡ Some x → AreValuesFrom members from values
+    → slice_get members place ≡ Some (Some x)
+value_there members from i place values x here at are = ap (slice_get members) (sym here) ∙ are i x at
 
 -- no value is left
 pub values_none : {T : Type 0} (members : List (Option T)) (from : ℕ) (values : List T) → length values ≡ 0 → AreValuesFrom members from values

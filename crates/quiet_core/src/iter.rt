@@ -53,6 +53,8 @@ fn value_at<T>(values: &[T], i: usize) -> &T
 
 // The values of the members from a place on that lie side by side, up to `to`, and the place after those members. There
 // are no values if one of the members is broken, or if the place is below `known_to`: then this is known already.
+#[cold]
+#[inline(never)]
 fn look_ahead<T>(parts: &Parts<T>, from: u64, to: u64, known_to: u64) -> (&[T], u64)
     requires some { from < to }
     requires within { to ≤ length parts.now.members }
@@ -68,6 +70,42 @@ fn look_ahead<T>(parts: &Parts<T>, from: u64, to: u64, known_to: u64) -> (&[T], 
         Some(values) => (values, from + n),
         None => (none, from + n),
     }
+}
+
+// The values with the next member, the place of the first of them, and how many come before it: those at hand, if one is
+// left, and otherwise those that a look finds. There are none if that member is broken, or lies beside one, or at the end.
+// Returns also up to which place this is known then.
+#[inline(always)]
+fn values_ahead<'a, T>(
+    parts: &'a Parts<T>,
+    at_hand: (u64, &'a [T], usize),
+    to: u64,
+    known_to: u64,
+) -> (Option<(u64, &'a [T], usize)>, u64)
+    requires passed { at_hand.2 ≤ length at_hand.1.now }
+    requires order { at_hand.0 + length at_hand.1.now ≤ to }
+    requires within { to ≤ length parts.now.members }
+    requires values { AreValuesFrom parts.now.members at_hand.0 at_hand.1.now }
+    ensures place { IfSome result.0
+        (λ (from, _, passed). from + passed ≡ at_hand.0 + at_hand.2) }
+    ensures more { IfSome result.0 (λ (_, ahead, passed). passed < length ahead.now) }
+    ensures within { IfSome result.0 (λ (from, ahead, _). from + length ahead.now ≤ to) }
+    ensures values { IfSome result.0
+        (λ (from, ahead, _). AreValuesFrom parts.now.members from ahead.now) }
+{
+    let (from, ahead, passed) = at_hand;
+    if passed < ahead.len() {
+        return (Some((from, ahead, passed)), known_to);
+    }
+    let place = from + passed as u64;
+    if place == to {
+        return (None, known_to);
+    }
+    let (found, known_to) = look_ahead(parts, place, to, known_to);
+    if 0 < found.len() {
+        return (Some((place, found, 0)), known_to);
+    }
+    (None, known_to)
 }
 
 impl<T> Quiet<T> {
@@ -105,30 +143,6 @@ impl<T> Quiet<T> {
     }
 }
 
-impl<'a, T> Members<'a, T> {
-    // The next member, by a look at those of its segment. It is laid into the loop of a walk, and passes no `&mut` on, so
-    // that the fields of the walk can lie in registers.
-    #[inline(always)]
-    fn next_member(&mut self) -> Option<&'a T>
-        requires { 0 < length self.old }
-        ensures { self.old ≡ option_copied result ∷ self.new }
-    {
-        let parts = self.parts;
-        let place = self.from + self.passed as u64;
-        let (ahead, known_to) = look_ahead(parts, place, self.to, self.known_to);
-        self.ahead = ahead;
-        self.known_to = known_to;
-        if 0 < ahead.len() {
-            self.from = place;
-            self.passed = 1;
-            return Some(value_at(ahead, 0));
-        }
-        self.from = place + 1;
-        self.passed = 0;
-        parts.get(place)
-    }
-}
-
 impl<'a, T> IntoIterator for &'a Quiet<T> {
     type Item = Option<&'a T>;
 
@@ -148,17 +162,27 @@ impl<'a, T> Iterator for Members<'a, T> {
 
     ghost remaining = { item_count (λ rest. rest) };
 
+    // It is laid into the loop of a walk, and passes no `&mut` on, so that the fields of the walk can lie in registers.
     #[inline(always)]
     fn next(&mut self) -> Option<Option<&'a T>> {
-        let (ahead, passed) = (self.ahead, self.passed);
-        if passed < ahead.len() {
+        let at_hand = (self.from, self.ahead, self.passed);
+        let (values, known_to) = values_ahead(self.parts, at_hand, self.to, self.known_to);
+        self.known_to = known_to;
+        if let Some((from, ahead, passed)) = values {
+            self.from = from;
+            self.ahead = ahead;
             self.passed = passed + 1;
             return Some(Some(value_at(ahead, passed)));
         }
-        if self.from + passed as u64 == self.to {
+        let place = self.from + self.passed as u64;
+        if place == self.to {
             return None;
         }
-        let first = self.next_member();
+        let none: &[T] = &[];
+        self.from = place + 1;
+        self.ahead = none;
+        self.passed = 0;
+        let first = self.parts.get(place);
         Some(first)
     }
 

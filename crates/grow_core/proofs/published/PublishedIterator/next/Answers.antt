@@ -1,8 +1,8 @@
-use Rattle.std.proofs.Common.{◌+◌, ◌<◌, ◌≤◌, ◌∙◌, length, sym, ap, subst, absurd, arith}
+use Rattle.std.proofs.Common.{◌+◌, ◌<◌, ◌≤◌, sym, ap, subst, arith}
 use Rattle.grow_core.specs.Published.{PublishedView}
 use Rattle.grow_core.specs.ShownCells.{HoldOpened}
 use Rattle.grow_core.specs.Vector.{VectorView}
-use Rattle.grow_core.proofs.OpenedValues.{hold_at, hold_none, steps_over}
+use Rattle.grow_core.proofs.OpenedValues.{hold_at, steps_over}
 use Rattle.grow_core.proofs.published.PublishedIterator.next.Goals as goal
 
 pub invariant_of-self : goal.invariant_of-self

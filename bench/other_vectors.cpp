@@ -11,6 +11,7 @@
 #include <functional>
 #include <iterator>
 #include <mutex>
+#include <numeric>
 #include <oneapi/tbb/concurrent_vector.h>
 #include <thread>
 #include <vector>
@@ -256,22 +257,20 @@ template <typename Vector> void push_until(Vector &vector, const std::atomic<boo
     vector.push(value);
 }
 
-std::vector<Value> list_from(Value first) {
-  std::vector<Value> list;
-  list.reserve(list_length);
-  for (Value j = 0; j < list_length; ++j)
-    list.push_back(first + j);
-  return list;
-}
-
 template <typename Vector> void grow_often(Vector &vector, Value times) {
-  for (Value i = 0; i < times / list_length; ++i)
-    vector.grow(list_from(i));
+  for (Value i = 0; i < times / list_length; ++i) {
+    std::vector<Value> list;
+    list.reserve(list_length);
+    for (Value j = 0; j < list_length; ++j)
+      list.push_back(i + j);
+    vector.grow(list);
+  }
 }
 
 // Appends copies of one list.
 template <typename Vector> void copy_often(Vector &vector, Value times) {
-  const std::vector<Value> list = list_from(0);
+  std::vector<Value> list(list_length);
+  std::iota(list.begin(), list.end(), Value{0});
   for (Value i = 0; i < times / list_length; ++i)
     vector.grow(list);
 }

@@ -87,7 +87,7 @@ fn values_ahead<'a, T>(
     requires within { to ≤ length parts.now.members }
     requires values { AreValuesFrom parts.now.members at_hand.0 at_hand.1.now }
     ensures place { IfSome result.0
-        (λ (from, _, passed). from + passed ≡ at_hand.0 + at_hand.2) }
+        (λ (from, _, passed). from + passed ≡ at_hand.entry.0 + at_hand.entry.2) }
     ensures more { IfSome result.0 (λ (_, ahead, passed). passed < length ahead.now) }
     ensures within { IfSome result.0 (λ (from, ahead, _). from + length ahead.now ≤ to) }
     ensures values { IfSome result.0

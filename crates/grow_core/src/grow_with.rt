@@ -149,7 +149,7 @@ impl<T: Drop> Shared<T> {
                 Err(cause) => return Err(self.stop(hand, run, i, filled, cause, begun)),
             };
             let place = run.from + i;
-            segment = self.next_segment(hand, segment, place);
+            self.next_segment(hand, &mut segment, place);
             let (put, others) = self.fill_begun(&segment, place, run.n - i, begun, value);
             begun = others;
             match put {

@@ -1,9 +1,12 @@
 -- What steps on places do to the hand that makes them, and which events they add to the history that it has seen.
-use Rattle.std.specs.Prelude.{◌≡◌, ◌⊎◌, ℕ, ◌+◌, ◌<◌, ◌≤◌, List}
+use Rattle.std.specs.Prelude.{◌≡◌, ◌⊎◌, ℕ, ◌+◌, ◌<◌, ◌≤◌, List, [], ◌∷◌}
 use Rattle.std.specs.List.{Contains}
 use mathlib.Core.List.{IsPrefix}
+use Rattle.book_core.specs.declared.events.Event.{Event}
+use Rattle.book_core.specs.declared.events.Reply.{Reply}
 use Rattle.claim_core.specs.declared.role.RowAt.{RowAt}
 use Rattle.claim_core.specs.declared.run.Run.{Run}
+use Rattle.claim_core.specs.Lengths.{InRun}
 use Rattle.claim_core.specs.Hand.{HandView, KeepsOwn, SeesRun}
 use Rattle.claim_core.specs.History.{Log, Adds}
 use Rattle.grow_core.specs.Vector.{VectorView, IsLaid}
@@ -42,6 +45,16 @@ AreFresh hand from n = (place : ℕ) → from ≤ place → place < from + n →
 pub record OwnsRunAt (hand : HandView) (index : ℕ) (run : Run) : Type 0 where
   pub owned : Contains hand.mine index
   pub sees : SeesRun hand index run
+
+-- the place is one of the hand's run of this index
+pub record OwnsPlaceAt (hand : HandView) (index place : ℕ) : Type 0 where
+  pub owned : Contains hand.mine index
+  pub in_run : InRun hand.of.base hand.seen index place
+
+-- the hand works on a place of its own: the event is of the actor whose index its run has
+abbrev pub WorksAt : {T : Type 0} → VectorView T → HandView → HandView → ℕ → (ℕ → Event × Reply) → Type 0
+WorksAt vector old new place event =
+    (index : ℕ) → OwnsPlaceAt old index place → Works vector old new place 1 ((event index ∷ []) ∷ [])
 
 -- the hand works on n places of its run of an index, from one on: the steps are of the actor of that index
 abbrev pub WorksOn : {T : Type 0} → VectorView T → HandView → HandView → Run → ℕ → ℕ → (ℕ → List Log) → Type 0

@@ -11,7 +11,8 @@ use Rattle.claim_core.specs.Hand.{HandView}
 use Rattle.cell_core.specs.Slot.{ArePlain}
 use Rattle.cell_core.specs.Block.{BlockView, block_len, cell_at}
 use Rattle.cell_core.specs.Mould.{first_seat}
-use Rattle.table_core.specs.Table.{TableView, KeyView, IsLengthOf, IsTiedBlockOf, IsTiedBy}
+use Rattle.table_core.specs.Table.{TableView, KeyView, IsKeyIn, IsBlockOf, IsLengthOf, IsTiedBlockOf, IsTiedBy}
+use Rattle.grow_core.specs.Token.{place_in}
 use Rattle.grow_core.specs.Keys.{KeyRow, key_at, layout_in}
 
 -- the tie of an entry, with the first place of its segment and the number of its places, which the codes of the tie say
@@ -56,6 +57,15 @@ row_at f segment block =
 -- the cells of the block are tied, if it has any
 abbrev pub IsTiedBlock : BlockView → Type 0
 IsTiedBlock block = IsTied (cell_at block 0).tied
+
+-- A cell of the vector: the key is that of its segment, whose block this is, and the place is at this offset there
+pub record IsCellOf (segments : TableView) (laid : ℕ) (key : KeyView) (block : BlockView) (place offset : ℕ) : Type 0 where
+  pub key : IsKeyIn segments key
+  pub block : block ≡ key.block
+  pub long : IsBlockOf segments.layout key.segment key.block
+  pub by : IsBlockBy segments laid key.segment key.block
+  pub within : offset < block_len key.block
+  pub place : place ≡ place_in segments.layout key.segment offset
 
 -- of each segment whose key is in the row, the hand knows where the places stand, if their cells are tied
 abbrev pub KnowsRows : HandView → KeyRow → Type 0

@@ -1,0 +1,203 @@
+// Steps of a hand on places whose segments were laid since the vector was opened. Each runs an offer of the hand's seat
+// in its one atomic step, which logs its event in that step.
+ghost use Rattle.std.specs.Prelude.{◌≡◌, ◌-◌, ◌<◌, ◌≤◌, [], ◌∷◌, IfOk, IfErr};
+ghost use Rattle.std.specs.List.{Contains};
+ghost use Rattle.tie_core.specs.Desk.{IsTieOf};
+ghost use Rattle.claim_core.specs.Hand.{OwnsPlace, seen_size};
+ghost use Rattle.claim_core.specs.History.{break_event, fill_event, mender_of};
+ghost use Rattle.claim_core.specs.Ties.{IsInRow};
+ghost use Rattle.cell_core.specs.Block.{IsPenAt, IsFresh, IsMending, cell_at};
+ghost use Rattle.cell_core.specs.Shown.{IsFoundIn, IsLookAt};
+ghost use Rattle.grow_core.specs.Logs.{step_of};
+ghost use Rattle.grow_core.specs.Shown.{look_steps, try_steps};
+ghost use Rattle.grow_core.specs.Steps.{AreFresh, Looks, Works, WorksAt};
+ghost use Rattle.grow_core.specs.Ties.{IsCellOf, KnowsRow, row_at};
+ghost use Rattle.grow_core.specs.Vector.{IsHandOf, IsLaid, layout_of, limit_of};
+
+use crate::ties::CellBlock;
+use crate::vector::Shared;
+use cell_core::block::{First, Found, Look, Pen, Placed, Spoilt, Tied};
+use claim_core::{CellTag, Hand as ClaimHand};
+use table_core::Key;
+
+impl<T> Shared<T> {
+    // The tag of the cell at an offset of a block. It has no bytes.
+    #[inline(always)]
+    fn cell_tag(&self, block: &CellBlock<T>, key: &Key, place: u64, offset: u64) -> CellTag
+        requires laid { IsLaid self.now place }
+        requires cell { IsCellOf self.now.segments self.now.laid key.now block.now place offset }
+        ensures tie { (cell_at block.now offset).tied ≡ Some result.tie }
+        ensures of { IsTieOf self.now.word.table self.now.word.floor result.tie }
+        ensures row { IsInRow (row_at (layout_of self.now) key.now.segment block.now) place
+            result.tie.id }
+    {
+        // Only the contract speaks of the key and the place.
+        let _ = (key, place);
+        // For the proof: the cells of a block have seats with numbers in a row.
+        block.ties_laws();
+        self.cells.numbered(block).further(offset)
+    }
+
+    // Looks at a place, by one load.
+    #[inline(always)]
+    pub(crate) fn look_by<'a>(
+        &'a self,
+        claims: &mut ClaimHand,
+        block: &'a CellBlock<T>,
+        key: &Key,
+        place: u64,
+        offset: u64,
+    ) -> Look<'a, T>
+        requires ours { IsHandOf self.now claims.old }
+        requires laid { IsLaid self.now place }
+        requires seen { place < seen_size claims.old }
+        requires cell { IsCellOf self.now.segments self.now.laid key.now block.now place offset }
+        requires row { KnowsRow claims.old key.now.segment block.now }
+        ensures look { IsLookAt block.now offset result }
+        ensures logs { Looks claims.old claims.new (look_steps place result) }
+    {
+        let tag = self.cell_tag(block, key, place, offset);
+        let offer = self.word.offer_look(claims, &tag, place);
+        let (look, offer) = block.look_for(offset, offer);
+        self.word.back_look(claims, offer);
+        look
+    }
+
+    // Begins a place of the hand's own that the hand does not know begun, by one load.
+    #[inline(always)]
+    fn begin_by<'a>(
+        &'a self,
+        claims: &mut ClaimHand,
+        tag: &CellTag,
+        block: &'a CellBlock<T>,
+        place: u64,
+        offset: u64,
+    ) -> Pen<'a, T, First>
+        requires ours { IsHandOf self.now claims.old }
+        requires owned { OwnsPlace claims.old place }
+        requires fresh { AreFresh claims.old place 1 }
+        requires within { offset < length block.now.cells }
+        requires tie { (cell_at block.now offset).tied ≡ Some tag.now.tie }
+        requires of { IsTieOf self.now.word.table self.now.word.floor tag.now.tie }
+        requires row { Finds claims.old.rows place tag.now.tie.id }
+        ensures pen { IsPenAt block.now offset result }
+        ensures fresh { IsFresh result }
+        ensures works { Works self.now claims.old claims.new place 1 [] }
+    {
+        let offer = self.word.offer_begin(claims, tag, place);
+        let (pen, offer) = block.begin_for(offset, offer);
+        self.word.back_begin(claims, offer);
+        pen
+    }
+
+    // Fills a place of the hand's own that the hand does not know begun. No other call can have taken it.
+    #[inline(always)]
+    pub(crate) fn fill_by(
+        &self,
+        claims: &mut ClaimHand,
+        block: &CellBlock<T>,
+        key: &Key,
+        place: u64,
+        offset: u64,
+        value: T,
+    ) -> Placed<T>
+        requires ours { IsHandOf self.now claims.old }
+        requires laid { IsLaid self.now place }
+        requires owned { OwnsPlace claims.old place }
+        requires fresh { AreFresh claims.old place 1 }
+        requires cell { IsCellOf self.now.segments self.now.laid key.now block.now place offset }
+        requires row { KnowsRow claims.old key.now.segment block.now }
+        ensures placed { IsPlacedAt block.now offset result }
+        ensures value { result.value ≡ value }
+        ensures works { WorksAt self.now claims.old claims.new place (λ index. fill_event index place) }
+    {
+        let tag = self.cell_tag(block, key, place, offset);
+        let pen = self.begin_by(claims, &tag, block, place, offset);
+        let offer = self.word.offer_fill(claims, &tag, place);
+        let (placed, offer) = pen.fill_for(value, offer);
+        self.word.back_fill(claims, offer);
+        placed
+    }
+
+    // Breaks such a place.
+    pub(crate) fn break_by(
+        &self,
+        claims: &mut ClaimHand,
+        block: &CellBlock<T>,
+        key: &Key,
+        place: u64,
+        offset: u64,
+    ) -> Spoilt
+        requires ours { IsHandOf self.now claims.old }
+        requires laid { IsLaid self.now place }
+        requires owned { OwnsPlace claims.old place }
+        requires fresh { AreFresh claims.old place 1 }
+        requires cell { IsCellOf self.now.segments self.now.laid key.now block.now place offset }
+        requires row { KnowsRow claims.old key.now.segment block.now }
+        ensures spoilt { IsSpoiltAt block.now offset result }
+        ensures works { WorksAt self.now claims.old claims.new place (λ index. break_event index place) }
+    {
+        let tag = self.cell_tag(block, key, place, offset);
+        let pen = self.begin_by(claims, &tag, block, place, offset);
+        let offer = self.word.offer_break(claims, &tag, place);
+        let (spoilt, offer) = pen.spoil_for(offer);
+        self.word.back_break(claims, offer);
+        spoilt
+    }
+
+    // Takes a broken place for mending, by one step.
+    pub(crate) fn take_by<'a>(
+        &'a self,
+        claims: &mut ClaimHand,
+        block: &'a CellBlock<T>,
+        key: &Key,
+        place: u64,
+        offset: u64,
+    ) -> Result<Pen<'a, T, Tied>, Found<T>>
+        requires ours { IsHandOf self.now claims.old }
+        requires laid { IsLaid self.now place }
+        requires seen { place < seen_size claims.old }
+        requires cell { IsCellOf self.now.segments self.now.laid key.now block.now place offset }
+        requires row { KnowsRow claims.old key.now.segment block.now }
+        ensures pen { IfOk result (IsPenAt block.now offset) }
+        ensures broken { IfOk result IsMending }
+        ensures found { IfErr result (IsFoundIn block.now offset) }
+        ensures logs { Looks claims.old claims.new (try_steps (limit_of self.now) place result) }
+    {
+        let tag = self.cell_tag(block, key, place, offset);
+        let offer = self.word.offer_mend(claims, &tag, place);
+        let (taken, offer) = block.mend_for(offset, offer);
+        self.word.back_mend(claims, offer);
+        taken
+    }
+
+    // Fills a place that was taken for mending.
+    pub(crate) fn fill_taken_by(
+        &self,
+        claims: &mut ClaimHand,
+        block: &CellBlock<T>,
+        key: &Key,
+        place: u64,
+        offset: u64,
+        pen: Pen<'_, T, Tied>,
+        value: T,
+    ) -> Placed<T>
+        requires ours { IsHandOf self.now claims.old }
+        requires laid { IsLaid self.now place }
+        requires seen { place < seen_size claims.old }
+        requires cell { IsCellOf self.now.segments self.now.laid key.now block.now place offset }
+        requires row { KnowsRow claims.old key.now.segment block.now }
+        requires pen { IsPenAt block.now offset pen }
+        ensures placed { IsPlacedAt block.now offset result }
+        ensures value { result.value ≡ value }
+        ensures found { result.found ≡ pen.entry.found }
+        ensures logs { Looks claims.old claims.new
+            (step_of (fill_event (mender_of (limit_of self.now) place) place)) }
+    {
+        let tag = self.cell_tag(block, key, place, offset);
+        let offer = self.word.offer_fill_mended(claims, &tag, place);
+        let (placed, offer) = pen.fill_for(value, offer);
+        self.word.back_fill_mended(claims, offer);
+        placed
+    }
+}

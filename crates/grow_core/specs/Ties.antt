@@ -33,6 +33,10 @@ pub record IsTagOf (word : WordView) (segments : TableView) (cells : Tie) (segme
   pub from : tag.from ≡ segment_start segments.layout segment
   pub n : IsLengthOf segments.layout segment tag.n
 
+-- the same, whatever the codes of the cells are
+abbrev pub IsTagFor : WordView → TableView → ℕ → TagView → Type 0
+IsTagFor word segments segment tag = (cells : Tie) × IsTagOf word segments cells segment tag
+
 -- all entries from segment `count` on are tied, each by its tag, and their cells by the codes of one tie
 pub record AreTiedFrom (word : WordView) (segments : TableView) (cells : Tie) (tags : TagRow) (count : ℕ) : Type 0 where
   pub cells_of : IsTieOf word.table word.floor cells

@@ -1,17 +1,18 @@
 // How a hand finds the segments of its places, or installs them. Where an entry is tied, its look and its exchange run a
 // visit of the hand's seat, by which the hand learns where the places of the segment stand.
-ghost use Rattle.std.specs.Prelude.{◌≡◌, ◌≤◌, ◌<◌, ◌+◌, IfOk, IfSome, IfNone, IsSome};
+ghost use Rattle.std.specs.Prelude.{◌≡◌, ◌≤◌, ◌<◌, ◌+◌, IfOk, IfSome, IfNone, IsSome, IsTrue, IsFalse};
 ghost use Rattle.seg_core.specs.Segment.{HasPlace, most_places, most_segments, segment_count, segment_start};
 ghost use Rattle.claim_core.specs.Hand.{seen_size};
+ghost use Rattle.claim_core.specs.Offers.{IsSeatOf};
 ghost use Rattle.cell_core.specs.Mould.{last_seat};
+ghost use Rattle.cell_core.specs.Slot.{ArePlain};
 ghost use Rattle.table_core.specs.Table.{IsKeyOf, IsTiedBlockOf};
 ghost use Rattle.grow_core.specs.Keys.{AreKeys, HasKeysOfRun, IsKeyAt, KeepsKeys, key_at, mark_of};
 ghost use Rattle.grow_core.specs.Logs.{pending_look, step_of};
 ghost use Rattle.grow_core.specs.Steps.{Learns, Looks};
-ghost use Rattle.grow_core.specs.Ties.{KnowsRow, KnowsRows};
+ghost use Rattle.grow_core.specs.Ties.{IsTagFor, KnowsRow, KnowsRows};
 ghost use Rattle.grow_core.specs.Vector.{IsHandOf, IsLaid, layout_of, limit_of};
 
-use crate::hand::Hand;
 use crate::keys::{Keys, key_of, put_key};
 use crate::ties::CellBlock;
 use crate::vector::Shared;
@@ -36,7 +37,7 @@ impl<T> Shared<T> {
     fn entry_tag(&self, segment: u32) -> EntryTag
         requires within { segment < segment_count (layout_of self.now) }
         requires laid { IsLaid self.now (segment_start (layout_of self.now) segment) }
-        ensures { IsTagFor self.now segment result }
+        ensures { IsTagFor self.now.word self.now.segments segment result }
     {
         self.tags.at(u64::from(segment - self.count))
     }
@@ -182,20 +183,31 @@ impl<T: Drop> Shared<T> {
         Ok(key)
     }
 
-    // Installs the segments of a run unless they are there, and puts their keys into the hand's row.
-    pub(crate) fn install(&self, hand: &mut Hand<T>, from: u64, n: u64) -> Result<(), AllocError>
-        requires ours { IsHandOf self.now hand.old }
+    // Installs the segments of a run unless they are there, and puts their keys into the row.
+    pub(crate) fn install(
+        &self,
+        claims: &mut ClaimHand,
+        keys: &mut Keys,
+        from: u64,
+        n: u64,
+    ) -> Result<(), AllocError>
+        requires ours { IsHandOf self.now claims.old }
         requires some { 0 < n }
         requires places { from + n ≤ most_places }
-        ensures run { IfOk result (λ _. HasKeysOf hand.new from n) }
-        ensures learns { Learns hand.old hand.new }
+        requires keys { AreKeys (mark_of self.now.segments) keys.old }
+        requires rows { KnowsRows claims.old keys.old }
+        ensures keys { AreKeys (mark_of self.now.segments) keys.new }
+        ensures rows { KnowsRows claims.new keys.new }
+        ensures kept { KeepsKeys keys.old keys.new }
+        ensures run { IfOk result (λ _. HasKeysOfRun (layout_of self.now) keys.new from n) }
+        ensures learns { Learns claims.old claims.new }
     {
         let layout = self.table.layout();
         // For the proof: its f is that of a layout.
         let _f = layout.f();
         let (first, end) = layout.segments_of(from, n);
         for segment in first..end {
-            self.key_for(&mut hand.claims, &mut hand.keys, segment)?;
+            self.key_for(claims, keys, segment)?;
         }
         Ok(())
     }

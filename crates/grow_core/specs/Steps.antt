@@ -37,6 +37,10 @@ pub record Looks (old new : HandView) (steps : List Log) : Type 0 where
   pub learns : Learns old new
   pub adds : Adds old.log steps new.log
 
+-- the hand has done nothing, and learned nothing
+abbrev pub IsUntouched : HandView → HandView → Type 0
+IsUntouched old new = new ≡ old
+
 -- none of n places from one on is known to be begun
 abbrev pub AreFresh : HandView → ℕ → ℕ → Type 0
 AreFresh hand from n = (place : ℕ) → from ≤ place → place < from + n → Contains hand.begun place → ⊥
@@ -55,6 +59,11 @@ pub record OwnsPlaceAt (hand : HandView) (index place : ℕ) : Type 0 where
 abbrev pub WorksAt : {T : Type 0} → VectorView T → HandView → HandView → ℕ → (ℕ → Event × Reply) → Type 0
 WorksAt vector old new place event =
     (index : ℕ) → OwnsPlaceAt old index place → Works vector old new place 1 ((event index ∷ []) ∷ [])
+
+-- the hand works on n places next to each other that are all in its run of one index
+abbrev pub WorksAlong : {T : Type 0} → VectorView T → HandView → HandView → ℕ → ℕ → (ℕ → List Log) → Type 0
+WorksAlong vector old new from n steps =
+    (index : ℕ) → ((i : ℕ) → i < n → OwnsPlaceAt old index (from + i)) → Works vector old new from n (steps index)
 
 -- the hand works on n places of its run of an index, from one on: the steps are of the actor of that index
 abbrev pub WorksOn : {T : Type 0} → VectorView T → HandView → HandView → Run → ℕ → ℕ → (ℕ → List Log) → Type 0

@@ -81,6 +81,11 @@ pub record LogsGrowth {T : Type 0} (vector : VectorView T) (fate : Fate) (old ne
   pub some : 0 < run.n → LogsWin vector (λ index. claim_event index run) fate run old new
   pub empty : run.n ≡ 0 → Adds old.log (step_of (claim_event 0 run)) new.log
 
+-- the same, before its places are filled
+pub record LogsClaimed (old new : HandView) (run : Run) : Type 0 where
+  pub some : 0 < run.n → LogsClaim (λ index. claim_event index run) old new
+  pub empty : run.n ≡ 0 → Adds old.log (step_of (claim_event 0 run)) new.log
+
 -- a push won its place, and filled it
 abbrev pub LogsPush : {T : Type 0} → VectorView T → HandView → HandView → ℕ → Type 0
 LogsPush vector old new place = LogsWin vector (λ index. claim_event index (single place)) AllFilled (single place) old new

@@ -1,23 +1,30 @@
 // Steps of a hand on places whose segments were laid since the vector was opened. Each runs an offer of the hand's seat
 // in its one atomic step, which logs its event in that step.
-ghost use Rattle.std.specs.Prelude.{◌≡◌, ◌-◌, ◌<◌, ◌≤◌, [], ◌∷◌, IfOk, IfErr};
-ghost use Rattle.std.specs.List.{Contains};
+ghost use Rattle.std.specs.Prelude.{◌≡◌, ◌+◌, ◌-◌, ◌%◌, ◌<◌, ◌≤◌, [], IfOk, IfErr, Some, length};
+ghost use Rattle.std.specs.Vec.Iter.{into_iter_len};
 ghost use Rattle.tie_core.specs.Desk.{IsTieOf};
 ghost use Rattle.claim_core.specs.Hand.{OwnsPlace, seen_size};
 ghost use Rattle.claim_core.specs.History.{break_event, fill_event, mender_of};
-ghost use Rattle.claim_core.specs.Ties.{IsInRow};
-ghost use Rattle.cell_core.specs.Block.{IsPenAt, IsFresh, IsMending, cell_at};
+ghost use Rattle.claim_core.specs.Ties.{Finds, IsInRow};
+ghost use Rattle.cell_core.specs.Block.{IsPenAt, IsFresh, IsMending, IsPlacedAt, IsSpoiltAt, cell_at};
+ghost use Rattle.cell_core.specs.Laid.{word_cells};
 ghost use Rattle.cell_core.specs.Shown.{IsFoundIn, IsLookAt};
-ghost use Rattle.grow_core.specs.Logs.{step_of};
+ghost use Rattle.grow_core.specs.Keys.{OwnsPlacesOf};
+ghost use Rattle.grow_core.specs.Logs.{fill_steps, step_of};
+ghost use Rattle.grow_core.specs.Segment.{IsSegmentOf, KnowsSegment};
 ghost use Rattle.grow_core.specs.Shown.{look_steps, try_steps};
-ghost use Rattle.grow_core.specs.Steps.{AreFresh, Looks, Works, WorksAt};
+ghost use Rattle.grow_core.specs.Steps.{AreFresh, Looks, Works, WorksAlong, WorksAt};
+ghost use Rattle.grow_core.specs.Stretch.{IsCounted, Takes};
 ghost use Rattle.grow_core.specs.Ties.{IsCellOf, KnowsRow, row_at};
 ghost use Rattle.grow_core.specs.Vector.{IsHandOf, IsLaid, layout_of, limit_of};
 
+use crate::fill::Segment;
+use crate::stretch::{Stretch, write_values};
 use crate::ties::CellBlock;
 use crate::vector::Shared;
 use cell_core::block::{First, Found, Look, Pen, Placed, Spoilt, Tied};
 use claim_core::{CellTag, Hand as ClaimHand};
+use std::vec::IntoIter;
 use table_core::Key;
 
 impl<T> Shared<T> {
@@ -199,5 +206,53 @@ impl<T> Shared<T> {
         let (placed, offer) = pen.fill_for(value, offer);
         self.word.back_fill_mended(claims, offer);
         placed
+    }
+}
+
+impl<T: Drop> Shared<T> {
+    // Fills `n` places of the segment, which are the hand's own and whose states are in one word, with the next values: one
+    // load begins them, and one addition publishes them. Returns the values that are left.
+    #[inline(always)]
+    pub(crate) fn fill_run_by(
+        &self,
+        claims: &mut ClaimHand,
+        segment: &Segment<'_, T>,
+        place: u64,
+        n: u64,
+        values: IntoIter<T>,
+    ) -> (Stretch<T>, IntoIter<T>)
+        requires ours { IsHandOf self.now claims.old }
+        requires laid { IsLaid self.now place }
+        requires owned { OwnsPlacesOf claims.old record { from = place; n = n } }
+        requires fresh { AreFresh claims.old place n }
+        requires segment { IsSegmentOf self.now segment.now }
+        requires row { KnowsSegment claims.old segment.now }
+        requires from { segment.now.from ≤ place }
+        requires within { place + n ≤ segment.now.end }
+        requires word { (place - segment.now.from) % word_cells + n ≤ word_cells }
+        requires some { 0 < n }
+        requires enough { n ≤ into_iter_len values }
+        requires counted { IsCounted values }
+        ensures filled { Takes self.now place values result.1 result.0 }
+        ensures n { result.0.n ≡ n }
+        ensures works { WorksAlong self.now claims.old claims.new place n (λ index. fill_steps index place n) }
+    {
+        let key = segment.key.again();
+        let offset = place - segment.from;
+        let tag = self.cell_tag(segment.block, &key, place, offset);
+        let offer = self.word.offer_begin_run(claims, &tag, place, n);
+        let (pen, offer) = segment.block.begin_run_for(offset, n, offer);
+        self.word.back_begin_run(claims, offer);
+        let (pen, rest) = write_values(pen, n, values);
+        let offer = self.word.offer_fill_run(claims, &tag, place, n);
+        let (row, offer) = pen.publish_for(offer);
+        self.word.back_fill_run(claims, offer);
+        let stretch = Stretch {
+            key,
+            offset,
+            n,
+            row,
+        };
+        (stretch, rest)
     }
 }

@@ -14,6 +14,7 @@ pub mod AtLeast
 pub mod Logs
 pub mod Ties
 pub mod Steps
+pub mod Shown
 pub mod Segment
 pub mod Stretch
 pub mod Filled

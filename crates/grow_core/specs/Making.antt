@@ -86,3 +86,13 @@ StopsIn vector run refusal = ⊥
 abbrev pub IsTakenFrom : {T V E : Type 0} → ℕ → GrowError T V E → Type 0
 IsTakenFrom from (Taken place found) = from ≤ place
 IsTakenFrom from refusal = Unit {0}
+
+-- a place below this one was taken, and nothing else went wrong
+abbrev pub IsTakenBelow : {T V E : Type 0} → ℕ → GrowError T V E → Type 0
+IsTakenBelow end (Taken place found) = place < end
+IsTakenBelow end refusal = ⊥
+
+-- if a place was taken, it is below this one
+abbrev pub TakesBelow : {T V E : Type 0} → ℕ → GrowError T V E → Type 0
+TakesBelow end (Taken place found) = place < end
+TakesBelow end refusal = Unit {0}

@@ -8,6 +8,7 @@ ghost use Rattle.claim_core.specs.History.{break_event, fill_event, mender_of};
 ghost use Rattle.claim_core.specs.Ties.{Finds, IsInRow};
 ghost use Rattle.cell_core.specs.Block.{IsPenAt, IsFresh, IsMending, IsPlacedAt, IsSpoiltAt, cell_at};
 ghost use Rattle.cell_core.specs.Laid.{word_cells};
+ghost use Rattle.cell_core.specs.Run.{IsRunPenAt, cells_from, members_of};
 ghost use Rattle.cell_core.specs.Shown.{IsFoundIn, IsLookAt};
 ghost use Rattle.grow_core.specs.Keys.{OwnsPlacesOf};
 ghost use Rattle.grow_core.specs.Logs.{fill_steps, step_of};
@@ -22,7 +23,7 @@ use crate::fill::Segment;
 use crate::stretch::{Stretch, write_values};
 use crate::ties::CellBlock;
 use crate::vector::Shared;
-use cell_core::block::{First, Found, Look, Pen, Placed, Spoilt, Tied};
+use cell_core::block::{First, Found, Look, Pen, Placed, Row, RunPen, Spoilt, Tied};
 use claim_core::{CellTag, Hand as ClaimHand};
 use std::vec::IntoIter;
 use table_core::Key;
@@ -210,8 +211,66 @@ impl<T> Shared<T> {
 }
 
 impl<T: Drop> Shared<T> {
-    // Fills `n` places of the segment, which are the hand's own and whose states are in one word, with the next values: one
-    // load begins them, and one addition publishes them. Returns the values that are left.
+    // Begins `n` places of the segment, which are the hand's own and whose states are in one word, by one load.
+    #[inline(always)]
+    pub(crate) fn begin_run_by<'a>(
+        &'a self,
+        claims: &mut ClaimHand,
+        segment: &Segment<'a, T>,
+        place: u64,
+        n: u64,
+    ) -> RunPen<'a, T, First>
+        requires ours { IsHandOf self.now claims.old }
+        requires laid { IsLaid self.now place }
+        requires owned { OwnsPlacesOf claims.old record { from = place; n = n } }
+        requires fresh { AreFresh claims.old place n }
+        requires segment { IsSegmentOf self.now segment.now }
+        requires row { KnowsSegment claims.old segment.now }
+        requires from { segment.now.from ≤ place }
+        requires within { place + n ≤ segment.now.end }
+        requires word { (place - segment.now.from) % word_cells + n ≤ word_cells }
+        requires some { 0 < n }
+        ensures pen { IsRunPenAt segment.now.block.now (place - segment.now.from) n result }
+        ensures works { Works self.now claims.old claims.new place n [] }
+    {
+        let offset = place - segment.from;
+        let tag = self.cell_tag(segment.block, &segment.key, place, offset);
+        let offer = self.word.offer_begin_run(claims, &tag, place, n);
+        let (pen, offer) = segment.block.begin_run_for(offset, n, offer);
+        self.word.back_begin_run(claims, offer);
+        pen
+    }
+
+    // Publishes such places, which all have their values, by one addition.
+    #[inline(always)]
+    pub(crate) fn publish_by<'a>(
+        &'a self,
+        claims: &mut ClaimHand,
+        segment: &Segment<'a, T>,
+        place: u64,
+        n: u64,
+        pen: RunPen<'a, T, First>,
+    ) -> Row<T>
+        requires ours { IsHandOf self.now claims.old }
+        requires laid { IsLaid self.now place }
+        requires segment { IsSegmentOf self.now segment.now }
+        requires row { KnowsSegment claims.old segment.now }
+        requires from { segment.now.from ≤ place }
+        requires seen { place + n ≤ seen_size claims.old }
+        requires run { (pen.offset ≡ place - segment.now.from)
+            × (pen.cells ≡ cells_from n pen.offset segment.now.block.now.cells) }
+        requires written { length pen.values ≡ n }
+        ensures row { result ≡ members_of pen.entry.cells pen.entry.values }
+        ensures works { WorksAlong self.now claims.old claims.new place n (λ index. fill_steps index place n) }
+    {
+        let tag = self.cell_tag(segment.block, &segment.key, place, place - segment.from);
+        let offer = self.word.offer_fill_run(claims, &tag, place, n);
+        let (row, offer) = pen.publish_for(offer);
+        self.word.back_fill_run(claims, offer);
+        row
+    }
+
+    // Fills `n` such places with the next values, and returns the values that are left.
     #[inline(always)]
     pub(crate) fn fill_run_by(
         &self,
@@ -237,19 +296,12 @@ impl<T: Drop> Shared<T> {
         ensures n { result.0.n ≡ n }
         ensures works { WorksAlong self.now claims.old claims.new place n (λ index. fill_steps index place n) }
     {
-        let key = segment.key.again();
-        let offset = place - segment.from;
-        let tag = self.cell_tag(segment.block, &key, place, offset);
-        let offer = self.word.offer_begin_run(claims, &tag, place, n);
-        let (pen, offer) = segment.block.begin_run_for(offset, n, offer);
-        self.word.back_begin_run(claims, offer);
+        let pen = self.begin_run_by(claims, segment, place, n);
         let (pen, rest) = write_values(pen, n, values);
-        let offer = self.word.offer_fill_run(claims, &tag, place, n);
-        let (row, offer) = pen.publish_for(offer);
-        self.word.back_fill_run(claims, offer);
+        let row = self.publish_by(claims, segment, place, n, pen);
         let stretch = Stretch {
-            key,
-            offset,
+            key: segment.key.again(),
+            offset: place - segment.from,
             n,
             row,
         };

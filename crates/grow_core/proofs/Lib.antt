@@ -1,5 +1,7 @@
 pub mod Later
 pub mod Logs
+pub mod Adds
+pub mod Works
 pub mod Places
 pub mod OpenedValues
 pub mod Filling

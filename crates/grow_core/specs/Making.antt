@@ -96,3 +96,8 @@ IsTakenBelow end refusal = ⊥
 abbrev pub TakesBelow : {T V E : Type 0} → ℕ → GrowError T V E → Type 0
 TakesBelow end (Taken place found) = place < end
 TakesBelow end refusal = Unit {0}
+
+-- a construction was refused, and then this holds
+abbrev pub OnRefused : {T V E : Type 0} → GrowError T V E → Type 0 → Type 0
+OnRefused (Refused run made cause) then_holds = then_holds
+OnRefused refusal then_holds = Unit {0}

@@ -9,6 +9,9 @@ use Rattle.claim_core.specs.declared.run.Run.{Run}
 use Rattle.claim_core.specs.Lengths.{InRun}
 use Rattle.claim_core.specs.Hand.{HandView, KeepsOwn, SeesRun}
 use Rattle.claim_core.specs.History.{Log, Adds}
+use Rattle.grow_core.specs.declared.errors.GrowError.{GrowError}
+use Rattle.grow_core.specs.declared.errors.GrowError.TheVariants.{Refused, Taken}
+use Rattle.grow_core.specs.Logs.{stop_steps}
 use Rattle.grow_core.specs.Vector.{VectorView, IsLaid}
 
 -- the hand has seen the same size, and owns the same
@@ -68,3 +71,11 @@ WorksAlong vector old new from n steps =
 -- the hand works on n places of its run of an index, from one on: the steps are of the actor of that index
 abbrev pub WorksOn : {T : Type 0} → VectorView T → HandView → HandView → Run → ℕ → ℕ → (ℕ → List Log) → Type 0
 WorksOn vector old new run from n steps = (index : ℕ) → OwnsRunAt old index run → Works vector old new from n (steps index)
+
+-- the hand's run could not be filled: after a refused construction the first places are filled and the others broken, and
+-- a place that was taken is in a segment of the opened list
+abbrev pub StopsWith : {T V E : Type 0} → VectorView T → HandView → HandView → Run → GrowError T V E → Type 0
+StopsWith vector old new run (Refused of made cause) =
+    WorksOn vector old new run run.from run.n (λ index. stop_steps index run made.run.n)
+StopsWith vector old new run (Taken place found) = place < vector.laid
+StopsWith vector old new run refusal = ⊥

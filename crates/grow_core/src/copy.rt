@@ -198,9 +198,9 @@ impl<T: Drop> Shared<T> {
         let offset = place - segment.from;
         let n = segment.block.longest_run(offset).min(left);
         let row = if self.is_laid(key.segment()) {
-            let pen = self.begin_run_by(claims, segment, place, n);
+            let pen = self.begin_run_tied(claims, segment, place, n);
             let pen = write_from(pen, n, first, source);
-            self.publish_by(claims, segment, place, n, pen)
+            self.publish_tied(claims, segment, place, n, pen)
         } else {
             let Some(pen) = segment.block.begin_run_plain(offset, n) else {
                 return self.fill_alone(claims, segment, place, source.value(first));

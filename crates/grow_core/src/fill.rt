@@ -181,7 +181,7 @@ impl<T: Drop> Shared<T> {
         let offset = place - segment.from;
         let n = segment.block.longest_run(offset).min(values.len() as u64);
         if self.is_laid(segment.key.segment()) {
-            return Ok(self.fill_run_by(claims, segment, place, n, values));
+            return Ok(self.fill_run_tied(claims, segment, place, n, values));
         }
         let Some(pen) = segment.block.begin_run_plain(offset, n) else {
             let mut rest = values;
@@ -249,7 +249,7 @@ impl<T: Drop> Shared<T> {
         let key = segment.key.again();
         let offset = place - segment.from;
         if self.is_laid(key.segment()) {
-            let cell = self.break_by(claims, segment.block, &key, place, offset);
+            let cell = self.break_tied(claims, segment.block, &key, place, offset);
             return Ok(Spoilt { key, cell });
         }
         match segment.block.begin_plain(offset) {
@@ -286,7 +286,7 @@ impl<T: Drop> Shared<T> {
         ensures works { WorksAt self.now claims.old claims.new place (λ index. fill_event index place) }
     {
         if self.is_laid(key.segment()) {
-            let cell = self.fill_by(claims, block, &key, place, offset, value);
+            let cell = self.fill_tied(claims, block, &key, place, offset, value);
             return Ok(Placed { key, cell });
         }
         match block.begin_plain(offset) {

@@ -104,12 +104,12 @@ impl<T> Shared<T> {
         ensures learns { Learns hand.old hand.new }
         ensures mends { LogsMend self.now place hand.old hand.new result }
     {
-        let Some((block, key)) = self.scout_by(&mut hand.claims, segment, place) else {
+        let Some((block, key)) = self.scout_tied(&mut hand.claims, segment, place) else {
             return Err((MendError::Pending, value));
         };
-        match self.take_by(&mut hand.claims, block, &key, place, offset) {
+        match self.take_tied(&mut hand.claims, block, &key, place, offset) {
             Ok(pen) => {
-                let cell = self.fill_taken_by(&mut hand.claims, block, &key, place, offset, pen, value);
+                let cell = self.fill_taken(&mut hand.claims, block, &key, place, offset, pen, value);
                 Ok(Placed { key, cell })
             }
             Err(found) => Err((self.unmended(key, offset, found), value)),

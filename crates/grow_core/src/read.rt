@@ -111,10 +111,10 @@ impl<T> Shared<T> {
         if !self.is_laid(segment) {
             return self.look_within(place);
         }
-        let Some((block, key)) = self.scout_by(&mut hand.claims, segment, place) else {
+        let Some((block, key)) = self.scout_tied(&mut hand.claims, segment, place) else {
             return Shown::Pending;
         };
-        let look = self.look_by(&mut hand.claims, block, &key, place, offset);
+        let look = self.look_tied(&mut hand.claims, block, &key, place, offset);
         self.shown_in(key, look)
     }
 

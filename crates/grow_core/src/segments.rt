@@ -60,7 +60,7 @@ impl<T> Shared<T> {
     // Finds the segment of a place that the hand looks at, by one load. If there is none, the load logs that the place is
     // pending.
     #[inline(always)]
-    pub(crate) fn scout_by<'a>(
+    pub(crate) fn scout_tied<'a>(
         &'a self,
         claims: &mut ClaimHand,
         segment: u32,
@@ -106,7 +106,7 @@ impl<T: Drop> Shared<T> {
     }
 
     // Installs the segment unless it is there. The hand learns where its places stand.
-    fn install_by(&self, claims: &mut ClaimHand, segment: u32) -> Result<Key, AllocError>
+    fn install_tied(&self, claims: &mut ClaimHand, segment: u32) -> Result<Key, AllocError>
         requires ours { IsHandOf self.now claims.old }
         requires within { segment < segment_count (layout_of self.now) }
         requires laid { IsLaid self.now (segment_start (layout_of self.now) segment) }
@@ -175,7 +175,7 @@ impl<T: Drop> Shared<T> {
         ensures learns { Learns claims.old claims.new }
     {
         let key = if self.is_laid(segment) {
-            self.install_by(claims, segment)?
+            self.install_tied(claims, segment)?
         } else {
             self.opened_key(segment)
         };

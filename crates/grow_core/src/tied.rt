@@ -48,7 +48,7 @@ impl<T> Shared<T> {
 
     // Looks at a place, by one load.
     #[inline(always)]
-    pub(crate) fn look_by<'a>(
+    pub(crate) fn look_tied<'a>(
         &'a self,
         claims: &mut ClaimHand,
         block: &'a CellBlock<T>,
@@ -73,7 +73,7 @@ impl<T> Shared<T> {
 
     // Begins a place of the hand's own that the hand does not know begun, by one load.
     #[inline(always)]
-    fn begin_by<'a>(
+    fn begin_tied<'a>(
         &'a self,
         claims: &mut ClaimHand,
         tag: &CellTag,
@@ -100,7 +100,7 @@ impl<T> Shared<T> {
 
     // Fills a place of the hand's own that the hand does not know begun. No other call can have taken it.
     #[inline(always)]
-    pub(crate) fn fill_by(
+    pub(crate) fn fill_tied(
         &self,
         claims: &mut ClaimHand,
         block: &CellBlock<T>,
@@ -120,7 +120,7 @@ impl<T> Shared<T> {
         ensures works { WorksAt self.now claims.old claims.new place (λ index. fill_event index place) }
     {
         let tag = self.cell_tag(block, key, place, offset);
-        let pen = self.begin_by(claims, &tag, block, place, offset);
+        let pen = self.begin_tied(claims, &tag, block, place, offset);
         let offer = self.word.offer_fill(claims, &tag, place);
         let (placed, offer) = pen.fill_for(value, offer);
         self.word.back_fill(claims, offer);
@@ -128,7 +128,7 @@ impl<T> Shared<T> {
     }
 
     // Breaks such a place.
-    pub(crate) fn break_by(
+    pub(crate) fn break_tied(
         &self,
         claims: &mut ClaimHand,
         block: &CellBlock<T>,
@@ -146,7 +146,7 @@ impl<T> Shared<T> {
         ensures works { WorksAt self.now claims.old claims.new place (λ index. break_event index place) }
     {
         let tag = self.cell_tag(block, key, place, offset);
-        let pen = self.begin_by(claims, &tag, block, place, offset);
+        let pen = self.begin_tied(claims, &tag, block, place, offset);
         let offer = self.word.offer_break(claims, &tag, place);
         let (spoilt, offer) = pen.spoil_for(offer);
         self.word.back_break(claims, offer);
@@ -154,7 +154,7 @@ impl<T> Shared<T> {
     }
 
     // Takes a broken place for mending, by one step.
-    pub(crate) fn take_by<'a>(
+    pub(crate) fn take_tied<'a>(
         &'a self,
         claims: &mut ClaimHand,
         block: &'a CellBlock<T>,
@@ -180,7 +180,7 @@ impl<T> Shared<T> {
     }
 
     // Fills a place that was taken for mending.
-    pub(crate) fn fill_taken_by(
+    pub(crate) fn fill_taken(
         &self,
         claims: &mut ClaimHand,
         block: &CellBlock<T>,
@@ -213,7 +213,7 @@ impl<T> Shared<T> {
 impl<T: Drop> Shared<T> {
     // Begins `n` places of the segment, which are the hand's own and whose states are in one word, by one load.
     #[inline(always)]
-    pub(crate) fn begin_run_by<'a>(
+    pub(crate) fn begin_run_tied<'a>(
         &'a self,
         claims: &mut ClaimHand,
         segment: &Segment<'a, T>,
@@ -243,7 +243,7 @@ impl<T: Drop> Shared<T> {
 
     // Publishes such places, which all have their values, by one addition.
     #[inline(always)]
-    pub(crate) fn publish_by<'a>(
+    pub(crate) fn publish_tied<'a>(
         &'a self,
         claims: &mut ClaimHand,
         segment: &Segment<'a, T>,
@@ -272,7 +272,7 @@ impl<T: Drop> Shared<T> {
 
     // Fills `n` such places with the next values, and returns the values that are left.
     #[inline(always)]
-    pub(crate) fn fill_run_by(
+    pub(crate) fn fill_run_tied(
         &self,
         claims: &mut ClaimHand,
         segment: &Segment<'_, T>,
@@ -296,9 +296,9 @@ impl<T: Drop> Shared<T> {
         ensures n { result.0.n ≡ n }
         ensures works { WorksAlong self.now claims.old claims.new place n (λ index. fill_steps index place n) }
     {
-        let pen = self.begin_run_by(claims, segment, place, n);
+        let pen = self.begin_run_tied(claims, segment, place, n);
         let (pen, rest) = write_values(pen, n, values);
-        let row = self.publish_by(claims, segment, place, n, pen);
+        let row = self.publish_tied(claims, segment, place, n, pen);
         let stretch = Stretch {
             key: segment.key.again(),
             offset: place - segment.from,

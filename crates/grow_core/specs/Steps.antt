@@ -29,15 +29,15 @@ pub record Works {T : Type 0} (vector : VectorView T) (old new : HandView) (from
   pub adds : IsLaid vector from → Adds old.log steps new.log
 
 -- the hand finds entries, and may know more rows
-pub record Learns (old new : HandView) : Type 0 where
+pub record FindsMore (old new : HandView) : Type 0 where
   pub keeps : KeepsHand old new
   pub rows : (row : RowAt) → Contains old.rows row → Contains new.rows row
   pub begun : new.begun ≡ old.begun
   pub more : IsPrefix old.log new.log
 
 -- the hand looks at places, by these steps, and may know more rows
-pub record Looks (old new : HandView) (steps : List Log) : Type 0 where
-  pub learns : Learns old new
+pub record LooksAt (old new : HandView) (steps : List Log) : Type 0 where
+  pub finds : FindsMore old new
   pub adds : Adds old.log steps new.log
 
 -- the hand has done nothing, and learned nothing

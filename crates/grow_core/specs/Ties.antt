@@ -3,10 +3,10 @@ use Rattle.std.specs.Prelude.{◌≡◌, ℕ, ◌+◌, ◌-◌, ◌<◌, ◌≤�
 use Rattle.std.specs.List.{Contains}
 use Rattle.seg_core.specs.Segment.{segment_start, segment_count, most_segments}
 use Rattle.tie_core.specs.Tie.{Tie, IsTied}
-use Rattle.tie_core.specs.Desk.{IsTieOf}
-use Rattle.tie_core.specs.Visit.{EntryTie, IsEntryOf}
+use Rattle.tie_core.specs.Visit.{EntryTie}
 use Rattle.claim_core.specs.declared.role.RowAt.{RowAt}
 use Rattle.claim_core.specs.Word.{WordView}
+use Rattle.claim_core.specs.Gain.{IsTiedTo, IsEntryTo}
 use Rattle.claim_core.specs.Hand.{HandView}
 use Rattle.cell_core.specs.Slot.{ArePlain}
 use Rattle.cell_core.specs.Block.{BlockView, block_len, cell_at}
@@ -29,7 +29,7 @@ TagRow = List TagView
 -- row, with the codes of the tie `cells`
 pub record IsTagOf (word : WordView) (segments : TableView) (cells : Tie) (segment : ℕ) (tag : TagView) : Type 0 where
   pub by : IsTiedBy segments segment tag.tie cells
-  pub of : IsEntryOf word.table word.floor tag.tie
+  pub of : IsEntryTo word tag.tie
   pub from : tag.from ≡ segment_start segments.layout segment
   pub n : IsLengthOf segments.layout segment tag.n
 
@@ -39,7 +39,7 @@ IsTagFor word segments segment tag = (cells : Tie) × IsTagOf word segments cell
 
 -- all entries from segment `count` on are tied, each by its tag, and their cells by the codes of one tie
 pub record AreTiedFrom (word : WordView) (segments : TableView) (cells : Tie) (tags : TagRow) (count : ℕ) : Type 0 where
-  pub cells_of : IsTieOf word.table word.floor cells
+  pub cells_of : IsTiedTo word cells
   pub all : count + length tags ≡ segment_count segments.layout
   pub each : (i : ℕ) (tag : TagView) → slice_get tags i ≡ Some tag → IsTagOf word segments cells (count + i) tag
 

@@ -9,7 +9,7 @@ ghost use Rattle.grow_core.specs.Token.{place_in};
 ghost use Rattle.grow_core.specs.Vector.{IsHandOf, IsOpenedAt, IsLaid, IsPlacedOf, SeesMore, base_of, layout_of};
 ghost use Rattle.grow_core.specs.Mend.{IsMendDue, IsUnmendedAt, IsTakenAt, IsSeen, SaysFilled, TellsValue};
 ghost use Rattle.grow_core.specs.Logs.{LogsNothing, LogsMend, LogsMendRefusal, IsFinishedIn};
-ghost use Rattle.grow_core.specs.Steps.{Learns};
+ghost use Rattle.grow_core.specs.Steps.{FindsMore};
 
 use crate::blocks::cell_of;
 use crate::errors::MendError;
@@ -101,7 +101,7 @@ impl<T> Shared<T> {
         ensures mended { IfOk result (λ placed. IsMended placed.cell) }
         ensures refused { IfErr result (λ (error, _). IsUnmendedAt self.now place error) }
         ensures value_back { IfErr result (λ (_, back). back ≡ value) }
-        ensures learns { Learns hand.old hand.new }
+        ensures finds { FindsMore hand.old hand.new }
         ensures mends { LogsMend self.now place hand.old hand.new result }
     {
         let Some((block, key)) = self.scout_tied(&mut hand.claims, segment, place) else {

@@ -1,7 +1,7 @@
 //! How an owner's list is opened: it becomes a vector that many callers share.
 ghost use Rattle.std.specs.Prelude.{◌≡◌, ℕ, ◌<◌, ◌≤◌, length, slice_index, IfOk, IfErr, None};
 ghost use Rattle.seg_core.specs.Segment.{IsLayout, most_segments, segment_count};
-ghost use Rattle.tie_core.specs.Desk.{IsTieOf};
+ghost use Rattle.claim_core.specs.Gain.{IsTiedTo};
 ghost use Rattle.claim_core.specs.Hand.{IsHandOf, IsNewHand, IsWholeHand};
 ghost use Rattle.grow_core.specs.Keys.{key_at, mark_of};
 ghost use Rattle.grow_core.specs.Parts.{capacity_of, values_in, filled_in};
@@ -14,7 +14,7 @@ use crate::parts::Parts;
 use crate::ties::SegmentTable;
 use crate::vector::Shared;
 use cell_core::block::Row;
-use claim_core::{CellTag, EntryTags, Hand as ClaimHand, Mark, Marks, OpenError, Word};
+use claim_core::{CellTag, Hand as ClaimHand, Mark, Marks, OpenError, RowTags, Word};
 use std::alloc::Global;
 
 // A vector's word is marked with the layout and the names of its segments.
@@ -47,13 +47,13 @@ fn tie_entries<T>(
     keys: &mut Keys,
     cells: &CellTag,
     count: u32,
-) -> EntryTags
+) -> RowTags
     requires ours { IsHandOf word.now claims.old }
     requires whole { IsWholeHand claims.old }
     requires unlaid { claims.old.laid ≡ 0 }
     requires layout { IsLayout table.old.layout }
     requires within { count ≤ segment_count table.old.layout }
-    requires cells { IsTieOf word.now.table word.now.floor cells.now.tie }
+    requires cells { IsTiedTo word.now cells.now.tie }
     ensures new { IsNewHand word.now claims.old → IsNewHand word.now claims.new }
     ensures layout { table.new.layout ≡ table.old.layout }
     ensures tied { AreTiedFrom word.now table.new cells.now.tie result count }
@@ -68,7 +68,7 @@ fn tie_entries<T>(
     let layout = table.layout();
     // For the proof: its f is that of a layout.
     let _f = layout.f();
-    let mut tags = EntryTags::new();
+    let mut tags = RowTags::new();
     for segment in count..layout.segments() {
         let (seat, tag) = word.enter(claims, layout.first(segment), layout.len(segment));
         table.tie(segment, seat, cells);

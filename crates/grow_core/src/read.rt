@@ -9,7 +9,7 @@ ghost use Rattle.grow_core.specs.Vector.{IsHandOf, IsLaid, IsPlacedOf, IsOpenedA
 ghost use Rattle.grow_core.specs.Read.{IsAt, IsShownAt, ShowsValue, IsDueAt, IsInRange};
 ghost use Rattle.grow_core.specs.Logs.{LogsNothing, LogsAtRefusal, LogsRead, IsFinishedIn};
 ghost use Rattle.grow_core.specs.Shown.{LogsShown};
-ghost use Rattle.grow_core.specs.Steps.{Learns};
+ghost use Rattle.grow_core.specs.Steps.{FindsMore};
 
 use crate::blocks::{cell_of, find_cell};
 use crate::errors::AtError;
@@ -101,7 +101,7 @@ impl<T> Shared<T> {
         requires seen { place < seen_size hand.old }
         ensures shown { IsShownAt self.now place result }
         ensures opened { (x : T) → IsOpenedAt self.now place x → ShowsValue x result }
-        ensures learns { Learns hand.old hand.new }
+        ensures finds { FindsMore hand.old hand.new }
         ensures logs { LogsShown self.now place hand.old hand.new result }
     {
         // For the proof: the opened list lies in segments that it brought, and the size is within the limit.
@@ -137,7 +137,7 @@ impl<T> Shared<T> {
         }
     }
 
-    /// Looks once at what the place shows now, without a hand. A place that nobody claimed, or past the
+    /// LooksAt once at what the place shows now, without a hand. A place that nobody claimed, or past the
     /// limit, shows nothing yet.
     #[inline(always)]
     pub fn look(&self, place: u64) -> Shown<'_, T>
@@ -188,7 +188,7 @@ impl<T> Shared<T> {
         found
     }
 
-    // Looks at a place below the length of the opened list. It is a function of its own, so that only calls that come
+    // LooksAt at a place below the length of the opened list. It is a function of its own, so that only calls that come
     // here clear the room for the result of `look_below`.
     #[inline(always)]
     fn look_opened(&self, place: u64) -> Shown<'_, T>

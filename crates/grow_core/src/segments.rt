@@ -1,15 +1,16 @@
 // How a hand finds the segments of its places, or installs them. Where an entry is tied, its look and its exchange run a
 // visit of the hand's seat, by which the hand learns where the places of the segment stand.
-ghost use Rattle.std.specs.Prelude.{◌≡◌, ◌≤◌, ◌<◌, ◌+◌, IfOk, IfSome, IfNone, IsSome, IsTrue, IsFalse};
+ghost use Rattle.std.specs.Prelude.{◌≡◌, ◌≤◌, ◌<◌, ◌+◌, [], ◌∷◌, IfOk, IfSome, IfNone, IsSome, IsTrue, IsFalse};
 ghost use Rattle.seg_core.specs.Segment.{HasPlace, most_places, most_segments, segment_count, segment_start};
 ghost use Rattle.claim_core.specs.Hand.{seen_size};
-ghost use Rattle.claim_core.specs.Offers.{IsSeatOf};
-ghost use Rattle.cell_core.specs.Mould.{last_seat};
+ghost use Rattle.claim_core.specs.Plays.{block_view};
+ghost use Rattle.cell_core.specs.Block.{block_len};
+ghost use Rattle.cell_core.specs.Mould.{first_seat, last_seat};
 ghost use Rattle.cell_core.specs.Slot.{ArePlain};
 ghost use Rattle.table_core.specs.Table.{IsKeyOf, IsTiedBlockOf};
 ghost use Rattle.grow_core.specs.Keys.{AreKeys, HasKeysOfRun, IsKeyAt, KeepsKeys, key_at, mark_of};
 ghost use Rattle.grow_core.specs.Logs.{pending_look, step_of};
-ghost use Rattle.grow_core.specs.Steps.{Learns, Looks};
+ghost use Rattle.grow_core.specs.Steps.{FindsMore, LooksAt};
 ghost use Rattle.grow_core.specs.Ties.{IsTagFor, KnowsRow, KnowsRows};
 ghost use Rattle.grow_core.specs.Vector.{IsHandOf, IsLaid, layout_of, limit_of};
 
@@ -17,8 +18,9 @@ use crate::keys::{Keys, key_of, put_key};
 use crate::ties::CellBlock;
 use crate::vector::Shared;
 use cell_core::block::Block;
-use claim_core::{BlockSeat, EntryTag, Hand as ClaimHand};
-use std::alloc::AllocError;
+use claim_core::{BlockSeat, Hand as ClaimHand, RowTag};
+use std::alloc::{AllocError, Global};
+use std::marker::Brand;
 use table_core::Key;
 
 impl<T> Shared<T> {
@@ -34,7 +36,7 @@ impl<T> Shared<T> {
 
     // The tag of the entry of such a segment. It has no bytes.
     #[inline(always)]
-    fn entry_tag(&self, segment: u32) -> EntryTag
+    fn entry_tag(&self, segment: u32) -> RowTag
         requires within { segment < segment_count (layout_of self.now) }
         requires laid { IsLaid self.now (segment_start (layout_of self.now) segment) }
         ensures { IsTagFor self.now.word self.now.segments segment result }
@@ -74,14 +76,14 @@ impl<T> Shared<T> {
         ensures block { IfSome result (λ (block, _). IsTiedBlockOf self.now.segments segment block.now) }
         ensures key { IfSome result (λ (block, key). IsKeyOf self.now.segments segment block.now key) }
         ensures row { IfSome result (λ (block, _). KnowsRow claims.new segment block.now) }
-        ensures learns { Learns claims.old claims.new }
-        ensures logs { IfNone result (Looks claims.old claims.new (step_of (pending_look place))) }
+        ensures finds { FindsMore claims.old claims.new }
+        ensures logs { IfNone result (LooksAt claims.old claims.new (step_of (pending_look place))) }
     {
         // For the proof: the opened list lies in the segments that it had.
         self.laws();
-        let visit = self.word.visit_look(claims, &self.entry_tag(segment), place);
+        let visit = claims.visit_look::<Brand, Global>(&self.word, &self.entry_tag(segment), place);
         let (found, visit) = self.table.scout_key_for(segment, visit);
-        self.word.back_visit_look(claims, visit);
+        claims.take_back_visit(visit);
         found
     }
 }
@@ -92,11 +94,13 @@ impl<T: Drop> Shared<T> {
         requires within { segment < segment_count (layout_of self.now) }
         requires laid { IsLaid self.now (segment_start (layout_of self.now) segment) }
         ensures block { IfOk result (λ (block, _). IsTiedBlockOf self.now.segments segment block.value) }
-        ensures seat { IfOk result (λ (block, seat). IsSeatOf self.now.word seat
-            × (seat.id ≡ last_seat block.value.cells)) }
+        ensures seat { IfOk result (λ (block, seat). (seat.table_id ≡ self.now.word.table)
+            × (seat.id ≡ last_seat block.value.cells)
+            × (seat.views ≡ block_view (first_seat block.value.cells) (block_len block.value) ∷ [])) }
     {
         let n = self.table.layout().len(segment);
-        let (seats, tag, seat) = self.word.lay(n);
+        let mut seat = BlockSeat::blank();
+        let (seats, tag) = self.word.lay(&mut seat, n);
         // For the proof: all ties of one desk have the same codes.
         tag.agrees(&self.cells);
         let block = Block::new_for(self.alloc, n, seats)?;
@@ -112,19 +116,19 @@ impl<T: Drop> Shared<T> {
         requires laid { IsLaid self.now (segment_start (layout_of self.now) segment) }
         ensures key { IfOk result (IsKeyAt (mark_of self.now.segments) segment) }
         ensures row { IfOk result (λ key. KnowsRow claims.new segment key.block) }
-        ensures learns { Learns claims.old claims.new }
+        ensures finds { FindsMore claims.old claims.new }
     {
         let tag = self.entry_tag(segment);
-        let visit = self.word.visit_scout(claims, &tag);
+        let visit = claims.visit_scout::<Brand, Global>(&self.word, &tag);
         let (found, visit) = self.table.scout_key_for(segment, visit);
-        self.word.back_scout(claims, visit);
+        claims.take_back_visit(visit);
         if let Some((_, key)) = found {
             return Ok(key);
         }
-        let (block, seat) = self.make_block(segment)?;
-        let visit = self.word.visit_publish(claims, seat, &tag);
+        let (block, mut seat) = self.make_block(segment)?;
+        let visit = claims.visit_publish::<Brand, Global>(&self.word, &tag, &mut seat);
         let (_, key, visit) = self.table.install_key_for(segment, block, visit);
-        self.word.back_publish(claims, visit);
+        claims.take_back_visit(visit);
         Ok(key)
     }
 
@@ -146,7 +150,7 @@ impl<T: Drop> Shared<T> {
         ensures put { IfOk result (λ _. IsSome (key_at keys.new segment)) }
         ensures key { IfOk result (IsKeyAt (mark_of self.now.segments) segment) }
         ensures row { IfOk result (λ key. KnowsRow claims.new segment key.block) }
-        ensures learns { Learns claims.old claims.new }
+        ensures finds { FindsMore claims.old claims.new }
     {
         match key_of(keys, segment) {
             Some(key) => Ok(key),
@@ -172,7 +176,7 @@ impl<T: Drop> Shared<T> {
         ensures put { IfOk result (λ _. IsSome (key_at keys.new segment)) }
         ensures key { IfOk result (IsKeyAt (mark_of self.now.segments) segment) }
         ensures row { IfOk result (λ key. KnowsRow claims.new segment key.block) }
-        ensures learns { Learns claims.old claims.new }
+        ensures finds { FindsMore claims.old claims.new }
     {
         let key = if self.is_laid(segment) {
             self.install_tied(claims, segment)?
@@ -200,7 +204,7 @@ impl<T: Drop> Shared<T> {
         ensures rows { KnowsRows claims.new keys.new }
         ensures kept { KeepsKeys keys.old keys.new }
         ensures run { IfOk result (λ _. HasKeysOfRun (layout_of self.now) keys.new from n) }
-        ensures learns { Learns claims.old claims.new }
+        ensures finds { FindsMore claims.old claims.new }
     {
         let layout = self.table.layout();
         // For the proof: its f is that of a layout.
@@ -221,10 +225,11 @@ impl<T: Drop> Shared<T> {
         if !self.is_laid(segment) || self.table.scout(segment).is_some() {
             return Ok(());
         }
-        let (block, seat) = self.make_block(segment)?;
-        let visit = self.word.visit_publish_unseen(claims, seat, &self.entry_tag(segment));
+        let (block, mut seat) = self.make_block(segment)?;
+        let tag = self.entry_tag(segment);
+        let visit = claims.visit_publish_unseen::<Brand, Global>(&self.word, &tag, &mut seat);
         let (_, visit) = self.table.install_for(segment, block, visit);
-        self.word.back_publish_unseen(claims, visit);
+        claims.take_back_unseen(visit);
         Ok(())
     }
 

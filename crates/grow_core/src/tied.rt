@@ -2,8 +2,8 @@
 // in its one atomic step, which logs its event in that step.
 ghost use Rattle.std.specs.Prelude.{◌≡◌, ◌+◌, ◌-◌, ◌%◌, ◌<◌, ◌≤◌, [], IfOk, IfErr, Some, length};
 ghost use Rattle.std.specs.Vec.Iter.{into_iter_len};
-ghost use Rattle.tie_core.specs.Desk.{IsTieOf};
 ghost use Rattle.claim_core.specs.Hand.{OwnsPlace, seen_size};
+ghost use Rattle.claim_core.specs.Gain.{IsTiedTo};
 ghost use Rattle.claim_core.specs.History.{break_event, fill_event, mender_of};
 ghost use Rattle.claim_core.specs.Ties.{Finds, IsInRow};
 ghost use Rattle.cell_core.specs.Block.{IsPenAt, IsFresh, IsMending, IsPlacedAt, IsSpoiltAt, cell_at};
@@ -14,7 +14,7 @@ ghost use Rattle.grow_core.specs.Keys.{OwnsPlacesOf};
 ghost use Rattle.grow_core.specs.Logs.{fill_steps, step_of};
 ghost use Rattle.grow_core.specs.Segment.{IsSegmentOf, KnowsSegment};
 ghost use Rattle.grow_core.specs.Shown.{look_steps, try_steps};
-ghost use Rattle.grow_core.specs.Steps.{AreFresh, Looks, Works, WorksAlong, WorksAt};
+ghost use Rattle.grow_core.specs.Steps.{AreFresh, LooksAt, Works, WorksAlong, WorksAt};
 ghost use Rattle.grow_core.specs.Stretch.{IsCounted, Takes};
 ghost use Rattle.grow_core.specs.Ties.{IsCellOf, KnowsRow, row_at};
 ghost use Rattle.grow_core.specs.Vector.{IsHandOf, IsLaid, layout_of, limit_of};
@@ -35,7 +35,7 @@ impl<T> Shared<T> {
         requires laid { IsLaid self.now place }
         requires cell { IsCellOf self.now.segments self.now.laid key.now block.now place offset }
         ensures tie { (cell_at block.now offset).tied ≡ Some result.tie }
-        ensures of { IsTieOf self.now.word.table self.now.word.floor result.tie }
+        ensures of { IsTiedTo self.now.word result.tie }
         ensures row { IsInRow (row_at (layout_of self.now) key.now.segment block.now) place
             result.tie.id }
     {
@@ -46,7 +46,7 @@ impl<T> Shared<T> {
         self.cells.numbered(block).further(offset)
     }
 
-    // Looks at a place, by one load.
+    // LooksAt at a place, by one load.
     #[inline(always)]
     pub(crate) fn look_tied<'a>(
         &'a self,
@@ -62,12 +62,12 @@ impl<T> Shared<T> {
         requires cell { IsCellOf self.now.segments self.now.laid key.now block.now place offset }
         requires row { KnowsRow claims.old key.now.segment block.now }
         ensures look { IsLookAt block.now offset result }
-        ensures logs { Looks claims.old claims.new (look_steps place result) }
+        ensures logs { LooksAt claims.old claims.new (look_steps place result) }
     {
         let tag = self.cell_tag(block, key, place, offset);
-        let offer = self.word.offer_look(claims, &tag, place);
+        let offer = claims.offer_look(&self.word, &tag, place);
         let (look, offer) = block.look_for(offset, offer);
-        self.word.back_look(claims, offer);
+        claims.take_back(offer);
         look
     }
 
@@ -86,15 +86,15 @@ impl<T> Shared<T> {
         requires fresh { AreFresh claims.old place 1 }
         requires within { offset < length block.now.cells }
         requires tie { (cell_at block.now offset).tied ≡ Some tag.now.tie }
-        requires of { IsTieOf self.now.word.table self.now.word.floor tag.now.tie }
+        requires of { IsTiedTo self.now.word tag.now.tie }
         requires row { Finds claims.old.rows place tag.now.tie.id }
         ensures pen { IsPenAt block.now offset result }
         ensures fresh { IsFresh result }
         ensures works { Works self.now claims.old claims.new place 1 [] }
     {
-        let offer = self.word.offer_begin(claims, tag, place);
+        let offer = claims.offer_begin(&self.word, tag, place);
         let (pen, offer) = block.begin_for(offset, offer);
-        self.word.back_begin(claims, offer);
+        claims.take_back(offer);
         pen
     }
 
@@ -121,9 +121,9 @@ impl<T> Shared<T> {
     {
         let tag = self.cell_tag(block, key, place, offset);
         let pen = self.begin_tied(claims, &tag, block, place, offset);
-        let offer = self.word.offer_fill(claims, &tag, place);
+        let offer = claims.offer_fill(&self.word, &tag, place);
         let (placed, offer) = pen.fill_for(value, offer);
-        self.word.back_fill(claims, offer);
+        claims.take_back(offer);
         placed
     }
 
@@ -147,9 +147,9 @@ impl<T> Shared<T> {
     {
         let tag = self.cell_tag(block, key, place, offset);
         let pen = self.begin_tied(claims, &tag, block, place, offset);
-        let offer = self.word.offer_break(claims, &tag, place);
+        let offer = claims.offer_spoil(&self.word, &tag, place);
         let (spoilt, offer) = pen.spoil_for(offer);
-        self.word.back_break(claims, offer);
+        claims.take_back(offer);
         spoilt
     }
 
@@ -170,12 +170,12 @@ impl<T> Shared<T> {
         ensures pen { IfOk result (IsPenAt block.now offset) }
         ensures broken { IfOk result IsMending }
         ensures found { IfErr result (IsFoundIn block.now offset) }
-        ensures logs { Looks claims.old claims.new (try_steps (limit_of self.now) place result) }
+        ensures logs { LooksAt claims.old claims.new (try_steps (limit_of self.now) place result) }
     {
         let tag = self.cell_tag(block, key, place, offset);
-        let offer = self.word.offer_mend(claims, &tag, place);
+        let offer = claims.offer_mend(&self.word, &tag, place);
         let (taken, offer) = block.mend_for(offset, offer);
-        self.word.back_mend(claims, offer);
+        claims.take_back(offer);
         taken
     }
 
@@ -199,13 +199,13 @@ impl<T> Shared<T> {
         ensures placed { IsPlacedAt block.now offset result }
         ensures value { result.value ≡ value }
         ensures found { result.found ≡ pen.entry.found }
-        ensures logs { Looks claims.old claims.new
+        ensures logs { LooksAt claims.old claims.new
             (step_of (fill_event (mender_of (limit_of self.now) place) place)) }
     {
         let tag = self.cell_tag(block, key, place, offset);
-        let offer = self.word.offer_fill_mended(claims, &tag, place);
+        let offer = claims.offer_fill_mended(&self.word, &tag, place);
         let (placed, offer) = pen.fill_for(value, offer);
-        self.word.back_fill_mended(claims, offer);
+        claims.take_back(offer);
         placed
     }
 }
@@ -235,9 +235,9 @@ impl<T: Drop> Shared<T> {
     {
         let offset = place - segment.from;
         let tag = self.cell_tag(segment.block, &segment.key, place, offset);
-        let offer = self.word.offer_begin_run(claims, &tag, place, n);
+        let offer = claims.offer_begin_run(&self.word, &tag, place, n);
         let (pen, offer) = segment.block.begin_run_for(offset, n, offer);
-        self.word.back_begin_run(claims, offer);
+        claims.take_back_run(offer);
         pen
     }
 
@@ -264,9 +264,9 @@ impl<T: Drop> Shared<T> {
         ensures works { WorksAlong self.now claims.old claims.new place n (λ index. fill_steps index place n) }
     {
         let tag = self.cell_tag(segment.block, &segment.key, place, place - segment.from);
-        let offer = self.word.offer_fill_run(claims, &tag, place, n);
+        let offer = claims.offer_fill_run(&self.word, &tag, place, n);
         let (row, offer) = pen.publish_for(offer);
-        self.word.back_fill_run(claims, offer);
+        claims.take_back_run(offer);
         row
     }
 

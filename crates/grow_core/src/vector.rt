@@ -9,7 +9,7 @@ use crate::hand::Hand;
 use crate::keys::Keys;
 use crate::ties::SegmentTable;
 use cell_core::block::{EndedEpoch, Row};
-use claim_core::{CellTag, EntryTags, Word, laws};
+use claim_core::{CellTag, RowTags, Word, laws};
 use seg_core::Layout;
 use std::alloc::Global;
 use std::fmt;
@@ -30,7 +30,7 @@ pub struct Shared<T> {
     pub(crate) alloc: Global,
     // How the cells of the later segments are tied, and their entries, in order. Neither has bytes.
     pub(crate) cells: CellTag,
-    pub(crate) tags: EntryTags,
+    pub(crate) tags: RowTags,
 }
 
 impl<T> Model for Shared<T> {

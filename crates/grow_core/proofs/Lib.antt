@@ -2,6 +2,7 @@ pub mod Later
 pub mod Logs
 pub mod Adds
 pub mod Works
+pub mod TiedSteps
 pub mod Places
 pub mod OpenedValues
 pub mod Filling

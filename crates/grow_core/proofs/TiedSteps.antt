@@ -1,0 +1,152 @@
+-- What a hand gains by a step on a tied cell, as the events of what the step returned.
+use Rattle.std.proofs.Common.{◌≡◌, ◌≢◌, ◌⊎◌, ℕ, ◌+◌, ◌<◌, ◌≤◌, List, [], ◌∷◌, ◌++◌, Result, Ok, Err, refl, sym, ap, ◌∙◌, subst, inl, inr, ⊎_elim, arith}
+use Rattle.std.specs.Prelude.{Option, Some, None}
+use Rattle.std.specs.List.{Contains}
+use Rattle.std.proofs.lemmas.List.{append-nil}
+use mathlib.Core.List.{IsPrefix}
+use Rattle.tie_core.specs.Tie.{Stage, Idle, Begun, Mending, Filled, Broken, Made, Shows, HasMade, looks}
+use Rattle.cell_core.specs.declared.block.shown.Look.{Look}
+use Rattle.cell_core.specs.declared.block.shown.Look.TheVariants as look
+use Rattle.cell_core.specs.Shown.{IsLookOf}
+use Rattle.claim_core.specs.declared.role.RowAt.{RowAt}
+use Rattle.claim_core.specs.declared.seat_view.SeatView.{SeatView}
+use Rattle.claim_core.specs.Lengths.{InRun}
+use Rattle.claim_core.specs.Word.{WordView}
+use Rattle.claim_core.specs.Hand.{HandView}
+use Rattle.claim_core.specs.History.{Log, Adds, fill_event, break_event, mender_of}
+use Rattle.claim_core.specs.Gain.{Gain, Gains, GainsBy, an_event, a_begin}
+use Rattle.claim_core.specs.Laws.{RunsAreApart}
+use Rattle.claim_core.specs.Lent.{seat_hand}
+use Rattle.claim_core.specs.Plays.{cell_stage, look_gains, begin_gains, fill_gains, spoil_gains}
+use Rattle.claim_core.specs.SeatSteps.{look_event}
+use Rattle.grow_core.specs.Logs.{step_of}
+use Rattle.grow_core.specs.Shown.{look_steps}
+use Rattle.grow_core.specs.Vector.{VectorView}
+use Rattle.grow_core.specs.Steps.{KeepsHand, Works, FindsMore, LooksAt, OwnsPlaceAt}
+use Rattle.grow_core.proofs.Logs.{log_goes_on, nothing_after}
+use Rattle.grow_core.proofs.Adds.{one_step, prefix_same, steps_join}
+
+-- ---- What a look shows
+
+-- the event of a look is that of what it returned
+look_by_stage : {T : Type 0} (place : ℕ) (s : Stage) (shown : Look T) (n : ℕ) → Shows s n → IsLookOf n shown
+    → step_of (look_event place (cell_stage s)) ≡ look_steps place shown
+look_by_stage place Idle look.Empty n shows is = refl
+look_by_stage place Idle look.Busy n shows is = absurd (omega (arith, shows, is))
+look_by_stage place Idle (look.Filled value placed) n shows is = absurd (omega (arith, shows, is))
+look_by_stage place Idle (look.Broken spoilt) n shows is = absurd (omega (arith, shows, is.0))
+look_by_stage place Begun look.Empty n shows is = refl
+look_by_stage place Begun look.Busy n shows is = absurd (omega (arith, shows, is))
+look_by_stage place Begun (look.Filled value placed) n shows is = absurd (omega (arith, shows, is))
+look_by_stage place Begun (look.Broken spoilt) n shows is = absurd (omega (arith, shows, is.0))
+look_by_stage place Mending look.Empty n shows is = absurd (omega (arith, shows, is))
+look_by_stage place Mending look.Busy n shows is = refl
+look_by_stage place Mending (look.Filled value placed) n shows is = absurd (omega (arith, shows, is))
+look_by_stage place Mending (look.Broken spoilt) n shows is = absurd (omega (arith, shows, is.0))
+look_by_stage place Filled look.Empty n shows is = absurd (omega (arith, shows, is))
+look_by_stage place Filled look.Busy n shows is = absurd (omega (arith, shows, is))
+look_by_stage place Filled (look.Filled value placed) n shows is = refl
+look_by_stage place Filled (look.Broken spoilt) n shows is = absurd (is.1 shows)
+look_by_stage place Broken look.Empty n shows is = absurd (omega (arith, shows, is))
+look_by_stage place Broken look.Busy n shows is = absurd (omega (arith, shows, is))
+look_by_stage place Broken (look.Filled value placed) n shows is = absurd (omega (arith, shows, is))
+look_by_stage place Broken (look.Broken spoilt) n shows is = refl
+
+-- ---- A hand that has gained something
+
+-- it has seen the same, and owns the same
+pub gains_keep : (gain : Gain) (old new : HandView) → Gains gain old new → KeepsHand old new
+gains_keep gain old new g =
+    record { own = record { of = g.of; mine = g.mine; shares = g.shares }; seen = g.seen }
+
+-- rows that it knew it knows
+later_row : (front rows : List RowAt) (row : RowAt) → Contains rows row → Contains (front ++ rows) row
+later_row [] rows row it = it
+later_row (r ∷ front) rows row it = inr (later_row front rows row it)
+
+pub gains_rows : (gain : Gain) (old new : HandView) → Gains gain old new → (row : RowAt) → Contains old.rows row → Contains new.rows row
+gains_rows gain old new g row it =
+    subst (λ (l : List RowAt). Contains l row) (sym g.rows) (later_row gain.rows old.rows row it)
+
+-- it has looked
+pub looked : {T : Type 0} (place : ℕ) (v : SeatView) (made : Option Made) (shown : Look T) (n : ℕ) (old new : HandView)
+    → HasMade looks n made → IsLookOf n shown → GainsBy (look_gains place v) made old new → LooksAt old new (look_steps place shown)
+looked place v None shown n old new has is gains = absurd has
+looked place v (Some m) shown n old new has is gains =
+    let event = look_event place (cell_stage m.0) in
+    let g : Gains (an_event event) old new = subst (λ (gain : Gain). Gains gain old new) gains.1 gains.2 in record {
+      finds = record {
+        keeps = gains_keep (an_event event) old new g;
+        rows = gains_rows (an_event event) old new g;
+        begun = g.begun;
+        more = log_goes_on old.log (event ∷ []) new.log g.log;
+      };
+      adds = subst (λ (steps : List Log). Adds old.log steps new.log) (look_by_stage place m.0 shown n has.0.0 is)
+          (one_step old.log new.log (event ∷ []) g.log);
+    }
+
+-- ---- A hand that begins a place of its own, and fills or breaks it
+
+module _ {T : Type 0} (vector : VectorView T) (place : ℕ) where
+  pub begun_at : (v : SeatView) (m : Made) (old new : HandView) → GainsBy (begin_gains place v) (Some m) old new
+      → Works vector old new place 1 []
+  begun_at v m old new gains =
+      let g : Gains (a_begin place) old new = subst (λ (gain : Gain). Gains gain old new) gains.1 gains.2 in
+      let more : IsPrefix old.log new.log = log_goes_on old.log [] new.log g.log in record {
+        keeps = gains_keep (a_begin place) old new g;
+        rows = g.rows;
+        begun = λ q it.
+            ⊎_elim (λ (same : place ≡ q). inl (omega (arith, same), omega (arith, same))) (λ (was : Contains old.begun q). inr was)
+            (subst (λ (l : List ℕ). Contains l q) g.begun it);
+        more = more;
+        adds = λ laid. more;
+      }
+
+  -- a step with one event, which begins nothing
+  works_with : (event : _) (old new : HandView) → Gains (an_event event) old new → Works vector old new place 1 (step_of event)
+  works_with event old new g = record {
+    keeps = gains_keep (an_event event) old new g;
+    rows = g.rows;
+    begun = λ q it. inr (subst (λ (l : List ℕ). Contains l q) g.begun it);
+    more = log_goes_on old.log (event ∷ []) new.log g.log;
+    adds = λ laid. one_step old.log new.log (event ∷ []) g.log;
+  }
+
+  -- the hand's seat, as the hand
+  seat_sees : (floor : ℕ) (table : _) (v : SeatView) (hand : HandView) → seat_hand floor table v ≡ hand → (index : ℕ)
+      → InRun v.base v.seen index place → InRun hand.of.base hand.seen index place
+  seat_sees floor table v hand is index it = subst (λ (h : HandView). InRun h.of.base h.seen index place) is it
+
+  module _ (law : RunsAreApart) (floor : ℕ) (table : _) (v : SeatView) (old new : HandView) (is : seat_hand floor table v ≡ old) where
+    -- a begun place is filled by the actor whose index its run has
+    pub filled_at : GainsBy (fill_gains place v) (Some (Begun, Filled)) old new → (index : ℕ) → OwnsPlaceAt old index place
+        → Works vector old new place 1 (step_of (fill_event index place))
+    filled_at gains index owns =
+        let told = gains.1 in
+        let same : told.0 ≡ index = law old.of.base old.seen told.0 index place (seat_sees floor table v old is told.0 told.1) owns.in_run in
+        works_with (fill_event index place) old new
+        (subst (λ (k : ℕ). Gains (an_event (fill_event k place)) old new) same (subst (λ (gain : Gain). Gains gain old new) told.2 gains.2))
+
+    -- or broken
+    pub broken_at : GainsBy (spoil_gains place v) (Some (Begun, Broken)) old new → (index : ℕ) → OwnsPlaceAt old index place
+        → Works vector old new place 1 (step_of (break_event index place))
+    broken_at gains index owns =
+        let told = gains.1 in
+        let same : told.0 ≡ index = law old.of.base old.seen told.0 index place (seat_sees floor table v old is told.0 told.1) owns.in_run in
+        works_with (break_event index place) old new
+        (subst (λ (k : ℕ). Gains (an_event (break_event k place)) old new) same (subst (λ (gain : Gain). Gains gain old new) told.2 gains.2))
+
+-- the hand works on the same places twice
+pub works_twice : {T : Type 0} (vector : VectorView T) (a b c : HandView) (from n : ℕ) (xs ys : List Log) → Works vector a b from n xs
+    → Works vector b c from n ys → Works vector a c from n (xs ++ ys)
+works_twice vector a b c from n xs ys p q = record {
+  keeps = record {
+    own = record { of = q.keeps.own.of ∙ p.keeps.own.of; mine = q.keeps.own.mine ∙ p.keeps.own.mine; shares = q.keeps.own.shares ∙ p.keeps.own.shares };
+    seen = q.keeps.seen ∙ p.keeps.seen;
+  };
+  rows = q.rows ∙ p.rows;
+  begun = λ place it.
+      ⊎_elim (λ (here : (from ≤ place) × (place < from + n)). inl here) (λ (before : Contains b.begun place). p.begun place before) (q.begun place it);
+  more = nothing_after a.log b.log c.log p.more q.more;
+  adds = λ laid. steps_join a.log b.log c.log xs ys (p.adds laid) (q.adds laid);
+}

@@ -1,8 +1,8 @@
 -- What a hand gains by a step on a tied cell, as the events of what the step returned.
-use Rattle.std.proofs.Common.{◌≡◌, ◌≢◌, ◌⊎◌, ℕ, ◌+◌, ◌<◌, ◌≤◌, List, [], ◌∷◌, ◌++◌, Result, Ok, Err, refl, sym, ap, ◌∙◌, subst, inl, inr, ⊎_elim, arith}
+use Rattle.std.proofs.Common.{◌≡◌, ◌≢◌, ◌⊎◌, ℕ, zero, suc, ◌+◌, ◌<◌, ◌≤◌, List, [], ◌∷◌, ◌++◌, Result, Ok, Err, refl, sym, ap, ◌∙◌, subst, inl, inr, ⊎_elim, arith}
 use Rattle.std.specs.Prelude.{Option, Some, None}
 use Rattle.std.specs.List.{Contains}
-use Rattle.std.proofs.lemmas.List.{append-nil}
+use Rattle.std.proofs.lemmas.List.Elements.{Contains-append_right, Contains-append_cases}
 use mathlib.Core.List.{IsPrefix}
 use Rattle.tie_core.specs.Tie.{Stage, Idle, Begun, Mending, Filled, Broken, Made, Shows, HasMade, looks}
 use Rattle.cell_core.specs.declared.block.shown.Look.{Look}
@@ -59,14 +59,9 @@ pub gains_keep : (gain : Gain) (old new : HandView) → Gains gain old new → K
 gains_keep gain old new g =
     record { own = record { of = g.of; mine = g.mine; shares = g.shares }; seen = g.seen }
 
--- rows that it knew it knows
-later_row : (front rows : List RowAt) (row : RowAt) → Contains rows row → Contains (front ++ rows) row
-later_row [] rows row it = it
-later_row (r ∷ front) rows row it = inr (later_row front rows row it)
-
 pub gains_rows : (gain : Gain) (old new : HandView) → Gains gain old new → (row : RowAt) → Contains old.rows row → Contains new.rows row
 gains_rows gain old new g row it =
-    subst (λ (l : List RowAt). Contains l row) (sym g.rows) (later_row gain.rows old.rows row it)
+    subst (λ (l : List RowAt). Contains l row) (sym g.rows) (Contains-append_right gain.rows old.rows row it)
 
 -- it has looked
 pub looked : {T : Type 0} (place : ℕ) (v : SeatView) (made : Option Made) (shown : Look T) (n : ℕ) (old new : HandView)
@@ -85,6 +80,11 @@ looked place v (Some m) shown n old new has is gains =
           (one_step old.log new.log (event ∷ []) g.log);
     }
 
+-- a list of one number has no other
+alone_in : (x y : ℕ) → Contains (x ∷ []) y → x ≡ y
+alone_in x y (zero, less, is) = is
+alone_in x y (suc i, less, is) = absurd (omega (arith, less))
+
 -- ---- A hand that begins a place of its own, and fills or breaks it
 
 module _ {T : Type 0} (vector : VectorView T) (place : ℕ) where
@@ -96,8 +96,9 @@ module _ {T : Type 0} (vector : VectorView T) (place : ℕ) where
         keeps = gains_keep (a_begin place) old new g;
         rows = g.rows;
         begun = λ q it.
-            ⊎_elim (λ (same : place ≡ q). inl (omega (arith, same), omega (arith, same))) (λ (was : Contains old.begun q). inr was)
-            (subst (λ (l : List ℕ). Contains l q) g.begun it);
+            ⊎_elim (λ (first : Contains (place ∷ []) q). let same = alone_in place q first in inl (omega (arith, same), omega (arith, same)))
+            (λ (was : Contains old.begun q). inr was)
+            (Contains-append_cases (place ∷ []) old.begun q (subst (λ (l : List ℕ). Contains l q) g.begun it));
         more = more;
         adds = λ laid. more;
       }

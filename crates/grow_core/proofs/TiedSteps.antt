@@ -1,6 +1,6 @@
 -- What a hand gains by a step on a tied cell, as the events of what the step returned.
 use Rattle.std.proofs.Common.{◌≡◌, ◌≢◌, ◌⊎◌, ℕ, zero, suc, ◌+◌, ◌<◌, ◌≤◌, List, [], ◌∷◌, ◌++◌, Result, Ok, Err, refl, sym, ap, ◌∙◌, subst, inl, inr, ⊎_elim, arith}
-use Rattle.std.specs.Prelude.{Option, Some, None}
+use Rattle.std.specs.Prelude.{Option, Some, None, slice_index_or}
 use Rattle.std.specs.List.{Contains}
 use Rattle.std.proofs.lemmas.List.Elements.{Contains-append_right, Contains-append_cases}
 use mathlib.Core.List.{IsPrefix}
@@ -81,9 +81,12 @@ looked place v (Some m) shown n old new has is gains =
     }
 
 -- a list of one number has no other
+alone_at : (x y i : ℕ) → i < 1 → slice_index_or (x ∷ []) i y ≡ y → x ≡ y
+alone_at x y zero less is = is
+alone_at x y (suc i) less is = absurd (omega (arith, less))
+
 alone_in : (x y : ℕ) → Contains (x ∷ []) y → x ≡ y
-alone_in x y (zero, less, is) = is
-alone_in x y (suc i, less, is) = absurd (omega (arith, less))
+alone_in x y it = alone_at x y it.0 it.1 it.2
 
 -- ---- A hand that begins a place of its own, and fills or breaks it
 

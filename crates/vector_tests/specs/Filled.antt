@@ -3,12 +3,13 @@ use Rattle.std.specs.Prelude.{◌≡◌, ℕ, ◌<◌, List, [], ◌++◌, Resul
 use Rattle.book_core.specs.declared.cells.Cell.{Cell}
 use Rattle.book_core.specs.declared.cells.Cell.TheVariants as cells
 use Rattle.claim_core.specs.declared.run.Run.{Run}
-use Rattle.claim_core.specs.Hand.{IsPlaceOf}
-use Rattle.claim_core.specs.History.{Log, Adds, claim_event, full_event, memory_event, past_event, size_event}
+use Rattle.claim_core.specs.Hand.{HandView, IsPlaceOf, OwnsRun}
+use Rattle.claim_core.specs.History.{Log, Adds, claim_event, full_event, memory_event, past_event}
 use Rattle.grow_core.specs.declared.errors.GrowError.{GrowError}
 use Rattle.grow_core.specs.declared.errors.GrowError.TheVariants.{NoMemory, Full, Moved, Refused, Taken}
 use Rattle.grow_core.specs.declared.errors.AtError.{AtError}
 use Rattle.grow_core.specs.declared.errors.AtError.TheVariants as at
+use Rattle.grow_core.specs.Vector.{VectorView, IsLaid}
 use Rattle.grow_core.specs.Token.{PlacedView}
 use Rattle.grow_core.specs.Grown.{GrownView}
 use Rattle.grow_core.specs.Growth.{single}
@@ -33,6 +34,11 @@ IsStepOfRead place (Ok placed) steps = steps ≡ step_of (value_look place)
 IsStepOfRead place (Err (at.OutOfRange size)) steps = steps ≡ step_of (past_event place size)
 IsStepOfRead place (Err at.Pending) steps = steps ≡ step_of (pending_look place)
 IsStepOfRead place (Err (at.Broken spoilt)) steps = steps ≡ step_of (broken_look place)
+
+-- the same, of a hand: what the read returned is what it has added, if the place's segment was laid since the opening
+abbrev pub LogsFind : {T : Type 0} → VectorView T → ℕ → HandView → HandView → Result (PlacedView T) AtError → Type 0
+LogsFind vector place old new result =
+    IsLaid vector place → (steps : List Log) × IsStepOfRead place result steps × Adds old.log steps new.log
 
 -- a thread pushed, grew by n places, failed a construction of n places, and read the place that it had pushed at or the
 -- first one: the history has the results, in this order
@@ -64,3 +70,8 @@ IsListOf cells_of members = (place : ℕ) → place < length members → IsMembe
 abbrev pub IsBesidePlace : {T V E : Type 0} → ℕ → GrowError T V E → Type 0
 IsBesidePlace place (Refused run made cause) = IsPlaceOf run place → ⊥
 IsBesidePlace place refusal = Unit {0}
+
+-- the hand owns the run of a refused construction
+abbrev pub OwnsRefused : {T V E : Type 0} → HandView → GrowError T V E → Type 0
+OwnsRefused hand (Refused run made cause) = OwnsRun hand run
+OwnsRefused hand refusal = Unit {0}

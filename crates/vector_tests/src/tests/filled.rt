@@ -1,6 +1,6 @@
 // One legal history of three threads that push, grow, fail a construction and read; a token that a reader sends to another; and a
 // refused construction beside another's place. All by the public clauses alone.
-ghost use Rattle.std.specs.Prelude.{◌≡◌, ◌+◌, ◌<◌, ◌≤◌, IfSome, IfErr, IsSome, length};
+ghost use Rattle.std.specs.Prelude.{◌≡◌, ℕ, ◌+◌, IfSome, IsSome};
 ghost use Rattle.std.specs.Thread.{IsSync};
 ghost use Rattle.seg_core.specs.Segment.{IsLimit};
 ghost use Rattle.book_core.specs.Cells.{CellList};
@@ -10,10 +10,10 @@ ghost use Rattle.grow_core.specs.Hand.{OwnsRun};
 ghost use Rattle.grow_core.specs.Growth.{single};
 ghost use Rattle.grow_core.specs.Logs.{IsFinishedIn};
 ghost use Rattle.grow_core.specs.Vector.{IsHandOf, IsPlacedOf, base_of, limit_of};
-ghost use Rattle.vector_tests.specs.Filled.{IsBesidePlace, IsDoneIn, IsListOf};
+ghost use Rattle.vector_tests.specs.Filled.{IsBesidePlace, IsDoneIn, IsListOf, LogsFind, OwnsRefused};
 
 use super::callers::empty;
-use grow_core::{AtError, GrowError, Grown, Hand, Never, Placed, Shared, laws};
+use grow_core::{AtError, GrowError, Grown, Hand, Never, Parts, Placed, Shared, laws};
 use std::alloc::{AllocError, Global};
 use std::thread::{Threads, join};
 
@@ -118,7 +118,7 @@ fn work_by_three<R: Threads + Sync>(
     a: Hand<u64>,
     b: Hand<u64>,
     c: Hand<u64>,
-) -> (Vec<Option<u64>>, Answers, Answers, Answers)
+) -> (Parts<u64>, Answers, Answers, Answers)
     requires ours { IsHandOf vector a }
     requires also_ours { IsHandOf vector b }
     requires third_ours { IsHandOf vector c }
@@ -130,9 +130,34 @@ fn work_by_three<R: Threads + Sync>(
         × IsDoneIn a.log 2 result.1.place result.1.pushed result.1.grown result.1.failed result.1.read log
         × IsDoneIn b.log 2 result.2.place result.2.pushed result.2.grown result.2.failed result.2.read log
         × IsDoneIn c.log 2 result.3.place result.3.pushed result.3.grown result.3.failed result.3.read log
-        × IsListOf list.cells result.0.items }
+        × IsListOf list.cells result.0.members }
 {
-    TODO
+    let vector_ref = &vector;
+    let ((mut all, first), (other, second, third)) = join(
+        rt,
+        || -> (Hand<u64>, Answers)
+            requires { IsHandOf vector_ref.now a × (vector_ref.now.laid ≡ 0) }
+            ensures of { result.0.of ≡ vector_ref.entry.now.word }
+            ensures shares { result.0.shares ≡ a.shares }
+            ensures done { IsDoneIn a.log 2 result.1.place result.1.pushed result.1.grown
+                result.1.failed result.1.read result.0.log }
+        { work_in_turn(vector_ref, a, 4) },
+        || -> (Hand<u64>, Answers, Answers)
+            requires { IsSync R.row × IsHandOf vector_ref.now b × IsHandOf vector_ref.now c
+                × (vector_ref.now.laid ≡ 0) }
+            ensures of { result.0.of ≡ vector_ref.entry.now.word }
+            ensures shares { result.0.shares ≡ b.shares + c.shares }
+            ensures first { IsDoneIn b.log 2 result.1.place result.1.pushed result.1.grown
+                result.1.failed result.1.read result.0.log }
+            ensures second { IsDoneIn c.log 2 result.2.place result.2.pushed result.2.grown
+                result.2.failed result.2.read result.0.log }
+        { work_by_two(rt, vector_ref, b, c) },
+    );
+    vector.join(&mut all, other);
+    laws::steps_stay();
+    all.laws();
+    all.whole_laws();
+    (vector.into_parts(all), first, second, third)
 }
 
 // A reader that finds a place filled sends its token to another thread, which reads the same value there without a look.
@@ -184,6 +209,34 @@ fn find_after_meeting(
     Some((*vector.get(&token), *vector.get(&other)))
 }
 
+// Pushes a value, in whatever thread it is called. Its hand's history then has the fill of the place.
+fn push_one(vector: &Shared<u64>, mut hand: Hand<u64>, value: u64) -> (Hand<u64>, Option<Placed<u64>>)
+    requires ours { IsHandOf vector.now hand }
+    requires laid { vector.now.laid ≡ 0 }
+    ensures of { result.0.of ≡ vector.now.word }
+    ensures owned { IfSome result.1 (λ p. OwnsRun result.0 (single p.place)) }
+    ensures filled { IfSome result.1 (λ p. IsFinishedIn result.0.log p.place) }
+    ensures token { IfSome result.1 (λ p. IsPlacedOf vector.now p × (p.value ≡ value)) }
+{
+    let placed = vector.try_push_back(&mut hand, value).ok();
+    (hand, placed)
+}
+
+// Fails a construction of two values at the second.
+fn fail_one(vector: &Shared<u64>, mut hand: Hand<u64>) -> (Hand<u64>, Option<GrowError<u64, (), Stopped>>)
+    requires ours { IsHandOf vector.now hand }
+    requires laid { vector.now.laid ≡ 0 }
+    ensures of { result.0.of ≡ vector.now.word }
+    ensures owned { IfSome result.1 (OwnsRefused result.0) }
+{
+    let failed = vector.try_grow_with(
+        &mut hand,
+        2,
+        |i: u64| -> Result<u64, Stopped> { if i == 0 { Ok(7) } else { Err(Stopped) } },
+    );
+    (hand, failed.err())
+}
+
 // One thread has pushed a value. Another one's construction is refused: no place of its run is the first one's, whose place
 // is still filled in the history of both, and whose value is read by its token.
 fn fail_beside<R: Threads + Sync>(
@@ -223,14 +276,34 @@ fn fail_beside<R: Threads + Sync>(
     Some((a, read, refused?))
 }
 
-// The length of the closed list and of the places that have a value, if there is memory for a vector.
+// How many members of a list have a value.
+fn count_values(parts: &Parts<u64>) -> u64 {
+    let mut count = 0;
+    for place in 0..parts.len() {
+        if parts.get(place).is_some() {
+            count += 1;
+        }
+    }
+    count
+}
+
+// The length of the closed list, and how many of its members have a value, if there is memory for a vector.
 fn counts_of_three<R: Threads + Sync>(rt: &R, alloc: Global, limit: u64) -> Option<(u64, u64)>
     requires { IsLimit limit }
 {
-    TODO
+    let (vector, mut a) = empty(alloc, limit).ok()?;
+    let b = vector.split(&mut a, 100);
+    let c = vector.split(&mut a, 100);
+    let (parts, first, second, third) = work_by_three(rt, vector, a, b, c);
+    let counts = (parts.len(), count_values(&parts));
+    drop(parts);
+    drop(first);
+    drop(second);
+    drop(third);
+    Some(counts)
 }
 
-// Three threads ask for fifteen places.
+// Three threads ask for fifteen places. A try that loses an exchange claims nothing.
 #[test]
 fn three_threads_have_one_history_of_their_places(rt: HostRuntime) {
     let (len, values) = counts_of_three(&rt, rt.alloc(), 15).unwrap_or((0, 0));

@@ -1,5 +1,5 @@
 -- What ties the segments of a vector to its claim word, and what a hand knows of them.
-use Rattle.std.specs.Prelude.{◌≡◌, ℕ, ◌+◌, ◌-◌, ◌<◌, ◌≤◌, List, Option, Some, slice_get, length}
+use Rattle.std.specs.Prelude.{◌≡◌, ℕ, ◌+◌, ◌-◌, ◌<◌, ◌≤◌, List, Option, Some, None, slice_get, length}
 use Rattle.std.specs.List.{Contains}
 use Rattle.seg_core.specs.Segment.{segment_start, segment_count, most_segments}
 use Rattle.tie_core.specs.Tie.{Tie, IsTied}
@@ -11,7 +11,7 @@ use Rattle.claim_core.specs.Hand.{HandView}
 use Rattle.cell_core.specs.Slot.{ArePlain}
 use Rattle.cell_core.specs.Block.{BlockView, block_len, cell_at}
 use Rattle.cell_core.specs.Mould.{first_seat}
-use Rattle.table_core.specs.Table.{TableView, KeyView, IsKeyIn, IsBlockOf, IsLengthOf, IsTiedBlockOf, IsTiedBy}
+use Rattle.table_core.specs.Table.{TableView, KeyView, IsKeyIn, IsBlockOf, IsLengthOf, IsTiedBlockOf, IsTiedBy, entry_tie}
 use Rattle.grow_core.specs.Token.{place_in}
 use Rattle.grow_core.specs.Keys.{KeyRow, key_at, layout_in}
 
@@ -42,6 +42,10 @@ pub record AreTiedFrom (word : WordView) (segments : TableView) (cells : Tie) (t
   pub cells_of : IsTiedTo word cells
   pub all : count + length tags ≡ segment_count segments.layout
   pub each : (i : ℕ) (tag : TagView) → slice_get tags i ≡ Some tag → IsTagOf word segments cells (count + i) tag
+
+-- no entry of the table is tied
+abbrev pub AreUntied : TableView → Type 0
+AreUntied table = (segment : ℕ) → segment < segment_count table.layout → entry_tie table segment ≡ None
 
 -- no cell of a segment whose key is in the row is tied
 abbrev pub ArePlainKeys : KeyRow → Type 0

@@ -1,7 +1,7 @@
 // How a hand finds the segments of its places, or installs them. Where an entry is tied, its look and its exchange run a
 // visit of the hand's seat, by which the hand learns where the places of the segment stand.
 ghost use Rattle.std.specs.Prelude.{◌≡◌, ◌≤◌, ◌<◌, ◌+◌, [], ◌∷◌, IfOk, IfSome, IfNone, IsSome, IsTrue, IsFalse};
-ghost use Rattle.seg_core.specs.Segment.{HasPlace, most_places, most_segments, segment_count, segment_start};
+ghost use Rattle.seg_core.specs.Segment.{HasPlace, most_places, segment_count, segment_end, segment_start};
 ghost use Rattle.claim_core.specs.Hand.{seen_size};
 ghost use Rattle.claim_core.specs.Plays.{block_view};
 ghost use Rattle.cell_core.specs.Block.{block_len};
@@ -29,7 +29,7 @@ impl<T> Shared<T> {
     pub(crate) fn is_laid(&self, segment: u32) -> bool
         requires { segment < segment_count (layout_of self.now) }
         ensures laid { IsTrue result → IsLaid self.now (segment_start (layout_of self.now) segment) }
-        ensures opened { IsFalse result → segment_start (layout_of self.now) segment < self.now.laid }
+        ensures opened { IsFalse result → segment_end (layout_of self.now) segment ≤ self.now.laid }
     {
         segment >= self.count
     }
@@ -47,7 +47,7 @@ impl<T> Shared<T> {
     // The key of a segment of the opened list.
     pub(crate) fn opened_key(&self, segment: u32) -> Key
         requires within { segment < segment_count (layout_of self.now) }
-        requires opened { segment_start (layout_of self.now) segment < self.now.laid }
+        requires opened { segment_end (layout_of self.now) segment ≤ self.now.laid }
         ensures key { IsKeyAt (mark_of self.now.segments) segment result }
         ensures plain { ArePlain result.block.cells }
     {

@@ -15,7 +15,8 @@ use crate::blocks::find_cell;
 use crate::published::Published;
 use crate::read::Shown;
 use crate::vector::Shared;
-use cell_core::block::{Block, Row};
+use crate::ties::CellBlock;
+use cell_core::block::Row;
 use seg_core::laws::places;
 use std::iter::FusedIterator;
 use std::marker::Model;
@@ -153,7 +154,7 @@ impl<T> Shared<T> {
     // instruction in its callers.
     fn opened_cells_agree(
         &self,
-        block: &Block<T>,
+        block: &CellBlock<T>,
         key: &Key,
         offset: u64,
         place: u64,

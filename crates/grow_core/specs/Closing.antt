@@ -117,3 +117,42 @@ pub record IsClosing {T : Type 0} (f : ℕ) (mark : List ℕ) (before : KeyRow) 
   pub within : len ≤ size
   pub most : size ≤ limit
   pub enough : size ≤ segment_start f count
+
+-- ---- The list of the history
+
+-- the member at a place is what the history's list has there: a value if it is filled, and otherwise it is broken
+abbrev pub IsMemberOf : {T : Type 0} → Option Cell → Option (Option T) → Type 0
+IsMemberOf None member = ⊥
+IsMemberOf {T} (Some (cells.Filled value)) member = (x : T) × (member ≡ Some (Some x))
+IsMemberOf (Some (cells.Pending actor)) member = member ≡ Some None
+IsMemberOf (Some cells.Broken) member = member ≡ Some None
+
+-- the history leads to a list as long as the members, which are those of that list, at each place whose segment was laid
+-- since the vector was opened
+pub record IsListOfHistory {T : Type 0} (vector : VectorView T) (log : Log) (members : List (Option T)) : Type 0 where
+  pub list : CellList
+  pub history : IsHistory (first_list vector.word.limit vector.word.base vector.word.filled) log list
+  pub all : length list.cells ≡ length members
+  pub each : (place : ℕ) → IsLaid vector place → place < length members
+      → IsMemberOf (slice_get list.cells place) (slice_get members place)
+
+-- ---- Cells whose stage is known
+
+-- the stage at which the tie of a cell is fixed
+abbrev pub stage_in : Names → Option Stage
+stage_in γ = fixed_in γ.tied
+
+-- each cell of a segment that was laid since the opening is fixed at its stage, and has its names but for the tie
+pub record AreFixed (laid segment : ℕ) (old new : BlockView) : Type 0 where
+  pub len : block_len new ≡ block_len old
+  pub same : segment < laid → new ≡ old
+  pub values : (q : ℕ) → (cell_at new q).value_name ≡ (cell_at old q).value_name
+  pub fixed : laid ≤ segment → (q : ℕ) → q < block_len new → (stage : Stage) × (stage_in (cell_at new q) ≡ Some stage)
+
+-- and the list of the hand's history has this stage at the place
+pub record AreToldBy (hand : HandView) (f segment : ℕ) (block : BlockView) : Type 0 where
+  pub lengths : List ℕ
+  pub list : CellList
+  pub history : IsHistory (first_list hand.of.limit hand.of.base hand.of.filled) hand.log list
+  pub each : (q : ℕ) (stage : Stage) → q < block_len block → stage_in (cell_at block q) ≡ Some stage
+      → Matches hand.of.limit hand.of.base lengths (place_in f segment q) (slice_get list.cells (place_in f segment q)) (cell_stage stage)

@@ -83,9 +83,16 @@ fn end_in(layout: Layout, segment: u32, size: u64) -> u64
     size.min(layout.first(segment) + layout.len(segment))
 }
 
-// A vector whose first `len` places are members of a list already.
+// A vector whose first `len` places are members of a list already. Its word is open, and the hand that has all shares is
+// there, until no cell is tied any more.
 #[derive(Drop)]
 struct Closing<T> {
+    word: Word<Global>,
+    claims: ClaimHand,
+    cells: CellTag,
+    // The first segment that was laid since the vector was opened, and the first that is not closed yet.
+    laid: u32,
+    next: u32,
     table: SegmentTable<T>,
     before: Keys,
     keys: Keys,
@@ -176,6 +183,28 @@ impl<T: Drop> Closing<T> {
         self.len < self.size
     }
 
+    // Learns of each cell of a segment how far it is, which is as the history's list says, and gives up its seat. It is no
+    // step. A segment of the opened list stays as it is.
+    fn fix_cells(&mut self, segment: u32, block: &mut CellBlock<T>)
+        requires within { segment < segment_count self.old.layout }
+        requires long { IsBlockOf self.old.layout segment block.old }
+        requires by { IsBlockBy self.old.segments self.old.laid segment block.old }
+        requires row { KnowsRow self.old.hand segment block.old }
+        ensures fixed { AreFixed self.old.laid segment block.old block.new }
+        ensures told { AreToldBy self.old.hand self.old.layout segment block.new }
+        ensures kept { self.new ≡ self.old }
+    {
+        if segment < self.laid {
+            return;
+        }
+        let layout = self.table.layout();
+        let tag = self.cells.numbered(block);
+        let (from, n) = (layout.first(segment), layout.len(segment));
+        let reading = self.claims.read_cells(&self.word, &tag, from, n);
+        let reading = block.fix_for(reading);
+        self.claims.take_back_reading(reading);
+    }
+
     // The places of the next segment are members.
     fn settle_segment(&mut self)
         requires { length self.old.members < self.old.size }
@@ -188,6 +217,7 @@ impl<T: Drop> Closing<T> {
             self.count,
             self.len,
         );
+        self.fix_cells(segment, &mut block);
         let end = end_in(self.table.layout(), segment, self.size);
         let n = end - self.len;
         self.broken += settle_cells(
@@ -199,8 +229,37 @@ impl<T: Drop> Closing<T> {
             &mut self.row,
             &self.epoch,
         );
+        block.untie();
         put_block(&mut self.table, &mut self.keys, segment, block);
         self.len = end;
+        self.next = segment + 1;
+    }
+
+    // Tests whether there are segments past the size that are not closed yet.
+    fn has_more(&self) -> bool {
+        self.next < self.count
+    }
+
+    // The cells of the next segment, which lies past the size, are not tied any more. They are empty.
+    fn untie_segment(&mut self)
+        requires { length self.old.members ≡ self.old.size }
+        ensures { self.new ≡ self.old }
+    {
+        let Some(key) = key_of(&self.keys, self.next) else {
+            unreachable!()
+        };
+        let mut block = self.table.detach(&key);
+        self.fix_cells(self.next, &mut block);
+        block.untie();
+        put_block(&mut self.table, &mut self.keys, self.next, block);
+        self.next += 1;
+    }
+
+    // Each entry past the first ones is not tied any more. A block that it has is dropped: no place of it was claimed.
+    fn give_up_rest(&mut self) {
+        for segment in self.count..self.table.layout().segments() {
+            self.table.give_up(segment);
+        }
     }
 
     // The list.
@@ -246,6 +305,8 @@ impl<T: Drop> Shared<T> {
     /// Closes the vector into the list of its values, as long as its size. A place that was claimed but never
     /// filled is broken. It moves no value and takes no memory; its time is linear in the size. The capacity
     /// is that of the installed segments.
+    ///
+    /// It is the list of the history that the hand has seen, which is the whole one.
     pub fn into_parts(self, hand: Hand<T>) -> Parts<T>
         requires ours { IsHandOf self hand }
         requires whole { IsWholeHand hand }
@@ -254,11 +315,16 @@ impl<T: Drop> Shared<T> {
         ensures layout { result.layout ≡ layout_of self }
         ensures opened { KeepsValues self.opened result.members }
         ensures closed { IsClosedFrom self result.closed }
+        ensures history { IsListOfHistory self hand.log result.members }
     {
         let mut closing = Closing::of(self, hand);
         while closing.is_open() {
             closing.settle_segment();
         }
+        while closing.has_more() {
+            closing.untie_segment();
+        }
+        closing.give_up_rest();
         closing.into_parts()
     }
 }

@@ -1,6 +1,16 @@
 -- How a vector is closed into a list, and what is kept of it there.
 use Rattle.std.specs.Prelude.{◌≡◌, ◌≢◌, ℕ, ◌+◌, ◌<◌, ◌≤◌, List, ◌++◌, Option, Some, None, slice_get, slice_index, length}
 use Rattle.std.specs.Coded.{coded_option}
+use Rattle.book_core.specs.declared.cells.Cell.{Cell}
+use Rattle.book_core.specs.declared.cells.Cell.TheVariants as cells
+use Rattle.book_core.specs.Cells.{CellList}
+use Rattle.book_core.specs.History.{IsHistory}
+use Rattle.tie_core.specs.Tie.{Tie, Stage}
+use Rattle.claim_core.specs.History.{Log, first_list}
+use Rattle.claim_core.specs.Hand.{HandView}
+use Rattle.claim_core.specs.Ties.{Matches}
+use Rattle.claim_core.specs.Plays.{cell_stage}
+use Rattle.cell_core.specs.Slot.{Names}
 use base.Fml.{Lft}
 use base.Stored.{Coded, coded×, coded_ℕ, coded_list, coded_via}
 use Rattle.seg_core.specs.Segment.{segment_start, segment_end, most_segments}
@@ -10,7 +20,7 @@ use Rattle.table_core.specs.Table.{KeyView}
 use Rattle.grow_core.specs.Keys.{KeyRow, AreKeys, key_at, mark_of, layout_in, names_in}
 use Rattle.grow_core.specs.Token.{PlacedView, place_in}
 use Rattle.grow_core.specs.Parts.{AreLong, AreMembers, AreWhole, HasFirstKeys, AreBrokenIn, values_in}
-use Rattle.grow_core.specs.Vector.{VectorView, IsPlacedOf}
+use Rattle.grow_core.specs.Vector.{VectorView, IsLaid, IsPlacedOf}
 
 -- the list, by what is known of it, was closed from the vector, and is as it was then
 abbrev pub IsClosedFrom : {T : Type 0} → VectorView T → Option (List ℕ) → Type 0
@@ -138,7 +148,12 @@ pub record IsListOfHistory {T : Type 0} (vector : VectorView T) (log : Log) (mem
 
 -- ---- Cells whose stage is known
 
--- the stage at which the tie of a cell is fixed
+-- the stage at which a tie is fixed, if it is
+abbrev pub fixed_in : Option Tie → Option Stage
+fixed_in None = None
+fixed_in (Some t) = t.fixed
+
+-- the same of the tie of a cell
 abbrev pub stage_in : Names → Option Stage
 stage_in γ = fixed_in γ.tied
 

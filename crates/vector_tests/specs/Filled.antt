@@ -1,7 +1,5 @@
 -- The results of a thread's calls as steps of one history, which also tells which places were filled, broken and looked at.
-use Rattle.std.specs.Prelude.{◌≡◌, ℕ, ◌<◌, List, [], ◌++◌, Result, Ok, Err, Option, Some, None, slice_get, length}
-use Rattle.book_core.specs.declared.cells.Cell.{Cell}
-use Rattle.book_core.specs.declared.cells.Cell.TheVariants as cells
+use Rattle.std.specs.Prelude.{◌≡◌, ℕ, List, [], ◌++◌, Result, Ok, Err}
 use Rattle.claim_core.specs.declared.run.Run.{Run}
 use Rattle.claim_core.specs.Hand.{HandView, IsPlaceOf, OwnsRun}
 use Rattle.claim_core.specs.History.{Log, Adds, claim_event, full_event, memory_event, past_event}
@@ -54,17 +52,6 @@ pub record IsDoneIn {T V W E F G : Type 0} (old : Log) (n place : ℕ) (pushed :
   pub fails : AreStepsOf (λ (g : GrownView T). g.run) n failed failure
   pub looks : IsStepOfRead place read look
   pub part : Adds old (push ++ growth ++ failure ++ look) log
-
--- the member at a place is what the history's list has there: a value if it is filled, and otherwise it is broken
-abbrev pub IsMemberOf : {T : Type 0} → Option Cell → Option (Option T) → Type 0
-IsMemberOf None member = ⊥
-IsMemberOf {T} (Some (cells.Filled value)) member = (x : T) × (member ≡ Some (Some x))
-IsMemberOf (Some (cells.Pending actor)) member = member ≡ Some None
-IsMemberOf (Some cells.Broken) member = member ≡ Some None
-
--- so at each place
-abbrev pub IsListOf : {T : Type 0} → List Cell → List (Option T) → Type 0
-IsListOf cells_of members = (place : ℕ) → place < length members → IsMemberOf (slice_get cells_of place) (slice_get members place)
 
 -- the run of a refused construction has no such place
 abbrev pub IsBesidePlace : {T V E : Type 0} → ℕ → GrowError T V E → Type 0

@@ -3,14 +3,13 @@
 ghost use Rattle.std.specs.Prelude.{◌≡◌, ℕ, ◌+◌, IfSome, IsSome};
 ghost use Rattle.std.specs.Thread.{IsSync};
 ghost use Rattle.seg_core.specs.Segment.{IsLimit};
-ghost use Rattle.book_core.specs.Cells.{CellList};
-ghost use Rattle.book_core.specs.History.{IsHistory};
-ghost use Rattle.claim_core.specs.History.{Log, IsHistoryOf, first_list};
+ghost use Rattle.claim_core.specs.History.{Log, IsHistoryOf};
+ghost use Rattle.grow_core.specs.Closing.{IsListOfHistory};
 ghost use Rattle.grow_core.specs.Hand.{OwnsRun};
 ghost use Rattle.grow_core.specs.Growth.{single};
 ghost use Rattle.grow_core.specs.Logs.{IsFinishedIn};
 ghost use Rattle.grow_core.specs.Vector.{IsHandOf, IsPlacedOf, base_of, limit_of};
-ghost use Rattle.vector_tests.specs.Filled.{IsBesidePlace, IsDoneIn, IsListOf, LogsFind, OwnsRefused};
+ghost use Rattle.vector_tests.specs.Filled.{IsBesidePlace, IsDoneIn, LogsFind, OwnsRefused};
 
 use super::callers::empty;
 use grow_core::{AtError, GrowError, Grown, Hand, Never, Parts, Placed, Shared, laws};
@@ -124,13 +123,12 @@ fn work_by_three<R: Threads + Sync>(
     requires third_ours { IsHandOf vector c }
     requires whole { a.shares + b.shares + c.shares ≡ 65536 }
     requires laid { vector.laid ≡ 0 }
-    ensures { (log : Log) × (list : CellList)
+    ensures { (log : Log)
         × IsHistoryOf (limit_of vector) (base_of vector) vector.word.filled log
-        × IsHistory (first_list (limit_of vector) (base_of vector) vector.word.filled) log list
         × IsDoneIn a.log 2 result.1.place result.1.pushed result.1.grown result.1.failed result.1.read log
         × IsDoneIn b.log 2 result.2.place result.2.pushed result.2.grown result.2.failed result.2.read log
         × IsDoneIn c.log 2 result.3.place result.3.pushed result.3.grown result.3.failed result.3.read log
-        × IsListOf list.cells result.0.members }
+        × IsListOfHistory vector log result.0.members }
 {
     let vector_ref = &vector;
     let ((mut all, first), (other, second, third)) = join(

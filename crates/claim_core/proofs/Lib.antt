@@ -25,3 +25,4 @@ mod WholeHand
 mod OwnCounts
 mod OwnPlaces
 mod OwnFacts
+pub mod PlaceLaws

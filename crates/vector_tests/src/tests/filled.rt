@@ -198,7 +198,7 @@ fn find_after_meeting(
 {
     let token = find(vector, a, place).ok()?;
     vector.meet(a, b);
-    laws::value_looks_are_finished();
+    laws::shown_places_are_finished();
     let other = match find(vector, b, place) {
         Ok(other) => other,
         Err(_) => unreachable!(),

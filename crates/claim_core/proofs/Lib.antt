@@ -11,6 +11,7 @@ mod LegalNotes
 mod Additions
 mod HistoryLaws
 mod FillLaws
+mod PlaceLaws
 mod Kept
 mod TiedRows
 mod TiedEntries
@@ -25,4 +26,3 @@ mod WholeHand
 mod OwnCounts
 mod OwnPlaces
 mod OwnFacts
-pub mod PlaceLaws

@@ -3,6 +3,7 @@ pub mod Logs
 pub mod Adds
 pub mod Works
 pub mod TiedSteps
+pub mod Wins
 pub mod Places
 pub mod OpenedValues
 pub mod Filling

@@ -233,6 +233,8 @@ impl<T: Drop> Shared<T> {
         ensures pen { IsRunPenAt segment.now.block.now (place - segment.now.from) n result }
         ensures works { Works self.now claims.old claims.new place n [] }
     {
+        // For the proof: the cells of a run have seats with numbers in a row.
+        segment.block.ties_laws();
         let offset = place - segment.from;
         let tag = self.cell_tag(segment.block, &segment.key, place, offset);
         let offer = claims.offer_begin_run(&self.word, &tag, place, n);
@@ -263,6 +265,8 @@ impl<T: Drop> Shared<T> {
         ensures row { result ≡ members_of pen.entry.cells pen.entry.values }
         ensures works { WorksAlong self.now claims.old claims.new place n (λ index. fill_steps index place n) }
     {
+        // For the proof: the cells of a run have seats with numbers in a row.
+        segment.block.ties_laws();
         let tag = self.cell_tag(segment.block, &segment.key, place, place - segment.from);
         let offer = claims.offer_fill_run(&self.word, &tag, place, n);
         let (row, offer) = pen.publish_for(offer);

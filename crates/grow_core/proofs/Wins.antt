@@ -1,0 +1,146 @@
+-- What growths add to a history: their claim, and what became of each place; also of a hand as it was when it had seen less.
+use Rattle.std.proofs.Common.{◌≡◌, ℕ, ◌+◌, ◌-◌, ◌<◌, ◌≤◌, [], ◌∷◌, ◌++◌, Result, Ok, Err, IfOk, length, sym, ap, ◌∙◌, subst, arith}
+use Rattle.std.specs.Prelude.{IfErr}
+use mathlib.Core.List.{IsPrefix}
+use Rattle.book_core.specs.declared.events.Event.{Event}
+use Rattle.book_core.specs.declared.events.Reply.{Reply}
+use Rattle.claim_core.specs.declared.run.Run.{Run}
+use Rattle.claim_core.specs.Hand.{HandView}
+use Rattle.claim_core.specs.History.{AddsEvents, claim_event, raise_event}
+use Rattle.grow_core.specs.declared.errors.GrowError.{GrowError}
+use Rattle.grow_core.specs.declared.errors.GrowError.TheVariants.{NoMemory, Full, Moved, Refused, Taken}
+use Rattle.grow_core.specs.declared.grow_to_at_least.Reached.{Reached}
+use Rattle.grow_core.specs.declared.grow_to_at_least.Reached.TheVariants as reached
+use Rattle.grow_core.specs.Vector.{VectorView}
+use Rattle.grow_core.specs.Grown.{GrownView}
+use Rattle.grow_core.specs.Making.{StopsIn}
+use Rattle.grow_core.specs.Logs.{Fate, PartFilled, LogsClaim, LogsClaimed, LogsWin, LogsGrowth, LogsRefusal, LogsReached, LogsRefusalUpTo, step_of, fate_steps, fill_steps}
+use Rattle.grow_core.specs.Steps.{Works, WorksOn, OwnsRunAt, StopsWith}
+use Rattle.grow_core.proofs.Logs.{events_after, nothing_after}
+use Rattle.grow_core.proofs.Adds.{one_step, steps_after, steps_stay, steps_join}
+
+-- ---- Of a hand that had seen less
+
+module _ (a b c : HandView) (more : IsPrefix a.log b.log) where
+  pub claim_after : (claim : ℕ → Event × Reply) → LogsClaim claim b c → LogsClaim claim a c
+  claim_after claim logs =
+      record { index = logs.index; last = logs.last; adds = steps_after a.log b.log c.log (step_of (claim logs.index)) more logs.adds }
+
+  pub claimed_after : (run : Run) → LogsClaimed b c run → LogsClaimed a c run
+  claimed_after run logs = record {
+    some = λ some_places. claim_after (λ index. claim_event index run) (logs.some some_places);
+    empty = λ no_places. steps_after a.log b.log c.log (step_of (claim_event 0 run)) more (logs.empty no_places);
+  }
+
+  module _ {T : Type 0} (vector : VectorView T) where
+    pub win_after : (claim : ℕ → Event × Reply) (fate : Fate) (run : Run) → LogsWin vector claim fate run b c → LogsWin vector claim fate run a c
+    win_after claim fate run logs = record {
+      claimed = claim_after claim logs.claimed;
+      places = λ laid. steps_after a.log b.log c.log (step_of (claim logs.claimed.index) ++ fate_steps fate logs.claimed.index run) more (logs.places laid);
+    }
+
+    pub growth_after : (fate : Fate) (run : Run) → LogsGrowth vector fate b c run → LogsGrowth vector fate a c run
+    growth_after fate run logs = record {
+      some = λ some_places. win_after (λ index. claim_event index run) fate run (logs.some some_places);
+      empty = λ no_places. steps_after a.log b.log c.log (step_of (claim_event 0 run)) more (logs.empty no_places);
+    }
+
+    pub refusal_after : {V E : Type 0} (n : ℕ) (e : GrowError T V E) → LogsRefusal vector n b c e → LogsRefusal vector n a c e
+    refusal_after n (NoMemory back) logs = events_after a.log b.log c.log _ more logs
+    refusal_after n (Full size back) logs = events_after a.log b.log c.log _ more logs
+    refusal_after n (Moved size back) logs = nothing_after a.log b.log c.log more logs
+    refusal_after n (Refused run made cause) logs = win_after (λ index. claim_event index run) (PartFilled made.run.n) run logs
+    refusal_after n (Taken place found) logs = record {
+      run = logs.run;
+      claimed = claim_after (λ index. claim_event index logs.run) logs.claimed;
+      all = logs.all;
+      after = logs.after;
+      before = logs.before;
+      opened = logs.opened;
+    }
+
+    pub refusal_up_to_after : {V E : Type 0} (to : ℕ) (e : GrowError T V E) → LogsRefusalUpTo vector to b c e → LogsRefusalUpTo vector to a c e
+    refusal_up_to_after to (NoMemory back) logs = events_after a.log b.log c.log _ more logs
+    refusal_up_to_after to (Full size back) logs = events_after a.log b.log c.log _ more logs
+    refusal_up_to_after to (Moved size back) logs = logs
+    refusal_up_to_after to (Refused run made cause) logs = win_after (λ index. raise_event index to run) (PartFilled made.run.n) run logs
+    refusal_up_to_after to (Taken place found) logs = record {
+      run = logs.run;
+      claimed = claim_after (λ index. raise_event index to logs.run) logs.claimed;
+      ends = logs.ends;
+      after = logs.after;
+      before = logs.before;
+      opened = logs.opened;
+    }
+
+    -- the same of all that a call may return
+    pub refusals_after : {X V E : Type 0} (n : ℕ) (result : Result X (GrowError T V E)) → IfErr result (LogsRefusal vector n b c)
+        → IfErr result (LogsRefusal vector n a c)
+    refusals_after n (Ok x) logs = tt
+    refusals_after n (Err e) logs = refusal_after n e logs
+
+  pub reached_after : {E : Type 0} (to : ℕ) (result : Result Reached E) → IfOk result (LogsReached to b c)
+      → IfOk result (LogsReached to a c)
+  reached_after to (Ok (reached.Won run)) logs = claim_after (λ index. raise_event index to run) logs
+  reached_after to (Ok (reached.Enough size)) logs = events_after a.log b.log c.log _ more logs
+  reached_after to (Err e) logs = tt
+
+-- ---- A run that was claimed, and then filled or not
+
+module _ {T : Type 0} (vector : VectorView T) (old mid new : HandView) where
+  -- the steps on its places come after its claim
+  pub win_of : (claim : ℕ → Event × Reply) (fate : Fate) (run : Run) (logs : LogsClaim claim old mid)
+      → Works vector mid new run.from run.n (fate_steps fate logs.index run) → LogsWin vector claim fate run old new
+  win_of claim fate run logs works = record {
+    claimed = record {
+      index = logs.index;
+      last = ap length works.keeps.seen ∙ logs.last;
+      adds = steps_stay old.log mid.log new.log (step_of (claim logs.index)) logs.adds works.more;
+    };
+    places = λ laid.
+        steps_join old.log mid.log new.log (step_of (claim logs.index)) (fate_steps fate logs.index run) logs.adds (works.adds laid);
+  }
+
+  -- so of a growth, which may have no places
+  pub growth_of : (fate : Fate) (run : Run) → LogsClaimed old mid run → IsPrefix mid.log new.log
+      → ((some : 0 < run.n) (logs : LogsClaim (λ index. claim_event index run) old mid) → OwnsRunAt mid logs.index run)
+      → WorksOn vector mid new run run.from run.n (λ index. fate_steps fate index run) → LogsGrowth vector fate old new run
+  growth_of fate run logs more owns works = record {
+    some = λ some_places.
+        let claimed = logs.some some_places in
+        win_of (λ index. claim_event index run) fate run claimed (works claimed.index (owns some_places claimed));
+    empty = λ no_places. steps_stay old.log mid.log new.log (step_of (claim_event 0 run)) (logs.empty no_places) more;
+  }
+
+  -- and of one that could not fill its run
+  pub stopped_of : {V E : Type 0} (wanted : ℕ) (run : Run) (e : GrowError T V E) → run.n ≡ wanted → LogsClaimed old mid run
+      → mid.seen ≡ new.seen → IsPrefix mid.log new.log
+      → ((some : 0 < run.n) (logs : LogsClaim (λ index. claim_event index run) old mid) → OwnsRunAt mid logs.index run)
+      → StopsIn vector run e → StopsWith vector mid new run e → LogsRefusal vector wanted old new e
+  stopped_of wanted run (NoMemory back) n logs seen more owns s stops = absurd s
+  stopped_of wanted run (Full size back) n logs seen more owns s stops = absurd s
+  stopped_of wanted run (Moved size back) n logs seen more owns s stops = absurd s
+  stopped_of wanted run (Refused of made cause) n logs seen more owns s stops =
+      let some_places : 0 < run.n = omega (arith, s.2) in
+      let claimed = logs.some some_places in
+      subst (λ (r : Run). LogsWin vector (λ index. claim_event index r) (PartFilled made.run.n) r old new) (sym s.0)
+      (win_of (λ index. claim_event index run) (PartFilled made.run.n) run claimed (stops claimed.index (owns some_places claimed)))
+  stopped_of wanted run (Taken place found) n logs seen more owns s stops =
+      let claimed = logs.some (omega (arith, s.0, s.1)) in record {
+        run = run;
+        claimed = record {
+          index = claimed.index;
+          last = ap length (sym seen) ∙ claimed.last;
+          adds = steps_stay old.log mid.log new.log (step_of (claim_event claimed.index run)) claimed.adds more;
+        };
+        all = n;
+        after = s.0;
+        before = omega (arith, s.1, n);
+        opened = stops;
+      }
+
+-- a claim that one step has logged
+pub claim_of : (claim : ℕ → Event × Reply) (old mid : HandView) (index : ℕ) → length mid.seen ≡ index + 1
+    → AddsEvents old.log (claim index ∷ []) mid.log → LogsClaim claim old mid
+claim_of claim old mid index last added =
+    record { index = index; last = last; adds = one_step old.log mid.log (claim index ∷ []) added }

@@ -47,7 +47,12 @@ pub(crate) fn find_cell<T>(
 }
 
 // The same, where it is needed.
-pub(crate) fn cell_of<T>(table: &SegmentTable<T>, keys: &Keys, count: u32, place: u64) -> (u32, u64, Key)
+pub(crate) fn cell_of<T>(
+    table: &SegmentTable<T>,
+    keys: &Keys,
+    count: u32,
+    place: u64,
+) -> (u32, u64, Key)
     requires few { count ≤ segment_count table.now.layout }
     requires there { HasFirstKeys keys.now count }
     requires inside { place < segment_start table.now.layout count }

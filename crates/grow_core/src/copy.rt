@@ -152,7 +152,14 @@ impl<T: Drop> Shared<T> {
         while done < run.n {
             let place = run.from + done;
             segment = self.next_segment(hand, segment, place);
-            match self.copy_next(&mut hand.claims, &segment, place, done, run.n - done, source) {
+            match self.copy_next(
+                &mut hand.claims,
+                &segment,
+                place,
+                done,
+                run.n - done,
+                source,
+            ) {
                 Ok(stretch) => {
                     done += stretch.n;
                     filled = self.know(filled, stretch);

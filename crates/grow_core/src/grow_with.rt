@@ -163,8 +163,14 @@ impl<T: Drop> Shared<T> {
             };
             let place = run.from + i;
             segment = self.next_segment(hand, segment, place);
-            let (put, others) =
-                self.fill_begun(&mut hand.claims, &segment, place, run.n - i, begun, value);
+            let (put, others) = self.fill_begun(
+                &mut hand.claims,
+                &segment,
+                place,
+                run.n - i,
+                begun,
+                value,
+            );
             begun = others;
             match put {
                 Ok(placed) => filled = self.know(filled, self.alone(placed)),

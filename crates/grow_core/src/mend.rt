@@ -109,7 +109,15 @@ impl<T> Shared<T> {
         };
         match self.take_tied(&mut hand.claims, block, &key, place, offset) {
             Ok(pen) => {
-                let cell = self.fill_taken(&mut hand.claims, block, &key, place, offset, pen, value);
+                let cell = self.fill_taken(
+                    &mut hand.claims,
+                    block,
+                    &key,
+                    place,
+                    offset,
+                    pen,
+                    value,
+                );
                 Ok(Placed { key, cell })
             }
             Err(found) => Err((self.unmended(key, offset, found), value)),

@@ -96,11 +96,15 @@ impl<T> Shared<T> {
     {
         // For the proof: reading a field shows the type's invariant.
         let list = Mark::of::<Row<T>, ListValues>(&parts.row);
-        let (mut word, mut claims) =
-            match Word::open_marked(parts.alloc, parts.limit, parts.len, list) {
-                Ok(opened) => opened,
-                Err(error) => return Err((parts, error)),
-            };
+        let (mut word, mut claims) = match Word::open_marked(
+            parts.alloc,
+            parts.limit,
+            parts.len,
+            list,
+        ) {
+            Ok(opened) => opened,
+            Err(error) => return Err((parts, error)),
+        };
         let Parts {
             mut table,
             mut keys,

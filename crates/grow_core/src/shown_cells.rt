@@ -14,8 +14,8 @@ ghost use Rattle.grow_core.specs.Vector.{IsOpenedAt, base_of, limit_of, layout_o
 use crate::blocks::find_cell;
 use crate::published::Published;
 use crate::read::Shown;
-use crate::vector::Shared;
 use crate::ties::CellBlock;
+use crate::vector::Shared;
 use cell_core::block::Row;
 use seg_core::laws::places;
 use std::iter::FusedIterator;

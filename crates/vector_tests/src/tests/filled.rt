@@ -53,11 +53,9 @@ fn work_in_turn(vector: &Shared<u64>, mut hand: Hand<u64>, value: u64) -> (Hand<
 {
     let pushed = vector.try_push_back(&mut hand, value);
     let grown = vector.try_grow_by(&mut hand, 2, &value);
-    let failed = vector.try_grow_with(
-        &mut hand,
-        2,
-        |i: u64| -> Result<u64, Stopped> { if i == 0 { Ok(value) } else { Err(Stopped) } },
-    );
+    let failed = vector.try_grow_with(&mut hand, 2, |i: u64| -> Result<u64, Stopped> {
+        if i == 0 { Ok(value) } else { Err(Stopped) }
+    });
     let place = 0;
     let read = find(vector, &mut hand, place);
     let answers = Answers {
@@ -208,7 +206,11 @@ fn find_after_meeting(
 }
 
 // Pushes a value, in whatever thread it is called. Its hand's history then has the fill of the place.
-fn push_one(vector: &Shared<u64>, mut hand: Hand<u64>, value: u64) -> (Hand<u64>, Option<Placed<u64>>)
+fn push_one(
+    vector: &Shared<u64>,
+    mut hand: Hand<u64>,
+    value: u64,
+) -> (Hand<u64>, Option<Placed<u64>>)
     requires ours { IsHandOf vector.now hand }
     requires laid { vector.now.laid ≡ 0 }
     ensures of { result.0.of ≡ vector.now.word }
@@ -221,17 +223,18 @@ fn push_one(vector: &Shared<u64>, mut hand: Hand<u64>, value: u64) -> (Hand<u64>
 }
 
 // Fails a construction of two values at the second.
-fn fail_one(vector: &Shared<u64>, mut hand: Hand<u64>) -> (Hand<u64>, Option<GrowError<u64, (), Stopped>>)
+fn fail_one(
+    vector: &Shared<u64>,
+    mut hand: Hand<u64>,
+) -> (Hand<u64>, Option<GrowError<u64, (), Stopped>>)
     requires ours { IsHandOf vector.now hand }
     requires laid { vector.now.laid ≡ 0 }
     ensures of { result.0.of ≡ vector.now.word }
     ensures owned { IfSome result.1 (OwnsRefused result.0) }
 {
-    let failed = vector.try_grow_with(
-        &mut hand,
-        2,
-        |i: u64| -> Result<u64, Stopped> { if i == 0 { Ok(7) } else { Err(Stopped) } },
-    );
+    let failed = vector.try_grow_with(&mut hand, 2, |i: u64| -> Result<u64, Stopped> {
+        if i == 0 { Ok(7) } else { Err(Stopped) }
+    });
     (hand, failed.err())
 }
 

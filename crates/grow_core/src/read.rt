@@ -107,7 +107,8 @@ impl<T> Shared<T> {
         // For the proof: the opened list lies in segments that it brought, and the size is within the limit.
         self.laws();
         hand.laws();
-        let (segment, offset) = self.table.layout().locate(place);
+        let layout = self.layout();
+        let (segment, offset) = layout.locate(place);
         if !self.is_laid(segment) {
             return self.look_within(place);
         }

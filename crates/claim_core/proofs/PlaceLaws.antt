@@ -1,5 +1,5 @@
 -- What a history says of a place by its fills and looks; and histories that are parts of one.
-use Rattle.std.proofs.Common.{◌≡◌, ◌⊎◌, ℕ, ◌+◌, ◌<◌, ◌≤◌, ◌==◌, true, false, List, [], ◌∷◌, ◌++◌, length, replicate, Option, Some, None, slice_get, refl, ap, sym, ◌∙◌, subst, inl, inr, ⊎_elim, arith}
+use Rattle.std.proofs.Common.{◌≡◌, ◌⊎◌, ℕ, ◌+◌, ◌<◌, ◌≤◌, ◌==◌, true, false, List, [], ◌∷◌, ◌++◌, length, replicate, Option, Some, None, slice_get, refl, ap, sym, ◌∙◌, subst, inl, inr, ⊎_elim, append_assoc, arith}
 use Rattle.std.specs.List.{Contains}
 use Rattle.std.proofs.lemmas.Bool.{cases_lt}
 use Rattle.std.proofs.lemmas.Bool.Decides.{eqb_tells}
@@ -19,7 +19,7 @@ use Rattle.book_core.specs.History.{IsHistory, IsLegalFrom}
 use Rattle.book_core.proofs.EventEffects.{IsWriteOf, ChangesNothing, AppendsRun, WritesCell, event_does}
 use Rattle.book_core.proofs.Histories.{IsHistory-split, finishes_fill}
 use Rattle.book_core.proofs.Lists.{get_other, get_set, get_appended}
-use Rattle.claim_core.specs.History.{Log, AddsEvents, value_cell, first_cell, first_list, fill_event}
+use Rattle.claim_core.specs.History.{Log, value_cell, first_cell, first_list, fill_event}
 use Rattle.claim_core.specs.Laws.{FinishedPlacesAreFound, ShownPlacesAreFinished, HistoriesAreOne}
 use Rattle.claim_core.proofs.FillLaws.{front_get}
 use Rattle.claim_core.proofs.Prefixes.{prefix_shorter}
@@ -33,15 +33,16 @@ look_tells v place w reply applies =
     ap (λ (x : CellList × Reply). x.1) (same_Some (v, reply_of_look (length v.cells) (slice_get v.cells place)) (w, reply) applies)
 
 pub finished_places_are_found : FinishedPlacesAreFound
-finished_places_are_found limit base actor place filled old new reply fills added history =
+finished_places_are_found limit base actor place filled old new reply fills (mid, added, (rest, is)) history =
     let first = first_list limit base filled in
     let es : Log = old ++ added.since in
     let look : Log = (Look 0 place, reply) ∷ [] in
-    let legal : IsLegalFrom first (es ++ look) = subst (IsLegalFrom first) added.is history.legal in
-    let (mid, one, (next, applies, rest)) = IsHistory-split first es look legal.0 legal.1 in
+    let all : new ≡ es ++ (look ++ rest) = sym is ∙ (ap (λ (l : Log). l ++ rest) added.is ∙ append_assoc es look rest) in
+    let legal : IsLegalFrom first (es ++ (look ++ rest)) = subst (IsLegalFrom first) all history.legal in
+    let (before, one, (next, applies, others)) = IsHistory-split first es (look ++ rest) legal.0 legal.1 in
     let there : Contains es (fill_event actor place) = Contains-append_left old added.since (fill_event actor place) fills in
-    let here : slice_get mid.cells place ≡ Some (value_cell place) = finishes_fill first mid es actor place place one there in
-    sym (look_tells mid place next reply applies) ∙ ap (reply_of_look (length mid.cells)) here
+    let here : slice_get before.cells place ≡ Some (value_cell place) = finishes_fill first before es actor place place one there in
+    sym (look_tells before place next reply applies) ∙ ap (reply_of_look (length before.cells)) here
 
 -- a look that shows a value found it in the list
 value_there : (size value : ℕ) (cell : Option Cell) → reply_of_look size cell ≡ replies.Value value → cell ≡ Some (Filled value)

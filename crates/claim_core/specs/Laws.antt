@@ -239,7 +239,7 @@ BreaksHaveOwners =
 abbrev pub FinishedPlacesAreFound : Type 0
 FinishedPlacesAreFound =
     (limit base actor place : ℕ) (filled : List Bool) (old new : Log) (reply : Reply) → Contains old (fill_event actor place)
-    → AddsEvents old ((Look 0 place, reply) ∷ []) new → IsHistoryOf limit base filled new → reply ≡ replies.Value place
+    → Adds old (((Look 0 place, reply) ∷ []) ∷ []) new → IsHistoryOf limit base filled new → reply ≡ replies.Value place
 
 -- a look that shows a value comes after the place was filled, if a word did not begin with the place
 abbrev pub ShownPlacesAreFinished : Type 0

@@ -138,7 +138,7 @@ impl<T> Shared<T> {
         }
     }
 
-    /// LooksAt once at what the place shows now, without a hand. A place that nobody claimed, or past the
+    /// Looks once at what the place shows now, without a hand. A place that nobody claimed, or past the
     /// limit, shows nothing yet.
     #[inline(always)]
     pub fn look(&self, place: u64) -> Shown<'_, T>
@@ -189,7 +189,7 @@ impl<T> Shared<T> {
         found
     }
 
-    // LooksAt at a place below the length of the opened list. It is a function of its own, so that only calls that come
+    // Looks at a place below the length of the opened list. It is a function of its own, so that only calls that come
     // here clear the room for the result of `look_below`.
     #[inline(always)]
     fn look_opened(&self, place: u64) -> Shown<'_, T>

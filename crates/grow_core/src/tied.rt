@@ -46,7 +46,7 @@ impl<T> Shared<T> {
         self.cells.numbered(block).further(offset)
     }
 
-    // LooksAt at a place, by one load.
+    // Looks at a place, by one load.
     #[inline(always)]
     pub(crate) fn look_tied<'a>(
         &'a self,

@@ -1,5 +1,5 @@
 // How a growth fills and breaks the places that it won, segment by segment.
-ghost use Rattle.std.specs.Prelude.{◌≡◌, ◌+◌, ◌<◌, ◌≤◌, [], ◌∷◌, IfOk, IfErr};
+ghost use Rattle.std.specs.Prelude.{◌≡◌, ◌+◌, ◌<◌, ◌≤◌, [], ◌∷◌, IfOk, IfErr, IsTrue, IsFalse};
 ghost use Rattle.std.specs.Vec.Iter.{into_iter_len};
 ghost use Rattle.claim_core.specs.Hand.{OwnsPlace};
 ghost use Rattle.claim_core.specs.History.{break_event, fill_event};
@@ -140,12 +140,15 @@ impl<T: Drop> Shared<T> {
         ensures opened { IfErr result (λ _. place < self.now.laid) }
         ensures works { WorksAt self.now claims.old claims.new place (λ index. fill_event index place) }
     {
+        let key = segment.key.again();
+        let laid = self.is_laid(key.segment());
         self.fill_cell(
             claims,
             segment.block,
-            segment.key.again(),
+            key,
             place,
             place - segment.from,
+            laid,
             value,
         )
     }
@@ -261,7 +264,8 @@ impl<T: Drop> Shared<T> {
         }
     }
 
-    // Fills a cell of the segment that has this key, which is a place of the hand's own, with the value.
+    // Fills a cell of the segment that has this key, which is a place of the hand's own, with the value. `laid` says whether
+    // the segment was laid since the vector was opened.
     #[inline(always)]
     #[tactic(auto, using(crate::proofs::Cells::small_cell))]
     pub(crate) fn fill_cell(
@@ -271,11 +275,14 @@ impl<T: Drop> Shared<T> {
         key: Key,
         place: u64,
         offset: u64,
+        laid: bool,
         value: T,
     ) -> Result<Placed<T>, Found<T>>
         requires ours { IsHandOf self.now claims.old }
         requires owned { OwnsPlace claims.old place }
         requires fresh { AreFresh claims.old place 1 }
+        requires laid { IsTrue laid → IsLaid self.now place }
+        requires opened { IsFalse laid → place < self.now.laid }
         requires cell { IsCellOf self.now.segments self.now.laid key block.now place offset }
         requires row { KnowsRow claims.old key.segment block.now }
         ensures token { IfOk result (IsPlacedOf self.now) }
@@ -285,7 +292,7 @@ impl<T: Drop> Shared<T> {
         ensures opened { IfErr result (λ _. place < self.now.laid) }
         ensures works { WorksAt self.now claims.old claims.new place (λ index. fill_event index place) }
     {
-        if self.is_laid(key.segment()) {
+        if laid {
             let cell = self.fill_tied(claims, block, &key, place, offset, value);
             return Ok(Placed { key, cell });
         }

@@ -93,8 +93,17 @@ impl<T: Drop> Shared<T> {
             return Err(GrowError::NoMemory { back: value });
         };
         let block = self.known_block(&key);
+        let laid = self.is_laid(segment);
         match self.word.exchange_as::<Brand>(&mut hand.claims, from, 1) {
-            Ok(_run) => match self.fill_cell(&mut hand.claims, block, key, from, offset, value) {
+            Ok(_run) => match self.fill_cell(
+                &mut hand.claims,
+                block,
+                key,
+                from,
+                offset,
+                laid,
+                value,
+            ) {
                 Ok(placed) => Ok(placed),
                 Err(found) => Err(GrowError::Taken { place: from, found }),
             },

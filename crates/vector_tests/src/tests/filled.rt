@@ -1,6 +1,6 @@
 // One legal history of three threads that push, grow, fail a construction and read; a token that a reader sends to another; and a
 // refused construction beside another's place. All by the public clauses alone.
-ghost use Rattle.std.specs.Prelude.{◌≡◌, ℕ, ◌+◌, IfSome, IsSome};
+ghost use Rattle.std.specs.Prelude.{◌≡◌, ℕ, ◌+◌, IfOk, IfSome, IsOk, IsSome};
 ghost use Rattle.std.specs.Thread.{IsSync};
 ghost use Rattle.seg_core.specs.Segment.{IsLimit};
 ghost use Rattle.claim_core.specs.History.{Log, IsHistoryOf};
@@ -8,7 +8,7 @@ ghost use Rattle.grow_core.specs.Closing.{IsListOfHistory};
 ghost use Rattle.grow_core.specs.Hand.{OwnsRun};
 ghost use Rattle.grow_core.specs.Growth.{single};
 ghost use Rattle.grow_core.specs.Logs.{IsFinishedIn};
-ghost use Rattle.grow_core.specs.Vector.{IsHandOf, IsPlacedOf, base_of, limit_of};
+ghost use Rattle.grow_core.specs.Vector.{IsHandOf, IsLaid, IsPlacedOf, base_of, limit_of};
 ghost use Rattle.vector_tests.specs.Filled.{IsBesidePlace, IsDoneIn, LogsFind, OwnsRefused};
 
 use super::callers::empty;
@@ -33,7 +33,9 @@ struct Answers {
 // Reads a place without a token, and keeps the token that the read finds.
 fn find(vector: &Shared<u64>, hand: &mut Hand<u64>, place: u64) -> Result<Placed<u64>, AtError>
     requires ours { IsHandOf vector.now hand.old }
+    ensures token { IfOk result (λ p. IsPlacedOf vector.now p × (p.place ≡ place)) }
     ensures looks { LogsFind vector.now place hand.old hand.new result }
+    ensures finished { IsFinishedIn hand.old.log place → IsLaid vector.now place → IsOk result }
     ensures kept { (hand.new.of ≡ hand.old.of) × (hand.new.shares ≡ hand.old.shares) }
 {
     match vector.at(hand, place, None) {

@@ -1,5 +1,5 @@
 -- Chains of events: what comes before them, after them, and between.
-use Rattle.std.proofs.Common.{◌≡◌, ℕ, ◌+◌, ◌-◌, ◌<◌, ◌≤◌, List, [], ◌∷◌, ◌++◌, map, sym, ap, ◌∙◌, subst, arith}
+use Rattle.std.proofs.Common.{◌≡◌, ℕ, zero, suc, ◌+◌, ◌-◌, ◌<◌, ◌≤◌, List, [], ◌∷◌, ◌++◌, map, sym, ap, ◌∙◌, subst, arith}
 use Rattle.std.specs.List.{range_with_len}
 use Rattle.std.proofs.lemmas.List.{append-nil}
 use Rattle.std.proofs.lemmas.List.FromFn.{map-range_with_len_more}
@@ -44,3 +44,20 @@ one_more_fill actor from n next at = map-range_with_len_more (λ place. fill_eve
 pub one_more_break : (actor from n next : ℕ) → from + n ≡ next
     → break_steps actor from (n + 1) ≡ break_steps actor from n ++ (break_event actor next ∷ []) ∷ []
 one_more_break actor from n next at = map-range_with_len_more (λ place. break_event actor place ∷ []) from n next at
+
+-- a step for each of m + n places is one for each of the first m and then one for each of the others
+runs_join : (f : ℕ → Log) (from m n : ℕ) → map f (range_with_len from (m + n)) ≡ map f (range_with_len from m) ++ map f (range_with_len (from + m) n)
+runs_join f from zero n = ap (λ k. map f (range_with_len k n)) (omega arith)
+runs_join f from (suc m) n =
+    ap (λ steps. f from ∷ steps) (runs_join f (from + 1) m n)
+    ∙ ap (λ k. f from ∷ map f (range_with_len (from + 1) m) ++ map f (range_with_len k n)) (omega arith)
+
+pub fills_join : (actor from m n next : ℕ) → from + m ≡ next
+    → fill_steps actor from (m + n) ≡ fill_steps actor from m ++ fill_steps actor next n
+fills_join actor from m n next at =
+    runs_join (λ place. fill_event actor place ∷ []) from m n ∙ ap (λ k. fill_steps actor from m ++ fill_steps actor k n) at
+
+pub breaks_join : (actor from m n next : ℕ) → from + m ≡ next
+    → break_steps actor from (m + n) ≡ break_steps actor from m ++ break_steps actor next n
+breaks_join actor from m n next at =
+    runs_join (λ place. break_event actor place ∷ []) from m n ∙ ap (λ k. break_steps actor from m ++ break_steps actor k n) at

@@ -4,7 +4,9 @@ use Rattle.std.specs.Prelude.{Option, Some, None, slice_index_or}
 use Rattle.std.specs.List.{Contains}
 use Rattle.std.proofs.lemmas.List.Elements.{Contains-append_right, Contains-append_cases}
 use mathlib.Core.List.{IsPrefix}
-use Rattle.tie_core.specs.Tie.{Stage, Idle, Begun, Mending, Filled, Broken, Made, Shows, HasMade, looks}
+use Rattle.tie_core.specs.Tie.{Tie, Stage, Idle, Begun, Mending, Filled, Broken, Made, Shows, HasMade, looks}
+use Rattle.book_core.specs.declared.events.Event.{Event}
+use Rattle.book_core.specs.declared.events.Reply.{Reply}
 use Rattle.cell_core.specs.declared.block.shown.Look.{Look}
 use Rattle.cell_core.specs.declared.block.shown.Look.TheVariants as look
 use Rattle.cell_core.specs.Shown.{IsLookOf}
@@ -22,9 +24,9 @@ use Rattle.claim_core.specs.SeatSteps.{look_event}
 use Rattle.grow_core.specs.Logs.{step_of}
 use Rattle.grow_core.specs.Shown.{look_steps}
 use Rattle.grow_core.specs.Vector.{VectorView}
-use Rattle.grow_core.specs.Steps.{KeepsHand, Works, FindsMore, LooksAt, OwnsPlaceAt}
-use Rattle.grow_core.proofs.Logs.{log_goes_on, nothing_after}
-use Rattle.grow_core.proofs.Adds.{one_step, prefix_same, steps_join}
+use Rattle.grow_core.specs.Steps.{KeepsHand, WorksIn, AddsAt, FindsMore, LooksAt}
+use Rattle.grow_core.proofs.Logs.{log_goes_on}
+use Rattle.grow_core.proofs.Adds.{one_step}
 
 -- ---- What a look shows
 
@@ -90,67 +92,55 @@ alone_in x y it = alone_at x y it.0 it.1 it.2
 
 -- ---- A hand that begins a place of its own, and fills or breaks it
 
-module _ {T : Type 0} (vector : VectorView T) (place : ℕ) where
-  pub begun_at : (v : SeatView) (m : Made) (old new : HandView) → GainsBy (begin_gains place v) (Some m) old new
-      → Works vector old new place 1 []
+module _ (place : ℕ) where
+  pub begun_at : (v : SeatView) (m : Made) (old new : HandView) → GainsBy (begin_gains place v) (Some m) old new → WorksIn old new place 1
   begun_at v m old new gains =
-      let g : Gains (a_begin place) old new = subst (λ (gain : Gain). Gains gain old new) gains.1 gains.2 in
-      let more : IsPrefix old.log new.log = log_goes_on old.log [] new.log g.log in record {
+      let g : Gains (a_begin place) old new = subst (λ (gain : Gain). Gains gain old new) gains.1 gains.2 in record {
         keeps = gains_keep (a_begin place) old new g;
         rows = g.rows;
         begun = λ q it.
             ⊎_elim (λ (first : Contains (place ∷ []) q). let same = alone_in place q first in inl (omega (arith, same), omega (arith, same)))
             (λ (was : Contains old.begun q). inr was)
             (Contains-append_cases (place ∷ []) old.begun q (subst (λ (l : List ℕ). Contains l q) g.begun it));
-        more = more;
-        adds = λ laid. more;
+        more = log_goes_on old.log [] new.log g.log;
       }
 
   -- a step with one event, which begins nothing
-  works_with : (event : _) (old new : HandView) → Gains (an_event event) old new → Works vector old new place 1 (step_of event)
+  pub works_with : (event : Event × Reply) (old new : HandView) → Gains (an_event event) old new → WorksIn old new place 1
   works_with event old new g = record {
     keeps = gains_keep (an_event event) old new g;
     rows = g.rows;
     begun = λ q it. inr (subst (λ (l : List ℕ). Contains l q) g.begun it);
     more = log_goes_on old.log (event ∷ []) new.log g.log;
-    adds = λ laid. one_step old.log new.log (event ∷ []) g.log;
   }
 
   -- the hand's seat, as the hand
-  seat_sees : (floor : ℕ) (table : _) (v : SeatView) (hand : HandView) → seat_hand floor table v ≡ hand → (index : ℕ)
+  seat_sees : (floor : ℕ) (table : List Tie) (v : SeatView) (hand : HandView) → seat_hand floor table v ≡ hand → (index : ℕ)
       → InRun v.base v.seen index place → InRun hand.of.base hand.seen index place
   seat_sees floor table v hand is index it = subst (λ (h : HandView). InRun h.of.base h.seen index place) is it
 
-  module _ (law : RunsAreApart) (floor : ℕ) (table : _) (v : SeatView) (old new : HandView) (is : seat_hand floor table v ≡ old) where
-    -- a begun place is filled by the actor whose index its run has
-    pub filled_at : GainsBy (fill_gains place v) (Some (Begun, Filled)) old new → (index : ℕ) → OwnsPlaceAt old index place
-        → Works vector old new place 1 (step_of (fill_event index place))
-    filled_at gains index owns =
-        let told = gains.1 in
+  module _ (law : RunsAreApart) {T : Type 0} (vector : VectorView T) (floor : ℕ) (table : List Tie) (v : SeatView) (old new : HandView)
+      (is : seat_hand floor table v ≡ old) where
+    -- a step on a begun place is of the actor whose index the place's run has
+    step_at : (event : ℕ → Event × Reply) → (told : (k : ℕ) × InRun v.base v.seen k place) → Gains (an_event (event told.0)) old new
+        → AddsAt vector old new place event
+    step_at event told g index owns laid =
         let same : told.0 ≡ index = law old.of.base old.seen told.0 index place (seat_sees floor table v old is told.0 told.1) owns.in_run in
-        works_with (fill_event index place) old new
-        (subst (λ (k : ℕ). Gains (an_event (fill_event k place)) old new) same (subst (λ (gain : Gain). Gains gain old new) told.2 gains.2))
+        let here : Gains (an_event (event index)) old new = subst (λ (k : ℕ). Gains (an_event (event k)) old new) same g in
+        one_step old.log new.log (event index ∷ []) here.log
+
+    -- it is filled
+    pub filled_at : GainsBy (fill_gains place v) (Some (Begun, Filled)) old new
+        → WorksIn old new place 1 × AddsAt vector old new place (λ index. fill_event index place)
+    filled_at gains =
+        let told = gains.1 in
+        let g : Gains (an_event (fill_event told.0 place)) old new = subst (λ (gain : Gain). Gains gain old new) told.2 gains.2 in
+        (works_with (fill_event told.0 place) old new g, step_at (λ index. fill_event index place) (told.0, told.1) g)
 
     -- or broken
-    pub broken_at : GainsBy (spoil_gains place v) (Some (Begun, Broken)) old new → (index : ℕ) → OwnsPlaceAt old index place
-        → Works vector old new place 1 (step_of (break_event index place))
-    broken_at gains index owns =
+    pub broken_at : GainsBy (spoil_gains place v) (Some (Begun, Broken)) old new
+        → WorksIn old new place 1 × AddsAt vector old new place (λ index. break_event index place)
+    broken_at gains =
         let told = gains.1 in
-        let same : told.0 ≡ index = law old.of.base old.seen told.0 index place (seat_sees floor table v old is told.0 told.1) owns.in_run in
-        works_with (break_event index place) old new
-        (subst (λ (k : ℕ). Gains (an_event (break_event k place)) old new) same (subst (λ (gain : Gain). Gains gain old new) told.2 gains.2))
-
--- the hand works on the same places twice
-pub works_twice : {T : Type 0} (vector : VectorView T) (a b c : HandView) (from n : ℕ) (xs ys : List Log) → Works vector a b from n xs
-    → Works vector b c from n ys → Works vector a c from n (xs ++ ys)
-works_twice vector a b c from n xs ys p q = record {
-  keeps = record {
-    own = record { of = q.keeps.own.of ∙ p.keeps.own.of; mine = q.keeps.own.mine ∙ p.keeps.own.mine; shares = q.keeps.own.shares ∙ p.keeps.own.shares };
-    seen = q.keeps.seen ∙ p.keeps.seen;
-  };
-  rows = q.rows ∙ p.rows;
-  begun = λ place it.
-      ⊎_elim (λ (here : (from ≤ place) × (place < from + n)). inl here) (λ (before : Contains b.begun place). p.begun place before) (q.begun place it);
-  more = nothing_after a.log b.log c.log p.more q.more;
-  adds = λ laid. steps_join a.log b.log c.log xs ys (p.adds laid) (q.adds laid);
-}
+        let g : Gains (an_event (break_event told.0 place)) old new = subst (λ (gain : Gain). Gains gain old new) told.2 gains.2 in
+        (works_with (break_event told.0 place) old new g, step_at (λ index. break_event index place) (told.0, told.1) g)

@@ -14,8 +14,8 @@ use Rattle.grow_core.specs.declared.grow_to_at_least.Reached.TheVariants as reac
 use Rattle.grow_core.specs.Vector.{VectorView}
 use Rattle.grow_core.specs.Grown.{GrownView}
 use Rattle.grow_core.specs.Making.{StopsIn}
-use Rattle.grow_core.specs.Logs.{Fate, PartFilled, LogsClaim, LogsClaimed, LogsWin, LogsGrowth, LogsRefusal, LogsReached, LogsRefusalUpTo, step_of, fate_steps, fill_steps}
-use Rattle.grow_core.specs.Steps.{Works, WorksOn, OwnsRunAt, StopsWith}
+use Rattle.grow_core.specs.Logs.{Fate, PartFilled, LogsLaid, LogsClaim, LogsClaimed, LogsWin, LogsGrowth, LogsRefusal, LogsReached, LogsRefusalUpTo, step_of, fate_steps, fill_steps}
+use Rattle.grow_core.specs.Steps.{WorksIn, AddsOn, OwnsRunAt, StopsWith}
 use Rattle.grow_core.proofs.Logs.{events_after, nothing_after}
 use Rattle.grow_core.proofs.Adds.{one_step, steps_after, steps_stay, steps_join}
 
@@ -90,48 +90,49 @@ module _ (a b c : HandView) (more : IsPrefix a.log b.log) where
 module _ {T : Type 0} (vector : VectorView T) (old mid new : HandView) where
   -- the steps on its places come after its claim
   pub win_of : (claim : ℕ → Event × Reply) (fate : Fate) (run : Run) (logs : LogsClaim claim old mid)
-      → Works vector mid new run.from run.n (fate_steps fate logs.index run) → LogsWin vector claim fate run old new
-  win_of claim fate run logs works = record {
+      → WorksIn mid new run.from run.n → LogsLaid vector run.from mid new (fate_steps fate logs.index run)
+      → LogsWin vector claim fate run old new
+  win_of claim fate run logs works places = record {
     claimed = record {
       index = logs.index;
       last = ap length works.keeps.seen ∙ logs.last;
       adds = steps_stay old.log mid.log new.log (step_of (claim logs.index)) logs.adds works.more;
     };
     places = λ laid.
-        steps_join old.log mid.log new.log (step_of (claim logs.index)) (fate_steps fate logs.index run) logs.adds (works.adds laid);
+        steps_join old.log mid.log new.log (step_of (claim logs.index)) (fate_steps fate logs.index run) logs.adds (places laid);
   }
 
   -- so of a growth, which may have no places
-  pub growth_of : (fate : Fate) (run : Run) → LogsClaimed old mid run → IsPrefix mid.log new.log
+  pub growth_of : (fate : Fate) (run : Run) → LogsClaimed old mid run → WorksIn mid new run.from run.n
       → ((some : 0 < run.n) (logs : LogsClaim (λ index. claim_event index run) old mid) → OwnsRunAt mid logs.index run)
-      → WorksOn vector mid new run run.from run.n (λ index. fate_steps fate index run) → LogsGrowth vector fate old new run
-  growth_of fate run logs more owns works = record {
+      → AddsOn vector mid new run run.from (λ index. fate_steps fate index run) → LogsGrowth vector fate old new run
+  growth_of fate run logs works owns adds = record {
     some = λ some_places.
         let claimed = logs.some some_places in
-        win_of (λ index. claim_event index run) fate run claimed (works claimed.index (owns some_places claimed));
-    empty = λ no_places. steps_stay old.log mid.log new.log (step_of (claim_event 0 run)) (logs.empty no_places) more;
+        win_of (λ index. claim_event index run) fate run claimed works (adds claimed.index (owns some_places claimed));
+    empty = λ no_places. steps_stay old.log mid.log new.log (step_of (claim_event 0 run)) (logs.empty no_places) works.more;
   }
 
   -- and of one that could not fill its run
   pub stopped_of : {V E : Type 0} (wanted : ℕ) (run : Run) (e : GrowError T V E) → run.n ≡ wanted → LogsClaimed old mid run
-      → mid.seen ≡ new.seen → IsPrefix mid.log new.log
+      → WorksIn mid new run.from run.n
       → ((some : 0 < run.n) (logs : LogsClaim (λ index. claim_event index run) old mid) → OwnsRunAt mid logs.index run)
       → StopsIn vector run e → StopsWith vector mid new run e → LogsRefusal vector wanted old new e
-  stopped_of wanted run (NoMemory back) n logs seen more owns s stops = absurd s
-  stopped_of wanted run (Full size back) n logs seen more owns s stops = absurd s
-  stopped_of wanted run (Moved size back) n logs seen more owns s stops = absurd s
-  stopped_of wanted run (Refused of made cause) n logs seen more owns s stops =
+  stopped_of wanted run (NoMemory back) n logs works owns s stops = absurd s
+  stopped_of wanted run (Full size back) n logs works owns s stops = absurd s
+  stopped_of wanted run (Moved size back) n logs works owns s stops = absurd s
+  stopped_of wanted run (Refused of made cause) n logs works owns s stops =
       let some_places : 0 < run.n = omega (arith, s.2) in
       let claimed = logs.some some_places in
       subst (λ (r : Run). LogsWin vector (λ index. claim_event index r) (PartFilled made.run.n) r old new) (sym s.0)
-      (win_of (λ index. claim_event index run) (PartFilled made.run.n) run claimed (stops claimed.index (owns some_places claimed)))
-  stopped_of wanted run (Taken place found) n logs seen more owns s stops =
+      (win_of (λ index. claim_event index run) (PartFilled made.run.n) run claimed works (stops claimed.index (owns some_places claimed)))
+  stopped_of wanted run (Taken place found) n logs works owns s stops =
       let claimed = logs.some (omega (arith, s.0, s.1)) in record {
         run = run;
         claimed = record {
           index = claimed.index;
-          last = ap length (sym seen) ∙ claimed.last;
-          adds = steps_stay old.log mid.log new.log (step_of (claim_event claimed.index run)) claimed.adds more;
+          last = ap length works.keeps.seen ∙ claimed.last;
+          adds = steps_stay old.log mid.log new.log (step_of (claim_event claimed.index run)) claimed.adds works.more;
         };
         all = n;
         after = s.0;

@@ -1,21 +1,25 @@
 -- What a hand does at places next to each other, put together.
 use Rattle.std.proofs.Common.{◌≡◌, ◌⊎◌, ℕ, ◌+◌, ◌<◌, ◌≤◌, List, [], ◌∷◌, ◌++◌, refl, sym, ap, ◌∙◌, subst, ⊎_elim, inl, inr, arith}
+use Rattle.std.specs.Prelude.{length, slice_index}
 use Rattle.std.specs.List.{Contains}
 use mathlib.Core.List.{IsPrefix}
 use Rattle.claim_core.specs.declared.role.RowAt.{RowAt}
 use Rattle.claim_core.specs.declared.run.Run.{Run}
-use Rattle.claim_core.specs.Lengths.{InRun}
+use Rattle.claim_core.specs.Lengths.{InRun, run_start}
 use Rattle.claim_core.specs.Word.{WordView}
 use Rattle.claim_core.specs.Hand.{HandView, KeepsOwn, KeepsCells, AddsRun, SeesBegun, OwnsPlace, IsPlaceOf}
 use Rattle.claim_core.specs.Laws.{AddedPlacesAreNotBegun, SeenRunsHavePlaces}
-use Rattle.claim_core.specs.History.{Log}
+use Rattle.book_core.specs.declared.events.Event.{Event}
+use Rattle.book_core.specs.declared.events.Reply.{Reply}
+use Rattle.claim_core.specs.History.{Log, Adds}
 use Rattle.seg_core.specs.Segment.{HasPlace}
 use Rattle.grow_core.specs.Keys.{KeyRow, AreKeys, IsKeyed, layout_in}
 use Rattle.grow_core.specs.Ties.{KnowsRows, row_at}
+use Rattle.grow_core.specs.Logs.{step_of}
 use Rattle.grow_core.specs.Vector.{VectorView}
-use Rattle.grow_core.specs.Steps.{KeepsHand, Works, AreFresh, OwnsRunAt, OwnsPlaceAt}
+use Rattle.grow_core.specs.Steps.{KeepsHand, WorksIn, AddsAt, AddsAlong, AddsOn, AreFresh, OwnsRunAt, OwnsPlaceAt}
 use Rattle.grow_core.proofs.Logs.{nothing_after}
-use Rattle.grow_core.proofs.Adds.{prefix_same, steps_join}
+use Rattle.grow_core.proofs.Adds.{prefix_same, steps_after, steps_join}
 
 keeps_both : (a b c : HandView) → KeepsHand a b → KeepsHand b c → KeepsHand a c
 keeps_both a b c p q = record {
@@ -23,21 +27,19 @@ keeps_both a b c p q = record {
   seen = q.seen ∙ p.seen;
 }
 
-module _ {T : Type 0} (vector : VectorView T) (a b : HandView) where
+module _ (a b : HandView) where
   -- nothing is done
-  pub works_none : (from : ℕ) → a ≡ b → Works vector a b from 0 []
-  works_none from same = subst (λ (h : HandView). Works vector a h from 0 []) same (record {
+  pub works_none : (from : ℕ) → a ≡ b → WorksIn a b from 0
+  works_none from same = subst (λ (h : HandView). WorksIn a h from 0) same (record {
     keeps = record { own = record { of = refl; mine = refl; shares = refl }; seen = refl };
     rows = refl;
     begun = λ place it. inr it;
     more = prefix_same a.log;
-    adds = λ laid. prefix_same a.log;
   })
 
   -- places, and then those after them
-  pub works_on : (c : HandView) (from m n : ℕ) (xs ys : List Log) → Works vector a b from m xs → Works vector b c (from + m) n ys
-      → Works vector a c from (m + n) (xs ++ ys)
-  works_on c from m n xs ys p q = record {
+  pub works_on : (c : HandView) (from m n : ℕ) → WorksIn a b from m → WorksIn b c (from + m) n → WorksIn a c from (m + n)
+  works_on c from m n p q = record {
     keeps = keeps_both a b c p.keeps q.keeps;
     rows = q.rows ∙ p.rows;
     begun = λ place it.
@@ -48,10 +50,19 @@ module _ {T : Type 0} (vector : VectorView T) (a b : HandView) where
         (p.begun place before))
         (q.begun place it);
     more = nothing_after a.log b.log c.log p.more q.more;
-    adds = λ laid. steps_join a.log b.log c.log xs ys (p.adds laid) (q.adds (omega (arith, laid)));
   }
 
-  module _ (from m n : ℕ) (xs : List Log) (works : Works vector a b from m xs) where
+  -- the same places twice
+  pub works_twice : (c : HandView) (from n : ℕ) → WorksIn a b from n → WorksIn b c from n → WorksIn a c from n
+  works_twice c from n p q = record {
+    keeps = keeps_both a b c p.keeps q.keeps;
+    rows = q.rows ∙ p.rows;
+    begun = λ place it.
+        ⊎_elim (λ (here : (from ≤ place) × (place < from + n)). inl here) (λ (before : Contains b.begun place). p.begun place before) (q.begun place it);
+    more = nothing_after a.log b.log c.log p.more q.more;
+  }
+
+  module _ (from m n : ℕ) (works : WorksIn a b from m) where
     -- the places after these are as little known as they were
     pub still_fresh : AreFresh a from (m + n) → AreFresh b (from + m) n
     still_fresh fresh place above below it =
@@ -69,6 +80,17 @@ module _ (a b : HandView) (keeps : KeepsHand a b) where
   pub owns_still : (index place : ℕ) → OwnsPlaceAt a index place → OwnsPlaceAt b index place
   owns_still index place it =
       record { owned = subst (λ (l : List ℕ). Contains l index) (sym keeps.own.mine) it.owned; in_run = in_run index place it.in_run }
+
+  pub run_still : (index : ℕ) (run : Run) → OwnsRunAt a index run → OwnsRunAt b index run
+  run_still index run it = record {
+    owned = subst (λ (l : List ℕ). Contains l index) (sym keeps.own.mine) it.owned;
+    sees = record {
+      there = subst (λ (l : List ℕ). index < length l) (sym keeps.seen) it.sees.there;
+      from = subst (λ (w : WordView). run.from ≡ run_start w.base b.seen index) (sym keeps.own.of)
+          (subst (λ (l : List ℕ). run.from ≡ run_start a.of.base l index) (sym keeps.seen) it.sees.from);
+      n = subst (λ (l : List ℕ). run.n ≡ slice_index l index) (sym keeps.seen) it.sees.n;
+    };
+  }
 
   pub place_still : (place : ℕ) → OwnsPlace a place → OwnsPlace b place
   place_still place it =
@@ -107,3 +129,39 @@ pub claimed_owned : SeenRunsHavePlaces → (hand : HandView) (index : ℕ) (run 
     → OwnsPlaceAt hand index place
 claimed_owned law hand index run owns place is_place =
     record { owned = owns.owned; in_run = (law hand index run place owns.sees).0 is_place }
+
+-- ---- What is added on the places of a run of the hand's, one stretch after another
+
+module _ {T : Type 0} (vector : VectorView T) (run : Run) where
+  -- nothing is added at first
+  pub adds_none : (a b : HandView) (from : ℕ) (steps : ℕ → List Log) → a ≡ b → ((index : ℕ) → steps index ≡ []) → AddsOn vector a b run from steps
+  adds_none a b from steps same empty index owns laid =
+      subst (λ (s : List Log). Adds a.log s b.log) (sym (empty index))
+      (subst (λ (h : HandView). IsPrefix a.log h.log) same (prefix_same a.log))
+
+  -- places next to each other in the run are of the actor whose index the run has
+  pub on_of_along : SeenRunsHavePlaces → (a b : HandView) (from n : ℕ) (steps : ℕ → List Log) → run.from ≤ from → from + n ≤ run.from + run.n
+      → AddsAlong vector a b from n steps → AddsOn vector a b run from steps
+  on_of_along law a b from n steps above below along index owns laid =
+      along index
+      (λ i less. claimed_owned law a index run owns (from + i) (omega (arith, above), omega (arith, below, less)))
+      laid
+
+  -- so is one place
+  pub on_of_at : SeenRunsHavePlaces → (a b : HandView) (place : ℕ) (event : ℕ → Event × Reply) → IsPlaceOf run place → AddsAt vector a b place event
+      → AddsOn vector a b run place (λ index. step_of (event index))
+  on_of_at law a b place event is_place at index owns laid = at index (claimed_owned law a index run owns place is_place) laid
+
+  -- steps on places, and then on those after them
+  pub adds_then : (a b c : HandView) (from next : ℕ) (xs ys all : ℕ → List Log) → from ≤ next
+      → ((index : ℕ) → all index ≡ xs index ++ ys index) → KeepsHand a b → AddsOn vector a b run from xs → AddsOn vector b c run next ys
+      → AddsOn vector a c run from all
+  adds_then a b c from next xs ys all after whole keeps first rest index owns laid =
+      subst (λ (s : List Log). Adds a.log s c.log) (sym (whole index))
+      (steps_join a.log b.log c.log (xs index) (ys index) (first index owns laid) (rest index (run_still a b keeps index run owns) (omega (arith, after, laid))))
+
+-- places of a run that a hand begins first and then publishes
+pub along_after : {T : Type 0} (vector : VectorView T) (a b c : HandView) (from n : ℕ) (steps : ℕ → List Log) → KeepsHand a b
+    → IsPrefix a.log b.log → AddsAlong vector b c from n steps → AddsAlong vector a c from n steps
+along_after vector a b c from n steps keeps more along index owns laid =
+    steps_after a.log b.log c.log (steps index) more (along index (λ i less. owns_still a b keeps index (from + i) (owns i less)) laid)

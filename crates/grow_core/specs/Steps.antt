@@ -11,22 +11,21 @@ use Rattle.claim_core.specs.Hand.{HandView, KeepsOwn, SeesRun}
 use Rattle.claim_core.specs.History.{Log, Adds}
 use Rattle.grow_core.specs.declared.errors.GrowError.{GrowError}
 use Rattle.grow_core.specs.declared.errors.GrowError.TheVariants.{Refused, Taken}
-use Rattle.grow_core.specs.Logs.{stop_steps}
-use Rattle.grow_core.specs.Vector.{VectorView, IsLaid}
+use Rattle.grow_core.specs.Logs.{LogsLaid, step_of, stop_steps}
+use Rattle.grow_core.specs.Vector.{VectorView}
 
 -- the hand has seen the same size, and owns the same
 pub record KeepsHand (old new : HandView) : Type 0 where
   pub own : KeepsOwn old new
   pub seen : new.seen ≡ old.seen
 
--- the hand fills or breaks n places from one on, or begins some of them. It knows no other place begun that it did not
--- know so before. It has added these steps, if the segment of the first place was laid since the opening
-pub record Works {T : Type 0} (vector : VectorView T) (old new : HandView) (from n : ℕ) (steps : List Log) : Type 0 where
+-- the hand fills or breaks n places from one on, or begins some of them: it knows no other place begun that it did not
+-- know so before
+pub record WorksIn (old new : HandView) (from n : ℕ) : Type 0 where
   pub keeps : KeepsHand old new
   pub rows : new.rows ≡ old.rows
   pub begun : (place : ℕ) → Contains new.begun place → ((from ≤ place) × (place < from + n)) ⊎ Contains old.begun place
   pub more : IsPrefix old.log new.log
-  pub adds : IsLaid vector from → Adds old.log steps new.log
 
 -- the hand finds entries, and may know more rows
 pub record FindsMore (old new : HandView) : Type 0 where
@@ -58,24 +57,25 @@ pub record OwnsPlaceAt (hand : HandView) (index place : ℕ) : Type 0 where
   pub owned : Contains hand.mine index
   pub in_run : InRun hand.of.base hand.seen index place
 
--- the hand works on a place of its own: the event is of the actor whose index its run has
-abbrev pub WorksAt : {T : Type 0} → VectorView T → HandView → HandView → ℕ → (ℕ → Event × Reply) → Type 0
-WorksAt vector old new place event =
-    (index : ℕ) → OwnsPlaceAt old index place → Works vector old new place 1 ((event index ∷ []) ∷ [])
+-- The hand works on a place of its own: the event is of the actor whose index its run has. So below: steps are added if
+-- their first place is in a segment that was laid since the opening
+abbrev pub AddsAt : {T : Type 0} → VectorView T → HandView → HandView → ℕ → (ℕ → Event × Reply) → Type 0
+AddsAt vector old new place event =
+    (index : ℕ) → OwnsPlaceAt old index place → LogsLaid vector place old new (step_of (event index))
 
 -- the hand works on n places next to each other that are all in its run of one index
-abbrev pub WorksAlong : {T : Type 0} → VectorView T → HandView → HandView → ℕ → ℕ → (ℕ → List Log) → Type 0
-WorksAlong vector old new from n steps =
-    (index : ℕ) → ((i : ℕ) → i < n → OwnsPlaceAt old index (from + i)) → Works vector old new from n (steps index)
+abbrev pub AddsAlong : {T : Type 0} → VectorView T → HandView → HandView → ℕ → ℕ → (ℕ → List Log) → Type 0
+AddsAlong vector old new from n steps =
+    (index : ℕ) → ((i : ℕ) → i < n → OwnsPlaceAt old index (from + i)) → LogsLaid vector from old new (steps index)
 
--- the hand works on n places of its run of an index, from one on: the steps are of the actor of that index
-abbrev pub WorksOn : {T : Type 0} → VectorView T → HandView → HandView → Run → ℕ → ℕ → (ℕ → List Log) → Type 0
-WorksOn vector old new run from n steps = (index : ℕ) → OwnsRunAt old index run → Works vector old new from n (steps index)
+-- the hand works on places of its run of an index, from one on: the steps are of the actor of that index
+abbrev pub AddsOn : {T : Type 0} → VectorView T → HandView → HandView → Run → ℕ → (ℕ → List Log) → Type 0
+AddsOn vector old new run from steps = (index : ℕ) → OwnsRunAt old index run → LogsLaid vector from old new (steps index)
 
 -- the hand's run could not be filled: after a refused construction the first places are filled and the others broken, and
 -- a place that was taken is in a segment of the opened list
 abbrev pub StopsWith : {T V E : Type 0} → VectorView T → HandView → HandView → Run → GrowError T V E → Type 0
 StopsWith vector old new run (Refused of made cause) =
-    WorksOn vector old new run run.from run.n (λ index. stop_steps index run made.run.n)
+    AddsOn vector old new run run.from (λ index. stop_steps index run made.run.n)
 StopsWith vector old new run (Taken place found) = place < vector.laid
 StopsWith vector old new run refusal = ⊥

@@ -5,7 +5,7 @@ ghost use Rattle.claim_core.specs.Hand.{OwnsPlace};
 ghost use Rattle.claim_core.specs.History.{fill_event};
 ghost use Rattle.grow_core.specs.Vector.{IsHandOf, IsPlacedOf};
 ghost use Rattle.grow_core.specs.Segment.{IsSegmentOf, KnowsSegment};
-ghost use Rattle.grow_core.specs.Steps.{AreFresh, WorksAt};
+ghost use Rattle.grow_core.specs.Steps.{AddsAt, AreFresh, WorksIn};
 ghost use Rattle.grow_core.specs.Growth.{IsFoundAt};
 ghost use Rattle.grow_core.specs.Begun.{AreBegun, AreUnwritten, begun_count};
 
@@ -91,7 +91,8 @@ impl<T: Drop> Shared<T> {
         ensures value { IfOk result.0 (λ placed. placed.value ≡ value) }
         ensures found { IfErr result.0 (IsFoundAt self.now place) }
         ensures opened { IfErr result.0 (λ _. place < self.now.laid) }
-        ensures works { WorksAt self.now claims.old claims.new place (λ index. fill_event index place) }
+        ensures works { WorksIn claims.old claims.new place 1 }
+        ensures adds { AddsAt self.now claims.old claims.new place (λ index. fill_event index place) }
         ensures begun { AreBegun self.now.laid segment.now (place + 1) (left - 1) result.1 }
     {
         let begun = match begun {

@@ -5,8 +5,8 @@ ghost use Rattle.grow_core.specs.Keys.{OwnsPlacesOf};
 ghost use Rattle.grow_core.specs.BrokenRun.{AreKeptBroken};
 ghost use Rattle.grow_core.specs.Growth.{WonPlaces, Refuses, HasNoRoom, SaysFull, IsNotMoved};
 ghost use Rattle.grow_core.specs.Making.{StopsIn, IsTakenIn, IsTakenBelow};
-ghost use Rattle.grow_core.specs.Logs.{LogsGrowth, LogsNothing, LogsRefusal, AllBroken, break_steps};
-ghost use Rattle.grow_core.specs.Steps.{AreFresh, KeepsHand, WorksOn};
+ghost use Rattle.grow_core.specs.Logs.{LogsGrowth, LogsRefusal, AllBroken, break_steps};
+ghost use Rattle.grow_core.specs.Steps.{AddsOn, AreFresh, WorksIn};
 
 use crate::errors::{GrowError, Never};
 use crate::hand::Hand;
@@ -69,9 +69,8 @@ impl<T: Drop> Shared<T> {
         ensures kept { IfOk result
             (λ _. AreKeptBroken K.step keep.old keep.new self.now run.from run.n) }
         ensures stopped { IfErr result (StopsIn self.now run) }
-        ensures keeps { KeepsHand hand.old hand.new }
-        ensures goes_on { LogsNothing hand.old hand.new }
-        ensures works { IfOk result (λ _. WorksOn self.now hand.old hand.new run run.from run.n
+        ensures works { WorksIn hand.old hand.new run.from run.n }
+        ensures adds { IfOk result (λ _. AddsOn self.now hand.old hand.new run run.from
             (λ index. break_steps index run.from run.n)) }
         // No place is taken whose segment was laid since the opening.
         ensures opened { IfErr result (IsTakenBelow self.now.laid) }
@@ -101,10 +100,8 @@ impl<T: Drop> Shared<T> {
             (run.from + first) (run.n - first)) }
         ensures taken { IfErr result (λ (place, found). IsTakenIn self.now run place found) }
         ensures after { IfErr result (λ (place, _). run.from + first ≤ place) }
-        ensures keeps { KeepsHand hand.old hand.new }
-        ensures goes_on { LogsNothing hand.old hand.new }
-        ensures works { IfOk result
-            (λ _. WorksOn self.now hand.old hand.new run (run.from + first) (run.n - first)
+        ensures works { WorksIn hand.old hand.new (run.from + first) (run.n - first) }
+        ensures adds { IfOk result (λ _. AddsOn self.now hand.old hand.new run (run.from + first)
             (λ index. break_steps index (run.from + first) (run.n - first))) }
         ensures opened { IfErr result (λ (place, _). place < self.now.laid) }
     {

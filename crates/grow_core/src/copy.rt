@@ -8,8 +8,8 @@ ghost use Rattle.grow_core.specs.Segment.{IsSegmentOf, KnowsSegment};
 ghost use Rattle.grow_core.specs.Stretch.{TakesFrom, values_from};
 ghost use Rattle.grow_core.specs.Growth.{WonRun, Refuses, HasNoRoom, SaysFull, IsNotMoved, IsFoundAt};
 ghost use Rattle.grow_core.specs.Making.{StopsIn, IsTakenBelow};
-ghost use Rattle.grow_core.specs.Logs.{LogsGrowth, LogsNothing, LogsRefusal, AllFilled, fill_steps};
-ghost use Rattle.grow_core.specs.Steps.{AreFresh, IsUntouched, KeepsHand, WorksAlong, WorksOn};
+ghost use Rattle.grow_core.specs.Logs.{LogsGrowth, LogsRefusal, AllFilled, fill_steps};
+ghost use Rattle.grow_core.specs.Steps.{AddsAlong, AddsOn, AreFresh, IsUntouched, WorksIn};
 
 use crate::errors::{GrowError, Never};
 use crate::fill::Segment;
@@ -134,9 +134,8 @@ impl<T: Drop> Shared<T> {
         ensures tokens { IfOk result (IsGrownOf self.now) }
         ensures values { IfOk result (λ grown. values_of grown ≡ S.values source.now) }
         ensures stopped { IfErr result (StopsIn self.now run) }
-        ensures keeps { KeepsHand hand.old hand.new }
-        ensures goes_on { LogsNothing hand.old hand.new }
-        ensures works { IfOk result (λ _. WorksOn self.now hand.old hand.new run run.from run.n
+        ensures works { WorksIn hand.old hand.new run.from run.n }
+        ensures adds { IfOk result (λ _. AddsOn self.now hand.old hand.new run run.from
             (λ index. fill_steps index run.from run.n)) }
         // No place is taken whose segment was laid since the opening.
         ensures opened { IfErr result (IsTakenBelow self.now.laid) }
@@ -196,8 +195,9 @@ impl<T: Drop> Shared<T> {
         ensures within { IfOk result (λ stretch. place + stretch.n ≤ segment.now.end) }
         ensures found { IfErr result (IsFoundAt self.now place) }
         ensures opened { IfErr result (λ _. place < self.now.laid) }
-        ensures works { IfOk result (λ stretch.
-            WorksAlong self.now claims.old claims.new place stretch.n
+        ensures works { IfOk result (λ stretch. WorksIn claims.old claims.new place stretch.n) }
+        ensures adds { IfOk result (λ stretch.
+            AddsAlong self.now claims.old claims.new place stretch.n
             (λ index. fill_steps index place stretch.n)) }
         ensures untouched { IfErr result (λ _. IsUntouched claims.old claims.new) }
     {

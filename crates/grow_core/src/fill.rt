@@ -13,7 +13,7 @@ ghost use Rattle.grow_core.specs.Vector.{IsHandOf, IsLaid, IsPlacedOf, IsSpoiltO
 ghost use Rattle.grow_core.specs.Segment.{IsSegmentOf, KnowsSegment};
 ghost use Rattle.grow_core.specs.Growth.{IsFoundAt};
 ghost use Rattle.grow_core.specs.Logs.{fill_steps};
-ghost use Rattle.grow_core.specs.Steps.{AreFresh, IsUntouched, Works, WorksAt, WorksAlong};
+ghost use Rattle.grow_core.specs.Steps.{AddsAlong, AddsAt, AreFresh, IsUntouched, WorksIn};
 ghost use Rattle.grow_core.specs.Stretch.{IsCounted, IsStretchOf, Takes};
 ghost use Rattle.grow_core.specs.Keys.{OwnsPlacesOf};
 ghost use Rattle.grow_core.specs.Ties.{IsBlockBy, IsCellOf, KnowsRow};
@@ -138,7 +138,8 @@ impl<T: Drop> Shared<T> {
         ensures found { IfErr result (IsFoundAt self.now place) }
         // A place whose segment was laid since the opening is never taken.
         ensures opened { IfErr result (λ _. place < self.now.laid) }
-        ensures works { WorksAt self.now claims.old claims.new place (λ index. fill_event index place) }
+        ensures works { WorksIn claims.old claims.new place 1 }
+        ensures adds { AddsAt self.now claims.old claims.new place (λ index. fill_event index place) }
     {
         let key = segment.key.again();
         let laid = self.is_laid(key.segment());
@@ -177,7 +178,9 @@ impl<T: Drop> Shared<T> {
         ensures found { IfErr result (IsFoundAt self.now place) }
         ensures opened { IfErr result (λ _. place < self.now.laid) }
         ensures works { IfOk result (λ (stretch, _).
-            WorksAlong self.now claims.old claims.new place stretch.n
+            WorksIn claims.old claims.new place stretch.n) }
+        ensures adds { IfOk result (λ (stretch, _).
+            AddsAlong self.now claims.old claims.new place stretch.n
             (λ index. fill_steps index place stretch.n)) }
         ensures untouched { IfErr result (λ _. IsUntouched claims.old claims.new) }
     {
@@ -222,7 +225,8 @@ impl<T: Drop> Shared<T> {
         ensures filled { IfOk result (IsStretchOf self.now place (value ∷ [])) }
         ensures found { IfErr result (IsFoundAt self.now place) }
         ensures opened { IfErr result (λ _. place < self.now.laid) }
-        ensures works { WorksAt self.now claims.old claims.new place (λ index. fill_event index place) }
+        ensures works { WorksIn claims.old claims.new place 1 }
+        ensures adds { AddsAt self.now claims.old claims.new place (λ index. fill_event index place) }
     {
         let placed = self.fill(claims, segment, place, value)?;
         Ok(self.alone(placed))
@@ -247,7 +251,8 @@ impl<T: Drop> Shared<T> {
         ensures here { IfOk result (λ spoilt. spoilt.place ≡ place) }
         ensures found { IfErr result (IsFoundAt self.now place) }
         ensures opened { IfErr result (λ _. place < self.now.laid) }
-        ensures works { WorksAt self.now claims.old claims.new place (λ index. break_event index place) }
+        ensures works { WorksIn claims.old claims.new place 1 }
+        ensures adds { AddsAt self.now claims.old claims.new place (λ index. break_event index place) }
     {
         let key = segment.key.again();
         let offset = place - segment.from;
@@ -290,7 +295,8 @@ impl<T: Drop> Shared<T> {
         ensures value { IfOk result (λ placed. placed.value ≡ value) }
         ensures found { IfErr result (IsFoundAt self.now place) }
         ensures opened { IfErr result (λ _. place < self.now.laid) }
-        ensures works { WorksAt self.now claims.old claims.new place (λ index. fill_event index place) }
+        ensures works { WorksIn claims.old claims.new place 1 }
+        ensures adds { AddsAt self.now claims.old claims.new place (λ index. fill_event index place) }
     {
         if laid {
             let cell = self.fill_tied(claims, block, &key, place, offset, value);

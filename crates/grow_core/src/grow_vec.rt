@@ -5,8 +5,8 @@ ghost use Rattle.grow_core.specs.Grown.{IsGrownOf, AreKeptFrom, values_of};
 ghost use Rattle.grow_core.specs.Keys.{OwnsPlacesOf};
 ghost use Rattle.grow_core.specs.Growth.{WonRun, WonPlaces, Refuses, HasNoRoom, SaysFull, IsNotMoved};
 ghost use Rattle.grow_core.specs.Making.{StopsIn, IsTakenBelow};
-ghost use Rattle.grow_core.specs.Logs.{LogsGrowth, LogsNothing, LogsRefusal, AllFilled, fill_steps};
-ghost use Rattle.grow_core.specs.Steps.{AreFresh, KeepsHand, WorksOn};
+ghost use Rattle.grow_core.specs.Logs.{LogsGrowth, LogsRefusal, AllFilled, fill_steps};
+ghost use Rattle.grow_core.specs.Steps.{AddsOn, AreFresh, WorksIn};
 
 use crate::errors::{GrowError, Never};
 use crate::grown::Grown;
@@ -133,9 +133,8 @@ impl<T: Drop> Shared<T> {
         ensures tokens { IfOk result (IsGrownOf self.now) }
         ensures values { IfOk result (λ grown. values_of grown ≡ values.items) }
         ensures stopped { IfErr result (StopsIn self.now run) }
-        ensures keeps { KeepsHand hand.old hand.new }
-        ensures goes_on { LogsNothing hand.old hand.new }
-        ensures works { IfOk result (λ _. WorksOn self.now hand.old hand.new run run.from run.n
+        ensures works { WorksIn hand.old hand.new run.from run.n }
+        ensures adds { IfOk result (λ _. AddsOn self.now hand.old hand.new run run.from
             (λ index. fill_steps index run.from run.n)) }
         // No place is taken whose segment was laid since the opening.
         ensures opened { IfErr result (IsTakenBelow self.now.laid) }
@@ -181,9 +180,8 @@ impl<T: Drop> Shared<T> {
         ensures kept { IfOk result
             (λ _. AreKeptFrom K.step keep.old keep.new self.now run.from values.items) }
         ensures stopped { IfErr result (StopsIn self.now run) }
-        ensures keeps { KeepsHand hand.old hand.new }
-        ensures goes_on { LogsNothing hand.old hand.new }
-        ensures works { IfOk result (λ _. WorksOn self.now hand.old hand.new run run.from run.n
+        ensures works { WorksIn hand.old hand.new run.from run.n }
+        ensures adds { IfOk result (λ _. AddsOn self.now hand.old hand.new run run.from
             (λ index. fill_steps index run.from run.n)) }
         // No place is taken whose segment was laid since the opening.
         ensures opened { IfErr result (IsTakenBelow self.now.laid) }

@@ -8,8 +8,8 @@ ghost use Rattle.grow_core.specs.Growth.{Refuses, HasNoRoom, SaysFull, IsNotMove
 ghost use Rattle.grow_core.specs.Making.{Makes, StopsAfter, StopsIn, LeavesMaker, IsRefusedBy, IsTakenFrom};
 ghost use Rattle.grow_core.specs.Making.{WonMade, WonClones, OnRefused, TakesBelow};
 ghost use Rattle.grow_core.specs.Begun.{AreUnwritten, begun_count};
-ghost use Rattle.grow_core.specs.Logs.{LogsGrowth, LogsNothing, LogsRefusal, AllFilled, break_steps, fill_steps};
-ghost use Rattle.grow_core.specs.Steps.{AreFresh, KeepsHand, StopsWith, WorksOn};
+ghost use Rattle.grow_core.specs.Logs.{LogsGrowth, LogsRefusal, AllFilled, break_steps, fill_steps};
+ghost use Rattle.grow_core.specs.Steps.{AddsOn, AreFresh, StopsWith, WorksIn};
 
 use crate::begun::{break_begun, count_begun};
 use crate::errors::GrowError;
@@ -142,9 +142,8 @@ impl<T: Drop> Shared<T> {
         ensures made { IfOk result (λ grown. Makes F.step make.old (values_of grown) make.new) }
         ensures stopped { IfErr result (StopsIn self.now run) }
         ensures asked { IfErr result (LeavesMaker F.step make.old make.new) }
-        ensures keeps { KeepsHand hand.old hand.new }
-        ensures goes_on { LogsNothing hand.old hand.new }
-        ensures works { IfOk result (λ _. WorksOn self.now hand.old hand.new run run.from run.n
+        ensures works { WorksIn hand.old hand.new run.from run.n }
+        ensures adds { IfOk result (λ _. AddsOn self.now hand.old hand.new run run.from
             (λ index. fill_steps index run.from run.n)) }
         ensures leaves { IfErr result (StopsWith self.now hand.old hand.new run) }
     {
@@ -210,9 +209,8 @@ impl<T: Drop> Shared<T> {
         ensures after { IsTakenFrom (run.from + n) result }
         ensures cause { (values : List T) → IsFilledOf self.now run.from values filled
             → IsRefusedBy (λ made why. (made ≡ values) × (why ≡ cause)) result }
-        ensures keeps { KeepsHand hand.old hand.new }
-        ensures goes_on { LogsNothing hand.old hand.new }
-        ensures works { OnRefused result (WorksOn self.now hand.old hand.new run (run.from + n) (run.n - n)
+        ensures works { WorksIn hand.old hand.new (run.from + n) (run.n - n) }
+        ensures adds { OnRefused result (AddsOn self.now hand.old hand.new run (run.from + n)
             (λ index. break_steps index (run.from + n) (run.n - n))) }
         ensures opened { TakesBelow self.now.laid result }
     {

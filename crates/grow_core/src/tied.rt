@@ -14,7 +14,7 @@ ghost use Rattle.grow_core.specs.Keys.{OwnsPlacesOf};
 ghost use Rattle.grow_core.specs.Logs.{fill_steps, step_of};
 ghost use Rattle.grow_core.specs.Segment.{IsSegmentOf, KnowsSegment};
 ghost use Rattle.grow_core.specs.Shown.{look_steps, try_steps};
-ghost use Rattle.grow_core.specs.Steps.{AreFresh, LooksAt, Works, WorksAlong, WorksAt};
+ghost use Rattle.grow_core.specs.Steps.{AddsAlong, AddsAt, AreFresh, LooksAt, WorksIn};
 ghost use Rattle.grow_core.specs.Stretch.{IsCounted, Takes};
 ghost use Rattle.grow_core.specs.Ties.{IsCellOf, KnowsRow, row_at};
 ghost use Rattle.grow_core.specs.Vector.{IsHandOf, IsLaid, layout_of, limit_of};
@@ -90,7 +90,7 @@ impl<T> Shared<T> {
         requires row { Finds claims.old.rows place tag.now.tie.id }
         ensures pen { IsPenAt block.now offset result }
         ensures fresh { IsFresh result }
-        ensures works { Works self.now claims.old claims.new place 1 [] }
+        ensures works { WorksIn claims.old claims.new place 1 }
     {
         let offer = claims.offer_begin(&self.word, tag, place);
         let (pen, offer) = block.begin_for(offset, offer);
@@ -117,7 +117,8 @@ impl<T> Shared<T> {
         requires row { KnowsRow claims.old key.now.segment block.now }
         ensures placed { IsPlacedAt block.now offset result }
         ensures value { result.value ≡ value }
-        ensures works { WorksAt self.now claims.old claims.new place (λ index. fill_event index place) }
+        ensures works { WorksIn claims.old claims.new place 1 }
+        ensures adds { AddsAt self.now claims.old claims.new place (λ index. fill_event index place) }
     {
         let tag = self.cell_tag(block, key, place, offset);
         let pen = self.begin_tied(claims, &tag, block, place, offset);
@@ -143,7 +144,8 @@ impl<T> Shared<T> {
         requires cell { IsCellOf self.now.segments self.now.laid key.now block.now place offset }
         requires row { KnowsRow claims.old key.now.segment block.now }
         ensures spoilt { IsSpoiltAt block.now offset result }
-        ensures works { WorksAt self.now claims.old claims.new place (λ index. break_event index place) }
+        ensures works { WorksIn claims.old claims.new place 1 }
+        ensures adds { AddsAt self.now claims.old claims.new place (λ index. break_event index place) }
     {
         let tag = self.cell_tag(block, key, place, offset);
         let pen = self.begin_tied(claims, &tag, block, place, offset);
@@ -231,7 +233,7 @@ impl<T: Drop> Shared<T> {
         requires word { (place - segment.now.from) % word_cells + n ≤ word_cells }
         requires some { 0 < n }
         ensures pen { IsRunPenAt segment.now.block.now (place - segment.now.from) n result }
-        ensures works { Works self.now claims.old claims.new place n [] }
+        ensures works { WorksIn claims.old claims.new place n }
     {
         // For the proof: the cells of a run have seats with numbers in a row.
         segment.block.ties_laws();
@@ -263,7 +265,8 @@ impl<T: Drop> Shared<T> {
             × (pen.cells ≡ cells_from n pen.offset segment.now.block.now.cells) }
         requires written { length pen.values ≡ n }
         ensures row { result ≡ members_of pen.entry.cells pen.entry.values }
-        ensures works { WorksAlong self.now claims.old claims.new place n (λ index. fill_steps index place n) }
+        ensures works { WorksIn claims.old claims.new place n }
+        ensures adds { AddsAlong self.now claims.old claims.new place n (λ index. fill_steps index place n) }
     {
         // For the proof: the cells of a run have seats with numbers in a row.
         segment.block.ties_laws();
@@ -298,7 +301,8 @@ impl<T: Drop> Shared<T> {
         requires counted { IsCounted values }
         ensures filled { Takes self.now place values result.1 result.0 }
         ensures n { result.0.n ≡ n }
-        ensures works { WorksAlong self.now claims.old claims.new place n (λ index. fill_steps index place n) }
+        ensures works { WorksIn claims.old claims.new place n }
+        ensures adds { AddsAlong self.now claims.old claims.new place n (λ index. fill_steps index place n) }
     {
         let pen = self.begin_run_tied(claims, segment, place, n);
         let (pen, rest) = write_values(pen, n, values);

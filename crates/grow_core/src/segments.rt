@@ -2,12 +2,12 @@
 // visit of the hand's seat, by which the hand learns where the places of the segment stand.
 ghost use Rattle.std.specs.Prelude.{◌≡◌, ◌≤◌, ◌<◌, ◌+◌, [], ◌∷◌, IfOk, IfSome, IfNone, IsSome, IsTrue, IsFalse};
 ghost use Rattle.seg_core.specs.Segment.{HasPlace, most_places, segment_count, segment_end, segment_start};
-ghost use Rattle.claim_core.specs.Hand.{seen_size};
+ghost use Rattle.claim_core.specs.Hand.{IsWholeHand, seen_size};
 ghost use Rattle.claim_core.specs.Plays.{block_view};
 ghost use Rattle.cell_core.specs.Block.{block_len};
 ghost use Rattle.cell_core.specs.Mould.{first_seat, last_seat};
 ghost use Rattle.cell_core.specs.Slot.{ArePlain};
-ghost use Rattle.table_core.specs.Table.{IsKeyOf, IsTiedBlockOf};
+ghost use Rattle.table_core.specs.Table.{IsBlockOf, IsKeyOf, IsTiedBlockOf};
 ghost use Rattle.grow_core.specs.Keys.{AreKeys, HasKeysOfRun, IsKeyAt, KeepsKeys, key_at, mark_of};
 ghost use Rattle.grow_core.specs.Logs.{pending_look, step_of};
 ghost use Rattle.grow_core.specs.Steps.{FindsMore, LooksAt};
@@ -88,6 +88,28 @@ impl<T> Shared<T> {
     }
 }
 
+impl<T> Shared<T> {
+    // The key of the segment, if it is there, by one load, which logs nothing. The hand learns where its places stand.
+    pub(crate) fn scout_row(&self, claims: &mut ClaimHand, segment: u32) -> Option<Key>
+        requires ours { IsHandOf self.now claims.old }
+        requires within { segment < segment_count (layout_of self.now) }
+        requires laid { IsLaid self.now (segment_start (layout_of self.now) segment) }
+        ensures key { IfSome result (IsKeyAt (mark_of self.now.segments) segment) }
+        ensures long { IfSome result (λ key. IsBlockOf (layout_of self.now) segment key.block) }
+        ensures tied { IfSome result (λ key. IsTiedBlockOf self.now.segments segment key.block) }
+        ensures row { IfSome result (λ key. KnowsRow claims.new segment key.block) }
+        ensures finds { FindsMore claims.old claims.new }
+        // No one else logs anything.
+        ensures alone { IsWholeHand claims.old → claims.new.log ≡ claims.old.log }
+    {
+        let visit = claims.visit_scout::<Brand, Global>(&self.word, &self.entry_tag(segment));
+        let (found, visit) = self.table.scout_key_for(segment, visit);
+        claims.take_back_visit(visit);
+        let (_, key) = found?;
+        Some(key)
+    }
+}
+
 impl<T: Drop> Shared<T> {
     // A new block for the segment, with its seat.
     fn make_block(&self, segment: u32) -> Result<(Box<CellBlock<T>>, BlockSeat), AllocError>
@@ -118,14 +140,11 @@ impl<T: Drop> Shared<T> {
         ensures row { IfOk result (λ key. KnowsRow claims.new segment key.block) }
         ensures finds { FindsMore claims.old claims.new }
     {
-        let tag = self.entry_tag(segment);
-        let visit = claims.visit_scout::<Brand, Global>(&self.word, &tag);
-        let (found, visit) = self.table.scout_key_for(segment, visit);
-        claims.take_back_visit(visit);
-        if let Some((_, key)) = found {
+        if let Some(key) = self.scout_row(claims, segment) {
             return Ok(key);
         }
         let (block, mut seat) = self.make_block(segment)?;
+        let tag = self.entry_tag(segment);
         let visit = claims.visit_publish::<Brand, Global>(&self.word, &tag, &mut seat);
         let (_, key, visit) = self.table.install_key_for(segment, block, visit);
         claims.take_back_visit(visit);

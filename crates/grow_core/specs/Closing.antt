@@ -39,9 +39,13 @@ abbrev pub KeepsValues : {T : Type 0} → List (Option T) → List (Option T) �
 KeepsValues {T} old new =
     (place : ℕ) (x : T) → slice_get old place ≡ Some (Some x) → slice_get new place ≡ Some (Some x)
 
+-- the same cell without its tie
+abbrev pub untied : Names → Names
+untied γ = record γ { tied = None }
+
 -- what is kept of a vector whose segments had this mark: the keys of its first `count` segments, as they were
--- before. The names of the values are those of the cells there; each cell after the known ones is unchanged,
--- and so is each segment after the first ones
+-- before. The names of the values are those of the cells there; each cell after the known ones is unchanged but for
+-- its tie, and so is each segment after the first ones
 pub record IsKeptOf {T : Type 0} (f : ℕ) (mark : List ℕ) (before : KeyRow) (names : List ℕ) (row : KeyRow)
     (known : List (MemberView T)) (count : ℕ) : Type 0 where
   pub layout : layout_in mark ≡ f
@@ -54,7 +58,7 @@ pub record IsKeptOf {T : Type 0} (f : ℕ) (mark : List ℕ) (before : KeyRow) (
       → m.name ≡ (cell_at key.block offset).value_name
   pub later : (segment offset : ℕ) (old new : KeyView) → segment < most_segments → key_at before segment ≡ Some old
       → key_at row segment ≡ Some new
-      → length known ≤ place_in f segment offset → cell_at new.block offset ≡ cell_at old.block offset
+      → length known ≤ place_in f segment offset → cell_at new.block offset ≡ untied (cell_at old.block offset)
   pub after : (segment : ℕ) → segment < most_segments → count ≤ segment
       → slice_index names segment ≡ slice_index (names_in mark) segment
 

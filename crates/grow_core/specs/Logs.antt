@@ -154,12 +154,20 @@ value_look place = (Look 0 place, replies.Value place)
 abbrev pub broken_look : ℕ → Event × Reply
 broken_look place = (Look 0 place, replies.Broken)
 
--- a read without a token returned this. A look that finds the place at or above the size is logged wherever it is
+-- a read without a token found a value
+abbrev pub LogsValue : {T : Type 0} → VectorView T → ℕ → HandView → HandView → Type 0
+LogsValue vector place old new = LogsLaid vector place old new (step_of (value_look place))
+
+-- it found none. A look that finds the place at or above the size is logged wherever it is
+abbrev pub LogsNoValue : {T : Type 0} → VectorView T → ℕ → HandView → HandView → AtError → Type 0
+LogsNoValue vector place old new (at.OutOfRange size) = AddsEvents old.log (past_event place size ∷ []) new.log
+LogsNoValue vector place old new at.Pending = LogsLaid vector place old new (step_of (pending_look place))
+LogsNoValue vector place old new (at.Broken spoilt) = LogsLaid vector place old new (step_of (broken_look place))
+
+-- it returned this
 abbrev pub LogsRead : {T : Type 0} → VectorView T → ℕ → HandView → HandView → Result (At T) AtError → Type 0
-LogsRead vector place old new (Ok found) = LogsLaid vector place old new (step_of (value_look place))
-LogsRead vector place old new (Err (at.OutOfRange size)) = AddsEvents old.log (past_event place size ∷ []) new.log
-LogsRead vector place old new (Err at.Pending) = LogsLaid vector place old new (step_of (pending_look place))
-LogsRead vector place old new (Err (at.Broken spoilt)) = LogsLaid vector place old new (step_of (broken_look place))
+LogsRead vector place old new (Ok found) = LogsValue vector place old new
+LogsRead vector place old new (Err error) = LogsNoValue vector place old new error
 
 -- a look at a place was refused
 abbrev pub LogsAtRefusal : ℕ → HandView → HandView → AtError → Type 0
@@ -172,12 +180,16 @@ LogsAtRefusal place old new refusal = LogsNothing old new
 abbrev pub mend_steps : ℕ → ℕ → List Log
 mend_steps limit place = step_of (mend_event limit place) ++ fill_steps (mender_of limit place) place 1
 
--- a mend won its place, or returned why not
+-- a mend returned why it did not fill its place
+abbrev pub LogsNoMend : {T : Type 0} → VectorView T → ℕ → HandView → HandView → MendError T × T → Type 0
+LogsNoMend vector place old new (mend.OutOfRange size, back) = AddsEvents old.log (past_event place size ∷ []) new.log
+LogsNoMend vector place old new (mend.Pending, back) = LogsLaid vector place old new (step_of (pending_look place))
+LogsNoMend vector place old new (mend.Filled placed, back) = LogsLaid vector place old new (step_of (value_look place))
+
+-- a mend filled its place, or returned why not
 abbrev pub LogsMend : {T : Type 0} → VectorView T → ℕ → HandView → HandView → Result (PlacedView T) (MendError T × T) → Type 0
 LogsMend vector place old new (Ok placed) = LogsLaid vector place old new (mend_steps (limit_of vector) place)
-LogsMend vector place old new (Err (mend.OutOfRange size, back)) = AddsEvents old.log (past_event place size ∷ []) new.log
-LogsMend vector place old new (Err (mend.Pending, back)) = LogsLaid vector place old new (step_of (pending_look place))
-LogsMend vector place old new (Err (mend.Filled placed, back)) = LogsLaid vector place old new (step_of (value_look place))
+LogsMend vector place old new (Err refusal) = LogsNoMend vector place old new refusal
 
 -- a place was not mended
 abbrev pub LogsMendRefusal : {T : Type 0} → ℕ → HandView → HandView → MendError T → Type 0

@@ -1,13 +1,14 @@
 -- What a hand does at places next to each other, put together.
 use Rattle.std.proofs.Common.{◌≡◌, ◌⊎◌, ℕ, ◌+◌, ◌<◌, ◌≤◌, List, [], ◌∷◌, ◌++◌, refl, sym, ap, ◌∙◌, subst, ⊎_elim, inl, inr, arith}
 use Rattle.std.specs.Prelude.{length, slice_index}
+use Rattle.std.proofs.lemmas.List.{append-nil}
 use Rattle.std.specs.List.{Contains}
 use mathlib.Core.List.{IsPrefix}
 use Rattle.claim_core.specs.declared.role.RowAt.{RowAt}
 use Rattle.claim_core.specs.declared.run.Run.{Run}
-use Rattle.claim_core.specs.Lengths.{InRun, run_start}
+use Rattle.claim_core.specs.Lengths.{InRun, run_start, runs_end}
 use Rattle.claim_core.specs.Word.{WordView}
-use Rattle.claim_core.specs.Hand.{HandView, KeepsOwn, KeepsCells, AddsRun, SeesBegun, OwnsPlace, IsPlaceOf}
+use Rattle.claim_core.specs.Hand.{HandView, KeepsOwn, KeepsCells, AddsRun, SeesBegun, OwnsPlace, IsPlaceOf, seen_size}
 use Rattle.claim_core.specs.Laws.{AddedPlacesAreNotBegun, SeenRunsHavePlaces}
 use Rattle.book_core.specs.declared.events.Event.{Event}
 use Rattle.book_core.specs.declared.events.Reply.{Reply}
@@ -16,7 +17,7 @@ use Rattle.seg_core.specs.Segment.{HasPlace}
 use Rattle.grow_core.specs.Keys.{KeyRow, AreKeys, IsKeyed, layout_in}
 use Rattle.grow_core.specs.Ties.{KnowsRows, row_at}
 use Rattle.grow_core.specs.Logs.{step_of}
-use Rattle.grow_core.specs.Vector.{VectorView}
+use Rattle.grow_core.specs.Vector.{VectorView, SeesMore}
 use Rattle.grow_core.specs.Steps.{KeepsHand, WorksIn, AddsAt, AddsAlong, AddsOn, AreFresh, OwnsRunAt, OwnsPlaceAt}
 use Rattle.grow_core.proofs.Logs.{nothing_after}
 use Rattle.grow_core.proofs.Adds.{prefix_same, steps_after, steps_join}
@@ -26,6 +27,14 @@ keeps_both a b c p q = record {
   own = record { of = q.own.of ∙ p.own.of; mine = q.own.mine ∙ p.own.mine; shares = q.own.shares ∙ p.own.shares };
   seen = q.seen ∙ p.seen;
 }
+
+-- a hand that has seen the same has seen no less
+pub more_of_keeps : (a b : HandView) → KeepsHand a b → SeesMore a b
+more_of_keeps a b keeps = record { seen = ([], append-nil a.seen ∙ sym keeps.seen); own = keeps.own }
+
+pub size_of_keeps : (a b : HandView) → KeepsHand a b → seen_size b ≡ seen_size a
+size_of_keeps a b keeps =
+    ap (λ (w : WordView). runs_end w.base b.seen) keeps.own.of ∙ ap (λ (l : List ℕ). runs_end a.of.base l) keeps.seen
 
 module _ (a b : HandView) where
   -- nothing is done

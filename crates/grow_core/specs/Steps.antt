@@ -1,5 +1,5 @@
 -- What steps on places do to the hand that makes them, and which events they add to the history that it has seen.
-use Rattle.std.specs.Prelude.{◌≡◌, ◌⊎◌, ℕ, ◌+◌, ◌<◌, ◌≤◌, List, [], ◌∷◌}
+use Rattle.std.specs.Prelude.{◌≡◌, ◌⊎◌, ℕ, ◌+◌, ◌<◌, ◌≤◌, List, [], ◌∷◌, length}
 use Rattle.std.specs.List.{Contains}
 use mathlib.Core.List.{IsPrefix}
 use Rattle.book_core.specs.declared.events.Event.{Event}
@@ -51,6 +51,12 @@ AreFresh hand from n = (place : ℕ) → from ≤ place → place < from + n →
 pub record OwnsRunAt (hand : HandView) (index : ℕ) (run : Run) : Type 0 where
   pub owned : Contains hand.mine index
   pub sees : SeesRun hand index run
+
+-- a run that the hand has just claimed: the hand owns it under the last index that it has seen, and knows none of its
+-- places begun
+pub record IsNewRun (hand : HandView) (run : Run) : Type 0 where
+  pub owned : 0 < run.n → (index : ℕ) → length hand.seen ≡ index + 1 → OwnsRunAt hand index run
+  pub fresh : AreFresh hand run.from run.n
 
 -- the place is one of the hand's run of this index
 pub record OwnsPlaceAt (hand : HandView) (index place : ℕ) : Type 0 where

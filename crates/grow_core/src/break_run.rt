@@ -4,9 +4,9 @@ ghost use Rattle.grow_core.specs.Vector.{IsHandOf, limit_of};
 ghost use Rattle.grow_core.specs.Keys.{OwnsPlacesOf};
 ghost use Rattle.grow_core.specs.BrokenRun.{AreKeptBroken};
 ghost use Rattle.grow_core.specs.Growth.{WonPlaces, Refuses, HasNoRoom, SaysFull, IsNotMoved};
-ghost use Rattle.grow_core.specs.Making.{StopsIn, IsTakenIn, IsTakenBelow};
+ghost use Rattle.grow_core.specs.Making.{StopsIn, IsTakenIn};
 ghost use Rattle.grow_core.specs.Logs.{LogsGrowth, LogsRefusal, AllBroken, break_steps};
-ghost use Rattle.grow_core.specs.Steps.{AddsOn, AreFresh, WorksIn};
+ghost use Rattle.grow_core.specs.Steps.{AddsOn, AreFresh, StopsWith, WorksIn};
 
 use crate::errors::{GrowError, Never};
 use crate::hand::Hand;
@@ -73,7 +73,7 @@ impl<T: Drop> Shared<T> {
         ensures adds { IfOk result (λ _. AddsOn self.now hand.old hand.new run run.from
             (λ index. break_steps index run.from run.n)) }
         // No place is taken whose segment was laid since the opening.
-        ensures opened { IfErr result (IsTakenBelow self.now.laid) }
+        ensures leaves { IfErr result (StopsWith self.now hand.old hand.new run) }
     {
         match self.break_rest(hand, run, 0, keep) {
             Ok(()) => Ok(run),

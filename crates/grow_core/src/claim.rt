@@ -1,7 +1,7 @@
 // How every growth claims its run, once it has its memory.
 ghost use Rattle.std.specs.Prelude.{◌≡◌, ◌+◌, ◌<◌, ◌≤◌, IfOk, IfErr, IsErrAnd};
 ghost use Rattle.claim_core.specs.Hand.{AddsRun, LogsRun, seen_size};
-ghost use Rattle.grow_core.specs.Steps.{AreFresh};
+ghost use Rattle.grow_core.specs.Steps.{IsNewRun};
 ghost use Rattle.grow_core.specs.Vector.{IsHandOf, limit_of};
 ghost use Rattle.grow_core.specs.Keys.{OwnsPlacesOf};
 ghost use Rattle.grow_core.specs.Growth.{Refuses, HasNoRoom, SaysFull, IsNotMoved, ClaimsNothing};
@@ -30,8 +30,8 @@ impl<T: Drop> Shared<T> {
         ensures refused { IfErr result (Refuses self.now n value hand.old hand.new) }
         ensures unclaimed { IfErr result ClaimsNothing }
         ensures full { HasNoRoom self.now n hand.old → IsErrAnd result SaysFull }
-        // No place of the run is known begun.
-        ensures fresh { IfOk result (λ (run, _). AreFresh hand.new run.from run.n) }
+        // The run is the last that the hand has seen, and no place of it is known begun.
+        ensures new_run { IfOk result (λ (run, _). IsNewRun hand.new run) }
         ensures logs { IfOk result (λ (run, _). LogsClaimed hand.old hand.new run) }
         ensures logs_refusal { IfErr result (LogsRefusal self.now n hand.old hand.new) }
     {
@@ -66,8 +66,8 @@ impl<T: Drop> Shared<T> {
         ensures refused { IfErr result (Refuses self.now n value hand.old hand.new) }
         ensures unclaimed { IfErr result ClaimsNothing }
         ensures full { HasNoRoom self.now n hand.old → IsErrAnd result SaysFull }
-        // No place of the run is known begun.
-        ensures fresh { IfOk result (λ (run, _). AreFresh hand.new run.from run.n) }
+        // The run is the last that the hand has seen, and no place of it is known begun.
+        ensures new_run { IfOk result (λ (run, _). IsNewRun hand.new run) }
         ensures logs { IfOk result (λ (run, _). LogsClaimed hand.old hand.new run) }
         ensures logs_refusal { IfErr result (LogsRefusal self.now n hand.old hand.new) }
         ensures not_moved { IfErr result IsNotMoved }
@@ -100,7 +100,7 @@ impl<T: Drop> Shared<T> {
         ensures value { IfOk result (λ on. on ≡ value) }
         ensures refused { IfErr result (Refuses self.now n value hand.old hand.new) }
         ensures unclaimed { IfErr result ClaimsNothing }
-        ensures fresh { IfOk result (λ _. AreFresh hand.new from n) }
+        ensures new_run { IfOk result (λ _. IsNewRun hand.new record { from = from; n = n }) }
         ensures logs { IfOk result (λ _. LogsRun hand.old hand.new record { from = from; n = n }) }
         ensures logs_refusal { IfErr result (LogsRefusal self.now n hand.old hand.new) }
     {

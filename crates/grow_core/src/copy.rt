@@ -7,9 +7,9 @@ ghost use Rattle.grow_core.specs.Keys.{OwnsPlacesOf};
 ghost use Rattle.grow_core.specs.Segment.{IsSegmentOf, KnowsSegment};
 ghost use Rattle.grow_core.specs.Stretch.{TakesFrom, values_from};
 ghost use Rattle.grow_core.specs.Growth.{WonRun, Refuses, HasNoRoom, SaysFull, IsNotMoved, IsFoundAt};
-ghost use Rattle.grow_core.specs.Making.{StopsIn, IsTakenBelow};
+ghost use Rattle.grow_core.specs.Making.{StopsIn};
 ghost use Rattle.grow_core.specs.Logs.{LogsGrowth, LogsRefusal, AllFilled, fill_steps};
-ghost use Rattle.grow_core.specs.Steps.{AddsAlong, AddsOn, AreFresh, IsUntouched, WorksIn};
+ghost use Rattle.grow_core.specs.Steps.{AddsAlong, AddsOn, AreFresh, IsUntouched, StopsWith, WorksIn};
 
 use crate::errors::{GrowError, Never};
 use crate::fill::Segment;
@@ -138,7 +138,7 @@ impl<T: Drop> Shared<T> {
         ensures adds { IfOk result (λ _. AddsOn self.now hand.old hand.new run run.from
             (λ index. fill_steps index run.from run.n)) }
         // No place is taken whose segment was laid since the opening.
-        ensures opened { IfErr result (IsTakenBelow self.now.laid) }
+        ensures leaves { IfErr result (StopsWith self.now hand.old hand.new run) }
     {
         // For the proof: the vector's base is within its limit.
         self.laws();

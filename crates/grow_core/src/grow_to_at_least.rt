@@ -4,7 +4,7 @@ ghost use Rattle.claim_core.specs.Hand.{seen_size};
 ghost use Rattle.grow_core.specs.Vector.{IsHandOf, limit_of};
 ghost use Rattle.grow_core.specs.Growth.{SaysFull, ClaimsNothing};
 ghost use Rattle.grow_core.specs.Making.{StopsAfter, IsRefusedBy, LeavesMaker};
-ghost use Rattle.grow_core.specs.AtLeast.{WonAtLeast, MadeUpTo, RefusesAtLeast, SaysEnough, ReachesSize, IsSpared, IsFreshIn};
+ghost use Rattle.grow_core.specs.AtLeast.{WonAtLeast, MadeUpTo, RefusesAtLeast, SaysEnough, ReachesSize, IsSpared, IsNewIn};
 ghost use Rattle.grow_core.specs.Logs.{LogsAtLeast, LogsReached, LogsRefusalUpTo};
 
 use crate::errors::GrowError;
@@ -91,8 +91,8 @@ impl<T: Drop> Shared<T> {
         ensures unclaimed { IfErr result ClaimsNothing }
         ensures enough { size ≤ seen_size hand.old → IsOkAnd result IsSpared }
         ensures full { limit_of self.now < size → IsErrAnd result SaysFull }
-        // No place of the run is known begun.
-        ensures fresh { IfOk result (IsFreshIn hand.new) }
+        // The run is the last that the hand has seen, and no place of it is known begun.
+        ensures new_run { IfOk result (IsNewIn hand.new) }
         ensures logs { IfOk result (LogsReached size hand.old hand.new) }
         ensures logs_refusal { IfErr result (LogsRefusalUpTo self.now size hand.old hand.new) }
     {
@@ -118,8 +118,8 @@ impl<T: Drop> Shared<T> {
         ensures reached { IfOk result (ReachesSize self.now size hand.old hand.new) }
         ensures refused { IfErr result (RefusesAtLeast self.now size hand.old hand.new) }
         ensures unclaimed { IfErr result ClaimsNothing }
-        // No place of the run is known begun.
-        ensures fresh { IfOk result (IsFreshIn hand.new) }
+        // The run is the last that the hand has seen, and no place of it is known begun.
+        ensures new_run { IfOk result (IsNewIn hand.new) }
         ensures logs { IfOk result (LogsReached size hand.old hand.new) }
         ensures logs_refusal { IfErr result (LogsRefusalUpTo self.now size hand.old hand.new) }
     {

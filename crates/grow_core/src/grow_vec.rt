@@ -4,9 +4,9 @@ ghost use Rattle.grow_core.specs.Vector.{IsHandOf, limit_of};
 ghost use Rattle.grow_core.specs.Grown.{IsGrownOf, AreKeptFrom, values_of};
 ghost use Rattle.grow_core.specs.Keys.{OwnsPlacesOf};
 ghost use Rattle.grow_core.specs.Growth.{WonRun, WonPlaces, Refuses, HasNoRoom, SaysFull, IsNotMoved};
-ghost use Rattle.grow_core.specs.Making.{StopsIn, IsTakenBelow};
+ghost use Rattle.grow_core.specs.Making.{StopsIn};
 ghost use Rattle.grow_core.specs.Logs.{LogsGrowth, LogsRefusal, AllFilled, fill_steps};
-ghost use Rattle.grow_core.specs.Steps.{AddsOn, AreFresh, WorksIn};
+ghost use Rattle.grow_core.specs.Steps.{AddsOn, AreFresh, StopsWith, WorksIn};
 
 use crate::errors::{GrowError, Never};
 use crate::grown::Grown;
@@ -137,7 +137,7 @@ impl<T: Drop> Shared<T> {
         ensures adds { IfOk result (λ _. AddsOn self.now hand.old hand.new run run.from
             (λ index. fill_steps index run.from run.n)) }
         // No place is taken whose segment was laid since the opening.
-        ensures opened { IfErr result (IsTakenBelow self.now.laid) }
+        ensures leaves { IfErr result (StopsWith self.now hand.old hand.new run) }
     {
         // For the proof: the vector's base is within its limit.
         self.laws();
@@ -184,7 +184,7 @@ impl<T: Drop> Shared<T> {
         ensures adds { IfOk result (λ _. AddsOn self.now hand.old hand.new run run.from
             (λ index. fill_steps index run.from run.n)) }
         // No place is taken whose segment was laid since the opening.
-        ensures opened { IfErr result (IsTakenBelow self.now.laid) }
+        ensures leaves { IfErr result (StopsWith self.now hand.old hand.new run) }
     {
         // For the proof: the vector's base is within its limit.
         self.laws();

@@ -6,9 +6,9 @@ use mathlib.Core.List.{IsPrefix}
 use Rattle.book_core.specs.declared.events.Event.{Event}
 use Rattle.book_core.specs.declared.events.Reply.{Reply}
 use Rattle.claim_core.specs.declared.run.Run.{Run}
-use Rattle.claim_core.specs.Hand.{HandView, AddsRun, KeepsCells, SeesBegun, single}
-use Rattle.claim_core.specs.Laws.{AddedPlacesAreNotBegun, AddedRunsAreLast}
-use Rattle.claim_core.specs.History.{AddsEvents, claim_event, raise_event}
+use Rattle.claim_core.specs.Hand.{HandView, AddsRun, LogsRun, KeepsCells, SeesBegun, single}
+use Rattle.claim_core.specs.Laws.{AddedPlacesAreNotBegun, AddedRunsAreLast, SeenRunsHavePlaces}
+use Rattle.claim_core.specs.History.{AddsEvents, claim_event, fill_event, raise_event}
 use Rattle.grow_core.specs.declared.errors.GrowError.{GrowError}
 use Rattle.grow_core.specs.declared.errors.GrowError.TheVariants.{NoMemory, Full, Moved, Refused, Taken}
 use Rattle.grow_core.specs.declared.grow_to_at_least.Reached.{Reached}
@@ -18,10 +18,10 @@ use Rattle.grow_core.specs.Token.{PlacedView}
 use Rattle.grow_core.specs.Grown.{GrownView}
 use Rattle.grow_core.specs.Making.{StopsIn}
 use Rattle.grow_core.specs.Logs.{Fate, AllFilled, PartFilled, LogsLaid, LogsClaim, LogsClaimed, LogsWin, LogsPush, LogsGrowth, LogsRefusal, LogsReached, LogsRefusalUpTo, step_of, fate_steps, fill_steps}
-use Rattle.grow_core.specs.Steps.{WorksIn, AddsOn, OwnsRunAt, IsNewRun, StopsWith}
+use Rattle.grow_core.specs.Steps.{WorksIn, AddsAt, AddsOn, OwnsRunAt, IsNewRun, StopsWith}
 use Rattle.grow_core.proofs.Logs.{events_after, nothing_after}
 use Rattle.grow_core.proofs.Adds.{one_step, steps_after, steps_stay, steps_join}
-use Rattle.grow_core.proofs.Works.{claimed_fresh}
+use Rattle.grow_core.proofs.Works.{claimed_fresh, claimed_owned}
 
 -- ---- Of a hand that had seen less
 
@@ -232,3 +232,17 @@ pub claim_of : (claim : ℕ → Event × Reply) (old mid : HandView) (index : �
     → AddsEvents old.log (claim index ∷ []) mid.log → LogsClaim claim old mid
 claim_of claim old mid index last added =
     record { index = index; last = last; adds = one_step old.log mid.log (claim index ∷ []) added }
+
+-- ---- One push
+
+-- A hand finds the segment, which logs nothing, claims the place, and fills it
+pub push_of : AddedRunsAreLast → SeenRunsHavePlaces → {T : Type 0} (vector : VectorView T) (old found mid new : HandView) (place : ℕ) → IsPrefix old.log found.log
+    → AddsRun found mid (single place) → LogsRun found mid (single place) → WorksIn mid new place 1
+    → AddsAt vector mid new place (λ index. fill_event index place) → LogsPush vector old new place
+push_of last have vector old found mid new place more adds logs works filled =
+    let claim = λ (index : ℕ). claim_event index (single place) in
+    let owned = owned_of last found mid (single place) adds logs.index logs.last in
+    let here = claimed_owned have mid logs.index (single place) owned place (omega arith, omega arith) in
+    win_after old found new more vector claim AllFilled (single place)
+    (win_of vector found mid new claim AllFilled (single place) (claim_of claim found mid logs.index logs.last logs.adds) works
+    (λ laid. filled logs.index here laid))

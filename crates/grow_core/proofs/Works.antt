@@ -7,6 +7,7 @@ use mathlib.Core.List.{IsPrefix}
 use Rattle.claim_core.specs.declared.role.RowAt.{RowAt}
 use Rattle.claim_core.specs.declared.run.Run.{Run}
 use Rattle.claim_core.specs.Lengths.{InRun, run_start, runs_end}
+use Rattle.cell_core.specs.Block.{BlockView}
 use Rattle.claim_core.specs.Word.{WordView}
 use Rattle.claim_core.specs.Hand.{HandView, KeepsOwn, KeepsCells, AddsRun, SeesBegun, OwnsPlace, IsPlaceOf, seen_size}
 use Rattle.claim_core.specs.Laws.{AddedPlacesAreNotBegun, SeenRunsHavePlaces}
@@ -15,12 +16,12 @@ use Rattle.book_core.specs.declared.events.Reply.{Reply}
 use Rattle.claim_core.specs.History.{Log, Adds}
 use Rattle.seg_core.specs.Segment.{HasPlace}
 use Rattle.grow_core.specs.Keys.{KeyRow, AreKeys, IsKeyed, layout_in}
-use Rattle.grow_core.specs.Ties.{KnowsRows, row_at}
-use Rattle.grow_core.specs.Logs.{step_of}
+use Rattle.grow_core.specs.Ties.{KnowsRow, KnowsRows, row_at}
+use Rattle.grow_core.specs.Logs.{step_of, fill_steps, break_steps, stop_steps}
 use Rattle.grow_core.specs.Vector.{VectorView, SeesMore}
 use Rattle.grow_core.specs.Steps.{KeepsHand, WorksIn, AddsAt, AddsAlong, AddsOn, AreFresh, OwnsRunAt, OwnsPlaceAt}
 use Rattle.grow_core.proofs.Logs.{nothing_after}
-use Rattle.grow_core.proofs.Adds.{prefix_same, steps_after, steps_join}
+use Rattle.grow_core.proofs.Adds.{prefix_same, steps_after, steps_join, fills_join, breaks_join}
 
 keeps_both : (a b c : HandView) → KeepsHand a b → KeepsHand b c → KeepsHand a c
 keeps_both a b c p q = record {
@@ -38,28 +39,36 @@ size_of_keeps a b keeps =
 
 module _ (a b : HandView) where
   -- nothing is done
-  pub works_none : (from : ℕ) → a ≡ b → WorksIn a b from 0
-  works_none from same = subst (λ (h : HandView). WorksIn a h from 0) same (record {
+  pub works_none : (from n : ℕ) → n ≡ 0 → a ≡ b → WorksIn a b from n
+  works_none from n none same = subst (λ (h : HandView). WorksIn a h from n) same (record {
     keeps = record { own = record { of = refl; mine = refl; shares = refl }; seen = refl };
     rows = refl;
     begun = λ place it. inr it;
     more = prefix_same a.log;
   })
 
-  -- places, and then those after them
-  pub works_on : (c : HandView) (from m n : ℕ) → WorksIn a b from m → WorksIn b c (from + m) n → WorksIn a c from (m + n)
-  works_on c from m n p q = record {
-    keeps = keeps_both a b c p.keeps q.keeps;
-    rows = q.rows ∙ p.rows;
-    begun = λ place it.
-        ⊎_elim
-        (λ (here : (from + m ≤ place) × (place < from + m + n)). inl (omega (arith, here.0), omega (arith, here.1)))
-        (λ (before : Contains b.begun place).
-        ⊎_elim (λ (there : (from ≤ place) × (place < from + m)). inl (there.0, omega (arith, there.1))) (λ (old : Contains a.begun place). inr old)
-        (p.begun place before))
-        (q.begun place it);
-    more = nothing_after a.log b.log c.log p.more q.more;
-  }
+  module _ (from m next n all : ℕ) (at : from + m ≡ next) (sum : m + n ≡ all) where
+    -- places, and then those after them
+    pub works_on : (c : HandView) → WorksIn a b from m → WorksIn b c next n → WorksIn a c from all
+    works_on c p q = record {
+      keeps = keeps_both a b c p.keeps q.keeps;
+      rows = q.rows ∙ p.rows;
+      begun = λ place it.
+          ⊎_elim
+          (λ (here : (next ≤ place) × (place < next + n)). inl (omega (arith, here.0, at), omega (arith, here.1, at, sum)))
+          (λ (before : Contains b.begun place).
+          ⊎_elim (λ (there : (from ≤ place) × (place < from + m)). inl (there.0, omega (arith, there.1, sum)))
+          (λ (old : Contains a.begun place). inr old) (p.begun place before))
+          (q.begun place it);
+      more = nothing_after a.log b.log c.log p.more q.more;
+    }
+
+    -- the places after those are as little known as they were
+    pub still_fresh : WorksIn a b from m → AreFresh a from all → AreFresh b next n
+    still_fresh works fresh place above below it =
+        ⊎_elim (λ (here : (from ≤ place) × (place < from + m)). absurd (omega (arith, here.1, above, at)))
+        (λ (before : Contains a.begun place). fresh place (omega (arith, above, at)) (omega (arith, below, at, sum)) before)
+        (works.begun place it)
 
   -- the same places twice
   pub works_twice : (c : HandView) (from n : ℕ) → WorksIn a b from n → WorksIn b c from n → WorksIn a c from n
@@ -71,13 +80,17 @@ module _ (a b : HandView) where
     more = nothing_after a.log b.log c.log p.more q.more;
   }
 
-  module _ (from m n : ℕ) (works : WorksIn a b from m) where
-    -- the places after these are as little known as they were
-    pub still_fresh : AreFresh a from (m + n) → AreFresh b (from + m) n
-    still_fresh fresh place above below it =
-        ⊎_elim (λ (here : (from ≤ place) × (place < from + m)). absurd (omega (arith, here.1)))
-        (λ (before : Contains a.begun place). fresh place (omega arith) (omega arith) before)
-        (works.begun place it)
+  -- places are some of more places
+  pub works_within : (from n first all : ℕ) → first ≤ from → from + n ≤ first + all → WorksIn a b from n → WorksIn a b first all
+  works_within from n first all above below p = record {
+    keeps = p.keeps;
+    rows = p.rows;
+    begun = λ place it.
+        ⊎_elim
+        (λ (here : (from ≤ place) × (place < from + n)). inl (omega (arith, here.0, above), omega (arith, here.1, below)))
+        (λ (before : Contains a.begun place). inr before) (p.begun place it);
+    more = p.more;
+  }
 
 -- ---- What stays of a hand that has seen the same
 
@@ -125,6 +138,18 @@ module _ (a b : HandView) (keeps : KeepsHand a b) where
   rows_still more row knows segment key small is tied =
       subst (λ (w : WordView). Contains b.rows (row_at (layout_in w.mark) segment key.block)) (sym keeps.own.of)
       (more (row_at (layout_in a.of.mark) segment key.block) (knows segment key small is tied))
+
+  -- so what holds of a hand with its keys still holds
+  pub hand_still : ((row : RowAt) → Contains a.rows row → Contains b.rows row) → (row : KeyRow) → IsKeyed a row × KnowsRows a row
+      → IsKeyed b row × KnowsRows b row
+  hand_still more row holds = (keyed_still row holds.0, rows_still more row holds.1)
+
+  -- and it knows the row of a segment that it knew
+  pub segment_still : ((row : RowAt) → Contains a.rows row → Contains b.rows row) → (segment : ℕ) (block : BlockView) → KnowsRow a segment block
+      → KnowsRow b segment block
+  segment_still more segment block knows tied =
+      subst (λ (w : WordView). Contains b.rows (row_at (layout_in w.mark) segment block)) (sym keeps.own.of)
+      (more (row_at (layout_in a.of.mark) segment block) (knows tied))
 
 -- ---- A run that was just claimed
 
@@ -174,3 +199,32 @@ pub along_after : {T : Type 0} (vector : VectorView T) (a b c : HandView) (from 
     → IsPrefix a.log b.log → AddsAlong vector b c from n steps → AddsAlong vector a c from n steps
 along_after vector a b c from n steps keeps more along index owns laid =
     steps_after a.log b.log c.log (steps index) more (along index (λ i less. owns_still a b keeps index (from + i) (owns i less)) laid)
+
+-- ---- The same of fills and breaks alone
+
+module _ {T : Type 0} (vector : VectorView T) (run : Run) (law : SeenRunsHavePlaces) (a b c : HandView) (keeps : KeepsHand a b) (from m next n all : ℕ)
+    (at : from + m ≡ next) (sum : m + n ≡ all) (above : run.from ≤ from) (below : next + n ≤ run.from + run.n) where
+  -- a stretch more is filled
+  pub fills_on : AddsOn vector a b run from (λ index. fill_steps index from m) → AddsAlong vector b c next n (λ index. fill_steps index next n)
+      → AddsOn vector a c run from (λ index. fill_steps index from all)
+  fills_on first along =
+      adds_then vector run a b c from next (λ index. fill_steps index from m) (λ index. fill_steps index next n) (λ index. fill_steps index from all)
+      (omega (arith, at)) (λ index. ap (λ (k : ℕ). fill_steps index from k) (sym sum) ∙ fills_join index from m n next at) keeps first
+      (on_of_along vector run law b c next n (λ index. fill_steps index next n) (omega (arith, at, above)) below along)
+
+  -- or broken
+  pub breaks_on : AddsOn vector a b run from (λ index. break_steps index from m) → AddsAlong vector b c next n (λ index. break_steps index next n)
+      → AddsOn vector a c run from (λ index. break_steps index from all)
+  breaks_on first along =
+      adds_then vector run a b c from next (λ index. break_steps index from m) (λ index. break_steps index next n) (λ index. break_steps index from all)
+      (omega (arith, at)) (λ index. ap (λ (k : ℕ). break_steps index from k) (sym sum) ∙ breaks_join index from m n next at) keeps first
+      (on_of_along vector run law b c next n (λ index. break_steps index next n) (omega (arith, at, above)) below along)
+
+-- the first places of a run are filled, and then the others are broken
+pub stops_on : {T : Type 0} (vector : VectorView T) (run : Run) (a b c : HandView) (made : ℕ) → made ≤ run.n → KeepsHand a b
+    → AddsOn vector a b run run.from (λ index. fill_steps index run.from made)
+    → AddsOn vector b c run (run.from + made) (λ index. break_steps index (run.from + made) (run.n - made))
+    → AddsOn vector a c run run.from (λ index. stop_steps index run made)
+stops_on vector run a b c made few keeps first rest =
+    adds_then vector run a b c run.from (run.from + made) (λ index. fill_steps index run.from made)
+    (λ index. break_steps index (run.from + made) (run.n - made)) (λ index. stop_steps index run made) (omega arith) (λ index. refl) keeps first rest

@@ -12,7 +12,7 @@ use crate::errors::{GrowError, Never};
 use crate::hand::Hand;
 use crate::token::{Found, Spoilt};
 use crate::vector::Shared;
-use claim_core::Run;
+use claim_core::{Run, laws};
 use std::sync::Wait;
 
 impl<T: Drop> Shared<T> {
@@ -105,8 +105,9 @@ impl<T: Drop> Shared<T> {
             (λ index. break_steps index (run.from + first) (run.n - first))) }
         ensures opened { IfErr result (λ (place, _). place < self.now.laid) }
     {
-        // For the proof: the vector's base is within its limit.
+        // For the proof: the vector's base is within its limit, and a run's places are those of its index.
         self.laws();
+        laws::seen_runs_have_places();
         if first == run.n {
             return Ok(());
         }

@@ -20,7 +20,7 @@ use crate::stretch::Stretch;
 use crate::token::Found;
 use crate::vector::Shared;
 use cell_core::block::{Kind, RunPen};
-use claim_core::{Hand as ClaimHand, Run};
+use claim_core::{Hand as ClaimHand, Run, laws};
 use std::sync::Wait;
 
 impl<T: Copy> Shared<T> {
@@ -140,8 +140,9 @@ impl<T: Drop> Shared<T> {
         // No place is taken whose segment was laid since the opening.
         ensures leaves { IfErr result (StopsWith self.now hand.old hand.new run) }
     {
-        // For the proof: the vector's base is within its limit.
+        // For the proof: the vector's base is within its limit, and a run's places are those of its index.
         self.laws();
+        laws::seen_runs_have_places();
         let mut filled = self.no_places();
         if run.n == 0 {
             return Ok(self.grown(run, filled));

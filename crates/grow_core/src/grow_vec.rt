@@ -13,7 +13,7 @@ use crate::grown::Grown;
 use crate::hand::Hand;
 use crate::token::Placed;
 use crate::vector::Shared;
-use claim_core::Run;
+use claim_core::{Run, laws};
 use std::sync::Wait;
 
 impl<T: Drop> Shared<T> {
@@ -139,8 +139,9 @@ impl<T: Drop> Shared<T> {
         // No place is taken whose segment was laid since the opening.
         ensures leaves { IfErr result (StopsWith self.now hand.old hand.new run) }
     {
-        // For the proof: the vector's base is within its limit.
+        // For the proof: the vector's base is within its limit, and a run's places are those of its index.
         self.laws();
+        laws::seen_runs_have_places();
         let mut filled = self.no_places();
         if run.n == 0 {
             return Ok(self.grown(run, filled));
@@ -186,8 +187,9 @@ impl<T: Drop> Shared<T> {
         // No place is taken whose segment was laid since the opening.
         ensures leaves { IfErr result (StopsWith self.now hand.old hand.new run) }
     {
-        // For the proof: the vector's base is within its limit.
+        // For the proof: the vector's base is within its limit, and a run's places are those of its index.
         self.laws();
+        laws::seen_runs_have_places();
         if run.n == 0 {
             return Ok(run);
         }

@@ -19,7 +19,7 @@ use crate::hand::Hand;
 use crate::token::{Found, Spoilt};
 use crate::vector::Shared;
 use cell_core::block::RunPen;
-use claim_core::Run;
+use claim_core::{Run, laws};
 use std::alloc::AllocError;
 use std::sync::Wait;
 
@@ -147,8 +147,9 @@ impl<T: Drop> Shared<T> {
             (λ index. fill_steps index run.from run.n)) }
         ensures leaves { IfErr result (StopsWith self.now hand.old hand.new run) }
     {
-        // For the proof: the vector's base is within its limit.
+        // For the proof: the vector's base is within its limit, and a run's places are those of its index.
         self.laws();
+        laws::seen_runs_have_places();
         let mut filled = self.no_places();
         if run.n == 0 {
             return Ok(self.grown(run, filled));

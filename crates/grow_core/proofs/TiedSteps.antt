@@ -1,9 +1,8 @@
 -- What a hand gains by a step on a tied cell, as the events of what the step returned.
-use Rattle.std.proofs.Common.{◌≡◌, ◌≢◌, ◌⊎◌, ℕ, zero, suc, ◌+◌, ◌<◌, ◌≤◌, List, [], ◌∷◌, ◌++◌, Result, Ok, Err, refl, sym, ap, ◌∙◌, subst, inl, inr, ⊎_elim, arith}
+use Rattle.std.proofs.Common.{◌≡◌, ◌≢◌, ◌⊎◌, ℕ, zero, suc, ◌+◌, ◌<◌, ◌≤◌, List, [], ◌∷◌, ◌++◌, refl, sym, ◌∙◌, subst, inl, inr, ⊎_elim, arith}
 use Rattle.std.specs.Prelude.{Option, Some, None, slice_index_or}
 use Rattle.std.specs.List.{Contains}
 use Rattle.std.proofs.lemmas.List.Elements.{Contains-append_right, Contains-append_cases}
-use mathlib.Core.List.{IsPrefix}
 use Rattle.tie_core.specs.Tie.{Tie, Stage, Idle, Begun, Mending, Filled, Broken, Made, Shows, HasMade, looks}
 use Rattle.book_core.specs.declared.events.Event.{Event}
 use Rattle.book_core.specs.declared.events.Reply.{Reply}
@@ -13,9 +12,8 @@ use Rattle.cell_core.specs.Shown.{IsLookOf}
 use Rattle.claim_core.specs.declared.role.RowAt.{RowAt}
 use Rattle.claim_core.specs.declared.seat_view.SeatView.{SeatView}
 use Rattle.claim_core.specs.Lengths.{InRun}
-use Rattle.claim_core.specs.Word.{WordView}
 use Rattle.claim_core.specs.Hand.{HandView}
-use Rattle.claim_core.specs.History.{Log, Adds, fill_event, break_event, mender_of}
+use Rattle.claim_core.specs.History.{Log, Adds, fill_event, break_event}
 use Rattle.claim_core.specs.Gain.{Gain, Gains, GainsBy, an_event, a_begin}
 use Rattle.claim_core.specs.Laws.{RunsAreApart}
 use Rattle.claim_core.specs.Lent.{seat_hand}
@@ -24,7 +22,7 @@ use Rattle.claim_core.specs.SeatSteps.{look_event}
 use Rattle.grow_core.specs.Logs.{step_of}
 use Rattle.grow_core.specs.Shown.{look_steps}
 use Rattle.grow_core.specs.Vector.{VectorView}
-use Rattle.grow_core.specs.Steps.{KeepsHand, WorksIn, AddsAt, FindsMore, LooksAt}
+use Rattle.grow_core.specs.Steps.{KeepsHand, WorksIn, AddsAt, LooksAt}
 use Rattle.grow_core.proofs.Logs.{log_goes_on}
 use Rattle.grow_core.proofs.Adds.{one_step}
 

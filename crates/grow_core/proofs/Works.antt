@@ -9,7 +9,7 @@ use Rattle.claim_core.specs.declared.run.Run.{Run}
 use Rattle.claim_core.specs.Lengths.{InRun, run_start, runs_end}
 use Rattle.cell_core.specs.Block.{BlockView}
 use Rattle.claim_core.specs.Word.{WordView}
-use Rattle.claim_core.specs.Hand.{HandView, KeepsOwn, KeepsCells, AddsRun, SeesBegun, OwnsPlace, IsPlaceOf, seen_size}
+use Rattle.claim_core.specs.Hand.{HandView, KeepsCells, AddsRun, SeesBegun, OwnsPlace, IsPlaceOf, seen_size}
 use Rattle.claim_core.specs.Laws.{AddedPlacesAreNotBegun, SeenRunsHavePlaces}
 use Rattle.book_core.specs.declared.events.Event.{Event}
 use Rattle.book_core.specs.declared.events.Reply.{Reply}

@@ -1,5 +1,5 @@
 -- What ties the segments of a vector to its claim word, and what a hand knows of them.
-use Rattle.std.specs.Prelude.{◌≡◌, ℕ, ◌+◌, ◌-◌, ◌<◌, ◌≤◌, List, Option, Some, None, slice_get, length}
+use Rattle.std.specs.Prelude.{◌≡◌, ℕ, ◌+◌, ◌-◌, ◌<◌, ◌≤◌, List, Some, None, slice_get, length}
 use Rattle.std.specs.List.{Contains}
 use Rattle.seg_core.specs.Segment.{segment_start, segment_count, most_segments}
 use Rattle.tie_core.specs.Tie.{Tie, IsTied}

@@ -1,5 +1,5 @@
 //! Growths whose values are made in place, by a function that may refuse, or by clones.
-ghost use Rattle.std.specs.Prelude.{◌≡◌, ◌+◌, ◌<◌, ◌≤◌, List, All, IfOk, IfErr, IsErrAnd, length};
+ghost use Rattle.std.specs.Prelude.{◌≡◌, ◌+◌, ◌<◌, ◌≤◌, List, All, IfOk, IfErr, IsSome, IsErrAnd, length};
 ghost use Rattle.grow_core.specs.Vector.{IsHandOf, limit_of};
 ghost use Rattle.grow_core.specs.Grown.{IsGrownOf, values_of};
 ghost use Rattle.grow_core.specs.Filled.{IsFilledOf};

@@ -34,7 +34,7 @@ fn copy_at<T: Copy>(
     ensures opened { (x : T) → IsOpenedAt vector.now place x → IsOkAnd result (λ value. value ≡ x) }
     ensures refused { IfErr result (IsDueAt vector.now place hand.old hand.new) }
     ensures in_range { place < seen_size hand.old → IfErr result IsInRange }
-    // The last place is read by its token, which adds nothing to the history. A look at another one is added.
+    // The last place is read by its token, which adds nothing to the history. A look at any other place is added.
     ensures token { IsLastAt place last.now → hand.new ≡ hand.old }
     ensures looks { (IsLastAt place last.now → ⊥) → IfOk result (λ _. LogsValue vector.now place hand.old hand.new) }
     ensures looks_refusal { (IsLastAt place last.now → ⊥) → IfErr result (LogsNoValue vector.now place hand.old hand.new) }
@@ -55,7 +55,7 @@ impl<T: Copy> Caller<T> {
         ensures refused { IfErr result
             (IsDueAt self.old.vector place self.old.hand self.new.hand) }
         ensures in_range { place < seen_size self.old.hand → IfErr result IsInRange }
-        // The last place is read by its token, which adds nothing to the history. A look at another one is added.
+        // The last place is read by its token, which adds nothing to the history. A look at any other place is added.
         ensures token { IsLastAt place self.old.last → self.new.hand ≡ self.old.hand }
         ensures looks { (IsLastAt place self.old.last → ⊥)
             → IfOk result (λ _. LogsValue self.old.vector place self.old.hand self.new.hand) }

@@ -248,7 +248,7 @@ ShownPlacesAreFinished =
     → IsHistoryOf limit base filled (before ++ (Look 0 place, replies.Value place) ∷ after)
     → (actor : ℕ) × Contains before (fill_event actor place)
 
--- of two histories from which one goes on, one goes on from the other
+-- if one history goes on from each of two others, one of these goes on from the other
 abbrev pub HistoriesAreOne : Type 0
 HistoriesAreOne = (a b all : Log) → IsPrefix a all → IsPrefix b all → IsPrefix a b ⊎ IsPrefix b a
 

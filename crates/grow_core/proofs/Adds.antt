@@ -36,7 +36,7 @@ steps_join a b c (es ∷ rest) ys first next = (first.0, first.1, steps_join fir
 pub one_step : (a b es : Log) → AddsEvents a es b → Adds a (es ∷ []) b
 one_step a b es added = (b, added, prefix_same b)
 
--- one place more is filled, or broken
+-- a further place is filled, or broken
 pub one_more_fill : (actor from n next : ℕ) → from + n ≡ next
     → fill_steps actor from (n + 1) ≡ fill_steps actor from n ++ (fill_event actor next ∷ []) ∷ []
 one_more_fill actor from n next at = map-range_with_len_more (λ place. fill_event actor place ∷ []) from n next at

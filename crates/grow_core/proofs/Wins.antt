@@ -1,4 +1,4 @@
--- What growths add to a history: their claim, and what became of each place; also of a hand as it was when it had seen less.
+-- What growths add to a history: their claim, and what became of each place, seen from a hand that had seen less, too.
 use Rattle.std.proofs.Common.{◌≡◌, ℕ, ◌+◌, ◌-◌, ◌<◌, ◌≤◌, List, [], ◌∷◌, ◌++◌, Result, Ok, Err, IfOk, length, refl, sym, ap, ◌∙◌, subst, arith}
 use Rattle.std.specs.Prelude.{IfErr}
 use Rattle.std.specs.List.{Contains}

@@ -1,4 +1,4 @@
--- What a hand does at places next to each other, put together.
+-- The steps of a hand on places next to each other, put together.
 use Rattle.std.proofs.Common.{◌≡◌, ◌⊎◌, ℕ, ◌+◌, ◌<◌, ◌≤◌, List, [], ◌∷◌, ◌++◌, refl, sym, ap, ◌∙◌, subst, ⊎_elim, inl, inr, arith}
 use Rattle.std.specs.Prelude.{length, slice_index}
 use Rattle.std.proofs.lemmas.List.{append-nil}

@@ -44,8 +44,8 @@ abbrev pub untied : Names → Names
 untied γ = record γ { tied = None }
 
 -- what is kept of a vector whose segments had this mark: the keys of its first `count` segments, as they were
--- before. The names of the values are those of the cells there; each cell after the known ones is unchanged but for
--- its tie, and so is each segment after the first ones
+-- before. The names of the values are those of the cells there; each cell after the known ones is unchanged
+-- except for its tie, and so is each segment after the first ones
 pub record IsKeptOf {T : Type 0} (f : ℕ) (mark : List ℕ) (before : KeyRow) (names : List ℕ) (row : KeyRow)
     (known : List (MemberView T)) (count : ℕ) : Type 0 where
   pub layout : layout_in mark ≡ f
@@ -68,8 +68,8 @@ IsKept f None before names row known count = Unit {0}
 IsKept f (Some mark) before names row known count = IsKeptOf f mark before names row known count
 
 -- a vector that is being closed: the list that it was opened from, the members of the new one so far, the
--- greatest length, how many there will be, the layout of its segments, and the mark that they had; the place from which on
--- all segments were laid since the opening, the tie whose codes those of the cells are, and the hand that has all shares
+-- greatest length, how many there will be, the layout of its segments, and the mark that they had; the first place
+-- whose segment was laid since the opening, the tie whose codes those of the cells are, and the hand that has all shares
 pub record ClosingView (T : Type 0) : Type 0 where
   pub opened : List (Option T)
   pub members : List (Option T)
@@ -111,7 +111,7 @@ KeepsKnownFrom {T} opened place settled =
 
 -- ---- Cells whose stage is known
 
--- the stage at which a tie is fixed, if it is
+-- the stage that a tie is fixed at, if it is
 abbrev pub fixed_in : Option Tie → Option Stage
 fixed_in None = None
 fixed_in (Some t) = t.fixed
@@ -203,7 +203,7 @@ AreKnownFrom next segments laid hand row =
     (segment : ℕ) (key : KeyView) → next ≤ segment → segment < most_segments → key_at row segment ≡ Some key
     → IsBlockBy segments laid segment key.block × KnowsRow hand segment key.block
 
--- What holds of a vector that is being closed beside its list. The word is open, and the whole hand is there. The segments
+-- A vector that is being closed keeps this, next to its list. The word is open, and the whole hand is there. The segments
 -- from `next` on are still tied, and the hand knows where their places stand; those before it are not. The members so far
 -- are those of the history's list
 pub record IsStillOpen {T : Type 0} (word : WordView) (hand : HandView) (cells : Tie) (segments : TableView)
@@ -217,7 +217,7 @@ pub record IsStillOpen {T : Type 0} (word : WordView) (hand : HandView) (cells :
   pub untied : (segment : ℕ) → segment < next → entry_tie segments segment ≡ None
   pub list : IsListSoFar word laid hand.log (values_in known)
 
--- each cell of a segment that was laid since the opening is fixed at its stage, and has its names but for the tie
+-- each cell of a segment that was laid since the opening is fixed at its stage, and has its names except for the tie
 pub record AreFixed (f laid segment : ℕ) (old new : BlockView) : Type 0 where
   pub len : block_len new ≡ block_len old
   pub same : segment_start f segment < laid → new ≡ old

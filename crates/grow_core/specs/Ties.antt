@@ -57,7 +57,7 @@ pub record IsBlockBy (segments : TableView) (laid segment : ℕ) (block : BlockV
   pub tied : laid ≤ segment_start segments.layout segment → IsTiedBlockOf segments segment block
   pub plain : segment_start segments.layout segment < laid → ArePlain block.cells
 
--- where the places of a segment stand whose block this is: their cells have seats in a row
+-- the row of a segment that has this block: the cells of its places have seats in a row
 abbrev pub row_at : ℕ → ℕ → BlockView → RowAt
 row_at f segment block =
     record { from = segment_start f segment; n = block_len block; seat = first_seat block.cells }

@@ -17,7 +17,7 @@ use Rattle.grow_core.specs.Parts.{AreWhole, AreBrokenIn, values_in, filled_in}
 use Rattle.grow_core.specs.Token.{PlacedView, SpoiltView, BegunView, place_in}
 
 -- which vector it is: its claim word, with its limit and its base, and its segments; the list that it was opened from,
--- each member a value or broken (`None`); and the place from which on all segments were laid since the opening
+-- each member a value or broken (`None`); and the first place whose segment was laid since the opening
 pub record VectorView (T : Type 0) : Type 0 where
   pub word : WordView
   pub segments : TableView

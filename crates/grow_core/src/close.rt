@@ -26,8 +26,8 @@ use std::marker::Model;
 use table_core::Key;
 
 impl<T> Shared<T> {
-    // The key of a segment: that of the opened list, or the hand's, or otherwise one found by a look at the table, by which
-    // the hand learns where the segment's places stand. A whole hand learns of no event, since nobody adds one.
+    // The key of a segment: that of the opened list, or the hand's, or otherwise one found by a look at the table: the hand
+    // then knows where the segment's cells are. A whole hand learns of no event, since nobody adds one.
     fn last_key(&self, opened: &Keys, hand: &mut Hand<T>, segment: u32) -> Option<Key>
         requires ours { IsHandOf self.now hand.old }
         requires whole { IsWholeHand hand.old }

@@ -93,7 +93,7 @@ impl<T> Shared<T> {
         }
     }
 
-    // What a place shows that the hand has seen claimed. The look is logged, if the place's segment was laid since the
+    // Looks at a place that the hand has seen claimed. The look is logged, if the place's segment was laid since the
     // opening.
     #[inline(always)]
     fn look_for<'a>(&'a self, hand: &mut Hand<T>, place: u64) -> Shown<'a, T>

@@ -1,5 +1,5 @@
 // How a hand finds the segments of its places, or installs them. Where an entry is tied, its look and its exchange run a
-// visit of the hand's seat, by which the hand learns where the places of the segment stand.
+// visit of the hand's seat, and the hand learns where the cells of the segment are.
 ghost use Rattle.std.specs.Prelude.{◌≡◌, ◌≤◌, ◌<◌, ◌+◌, [], ◌∷◌, IfOk, IfSome, IfNone, IsSome, IsTrue, IsFalse};
 ghost use Rattle.seg_core.specs.Segment.{HasPlace, most_places, segment_count, segment_end, segment_start};
 ghost use Rattle.claim_core.specs.Hand.{IsWholeHand, seen_size};

@@ -151,6 +151,17 @@ module _ (a b : HandView) (keeps : KeepsHand a b) where
       subst (λ (w : WordView). Contains b.rows (row_at (layout_in w.mark) segment block)) (sym keeps.own.of)
       (more (row_at (layout_in a.of.mark) segment block) (knows tied))
 
+-- a hand of the same word that knows the same rows knows those of the keys
+pub rows_kept : (a b : HandView) → b.of ≡ a.of → b.rows ≡ a.rows → (row : KeyRow) → KnowsRows a row → KnowsRows b row
+rows_kept a b of same row knows segment key small is tied =
+    subst (λ (w : WordView). Contains b.rows (row_at (layout_in w.mark) segment key.block)) (sym of)
+    (subst (λ (l : List RowAt). Contains l (row_at (layout_in a.of.mark) segment key.block)) (sym same) (knows segment key small is tied))
+
+pub row_kept : (a b : HandView) → b.of ≡ a.of → b.rows ≡ a.rows → (segment : ℕ) (block : BlockView) → KnowsRow a segment block → KnowsRow b segment block
+row_kept a b of same segment block knows tied =
+    subst (λ (w : WordView). Contains b.rows (row_at (layout_in w.mark) segment block)) (sym of)
+    (subst (λ (l : List RowAt). Contains l (row_at (layout_in a.of.mark) segment block)) (sym same) (knows tied))
+
 -- ---- A run that was just claimed
 
 -- none of its places is known begun

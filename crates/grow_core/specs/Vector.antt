@@ -10,6 +10,7 @@ use Rattle.claim_core.specs.Hand.{HandView, KeepsOwn}
 use Rattle.cell_core.specs.Block.{IsPlacedIn, IsSpoiltIn, IsBegunIn}
 use Rattle.cell_core.specs.Member.{MemberView}
 use Rattle.table_core.specs.Table.{TableView, table_coded, IsKeyIn, IsBlockOf}
+use Rattle.seg_core.specs.Segment.{segment_start}
 use Rattle.tie_core.specs.Tie.{Tie}
 use Rattle.grow_core.specs.Keys.{KeyRow, mark_of}
 use Rattle.grow_core.specs.Ties.{TagRow, AreTiedFrom, ArePlainKeys}
@@ -23,6 +24,15 @@ pub record VectorView (T : Type 0) : Type 0 where
   pub segments : TableView
   pub opened : List (Option T)
   pub laid : ℕ
+
+-- that of a word and segments, with what is known of the list, which brought this number of segments
+abbrev pub vector_of : {T : Type 0} → WordView → TableView → List (MemberView T) → ℕ → VectorView T
+vector_of word segments known count = record {
+  word = word;
+  segments = segments;
+  opened = values_in known;
+  laid = segment_start segments.layout count;
+}
 
 -- how that is stored
 abbrev pub vector_coded : {T : Type 0} → Coded T → Coded (VectorView T)

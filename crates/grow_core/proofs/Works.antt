@@ -19,7 +19,7 @@ use Rattle.grow_core.specs.Keys.{KeyRow, AreKeys, IsKeyed, layout_in}
 use Rattle.grow_core.specs.Ties.{KnowsRow, KnowsRows, row_at}
 use Rattle.grow_core.specs.Logs.{step_of, fill_steps, break_steps, stop_steps}
 use Rattle.grow_core.specs.Vector.{VectorView, SeesMore}
-use Rattle.grow_core.specs.Steps.{KeepsHand, WorksIn, AddsAt, AddsAlong, AddsOn, AreFresh, OwnsRunAt, OwnsPlaceAt}
+use Rattle.grow_core.specs.Steps.{KeepsHand, FindsMore, WorksIn, AddsAt, AddsAlong, AddsOn, AreFresh, OwnsRunAt, OwnsPlaceAt}
 use Rattle.grow_core.proofs.Logs.{nothing_after}
 use Rattle.grow_core.proofs.Adds.{prefix_same, steps_after, steps_join, fills_join, breaks_join}
 
@@ -161,6 +161,12 @@ pub row_kept : (a b : HandView) → b.of ≡ a.of → b.rows ≡ a.rows → (seg
 row_kept a b of same segment block knows tied =
     subst (λ (w : WordView). Contains b.rows (row_at (layout_in w.mark) segment block)) (sym of)
     (subst (λ (l : List RowAt). Contains l (row_at (layout_in a.of.mark) segment block)) (sym same) (knows tied))
+
+-- a hand that has found entries knows no other place begun
+pub begun_still : (a b : HandView) → FindsMore a b → SeesBegun a → SeesBegun b
+begun_still a b finds sees place it =
+    let same = size_of_keeps a b finds.keeps in
+    let below = sees place (subst (λ (l : List ℕ). Contains l place) finds.begun it) in omega (arith, same, below)
 
 -- ---- A run that was just claimed
 

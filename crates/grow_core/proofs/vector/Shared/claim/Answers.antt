@@ -10,7 +10,7 @@ use Rattle.grow_core.specs.Keys.{AreKeys, HasKeysOfRun, layout_in}
 use Rattle.grow_core.proofs.KeyRows.{keyed_sees, keyed_adds, mark_is}
 use Rattle.grow_core.proofs.Later.{adds_after, more_after, more_of_same, refuses_memory}
 use Rattle.grow_core.proofs.Logs.{adds_noted, events_after, full_noted, log_goes_on, nothing_after}
-use Rattle.grow_core.proofs.Works.{more_of_keeps, rows_kept}
+use Rattle.grow_core.proofs.Works.{begun_still, more_of_keeps, rows_kept}
 use Rattle.grow_core.proofs.Wins.{new_run_of}
 use Rattle.grow_core.proofs.vector.Shared.claim.Goals.{in-Ok-exchange_as, in-Err, in-Err-2}
 use Rattle.grow_core.proofs.vector.Shared.claim.Goals as goal
@@ -60,7 +60,8 @@ returns-clause-new_run g c =
     elim c.match-exchange_as.branch [
       | in-Ok-exchange_as w ↦
           let adds = subst (λ (r : Run). AddsRun c.install.new.claims c.exchange_as.new.hand r) w.in-Ok-exchange_as.ensures.run w.in-Ok-exchange_as.ensures.claimed in
-          rw w.result-is (new_run_of c.claiming_laws.ensures.last c.claiming_laws.ensures.fresh _ _ _ c.claiming_laws.ensures.begun w.in-Ok-exchange_as.ensures.cells adds)
+          rw w.result-is (new_run_of c.claiming_laws.ensures.last c.claiming_laws.ensures.fresh _ _ _
+          (begun_still _ _ c.install.ensures.finds c.claiming_laws.ensures.begun) w.in-Ok-exchange_as.ensures.cells adds)
       | in-Err w ↦ rw w.result-is tt
       | in-Err-2 w ↦ rw w.result-is tt
     ]

@@ -12,8 +12,8 @@ use Rattle.grow_core.specs.Keys.{AreKeys, HasKeysOfRun, layout_in}
 use Rattle.grow_core.proofs.KeyRows.{keyed_sees, keyed_adds, keys_of_one, mark_is}
 use Rattle.grow_core.proofs.Later.{adds_after, more_after, more_of_same, refuses_memory}
 use Rattle.grow_core.proofs.Logs.{adds_noted, events_after, full_noted, log_goes_on, nothing_after}
-use Rattle.grow_core.proofs.Works.{hand_still, more_of_keeps, rows_kept}
-use Rattle.grow_core.proofs.Wins.{push_of}
+use Rattle.grow_core.proofs.Works.{begun_still, hand_still, more_of_keeps, row_kept, rows_kept}
+use Rattle.grow_core.proofs.Wins.{new_run_of, push_of}
 use Rattle.grow_core.proofs.vector.Shared.push_at.Goals as goal
 
 -- The names of goals are those of before. Not checked.
@@ -105,3 +105,15 @@ pub returns-clause-logs_refusal : goal.returns-clause-logs_refusal
 returns-clause-logs_refusal g c =
     subst (λ (h : HandView). LogsNothing h c.exchange_as.new.hand) c.hand.view_is
     (nothing_after _ _ _ c.key_for.ensures.finds.more (log_goes_on _ _ _ c.in-Err-2.ensures.logs_note))
+
+-- the place was just claimed, so the hand owns it and has not begun it
+pub fill_cell-requires-clause-fresh : goal.fill_cell-requires-clause-fresh
+fill_cell-requires-clause-fresh g c =
+    let adds = subst (λ (r : Run). AddsRun c.key_for.new.claims c.exchange_as.new.hand r) c.in-Ok-exchange_as.ensures.run c.in-Ok-exchange_as.ensures.claimed in
+    (new_run_of c.claiming_laws.ensures.last c.claiming_laws.ensures.fresh c.key_for.new.claims c.exchange_as.new.hand (single c.args.from)
+    (begun_still _ _ c.key_for.ensures.finds c.claiming_laws.ensures.begun) c.in-Ok-exchange_as.ensures.cells adds).fresh
+
+pub fill_cell-requires-clause-row : goal.fill_cell-requires-clause-row
+fill_cell-requires-clause-row g c =
+    row_kept c.key_for.new.claims c.exchange_as.new.hand c.in-Ok-exchange_as.ensures.claimed.of c.in-Ok-exchange_as.ensures.cells.rows
+    c.locate-segment.result.0 c.known_block-block.result.now c.in-Ok.ensures.row

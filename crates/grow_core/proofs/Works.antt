@@ -162,6 +162,23 @@ row_kept a b of same segment block knows tied =
     subst (λ (w : WordView). Contains b.rows (row_at (layout_in w.mark) segment block)) (sym of)
     (subst (λ (l : List RowAt). Contains l (row_at (layout_in a.of.mark) segment block)) (sym same) (knows tied))
 
+-- a hand finds entries, or none, and then others
+pub finds_none : (a : HandView) → FindsMore a a
+finds_none a = record {
+  keeps = record { own = record { of = refl; mine = refl; shares = refl }; seen = refl };
+  rows = λ row it. it;
+  begun = refl;
+  more = prefix_same a.log;
+}
+
+pub finds_on : (a b c : HandView) → FindsMore a b → FindsMore b c → FindsMore a c
+finds_on a b c p q = record {
+  keeps = keeps_both a b c p.keeps q.keeps;
+  rows = λ row it. q.rows row (p.rows row it);
+  begun = q.begun ∙ p.begun;
+  more = nothing_after a.log b.log c.log p.more q.more;
+}
+
 -- a hand that has found entries knows no other place begun
 pub begun_still : (a b : HandView) → FindsMore a b → SeesBegun a → SeesBegun b
 begun_still a b finds sees place it =

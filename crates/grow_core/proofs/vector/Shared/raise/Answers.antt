@@ -1,12 +1,15 @@
-use Rattle.std.proofs.Common.{◌≡◌, List, ℕ, ◌-◌, ap, subst, arith}
+use Rattle.std.proofs.Common.{◌≡◌, List, ℕ, [], ◌∷◌, ◌-◌, ap, subst, arith}
 use Rattle.claim_core.specs.Hand.{HandView, seen_size}
+use Rattle.claim_core.specs.History.{AddsEvents, enough_event, memory_event, raise_event}
 use Rattle.grow_core.specs.declared.errors.GrowError.TheVariants.{NoMemory}
 use Rattle.grow_core.specs.AtLeast.{RefusesAtLeast}
+use Rattle.grow_core.specs.Logs.{LogsClaim}
 use Rattle.grow_core.specs.Keys.{AreKeys, HasKeysOfRun, layout_in}
 use Rattle.grow_core.proofs.KeyRows.{keyed_sees, keyed_adds, keys_of_later, mark_is}
 use Rattle.grow_core.proofs.Later.{adds_after, more_after, more_of_same, size_of_same}
 use Rattle.grow_core.proofs.Works.{begun_still, more_of_keeps, rows_kept, size_of_keeps}
-use Rattle.grow_core.proofs.Wins.{new_run_of}
+use Rattle.grow_core.proofs.Logs.{events_after}
+use Rattle.grow_core.proofs.Wins.{claim_after, claim_of, new_run_of}
 use Rattle.grow_core.proofs.vector.Shared.raise.Goals.{in-Ok-raise, in-Err}
 use Rattle.grow_core.proofs.vector.Shared.raise.Goals as goal
 
@@ -68,3 +71,25 @@ returns-in_default-clause-refused g c =
       due = (omega (arith, was, c.requires.further), c.requires.within_limit);
       left = (more_after _ _ _ (more_of_keeps _ _ found) (more_of_same _ _ lacks.own lacks.seen), omega (arith, was, still, same, c.requires.further));
     })
+
+pub returns-clause-logs : goal.returns-clause-logs
+returns-clause-logs g c =
+    let more = c.install.ensures.finds.more in
+    elim c.match-raise.branch [
+      | in-Ok-raise w ↦
+          let logs = w.in-Ok-raise.ensures.logs in let run = w.in-Ok-raise.run' in
+          rw w.result-is
+          (subst (λ (h : HandView). LogsClaim (λ index. raise_event index c.args.size run) h c.raise.new.hand) c.hand.view_is
+          (claim_after _ _ _ more (λ index. raise_event index c.args.size run)
+          (claim_of (λ index. raise_event index c.args.size run) _ _ logs.index logs.last logs.adds)))
+      | in-Err w ↦
+          let size = w.in-Err.field-0.size in
+          rw w.result-is
+          (subst (λ (h : HandView). AddsEvents h.log (enough_event c.args.size size ∷ []) c.raise.new.hand.log) c.hand.view_is
+          (events_after _ _ _ (enough_event c.args.size size ∷ []) more w.in-Err.ensures.logs))
+    ]
+
+pub returns-in_default-clause-logs_refusal : goal.returns-in_default-clause-logs_refusal
+returns-in_default-clause-logs_refusal g c =
+    subst (λ (h : HandView). AddsEvents h.log (memory_event ∷ []) c.log_no_memory.new.hand.log) c.hand.view_is
+    (events_after _ _ _ (memory_event ∷ []) c.install.ensures.finds.more c.log_no_memory.ensures.logs)

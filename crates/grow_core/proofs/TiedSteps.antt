@@ -3,7 +3,8 @@ use Rattle.std.proofs.Common.{◌≡◌, ◌≢◌, ◌⊎◌, ℕ, zero, suc, �
 use Rattle.std.specs.Prelude.{Option, Some, None, slice_index_or}
 use Rattle.std.specs.List.{Contains}
 use Rattle.std.proofs.lemmas.List.Elements.{Contains-append_right, Contains-append_cases}
-use Rattle.tie_core.specs.Tie.{Tie, Stage, Idle, Begun, Mending, Filled, Broken, Made, Shows, HasMade, looks}
+use Rattle.atomic_table.specs.Seated.{TableId}
+use Rattle.tie_core.specs.Tie.{Stage, Idle, Begun, Mending, Filled, Broken, Made, Shows, HasMade, looks}
 use Rattle.book_core.specs.declared.events.Event.{Event}
 use Rattle.book_core.specs.declared.events.Reply.{Reply}
 use Rattle.cell_core.specs.declared.block.shown.Look.{Look}
@@ -103,6 +104,10 @@ module _ (place : ℕ) where
         more = log_goes_on old.log [] new.log g.log;
       }
 
+  pub begun_of : (v : SeatView) (o : Option Made) (old new : HandView) → GainsBy (begin_gains place v) o old new → WorksIn old new place 1
+  begun_of v None old new gains = absurd gains
+  begun_of v (Some m) old new gains = begun_at v m old new gains
+
   -- a step with one event, which begins nothing
   pub works_with : (event : Event × Reply) (old new : HandView) → Gains (an_event event) old new → WorksIn old new place 1
   works_with event old new g = record {
@@ -113,11 +118,11 @@ module _ (place : ℕ) where
   }
 
   -- the hand's seat, as the hand
-  seat_sees : (floor : ℕ) (table : List Tie) (v : SeatView) (hand : HandView) → seat_hand floor table v ≡ hand → (index : ℕ)
+  seat_sees : (floor : ℕ) (table : TableId) (v : SeatView) (hand : HandView) → seat_hand floor table v ≡ hand → (index : ℕ)
       → InRun v.base v.seen index place → InRun hand.of.base hand.seen index place
   seat_sees floor table v hand is index it = subst (λ (h : HandView). InRun h.of.base h.seen index place) is it
 
-  module _ (law : RunsAreApart) {T : Type 0} (vector : VectorView T) (floor : ℕ) (table : List Tie) (v : SeatView) (old new : HandView)
+  module _ (law : RunsAreApart) {T : Type 0} (vector : VectorView T) (floor : ℕ) (table : TableId) (v : SeatView) (old new : HandView)
       (is : seat_hand floor table v ≡ old) where
     -- a step on a begun place is of the actor whose index the place's run has
     step_at : (event : ℕ → Event × Reply) → (told : (k : ℕ) × InRun v.base v.seen k place) → Gains (an_event (event told.0)) old new

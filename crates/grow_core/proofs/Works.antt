@@ -262,3 +262,9 @@ pub stops_on : {T : Type 0} (vector : VectorView T) (run : Run) (a b c : HandVie
 stops_on vector run a b c made few keeps first rest =
     adds_then vector run a b c run.from (run.from + made) (λ index. fill_steps index run.from made)
     (λ index. break_steps index (run.from + made) (run.n - made)) (λ index. stop_steps index run made) (omega arith) (λ index. refl) keeps first rest
+
+-- a place that a hand begins first and then fills or breaks
+pub at_after : {T : Type 0} (vector : VectorView T) (a b c : HandView) (place : ℕ) (event : ℕ → Event × Reply) → WorksIn a b place 1
+    → AddsAt vector b c place event → AddsAt vector a c place event
+at_after vector a b c place event works at index owns laid =
+    steps_after a.log b.log c.log (step_of (event index)) works.more (at index (owns_still a b works.keeps index place owns) laid)

@@ -24,7 +24,7 @@ use crate::stretch::{Stretch, write_values};
 use crate::ties::CellBlock;
 use crate::vector::Shared;
 use cell_core::block::{First, Found, Look, Pen, Placed, Row, RunPen, Spoilt, Tied};
-use claim_core::{CellTag, Hand as ClaimHand};
+use claim_core::{CellTag, Hand as ClaimHand, laws};
 use std::vec::IntoIter;
 use table_core::Key;
 
@@ -120,6 +120,8 @@ impl<T> Shared<T> {
         ensures works { WorksIn claims.old claims.new place 1 }
         ensures adds { AddsAt self.now claims.old claims.new place (λ index. fill_event index place) }
     {
+        // For the proof: a place is of one run.
+        laws::runs_are_apart();
         let tag = self.cell_tag(block, key, place, offset);
         let pen = self.begin_tied(claims, &tag, block, place, offset);
         let offer = claims.offer_fill(&self.word, &tag, place);
@@ -147,6 +149,8 @@ impl<T> Shared<T> {
         ensures works { WorksIn claims.old claims.new place 1 }
         ensures adds { AddsAt self.now claims.old claims.new place (λ index. break_event index place) }
     {
+        // For the proof: a place is of one run.
+        laws::runs_are_apart();
         let tag = self.cell_tag(block, key, place, offset);
         let pen = self.begin_tied(claims, &tag, block, place, offset);
         let offer = claims.offer_spoil(&self.word, &tag, place);
@@ -268,7 +272,8 @@ impl<T: Drop> Shared<T> {
         ensures works { WorksIn claims.old claims.new place n }
         ensures adds { AddsAlong self.now claims.old claims.new place n (λ index. fill_steps index place n) }
     {
-        // For the proof: the cells of a run have seats with numbers in a row.
+        // For the proof: the cells of a run have seats with numbers in a row, and a place is of one run.
+        laws::runs_are_apart();
         segment.block.ties_laws();
         let tag = self.cell_tag(segment.block, &segment.key, place, place - segment.from);
         let offer = claims.offer_fill_run(&self.word, &tag, place, n);

@@ -12,7 +12,7 @@ returns-clause-works g c =
     let same = c.fill_for-placed.ensures.offer.1 in
     let lent = subst (λ about. IsLent about.table_id about.view mid c.offer_fill-offer.new.self) (sym same) c.offer_fill-offer.ensures.lent in
     let gained = c.take_back.ensures.gained mid lent in
-    let filled = filled_at c.args.place c.claiming_laws.ensures.apart c.args.self.now mid.of.floor _ _ mid new lent.seat
+    let filled = filled_at c.args.place c.runs_are_apart.ensures c.args.self.now mid.of.floor _ _ mid new lent.seat
     (subst (λ made. _) c.fill_for-placed.ensures.made gained) in
     works_twice c.args.claims.now mid new c.args.place 1 c.begin_tied-pen.ensures.works filled.0
 
@@ -22,6 +22,6 @@ returns-clause-adds g c =
     let same = c.fill_for-placed.ensures.offer.1 in
     let lent = subst (λ about. IsLent about.table_id about.view mid c.offer_fill-offer.new.self) (sym same) c.offer_fill-offer.ensures.lent in
     let gained = c.take_back.ensures.gained mid lent in
-    let filled = filled_at c.args.place c.claiming_laws.ensures.apart c.args.self.now mid.of.floor _ _ mid new lent.seat
+    let filled = filled_at c.args.place c.runs_are_apart.ensures c.args.self.now mid.of.floor _ _ mid new lent.seat
     (subst (λ made. _) c.fill_for-placed.ensures.made gained) in
     at_after c.args.self.now c.args.claims.now mid new c.args.place _ c.begin_tied-pen.ensures.works filled.1

@@ -8,6 +8,7 @@
 #include <cstring>
 #include <iterator>
 #include <mutex>
+#include <numeric>
 #include <oneapi/tbb/concurrent_vector.h>
 
 struct OneTbb {
@@ -186,6 +187,14 @@ template <typename Vector> void grow_often(Vector &vector, Value times) {
   }
 }
 
+// Appends copies of one list.
+template <typename Vector> void copy_often(Vector &vector, Value times) {
+  std::vector<Value> list(list_length);
+  std::iota(list.begin(), list.end(), Value{0});
+  for (Value i = 0; i < times / list_length; ++i)
+    vector.grow(list);
+}
+
 // Pushes values through a buffer, which is appended whenever it is full, and at the end.
 template <typename Vector> void push_buffered(Vector &vector, Value times) {
   std::vector<Value> buffer;
@@ -226,6 +235,8 @@ template <typename Vector> long long run(const char *load, unsigned threads) {
   // oneTBB has no tokens.
   if (!std::strncmp(load, "grow", 4) || !std::strncmp(load, "append", 6))
     work = [&] { grow_often(vector, times); };
+  if (!std::strncmp(load, "copy", 4))
+    work = [&] { copy_often(vector, times); };
   if (!std::strncmp(load, "buffered", 8))
     work = [&] { push_buffered(vector, times); };
   if (!std::strncmp(load, "make", 4))

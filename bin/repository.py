@@ -68,16 +68,16 @@ class Repository:
                         shutil.copytree(f"{self.folder(it)}/{part}", f"{place}/crates/{it}/{part}", copy_function=copy)
             yield f"{place}/crates/{name}"
 
-    def check(self, name, folder, kept, *words):
-        """Has the prover check sources of the crate in a folder, over what `kept` holds, which it adds to, and returns
-        what it said. What the crate stands on must be built."""
+    def check(self, name, folder, kept, *words, verb="check"):
+        """Has the prover check sources of the crate in a folder, or build them, over what `kept` holds, which it adds to, and
+        returns what it said. What the crate stands on must be built."""
         library = lambda it: f"{self.folder(it)}/out/rlib" if it in self.deps else f"{KIT}/rlibs"
         given = [f"{it}={library(it)}/{it}.rlib" for it in ["std", *self.deps[name]]]
         places = [f"{KIT}/rlibs", *map(library, self.below(name))]
         root = "main" if os.path.isfile(f"{folder}/src/main.rt") else "lib"
         return output(
             folder,
-            [f"{KIT}/bin/rattle", "check", "--crate-name", name, f"src/{root}.rt"]
+            [f"{KIT}/bin/rattle", verb, "--crate-name", name, f"src/{root}.rt"]
             + [word for it in given for word in ("--extern", it)]
             + [word for it in places for word in ("-L", f"dependency={it}")]
             + ["--antt-project", f"{KIT}/rattle/logic/antt-project.json", "--logic-built", f"{KIT}/logic_built"]

@@ -63,6 +63,7 @@ impl<T: Drop> Caller<T> {
 
 impl<T> Caller<T> {
     /// Returns the size now, by one load.
+    #[inline(always)]
     pub fn size(&mut self) -> u64
         ensures seen { SeesSize self.old.hand self.new.hand result }
         ensures grows { seen_size self.old.hand ≤ result }

@@ -44,7 +44,7 @@ impl<const N: usize> Element for [u64; N] {
 
     ghost element_of = { λ words. words };
 
-    #[inline]
+    #[inline(always)]
     fn from_words(words: &[u64]) -> Option<[u64; N]>
         ensures made { MatchOption result (length words.now ≢ N) (λ x. x ≡ words.now) }
         ensures fits { IfSome result (λ _. length words.now ≡ N) }
@@ -74,7 +74,7 @@ impl<const N: usize> Element for [u64; N] {
         elements[i as usize]
     }
 
-    #[inline]
+    #[inline(always)]
     fn address(&self) -> *mut u64 {
         match self.as_slice().first() {
             Some(word) => NonNull::from_ref(word).as_ptr(),
@@ -89,7 +89,7 @@ impl<const N: usize> Element for Opaque<N> {
 
     ghost element_of = { λ _. tt };
 
-    #[inline]
+    #[inline(always)]
     fn from_words(words: &[u64]) -> Option<Opaque<N>>
         ensures made { MatchOption result (length words.now ≢ N) (λ x. x ≡ tt) }
         ensures fits { IfSome result (λ _. length words.now ≡ N) }
@@ -119,7 +119,7 @@ impl<const N: usize> Element for Opaque<N> {
         Opaque::from_words(elements[i as usize])
     }
 
-    #[inline]
+    #[inline(always)]
     fn address(&self) -> *mut u64 {
         self.as_ptr()
     }

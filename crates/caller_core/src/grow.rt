@@ -16,7 +16,8 @@ use grow_core::{AtLeast, GrowError, Grown, Never, Placed};
 fn keep_last<T: Drop>(last: &mut Option<Placed<T>>, grown: &Grown<T>) -> u64
     ensures place { result ≡ grown.now.run.from }
     ensures last { TellsLast grown.now last.old last.new }
-    ensures of { (v : VectorView T) → IsGrownOf v grown.now → IsLastOf v last.old → IsLastOf v last.new }
+    ensures of { (v : VectorView T) → IsGrownOf v grown.now → IsLastOf v last.old
+        → IsLastOf v last.new }
 {
     // For the proof: a run has a token of each of its places.
     grown.laws();

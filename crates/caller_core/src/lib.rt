@@ -19,6 +19,7 @@ mod mend;
 mod push;
 mod read;
 mod reopen;
+mod uses;
 
 pub use caller::Caller;
 pub use element::Element;

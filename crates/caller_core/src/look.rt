@@ -11,6 +11,7 @@ use crate::element::Element;
 use grow_core::{AtError, Hand, Placed, Shared};
 
 // The address of the value at the place.
+#[inline(always)]
 fn address_at<'a, T: Element>(
     vector: &'a Shared<T>,
     hand: &mut Hand<T>,
@@ -54,6 +55,7 @@ fn run_at<T: Element>(
 
 impl<T: Element> Caller<T> {
     /// Returns the address of the value at the place, by one load of the size and one look.
+    #[inline(always)]
     pub fn look(&mut self, place: u64) -> Result<*mut u64, AtError>
         ensures below { IfOk result (λ _. place < seen_size self.new.hand) }
         ensures refused { IfErr result

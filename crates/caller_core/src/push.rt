@@ -8,6 +8,7 @@ use grow_core::{GrowError, Never};
 
 impl<T: Drop> Caller<T> {
     /// Appends a value and returns its place. It tries once, from the size that the hand has seen.
+    #[inline(always)]
     pub fn push(&mut self, value: T) -> Result<u64, GrowError<T, T, Never>>
         ensures pushed { IfOk result (Pushes value self.old self.new) }
         ensures refused { IfErr result

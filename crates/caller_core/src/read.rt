@@ -9,6 +9,7 @@ use crate::caller::Caller;
 use grow_core::{AtError, Hand, Placed, Shared};
 
 // The token, if it is of this place.
+#[inline(always)]
 fn token_of<T>(last: &Option<Placed<T>>, place: u64) -> Option<&Placed<T>>
     ensures of { (x : T) → HasLast place x last.now → IsSomeAnd result (λ p. p.now.value ≡ x) }
     ensures here { IfSome result (λ p. (last.now ≡ Some p.now) × (p.now.place ≡ place)) }
@@ -20,6 +21,7 @@ fn token_of<T>(last: &Option<Placed<T>>, place: u64) -> Option<&Placed<T>>
 }
 
 // A copy of the value at the place.
+#[inline(always)]
 fn copy_at<T: Copy>(
     vector: &Shared<T>,
     hand: &mut Hand<T>,
@@ -40,9 +42,11 @@ fn copy_at<T: Copy>(
 
 impl<T: Copy> Caller<T> {
     /// Copies the value at the place.
+    #[inline(always)]
     pub fn at(&mut self, place: u64) -> Result<T, AtError>
         // The caller's last place has its value.
-        ensures own { (x : T) → HasLast place x self.old.last → IsOkAnd result (λ value. value ≡ x) }
+        ensures own { (x : T) → HasLast place x self.old.last
+            → IsOkAnd result (λ value. value ≡ x) }
         // A value of the opened list is read by everybody.
         ensures opened { (x : T) → IsOpenedAt self.old.vector place x
             → IsOkAnd result (λ value. value ≡ x) }

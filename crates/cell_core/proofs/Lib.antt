@@ -4,6 +4,7 @@ mod WordSteps
 mod Twice
 mod CellSteps
 mod RunSteps
+mod TiedRuns
 mod RunMade
 mod CellSent
 mod CellMade
@@ -14,6 +15,7 @@ mod CellLends
 mod RestParts
 mod LaidParts
 mod LaidMade
+mod Untied
 mod RunParts
 mod RunFields
 mod SliceSteps

@@ -1,8 +1,10 @@
 -- Cells with seats in a row have the mould of the row, and cells of such a mould have seats in a row.
-use Rattle.std.proofs.Common.{◌≡◌, ℕ, zero, suc, ◌+◌, ◌-◌, ◌<◌, List, [], ◌∷◌, length, refl, sym, ap, ◌∙◌, subst, arith}
+use Rattle.std.proofs.Common.{◌≡◌, ℕ, zero, suc, ◌+◌, ◌-◌, ◌<◌, ◌≤◌, List, [], ◌∷◌, length, refl, sym, ap, ◌∙◌, subst, arith}
 use Rattle.std.specs.Prelude.{Option, Some, None}
 use Rattle.tie_core.specs.Tie.{Tie, row_of, tie_further, tie_numbered}
+use Rattle.tie_core.specs.Run.{run_of}
 use Rattle.cell_core.specs.Slot.{Names, AreTied, cell_in}
+use Rattle.cell_core.specs.Run.{AreTiedTo, cells_from}
 use Rattle.cell_core.specs.Mould.{id_of, relative, relatives, first_seat, mould_of, row_mould, last_seat}
 
 -- cells with seats in a row from number k + j on have numbers from j on, relative to k
@@ -77,6 +79,12 @@ row_tied t (suc n) [] at i less = absurd at
 row_tied t (suc n) (γ ∷ γs) at zero less = let same : t.id ≡ t.id + 0 = omega arith in at.0 ∙ ap (λ (k : ℕ). Some (tie_numbered t k)) same
 row_tied t (suc n) (γ ∷ γs) at (suc i) less = let e : (t.id + 1) + i ≡ t.id + suc i = omega arith in
     row_tied (tie_further t 1) n γs at.1 i (omega (arith, less)) ∙ ap (λ (k : ℕ). Some (tie_numbered t k)) e
+
+-- the same of neighbours
+pub row_run : (t : Tie) (m : ℕ) (γs : List Names) → AreTied (row_of t m) γs → (i n : ℕ) → i + n ≤ m → AreTiedTo (run_of (tie_further t i) n) (cells_from n i γs)
+row_run t m γs at i zero near = tt
+row_run t m γs at i (suc n) near = let e : t.id + suc i ≡ (t.id + i) + 1 = omega arith in
+    (row_tied t m γs at i (omega (arith, near)), subst (λ (k : ℕ). AreTiedTo (run_of (tie_numbered t k) n) (cells_from n (suc i) γs)) e (row_run t m γs at (suc i) n (omega (arith, near))))
 
 -- a row of seats has a cell for each
 row_long : (t : Tie) (n : ℕ) (γs : List Names) → AreTied (row_of t n) γs → length γs ≡ n

@@ -1,10 +1,10 @@
 -- Cells stay of their kind, and get the ties that a new block is given.
 use Rattle.std.proofs.Common.{Bool, true, false, take, drop, append_assoc, append-nil, take-append-drop, length-append, ◌≡◌, ℕ, zero, suc, List, [], ◌∷◌, ◌++◌, length, set, refl, sym, ap, ◌∙◌, subst, arith}
-use Rattle.std.specs.Prelude.{Option}
-use Rattle.tie_core.specs.Tie.{Tie}
+use Rattle.std.specs.Prelude.{Option, Some, None}
+use Rattle.tie_core.specs.Tie.{Tie, Stage, fixed_at}
 use Rattle.cell_core.specs.Slot.{Names, IsPlain, ArePlain, AreTied, cell_in}
-use Rattle.cell_core.specs.Laid.{AreOfKind, HasOneRenamed, HasMore, HasMoreTied}
-use Rattle.cell_core.specs.Run.{cells_from}
+use Rattle.cell_core.specs.Laid.{IsOfKind, AreOfKind, HasOneRenamed, HasMore, HasMoreTied}
+use Rattle.cell_core.specs.Run.{AreRunOfKind, cells_from}
 
 -- one cell that is renamed, if the former is plain
 plain_set : (γs : List Names) (i : ℕ) (c : Names) → (IsPlain (cell_in γs i) → IsPlain c) → ((j : ℕ) → IsPlain (cell_in γs j)) → (j : ℕ) → IsPlain (cell_in (set γs i c) j)
@@ -49,6 +49,22 @@ true_is_not e = cc
 -- cells that may be tied are of that kind
 pub tied_kind : (γs : List Names) → AreOfKind true γs
 tied_kind γs = record { plain = λ none. absurd (true_is_not none) }
+
+-- the same of a run of them
+pub tied_run_kind : (γs : List Names) → AreRunOfKind true γs
+tied_run_kind γs = record { plain = λ none. absurd (true_is_not none) }
+
+-- the first cell of a run of a kind is of that kind, and so are the others
+pub run_first : (tied : Bool) (γ : Names) (γs Γs : List Names) → γ ∷ γs ≡ Γs → AreRunOfKind tied Γs → IsOfKind tied γ
+run_first tied γ γs Γs is are = record { plain = λ none. (subst ArePlain (sym is) (are.plain none)).0 }
+
+pub run_others : (tied : Bool) (γ : Names) (γs Γs : List Names) → γ ∷ γs ≡ Γs → AreRunOfKind tied Γs → AreRunOfKind tied γs
+run_others tied γ γs Γs is are = record { plain = λ none. (subst ArePlain (sym is) (are.plain none)).1 }
+
+-- a tie that is fixed again is fixed at the later stage
+pub fixed_again : (τ : Option Tie) (a b : Stage) → fixed_at (fixed_at τ a) b ≡ fixed_at τ b
+fixed_again None a b = refl
+fixed_again (Some t) a b = refl
 
 -- cells with ties, and more of them
 tied_join : (τs us : List (Option Tie)) (γs Γs : List Names) → AreTied τs γs → AreTied us Γs → AreTied (τs ++ us) (γs ++ Γs)

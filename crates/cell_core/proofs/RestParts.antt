@@ -1,5 +1,5 @@
 -- What an exclusive owner may do with a cell: its names, and what lies in its room. Assumes `Logic`.
-use Rattle.std.proofs.Common.{Bool, true, false, not, T, eqb, eqb→eq, eq-eqb, ◌≡◌, ◌≢◌, ℕ, [], ◌∷◌, sym, refl, ap, subst, arith}
+use Rattle.std.proofs.Common.{Bool, true, false, not, T, eqb, eqb→eq, eq-eqb, ◌≡◌, ◌≢◌, ◌<◌, ℕ, List, [], ◌∷◌, length, set, get_or-set_same, sym, refl, ap, ◌∙◌, subst, arith}
 use Rattle.std.specs.Prelude.{Option, Some, None}
 use seplogic.Ra.Ura.{Ura}
 use mathlib.Core.Logic.{dite}
@@ -21,11 +21,15 @@ use denote.Param.{param, layout}
 use denote.Param.Laws.{Laws, param_laws}
 use denote.Struct.Members.{Member}
 use Rattle.core.proofs.cell.Inside.{spread}
-use Rattle.cell_core.specs.Slot.{Names, Phase, free, begun, busy, full, broken, broken_by_owner, state, Lies, Rest, fact, place, resting, mark, broken_mark, broken_once, auths, unset, settable, written, was_broken}
-use Rattle.cell_core.specs.Laid.{IsAnother, lying}
+use Rattle.cell_core.specs.Slot.{Names, cell_in, Phase, free, begun, busy, full, broken, broken_by_owner, state, Lies, Rest, fact, place, resting, mark, broken_mark, broken_once, auths, unset, settable, written, was_broken}
+use Rattle.cell_core.specs.Laid.{IsAnother, IsFixedAt, lying}
 use Rattle.cell_core.specs.Member.{IsUnset}
 use Rattle.tie_core.specs.Tie.{Tie, Stage, Idle, Filled, Broken, seat_at, fixed_at}
 use Rattle.cell_core.proofs.CellSteps.{one_written}
+
+-- a cell that is put at an index with the tie of the former one, fixed at a stage
+pub fixed_set : (γs : List Names) (i : ℕ) (γ : Names) (s : Stage) → i < length γs → γ.tied ≡ fixed_at (cell_in γs i).tied s → IsFixedAt γs i (set γs i γ) s
+fixed_set γs i γ s near is = ap (λ (u : Names). u.tied) (get_or-set_same γs i γ (record { value_name = 0; broken_name = 0; epoch = []; tied = None }) near) ∙ is
 
 -- what the room of a cell holds is given up
 pub emptied : (T : RattleType) (L : Laws T) {M : Type 1} {𝓤 : Ura M} (𝓛 : Logic 𝓤) (b e : ℕ) (v : Option T.Denot)
@@ -148,7 +152,7 @@ module _ {M : Type 1} {𝓤 : Ura M} (𝓛 : Logic 𝓤) (R : RattleType) where
 
   -- one whose room is empty gets fresh names, and is free
   abbrev pub Renewed : Names → ℕ → ℕ → Fml
-  Renewed γ b e = fex Names (λ γ'. fsep (fact (IsAnother γ γ')) (lying R b e γ' (None, free)))
+  Renewed γ b e = fex Names (λ γ'. fsep (fact (IsFresh γ Idle γ')) (lying R b e γ' (None, free)))
 
   seated : (γ c : Names) (n : Stage) → c.tied ≡ fixed_at γ.tied n → base.Logic.emp 𝓤 ⊢ ⟦ seat_at c.tied n ⟧
   seated γ c n is = subst (λ (τ : Option Tie). base.Logic.emp 𝓤 ⊢ ⟦ seat_at τ n ⟧) (sym is) (fixed_seat γ.tied n)
@@ -159,12 +163,12 @@ module _ {M : Type 1} {𝓤 : Ura M} (𝓛 : Logic 𝓤) (R : RattleType) where
       -- [the right to set; the names; the room]
       use0 𝓛 (‵ (seat_at γ'.tied Idle)) (seated γ γ' Idle new.1) $ move ! (1 ∷ 0 ∷ []) $ fjoin ! $
       move ! (1 ∷ 0 ∷ []) $ fjoin ! $ nothing ! $ fpack ! (Lies R None free) (λ _. ftrue) refl $ move ! (1 ∷ 0 ∷ []) $ fjoin ! $
-      move ! (1 ∷ 0 ∷ []) $ fjoin ! $ nothing ! $ fpack ! (IsAnother γ γ') (λ _. ftrue) new.0 $ fjoin ! $
-      fpack ! Names (λ c. fsep (fact (IsAnother γ c)) (lying R b e c (None, free))) γ' $ done !))
+      move ! (1 ∷ 0 ∷ []) $ fjoin ! $ nothing ! $ fpack ! (IsFresh γ Idle γ') (λ _. ftrue) new $ fjoin ! $
+      fpack ! Names (λ c. fsep (fact (IsFresh γ Idle c)) (lying R b e c (None, free))) γ' $ done !))
 
   -- one whose room holds a value is filled under fresh names
   abbrev pub Refilled : Names → R.Denot → ℕ → ℕ → Fml
-  Refilled γ x b e = fex Names (λ γ'. fsep (fact (IsAnother γ γ')) (fsep (lying R b e γ' (Some x, full x)) (written R γ'.value_name x)))
+  Refilled γ x b e = fex Names (λ γ'. fsep (fact (IsFresh γ Filled γ')) (fsep (lying R b e γ' (Some x, full x)) (written R γ'.value_name x)))
 
   pub refilled : (γ : Names) (x : R.Denot) (b e : ℕ) (s : Phase R.Denot) → ⟦ auths R γ s ⟧ ∗ ⟦ place R (Some x) b e ⟧ ⊢ H.⇛ ⟦ Refilled γ x b e ⟧
   refilled γ x b e s = let c : Gv = mark R (full x) in qed 𝓛 (‵ (auths R γ s) ∷ ‵ (place R (Some x) b e) ∷ []) ∵ updating ! $
@@ -175,8 +179,8 @@ module _ {M : Type 1} {𝓤 : Ura M} (𝓛 : Logic 𝓤) (R : RattleType) where
       -- [written, twice; the value's name; the name of a break; the epoch has ended; the room]
       move ! (4 ∷ 0 ∷ []) $ fjoin ! $ use0 𝓛 (‵ (seat_at γ'.tied Filled)) (seated γ γ' Filled new.1) $ move ! (1 ∷ 0 ∷ []) $ fjoin ! $ move ! (2 ∷ 3 ∷ []) $ fjoin ! $ move ! (0 ∷ 1 ∷ []) $ fjoin ! $
       nothing ! $ fpack ! (Lies R (Some x) (full x)) (λ _. ftrue) refl $ move ! (1 ∷ 0 ∷ []) $ fjoin ! $
-      move ! (2 ∷ 0 ∷ []) $ fjoin ! $ fjoin ! $ nothing ! $ fpack ! (IsAnother γ γ') (λ _. ftrue) new.0 $ fjoin ! $
-      fpack ! Names (λ n. fsep (fact (IsAnother γ n)) (fsep (lying R b e n (Some x, full x)) (written R n.value_name x))) γ' $ done !))
+      move ! (2 ∷ 0 ∷ []) $ fjoin ! $ fjoin ! $ nothing ! $ fpack ! (IsFresh γ Filled γ') (λ _. ftrue) new $ fjoin ! $
+      fpack ! Names (λ n. fsep (fact (IsFresh γ Filled n)) (fsep (lying R b e n (Some x, full x)) (written R n.value_name x))) γ' $ done !))
 
   -- the second name says from now on that the cell was broken
   sets_broken : (δ : GName) (once : Bool) → ⟦ broken_once δ once ⟧ ⊢ H.⇛ (⟦ broken_once δ true ⟧ ∗ ⟦ was_broken δ ⟧)

@@ -64,18 +64,18 @@ each_is (suc (suc (suc (suc (suc (suc (suc (suc (suc (suc (suc (suc (suc (suc (s
 each_is (suc (suc (suc (suc (suc (suc (suc (suc (suc (suc (suc (suc (suc (suc (suc (suc zero)))))))))))))))) less = refl
 each_is (suc (suc (suc (suc (suc (suc (suc (suc (suc (suc (suc (suc (suc (suc (suc (suc (suc n))))))))))))))))) less = absurd (omega arith)
 
-sums_fit : (k n i : ℕ) → k ≤ 2 → i + n ≤ 16 → sums k n 0 * 16 ^ i < 2 ^ 64
+sums_fit : (k n i : ℕ) → k ≤ 15 → i + n ≤ 16 → sums k n 0 * 16 ^ i < 2 ^ 64
 sums_fit k n i low near = let s : ℕ = sums 1 n 0 in let e = all_ones n in let o = sums_of k n 0 in
-    let small : sums k n 0 < 16 ^ n = (let c : k * s ≤ 2 * s = mul-le-mul_right s low in omega (arith, e, o, c)) in
+    let small : sums k n 0 < 16 ^ n = (let c : k * s ≤ 15 * s = mul-le-mul_right s low in omega (arith, e, o, c)) in
     let pos : 0 < 16 ^ i = subst (λ (x : ℕ). 0 < x) (sixteens i) (pow_pos (4 * i)) in
     let joined : 16 ^ n * 16 ^ i ≡ 2 ^ (4 * (n + i)) = sym (pow-add 16 n i) ∙ sym (sixteens (n + i)) in
     lt_of_lt_of_le (subst (λ (x : ℕ). sums k n 0 * 16 ^ i < x) joined (mul-lt-mul_of_pos_right small pos)) (pow_mono (let l : 4 * (n + i) ≤ 64 = omega arith in l))
 
-pub ones_fit : (k n : ℕ) → k ≤ 2 → n ≤ 16 → 1229782938247303441 / 2 ^ (4 * (16 - n)) * k < 2 ^ 64
+pub ones_fit : (k n : ℕ) → k ≤ 15 → n ≤ 16 → 1229782938247303441 / 2 ^ (4 * (16 - n)) * k < 2 ^ 64
 ones_fit k n low near = let e = each_is n near in let o = sums_of k n 0 in let c = mul_comm (sums 1 n 0) k in
     subst (λ (x : ℕ). x * k < 2 ^ 64) (sym e) (subst (λ (x : ℕ). x < 2 ^ 64) (mul-one (sums k n 0) ∙ o ∙ sym c) (sums_fit k n 0 low (omega arith)))
 
-pub are_moved : (k n j : ℕ) → k ≤ 2 → j % 16 + n ≤ 16 → 1229782938247303441 / 2 ^ (4 * (16 - n)) * k * 2 ^ (4 * (j % 16)) % 2 ^ 64 ≡ sums k n (j % 16)
+pub are_moved : (k n j : ℕ) → k ≤ 15 → j % 16 + n ≤ 16 → 1229782938247303441 / 2 ^ (4 * (16 - n)) * k * 2 ^ (4 * (j % 16)) % 2 ^ 64 ≡ sums k n (j % 16)
 are_moved k n j low near = let i : ℕ = j % 16 in let e : 1229782938247303441 / 2 ^ (4 * (16 - n)) * k ≡ sums k n 0 = ap (λ (x : ℕ). x * k) (each_is n (omega arith)) ∙ mul_comm (sums 1 n 0) k ∙ sym (sums_of k n 0) in
     ap (λ (x : ℕ). x * 2 ^ (4 * i) % 2 ^ 64) e ∙ ap (λ (x : ℕ). sums k n 0 * x % 2 ^ 64) (sixteens i) ∙ mod-eq_of_lt (sums_fit k n i low near) ∙ sym (sums_at k n i)
 

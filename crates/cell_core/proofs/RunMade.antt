@@ -51,15 +51,15 @@ module _ {M : Type 1} {𝓤 : Ura M} (𝓛 : Logic 𝓤) (R : RattleType) where
   cells_placed γs β (block_ptr b o) null_ptr i = never_e 𝓤 _
   cells_placed γs β null_ptr q i = never_e 𝓤 _
 
-  pub run_placed : (γs : List Names) (β : Lft) (p q : Ptr) (i m n : ℕ) (xs : List R.Denot) → ent 𝓤 (sem 𝓛 (run_owned R γs β p q i m n xs)) (fact 𝓤 (InBlock p × InBlock q))
-  run_placed γs β (block_ptr b o) (block_ptr c r) i m n xs = fact_i 𝓤 (Unit {0} × Unit {0}) _ (tt, tt)
-  run_placed γs β (block_ptr b o) null_ptr i m n xs = never_e 𝓤 _
-  run_placed γs β null_ptr q i m n xs = never_e 𝓤 _
+  pub run_placed : (γs : List Names) (β : Lft) (p q : Ptr) (i : ℕ) (first : Bool) (m n : ℕ) (xs : List R.Denot) → ent 𝓤 (sem 𝓛 (run_owned R γs β p q i first m n xs)) (fact 𝓤 (InBlock p × InBlock q))
+  run_placed γs β (block_ptr b o) (block_ptr c r) i first m n xs = fact_i 𝓤 (Unit {0} × Unit {0}) _ (tt, tt)
+  run_placed γs β (block_ptr b o) null_ptr i first m n xs = never_e 𝓤 _
+  run_placed γs β null_ptr q i first m n xs = never_e 𝓤 _
 
   -- what a run has that found what it sought
-  abbrev pub Holds : List Names → Lft → ℕ → ℕ → ℕ → ℕ → ℕ → List R.Denot → Fml
-  Holds γs β b o c r i xs = fex Spot (λ z. fsep (is_fact (IsRunAt R γs i r z)) (fsep (kept R z.0 z.1 b o c z.2 β) (held R z.1 c z.2 γs i xs)))
+  abbrev pub Holds : List Names → Lft → ℕ → ℕ → ℕ → ℕ → ℕ → Bool → List R.Denot → Fml
+  Holds γs β b o c r i first xs = fex Spot (λ z. fsep (is_fact (IsRunAt R γs i r z)) (fsep (kept R z.0 z.1 b o c z.2 β) (held R first z.1 c z.2 γs i xs)))
 
-  pub run_holds : (γs : List Names) (β : Lft) (b o c r i m n : ℕ) (xs : List R.Denot) → n ≡ m → ent 𝓤 (sem 𝓛 (run_owned R γs β (block_ptr b o) (block_ptr c r) i m n xs)) (sem 𝓛 (Holds γs β b o c r i xs))
-  run_holds γs β b o c r i m n xs same = qed 𝓛 (‵ (run_owned R γs β (block_ptr b o) (block_ptr c r) i m n xs) ∷ []) ∵ fpick ! (λ z. fsplit3 ! $ rewrite ! 2 (λ (h : Bool). ‵ (if_won h (held R z.1 c z.2 γs i xs))) (eq-eqb n m same) refl $ fjoin3 ! $
-      fpack ! Spot (λ u. fsep (is_fact (IsRunAt R γs i r u)) (fsep (kept R u.0 u.1 b o c u.2 β) (held R u.1 c u.2 γs i xs))) z $ done !)
+  pub run_holds : (γs : List Names) (β : Lft) (b o c r i : ℕ) (first : Bool) (m n : ℕ) (xs : List R.Denot) → n ≡ m → ent 𝓤 (sem 𝓛 (run_owned R γs β (block_ptr b o) (block_ptr c r) i first m n xs)) (sem 𝓛 (Holds γs β b o c r i first xs))
+  run_holds γs β b o c r i first m n xs same = qed 𝓛 (‵ (run_owned R γs β (block_ptr b o) (block_ptr c r) i first m n xs) ∷ []) ∵ fpick ! (λ z. fsplit3 ! $ rewrite ! 2 (λ (h : Bool). ‵ (if_won h (held R first z.1 c z.2 γs i xs))) (eq-eqb n m same) refl $ fjoin3 ! $
+      fpack ! Spot (λ u. fsep (is_fact (IsRunAt R γs i r u)) (fsep (kept R u.0 u.1 b o c u.2 β) (held R first u.1 c u.2 γs i xs))) z $ done !)

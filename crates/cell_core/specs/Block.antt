@@ -2,7 +2,8 @@
 use Rattle.std.specs.Prelude.{◌≡◌, ◌≢◌, ℕ, ◌+◌, ◌<◌, List, Some, None, length, slice_get}
 use base.Stored.{Coded, coded×, coded_ℕ, coded_list, coded_via}
 use Rattle.cell_core.specs.Slot.{Names, names_coded, cell_in, empty_state, filled_state}
-use Rattle.cell_core.specs.Laid.{IsAnother}
+use Rattle.tie_core.specs.Tie.{Stage}
+use Rattle.cell_core.specs.Laid.{IsAnother, IsFixedAt}
 use Rattle.cell_core.specs.Member.{MemberView, HasNames}
 
 -- a block: the names of each cell
@@ -126,6 +127,10 @@ AreFilledFrom {T} block offset row =
 -- the cell at the offset has fresh names: no older token applies to it
 abbrev pub RenewsCell : BlockView → BlockView → ℕ → Type 0
 RenewsCell old new offset = IsAnother (cell_at old offset) (cell_at new offset)
+
+-- the cell at the offset keeps its tie, fixed at a stage: it has no seat, and its stage is known
+abbrev pub FixesTie : BlockView → BlockView → ℕ → Stage → Type 0
+FixesTie old new offset s = IsFixedAt old.cells offset new.cells s
 
 -- each cell but the one at the offset keeps its names
 abbrev pub KeepsOtherCells : BlockView → BlockView → ℕ → Type 0

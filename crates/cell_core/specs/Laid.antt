@@ -1,6 +1,6 @@
 -- What a block of raw cells owns and lends: a row of words, which hold the states of sixteen cells each, and a row of
 -- rooms.
-use Rattle.tie_core.specs.Tie.{Tie}
+use Rattle.tie_core.specs.Tie.{Tie, Stage, fixed_at}
 use Rattle.std.specs.Prelude.{◌≡◌, ◌≢◌, Option, Bool, false, ℕ, zero, suc, ◌+◌, ◌-◌, ◌*◌, ◌/◌, ◌%◌, ◌^◌, ◌<◌, ◌≤◌, List, [], ◌∷◌, ◌++◌, length, take, drop, slice_set}
 use base.Stored.{Coded, coded×, coded_ℕ, coded_via}
 use base.Fml.{Lft, Fml, ftrue, fsep, fex, froom}
@@ -41,6 +41,10 @@ IsAnother old new =
 -- the cell at the index has fresh names, and each other cell keeps its names
 abbrev pub HasOneRenamed : List Names → ℕ → List Names → Type 0
 HasOneRenamed old i new = (n : Names) × IsAnother (cell_in old i) n × (new ≡ slice_set old i n)
+
+-- the cell at the index keeps its tie, fixed at a stage, and has no seat
+abbrev pub IsFixedAt : List Names → ℕ → List Names → Stage → Type 0
+IsFixedAt old i new s = (cell_in new i).tied ≡ fixed_at (cell_in old i).tied s
 
 -- each cell has fresh names
 abbrev pub HasEachRenamed : List Names → List Names → Type 0

@@ -1,10 +1,10 @@
 -- What is known of a cell, and of each cell of a row.
-use Rattle.std.specs.Prelude.{◌≡◌, ℕ, suc, Option, Some, None, List, [], ◌∷◌, ◌++◌, slice_set}
+use Rattle.std.specs.Prelude.{◌≡◌, ℕ, suc, ◌+◌, ◌<◌, Option, Some, None, List, [], ◌∷◌, ◌++◌, length, slice_get, slice_set}
 use Rattle.std.specs.Coded.{coded_option}
 use base.Stored.{Gv, Coded, gnil, gcons, gnum, coded×, coded_ℕ, coded_list, coded_via}
 use base.Fml.{Lft, GName, Fml, ftrue, fsep, fex, fauth, finv}
 use denote.RattleType.{RattleType}
-use Rattle.cell_core.specs.Slot.{Names, cell_in, fact, written, filled_state, owner_broken_state}
+use Rattle.cell_core.specs.Slot.{Names, IsPlain, cell_in, fact, written, filled_state, owner_broken_state}
 use Rattle.cell_core.specs.Laid.{IsAnother}
 
 -- what is known of a cell: the value that it always keeps and the value's name; or otherwise the epoch in
@@ -70,6 +70,25 @@ IsEpochOf value own epoch = value ≡ None → own ≡ epoch
 abbrev pub Settles : {T : Type 0} → List Names → ℕ → List Names → Option T → Lft → Type 0
 Settles old i new (Some x) epoch = new ≡ old
 Settles old i new None epoch = (c : Names) × IsAnother (cell_in old i) c × (new ≡ slice_set old i c) × (epoch ≡ c.epoch)
+
+-- what a row knows of its members from an index on is true of these cells
+abbrev pub KnowsCells : {T : Type 0} → List (MemberView T) → ℕ → List Names → Type 0
+KnowsCells {T} ms j γs =
+    (i : ℕ) (m : MemberView T) → i < length γs → slice_get ms (j + i) ≡ Some m
+    → HasNames (cell_in γs i) m.value m.name m.epoch
+
+-- the same cell without its tie; if it has no value, the name of its value may be another one
+pub record IsUntied (old new : Names) : Type 0 where
+  pub plain : IsPlain new
+  pub broken : new.broken_name ≡ old.broken_name
+  pub epoch : new.epoch ≡ old.epoch
+
+-- the same of each of some cells
+abbrev pub AreUntied : List Names → List Names → Type 0
+AreUntied [] [] = Unit {0}
+AreUntied [] (γ' ∷ γs') = ⊥
+AreUntied (γ ∷ γs) [] = ⊥
+AreUntied (γ ∷ γs) (γ' ∷ γs') = IsUntied γ γ' × AreUntied γs γs'
 
 -- the new list is the old one without its last member
 abbrev pub HasOneLess : {T : Type 0} → List (MemberView T) → List (MemberView T) → Type 0

@@ -1,6 +1,7 @@
 -- How the cells of a block are tied, relative to the first: blocks with seats in a row have one mould, whatever the
 -- numbers of their seats.
 use Rattle.std.specs.Prelude.{ℕ, ◌+◌, ◌-◌, Option, Some, None, List, [], ◌∷◌, length}
+use base.Stored.{gnil}
 use Rattle.tie_core.specs.Tie.{Tie, row_of, tie_numbered}
 use Rattle.cell_core.specs.Slot.{Names}
 
@@ -31,6 +32,21 @@ mould_of γs = relatives (first_seat γs) γs
 -- the mould of n cells with seats in a row
 abbrev pub row_mould : Tie → ℕ → List (Option Tie)
 row_mould t n = row_of (tie_numbered t 0) n
+
+-- the tie, of a cell that has one
+abbrev pub tie_in : Option Tie → Tie
+tie_in None = record {
+  views = 0;
+  id = 0;
+  floor = 0;
+  idle = gnil;
+  begun = gnil;
+  mending = gnil;
+  filled = gnil;
+  broken = gnil;
+  fixed = None;
+}
+tie_in (Some t) = t
 
 -- the number of the seat behind the cells' own, which their block has
 abbrev pub last_seat : List Names → ℕ

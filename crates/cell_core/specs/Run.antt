@@ -7,7 +7,8 @@ use denote.RawPtr.{Ptr, block_ptr, null_ptr}
 use Rattle.cell_core.specs.Fields.{field}
 use Rattle.cell_core.specs.Block.{BlockView, PenView, IsFresh}
 use Rattle.cell_core.specs.Member.{MemberView, members}
-use Rattle.cell_core.specs.Slot.{Names, names_coded, Turn, Spot, fact, filled_state, full, cell_in, step, room_at, settable, sights, Right, tie, lent, kept}
+use Rattle.tie_core.specs.Tie.{Tie}
+use Rattle.cell_core.specs.Slot.{Names, ArePlain, names_coded, Turn, Spot, fact, filled_state, full, cell_in, step, room_at, over, setting, sights, right_of, tie, lent, kept}
 
 -- the cells from an index on have these names
 abbrev pub AreAt : List Names → ℕ → List Names → Type 0
@@ -18,6 +19,17 @@ AreAt (γ ∷ γs) i Γs = (i < length Γs) × (cell_in Γs i ≡ γ) × AreAt �
 abbrev pub cells_from : ℕ → ℕ → List Names → List Names
 cells_from zero i Γs = []
 cells_from (suc n) i Γs = cell_in Γs i ∷ cells_from n (suc i) Γs
+
+-- some cells are tied to these seats, in order
+abbrev pub AreTiedTo : List Tie → List Names → Type 0
+AreTiedTo [] [] = Unit {0}
+AreTiedTo [] (γ ∷ γs) = ⊥
+AreTiedTo (t ∷ ts) [] = ⊥
+AreTiedTo (t ∷ ts) (γ ∷ γs) = (γ.tied ≡ Some t) × AreTiedTo ts γs
+
+-- the cells are not tied, if cells of this kind are not
+pub record AreRunOfKind (tied : Bool) (γs : List Names) : Type 0 where
+  pub plain : tied ≡ false → ArePlain γs
 
 -- the word has the state of an empty cell in each of some fields
 abbrev pub AreEmptyIn : ℕ → ℕ → ℕ → Type 0
@@ -65,15 +77,15 @@ pub record IsRunPenAt {T : Type 0} (block : BlockView) (offset n : ℕ) (pen : R
   pub values : pen.values ≡ []
 
 module _ (R : RattleType) where
-  -- a cell that has its value, which nobody sees yet
-  abbrev pub Ready : Names → Lft → GName → ℕ → ℕ → R.Denot → Fml
-  Ready γ α δ b e x = fsep (settable R γ) (fsep (tie R γ α δ b e (full x)) (lent R γ α δ b e (full x)))
+  -- a cell that has its value, which nobody sees yet, by whether the cell is begun and not busy
+  abbrev pub Ready : Bool → Names → Lft → GName → ℕ → ℕ → R.Denot → Fml
+  Ready first γ α δ b e x = fsep (fsep (over R γ) (setting R γ first)) (fsep (tie R γ α δ b e (full x)) (lent R γ α δ b e (full x)))
 
   -- what a run has of its cells, in a turn of their word: the first have their values, and the others can be written
-  abbrev pub held : Turn → ℕ → ℕ → List Names → ℕ → List R.Denot → Fml
-  held t b e [] i xs = ftrue
-  held t b e (γ ∷ γs) i [] = fsep (Right R γ t.0 (t.1 i) b (room_at R e i)) (held t b e γs (suc i) [])
-  held t b e (γ ∷ γs) i (x ∷ xs) = fsep (Ready γ t.0 (t.1 i) b (room_at R e i) x) (held t b e γs (suc i) xs)
+  abbrev pub held : Bool → Turn → ℕ → ℕ → List Names → ℕ → List R.Denot → Fml
+  held first t b e [] i xs = ftrue
+  held first t b e (γ ∷ γs) i [] = fsep (right_of R γ t.0 (t.1 i) b (room_at R e i) first) (held first t b e γs (suc i) [])
+  held first t b e (γ ∷ γs) i (x ∷ xs) = fsep (Ready first γ t.0 (t.1 i) b (room_at R e i) x) (held first t b e γs (suc i) xs)
 
   -- what shows the values of the cells
   abbrev pub all_written : List Names → List R.Denot → Fml
@@ -97,9 +109,9 @@ module _ (R : RattleType) where
   cells_owned γs κ null_ptr q i = ffalse
 
   -- what a run owns, in cells that are lent for κ
-  abbrev pub run_owned : List Names → Lft → Ptr → Ptr → ℕ → ℕ → ℕ → List R.Denot → Fml
-  run_owned γs κ (block_ptr b o) (block_ptr c r) i sought found xs =
+  abbrev pub run_owned : List Names → Lft → Ptr → Ptr → ℕ → Bool → ℕ → ℕ → List R.Denot → Fml
+  run_owned γs κ (block_ptr b o) (block_ptr c r) i first sought found xs =
       fex Spot (λ z. fsep (fact (IsRunAt γs i r z))
-      (fsep (kept R z.0 z.1 b o c z.2 κ) (if_won (eqb found sought) (held z.1 c z.2 γs i xs))))
-  run_owned γs κ (block_ptr b o) null_ptr i sought found xs = ffalse
-  run_owned γs κ null_ptr q i sought found xs = ffalse
+      (fsep (kept R z.0 z.1 b o c z.2 κ) (if_won (eqb found sought) (held first z.1 c z.2 γs i xs))))
+  run_owned γs κ (block_ptr b o) null_ptr i first sought found xs = ffalse
+  run_owned γs κ null_ptr q i first sought found xs = ffalse

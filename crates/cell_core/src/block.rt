@@ -20,6 +20,7 @@ mod slice;
 mod spoilt;
 mod steps;
 mod tied;
+mod tied_run;
 
 use crate::slot::steps::{BROKEN, BROKEN_BY_OWNER, BUSY, EMPTY, FILLED, RawPen, RawSight, RawSlot};
 pub use begun::Begun;
@@ -110,7 +111,8 @@ impl<T, A: Allocator> Block<T, A> {
     #[tactic(auto, using(crate::proofs::PlainCells::cell_plain))]
     fn plain_cell(&self, offset: u64) -> RawSlot<'_, T>
         requires { offset < block_len self.now }
-        ensures { (result.of ≡ cell_at self.now offset) × (result.index ≡ offset % word_cells) × IsPlain result.of }
+        ensures { (result.of ≡ cell_at self.now offset) × (result.index ≡ offset % word_cells)
+            × IsPlain result.of }
     {
         self.laid.cell(self.link, word_of(offset), offset as usize)
     }
@@ -359,8 +361,10 @@ impl<T: Drop, A: Allocator, B: Kind> Drop for Block<T, A, B> {
 
 // Drops the value of each cell that has one: each cell is then empty, and has fresh names.
 fn drop_values<T: Drop, A: Allocator>(laid: Laid<T, A>, link: Link<T>, len: u64) -> Laid<T, A>
-    requires { IsLinked laid.rows.at link.words × IsLinked laid.rows.rooms link.rooms × (length laid.cells ≡ len) }
-    ensures rows { (result.heap ≡ laid.heap) × (result.rows ≡ laid.rows) × (length result.cells ≡ len) }
+    requires { IsLinked laid.rows.at link.words × IsLinked laid.rows.rooms link.rooms
+        × (length laid.cells ≡ len) }
+    ensures rows { (result.heap ≡ laid.heap) × (result.rows ≡ laid.rows)
+        × (length result.cells ≡ len) }
     ensures each { HasEachRenamed laid.cells result.cells }
 {
     let mut laid = laid;
@@ -376,7 +380,8 @@ fn drop_values<T: Drop, A: Allocator>(laid: Laid<T, A>, link: Link<T>, len: u64)
 fn lay<T, A: Allocator>(laid: Laid<T, A>, words: *mut u64, n: u64) -> Laid<T, A>
     requires { IsLinked laid.rows.at words × (laid.cells ≡ []) × (laid.rows.words ≡ 0)
         × (laid.rows.more ≡ (n + 15) / word_cells) × (laid.rows.left ≡ n) }
-    ensures { (result.heap ≡ laid.heap) × (result.rows.at ≡ laid.rows.at) × (result.rows.rooms ≡ laid.rows.rooms)
+    ensures { (result.heap ≡ laid.heap) × (result.rows.at ≡ laid.rows.at)
+        × (result.rows.rooms ≡ laid.rows.rooms)
         × (length result.cells ≡ n) × IsWhole result.rows n × AreOfKind false result.cells }
 {
     let mut laid = laid;
@@ -395,7 +400,8 @@ fn lay<T, A: Allocator>(laid: Laid<T, A>, words: *mut u64, n: u64) -> Laid<T, A>
 fn lay_for<T, A: Allocator>(laid: Laid<T, A>, words: *mut u64, n: u64, seats: Seats) -> Laid<T, A>
     requires { IsLinked laid.rows.at words × (laid.cells ≡ []) × (laid.rows.words ≡ 0)
         × (laid.rows.more ≡ (n + 15) / word_cells) × (laid.rows.left ≡ n) × (length seats.ties ≡ n) }
-    ensures { (result.heap ≡ laid.heap) × (result.rows.at ≡ laid.rows.at) × (result.rows.rooms ≡ laid.rows.rooms)
+    ensures { (result.heap ≡ laid.heap) × (result.rows.at ≡ laid.rows.at)
+        × (result.rows.rooms ≡ laid.rows.rooms)
         × (length result.cells ≡ n) × IsWhole result.rows n × AreTied seats.ties result.cells }
 {
     let mut laid = laid;
@@ -413,7 +419,8 @@ fn lay_for<T, A: Allocator>(laid: Laid<T, A>, words: *mut u64, n: u64, seats: Se
 
 // Gives both rows back, whatever is in their cells.
 fn free_rows<T, A: Allocator>(alloc: &A, link: Link<T>, laid: Laid<T, A>, len: u64)
-    requires { (laid.heap ≡ alloc.now) × (laid.rows.at ≡ link.words) × (laid.rows.rooms ≡ link.rooms)
+    requires { (laid.heap ≡ alloc.now) × (laid.rows.at ≡ link.words)
+        × (laid.rows.rooms ≡ link.rooms)
         × (length laid.cells ≡ len) × IsWhole laid.rows len }
 {
     let (words, rooms) = laid.into_rooms();

@@ -1,11 +1,13 @@
 -- A hand belongs to its word: what each step needs of the two, and what a hand knows of its own runs.
-use Rattle.std.proofs.Common.{◌≡◌, ◌≢◌, ℕ, ◌+◌, ◌<◌, ◌≤◌, ◌==◌, Bool, true, false, nat_lt, MatchBool, List, [], ◌++◌, length, refl, ap, sym, ◌∙◌, subst, arith}
+use Rattle.std.proofs.Common.{◌≡◌, ◌≢◌, ℕ, ◌+◌, ◌<◌, ◌≤◌, ◌==◌, Bool, true, false, nat_lt, MatchBool, List, [], ◌++◌, refl, ap, sym, ◌∙◌, subst, arith}
 use Rattle.std.proofs.lemmas.List.Sums.{sum_by_push}
 use Rattle.std.proofs.lemmas.List.Elements.{All-nil}
 use Rattle.std.proofs.lemmas.Bool.Decides.{nat_tests}
-use Rattle.std.specs.Prelude.{nat_eq}
-use Rattle.std.specs.List.{Contains, IsDistinct}
+use Rattle.std.specs.List.{Contains}
 use Rattle.atomic_table.specs.Seated.{TableId}
+use Rattle.tie_core.specs.Tie.{Tie}
+use Rattle.tie_core.specs.Desk.{IsTieOf}
+use Rattle.tie_core.specs.Visit.{EntryTie, IsEntryOf}
 use Rattle.claim_core.specs.declared.seat_view.SeatView.{SeatView}
 use Rattle.claim_core.specs.declared.terms.Terms.{Terms}
 use Rattle.book_core.specs.declared.events.Event.{Event}
@@ -13,13 +15,15 @@ use Rattle.book_core.specs.declared.events.Reply.{Reply}
 use Rattle.claim_core.specs.History.{first_list}
 use Rattle.claim_core.specs.Lengths.{runs_end, times}
 use Rattle.claim_core.specs.Word.{WordView, AreBounds}
-use Rattle.claim_core.specs.Hand.{HandView, SeesBegun, AddsRun, seen_size, own_places}
-use Rattle.claim_core.specs.Seat.{ClaimSeat, word_view, IsOpened, hand_view, IsHeld, SeesAsOne}
-use Rattle.claim_core.specs.Rule.{size_at}
+use Rattle.claim_core.specs.Hand.{HandView, AddsRun}
+use Rattle.claim_core.specs.Lent.{lent_hand, seat_hand}
+use Rattle.claim_core.specs.Gain.{IsTiedTo, IsEntryTo}
+use Rattle.claim_core.specs.Seat.{ClaimSeat, word_view, IsOpened, hand_view, IsHeld, IsPair, SeesAsOne}
+use Rattle.claim_core.specs.Rule.{word_count, size_at}
 use Rattle.claim_core.specs.SeatView.{Seated, IsConsistent, Claims, first_view, with_own}
+use Rattle.claim_core.specs.StepLaws.{IsHandSeat}
 use Rattle.claim_core.proofs.Prefixes.{prefix_nil}
-use Rattle.claim_core.proofs.Places.{places_in-le}
-use Rattle.claim_core.proofs.Counts.{times-from_Contains, times-append, IsDistinct-from_times}
+use Rattle.claim_core.proofs.Counts.{times-from_Contains, times-append}
 
 -- the seat is one of the word's table, and its view has the table's terms
 pub record Belongs (seat : ClaimSeat) (table : TableId) (key : Terms) (word : WordView) : Type 0 where
@@ -31,14 +35,31 @@ pub record Belongs (seat : ClaimSeat) (table : TableId) (key : Terms) (word : Wo
   pub part : 0 < seat.me.0.shares
   pub room : word.limit ≡ key.limit
 
+-- two seats of one word make a pair
+pub pairs : {seat other : ClaimSeat} {table : TableId} {key : Terms} {word also_word : WordView} → Belongs seat table key word
+    → Belongs other table key also_word → other.me.1 ≡ [] → IsPair table key seat other
+pairs {seat} {other} {table} {key} {word} {also_word} b d none =
+    record {
+      words = b.words;
+      same = b.same;
+      other_same = d.same;
+      no_slot = none;
+      limit = b.limit;
+      base = b.base;
+      filled = b.filled;
+      part = b.part;
+      other_part = d.part;
+    }
+
 -- the table has a word
 pub some_words : {n : ℕ} → size_at < n → 0 < n
 some_words here = omega (arith, here)
 
-pub belongs : {seat : ClaimSeat} {share size : ℕ} {table : TableId} {key terms : Terms} {word : WordView} {hand : HandView}
-    → IsHeld seat share size → IsOpened table key terms → hand_view seat ≡ hand → word_view table terms ≡ word → hand.of ≡ word → Belongs seat table key word
-belongs {seat} {share} {size} {table} {key} {terms} {word} {hand} held opened hand_is word_is ours =
-    let same : (hand_view seat).of ≡ word_view table terms = ap (λ (h : HandView). h.of) hand_is ∙ (ours ∙ sym word_is) in
+pub belongs : {seat : ClaimSeat} {share size floor number : ℕ} {table desk : TableId} {key terms desk_key : Terms} {word : WordView} {hand : HandView}
+    → IsHeld seat share size → IsOpened table key terms desk desk_key → hand_view floor seat ≡ hand → word_view table terms number ≡ word
+    → hand.of ≡ word → Belongs seat table key word
+belongs {seat} {share} {size} {floor} {number} {table} {desk} {key} {terms} {desk_key} {word} {hand} held opened hand_is word_is ours =
+    let same : (hand_view floor seat).of ≡ word_view table terms number = ap (λ (h : HandView). h.of) hand_is ∙ (ours ∙ sym word_is) in
     let one = opened.words in
     let part = held.positive in
     let shares = held.shares in
@@ -52,6 +73,53 @@ belongs {seat} {share} {size} {table} {key} {terms} {word} {hand} held opened ha
       room = sym (ap (λ (w : WordView). w.limit) word_is) ∙ sym (ap (λ (t : Terms). t.limit) opened.key_is);
     }
 
+-- a hand of a word has a seat
+pub is_here : {number : ℕ} {table desk : TableId} {key terms desk_key : Terms} {word : WordView} (hand : HandView)
+    → IsOpened table key terms desk desk_key → word_view table terms number ≡ word → hand.of ≡ word → hand.of.table.words ≡ word_count
+is_here hand opened word_is ours = ap (λ (w : WordView). w.table.words) (ours ∙ sym word_is) ∙ opened.words
+
+-- its seat is a hand's of this table, with the terms of the table's desk
+pub same_table : {number floor : ℕ} {table other : TableId} {terms : Terms} {word : WordView} {hand : HandView} (v : SeatView)
+    → word_view table terms number ≡ word → hand.of ≡ word → seat_hand floor other v ≡ hand → other ≡ table
+same_table v word_is ours hand_is =
+    ap (λ (h : HandView). h.of.table) hand_is ∙ ap (λ (w : WordView). w.table) (ours ∙ sym word_is)
+
+pub hand_seat : {number floor : ℕ} {table desk other : TableId} {key terms desk_key : Terms} {word : WordView} {hand : HandView} (v : SeatView)
+    → IsOpened table key terms desk desk_key → word_view table terms number ≡ word → hand.of ≡ word → seat_hand floor other v ≡ hand
+    → 0 < v.shares → IsHandSeat desk_key v
+hand_seat {number} {floor} {table} {desk} {other} {key} {terms} {desk_key} {word} {hand} v opened word_is ours hand_is part =
+    let same : (seat_hand floor other v).of ≡ word_view table terms number = ap (λ (h : HandView). h.of) hand_is ∙ (ours ∙ sym word_is) in
+    let key_is : terms ≡ desk_key = sym (opened.desk_terms ∙ opened.key_is) in
+    record {
+      limit = ap (λ (w : WordView). w.limit) same ∙ ap (λ (t : Terms). t.limit) key_is;
+      base = ap (λ (w : WordView). w.base) same ∙ ap (λ (t : Terms). t.base) key_is;
+      filled = ap (λ (w : WordView). w.filled) same ∙ ap (λ (t : Terms). t.mark.filled) key_is;
+      part = part;
+    }
+
+-- a block's seat is one of this table
+pub table_here : {number : ℕ} {table other : TableId} {terms : Terms} {word : WordView} → word_view table terms number ≡ word
+    → other ≡ word.table → other ≡ table
+table_here word_is same = same ∙ sym (ap (λ (w : WordView). w.table) word_is)
+
+-- the tie is of a cell that is tied by the word's desk, or of an entry
+pub tied_here : {number : ℕ} {table : TableId} {terms : Terms} {word : WordView} {tie : Tie} → word_view table terms number ≡ word
+    → IsTiedTo word tie → IsTieOf table number tie
+tied_here {number} {table} {terms} {word} {tie} word_is tied = subst (λ (w : WordView). IsTieOf w.table w.floor tie) (sym word_is) tied
+
+pub entry_here : {number : ℕ} {table : TableId} {terms : Terms} {word : WordView} {tie : EntryTie} → word_view table terms number ≡ word
+    → IsEntryTo word tie → IsEntryOf table number tie
+entry_here {number} {table} {terms} {word} {tie} word_is tied = subst (λ (w : WordView). IsEntryOf w.table w.floor tie) (sym word_is) tied
+
+-- and the other way round
+pub tied_there : {number : ℕ} {table : TableId} {terms : Terms} {word : WordView} {tie : Tie} → word_view table terms number ≡ word
+    → IsTieOf table number tie → IsTiedTo word tie
+tied_there {number} {table} {terms} {word} {tie} word_is tied = subst (λ (w : WordView). IsTieOf w.table w.floor tie) word_is tied
+
+pub entry_there : {number : ℕ} {table : TableId} {terms : Terms} {word : WordView} {tie : EntryTie} → word_view table terms number ≡ word
+    → IsEntryOf table number tie → IsEntryTo word tie
+entry_there {number} {table} {terms} {word} {tie} word_is tied = subst (λ (w : WordView). IsEntryOf w.table w.floor tie) word_is tied
+
 -- two lists of runs that a consistent view has together have none in common
 pub owned_apart : {both : SeatView} (xs ys : List ℕ) → IsConsistent both → both.mine ≡ xs ++ ys → (k : ℕ)
     → Contains xs k → Contains ys k → ⊥
@@ -63,31 +131,25 @@ owned_apart {both} xs ys consistent is k here there =
     let o = consistent.own k in
     omega arith
 
--- a hand has seen each run that it owns
-pub owns_seen : {seat : ClaimSeat} {share size : ℕ} {hand : HandView} → IsHeld seat share size → hand_view seat ≡ hand
-    → (k : ℕ) → Contains hand.mine k → k < length hand.seen
-owns_seen {seat} {share} {size} {hand} held hand_is =
-    subst (λ (h : HandView). (k : ℕ) → Contains h.mine k → k < length h.seen) hand_is
-    (λ k there. let t = times-from_Contains seat.me.0.mine k there in let o = held.consistent.own k in omega arith)
+-- a seat after a step of its own
+pub held_on : {seat : ClaimSeat} {share size : ℕ} (new : ClaimSeat) (more found : ℕ) → IsHeld seat share size → new.me.1 ≡ seat.me.1
+    → new.me.0.shares ≡ seat.me.0.shares → more ≡ share → found ≡ runs_end new.me.0.base new.me.0.seen → IsConsistent new.me.0
+    → IsHeld new more found
+held_on {seat} {share} {size} new more found held slots shares same ends consistent =
+    let positive = held.positive in
+    record {
+      no_slot = slots ∙ held.no_slot;
+      shares = same ∙ (held.shares ∙ sym shares);
+      seen = ends;
+      positive = omega arith;
+      consistent = consistent;
+    }
 
--- and owns none twice
-pub owns_once : {seat : ClaimSeat} {share size : ℕ} {hand : HandView} → IsHeld seat share size
-    → hand_view seat ≡ hand → IsDistinct nat_eq hand.mine
-owns_once {seat} {share} {size} {hand} held hand_is =
-    subst (λ (h : HandView). IsDistinct nat_eq h.mine) hand_is
-    (IsDistinct-from_times seat.me.0.mine (λ k. let o = held.consistent.own k in omega arith))
-
--- and its runs have no more places than there are from the base to the size that it has seen
-pub owns_part : {seat : ClaimSeat} {share size : ℕ} {hand : HandView} → IsHeld seat share size → hand_view seat ≡ hand
-    → hand.of.base + own_places hand ≤ seen_size hand
-owns_part {seat} {share} {size} {hand} held hand_is =
-    subst (λ (h : HandView). h.of.base + own_places h ≤ seen_size h) hand_is
-    (let p = places_in-le seat.me.0.seen seat.me.0.mine held.consistent.own in omega arith)
-
--- and it has seen the places that it knows begun
-pub sees_begun : {seat : ClaimSeat} {share size : ℕ} {hand : HandView} → IsHeld seat share size → hand_view seat ≡ hand
-    → SeesBegun hand
-sees_begun {seat} {share} {size} {hand} held hand_is = subst SeesBegun hand_is held.consistent.begun
+-- the hand that a seat is put back into is then the seat's
+pub put_back : (seat : ClaimSeat) (old : HandView) {lent new : HandView} → lent ≡ lent_hand old → new ≡ hand_view lent.of.floor seat
+    → new ≡ hand_view old.of.floor seat
+put_back seat old {lent} {new} is now =
+    now ∙ ap (λ (f : ℕ). hand_view f seat) (ap (λ (h : HandView). h.of.floor) is)
 
 -- a part of a seat that has not all shares is as consistent as the whole
 pub cut_consistent : (v : SeatView) (mine : List ℕ) (shares : ℕ) → IsConsistent v → shares < 65536
@@ -144,6 +206,11 @@ pub grew : (a b : ℕ) (t : Bool) (P Q : Type 0) → nat_lt a b ≡ t → a < b 
 grew a b true P Q is less p = p
 grew a b false P Q is less q = absurd (grind (arith, nat_tests))
 
+-- a step that found the size that it expected
+pub found_it : (a b : ℕ) (t : Bool) (P Q : Type 0) → (a == b) ≡ t → a ≡ b → MatchBool t P Q → P
+found_it a b true P Q is same p = p
+found_it a b false P Q is same q = absurd (grind (arith, nat_tests))
+
 -- a step that found another size
 pub missed : (a b : ℕ) (t : Bool) (P Q : Type 0) → (a == b) ≡ t → a ≢ b → MatchBool t P Q → Q
 missed a b true P Q is other p = absurd (grind (arith, nat_tests))
@@ -154,12 +221,20 @@ pub stayed : (a b : ℕ) (t : Bool) (P Q : Type 0) → nat_lt a b ≡ t → b �
 stayed a b true P Q is more p = absurd (grind (arith, nat_tests))
 stayed a b false P Q is more q = q
 
+-- after a claim the seat has seen the end of its run
+pub claims_end : {v w : SeatView} {found n : ℕ} {event : ℕ → Event × Reply} → Claims v found n event w
+    → runs_end w.base w.seen ≡ found + n
+claims_end {v} {w} {found} {n} {event} claims =
+    let size = claims.size in
+    let sums = sum_by_push (λ x. x) (v.seen ++ claims.between) n in
+    ap (runs_end w.base) claims.seen ∙ omega arith
+
 -- a claim adds its run to the hand
-pub adds_run : (seat new : ClaimSeat) {found n : ℕ} {event : ℕ → Event × Reply} {hand : HandView} → hand_view seat ≡ hand
+pub adds_run : (seat new : ClaimSeat) {floor found n : ℕ} {event : ℕ → Event × Reply} {hand : HandView} → hand_view floor seat ≡ hand
     → Claims seat.me.0 found n event new.me.0 → new.table_id ≡ seat.table_id → 0 < n
-    → AddsRun hand (hand_view new) (record { from = found; n = n })
-adds_run seat new {found} {n} {event} {hand} hand_is claims table more =
-    subst (λ (h : HandView). AddsRun h (hand_view new) (record { from = found; n = n })) hand_is
+    → AddsRun hand (hand_view floor new) (record { from = found; n = n })
+adds_run seat new {floor} {found} {n} {event} {hand} hand_is claims table more =
+    subst (λ (h : HandView). AddsRun h (hand_view floor new) (record { from = found; n = n })) hand_is
     (let v = seat.me.0 in
     let w = new.me.0 in
     let front = v.seen ++ claims.between in
@@ -178,7 +253,7 @@ adds_run seat new {found} {n} {event} {hand} hand_is claims table more =
       ends = ends;
       mine = claims.mine;
       shares = claims.same.shares;
-      of = λ i. record { table = table i; limit = claims.same.limit i; base = claims.same.base i; mark = claims.same.mark i; filled = claims.same.filled i };
+      of = λ i. record { table = table i; limit = claims.same.limit i; base = claims.same.base i; mark = claims.same.mark i; filled = claims.same.filled i; floor = floor };
     })
 
 -- the first hand of a word

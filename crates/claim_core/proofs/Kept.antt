@@ -24,12 +24,12 @@ use Rattle.claim_core.specs.Rule.{Suits, Fits, Recalls, Logged, Kept, word_count
 use Rattle.claim_core.specs.SeatView.{Seated, SameOwn, IsConsistent, Looks, Claims, loaded, loaded_as, lacked, settled, exchanged_as, raised, longer, joined_view, first_view, spent_view, with_own}
 use Rattle.std.proofs.lemmas.List.{append-nil}
 use Rattle.claim_core.proofs.Prefixes.{prefix_self, prefix_append, prefix_nil, prefix_trans, prefix_length, longer_begins}
-use Rattle.claim_core.proofs.Fits.{begins, at_set_here, spent_suits, consistent, stays, grows, splits, joins}
+use Rattle.claim_core.proofs.Fits.{begins, at_set_here, consistent, stays, grows, splits, joins}
 use Rattle.claim_core.proofs.LegalNotes.{size_is_note, memory_note, memory_is_note}
 use Rattle.claim_core.proofs.Counts.{times-from_Contains, Contains-from_times}
 use Rattle.claim_core.proofs.TiedViews.{tie_hand}
-use Rattle.claim_core.proofs.TiedWord.{ties_begin, knows_less, tie_claim, tie_cut, tie_spare, tie_join}
-use Rattle.claim_core.proofs.Logged.{cells_after, lengths_of-append, lengths_with, notes_go_on, note_lengths, is_enough, claims_next, claim_legal, raise_legal, logs_nothing, spent_recalls, story, tells_all, adds, recalls_still, keeps_log, cuts_log, joins_log}
+use Rattle.claim_core.proofs.TiedWord.{ties_begin, knows_less, tie_claim, tie_cut, tie_join}
+use Rattle.claim_core.proofs.Logged.{cells_after, lengths_of-append, lengths_with, notes_go_on, note_lengths, is_enough, claims_next, claim_legal, raise_legal, logs_nothing, story, tells_all, adds, recalls_still, keeps_log, cuts_log, joins_log}
 
 abbrev Table : Type 0
 Table = State (Unit {0}) SeatView
@@ -400,23 +400,6 @@ cuts terms id v kept_runs given_runs kept_shares given_shares some_kept some_giv
       tied =
           tie_cut terms.limit terms.base terms.mark.filled all kept.list kept.ties s.views kept.tied id v at (with_own v kept_runs kept_shares) (with_own v given_runs given_shares)
           hand hand hand (knows kept_runs kept_shares (λ k. let r = runs k in omega arith)) (knows given_runs given_shares (λ k. let r = runs k in omega arith));
-    }
-
--- a seat with nothing is split off
-pub spares : (terms : Terms) (id : ℕ) (v : SeatView) → Splits (Kept terms) id v v spent_view
-spares terms id v s kept at =
-    record {
-      words = kept.words;
-      lengths = kept.lengths;
-      list = kept.list;
-      ties = kept.ties;
-      fits =
-          splits terms.limit terms.base (get_or s.words size_at 0) kept.lengths s.views kept.fits id v at v spent_view (kept.fits.each id v at) (spent_suits kept.lengths)
-          (λ k. omega arith) (omega arith);
-      logged =
-          cuts_log terms.limit terms.base terms.mark.filled kept.lengths kept.list s.views kept.logged id v at v spent_view refl (λ more. more)
-          (kept.logged.each id v at) (spent_recalls kept.logged.log);
-      tied = tie_spare terms.limit terms.base terms.mark.filled kept.lengths kept.list kept.ties s.views kept.tied id v at;
     }
 
 -- a seat is joined to another. Both have shares: no cell's seat may be joined away

@@ -20,8 +20,12 @@ mod CellEvents
 mod CellSteps
 mod Permits
 mod TiedLaws
+mod Badges
 mod Belongs
 mod WholeHand
+mod HandSteps
+mod MaySteps
+mod GainsBack
 mod OwnCounts
 mod OwnPlaces
 mod OwnFacts

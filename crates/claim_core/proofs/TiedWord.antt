@@ -12,7 +12,7 @@ use Rattle.std.proofs.lemmas.Option.{none-some, slice_get_past, slice_get_cases}
 use mathlib.Core.Option.{some}
 use mathlib.Core.List.{IsPrefix}
 use lib.ListN.{get_elem?}
-use Rattle.atomic_table.proofs.Lists.{set_else, set_again}
+use Rattle.atomic_table.proofs.Lists.{set_else}
 use Rattle.book_core.specs.declared.cells.Cell.{Cell}
 use Rattle.book_core.specs.declared.cells.Cell.TheVariants.{Pending}
 use Rattle.book_core.specs.Cells.{CellList, with_pending}
@@ -307,13 +307,6 @@ module _
       tie_snoc limit base filled lengths list ties (set vs id left)
       (tie_hand limit base filled lengths list ties vs tied id v at is_hand left left_hand knows_left) right knows_right
       (is_hand_role ties (set vs id left ++ right ∷ []) (length (set vs id left)) right right_hand)
-
-  -- a seat with nothing is split off
-  pub tie_spare : TiedBy limit base filled lengths list ties (set vs id v ++ spent_view ∷ [])
-  tie_spare =
-      subst (λ (l : List SeatView). TiedBy limit base filled lengths list ties (l ++ spent_view ∷ [])) (sym (set_again vs id v at))
-      (tie_snoc limit base filled lengths list ties vs tied spent_view (role_knows base lengths ties roles.Hand)
-      (hand_role ties (vs ++ spent_view ∷ []) (length vs)))
 
   -- another hand is joined to a hand
   pub tie_join : (j : ℕ) (w : SeatView) → j ≢ id → get_elem? (set vs id (joined_view v w)) j ≡ some w

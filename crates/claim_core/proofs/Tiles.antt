@@ -36,7 +36,7 @@ run_apart base lengths j k place a b =
     (λ less. let l : j < k = omega arith in let o = run_before lengths j k l y in absurd (omega arith))
 
 -- each place before the end lies in a run
-find_run : (base : ℕ) (lengths : List ℕ) (place : ℕ) → base ≤ place → place < runs_end base lengths
+pub find_run : (base : ℕ) (lengths : List ℕ) (place : ℕ) → base ≤ place → place < runs_end base lengths
     → (k : ℕ) × InRun base lengths k place
 find_run base [] place from to = absurd (omega arith)
 find_run base (x ∷ xs) place from to =

@@ -1,6 +1,5 @@
 -- A whole hand has seen all that was claimed, and owns it.
-use Rattle.std.proofs.Common.{◌≡◌, ℕ, zero, suc, ◌+◌, ◌<◌, List, [], ◌∷◌, ◌++◌, length, get_or, refl, ap, sym, ◌∙◌, subst, arith, length-append}
-use Rattle.std.specs.List.{Contains}
+use Rattle.std.proofs.Common.{◌≡◌, ℕ, zero, suc, ◌+◌, List, [], ◌∷◌, ◌++◌, length, get_or, refl, ap, sym, ◌∙◌, arith, length-append}
 use mathlib.Core.Option.{some, some-injective, some-ne-none}
 use lib.ListN.{get_elem?}
 use Rattle.atomic_table.specs.Seated.{TableId}
@@ -12,14 +11,13 @@ use Rattle.book_core.specs.declared.events.Reply.{Reply}
 use Rattle.claim_core.specs.History.{Log}
 use Rattle.claim_core.specs.Lengths.{runs_end, times, once_below}
 use Rattle.claim_core.specs.Word.{WordView}
-use Rattle.claim_core.specs.Hand.{HandView, IsWholeHand, seen_size, own_places}
+use Rattle.claim_core.specs.Hand.{HandView, seen_size}
 use Rattle.claim_core.specs.Seat.{ClaimSeat, hand_view, IsHeld}
 use Rattle.claim_core.specs.Rule.{Kept, size_at}
 use Rattle.claim_core.specs.SeatView.{IsConsistent, Looks, Claims}
 use Rattle.claim_core.proofs.Prefixes.{prefix_whole}
-use Rattle.claim_core.proofs.Counts.{Contains-from_times, once_more}
+use Rattle.claim_core.proofs.Counts.{once_more}
 use Rattle.claim_core.proofs.Fits.{whole_saw}
-use Rattle.claim_core.proofs.Places.{places_in-all}
 use Rattle.claim_core.proofs.Belongs.{Belongs}
 
 -- a whole hand finds the size that it has seen
@@ -49,31 +47,17 @@ Claims-whole v w found n event consistent claims all =
     sym claims.size ∙ (ap (λ b. runs_end b front) claims.same.base ∙ ap (runs_end v.base) (sym is))
 
 -- the same, as a caller sees it
-pub finds_seen : {seat : ClaimSeat} {share size found : ℕ} {es : Log} {w : SeatView} {hand : HandView} → IsHeld seat share size
-    → hand_view seat ≡ hand
+pub finds_seen : {seat : ClaimSeat} {share size floor found : ℕ} {es : Log} {w : SeatView} {hand : HandView} → IsHeld seat share size
+    → hand_view floor seat ≡ hand
     → Looks seat.me.0 found es w → hand.shares ≡ 65536 → found ≡ seen_size hand
-finds_seen {seat} {share} {size} {found} {es} {w} {hand} held hand_is looks all =
+finds_seen {seat} {share} {size} {floor} {found} {es} {w} {hand} held hand_is looks all =
     Looks-whole seat.me.0 w found es held.consistent looks (ap (λ (h : HandView). h.shares) hand_is ∙ all) ∙ ap seen_size hand_is
 
-pub claims_seen : {seat : ClaimSeat} {share size found n : ℕ} {event : ℕ → Event × Reply} {w : SeatView} {hand : HandView}
-    → IsHeld seat share size → hand_view seat ≡ hand
+pub claims_seen : {seat : ClaimSeat} {share size floor found n : ℕ} {event : ℕ → Event × Reply} {w : SeatView} {hand : HandView}
+    → IsHeld seat share size → hand_view floor seat ≡ hand
     → Claims seat.me.0 found n event w → hand.shares ≡ 65536 → found ≡ seen_size hand
-claims_seen {seat} {share} {size} {found} {n} {event} {w} {hand} held hand_is claims all =
+claims_seen {seat} {share} {size} {floor} {found} {n} {event} {w} {hand} held hand_is claims all =
     Claims-whole seat.me.0 w found n event held.consistent claims (ap (λ (h : HandView). h.shares) hand_is ∙ all) ∙ ap seen_size hand_is
-
--- a whole hand owns each run that it has seen
-pub owns_all : {seat : ClaimSeat} {share size : ℕ} {hand : HandView} → IsHeld seat share size → hand_view seat ≡ hand
-    → IsWholeHand hand → (k : ℕ) → k < length hand.seen → Contains hand.mine k
-owns_all {seat} {share} {size} {hand} held hand_is =
-    subst (λ (h : HandView). IsWholeHand h → (k : ℕ) → k < length h.seen → Contains h.mine k) hand_is
-    (λ all k below. Contains-from_times seat.me.0.mine k (let o = held.consistent.whole all k in omega arith))
-
--- and where it ends is the base and the places of all its runs
-pub owns_places : {seat : ClaimSeat} {share size : ℕ} {hand : HandView} → IsHeld seat share size → hand_view seat ≡ hand
-    → IsWholeHand hand → seen_size hand ≡ hand.of.base + own_places hand
-owns_places {seat} {share} {size} {hand} held hand_is =
-    subst (λ (h : HandView). IsWholeHand h → seen_size h ≡ h.of.base + own_places h) hand_is
-    (λ all. let p = places_in-all seat.me.0.seen seat.me.0.mine (held.consistent.whole all) in omega arith)
 
 get_or_is : (xs : List ℕ) (i x : ℕ) → get_elem? xs i ≡ some x → get_or xs i 0 ≡ x
 get_or_is [] i x at = absurd (some-ne-none x (sym at))
@@ -81,10 +65,10 @@ get_or_is (y ∷ ys) zero x at = some-injective y x at
 get_or_is (y ∷ ys) (suc i) x at = get_or_is ys i x at
 
 -- the last size is the one that a whole hand has seen
-pub closes : {seat : ClaimSeat} {table : TableId} {key : Terms} {word : WordView} {hand : HandView} (words : List ℕ) (slots : List (Unit {0})) (last : ℕ)
-    → Belongs seat table key word → hand_view seat ≡ hand → Final (Seen (Kept key) seat.id seat.me.0) words slots → get_elem? words size_at ≡ some last
+pub closes : {seat : ClaimSeat} {floor : ℕ} {table : TableId} {key : Terms} {word : WordView} {hand : HandView} (words : List ℕ) (slots : List (Unit {0})) (last : ℕ)
+    → Belongs seat table key word → hand_view floor seat ≡ hand → Final (Seen (Kept key) seat.id seat.me.0) words slots → get_elem? words size_at ≡ some last
     → hand.shares ≡ 65536 → last ≡ seen_size hand
-closes {seat} {table} {key} {word} {hand} words slots last belong hand_is final at all =
+closes {seat} {floor} {table} {key} {word} {hand} words slots last belong hand_is final at all =
     let s = final.0 in
     let kept = final.1.0 in
     let v = seat.me.0 in

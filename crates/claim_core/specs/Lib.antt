@@ -3,6 +3,8 @@ pub mod Shares
 pub mod Word
 pub mod History
 pub mod Hand
+pub mod Lent
+pub mod Gain
 pub mod Laws
 pub mod Errors
 pub mod SeatView
@@ -10,4 +12,5 @@ pub mod Ties
 pub mod Rule
 pub mod SeatSteps
 pub mod StepLaws
+pub mod Plays
 pub mod Seat

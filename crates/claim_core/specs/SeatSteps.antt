@@ -147,7 +147,8 @@ abbrev pub PermitsTrade : (ClaimState → Type 0) → ℕ → SeatView → ℕ �
 PermitsTrade holds id v k before after j other_before other_after then =
     (s : ClaimState) → holds s → get_elem? s.views id ≡ some v → get_elem? s.views k ≡ some before
     → get_elem? s.views j ≡ some other_before
-    → (w : SeatView) × holds (with_views s (slice_set (slice_set (slice_set s.views id w) k after) j other_after)) × then w
+    → (w : SeatView) × holds (with_views s (slice_set (slice_set (slice_set s.views id w) k after) j other_after))
+    × then w
 
 -- whatever the table is, n seats of idle cells may be made, and behind them that of their block. No other seat moves
 abbrev pub PermitsBlock : (ClaimState → Type 0) → ℕ → Type 0
@@ -155,8 +156,8 @@ PermitsBlock holds n =
     (s : ClaimState) → holds s
     → holds (with_views s ((s.views ++ replicate n (cell_view stages.Idle)) ++ role_view (roles.Block (length s.views) n) ∷ []))
 
--- Whatever the table is, the seat id may have a new view, and seats be made that have these roles and nothing else. They
--- have the next numbers, which their roles may use
+-- Whatever the table is, the seat id may have a new view, and seats be made that have these roles and nothing else.
+-- They have the next numbers, which their roles may use
 abbrev pub PermitsMore : (ClaimState → Type 0) → ℕ → SeatView → (ℕ → List Role) → (SeatView → Type 0) → Type 0
 PermitsMore holds id v made then =
     (s : ClaimState) → holds s → get_elem? s.views id ≡ some v

@@ -119,7 +119,8 @@ pub record ShowsWhole (terms : Terms) (s : ClaimState) (v : SeatView) : Type 0 w
   pub lengths : List ℕ
   pub list : CellList
   pub history : IsHistory (first_list terms.limit terms.base terms.mark.filled) v.log list
-  pub cells : (place seat : ℕ) (stage : CellStage) → Finds v.rows place seat → get_elem? s.views seat ≡ some (cell_view stage)
+  pub cells : (place seat : ℕ) (stage : CellStage) → Finds v.rows place seat
+      → get_elem? s.views seat ≡ some (cell_view stage)
       → Matches terms.limit terms.base lengths place (slice_get list.cells place) stage
 
 abbrev pub WholeHandsShowAll : Type 0

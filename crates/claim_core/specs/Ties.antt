@@ -69,8 +69,8 @@ pub record IsInRow (row : RowAt) (place seat : ℕ) : Type 0 where
 abbrev pub Finds : List RowAt → ℕ → ℕ → Type 0
 Finds rows place seat = (row : RowAt) × Contains rows row × IsInRow row place seat
 
--- The knowledge of a seat is true. Its rows say which seats the cells of places have. A place that it knows begun is not
--- idle, and it has seen the place. Of its own runs it knows all places that are not idle. A seat with shares is a
+-- The knowledge of a seat is true. Its rows say which seats the cells of places have. A place that it knows begun is
+-- not idle, and it has seen the place. Of its own runs it knows all places that are not idle. A seat with shares is a
 -- hand's, and no place from `laid` on has an entry
 pub record Knows (base : ℕ) (lengths : List ℕ) (ties : Ties) (v : SeatView) : Type 0 where
   pub finds : (place seat : ℕ) → Finds v.rows place seat → ties.seat_of place ≡ Some seat

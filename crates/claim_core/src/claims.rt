@@ -56,17 +56,13 @@ impl<A: Allocator> Word<A> {
         ensures whole { IsWholeHand hand.old → from ≡ seen_size hand.old → IsOk result }
     {
         let shared = &self.table.shared;
-        let found = shared.compare_exchange::<ExchangeAs<N>>(
-            &mut hand.seat,
-            SIZE_AT,
-            from,
-            from + n,
-        );
+        let mut seat = hand.take_seat();
+        let found = shared.compare_exchange::<ExchangeAs<N>>(&mut seat, SIZE_AT, from, from + n);
         if found == from {
-            hand.seen = from + n;
+            hand.put_seat(seat, from + n);
             Ok(Run { from, n })
         } else {
-            hand.seen = found;
+            hand.put_seat(seat, found);
             Err(Moved { size: found })
         }
     }
@@ -95,15 +91,16 @@ impl<A: Allocator> Word<A> {
             → IfErr result (λ enough. enough.size ≡ seen_size hand.old) }
     {
         let shared = &self.table.shared;
-        let found = shared.fetch_max::<Raise>(&mut hand.seat, SIZE_AT, to);
+        let mut seat = hand.take_seat();
+        let found = shared.fetch_max::<Raise>(&mut seat, SIZE_AT, to);
         if found < to {
-            hand.seen = to;
+            hand.put_seat(seat, to);
             Ok(Run {
                 from: found,
                 n: to - found,
             })
         } else {
-            hand.seen = found;
+            hand.put_seat(seat, found);
             Err(Enough { size: found })
         }
     }

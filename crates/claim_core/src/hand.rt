@@ -7,8 +7,9 @@ ghost use Rattle.claim_core.specs.Shares.{all_shares};
 ghost use Rattle.claim_core.specs.History.{IsHistoryOf, lengths_of};
 ghost use mathlib.Core.List.{IsPrefix};
 
+use crate::mark::Mark;
 use crate::seat_view::SeatView;
-use atomic_table::Seat;
+use atomic_table::Badge;
 use std::fmt;
 use std::marker::Model;
 
@@ -17,10 +18,13 @@ pub(crate) const WHOLE: u32 = 65536;
 
 // `grow_core` has a `Hand` too: this one, with the keys of its runs' segments.
 /// A caller's knowledge of the size, and its shares. Closing the word needs all shares, so once a hand is
-/// dropped the word can only be dropped. It takes 16 bytes.
+/// dropped the word can only be dropped. It takes 16 bytes. While an offer or a visit has its seat, it is a
+/// hand of no word, so no call of a word takes it.
 #[derive(Drop)]
 pub struct Hand {
-    pub(crate) seat: Seat<(), SeatView>,
+    pub(crate) badge: Badge<SeatView>,
+    // The number of the word's desk.
+    pub(crate) floor: Mark,
     pub(crate) shares: u32,
     pub(crate) seen: u64,
 }
@@ -30,11 +34,12 @@ impl Model for Hand {
 
     ghost Value = { HandView };
 
-    ghost use Rattle.claim_core.specs.Seat.{hand_view, IsHeld};
+    ghost use Rattle.claim_core.specs.Seat.{floor_in, hand_by, IsKept};
 
-    ghost view = { λ h. hand_view h.seat };
+    ghost view = { λ h.
+        hand_by (floor_in h.floor.numbers) h.badge.table_id h.badge.views h.shares h.seen };
 
-    ghost invariant = { λ h. IsHeld h.seat h.shares h.seen };
+    ghost invariant = { λ h. IsKept h.badge.views h.shares h.seen };
 }
 
 impl fmt::Debug for Hand {
@@ -79,8 +84,7 @@ impl Hand {
         // It has seen the places that it knows begun.
         ensures begun { SeesBegun self.now }
     {
-        // For the proof: reading a field shows the type's invariant.
-        let _seen = self.seen;
+        self.show_kept();
     }
 
     /// Shows a proof what a whole hand keeps: it has seen all that was claimed, and owns it. The size is the

@@ -22,17 +22,31 @@ mod hand;
 pub mod laws;
 mod mark;
 mod notes;
+mod offers;
+mod plays;
 mod role;
 mod rule;
 mod run;
+mod seat;
 mod seat_view;
 mod split_and_join;
 pub mod step_laws;
 mod terms;
+mod visits;
 mod word;
 
 pub use hand::Hand;
 pub use mark::{Mark, Marks};
 pub use notes::Notes;
+pub use offers::{CellTag, HandOffer};
+pub use plays::{
+    BeginAt, CellGain, EntryAt, EntryGain, FillAt, FillMended, FindRow, HandPlay, LookAt, MendAt,
+    NewBlock, NewEntry, SetRow, SpoilAt, SpoilMended, VisitPlay,
+};
+pub use role::{CellStage, Role, RowAt};
+pub use rule::OneList;
 pub use run::{Enough, Moved, Run};
+pub use seat_view::SeatView;
+pub use terms::Terms;
+pub use visits::{BlockSeat, HandVisit, RowTag};
 pub use word::{OpenError, Word};

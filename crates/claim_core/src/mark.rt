@@ -45,12 +45,27 @@ impl Mark {
     {
         Mark::of::<(), Nothing>(&())
     }
+
+    // Duplicates the mark.
+    pub(crate) fn again(&self) -> Mark
+        ensures { (result.numbers ≡ self.now.numbers) × (result.filled ≡ self.now.filled) }
+    {
+        Mark::of::<Mark, Itself>(self)
+    }
 }
 
 struct Nothing;
 
 impl Marks<()> for Nothing {
     ghost numbers = { λ _. [] };
+}
+
+struct Itself;
+
+impl Marks<Mark> for Itself {
+    ghost numbers = { λ mark. mark.numbers };
+
+    ghost filled = { λ mark. mark.filled };
 }
 
 impl Drop for Mark {

@@ -20,6 +20,9 @@ impl TableRule<(), SeatView, Terms> for OneList {
 /// The table of steps on the word.
 pub type ClaimTable = atomic_table::Shared<(), SeatView, Terms, OneList>;
 
+/// The right to name the table's invariant.
+pub type ClaimDesk = tie_core::Desk<(), SeatView, Terms, OneList>;
+
 /// A caller's seat; each of its steps starts there.
 pub type ClaimSeat = Seat<(), SeatView>;
 
@@ -90,17 +93,6 @@ impl Join<SeatView> for Both {
     ghost both = { joined_view };
 
     ghost spent = { spent_view };
-}
-
-/// The step that splits off an empty seat.
-pub struct Blank;
-
-impl Split<SeatView> for Blank {
-    ghost use Rattle.claim_core.specs.SeatView.{spent_view};
-
-    ghost left = { λ v. v };
-
-    ghost right = { λ v. spent_view };
 }
 
 /// The parts that a split keeps and gives away, chosen by each call.

@@ -5,11 +5,10 @@ ghost use Rattle.claim_core.specs.Hand.{IsHandOf, KeepsOwn, KnowsBoth, OwnApart}
 ghost use Rattle.claim_core.specs.Seat.{IsPair, SeesAsOne};
 
 use crate::hand::Hand;
-use crate::rule::{Blank, Both, ClaimSeat, ClaimTable, Cut, Divides, Load, Settle};
+use crate::rule::{Both, ClaimSeat, ClaimTable, Cut, Divides, Load, Settle};
 use crate::word::{SIZE_AT, Word};
 use std::alloc::Allocator;
 use std::marker::Brand;
-use std::mem;
 
 impl<A: Allocator> Word<A> {
     /// Splits shares off into a new hand, which has seen the same. It takes one load of the word, which shows
@@ -37,13 +36,12 @@ impl<A: Allocator> Word<A> {
         ensures given { result ≡ record hand.old { mine = []; shares = shares } }
     {
         let shared = &self.table.shared;
-        let seat = shared.split_seat::<Cut<P>>(&mut hand.seat);
-        hand.shares -= shares;
-        Hand {
-            seat,
-            shares,
-            seen: hand.seen,
-        }
+        let left = hand.share() - shares;
+        let seen = hand.seen();
+        let mut seat = hand.take_seat();
+        let part = shared.split_seat::<Cut<P>>(&mut seat);
+        hand.put_shares(seat, left, seen);
+        hand.like(part, shares, seen)
     }
 
     /// Joins the other hand's runs and shares into the hand, which has then seen whichever is more of what
@@ -62,16 +60,19 @@ impl<A: Allocator> Word<A> {
         ensures cells { KnowsBoth hand.old other hand.new }
         ensures apart { OwnApart hand.old other }
     {
-        let Hand { seat, shares, seen } = other;
         let shared = &self.table.shared;
-        shared.join_seat::<Both>(&mut hand.seat, seat);
-        shared.load::<Settle>(&mut hand.seat, SIZE_AT);
-        hand.shares += shares;
-        hand.seen = hand.seen.max(seen);
+        let given = other.share();
+        let seen = hand.seen().max(other.seen());
+        let mut seat = hand.take_seat();
+        let part = other.into_seat();
+        let shares = hand.share() + given;
+        shared.join_seat::<Both>(&mut seat, part);
+        shared.load::<Settle>(&mut seat, SIZE_AT);
+        hand.put_shares(seat, shares, seen);
     }
 
     /// Shows two hands to each other: both have then seen all that was claimed before one load of the size.
-    /// It takes three more loads, which show no size.
+    /// It takes two more loads, which show no size.
     pub fn meet(&self, a: &mut Hand, b: &mut Hand)
         requires ours { IsHandOf self.now a.old }
         requires also_ours { IsHandOf self.now b.old }
@@ -88,12 +89,11 @@ impl<A: Allocator> Word<A> {
         ensures apart { OwnApart a.new b.new }
     {
         let shared = &self.table.shared;
-        let spare = shared.split_seat::<Blank>(&mut a.seat);
-        let seat = mem::replace(&mut b.seat, spare);
-        let (size, seat) = show::<Brand>(shared, &mut a.seat, seat);
-        a.seen = size;
-        b.seat = seat;
-        b.seen = size;
+        let mut seat = a.take_seat();
+        let part = b.take_seat();
+        let (size, part) = show::<Brand>(shared, &mut seat, part);
+        a.put_seat(seat, size);
+        b.put_seat(part, size);
     }
 }
 

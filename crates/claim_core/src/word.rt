@@ -1,16 +1,16 @@
 //! The word: how it is opened, looked at and closed.
 ghost use Rattle.std.specs.Prelude.{◌≡◌, ◌≤◌, ◌↔◌, [], ◌∷◌, IfOk, Err, length, slice_index};
 ghost use Rattle.claim_core.specs.Rule.{word_count, size_at};
-ghost use Rattle.claim_core.specs.Seat.{hand_view};
+ghost use Rattle.claim_core.specs.Seat.{floor_in, hand_view};
 ghost use Rattle.claim_core.specs.SeatView.{first_view};
 ghost use Rattle.claim_core.specs.Word.{AreBounds};
 ghost use Rattle.claim_core.specs.Hand.{IsHandOf, IsWholeHand, IsNewHand, KeepsOwn, KeepsCells, SeesSize, seen_size};
 ghost use Rattle.claim_core.specs.History.{AddsEvents, IsNote, size_event, memory_event};
 
 use crate::hand::{Hand, WHOLE};
-use crate::mark::Mark;
+use crate::mark::{Mark, Marks};
 use crate::notes::{Notes, SizeNote};
-use crate::rule::{ClaimSeat, Lack, LoadAs, OneList};
+use crate::rule::{ClaimDesk, ClaimSeat, Lack, LoadAs, OneList};
 use crate::seat_view::SeatView;
 use crate::terms::Terms;
 use atomic_table::Table;
@@ -19,6 +19,7 @@ use std::alloc::{Allocator, Global};
 use std::error::Error;
 use std::fmt;
 use std::marker::Model;
+use tie_core::Desk;
 
 // The size is the middle one of this many words: 128 bytes on either side keep everything else off its cache
 // line.
@@ -37,17 +38,22 @@ fn words_around(size: u64) -> [u64; WORDS]
     words
 }
 
+// A mark that has the desk's number.
+struct DeskFloor;
+
+impl Marks<ClaimDesk> for DeskFloor {
+    ghost use Rattle.std.specs.Prelude.{[], ◌∷◌};
+
+    ghost numbers = { λ desk. desk.floor ∷ [] };
+}
+
 // The hand that has all shares, around the seat that a new table begins with.
-fn first_hand(seat: ClaimSeat, terms: &Terms) -> Hand
+fn first_hand(seat: ClaimSeat, terms: &Terms, floor: Mark) -> Hand
     requires bounds { AreBounds terms.now.limit terms.now.base }
     requires first { seat.me ≡ (first_view terms.now, []) }
-    ensures { result ≡ hand_view seat }
+    ensures { result ≡ hand_view (floor_in floor.numbers) seat }
 {
-    Hand {
-        seat,
-        shares: WHOLE,
-        seen: terms.base,
-    }
+    Hand::around(seat, floor, WHOLE, terms.base)
 }
 
 /// The reason why a word was not opened.
@@ -86,6 +92,7 @@ impl Error for OpenError {}
 pub struct Word<A: Allocator = Global> {
     pub(crate) table: Table<(), SeatView, Terms, OneList, A>,
     terms: Terms,
+    pub(crate) desk: ClaimDesk,
 }
 
 impl<A: Allocator> Model for Word<A> {
@@ -94,9 +101,10 @@ impl<A: Allocator> Model for Word<A> {
 
     ghost Value = { WordView };
 
-    ghost view = { λ w. word_view w.table.shared.table_id w.terms };
+    ghost view = { λ w. word_view w.table.shared.table_id w.terms w.desk.floor };
 
-    ghost invariant = { λ w. IsOpened w.table.shared.table_id w.table.shared.key w.terms };
+    ghost invariant = { λ w.
+        IsOpened w.table.shared.table_id w.table.shared.key w.terms w.desk.table_id w.desk.key };
 }
 
 // The size itself is left out: only a step with a hand may look at it.
@@ -144,8 +152,10 @@ impl<A: Allocator> Word<A> {
         let (table, seat) = Table::of_words(alloc, &words_around(base), &terms).map_err(
             |_| OpenError::NoMemory,
         )?;
-        let hand = first_hand(seat, &terms);
-        Ok((Word { table, terms }, hand))
+        let desk = Desk::of(&table.shared);
+        let floor = Mark::of::<ClaimDesk, DeskFloor>(&desk);
+        let hand = first_hand(seat, &terms, floor);
+        Ok((Word { table, terms, desk }, hand))
     }
 
     /// Returns the greatest size that the word may have.
@@ -196,8 +206,9 @@ impl<A: Allocator> Word<A> {
         ensures whole { IsWholeHand hand.old → result ≡ seen_size hand.old }
     {
         let shared = &self.table.shared;
-        let found = shared.load::<LoadAs<N>>(&mut hand.seat, SIZE_AT);
-        hand.seen = found;
+        let mut seat = hand.take_seat();
+        let found = shared.load::<LoadAs<N>>(&mut seat, SIZE_AT);
+        hand.put_seat(seat, found);
         found
     }
 
@@ -211,7 +222,9 @@ impl<A: Allocator> Word<A> {
         ensures cells { KeepsCells hand.old hand.new }
     {
         let shared = &self.table.shared;
-        shared.load::<Lack>(&mut hand.seat, SIZE_AT);
+        let mut seat = hand.take_seat();
+        shared.load::<Lack>(&mut seat, SIZE_AT);
+        hand.put_back(seat);
     }
 
     /// Returns the size by one load, for a caller without a hand. A proof learns nothing from it.
@@ -225,9 +238,12 @@ impl<A: Allocator> Word<A> {
         requires whole { IsWholeHand hand }
         ensures { result ≡ seen_size hand }
     {
-        let Word { table, terms: _ } = self;
-        let Hand { seat, .. } = hand;
-        let closed = table.close_with(seat);
+        let Word {
+            table,
+            terms: _,
+            desk: _,
+        } = self;
+        let closed = table.close_with(hand.into_seat());
         let size = closed.word(SIZE_AT);
         closed.free();
         size

@@ -10,9 +10,9 @@ mod workers;
 
 use crate::particles::{Contact, scatter};
 use crate::workers::{FINDERS, Search};
-use anyhow::{Result, bail, ensure};
+use anyhow::{Context, Error, Result, ensure};
 use quiet_core::Quiet;
-use span_core::{Free, with_writers};
+use span_core::{Free, Refusal, with_writers};
 use std::alloc::AllocGlobal;
 use std::env::{self, Env};
 use std::sync::Wait;
@@ -20,27 +20,36 @@ use std::thread::Threads;
 
 const LIMIT: u64 = 1 << 32;
 
+// Looks at what the workers returned: how many contacts each appended or saw.
+fn check_counts(counts: Result<Vec<u64>, Refusal<Error>>, list: &Quiet<Contact>) -> Result<()> {
+    let seen = counts?.as_slice().iter().all(|count| *count <= list.len());
+    ensure!(seen, "a worker saw too much");
+    Ok(())
+}
+
 // The list of the contacts that the workers find, in any order.
+fn collect_contacts<R: Threads + Wait + AllocGlobal + Sync>(
+    rt: &R,
+    search: &Search<'_, R>,
+) -> Result<Quiet<Contact>> {
+    let alloc = rt.alloc();
+    let opened = Quiet::new(alloc, LIMIT).open().ok();
+    let (vector, mut hand) = opened.context("out of memory")?;
+    let counts = with_writers(rt, alloc, &vector, &mut hand, FINDERS + 1, search, &Free);
+    let closed = Quiet::try_close(vector, hand).ok();
+    let list = closed.context("a worker lost its shares")?;
+    check_counts(counts, &list)?;
+    Ok(list)
+}
+
+// The same of particles that are scattered first.
 fn find_contacts<R: Threads + Wait + AllocGlobal + Sync>(
     rt: &R,
     count: u32,
     seed: u64,
 ) -> Result<Quiet<Contact>> {
-    let alloc = rt.alloc();
-    let search = Search {
-        rt,
-        particles: scatter(alloc, count, seed)?,
-    };
-    let Ok((vector, mut hand)) = Quiet::new(alloc, LIMIT).open() else {
-        bail!("out of memory");
-    };
-    let counts = with_writers(rt, alloc, &vector, &mut hand, FINDERS + 1, &search, &Free);
-    let Ok(list) = Quiet::try_close(vector, hand) else {
-        bail!("a worker lost its shares");
-    };
-    let seen = counts?.as_slice().iter().all(|count| *count <= list.len());
-    ensure!(seen, "a worker saw too much");
-    Ok(list)
+    let particles = scatter(rt.alloc(), count, seed)?;
+    collect_contacts(rt, &Search { rt, particles })
 }
 
 // The contacts that there are, in order.

@@ -1,5 +1,6 @@
 //! How long it takes to open a list of ten million values as a shared vector, to close it into a list again, and to
 //! move the values out of that.
+ghost use Rattle.std.specs.Prelude.{IfSome};
 ghost use Rattle.claim_core.specs.Hand.{IsWholeHand};
 ghost use Rattle.grow_core.specs.Vector.{IsHandOf};
 
@@ -42,15 +43,26 @@ fn fill_list(alloc: Global) -> Result<Parts<u64>, AllocError> {
     Ok(parts)
 }
 
-// How long it took from the start to now, if the list has all values.
-fn time_since<R: Clock>(
-    rt: &R,
-    start: io::Result<Instant>,
-    parts: &Parts<u64>,
-) -> Result<Duration> {
-    let took = start?.elapsed(rt)?;
-    ensure!(parts.len() == VALUES, "values were lost");
-    Ok(took)
+// How long it took from the start to now.
+fn time_since<R: Clock>(rt: &R, start: io::Result<Instant>) -> Result<Duration> {
+    Ok(start?.elapsed(rt)?)
+}
+
+// The list as a vector with its hand, if there is memory.
+fn open_list(parts: Parts<u64>) -> Option<(Shared<u64>, Hand<u64>)>
+    ensures ours { IfSome result (λ (vector, hand). IsHandOf vector hand) }
+    ensures whole { IfSome result (λ (_, hand). IsWholeHand hand) }
+{
+    Shared::of_parts(parts).ok()
+}
+
+// How long the list takes to be opened.
+fn time_open<R: Clock>(rt: &R, parts: Parts<u64>) -> Result<Duration> {
+    let start = Instant::now(rt);
+    let opened = open_list(parts);
+    let took = time_since(rt, start);
+    ensure!(opened.is_some(), "no memory");
+    took
 }
 
 // How long the vector takes to be closed.
@@ -60,7 +72,18 @@ fn time_close<R: Clock>(rt: &R, vector: Shared<u64>, hand: Hand<u64>) -> Result<
 {
     let start = Instant::now(rt);
     let parts = vector.into_parts(hand);
-    time_since(rt, start, &parts)
+    let took = time_since(rt, start);
+    ensure!(parts.len() == VALUES, "values were lost");
+    took
+}
+
+// Reports what a vector lacks that was moved into a `Vec`.
+fn check_values(values: &Option<Vec<u64>>) -> Result<()> {
+    let Some(values) = values else {
+        bail!("no vector")
+    };
+    ensure!(values.len() as u64 == VALUES, "values were lost");
+    Ok(())
 }
 
 // How long the vector takes to be closed and moved into a `Vec`.
@@ -68,27 +91,31 @@ fn time_into_vec<R: Clock>(rt: &R, vector: Shared<u64>, hand: Hand<u64>) -> Resu
     requires ours { IsHandOf vector hand }
     requires whole { IsWholeHand hand }
 {
-    let start = Instant::now(rt)?;
-    let moved = Quiet::close(vector, hand).into_vec();
-    let took = start.elapsed(rt)?;
-    let Ok(values) = moved else {
-        bail!("no vector")
+    let start = Instant::now(rt);
+    let values = Quiet::close(vector, hand).into_vec().ok();
+    let took = time_since(rt, start);
+    check_values(&values)?;
+    took
+}
+
+// How long a vector of the list takes to be closed, by one of these.
+fn time_closing<R: Clock>(rt: &R, parts: Parts<u64>, into_vec: bool) -> Result<Duration> {
+    let Some((vector, hand)) = open_list(parts) else {
+        bail!("no memory")
     };
-    ensure!(values.len() as u64 == VALUES, "values were lost");
-    Ok(took)
+    if into_vec {
+        time_into_vec(rt, vector, hand)
+    } else {
+        time_close(rt, vector, hand)
+    }
 }
 
 // How long it took to open the list, or then to close the vector.
 fn time_turn<R: Clock>(rt: &R, parts: Parts<u64>, turn: Turn) -> Result<Duration> {
-    let start = Instant::now(rt)?;
-    let Ok((vector, hand)) = Shared::of_parts(parts) else {
-        bail!("no memory")
-    };
-    let opened = start.elapsed(rt)?;
     match turn {
-        Turn::Open => Ok(opened),
-        Turn::Close => time_close(rt, vector, hand),
-        Turn::IntoVec => time_into_vec(rt, vector, hand),
+        Turn::Open => time_open(rt, parts),
+        Turn::Close => time_closing(rt, parts, false),
+        Turn::IntoVec => time_closing(rt, parts, true),
     }
 }
 

@@ -53,6 +53,8 @@ pub enum Work {
     Grow,
     /// Makes a list of 64 values, and appends it without tokens.
     Append,
+    /// Appends copies of one list of 64 values.
+    Copy,
     /// Appends 64 values that are made in place.
     Make,
     /// Grows the vector up to 64 places above the size that the hand has seen.
@@ -94,7 +96,7 @@ pub fn layout_of(name: &str) -> Layout {
 
 // The name of a load, what is done, how many values there are before its time starts, and how many while it
 // runs.
-static ROWS: [(&'static str, Work, u64, u64); 22] = [
+static ROWS: [(&'static str, Work, u64, u64); 24] = [
     ("push", Work::Push, 0, FRESH),
     ("push-256", Work::Push, 0, FRESH),
     ("push-installed", Work::Push, FILLED, MORE),
@@ -107,6 +109,8 @@ static ROWS: [(&'static str, Work, u64, u64); 22] = [
     ("grow-installed", Work::Grow, FILLED, MORE),
     ("append", Work::Append, 0, FRESH),
     ("append-installed", Work::Append, FILLED, MORE),
+    ("copy", Work::Copy, 0, FRESH),
+    ("copy-installed", Work::Copy, FILLED, MORE),
     ("make", Work::Make, 0, FRESH),
     ("make-installed", Work::Make, FILLED, MORE),
     ("at-least", Work::AtLeast, 0, FRESH),
@@ -152,6 +156,24 @@ fn list_from<R: AllocGlobal>(rt: &R, from: u64) -> Result<Vec<u64>, AllocError> 
     Ok(list)
 }
 
+// Appends the values with tokens, and returns whether that was done.
+#[inline(always)]
+fn grow_by_list<R: Wait>(rt: &R, vector: &Shared<u64>, hand: &mut Hand<u64>, list: Vec<u64>) -> bool
+    requires ours { IsHandOf vector.now hand.old }
+    ensures of { hand.new.of ≡ hand.old.of }
+{
+    vector.grow_vec(rt, hand, list).is_ok()
+}
+
+// Appends the values without tokens, and returns whether that was done.
+#[inline(always)]
+fn append_list<R: Wait>(rt: &R, vector: &Shared<u64>, hand: &mut Hand<u64>, list: Vec<u64>) -> bool
+    requires ours { IsHandOf vector.now hand.old }
+    ensures of { hand.new.of ≡ hand.old.of }
+{
+    vector.append(rt, hand, list).is_ok()
+}
+
 // Appends a list of values, with tokens or without: whether that was done, or nothing without memory for the list.
 fn grow_once<R: Wait + AllocGlobal>(
     rt: &R,
@@ -163,10 +185,11 @@ fn grow_once<R: Wait + AllocGlobal>(
     requires ours { IsHandOf vector.now hand.old }
     ensures of { hand.new.of ≡ hand.old.of }
 {
-    match list_from(rt, from) {
-        Ok(list) if has_tokens => Some(vector.grow_vec(rt, hand, list).is_ok()),
-        Ok(list) => Some(vector.append(rt, hand, list).is_ok()),
-        Err(AllocError) => None,
+    let list = list_from(rt, from).ok()?;
+    if has_tokens {
+        Some(grow_by_list(rt, vector, hand, list))
+    } else {
+        Some(append_list(rt, vector, hand, list))
     }
 }
 
@@ -186,6 +209,27 @@ fn grow<R: Wait + AllocGlobal>(
             break;
         };
         if is_done {
+            won = won.wrapping_add(LIST);
+        }
+    }
+    won
+}
+
+// Appends copies of one list, and returns how many values were appended.
+fn copy<R: Wait + AllocGlobal>(
+    rt: &R,
+    vector: &Shared<u64>,
+    mut hand: Hand<u64>,
+    values: u64,
+) -> u64
+    requires ours { IsHandOf vector.now hand }
+{
+    let Ok(list) = list_from(rt, 0) else {
+        return 0;
+    };
+    let mut won: u64 = 0;
+    for _growth in 0..values / LIST {
+        if vector.grow_from(rt, &mut hand, list.as_slice()).is_ok() {
             won = won.wrapping_add(LIST);
         }
     }
@@ -253,6 +297,7 @@ impl Work {
             Work::BufferedPush => push_buffered(rt, vector, hand, times),
             Work::Grow => grow(rt, vector, hand, times, true),
             Work::Append => grow(rt, vector, hand, times, false),
+            Work::Copy => copy(rt, vector, hand, times),
             Work::Make => make(rt, vector, hand, times, false),
             Work::AtLeast => make(rt, vector, hand, times, true),
             Work::At => read_at(vector, hand, times),

@@ -227,7 +227,7 @@ fn print_get_time_on<R: Threads + Wait + Clock + Print + AllocGlobal + Sync>(
     requires ours { IsHandOf vector.now hand.old }
 {
     let number = |i: u64| -> Result<u64, Never> { Ok(i) };
-    let Ok(grown) = vector.grow_with(rt, hand, filled, number) else {
+    let Some(grown) = vector.grow_with(rt, hand, filled, number).ok() else {
         bail!("the values to be read were not appended")
     };
     let (took, _sums) = time_threads(

@@ -9,6 +9,12 @@ use std::sync::Wait;
 // The most values in a buffer. The lists of other loads have 64 values too.
 const BUFFER: usize = 64;
 
+// Appends a value, and returns whether that was done.
+#[inline(always)]
+fn push_back<R: Wait>(rt: &R, writer: &mut Writer<'_, u64>, value: u64) -> bool {
+    writer.push_back(rt, value).is_ok()
+}
+
 /// Pushes values by a writer, and returns how many were appended.
 pub fn push_by_writer<R: Wait>(rt: &R, vector: &Shared<u64>, hand: Hand<u64>, tries: u64) -> u64
     requires ours { IsHandOf vector.now hand }
@@ -16,11 +22,22 @@ pub fn push_by_writer<R: Wait>(rt: &R, vector: &Shared<u64>, hand: Hand<u64>, tr
     let mut writer = Writer::new(vector, hand);
     let mut won: u64 = 0;
     for value in 0..tries {
-        if writer.push_back(rt, value).is_ok() {
+        if push_back(rt, &mut writer, value) {
             won = won.wrapping_add(1);
         }
     }
     won
+}
+
+// Puts a value into the buffer, and returns whether that was done.
+#[inline(always)]
+fn push_one<R: Wait>(rt: &R, writer: &mut BufferedWriter<'_, u64>, value: u64) -> bool {
+    writer.push(rt, value).is_ok()
+}
+
+// Appends what is buffered, and returns whether that was done.
+fn flush<R: Wait>(rt: &R, writer: &mut BufferedWriter<'_, u64>) -> bool {
+    writer.flush(rt).is_ok()
 }
 
 /// Pushes values by a writer with a buffer, and appends the last ones too. Returns how many were taken, or 0 if
@@ -36,9 +53,9 @@ pub fn push_buffered<R: Wait + AllocGlobal>(
     let mut writer = BufferedWriter::new(rt.alloc(), Writer::new(vector, hand), BUFFER);
     let mut won: u64 = 0;
     for value in 0..tries {
-        if writer.push(rt, value).is_ok() {
+        if push_one(rt, &mut writer, value) {
             won = won.wrapping_add(1);
         }
     }
-    if writer.flush(rt).is_ok() { won } else { 0 }
+    if flush(rt, &mut writer) { won } else { 0 }
 }

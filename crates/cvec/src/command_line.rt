@@ -73,104 +73,114 @@ const FROM_A_FILE: &str = "
 A script is read from standard input: write '<' before the name of its file.
 ";
 
-fn make_sweep_command<'a>(alloc: Global) -> Result<Command<'a>, AllocError> {
-    let seed = Arg::new(alloc, "seed")
+// An option that is required: a number from 1 to another.
+fn make_number<'a>(
+    alloc: Global,
+    name: &'a str,
+    letter: &'a str,
+    help: &'a str,
+    most: u32,
+) -> Arg<'a> {
+    Arg::new(alloc, name)
+        .long(name)
+        .value_name(letter)
+        .help(help)
+        .required(true)
+        .action(ArgAction::Set)
+        .value_parser(clap::value_parser!(u32).range(1..=i64::from(most)))
+}
+
+// A flag.
+fn make_flag<'a>(alloc: Global, name: &'a str, help: &'a str) -> Arg<'a> {
+    Arg::new(alloc, name)
+        .long(name)
+        .help(help)
+        .action(ArgAction::SetTrue)
+}
+
+fn make_seed<'a>(alloc: Global) -> Arg<'a> {
+    Arg::new(alloc, "seed")
         .long("seed")
         .value_name("S")
         .help("The seed of the first schedule; schedule i has the seed S + i")
         .required(true)
         .action(ArgAction::Set)
-        .value_parser(clap::value_parser!(u64));
-    let count = Arg::new(alloc, "count")
-        .long("count")
-        .value_name("N")
-        .help("The number of schedules, from 1 to 10000")
-        .required(true)
-        .action(ArgAction::Set)
-        .value_parser(clap::value_parser!(u32).range(1..=i64::from(MOST_SCHEDULES)));
-    let len = Arg::new(alloc, "len")
-        .long("len")
-        .value_name("L")
-        .help("The number of items of each schedule, from 1 to 1000")
-        .required(true)
-        .action(ArgAction::Set)
-        .value_parser(clap::value_parser!(u32).range(1..=i64::from(MOST_ITEMS)));
-    let print = Arg::new(alloc, "print")
+        .value_parser(clap::value_parser!(u64))
+}
+
+fn make_print<'a>(alloc: Global) -> Arg<'a> {
+    Arg::new(alloc, "print")
         .long("print")
         .value_name("I")
         .help("Only prints schedule I, from 0 to N - 1, as a script for cvec steps")
         .action(ArgAction::Set)
-        .value_parser(clap::value_parser!(u32));
-    let sweep = Command::new(alloc, "sweep")
+        .value_parser(clap::value_parser!(u32))
+}
+
+fn make_sweep_command<'a>(alloc: Global) -> Result<Command<'a>, AllocError> {
+    let count = "The number of schedules, from 1 to 10000";
+    let len = "The number of items of each schedule, from 1 to 1000";
+    Command::new(alloc, "sweep")
         .about(SWEEP)
-        .arg(seed)?
-        .arg(count)?
-        .arg(len)?
-        .arg(print)?;
-    Ok(sweep)
+        .arg(make_seed(alloc))?
+        .arg(make_number(alloc, "count", "N", count, MOST_SCHEDULES))?
+        .arg(make_number(alloc, "len", "L", len, MOST_ITEMS))?
+        .arg(make_print(alloc))
+}
+
+fn make_race_command<'a>(alloc: Global) -> Result<Command<'a>, AllocError> {
+    let workers = "The number of threads that append, from 1 to 64";
+    let each = "The number of values that each appends, from 1 to 100000";
+    Command::new(alloc, "race")
+        .about(RACE)
+        .arg(make_number(alloc, "workers", "W", workers, MOST_WORKERS))?
+        .arg(make_number(alloc, "each", "E", each, MOST_EACH))
 }
 
 // A flag of the commands that play a script.
 fn make_explain_flag<'a>(alloc: Global) -> Arg<'a> {
-    Arg::new(alloc, "explain")
-        .long("explain")
-        .help("Also prints, below the line of a fault, what it means")
-        .action(ArgAction::SetTrue)
+    make_flag(
+        alloc,
+        "explain",
+        "Also prints, below the line of a fault, what it means",
+    )
+}
+
+fn make_calls_command<'a>(alloc: Global) -> Result<Command<'a>, AllocError> {
+    Command::new(alloc, "calls")
+        .about(CALLS)
+        .arg(make_explain_flag(alloc))
 }
 
 fn make_steps_command<'a>(alloc: Global) -> Result<Command<'a>, AllocError> {
-    let counted = Arg::new(alloc, "count")
-        .long("count")
-        .help("Also prints, for each ended call, its lost exchanges and its steps")
-        .action(ArgAction::SetTrue);
-    let traced = Arg::new(alloc, "trace")
-        .long("trace")
-        .help("First prints, for each item, its step and what the step found or did")
-        .action(ArgAction::SetTrue);
-    let steps = Command::new(alloc, "steps")
+    let counted = "Also prints, for each ended call, its lost exchanges and its steps";
+    let traced = "First prints, for each item, its step and what the step found or did";
+    Command::new(alloc, "steps")
         .about(STEPS)
-        .arg(counted)?
-        .arg(traced)?
-        .arg(make_explain_flag(alloc))?;
-    Ok(steps)
+        .arg(make_flag(alloc, "count", counted))?
+        .arg(make_flag(alloc, "trace", traced))?
+        .arg(make_explain_flag(alloc))
+}
+
+fn add_command<'a>(
+    command: Command<'a>,
+    made: Result<Command<'a>, AllocError>,
+) -> Result<Command<'a>, AllocError> {
+    command.subcommand(made?)
 }
 
 fn make_command<'a>(alloc: Global) -> Result<Command<'a>, AllocError> {
-    let calls = Command::new(alloc, "calls")
-        .about(CALLS)
-        .arg(make_explain_flag(alloc))?;
-    let steps = make_steps_command(alloc)?;
-    let workers = Arg::new(alloc, "workers")
-        .long("workers")
-        .value_name("W")
-        .help("The number of threads that append, from 1 to 64")
-        .required(true)
-        .action(ArgAction::Set)
-        .value_parser(clap::value_parser!(u32).range(1..=i64::from(MOST_WORKERS)));
-    let each = Arg::new(alloc, "each")
-        .long("each")
-        .value_name("E")
-        .help("The number of values that each appends, from 1 to 100000")
-        .required(true)
-        .action(ArgAction::Set)
-        .value_parser(clap::value_parser!(u32).range(1..=i64::from(MOST_EACH)));
-    let race = Command::new(alloc, "race")
-        .about(RACE)
-        .arg(workers)?
-        .arg(each)?;
-    let sweep = make_sweep_command(alloc)?;
     let command = Command::new(alloc, "cvec")
         .bin_name("cvec")?
         .version("0.1.0")
         .about(ABOUT)
         .after_help(MORE)
-        .subcommand(calls)?
-        .subcommand(steps)?
-        .subcommand(race)?
-        .subcommand(sweep)?
         .subcommand_required(true)
         .disable_help_subcommand(true);
-    Ok(command)
+    let command = add_command(command, make_calls_command(alloc))?;
+    let command = add_command(command, make_steps_command(alloc))?;
+    let command = add_command(command, make_race_command(alloc))?;
+    add_command(command, make_sweep_command(alloc))
 }
 
 // An error of the command line's own, in the parser's form.

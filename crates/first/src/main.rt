@@ -2,18 +2,15 @@
 //! its token.
 #![tactic(auto)]
 
-use anyhow::{Result, bail};
+use anyhow::{Context, Result};
 use quiet_core::Quiet;
 
 fn main(rt: HostRuntime) -> Result<()> {
-    let Ok((vector, mut hand)) = Quiet::new(rt.alloc(), 100).open() else {
-        bail!("out of memory");
-    };
+    let opened = Quiet::new(rt.alloc(), 100).open().ok();
+    let (vector, mut hand) = opened.context("out of memory")?;
     let placed = vector.push_back(&rt, &mut hand, 7u64);
     let list = Quiet::close(vector, hand);
-    match placed {
-        Ok(placed) => println!(rt; "place {} holds {}", placed.place(), list.recall(&placed))?,
-        Err(refused) => bail!("{refused}"),
-    }
+    let placed = placed?;
+    println!(rt; "place {} holds {}", placed.place(), list.recall(&placed))?;
     Ok(())
 }

@@ -101,7 +101,7 @@ impl<T: Drop> Shared<T> {
         let end = run.from + run.n;
         let mut segment = self.find_segment(hand, run.from + first);
         for place in run.from + first..end {
-            segment = self.next_segment(hand, segment, place);
+            self.next_segment(hand, &mut segment, place);
             match self.break_place(&segment, place) {
                 Ok(spoilt) => keep(spoilt),
                 Err(found) => return Err((place, found)),

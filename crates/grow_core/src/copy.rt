@@ -138,7 +138,7 @@ impl<T: Drop> Shared<T> {
         let mut done = 0;
         while done < run.n {
             let place = run.from + done;
-            segment = self.next_segment(hand, segment, place);
+            self.next_segment(hand, &mut segment, place);
             match self.copy_next(&segment, place, done, run.n - done, source) {
                 Ok(stretch) => {
                     done += stretch.n;

@@ -53,30 +53,29 @@ impl<T: Drop> Shared<T> {
         }
     }
 
-    // The segment of a place of the hand's own: this one, unless it ends there.
+    // Goes on to the segment of a place of the hand's own: to this one, unless it ends there.
     #[inline(always)]
     pub(crate) fn next_segment<'a>(
         &'a self,
         hand: &Hand<T>,
-        segment: Segment<'a, T>,
+        segment: &mut Segment<'a, T>,
         place: u64,
-    ) -> Segment<'a, T>
+    )
         requires ours { IsHandOf self.now hand.now }
         requires owned { OwnsPlace hand.now place }
         requires within { place < limit_of self.now }
-        requires segment { IsSegmentOf self.now segment }
-        requires from { segment.from ≤ place }
-        requires not_past { place ≤ segment.end }
-        ensures segment { IsSegmentOf self.now result }
-        ensures from { result.from ≤ place }
-        ensures before { place < result.end }
-        ensures same { place < segment.entry.end → result ≡ segment.entry }
+        requires segment { IsSegmentOf self.now segment.old }
+        requires from { segment.old.from ≤ place }
+        requires not_past { place ≤ segment.old.end }
+        ensures segment { IsSegmentOf self.now segment.new }
+        ensures from { segment.new.from ≤ place }
+        ensures before { place < segment.new.end }
+        ensures same { place < segment.old.end → segment.new ≡ segment.old }
     {
         if place < segment.end {
-            segment
-        } else {
-            self.find_segment(hand, place)
+            return;
         }
+        *segment = self.find_segment(hand, place);
     }
 
     // Fills a place of the segment with the value.

@@ -50,10 +50,12 @@ impl<T> Shared<T> {
     // The token of a run whose places are filled.
     pub(crate) fn grown(&self, run: Run, filled: Filled<T>) -> Grown<T>
         requires within { run.from + run.n ≤ limit_of self.now }
-        requires filled { (values : List T) × (length values ≡ run.n) × IsFilledOf self.now run.from values filled }
+        requires filled { (values : List T) × (length values ≡ run.n)
+            × IsFilledOf self.now run.from values filled }
         ensures run { result.run ≡ run }
         ensures of { IsGrownOf self.now result }
-        ensures values { (values : List T) → IsFilledOf self.now run.from values filled → values_of result ≡ values }
+        ensures values { (values : List T) → IsFilledOf self.now run.from values filled
+            → values_of result ≡ values }
     {
         // For the proof: the limit is one that a vector may have.
         self.laws();

@@ -136,7 +136,7 @@ impl<T: Drop> Shared<T> {
         let mut left = values.into_iter();
         let mut place = run.from;
         while place < run.from + run.n {
-            segment = self.next_segment(hand, segment, place);
+            self.next_segment(hand, &mut segment, place);
             match self.fill_next(&segment, place, left) {
                 Ok((stretch, rest)) => {
                     place += stretch.n;
@@ -176,7 +176,7 @@ impl<T: Drop> Shared<T> {
         let mut left = values.into_iter();
         let mut place = run.from;
         while place < run.from + run.n {
-            segment = self.next_segment(hand, segment, place);
+            self.next_segment(hand, &mut segment, place);
             match self.fill_next(&segment, place, left) {
                 Ok((stretch, rest)) => {
                     self.keep_tokens(&stretch, keep);

@@ -149,7 +149,7 @@ impl<T: Drop> Shared<T> {
                 Err(cause) => return Err(self.stop(hand, run, i, filled, cause, begun)),
             };
             let place = run.from + i;
-            segment = self.next_segment(hand, segment, place);
+            self.next_segment(hand, &mut segment, place);
             let (put, others) = self.fill_begun(&segment, place, run.n - i, begun, value);
             begun = others;
             match put {
@@ -179,7 +179,8 @@ impl<T: Drop> Shared<T> {
         requires ours { IsHandOf self.now hand.now }
         requires owned { OwnsPlacesOf hand.now run }
         requires within { run.from + run.n ≤ limit_of self.now }
-        requires filled { (values : List T) × (length values ≡ n) × IsFilledOf self.now run.from values filled }
+        requires filled { (values : List T) × (length values ≡ n)
+            × IsFilledOf self.now run.from values filled }
         requires fewer { n < run.n }
         requires unwritten { AreUnwritten begun }
         requires begun { n + begun_count begun ≤ run.n }

@@ -66,8 +66,8 @@ impl<T: Drop> Parts<T> {
         self.len -= n;
     }
 
-    /// Moves all members out, in order, into a list of their values, and frees the segments. None of them may be broken.
-    /// It asks for memory once, and gives the parts back if there is none.
+    /// Moves all members out, in order, into a list of their values, and frees the segments. None of them may be
+    /// broken. It asks for memory once, and gives the parts back if there is none.
     pub fn into_values(self) -> Result<Vec<T>, Parts<T>>
         requires unbroken { IsUnbroken self.members }
         ensures values { IfOk result (λ values. map Some values.items ≡ self.members) }

@@ -1,15 +1,14 @@
 //! A walk over what a vector shows.
-ghost use Rattle.std.specs.Prelude.{◌≡◌, ◌+◌, ◌<◌, ◌≤◌, length, filter, is_some};
+ghost use Rattle.std.specs.Prelude.{◌≡◌, ◌+◌, ◌<◌, ◌≤◌, [], ◌∷◌, Some, IfSome, IsSome, length, filter, is_some, slice_get};
 ghost use Rattle.seg_core.specs.Segment.{most_places};
-ghost use Rattle.grow_core.specs.Vector.{base_of, limit_of};
-ghost use Rattle.grow_core.specs.Published.{StepsOver, one_if_shown};
+ghost use Rattle.grow_core.specs.Vector.{IsOpenedAt, base_of, limit_of};
+ghost use Rattle.grow_core.specs.Published.{one_if_shown};
 ghost use Rattle.grow_core.specs.ShownCells.{HoldOpened};
 
 use crate::read::Shown;
 use crate::vector::Shared;
 use std::iter::FusedIterator;
 use std::marker::Model;
-use std::slice;
 
 // How many places a walk looks at together.
 const LOOKED_AHEAD: u64 = 256;
@@ -19,15 +18,16 @@ const LOOKED_AHEAD: u64 = 256;
 #[derive(Drop)]
 pub struct Published<'a, T> {
     vector: &'a Shared<T>,
-    place: u64,
     end: u64,
-    // The values of the next places, which are known to be filled.
-    filled: slice::Iter<'a, T>,
+    // The values of places that were found filled: those from this place on.
+    from: u64,
+    filled: &'a [T],
+    // How many of them were shown. An item that is one of them changes this number alone.
+    shown: usize,
 }
 
 impl<'a, T> Model for Published<'a, T> {
     ghost use Rattle.std.specs.Prelude.{◌+◌, ◌<◌, ◌≤◌, length};
-    ghost use Rattle.std.specs.Slice.Iter.{iter_rest};
     ghost use Rattle.grow_core.specs.Vector.{limit_of};
     ghost use Rattle.grow_core.specs.Published.{PublishedView, published_coded};
     ghost use Rattle.grow_core.specs.ShownCells.{HoldOpened};
@@ -36,10 +36,10 @@ impl<'a, T> Model for Published<'a, T> {
 
     ghost coded = { published_coded T.code };
 
-    ghost view = { λ p. record { vector = p.vector.now; place = p.place; end = p.end } };
+    ghost view = { λ p. record { vector = p.vector.now; place = p.from + p.shown; end = p.end } };
 
-    ghost invariant = { λ p. (p.place + length (iter_rest p.filled) ≤ p.end) × (p.end ≤ limit_of p.vector.now)
-        × HoldOpened p.vector.now p.place (iter_rest p.filled) };
+    ghost invariant = { λ p. (p.shown ≤ length p.filled.now) × (p.from + length p.filled.now ≤ p.end)
+        × (p.end ≤ limit_of p.vector.now) × HoldOpened p.vector.now p.from p.filled.now };
 }
 
 // Counts an item: 1 if its place shows a value, otherwise 0.
@@ -51,6 +51,15 @@ fn count_shown<T>(item: &Option<&T>) -> u64
         Some(_) => 1,
         None => 0,
     }
+}
+
+// The value with this number.
+#[inline(always)]
+fn value_at<T>(values: &[T], i: usize) -> &T
+    requires { i < length values.now }
+    ensures { slice_get values.now i ≡ Some result.now }
+{
+    &values[i]
 }
 
 impl<T> Shared<T> {
@@ -113,56 +122,79 @@ impl<T> Shared<T> {
         let none: &[T] = &[];
         Published {
             vector: self,
-            place,
             end,
-            filled: none.iter(),
+            from: place,
+            filled: none,
+            shown: 0,
         }
     }
 
-    // The values of the filled places from this one on, up to the first that is not filled, and `n` or LOOKED_AHEAD at
-    // most. It is not laid into the loops of walks.
+    // The values of the places from this one on that are found filled, up to the first that is not, and `n` or
+    // LOOKED_AHEAD at most. A walk comes here once for all of them, by a call, so that its loop has little else.
+    #[cold]
     #[inline(never)]
+    #[tactic(auto, using(crate::proofs::Places::within_length, crate::proofs::OpenedValues::hold_one))]
     fn look_along(&self, place: u64, n: u64) -> &[T]
         requires some { 0 < n }
         requires within { place + n ≤ limit_of self.now }
         ensures few { length result.now ≤ n }
         ensures opened { HoldOpened self.now place result.now }
+        ensures shown { (x : T) → IsOpenedAt self.now place x → 0 < length result.now }
     {
-        // For the proof: the vector's base is within its limit.
+        // For the proof: the opened list ends at the vector's base, which is within its limit.
         self.laws();
         let layout = self.layout();
         let (segment, _) = layout.locate(place);
         let left = layout.first(segment) + layout.len(segment) - place;
-        self.filled_places(segment, place, n.min(left).min(LOOKED_AHEAD))
+        let filled = self.filled_places(segment, place, n.min(left).min(LOOKED_AHEAD));
+        if 0 < filled.len() {
+            return filled;
+        }
+        if place < self.word.base() {
+            return self.look_for_value(place);
+        }
+        filled
+    }
+
+    // The value that a look shows at a place, as a slice. There is none if it shows no value.
+    fn look_for_value(&self, place: u64) -> &[T]
+        ensures few { length result.now ≤ 1 }
+        ensures opened { (x : T) → IsOpenedAt self.now place x → result.now ≡ x ∷ [] }
+    {
+        match self.look(place) {
+            Shown::Filled(at) => self.slice_of(&at.placed),
+            Shown::Pending | Shown::Broken(_) => &[],
+        }
     }
 }
 
 impl<'a, T> Published<'a, T> {
-    // What the next place shows, by a look. It is laid into the loop of a walk, and passes no `&mut` on, so that the
-    // fields of the walk can lie in registers.
+    // The values with the next item, the place of the first of them, and how many come before the item: the values that
+    // are left, or, if none is, those that a look finds. There are none if the next place shows no value, or at the
+    // end.
     #[inline(always)]
-    #[tactic(auto, using(crate::proofs::OpenedValues::hold_first, crate::proofs::OpenedValues::hold_none))]
-    fn next_look(&mut self) -> Option<&'a T>
-        requires { self.old.place < self.old.end }
-        ensures { StepsOver self.old result self.new }
+    fn values_ahead(&self) -> Option<(u64, &'a [T], usize)>
+        ensures place { IfSome result (λ (from, _, shown). from + shown ≡ self.now.place) }
+        ensures more { IfSome result (λ (_, filled, shown). shown < length filled.now) }
+        ensures within { IfSome result (λ (from, filled, _). from + length filled.now ≤ self.now.end) }
+        ensures opened { IfSome result
+            (λ (from, filled, _). HoldOpened self.now.vector from filled.now) }
+        ensures shown { (x : T) → self.now.place < self.now.end
+            → IsOpenedAt self.now.vector self.now.place x → IsSome result }
     {
-        let vector = self.vector;
-        // For the proof: the opened list ends at the vector's base.
-        vector.laws();
-        let place = self.place;
-        let mut filled = vector.look_along(place, self.end - place).iter();
-        let first = filled.next();
-        self.place += 1;
-        self.filled = filled;
-        match first {
-            Some(value) => Some(value),
-            // A value of the opened list is shown.
-            None if place < vector.word.base() => match vector.look(place) {
-                Shown::Filled(at) => Some(at.value),
-                Shown::Pending | Shown::Broken(_) => None,
-            },
-            None => None,
+        if self.shown < self.filled.len() {
+            return Some((self.from, self.filled, self.shown));
         }
+        let place = self.from + self.shown as u64;
+        if place == self.end {
+            return None;
+        }
+        let vector = self.vector;
+        let filled = vector.look_along(place, self.end - place);
+        if 0 < filled.len() {
+            return Some((place, filled, 0));
+        }
+        None
     }
 }
 
@@ -177,17 +209,24 @@ impl<'a, T> Iterator for Published<'a, T> {
 
     ghost remaining = { λ p. at_most (p.end - p.place) };
 
+    // It is laid into the loop of a walk, and passes no `&mut` on, so that the fields of the walk can lie in registers.
     #[inline(always)]
-    #[tactic(auto, using(crate::proofs::OpenedValues::hold_first))]
     fn next(&mut self) -> Option<Option<&'a T>> {
-        if let Some(value) = self.filled.next() {
-            self.place += 1;
-            return Some(Some(value));
+        if let Some((from, filled, shown)) = self.values_ahead() {
+            self.from = from;
+            self.filled = filled;
+            self.shown = shown + 1;
+            return Some(Some(value_at(filled, shown)));
         }
-        if self.place == self.end {
+        let place = self.from + self.shown as u64;
+        if place == self.end {
             return None;
         }
-        Some(self.next_look())
+        let none: &[T] = &[];
+        self.from = place + 1;
+        self.filled = none;
+        self.shown = 0;
+        Some(None)
     }
 }
 

@@ -1,5 +1,5 @@
 //! How the vector is read.
-ghost use Rattle.std.specs.Prelude.{◌≡◌, ◌<◌, IfOk, IfErr, IfSome, IsOkAnd, IsSomeAnd, None};
+ghost use Rattle.std.specs.Prelude.{◌≡◌, ◌<◌, [], ◌∷◌, IfOk, IfErr, IfSome, IsOkAnd, IsSomeAnd, None};
 ghost use Rattle.claim_core.specs.Hand.{seen_size};
 ghost use Rattle.grow_core.specs.Vector.{IsHandOf, IsPlacedOf, IsOpenedAt, SeesMore, base_of, limit_of};
 ghost use Rattle.grow_core.specs.Read.{IsAt, IsShownAt, ShowsValue, IsDueAt, IsInRange};
@@ -10,7 +10,7 @@ use crate::errors::AtError;
 use crate::hand::Hand;
 use crate::token::{Placed, Spoilt};
 use crate::vector::Shared;
-use cell_core::block::Look;
+use cell_core::block::{Look, Member, Row};
 use seg_core::laws::places;
 
 /// The value at a place, and the token that shows it.
@@ -229,6 +229,18 @@ impl<T> Shared<T> {
         ensures { result.now ≡ placed.now.value }
     {
         self.table.known(&placed.key).value(&placed.cell)
+    }
+
+    // The token's value, as a slice.
+    #[tactic(auto, using(crate::proofs::OpenedValues::one_filled, crate::proofs::OpenedValues::one_value))]
+    pub(crate) fn slice_of(&self, placed: &Placed<T>) -> &[T]
+        requires { IsPlacedOf self.now placed.now }
+        ensures { result.now ≡ placed.now.value ∷ [] }
+    {
+        let mut row = Row::new();
+        row.push(&Member::of(&placed.cell));
+        let block = self.table.known(&placed.key);
+        block.values(placed.cell.offset(), 1, &row)
     }
 
     /// Shows a proof that two tokens of one place have one value.

@@ -9,9 +9,9 @@ use crate::keys::{Keys, install};
 use crate::vector::Shared;
 
 impl<T: Drop> Shared<T> {
-    /// Installs the segments of the first `n` places, in all, unless they are there: growths up to that size then ask for
-    /// no memory, by this hand or by any other. It claims nothing, and looks at no size. It asks for memory for each
-    /// segment that is missing, and frees it again if another caller installs that segment meanwhile. If memory is
+    /// Installs the segments of the first `n` places, in all, unless they are there: growths up to that size then ask
+    /// for no memory, by this hand or by any other. It claims nothing, and looks at no size. It asks for memory for
+    /// each segment that is missing, and frees it again if another caller installs that segment meanwhile. If memory is
     /// refused, the segments that it has installed stay.
     pub fn reserve(&self, hand: &mut Hand<T>, n: u64) -> Result<(), ReserveError>
         requires ours { IsHandOf self.now hand.old }

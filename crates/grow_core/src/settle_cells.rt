@@ -94,7 +94,8 @@ impl<T> Opened<T> {
         requires places { place + n ≤ most_places }
         requires filled { AreFilledFrom block.now offset found.now }
         requires n { length found.now ≡ n }
-        requires known { (i : ℕ) (m : MemberView T) → i < n → slice_get self.now (place + i) ≡ Some m
+        requires known { (i : ℕ) (m : MemberView T) → i < n
+            → slice_get self.now (place + i) ≡ Some m
             → IsMemberAt block.now (offset + i) m }
         ensures { KeepsKnownFrom self.now place found.now }
     {

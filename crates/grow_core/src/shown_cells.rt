@@ -109,8 +109,8 @@ impl<T> Shared<T> {
         }
     }
 
-    /// Returns the values of the filled places of one segment from `place` on, up to the first that is not filled now, for
-    /// a caller without a hand. It loads each of their words of states once, and no size. The slice is empty if the
+    /// Returns the values of the filled places of one segment from `place` on, up to the first that is not filled now,
+    /// for a caller without a hand. It loads each of their words of states once, and no size. The slice is empty if the
     /// place is not filled, or is not below the limit.
     pub fn shown_run(&self, place: u64) -> &[T]
         ensures within { 0 < length result.now

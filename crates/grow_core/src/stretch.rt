@@ -51,7 +51,8 @@ pub(crate) fn publish<T: Drop>(
 impl<T> Shared<T> {
     // The token of place `i` of the stretch.
     fn token(&self, stretch: &Stretch<T>, i: u64) -> Placed<T>
-        requires stretch { (from : ℕ) × (values : List T) × IsStretchOf self.now from values stretch.now }
+        requires stretch { (from : ℕ) × (values : List T)
+            × IsStretchOf self.now from values stretch.now }
         requires within { i < stretch.now.n }
         ensures { (from : ℕ) → (values : List T) → IsStretchOf self.now from values stretch.now
             → IsPlacedOf self.now result × (result.place ≡ from + i) × (slice_get values i ≡ Some result.value) }
@@ -81,7 +82,8 @@ impl<T> Shared<T> {
 
     // Gives the token of each place of the stretch to `keep`, in order.
     pub(crate) fn keep_tokens<K: FnMut(Placed<T>)>(&self, stretch: &Stretch<T>, keep: &mut K)
-        requires stretch { (from : ℕ) × (values : List T) × IsStretchOf self.now from values stretch.now }
+        requires stretch { (from : ℕ) × (values : List T)
+            × IsStretchOf self.now from values stretch.now }
         requires callable { K.IsAlwaysCallable keep.old }
         ensures kept { (from : ℕ) → (values : List T) → IsStretchOf self.now from values stretch.now
             → AreKeptFrom K.step keep.old keep.new self.now from values }

@@ -21,6 +21,8 @@ use Rattle.quiet_core.specs.QuietList.{QuietList}
 use Rattle.quiet_core.specs.QuietAt.{IsRefusalAt}
 use Rattle.caller_core.specs.Caller.{CallerView, KeepsCaller}
 use Rattle.caller_core.specs.Grows.{GrowsMade, GrowsUpTo, WinsPlaces}
+use Rattle.kehldora_c.specs.declared.status.Status.{Status}
+use Rattle.kehldora_c.specs.declared.status.Status.TheVariants as status
 use Rattle.kehldora_c.specs.Outcomes.{growth_status, read_status, mend_status, reserve_status, close_status, member_status}
 use Rattle.kehldora_c.specs.Calls.{GrowthDue, ReachDue, RoomDue, ReadDue, MendDue, CloseDue, ReachesSize}
 use Rattle.kehldora_c.specs.Lists.{MemberDue}
@@ -36,6 +38,24 @@ growth_due n bad_size given old new (grow.Full size back) kept r =
 growth_due n bad_size given old new (grow.Moved size back) kept r = λ whole. r.due.others (sym kept.shares ∙ whole)
 growth_due n bad_size given old new (grow.Refused run made cause) kept r = tt
 growth_due n bad_size given old new (grow.Taken place found) kept r = tt
+
+-- what is due of a growth whose words make elements is due of it whether they do or not
+pub due_of_good : {T : Type 0} (n : ℕ) (bad_size : Type 0) (caller : CallerView T) (why : Status)
+    → GrowthDue n ⊥ T caller why → GrowthDue n bad_size T caller why
+due_of_good n bad_size caller status.NoMemory due = due
+due_of_good n bad_size caller status.BadLimit due = due
+due_of_good n bad_size caller status.Moved due = due
+due_of_good n bad_size caller status.BadHandle due = due
+due_of_good n bad_size caller status.BadNumber due = due
+due_of_good n bad_size caller status.NotWhole due = due
+due_of_good n bad_size caller status.BadSize due = absurd due
+due_of_good n bad_size caller status.OutOfRange due = due
+due_of_good n bad_size caller status.Pending due = due
+due_of_good n bad_size caller status.Broken due = due
+due_of_good n bad_size caller status.Full due = due
+due_of_good n bad_size caller status.Taken due = due
+due_of_good n bad_size caller status.Filled due = due
+due_of_good n bad_size caller status.OtherVector due = due
 
 -- a growth up to a size that is above the limit
 pub reach_due : {T V E : Type 0} (size : ℕ) (bad_size : Type 0) (old new : CallerView T) (refused : GrowError T V E)

@@ -1,4 +1,5 @@
 mod AsBox
+mod There
 pub mod Codes
 pub mod Due
 pub mod Made

@@ -1,4 +1,5 @@
 pub mod Owned
+pub mod Lending
 pub mod Held
 pub mod Status
 pub mod Outcomes

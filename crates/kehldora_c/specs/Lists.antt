@@ -39,7 +39,8 @@ OpensHeld old new = ⊥
 -- what the handle has is as it was: a list has all its values at their places, since it may have been opened and
 -- closed again
 abbrev pub KeepsOrReopens : Held → Held → Type 0
-KeepsOrReopens (held.List old) (held.List new) = IsSameList (list_of old) (list_of new) × (list_words new ≡ list_words old)
+KeepsOrReopens (held.List old) (held.List new) = IsSameList (list_of old) (list_of new)
+    × (list_words new ≡ list_words old)
 KeepsOrReopens (held.OpaqueList old) (held.OpaqueList new) =
     IsSameList (opaque_list_of old) (opaque_list_of new) × (opaque_list_words new ≡ opaque_list_words old)
 KeepsOrReopens old new = new ≡ old

@@ -14,6 +14,7 @@ use crate::status::Status;
 use crate::{hands, opaque_hands};
 
 // Appends the element that these words make.
+#[inline(always)]
 pub(crate) fn push(held: &mut Held, words: &[u64]) -> Result<u64, Status>
     ensures pushed { IfOk result (λ place. PushesWords words.now place held.old held.new) }
     ensures refused { IfErr result (IsDueOn (PushDue (length words.now)) held.new) }
@@ -80,6 +81,7 @@ pub(crate) fn leave(held: &mut Held, count: u64) -> Result<u64, Status>
 }
 
 // Copies the value at a place.
+#[inline(always)]
 pub(crate) fn copy(held: &mut Held, place: u64, value: &mut [u64]) -> Result<(), Status>
     ensures own { (x : List ℕ) → HasLastValue (length value.old) place x held.old
         → IsOkAnd result (λ _. value.new ≡ x) }
@@ -97,6 +99,7 @@ pub(crate) fn copy(held: &mut Held, place: u64, value: &mut [u64]) -> Result<(),
 }
 
 // Returns the address of the value at a place.
+#[inline(always)]
 pub(crate) fn look(held: &mut Held, place: u64) -> Result<*mut u64, Status>
     ensures below { IfOk result (λ _. OnHand (λ T caller. place < seen_size caller.hand) held.new) }
     ensures refused { IfErr result (IsDueOn (LookDue place) held.new) }
@@ -150,6 +153,7 @@ pub(crate) fn reserve(held: &mut Held, size: u64) -> Result<(), Status>
 }
 
 // Loads the size.
+#[inline(always)]
 pub(crate) fn size(held: &mut Held) -> Result<u64, Status>
     ensures seen { IfOk result (λ size. OnHands
         (λ T old new. SeesSize old.hand new.hand size) held.old held.new) }

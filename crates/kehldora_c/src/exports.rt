@@ -1,5 +1,6 @@
 //! The exports that open, end and describe a hand.
-ghost use Rattle.std.specs.Prelude.{◌≡◌, ◌<◌, None, IfOk, IfErr};
+ghost use Rattle.std.specs.Prelude.{◌≡◌, ◌<◌, None, true, false, IfOk, IfErr, IfSome};
+ghost use Rattle.seg_core.specs.Segment.{IsLimit};
 ghost use Rattle.claim_core.specs.Hand.{SeesSize, seen_size};
 ghost use Rattle.grow_core.specs.Vector.{limit_of};
 ghost use Rattle.kehldora_c.specs.Held.{Keeps, OnBoth, OnHeld, OnHand, OnHands, IsHand, width_of};
@@ -21,6 +22,33 @@ pub extern "C" fn kehldora_raw_version() -> u32
     1
 }
 
+// What a handle is to have, in a box, if there is memory.
+fn boxed(alloc: Global, held: Held) -> Option<Box<Held>>
+    ensures { IfSome result (λ boxed. boxed.value ≡ held) }
+{
+    Box::new(alloc, held).ok()
+}
+
+// A box with a hand of value elements, of a new vector.
+fn new_values(alloc: Global, limit: u64, words: u64, layout: Layout) -> Result<Box<Held>, Status>
+    requires { IsLimit limit }
+    ensures new { IfOk result (λ held. IsNewHand limit words layout false held.value) }
+    ensures refused { IfErr result (OpenDue limit words layout) }
+{
+    let any = hands::open(alloc, limit, words, layout)?;
+    boxed(alloc, Held::Hand(any)).ok_or(Status::NoMemory)
+}
+
+// A box with a hand of opaque elements, of a new vector.
+fn new_opaque(alloc: Global, limit: u64, words: u64, layout: Layout) -> Result<Box<Held>, Status>
+    requires { IsLimit limit }
+    ensures new { IfOk result (λ held. IsNewHand limit words layout true held.value) }
+    ensures refused { IfErr result (OpenDue limit words layout) }
+{
+    let any = opaque_hands::open(alloc, limit, words, layout)?;
+    boxed(alloc, Held::OpaqueHand(any)).ok_or(Status::NoMemory)
+}
+
 // A box with a hand of a new vector.
 fn new_hand(
     alloc: Global,
@@ -38,14 +66,10 @@ fn new_hand(
     let Some(layout) = Layout::new(first) else {
         return Err(Status::BadNumber);
     };
-    let held = if opaque {
-        Held::OpaqueHand(opaque_hands::open(alloc, limit, words, layout)?)
+    if opaque {
+        new_opaque(alloc, limit, words, layout)
     } else {
-        Held::Hand(hands::open(alloc, limit, words, layout)?)
-    };
-    match Box::new(alloc, held) {
-        Ok(held) => Ok(held),
-        Err(_no_memory) => Err(Status::NoMemory),
+        new_values(alloc, limit, words, layout)
     }
 }
 
@@ -104,7 +128,7 @@ pub struct HandFacts {
 /// Tells what a hand knows. It loads nothing.
 #[tactic(auto, using(crate::proofs::Codes::if_done, crate::proofs::Codes::refused_in, crate::proofs::Codes::refused_empty))]
 #[unsafe(no_mangle)]
-pub extern "C" fn kehldora_raw_about(alloc: Global, hand: &mut Handle, facts: &mut HandFacts) -> i32
+pub extern "C" fn kehldora_raw_about(hand: &mut Handle, facts: &mut HandFacts) -> i32
     ensures shares { IsDone result → OnHeld
         (OnHand (λ T caller. facts.new.shares ≡ caller.hand.shares)) hand.old.owned.held }
     ensures seen { IsDone result → OnHeld
@@ -115,11 +139,11 @@ pub extern "C" fn kehldora_raw_about(alloc: Global, hand: &mut Handle, facts: &m
     ensures refused { IfRefused result (IsDueIn (IsDueOn NeverDue) hand.old.owned.held) }
     ensures kept { hand.new.owned.held ≡ hand.old.owned.held }
 {
-    let Some(held) = hand.take(alloc) else {
+    if hand.is_empty() {
         return Status::BadHandle.code();
-    };
-    let answer = contents::facts(&held);
-    *hand = Handle::of(held);
+    }
+    let held = hand.owned.held_mut();
+    let answer = contents::facts(held);
     match answer {
         Ok((shares, seen, limit, words)) => {
             *facts = HandFacts {
@@ -137,17 +161,17 @@ pub extern "C" fn kehldora_raw_about(alloc: Global, hand: &mut Handle, facts: &m
 /// Loads the size.
 #[tactic(auto, using(crate::proofs::Codes::if_done, crate::proofs::Codes::refused_in, crate::proofs::Codes::refused_empty))]
 #[unsafe(no_mangle)]
-pub extern "C" fn kehldora_raw_size(alloc: Global, hand: &mut Handle, size: &mut u64) -> i32
+pub extern "C" fn kehldora_raw_size(hand: &mut Handle, size: &mut u64) -> i32
     ensures seen { IsDone result → OnBoth (OnHands
         (λ T old new. SeesSize old.hand new.hand size.new)) hand.old.owned.held hand.new.owned.held }
     ensures refused { IfRefused result (IsDueIn (IsDueOn NeverDue) hand.new.owned.held) }
     ensures kept { Keeps hand.old.owned.held hand.new.owned.held }
 {
-    let Some(mut held) = hand.take(alloc) else {
+    if hand.is_empty() {
         return Status::BadHandle.code();
-    };
-    let answer = contents::size(&mut held);
-    *hand = Handle::of(held);
+    }
+    let held = hand.owned.held_mut();
+    let answer = contents::size(held);
     match answer {
         Ok(now) => {
             *size = now;
@@ -160,16 +184,16 @@ pub extern "C" fn kehldora_raw_size(alloc: Global, hand: &mut Handle, size: &mut
 /// Gives an address that is the same for all hands of a vector, and another for each other open vector.
 #[tactic(auto, using(crate::proofs::Codes::if_done, crate::proofs::Codes::refused_in, crate::proofs::Codes::refused_empty))]
 #[unsafe(no_mangle)]
-pub extern "C" fn kehldora_raw_where(alloc: Global, hand: &mut Handle, at: &mut *mut u64) -> i32
+pub extern "C" fn kehldora_raw_where(hand: &mut Handle, at: &mut *mut u64) -> i32
     ensures hand { IsDone result → OnHeld IsHand hand.old.owned.held }
     ensures refused { IfRefused result (IsDueIn (IsDueOn NeverDue) hand.old.owned.held) }
     ensures kept { hand.new.owned.held ≡ hand.old.owned.held }
 {
-    let Some(held) = hand.take(alloc) else {
+    if hand.is_empty() {
         return Status::BadHandle.code();
-    };
-    let answer = contents::address(&held);
-    *hand = Handle::of(held);
+    }
+    let held = hand.owned.held_mut();
+    let answer = contents::address(held);
     match answer {
         Ok(address) => {
             *at = address;
@@ -182,16 +206,16 @@ pub extern "C" fn kehldora_raw_where(alloc: Global, hand: &mut Handle, at: &mut 
 /// Makes room for a number of places in all.
 #[tactic(auto, using(crate::proofs::Codes::if_done, crate::proofs::Codes::refused_in, crate::proofs::Codes::refused_empty))]
 #[unsafe(no_mangle)]
-pub extern "C" fn kehldora_raw_reserve(alloc: Global, hand: &mut Handle, size: u64) -> i32
+pub extern "C" fn kehldora_raw_reserve(hand: &mut Handle, size: u64) -> i32
     ensures hand { IsDone result → OnHeld IsHand hand.old.owned.held }
     ensures refused { IfRefused result (IsDueIn (IsDueOn (RoomDue size)) hand.new.owned.held) }
     ensures kept { Keeps hand.old.owned.held hand.new.owned.held }
 {
-    let Some(mut held) = hand.take(alloc) else {
+    if hand.is_empty() {
         return Status::BadHandle.code();
-    };
-    let answer = contents::reserve(&mut held, size);
-    *hand = Handle::of(held);
+    }
+    let held = hand.owned.held_mut();
+    let answer = contents::reserve(held, size);
     match answer {
         Ok(()) => DONE,
         Err(status) => status.code(),

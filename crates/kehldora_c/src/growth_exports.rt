@@ -8,28 +8,22 @@ ghost use Rattle.kehldora_c.specs.Status.{IsDone, IfRefused};
 use crate::contents;
 use crate::handle::Handle;
 use crate::status::{DONE, Status};
-use std::alloc::Global;
 
 /// Appends a value, and tells its place. It tries three times.
 #[tactic(auto, using(crate::proofs::Codes::if_done, crate::proofs::Codes::refused_in, crate::proofs::Codes::refused_empty))]
 #[unsafe(no_mangle)]
-pub extern "C" fn kehldora_raw_push(
-    alloc: Global,
-    hand: &mut Handle,
-    value: &[u64],
-    place: &mut u64,
-) -> i32
+pub extern "C" fn kehldora_raw_push(hand: &mut Handle, value: &[u64], place: &mut u64) -> i32
     ensures pushed { IsDone result → OnBoth
         (PushesWords value.now place.new) hand.old.owned.held hand.new.owned.held }
     ensures refused { IfRefused result
         (IsDueIn (IsDueOn (PushDue (length value.now))) hand.new.owned.held) }
     ensures kept { Keeps hand.old.owned.held hand.new.owned.held }
 {
-    let Some(mut held) = hand.take(alloc) else {
+    if hand.is_empty() {
         return Status::BadHandle.code();
-    };
-    let answer = contents::push(&mut held, value);
-    *hand = Handle::of(held);
+    }
+    let held = hand.owned.held_mut();
+    let answer = contents::push(held, value);
     match answer {
         Ok(at) => {
             *place = at;
@@ -42,23 +36,18 @@ pub extern "C" fn kehldora_raw_push(
 /// Appends the elements of an array, and tells the place of the first one. It tries once.
 #[tactic(auto, using(crate::proofs::Codes::if_done, crate::proofs::Codes::refused_in, crate::proofs::Codes::refused_empty))]
 #[unsafe(no_mangle)]
-pub extern "C" fn kehldora_raw_grow(
-    alloc: Global,
-    hand: &mut Handle,
-    values: &[u64],
-    place: &mut u64,
-) -> i32
+pub extern "C" fn kehldora_raw_grow(hand: &mut Handle, values: &[u64], place: &mut u64) -> i32
     ensures grown { IsDone result → OnBoth
         (GrowsByWords values.now place.new) hand.old.owned.held hand.new.owned.held }
     ensures refused { IfRefused result
         (IsDueIn (IsDueOn (GrowDue (length values.now))) hand.new.owned.held) }
     ensures kept { Keeps hand.old.owned.held hand.new.owned.held }
 {
-    let Some(mut held) = hand.take(alloc) else {
+    if hand.is_empty() {
         return Status::BadHandle.code();
-    };
-    let answer = contents::grow(&mut held, values);
-    *hand = Handle::of(held);
+    }
+    let held = hand.owned.held_mut();
+    let answer = contents::grow(held, values);
     match answer {
         Ok(at) => {
             *place = at;
@@ -72,7 +61,6 @@ pub extern "C" fn kehldora_raw_grow(
 #[tactic(auto, using(crate::proofs::Codes::if_done, crate::proofs::Codes::refused_in, crate::proofs::Codes::refused_empty))]
 #[unsafe(no_mangle)]
 pub extern "C" fn kehldora_raw_fill(
-    alloc: Global,
     hand: &mut Handle,
     value: &[u64],
     count: u64,
@@ -84,11 +72,11 @@ pub extern "C" fn kehldora_raw_fill(
         (IsDueIn (IsDueOn (FillDue count (length value.now))) hand.new.owned.held) }
     ensures kept { Keeps hand.old.owned.held hand.new.owned.held }
 {
-    let Some(mut held) = hand.take(alloc) else {
+    if hand.is_empty() {
         return Status::BadHandle.code();
-    };
-    let answer = contents::fill(&mut held, value, count);
-    *hand = Handle::of(held);
+    }
+    let held = hand.owned.held_mut();
+    let answer = contents::fill(held, value, count);
     match answer {
         Ok(at) => {
             *place = at;
@@ -102,7 +90,6 @@ pub extern "C" fn kehldora_raw_fill(
 #[tactic(auto, using(crate::proofs::Codes::if_done, crate::proofs::Codes::refused_in, crate::proofs::Codes::refused_empty))]
 #[unsafe(no_mangle)]
 pub extern "C" fn kehldora_raw_at_least(
-    alloc: Global,
     hand: &mut Handle,
     size: u64,
     values: &[u64],
@@ -115,11 +102,11 @@ pub extern "C" fn kehldora_raw_at_least(
         (IsDueIn (IsDueOn (AtLeastDue size (length values.now))) hand.new.owned.held) }
     ensures kept { Keeps hand.old.owned.held hand.new.owned.held }
 {
-    let Some(mut held) = hand.take(alloc) else {
+    if hand.is_empty() {
         return Status::BadHandle.code();
-    };
-    let answer = contents::at_least(&mut held, size, values);
-    *hand = Handle::of(held);
+    }
+    let held = hand.owned.held_mut();
+    let answer = contents::at_least(held, size, values);
     match answer {
         Ok((at, n)) => {
             *place = at;
@@ -133,22 +120,17 @@ pub extern "C" fn kehldora_raw_at_least(
 /// Claims places and breaks them, and tells the first one. It tries once.
 #[tactic(auto, using(crate::proofs::Codes::if_done, crate::proofs::Codes::refused_in, crate::proofs::Codes::refused_empty))]
 #[unsafe(no_mangle)]
-pub extern "C" fn kehldora_raw_leave(
-    alloc: Global,
-    hand: &mut Handle,
-    count: u64,
-    place: &mut u64,
-) -> i32
+pub extern "C" fn kehldora_raw_leave(hand: &mut Handle, count: u64, place: &mut u64) -> i32
     ensures broken { IsDone result → OnBoth
         (WinsPlacesOf count place.new) hand.old.owned.held hand.new.owned.held }
     ensures refused { IfRefused result (IsDueIn (IsDueOn (LeaveDue count)) hand.new.owned.held) }
     ensures kept { Keeps hand.old.owned.held hand.new.owned.held }
 {
-    let Some(mut held) = hand.take(alloc) else {
+    if hand.is_empty() {
         return Status::BadHandle.code();
-    };
-    let answer = contents::leave(&mut held, count);
-    *hand = Handle::of(held);
+    }
+    let held = hand.owned.held_mut();
+    let answer = contents::leave(held, count);
     match answer {
         Ok(at) => {
             *place = at;
@@ -161,23 +143,18 @@ pub extern "C" fn kehldora_raw_leave(
 /// Fills a broken place.
 #[tactic(auto, using(crate::proofs::Codes::if_done, crate::proofs::Codes::refused_in, crate::proofs::Codes::refused_empty))]
 #[unsafe(no_mangle)]
-pub extern "C" fn kehldora_raw_mend(
-    alloc: Global,
-    hand: &mut Handle,
-    place: u64,
-    value: &[u64],
-) -> i32
+pub extern "C" fn kehldora_raw_mend(hand: &mut Handle, place: u64, value: &[u64]) -> i32
     ensures mended { IsDone result → OnBoth
         (MendsWords place value.now) hand.old.owned.held hand.new.owned.held }
     ensures refused { IfRefused result
         (IsDueIn (IsDueOn (MendsDue place (length value.now))) hand.new.owned.held) }
     ensures kept { Keeps hand.old.owned.held hand.new.owned.held }
 {
-    let Some(mut held) = hand.take(alloc) else {
+    if hand.is_empty() {
         return Status::BadHandle.code();
-    };
-    let answer = contents::mend(&mut held, place, value);
-    *hand = Handle::of(held);
+    }
+    let held = hand.owned.held_mut();
+    let answer = contents::mend(held, place, value);
     match answer {
         Ok(()) => DONE,
         Err(status) => status.code(),

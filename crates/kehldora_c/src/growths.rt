@@ -12,17 +12,16 @@ use grow_core::{GrowError, Never};
 // How often a push is tried before it says that others came first each time.
 const PUSH_TRIES: u64 = 3;
 
-// Appends the element that these words make. It is tried a few times.
+// Appends an element that was overtaken once. It is tried as often as is left.
+#[cold]
+#[inline(never)]
 #[tactic(auto, using(crate::proofs::Due::growth_due, crate::proofs::Again::trying_self, crate::proofs::Again::trying_more, crate::proofs::Again::keeps_twice, crate::proofs::Again::pushes_after))]
-pub(crate) fn push<E: Element>(caller: &mut Caller<E>, words: &[u64]) -> Result<u64, Status>
-    ensures pushed { IfOk result (Pushes (E.element_of words.now) caller.old caller.new) }
-    ensures refused { IfErr result (GrowthDue 1 (length words.now ≢ E.width) E caller.new) }
+fn push_again<E: Element>(caller: &mut Caller<E>, mut element: E) -> Result<u64, Status>
+    ensures pushed { IfOk result (Pushes element caller.old caller.new) }
+    ensures refused { IfErr result (GrowthDue 1 ⊥ E caller.new) }
     ensures kept { KeepsCaller caller.old caller.new }
 {
-    let Some(mut element) = E::from_words(words) else {
-        return Err(Status::BadSize);
-    };
-    for _try in 1..PUSH_TRIES {
+    for _try in 2..PUSH_TRIES {
         match caller.push(element) {
             Ok(place) => return Ok(place),
             Err(GrowError::Moved { size: _, back }) => element = back,
@@ -31,6 +30,28 @@ pub(crate) fn push<E: Element>(caller: &mut Caller<E>, words: &[u64]) -> Result<
     }
     match caller.push(element) {
         Ok(place) => Ok(place),
+        Err(refused) => Err(of_growth(refused)),
+    }
+}
+
+// Appends the element that these words make. It is tried a few times; all but the first try are a call of their own,
+// since they are seldom made.
+#[inline(always)]
+#[tactic(auto, using(crate::proofs::Due::growth_due, crate::proofs::Due::due_of_good, crate::proofs::Again::trying_self, crate::proofs::Again::trying_more, crate::proofs::Again::keeps_twice, crate::proofs::Again::pushes_after))]
+pub(crate) fn push<E: Element>(caller: &mut Caller<E>, words: &[u64]) -> Result<u64, Status>
+    ensures pushed { IfOk result (Pushes (E.element_of words.now) caller.old caller.new) }
+    ensures refused { IfErr result (GrowthDue 1 (length words.now ≢ E.width) E caller.new) }
+    ensures kept { KeepsCaller caller.old caller.new }
+{
+    let Some(element) = E::from_words(words) else {
+        return Err(Status::BadSize);
+    };
+    match caller.push(element) {
+        Ok(place) => Ok(place),
+        Err(GrowError::Moved { size: _, back }) => match push_again(caller, back) {
+            Ok(place) => Ok(place),
+            Err(status) => Err(status),
+        },
         Err(refused) => Err(of_growth(refused)),
     }
 }

@@ -1,5 +1,5 @@
 //! What C has of a vector or a list: an address, and whether there is something.
-ghost use Rattle.std.specs.Prelude.{◌≡◌, Option, Some, None, MatchOption, is_some};
+ghost use Rattle.std.specs.Prelude.{◌≡◌, Option, Some, None, MatchOption, IsSome, IsTrue, IsFalse, is_some};
 
 use crate::held::Held;
 use crate::owned::Owned;
@@ -37,6 +37,15 @@ impl Handle {
         ensures { result ≡ is_some self.now.owned.held }
     {
         self.full
+    }
+
+    // Tests whether the handle has nothing.
+    #[inline(always)]
+    pub(crate) fn is_empty(&self) -> bool
+        ensures nothing { IsTrue result → self.now.owned.held ≡ None }
+        ensures something { IsFalse result → IsSome self.now.owned.held }
+    {
+        !self.full
     }
 
     // A handle that has this.

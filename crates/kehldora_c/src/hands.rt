@@ -41,6 +41,7 @@ pub(crate) fn open(
 }
 
 // Appends the element that these words make.
+#[inline(always)]
 pub(crate) fn push(any: &mut AnyCaller, words: &[u64]) -> Result<u64, Status>
     ensures pushed { IfOk result (Pushes words.now (caller_of any.old) (caller_of any.new)) }
     ensures refused { IfErr result
@@ -93,6 +94,7 @@ pub(crate) fn leave(any: &mut AnyCaller, count: u64) -> Result<u64, Status>
 }
 
 // Copies the value at a place.
+#[inline(always)]
 pub(crate) fn copy(any: &mut AnyCaller, place: u64, value: &mut [u64]) -> Result<(), Status>
     ensures own { (x : List ℕ) → length value.old ≡ words_of any.old
         → HasLast place x (caller_of any.old).last → IsOkAnd result (λ _. value.new ≡ x) }
@@ -106,6 +108,7 @@ pub(crate) fn copy(any: &mut AnyCaller, place: u64, value: &mut [u64]) -> Result
 }
 
 // Returns the address of the value at a place.
+#[inline(always)]
 pub(crate) fn look(any: &mut AnyCaller, place: u64) -> Result<*mut u64, Status>
     ensures below { IfOk result (λ _. place < seen_size (caller_of any.new).hand) }
     ensures refused { IfErr result (ReadDue place ⊥ (List ℕ) (caller_of any.new)) }
@@ -142,6 +145,7 @@ pub(crate) fn reserve(any: &mut AnyCaller, size: u64) -> Result<(), Status>
 }
 
 // Loads the size.
+#[inline(always)]
 pub(crate) fn size(any: &mut AnyCaller) -> u64
     ensures seen { SeesSize (caller_of any.old).hand (caller_of any.new).hand result }
     ensures kept { KeepsAny any.old any.new }

@@ -1,5 +1,5 @@
-//! How the hand of another caller is joined into one of value elements. There is a function for each size: the check of one
-//! function over all pairs of sizes does not end.
+//! How the hand of another caller is joined into one of value elements. There is a function for each size: the check of
+//! one function over all pairs of sizes does not end.
 ghost use Rattle.std.specs.Prelude.{◌≡◌, IfErr, OnOk, OnErr};
 ghost use Rattle.caller_core.specs.Caller.{JoinsCallers};
 ghost use Rattle.kehldora_c.specs.Held.{caller_of, words_of};

@@ -24,11 +24,7 @@ pub struct ListFacts {
 /// Tells how long a list is.
 #[tactic(auto, using(crate::proofs::Codes::if_done, crate::proofs::Codes::refused_in, crate::proofs::Codes::refused_empty))]
 #[unsafe(no_mangle)]
-pub extern "C" fn kehldora_raw_list_about(
-    alloc: Global,
-    list: &mut Handle,
-    facts: &mut ListFacts,
-) -> i32
+pub extern "C" fn kehldora_raw_list_about(list: &mut Handle, facts: &mut ListFacts) -> i32
     ensures size { IsDone result → OnHeld
         (OnList (λ T list. facts.new.size ≡ length list.members)) list.old.owned.held }
     ensures limit { IsDone result → OnHeld
@@ -37,11 +33,11 @@ pub extern "C" fn kehldora_raw_list_about(
     ensures refused { IfRefused result (IsDueIn (IsDueOnList NeverDueOfList) list.old.owned.held) }
     ensures kept { list.new.owned.held ≡ list.old.owned.held }
 {
-    let Some(held) = list.take(alloc) else {
+    if list.is_empty() {
         return Status::BadHandle.code();
-    };
-    let answer = list_contents::facts(&held);
-    *list = Handle::of(held);
+    }
+    let held = list.owned.held_mut();
+    let answer = list_contents::facts(held);
     match answer {
         Ok((size, limit, words)) => {
             *facts = ListFacts { size, limit, words };
@@ -54,23 +50,18 @@ pub extern "C" fn kehldora_raw_list_about(
 /// Copies the member at a place.
 #[tactic(auto, using(crate::proofs::Codes::if_done, crate::proofs::Codes::refused_in, crate::proofs::Codes::refused_empty))]
 #[unsafe(no_mangle)]
-pub extern "C" fn kehldora_raw_list_get(
-    alloc: Global,
-    list: &mut Handle,
-    place: u64,
-    value: &mut [u64],
-) -> i32
+pub extern "C" fn kehldora_raw_list_get(list: &mut Handle, place: u64, value: &mut [u64]) -> i32
     ensures value { IsDone result → OnHeld (HasMember place value.new) list.old.owned.held }
     ensures refused { IfRefused result
         (IsDueIn (IsCopyDueOnList (GetDue place (length value.old))) list.old.owned.held) }
     ensures unchanged { (IsDone result → ⊥) → value.new ≡ value.old }
     ensures kept { list.new.owned.held ≡ list.old.owned.held }
 {
-    let Some(held) = list.take(alloc) else {
+    if list.is_empty() {
         return Status::BadHandle.code();
-    };
-    let answer = list_contents::copy(&held, place, value);
-    *list = Handle::of(held);
+    }
+    let held = list.owned.held_mut();
+    let answer = list_contents::copy(held, place, value);
     match answer {
         Ok(()) => DONE,
         Err(status) => status.code(),
@@ -80,22 +71,17 @@ pub extern "C" fn kehldora_raw_list_get(
 /// Replaces the member at a place, or mends it.
 #[tactic(auto, using(crate::proofs::Codes::if_done, crate::proofs::Codes::refused_in, crate::proofs::Codes::refused_empty))]
 #[unsafe(no_mangle)]
-pub extern "C" fn kehldora_raw_list_set(
-    alloc: Global,
-    list: &mut Handle,
-    place: u64,
-    value: &[u64],
-) -> i32
+pub extern "C" fn kehldora_raw_list_set(list: &mut Handle, place: u64, value: &[u64]) -> i32
     ensures set { IsDone result → OnBoth (SetsWords place value.now) list.old.owned.held list.new.owned.held }
     ensures refused { IfRefused result
         (IsDueIn (IsDueOnList (ListSetDue place (length value.now))) list.old.owned.held) }
     ensures kept { (IsDone result → ⊥) → list.new.owned.held ≡ list.old.owned.held }
 {
-    let Some(mut held) = list.take(alloc) else {
+    if list.is_empty() {
         return Status::BadHandle.code();
-    };
-    let answer = list_contents::set(&mut held, place, value);
-    *list = Handle::of(held);
+    }
+    let held = list.owned.held_mut();
+    let answer = list_contents::set(held, place, value);
     match answer {
         Ok(()) => DONE,
         Err(status) => status.code(),
@@ -105,23 +91,18 @@ pub extern "C" fn kehldora_raw_list_set(
 /// Copies members side by side from a place on, as many as there is room for, or none.
 #[tactic(auto, using(crate::proofs::Codes::if_done, crate::proofs::Codes::refused_in, crate::proofs::Codes::refused_empty))]
 #[unsafe(no_mangle)]
-pub extern "C" fn kehldora_raw_list_copy(
-    alloc: Global,
-    list: &mut Handle,
-    place: u64,
-    values: &mut [u64],
-) -> i32
+pub extern "C" fn kehldora_raw_list_copy(list: &mut Handle, place: u64, values: &mut [u64]) -> i32
     ensures copied { IsDone result → OnHeld (AreMembersOf place values.new) list.old.owned.held }
     ensures refused { IfRefused result
         (IsDueIn (IsCopyDueOnList (ListCopyDue place (length values.old))) list.old.owned.held) }
     ensures unchanged { (IsDone result → ⊥) → values.new ≡ values.old }
     ensures kept { list.new.owned.held ≡ list.old.owned.held }
 {
-    let Some(held) = list.take(alloc) else {
+    if list.is_empty() {
         return Status::BadHandle.code();
-    };
-    let answer = list_contents::copy_all(&held, place, values);
-    *list = Handle::of(held);
+    }
+    let held = list.owned.held_mut();
+    let answer = list_contents::copy_all(held, place, values);
     match answer {
         Ok(()) => DONE,
         Err(status) => status.code(),
@@ -131,21 +112,16 @@ pub extern "C" fn kehldora_raw_list_copy(
 /// Gives the address of the member at a place.
 #[tactic(auto, using(crate::proofs::Codes::if_done, crate::proofs::Codes::refused_in, crate::proofs::Codes::refused_empty))]
 #[unsafe(no_mangle)]
-pub extern "C" fn kehldora_raw_list_look(
-    alloc: Global,
-    list: &mut Handle,
-    place: u64,
-    at: &mut *mut u64,
-) -> i32
+pub extern "C" fn kehldora_raw_list_look(list: &mut Handle, place: u64, at: &mut *mut u64) -> i32
     ensures there { IsDone result → OnHeld (HasValueAt place) list.old.owned.held }
     ensures refused { IfRefused result (IsDueIn (IsDueOnList (ListLookDue place)) list.old.owned.held) }
     ensures kept { list.new.owned.held ≡ list.old.owned.held }
 {
-    let Some(held) = list.take(alloc) else {
+    if list.is_empty() {
         return Status::BadHandle.code();
-    };
-    let answer = list_contents::look(&held, place);
-    *list = Handle::of(held);
+    }
+    let held = list.owned.held_mut();
+    let answer = list_contents::look(held, place);
     match answer {
         Ok(address) => {
             *at = address;
@@ -158,17 +134,17 @@ pub extern "C" fn kehldora_raw_list_look(
 /// Drops the members from a place on. Their memory stays.
 #[tactic(auto, using(crate::proofs::Codes::if_done, crate::proofs::Codes::refused_in, crate::proofs::Codes::refused_empty))]
 #[unsafe(no_mangle)]
-pub extern "C" fn kehldora_raw_list_cut(alloc: Global, list: &mut Handle, size: u64) -> i32
+pub extern "C" fn kehldora_raw_list_cut(list: &mut Handle, size: u64) -> i32
     ensures cut { IsDone result → OnBoth
         (OnLists (λ T old new. CutsList size old new)) list.old.owned.held list.new.owned.held }
     ensures refused { IfRefused result (IsDueIn (IsDueOnList NeverDueOfList) list.old.owned.held) }
     ensures kept { (IsDone result → ⊥) → list.new.owned.held ≡ list.old.owned.held }
 {
-    let Some(mut held) = list.take(alloc) else {
+    if list.is_empty() {
         return Status::BadHandle.code();
-    };
-    let answer = list_contents::cut(&mut held, size);
-    *list = Handle::of(held);
+    }
+    let held = list.owned.held_mut();
+    let answer = list_contents::cut(held, size);
     match answer {
         Ok(()) => DONE,
         Err(status) => status.code(),
@@ -178,17 +154,17 @@ pub extern "C" fn kehldora_raw_list_cut(alloc: Global, list: &mut Handle, size: 
 /// Frees the segments that have no member.
 #[tactic(auto, using(crate::proofs::Codes::if_done, crate::proofs::Codes::refused_in, crate::proofs::Codes::refused_empty))]
 #[unsafe(no_mangle)]
-pub extern "C" fn kehldora_raw_list_shrink(alloc: Global, list: &mut Handle) -> i32
+pub extern "C" fn kehldora_raw_list_shrink(list: &mut Handle) -> i32
     ensures shrunk { IsDone result → OnBoth
         (OnLists (λ T old new. ShrinksList old new)) list.old.owned.held list.new.owned.held }
     ensures refused { IfRefused result (IsDueIn (IsDueOnList NeverDueOfList) list.old.owned.held) }
     ensures kept { (IsDone result → ⊥) → list.new.owned.held ≡ list.old.owned.held }
 {
-    let Some(mut held) = list.take(alloc) else {
+    if list.is_empty() {
         return Status::BadHandle.code();
-    };
-    let answer = list_contents::shrink(&mut held);
-    *list = Handle::of(held);
+    }
+    let held = list.owned.held_mut();
+    let answer = list_contents::shrink(held);
     match answer {
         Ok(()) => DONE,
         Err(status) => status.code(),

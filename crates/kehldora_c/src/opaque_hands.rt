@@ -41,6 +41,7 @@ pub(crate) fn open(
 }
 
 // Appends the element that these words make.
+#[inline(always)]
 pub(crate) fn push(any: &mut AnyOpaque, words: &[u64]) -> Result<u64, Status>
     ensures pushed { IfOk result (Pushes tt (opaque_of any.old) (opaque_of any.new)) }
     ensures refused { IfErr result
@@ -91,6 +92,7 @@ pub(crate) fn leave(any: &mut AnyOpaque, count: u64) -> Result<u64, Status>
 }
 
 // Returns the address of the value at a place.
+#[inline(always)]
 pub(crate) fn look(any: &mut AnyOpaque, place: u64) -> Result<*mut u64, Status>
     ensures below { IfOk result (λ _. place < seen_size (opaque_of any.new).hand) }
     ensures refused { IfErr result (ReadDue place ⊥ (Unit {0}) (opaque_of any.new)) }
@@ -127,6 +129,7 @@ pub(crate) fn reserve(any: &mut AnyOpaque, size: u64) -> Result<(), Status>
 }
 
 // Loads the size.
+#[inline(always)]
 pub(crate) fn size(any: &mut AnyOpaque) -> u64
     ensures seen { SeesSize (opaque_of any.old).hand (opaque_of any.new).hand result }
     ensures kept { KeepsOpaque any.old any.new }

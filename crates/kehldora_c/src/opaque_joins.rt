@@ -1,5 +1,5 @@
-//! How the hand of another caller is joined into one of opaque elements. There is a function for each size: the check of one
-//! function over all pairs of sizes does not end.
+//! How the hand of another caller is joined into one of opaque elements. There is a function for each size: the check
+//! of one function over all pairs of sizes does not end.
 ghost use Rattle.std.specs.Prelude.{◌≡◌, IfErr, OnOk, OnErr};
 ghost use Rattle.caller_core.specs.Caller.{JoinsCallers};
 ghost use Rattle.kehldora_c.specs.Held.{opaque_of, opaque_words};

@@ -48,3 +48,18 @@ impl Owned {
         }
     }
 }
+
+impl Owned {
+    ghost use Rattle.std.specs.Borrow.{sem};
+    ghost use Rattle.kehldora_c.specs.Lending.{LendsHeld};
+
+    // Lends what is there. It stays where it is.
+    #[inline(always)]
+    pub(crate) fn held_mut(&mut self) -> &mut Held
+        requires { IsSome self.old.held }
+        ensures* writes_back { sem 𝓛 (LendsHeld self.entry result) }
+        ensures value { self.old.held ≡ Some result.now }
+    {
+        unsafe { &mut *self.at.cast::<Held>() }
+    }
+}

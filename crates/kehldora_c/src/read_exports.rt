@@ -9,17 +9,11 @@ ghost use Rattle.kehldora_c.specs.Status.{IsDone, IfRefused};
 use crate::contents;
 use crate::handle::Handle;
 use crate::status::{DONE, Status};
-use std::alloc::Global;
 
 /// Copies the value at a place. The hand's own last place has its value.
 #[tactic(auto, using(crate::proofs::Codes::if_done, crate::proofs::Codes::refused_in, crate::proofs::Codes::refused_empty))]
 #[unsafe(no_mangle)]
-pub extern "C" fn kehldora_raw_at(
-    alloc: Global,
-    hand: &mut Handle,
-    place: u64,
-    value: &mut [u64],
-) -> i32
+pub extern "C" fn kehldora_raw_at(hand: &mut Handle, place: u64, value: &mut [u64]) -> i32
     ensures own { (x : List ℕ) → IsSomeAnd hand.old.owned.held
         (HasLastValue (length value.old) place x) → IsDone result × (value.new ≡ x) }
     ensures refused { IfRefused result
@@ -27,11 +21,11 @@ pub extern "C" fn kehldora_raw_at(
     ensures unchanged { (IsDone result → ⊥) → value.new ≡ value.old }
     ensures kept { Keeps hand.old.owned.held hand.new.owned.held }
 {
-    let Some(mut held) = hand.take(alloc) else {
+    if hand.is_empty() {
         return Status::BadHandle.code();
-    };
-    let answer = contents::copy(&mut held, place, value);
-    *hand = Handle::of(held);
+    }
+    let held = hand.owned.held_mut();
+    let answer = contents::copy(held, place, value);
     match answer {
         Ok(()) => DONE,
         Err(status) => status.code(),
@@ -41,22 +35,17 @@ pub extern "C" fn kehldora_raw_at(
 /// Gives the address of the value at a place.
 #[tactic(auto, using(crate::proofs::Codes::if_done, crate::proofs::Codes::refused_in, crate::proofs::Codes::refused_empty))]
 #[unsafe(no_mangle)]
-pub extern "C" fn kehldora_raw_look(
-    alloc: Global,
-    hand: &mut Handle,
-    place: u64,
-    at: &mut *mut u64,
-) -> i32
+pub extern "C" fn kehldora_raw_look(hand: &mut Handle, place: u64, at: &mut *mut u64) -> i32
     ensures below { IsDone result → OnHeld
         (OnHand (λ T caller. place < seen_size caller.hand)) hand.new.owned.held }
     ensures refused { IfRefused result (IsDueIn (IsDueOn (LookDue place)) hand.new.owned.held) }
     ensures kept { Keeps hand.old.owned.held hand.new.owned.held }
 {
-    let Some(mut held) = hand.take(alloc) else {
+    if hand.is_empty() {
         return Status::BadHandle.code();
-    };
-    let answer = contents::look(&mut held, place);
-    *hand = Handle::of(held);
+    }
+    let held = hand.owned.held_mut();
+    let answer = contents::look(held, place);
     match answer {
         Ok(address) => {
             *at = address;
@@ -70,7 +59,6 @@ pub extern "C" fn kehldora_raw_look(
 #[tactic(auto, using(crate::proofs::Codes::if_done, crate::proofs::Codes::refused_in, crate::proofs::Codes::refused_empty))]
 #[unsafe(no_mangle)]
 pub extern "C" fn kehldora_raw_run(
-    alloc: Global,
     hand: &mut Handle,
     place: u64,
     at: &mut *mut u64,
@@ -81,11 +69,11 @@ pub extern "C" fn kehldora_raw_run(
     ensures refused { IfRefused result (IsDueIn (IsDueOn (LookDue place)) hand.new.owned.held) }
     ensures kept { Keeps hand.old.owned.held hand.new.owned.held }
 {
-    let Some(mut held) = hand.take(alloc) else {
+    if hand.is_empty() {
         return Status::BadHandle.code();
-    };
-    let answer = contents::run(&mut held, place);
-    *hand = Handle::of(held);
+    }
+    let held = hand.owned.held_mut();
+    let answer = contents::run(held, place);
     match answer {
         Ok((address, n)) => {
             *at = address;

@@ -10,6 +10,7 @@ use crate::status::{Status, of_mend, of_read, of_reserve};
 use caller_core::{Caller, Element};
 
 // Copies the words of an element.
+#[inline(always)]
 pub(crate) fn copy_out<const N: usize>(words: [u64; N], value: &mut [u64])
     requires { length value.old ≡ N }
     ensures { value.new ≡ words.entry }
@@ -18,6 +19,7 @@ pub(crate) fn copy_out<const N: usize>(words: [u64; N], value: &mut [u64])
 }
 
 // Copies the value at a place.
+#[inline(always)]
 #[tactic(auto, using(crate::proofs::Due::read_due))]
 pub(crate) fn copy<const N: usize>(
     caller: &mut Caller<[u64; N]>,
@@ -44,6 +46,7 @@ pub(crate) fn copy<const N: usize>(
 }
 
 // The address of the value at a place.
+#[inline(always)]
 #[tactic(auto, using(crate::proofs::Due::read_due))]
 pub(crate) fn look<E: Element>(caller: &mut Caller<E>, place: u64) -> Result<*mut u64, Status>
     ensures below { IfOk result (λ _. place < seen_size caller.new.hand) }

@@ -30,11 +30,11 @@ pub extern "C" fn kehldora_raw_split(
     if other.is_full() {
         return Status::BadHandle.code();
     }
-    let Some(mut held) = hand.take(alloc) else {
+    if hand.is_empty() {
         return Status::BadHandle.code();
-    };
-    let answer = moves::split(alloc, &mut held, shares);
-    *hand = Handle::of(held);
+    }
+    let held = hand.owned.held_mut();
+    let answer = moves::split(alloc, held, shares);
     match answer {
         Ok(more) => {
             *other = Handle::of(more);
@@ -56,15 +56,14 @@ pub extern "C" fn kehldora_raw_join(alloc: Global, hand: &mut Handle, other: &mu
     ensures kept { (IsDone result → ⊥) → hand.new.owned.held ≡ hand.old.owned.held }
     ensures other_kept { (IsDone result → ⊥) → other.new.owned.held ≡ other.old.owned.held }
 {
-    let Some(mut held) = hand.take(alloc) else {
+    if hand.is_empty() {
         return Status::BadHandle.code();
-    };
+    }
+    let held = hand.owned.held_mut();
     let Some(mut more) = other.take(alloc) else {
-        *hand = Handle::of(held);
         return Status::BadHandle.code();
     };
-    let answer = moves::join(&mut held, &mut more);
-    *hand = Handle::of(held);
+    let answer = moves::join(held, &mut more);
     match answer {
         Ok(()) => DONE,
         Err(status) => {

@@ -1,2 +1,4 @@
 mod KeyRows
 mod StepsInARow
+mod InOrder
+mod OffersInARow

@@ -31,14 +31,16 @@ pub record Leads (terms : Terms) (id seat : ℕ) (v : SeatView) (es : Log) (stag
 abbrev pub BegunPlacesAreFilled : Type 0
 BegunPlacesAreFilled =
     (terms : Terms) (s : ClaimState) (id seat place index : ℕ) (v : SeatView)
-    → FindsPlace terms v place seat → OwnsAt v index place → (Contains v.begun place → ⊥) → Stands terms s id seat v stages.Idle
+    → FindsPlace terms v place seat → OwnsAt v index place → (Contains v.begun place → ⊥)
+    → Stands terms s id seat v stages.Idle
     → Leads terms id seat v (fill_event index place ∷ []) stages.Filled
 
 -- nobody else can have begun it
 abbrev pub UnknownPlacesAreNotBegun : Type 0
 UnknownPlacesAreNotBegun =
     (terms : Terms) (s : ClaimState) (id seat place index : ℕ) (v : SeatView)
-    → FindsPlace terms v place seat → OwnsAt v index place → (Contains v.begun place → ⊥) → Stands terms s id seat v stages.Begun
+    → FindsPlace terms v place seat → OwnsAt v index place → (Contains v.begun place → ⊥)
+    → Stands terms s id seat v stages.Begun
     → ⊥
 
 -- the hand's steps may lead to a table where the place has a cell that is idle, which the hand knows
@@ -52,5 +54,6 @@ pub record Publishes (terms : Terms) (id place : ℕ) (v : SeatView) : Type 0 wh
 -- a whole hand may make an entry for a place past all entries, lay a block of one cell, and set the entry to it
 abbrev pub PlacesArePublished : Type 0
 PlacesArePublished =
-    (terms : Terms) (s : ClaimState) (id place : ℕ) (v : SeatView) → IsHandSeat terms v → v.shares ≡ all_shares → v.laid ≤ place
+    (terms : Terms) (s : ClaimState) (id place : ℕ) (v : SeatView) → IsHandSeat terms v → v.shares ≡ all_shares
+    → v.laid ≤ place
     → terms.base ≤ place → Kept terms s → get_elem? s.views id ≡ some v → Publishes terms id place v

@@ -2,6 +2,7 @@ mod counts;
 mod hands;
 mod keys;
 mod looks;
+mod offers;
 mod owners;
 mod race;
 mod shown;

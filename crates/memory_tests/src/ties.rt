@@ -2,8 +2,12 @@
 //! table through an offer and a step back to its caller, and what its caller then knows.
 ghost use Rattle.std.specs.Prelude.{◌≡◌, ◌+◌, ◌*◌, ◌<◌, ◌⊎◌, ℕ, [], ◌∷◌, Some, IsTrue};
 ghost use Rattle.cell_core.specs.Block.{block_len, cell_at};
-ghost use Rattle.tie_core.specs.Tie.{looks, stage_number};
+ghost use Rattle.tie_core.specs.Tie.{Idle, looks, stage_number};
 ghost use Rattle.tie_core.specs.Desk.{IsTieOf};
+ghost use Rattle.memory_tests.specs.Found.{content_number};
+
+mod entries;
+mod runs;
 
 use atomic_table::{Badge, Shared, Table, TableRule};
 use cell_core::block::{Block, Look, Tied};
@@ -46,8 +50,8 @@ impl EntryPlay<()> for Anything {
     ghost then = { λ _ _ _ _. Unit {0} };
 }
 
-// Any table is right. Views are numbers: a stage shows as its number, and a look tells the seat of its caller the
-// number that was told, and how far the cell was.
+// Any table is right. Views are numbers: a stage shows as its number, and a look at a cell tells the seat of its caller
+// the number that was told, and how far the cell was. A step on an entry tells the number of the seat that it found.
 struct Telling;
 
 impl<S> TableRule<S, u64, ()> for Telling {
@@ -60,10 +64,30 @@ impl Staged<u64> for Telling {
     ghost shows = { stage_number };
 }
 
+impl RowPlay<u64> for Telling {
+    ghost owner = { λ _ _. 0 };
+}
+
 impl CellPlay<u64> for Telling {
     ghost step = { looks };
 
     ghost then = { λ told _ from _ after. after ≡ told * 8 + stage_number from };
+}
+
+impl RowPlay<u64> for Telling {
+    ghost owner = { λ _ _. 0 };
+}
+
+impl Entered<u64> for Telling {
+    ghost empty = { λ _ _. 0 };
+
+    ghost placed = { λ _ _. 0 };
+
+    ghost spent = { 0 };
+}
+
+impl EntryPlay<u64> for Telling {
+    ghost then = { λ _ _ found after. after ≡ content_number found };
 }
 
 // A look that finds a cell empty tells the caller's seat that nobody had begun it, or that it was begun.
@@ -94,6 +118,43 @@ fn is_found_empty(
     }
 }
 
+// A look at a cell that is fixed as idle tells the caller's seat that it is idle, and the number that was told.
+struct IdleLook;
+
+impl CellPlay<u64> for IdleLook {
+    ghost step = { looks };
+
+    ghost then = { λ told _ from _ after. (after ≡ told) × (from ≡ Idle) };
+}
+
+// Empties a cell, which then has no seat, and looks at it: the caller's seat is told the number.
+fn is_empty_when_taken(
+    table: &Shared<u8, u64, (), Telling>,
+    desk: &Desk<u8, u64, (), Telling>,
+    badge: &mut Badge<u64>,
+    cells: &mut Block<u64, Global, Tied>,
+    tag: &Tag<u64, Telling>,
+    offset: u64,
+) -> bool
+    requires within { offset < block_len cells.old }
+    requires desk { desk.now.table_id ≡ table.now.table_id }
+    requires seat { (badge.old.table_id ≡ table.now.table_id)
+        × ((v : ℕ) × (badge.old.views ≡ v ∷ [])) }
+    requires tie { ((cell_at cells.old offset).tied ≡ Some tag.now.tie)
+        × IsTieOf table.now.table_id desk.now.floor tag.now.tie }
+    ensures seat { (badge.new.table_id ≡ badge.old.table_id) × (badge.new.id ≡ badge.old.id) }
+    ensures told { badge.new.views ≡ offset ∷ [] }
+{
+    drop(cells.take(offset));
+    let offer = Desk::offer_look::<IdleLook, _>(table, desk, badge, &*cells, offset, offset);
+    let (look, offer) = cells.look_for(offset, offer);
+    offer.back(badge);
+    match look {
+        Look::Empty => true,
+        _ => false,
+    }
+}
+
 #[test]
 fn a_tied_cell_is_looked_at_and_the_seat_comes_back(rt: HostRuntime) -> Result<(), Fail> {
     let (table, seat) = Table::<u8, (), (), Anything, Global>::of_words(rt.alloc(), &[0], &())?;
@@ -111,6 +172,24 @@ fn a_tied_cell_is_looked_at_and_the_seat_comes_back(rt: HostRuntime) -> Result<(
         _ => false,
     };
     offer.back(&mut badge);
+    let seat = badge.into_seat::<u8>();
+    let closed = table.close_with(seat);
+    closed.free();
+    assert!(rt; empty);
+    Ok(())
+}
+
+#[test]
+fn a_taken_cell_has_no_seat(rt: HostRuntime) -> Result<(), Fail> {
+    let (table, seat) = Table::<u8, u64, (), Telling, Global>::of_words(rt.alloc(), &[0], &())?;
+    let desk = Desk::of(&table.shared);
+    let mut last = Badge::blank();
+    let (seats, tag) = Desk::lay::<Telling>(&table.shared, &desk, &mut last, 3);
+    let mut cells: Block<u64, Global, Tied> = Block::new_for(rt.alloc(), 3, seats)?;
+    cells.ties_laws();
+    let mut badge = seat.into_badge();
+    let tag = tag.further(2);
+    let empty = is_empty_when_taken(&table.shared, &desk, &mut badge, &mut cells, &tag, 2);
     let seat = badge.into_seat::<u8>();
     let closed = table.close_with(seat);
     closed.free();

@@ -10,7 +10,7 @@ mod search;
 
 use crate::points::{Edge, Point, read_points};
 use crate::search::Search;
-use anyhow::{Context, Result, bail, ensure};
+use anyhow::{Context, Result, ensure};
 use quiet_core::Quiet;
 use span_core::{Free, with_writers};
 use std::alloc::AllocGlobal;
@@ -30,9 +30,8 @@ fn find_edges<R: Threads + Wait + Clock + Eprint + Sync>(
     limit: u64,
 ) -> Result<Quiet<Edge>> {
     ensure!(0 < limit && limit <= GREATEST_LIMIT, "no such limit");
-    let Ok((vector, mut hand)) = Quiet::new(search.alloc, limit).open() else {
-        bail!("out of memory");
-    };
+    let opened = Quiet::new(search.alloc, limit).open().ok();
+    let (vector, mut hand) = opened.context("out of memory")?;
     let workers = u32::from(search.finders) + 1;
     let found = with_writers(
         search.rt,
@@ -43,9 +42,8 @@ fn find_edges<R: Threads + Wait + Clock + Eprint + Sync>(
         search,
         &Free,
     );
-    let Ok(list) = Quiet::try_close(vector, hand) else {
-        bail!("a worker lost its shares");
-    };
+    let closed = Quiet::try_close(vector, hand).ok();
+    let list = closed.context("a worker lost its shares")?;
     found?;
     Ok(list)
 }

@@ -1,5 +1,7 @@
 //! Facts that no clause states: that the calls succeed if there is memory, and that the table is the intended
 //! one.
+ghost use Rattle.seg_core.specs.Segment.{IsLimit};
+
 mod memory;
 
 use book_core::{BookError, Cell, CellVec, Event, Reply, Sequence, check};
@@ -50,22 +52,30 @@ static EVENTS: [(Event, Reply); 15] = [
     (Event::Look { actor: 0, place: 2 }, Reply::Pending),
 ];
 
-#[test]
-fn each_event_has_its_reply(rt: HostRuntime) -> Result<(), Fail> {
-    let mut list = CellVec::new(rt.alloc(), 6);
-    for (event, reply) in EVENTS.as_slice() {
-        assert_eq!(rt; list.apply(*event), Ok(*reply), "{event:?}");
+// The cells then.
+static CELLS: [Cell; 4] = [
+    Cell::Pending(0),
+    Cell::Filled(7),
+    Cell::Pending(2),
+    Cell::Pending(1),
+];
+
+// The first event whose reply is not that of its row.
+fn first_wrong(list: &mut CellVec, rows: &[(Event, Reply)]) -> Option<Event> {
+    for (event, reply) in rows {
+        if list.apply(*event) != Ok(*reply) {
+            return Some(*event);
+        }
     }
-    let cells = [
-        Cell::Pending(0),
-        Cell::Filled(7),
-        Cell::Pending(2),
-        Cell::Pending(1),
-    ];
-    assert_eq!(rt; list.cells(), cells.as_slice());
-    assert_eq!(rt; list.limit(), 6);
-    assert_eq!(rt; list.into_cells().len(), 4);
-    Ok(())
+    None
+}
+
+#[test]
+fn each_event_has_its_reply(rt: HostRuntime) {
+    let mut list = CellVec::new(rt.alloc(), 6);
+    assert_eq!(rt; first_wrong(&mut list, EVENTS.as_slice()), None);
+    assert!(rt; list.cells() == CELLS.as_slice() && list.limit() == 6);
+    assert!(rt; list.into_cells().len() == 4);
 }
 
 // None of them is legal if actor 0 has claimed two places of a list with a limit of 3.
@@ -91,43 +101,69 @@ static REFUSED: [Event; 8] = [
     Event::RefusedFull { actor: 0, n: 1 },
 ];
 
-#[test]
-fn an_event_that_is_not_legal_changes_nothing(rt: HostRuntime) -> Result<(), Fail> {
-    let mut list = CellVec::new(rt.alloc(), 3);
-    assert_eq!(rt;
-        list.apply(Event::Claim { actor: 0, n: 2 }),
-        Ok(Reply::Run { from: 0, n: 2 })
-    );
-    for event in REFUSED.as_slice() {
-        assert_eq!(rt; list.apply(*event), Err(BookError::NotLegal), "{event:?}");
+static TWO_CLAIMED: [(Event, Reply); 1] = [(
+    Event::Claim { actor: 0, n: 2 },
+    Reply::Run { from: 0, n: 2 },
+)];
+
+static TWO_PENDING: [Cell; 2] = [Cell::Pending(0), Cell::Pending(0)];
+
+// The first of these events that is legal.
+fn first_legal(list: &mut CellVec, events: &[Event]) -> Option<Event> {
+    for event in events {
+        if list.apply(*event) != Err(BookError::NotLegal) {
+            return Some(*event);
+        }
     }
-    assert_eq!(rt;
-        list.cells(),
-        [Cell::Pending(0), Cell::Pending(0)].as_slice()
-    );
-    Ok(())
+    None
 }
+
+#[test]
+fn an_event_that_is_not_legal_changes_nothing(rt: HostRuntime) {
+    let mut list = CellVec::new(rt.alloc(), 3);
+    assert!(rt; first_wrong(&mut list, TWO_CLAIMED.as_slice()).is_none());
+    assert_eq!(rt; first_legal(&mut list, REFUSED.as_slice()), None);
+    assert!(rt; list.cells() == TWO_PENDING.as_slice());
+}
+
+// Numbers, and whether each is a limit.
+static LIMITS: [(u64, bool); 4] = [
+    (0, false),
+    (1, true),
+    (1_099_511_627_776, true),
+    (1_099_511_627_777, false),
+];
 
 #[test]
 fn a_limit_is_from_1_to_2_to_the_40(rt: HostRuntime) {
-    for (limit, is_limit) in [
-        (0, false),
-        (1, true),
-        (1_099_511_627_776, true),
-        (1_099_511_627_777, false),
-    ] {
-        assert_eq!(rt; CellVec::is_limit(limit), is_limit, "{limit}");
+    for (limit, is_limit) in LIMITS.as_slice() {
+        assert!(rt; CellVec::is_limit(*limit) == *is_limit, "{limit}");
     }
 }
 
+static THREE_AND_FOUR: [u64; 2] = [3, 4];
+
+// Tests whether the sequence of these values lends them, and gives them back.
+fn is_lent_and_given_back(values: Vec<u64>) -> bool {
+    let sequence = Sequence::from_vec(values);
+    let is_lent = sequence.as_slice() == THREE_AND_FOUR.as_slice()
+        && sequence.len() == 2
+        && !sequence.is_empty();
+    let values = sequence.into_vec();
+    is_lent && values.as_slice() == THREE_AND_FOUR.as_slice()
+}
+
 #[test]
-fn a_sequence_lends_and_gives_back_its_vec(rt: HostRuntime) -> Result<(), Fail> {
-    let sequence = Sequence::from_vec(vec![in rt.alloc(); 3, 4]?);
-    assert_eq!(rt; sequence.as_slice(), [3, 4].as_slice());
-    assert_eq!(rt; sequence.len(), 2);
-    assert!(rt; !sequence.is_empty());
-    assert_eq!(rt; sequence.into_vec().as_slice(), [3, 4].as_slice());
-    Ok(())
+fn a_sequence_lends_and_gives_back_its_vec(rt: HostRuntime) {
+    let values = Vec::from_slice(rt.alloc(), THREE_AND_FOUR.as_slice());
+    assert!(rt; values.map(is_lent_and_given_back) == Ok(true));
+}
+
+// Tests whether `check` says this of a history.
+fn says(alloc: Global, limit: u64, history: &[(Event, Reply)], is_legal: bool) -> bool
+    requires { IsLimit limit }
+{
+    check(alloc, limit, history) == Ok(is_legal)
 }
 
 #[test]
@@ -240,18 +276,27 @@ static ROWS: [(Event, Reply, Reply); 13] = [
     ),
 ];
 
-#[test]
-fn check_refuses_each_wrong_reply(rt: HostRuntime) -> Result<(), Fail> {
-    for wrong in 0..ROWS.len() {
-        let history = with_wrong_reply(rt.alloc(), &ROWS, wrong)?;
-        assert!(rt; !check(rt.alloc(), 8, &history)?, "{wrong}");
+// Tests whether `check` says this of the rows with that wrong reply.
+fn says_of_rows(
+    alloc: Global,
+    rows: &[(Event, Reply, Reply)],
+    wrong: usize,
+    is_legal: bool,
+) -> bool {
+    match with_wrong_reply(alloc, rows, wrong) {
+        Ok(history) => says(alloc, 8, history.as_slice(), is_legal),
+        Err(AllocError) => false,
     }
-    let history = with_wrong_reply(rt.alloc(), &ROWS, ROWS.len())?;
-    assert!(rt; check(rt.alloc(), 8, &history)?);
+}
+
+#[test]
+fn check_refuses_each_wrong_reply(rt: HostRuntime) {
+    for wrong in 0..ROWS.len() {
+        assert!(rt; says_of_rows(rt.alloc(), &ROWS, wrong, false), "{wrong}");
+    }
+    assert!(rt; says_of_rows(rt.alloc(), &ROWS, ROWS.len(), true));
     // Without the first claim the second one begins elsewhere.
-    let history = with_wrong_reply(rt.alloc(), &ROWS[1..], ROWS.len())?;
-    assert!(rt; !check(rt.alloc(), 8, &history)?);
-    Ok(())
+    assert!(rt; says_of_rows(rt.alloc(), &ROWS[1..], ROWS.len(), false));
 }
 
 // A reply that the event has in no history behind a claim of two places by actor 0.
@@ -287,18 +332,11 @@ static NOT_LEGAL: [(Event, Reply); 6] = [
 ];
 
 #[test]
-fn check_refuses_each_event_that_is_not_legal(rt: HostRuntime) -> Result<(), Fail> {
+fn check_refuses_each_event_that_is_not_legal(rt: HostRuntime) {
     for (event, reply) in NOT_LEGAL.as_slice() {
-        let history = [
-            (
-                Event::Claim { actor: 0, n: 2 },
-                Reply::Run { from: 0, n: 2 },
-            ),
-            (*event, *reply),
-        ];
-        assert!(rt; !check(rt.alloc(), 8, &history)?, "{event:?}");
+        let history = [TWO_CLAIMED[0], (*event, *reply)];
+        assert!(rt; says(rt.alloc(), 8, &history, false), "{event:?}");
     }
-    Ok(())
 }
 
 // Claims of one place each, and then the places are finished, the last one by another actor if `owned` is
@@ -327,12 +365,15 @@ fn long_history(
     Ok(history)
 }
 
+// Tests whether `check` reads a history of 100,000 events, and says whether it is owned.
+fn reads_a_long_one(alloc: Global, owned: bool) -> bool {
+    match long_history(alloc, 50_000, owned) {
+        Ok(history) => history.len() == 100_000 && says(alloc, 65536, history.as_slice(), owned),
+        Err(AllocError) => false,
+    }
+}
+
 #[test]
-fn check_reads_a_long_history(rt: HostRuntime) -> Result<(), Fail> {
-    let history = long_history(rt.alloc(), 50_000, true)?;
-    assert_eq!(rt; history.len(), 100_000);
-    assert!(rt; check(rt.alloc(), 65536, &history)?);
-    let history = long_history(rt.alloc(), 50_000, false)?;
-    assert!(rt; !check(rt.alloc(), 65536, &history)?);
-    Ok(())
+fn check_reads_a_long_history(rt: HostRuntime) {
+    assert!(rt; reads_a_long_one(rt.alloc(), true) && reads_a_long_one(rt.alloc(), false));
 }

@@ -13,9 +13,10 @@ mod steps;
 mod uses;
 mod vectors;
 
+use layouts::are_equal;
 pub(crate) use layouts::layout_of;
 use quiet_core::{MemberSegment, Quiet, QuietAt, QuietError};
-use std::alloc::AllocGlobal;
+use std::alloc::{AllocGlobal, Global};
 use std::process::Abort;
 pub(crate) use steps::{pushes_all, resized};
 use steps::{Step, first_wrong};
@@ -59,21 +60,20 @@ fn measures(list: &Quiet<u64>, len: u64, capacity: u64) -> bool {
     list.len() == len && list.capacity() == capacity
 }
 
-// Tests whether a list with a broken member is less than one with a zero there, and equal to its like.
-fn is_less(broken: &Quiet<u64>, zero: &Quiet<u64>, same: &Quiet<u64>) -> bool {
-    *broken < *zero
-        && *broken != *zero
-        && *broken == *same
+// Tests whether a list with a broken member is less than one with a zero there.
+fn is_less(broken: Quiet<u64>, zero: Quiet<u64>) -> bool {
+    broken < zero
+        && broken != zero
         && broken.get(1) == Err(QuietAt::Broken)
         && broken.get(2) == Err(QuietAt::OutOfRange { size: 2 })
 }
 
 #[test]
 fn broken_is_less_than_every_value(rt: HostRuntime) {
-    let broken = broken_after(&rt, 1);
-    let zero = list_of(&rt, &[1, 0]);
-    let same = broken_after(&rt, 1);
-    assert!(rt; is_less(&broken, &zero, &same));
+    assert!(rt;
+        is_less(broken_after(&rt, 1), list_of(&rt, &[1, 0]))
+            && are_equal(broken_after(&rt, 1), broken_after(&rt, 1))
+    );
 }
 
 fn gives_from_both_ends(list: &Quiet<u64>) -> bool {
@@ -123,20 +123,27 @@ fn walk(list: &Quiet<u64>) -> (u64, u64, u64) {
     (lent, lengths, broken)
 }
 
+// The same of a list that goes.
+fn walked(list: Quiet<u64>) -> (u64, u64, u64) {
+    walk(&list)
+}
+
 // Makes five members of three, the last one broken, and then six. Tests whether the segments before it still lend.
-fn lends_the_others(list: &mut Quiet<u64>) -> bool {
+fn lends_the_others(mut list: Quiet<u64>) -> bool {
     let refused = Err(QuietError::Refused { made: 1 });
-    resized(list, 5, 4, 1) == (refused, Some(2))
-        && walk(list) == (1_234, 22, 41)
+    resized(&mut list, 5, 4, 1) == (refused, Some(2))
+        && walk(&list) == (1_234, 22, 41)
         && list.push(6).is_ok()
-        && walk(list) == (1_234, 22, 42)
+        && walk(&list) == (1_234, 22, 42)
 }
 
 #[test]
 fn segments_lend_their_members_in_order(rt: HostRuntime) {
-    assert!(rt; walk(&list_of(&rt, &[])) == (0, 0, 0));
-    assert!(rt; walk(&list_of(&rt, &[1, 2, 3, 4, 5])) == (12_345, 221, 0));
-    assert!(rt; lends_the_others(&mut list_of(&rt, &[1, 2, 3])));
+    assert!(rt;
+        walked(list_of(&rt, &[])) == (0, 0, 0)
+            && walked(list_of(&rt, &[1, 2, 3, 4, 5])) == (12_345, 221, 0)
+            && lends_the_others(list_of(&rt, &[1, 2, 3]))
+    );
 }
 
 // A list with a limit of five refuses six values and takes five.
@@ -153,14 +160,15 @@ fn are_exchanged(list: &mut Quiet<u64>, other: &mut Quiet<u64>) -> bool {
     list.len() == 0 && list.limit() == 5 && other.len() == 3 && other.limit() == 16
 }
 
+// The same of lists that go, and whether the first one then takes five values.
+fn are_exchanged_and_replaced(alloc: Global, mut list: Quiet<u64>, mut other: Quiet<u64>) -> bool {
+    are_exchanged(&mut list, &mut other) && first_wrong(alloc, &mut list, &ASSIGNS_FIVE) == None
+}
+
 #[test]
 fn lists_are_exchanged_and_replaced(rt: HostRuntime) {
-    let mut list = list_of(&rt, &[1, 2, 3]);
-    let mut other = Quiet::new(rt.alloc(), 5);
-    assert!(rt;
-        are_exchanged(&mut list, &mut other)
-            && first_wrong(rt.alloc(), &mut list, &ASSIGNS_FIVE) == None
-    );
+    let other = Quiet::new(rt.alloc(), 5);
+    assert!(rt; are_exchanged_and_replaced(rt.alloc(), list_of(&rt, &[1, 2, 3]), other));
 }
 
 // Five values are then where a million were. The capacity stays.

@@ -211,12 +211,20 @@ fn numbers<R: AllocGlobal>(rt: &R, n: u64, refused: u64) -> Quiet<u64> {
 
 // What callers learn of a growth that was refused its second value, of a growth to a size of four, and of
 // the last place.
-fn grown_over(list: Quiet<u64>) -> Option<((u64, u64, u64, u64), u64, (u64, u64))> {
-    let (vector, mut hand) = list.open().ok()?;
-    let refused = grow_refused(&vector, &mut hand, 3, 1)?;
-    let size = grow_to(&vector, &mut hand, 4)?;
-    let broken = broken_places(&vector, &mut hand, 5)?;
+type Learned = ((u64, u64, u64, u64), u64, (u64, u64));
+
+fn learned(vector: &Shared<u64>, hand: &mut Hand<u64>) -> Option<Learned>
+    requires ours { IsHandOf vector.now hand.old }
+{
+    let refused = grow_refused(vector, hand, 3, 1)?;
+    let size = grow_to(vector, hand, 4)?;
+    let broken = broken_places(vector, hand, 5)?;
     Some((refused, size, broken))
+}
+
+fn grown_over(list: Quiet<u64>) -> Option<Learned> {
+    let (vector, mut hand) = list.open().ok()?;
+    learned(&vector, &mut hand)
 }
 
 // The first value of a growth that is refused its third one.

@@ -52,6 +52,10 @@ module _ {X : Type 0} where
       let n : ℕ = to - (from + 1) in let one : to - from ≡ suc n = omega (arith, some) in
       (λ i. take (one i) (drop_first xs from x is i))
 
+  -- the same, where the place after it is said in another way
+  pub between_next_first : (xs : List X) (from next to : ℕ) (x : X) → from < to → next ≡ from + 1 → slice_get xs from ≡ Some x → between xs from to ≡ x ∷ between xs next to
+  between_next_first xs from next to x some after is = between_first xs from to x some is ∙ ap (λ n. x ∷ between xs n to) (sym after)
+
   -- and the last
   pub between_last : (xs : List X) (from to : ℕ) (x : X) → from < to → slice_get xs (to - 1) ≡ Some x → between xs from to ≡ between xs from (to - 1) ++ x ∷ []
   between_last xs from to x some is =
@@ -87,13 +91,10 @@ between_length xs from to within = let rest = length-drop from xs in length-take
 pub between_some : {X : Type 0} (xs : List X) (from to : ℕ) → 0 < length (between xs from to) → from < to
 between_some xs from to some = let long = length-take (to - from) (drop from xs) in omega (arith, some, long)
 
--- the first of the values from a place on, and those after it
-module _ {T : Type 0} (members : List (Option T)) (from : ℕ) (values : List T) (x : T) (rest : List T) (is : values ≡ x ∷ rest) (are : AreValuesFrom members from values) where
-  pub value_first : slice_get members from ≡ Some (Some x)
-  value_first = ap (slice_get members) (let e : from ≡ from + 0 = omega arith in e) ∙ are 0 x (ap (λ (l : List T). slice_get l 0) is)
-
-  pub values_rest : AreValuesFrom members (from + 1) rest
-  values_rest i y at = ap (slice_get members) (let e : from + 1 + i ≡ from + suc i = omega arith in e) ∙ are (suc i) y (ap (λ (l : List T). slice_get l (suc i)) is ∙ at)
+-- the value at a place
+pub value_there : {T : Type 0} (members : List (Option T)) (from i place : ℕ) (values : List T) (x : T) → from + i ≡ place → slice_get values i ≡ Some x → AreValuesFrom members from values
+    → slice_get members place ≡ Some (Some x)
+value_there members from i place values x here at are = ap (slice_get members) (sym here) ∙ are i x at
 
 -- no value is left
 pub values_none : {T : Type 0} (members : List (Option T)) (from : ℕ) (values : List T) → length values ≡ 0 → AreValuesFrom members from values

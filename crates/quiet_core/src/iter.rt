@@ -1,5 +1,5 @@
 //! The members of a list, one by one, from both ends.
-ghost use Rattle.std.specs.Prelude.{◌≡◌, ⊤, ◌+◌, ◌<◌, ◌≤◌, ◌∷◌, length, IfSome};
+ghost use Rattle.std.specs.Prelude.{◌≡◌, ⊤, ◌+◌, ◌<◌, ◌≤◌, ◌∷◌, Some, length, slice_get, IfSome};
 ghost use Rattle.std.specs.Option.{option_copied};
 ghost use Rattle.std.specs.Iterator.{YieldsFirstBy, YieldsLastBy, UpTo, at_most, item_count};
 ghost use Rattle.std.specs.Iterator.SizeHint.{IsWithinCount};
@@ -10,23 +10,23 @@ use grow_core::Parts;
 use std::alloc::AllocError;
 use std::iter::FusedIterator;
 use std::marker::Model;
-use std::slice;
 
 /// The members that are left, in order. An item is `None` for a broken member.
 #[derive(Drop)]
 pub struct Members<'a, T> {
     parts: &'a Parts<T>,
-    from: u64,
     to: u64,
-    // The values of the next members, which lie side by side.
-    ahead: slice::Iter<'a, T>,
+    // The values of members that lie side by side: those from this place on.
+    from: u64,
+    ahead: &'a [T],
+    // How many of them were returned from the front. An item that is one of them changes this number alone.
+    passed: usize,
     // Up to this place it is known whether there are such values.
     known_to: u64,
 }
 
 impl<'a, T> Model for Members<'a, T> {
     ghost use Rattle.std.specs.Prelude.{◌+◌, ◌≤◌, List, Option, length};
-    ghost use Rattle.std.specs.Slice.Iter.{iter_rest};
     ghost use Rattle.std.specs.Coded.{coded_option};
     ghost use base.Stored.{coded_list};
     ghost use Rattle.quiet_core.specs.Between.{between, AreValuesFrom};
@@ -35,15 +35,26 @@ impl<'a, T> Model for Members<'a, T> {
 
     ghost coded = { coded_list (coded_option T.code) };
 
-    ghost view = { λ m. between m.parts.now.members m.from m.to };
+    ghost view = { λ m. between m.parts.now.members (m.from + m.passed) m.to };
 
-    ghost invariant = { λ m. (m.from + length (iter_rest m.ahead) ≤ m.to)
+    ghost invariant = { λ m. (m.passed ≤ length m.ahead.now) × (m.from + length m.ahead.now ≤ m.to)
         × (m.to ≤ length m.parts.now.members)
-        × AreValuesFrom m.parts.now.members m.from (iter_rest m.ahead) };
+        × AreValuesFrom m.parts.now.members m.from m.ahead.now };
+}
+
+// The value with this number.
+#[inline(always)]
+fn value_at<T>(values: &[T], i: usize) -> &T
+    requires { i < length values.now }
+    ensures { slice_get values.now i ≡ Some result.now }
+{
+    &values[i]
 }
 
 // The values of the members from a place on that lie side by side, up to `to`, and the place after those members. There
 // are no values if one of the members is broken, or if the place is below `known_to`: then this is known already.
+#[cold]
+#[inline(never)]
 fn look_ahead<T>(parts: &Parts<T>, from: u64, to: u64, known_to: u64) -> (&[T], u64)
     requires some { from < to }
     requires within { to ≤ length parts.now.members }
@@ -61,6 +72,42 @@ fn look_ahead<T>(parts: &Parts<T>, from: u64, to: u64, known_to: u64) -> (&[T], 
     }
 }
 
+// The values with the next member, the place of the first of them, and how many come before it: those at hand, if one
+// is left, and otherwise those that a look finds. There are none if that member is broken, or lies beside one, or at
+// the end. Returns also up to which place this is known then.
+#[inline(always)]
+fn values_ahead<'a, T>(
+    parts: &'a Parts<T>,
+    at_hand: (u64, &'a [T], usize),
+    to: u64,
+    known_to: u64,
+) -> (Option<(u64, &'a [T], usize)>, u64)
+    requires passed { at_hand.2 ≤ length at_hand.1.now }
+    requires order { at_hand.0 + length at_hand.1.now ≤ to }
+    requires within { to ≤ length parts.now.members }
+    requires values { AreValuesFrom parts.now.members at_hand.0 at_hand.1.now }
+    ensures place { IfSome result.0
+        (λ (from, _, passed). from + passed ≡ at_hand.entry.0 + at_hand.entry.2) }
+    ensures more { IfSome result.0 (λ (_, ahead, passed). passed < length ahead.now) }
+    ensures within { IfSome result.0 (λ (from, ahead, _). from + length ahead.now ≤ to) }
+    ensures values { IfSome result.0
+        (λ (from, ahead, _). AreValuesFrom parts.now.members from ahead.now) }
+{
+    let (from, ahead, passed) = at_hand;
+    if passed < ahead.len() {
+        return (Some((from, ahead, passed)), known_to);
+    }
+    let place = from + passed as u64;
+    if place == to {
+        return (None, known_to);
+    }
+    let (found, known_to) = look_ahead(parts, place, to, known_to);
+    if 0 < found.len() {
+        return (Some((place, found, 0)), known_to);
+    }
+    (None, known_to)
+}
+
 impl<T> Quiet<T> {
     /// Iterates over the members in order of place. Forwards it goes through each segment without a broken member as
     /// through a slice; if the list has a broken member, it first looks at the members of each segment. Backwards it
@@ -71,9 +118,10 @@ impl<T> Quiet<T> {
         let none: &[T] = &[];
         Members {
             parts: &self.parts,
-            from: 0,
             to: self.parts.len(),
-            ahead: none.iter(),
+            from: 0,
+            ahead: none,
+            passed: 0,
             known_to: 0,
         }
     }
@@ -86,32 +134,12 @@ impl<T> Quiet<T> {
         let to = to.min(self.parts.len());
         Members {
             parts: &self.parts,
-            from: from.min(to),
             to,
-            ahead: none.iter(),
+            from: from.min(to),
+            ahead: none,
+            passed: 0,
             known_to: 0,
         }
-    }
-}
-
-impl<'a, T> Members<'a, T> {
-    // The next member, by a look at those of its segment.
-    #[tactic(auto, using(crate::proofs::Betweens::values_none))]
-    fn next_member(&mut self) -> Option<&'a T>
-        requires { 0 < length self.old }
-        ensures { self.old ≡ option_copied result ∷ self.new }
-    {
-        let (parts, from) = (self.parts, self.from);
-        let (values, known_to) = look_ahead(parts, from, self.to, self.known_to);
-        let mut ahead = values.iter();
-        let first = ahead.next();
-        self.from += 1;
-        self.ahead = ahead;
-        self.known_to = known_to;
-        if let Some(value) = first {
-            return Some(value);
-        }
-        parts.get(from)
     }
 }
 
@@ -134,16 +162,27 @@ impl<'a, T> Iterator for Members<'a, T> {
 
     ghost remaining = { item_count (λ rest. rest) };
 
-    #[inline]
+    // It is laid into the loop of a walk, and passes no `&mut` on, so that the fields of the walk can lie in registers.
+    #[inline(always)]
     fn next(&mut self) -> Option<Option<&'a T>> {
-        if let Some(value) = self.ahead.next() {
-            self.from += 1;
-            return Some(Some(value));
+        let at_hand = (self.from, self.ahead, self.passed);
+        let (values, known_to) = values_ahead(self.parts, at_hand, self.to, self.known_to);
+        self.known_to = known_to;
+        if let Some((from, ahead, passed)) = values {
+            self.from = from;
+            self.ahead = ahead;
+            self.passed = passed + 1;
+            return Some(Some(value_at(ahead, passed)));
         }
-        if self.from == self.to {
+        let place = self.from + self.passed as u64;
+        if place == self.to {
             return None;
         }
-        let first = self.next_member();
+        let none: &[T] = &[];
+        self.from = place + 1;
+        self.ahead = none;
+        self.passed = 0;
+        let first = self.parts.get(place);
         Some(first)
     }
 
@@ -161,20 +200,20 @@ impl<'a, T> DoubleEndedIterator for Members<'a, T> {
     ghost next_back_gives = { YieldsLastBy option_copied (λ rest. rest) };
 
     fn next_back(&mut self) -> Option<Option<&'a T>> {
-        if self.from == self.to {
+        if self.from + self.passed as u64 == self.to {
             return None;
         }
         self.to -= 1;
-        let ahead = self.ahead.as_slice();
+        let ahead = self.ahead;
         let left = (self.to - self.from) as usize;
-        self.ahead = ahead[..ahead.len().min(left)].iter();
+        self.ahead = &ahead[..ahead.len().min(left)];
         Some(self.parts.get(self.to))
     }
 }
 
 impl<'a, T> ExactSizeIterator for Members<'a, T> {
     fn len(&self) -> usize {
-        (self.to - self.from) as usize
+        (self.to - (self.from + self.passed as u64)) as usize
     }
 }
 
@@ -188,9 +227,10 @@ impl<'a, T> Clone for Members<'a, T> {
     fn clone(&self) -> Result<Self, AllocError> {
         Ok(Members {
             parts: self.parts,
-            from: self.from,
             to: self.to,
-            ahead: self.ahead.as_slice().iter(),
+            from: self.from,
+            ahead: self.ahead,
+            passed: self.passed,
             known_to: self.known_to,
         })
     }

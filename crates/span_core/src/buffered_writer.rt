@@ -126,6 +126,7 @@ impl<'a, T: Drop, B: Tie> BufferedWriter<'a, T, B> {
     /// Puts the value behind those that are buffered. If the buffer is full, they are appended first, in one
     /// run, whose token is returned; it retries if another caller was first. A refusal that claims nothing
     /// leaves the buffer as it was.
+    #[inline(always)]
     pub fn push<R: Wait>(
         &mut self,
         rt: &R,
@@ -137,6 +138,35 @@ impl<'a, T: Drop, B: Tie> BufferedWriter<'a, T, B> {
             LeavesBuffer self.old.buffered self.new.buffered error) }
         ensures value_back { IfErr result (λ (_, back). back ≡ value) }
         // Below the bound nothing is appended, and only the buffer takes memory.
+        ensures room { length self.old.buffered < self.old.bound
+            → IfErr result (λ (error, _). IsOutOfMemory error) }
+        ensures not_moved { IfErr result (λ (error, _). IsNotMoved error) }
+        ensures rest_kept { self.new ≡ record self.old {
+          buffered = self.new.buffered;
+          writer = with_hand self.old.writer self.new.writer.hand;
+        } }
+    {
+        let len = self.buffer.len();
+        if len < self.bound && len < self.buffer.capacity() {
+            self.buffer.push_reserved(value);
+            return Ok(None);
+        }
+        self.push_by_call(rt, value)
+    }
+
+    // The same by a call, so that only a push that finds room is laid into its callers.
+    #[cold]
+    #[inline(never)]
+    fn push_by_call<R: Wait>(
+        &mut self,
+        rt: &R,
+        value: T,
+    ) -> Result<Option<Grown<T>>, (GrowError<T, (), Never>, T)>
+        ensures pushed { IfOk result (Pushes self.old self.new value) }
+        ensures refused { IfErr result (λ (error, _). RefusesPush self.old self.new error) }
+        ensures left { IfErr result (λ (error, _).
+            LeavesBuffer self.old.buffered self.new.buffered error) }
+        ensures value_back { IfErr result (λ (_, back). back ≡ value) }
         ensures room { length self.old.buffered < self.old.bound
             → IfErr result (λ (error, _). IsOutOfMemory error) }
         ensures not_moved { IfErr result (λ (error, _). IsNotMoved error) }

@@ -1,3 +1,4 @@
+mod Bonds
 mod Fits
 mod KeySets
 mod Known

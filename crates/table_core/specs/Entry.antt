@@ -1,5 +1,5 @@
--- An entry as contracts see it, and the blocks that fit it: those that are as long as the entry says, and whose cells are
--- tied as it says, if it is tied.
+-- An entry as contracts see it, and the blocks that fit it: those that are as long as the entry says, and whose cells
+-- are tied as it says, if it is tied.
 use Rattle.std.specs.Prelude.{◌≡◌, ℕ, List, [], IfSome}
 use Rattle.std.specs.Coded.{coded_option}
 use base.Stored.{Coded, coded×, coded_ℕ, coded_list, coded_via, gnil, gcons}
@@ -43,6 +43,9 @@ length_of e = e.1
 
 abbrev pub name_of : EntryView → ℕ
 name_of e = e.2
+
+abbrev pub bond_of : EntryView → Option Bond
+bond_of e = e.3
 
 abbrev pub tie_in : Option Bond → Option EntryTie
 tie_in None = None

@@ -1,27 +1,52 @@
 -- A table of entries as callers see it, and the keys of its entries.
-use Rattle.std.specs.Prelude.{Bool, true, false, ◌≡◌, ◌≢◌, ℕ, ◌+◌, ◌<◌, List, [], slice_index, slice_index_or}
+use Rattle.std.specs.Prelude.{Bool, false, ◌≡◌, ◌≢◌, ◌⊎◌, ℕ, ◌+◌, ◌<◌, List, [], map, slice_index, slice_index_or}
+use Rattle.std.specs.Borrow.{Bor}
 use Rattle.std.specs.Coded.{coded_option}
 use base.Stored.{Coded, coded×, coded_ℕ, coded_list, coded_via}
 use Rattle.std.specs.declared.option.Option.{Option}
 use Rattle.std.specs.declared.option.Option.TheVariants.{None, Some}
 use Rattle.seg_core.specs.Segment.{segment_start, segment_end, segment_count, most_segments}
+use Rattle.tie_core.specs.Tie.{Tie}
+use Rattle.tie_core.specs.Visit.{EntryTie, Content}
 use Rattle.cell_core.specs.Block.{BlockView, block_coded, block_len}
-use Rattle.table_core.specs.Entry.{EntryView, length_of, tie_of}
+use Rattle.cell_core.specs.Mould.{last_seat, mould_of, row_mould}
+use Rattle.table_core.specs.Entry.{EntryView, Bond, Mould, bond_coded, bond_of, length_of, tie_of, tie_in, mould_in}
 
--- a table: the layout of its segments, the name of each entry, the entry whose block is lent, if one is, and
--- the entry that `holds_now` last named, if no entry changed since
+-- a table: the layout of its segments, the name of each entry, the entry whose block is lent, if one is, the entry that
+-- `holds_now` last named, if no entry changed since, and what ties each entry
 pub record TableView : Type 0 where
   pub layout : ℕ
   pub names : List ℕ
   pub lent : Option ℕ
   pub held : Option ℕ
+  pub bonds : List (Option Bond)
 
 -- how that is stored
 abbrev pub table_coded : Coded TableView
 table_coded =
-    coded_via (coded× coded_ℕ (coded× (coded_list coded_ℕ) (coded× (coded_option coded_ℕ) (coded_option coded_ℕ))))
-    (λ (t : TableView). (t.layout, (t.names, (t.lent, t.held))))
-    (λ x y e i. record { layout = (e i).0; names = (e i).1.0; lent = (e i).1.1.0; held = (e i).1.1.1 })
+    coded_via
+    (coded× coded_ℕ (coded× (coded_list coded_ℕ)
+    (coded× (coded_option coded_ℕ) (coded× (coded_option coded_ℕ) (coded_list bond_coded)))))
+    (λ (t : TableView). (t.layout, (t.names, (t.lent, (t.held, t.bonds)))))
+    (λ x y e i. record {
+      layout = (e i).0;
+      names = (e i).1.0;
+      lent = (e i).1.1.0;
+      held = (e i).1.1.1.0;
+      bonds = (e i).1.1.1.1;
+    })
+
+-- what ties an entry of the table, if it is tied
+abbrev pub entry_bond : TableView → ℕ → Option Bond
+entry_bond table k = slice_index_or table.bonds k None
+
+-- the tie of an entry of the table
+abbrev pub entry_tie : TableView → ℕ → Option EntryTie
+entry_tie table k = tie_in (entry_bond table k)
+
+-- how the cells of the entry's block are tied, by numbers that begin at the first cell's seat
+abbrev pub entry_mould : TableView → ℕ → Mould
+entry_mould table k = mould_in (entry_bond table k)
 
 -- the key of an entry: the table's layout, the entry's segment, its block, and its name
 pub record KeyView : Type 0 where
@@ -44,6 +69,28 @@ IsLengthOf f k n = segment_start f k + n ≡ segment_end f k
 abbrev pub IsBlockOf : ℕ → ℕ → BlockView → Type 0
 IsBlockOf f k block = IsLengthOf f k (block_len block)
 
+-- the block may be that of a tied entry: it has a cell for each place of the segment, and these are tied as the entry
+-- says
+pub record IsTiedBlockOf (table : TableView) (k : ℕ) (block : BlockView) : Type 0 where
+  pub length : IsBlockOf table.layout k block
+  pub mould : mould_of block.cells ≡ entry_mould table k
+
+-- the entry has the tie `own`, and the cells of its block have seats with numbers in a row, and the codes of the tie
+-- `cells`
+pub record IsTiedBy (table : TableView) (k : ℕ) (own : EntryTie) (cells : Tie) : Type 0 where
+  pub tie : entry_tie table k ≡ Some own
+  pub mould : (n : ℕ) → IsLengthOf table.layout k n → entry_mould table k ≡ row_mould cells n
+
+-- what a look at an entry found: nothing, or this block, by the number of its seat
+abbrev pub content_in : Option (Bor BlockView) → Content
+content_in None = None
+content_in (Some block) = Some (last_seat block.now.cells)
+
+-- an exchange that brought a block found nothing, and then the entry's block is that one; or it found the entry's block
+abbrev pub HasSet : Option Content → BlockView → BlockView → Type 0
+HasSet made brought block =
+    ((made ≡ Some None) × (block ≡ brought)) ⊎ (made ≡ Some (Some (last_seat block.cells)))
+
 -- the key is of an entry of the table
 pub record IsKeyIn (table : TableView) (key : KeyView) : Type 0 where
   pub layout : key.layout ≡ table.layout
@@ -61,6 +108,10 @@ abbrev pub KeepsOtherEntries : TableView → TableView → ℕ → Type 0
 KeepsOtherEntries old new k =
     (j : ℕ) → (j ≡ k → ⊥) → slice_index new.names j ≡ slice_index old.names j
 
+-- all entries but this one are tied as they were
+abbrev pub KeepsOtherBonds : TableView → TableView → ℕ → Type 0
+KeepsOtherBonds old new k = (j : ℕ) → (j ≡ k → ⊥) → entry_bond new j ≡ entry_bond old j
+
 -- the entry has a fresh name: no older key applies to it
 abbrev pub RenewsEntry : TableView → TableView → ℕ → Type 0
 RenewsEntry old new k = slice_index new.names k ≢ slice_index old.names k
@@ -75,10 +126,14 @@ abbrev pub AllPlain : ℕ → List EntryView → Type 0
 AllPlain f entries =
     (k : ℕ) (e : EntryView) → k < segment_count f → tie_of (slice_index_or entries k e) ≡ None
 
--- no entry is tied, unless entries may be
-abbrev pub AllOf : Bool → ℕ → List EntryView → Type 0
-AllOf false f entries = AllPlain f entries
-AllOf true f entries = Unit {0}
+-- the tie of an entry
+abbrev pub tie_among : List EntryView → ℕ → Option EntryTie
+tie_among entries k = tie_in (slice_index_or (map bond_of entries) k None)
+
+-- no entry is tied, if entries of this kind are not; nor is that of a block that is lent
+pub record AreOfKind (tied : Bool) (f : ℕ) (lent : Option ℕ) (entries : List EntryView) : Type 0 where
+  pub plain : tied ≡ false → AllPlain f entries
+  pub untied : (k : ℕ) → lent ≡ Some k → tie_among entries k ≡ None
 
 -- the block that is known, if any is
 abbrev pub block_or_empty : Option BlockView → BlockView

@@ -1,12 +1,13 @@
 //! The table of segments.
 ghost use Rattle.std.specs.Prelude.{◌≡◌, ◌<◌, ◌≤◌, ℕ, None, slice_index, IfSome, IfOk};
-ghost use Rattle.table_core.specs.Table.{IsBlockOf, IsKeyIn, IsKeyOf, IsLengthOf};
+ghost use Rattle.table_core.specs.Table.{AllFit, AllPlain, IsBlockOf, IsKeyIn, IsKeyOf, IsLengthOf, entry_tie};
 ghost use Rattle.seg_core.specs.Segment.{IsLayout, segment_count, most_segments};
 ghost use Rattle.table_core.specs.Entry.{length_of, tie_of};
 
 mod key;
 mod key_set;
 mod owner;
+mod tied;
 
 use crate::entry::{Entry, EntrySight, Measured};
 use cell_core::block::{Block, Kind, Plain};
@@ -31,37 +32,47 @@ impl<T, B: Kind> Measured for Block<T, Global, B> {
 }
 
 /// The table of a vector's segments: 41 - f entries, each set at most once, to the block of its segment. It
-/// has room for 40 pointers. `B` says whether entries and their blocks are tied to a table of `atomic_table`.
+/// has room for 40 pointers. `B` says whether entries and their blocks may be tied to a table of `atomic_table`.
 #[derive(Drop)]
 pub struct Table<T, B: Kind = Plain> {
     layout: Layout,
     alloc: Global,
     entries: [Entry<Block<T, Global, B>>; MOST_SEGMENTS],
     lent: Option<Lent<T, B>>,
+    // The entry whose block is lent.
+    out: Option<u32>,
     held: Option<Held>,
 }
 
 impl<T, B: Kind> Model for Table<T, B> {
     ghost use Rattle.std.specs.Prelude.{◌≡◌, map, option_map, slice_index};
     ghost use Rattle.std.specs.Option.{ForSome};
-    ghost use Rattle.table_core.specs.Entry.{name_of};
+    ghost use Rattle.table_core.specs.Entry.{bond_of, name_of};
     ghost use Rattle.seg_core.specs.Segment.{IsLayout};
-    ghost use Rattle.table_core.specs.Table.{TableView, AllFit, AllOf};
+    ghost use Rattle.table_core.specs.Table.{TableView, table_coded, AllFit, AreOfKind};
 
     ghost Value = { TableView };
+
+    ghost coded = { table_coded };
 
     ghost view = { λ t. record {
       layout = t.layout;
       names = map name_of t.entries;
-      lent = option_map (λ l. l.segment) t.lent;
+      lent = t.out;
       held = option_map (λ h. h.segment) t.held;
+      bonds = map bond_of t.entries;
     } };
 
-    ghost invariant = { λ t. IsLayout t.layout × AllFit t.layout t.entries × AllOf B.tied t.layout t.entries
+    ghost invariant = { λ t. IsLayout t.layout × AllFit t.layout t.entries
+        × AreOfKind B.tied t.layout t.out t.entries
         × ForSome t.held (λ h. slice_index (map name_of t.entries) h.segment ≡ h.sight.of) };
 }
 
-fn empty_entry<T>(alloc: Global, layout: Layout, segment: u32) -> Entry<Block<T>>
+fn empty_entry<T, B: Kind>(
+    alloc: Global,
+    layout: Layout,
+    segment: u32,
+) -> Entry<Block<T, Global, B>>
     ensures length { segment < segment_count layout → IsLengthOf layout segment (length_of result) }
     ensures plain { tie_of result ≡ None }
 {
@@ -71,6 +82,25 @@ fn empty_entry<T>(alloc: Global, layout: Layout, segment: u32) -> Entry<Block<T>
         0
     };
     Entry::new(alloc, len)
+}
+
+// An entry for each segment. None is tied.
+fn empty_entries<T, B: Kind>(
+    alloc: Global,
+    layout: Layout,
+) -> [Entry<Block<T, Global, B>>; MOST_SEGMENTS]
+    ensures fit { AllFit layout result }
+    ensures plain { AllPlain layout result }
+{
+    // It is one from 1 to 8: the entries are enough.
+    let _f = layout.f();
+    array::from_fn(
+        |segment: usize| -> Entry<Block<T, Global, B>>
+            requires { segment < most_segments }
+            ensures { (segment < segment_count layout
+                → IsLengthOf layout segment (length_of result)) × (tie_of result ≡ None) }
+        { empty_entry(alloc, layout, segment as u32) },
+    )
 }
 
 impl<T> Table<T> {
@@ -86,20 +116,26 @@ impl<T> Table<T> {
     pub fn new_in(alloc: Global, layout: Layout) -> Table<T>
         ensures { result.layout ≡ layout }
     {
-        // It is one from 1 to 8: the entries are enough.
+        Table::without_blocks(alloc, layout)
+    }
+}
+
+impl<T, B: Kind> Table<T, B> {
+    // A table of entries of which none is set or tied.
+    #[tactic(auto, using(crate::proofs::Bonds::plain_among))]
+    fn without_blocks(alloc: Global, layout: Layout) -> Table<T, B>
+        ensures layout { result.layout ≡ layout }
+        ensures untied { (k : ℕ) → k < segment_count layout → entry_tie result k ≡ None }
+    {
+        // It is one from 1 to 8.
         let _f = layout.f();
-        let entries = array::from_fn(
-            |segment: usize| -> Entry<Block<T>>
-                requires { segment < most_segments }
-                ensures { (segment < segment_count layout
-                    → IsLengthOf layout segment (length_of result)) × (tie_of result ≡ None) }
-            { empty_entry(alloc, layout, segment as u32) },
-        );
+        let entries = empty_entries(alloc, layout);
         Table {
             layout,
             alloc,
             entries,
             lent: None,
+            out: None,
             held: None,
         }
     }
@@ -125,7 +161,7 @@ impl<T> Table<T> {
     }
 
     /// Returns the entry's block if it is set now, by one load.
-    pub fn scout(&self, segment: u32) -> Option<&Block<T>>
+    pub fn scout(&self, segment: u32) -> Option<&Block<T, Global, B>>
         requires { segment < segment_count self.now.layout }
         ensures { IfSome result (λ block. IsBlockOf self.now.layout segment block.now) }
     {
@@ -134,7 +170,7 @@ impl<T> Table<T> {
     }
 
     /// Returns the entry's block like `scout`, with the entry's key.
-    pub fn scout_key(&self, segment: u32) -> Option<(&Block<T>, Key)>
+    pub fn scout_key(&self, segment: u32) -> Option<(&Block<T, Global, B>, Key)>
         requires { segment < segment_count self.now.layout }
         ensures length { IfSome result (λ (block, _). IsBlockOf self.now.layout segment block.now) }
         ensures key { IfSome result (λ (block, key). IsKeyOf self.now segment block.now key) }
@@ -168,12 +204,12 @@ impl<T> Table<T> {
     }
 
     /// Returns the key's block, which is always there, by one load.
-    pub fn known<'a>(&'a self, key: &Key) -> &'a Block<T>
+    pub fn known<'a>(&'a self, key: &Key) -> &'a Block<T, Global, B>
         requires { IsKeyIn self.now key.now }
         ensures block { result.now ≡ key.now.block }
         ensures length { IsBlockOf self.now.layout key.now.segment result.now }
     {
-        let mut sight = key.sight.again::<T, Plain>();
+        let mut sight = key.sight.again::<T, B>();
         match self.entries[key.segment as usize].look(&mut sight) {
             Some(block) => block,
             None => unreachable!(),
@@ -194,6 +230,7 @@ impl<T> Table<T> {
 
 impl<T: Drop> Table<T> {
     // The entry's block: a new one, unless the entry is set.
+    #[tactic(auto, using(crate::proofs::Bonds::plain_there))]
     fn set<'a>(
         &'a self,
         segment: u32,

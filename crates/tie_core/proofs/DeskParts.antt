@@ -1,17 +1,17 @@
 -- What desks, tags and badges are as values, and what a desk makes of a seat. Assumes `Logic`.
-use Rattle.std.proofs.Common.{◌≡◌, ℕ, zero, suc, length, [], ◌∷◌, ◌++◌, refl, sym, ap}
+use Rattle.std.proofs.Common.{◌≡◌, ℕ, zero, suc, ◌+◌, ◌<◌, List, length, [], ◌∷◌, ◌++◌, refl, sym, ap, subst, arith, append_assoc, append-nil, length-append}
 use Rattle.std.specs.Prelude.{Option, Some, None}
 use mathlib.Core.List.{not-mem-nil, mem-append_left}
 use seplogic.Ra.Ura.{Ura}
 use mir.Val.{vstruct, vnil}
 use base.Share.{three_quarters}
 use base.Stored.{Gv, Coded}
-use base.Logic.{SProp, ent, sep, wand, ex, all, guard, emp, upd, upd_i}
-use base.Fml.{Lft, Share, Fml, ftrue, fex, fbor, flft, fnamed}
+use base.Logic.{SProp, ent, sep, wand, ex, all, all_e, apply∗, guard, emp, upd, upd_i}
+use base.Fml.{Lft, Share, Fml, ftrue, fsep, fex, fbor, flft, fnamed}
 use base.Before.{before}
 use types.Logic.{Logic, sem}
 use types.Na.{before-Incl, before_lent}
-use types.Kit.{‵, raw, ◌⊛◌, some, given, ◌$◌, ◌∵◌, !, qed, move, drop, pick, show, use0, use1, use2, use3, split, split3, fsplit, fjoin, fpack, frame, each, assume, suffices, learn, rewrite, settle, done}
+use types.Kit.{‵, raw, ◌⊛◌, some, given, ◌$◌, ◌∵◌, !, qed, by, move, drop, pick, show, use0, use1, use2, use3, split, split3, fsplit, fsplit3, fjoin, fpack, fpick, frame, each, assume, suffices, learn, rewrite, settle, done}
 use denote.RattleType.{RattleType}
 use denote.RawPtr.{Ptr}
 use denote.Steps.{nothing}
@@ -25,6 +25,7 @@ use Rattle.atomic_table.proofs.Fields.{token_val}
 use Rattle.tie_core.specs.Tie.{Tie, Stage, Idle, Begun, Mending, Filled, Broken, Step, Made, Moves, Gives, IsMade, seat_of, seat_at, tie_further, tie_numbered, row_of, left, update}
 use Rattle.tie_core.specs.Desk.{content, HasCodes, tie_at, gone}
 use Rattle.tie_core.specs.Permits.{PermitsCell, PermitsRow}
+use Rattle.tie_core.specs.Run.{IsRunMade, run_of, run_floor, updates}
 use Rattle.tie_core.specs.Visit.{PermitsEntry}
 use Rattle.tie_core.specs.declared.play.Staged as staged
 use Rattle.tie_core.specs.contracts.desk.Desk as Desk
@@ -49,6 +50,20 @@ module _ (U Y : RattleType) (g : staged.Ghosts Y.Denot U.Denot) where
 pub made_of : (made : Option Made) → IsMade made → (m : Made) × (made ≡ Some m)
 made_of None is = absurd is
 made_of (Some m) is = (m, refl)
+
+-- updates of a run that have run have the stages of its cells
+pub run_made_of : (made : Option (List Made)) → IsRunMade made → (ms : List Made) × (made ≡ Some ms)
+run_made_of None is = absurd is
+run_made_of (Some ms) is = (ms, refl)
+
+-- the ties of a run are as many as it says, and the first one has the floor of the run
+pub run_length : (t : Tie) (n : ℕ) → length (run_of t n) ≡ n
+run_length t zero = refl
+run_length t (suc n) = ap suc (run_length (tie_further t 1) n)
+
+pub run_floor_is : (t : Tie) (n : ℕ) → 0 < n → run_floor (run_of t n) ≡ t.floor
+run_floor_is t zero near = absurd (omega (arith, near))
+run_floor_is t (suc n) near = refl
 
 -- a seat that is further shows the stages by the same views
 pub codes_further : {V : Type 0} (c : V → Gv) (shows : Stage → V) (t : Tie) (n : ℕ) → HasCodes c shows t → HasCodes c shows (tie_further t n)
@@ -144,6 +159,45 @@ module _ {M : Type 1} {𝓤 : Ura M} (𝓛 : Logic 𝓤) (R : RattleType) {V : T
           rewrite ! 0 (λ (u : ℕ × Gv). ‵ (named_seat u)) (λ i. (sym views i, sym (codes b) i)) refl $ rewrite ! 0 (λ (f : Option Stage). ‵ (seat_of t f b)) (sym free) refl $
           -- [the cell's seat; the table; the gain]
           nothing ! $ fpack ! (Gives step a) (λ _. ftrue) gives $ move ! (3 ∷ 0 ∷ []) $ fjoin ! $ move ! (2 ∷ 0 ∷ []) $ fjoin ! $ move ! (1 ∷ 0 ∷ []) $ fjoin ! $ done !)))
+
+    -- an update whose gain is more is one whose gain is less
+    module _ (t : Tie) (step : Step) (more less : Stage → Stage → Fml) (leads : (a b : Stage) → ⟦ more a b ⟧ ⊢ ⟦ less a b ⟧) where
+      abbrev Going : (Stage → Stage → Fml) → ℕ × Stage × Stage → Pr
+      Going gain m = wand 𝓤 (⟦ seat_at (Some t) m.1 ⟧ ∗ ⟦ J ⟧) (upd 𝓤 ⟦ left α J gain t step m.1 m.2 ⟧)
+
+      abbrev Any : (Stage → Stage → Fml) → ℕ × Stage × Stage → Pr
+      Any gain m = all 𝓤 (λ (_ : Moves step m.0 m.1 m.2). Going gain m)
+
+      pub gains_less : ⟦ update α J more t step ⟧ ⊢ ⟦ update α J less t step ⟧
+      gains_less = qed 𝓛 (‵ (update α J more t step) ∷ []) ∵ each ! (λ (m : ℕ × Stage × Stage). Any less m) (λ m. each ! (λ (_ : Moves step m.0 m.1 m.2). Going less m) (λ moves.
+          let a : Stage = m.1 in let b : Stage = m.2 in let Q : Pr = upd 𝓤 ⟦ left α J more t step a b ⟧ in let Z : Pr = ⟦ left α J less t step a b ⟧ in
+          assume ! (‵ (seat_at (Some t) a) ⊛ ‵ J) $ move ! (1 ∷ []) $ use1 𝓛 (raw (Any more m)) (all_e 𝓤 (λ (l : ℕ × Stage × Stage). Any more l) m) $
+          use1 𝓛 (raw (Going more m)) (all_e 𝓤 (λ (_ : Moves step m.0 m.1 m.2). Going more m) moves) $ move ! (1 ∷ []) $
+          use2 𝓛 (raw Q) (apply∗ 𝓤 (⟦ seat_at (Some t) a ⟧ ∗ ⟦ J ⟧) Q) $ settle 𝓛 Z (‵ (left α J more t step a b)) $ suffices ! _ (upd_i 𝓤 Z) $
+          -- [the cell's seat; the table; the gain with what the step gives]
+          fsplit3 ! $ move ! (2 ∷ []) $ fsplit ! $ use1 𝓛 (‵ (less a b)) (leads a b) $ fjoin ! $ move ! (2 ∷ 0 ∷ []) $ fjoin ! $ move ! (1 ∷ 0 ∷ []) $ fjoin ! $ done !))
+
+    -- the caller's seat makes the updates of an offer for a run, of which some cells have gone
+    module _ (step : Step) (id k whole : ℕ) (then : List Made → V → Type 0) where
+      abbrev Told : List Made → Fml
+      Told ms = gone cv.code z id (then ms)
+
+      abbrev Next : Type 0
+      Next = (ms : List Made) (u : V) → length ms < whole → then ms u → PermitsCell holds shows step id u (k + length ms) (λ a b w. then (ms ++ (a, b) ∷ []) w)
+
+      pub run_offers : Next → (n : ℕ) (t : Tie) → t.views ≡ z.views_name → t.fixed ≡ None → HasCodes cv.code shows t → (ms : List Made) → length ms + n ≡ whole → t.id ≡ k + length ms
+          → (v : V) → then ms v → ⟦ half id v ⟧ ⊢ ⟦ updates α J step (run_of t n) (λ ns. Told (ms ++ ns)) ⟧
+      run_offers law zero t views free codes ms long at v so = let here : then (ms ++ []) v = subst (λ (ns : List Made). then ns v) (sym (append-nil ms)) so in
+          qed 𝓛 (‵ (half id v) ∷ []) ∵ nothing ! $ fpack ! (then (ms ++ []) v) (λ _. ftrue) here $ fjoin ! $ fpack ! V (λ u. fsep (fex (then (ms ++ []) u) (λ _. ftrue)) (half id u)) v $ done !
+      run_offers law (suc n) t views free codes ms long at v so =
+          let t' : Tie = tie_further t 1 in let last : Stage → Stage → List Made = λ a b. ms ++ (a, b) ∷ [] in let now : Stage → Stage → V → Type 0 = λ a b. then (last a b) in
+          let rest : Stage → Stage → Fml = λ a b. updates α J step (run_of t' n) (λ ns. Told (ms ++ (a, b) ∷ ns)) in
+          let one : PermitsCell holds shows step id v t.id now = subst (λ (i : ℕ). PermitsCell holds shows step id v i now) (sym at) (law ms v (omega arith) so) in
+          qed 𝓛 (‵ (half id v) ∷ []) ∵ use1 𝓛 (‵ (update α J (gain t step id v now) t step)) (offers t step id v now views free codes one) $
+          by ! (gains_less t step (gain t step id v now) rest (λ a b. qed 𝓛 (‵ (gone cv.code z id (now a b)) ∷ []) ∵ fpick ! (λ u. fsplit ! $ fpick ! (λ is. drop ! $
+          let more : length (last a b) ≡ length ms + 1 = length-append ms ((a, b) ∷ []) in
+          by ! (subst (λ (f : List Made → Fml). ⟦ half id u ⟧ ⊢ ⟦ updates α J step (run_of t' n) f ⟧) (λ i ns. Told (append_assoc ms ((a, b) ∷ []) ns i))
+          (run_offers law n t' views free (codes_further cv.code shows t 1 codes) (last a b) (omega (arith, long, more)) (omega (arith, at, more)) u is))))))
 
     -- the seats of new cells come without a step
     pub laying : (floor : ℕ) (owner : ℕ → ℕ → V) (n : ℕ) → PermitsRow holds shows owner n → (q : Share)

@@ -2,6 +2,8 @@ mod Twice
 mod SeatSteps
 mod DeskParts
 mod DeskSent
+mod FixedParts
 pub mod VisitParts
 pub mod OfferMade
+pub mod RunOfferMade
 pub mod SeatsMade

@@ -20,7 +20,7 @@ use Rattle.atomic_table.proofs.Roster.{resets, apart, Moved, moves}
 use Rattle.atomic_table.proofs.Lists.{set_again}
 use Rattle.tie_core.specs.Tie.{Stage, Idle, seats, row_of}
 use Rattle.tie_core.specs.Desk.{content, gone, tie_at}
-use Rattle.tie_core.specs.Permits.{with_views, PermitsLook, PermitsTrade, PermitsRow}
+use Rattle.tie_core.specs.Permits.{with_views, PermitsAlone, PermitsLook, PermitsTrade, PermitsRow}
 use Rattle.tie_core.specs.Visit.{PermitsEntry}
 
 module _ {M : Type 1} {𝓤 : Ura M} (𝓛 : Logic 𝓤) (R : RattleType) {V : Type 0} (cv : Coded V) (holds : State R.Denot V → Type 0) (w : Ptr) (z : TableId) where
@@ -124,6 +124,19 @@ module _ {M : Type 1} {𝓤 : Ura M} (𝓛 : Logic 𝓤) (R : RattleType) {V : T
       -- [the views; the caller's seat; the second one; the slots; the words]
       move ! (4 ∷ 3 ∷ 0 ∷ []) $ use3 𝓛 (‵ J) (shut s us (r.1, fits.1, fits.2)) $ move ! (1 ∷ []) $
       nothing ! $ fpack ! (told u) (λ _. ftrue) r.2 $ fjoin ! $ fpack ! V (λ t. fsep (fex (told t) (λ _. ftrue)) (half id t)) u $ move ! (2 ∷ 1 ∷ 0 ∷ []) $ done !)))))
+
+  -- the caller's seat moves alone
+  pub moves_alone : (id : ℕ) (v : V) (told : V → Type 0) → PermitsAlone holds id v told → ⟦ J ⟧ ∗ ⟦ half id v ⟧ ⊢ upd 𝓤 (⟦ J ⟧ ∗ ⟦ Gone id told ⟧)
+  moves_alone id v told law = let Z : Pr = ⟦ J ⟧ ∗ ⟦ Gone id told ⟧ in
+      qed 𝓛 (‵ J ∷ ‵ (half id v) ∷ []) ∵ fpick ! (λ s. fsplit3 ! $ move ! (2 ∷ []) $ fpick ! (λ fits. drop ! $ move ! (1 ∷ []) $ fsplit ! $
+      -- [the slots; the views; the words; the caller's seat]
+      move ! (1 ∷ 3 ∷ []) $ use2 𝓛 (raw (upd 𝓤 (guard 𝓤 (get_elem? s.views id ≡ some v) (⟦ L s.views ⟧ ∗ ⟦ half id v ⟧)))) (seen_at s.views id v) $
+      settle 𝓛 Z (given (get_elem? s.views id ≡ some v) (‵ (L s.views) ⊛ ‵ (half id v))) $ learn ! (λ here. split ! $
+      let r = law s fits.0 here in let u : V = r.0 in let us : List V = set s.views id u in
+      use2 𝓛 (raw (upd 𝓤 (⟦ L us ⟧ ∗ ⟦ half id u ⟧))) (moved_to s.views id v u) $ settle 𝓛 Z (‵ (L us) ⊛ ‵ (half id u)) $ split ! $ suffices ! _ (upd_i 𝓤 Z) $
+      -- [the views; the caller's seat; the slots; the words]
+      move ! (3 ∷ 2 ∷ 0 ∷ []) $ use3 𝓛 (‵ J) (shut s us (r.1, fits.1, fits.2)) $ move ! (1 ∷ []) $
+      nothing ! $ fpack ! (told u) (λ _. ftrue) r.2 $ fjoin ! $ fpack ! V (λ t. fsep (fex (told t) (λ _. ftrue)) (half id t)) u $ move ! (1 ∷ 0 ∷ []) $ done !)))
 
   -- the caller's seat and two more move
   pub trades : (id : ℕ) (v : V) (k : ℕ) (x x' : V) (j : ℕ) (y y' : V) (told : V → Type 0) → PermitsTrade holds id v k x x' j y y' told

@@ -46,6 +46,11 @@ pub record IsTieOf (z : TableId) (number : ℕ) (t : Tie) : Type 0 where
   pub floor : t.floor ≡ number
   pub free : t.fixed ≡ None
 
+-- the tie is fixed at a stage, and of a table whose invariant has this number
+pub record IsFixedTie (number : ℕ) (a : Stage) (t : Tie) : Type 0 where
+  pub floor : t.floor ≡ number
+  pub fixed : t.fixed ≡ Some a
+
 -- what a caller gains once its seat has moved along: the seat, at a view of which `told` holds
 abbrev pub gone : {V : Type 0} → (V → Gv) → TableId → ℕ → (V → Type 0) → Fml
 gone {V} c z id told = fex V (λ u. fsep (fex (told u) (λ _. ftrue)) (seen c z.views_name id three_quarters u))

@@ -1,4 +1,5 @@
 pub mod Tie
 pub mod Desk
 pub mod Permits
+pub mod Run
 pub mod Visit

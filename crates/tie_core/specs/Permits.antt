@@ -10,26 +10,35 @@ abbrev pub with_views : {S V : Type 0} → State S V → List V → State S V
 with_views s views = record { words = s.words; homes = s.homes; views = views }
 
 module _ {S V : Type 0} (holds : State S V → Type 0) where
-  -- The seat `id`, at the view v, goes along with a step on the cell whose seat is k: whatever the table is and the step
-  -- finds, there is a view u that keeps the rule, and `then` holds of the stages before and after it, and of u.
+  -- The seat `id`, at the view v, goes along with a step on the cell whose seat is k: whatever the table is and the
+  -- step finds, there is a view u that keeps the rule, and `then` holds of the stages before and after it, and of u.
   abbrev pub PermitsCell : (Stage → V) → Step → ℕ → V → ℕ → (Stage → Stage → V → Type 0) → Type 0
-  PermitsCell shows step id v k then = (s : State S V) (n : ℕ) (a b : Stage) → holds s → get_elem? s.views id ≡ some v → k ≢ id
+  PermitsCell shows step id v k then = (s : State S V) (n : ℕ) (a b : Stage) → holds s → get_elem? s.views id ≡ some v
+      → k ≢ id
       → get_elem? s.views k ≡ some (shows a) → Moves step n a b
       → (u : V) × holds (with_views s (slice_set (slice_set s.views id u) k (shows b))) × Gives step a × then a b u
 
-  -- The seat `id`, at the view v, goes along with a step on an entry that leaves its seat k, at the view x.
-  abbrev pub PermitsLook : ℕ → V → ℕ → V → (V → Type 0) → Type 0
-  PermitsLook id v k x then = (s : State S V) → holds s → get_elem? s.views id ≡ some v → k ≢ id → get_elem? s.views k ≡ some x
+  -- The seat `id`, at the view v, goes along with a look at a cell that has no seat.
+  abbrev pub PermitsAlone : ℕ → V → (V → Type 0) → Type 0
+  PermitsAlone id v then = (s : State S V) → holds s → get_elem? s.views id ≡ some v
       → (u : V) × holds (with_views s (slice_set s.views id u)) × then u
 
-  -- Three seats move at once: the caller's `id`, from v; an entry's own, k, from x to x'; and that of a new block, j, from
-  -- y to y'.
+  -- The seat `id`, at the view v, goes along with a step on an entry that leaves its seat k, at the view x.
+  abbrev pub PermitsLook : ℕ → V → ℕ → V → (V → Type 0) → Type 0
+  PermitsLook id v k x then = (s : State S V) → holds s → get_elem? s.views id ≡ some v → k ≢ id
+      → get_elem? s.views k ≡ some x
+      → (u : V) × holds (with_views s (slice_set s.views id u)) × then u
+
+  -- Three seats move at once: the caller's `id`, from v; an entry's own, k, from x to x'; and that of a new block, j,
+  -- from y to y'.
   abbrev pub PermitsTrade : ℕ → V → ℕ → V → V → ℕ → V → V → (V → Type 0) → Type 0
-  PermitsTrade id v k x x' j y y' then = (s : State S V) → holds s → get_elem? s.views id ≡ some v → k ≢ id → j ≢ id → j ≢ k
+  PermitsTrade id v k x x' j y y' then = (s : State S V) → holds s → get_elem? s.views id ≡ some v → k ≢ id → j ≢ id
+      → j ≢ k
       → get_elem? s.views k ≡ some x → get_elem? s.views j ≡ some y
       → (u : V) × holds (with_views s (slice_set (slice_set (slice_set s.views id u) k x') j y')) × then u
 
-  -- New seats may come: n that show idle cells, and one behind them, whose view is made of the first one's number and n.
+  -- New seats may come: n that show idle cells, and one behind them, whose view is made of the first one's number and
+  -- n.
   abbrev pub PermitsRow : (Stage → V) → (ℕ → ℕ → V) → ℕ → Type 0
   PermitsRow shows owner n = (s : State S V) → holds s
       → holds (with_views s ((s.views ++ replicate n (shows Idle)) ++ owner (length s.views) n ∷ []))

@@ -1,5 +1,6 @@
 -- What ties an entry to a table of `atomic_table`: while the entry is empty it holds a seat of its own; once a block is
--- published there, that seat is spent, and the entry holds the block's seat. The codes of both are fixed from the start.
+-- published there, that seat is spent, and the entry holds the block's seat. The codes of both are fixed from the
+-- start.
 use Rattle.std.specs.Prelude.{◌≡◌, ℕ, Option, Some, None, List, [], ◌∷◌, ◌++◌, slice_set}
 use Rattle.std.specs.Coded.{coded_option}
 use mathlib.Core.Option.{some}

@@ -1,16 +1,18 @@
 // The right to name the invariant of a table, and what is made by it: offers and visits from a seat, and the seats of
 // new cells.
-ghost use Rattle.std.specs.Prelude.{◌≡◌, ℕ, ◌+◌, [], ◌∷◌, Some, None, length};
+ghost use Rattle.std.specs.Prelude.{◌≡◌, ℕ, ◌+◌, ◌<◌, [], ◌∷◌, Some, None, length};
 ghost use denote.RawPtr.{Ptr, coded_ptr};
 ghost use denote.Sharing.{said};
 ghost use Rattle.atomic_table.specs.Seated.{TableId, table_id_coded};
 ghost use Rattle.tie_core.specs.Tie.{row_of};
 ghost use Rattle.tie_core.specs.Desk.{desk_owns, IsTieOf};
 ghost use Rattle.tie_core.specs.Permits.{PermitsCell, PermitsRow};
+ghost use Rattle.tie_core.specs.Run.{run_of, PermitsRun};
 ghost use Rattle.tie_core.specs.Visit.{IsEntryOf, PermitsEntry, PermitsVisit, PermitsPublish};
 
 use crate::offer::Offer;
 use crate::play::{CellPlay, Moving, RowPlay, SeatMove, Staged};
+use crate::run::{RunOffer, RunPlay, SeatRun};
 use crate::seats::Seats;
 use crate::tag::Tag;
 use crate::visit::{Entered, EntryPlay, EntrySeat, EntryTag, SeatVisit, Visit};
@@ -81,6 +83,36 @@ impl<S, V, K, P: TableRule<S, V, K> + Staged<V>> Desk<S, V, K, P> {
         ensures offer { (result.tie ≡ tag.now.tie) × (result.step ≡ M.step) × (result.made ≡ None) }
     {
         Offer {
+            marker: PhantomData,
+        }
+    }
+
+    /// Makes an offer like `offer`, for one step on `n` cells whose seats have numbers in a row. The tag is of the
+    /// first cell. The cells' seats go along one after the other, and the rule must allow each of these steps.
+    #[inline(always)]
+    pub fn offer_run<'a, M: RunPlay<V>>(
+        table: &'a Shared<S, V, K, P>,
+        desk: &Desk<S, V, K, P>,
+        badge: &mut Badge<V>,
+        tag: &Tag<V, P>,
+        n: u64,
+        told: u64,
+    ) -> RunOffer<'a, Moving<V, K>, SeatRun<S, V, K, P, M>>
+        requires table { (desk.now.table_id ≡ table.now.table_id)
+            × (badge.old.table_id ≡ table.now.table_id) }
+        requires tie { IsTieOf table.now.table_id desk.now.floor tag.now.tie }
+        requires some { 0 < n }
+        requires permits { (v : V) × (badge.old.views ≡ v ∷ [])
+            × PermitsRun (P.holds desk.now.key) P.shows M.step badge.old.id v tag.now.tie.id n
+            (M.then told v) }
+        ensures blank { badge.new.views ≡ [] }
+        ensures seat { (result.about.table_id ≡ badge.old.table_id)
+            × (result.about.id ≡ badge.old.id)
+            × (badge.old.views ≡ result.about.view ∷ []) × (result.about.told ≡ told) }
+        ensures offer { (result.ties ≡ run_of tag.now.tie n) × (length result.ties ≡ n)
+            × (result.step ≡ M.step) × (result.made ≡ None) }
+    {
+        RunOffer {
             marker: PhantomData,
         }
     }

@@ -16,15 +16,19 @@
 #![tactic(auto)]
 
 mod desk;
+mod fixed;
 mod offer;
 mod play;
+mod run;
 mod seats;
 mod tag;
 mod visit;
 
 pub use desk::Desk;
+pub use fixed::TiedCells;
 pub use offer::{Book, Offer};
 pub use play::{CellPlay, Moving, RowPlay, SeatMove, Staged};
+pub use run::{RunBook, RunOffer, RunPlay, SeatRun};
 pub use seats::Seats;
 pub use tag::{Numbered, Tag};
 pub use visit::{Entered, EntryBook, EntryPlay, EntrySeat, EntryTag, SeatVisit, Visit};

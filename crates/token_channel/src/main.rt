@@ -2,18 +2,20 @@
 //! reads the values by the notes while more are appended.
 #![tactic(auto)]
 
+ghost use Rattle.std.specs.Thread.{IsSync};
 ghost use Rattle.grow_core.specs.Vector.{IsHandOf};
 
 mod note;
 
 use crate::note::Note;
-use anyhow::anyhow;
+use anyhow::{Context, anyhow};
 use crossbeam_channel::{Receiver, Sender, unbounded};
 use grow_core::{Hand, Shared};
 use quiet_core::Quiet;
-use std::alloc::Global;
+use std::alloc::{AllocGlobal, Global};
 use std::sync::Wait;
 use std::thread;
+use std::thread::Threads;
 
 const COUNT: u64 = 1000;
 
@@ -48,18 +50,42 @@ fn add_up<R: Wait>(rt: &R, notes: Receiver<Note<'_>, Global>) -> u64 {
     sum
 }
 
-fn main(rt: HostRuntime) -> anyhow::Result<()> {
-    let alloc = rt.alloc();
-    let Ok((vector, mut hand)) = Quiet::new(alloc, COUNT).open() else {
-        return Err(anyhow!("out of memory"));
-    };
-    let (sender, receiver) = unbounded(alloc)?;
+// The same by a hand that goes.
+fn send_all<'a, R: Wait>(
+    rt: &R,
+    vector: &'a Shared<u64>,
+    mut hand: Hand<u64>,
+    notes: Sender<Note<'a>, Global>,
+) -> anyhow::Result<()>
+    requires { IsHandOf vector.now hand }
+{
+    send_squares(rt, vector, &mut hand, notes)
+}
+
+// The sum of the squares, which one thread sends and another adds up.
+fn sum_squares<R: Threads + Wait + AllocGlobal + Sync>(
+    rt: &R,
+    vector: &Shared<u64>,
+    hand: Hand<u64>,
+) -> anyhow::Result<u64>
+    requires { IsHandOf vector.now hand }
+{
+    let (sender, receiver) = unbounded(rt.alloc())?;
     let (sent, sum) = thread::join(
-        &rt,
-        || send_squares(&rt, &vector, &mut hand, sender),
-        || add_up(&rt, receiver),
+        rt,
+        || -> anyhow::Result<()>
+            requires { IsSync R.row × IsHandOf vector.now hand }
+        { send_all(rt, vector, hand, sender) },
+        || add_up(rt, receiver),
     );
     sent?;
+    Ok(sum)
+}
+
+fn main(rt: HostRuntime) -> anyhow::Result<()> {
+    let opened = Quiet::new(rt.alloc(), COUNT).open().ok();
+    let (vector, hand) = opened.context("out of memory")?;
+    let sum = sum_squares(&rt, &vector, hand)?;
     println!(rt; "{COUNT} notes were read, and their values add up to {sum}")?;
     Ok(())
 }

@@ -63,7 +63,7 @@ pub(crate) fn keep_of(offset: u64) -> u64
 
 // The state, moved to the fields of `n` cells from this one on.
 pub(crate) fn in_fields(state: u64, n: u64, offset: u64) -> u64
-    requires { (state ≤ 2) × (0 < n) × (offset % word_cells + n ≤ word_cells) }
+    requires { (state ≤ 15) × (0 < n) × (offset % word_cells + n ≤ word_cells) }
     ensures { result ≡ sums state n (offset % word_cells) }
 {
     let low = (EACH_FIELD >> (STATE_BITS * (WORD_CELLS - n))) * state;

@@ -19,8 +19,8 @@ impl Kind for Plain {
     ghost first = { false };
 }
 
-/// Marks a block, or a pen, of cells that may each be tied to a seat of a table of `atomic_table`. A step on such a cell
-/// runs an update of its caller.
+/// Marks a block, or a pen, of cells that may each be tied to a seat of a table of `atomic_table`. A step on such a
+/// cell runs an update of its caller.
 #[derive(Drop)]
 pub struct Tied {}
 

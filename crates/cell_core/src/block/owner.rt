@@ -1,6 +1,7 @@
 // Calls of an exclusive owner of a block's cells, and what it learns of them.
 ghost use Rattle.std.specs.Prelude.{◌≡◌, ◌≢◌, ◌<◌, Some, None, MatchOption, IfSome};
-ghost use Rattle.cell_core.specs.Block.{block_len, cell_at, IsPlacedIn, IsPlacedAt, IsMemberAt, KeepsOtherCells, RenewsCell};
+ghost use Rattle.cell_core.specs.Block.{block_len, cell_at, IsPlacedIn, IsPlacedAt, IsMemberAt, FixesTie, KeepsOtherCells, RenewsCell};
+ghost use Rattle.tie_core.specs.Tie.{Idle, Filled, Broken};
 
 use crate::block::fields::{in_field, keep_of, state_in, word_of};
 use crate::block::{Block, Epoch, Kind, Member, Placed};
@@ -14,6 +15,7 @@ impl<T, A: Allocator, B: Kind> Block<T, A, B> {
         requires { offset < block_len self.old }
         ensures len { block_len self.new ≡ block_len self.old }
         ensures another { RenewsCell self.old self.new offset }
+        ensures fixed { FixesTie self.old self.new offset Idle }
         ensures others { KeepsOtherCells self.old self.new offset }
     {
         self.laid.take(self.link, offset)
@@ -26,6 +28,7 @@ impl<T, A: Allocator, B: Kind> Block<T, A, B> {
         ensures value { result ≡ placed.now.value }
         ensures len { block_len self.new ≡ block_len self.old }
         ensures another { RenewsCell self.old self.new placed.now.offset }
+        ensures fixed { FixesTie self.old self.new placed.now.offset Idle }
         ensures others { KeepsOtherCells self.old self.new placed.now.offset }
     {
         let offset = placed.offset;
@@ -39,6 +42,7 @@ impl<T, A: Allocator, B: Kind> Block<T, A, B> {
         ensures value { result ≡ written.now.value }
         ensures len { block_len self.new ≡ block_len self.old }
         ensures another { RenewsCell self.old self.new offset }
+        ensures fixed { FixesTie self.old self.new offset Idle }
         ensures others { KeepsOtherCells self.old self.new offset }
     {
         let (word, keep) = (word_of(offset), keep_of(offset));
@@ -55,6 +59,7 @@ impl<T, A: Allocator, B: Kind> Block<T, A, B> {
         ensures filled { result.value ≢ None → self.new ≡ self.old }
         ensures epoch { result.value ≡ None → result.epoch ≡ epoch.now }
         ensures another { result.value ≡ None → RenewsCell self.old self.new offset }
+        ensures fixed { result.value ≡ None → FixesTie self.old self.new offset Broken }
         ensures len { block_len self.new ≡ block_len self.old }
         ensures others { KeepsOtherCells self.old self.new offset }
     {
@@ -115,10 +120,12 @@ impl<T, A: Allocator, B: Kind> Block<T, A, B> {
 
     /// Fills the cell with the value, whatever it held, and returns its token and the value that it held, if
     /// any.
+    #[tactic(auto, using(crate::proofs::PlainCells::fixed_again))]
     pub fn put_now(&mut self, offset: u64, value: T) -> (Placed<T>, Option<T>)
         requires { offset < block_len self.old }
         ensures placed { IsPlacedAt self.new offset result.0 }
         ensures value { result.0.value ≡ value }
+        ensures fixed { FixesTie self.old self.new offset Filled }
         ensures len { block_len self.new ≡ block_len self.old }
         ensures others { KeepsOtherCells self.old self.new offset }
     {
@@ -136,11 +143,13 @@ impl<T, A: Allocator, B: Kind> Block<T, A, B> {
 
     /// Breaks the cell until the epoch ends, and returns what is then known of it and the value that it held,
     /// if any.
+    #[tactic(auto, using(crate::proofs::PlainCells::fixed_again))]
     pub fn spoil_now(&mut self, offset: u64, epoch: &Epoch) -> (Member<T>, Option<T>)
         requires { offset < block_len self.old }
         ensures member { IsMemberAt self.new offset result.0 }
         ensures broken { result.0.value ≡ None }
         ensures epoch { result.0.epoch ≡ epoch.now }
+        ensures fixed { FixesTie self.old self.new offset Broken }
         ensures len { block_len self.new ≡ block_len self.old }
         ensures others { KeepsOtherCells self.old self.new offset }
     {
@@ -190,6 +199,7 @@ impl<T: Drop, A: Allocator, B: Kind> Block<T, A, B> {
         requires epoch { member.now.value ≡ None → member.now.epoch ≡ epoch.now }
         ensures value { result ≡ member.now.value }
         ensures another { RenewsCell self.old self.new offset }
+        ensures fixed { FixesTie self.old self.new offset Idle }
         ensures len { block_len self.new ≡ block_len self.old }
         ensures others { KeepsOtherCells self.old self.new offset }
     {

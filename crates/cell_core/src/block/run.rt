@@ -7,26 +7,26 @@ ghost use Rattle.cell_core.specs.Slot.{ArePlain};
 
 use crate::block::fields::{WORD_CELLS, are_empty, in_fields, word_of};
 use crate::block::pen::Pen;
-use crate::block::{Block, Kind, Row};
+use crate::block::{Block, Kind, Plain, Row};
 use crate::slot::run::{RawCells, RawRun};
 use crate::slot::steps::{BUSY, FILLED};
 use std::alloc::Allocator;
 use std::marker::{Model, PhantomData};
 
 /// The right to fill the cells of a run, which are busy until then. A run must be spent: by `publish`, once each of its
-/// cells has its value, or cell by cell, by `first`.
-pub struct RunPen<'a, T> {
-    offset: u64,
-    n: u64,
-    written: u64,
-    run: RawRun<'a, T>,
+/// cells has its value, or cell by cell, by `first`. The run of a tied block is published by `publish_for`.
+pub struct RunPen<'a, T, B: Kind = Plain> {
+    pub(crate) offset: u64,
+    pub(crate) n: u64,
+    pub(crate) written: u64,
+    pub(crate) run: RawRun<'a, T>,
+    pub(crate) marker: PhantomData<B>,
 }
 
-impl<'a, T> Model for RunPen<'a, T> {
+impl<'a, T, B: Kind> Model for RunPen<'a, T, B> {
     ghost use Rattle.std.specs.Prelude.{◌≡◌, ◌+◌, ◌%◌, ◌<◌, ◌≤◌, length};
     ghost use Rattle.cell_core.specs.Laid.{word_cells};
-    ghost use Rattle.cell_core.specs.Run.{RunView, run_coded};
-    ghost use Rattle.cell_core.specs.Slot.{ArePlain};
+    ghost use Rattle.cell_core.specs.Run.{AreRunOfKind, RunView, run_coded};
 
     ghost Value = { RunView T };
 
@@ -36,7 +36,8 @@ impl<'a, T> Model for RunPen<'a, T> {
 
     ghost invariant = { λ p. (p.run.found ≡ p.run.sought) × (p.run.index ≡ p.offset % word_cells)
         × (length p.run.of ≡ p.n) × (length p.run.values ≡ p.written) × (0 < p.n)
-        × (p.offset % word_cells + p.n ≤ word_cells) × ArePlain p.run.of };
+        × (p.offset % word_cells + p.n ≤ word_cells) × AreRunOfKind B.tied p.run.of
+        × (p.run.first ≡ B.first) };
 }
 
 impl<T, A: Allocator, B: Kind> Block<T, A, B> {
@@ -47,7 +48,8 @@ impl<T, A: Allocator, B: Kind> Block<T, A, B> {
         ensures some { 0 < result }
         ensures within { offset + result ≤ block_len self.now }
         ensures word { offset % word_cells + result ≤ word_cells }
-        ensures most { (offset + result ≡ block_len self.now) ⊎ ((offset + result) % word_cells ≡ 0) }
+        ensures most { (offset + result ≡ block_len self.now)
+            ⊎ ((offset + result) % word_cells ≡ 0) }
     {
         (WORD_CELLS - offset % WORD_CELLS).min(self.len - offset)
     }
@@ -57,8 +59,10 @@ impl<T, A: Allocator> Block<T, A> {
     // `n` cells that are not tied, from an offset on, whose states are in one word.
     #[tactic(auto, using(crate::proofs::PlainCells::plain_from))]
     fn plain_cells(&self, offset: u64, n: u64) -> RawCells<'_, T>
-        requires { (offset + n ≤ block_len self.now) × (0 < n) × (offset % word_cells + n ≤ word_cells) }
-        ensures { (result.of ≡ cells_from n offset self.now.cells) × (result.index ≡ offset % word_cells)
+        requires { (offset + n ≤ block_len self.now) × (0 < n)
+            × (offset % word_cells + n ≤ word_cells) }
+        ensures { (result.of ≡ cells_from n offset self.now.cells)
+            × (result.index ≡ offset % word_cells)
             × ArePlain result.of }
     {
         self.laid
@@ -87,6 +91,7 @@ impl<T, A: Allocator> Block<T, A> {
                 n,
                 written: 0,
                 run,
+                marker: PhantomData,
             })
         } else {
             run.unused();
@@ -95,7 +100,7 @@ impl<T, A: Allocator> Block<T, A> {
     }
 }
 
-impl<'a, T> RunPen<'a, T> {
+impl<'a, T, B: Kind> RunPen<'a, T, B> {
     /// Returns how many cells the run has.
     pub fn len(&self) -> u64
         ensures { result ≡ length self.now.cells }
@@ -104,7 +109,7 @@ impl<'a, T> RunPen<'a, T> {
     }
 
     /// Writes the value of the first cell that has none yet. Nobody sees it before `publish`.
-    pub fn write(self, value: T) -> RunPen<'a, T>
+    pub fn write(self, value: T) -> RunPen<'a, T, B>
         requires { length self.values < length self.cells }
         ensures offset { result.offset ≡ self.entry.offset }
         ensures cells { result.cells ≡ self.entry.cells }
@@ -115,6 +120,7 @@ impl<'a, T> RunPen<'a, T> {
             n,
             written,
             run,
+            marker,
         } = self;
         let run = run.write(value, written as usize);
         RunPen {
@@ -122,12 +128,14 @@ impl<'a, T> RunPen<'a, T> {
             n,
             written: written + 1,
             run,
+            marker,
         }
     }
 
     /// Parts the first cell from those after it: returns its pen, and the run of the others, if there are any. No cell
     /// may have a value yet. It takes no step.
-    pub fn first(self) -> (Pen<'a, T>, Option<RunPen<'a, T>>)
+    #[tactic(auto, using(crate::proofs::PlainCells::run_first, crate::proofs::PlainCells::run_others))]
+    pub fn first(self) -> (Pen<'a, T, B>, Option<RunPen<'a, T, B>>)
         requires { self.values ≡ [] }
         ensures { PartsFirst self.entry result.0 result.1 }
     {
@@ -136,6 +144,7 @@ impl<'a, T> RunPen<'a, T> {
             n,
             written: _,
             run,
+            marker: _,
         } = self;
         let (pen, others) = run.first();
         let pen = Pen {
@@ -152,10 +161,13 @@ impl<'a, T> RunPen<'a, T> {
             n: n - 1,
             written: 0,
             run: others,
+            marker: PhantomData,
         };
         (pen, Some(rest))
     }
+}
 
+impl<'a, T> RunPen<'a, T> {
     /// Publishes the values of all cells by one step, and returns what is then known of the cells, in order.
     pub fn publish(self) -> Row<T>
         requires { length self.values ≡ length self.cells }
@@ -166,6 +178,7 @@ impl<'a, T> RunPen<'a, T> {
             n,
             written: _,
             run,
+            marker: _,
         } = self;
         Row {
             row: run.publish(in_fields(FILLED - BUSY, n, offset)),

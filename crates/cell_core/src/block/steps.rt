@@ -5,13 +5,14 @@ ghost use base.Stored.{coded_list};
 ghost use prog.Memory.{capped};
 ghost use denote.RawPtr.{Ptr, coded_ptr};
 ghost use Rattle.cell_core.specs.Slot.{Names, names_coded, cell_in, step, filled_state, owner_broken_state};
-ghost use Rattle.cell_core.specs.Laid.{Extent, extent_coded, rooms_owned, laid, laid_lent, word_cells, FitsMemory, IsLinked, IsFieldOf, HasMore, HasMoreTied, HasOneRenamed};
-ghost use Rattle.cell_core.specs.Member.{Settles};
+ghost use Rattle.cell_core.specs.Laid.{Extent, extent_coded, rooms_owned, laid, laid_lent, word_cells, FitsMemory, IsLinked, IsFieldOf, HasMore, HasMoreTied, HasOneRenamed, IsFixedAt};
+ghost use Rattle.tie_core.specs.Tie.{Idle, Filled, Broken};
+ghost use Rattle.cell_core.specs.Member.{AreUntied, KnowsCells, Settles};
 ghost use Rattle.cell_core.specs.Run.{cells_from};
 
 use crate::block::fields::{keep_of, state_in, word_of};
 use crate::slot::epoch::RawEpoch;
-use crate::slot::member::RawMember;
+use crate::slot::member::{RawMember, RawRow};
 use crate::slot::run::RawCells;
 use crate::slot::steps::{FILLED, RawSlot, Written};
 use std::alloc::{AllocError, Allocator};
@@ -166,9 +167,23 @@ impl<T, A: Allocator> Laid<T, A> {
         )
     }
 
+    // The same cells without their ties: each seat is given up. What is known of cells by the row, from an index on,
+    // stays known. It is no instruction.
+    pub(crate) fn untie(self, row: &RawRow<T>, from: u64) -> Laid<T, A>
+        requires { KnowsCells row.now.of from self.cells }
+        ensures { (result.heap ≡ self.heap) × (result.rows ≡ self.rows)
+            × AreUntied self.cells result.cells × KnowsCells row.now.of from result.cells }
+    {
+        let Laid { marker: _ } = self;
+        Laid {
+            marker: PhantomData,
+        }
+    }
+
     // One more word, of `n` empty cells.
     pub(crate) fn push(&mut self, words: *mut u64, word: usize, n: usize)
-        requires { IsLinked self.old.rows.at words × (word ≡ self.old.rows.words) × (0 < self.old.rows.more)
+        requires { IsLinked self.old.rows.at words × (word ≡ self.old.rows.words)
+            × (0 < self.old.rows.more)
             × (length self.old.cells ≡ word * word_cells) × (n ≤ word_cells) × (n ≤ self.old.rows.left) }
         ensures { (self.new.heap ≡ self.old.heap) × HasMore self.old.cells n self.new.cells
             × (self.new.rows ≡ record self.old.rows {
@@ -192,10 +207,12 @@ impl<T, A: Allocator> Laid<T, A> {
         n: usize,
         seats: Seats,
     ) -> Seats
-        requires { IsLinked self.old.rows.at states × (word ≡ self.old.rows.words) × (0 < self.old.rows.more)
+        requires { IsLinked self.old.rows.at states × (word ≡ self.old.rows.words)
+            × (0 < self.old.rows.more)
             × (length self.old.cells ≡ word * word_cells) × (n ≤ word_cells) × (n ≤ self.old.rows.left)
             × (n ≤ length seats.ties) }
-        ensures { (self.new.heap ≡ self.old.heap) × HasMoreTied self.old.cells n self.new.cells seats.ties
+        ensures { (self.new.heap ≡ self.old.heap)
+            × HasMoreTied self.old.cells n self.new.cells seats.ties
             × (self.new.rows ≡ record self.old.rows {
               words = self.old.rows.words + 1;
               more = self.old.rows.more - 1;
@@ -237,7 +254,8 @@ impl<T, A: Allocator> Laid<T, A> {
         requires { (self.now.rows.at ≡ link.words) × (self.now.rows.rooms ≡ link.rooms)
             × (0 < n) × (index + n ≤ length self.now.cells) × (index % word_cells + n ≤ word_cells)
             × (word ≡ index / word_cells) }
-        ensures { (result.of ≡ cells_from n index self.now.cells) × (result.index ≡ index % word_cells) }
+        ensures { (result.of ≡ cells_from n index self.now.cells)
+            × (result.index ≡ index % word_cells) }
     {
         // For the proof: the contract alone speaks of how many cells there are.
         let _n = n;
@@ -264,7 +282,8 @@ impl<T, A: Allocator> Laid<T, A> {
             × IsFieldOf self.old.cells index word keep
             × (written.now.of ≡ (cell_in self.old.cells index).value_name) }
         ensures { (self.new.heap ≡ self.old.heap) × (self.new.rows ≡ self.old.rows)
-            × HasOneRenamed self.old.cells index self.new.cells × (result ≡ written.now.value) }
+            × HasOneRenamed self.old.cells index self.new.cells × (result ≡ written.now.value)
+            × IsFixedAt self.old.cells index self.new.cells Idle }
     {
         unsafe {
             let place = link.words.add(word);
@@ -280,7 +299,8 @@ impl<T, A: Allocator> Laid<T, A> {
         requires { IsLinked self.old.rows.at link.words × IsLinked self.old.rows.rooms link.rooms
             × IsFieldOf self.old.cells index word keep }
         ensures { (self.new.heap ≡ self.old.heap) × (self.new.rows ≡ self.old.rows)
-            × HasOneRenamed self.old.cells index self.new.cells }
+            × HasOneRenamed self.old.cells index self.new.cells
+            × IsFixedAt self.old.cells index self.new.cells Idle }
     {
         unsafe {
             let place = link.words.add(word);
@@ -305,7 +325,8 @@ impl<T, A: Allocator> Laid<T, A> {
             × (state ≡ filled_state * 16 ^ (index % word_cells)) }
         ensures { (self.new.heap ≡ self.old.heap) × (self.new.rows ≡ self.old.rows)
             × HasOneRenamed self.old.cells index self.new.cells
-            × (result.of ≡ (cell_in self.new.cells index).value_name) × (result.value ≡ value) }
+            × (result.of ≡ (cell_in self.new.cells index).value_name) × (result.value ≡ value)
+            × IsFixedAt self.old.cells index self.new.cells Filled }
     {
         unsafe {
             let place = link.words.add(word);
@@ -335,7 +356,8 @@ impl<T, A: Allocator> Laid<T, A> {
         ensures { (self.new.heap ≡ self.old.heap) × (self.new.rows ≡ self.old.rows)
             × HasOneRenamed self.old.cells index self.new.cells
             × (result.of.epoch ≡ (cell_in self.new.cells index).epoch) × (result.of.value ≡ None)
-            × (result.of.epoch ≡ epoch.now.of ∷ []) }
+            × (result.of.epoch ≡ epoch.now.of ∷ [])
+            × IsFixedAt self.old.cells index self.new.cells Broken }
     {
         unsafe {
             let place = link.words.add(word);
@@ -365,7 +387,8 @@ impl<T, A: Allocator> Laid<T, A> {
         ensures { (self.new.heap ≡ self.old.heap) × (self.new.rows ≡ self.old.rows)
             × (result.of.name ≡ (cell_in self.old.cells index).value_name)
             × Settles self.old.cells index self.new.cells result.of.value result.of.epoch
-            × (result.of.epoch ≡ epoch.now.of ∷ []) }
+            × (result.of.epoch ≡ epoch.now.of ∷ [])
+            × (result.of.value ≡ None → IsFixedAt self.old.cells index self.new.cells Broken) }
     {
         unsafe {
             let place = link.words.add(word);
@@ -385,7 +408,8 @@ impl<T, A: Allocator> Laid<T, A> {
         requires { IsLinked self.old.rows.at link.words × IsLinked self.old.rows.rooms link.rooms
             × (offset < length self.old.cells) }
         ensures { (self.new.heap ≡ self.old.heap) × (self.new.rows ≡ self.old.rows)
-            × HasOneRenamed self.old.cells offset self.new.cells }
+            × HasOneRenamed self.old.cells offset self.new.cells
+            × IsFixedAt self.old.cells offset self.new.cells Idle }
     {
         let (word, index, keep) = (word_of(offset), offset as usize, keep_of(offset));
         let (found, sight) = self.cell(link, word, index).sight();

@@ -1,23 +1,31 @@
 // Steps on cells that are tied to a table. Each call has one atomic step, which is its linearization point and runs an
 // update that the caller brings.
-ghost use Rattle.std.specs.Prelude.{◌≡◌, ◌≢◌, ◌<◌, ◌+◌, ℕ, Some, None, IfOk, IfErr, length};
+ghost use Rattle.std.specs.Prelude.{◌≡◌, ◌≢◌, ◌<◌, ◌≤◌, ◌+◌, ℕ, Some, None, IfOk, IfErr, length};
 ghost use Rattle.cell_core.specs.Block.{block_len, cell_at, IsPenAt, IsFresh, IsMending};
 ghost use Rattle.cell_core.specs.Shown.{IsFoundIn, IsLookAt, IsLookOf};
 ghost use Rattle.cell_core.specs.Slot.{AreTied, empty_state, broken_state};
-ghost use Rattle.cell_core.specs.Mould.{first_seat, last_seat, mould_of, row_mould};
+ghost use Rattle.cell_core.specs.Member.{IsUntied, KnowsCells};
+ghost use Rattle.cell_core.specs.Mould.{first_seat, last_seat, mould_of, row_mould, tie_in};
+ghost use Rattle.cell_core.specs.Run.{AreTiedTo, cells_from};
 ghost use Rattle.tie_core.specs.Tie.{Tie, HasMade, begins, breaks, fills, looks, mends, row_of, tie_further, tie_numbered};
+ghost use Rattle.tie_core.specs.Run.{run_of};
 
 use crate::block::fields::{all_but, in_field, state_in, words_for};
 use crate::block::steps::{Laid, Link, Rooms};
-use crate::block::{Block, First, Found, Look, Pen, Placed, Spoilt, Tied, lay_for};
+use crate::block::{Block, First, Found, Look, Pen, Placed, Row, Spoilt, Tied, lay_for};
 use crate::slot::steps::{BROKEN, BUSY, FILLED};
 use std::alloc::{AllocError, Allocator};
 use std::marker::PhantomData;
-use tie_core::{Book, Numbered, Offer, Seats};
+use tie_core::{Book, Numbered, Offer, Seats, TiedCells};
 
 // A block has the number of its first cell's seat.
 impl<T, A: Allocator> Numbered for Block<T, A, Tied> {
     ghost number = { λ block. first_seat block.cells };
+}
+
+// It has the ties of its cells.
+impl<T, A: Allocator> TiedCells for Block<T, A, Tied> {
+    ghost tie_at = { λ block i. tie_in (cell_at block i).tied };
 }
 
 impl<T, A: Allocator> Block<T, A, Tied> {
@@ -48,6 +56,33 @@ impl<T, A: Allocator> Block<T, A, Tied> {
         })
     }
 
+    /// Makes the block one of cells that are not tied: each cell's seat is given up. What is known of the cells by a
+    /// row, whose member at `from` is the first cell, stays known; tokens of these cells stay good. The call does
+    /// nothing.
+    #[tactic(auto, using(crate::proofs::Untied::untied_kind, crate::proofs::Untied::untied_length, crate::proofs::Untied::untied_at))]
+    pub fn untie(self, row: &Row<T>, from: u64) -> Block<T, A>
+        requires { KnowsCells row.now from self.cells }
+        ensures len { block_len result ≡ block_len self }
+        ensures known { KnowsCells row.now from result.cells }
+        ensures each { (i : ℕ) → i < block_len self
+            → IsUntied (cell_at self i) (cell_at result i) }
+    {
+        let Block {
+            alloc,
+            link,
+            laid,
+            len,
+            marker: _,
+        } = self;
+        Block {
+            alloc,
+            link,
+            laid: laid.untie(&row.row, from),
+            len,
+            marker: PhantomData,
+        }
+    }
+
     /// Shows a proof how cells whose seats have numbers in a row are tied, and what the mould of a block tells: the
     /// seats have numbers in a row from the first one's on, and the block's own seat is the one behind them. The call
     /// does nothing.
@@ -58,6 +93,9 @@ impl<T, A: Allocator> Block<T, A, Tied> {
             → mould_of self.now.cells ≡ row_mould t n }
         ensures tied { (t : Tie) (n : ℕ) → mould_of self.now.cells ≡ row_mould t n
             → AreTied (row_of (tie_numbered t (first_seat self.now.cells)) n) self.now.cells }
+        ensures run { (t : Tie) (m offset n : ℕ) → AreTied (row_of t m) self.now.cells
+            → offset + n ≤ m
+            → AreTiedTo (run_of (tie_further t offset) n) (cells_from n offset self.now.cells) }
         ensures last { (t : Tie) (n : ℕ) → AreTied (row_of t n) self.now.cells → 0 < n
             → last_seat self.now.cells ≡ t.id + n }
     {}
@@ -88,8 +126,8 @@ impl<T, A: Allocator> Block<T, A, Tied> {
         }
     }
 
-    /// Begins a tied cell, by one load. The offer's update runs in the load and shows that nobody has begun the cell, so
-    /// this never fails. The pen is the right to fill or break the cell.
+    /// Begins a tied cell, by one load. The offer's update runs in the load and shows that nobody has begun the cell,
+    /// so this never fails. The pen is the right to fill or break the cell.
     #[inline(always)]
     pub fn begin_for<'a, 'b, X, K: Book<X>>(
         &'a self,

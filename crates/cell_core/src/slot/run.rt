@@ -1,10 +1,11 @@
 // The raw steps on a run: cells next to each other whose states are in one word. One step begins them all, one
 // publishes them all, and one load shows them all.
-ghost use Rattle.std.specs.Prelude.{false, ◌≡◌, ◌≢◌, ℕ, ◌+◌, ◌%◌, ◌^◌, ◌<◌, ◌≤◌, ◌++◌, ◌∷◌, [], List, length};
-ghost use base.Stored.{coded_list};
+ghost use Rattle.std.specs.Prelude.{Bool, true, false, Some, None, ◌≡◌, ◌≢◌, ℕ, ◌+◌, ◌%◌, ◌^◌, ◌<◌, ◌≤◌, ◌++◌, ◌∷◌, [], List, length, replicate};
+ghost use base.Stored.{coded_bool, coded_list};
+ghost use Rattle.tie_core.specs.Tie.{Idle, Begun, Filled, begins, fills};
 ghost use Rattle.cell_core.specs.Fields.{sums};
 ghost use Rattle.cell_core.specs.Slot.{Names, ArePlain, names_coded, empty_state};
-ghost use Rattle.cell_core.specs.Run.{AreEmptyIn, AreFilledIn, cells_owned, run_owned, sights_owned, members_of};
+ghost use Rattle.cell_core.specs.Run.{AreEmptyIn, AreFilledIn, AreTiedTo, cells_owned, run_owned, sights_owned, members_of};
 
 use crate::slot::member::RawRow;
 use crate::slot::steps::RawPen;
@@ -12,6 +13,7 @@ use atomic_table::exchange;
 use std::marker::{Brand, Model, PhantomData};
 use std::sync::atomic::Ordering::SeqCst;
 use std::sync::atomic::raw;
+use tie_core::{RunBook, RunOffer};
 
 // Some cells of one word that are lent: the word, and the room of the first one. It must be spent.
 pub(crate) struct RawCells<'a, T> {
@@ -34,13 +36,15 @@ pub(crate) struct RawRun<'a, T> {
     marker: PhantomData<&'a T>,
     pub(crate) ghost of: { List Names } by { coded_list names_coded },
     pub(crate) ghost index: { ℕ },
+    pub(crate) ghost first: { Bool } by { coded_bool },
     pub(crate) ghost sought: { ℕ },
     pub(crate) ghost found: { ℕ },
     pub(crate) ghost values: { List T } by { coded_list T.code },
 }
 
 impl<'a, T> Model for RawRun<'a, T> {
-    ghost also_owns = { λ r. run_owned T.row r.of 'a r.word r.room r.index r.sought r.found r.values };
+    ghost also_owns = { λ r.
+        run_owned T.row r.of 'a r.word r.room r.index r.first r.sought r.found r.values };
 }
 
 // What a load of a word showed of some of its cells. It has no bytes.
@@ -61,11 +65,31 @@ impl<'a, T> RawCells<'a, T> {
         requires { AreEmptyIn sought self.index (length self.of)
             × (begun ≡ (sought + sums 1 (length self.of) self.index) % 2 ^ 64) × ArePlain self.of }
         ensures { (result.1.of ≡ self.entry.of) × (result.1.index ≡ self.entry.index)
-            × (result.1.sought ≡ sought) × (result.1.found ≡ result.0) × (result.1.values ≡ []) }
+            × (result.1.first ≡ false) × (result.1.sought ≡ sought) × (result.1.found ≡ result.0)
+            × (result.1.values ≡ []) }
     {
         let RawCells { word, room, marker } = self;
         let found = unsafe { exchange::<Brand>(word, sought, begun) };
         (found, RawRun { word, room, marker })
+    }
+
+    // The load that begins each cell of a tied run. The caller's updates run in it, and show that nobody has begun any.
+    #[inline(always)]
+    pub(crate) fn begin_for<'b, X, K: RunBook<X>>(
+        self,
+        offer: RunOffer<'b, X, K>,
+    ) -> (RawRun<'a, T>, RunOffer<'b, X, K>)
+        requires { AreTiedTo offer.ties self.of × (offer.step ≡ begins) × (offer.made ≡ None)
+            × (0 < length self.of) }
+        ensures { (result.0.of ≡ self.entry.of) × (result.0.index ≡ self.entry.index)
+            × (result.0.first ≡ true) × (result.0.found ≡ result.0.sought) × (result.0.values ≡ [])
+            × (result.1.ties ≡ offer.entry.ties) × (result.1.about ≡ offer.entry.about)
+            × (result.1.step ≡ offer.entry.step)
+            × (result.1.made ≡ Some (replicate (length self.entry.of) (Idle, Begun))) }
+    {
+        let RawCells { word, room, marker } = self;
+        let _found = unsafe { raw::load::<Brand>(word, SeqCst) };
+        (RawRun { word, room, marker }, offer)
     }
 
     // The word, and what it shows of each cell.
@@ -106,8 +130,8 @@ impl<'a, T> RawRun<'a, T> {
     pub(crate) fn write(self, value: T, at: usize) -> RawRun<'a, T>
         requires { (self.found ≡ self.sought) × (at ≡ length self.values) × (at < length self.of) }
         ensures { (result.of ≡ self.entry.of) × (result.index ≡ self.entry.index)
-            × (result.sought ≡ self.entry.sought) × (result.found ≡ self.entry.found)
-            × (result.values ≡ self.entry.values ++ value ∷ []) }
+            × (result.first ≡ self.entry.first) × (result.sought ≡ self.entry.sought)
+            × (result.found ≡ self.entry.found) × (result.values ≡ self.entry.values ++ value ∷ []) }
     {
         let RawRun { word, room, marker } = self;
         unsafe { (room.add(at) as *mut T).write(value) };
@@ -117,7 +141,7 @@ impl<'a, T> RawRun<'a, T> {
     // Adds what makes each busy cell filled.
     pub(crate) fn publish(self, added: u64) -> RawRow<T>
         requires { (self.found ≡ self.sought) × (length self.values ≡ length self.of)
-            × (added ≡ sums 2 (length self.of) self.index) × ArePlain self.of }
+            × (added ≡ sums 2 (length self.of) self.index) × ArePlain self.of × (self.first ≡ false) }
         ensures { result.of ≡ members_of self.entry.of self.entry.values }
     {
         let RawRun {
@@ -131,12 +155,40 @@ impl<'a, T> RawRun<'a, T> {
         }
     }
 
+    // Adds what makes each begun cell of a tied run filled. The caller's updates run in that step.
+    #[inline(always)]
+    pub(crate) fn publish_for<'b, X, K: RunBook<X>>(
+        self,
+        bits: u64,
+        offer: RunOffer<'b, X, K>,
+    ) -> (RawRow<T>, RunOffer<'b, X, K>)
+        requires { (self.found ≡ self.sought) × (length self.values ≡ length self.of)
+            × (bits ≡ sums 3 (length self.of) self.index) × (self.first ≡ true) × (0 < length self.of)
+            × AreTiedTo offer.ties self.of × (offer.step ≡ fills) × (offer.made ≡ None) }
+        ensures { (result.0.of ≡ members_of self.entry.of self.entry.values)
+            × (result.1.ties ≡ offer.entry.ties) × (result.1.about ≡ offer.entry.about)
+            × (result.1.step ≡ offer.entry.step)
+            × (result.1.made ≡ Some (replicate (length self.entry.of) (Begun, Filled))) }
+    {
+        let RawRun {
+            word,
+            room: _,
+            marker: _,
+        } = self;
+        unsafe { raw::fetch_add::<Brand>(word, bits, SeqCst) };
+        let row = RawRow {
+            marker: PhantomData,
+        };
+        (row, offer)
+    }
+
     // Parts the first cell from those after it. None has a value yet.
     pub(crate) fn first(self) -> (RawPen<'a, T>, RawRun<'a, T>)
         requires { (self.found ≡ self.sought) × (self.values ≡ []) × (0 < length self.of) }
         ensures { (result.0.of ∷ result.1.of ≡ self.entry.of) × (result.0.index ≡ self.entry.index)
-            × (result.0.first ≡ false) × (result.0.sought ≡ empty_state) × (result.0.found ≡ empty_state)
-            × (result.1.index ≡ self.entry.index + 1) × (result.1.sought ≡ self.entry.sought)
+            × (result.0.first ≡ self.entry.first) × (result.0.sought ≡ empty_state)
+            × (result.0.found ≡ empty_state) × (result.1.index ≡ self.entry.index + 1)
+            × (result.1.first ≡ self.entry.first) × (result.1.sought ≡ self.entry.sought)
             × (result.1.found ≡ self.entry.sought) × (result.1.values ≡ []) }
     {
         let RawRun { word, room, marker } = self;

@@ -152,7 +152,8 @@ impl<'a, T> RawSlot<'a, T> {
 
     // The word, and what the cell's state shows.
     pub(crate) fn sight(self) -> (u64, RawSight<T>)
-        ensures { (result.1.of ≡ self.entry.of) × (result.1.found ≡ field result.0 self.entry.index) }
+        ensures { (result.1.of ≡ self.entry.of)
+            × (result.1.found ≡ field result.0 self.entry.index) }
     {
         let RawSlot {
             word,
@@ -170,7 +171,8 @@ impl<'a, T> RawSlot<'a, T> {
     #[inline(always)]
     pub(crate) fn look(self) -> (u64, RawSight<T>)
         requires { IsPlain self.of }
-        ensures { (result.1.of ≡ self.entry.of) × (result.1.found ≡ field result.0 self.entry.index) }
+        ensures { (result.1.of ≡ self.entry.of)
+            × (result.1.found ≡ field result.0 self.entry.index) }
     {
         self.sight()
     }
@@ -389,7 +391,8 @@ impl<'a, T> RawPen<'a, T> {
     }
 
     pub(crate) fn broken(self) -> RawBroken
-        requires { ((busy_state < self.found) × (self.found ≢ filled_state)) × (self.found ≢ self.sought) }
+        requires { ((busy_state < self.found) × (self.found ≢ filled_state))
+            × (self.found ≢ self.sought) }
         ensures { result.of ≡ self.entry.of.broken_name }
     {
         let RawPen {

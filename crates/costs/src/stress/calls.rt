@@ -91,6 +91,18 @@ impl Caller {
 }
 
 // Notes the result of a push.
+fn note_answer(
+    record: &mut Record,
+    value: u64,
+    answer: &Result<Placed<u64>, GrowError<u64, u64, Never>>,
+) -> Result<()> {
+    match answer {
+        Ok(placed) => record.note_placed(placed.place(), Some(value)),
+        Err(error) => record.note_refused(error),
+    }
+}
+
+// The same, and returns the token.
 fn note_push(
     vector: &Shared<u64>,
     caller: &mut Caller,
@@ -100,16 +112,8 @@ fn note_push(
     requires { IfOk answer (IsPlacedOf vector.now) }
     ensures { IfOk result (λ token. IfSome token (IsPlacedOf vector.now)) }
 {
-    match answer {
-        Ok(placed) => {
-            caller.record.note_placed(placed.place(), Some(value))?;
-            Ok(Some(placed))
-        }
-        Err(error) => {
-            caller.record.note_refused(&error)?;
-            Ok(None)
-        }
-    }
+    note_answer(&mut caller.record, value, &answer)?;
+    Ok(answer.ok())
 }
 
 fn try_push(

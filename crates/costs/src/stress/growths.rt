@@ -45,15 +45,15 @@ fn note_growth<V: Drop, E: Drop>(
     record: &mut Record,
     first: u64,
     step: u64,
-    answer: Result<Grown<u64>, GrowError<u64, V, E>>,
+    answer: &Result<Grown<u64>, GrowError<u64, V, E>>,
 ) -> Result<()> {
     match answer {
-        Ok(grown) => note_run(record, first, step, &grown),
+        Ok(grown) => note_run(record, first, step, grown),
         Err(GrowError::Refused { run, made, .. }) => {
-            note_run(record, first, step, &made)?;
-            note_broken(record, run, made.run().n)
+            note_run(record, first, step, made)?;
+            note_broken(record, *run, made.run().n)
         }
-        Err(error) => record.note_refused(&error),
+        Err(error) => record.note_refused(error),
     }
 }
 
@@ -72,7 +72,7 @@ pub fn grow(
     let n = caller.up_to(most);
     let first = caller.take_values(n);
     let answer = vector.try_grow_vec(hand, values_from(alloc, first, n)?);
-    note_growth(&mut caller.record, first, 1, answer)
+    note_growth(&mut caller.record, first, 1, &answer)
 }
 
 /// Grows by at most `most` clones of one value.
@@ -89,7 +89,7 @@ pub fn grow_by(
     let n = caller.up_to(most);
     let value = caller.take_values(1);
     let answer = vector.try_grow_by(hand, n, &value);
-    note_growth(&mut caller.record, value, 0, answer)
+    note_growth(&mut caller.record, value, 0, &answer)
 }
 
 /// Grows by at most `most` values that are made in place, one of them perhaps refused.
@@ -113,12 +113,8 @@ pub fn grow_with(
             Ok(first.wrapping_add(i))
         }
     };
-    note_growth(
-        &mut caller.record,
-        first,
-        1,
-        vector.try_grow_with(hand, n, make),
-    )
+    let answer = vector.try_grow_with(hand, n, make);
+    note_growth(&mut caller.record, first, 1, &answer)
 }
 
 /// Grows up to at most `most` places above the size that the hand has seen, by values that are made in place,
@@ -146,6 +142,6 @@ pub fn grow_to_at_least(
     match vector.grow_to_at_least(hand, size, make) {
         Ok(AtLeast::Ran(grown)) => note_run(&mut caller.record, first, 1, &grown),
         Ok(AtLeast::Enough { .. }) => Ok(()),
-        Err(refused) => note_growth::<(), u64>(&mut caller.record, first, 1, Err(refused)),
+        Err(refused) => note_growth::<(), u64>(&mut caller.record, first, 1, &Err(refused)),
     }
 }

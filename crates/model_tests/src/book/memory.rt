@@ -12,13 +12,21 @@ fn applied(list: &mut CellVec, event: Event) -> Option<Reply> {
     }
 }
 
+// The first event that has another reply than that of its row.
+fn first_wrong(list: &mut CellVec, rows: &[(Event, Reply)]) -> Option<Event> {
+    for (event, reply) in rows {
+        if applied(list, *event) != Some(*reply) {
+            return Some(*event);
+        }
+    }
+    None
+}
+
 #[test]
 fn an_event_is_tried_again(rt: HostRuntime) {
     let mut list = CellVec::new(rt.alloc(), 6);
-    for (event, reply) in EVENTS.as_slice() {
-        assert_eq!(rt; applied(&mut list, *event), Some(*reply), "{event:?}");
-    }
-    assert_eq!(rt; list.into_cells().len(), 4);
+    assert_eq!(rt; first_wrong(&mut list, EVENTS.as_slice()), None);
+    assert!(rt; list.into_cells().len() == 4);
 }
 
 #[test]

@@ -18,10 +18,15 @@ pub(super) fn layout_of(f: u32) -> Layout {
     Layout::new(f).unwrap_or(Layout::default())
 }
 
+// A new machine at the programs of a script.
+fn machine_in(alloc: Global, f: u32, text: &[u8]) -> Result<Machine, Fail> {
+    let script = read(alloc, text)?;
+    Ok(Machine::new_in(alloc, layout_of(f), script.limit, script.programs)?)
+}
+
 // The size of a new machine after some steps of its one actor, which grows it by 300.
 fn size_after(alloc: Global, f: u32, steps: u32) -> Result<u64, Fail> {
-    let script = read(alloc, b"limit 300\nactor a grow 300 7\nsteps")?;
-    let mut machine = Machine::new_in(alloc, layout_of(f), script.limit, script.programs)?;
+    let mut machine = machine_in(alloc, f, b"limit 300\nactor a grow 300 7\nsteps")?;
     for _step in 0..steps {
         machine.step(0, true)?;
     }
@@ -44,18 +49,31 @@ static FILLED: [(u32, u32); 8] = [
     (1, 131_106), (2, 131_104), (3, 131_102), (4, 131_100), (5, 131_098), (6, 131_096), (7, 131_094), (8, 131_092),
 ];
 
+// Takes steps of a machine's one actor, and returns whether there was memory.
+fn takes_steps(machine: &mut Machine, steps: u32) -> bool {
+    for _step in 0..steps {
+        if machine.step(0, true).is_err() {
+            return false;
+        }
+    }
+    true
+}
+
+// Tests whether the last of 65,536 places is busy after these steps, and filled after one more.
+fn is_filled_after(machine: &mut Machine, steps: u32) -> bool {
+    takes_steps(machine, steps)
+        && machine.slot(65_535) == Some(CellSlot::Busy(0))
+        && takes_steps(machine, 1)
+        && machine.slot(65_535) == Some(CellSlot::Filled(7))
+        && machine.slot(0) == Some(CellSlot::Filled(7))
+        && machine.size() == 65_536
+        && machine.slot(65_536).is_none()
+}
+
 // Tests whether the last of 65,536 places is filled exactly at the last of these steps.
 fn is_filled_by(alloc: Global, f: u32, steps: u32) -> Result<bool, Fail> {
-    let script = read(alloc, b"limit 65536\nactor a grow 65536 7\nsteps")?;
-    let mut machine = Machine::new_in(alloc, layout_of(f), script.limit, script.programs)?;
-    for _step in 1..steps {
-        machine.step(0, true)?;
-    }
-    let is_busy = machine.slot(65_535) == Some(CellSlot::Busy(0));
-    machine.step(0, true)?;
-    let is_filled = machine.slot(65_535) == Some(CellSlot::Filled(7))
-        && machine.slot(0) == Some(CellSlot::Filled(7));
-    Ok(is_busy && is_filled && machine.size() == 65_536 && machine.slot(65_536).is_none())
+    let mut machine = machine_in(alloc, f, b"limit 65536\nactor a grow 65536 7\nsteps")?;
+    Ok(is_filled_after(&mut machine, steps.saturating_sub(1)))
 }
 
 #[test]

@@ -85,29 +85,50 @@ static SLOTS: [Option<CellSlot>; 6] = [
     Some(CellSlot::Filled(6)),
 ];
 
+// Tests whether the first place has these slots after one step each of the second actor.
+fn has_slots(machine: &mut Machine, slots: &[Option<CellSlot>]) -> bool {
+    for slot in slots {
+        if machine.step(1, true).is_err() || machine.slot(0) != *slot {
+            return false;
+        }
+    }
+    true
+}
+
 #[test]
 fn a_slot_is_busy_for_the_actor_that_began_it(rt: HostRuntime) -> Result<(), Fail> {
     let mut machine = machine(rt.alloc(), PUSHES)?;
-    for slot in SLOTS.as_slice() {
-        machine.step(1, true)?;
-        assert!(rt; machine.slot(0) == *slot);
-    }
-    assert!(rt; machine.slot(1).is_none());
+    assert!(rt; has_slots(&mut machine, SLOTS.as_slice()) && machine.slot(1).is_none());
     Ok(())
+}
+
+// The actors whose steps come before that of the refused segment. None of them is an event.
+static BEFORE: [u32; 5] = [0, 0, 1, 1, 1];
+
+fn have_no_event(machine: &mut Machine, actors: &[u32]) -> bool {
+    for actor in actors {
+        match machine.step(*actor, true) {
+            Ok(stepped) if stepped.event.is_none() => {}
+            _ => return false,
+        }
+    }
+    true
+}
+
+// Tests whether a refused step of the first actor ends its call without memory.
+fn ends_without_memory(machine: &mut Machine) -> bool {
+    let stepped = refused_step(machine, 0);
+    let answer = stepped.ended.map(|ended| ended.answer);
+    stepped.event == Some((Event::RefusedMemory { actor: 0 }, Reply::NoMemory))
+        && answer == Some(Answer::NoMemory)
 }
 
 #[test]
 fn a_refused_segment_ends_the_call_though_it_is_there(rt: HostRuntime) -> Result<(), Fail> {
     let mut machine = machine(rt.alloc(), PUSHES)?;
-    for actor in [0, 0, 1, 1, 1].as_slice() {
-        assert!(rt; machine.step(*actor, true)?.event.is_none(), "{actor}");
-    }
+    assert!(rt; have_no_event(&mut machine, BEFORE.as_slice()));
     assert!(rt; machine.actors() == 2 && machine.size() == 0 && machine.slot(0).is_none());
-    let stepped = refused_step(&mut machine, 0);
-    let event = (Event::RefusedMemory { actor: 0 }, Reply::NoMemory);
-    assert!(rt; stepped.event == Some(event));
-    let answer = stepped.ended.map(|ended| ended.answer);
-    assert!(rt; answer == Some(Answer::NoMemory));
+    assert!(rt; ends_without_memory(&mut machine));
     Ok(())
 }
 
@@ -124,18 +145,34 @@ fn one_call_each(
     Ok(Sequence::from_vec(programs))
 }
 
+// Takes six steps of an actor, and returns whether there was memory.
+fn takes_six_steps(machine: &mut Machine, actor: u32) -> bool {
+    for _step in 0..6 {
+        if machine.step(actor, true).is_err() {
+            return false;
+        }
+    }
+    true
+}
+
+// Tests whether each of 65,536 actors fills a place by its six steps.
+fn is_filled_by_all(machine: &mut Machine) -> bool {
+    for actor in 0..65_536 {
+        if !takes_six_steps(machine, actor) {
+            return false;
+        }
+    }
+    machine.actors() == 65_536
+        && machine.size() == 65_536
+        && machine.slot(65_535) == Some(CellSlot::Filled(9))
+}
+
 #[test]
 fn the_most_programs_are_played(rt: HostRuntime) -> Result<(), Fail> {
     let programs = one_call_each(rt.alloc(), 65_536, Command::Push { value: 9 })?;
     assert!(rt; programs.len() == 65_536);
     let mut machine = Machine::new(rt.alloc(), 1_099_511_627_776, programs)?;
-    for actor in 0..65_536 {
-        for _step in 0..6 {
-            machine.step(actor, true)?;
-        }
-    }
-    assert!(rt; machine.actors() == 65_536 && machine.size() == 65_536);
-    assert!(rt; machine.slot(65_535) == Some(CellSlot::Filled(9)));
+    assert!(rt; is_filled_by_all(&mut machine));
     Ok(())
 }
 

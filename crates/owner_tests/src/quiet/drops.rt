@@ -70,10 +70,14 @@ fn drops_all<'a>(mut list: Quiet<Counted<'a>>, drops: &'a AtomicU64) -> bool {
     cleared && is_pushed && pushed && are_dropped(drops, 15)
 }
 
+fn two_counted<'a>(alloc: Global, drops: &'a AtomicU64) -> Option<Vec<Counted<'a>>> {
+    vec![in alloc; Counted(drops), Counted(drops)].ok()
+}
+
 fn drops_each_once<'a>(alloc: Global, drops: &'a AtomicU64) -> Option<bool> {
+    let two = two_counted(alloc, drops)?;
     let mut list = Quiet::new(alloc, 16);
     let cut = drops_what_it_cuts(&mut list, drops);
-    let two = vec![in alloc; Counted(drops), Counted(drops)].ok()?;
     let replaced = drops_what_it_replaces(&mut list, drops, two);
     Some(cut && replaced && drops_all(list, drops))
 }

@@ -31,7 +31,13 @@ fn follows_its_segments(list: &mut Quiet<u64>, layout: Layout) -> bool {
     is_made && list.capacity() == layout.capacity_for(2)
 }
 
-// The length of a list of a thousand members, once it was opened and closed.
+// The length of a list, once it was opened and closed.
+fn len_when_closed(list: Quiet<u64>) -> Option<u64> {
+    let (vector, hand) = list.open().ok()?;
+    Some(Quiet::close(vector, hand).len())
+}
+
+// The same of a list of a thousand members.
 fn len_after_a_life(alloc: Global, layout: Layout, limit: u64) -> Option<u64>
     requires { IsLimit limit }
 {
@@ -39,8 +45,7 @@ fn len_after_a_life(alloc: Global, layout: Layout, limit: u64) -> Option<u64>
     if resized(&mut list, 1_000, 0, 1_000) != (Ok(()), Some(1_000)) {
         return None;
     }
-    let (vector, hand) = list.open().ok()?;
-    Some(Quiet::close(vector, hand).len())
+    len_when_closed(list)
 }
 
 #[test]
@@ -56,18 +61,23 @@ fn lists_of_each_layout_have_its_capacities_and_are_opened(rt: HostRuntime) {
     }
 }
 
-// Tests whether the first two lists are equal, and both less than the third.
-fn are_in_order(a: &Quiet<u64>, b: &Quiet<u64>, c: &Quiet<u64>) -> bool {
-    *a == *b && *a < *c && *b < *c
+pub(super) fn are_equal(a: Quiet<u64>, b: Quiet<u64>) -> bool {
+    a == b
+}
+
+fn is_less(a: Quiet<u64>, b: Quiet<u64>) -> bool {
+    a < b
 }
 
 #[test]
 fn lists_of_two_layouts_compare_by_their_members(rt: HostRuntime) {
     for (f, g) in [(1, 8), (8, 1)].as_slice() {
         let (mine, other) = (layout_of(&rt, *f), layout_of(&rt, *g));
-        let a = one_and(&rt, mine, 2);
-        let b = one_and(&rt, other, 2);
-        let c = one_and(&rt, mine, 3);
-        assert!(rt; are_in_order(&a, &b, &c), "{f} {g}");
+        assert!(rt;
+            are_equal(one_and(&rt, mine, 2), one_and(&rt, other, 2))
+                && is_less(one_and(&rt, mine, 2), one_and(&rt, mine, 3))
+                && is_less(one_and(&rt, other, 2), one_and(&rt, mine, 3)),
+            "{f} {g}"
+        );
     }
 }

@@ -7,7 +7,7 @@ use super::{broken_after, list_of};
 use crate::vector::{grow_refused, read};
 use grow_core::{AtError, Placed};
 use quiet_core::{Hand, Quiet, QuietAt, Shared};
-use std::alloc::AllocGlobal;
+use std::alloc::{AllocGlobal, Global};
 use std::process::Abort;
 use std::sync::Wait;
 
@@ -88,20 +88,24 @@ fn see_one_push<R: Wait>(
         && vector.size(k) == 1
 }
 
-fn shows_its_hands<R: Wait>(rt: &R, list: Quiet<u64>) -> bool {
-    match list.open() {
-        Ok((vector, mut h)) => {
-            let mut g = vector.split(&mut h, 1);
-            let mut k = vector.split(&mut h, 1);
-            see_one_push(rt, &vector, &mut h, &mut g, &mut k)
-        }
-        Err(_refused) => false,
-    }
+// The same of three hands that are split from one.
+fn three_see_one_push<R: Wait>(rt: &R, vector: &Shared<u64>, h: &mut Hand<u64>) -> bool
+    requires ours { IsHandOf vector.now h.old }
+    requires shares { h.old.shares ≡ 65536 }
+{
+    let mut g = vector.split(h, 1);
+    let mut k = vector.split(h, 1);
+    see_one_push(rt, vector, h, &mut g, &mut k)
+}
+
+fn shows_its_hands<R: Wait>(rt: &R, list: Quiet<u64>) -> Option<bool> {
+    let (vector, mut h) = list.open().ok()?;
+    Some(three_see_one_push(rt, &vector, &mut h))
 }
 
 #[test]
 fn three_hands_see_one_push(rt: HostRuntime) {
-    assert!(rt; shows_its_hands(&rt, Quiet::new(rt.alloc(), 8)));
+    assert!(rt; shows_its_hands(&rt, Quiet::new(rt.alloc(), 8)) == Some(true));
 }
 
 // Opens a list, grows it by three values with the second refused, and closes it. Returns the report of that
@@ -120,18 +124,17 @@ static BROKEN_FROM_THE_SECOND: [Step; 5] = [
     Step::Get(2, Err(QuietAt::Broken)),
 ];
 
+// Tests whether a list is broken from its second member on, after such a growth.
+fn is_broken_after_refusal(alloc: Global, list: Quiet<u64>) -> Option<bool> {
+    let (refused, mut list) = closed_after_refusal(list)?;
+    let wrong = first_wrong(alloc, &mut list, &BROKEN_FROM_THE_SECOND);
+    Some(refused == Some((0, 3, 1, 9)) && wrong == None)
+}
+
 #[test]
 fn a_refused_value_breaks_the_places_of_the_closed_list(rt: HostRuntime) {
-    match closed_after_refusal(Quiet::new(rt.alloc(), 8)) {
-        Some((refused, mut list)) => {
-            assert!(rt; refused == Some((0, 3, 1, 9)));
-            assert_eq!(rt;
-                first_wrong(rt.alloc(), &mut list, &BROKEN_FROM_THE_SECOND),
-                None
-            );
-        }
-        None => panic!(rt; "no list"),
-    }
+    let list = Quiet::new(rt.alloc(), 8);
+    assert!(rt; is_broken_after_refusal(rt.alloc(), list) == Some(true));
 }
 
 // The token of the value at a place, read without one.
@@ -174,14 +177,24 @@ fn tokens(
     Some((old, new))
 }
 
+// Closes a vector. Returns what it has by the first token, and what the closed list recalls by both.
+fn recalled_by(vector: Shared<u64>, hand: Hand<u64>, old: Placed<u64>, new: Placed<u64>) -> [u64; 3]
+    requires ours { IsHandOf vector hand }
+    requires whole { hand.shares ≡ 65536 }
+    requires old { IsPlacedOf vector old }
+    requires new { IsPlacedOf vector new }
+{
+    let read = *vector.get(&old);
+    let list = Quiet::close(vector, hand);
+    [read, *list.recall(&old), *list.recall(&new)]
+}
+
 // Opens a list, reads one of its places, appends a value, and closes it. Returns what was read, and what the
 // closed list recalls by the two tokens.
 fn recalled(list: Quiet<u64>, place: u64, value: u64) -> Option<[u64; 3]> {
     let (vector, mut hand) = list.open().ok()?;
     let (old, new) = tokens(&vector, &mut hand, place, value)?;
-    let read = *vector.get(&old);
-    let list = Quiet::close(vector, hand);
-    Some([read, *list.recall(&old), *list.recall(&new)])
+    Some(recalled_by(vector, hand, old, new))
 }
 
 #[test]

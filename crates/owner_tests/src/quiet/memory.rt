@@ -93,15 +93,17 @@ fn a_list_becomes_a_vector_again(rt: HostRuntime) {
     assert!(rt; is_a_vector_again(list));
 }
 
+fn is_opened(list: Quiet<u64>) -> bool {
+    list.open().is_ok()
+}
+
 // Tests whether a list of one member is opened, at the second try if need be.
 fn opens_again(list: Quiet<u64>) -> bool {
-    match list.open() {
-        Ok(_opened) => true,
-        Err((back, error)) => {
-            let is_kept = error == OpenError::NoMemory && back.len() == 1;
-            back.open().is_ok() && is_kept
-        }
-    }
+    let Some((back, error)) = list.open().err() else {
+        return true;
+    };
+    let is_kept = error == OpenError::NoMemory && back.len() == 1;
+    is_opened(back) && is_kept
 }
 
 #[test]
@@ -150,23 +152,38 @@ fn room_is_made_again(rt: HostRuntime) {
     assert!(rt; pushes_again(&mut list, 5) && reserves_again(&mut list) && has(&list, 0, 5));
 }
 
+// The place of a value that is appended, or the value that came back without memory.
+fn appended_at<R: Wait>(
+    rt: &R,
+    vector: &Shared<u64>,
+    hand: &mut Hand<u64>,
+    value: u64,
+) -> Result<u64, Option<u64>>
+    requires ours { IsHandOf vector.now hand.old }
+    ensures of { hand.new.of ≡ hand.old.of }
+    ensures shares { hand.new.shares ≡ hand.old.shares }
+{
+    let pushed = vector.push_back(rt, hand, value);
+    let told = match &pushed {
+        Ok(placed) => Ok(placed.place()),
+        Err(GrowError::NoMemory { back }) => Err(Some(*back)),
+        Err(_refused) => Err(None),
+    };
+    drop(pushed);
+    told
+}
+
 // Tests whether a value is appended at the place of its number, at the second try if need be.
 fn appends_again<R: Wait>(rt: &R, vector: &Shared<u64>, hand: &mut Hand<u64>, value: u64) -> bool
     requires ours { IsHandOf vector.now hand.old }
     ensures of { hand.new.of ≡ hand.old.of }
     ensures shares { hand.new.shares ≡ hand.old.shares }
 {
-    match vector.push_back(rt, hand, value) {
-        Ok(placed) => placed.place() == value,
-        Err(GrowError::NoMemory { back }) => {
-            vector.size(hand) == value
-                && back == value
-                && match vector.push_back(rt, hand, back) {
-                    Ok(placed) => placed.place() == value,
-                    Err(_refused) => false,
-                }
-        }
-        Err(_refused) => false,
+    match appended_at(rt, vector, hand, value) {
+        Ok(place) => place == value,
+        Err(back) => back == Some(value)
+            && vector.size(hand) == value
+            && appended_at(rt, vector, hand, value) == Ok(value),
     }
 }
 

@@ -1,6 +1,9 @@
 // Writers with a buffer: that they append what they buffered, and give it back if there is no room.
+ghost use Rattle.std.specs.Prelude.{◌≡◌, ◌<◌, [], IsTrue, IfSome};
+ghost use Rattle.grow_core.specs.Vector.{IsHandOf};
+
 use super::writers::shows_below;
-use grow_core::{GrowError, Never};
+use grow_core::{GrowError, Hand, Never, Shared};
 use quiet_core::Quiet;
 use span_core::{BufferedWriter, Writer};
 use std::alloc::Global;
@@ -36,10 +39,13 @@ pub(super) fn push_one<R: Wait>(
     writer: &mut BufferedWriter<'_, u64>,
     value: u64,
 ) -> Result<(), &'static str> {
-    match writer.push(rt, value) {
+    let pushed = writer.push(rt, value);
+    let told = match &pushed {
         Ok(_appended) => Ok(()),
-        Err((refused, _back)) => Err(reason(&refused)),
-    }
+        Err((refused, _back)) => Err(reason(refused)),
+    };
+    drop(pushed);
+    told
 }
 
 // Appends what is buffered, or says why that is refused.
@@ -47,10 +53,13 @@ pub(super) fn flush_all<R: Wait>(
     rt: &R,
     writer: &mut BufferedWriter<'_, u64>,
 ) -> Result<(), &'static str> {
-    match writer.flush(rt) {
-        Ok(_appended) => Ok(()),
-        Err(refused) => Err(reason(&refused)),
-    }
+    let appended = writer.flush(rt);
+    let told = match &appended {
+        Ok(_run) => Ok(()),
+        Err(refused) => Err(reason(refused)),
+    };
+    drop(appended);
+    told
 }
 
 // Tests whether a full vector leaves what is buffered, and gives back a value that finds the buffer full.
@@ -66,16 +75,31 @@ fn gives_back<R: Wait>(rt: &R, writer: &mut BufferedWriter<'_, u64>, bound: u64)
 }
 
 // Tests whether n numbers fill a vector through a buffer of this bound, and others stay in the buffer.
+fn fills_vector<R: Wait>(
+    rt: &R,
+    alloc: Global,
+    vector: &Shared<u64>,
+    hand: Hand<u64>,
+    bound: usize,
+    n: u64,
+) -> bool
+    requires ours { IsHandOf vector.now hand }
+    requires some { 0 < bound }
+{
+    let mut writer = BufferedWriter::new(alloc, Writer::new(vector, hand), bound);
+    let is_filled = push_below(rt, &mut writer, n) == Ok(()) && shows_below(vector, n);
+    let is_back = gives_back(rt, &mut writer, bound as u64);
+    let (_writer, left) = writer.into_parts();
+    is_filled && is_back && left.len() == bound && shows_below(vector, n)
+}
+
+// The same of a new vector with a limit of n.
 fn fills<R: Wait>(rt: &R, alloc: Global, bound: usize, n: u64) -> Option<bool> {
     if bound == 0 || n == 0 || n > 1000 {
         return None;
     }
     let (vector, hand) = Quiet::new(alloc, n).open().ok()?;
-    let mut writer = BufferedWriter::new(alloc, Writer::new(&vector, hand), bound);
-    let is_filled = push_below(rt, &mut writer, n) == Ok(()) && shows_below(&vector, n);
-    let is_back = gives_back(rt, &mut writer, bound as u64);
-    let (_writer, left) = writer.into_parts();
-    Some(is_filled && is_back && left.len() == bound && shows_below(&vector, n))
+    Some(fills_vector(rt, alloc, &vector, hand, bound, n))
 }
 
 // The bounds of buffers, and how many numbers fill the vector: whole runs, and runs with a shorter one at the end.
@@ -91,14 +115,35 @@ fn buffered_numbers_fill_a_vector_to_its_limit(rt: HostRuntime) {
     }
 }
 
+// Pushes a value and flushes, and returns whether that was done.
+fn is_flushed<R: Wait>(rt: &R, writer: &mut BufferedWriter<'_, u64>) -> bool
+    ensures flushed { IsTrue result → writer.new.buffered ≡ [] }
+    ensures vector { writer.new.writer.vector ≡ writer.old.writer.vector }
+{
+    writer.push(rt, 5).is_ok() && writer.flush(rt).is_ok()
+}
+
+// The hand of a writer that was flushed.
+fn hand_after_flush<R: Wait>(
+    rt: &R,
+    alloc: Global,
+    vector: &Shared<u64>,
+    hand: Hand<u64>,
+) -> Option<Hand<u64>>
+    requires ours { IsHandOf vector.now hand }
+    ensures ours { IfSome result (IsHandOf vector.now) }
+{
+    let mut writer = BufferedWriter::new(alloc, Writer::new(vector, hand), 2);
+    if !is_flushed(rt, &mut writer) {
+        return None;
+    }
+    Some(writer.into_writer().into_hand())
+}
+
 // The length of the list that a vector is closed into after a push and a flush.
 fn len_of_closed<R: Wait>(rt: &R, alloc: Global) -> Option<u64> {
     let (vector, hand) = Quiet::new(alloc, 8).open().ok()?;
-    let mut writer = BufferedWriter::new(alloc, Writer::new(&vector, hand), 2);
-    if writer.push(rt, 5).is_err() || writer.flush(rt).is_err() {
-        return None;
-    }
-    let hand = writer.into_writer().into_hand();
+    let hand = hand_after_flush(rt, alloc, &vector, hand)?;
     Some(Quiet::try_close(vector, hand).ok()?.len())
 }
 

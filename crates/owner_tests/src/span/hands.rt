@@ -160,19 +160,34 @@ fn the_vector_closes_if_growths_or_workers_are_refused(rt: HostRuntime) {
     assert!(rt; stuck == Some((Err(Refusal::Stuck), 60)));
 }
 
+// Splits a hand with `shares` off, and `n` hands off that.
+fn split_evenly(
+    alloc: Global,
+    vector: &Shared<u64>,
+    rest: &mut Hand<u64>,
+    shares: u32,
+    n: u32,
+) -> Option<(u32, u32)>
+    requires ours { IsHandOf vector.now rest.old }
+    requires fewer { shares < rest.old.shares }
+    requires enough { n < shares }
+{
+    let mut hand = vector.split(rest, shares);
+    let hands = split_even(alloc, vector, &mut hand, n).ok()?;
+    let each = match hands.last() {
+        Some(last) => last.share(),
+        None => 0,
+    };
+    Some((each, hand.share()))
+}
+
 // The shares of each of `n` hands, and of what is left of one that had `shares`, if the parts are even.
 fn even_shares(alloc: Global, shares: u32, n: u32) -> Option<(u32, u32)> {
     if n >= shares || shares > 65_535 {
         return None;
     }
     let (vector, mut rest) = Quiet::<u64>::new(alloc, 8).open().ok()?;
-    let mut hand = vector.split(&mut rest, shares);
-    let hands = split_even(alloc, &vector, &mut hand, n).ok()?;
-    let each = match hands.last() {
-        Some(last) => last.share(),
-        None => 0,
-    };
-    Some((each, hand.share()))
+    split_evenly(alloc, &vector, &mut rest, shares, n)
 }
 
 // Shares, how many hands are split off, the shares of each, and those that are left.

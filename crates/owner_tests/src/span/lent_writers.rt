@@ -1,8 +1,10 @@
 // Workers that append by a writer each. Nothing is proved of their shares: each test closes the vector if the
 // hand is whole.
 ghost use Rattle.std.specs.Prelude.{◌<◌, ◌≤◌};
+ghost use Rattle.grow_core.specs.Vector.{IsHandOf};
 
 use super::hands::are_all;
+use grow_core::{Hand, Shared};
 use quiet_core::Quiet;
 use span_core::{Free, Gate, PairGate, Refusal, Tie, Writer, WriterJob, with_writers};
 use std::alloc::Global;
@@ -45,6 +47,16 @@ impl<'a, R: Wait> WriterJob<u64, u32, u32> for Appends<'a, R> {
 // shares that the hand had.
 type Written<A> = (Result<Vec<A>, Refusal<u32>>, Result<u64, u32>);
 
+// The length of the list of a vector, or the shares of a hand that is not whole.
+pub(super) fn len_or_shares(vector: Shared<u64>, hand: Hand<u64>) -> Result<u64, u32>
+    requires { IsHandOf vector hand }
+{
+    match Quiet::try_close(vector, hand) {
+        Ok(list) => Ok(list.len()),
+        Err((_vector, hand)) => Err(hand.share()),
+    }
+}
+
 // Lets workers write to a new vector.
 pub(super) fn write_new<
     R: Threads + Wait + Sync,
@@ -59,10 +71,7 @@ pub(super) fn write_new<
     }
     let (vector, mut hand) = Quiet::new(alloc, limit).open().ok()?;
     let told = with_writers(rt, alloc, &vector, &mut hand, workers, job, gate);
-    match Quiet::try_close(vector, hand) {
-        Ok(list) => Some((told, Ok(list.len()))),
-        Err((_vector, hand)) => Some((told, Err(hand.share()))),
-    }
+    Some((told, len_or_shares(vector, hand)))
 }
 
 // The same of workers that append. Returns whether each returned its number, in order.

@@ -1,11 +1,11 @@
 // Any one allocation may be refused: then the loop says so, and the next one succeeds. `tests/refuse-memory`
 // refuses each request in turn.
-ghost use Rattle.std.specs.Prelude.{◌≡◌};
+ghost use Rattle.std.specs.Prelude.{◌≡◌, ◌<◌};
 ghost use Rattle.grow_core.specs.Vector.{IsHandOf};
 
 use super::buffered_writers::{flush_all, push_one};
 use super::hands::{Task, append_by, append_to_new};
-use super::lent_writers::{Appends, Meets, write_new};
+use super::lent_writers::{Appends, Meets, len_or_shares, write_new};
 use super::writer_calls::{LIMIT, fills};
 use super::writers::shows_below;
 use super::{maps, sum_of};
@@ -101,18 +101,31 @@ fn nobody_works_if_a_thread_cannot_be_started(rt: HostRuntime) {
     assert!(rt; both_work_or_neither(&rt, rt.alloc()));
 }
 
-// Three workers with a writer each append a value, and try again if there was no memory. Returns whether all
-// returned, and the length of the closed list.
+// Tests whether three workers with a writer each append a value, at the second try if there was no memory.
+fn are_written_again<R: Threads + Wait + Sync>(
+    rt: &R,
+    alloc: Global,
+    vector: &Shared<u64>,
+    hand: &mut Hand<u64>,
+) -> bool
+    requires ours { IsHandOf vector.now hand.old }
+    requires fewer { 3 < hand.old.shares }
+    ensures of { hand.new.of ≡ hand.old.of }
+{
+    let job = Appends::new(rt, 1, 3);
+    if with_writers(rt, alloc, vector, hand, 3, &job, &Free).is_ok() {
+        return true;
+    }
+    with_writers(rt, alloc, vector, hand, 3, &job, &Free).is_ok()
+}
+
+// The same on a new vector. Returns the length of the closed list as well.
 fn write_again<R: Threads + Wait + Sync>(rt: &R, alloc: Global) -> Option<(bool, u64)> {
     let (vector, mut hand) = Quiet::new(alloc, 100).open().ok()?;
-    let job = Appends::new(rt, 1, 3);
-    let mut told = with_writers(rt, alloc, &vector, &mut hand, 3, &job, &Free);
-    if told.is_err() {
-        told = with_writers(rt, alloc, &vector, &mut hand, 3, &job, &Free);
-    }
-    match Quiet::try_close(vector, hand) {
-        Ok(list) => Some((told.is_ok(), list.len())),
-        Err(_lost) => Some((false, 0)),
+    let are_done = are_written_again(rt, alloc, &vector, &mut hand);
+    match len_or_shares(vector, hand) {
+        Ok(len) => Some((are_done, len)),
+        Err(_shares) => Some((false, 0)),
     }
 }
 

@@ -83,25 +83,34 @@ fn found_by<R: Threads + Wait + Sync, G: Gate + Sync>(
 }
 
 // Tests whether each of these numbers of workers finds all values: the numbers below the size.
-fn find_all<R: Threads + Wait + Sync + AllocGlobal + Abort>(
+fn find_all_of<R: Threads + Wait + Sync>(
     rt: &R,
+    alloc: Global,
+    vector: &Shared<u64>,
     size: u64,
     numbers: &[u32],
 ) -> bool {
-    let Ok((vector, _hand)) = numbered(rt, size).open() else {
-        return false;
-    };
     let wanted = Found {
         sum: size.wrapping_mul(size.saturating_sub(1)) / 2,
         places: size,
         are_own: true,
     };
     for workers in numbers {
-        if found_by(rt, rt.alloc(), &vector, *workers, &Free) != Ok(wanted) {
+        if found_by(rt, alloc, vector, *workers, &Free) != Ok(wanted) {
             return false;
         }
     }
     true
+}
+
+// The same of a new vector.
+fn find_all<R: Threads + Wait + Sync + AllocGlobal + Abort>(
+    rt: &R,
+    size: u64,
+    numbers: &[u32],
+) -> Option<bool> {
+    let (vector, _hand) = numbered(rt, size).open().ok()?;
+    Some(find_all_of(rt, rt.alloc(), &vector, size, numbers))
 }
 
 static NUMBERS: [u32; 5] = [1, 2, 3, 7, 64];
@@ -109,31 +118,31 @@ static NUMBERS: [u32; 5] = [1, 2, 3, 7, 64];
 #[test]
 fn workers_find_each_place_once(rt: HostRuntime) {
     for size in [0u64, 1, 4095, 4096, 4097, 50_000] {
-        assert!(rt; find_all(&rt, size, NUMBERS.as_slice()), "{size}");
+        assert!(rt;
+            find_all(&rt, size, NUMBERS.as_slice()) == Some(true),
+            "{size}"
+        );
     }
 }
 
 #[test]
 fn four_workers_find_two_million_places(rt: HostRuntime) {
-    assert!(rt; find_all(&rt, (1 << 21) + 5, &[4]));
+    assert!(rt; find_all(&rt, (1 << 21) + 5, &[4]) == Some(true));
 }
 
-// Tests whether no worker walks, for this reason.
-fn is_refused<R: Threads + Wait + Sync + AllocGlobal + Abort, G: Gate + Sync>(
+// Why no worker walks, if none does.
+fn refusal_of<R: Threads + Wait + Sync + AllocGlobal + Abort, G: Gate + Sync>(
     rt: &R,
     workers: u32,
     gate: &G,
-    reason: ParError,
-) -> bool {
-    let Ok((vector, _hand)) = numbered(rt, 10).open() else {
-        return false;
-    };
-    found_by(rt, rt.alloc(), &vector, workers, gate) == Err(reason)
+) -> Option<ParError> {
+    let (vector, _hand) = numbered(rt, 10).open().ok()?;
+    found_by(rt, rt.alloc(), &vector, workers, gate).err()
 }
 
 #[test]
 fn no_worker_walks_if_there_are_none_or_too_many_or_the_gate_stays_shut(rt: HostRuntime) {
-    assert!(rt; is_refused(&rt, 0, &Free, ParError::BadWorkers));
-    assert!(rt; is_refused(&rt, 65, &Free, ParError::BadWorkers));
-    assert!(rt; is_refused(&rt, 1, &PairGate::new(100), ParError::Stuck));
+    assert!(rt; refusal_of(&rt, 0, &Free) == Some(ParError::BadWorkers));
+    assert!(rt; refusal_of(&rt, 65, &Free) == Some(ParError::BadWorkers));
+    assert!(rt; refusal_of(&rt, 1, &PairGate::new(100)) == Some(ParError::Stuck));
 }

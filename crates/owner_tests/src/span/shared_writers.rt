@@ -96,18 +96,28 @@ fn reads(writer: &SharedWriter<u64>, place: u64) -> bool {
     }
 }
 
-// Tests whether a vector has room for eight numbers, and shows them.
-fn takes_eight<R: Wait>(rt: &R, alloc: Global) -> Option<bool> {
+// A writer of a new vector with a limit of eight.
+fn writer_of_eight(alloc: Global) -> Option<SharedWriter<u64>> {
     let (vector, hand) = Quiet::new(alloc, 8).open().ok()?;
-    let mut writer = SharedWriter::new(Arc::new(alloc, vector).ok()?, hand);
-    let three = Vec::from_slice(alloc, &[1, 2, 3]).ok()?;
-    let next = Vec::from_slice(alloc, &[4, 5, 6]).ok()?;
-    let is_filled = appends_eight(rt, &mut writer, three, next);
+    Some(SharedWriter::new(Arc::new(alloc, vector).ok()?, hand))
+}
+
+// Tests whether a full vector shows eight numbers, and gives a ninth one back.
+fn has_eight<R: Wait>(rt: &R, writer: &mut SharedWriter<u64>) -> bool {
     let is_full = matches!(
         writer.push_back(rt, 9),
         Err(GrowError::Full { size: 8, back: 9 })
     );
-    Some(is_filled && is_full && reads(&writer, 3) && shows_below(writer.vector(), 8))
+    is_full && reads(writer, 3) && shows_below(writer.vector(), 8)
+}
+
+// Tests whether a vector has room for eight numbers, and shows them.
+fn takes_eight<R: Wait>(rt: &R, alloc: Global) -> Option<bool> {
+    let three = Vec::from_slice(alloc, &[1, 2, 3]).ok()?;
+    let next = Vec::from_slice(alloc, &[4, 5, 6]).ok()?;
+    let mut writer = writer_of_eight(alloc)?;
+    let is_filled = appends_eight(rt, &mut writer, three, next);
+    Some(is_filled && has_eight(rt, &mut writer))
 }
 
 #[test]

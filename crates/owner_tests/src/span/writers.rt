@@ -27,13 +27,17 @@ pub(super) fn shows_below(vector: &Shared<u64>, n: u64) -> bool {
     next == n
 }
 
-// Tests whether a new vector takes exactly 100 numbers by a writer.
+// Tests whether a vector takes exactly 100 numbers by a writer.
+fn takes_hundred<R: Wait>(rt: &R, writer: &mut Writer<'_, u64>) -> bool {
+    push_below(rt, writer, 100)
+        && writer.push_back(rt, 100).is_err()
+        && shows_below(writer.vector(), 100)
+}
+
+// The same of a new vector with this limit.
 fn fills<R: Wait>(rt: &R, alloc: Global) -> Option<bool> {
     let (vector, hand) = Quiet::new(alloc, 100).open().ok()?;
-    let mut writer = Writer::new(&vector, hand);
-    let filled = push_below(rt, &mut writer, 100);
-    let refused = writer.push_back(rt, 100).is_err();
-    Some(filled && refused && shows_below(&vector, 100))
+    Some(takes_hundred(rt, &mut Writer::new(&vector, hand)))
 }
 
 #[test]

@@ -8,7 +8,7 @@ ghost use Rattle.std.specs.Sync.Atomic.Pointer.{atomic_ptr_value, atomic_ptr_hol
 ghost use Rattle.std.specs.declared.option.Option.{Option};
 ghost use Rattle.std.specs.declared.option.Option.TheVariants.{None, Some};
 ghost use Rattle.tie_core.specs.Tie.{Tie};
-ghost use Rattle.table_core.specs.Entry.{EntryView, entry_coded, noted, Agrees, length_of, name_of, tie_of};
+ghost use Rattle.table_core.specs.Entry.{EntryView, entry_coded, noted, Agrees, length_of, name_of, tie_of, mould_at};
 ghost use Rattle.table_core.specs.TiedEntry.{entry_owned, entry_shared};
 
 mod tied;
@@ -138,7 +138,8 @@ impl<B: Measured> Entry<B> {
     // Gives an entry that is owned a name that the other has not.
     pub(crate) fn rename(&mut self, other: &mut Entry<B>)
         ensures { (name_of self.new ≢ name_of other.old) × (length_of self.new ≡ length_of self.old)
-            × (tie_of self.new ≡ tie_of self.old) × (other.new ≡ other.old) }
+            × (tie_of self.new ≡ tie_of self.old) × (mould_at self.new ≡ mould_at self.old)
+            × (other.new ≡ other.old) }
     {}
 
     // Takes the pointer of a box out.

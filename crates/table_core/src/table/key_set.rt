@@ -7,8 +7,9 @@ ghost use Rattle.table_core.specs.Sights.{IsSameSight, sight_in};
 
 use crate::entry::{Entry, EntrySight};
 use crate::table::Key;
-use cell_core::block::Block;
+use cell_core::block::{Block, Kind};
 use seg_core::{Layout, MOST_SEGMENTS};
+use std::alloc::Global;
 use std::marker::Model;
 use std::{array, fmt};
 
@@ -95,7 +96,8 @@ fn sight_at(sights: &Sights, at: usize) -> EntrySight<Block<()>>
 fn sights_with(sights: &Sights, at: usize, sight: &EntrySight<Block<()>>) -> Sights
     requires within { at < most_segments }
     ensures here { IsSameSight (sight_in result at) sight.now }
-    ensures others { (k : ℕ) → k < most_segments → k ≢ at → IsSameSight (sight_in result k) (sight_in sights.now k) }
+    ensures others { (k : ℕ) → k < most_segments → k ≢ at
+        → IsSameSight (sight_in result k) (sight_in sights.now k) }
 {
     array::from_fn(
         |k: usize| -> EntrySight<Block<()>>
@@ -113,8 +115,9 @@ fn sights_with(sights: &Sights, at: usize, sight: &EntrySight<Block<()>>) -> Sig
 }
 
 // Sights of the entries that know nothing yet.
-pub(crate) fn no_sights<T>(entries: &[Entry<Block<T>>; MOST_SEGMENTS]) -> Sights
-    ensures { (k : ℕ) → k < most_segments → (sight_in result k).of ≡ slice_index (map name_of entries.now) k }
+pub(crate) fn no_sights<T, B: Kind>(entries: &[Entry<Block<T, Global, B>>; MOST_SEGMENTS]) -> Sights
+    ensures { (k : ℕ) → k < most_segments
+        → (sight_in result k).of ≡ slice_index (map name_of entries.now) k }
 {
     array::from_fn(
         |k: usize| -> EntrySight<Block<()>>

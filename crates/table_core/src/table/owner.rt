@@ -1,8 +1,8 @@
 // Calls of an exclusive owner of the blocks.
 ghost use Rattle.std.specs.Prelude.{◌≡◌, ◌≢◌, ◌<◌, Some, None, slice_index, MatchOption, IfSome, IsSome, IsTrue};
 ghost use Rattle.table_core.specs.Entry.{Agrees};
-ghost use Rattle.table_core.specs.Table.{IsBlockOf, IsKeyIn, IsKeyOf, KeepsOtherEntries, RenewsEntry};
-ghost use Rattle.seg_core.specs.Segment.{segment_count, most_segments};
+ghost use Rattle.table_core.specs.Table.{IsBlockOf, IsKeyIn, IsKeyOf, KeepsOtherBonds, KeepsOtherEntries, RenewsEntry, entry_tie};
+ghost use Rattle.seg_core.specs.Segment.{segment_count};
 
 use crate::entry::{Entry, EntrySight};
 use crate::table::{Key, Table, empty_entry};
@@ -14,9 +14,7 @@ use std::mem::replace;
 // A block that was taken out of its entry, and is not back.
 #[derive(Drop)]
 pub(crate) struct Lent<T, B: Kind = Plain> {
-    pub(crate) segment: u32,
     pub(crate) block: Box<Block<T, Global, B>>,
-    ghost within: { segment < most_segments },
 }
 
 // An entry that is known to be set.
@@ -27,30 +25,33 @@ pub(crate) struct Held {
     ghost set: { sight.known ≢ None },
 }
 
-// Tests whether the entry's block is lent, and as long as its segment.
-fn is_out<T>(lent: &Option<Lent<T>>, layout: Layout, segment: u32) -> bool
+// Tests whether the block that is lent is as long as the segment.
+fn has_length_of<T, B: Kind>(lent: &Option<Lent<T, B>>, layout: Layout, segment: u32) -> bool
     requires { segment < segment_count layout }
     ensures length { IsTrue result → IfSome lent.now (λ l. IsBlockOf layout segment l.block.value) }
     ensures some { IsTrue result → IsSome lent.now }
 {
     match lent {
-        Some(lent) => lent.segment == segment && lent.block.len() == layout.len(segment),
+        Some(lent) => lent.block.len() == layout.len(segment),
         None => false,
     }
 }
 
-impl<T: Drop> Table<T> {
+impl<T: Drop, B: Kind> Table<T, B> {
     ghost use Rattle.std.specs.Borrow.{sem};
     ghost use Rattle.table_core.specs.Lending.{LendsBlock};
 
     /// Puts the block that `block_mut` lent back into its entry if it is still as long as the segment, and
     /// drops it otherwise. The other exclusive calls do so too.
+    #[tactic(auto, using(crate::proofs::Bonds::lending))]
     pub fn put_back(&mut self)
         ensures layout { self.new.layout ≡ self.old.layout }
         ensures names { self.new.names ≡ self.old.names }
+        ensures bonds { self.new.bonds ≡ self.old.bonds }
         ensures back { self.new.lent ≡ None }
     {
-        if let Some(Lent { segment, block }) = self.lent.take() {
+        let out = self.out.take();
+        if let (Some(segment), Some(Lent { block })) = (out, self.lent.take()) {
             if segment < self.layout.segments() && block.len() == self.layout.len(segment) {
                 let entry = &self.entries[segment as usize];
                 drop(entry.set(block, &mut entry.sight()));
@@ -60,13 +61,19 @@ impl<T: Drop> Table<T> {
 
     // Makes the entry a new one, and gives the block that it had, or that was lent of it: for a sight of it
     // that knows a block, that one.
-    #[tactic(auto, using(crate::proofs::Names::names_kept, crate::proofs::Names::renamed_there))]
-    fn take_out(&mut self, segment: u32, sight: &EntrySight<Block<T>>) -> Option<Box<Block<T>>>
+    #[tactic(auto, using(crate::proofs::Bonds::replaced))]
+    fn take_out(
+        &mut self,
+        segment: u32,
+        sight: &EntrySight<Block<T, Global, B>>,
+    ) -> Option<Box<Block<T, Global, B>>>
         requires within { segment < segment_count self.old.layout }
         requires of { slice_index self.old.names segment ≡ sight.now.of }
         ensures layout { self.new.layout ≡ self.old.layout }
         ensures others { KeepsOtherEntries self.old self.new segment }
         ensures another { RenewsEntry self.old self.new segment }
+        ensures bonds { KeepsOtherBonds self.old self.new segment }
+        ensures untied { entry_tie self.new segment ≡ None }
         ensures none_lent { self.new.lent ≡ None }
         ensures length { IfSome result (λ block. IsBlockOf self.old.layout segment block.value) }
         ensures block { MatchOption result (sight.now.known ≡ None)
@@ -74,13 +81,13 @@ impl<T: Drop> Table<T> {
     {
         self.put_back();
         self.held = None;
-        let mut new = empty_entry(self.alloc, self.layout, segment);
+        let mut new: Entry<Block<T, Global, B>> = empty_entry(self.alloc, self.layout, segment);
         new.rename(&mut self.entries[segment as usize]);
         replace(&mut self.entries[segment as usize], new).into_box(sight)
     }
 
     // Returns a sight of the entry. After `holds_now` it knows the entry's block.
-    fn sight(&self, segment: u32) -> EntrySight<Block<T>>
+    fn sight(&self, segment: u32) -> EntrySight<Block<T, Global, B>>
         requires { segment < segment_count self.now.layout }
         ensures of { slice_index self.now.names segment ≡ result.of }
         ensures known { self.now.held ≡ Some segment → result.known ≢ None }
@@ -92,19 +99,24 @@ impl<T: Drop> Table<T> {
     }
 
     // The block of the entry, taken out of it or out before.
-    fn lend(&mut self, segment: u32) -> Option<Lent<T>>
+    #[tactic(auto, using(crate::proofs::Bonds::lending))]
+    fn lend(&mut self, segment: u32) -> Option<Lent<T, B>>
         requires { segment < segment_count self.old.layout }
         ensures layout { self.new.layout ≡ self.old.layout }
         ensures others { KeepsOtherEntries self.old self.new segment }
+        ensures bonds { KeepsOtherBonds self.old self.new segment }
         ensures there { self.old.held ≡ Some segment → IsSome result }
         ensures length { IfSome result (λ l. IsBlockOf self.old.layout segment l.block.value) }
     {
-        if is_out(&self.lent, self.layout, segment) {
+        if self.out == Some(segment) && has_length_of(&self.lent, self.layout, segment) {
             return self.lent.take();
         }
         let sight = self.sight(segment);
         match self.take_out(segment, &sight) {
-            Some(block) => Some(Lent { segment, block }),
+            Some(block) => {
+                self.out = Some(segment);
+                Some(Lent { block })
+            }
             None => None,
         }
     }
@@ -117,6 +129,7 @@ impl<T: Drop> Table<T> {
         ensures length { IfSome result (λ key. IsBlockOf self.old.layout segment key.block) }
         ensures layout { self.new.layout ≡ self.old.layout }
         ensures names { self.new.names ≡ self.old.names }
+        ensures bonds { self.new.bonds ≡ self.old.bonds }
         ensures back { self.new.lent ≡ None }
     {
         self.put_back();
@@ -133,6 +146,7 @@ impl<T: Drop> Table<T> {
         ensures held { self.new.held ≡ Some key.now.segment }
         ensures layout { self.new.layout ≡ self.old.layout }
         ensures names { self.new.names ≡ self.old.names }
+        ensures bonds { self.new.bonds ≡ self.old.bonds }
         ensures lent { self.new.lent ≡ self.old.lent }
     {
         self.held = Some(Held {
@@ -141,11 +155,11 @@ impl<T: Drop> Table<T> {
         });
     }
 
-    /// Lends the entry's block if it is set. The entry then has a fresh name, and shows its block to shared
+    /// Lends the entry's block if it is set. The entry then has a fresh name and no tie, and shows its block to shared
     /// calls only from the next exclusive call on.
-    pub fn block_mut(&mut self, segment: u32) -> Option<&mut Block<T>>
+    pub fn block_mut(&mut self, segment: u32) -> Option<&mut Block<T, Global, B>>
         requires { segment < segment_count self.old.layout }
-        ensures* others { sem 𝓛 (LendsBlock T.row self.entry segment result) }
+        ensures* others { sem 𝓛 (LendsBlock T.row B.row B.Kind self.entry segment result) }
         ensures length { IfSome result (λ block. IsBlockOf self.old.layout segment block.now) }
         ensures there { self.old.held ≡ Some segment → IsSome result }
     {
@@ -156,15 +170,17 @@ impl<T: Drop> Table<T> {
         }
     }
 
-    /// Takes the key's block out of its entry, which is then not set and has a fresh name. It takes no
+    /// Takes the key's block out of its entry, which is then not set and has a fresh name and no tie. It takes no
     /// memory.
-    pub fn detach(&mut self, key: &Key) -> Box<Block<T>>
+    pub fn detach(&mut self, key: &Key) -> Box<Block<T, Global, B>>
         requires { IsKeyIn self.old key.now }
         ensures block { result.value ≡ key.now.block }
         ensures length { IsBlockOf self.old.layout key.now.segment result.value }
         ensures layout { self.new.layout ≡ self.old.layout }
         ensures others { KeepsOtherEntries self.old self.new key.now.segment }
         ensures another { RenewsEntry self.old self.new key.now.segment }
+        ensures bonds { KeepsOtherBonds self.old self.new key.now.segment }
+        ensures untied { entry_tie self.new key.now.segment ≡ None }
         ensures none_lent { self.new.lent ≡ None }
     {
         let sight = key.sight.again();
@@ -175,14 +191,16 @@ impl<T: Drop> Table<T> {
     }
 
     /// Sets the entry to the block and returns the entry's key. A block that it was set to before is dropped.
-    /// It takes no memory.
-    #[tactic(auto, using(crate::proofs::Names::names_kept, crate::proofs::Names::name_there))]
-    pub fn attach(&mut self, segment: u32, block: Box<Block<T>>) -> Key
+    /// The entry then has no tie. It takes no memory.
+    #[tactic(auto, using(crate::proofs::Bonds::attached))]
+    pub fn attach(&mut self, segment: u32, block: Box<Block<T, Global, B>>) -> Key
         requires within { segment < segment_count self.old.layout }
         requires length { IsBlockOf self.old.layout segment block.value }
         ensures key { IsKeyOf self.new segment block.value result }
         ensures layout { self.new.layout ≡ self.old.layout }
         ensures others { KeepsOtherEntries self.old self.new segment }
+        ensures bonds { KeepsOtherBonds self.old self.new segment }
+        ensures untied { entry_tie self.new segment ≡ None }
         ensures lent { self.new.lent ≡ self.old.lent }
     {
         let (entry, sight) = Entry::filled(block);
@@ -195,12 +213,14 @@ impl<T: Drop> Table<T> {
         }
     }
 
-    /// Drops the entry's block. The entry is then not set and has a fresh name.
+    /// Drops the entry's block. The entry is then not set and has a fresh name and no tie.
     pub fn give_up(&mut self, segment: u32)
         requires { segment < segment_count self.old.layout }
         ensures layout { self.new.layout ≡ self.old.layout }
         ensures others { KeepsOtherEntries self.old self.new segment }
         ensures another { RenewsEntry self.old self.new segment }
+        ensures bonds { KeepsOtherBonds self.old self.new segment }
+        ensures untied { entry_tie self.new segment ≡ None }
         ensures none_lent { self.new.lent ≡ None }
     {
         let sight = self.entries[segment as usize].sight();

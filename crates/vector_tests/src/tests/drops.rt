@@ -23,14 +23,18 @@ fn many_counted<'a>(alloc: Global, drops: &'a AtomicU64, n: u64) -> Option<Vec<C
     (0..n).map(|_number| Counted(drops)).collect(alloc).ok()
 }
 
-// Appends three values. None is dropped.
-fn push_three<'a>(two: &mut Callers<Counted<'a>>, drops: &'a AtomicU64, alloc: Global) -> bool {
-    let placed = two.push_a(Counted(drops));
-    let is_grown = match many_counted(alloc, drops, 2) {
+fn grow_two<'a>(two: &mut Callers<Counted<'a>>, drops: &'a AtomicU64, alloc: Global) -> bool {
+    match many_counted(alloc, drops, 2) {
         Some(others) => two.vector.try_grow_vec(&mut two.b, others).is_ok(),
         None => false,
-    };
-    placed.is_some() && is_grown && drops.load(Ordering::SeqCst) == 0
+    }
+}
+
+// Appends three values. None is dropped.
+fn push_three<'a>(two: &mut Callers<Counted<'a>>, drops: &'a AtomicU64, alloc: Global) -> bool {
+    two.push_a(Counted(drops)).is_some()
+        && grow_two(two, drops, alloc)
+        && drops.load(Ordering::SeqCst) == 0
 }
 
 // The same, and each is dropped once the list is.
@@ -94,11 +98,14 @@ fn append_counted<'a, R: AllocGlobal + Wait>(
     ensures of { hand.new.of ≡ hand.old.of }
 {
     let values = many_counted(rt.alloc(), drops, n)?;
-    match vector.append(rt, hand, values) {
+    let appended = vector.append(rt, hand, values);
+    let came_back = match &appended {
         Ok(_run) => Some(0),
-        Err(GrowError::Full { size: _size, back }) => Some(back.len() as u64),
+        Err(GrowError::Full { back, .. }) => Some(back.len() as u64),
         Err(_other) => None,
-    }
+    };
+    drop(appended);
+    came_back
 }
 
 // Tests whether n values are appended without any drop. If a growth finds no room, its values come back.

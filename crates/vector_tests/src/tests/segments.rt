@@ -1,5 +1,5 @@
 // What a shared vector shows segment by segment, and what a walk shows of places that are filled meanwhile.
-use super::callers::Callers;
+use super::callers::{Callers, on_two};
 use super::parts::{append, room};
 use super::ways::numbers;
 use grow_core::{Parts, Run, Shared, ShownCells};
@@ -88,20 +88,25 @@ static WITH_BROKEN_ONES: [Seen; 8] = [
     (128, 15, 0, 0),
 ];
 
-#[test]
-fn the_segments_of_a_vector_have_its_places_in_order(rt: HostRuntime) {
-    let mut two = Callers::new(&rt, 1000);
-    assert!(rt;
-        are_seen(&two.vector, &[])
-            && appends(&rt, &mut two, 100)
-            && are_seen(&two.vector, &HUNDRED)
-            && makes_few(&mut two, 43, 3)
-            && are_seen(&two.vector, &WITH_BROKEN_ONES)
-    );
+// Tests whether the segments of a new vector have its places in order, as it grows.
+fn have_their_places<R: AllocGlobal + Wait>(rt: &R, two: &mut Callers<u64>) -> bool {
+    are_seen(&two.vector, &[])
+        && appends(rt, two, 100)
+        && are_seen(&two.vector, &HUNDRED)
+        && makes_few(two, 43, 3)
+        && are_seen(&two.vector, &WITH_BROKEN_ONES)
 }
 
-// What places of the segment show: a place before the broken ones, two of them, and what is filled from each on.
-fn shows(cells: &ShownCells<'_, u64>) -> Option<[(Option<u64>, usize); 3]> {
+#[test]
+fn the_segments_of_a_vector_have_its_places_in_order(rt: HostRuntime) {
+    assert!(rt; on_two(&rt, 1000, |two| have_their_places(&rt, two)));
+}
+
+// What three places show, and how many are filled from each on.
+type Three = [(Option<u64>, usize); 3];
+
+// A place before the broken ones, and two of them.
+fn shows(cells: &ShownCells<'_, u64>) -> Option<Three> {
     if cells.len() < 6 {
         return None;
     }
@@ -109,19 +114,27 @@ fn shows(cells: &ShownCells<'_, u64>) -> Option<[(Option<u64>, usize); 3]> {
     Some([one(2), one(4), one(5)])
 }
 
+static BROKEN: Three = [(Some(1002), 2), (None, 0), (None, 0)];
+
+static MENDED: Three = [(Some(1002), 3), (Some(7), 1), (None, 0)];
+
+// Tests whether the last segment shows these.
+fn last_shows(vector: &Shared<u64>, wanted: &Three) -> bool {
+    last_of(vector).as_ref().and_then(shows) == Some(*wanted)
+}
+
+// Tests whether a stretch ends at a broken place, until that is mended.
+fn ends_where_broken<R: AllocGlobal + Wait>(rt: &R, two: &mut Callers<u64>) -> bool {
+    appends(rt, two, 16)
+        && makes_few(two, 8, 4)
+        && last_shows(&two.vector, &BROKEN)
+        && mends(two, 20, 7)
+        && last_shows(&two.vector, &MENDED)
+}
+
 #[test]
 fn a_stretch_of_filled_places_ends_at_a_broken_one(rt: HostRuntime) {
-    let mut two = Callers::new(&rt, 100);
-    assert!(rt; appends(&rt, &mut two, 16) && makes_few(&mut two, 8, 4));
-    assert_eq!(rt;
-        last_of(&two.vector).as_ref().and_then(shows),
-        Some([(Some(1002), 2), (None, 0), (None, 0)])
-    );
-    assert!(rt; mends(&mut two, 20, 7));
-    assert_eq!(rt;
-        last_of(&two.vector).as_ref().and_then(shows),
-        Some([(Some(1002), 3), (Some(7), 1), (None, 0)])
-    );
+    assert!(rt; on_two(&rt, 100, |two| ends_where_broken(&rt, two)));
 }
 
 // A place, how many places a run from there shows, and the sum of their values.
@@ -146,27 +159,34 @@ fn runs_are_shown(vector: &Shared<u64>) -> bool {
     true
 }
 
-#[test]
-fn a_shown_run_ends_with_its_segment_or_before_a_place_without_a_value(rt: HostRuntime) {
-    let mut two = Callers::new(&rt, 1000);
-    assert!(rt;
-        appends(&rt, &mut two, 100) && makes_few(&mut two, 43, 3) && runs_are_shown(&two.vector)
-    );
+// The same once a hundred places are filled, and then three of 43.
+fn runs_are_shown_then<R: AllocGlobal + Wait>(rt: &R, two: &mut Callers<u64>) -> bool {
+    appends(rt, two, 100) && makes_few(two, 43, 3) && runs_are_shown(&two.vector)
 }
 
-// A list of twenty members. The tenth is broken, and each other one is its place.
-fn twenty(alloc: Global) -> Option<Parts<u64>> {
-    let mut parts = Parts::new(alloc, 100);
-    if room(&mut parts, 20) != Ok(true) {
-        return None;
+#[test]
+fn a_shown_run_ends_with_its_segment_or_before_a_place_without_a_value(rt: HostRuntime) {
+    assert!(rt; on_two(&rt, 1000, |two| runs_are_shown_then(&rt, two)));
+}
+
+// Appends twenty members. The tenth is broken, and each other one is its place.
+fn takes_twenty(parts: &mut Parts<u64>) -> bool {
+    if room(parts, 20) != Ok(true) {
+        return false;
     }
     for place in 0..20u64 {
         let member = if place == 9 { None } else { Some(place) };
-        if !append(&mut parts, member) {
-            return None;
+        if !append(parts, member) {
+            return false;
         }
     }
-    Some(parts)
+    true
+}
+
+// The list of these members.
+fn twenty(alloc: Global) -> Option<Parts<u64>> {
+    let mut parts = Parts::new(alloc, 100);
+    takes_twenty(&mut parts).then_some(parts)
 }
 
 static TWENTY: [Seen; 5] = [
@@ -189,16 +209,19 @@ fn walked(vector: &Shared<u64>) -> (u64, u64) {
     (sum, none)
 }
 
+// Tests whether the vector that is opened on the list shows all of them.
+fn shows_twenty(vector: &Shared<u64>) -> bool {
+    are_seen(vector, &TWENTY) && walked(vector) == (181, 1) && vector.published_count() == 19
+}
+
+fn twenty_are_shown(alloc: Global) -> Option<bool> {
+    let (vector, _hand) = Shared::of_parts(twenty(alloc)?).ok()?;
+    Some(shows_twenty(&vector))
+}
+
 #[test]
 fn the_values_of_an_opened_list_are_shown_by_segments(rt: HostRuntime) {
-    let opened = twenty(rt.alloc()).and_then(|parts| Shared::of_parts(parts).ok());
-    assert!(rt;
-        opened.is_some_and(|(vector, _hand)| {
-            are_seen(&vector, &TWENTY)
-                && walked(&vector) == (181, 1)
-                && vector.published_count() == 19
-        })
-    );
+    assert!(rt; twenty_are_shown(rt.alloc()) == Some(true));
 }
 
 // A walk over three broken places. The second place is mended when the first item has come.
@@ -218,14 +241,15 @@ fn walk(two: &mut Callers<u64>) -> [Option<Option<u64>>; 4] {
     ]
 }
 
+static WALKED: [Option<Option<u64>>; 4] = [Some(None), Some(Some(7)), Some(None), None];
+
+fn walks_over_three(two: &mut Callers<u64>) -> bool {
+    makes_few(two, 3, 0) && walk(two) == WALKED
+}
+
 #[test]
 fn a_walk_shows_what_is_filled_before_its_item_is_asked_for(rt: HostRuntime) {
-    let mut two = Callers::new(&rt, 8);
-    assert!(rt; makes_few(&mut two, 3, 0));
-    assert_eq!(rt;
-        walk(&mut two),
-        [Some(None), Some(Some(7)), Some(None), None]
-    );
+    assert!(rt; on_two(&rt, 8, walks_over_three));
 }
 
 // How many places show a value: at first, once the maker has made 130 values of 200, once a broken place is mended, and
@@ -243,6 +267,5 @@ fn counts<R: AllocGlobal + Wait>(rt: &R, two: &mut Callers<u64>) -> Option<[u64;
 
 #[test]
 fn places_that_show_a_value_are_counted(rt: HostRuntime) {
-    let mut two = Callers::new(&rt, 300);
-    assert_eq!(rt; counts(&rt, &mut two), Some([0, 130, 131, 231]));
+    assert!(rt; on_two(&rt, 300, |two| counts(&rt, two) == Some([0, 130, 131, 231])));
 }

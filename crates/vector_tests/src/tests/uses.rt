@@ -158,13 +158,9 @@ fn push_and_recall(vector: Shared<u64>, mut hand: Hand<u64>, value: u64) -> Opti
     requires whole { IsWholeHand hand }
     ensures { IfSome result (λ read. read ≡ value) }
 {
-    match vector.try_push_back(&mut hand, value) {
-        Ok(placed) => {
-            let parts = vector.into_parts(hand);
-            Some(*parts.recall(&placed))
-        }
-        Err(_refused) => None,
-    }
+    let placed = vector.try_push_back(&mut hand, value).ok()?;
+    let parts = vector.into_parts(hand);
+    Some(*parts.recall(&placed))
 }
 
 // The value of a push is the closed list's member at its place, and each opened value is still at its own.

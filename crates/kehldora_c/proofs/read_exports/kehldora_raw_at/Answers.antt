@@ -1,4 +1,4 @@
-use Rattle.std.proofs.Common.{refl, sym, subst}
+use Rattle.std.proofs.Common.{refl, subst}
 use Rattle.std.specs.Prelude.{IsSomeAnd, length}
 use Rattle.kehldora_c.specs.Calls.{HasLastValue}
 use Rattle.kehldora_c.proofs.read_exports.kehldora_raw_at.Goals as goal
@@ -7,12 +7,10 @@ pub returns-in-Ok-clause-own : goal.returns-in-Ok-clause-own
 returns-in-Ok-clause-own c x last = (
   refl,
   c.in-Ok.ensures.own x
-      (subst (λ held. HasLastValue (length c.args.value.now) c.args.place x held) (sym c.deref_mut.ensures.value)
-      (subst (λ held. IsSomeAnd held (HasLastValue (length c.args.value.now) c.args.place x)) c.in-Some.ensures.held last)),
+      (subst (λ held. IsSomeAnd held (HasLastValue (length c.args.value.now) c.args.place x)) c.held_mut-held.ensures.value last),
 )
 
 pub returns-in-Err-clause-own : goal.returns-in-Err-clause-own
 returns-in-Err-clause-own c x last =
     absurd (c.in-Err.ensures.own x
-    (subst (λ held. HasLastValue (length c.args.value.now) c.args.place x held) (sym c.deref_mut.ensures.value)
-    (subst (λ held. IsSomeAnd held (HasLastValue (length c.args.value.now) c.args.place x)) c.in-Some.ensures.held last)))
+    (subst (λ held. IsSomeAnd held (HasLastValue (length c.args.value.now) c.args.place x)) c.held_mut-held.ensures.value last))

@@ -122,3 +122,37 @@ impl<B: Measured> Entry<B> {
         }
     }
 }
+
+impl<B: Measured + Drop> Entry<B> {
+    // Sets a tied entry to the block, unless another came first. It gives the entry's block, and back the one that
+    // came too late.
+    pub(crate) fn set_for<'a, 'b, X, K: EntryBook<X>>(
+        &'a self,
+        block: Box<B>,
+        sight: &mut EntrySight<B>,
+        visit: Visit<'b, X, K>,
+    ) -> (&'a B, Option<Box<B>>, Visit<'b, X, K>)
+        requires of { sight.old.of ≡ name_of self.now }
+        requires cast { (B.measure block.value ≡ length_of self.now)
+            × (B.mould block.value ≡ mould_at self.now) }
+        requires visit { (tie_of self.now ≡ Some visit.tie)
+            × (visit.brought ≡ Some (B.seat block.value)) × (visit.made ≡ None) }
+        ensures same { sight.new.of ≡ sight.old.of }
+        ensures block { (sight.new.known ≡ Some result.0.now)
+            × Agrees sight.old.known result.0.now }
+        ensures back { MatchOption result.1
+            ((result.0.now ≡ block.value) × (sight.old.known ≡ None))
+            (λ b. b.value ≡ block.value) }
+        ensures cast { (B.measure result.0.now ≡ length_of self.now)
+            × (B.mould result.0.now ≡ mould_at self.now) }
+        ensures made { MatchOption result.1 (result.2.made ≡ Some None)
+            (λ _. result.2.made ≡ Some (Some (B.seat result.0.now))) }
+        ensures visit { (result.2.tie ≡ visit.entry.tie) × (result.2.about ≡ visit.entry.about) }
+    {
+        let (first, back, visit) = self.offer_for(Loose::of(block), sight, visit);
+        match back {
+            Some(back) => (first, Some(back.into_box()), visit),
+            None => (first, None, visit),
+        }
+    }
+}

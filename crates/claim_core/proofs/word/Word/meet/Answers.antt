@@ -1,38 +1,100 @@
-use Rattle.std.proofs.Common.{◌≡◌, ◌<◌, ◌∙◌, ap, sym, arith}
-use Rattle.claim_core.specs.Seat.{ClaimSeat}
-use Rattle.claim_core.specs.SeatView.{Seated}
-use Rattle.claim_core.proofs.Kept.{spares}
-use Rattle.claim_core.proofs.Belongs.{some_words, belongs, owned_apart, held_shown, held_other}
+use Rattle.std.proofs.Common.{◌∙◌, ap, sym}
+use Rattle.claim_core.specs.Hand.{HandView}
+use Rattle.claim_core.proofs.Belongs.{is_here, belongs, pairs, held_shown, held_other}
+use Rattle.claim_core.proofs.HandSteps.{meets_on}
 use Rattle.claim_core.proofs.word.Word.meet.Goals as goal
 
-pub split_seat-spare-requires : goal.split_seat-spare-requires
-split_seat-spare-requires g c =
-    let b = belongs c.a.invariant c.self.invariant c.a.view_is c.self.view_is c.requires.ours in
-    (b.same, some_words b.words, spares _ _ _)
+pub take_seat-seat-requires : goal.take_seat-seat-requires
+take_seat-seat-requires g c = is_here c.args.a.now c.self.invariant c.self.view_is c.requires.ours
+
+pub take_seat-part-requires : goal.take_seat-part-requires
+take_seat-part-requires g c = is_here c.args.b.now c.self.invariant c.self.view_is c.requires.also_ours
+
+pub show-size-requires-clause-pair : goal.show-size-requires-clause-pair
+show-size-requires-clause-pair g c =
+    let t = c.take_seat-seat.ensures in
+    let u = c.take_seat-part.ensures in
+    pairs (belongs t.held c.self.invariant t.seat c.self.view_is c.requires.ours)
+    (belongs u.held c.self.invariant u.seat c.self.view_is c.requires.also_ours) u.held.no_slot
+
+pub put_seat-requires : goal.put_seat-requires
+put_seat-requires g c =
+    let t = c.take_seat-seat.ensures in
+    let u = c.take_seat-part.ensures in
+    let b = belongs t.held c.self.invariant t.seat c.self.view_is c.requires.ours in
+    let d = belongs u.held c.self.invariant u.seat c.self.view_is c.requires.also_ours in
+    held_shown c.show-size.ensures d.part t.held.no_slot b.part _ (ap (λ (h : HandView). h.shares) t.lent ∙ t.held.shares)
+
+pub put_seat-requires-2 : goal.put_seat-requires-2
+put_seat-requires-2 g c =
+    let t = c.take_seat-seat.ensures in
+    let u = c.take_seat-part.ensures in
+    let b = belongs t.held c.self.invariant t.seat c.self.view_is c.requires.ours in
+    let d = belongs u.held c.self.invariant u.seat c.self.view_is c.requires.also_ours in
+    held_other c.show-size.ensures b.part d.part _ (ap (λ (h : HandView). h.shares) u.lent ∙ u.held.shares)
+
+pub returns-clause-own : goal.returns-clause-own
+returns-clause-own g c =
+    let t = c.take_seat-seat.ensures in
+    let u = c.take_seat-part.ensures in
+    (meets_on t.seat u.seat t.lent u.lent c.put_seat.ensures c.put_seat-2.ensures (c.requires.ours ∙ sym c.requires.also_ours) c.show-size.ensures).own
+
+pub returns-clause-also_own : goal.returns-clause-also_own
+returns-clause-also_own g c =
+    let t = c.take_seat-seat.ensures in
+    let u = c.take_seat-part.ensures in
+    (meets_on t.seat u.seat t.lent u.lent c.put_seat.ensures c.put_seat-2.ensures (c.requires.ours ∙ sym c.requires.also_ours) c.show-size.ensures).also_own
+
+pub returns-clause-begins : goal.returns-clause-begins
+returns-clause-begins g c =
+    let t = c.take_seat-seat.ensures in
+    let u = c.take_seat-part.ensures in
+    (meets_on t.seat u.seat t.lent u.lent c.put_seat.ensures c.put_seat-2.ensures (c.requires.ours ∙ sym c.requires.also_ours) c.show-size.ensures).begins
+
+pub returns-clause-also_begins : goal.returns-clause-also_begins
+returns-clause-also_begins g c =
+    let t = c.take_seat-seat.ensures in
+    let u = c.take_seat-part.ensures in
+    (meets_on t.seat u.seat t.lent u.lent c.put_seat.ensures c.put_seat-2.ensures (c.requires.ours ∙ sym c.requires.also_ours) c.show-size.ensures).also_begins
+
+pub returns-clause-same : goal.returns-clause-same
+returns-clause-same g c =
+    let t = c.take_seat-seat.ensures in
+    let u = c.take_seat-part.ensures in
+    (meets_on t.seat u.seat t.lent u.lent c.put_seat.ensures c.put_seat-2.ensures (c.requires.ours ∙ sym c.requires.also_ours) c.show-size.ensures).same
+
+pub returns-clause-begins_log : goal.returns-clause-begins_log
+returns-clause-begins_log g c =
+    let t = c.take_seat-seat.ensures in
+    let u = c.take_seat-part.ensures in
+    (meets_on t.seat u.seat t.lent u.lent c.put_seat.ensures c.put_seat-2.ensures (c.requires.ours ∙ sym c.requires.also_ours) c.show-size.ensures).begins_log
+
+pub returns-clause-also_begins_log : goal.returns-clause-also_begins_log
+returns-clause-also_begins_log g c =
+    let t = c.take_seat-seat.ensures in
+    let u = c.take_seat-part.ensures in
+    (meets_on t.seat u.seat t.lent u.lent c.put_seat.ensures c.put_seat-2.ensures (c.requires.ours ∙ sym c.requires.also_ours) c.show-size.ensures).also_begins_log
+
+pub returns-clause-same_log : goal.returns-clause-same_log
+returns-clause-same_log g c =
+    let t = c.take_seat-seat.ensures in
+    let u = c.take_seat-part.ensures in
+    (meets_on t.seat u.seat t.lent u.lent c.put_seat.ensures c.put_seat-2.ensures (c.requires.ours ∙ sym c.requires.also_ours) c.show-size.ensures).same_log
+
+pub returns-clause-cells : goal.returns-clause-cells
+returns-clause-cells g c =
+    let t = c.take_seat-seat.ensures in
+    let u = c.take_seat-part.ensures in
+    (meets_on t.seat u.seat t.lent u.lent c.put_seat.ensures c.put_seat-2.ensures (c.requires.ours ∙ sym c.requires.also_ours) c.show-size.ensures).cells
+
+pub returns-clause-also_cells : goal.returns-clause-also_cells
+returns-clause-also_cells g c =
+    let t = c.take_seat-seat.ensures in
+    let u = c.take_seat-part.ensures in
+    (meets_on t.seat u.seat t.lent u.lent c.put_seat.ensures c.put_seat-2.ensures (c.requires.ours ∙ sym c.requires.also_ours) c.show-size.ensures).also_cells
 
 pub returns-clause-apart : goal.returns-clause-apart
 returns-clause-apart g c =
-    let shown = c.show-size.ensures in
-    let a = ap {A = Seated} (λ m. m.0.mine) shown.me in
-    let b = ap {A = Seated} (λ m. m.0.mine) shown.other_me in
-    let both = shown.looks.same.mine in
-    owned_apart c.show-size.new.seat.me.0.mine c.show-size.result.1.me.0.mine shown.looks.consistent (cc)
-
-pub invariant_of-a : goal.invariant_of-a
-invariant_of-a g c =
-    let e = c.split_seat-spare.ensures.2 in
-    let a = c.a.invariant in
-    let b = c.b.invariant in
-    let other : c.replace-seat.result.me.0.shares ≡ c.b.inside.seat.me.0.shares = ap (λ (s : ClaimSeat). s.me.0.shares) c.replace-seat.ensures.value in
-    let other_part : 0 < c.replace-seat.result.me.0.shares = omega (arith, b.shares, b.positive) in
-    let same : c.a.inside.shares ≡ c.split_seat-spare.new.seat.me.0.shares = a.shares ∙ sym (ap {A = Seated} (λ m. m.0.shares) e) in
-    held_shown c.show-size.ensures other_part (ap {A = Seated} (λ m. m.1) e ∙ a.no_slot) (omega (arith, a.positive)) _ same
-
-pub invariant_of-b : goal.invariant_of-b
-invariant_of-b g c =
-    let e = c.split_seat-spare.ensures.2 in
-    let a = c.a.invariant in
-    let b = c.b.invariant in
-    let other : c.replace-seat.result.me.0.shares ≡ c.b.inside.seat.me.0.shares = ap (λ (s : ClaimSeat). s.me.0.shares) c.replace-seat.ensures.value in
-    let same : c.a.inside.shares ≡ c.split_seat-spare.new.seat.me.0.shares = a.shares ∙ sym (ap {A = Seated} (λ m. m.0.shares) e) in
-    held_other c.show-size.ensures (omega (arith, a.positive)) (omega (arith, b.shares, b.positive)) _ (b.shares ∙ sym other)
+    let t = c.take_seat-seat.ensures in
+    let u = c.take_seat-part.ensures in
+    (meets_on t.seat u.seat t.lent u.lent c.put_seat.ensures c.put_seat-2.ensures (c.requires.ours ∙ sym c.requires.also_ours) c.show-size.ensures).apart

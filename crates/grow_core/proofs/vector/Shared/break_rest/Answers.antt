@@ -21,7 +21,7 @@ loop-place-preserved g c =
         FoldsTo-push (λ k token next. goal.K-step g k token tt next) c.args.keep.now had.0 at.keep t c.keep.new.self had.2 c.keep.ensures,
         omega (arith, length-append had.0 (t ∷ []), had.3),
       ),
-      c.next_segment-segment.ensures.segment,
+      c.next_segment.ensures.segment,
       omega arith,
       omega arith,
       search of_calls,

@@ -27,7 +27,7 @@ loop-done-preserved g c =
     let known = c.know-filled.ensures from (take at.done all) (values_from all at.done n) (record { known = at.invariant.0; next = next }) in (
       subst (λ vs. IsFilledOf v from vs c.know-filled.result) (sym (take-add at.done n all)) known,
       omega (arith, took.few),
-      c.next_segment-segment.ensures.segment,
+      c.next_segment.ensures.segment,
       omega arith,
       omega (arith, c.in-Ok.ensures.within),
     )

@@ -38,7 +38,7 @@ loop-place-preserved g c =
       ),
       took.counted,
       omega (arith, at.invariant.2, firsts, took.is.n),
-      c.next_segment-segment.ensures.segment,
+      c.next_segment.ensures.segment,
       omega arith,
       omega (arith, c.in-Ok.ensures.within),
     )

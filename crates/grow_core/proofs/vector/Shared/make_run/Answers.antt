@@ -15,8 +15,8 @@ returns-in-Err-clause-asked g c =
     (stops_at (goal.F-step g) c.args.make.now had.0 at.make c.make.new.self c.in-Err.cause at.i had.3 had.2
     (subst (λ r. goal.F-step g at.make at.i r c.make.new.self) c.in-Err.is c.make.ensures))
 
-pub next_segment-segment-requires : goal.next_segment-segment-requires
-next_segment-segment-requires g c =
+pub next_segment-requires : goal.next_segment-requires
+next_segment-requires g c =
     let at = c.loop-i in
     (omega arith, (c.requires.ours, (c.requires.owned _ (omega arith, omega arith), (omega arith, (at.invariant.1, (at.invariant.2, at.invariant.3))))))
 
@@ -63,7 +63,7 @@ loop-i-preserved g c =
     let there : token.place ≡ run.from + length had.0 = omega (arith, here, had.2) in
     let next = subst (λ (p : ℕ). IsStretchOf v p (token.value ∷ []) c.alone.result) there c.alone.ensures in
     let call = subst (λ x. goal.F-step g at.make at.i (Ok x) c.make.new.self) (sym value) (subst (λ r. goal.F-step g at.make at.i r c.make.new.self) c.in-Ok.is c.make.ensures) in
-    let segment = c.next_segment-segment.result in let others = c.fill_begun-put.result.1 in
+    let segment = c.next_segment.new.segment in let others = c.fill_begun-put.result.1 in
     let near : run.from + at.i + 1 ≡ run.from + (at.i + 1) = omega arith in let rest : run.n - at.i - 1 ≡ run.n - (at.i + 1) = omega arith in (
       (
         had.0 ++ token.value ∷ [],
@@ -71,7 +71,7 @@ loop-i-preserved g c =
         omega (arith, had.2, length-append had.0 (token.value ∷ [])),
         made_push (goal.F-step g) c.args.make.now had.0 at.make c.make.new.self token.value at.i had.3 had.2 call,
       ),
-      c.next_segment-segment.ensures.segment,
+      c.next_segment.ensures.segment,
       omega arith,
       omega arith,
       subst (λ (k : ℕ). AreBegun segment k (run.n - (at.i + 1)) others) near (subst (λ (m : ℕ). AreBegun segment (run.from + at.i + 1) m others) rest put.begun),

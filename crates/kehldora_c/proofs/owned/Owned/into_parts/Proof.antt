@@ -1,6 +1,5 @@
 -- `into_parts` moves two fields, and what they own goes with them.
-use mathlib.Core.Path.{◌≡◌, refl, sym, subst}
-use mathlib.Core.Bool.{Bool, true, false}
+use mathlib.Core.Path.{refl, sym, subst}
 use mathlib.Core.List.{List, [], ◌∷◌, ◌++◌}
 use seplogic.Ra.Ura.{Ura}
 use mir.Val.{Val}
@@ -11,9 +10,7 @@ use prog.Routine.{Routine}
 use prog.Wp.{WpFn, Tables}
 use types.Logic.{Logic}
 use Rattle.core.specs.declared.option.Option.{Option}
-use Rattle.core.specs.declared.option.Option.TheVariants.{Some, None}
 use Rattle.std.specs.Prelude.{IsSome}
-use Rattle.kehldora_c.specs.Owned.{held_owns}
 use contract.Monad.{Fun, fact}
 use contract.Running.{tables, tables_of}
 use sound.WpLaws.{WpFn-mono}
@@ -30,25 +27,13 @@ use denote.Triple.Walked.{says, Stays, stay_dropped, walk_of, ends_at, Goes-drop
 use Rattle.std_alloc.proofs.BoxSteps.Form.{D, B, word, box_typed}
 use Rattle.std_alloc.proofs.BoxSteps.Steps.{box_out, box_in}
 use Rattle.kehldora_c.proofs.AsBox.{E, FromOwned as From}
+use Rattle.kehldora_c.proofs.There.{there_of, is_there}
 use Rattle.kehldora_c.specs.contracts.owned.Owned as Owned
 use Rattle.kehldora_c.specs.contracts.held.Held as Held
 use Rattle.kehldora_c.specs.contracts.owned.Owned.into_parts as F
 use Rattle.kehldora_c.specs.contracts.owned.Owned.into_parts.Key.{name as #self}
 use Rattle.kehldora_c.proofs.owned.Owned.into_parts.Statement as stated
 use Rattle.kehldora_c.proofs.owned.Owned.into_parts.Code as code
-
-abbrev not_true : Bool → Type 0
-not_true true = ⊥
-not_true false = Unit {0}
-
-there_of : {X : Type 0} (o : Option X) → IsSome o → X
-there_of (Some x) t = x
-there_of None t = absurd (subst not_true t tt)
-
-is_there : {X : Type 0} (o : Option X) (t : IsSome o) → o ≡ Some (there_of o t)
-unfolding there_of
-is_there (Some x) t = refl
-is_there None t = absurd (subst not_true t tt)
 
 abbrev stayed : Stays (F.ended).signature.params (F.ended).kept
 stayed = (stay_dropped From yes, tt)

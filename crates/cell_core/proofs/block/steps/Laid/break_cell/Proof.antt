@@ -53,7 +53,8 @@ use denote.Triple.Walked.{Stays, stay_dropped, stay_ref, walk_of, Goes-dropped, 
 use Rattle.core.proofs.atomic.Steps.{tail}
 use Rattle.atomic_table.proofs.Walks.{proved, leaves}
 use Rattle.cell_core.specs.Slot.{Names, Rest, cell_in, state, step, room_at, word}
-use Rattle.cell_core.specs.Laid.{Extent, laid, still, lying, IsLinked, HasOneRenamed}
+use Rattle.cell_core.specs.Laid.{Extent, laid, still, lying, IsLinked, HasOneRenamed, IsFixedAt}
+use Rattle.tie_core.specs.Tie.{Broken}
 use Rattle.cell_core.specs.contracts.block.steps.Laid as loose
 use Rattle.cell_core.proofs.LaidParts as parts
 use Rattle.cell_core.specs.contracts.block.steps.Laid.break_cell.{ended, clauses}
@@ -106,7 +107,7 @@ break_cell_spec 𝓤 𝓛 𝓜 𝓡 wired T Al L _ ga da dd _ _ =
     let mb : MemberView T.Denot = record { value = None; name = δ; epoch = γ'.epoch } in let made : Mb.Denot = record { marker = record {}; of = mb } in
     use1 𝓛 (‵ (Mb.own_val made (token_val ∷ []))) (member_made 𝓛 R mb) $ sets ! (agg ! (no_more !)) refl (tt, tt) $ sets ! (agg ! (and_then ! (get ! refl) (no_more !))) refl (tt, (tt, tt)) $ move ! (1 ∷ []) $ drop ! $ move ! (1 ∷ 0 ∷ []) $
     let h' : Lo.Denot = record { marker = h.marker; heap = h.heap; rows = x; cells = set cs j γ' } in let there : cell_in h'.cells j ≡ γ' = get_or-set_same cs j γ' (record { value_name = 0; broken_name = 0; epoch = []; tied = None }) asked.2.0 in
-    let Kept : Type 0 = (h.heap ≡ h.heap) × (x ≡ h.rows) × HasOneRenamed cs j h'.cells × (γ'.epoch ≡ (cell_in h'.cells j).epoch) × (mb.value ≡ None) × (γ'.epoch ≡ ε) in
+    let Kept : Type 0 = (h.heap ≡ h.heap) × (x ≡ h.rows) × HasOneRenamed cs j h'.cells × (γ'.epoch ≡ (cell_in h'.cells j).epoch) × (mb.value ≡ None) × (γ'.epoch ≡ ε) × IsFixedAt cs j h'.cells Broken in
     move ! (2 ∷ 0 ∷ []) $ fjoin ! $ move ! (2 ∷ 0 ∷ 3 ∷ 4 ∷ 5 ∷ []) $ closes ! tt Lo h' ts b' o' $ feq_i ! (List Val) (vptr b' o' ∷ []) (vptr b' o' ∷ []) refl $ fjoin3 ! $ nothing ! $ nothing ! $ fjoin ! $ nothing ! $ fjoin ! $ nothing ! $ fjoin ! $ nothing ! $ fjoin ! $ nothing ! $ fjoin ! $ nothing ! $ fjoin ! $ move ! (1 ∷ 0 ∷ []) $ fjoin ! $ move ! (1 ∷ 3 ∷ []) $ join ! $
-    use0 𝓛 (raw (fact 𝓤 Kept)) (fact_i 𝓤 Kept (emp 𝓤) (refl, (λ l. record { at = sym asked.0.0 l; rooms = sym asked.1.0 l; words = h.rows.words; more = h.rows.more; left = h.rows.left }), (γ', new.0, refl), ap (λ (u : Names). u.epoch) (sym there), refl, new.1)) $
+    use0 𝓛 (raw (fact 𝓤 Kept)) (fact_i 𝓤 Kept (emp 𝓤) (refl, (λ l. record { at = sym asked.0.0 l; rooms = sym asked.1.0 l; words = h.rows.words; more = h.rows.more; left = h.rows.left }), (γ', new.0, refl), ap (λ (u : Names). u.epoch) (sym there), refl, new.1, rest.fixed_set cs j γ' Broken asked.2.0 new.2)) $
     returns ! (look_at ! 0 refl) $ free_all ! refl $ keep ! (1 ∷ 2 ∷ 3 ∷ 0 ∷ []) $ by ! (leaves 𝓛 En hs c y token_val made (h', (tt, (tt, (tt, (tt, (tt, (tt, tt))))))) (tt, (tt, (tt, (tt, (tt, (tt, (tt, tt))))))))))))))))))))

@@ -40,7 +40,8 @@ use denote.Triple.Walked.{Stays, stay_dropped, stay_ref, walk_of, Goes-dropped, 
 use Rattle.core.proofs.atomic.Steps.{tail}
 use Rattle.atomic_table.proofs.Walks.{proved, leaves}
 use Rattle.cell_core.specs.Slot.{Names, Rest, cell_in, state, room_at, word, free}
-use Rattle.cell_core.specs.Laid.{Extent, laid, still, lying, IsLinked, HasOneRenamed}
+use Rattle.cell_core.specs.Laid.{Extent, laid, still, lying, IsLinked, HasOneRenamed, IsFixedAt}
+use Rattle.tie_core.specs.Tie.{Idle}
 use Rattle.cell_core.specs.contracts.block.steps.Laid as loose
 use Rattle.cell_core.proofs.LaidParts as parts
 use Rattle.cell_core.specs.contracts.block.steps.Laid.empty.{ended, clauses}
@@ -79,7 +80,7 @@ empty_spec 𝓤 𝓛 𝓜 𝓡 wired T Al L _ ga da dd _ _ =
     assigns_last ! (of_opd ! (get ! refl)) (through ! refl (stop !)) (store ! 0 refl (tt, record { fits = fits' })) $ exec ! 𝓣.C 𝓣.Λ Ev (tail fn.body) (at_ret Ev Post) $ sets ! (of_opd ! (unit_lit !)) refl (tt, tt) $
     move ! (1 ∷ []) $ fsplit ! $ use1 𝓛 (‵ (froom (bare (layout T)) d q)) (rest.emptied T L 𝓛 d q (s i).0) $ move ! (1 ∷ []) $ fsplit ! $ fsplit ! $
     -- [the names; what went with the phase; what lay there; the room; the word; the way back into the word; the way back; ..]
-    move ! (0 ∷ 3 ∷ []) $ use2 𝓛 (later (‵ (rest.Renewed 𝓛 R γ d q))) (rest.renewed 𝓛 R γ d q (s i).1) $ await ! tt $ fpick ! (λ γ'. fsplit ! $ fpick ! (λ apart. drop ! $
+    move ! (0 ∷ 3 ∷ []) $ use2 𝓛 (later (‵ (rest.Renewed 𝓛 R γ d q))) (rest.renewed 𝓛 R γ d q (s i).1) $ await ! tt $ fpick ! (λ γ'. fsplit ! $ fpick ! (λ new. drop ! $
     -- [the new cell; ..; the word; the way back into the word; the way back; ..]
     move ! (3 ∷ 0 ∷ 4 ∷ []) $ let h' : Lo.Denot = record { marker = h.marker; heap = h.heap; rows = x; cells = set cs j γ' } in
     use3 𝓛 (‵ (still R (set W i γ') b O d r)) (parts.closes_word 𝓛 R W b O d r s i γ' (None, free) n' (clears_field W f i (states_fit R (λ l. (s l).1)) is.near is.short)) $ move ! (3 ∷ []) $ use1 𝓛 (raw (Way w γ')) (all_e 𝓤 (Way w) γ') $ move ! (1 ∷ 0 ∷ []) $
@@ -87,6 +88,6 @@ empty_spec 𝓤 𝓛 𝓜 𝓡 wired T Al L _ ga da dd _ _ =
     -- [the rows; what went with the phase; what lay there; the token; ..]
     move ! (3 ∷ 0 ∷ []) $ fjoin ! $ move ! (1 ∷ []) $ drop ! $ move ! (1 ∷ []) $ drop ! $ move ! (1 ∷ 0 ∷ []) $
     closes ! tt Lo h' ts b' o' $ feq_i ! (List Val) (vptr b' o' ∷ []) (vptr b' o' ∷ []) refl $ fjoin3 ! $ nothing ! $ nothing ! $ fjoin ! $ nothing ! $ fjoin ! $ nothing ! $ fjoin ! $ nothing ! $ fjoin ! $ move ! (1 ∷ 0 ∷ []) $ fjoin ! $ move ! (1 ∷ 2 ∷ []) $ join ! $
-    let Kept : Type 0 = (h.heap ≡ h.heap) × (x ≡ h.rows) × HasOneRenamed cs j h'.cells in
-    use0 𝓛 (raw (fact 𝓤 Kept)) (fact_i 𝓤 Kept (emp 𝓤) (refl, (λ l. record { at = sym asked.0.0 l; rooms = sym asked.1.0 l; words = h.rows.words; more = h.rows.more; left = h.rows.left }), (γ', apart, refl))) $ feq_i ! (List Val) (vunit ∷ []) (vunit ∷ []) refl $
+    let Kept : Type 0 = (h.heap ≡ h.heap) × (x ≡ h.rows) × HasOneRenamed cs j h'.cells × IsFixedAt cs j h'.cells Idle in
+    use0 𝓛 (raw (fact 𝓤 Kept)) (fact_i 𝓤 Kept (emp 𝓤) (refl, (λ l. record { at = sym asked.0.0 l; rooms = sym asked.1.0 l; words = h.rows.words; more = h.rows.more; left = h.rows.left }), (γ', new.0, refl), rest.fixed_set cs j γ' Idle asked.2.0 new.1)) $ feq_i ! (List Val) (vunit ∷ []) (vunit ∷ []) refl $
     returns ! (look_at ! 0 refl) $ free_all ! refl $ keep ! (2 ∷ 3 ∷ 0 ∷ 1 ∷ []) $ by ! (leaves 𝓛 En hs c y vunit tt (h', (tt, (tt, (tt, (tt, tt))))) (tt, (tt, (tt, (tt, (tt, tt)))))))))))))))))

@@ -50,7 +50,8 @@ use Rattle.cell_core.proofs.CellMade.{token_val, written_made}
 use types.Run.{no_more, and_then, assigns}
 use types.Part.{agg}
 use Rattle.cell_core.specs.Slot.{Names, Rest, cell_in, state, step, room_at, word}
-use Rattle.cell_core.specs.Laid.{Extent, laid, still, lying, IsLinked, HasOneRenamed}
+use Rattle.cell_core.specs.Laid.{Extent, laid, still, lying, IsLinked, HasOneRenamed, IsFixedAt}
+use Rattle.tie_core.specs.Tie.{Filled}
 use Rattle.cell_core.specs.contracts.block.steps.Laid as loose
 use Rattle.cell_core.proofs.LaidParts as parts
 use Rattle.cell_core.specs.contracts.block.steps.Laid.fill.{ended, clauses}
@@ -104,7 +105,7 @@ fill_spec 𝓤 𝓛 𝓜 𝓡 wired T Al L _ ga da dd _ _ =
     use1 𝓛 (‵ (fat full_share (bare (layout T)) d q' vy)) (𝓛.laws.at_raw full_share (layout T) d q' vy) $ move ! (0 ∷ 11 ∷ []) $ gather mem ! value vy d q' $
     move ! (1 ∷ []) $ fsplit ! $ fsplit ! $ move ! (1 ∷ []) $ drop ! $ move ! (1 ∷ []) $ drop ! $
     -- [the names; the value in place; the word; the way back into the word; the way back; ..]
-    use2 𝓛 (later (‵ (rest.Refilled 𝓛 R γ value d q'))) (rest.refilled 𝓛 R γ value d q' (s i).1) $ await ! tt $ fpick ! (λ γ'. fsplit ! $ fpick ! (λ apart. drop ! $ fsplit ! $
+    use2 𝓛 (later (‵ (rest.Refilled 𝓛 R γ value d q'))) (rest.refilled 𝓛 R γ value d q' (s i).1) $ await ! tt $ fpick ! (λ γ'. fsplit ! $ fpick ! (λ new. drop ! $ fsplit ! $
     let made : V.Denot = record { marker = record {}; of = γ'.value_name; value = value; found = 0 } in
     move ! (1 ∷ []) $ use1 𝓛 (‵ (V.own_val made (token_val ∷ []))) (written_made 𝓛 R γ'.value_name value 0) $ sets ! (agg ! (no_more !)) refl (tt, tt) $ sets ! (agg ! (and_then ! (get ! refl) (no_more !))) refl (tt, (tt, tt)) $
     -- [the token; the new cell; the word; the way back into the word; the way back; ..]
@@ -112,7 +113,7 @@ fill_spec 𝓤 𝓛 𝓜 𝓡 wired T Al L _ ga da dd _ _ =
     move ! (2 ∷ []) $ use1 𝓛 (raw (Way w γ')) (all_e 𝓤 (Way w) γ') $ move ! (1 ∷ 0 ∷ []) $
     use2 𝓛 (‵ (laid R token x (set cs j γ'))) (apply∗ 𝓤 (sem 𝓛 (still R (set W i γ') b O d r)) (sem 𝓛 (laid R token x (set cs j γ')))) $
     let h' : Lo.Denot = record { marker = h.marker; heap = h.heap; rows = x; cells = set cs j γ' } in let there : cell_in h'.cells j ≡ γ' = get_or-set_same cs j γ' (record { value_name = 0; broken_name = 0; epoch = []; tied = None }) asked.2.0 in
-    let Kept : Type 0 = (h.heap ≡ h.heap) × (x ≡ h.rows) × HasOneRenamed cs j h'.cells × (γ'.value_name ≡ (cell_in h'.cells j).value_name) × (value ≡ value) in
+    let Kept : Type 0 = (h.heap ≡ h.heap) × (x ≡ h.rows) × HasOneRenamed cs j h'.cells × (γ'.value_name ≡ (cell_in h'.cells j).value_name) × (value ≡ value) × IsFixedAt cs j h'.cells Filled in
     move ! (2 ∷ 0 ∷ []) $ fjoin ! $ move ! (2 ∷ 0 ∷ 3 ∷ 4 ∷ 5 ∷ []) $ closes ! tt Lo h' ts b' o' $ feq_i ! (List Val) (vptr b' o' ∷ []) (vptr b' o' ∷ []) refl $ fjoin3 ! $ nothing ! $ nothing ! $ fjoin ! $ nothing ! $ fjoin ! $ nothing ! $ fjoin ! $ nothing ! $ fjoin ! $ nothing ! $ fjoin ! $ nothing ! $ fjoin ! $ move ! (1 ∷ 0 ∷ []) $ fjoin ! $ move ! (1 ∷ 3 ∷ []) $ join ! $
-    use0 𝓛 (raw (fact 𝓤 Kept)) (fact_i 𝓤 Kept (emp 𝓤) (refl, (λ l. record { at = sym asked.0.0 l; rooms = sym asked.1.0 l; words = h.rows.words; more = h.rows.more; left = h.rows.left }), (γ', apart, refl), ap (λ (u : Names). u.value_name) (sym there), refl)) $
+    use0 𝓛 (raw (fact 𝓤 Kept)) (fact_i 𝓤 Kept (emp 𝓤) (refl, (λ l. record { at = sym asked.0.0 l; rooms = sym asked.1.0 l; words = h.rows.words; more = h.rows.more; left = h.rows.left }), (γ', new.0, refl), ap (λ (u : Names). u.value_name) (sym there), refl, rest.fixed_set cs j γ' Filled asked.2.0 new.1)) $
     returns ! (look_at ! 0 refl) $ free_all ! refl $ keep ! (1 ∷ 2 ∷ 3 ∷ 0 ∷ []) $ by ! (leaves 𝓛 En hs c y token_val made (h', (tt, (tt, (tt, (tt, (tt, (tt, tt))))))) (tt, (tt, (tt, (tt, (tt, (tt, (tt, tt))))))))))))))))))))

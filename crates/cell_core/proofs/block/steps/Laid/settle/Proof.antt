@@ -53,7 +53,8 @@ use denote.Triple.Walked.{Stays, stay_dropped, stay_ref, walk_of, Goes-dropped, 
 use Rattle.core.proofs.atomic.Steps.{tail}
 use Rattle.atomic_table.proofs.Walks.{proved, leaves}
 use Rattle.cell_core.specs.Slot.{Names, Rest, cell_in, state, step, room_at, word, resting, mark}
-use Rattle.cell_core.specs.Laid.{Extent, laid, still, lying, IsLinked}
+use Rattle.cell_core.specs.Laid.{Extent, laid, still, lying, IsLinked, IsFixedAt}
+use Rattle.tie_core.specs.Tie.{Broken}
 use Rattle.cell_core.specs.contracts.block.steps.Laid as loose
 use Rattle.cell_core.proofs.LaidParts as parts
 use Rattle.cell_core.specs.contracts.block.steps.Laid.settle.{ended, clauses}
@@ -110,9 +111,9 @@ settle_spec 𝓤 𝓛 𝓜 𝓡 wired T Al L _ ga da dd _ _ =
     move ! (2 ∷ []) $ use1 𝓛 (raw (Way w γ')) (all_e 𝓤 (Way w) γ') $ move ! (1 ∷ 0 ∷ []) $
     use2 𝓛 (‵ (laid R token x (set cs j γ'))) (apply∗ 𝓤 (sem 𝓛 (still R (set W i γ') b O d r)) (sem 𝓛 (laid R token x (set cs j γ')))) $
     let h' : Lo.Denot = record { marker = h.marker; heap = h.heap; rows = x; cells = set cs j γ' } in
-    let Kept : Type 0 = (h.heap ≡ h.heap) × (x ≡ h.rows) × (γ.value_name ≡ γ.value_name) × Settles cs j h'.cells mb.value mb.epoch × (mb.epoch ≡ ε) in
+    let Kept : Type 0 = (h.heap ≡ h.heap) × (x ≡ h.rows) × (γ.value_name ≡ γ.value_name) × Settles cs j h'.cells mb.value mb.epoch × (mb.epoch ≡ ε) × (mb.value ≡ None → IsFixedAt cs j h'.cells Broken) in
     move ! (2 ∷ 0 ∷ []) $ fjoin ! $ move ! (2 ∷ 0 ∷ 3 ∷ 4 ∷ 5 ∷ []) $ closes ! tt Lo h' ts b' o' $ feq_i ! (List Val) (vptr b' o' ∷ []) (vptr b' o' ∷ []) refl $ fjoin3 ! $ nothing ! $ nothing ! $ fjoin ! $ nothing ! $ fjoin ! $ nothing ! $ fjoin ! $ nothing ! $ fjoin ! $ nothing ! $ fjoin ! $ nothing ! $ fjoin ! $ nothing ! $ fjoin ! $ move ! (1 ∷ 0 ∷ []) $ fjoin ! $ move ! (1 ∷ 3 ∷ []) $ join ! $
-    use0 𝓛 (raw (fact 𝓤 Kept)) (fact_i 𝓤 Kept (emp 𝓤) (refl, (λ l. record { at = sym asked.0.0 l; rooms = sym asked.1.0 l; words = h.rows.words; more = h.rows.more; left = h.rows.left }), refl, (γ', new.0, refl, refl), new.1)) $
+    use0 𝓛 (raw (fact 𝓤 Kept)) (fact_i 𝓤 Kept (emp 𝓤) (refl, (λ l. record { at = sym asked.0.0 l; rooms = sym asked.1.0 l; words = h.rows.words; more = h.rows.more; left = h.rows.left }), refl, (γ', new.0, refl, refl), new.1, (λ _. rest.fixed_set cs j γ' Broken asked.2.0 new.2))) $
     returns ! (look_at ! 0 refl) $ free_all ! refl $ keep ! (1 ∷ 2 ∷ 3 ∷ 0 ∷ []) $ by ! (leaves 𝓛 En hs c y token_val made (h', (tt, (tt, (tt, (tt, (tt, (tt, (tt, tt)))))))) (tt, (tt, (tt, (tt, (tt, (tt, (tt, (tt, tt)))))))))))))
     (λ miss. let three : state (s i).1 ≡ 3 = moved_apart i (state (s i).1) 3 (sym own ∙ rest.is_same (n - n') fd' miss) in skips ! $ exec ! 𝓣.C 𝓣.Λ Ev (tail fn.body) (at_ret Ev Post) $
     move ! (1 ∷ []) $ fsplit ! $ move ! (1 ∷ []) $ use1 𝓛 (‵ (resting R γ (s i)) ⊛ ‵ (fex R.Denot (written R γ.value_name))) (rest.full_shown 𝓛 R γ (s i) three) $ split ! $ move ! (2 ∷ 0 ∷ []) $ fjoin ! $
@@ -124,7 +125,7 @@ settle_spec 𝓤 𝓛 𝓜 𝓡 wired T Al L _ ga da dd _ _ =
     use2 𝓛 (‵ (laid R token x (set cs j γ))) (apply∗ 𝓤 (sem 𝓛 (still R (set W i γ) b O d r)) (sem 𝓛 (laid R token x (set cs j γ)))) $
     rewrite ! 0 (λ (u : List Names). ‵ (laid R token x u)) (set-get_or cs j (record { value_name = 0; broken_name = 0; epoch = []; tied = None })) refl $
     let h' : Lo.Denot = record { marker = h.marker; heap = h.heap; rows = x; cells = cs } in
-    let Kept : Type 0 = (h.heap ≡ h.heap) × (x ≡ h.rows) × (γ.value_name ≡ γ.value_name) × Settles cs j h'.cells mb.value mb.epoch × (mb.epoch ≡ ε) in
+    let Kept : Type 0 = (h.heap ≡ h.heap) × (x ≡ h.rows) × (γ.value_name ≡ γ.value_name) × Settles cs j h'.cells mb.value mb.epoch × (mb.epoch ≡ ε) × (mb.value ≡ None → IsFixedAt cs j h'.cells Broken) in
     move ! (2 ∷ 0 ∷ []) $ fjoin ! $ move ! (2 ∷ 0 ∷ 3 ∷ 4 ∷ 5 ∷ []) $ closes ! tt Lo h' ts b' o' $ feq_i ! (List Val) (vptr b' o' ∷ []) (vptr b' o' ∷ []) refl $ fjoin3 ! $ nothing ! $ nothing ! $ fjoin ! $ nothing ! $ fjoin ! $ nothing ! $ fjoin ! $ nothing ! $ fjoin ! $ nothing ! $ fjoin ! $ nothing ! $ fjoin ! $ nothing ! $ fjoin ! $ move ! (1 ∷ 0 ∷ []) $ fjoin ! $ move ! (1 ∷ 3 ∷ []) $ join ! $
-    use0 𝓛 (raw (fact 𝓤 Kept)) (fact_i 𝓤 Kept (emp 𝓤) (refl, (λ l. record { at = sym asked.0.0 l; rooms = sym asked.1.0 l; words = h.rows.words; more = h.rows.more; left = h.rows.left }), refl, refl, refl)) $
+    use0 𝓛 (raw (fact 𝓤 Kept)) (fact_i 𝓤 Kept (emp 𝓤) (refl, (λ l. record { at = sym asked.0.0 l; rooms = sym asked.1.0 l; words = h.rows.words; more = h.rows.more; left = h.rows.left }), refl, refl, refl, (λ none. absurd (let z = none in cc)))) $
     returns ! (look_at ! 0 refl) $ free_all ! refl $ keep ! (1 ∷ 2 ∷ 3 ∷ 0 ∷ []) $ by ! (leaves 𝓛 En hs c y token_val made (h', (tt, (tt, (tt, (tt, (tt, (tt, (tt, tt)))))))) (tt, (tt, (tt, (tt, (tt, (tt, (tt, (tt, tt))))))))))))))))))))

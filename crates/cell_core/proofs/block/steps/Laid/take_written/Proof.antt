@@ -48,7 +48,8 @@ use denote.Triple.Walked.{Stays, stay_dropped, stay_ref, walk_of, Goes-dropped, 
 use Rattle.core.proofs.atomic.Steps.{tail}
 use Rattle.atomic_table.proofs.Walks.{proved, leaves}
 use Rattle.cell_core.specs.Slot.{Names, Rest, cell_in, state, step, room_at, word, auths, free}
-use Rattle.cell_core.specs.Laid.{Extent, laid, still, lying, IsLinked, HasOneRenamed}
+use Rattle.cell_core.specs.Laid.{Extent, laid, still, lying, IsLinked, HasOneRenamed, IsFixedAt}
+use Rattle.tie_core.specs.Tie.{Idle}
 use Rattle.cell_core.specs.contracts.block.steps.Laid as loose
 use Rattle.cell_core.proofs.LaidParts as parts
 use Rattle.cell_core.specs.contracts.block.steps.Laid.take_written.{ended, clauses}
@@ -95,12 +96,12 @@ take_written_spec 𝓤 𝓛 𝓜 𝓡 wired T Al L _ ga da dd _ _ =
     sets ! (bin ! (get_in ! (fld ! refl (stop !)) (sub ! 1 refl (all_of_it !))) (get ! refl) tt) refl (tt, tt) $
     sets_last ! (of_opd ! (load ! (through ! refl (stop !)) (look_raw ! 0 refl))) refl good $ exec ! 𝓣.C 𝓣.Λ Ev (tail fn.body) (at_ret Ev Post) $ sets ! (of_opd ! (get ! refl)) refl good $
     use1 𝓛 (‵ (froom (bare (layout T)) d q')) (𝓛.laws.at_room (bare (layout T)) d q' v) $ move ! (2 ∷ 0 ∷ 3 ∷ 4 ∷ 5 ∷ 1 ∷ []) $
-    use2 𝓛 (later (‵ (rest.Renewed 𝓛 R γ d q'))) (rest.renewed 𝓛 R γ d q' (s i).1) $ await ! tt $ fpick ! (λ γ'. fsplit ! $ fpick ! (λ apart. drop ! $
+    use2 𝓛 (later (‵ (rest.Renewed 𝓛 R γ d q'))) (rest.renewed 𝓛 R γ d q' (s i).1) $ await ! tt $ fpick ! (λ γ'. fsplit ! $ fpick ! (λ new. drop ! $
     -- [the new cell; the word; the way back into the word; the way back; the value; ..]
-    let h' : Lo.Denot = record { marker = h.marker; heap = h.heap; rows = x; cells = set cs j γ' } in let Kept : Type 0 = (h.heap ≡ h.heap) × (x ≡ h.rows) × HasOneRenamed cs j h'.cells × (value ≡ value) in
+    let h' : Lo.Denot = record { marker = h.marker; heap = h.heap; rows = x; cells = set cs j γ' } in let Kept : Type 0 = (h.heap ≡ h.heap) × (x ≡ h.rows) × HasOneRenamed cs j h'.cells × (value ≡ value) × IsFixedAt cs j h'.cells Idle in
     move ! (1 ∷ 0 ∷ []) $ rewrite ! 1 (λ (v : ℕ). ‵ (lying R d v γ' (None, free))) (sym isin.lies) refl $ use3 𝓛 (‵ (still R (set W i γ') b O d r)) (parts.closes_word 𝓛 R W b O d r s i γ' (None, free) n' (clears_field W f i fit isin.near isin.short)) $
     move ! (1 ∷ []) $ use1 𝓛 (raw (Way w γ')) (all_e 𝓤 (Way w) γ') $ move ! (1 ∷ 0 ∷ []) $
     use2 𝓛 (‵ (laid R token x (set cs j γ'))) (apply∗ 𝓤 (sem 𝓛 (still R (set W i γ') b O d r)) (sem 𝓛 (laid R token x (set cs j γ')))) $
     move ! (2 ∷ 0 ∷ []) $ fjoin ! $ move ! (2 ∷ 0 ∷ 3 ∷ 4 ∷ 5 ∷ []) $ closes ! tt Lo h' ts b' o' $ feq_i ! (List Val) (vptr b' o' ∷ []) (vptr b' o' ∷ []) refl $ fjoin3 ! $ nothing ! $ nothing ! $ fjoin ! $ nothing ! $ fjoin ! $ nothing ! $ fjoin ! $ nothing ! $ fjoin ! $ nothing ! $ fjoin ! $ move ! (1 ∷ 0 ∷ []) $ fjoin ! $ move ! (1 ∷ 3 ∷ []) $ join ! $
-    use0 𝓛 (raw (fact 𝓤 Kept)) (fact_i 𝓤 Kept (emp 𝓤) (refl, (λ l. record { at = sym asked.0.0 l; rooms = sym asked.1.0 l; words = h.rows.words; more = h.rows.more; left = h.rows.left }), (γ', apart, refl), refl)) $
+    use0 𝓛 (raw (fact 𝓤 Kept)) (fact_i 𝓤 Kept (emp 𝓤) (refl, (λ l. record { at = sym asked.0.0 l; rooms = sym asked.1.0 l; words = h.rows.words; more = h.rows.more; left = h.rows.left }), (γ', new.0, refl), refl, rest.fixed_set cs j γ' Idle asked.2.0 new.1)) $
     returns ! (look_at ! 0 refl) $ free_all ! refl $ keep ! (1 ∷ 2 ∷ 3 ∷ 0 ∷ []) $ by ! (leaves 𝓛 En hs c y v value (h', (tt, (tt, (tt, (tt, (tt, tt)))))) (tt, (tt, (tt, (tt, (tt, (tt, tt)))))))))))))))))))

@@ -1,5 +1,5 @@
 -- `begin` takes the right to write each cell, if it finds what it sought.
-use Rattle.std.proofs.Common.{◌≡◌, ℕ, ◌+◌, ◌%◌, ◌^◌, eqb, length, List, [], ◌∷◌, ◌++◌, refl, ap, w64}
+use Rattle.std.proofs.Common.{false, ◌≡◌, ℕ, ◌+◌, ◌%◌, ◌^◌, eqb, length, List, [], ◌∷◌, ◌++◌, refl, ap, w64}
 use mir.Syntax.{a_type}
 use mir.Val.{Val, vint, vptr, vstruct, vcons, vnil, of_list}
 use mir.MapTy.{inst_fn}
@@ -62,7 +62,7 @@ begin_spec 𝓤 𝓛 𝓜 𝓡 wired T L =
     use1 𝓛 (‵ (above (floors γs) J) ⊛ ‵ (above (floors γs) J)) (above_dup 𝓛 (floors γs) J) $ split ! $ move ! (2 ∷ 0 ∷ []) $ fjoin ! $ move ! (2 ∷ 3 ∷ []) $
     use2 𝓛 (later (some (λ (w : Share). ‵ (flft α w) ⊛ raw (wand 𝓤 (A.lft α w) (H.⇛ (A.lft β q)))))) (Lends-one 𝓛 𝓜 𝓡 β α q) $ await ! tt $ pick ! (λ w. split ! $
     -- [the turn's token; the way back; the lending; the invariant; the others]
-    let Won : ℕ → Fml = λ k. if_won (eqb k n) (held R t d e gs i []) in let after : ℕ → Fml = λ k. fsep (flft α w) (Won k) in
+    let Won : ℕ → Fml = λ k. if_won (eqb k n) (held R false t d e gs i []) in let after : ℕ → Fml = λ k. fsep (flft α w) (Won k) in
     sets ! (is ! (of_opd ! (get_in ! (fld ! refl (stop !)) (sub ! 0 refl (whole !)))) (ap ptr_val is_at)) refl (tt, tt) $
     sets ! (is ! (of_opd ! (get_in ! (fld ! refl (stop !)) (sub ! 1 refl (whole !)))) (ap ptr_val is_room)) refl (tt, tt) $
     sets ! (of_opd ! (get_in ! (fld ! refl (stop !)) (sub ! 2 refl (whole !)))) refl (tt, tt) $
@@ -75,11 +75,11 @@ begin_spec 𝓤 𝓛 𝓜 𝓡 wired T L =
     sets ! (agg ! (and_then ! (get ! refl) (and_then ! (get ! refl) (and_then ! (get ! refl) (no_more !))))) refl (pointers_good (block_ptr b o) (block_ptr d r)) $
     sets ! (agg ! (and_then ! (get ! refl) (and_then ! (get ! refl) (no_more !)))) refl (tt, (record { fits = fits }, ((tt, (tt, (tt, tt))), tt))) $
     fsplit ! $ move ! (0 ∷ 2 ∷ []) $ use2 𝓛 (later (‵ (flft β q))) (apply∗ 𝓤 (A.lft α w) (H.⇛ (A.lft β q))) $ await ! tt $ move ! (0 ∷ 3 ∷ []) $ join ! $ move ! (2 ∷ 1 ∷ []) $ fjoin ! $ nothing ! $ fpack ! (IsRunAt R gs i r s) (λ _. ftrue) at $ fjoin ! $
-    fpack ! Spot (λ u. fsep (is_fact (IsRunAt R gs i r u)) (fsep (kept R u.0 u.1 b o d u.2 β) (if_won (eqb k n) (held R u.1 d u.2 gs i [])))) s $
-    let p' : Ptr = block_ptr b o in let z' : Ptr = block_ptr d r in let run : Hr.Denot = record { word = p'; room = z'; marker = record {}; of = gs; index = i; sought = n; found = k; values = [] } in
-    let val : Val = vstruct (vcons (vint w64 k) (vcons (pointers_val p' z') vnil)) in let none : List T.Denot = [] in let Told : Type 0 = (gs ≡ gs) × (i ≡ i) × (n ≡ n) × (k ≡ k) × (none ≡ none) in
+    fpack ! Spot (λ u. fsep (is_fact (IsRunAt R gs i r u)) (fsep (kept R u.0 u.1 b o d u.2 β) (if_won (eqb k n) (held R false u.1 d u.2 gs i [])))) s $
+    let p' : Ptr = block_ptr b o in let z' : Ptr = block_ptr d r in let run : Hr.Denot = record { word = p'; room = z'; marker = record {}; of = gs; index = i; first = false; sought = n; found = k; values = [] } in
+    let val : Val = vstruct (vcons (vint w64 k) (vcons (pointers_val p' z') vnil)) in let none : List T.Denot = [] in let Told : Type 0 = (gs ≡ gs) × (i ≡ i) × (false ≡ false) × (n ≡ n) × (k ≡ k) × (none ≡ none) in
     use0 𝓛 (‵ ((RunWords ℓ R).own_val (p', (z', (tt, tt))) (pointers_val p' z' ∷ []))) (run_made ℓ R 𝓛 p' z') $ fjoin ! $ nothing ! $ flt_i ! k (2 ^ 64) fits $ feq_i ! (List Val) (vint w64 k ∷ []) (vint w64 k ∷ []) refl $ fjoin ! $
     move ! (0 ∷ 2 ∷ 1 ∷ []) $ fjoin3 ! $ feq_i ! (List Val) (val ∷ []) (val ∷ []) refl $ fjoin ! $
     fpack ! (Valss (u64 ∷ Hr ∷ [])) (λ uss. fsep (feq (List Val) (val ∷ []) (vstruct (of_list (uss.0 ++ (uss.1.0 ++ []))) ∷ [])) (owns (u64 ∷ Hr ∷ []) (k, (run, tt)) uss)) (vint w64 k ∷ [], (pointers_val p' z' ∷ [], tt)) $
-    use0 𝓛 (raw (fact 𝓤 Told)) (fact_i 𝓤 Told (emp 𝓤) (refl, refl, refl, refl, refl)) $ nothing ! $ nothing ! $ fjoin ! $ nothing ! $ fjoin ! $ nothing ! $ fjoin ! $
+    use0 𝓛 (raw (fact 𝓤 Told)) (fact_i 𝓤 Told (emp 𝓤) (refl, refl, refl, refl, refl, refl)) $ nothing ! $ nothing ! $ fjoin ! $ nothing ! $ fjoin ! $ nothing ! $ fjoin ! $
     returns ! (look_at ! 0 refl) $ free_all ! refl $ keep ! (3 ∷ 0 ∷ 2 ∷ 1 ∷ []) $ by ! (leaves 𝓛 En hs c y val (k, run) (tt, (tt, (tt, tt))) (tt, (tt, (tt, tt)))))))))))))

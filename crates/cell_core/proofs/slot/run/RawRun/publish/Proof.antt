@@ -1,5 +1,5 @@
 -- `publish` shows the values of all cells by one step.
-use Rattle.std.proofs.Common.{◌≡◌, ℕ, length, List, [], ◌∷◌, refl, ap, lit<, w64}
+use Rattle.std.proofs.Common.{Bool, false, ◌≡◌, ℕ, length, List, [], ◌∷◌, refl, ap, lit<, w64}
 use mir.Syntax.{a_type}
 use mir.Val.{Val, vint, vptr}
 use mir.MapTy.{inst_fn}
@@ -48,12 +48,12 @@ publish_spec 𝓤 𝓛 𝓜 𝓡 wired T L =
     proved 𝓛 En hs c 𝓜 𝓡 (Goes-dropped 𝓛 2 self no (λ κs x f. refl), (Goes-dropped 𝓛 2 (plain (λ _. u64)) yes (λ κs x f. refl), tt)) (#self inst) fn (code.unfolded 𝓤 H 𝓜 𝓡 wired (T, tt))
     (λ κs. ((λ h. pointers_val h.word h.room ∷ []), (uint_vals w64, tt))) (λ κs. ((λ h vs so. run_told (named_lft 2 0 tt κs) R h.word h.room vs so.0), (uint_Tells w64, tt))) (λ κs qs bounds a gh are.
     let ℓ = named_lft 2 0 tt κs in let Hr : RattleType = RawRun.the_row ℓ R in let S : RattleType = RawRow.the_row R in let h : Hr.Denot = a.0 in let p : Ptr = h.word in let z : Ptr = h.room in let b : ℕ = block_of p in let o : ℕ = count_of p in let d : ℕ = block_of z in let r : ℕ = count_of z in
-    let β : Lft = κs.0 in let q : Share = qs.0 in let gs : List Names = h.of in let xs : List T.Denot = h.values in let i : ℕ = h.index in let n : ℕ = a.1.0 in let others : Fml = fsep (flft κs.1.0 qs.1.0) ftrue in let Asked : Type 0 = (h.found ≡ h.sought) × (length xs ≡ length gs) × (n ≡ sums 2 (length gs) i) × ArePlain gs in
-    let y : (walk_of 𝓛 En hs c).Ghost = ((κs, qs, bounds, a, (pointers_val p z ∷ [], (vint w64 n ∷ [], tt))), gh) in let Post : Val → SProp 𝓤 = (walk_of 𝓛 En hs c).post y in let Owned : Ptr × Ptr → Fml = λ u. run_owned R gs β u.0 u.1 i h.sought h.found xs in
+    let β : Lft = κs.0 in let q : Share = qs.0 in let gs : List Names = h.of in let xs : List T.Denot = h.values in let i : ℕ = h.index in let n : ℕ = a.1.0 in let others : Fml = fsep (flft κs.1.0 qs.1.0) ftrue in let Asked : Type 0 = (h.found ≡ h.sought) × (length xs ≡ length gs) × (n ≡ sums 2 (length gs) i) × ArePlain gs × (h.first ≡ false) in
+    let y : (walk_of 𝓛 En hs c).Ghost = ((κs, qs, bounds, a, (pointers_val p z ∷ [], (vint w64 n ∷ [], tt))), gh) in let Post : Val → SProp 𝓤 = (walk_of 𝓛 En hs c).post y in let Owned : Ptr × Ptr → Fml = λ u. run_owned R gs β u.0 u.1 i h.first h.sought h.found xs in
     qed 𝓛 (((‵ (flft β q) ⊛ ‵ others) ⊛ ‵ (owns (types_at En.signature.params κs) a y.0.4)) ∷ raw (fact 𝓤 _) ∷ raw (fact 𝓤 Asked) ∷ []) ∵
     keep ! (2 ∷ 0 ∷ []) $ heard ! Asked (λ asked. split ! $ split ! $ move ! (2 ∷ []) $ fsplit ! $ fsplit ! $ keep ! (1 ∷ 3 ∷ 4 ∷ []) $
-    use1 𝓛 (given (InBlock p × InBlock z) (‵ (Owned (p, z)))) (fact_use 𝓤 _ (run_placed 𝓛 R gs β p z i h.sought h.found xs) (guard_i 𝓤 (InBlock p × InBlock z) (sem 𝓛 (Owned (p, z))))) $ learn ! (λ inb. let is_at : p ≡ block_ptr b o = at_block p inb.0 in let is_room : z ≡ block_ptr d r = at_block z inb.1 in
-    rewrite ! 0 (λ (u : Ptr × Ptr). ‵ (Owned u)) (λ l. (is_at l, is_room l)) refl $ use1 𝓛 (‵ (Holds 𝓛 R gs β b o d r i xs)) (run_holds 𝓛 R gs β b o d r i h.sought h.found xs asked.0) $
+    use1 𝓛 (given (InBlock p × InBlock z) (‵ (Owned (p, z)))) (fact_use 𝓤 _ (run_placed 𝓛 R gs β p z i h.first h.sought h.found xs) (guard_i 𝓤 (InBlock p × InBlock z) (sem 𝓛 (Owned (p, z))))) $ learn ! (λ inb. let is_at : p ≡ block_ptr b o = at_block p inb.0 in let is_room : z ≡ block_ptr d r = at_block z inb.1 in
+    rewrite ! 0 (λ (u : Ptr × Ptr). ‵ (Owned u)) (λ l. (is_at l, is_room l)) refl $ use1 𝓛 (‵ (Holds 𝓛 R gs β b o d r i h.first xs)) (run_holds 𝓛 R gs β b o d r i h.first h.sought h.found xs asked.0) $ rewrite ! 0 (λ (l : Bool). ‵ (Holds 𝓛 R gs β b o d r i l xs)) asked.4 refl $
     enter ! 𝓣.C 𝓣.Λ fn (pointers_val p z ∷ vint w64 n ∷ []) Post $ alloc_all ! (λ l. pass_all ! refl (pointers_good p z, ((tt, record { fits = are.1.0.1 }), tt)) $ let Ev = env fn.locals l in
     fpick ! (λ s. fsplit3 ! $ fpick ! (λ at. drop ! $ let γs : List Names = s.0 in let t : Turn = s.1 in let e : ℕ = s.2 in let α : Lft = t.0 in fsplit ! $
     -- [before; the invariant; what the run holds; the token; the others]

@@ -1,0 +1,5 @@
+use Rattle.claim_core.proofs.MaySteps.{may_spoil_mended}
+use Rattle.claim_core.proofs.hand.Hand.offer_spoil_mended.Goals as goal
+
+pub lend-requires-clause-may : goal.lend-requires-clause-may
+lend-requires-clause-may g c = may_spoil_mended _ _ _ c.requires.found c.requires.seen

@@ -1,0 +1,164 @@
+// Calls on entries that are tied to a table of `atomic_table`. A step on such an entry runs a visit of its caller.
+ghost use Rattle.std.specs.Prelude.{◌≡◌, ◌<◌, ℕ, Some, None, IfSome, option_map, slice_index};
+ghost use Rattle.cell_core.specs.Mould.{last_seat};
+ghost use Rattle.seg_core.specs.Segment.{segment_count};
+ghost use Rattle.table_core.specs.Table.{HasSet, IsKeyOf, IsTiedBlockOf, IsTiedBy, KeepsOtherBonds, KeepsOtherEntries, RenewsEntry, content_in, entry_tie};
+
+use crate::entry::{Entry, EntrySight};
+use crate::table::{Key, Table};
+use cell_core::block::{Block, Tied};
+use seg_core::Layout;
+use std::alloc::Global;
+use tie_core::{EntryBook, EntrySeat, Staged, Tag, Visit};
+
+impl<T> Table<T, Tied> {
+    /// Makes a table without blocks, whose entries may be tied; none is yet. It takes no memory from the allocator.
+    pub fn new_for(alloc: Global, layout: Layout) -> Table<T, Tied>
+        ensures layout { result.layout ≡ layout }
+        ensures untied { (k : ℕ) → k < segment_count layout → entry_tie result k ≡ None }
+    {
+        Table::without_blocks(alloc, layout)
+    }
+
+    /// Returns the entry's block if it is set now, by one load. The visit's update runs in the load, and the visit
+    /// then tells what the load found.
+    pub fn scout_for<'a, 'b, X, K: EntryBook<X>>(
+        &'a self,
+        segment: u32,
+        visit: Visit<'b, X, K>,
+    ) -> (Option<&'a Block<T, Global, Tied>>, Visit<'b, X, K>)
+        requires within { segment < segment_count self.now.layout }
+        requires visit { (entry_tie self.now segment ≡ Some visit.tie) × (visit.brought ≡ None)
+            × (visit.made ≡ None) }
+        ensures block { IfSome result.0 (λ block. IsTiedBlockOf self.now segment block.now) }
+        ensures made { result.1.made ≡ Some (content_in result.0) }
+        ensures visit { (result.1.tie ≡ visit.entry.tie) × (result.1.about ≡ visit.entry.about) }
+    {
+        let entry = &self.entries[segment as usize];
+        entry.look_for(&mut entry.sight(), visit)
+    }
+
+    /// Returns the entry's block like `scout_for`, with the entry's key.
+    pub fn scout_key_for<'a, 'b, X, K: EntryBook<X>>(
+        &'a self,
+        segment: u32,
+        visit: Visit<'b, X, K>,
+    ) -> (Option<(&'a Block<T, Global, Tied>, Key)>, Visit<'b, X, K>)
+        requires within { segment < segment_count self.now.layout }
+        requires visit { (entry_tie self.now segment ≡ Some visit.tie) × (visit.brought ≡ None)
+            × (visit.made ≡ None) }
+        ensures block { IfSome result.0 (λ (block, _). IsTiedBlockOf self.now segment block.now) }
+        ensures key { IfSome result.0 (λ (block, key). IsKeyOf self.now segment block.now key) }
+        ensures made { result.1.made ≡ Some (content_in (option_map (λ u. u.0) result.0)) }
+        ensures visit { (result.1.tie ≡ visit.entry.tie) × (result.1.about ≡ visit.entry.about) }
+    {
+        let entry = &self.entries[segment as usize];
+        let mut sight = entry.sight();
+        let (found, visit) = entry.look_for(&mut sight, visit);
+        match found {
+            Some(block) => {
+                let key = Key {
+                    layout: self.layout,
+                    segment: segment as u8,
+                    sight: sight.again(),
+                };
+                (Some((block, key)), visit)
+            }
+            None => (None, visit),
+        }
+    }
+}
+
+impl<T: Drop> Table<T, Tied> {
+    /// Ties the entry by its own seat, and the cells of its block by seats with numbers in a row, which have the codes
+    /// of the tag. The entry is then not set and has a fresh name: a block that it was set to is dropped.
+    #[tactic(auto, using(crate::proofs::Bonds::retied))]
+    pub fn tie<V, P: Staged<V>>(&mut self, segment: u32, seat: EntrySeat, cells: &Tag<V, P>)
+        requires { segment < segment_count self.old.layout }
+        ensures tied { IsTiedBy self.new segment seat.tie cells.now.tie }
+        ensures layout { self.new.layout ≡ self.old.layout }
+        ensures others { KeepsOtherEntries self.old self.new segment }
+        ensures another { RenewsEntry self.old self.new segment }
+        ensures bonds { KeepsOtherBonds self.old self.new segment }
+        ensures none_lent { self.new.lent ≡ None }
+    {
+        self.put_back();
+        self.held = None;
+        let len = self.layout.len(segment);
+        let mut new: Entry<Block<T, Global, Tied>> = Entry::new_for(self.alloc, len, seat, cells);
+        new.rename(&mut self.entries[segment as usize]);
+        self.entries[segment as usize] = new;
+    }
+
+    // The entry's block: the given one, unless the entry is set.
+    fn set_for<'a, 'b, X, K: EntryBook<X>>(
+        &'a self,
+        segment: u32,
+        block: Box<Block<T, Global, Tied>>,
+        sight: &mut EntrySight<Block<T, Global, Tied>>,
+        visit: Visit<'b, X, K>,
+    ) -> (&'a Block<T, Global, Tied>, Visit<'b, X, K>)
+        requires within { segment < segment_count self.now.layout }
+        requires of { sight.old.of ≡ slice_index self.now.names segment }
+        requires block { IsTiedBlockOf self.now segment block.value }
+        requires visit { (entry_tie self.now segment ≡ Some visit.tie)
+            × (visit.brought ≡ Some (last_seat block.value.cells)) × (visit.made ≡ None) }
+        ensures same { sight.new.of ≡ sight.old.of }
+        ensures known { sight.new.known ≡ Some result.0.now }
+        ensures block { IsTiedBlockOf self.now segment result.0.now }
+        ensures made { HasSet result.1.made block.value result.0.now }
+        ensures visit { (result.1.tie ≡ visit.entry.tie) × (result.1.about ≡ visit.entry.about) }
+    {
+        let entry = &self.entries[segment as usize];
+        let (first, back, visit) = entry.set_for(block, sight, visit);
+        drop(back);
+        (first, visit)
+    }
+
+    /// Sets the entry to the block and returns it, by one exchange. If the entry is set already, this drops the block
+    /// and returns the entry's. The visit brings the block's seat. Its update runs in the exchange, and the visit then
+    /// tells what the exchange found.
+    pub fn install_for<'a, 'b, X, K: EntryBook<X>>(
+        &'a self,
+        segment: u32,
+        block: Box<Block<T, Global, Tied>>,
+        visit: Visit<'b, X, K>,
+    ) -> (&'a Block<T, Global, Tied>, Visit<'b, X, K>)
+        requires within { segment < segment_count self.now.layout }
+        requires block { IsTiedBlockOf self.now segment block.value }
+        requires visit { (entry_tie self.now segment ≡ Some visit.tie)
+            × (visit.brought ≡ Some (last_seat block.value.cells)) × (visit.made ≡ None) }
+        ensures block { IsTiedBlockOf self.now segment result.0.now }
+        ensures made { HasSet result.1.made block.value result.0.now }
+        ensures visit { (result.1.tie ≡ visit.entry.tie) × (result.1.about ≡ visit.entry.about) }
+    {
+        let mut sight = self.entries[segment as usize].sight();
+        self.set_for(segment, block, &mut sight, visit)
+    }
+
+    /// Sets the entry to the block and returns it like `install_for`, with the entry's key.
+    pub fn install_key_for<'a, 'b, X, K: EntryBook<X>>(
+        &'a self,
+        segment: u32,
+        block: Box<Block<T, Global, Tied>>,
+        visit: Visit<'b, X, K>,
+    ) -> (&'a Block<T, Global, Tied>, Key, Visit<'b, X, K>)
+        requires within { segment < segment_count self.now.layout }
+        requires block { IsTiedBlockOf self.now segment block.value }
+        requires visit { (entry_tie self.now segment ≡ Some visit.tie)
+            × (visit.brought ≡ Some (last_seat block.value.cells)) × (visit.made ≡ None) }
+        ensures block { IsTiedBlockOf self.now segment result.0.now }
+        ensures key { IsKeyOf self.now segment result.0.now result.1 }
+        ensures made { HasSet result.2.made block.value result.0.now }
+        ensures visit { (result.2.tie ≡ visit.entry.tie) × (result.2.about ≡ visit.entry.about) }
+    {
+        let mut sight = self.entries[segment as usize].sight();
+        let (block, visit) = self.set_for(segment, block, &mut sight, visit);
+        let key = Key {
+            layout: self.layout,
+            segment: segment as u8,
+            sight: sight.again(),
+        };
+        (block, key, visit)
+    }
+}

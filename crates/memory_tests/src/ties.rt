@@ -74,10 +74,6 @@ impl CellPlay<u64> for Telling {
     ghost then = { λ told _ from _ after. after ≡ told * 8 + stage_number from };
 }
 
-impl RowPlay<u64> for Telling {
-    ghost owner = { λ _ _. 0 };
-}
-
 impl Entered<u64> for Telling {
     ghost empty = { λ _ _. 0 };
 

@@ -2,6 +2,7 @@ mod Fields
 mod Both
 mod WordSteps
 mod Twice
+mod Stages
 mod CellSteps
 mod RunSteps
 mod TiedRuns
@@ -15,6 +16,7 @@ mod CellLends
 mod RestParts
 mod LaidParts
 mod LaidMade
+mod FixedCells
 mod Untied
 mod RunParts
 mod RunFields

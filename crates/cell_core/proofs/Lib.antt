@@ -20,6 +20,7 @@ mod FixedCells
 mod Untied
 mod RunParts
 mod RunFields
+mod StageRows
 mod SliceSteps
 mod SliceParts
 mod PlainCells

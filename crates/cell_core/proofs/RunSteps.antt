@@ -112,7 +112,7 @@ module _ {M : Type 1} {𝓤 : Ura M} (𝓛 : Logic 𝓤) (R : RattleType) (Γs :
   looks_run n (γ ∷ γs) i at s has =
       let g : ℕ → ℕ = λ k. k in let r : ℕ = room_at R e i in let after : ℕ → Fml = also 𝓛 R γ α (t.1 i) c r (sights R γ) in
       let law : Law 𝓛 R α c (cell_in Γs i) (t.1 i) r g after (emp 𝓤) = subst (λ (m : Names). Law 𝓛 R α c m (t.1 i) r g after (emp 𝓤)) (sym at.1)
-          (also_stage 𝓛 R γ α (t.1 i) c r (sights R γ) (emp 𝓤) (steps.looks 𝓛 R γ α (t.1 i) c r)) in
+      (also_stage 𝓛 R γ α (t.1 i) c r (sights R γ) (emp 𝓤) (steps.looks 𝓛 R γ α (t.1 i) c r)) in
       let Z : Pr = ex 𝓤 (Seen n (γ ∷ γs) i s) in
       qed 𝓛 (‵ (Cells s) ∷ []) ∵ nothing ! $ move ! (1 ∷ 0 ∷ []) $
       use2 𝓛 (raw (upd 𝓤 (ex 𝓤 (Row 𝓛 R α c Γs t.1 e i g after s)))) (lifts 𝓛 R α c Γs t.1 e i at.0 g after (emp 𝓤) law s) $

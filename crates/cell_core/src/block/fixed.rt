@@ -34,6 +34,7 @@ impl<T, A: Allocator> Laid<T, A> {
 impl<T, A: Allocator> Block<T, A, Tied> {
     /// Learns how far a tied cell is, while nobody else has the block: the offer's update runs as in a look, and the
     /// cell's seat is given up. The cell's tie is then fixed at its stage. The call does nothing.
+    #[tactic(auto, using(crate::proofs::PlainCells::tied_kind))]
     pub fn fix_for<'b, X, K: Book<X>>(
         &mut self,
         offset: u64,
@@ -54,6 +55,7 @@ impl<T, A: Allocator> Block<T, A, Tied> {
     /// Unties all cells like `untie`, of a block that stays one of tied cells: each cell's seat is given up. What is
     /// known of the cells by a row, whose member at `from` is the first cell, stays known; tokens of these cells stay
     /// good. The call does nothing.
+    #[tactic(auto, using(crate::proofs::Untied::are_plain, crate::proofs::Untied::untied_kind, crate::proofs::Untied::untied_length, crate::proofs::Untied::untied_at))]
     pub fn untie_now(&mut self, row: &Row<T>, from: u64)
         requires { KnowsCells row.now from self.old.cells }
         ensures len { block_len self.new ≡ block_len self.old }

@@ -4,7 +4,7 @@ use Rattle.std.proofs.Common.{◌≡◌, ℕ, ◌+◌, ◌*◌, ◌/◌, ◌%◌
 use mir.Syntax.{Ty, a_type, dcons, dnil, named}
 use mir.Val.{Val, vint, vptr}
 use mir.MapTy.{inst_fn}
-use base.Logic.{SProp, sep, wand, emp, apply∗, all, all_e}
+use base.Logic.{SProp, wand, emp, apply∗, all, all_e}
 use base.Fml.{Lft, Share, Fml, ftrue, fsep, flft}
 use types.Logic.{sem}
 use types.Kit.{‵, raw, ◌⊛◌, some, given, later, ◌$◌, ◌∵◌, !, qed, by, move, keep, use0, use1, use2, use3, split, split3, join, fsplit, fsplit3, fjoin, fjoin3, fpick, pick, learn, await, rewrite, feq_i}
@@ -28,7 +28,7 @@ use Rattle.tie_core.specs.Tie.{Tie, Step, looks, Stage, Made, offer_owns}
 use Rattle.tie_core.specs.contracts.offer.Offer as Offer
 use Rattle.tie_core.proofs.OfferMade.{OfferWords, offer_told, offer_made}
 use Rattle.cell_core.specs.Fields.{pack}
-use Rattle.cell_core.specs.Slot.{Names, Rest, cell_in, stage, state, room_at, word}
+use Rattle.cell_core.specs.Slot.{Names, Rest, cell_in, stage, state, room_at}
 use Rattle.cell_core.specs.Laid.{Extent, laid, still, lying}
 use Rattle.cell_core.specs.Fixed.{FixesOne, fixed_cell}
 use Rattle.cell_core.specs.contracts.block.steps.Laid as loose
@@ -87,4 +87,4 @@ fix_for_spec 𝓤 𝓛 𝓜 𝓡 wired T Al X K _ _ _ _ ga da dd g dict _ _ _ =
     let Told : Type 0 = (h.heap ≡ h.heap) × (x ≡ x) × (tie ≡ tie) × (f.about ≡ f.about) × ((s' : Stage) × FixesOne cs j h'.cells s' × (f'.made ≡ Some (s', s'))) in
     use0 𝓛 (raw (fact 𝓤 Told)) (fact_i 𝓤 Told (emp 𝓤) (refl, refl, refl, refl, (a', fixes_one cs j tie a' asked.0 asked.1, refl))) $
     move ! (3 ∷ []) $ use0 𝓛 (‵ ((OfferWords (named_lft 6 0 tt κs) Xr Kr g).own_val (record {}, tt) (token_val ∷ []))) (offer_made (named_lft 6 0 tt κs) Xr Kr g 𝓛) $ fjoin ! $
-    returns ! (look_at ! 0 refl) $ free_all ! refl $ keep ! (2 ∷ 3 ∷ 0 ∷ 1 ∷ []) $ by ! (leaves 𝓛 En hs c y token_val f' (h', (tt, (tt, tt))) (tt, (tt, (tt, tt))))))))))))
+    returns ! (look_at ! 0 refl) $ free_all ! refl $ keep ! (2 ∷ 3 ∷ 0 ∷ 1 ∷ []) $ by ! (leaves 𝓛 En hs c y token_val f' (h', (tt, (tt, tt))) (tt, (tt, (tt, tt)))))))))))))

@@ -1,5 +1,5 @@
 -- A cell whose tie is fixed at a stage is at that stage, and its state is one of that stage. Assumes `Logic`.
-use Rattle.std.proofs.Common.{◌≡◌, ◌≢◌, ℕ, zero, suc, ◌<◌, ◌≤◌, List, [], ◌∷◌, length, refl, ap, ◌∙◌, subst, arith}
+use Rattle.std.proofs.Common.{◌≡◌, ◌≢◌, ℕ, zero, suc, ◌+◌, ◌<◌, ◌≤◌, List, [], ◌∷◌, length, refl, sym, ap, ◌∙◌, subst, arith}
 use Rattle.std.specs.Prelude.{Option, Some, None}
 use seplogic.Ra.Ura.{Ura}
 use base.Logic.{SProp, ent, ex, guard, upd, upd_i}
@@ -12,6 +12,7 @@ use Rattle.tie_core.specs.Tie.{Tie, Stage, Idle, Begun, Mending, Filled, Broken,
 use Rattle.cell_core.specs.Slot.{Names, Phase, free, begun, busy, full, broken, broken_by_owner, state, stage, fact, cell, cell_in}
 use Rattle.cell_core.specs.Fixed.{fixed_in, stage_in, HasValueByStage, ShowsStage, ShowStages}
 use Rattle.cell_core.specs.Run.{AreFilledIn}
+use Rattle.cell_core.specs.Fields.{field}
 use Rattle.cell_core.proofs.WordSteps.{S, Next, Law}
 
 none_is_not : (s : Stage) → None ≡ Some s → ⊥
@@ -75,6 +76,14 @@ filled_by_word (γ ∷ γs) i w zero le all shown j s less is = absurd (omega (a
 filled_by_word (γ ∷ γs) i w (suc n) le all shown zero s less is = shows_filled s (subst (λ (k : ℕ). Shows s k) (all i (omega arith) (omega arith)) (shown.0 s is))
 filled_by_word (γ ∷ γs) i w (suc n) le all shown (suc j) s less is =
     filled_by_word γs (suc i) w n (omega (arith, le)) (λ k low high. all k (omega (arith, low)) (omega (arith, high))) shown.1 j s (omega (arith, less)) is
+
+-- a cell whose field has another state is not filled by its stage
+pub other_by_word : (γs : List Names) (i w k : ℕ) → k < length γs → field w (i + k) ≢ 3 → ShowStages γs i w → (s : Stage) → stage_in (cell_in γs k) ≡ Some s → s ≢ Filled
+other_by_word [] i w k near other shown s is same = omega (arith, near)
+other_by_word (γ ∷ γs) i w zero near other shown s is same = let here : i ≡ i + 0 = omega arith in
+    other (ap (field w) (sym here) ∙ subst (λ (a : Stage). Shows a (field w i)) same (shown.0 s is))
+other_by_word (γ ∷ γs) i w (suc k) near other shown s is = let there : suc i + k ≡ i + suc k = omega arith in
+    other_by_word γs (suc i) w k (omega (arith, near)) (λ three. other (ap (field w) (sym there) ∙ three)) shown.1 s is
 
 module _ {M : Type 1} {𝓤 : Ura M} (𝓛 : Logic 𝓤) where
   -- the seat of a tie that is fixed tells the stage

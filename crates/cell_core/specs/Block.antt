@@ -130,6 +130,11 @@ abbrev pub AreAtFilled : BlockView → ℕ → ℕ → Type 0
 AreAtFilled block offset n =
     (i : ℕ) (s : Stage) → i < n → stage_in (cell_at block (offset + i)) ≡ Some s → s ≡ Filled
 
+-- the cell after count cells from the offset on is at no stage of a filled one, if these are fewer than n
+abbrev pub IsOtherAfter : BlockView → ℕ → ℕ → ℕ → Type 0
+IsOtherAfter block offset count n =
+    count < n → (s : Stage) → stage_in (cell_at block (offset + count)) ≡ Some s → s ≢ Filled
+
 -- the cell at the offset has fresh names: no older token applies to it
 abbrev pub RenewsCell : BlockView → BlockView → ℕ → Type 0
 RenewsCell old new offset = IsAnother (cell_at old offset) (cell_at new offset)

@@ -1,6 +1,6 @@
 // Filled cells next to each other: one load for each word shows how many there are, and what is known of each.
 ghost use Rattle.std.specs.Prelude.{◌≡◌, ◌+◌, ◌%◌, ◌<◌, ◌≤◌, Some, length, map, slice_get};
-ghost use Rattle.cell_core.specs.Block.{block_len, AreAtFilled, AreFilledFrom, IsPlacedAt};
+ghost use Rattle.cell_core.specs.Block.{block_len, AreAtFilled, AreFilledFrom, IsOtherAfter, IsPlacedAt};
 ghost use Rattle.cell_core.specs.Laid.{word_cells};
 
 use crate::block::fields::{WORD_CELLS, filled_in, word_of};
@@ -19,6 +19,7 @@ impl<T, A: Allocator, B: Kind> Block<T, A, B> {
         ensures row { length result.1 ≡ result.0 }
         ensures filled { AreFilledFrom self.now offset result.1 }
         ensures stages { AreAtFilled self.now offset result.0 }
+        ensures next { IsOtherAfter self.now offset result.0 n }
     {
         let cells = self
             .laid
@@ -40,6 +41,7 @@ impl<T, A: Allocator, B: Kind> Block<T, A, B> {
         ensures row { length result.2 ≡ result.1 }
         ensures filled { AreFilledFrom self.now offset result.2 }
         ensures stages { AreAtFilled self.now offset result.1 }
+        ensures next { IsOtherAfter self.now offset result.1 result.0 }
     {
         // A whole word is compared with one that is filled: the compiler knows both numbers.
         if offset % WORD_CELLS == 0 && WORD_CELLS <= n {
@@ -59,6 +61,7 @@ impl<T, A: Allocator, B: Kind> Block<T, A, B> {
         ensures row { length result.1 ≡ result.0 }
         ensures filled { AreFilledFrom self.now offset result.1 }
         ensures stages { AreAtFilled self.now offset result.0 }
+        ensures next { IsOtherAfter self.now offset result.0 n }
     {
         // For the proof: offsets below the length fit into 64 bits.
         let _len = self.len;

@@ -1,8 +1,8 @@
 use Rattle.std.proofs.Common.{ℕ, ◌+◌, List, length, length-append, sym, ap, ◌∙◌, subst, arith}
-use Rattle.cell_core.specs.Block.{AreAtFilled, AreFilledFrom}
+use Rattle.cell_core.specs.Block.{AreAtFilled, AreFilledFrom, IsOtherAfter}
 use Rattle.cell_core.specs.Member.{MemberView}
 use Rattle.cell_core.proofs.SliceParts.{filled_more}
-use Rattle.cell_core.proofs.StageRows.{at_filled_more}
+use Rattle.cell_core.proofs.StageRows.{at_filled_more, other_after_more}
 use Rattle.cell_core.proofs.block.Block.filled_row.Goals as goal
 use Rattle.cell_core.proofs.block.Block.filled_row.Goals.{else-words-test, then-words-test+then-found-asked}
 
@@ -33,4 +33,13 @@ returns-clause-stages g c =
       | else-words-test w ↦ subst (λ (k : ℕ). AreAtFilled block offset k) (sym w.count-is) c.words.invariant.3
       | then-words-test+then-found-asked w ↦ subst (λ (k : ℕ). AreAtFilled block offset k) (sym w.count-is)
           (at_filled_more block offset c.words.count w.filled_word-asked.result.1 (c.words.count + w.filled_word-asked.result.1) c.words.invariant.3 w.filled_word-asked.ensures.stages (omega arith))
+    ]
+
+pub returns-clause-next : goal.returns-clause-next
+returns-clause-next g c =
+    let block = c.args.self.now in let offset = c.args.offset in
+    elim c.words-test.branch [
+      | else-words-test w ↦ λ less. absurd (omega (arith, w.count-is, less))
+      | then-words-test+then-found-asked w ↦ subst (λ (k : ℕ). IsOtherAfter block offset k c.args.n) (sym w.count-is)
+          (other_after_more block offset c.words.count w.filled_word-asked.result.1 w.filled_word-asked.result.0 c.args.n w.filled_word-asked.ensures.next (omega arith))
     ]

@@ -66,7 +66,7 @@ pub value_by_state : {X : Type 0} (γ : Names) (n : ℕ) (x : X) → n ≡ 3 →
 value_by_state γ n x three shows s is = (λ other. shows_filled s (subst (λ (k : ℕ). Shows s k) three (shows s is)), λ same not. some_is_not x not)
 
 -- a cell that is not filled has no value
-pub no_value_by_stage : {X Y : Type 0} (γ : Names) (s : Phase X) → AgreesAt γ.tied (stage s) → state s ≢ 3 → HasValueByStage {Y} γ None
+pub no_value_by_stage : {X Y : Type 0} (γ : Names) (s : Phase X) → AgreesAt γ.tied (stage s) → state s ≢ 3 → HasValueByStage {T = Y} γ None
 no_value_by_stage γ s at other a is = (λ other_than. absurd (other_than refl), λ same. absurd (other (filled_is_three s (at a is ∙ same))))
 
 -- cells whose fields have the state of a filled cell are filled by their stages
@@ -79,9 +79,9 @@ filled_by_word (γ ∷ γs) i w (suc n) le all shown (suc j) s less is =
 
 -- a cell whose field has another state is not filled by its stage
 pub other_by_word : (γs : List Names) (i w k : ℕ) → k < length γs → field w (i + k) ≢ 3 → ShowStages γs i w → (s : Stage) → stage_in (cell_in γs k) ≡ Some s → s ≢ Filled
-other_by_word [] i w k near other shown s is same = omega (arith, near)
-other_by_word (γ ∷ γs) i w zero near other shown s is same = let here : i ≡ i + 0 = omega arith in
-    other (ap (field w) (sym here) ∙ subst (λ (a : Stage). Shows a (field w i)) same (shown.0 s is))
+other_by_word [] i w k near other shown s is = absurd (omega (arith, near))
+other_by_word (γ ∷ γs) i w zero near other shown s is = let here : i ≡ i + 0 = omega arith in
+    λ same. other (ap (field w) (sym here) ∙ subst (λ (a : Stage). Shows a (field w i)) same (shown.0 s is))
 other_by_word (γ ∷ γs) i w (suc k) near other shown s is = let there : suc i + k ≡ i + suc k = omega arith in
     other_by_word γs (suc i) w k (omega (arith, near)) (λ three. other (ap (field w) (sym there) ∙ three)) shown.1 s is
 

@@ -22,7 +22,7 @@ use Rattle.cell_core.specs.Slot.{Lies as Fills}
 use Rattle.cell_core.specs.Laid.{AreOfKind, Extent, Lies, words_ty, rooms_ty, lying, rests, still, along, laid}
 use Rattle.cell_core.specs.Member.{MemberView, HasNames, KnowsCells, IsUntied, AreUntied, known_as, members}
 use Rattle.cell_core.specs.Fixed.{untied_cell}
-use Rattle.tie_core.specs.Tie.{Begun, IsTied, seat_at}
+use Rattle.tie_core.specs.Tie.{Tie, Begun, IsTied, seat_at}
 use Rattle.cell_core.proofs.Stages.{AgreesAt, seat_told}
 use Rattle.cell_core.proofs.Fields.{pack_ap, pack_alike}
 use Rattle.cell_core.proofs.MemberParts.{known_twice}

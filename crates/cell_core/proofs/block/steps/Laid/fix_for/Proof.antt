@@ -46,18 +46,18 @@ fix_for_spec 𝓤 𝓛 𝓜 𝓡 wired T Al X K _ _ _ _ ga da dd g dict _ _ _ =
     let H = 𝓛.H in let A = 𝓛.A in let 𝓣 = tables 𝓤 H 𝓜 𝓡 𝓡.env in let R : RattleType = param 0 T in let Z : RattleType = param 1 Al in let Xr : RattleType = param 2 X in let Kr : RattleType = param 3 K in let Lo : RattleType = loose.the_row R Z ga in
     let En = ended T Al X K ga da dd g dict in let c = clauses T Al X K ga da dd g dict 𝓛 𝓜.mem 𝓡.returns in
     let inst = bounded (a_type ∷ a_type ∷ a_type ∷ a_type ∷ []) (T, (Al, (X, (K, tt)))) (dcons da (dcons dd (dcons dict dnil))) in let fn = inst_fn inst code.function in
-    let self = plain (λ _. Lo) in let index = plain (λ _. u64) in let item = plain (λ κs. Offer.the_row (named_lft 6 0 tt κs) Xr Kr g) in
-    let hs : Stays En.signature.params En.kept = (stay_ref (1 ∷ []) tt self, (stay_dropped index yes, (stay_dropped item no, tt))) in
-    proved 𝓛 En hs c 𝓜 𝓡 (Goes-ref 𝓛 6 1 tt self, (Goes-dropped 𝓛 6 index yes (λ κs x f. refl), (Goes-dropped 𝓛 6 item no (λ κs x f. refl), tt))) (#self inst) fn (code.unfolded 𝓤 H 𝓜 𝓡 wired (T, (Al, (X, (K, tt)))) da dd dict)
-    (λ κs. (mut_vals, (uint_vals w64, ((λ f. token_val ∷ []), tt)))) (λ κs. (mut_Tells (named 1) κs.1.0 Lo, (uint_Tells w64, ((λ f vs so. offer_told (named_lft 6 0 tt κs) Xr Kr g vs so.0), tt)))) (λ κs qs bounds a gh are.
-    let Or : RattleType = Offer.the_row (named_lft 6 0 tt κs) Xr Kr g in let b' : ℕ = a.0.ref_ptr.0 in let o' : ℕ = a.0.ref_ptr.1 in let h : Lo.Denot = a.0.now in let x : Extent = h.rows in let token : Ty → Ptr → Fml = ga.dealloc_token h.heap in let cs : List Names = h.cells in
+    let self = plain (λ _. Lo) in let index = plain (λ _. u64) in let item = plain (λ κs. Offer.the_row (named_lft 6 1 tt κs) Xr Kr g) in
+    let hs : Stays En.signature.params En.kept = (stay_ref (0 ∷ []) tt self, (stay_dropped index yes, (stay_dropped item no, tt))) in
+    proved 𝓛 En hs c 𝓜 𝓡 (Goes-ref 𝓛 6 0 tt self, (Goes-dropped 𝓛 6 index yes (λ κs x f. refl), (Goes-dropped 𝓛 6 item no (λ κs x f. refl), tt))) (#self inst) fn (code.unfolded 𝓤 H 𝓜 𝓡 wired (T, (Al, (X, (K, tt)))) da dd dict)
+    (λ κs. (mut_vals, (uint_vals w64, ((λ f. token_val ∷ []), tt)))) (λ κs. (mut_Tells (named 0) κs.0 Lo, (uint_Tells w64, ((λ f vs so. offer_told (named_lft 6 1 tt κs) Xr Kr g vs so.0), tt)))) (λ κs qs bounds a gh are.
+    let Or : RattleType = Offer.the_row (named_lft 6 1 tt κs) Xr Kr g in let b' : ℕ = a.0.ref_ptr.0 in let o' : ℕ = a.0.ref_ptr.1 in let h : Lo.Denot = a.0.now in let x : Extent = h.rows in let token : Ty → Ptr → Fml = ga.dealloc_token h.heap in let cs : List Names = h.cells in
     let j : ℕ = a.1.0 in let i : ℕ = j % 16 in let f : Or.Denot = a.1.1.0 in let tie : Tie = f.tie in let θ : Lft = g.age f.about in let J : Fml = g.inner f.about in let gain : Stage → Stage → Fml = g.gain f.about in
-    let μ : Lft = κs.0 in let q : Share = qs.0 in let γ : Names = cell_in cs j in let b : ℕ = block_of x.at in let o : ℕ = count_of x.at in let d : ℕ = block_of x.rooms in let e : ℕ = count_of x.rooms in
+    let μ : Lft = κs.1.0 in let q : Share = qs.1.0 in let γ : Names = cell_in cs j in let b : ℕ = block_of x.at in let o : ℕ = count_of x.at in let d : ℕ = block_of x.rooms in let e : ℕ = count_of x.rooms in
     let Asked : Type 0 = (j < length cs) × (γ.tied ≡ Some tie) × (f.step ≡ looks) × (f.made ≡ None) in
     let others : Fml = fsep (flft κs.1.1.0 qs.1.1.0) (fsep (flft κs.1.1.1.0 qs.1.1.1.0) (fsep (flft κs.1.1.1.1.0 qs.1.1.1.1.0) (fsep (flft κs.1.1.1.1.1.0 qs.1.1.1.1.1.0) ftrue))) in
     let y : (walk_of 𝓛 En hs c).Ghost = ((κs, qs, bounds, a, (vptr b' o' ∷ [], (vint w64 j ∷ [], (token_val ∷ [], tt)))), gh) in let Post : Val → SProp 𝓤 = (walk_of 𝓛 En hs c).post y in
-    qed 𝓛 (((‵ (flft μ q) ⊛ ‵ (flft κs.1.0 qs.1.0) ⊛ ‵ others) ⊛ ‵ (owns (types_at En.signature.params κs) a y.0.4)) ∷ raw (fact 𝓤 _) ∷ raw (fact 𝓤 _) ∷ raw (fact 𝓤 _) ∷ raw (fact 𝓤 _) ∷ raw (fact 𝓤 Asked) ∷ []) ∵
-    keep ! (5 ∷ 0 ∷ []) $ heard ! Asked (λ asked. split ! $ split3 ! $ move ! (3 ∷ []) $ fsplit ! $ fsplit3 ! $ move ! (3 ∷ []) $ fsplit3 ! $ move ! (1 ∷ []) $ fsplit ! $ keep ! (5 ∷ 6 ∷ 8 ∷ 1 ∷ 7 ∷ 9 ∷ []) $
+    qed 𝓛 (((‵ (flft κs.0 qs.0) ⊛ ‵ (flft μ q) ⊛ ‵ others) ⊛ ‵ (owns (types_at En.signature.params κs) a y.0.4)) ∷ raw (fact 𝓤 _) ∷ raw (fact 𝓤 _) ∷ raw (fact 𝓤 _) ∷ raw (fact 𝓤 _) ∷ raw (fact 𝓤 Asked) ∷ []) ∵
+    keep ! (5 ∷ 0 ∷ []) $ heard ! Asked (λ asked. split ! $ split3 ! $ move ! (3 ∷ []) $ fsplit ! $ fsplit3 ! $ move ! (3 ∷ []) $ fsplit3 ! $ move ! (1 ∷ []) $ fsplit ! $ keep ! (5 ∷ 6 ∷ 7 ∷ 1 ∷ 8 ∷ 9 ∷ []) $
     -- [the rows, in two parts; their token; the offer; its token; the others]
     rewrite ! 3 (λ (u : Step × Option Made). ‵ (offer_owns θ J gain tie u.0 μ u.1)) (λ l. (asked.2 l, asked.3 l)) refl $
     enter ! 𝓣.C 𝓣.Λ fn (vptr b' o' ∷ vint w64 j ∷ token_val ∷ []) Post $ alloc_all ! (λ l. pass_all ! refl ((tt, tt), ((tt, record { fits = are.1.0.1 }), ((tt, (tt, tt)), tt))) $
@@ -82,9 +82,9 @@ fix_for_spec 𝓤 𝓛 𝓜 𝓡 wired T Al X K _ _ _ _ ga da dd g dict _ _ _ =
     sets ! (of_opd ! (get ! refl)) refl (tt, (tt, tt)) $ move ! (3 ∷ 0 ∷ []) $ fjoin ! $ move ! (3 ∷ 0 ∷ 4 ∷ 5 ∷ 6 ∷ []) $
     closes ! tt Lo h' ts b' o' $ feq_i ! (List Val) (vptr b' o' ∷ []) (vptr b' o' ∷ []) refl $ fjoin3 ! $ nothing ! $ nothing ! $ fjoin ! $ nothing ! $ fjoin ! $ move ! (1 ∷ 0 ∷ []) $ fjoin ! $
     -- [what stays; the rows' token; the offer's; the gain; the others]
-    move ! (1 ∷ 4 ∷ []) $ join ! $ move ! (2 ∷ 0 ∷ []) $ join ! $
+    move ! (2 ∷ 4 ∷ []) $ join ! $ move ! (2 ∷ 0 ∷ []) $ join ! $
     let f' : Or.Denot = record { marker = record {}; tie = tie; about = f.about; step = f.step; made = Some (a', a') } in
     let Told : Type 0 = (h.heap ≡ h.heap) × (x ≡ x) × (tie ≡ tie) × (f.about ≡ f.about) × ((s' : Stage) × FixesOne cs j h'.cells s' × (f'.made ≡ Some (s', s'))) in
     use0 𝓛 (raw (fact 𝓤 Told)) (fact_i 𝓤 Told (emp 𝓤) (refl, refl, refl, refl, (a', fixes_one cs j tie a' asked.0 asked.1, refl))) $
-    move ! (3 ∷ []) $ use0 𝓛 (‵ ((OfferWords (named_lft 6 0 tt κs) Xr Kr g).own_val (record {}, tt) (token_val ∷ []))) (offer_made (named_lft 6 0 tt κs) Xr Kr g 𝓛) $ fjoin ! $
+    move ! (3 ∷ []) $ use0 𝓛 (‵ ((OfferWords (named_lft 6 1 tt κs) Xr Kr g).own_val (record {}, tt) (token_val ∷ []))) (offer_made (named_lft 6 1 tt κs) Xr Kr g 𝓛) $ fjoin ! $
     returns ! (look_at ! 0 refl) $ free_all ! refl $ keep ! (2 ∷ 3 ∷ 0 ∷ 1 ∷ []) $ by ! (leaves 𝓛 En hs c y token_val f' (h', (tt, (tt, tt))) (tt, (tt, (tt, tt)))))))))))))

@@ -1,9 +1,7 @@
 -- Cells next to each other that are found filled are so by their stages.
-use Rattle.std.proofs.Common.{◌≡◌, ◌≢◌, ℕ, zero, suc, ◌+◌, ◌-◌, ◌<◌, ◌≤◌, List, length, refl, sym, ap, ◌∙◌, subst, arith}
-use Rattle.std.specs.Prelude.{Some}
+use Rattle.std.proofs.Common.{◌≡◌, ◌≢◌, ℕ, zero, suc, ◌+◌, ◌-◌, ◌<◌, ◌≤◌, List, ap, ◌∙◌, arith}
 use mathlib.Core.Logic.{dite}
 use native.Mathlib.Decide.{dec_lt}
-use Rattle.tie_core.specs.Tie.{Stage, Filled}
 use Rattle.cell_core.specs.Slot.{Names, cell_in}
 use Rattle.cell_core.specs.Block.{BlockView, cell_at, AreAtFilled, IsOtherAfter}
 use Rattle.cell_core.specs.Fixed.{stage_in, ShowStages}

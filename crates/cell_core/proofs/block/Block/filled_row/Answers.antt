@@ -14,7 +14,7 @@ words-preserved g c =
       omega (arith, long, c.words.invariant.1, c.filled_word-asked.ensures.row, c.filled_word-asked.ensures.most),
       filled_more c.args.self.now c.args.offset c.words.count old more all c.words.invariant.1 is c.words.invariant.2 c.filled_word-asked.ensures.filled,
       at_filled_more c.args.self.now c.args.offset c.words.count c.filled_word-asked.result.1 (c.words.count + c.filled_word-asked.result.0) c.words.invariant.3 c.filled_word-asked.ensures.stages
-          (let whole = c.test-found-asked in omega (arith, whole)),
+          (omega (arith, c.if-found-asked.false)),
     )
 
 pub returns-clause-filled : goal.returns-clause-filled

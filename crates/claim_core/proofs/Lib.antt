@@ -11,6 +11,7 @@ mod LegalNotes
 mod Additions
 mod HistoryLaws
 mod FillLaws
+mod PlaceLaws
 mod Kept
 mod TiedRows
 mod TiedEntries

@@ -4,7 +4,8 @@ use Rattle.std.specs.List.{Contains}
 use mathlib.Core.List.{IsPrefix}
 use Rattle.claim_core.specs.declared.run.Run.{Run}
 use Rattle.claim_core.specs.Lengths.{InRun, places_in, runs_end}
-use Rattle.book_core.specs.declared.events.Event.TheVariants.{Mend}
+use Rattle.book_core.specs.declared.events.Event.TheVariants.{Look, Mend}
+use Rattle.book_core.specs.declared.events.Reply.{Reply}
 use Rattle.book_core.specs.declared.events.Reply.TheVariants as replies
 use Rattle.book_core.specs.Cells.{CellList}
 use Rattle.book_core.specs.History.{IsHistory, runs_of, owner_of}
@@ -233,6 +234,23 @@ BreaksHaveOwners =
     (limit base actor place : ℕ) (filled : List Bool) (before after : Log)
     → IsHistoryOf limit base filled (before ++ break_event actor place ∷ after)
     → (owner_of (runs_of before) place ≡ Some actor) ⊎ Contains before (Mend actor place, replies.Done)
+
+-- a look that comes after a place was filled shows its value
+abbrev pub FinishedPlacesAreFound : Type 0
+FinishedPlacesAreFound =
+    (limit base actor place : ℕ) (filled : List Bool) (old new : Log) (reply : Reply) → Contains old (fill_event actor place)
+    → Adds old (((Look 0 place, reply) ∷ []) ∷ []) new → IsHistoryOf limit base filled new → reply ≡ replies.Value place
+
+-- a look that shows a value comes after the place was filled, if a word did not begin with the place
+abbrev pub ShownPlacesAreFinished : Type 0
+ShownPlacesAreFinished =
+    (limit base place : ℕ) (filled : List Bool) (before after : Log) → base ≤ place
+    → IsHistoryOf limit base filled (before ++ (Look 0 place, replies.Value place) ∷ after)
+    → (actor : ℕ) × Contains before (fill_event actor place)
+
+-- if one history goes on from each of two others, one of these goes on from the other
+abbrev pub HistoriesAreOne : Type 0
+HistoriesAreOne = (a b all : Log) → IsPrefix a all → IsPrefix b all → IsPrefix a b ⊎ IsPrefix b a
 
 -- of a run that a step adds, the hand knows no place begun
 abbrev pub AddedPlacesAreNotBegun : Type 0

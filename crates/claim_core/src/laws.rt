@@ -10,6 +10,7 @@ ghost use Rattle.claim_core.specs.Laws.{OwnCountsStay};
 ghost use Rattle.claim_core.specs.Laws.{EventsFollow, PrefixesAddNothing, StepsGoOn, StepsStay};
 ghost use Rattle.claim_core.specs.Laws.{FirstPlacesAreTold, SizesCountClaims, ClaimsBeginAtTheSize, ClaimsHaveTheirTurn};
 ghost use Rattle.claim_core.specs.Laws.{FilledPlacesStay, FillsAreOnce, FillsHaveOwners, BreaksHaveOwners};
+ghost use Rattle.claim_core.specs.Laws.{FinishedPlacesAreFound, ShownPlacesAreFinished, HistoriesAreOne};
 ghost use Rattle.claim_core.specs.Laws.{AddedPlacesAreNotBegun};
 ghost use Rattle.claim_core.specs.Laws.{NothingIsNote, FullIsNote, GrowthIsNote, ReachIsNote, RangeIsNote};
 
@@ -187,4 +188,19 @@ pub fn places_are_filled_once()
 /// States that a hand knows no place begun of a run that a step adds.
 pub fn added_places_are_not_begun()
     ensures { AddedPlacesAreNotBegun }
+{}
+
+/// States that a look shows the value of a place that was filled before it in the history.
+pub fn finished_places_are_found()
+    ensures { FinishedPlacesAreFound }
+{}
+
+/// States that a place was filled before a look that shows its value, unless the history begins with the place.
+pub fn shown_places_are_finished()
+    ensures { ShownPlacesAreFinished }
+{}
+
+/// States that one of two histories goes on from the other, if one history goes on from both.
+pub fn histories_are_one()
+    ensures { HistoriesAreOne }
 {}

@@ -15,6 +15,7 @@ mod PlaceLaws
 mod Kept
 mod TiedRows
 mod TiedEntries
+mod WholeLog
 mod RoleSeats
 mod HandMoves
 mod CellEvents
@@ -26,6 +27,7 @@ mod Belongs
 mod WholeHand
 mod HandSteps
 mod MaySteps
+mod RunSteps
 mod GainsBack
 mod OwnCounts
 mod OwnPlaces

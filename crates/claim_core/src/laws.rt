@@ -12,6 +12,7 @@ ghost use Rattle.claim_core.specs.Laws.{FirstPlacesAreTold, SizesCountClaims, Cl
 ghost use Rattle.claim_core.specs.Laws.{FilledPlacesStay, FillsAreOnce, FillsHaveOwners, BreaksHaveOwners};
 ghost use Rattle.claim_core.specs.Laws.{FinishedPlacesAreFound, ShownPlacesAreFinished, HistoriesAreOne};
 ghost use Rattle.claim_core.specs.Laws.{AddedPlacesAreNotBegun};
+ghost use Rattle.claim_core.specs.Laws.{BegunRunsAreFilled, BegunPlacesAreOfTheRun};
 ghost use Rattle.claim_core.specs.Laws.{NothingIsNote, FullIsNote, GrowthIsNote, ReachIsNote, RangeIsNote};
 
 /// States that a run stays where it is when the list grows.
@@ -203,4 +204,11 @@ pub fn shown_places_are_finished()
 /// States that one of two histories goes on from the other, if one history goes on from both.
 pub fn histories_are_one()
     ensures { HistoriesAreOne }
+{}
+
+/// States what a step on a run of cells adds: if it fills cells that were begun, a fill of each place in order; if it
+/// begins them, the run's places.
+pub fn runs_go_in_order()
+    ensures fills { BegunRunsAreFilled }
+    ensures begins { BegunPlacesAreOfTheRun }
 {}

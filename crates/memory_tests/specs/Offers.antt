@@ -1,10 +1,12 @@
 -- What a hand has gained by steps on tied cells.
-use Rattle.std.specs.Prelude.{◌≡◌, ℕ, [], ◌∷◌}
+use Rattle.std.specs.Prelude.{◌≡◌, ℕ, [], ◌∷◌, ◌++◌}
 use Rattle.std.specs.List.{Contains}
+use mathlib.Core.List.{IsPrefix}
 use Rattle.claim_core.specs.declared.role.CellStage.{CellStage}
 use Rattle.claim_core.specs.Lengths.{InRun}
-use Rattle.claim_core.specs.History.{AddsEvents, fill_event}
+use Rattle.claim_core.specs.History.{AddsEvents, Adds, fill_event, fill_steps}
 use Rattle.claim_core.specs.Hand.{HandView}
+use Rattle.claim_core.specs.Plays.{places_back, AreInRun}
 use Rattle.claim_core.specs.SeatSteps.{look_event, writer_of, IsHeldAt}
 
 -- the last event that it has seen is a look at the place, which shows how far the cell was
@@ -21,3 +23,13 @@ pub record HasFilled (place : ℕ) (old new : HandView) : Type 0 where
   pub held : IsHeldAt stage
   pub log : AddsEvents old.log (fill_event (writer_of old.of.limit index place stage) place ∷ []) new.log
   pub begun : new.begun ≡ place ∷ old.begun
+
+-- it knows that n places from one on are begun, and knows no other begun that it did not know so before
+pub record HasBegunRun (place n : ℕ) (old new : HandView) : Type 0 where
+  pub begun : new.begun ≡ places_back place n ++ old.begun
+  pub log : IsPrefix old.log new.log
+
+-- if n places from one on are all in one run, it has added a fill of each, in order, by the claim that has its index
+abbrev pub HasFilledRun : ℕ → ℕ → HandView → HandView → Type 0
+HasFilledRun place n old new =
+    (index : ℕ) → AreInRun old.of.base old.seen index place n → Adds old.log (fill_steps index place n) new.log

@@ -233,7 +233,7 @@ module _ (terms : Terms) (slots id : ℕ) (me : Seated) (is_limit : me.0.limit �
         ),
       )
 
-  -- one that sets the numbers of the mark, of which the rule says nothing
+  -- one that sets the numbers of the mark: the rule says nothing about them
   pub marks : (numbers : List ℕ) → Allows (Kept terms) slots id me size_at (λ n. n) (marked_as numbers (step slots size_at 0 0 none) me)
   marks numbers s kept homes at small =
       let v = me.0 in

@@ -31,8 +31,8 @@ word_view table terms floor =
       floor = floor;
     }
 
--- the table has its words and no slot, its rule has these terms but for the numbers of the mark, and the desk is of this
--- table
+-- the table has its words and no slot, and the desk is of this table. Its rule has these terms; only the numbers of the
+-- mark may differ
 pub record IsOpened (table : TableId) (key terms : Terms) (desk_table : TableId) (desk_key : Terms) : Type 0 where
   pub words : table.words ≡ word_count
   pub slots : table.slots ≡ 0

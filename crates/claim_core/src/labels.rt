@@ -9,7 +9,7 @@ use crate::word::{SIZE_AT, Word};
 use std::alloc::Allocator;
 use std::marker::Brand;
 
-// A mark that has the numbers of one mark, and tells of the values that another one does.
+// Two marks, to make a mark of them: it has the numbers of the first, and tells of the values that the second tells of.
 #[derive(Drop)]
 struct Renumbered {
     numbers: Mark,

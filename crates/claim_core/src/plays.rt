@@ -214,7 +214,7 @@ impl<R: EntryAt> VisitPlay for SetRow<R> {
     ghost gain = { set_gain R.from R.n R.first };
 }
 
-/// An exchange that sets an entry to a block, of which the hand learns nothing.
+/// An exchange that sets an entry to a block and teaches the hand nothing.
 pub struct Unseen;
 
 impl EntryPlay<SeatView> for Unseen {

@@ -1,4 +1,4 @@
-//! How a hand lends its seat to an offer for a run of cells, all of which one step begins or fills.
+//! How a hand lends its seat to an offer for a run of cells: one step begins or fills them all.
 ghost use Rattle.std.specs.Prelude.{◌≡◌, ◌+◌, ◌<◌, ◌≤◌, None, length};
 ghost use Rattle.tie_core.specs.Tie.{begins, fills};
 ghost use Rattle.tie_core.specs.Run.{IsRunMade, run_of};
@@ -97,8 +97,8 @@ impl Hand {
         Desk::offer_run::<RunGain<M>>(shared, &word.desk, &mut self.badge, tag, n, place)
     }
 
-    /// Lends the seat for a begin of the cells of `n` own places from `place` on, none of which the hand knows
-    /// begun. The tag is of the first cell. Nobody else has begun any of them.
+    /// Lends the seat for a begin of the cells of `n` own places from `place` on. The hand must know none of them
+    /// begun, and nobody else has begun any. The tag is of the first cell.
     #[inline(always)]
     pub fn offer_begin_run<'a, A: Allocator>(
         &mut self,

@@ -34,7 +34,7 @@ pub type HandVisit<'a, M> = Visit<
     SeatVisit<(), SeatView, Terms, OneList, EntryGain<M>>,
 >;
 
-/// A visit that has a hand's seat, for an exchange of which the hand learns nothing.
+/// A visit that has a hand's seat, for an exchange that teaches the hand nothing.
 pub type UnseenVisit<'a> = Visit<
     'a,
     Moving<SeatView, Terms>,
@@ -163,7 +163,7 @@ impl Hand {
         visit.back(&mut badge);
         self.badge = badge;
     }
-    /// Lends the seat for an exchange like `visit_publish`, of which the hand learns nothing.
+    /// Lends the seat for an exchange like `visit_publish` that teaches the hand nothing.
     #[inline(always)]
     pub fn visit_publish_unseen<'a, A: Allocator>(
         &mut self,

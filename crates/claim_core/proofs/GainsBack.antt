@@ -308,10 +308,10 @@ nothing_gained old new whole gains =
       laid = gains.laid i;
     }
 
-pub back_read : {table : TableId} {v : SeatView} {hand lent new : HandView} (told : ℕ) (made : Option Made) → IsLent table v hand lent
-    → GainsBy (read_gains told v) made hand new → ReadsBy told made hand new
-back_read {table} {v} {hand} {lent} {new} told None is gains = absurd gains
-back_read {table} {v} {hand} {lent} {new} told (Some m) is gains =
+pub back_read : {table : TableId} {v : SeatView} {hand lent : HandView} (told : ℕ) (made : Option Made) (new : HandView)
+    → IsLent table v hand lent → GainsBy (read_gains told v) made hand new → ReadsBy told made hand new
+back_read {table} {v} {hand} {lent} told None new is gains = absurd gains
+back_read {table} {v} {hand} {lent} told (Some m) new is gains =
     let read = gains.1 in
     let nothing : Gains no_gain hand new = subst (λ (g : Gain). Gains g hand new) (read.0) (gains.2) in
     let whole : IsWholeHand hand = subst IsWholeHand is.seat (read.1) in

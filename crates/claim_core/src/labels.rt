@@ -11,12 +11,12 @@ use std::marker::Brand;
 
 // Two marks, to make a mark of them: it has the numbers of the first, and tells of the values that the second tells of.
 #[derive(Drop)]
-struct Renumbered {
+pub struct Renumbered {
     numbers: Mark,
     filled: Mark,
 }
 
-struct OfBoth;
+pub struct OfBoth;
 
 impl Marks<Renumbered> for OfBoth {
     ghost numbers = { λ both. both.numbers.numbers };

@@ -19,7 +19,7 @@ use Rattle.claim_core.specs.Lent.{seat_hand}
 use Rattle.claim_core.specs.Gain.{Gain, an_event, a_begin, ChainGain, HasSeenPlace, OwnsPlaces, KnowsNoneBegun}
 use Rattle.claim_core.specs.Laws.{BegunRunsAreFilled, BegunPlacesAreOfTheRun}
 use Rattle.claim_core.specs.Plays.{cell_stage, begin_run_gains, fill_run_gains, places_back, fills_by, Learns, LearnsChain, told_along, MayStepAlong}
-use Rattle.claim_core.specs.SeatView.{SameOwn, IsConsistent}
+use Rattle.claim_core.specs.SeatView.{IsConsistent}
 use Rattle.claim_core.specs.SeatSteps.{writer_of}
 use Rattle.claim_core.specs.Ties.{Finds, FindsRun}
 use Rattle.claim_core.specs.StepLaws.{IsHandSeat}

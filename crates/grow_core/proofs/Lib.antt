@@ -1,5 +1,9 @@
 pub mod Later
 pub mod Logs
+pub mod Adds
+pub mod Works
+pub mod TiedSteps
+pub mod Wins
 pub mod Places
 pub mod OpenedValues
 pub mod Filling

@@ -1,12 +1,14 @@
 //! How a vector is closed: it becomes an owner's list.
-ghost use Rattle.std.specs.Prelude.{◌≡◌, ◌+◌, ◌<◌, ◌≤◌, ℕ, min, Some, None, IfSome, IsSome, IsTrue, IsFalse, length};
-ghost use Rattle.claim_core.specs.Hand.{IsWholeHand, seen_size};
-ghost use Rattle.seg_core.specs.Segment.{IsLayout, segment_count, segment_end, most_segments};
+ghost use Rattle.std.specs.Prelude.{◌≡◌, ◌<◌, ◌≤◌, ℕ, min, Some, None, IfSome, IsSome, IsTrue, IsFalse, length};
+ghost use Rattle.claim_core.specs.Hand.{IsWholeHand, OwnsPlace, seen_size};
+ghost use Rattle.seg_core.specs.Segment.{HasPlace, IsLayout, segment_count, segment_end, segment_start, most_segments};
 ghost use Rattle.table_core.specs.Table.{IsBlockOf};
 ghost use Rattle.grow_core.specs.Keys.{IsKeyAt, AreKeys, key_at, mark_of};
 ghost use Rattle.grow_core.specs.Parts.{AreLong, HasFirstKeys};
+ghost use Rattle.grow_core.specs.Steps.{FindsMore};
+ghost use Rattle.grow_core.specs.Ties.{IsBlockBy, KnowsRow};
 ghost use Rattle.grow_core.specs.Vector.{IsHandOf, layout_of, limit_of};
-ghost use Rattle.grow_core.specs.Closing.{IsClosedFrom, KeepsValues};
+ghost use Rattle.grow_core.specs.Closing.{AreFixed, AreKnownFrom, AreOpenedKeys, AreToldBy, IsClosedFrom, IsListOfHistory, IsListSoFar, IsTiedByCells, KeepsValues};
 
 use crate::blocks::{put_block, take_block};
 use crate::hand::Hand;
@@ -14,63 +16,77 @@ use crate::keys::{Keys, key_of, keys_again, no_keys};
 use crate::open::Segments;
 use crate::parts::Parts;
 use crate::settle_cells::{Opened, settle_cells};
+use crate::ties::{CellBlock, SegmentTable};
 use crate::vector::Shared;
 use cell_core::block::{Epoch, Row};
-use claim_core::Mark;
+use claim_core::{CellTag, Hand as ClaimHand, Mark, Word};
 use seg_core::Layout;
 use std::alloc::Global;
 use std::marker::Model;
-use table_core::{Key, Table};
+use table_core::Key;
 
-// The key of a segment: that of the opened list, or the hand's, or otherwise one found by a look at the
-// table.
-fn find_key<T>(table: &Table<T>, opened: &Keys, own: &Keys, segment: u32) -> Option<Key>
-    requires layout { IsLayout table.now.layout }
-    requires within { segment < segment_count table.now.layout }
-    requires opened { AreKeys (mark_of table.now) opened.now }
-    requires own { AreKeys (mark_of table.now) own.now }
-    ensures key { IfSome result (IsKeyAt (mark_of table.now) segment) }
-    ensures long { IfSome result (λ key. IsBlockOf table.now.layout segment key.block) }
-    ensures first { IsSome (key_at opened.now segment) → result ≡ key_at opened.now segment }
-    ensures there { IsSome (key_at own.now segment) → IsSome result }
-{
-    let known = match key_of(opened, segment) {
-        Some(key) => Some(key),
-        None => key_of(own, segment),
-    };
-    if let Some(key) = known {
-        table.known(&key);
-        return Some(key);
-    }
-    let (_, key) = table.scout_key(segment)?;
-    Some(key)
-}
-
-// The keys of the first segments, and how many there are.
-fn first_keys<T>(table: &Table<T>, opened: &Keys, own: &Keys) -> (Keys, u32)
-    requires opened { AreKeys (mark_of table.now) opened.now }
-    requires own { AreKeys (mark_of table.now) own.now }
-    ensures named { AreKeys (mark_of table.now) result.0 }
-    ensures long { AreLong table.now.layout result.0 }
-    ensures there { HasFirstKeys result.0 result.1 }
-    ensures few { result.1 ≤ segment_count table.now.layout }
-    ensures first { (s : ℕ) → s < result.1 → IsSome (key_at opened.now s)
-        → key_at result.0 s ≡ key_at opened.now s }
-    ensures none { (s : ℕ) → s < most_segments → result.1 ≤ s → key_at result.0 s ≡ None }
-    ensures end { result.1 < segment_count table.now.layout
-        → (key_at opened.now result.1 ≡ None) × (key_at own.now result.1 ≡ None) }
-{
-    let layout = table.layout();
-    // For the proof: its f is that of a layout.
-    let _f = layout.f();
-    let mut keys = no_keys();
-    for segment in 0..layout.segments() {
-        let Some(key) = find_key(table, opened, own, segment) else {
-            return (keys, segment)
+impl<T> Shared<T> {
+    // The key of a segment: that of the opened list, or the hand's, or otherwise one found by a look at the table: the hand
+    // then knows where the segment's cells are. A whole hand learns of no event, since nobody adds one.
+    fn last_key(&self, opened: &Keys, hand: &mut Hand<T>, segment: u32) -> Option<Key>
+        requires ours { IsHandOf self.now hand.old }
+        requires whole { IsWholeHand hand.old }
+        requires within { segment < segment_count (layout_of self.now) }
+        requires opened { AreOpenedKeys self.now opened.now }
+        ensures key { IfSome result (IsKeyAt (mark_of self.now.segments) segment) }
+        ensures long { IfSome result (λ key. IsBlockOf (layout_of self.now) segment key.block) }
+        ensures by { IfSome result (λ key. IsBlockBy self.now.segments self.now.laid segment key.block) }
+        ensures row { IfSome result (λ key. KnowsRow hand.new segment key.block) }
+        ensures finds { FindsMore hand.old hand.new }
+        ensures log { hand.new.log ≡ hand.old.log }
+        ensures first { IsSome (key_at opened.now segment) → result ≡ key_at opened.now segment }
+        // The segment of a place that was claimed is there.
+        ensures there { (place : ℕ) → OwnsPlace hand.old place
+            → HasPlace (layout_of self.now) segment place → IsSome result }
+    {
+        let known = match key_of(opened, segment) {
+            Some(key) => Some(key),
+            None => key_of(&hand.keys, segment),
         };
-        keys[segment as usize] = Some(key);
+        if let Some(key) = known {
+            self.table.known(&key);
+            return Some(key);
+        }
+        self.scout_row(&mut hand.claims, segment)
     }
-    (keys, layout.segments())
+
+    // The keys of the first segments, and how many there are.
+    fn first_keys(&self, opened: &Keys, hand: &mut Hand<T>) -> (Keys, u32)
+        requires ours { IsHandOf self.now hand.old }
+        requires whole { IsWholeHand hand.old }
+        requires opened { AreOpenedKeys self.now opened.now }
+        ensures named { AreKeys (mark_of self.now.segments) result.0 }
+        ensures long { AreLong (layout_of self.now) result.0 }
+        ensures there { HasFirstKeys result.0 result.1 }
+        ensures few { result.1 ≤ segment_count (layout_of self.now) }
+        ensures first { (s : ℕ) → s < result.1 → IsSome (key_at opened.now s)
+            → key_at result.0 s ≡ key_at opened.now s }
+        ensures none { (s : ℕ) → s < most_segments → result.1 ≤ s → key_at result.0 s ≡ None }
+        // The places of the list and those that were claimed since are in these segments.
+        ensures opened { self.now.laid ≤ segment_start (layout_of self.now) result.1 }
+        ensures all { seen_size hand.old ≤ segment_start (layout_of self.now) result.1 }
+        ensures rows { AreKnownFrom 0 self.now.segments self.now.laid hand.new result.0 }
+        ensures finds { FindsMore hand.old hand.new }
+        ensures log { hand.new.log ≡ hand.old.log }
+    {
+        let layout = self.table.layout();
+        // For the proof: its f is that of a layout; and a whole hand owns every place.
+        let _f = layout.f();
+        hand.whole_laws();
+        let mut keys = no_keys();
+        for segment in 0..layout.segments() {
+            let Some(key) = self.last_key(opened, hand, segment) else {
+                return (keys, segment)
+            };
+            keys[segment as usize] = Some(key);
+        }
+        (keys, layout.segments())
+    }
 }
 
 // One past the last place that the segment has, of a vector of this size.
@@ -82,10 +98,17 @@ fn end_in(layout: Layout, segment: u32, size: u64) -> u64
     size.min(layout.first(segment) + layout.len(segment))
 }
 
-// A vector whose first `len` places are members of a list already.
+// A vector whose first `len` places are members of a list already. Its word is open, and the hand that has all shares is
+// there, until no cell is tied any more.
 #[derive(Drop)]
 struct Closing<T> {
-    table: Table<T>,
+    word: Word<Global>,
+    claims: ClaimHand,
+    cells: CellTag,
+    // The first segment that was laid since the vector was opened, and the first that is not closed yet.
+    laid: u32,
+    next: u32,
+    table: SegmentTable<T>,
     before: Keys,
     keys: Keys,
     opened: Opened<T>,
@@ -102,8 +125,9 @@ struct Closing<T> {
 
 impl<T> Model for Closing<T> {
     ghost use Rattle.std.specs.Prelude.{◌≡◌};
+    ghost use Rattle.seg_core.specs.Segment.{segment_start};
     ghost use Rattle.grow_core.specs.Parts.{broken_count, values_in};
-    ghost use Rattle.grow_core.specs.Closing.{ClosingView, closing_coded, IsClosing};
+    ghost use Rattle.grow_core.specs.Closing.{ClosingView, closing_coded, IsClosing, IsStillOpen};
 
     ghost Value = { ClosingView T };
 
@@ -116,11 +140,16 @@ impl<T> Model for Closing<T> {
       size = c.size;
       layout = c.table.layout;
       mark = c.mark.numbers;
+      laid = segment_start c.table.layout c.laid;
+      cells = c.cells.tie;
+      hand = c.claims;
     } };
 
     ghost invariant = { λ c. IsClosing c.table.layout c.mark.numbers c.before c.table.names c.keys
         c.opened c.row c.epoch c.len c.limit c.count c.size
-        × (c.broken ≡ broken_count (values_in c.row)) };
+        × (c.broken ≡ broken_count (values_in c.row))
+        × IsStillOpen c.word c.claims c.cells.tie c.table
+        (segment_start c.table.layout c.laid) c.next c.count c.keys c.row };
 }
 
 impl<T: Drop> Closing<T> {
@@ -134,23 +163,35 @@ impl<T: Drop> Closing<T> {
         ensures size { result.size ≡ seen_size hand }
         ensures layout { result.layout ≡ layout_of vector }
         ensures mark { result.mark ≡ mark_of vector.segments }
+        ensures laid { result.laid ≡ vector.laid }
+        ensures of { result.hand.of ≡ vector.word }
+        ensures log { result.hand.log ≡ hand.log }
     {
         // For the proof: the vector's base is within its limit, and the hand's places are within its size.
         vector.laws();
         hand.laws();
-        let mark = Mark::of::<Table<T>, Segments>(&vector.table);
-        let (before, count) = first_keys(&vector.table, &vector.keys, hand.whole_keys());
+        let mut hand = hand;
+        let mark = Mark::of::<SegmentTable<T>, Segments>(&vector.table);
+        let (before, count) = vector.first_keys(&vector.keys, &mut hand);
         let limit = vector.limit();
         let base = vector.word.base();
+        let size = hand.seen();
+        let Hand { claims, .. } = hand;
         let Shared {
             word,
             table,
             row,
             alloc,
+            count: laid,
+            cells,
             ..
         } = vector;
-        let size = word.close(hand.claims);
         Closing {
+            word,
+            claims,
+            cells,
+            laid,
+            next: 0,
             table,
             keys: keys_again(&before),
             before,
@@ -175,18 +216,48 @@ impl<T: Drop> Closing<T> {
         self.len < self.size
     }
 
+    // Learns of each cell of a segment how far it is, which is as the history's list says. It is no step. A segment of the
+    // opened list stays as it is.
+    fn fix_cells(&mut self, segment: u32, block: &mut CellBlock<T>)
+        requires within { segment < segment_count self.old.layout }
+        requires long { IsBlockOf self.old.layout segment block.old }
+        requires by { IsTiedByCells self.old.cells self.old.layout self.old.laid segment block.old }
+        requires row { KnowsRow self.old.hand segment block.old }
+        ensures fixed { AreFixed self.old.layout self.old.laid segment block.old block.new }
+        ensures told { AreToldBy self.old.hand self.old.layout segment block.new }
+        ensures kept { self.new ≡ self.old }
+    {
+        if segment < self.laid {
+            return;
+        }
+        let layout = self.table.layout();
+        let (from, n) = (layout.first(segment), layout.len(segment));
+        // For the proof: the cells have seats with numbers in a row.
+        block.ties_laws();
+        let tag = self.cells.numbered(&*block);
+        for i in 0..n {
+            let offer = self
+                .claims
+                .offer_read(&self.word, &tag.further(i), from + i);
+            let offer = block.fix_for(i, offer);
+            self.claims.take_back_read(offer);
+        }
+    }
+
     // The places of the next segment are members.
     fn settle_segment(&mut self)
         requires { length self.old.members < self.old.size }
         ensures more { length self.old.members < length self.new.members }
         ensures rest_kept { self.new ≡ record self.old { members = self.new.members } }
     {
+        // For the proof: the places so far are those of the closed segments.
         let (segment, offset, mut block) = take_block(
             &mut self.table,
             &self.keys,
             self.count,
             self.len,
         );
+        self.fix_cells(segment, &mut block);
         let end = end_in(self.table.layout(), segment, self.size);
         let n = end - self.len;
         self.broken += settle_cells(
@@ -198,8 +269,39 @@ impl<T: Drop> Closing<T> {
             &mut self.row,
             &self.epoch,
         );
+        block.untie_now(&self.row, self.len - offset);
         put_block(&mut self.table, &mut self.keys, segment, block);
         self.len = end;
+        self.next = segment + 1;
+    }
+
+    // Tests whether there are segments past the size that are not closed yet.
+    fn has_more(&self) -> bool {
+        self.next < self.count
+    }
+
+    // The cells of the next segment, which lies past the size, are not tied any more. They are empty.
+    fn untie_segment(&mut self)
+        requires { length self.old.members ≡ self.old.size }
+        ensures { self.new ≡ self.old }
+    {
+        let Some(key) = key_of(&self.keys, self.next) else {
+            unreachable!()
+        };
+        let mut block = self.table.detach(&key);
+        self.fix_cells(self.next, &mut block);
+        block.untie_now(&Row::new(), 0);
+        put_block(&mut self.table, &mut self.keys, self.next, block);
+        self.next += 1;
+    }
+
+    // Each entry past the first ones is not tied any more. A block that it has is dropped: no place of it was claimed.
+    fn give_up_rest(&mut self)
+        ensures { self.new ≡ self.old }
+    {
+        for segment in self.count..self.table.layout().segments() {
+            self.table.give_up(segment);
+        }
     }
 
     // The list.
@@ -210,8 +312,11 @@ impl<T: Drop> Closing<T> {
         ensures layout { result.layout ≡ self.layout }
         ensures opened { KeepsValues self.opened result.members }
         ensures closed { result.closed ≡ Some self.mark }
+        ensures history { IsListSoFar self.hand.of self.laid self.hand.log result.members }
     {
         let Closing {
+            word,
+            claims,
             table,
             before,
             keys,
@@ -225,6 +330,7 @@ impl<T: Drop> Closing<T> {
             alloc,
             ..
         } = self;
+        let _size = word.close(claims);
         Parts {
             table,
             keys,
@@ -245,6 +351,8 @@ impl<T: Drop> Shared<T> {
     /// Closes the vector into the list of its values, as long as its size. A place that was claimed but never
     /// filled is broken. It moves no value and takes no memory; its time is linear in the size. The capacity
     /// is that of the installed segments.
+    ///
+    /// It is the list of the history that the hand has seen, which is the whole one.
     pub fn into_parts(self, hand: Hand<T>) -> Parts<T>
         requires ours { IsHandOf self hand }
         requires whole { IsWholeHand hand }
@@ -253,11 +361,16 @@ impl<T: Drop> Shared<T> {
         ensures layout { result.layout ≡ layout_of self }
         ensures opened { KeepsValues self.opened result.members }
         ensures closed { IsClosedFrom self result.closed }
+        ensures history { IsListOfHistory self hand.log result.members }
     {
         let mut closing = Closing::of(self, hand);
         while closing.is_open() {
             closing.settle_segment();
         }
+        while closing.has_more() {
+            closing.untie_segment();
+        }
+        closing.give_up_rest();
         closing.into_parts()
     }
 }

@@ -46,6 +46,7 @@ mod push;
 mod read;
 mod recall;
 mod reserve;
+mod segments;
 mod settle_cells;
 mod shown_cells;
 mod sizes;
@@ -53,6 +54,8 @@ mod slices;
 mod source;
 mod split_and_join;
 mod stretch;
+mod tied;
+mod ties;
 mod token;
 mod vector;
 

@@ -7,19 +7,19 @@ ghost use Rattle.grow_core.specs.Slices.{HasBroken};
 
 use crate::blocks::{cell_of, put_block, take_block, write};
 use crate::keys::{Keys, no_keys};
+use crate::ties::SegmentTable;
 use cell_core::block::{Epoch, Row};
 use claim_core::Mark;
 use seg_core::Layout;
 use std::alloc::{AllocError, Global};
 use std::marker::Model;
-use table_core::Table;
 
 /// The parts of a vector that an exclusive owner holds. It lends no cell, so nothing of it changes through a
 /// `&`. Contracts see it as a list of values and broken members (`None`), with its limit and the number of
 /// its segments.
 #[derive(Drop)]
 pub struct Parts<T> {
-    pub(crate) table: Table<T>,
+    pub(crate) table: SegmentTable<T>,
     pub(crate) keys: Keys,
     pub(crate) row: Row<T>,
     // As long as it lasts, the broken members stay broken.
@@ -40,6 +40,7 @@ impl<T> Model for Parts<T> {
     ghost use Rattle.std.specs.Prelude.{◌≡◌, option_map};
     ghost use Rattle.grow_core.specs.Parts.{PartsView, parts_coded, broken_count, values_in, AreWhole, AreBrokenIn};
     ghost use Rattle.grow_core.specs.Closing.{IsKept};
+    ghost use Rattle.grow_core.specs.Ties.{ArePlainKeys, AreUntied};
 
     ghost Value = { PartsView T };
 
@@ -56,7 +57,8 @@ impl<T> Model for Parts<T> {
     ghost invariant = { λ p. AreWhole p.table.layout p.table.names p.keys p.row p.len p.limit
         p.count
         × IsKept p.table.layout (option_map (λ m. m.numbers) p.closed) p.before p.table.names p.keys p.row p.count
-        × AreBrokenIn p.epoch p.row × (p.broken ≡ broken_count (values_in p.row)) };
+        × AreBrokenIn p.epoch p.row × (p.broken ≡ broken_count (values_in p.row))
+        × AreUntied p.table × ArePlainKeys p.keys };
 }
 
 // Counts a member: 1 if it is broken, otherwise 0.
@@ -92,7 +94,7 @@ impl<T> Parts<T> {
         // For the proof: its f is that of a layout.
         let _f = layout.f();
         Parts {
-            table: Table::new_in(alloc, layout),
+            table: SegmentTable::new_for(alloc, layout),
             keys: no_keys(),
             row: Row::new(),
             epoch: Epoch::new(),

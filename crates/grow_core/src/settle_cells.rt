@@ -6,12 +6,13 @@ ghost use Rattle.cell_core.specs.Member.{MemberView};
 ghost use Rattle.grow_core.specs.Parts.{IsBrokenIn, broken_count, one_if_broken, values_in};
 ghost use Rattle.grow_core.specs.Closing.{AreSettled, KeepsKnown, KeepsKnownFrom};
 
-use cell_core::block::{Block, Epoch, Member, Placed, Row};
+use crate::ties::CellBlock;
+use cell_core::block::{Epoch, Member, Placed, Row};
 use std::marker::Model;
 
 // What is known of the cell from now on: without a value it is broken, and a known value stays.
 fn settle<T>(
-    block: &mut Block<T>,
+    block: &mut CellBlock<T>,
     offset: u64,
     known: &Option<Member<T>>,
     epoch: &Epoch,
@@ -32,7 +33,7 @@ fn settle<T>(
 }
 
 // Counts a cell by what is known of it: 1 if it is broken, otherwise 0. It loads the cell's state.
-fn count_broken<T>(block: &Block<T>, offset: u64, member: &Member<T>, epoch: &Epoch) -> u64
+fn count_broken<T>(block: &CellBlock<T>, offset: u64, member: &Member<T>, epoch: &Epoch) -> u64
     requires member { IsMemberAt block.now offset member.now }
     requires broken { IsBrokenIn epoch.now member.now }
     ensures { result ≡ one_if_broken member.now.value }
@@ -90,7 +91,7 @@ impl<T> Opened<T> {
     }
 
     // Shows the same of cells next to each other that were found filled. They are the places from `place` on.
-    fn agree_all(&self, place: u64, block: &Block<T>, offset: u64, found: &Row<T>, n: u64)
+    fn agree_all(&self, place: u64, block: &CellBlock<T>, offset: u64, found: &Row<T>, n: u64)
         requires places { place + n ≤ most_places }
         requires filled { AreFilledFrom block.now offset found.now }
         requires n { length found.now ≡ n }
@@ -117,7 +118,7 @@ struct Counts {
 // They are the places of the vector from `place` on. Adds to the row what is known of each from now on, and counts
 // them. It loads each word of states of the filled cells once.
 fn settle_stretch<T>(
-    block: &mut Block<T>,
+    block: &mut CellBlock<T>,
     offset: u64,
     opened: &Opened<T>,
     place: u64,
@@ -160,7 +161,7 @@ fn settle_stretch<T>(
 // Settles n cells of a block from an offset on. They are the places of the vector from `place` on. Adds to the
 // row what is known of each from now on, and returns how many of them are broken.
 pub(crate) fn settle_cells<T>(
-    block: &mut Block<T>,
+    block: &mut CellBlock<T>,
     offset: u64,
     opened: &Opened<T>,
     place: u64,

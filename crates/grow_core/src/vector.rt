@@ -7,20 +7,20 @@ ghost use Rattle.grow_core.specs.Vector.{IsHandOf, BeginsAsOpened, limit_of, lay
 
 use crate::hand::Hand;
 use crate::keys::Keys;
+use crate::ties::SegmentTable;
 use cell_core::block::{EndedEpoch, Row};
-use claim_core::{Word, laws};
+use claim_core::{CellTag, RowTags, Word, laws};
 use seg_core::Layout;
 use std::alloc::Global;
 use std::fmt;
 use std::marker::Model;
-use table_core::Table;
 
 /// A vector that many callers share. Contracts see which vector it is, its limit and its base, and the list
 /// that it was opened on.
 #[derive(Drop)]
 pub struct Shared<T> {
     pub(crate) word: Word<Global>,
-    pub(crate) table: Table<T>,
+    pub(crate) table: SegmentTable<T>,
     // What is known of the opened list: the keys of its first `count` segments, and its members.
     pub(crate) keys: Keys,
     pub(crate) count: u32,
@@ -28,9 +28,13 @@ pub struct Shared<T> {
     // The epoch of the list has ended: its broken members may be mended.
     pub(crate) ended: EndedEpoch,
     pub(crate) alloc: Global,
+    // How the cells of the later segments are tied, and their entries, in order. Neither has bytes.
+    pub(crate) cells: CellTag,
+    pub(crate) tags: RowTags,
 }
 
 impl<T> Model for Shared<T> {
+    ghost use Rattle.seg_core.specs.Segment.{segment_start};
     ghost use Rattle.grow_core.specs.Parts.{values_in};
     ghost use Rattle.grow_core.specs.Vector.{VectorView, vector_coded, IsShared};
 
@@ -38,9 +42,14 @@ impl<T> Model for Shared<T> {
 
     ghost coded = { vector_coded T.code };
 
-    ghost view = { λ v. record { word = v.word; segments = v.table; opened = values_in v.row } };
+    ghost view = { λ v. record {
+      word = v.word;
+      segments = v.table;
+      opened = values_in v.row;
+      laid = segment_start v.table.layout v.count;
+    } };
 
-    ghost invariant = { λ v. IsShared v.word v.table v.keys v.row v.ended v.count };
+    ghost invariant = { λ v. IsShared v.word v.table v.keys v.row v.ended v.count v.cells.tie v.tags };
 }
 
 // The size and the values are left out: only a step with a hand may look at them.
@@ -72,6 +81,8 @@ impl<T> Shared<T> {
     pub fn laws(&self)
         ensures bounds { AreBounds (limit_of self.now) (base_of self.now) }
         ensures opened { length self.now.opened ≡ base_of self.now }
+        // The list lies in segments that it brought.
+        ensures laid { base_of self.now ≤ self.now.laid }
         // In the history a value is named by its place.
         ensures first { BeginsAsOpened self.now }
     {

@@ -4,8 +4,9 @@ ghost use Rattle.std.specs.Arc.{arc_value};
 ghost use mathlib.Core.List.{IsPrefix};
 ghost use Rattle.claim_core.specs.Hand.{IsWholeHand, OwnApart, SeesSize, seen_size};
 ghost use Rattle.grow_core.specs.Vector.{IsHandOf, IsOpenedAt, IsPlacedOf, limit_of, layout_of};
-ghost use Rattle.grow_core.specs.Closing.{KeepsValues, IsClosedFrom};
+ghost use Rattle.grow_core.specs.Closing.{KeepsValues, IsClosedFrom, IsListOfHistory};
 ghost use Rattle.grow_core.specs.Growth.{WonPlace, WonRun, WonPlaces, Refuses, HasNoRoom, SaysFull, IsNotMoved};
+ghost use Rattle.grow_core.specs.Logs.{LogsPush, LogsGrowth, LogsRefusal, AllFilled};
 ghost use Rattle.grow_core.specs.Making.{WonMade, StopsAfter, IsRefusedBy};
 ghost use Rattle.grow_core.specs.Read.{IsShownAt, ShowsValue};
 ghost use Rattle.span_core.specs.Hands.{split_off};
@@ -143,6 +144,8 @@ impl<T: Drop> SharedWriter<T> {
             ⊎ (self.new.hand.seen ≡ other.hand.seen) }
         ensures begins { IsPrefix self.old.hand.seen self.new.hand.seen }
         ensures also_begins { IsPrefix other.hand.seen self.new.hand.seen }
+        ensures begins_log { IsPrefix self.old.hand.log self.new.hand.log }
+        ensures also_begins_log { IsPrefix other.hand.log self.new.hand.log }
         ensures apart { OwnApart self.old.hand other.hand }
         ensures vector { self.new.vector ≡ self.old.vector }
     {
@@ -159,6 +162,9 @@ impl<T: Drop> SharedWriter<T> {
         ensures layout { IfOk result (λ list. list.layout ≡ layout_of self.vector) }
         ensures opened { IfOk result (λ list. KeepsValues self.vector.opened list.members) }
         ensures closed { IfOk result (λ list. IsClosedFrom self.vector list.closed) }
+        // It is the list of the history, where pending places are broken.
+        ensures history { IfOk result (λ list.
+            IsListOfHistory self.vector self.hand.log list.members) }
         ensures back { IfErr result (λ back. back ≡ self) }
     {
         let (vector, hand) = self.into_parts();
@@ -184,6 +190,9 @@ impl<T: Drop> SharedWriter<T> {
         // Room that is missing by what the hand has seen is reported before memory is asked for.
         ensures full { HasNoRoom self.old.vector 1 self.old.hand → IsErrAnd result SaysFull }
         ensures not_moved { IfErr result IsNotMoved }
+        // The history gets the claim of the place and its fill, or the event whose reply the refusal is.
+        ensures logs { IfOk result (λ placed. LogsPush self.old.vector self.old.hand self.new.hand placed.place) }
+        ensures logs_refusal { IfErr result (LogsRefusal self.old.vector 1 self.old.hand self.new.hand) }
         ensures vector { self.new.vector ≡ self.old.vector }
     {
         self.vector.push_back(rt, &mut self.hand, value)
@@ -197,6 +206,9 @@ impl<T: Drop> SharedWriter<T> {
             (Refuses self.old.vector 1 value self.old.hand self.new.hand) }
         // Room that is missing by what the hand has seen is reported before memory is asked for.
         ensures full { HasNoRoom self.old.vector 1 self.old.hand → IsErrAnd result SaysFull }
+        // The history gets the claim of the place and its fill, or the event whose reply the refusal is.
+        ensures logs { IfOk result (λ placed. LogsPush self.old.vector self.old.hand self.new.hand placed.place) }
+        ensures logs_refusal { IfErr result (LogsRefusal self.old.vector 1 self.old.hand self.new.hand) }
         ensures vector { self.new.vector ≡ self.old.vector }
     {
         self.vector.try_push_back(&mut self.hand, value)
@@ -216,6 +228,9 @@ impl<T: Drop> SharedWriter<T> {
         ensures full { HasNoRoom self.old.vector (vec_len values) self.old.hand
             → IsErrAnd result SaysFull }
         ensures not_moved { IfErr result IsNotMoved }
+        // The history gets the claim of the run and what became of its places, or the event whose reply the refusal is.
+        ensures logs { IfOk result (λ grown. LogsGrowth self.old.vector AllFilled self.old.hand self.new.hand grown.run) }
+        ensures logs_refusal { IfErr result (LogsRefusal self.old.vector (vec_len values) self.old.hand self.new.hand) }
         ensures vector { self.new.vector ≡ self.old.vector }
     {
         self.vector.grow_vec(rt, &mut self.hand, values)
@@ -234,6 +249,9 @@ impl<T: Drop> SharedWriter<T> {
         ensures full { HasNoRoom self.old.vector (vec_len values) self.old.hand
             → IsErrAnd result SaysFull }
         ensures not_moved { IfErr result IsNotMoved }
+        // The history gets the claim of the run and what became of its places, or the event whose reply the refusal is.
+        ensures logs { IfOk result (LogsGrowth self.old.vector AllFilled self.old.hand self.new.hand) }
+        ensures logs_refusal { IfErr result (LogsRefusal self.old.vector (vec_len values) self.old.hand self.new.hand) }
         ensures vector { self.new.vector ≡ self.old.vector }
     {
         self.vector.append(rt, &mut self.hand, values)
@@ -254,6 +272,9 @@ impl<T: Drop> SharedWriter<T> {
         ensures cause { IfErr result (IsRefusedBy (StopsAfter F.step make)) }
         ensures full { HasNoRoom self.old.vector n self.old.hand → IsErrAnd result SaysFull }
         ensures not_moved { IfErr result IsNotMoved }
+        // The history gets the claim of the run and what became of its places, or the event whose reply the refusal is.
+        ensures logs { IfOk result (λ grown. LogsGrowth self.old.vector AllFilled self.old.hand self.new.hand grown.run) }
+        ensures logs_refusal { IfErr result (LogsRefusal self.old.vector n self.old.hand self.new.hand) }
         ensures vector { self.new.vector ≡ self.old.vector }
     {
         self.vector.grow_with(rt, &mut self.hand, n, make)

@@ -1,9 +1,10 @@
 //! A vector and a hand of it, in one value.
-ghost use Rattle.std.specs.Prelude.{◌≡◌, ◌+◌, ◌-◌, ◌<◌, ◌≤◌, ◌++◌, ◌⊎◌, IfOk, IfErr, IfSome, IsOkAnd, IsErrAnd, None, length};
+ghost use Rattle.std.specs.Prelude.{◌≡◌, ◌+◌, ◌-◌, ◌<◌, ◌≤◌, ◌++◌, ◌⊎◌, IfOk, IfErr, IfSome, IsOk, IsOkAnd, IsErrAnd, IsSome, None, length};
 ghost use mathlib.Core.List.{IsPrefix};
 ghost use Rattle.claim_core.specs.Hand.{IsWholeHand, KeepsOwn, OwnApart, SeesSize, seen_size};
-ghost use Rattle.grow_core.specs.Vector.{IsHandOf, IsPlacedOf, IsOpenedAt, SeesMore, base_of, limit_of};
+ghost use Rattle.grow_core.specs.Vector.{IsHandOf, IsLaid, IsPlacedOf, IsOpenedAt, SeesMore, base_of, limit_of};
 ghost use Rattle.grow_core.specs.Growth.{WonPlace, Refuses, HasNoRoom, SaysFull, IsNotMoved};
+ghost use Rattle.grow_core.specs.Logs.{IsFinishedIn, LogsPush, LogsRead, LogsRefusal};
 ghost use Rattle.grow_core.specs.Read.{IsAt, IsShownAt, ShowsValue, IsDueAt, IsInRange};
 ghost use Rattle.span_core.specs.Hands.{split_off};
 ghost use Rattle.span_core.specs.Writer.{IsTied};
@@ -142,6 +143,13 @@ impl<'a, T, B: Tie> Writer<'a, T, B> {
         // A place that was claimed stays claimed.
         ensures in_range { place < seen_size self.old.hand → IfErr result IsInRange }
         ensures hand { SeesMore self.old.hand self.new.hand }
+        // A read with a token adds nothing to the history. One without adds its look, with what it returned.
+        ensures token { IsSome known.entry → self.new.hand ≡ self.old.hand }
+        ensures looks { known.entry ≡ None
+            → LogsRead self.old.vector place self.old.hand self.new.hand result }
+        // A caller that has seen the place filled in the history finds it filled.
+        ensures finished { IsFinishedIn self.old.hand.log place → IsLaid self.old.vector place
+            → IsOk result }
         ensures vector { self.new.vector ≡ self.old.vector }
     {
         let vector = self.vector;
@@ -211,6 +219,8 @@ impl<'a, T, B: Tie> Writer<'a, T, B> {
             ⊎ (self.new.hand.seen ≡ other.entry.hand.seen) }
         ensures begins { IsPrefix self.old.hand.seen self.new.hand.seen }
         ensures also_begins { IsPrefix other.entry.hand.seen self.new.hand.seen }
+        ensures begins_log { IsPrefix self.old.hand.log self.new.hand.log }
+        ensures also_begins_log { IsPrefix other.entry.hand.log self.new.hand.log }
         ensures apart { OwnApart self.old.hand other.entry.hand }
         ensures vector { self.new.vector ≡ self.old.vector }
     {
@@ -228,6 +238,9 @@ impl<'a, T, B: Tie> Writer<'a, T, B> {
         ensures begins { IsPrefix self.old.hand.seen self.new.hand.seen }
         ensures also_begins { IsPrefix other.old.hand.seen self.new.hand.seen }
         ensures same { other.new.hand.seen ≡ self.new.hand.seen }
+        ensures begins_log { IsPrefix self.old.hand.log self.new.hand.log }
+        ensures also_begins_log { IsPrefix other.old.hand.log self.new.hand.log }
+        ensures same_log { other.new.hand.log ≡ self.new.hand.log }
         ensures apart { OwnApart self.new.hand other.new.hand }
         ensures vector { self.new.vector ≡ self.old.vector }
         ensures also_vector { other.new.vector ≡ other.old.vector }
@@ -251,6 +264,9 @@ impl<'a, T: Drop, B: Tie> Writer<'a, T, B> {
         // Room that is missing by what the hand has seen is reported before memory is asked for.
         ensures full { HasNoRoom self.old.vector 1 self.old.hand → IsErrAnd result SaysFull }
         ensures not_moved { IfErr result IsNotMoved }
+        // The history gets the claim of the place and its fill, or the event whose reply the refusal is.
+        ensures logs { IfOk result (λ placed. LogsPush self.old.vector self.old.hand self.new.hand placed.place) }
+        ensures logs_refusal { IfErr result (LogsRefusal self.old.vector 1 self.old.hand self.new.hand) }
         ensures vector { self.new.vector ≡ self.old.vector }
     {
         let vector = self.vector;
@@ -265,6 +281,9 @@ impl<'a, T: Drop, B: Tie> Writer<'a, T, B> {
             (Refuses self.old.vector 1 value self.old.hand self.new.hand) }
         // Room that is missing by what the hand has seen is reported before memory is asked for.
         ensures full { HasNoRoom self.old.vector 1 self.old.hand → IsErrAnd result SaysFull }
+        // The history gets the claim of the place and its fill, or the event whose reply the refusal is.
+        ensures logs { IfOk result (λ placed. LogsPush self.old.vector self.old.hand self.new.hand placed.place) }
+        ensures logs_refusal { IfErr result (LogsRefusal self.old.vector 1 self.old.hand self.new.hand) }
         ensures vector { self.new.vector ≡ self.old.vector }
     {
         let vector = self.vector;

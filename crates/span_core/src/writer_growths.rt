@@ -3,12 +3,13 @@ ghost use Rattle.std.specs.Prelude.{◌≡◌, ◌<◌, ◌≤◌, All, IfOk, If
 ghost use Rattle.std.specs.Iterator.{IsFinite};
 ghost use Rattle.claim_core.specs.Hand.{seen_size};
 ghost use Rattle.cell_core.specs.Block.{IsMended};
-ghost use Rattle.grow_core.specs.Vector.{IsOpenedAt, IsPlacedOf, SeesMore, limit_of};
+ghost use Rattle.grow_core.specs.Vector.{IsLaid, IsOpenedAt, IsPlacedOf, SeesMore, limit_of};
 ghost use Rattle.grow_core.specs.Growth.{WonRun, WonPlaces, Refuses, HasNoRoom, SaysFull, IsNotMoved};
+ghost use Rattle.grow_core.specs.Logs.{AllFilled, IsFinishedIn, LogsAtLeast, LogsGrowth, LogsMend, LogsRefusal, LogsRefusalUpTo};
 ghost use Rattle.grow_core.specs.Making.{WonMade, WonClones, StopsAfter, IsRefusedBy};
 ghost use Rattle.grow_core.specs.AtLeast.{WonAtLeast, RefusesAtLeast, SaysEnough};
-ghost use Rattle.grow_core.specs.Mend.{IsMendDue, IsSeen, TellsValue};
-ghost use Rattle.span_core.specs.Writer.{AppendsAll, StopsAppending};
+ghost use Rattle.grow_core.specs.Mend.{IsMendDue, IsSeen, SaysFilled, TellsValue};
+ghost use Rattle.span_core.specs.Writer.{AppendsAll, LogsPushes, StopsAppending, StopsPushing};
 
 use crate::tie::Tie;
 use crate::writer::Writer;
@@ -26,6 +27,9 @@ impl<'a, T: Drop, B: Tie> Writer<'a, T, B> {
         // Room that is missing by what the hand has seen is reported before memory is asked for.
         ensures full { HasNoRoom self.old.vector (vec_len values) self.old.hand
             → IsErrAnd result SaysFull }
+        // The history gets the claim of the run and what became of its places, or the event whose reply the refusal is.
+        ensures logs { IfOk result (λ grown. LogsGrowth self.old.vector AllFilled self.old.hand self.new.hand grown.run) }
+        ensures logs_refusal { IfErr result (LogsRefusal self.old.vector (vec_len values) self.old.hand self.new.hand) }
         ensures vector { self.new.vector ≡ self.old.vector }
     {
         let vector = self.vector;
@@ -46,6 +50,9 @@ impl<'a, T: Drop, B: Tie> Writer<'a, T, B> {
         ensures full { HasNoRoom self.old.vector (vec_len values) self.old.hand
             → IsErrAnd result SaysFull }
         ensures not_moved { IfErr result IsNotMoved }
+        // The history gets the claim of the run and what became of its places, or the event whose reply the refusal is.
+        ensures logs { IfOk result (λ grown. LogsGrowth self.old.vector AllFilled self.old.hand self.new.hand grown.run) }
+        ensures logs_refusal { IfErr result (LogsRefusal self.old.vector (vec_len values) self.old.hand self.new.hand) }
         ensures vector { self.new.vector ≡ self.old.vector }
     {
         let vector = self.vector;
@@ -65,6 +72,9 @@ impl<'a, T: Drop, B: Tie> Writer<'a, T, B> {
         ensures full { HasNoRoom self.old.vector (vec_len values) self.old.hand
             → IsErrAnd result SaysFull }
         ensures not_moved { IfErr result IsNotMoved }
+        // The history gets the claim of the run and what became of its places, or the event whose reply the refusal is.
+        ensures logs { IfOk result (LogsGrowth self.old.vector AllFilled self.old.hand self.new.hand) }
+        ensures logs_refusal { IfErr result (LogsRefusal self.old.vector (vec_len values) self.old.hand self.new.hand) }
         ensures vector { self.new.vector ≡ self.old.vector }
     {
         let vector = self.vector;
@@ -88,6 +98,9 @@ impl<'a, T: Drop, B: Tie> Writer<'a, T, B> {
         ensures cause { IfErr result (IsRefusedBy (StopsAfter F.step make)) }
         // Room that is missing by what the hand has seen is reported before memory is asked for.
         ensures full { HasNoRoom self.old.vector n self.old.hand → IsErrAnd result SaysFull }
+        // The history gets the claim of the run and what became of its places, or the event whose reply the refusal is.
+        ensures logs { IfOk result (λ grown. LogsGrowth self.old.vector AllFilled self.old.hand self.new.hand grown.run) }
+        ensures logs_refusal { IfErr result (LogsRefusal self.old.vector n self.old.hand self.new.hand) }
         ensures vector { self.new.vector ≡ self.old.vector }
     {
         let vector = self.vector;
@@ -109,6 +122,9 @@ impl<'a, T: Drop, B: Tie> Writer<'a, T, B> {
         ensures cause { IfErr result (IsRefusedBy (StopsAfter F.step make)) }
         ensures full { HasNoRoom self.old.vector n self.old.hand → IsErrAnd result SaysFull }
         ensures not_moved { IfErr result IsNotMoved }
+        // The history gets the claim of the run and what became of its places, or the event whose reply the refusal is.
+        ensures logs { IfOk result (λ grown. LogsGrowth self.old.vector AllFilled self.old.hand self.new.hand grown.run) }
+        ensures logs_refusal { IfErr result (LogsRefusal self.old.vector n self.old.hand self.new.hand) }
         ensures vector { self.new.vector ≡ self.old.vector }
     {
         let vector = self.vector;
@@ -132,6 +148,9 @@ impl<'a, T: Drop, B: Tie> Writer<'a, T, B> {
         // The hand's size or the limit decides before memory is asked for.
         ensures enough { size ≤ seen_size self.old.hand → IsOkAnd result SaysEnough }
         ensures full { limit_of self.old.vector < size → IsErrAnd result SaysFull }
+        // The history gets the claim of the run and what became of its places, or the event whose reply the refusal is.
+        ensures logs { IfOk result (LogsAtLeast self.old.vector size self.old.hand self.new.hand) }
+        ensures logs_refusal { IfErr result (LogsRefusalUpTo self.old.vector size self.old.hand self.new.hand) }
         ensures vector { self.new.vector ≡ self.old.vector }
     {
         let vector = self.vector;
@@ -154,6 +173,10 @@ impl<'a, T: Drop, B: Tie> Writer<'a, T, B> {
         ensures stopped { IfErr result
             (StopsAppending I.next_gives items self.old.vector self.old.hand self.new.hand) }
         ensures not_moved { IfErr result (λ (_, refused). IsNotMoved refused) }
+        // The history gets the claim and the fill of each place, in order; and then the event of the refusal.
+        ensures logs { IfOk result (LogsPushes self.old.vector self.old.hand self.new.hand) }
+        ensures logs_refusal { IfErr result
+            (StopsPushing self.old.vector self.old.hand self.new.hand) }
         ensures vector { self.new.vector ≡ self.old.vector }
     {
         // For the proof: a hand that wins a place owns one more.
@@ -186,6 +209,9 @@ impl<'a, T: Clone, B: Tie> Writer<'a, T, B> {
             (Refuses self.old.vector n tt self.old.hand self.new.hand) }
         ensures made { IfErr result (IsRefusedBy (λ values _. All (T.is_clone value.now) values)) }
         ensures full { HasNoRoom self.old.vector n self.old.hand → IsErrAnd result SaysFull }
+        // The history gets the claim of the run and what became of its places, or the event whose reply the refusal is.
+        ensures logs { IfOk result (λ grown. LogsGrowth self.old.vector AllFilled self.old.hand self.new.hand grown.run) }
+        ensures logs_refusal { IfErr result (LogsRefusal self.old.vector n self.old.hand self.new.hand) }
         ensures vector { self.new.vector ≡ self.old.vector }
     {
         let vector = self.vector;
@@ -206,6 +232,9 @@ impl<'a, T: Clone, B: Tie> Writer<'a, T, B> {
         ensures made { IfErr result (IsRefusedBy (λ values _. All (T.is_clone value.now) values)) }
         ensures full { HasNoRoom self.old.vector n self.old.hand → IsErrAnd result SaysFull }
         ensures not_moved { IfErr result IsNotMoved }
+        // The history gets the claim of the run and what became of its places, or the event whose reply the refusal is.
+        ensures logs { IfOk result (λ grown. LogsGrowth self.old.vector AllFilled self.old.hand self.new.hand grown.run) }
+        ensures logs_refusal { IfErr result (LogsRefusal self.old.vector n self.old.hand self.new.hand) }
         ensures vector { self.new.vector ≡ self.old.vector }
     {
         let vector = self.vector;
@@ -232,6 +261,12 @@ impl<'a, T, B: Tie> Writer<'a, T, B> {
         ensures in_range { place < seen_size self.old.hand
             → IfErr result (λ (error, _). IsSeen error) }
         ensures hand { SeesMore self.old.hand self.new.hand }
+        // The history gets the look at a place that is not below the size, the mend and its fill, or the look that found the
+        // place pending or filled.
+        ensures mends { LogsMend self.old.vector place self.old.hand self.new.hand result }
+        // A caller that has seen the place filled in the history finds it filled.
+        ensures finished { IsFinishedIn self.old.hand.log place → IsLaid self.old.vector place
+            → IsErrAnd result (λ (error, _). SaysFilled error) }
         ensures vector { self.new.vector ≡ self.old.vector }
     {
         let vector = self.vector;

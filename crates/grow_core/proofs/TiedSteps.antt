@@ -1,0 +1,149 @@
+-- What a hand gains by a step on a tied cell, as the events of what the step returned.
+use Rattle.std.proofs.Common.{◌≡◌, ◌≢◌, ◌⊎◌, ℕ, zero, suc, ◌+◌, ◌<◌, ◌≤◌, List, [], ◌∷◌, ◌++◌, refl, sym, ◌∙◌, subst, inl, inr, ⊎_elim, arith}
+use Rattle.std.specs.Prelude.{Option, Some, None, slice_index_or}
+use Rattle.std.specs.List.{Contains}
+use Rattle.std.proofs.lemmas.List.Elements.{Contains-append_right, Contains-append_cases}
+use Rattle.atomic_table.specs.Seated.{TableId}
+use Rattle.tie_core.specs.Tie.{Stage, Idle, Begun, Mending, Filled, Broken, Made, Shows, HasMade, looks}
+use Rattle.book_core.specs.declared.events.Event.{Event}
+use Rattle.book_core.specs.declared.events.Reply.{Reply}
+use Rattle.cell_core.specs.declared.block.shown.Look.{Look}
+use Rattle.cell_core.specs.declared.block.shown.Look.TheVariants as look
+use Rattle.cell_core.specs.Shown.{IsLookOf}
+use Rattle.claim_core.specs.declared.role.RowAt.{RowAt}
+use Rattle.claim_core.specs.declared.seat_view.SeatView.{SeatView}
+use Rattle.claim_core.specs.Lengths.{InRun}
+use Rattle.claim_core.specs.Hand.{HandView}
+use Rattle.claim_core.specs.History.{Log, Adds, fill_event, break_event}
+use Rattle.claim_core.specs.Gain.{Gain, Gains, GainsBy, an_event, a_begin}
+use Rattle.claim_core.specs.Laws.{RunsAreApart}
+use Rattle.claim_core.specs.Lent.{seat_hand}
+use Rattle.claim_core.specs.Plays.{cell_stage, look_gains, begin_gains, fill_gains, spoil_gains}
+use Rattle.claim_core.specs.SeatSteps.{look_event}
+use Rattle.grow_core.specs.Logs.{step_of}
+use Rattle.grow_core.specs.Shown.{look_steps}
+use Rattle.grow_core.specs.Vector.{VectorView}
+use Rattle.grow_core.specs.Steps.{KeepsHand, WorksIn, AddsAt, LooksAt}
+use Rattle.grow_core.proofs.Logs.{log_goes_on}
+use Rattle.grow_core.proofs.Adds.{one_step}
+
+-- ---- What a look shows
+
+-- the event of a look is that of what it returned
+look_by_stage : {T : Type 0} (place : ℕ) (s : Stage) (shown : Look T) (n : ℕ) → Shows s n → IsLookOf n shown
+    → step_of (look_event place (cell_stage s)) ≡ look_steps place shown
+look_by_stage place Idle look.Empty n shows is = refl
+look_by_stage place Idle look.Busy n shows is = absurd (omega (arith, shows, is))
+look_by_stage place Idle (look.Filled value placed) n shows is = absurd (omega (arith, shows, is))
+look_by_stage place Idle (look.Broken spoilt) n shows is = absurd (omega (arith, shows, is.0))
+look_by_stage place Begun look.Empty n shows is = refl
+look_by_stage place Begun look.Busy n shows is = absurd (omega (arith, shows, is))
+look_by_stage place Begun (look.Filled value placed) n shows is = absurd (omega (arith, shows, is))
+look_by_stage place Begun (look.Broken spoilt) n shows is = absurd (omega (arith, shows, is.0))
+look_by_stage place Mending look.Empty n shows is = absurd (omega (arith, shows, is))
+look_by_stage place Mending look.Busy n shows is = refl
+look_by_stage place Mending (look.Filled value placed) n shows is = absurd (omega (arith, shows, is))
+look_by_stage place Mending (look.Broken spoilt) n shows is = absurd (omega (arith, shows, is.0))
+look_by_stage place Filled look.Empty n shows is = absurd (omega (arith, shows, is))
+look_by_stage place Filled look.Busy n shows is = absurd (omega (arith, shows, is))
+look_by_stage place Filled (look.Filled value placed) n shows is = refl
+look_by_stage place Filled (look.Broken spoilt) n shows is = absurd (is.1 shows)
+look_by_stage place Broken look.Empty n shows is = absurd (omega (arith, shows, is))
+look_by_stage place Broken look.Busy n shows is = absurd (omega (arith, shows, is))
+look_by_stage place Broken (look.Filled value placed) n shows is = absurd (omega (arith, shows, is))
+look_by_stage place Broken (look.Broken spoilt) n shows is = refl
+
+-- ---- A hand that has gained something
+
+-- it has seen the same, and owns the same
+pub gains_keep : (gain : Gain) (old new : HandView) → Gains gain old new → KeepsHand old new
+gains_keep gain old new g =
+    record { own = record { of = g.of; mine = g.mine; shares = g.shares }; seen = g.seen }
+
+pub gains_rows : (gain : Gain) (old new : HandView) → Gains gain old new → (row : RowAt) → Contains old.rows row → Contains new.rows row
+gains_rows gain old new g row it =
+    subst (λ (l : List RowAt). Contains l row) (sym g.rows) (Contains-append_right gain.rows old.rows row it)
+
+-- it has looked
+pub looked : {T : Type 0} (place : ℕ) (v : SeatView) (made : Option Made) (shown : Look T) (n : ℕ) (old new : HandView)
+    → HasMade looks n made → IsLookOf n shown → GainsBy (look_gains place v) made old new → LooksAt old new (look_steps place shown)
+looked place v None shown n old new has is gains = absurd has
+looked place v (Some m) shown n old new has is gains =
+    let event = look_event place (cell_stage m.0) in
+    let g : Gains (an_event event) old new = subst (λ (gain : Gain). Gains gain old new) gains.1 gains.2 in record {
+      finds = record {
+        keeps = gains_keep (an_event event) old new g;
+        rows = gains_rows (an_event event) old new g;
+        begun = g.begun;
+        more = log_goes_on old.log (event ∷ []) new.log g.log;
+      };
+      adds = subst (λ (steps : List Log). Adds old.log steps new.log) (look_by_stage place m.0 shown n has.0.0 is)
+          (one_step old.log new.log (event ∷ []) g.log);
+    }
+
+-- a list of one number has no other
+alone_at : (x y i : ℕ) → i < 1 → slice_index_or (x ∷ []) i y ≡ y → x ≡ y
+alone_at x y zero less is = is
+alone_at x y (suc i) less is = absurd (omega (arith, less))
+
+alone_in : (x y : ℕ) → Contains (x ∷ []) y → x ≡ y
+alone_in x y it = alone_at x y it.0 it.1 it.2
+
+-- ---- A hand that begins a place of its own, and fills or breaks it
+
+module _ (place : ℕ) where
+  pub begun_at : (v : SeatView) (m : Made) (old new : HandView) → GainsBy (begin_gains place v) (Some m) old new → WorksIn old new place 1
+  begun_at v m old new gains =
+      let g : Gains (a_begin place) old new = subst (λ (gain : Gain). Gains gain old new) gains.1 gains.2 in record {
+        keeps = gains_keep (a_begin place) old new g;
+        rows = g.rows;
+        begun = λ q it.
+            ⊎_elim (λ (first : Contains (place ∷ []) q). let same = alone_in place q first in inl (omega (arith, same), omega (arith, same)))
+            (λ (was : Contains old.begun q). inr was)
+            (Contains-append_cases (place ∷ []) old.begun q (subst (λ (l : List ℕ). Contains l q) g.begun it));
+        more = log_goes_on old.log [] new.log g.log;
+      }
+
+  pub begun_of : (v : SeatView) (o : Option Made) (old new : HandView) → GainsBy (begin_gains place v) o old new → WorksIn old new place 1
+  begun_of v None old new gains = absurd gains
+  begun_of v (Some m) old new gains = begun_at v m old new gains
+
+  -- a step with one event, which begins nothing
+  pub works_with : (event : Event × Reply) (old new : HandView) → Gains (an_event event) old new → WorksIn old new place 1
+  works_with event old new g = record {
+    keeps = gains_keep (an_event event) old new g;
+    rows = g.rows;
+    begun = λ q it. inr (subst (λ (l : List ℕ). Contains l q) g.begun it);
+    more = log_goes_on old.log (event ∷ []) new.log g.log;
+  }
+
+  -- the hand's seat, as the hand
+  seat_sees : (floor : ℕ) (table : TableId) (v : SeatView) (hand : HandView) → seat_hand floor table v ≡ hand → (index : ℕ)
+      → InRun v.base v.seen index place → InRun hand.of.base hand.seen index place
+  seat_sees floor table v hand is index it = subst (λ (h : HandView). InRun h.of.base h.seen index place) is it
+
+  module _ (law : RunsAreApart) {T : Type 0} (vector : VectorView T) (floor : ℕ) (table : TableId) (v : SeatView) (old new : HandView)
+      (is : seat_hand floor table v ≡ old) where
+    -- a step on a begun place is of the actor whose index the place's run has
+    step_at : (event : ℕ → Event × Reply) → (told : (k : ℕ) × InRun v.base v.seen k place) → Gains (an_event (event told.0)) old new
+        → AddsAt vector old new place event
+    step_at event told g index owns laid =
+        let same : told.0 ≡ index = law old.of.base old.seen told.0 index place (seat_sees floor table v old is told.0 told.1) owns.in_run in
+        let here : Gains (an_event (event index)) old new = subst (λ (k : ℕ). Gains (an_event (event k)) old new) same g in
+        one_step old.log new.log (event index ∷ []) here.log
+
+    -- it is filled
+    pub filled_at : GainsBy (fill_gains place v) (Some (Begun, Filled)) old new
+        → WorksIn old new place 1 × AddsAt vector old new place (λ index. fill_event index place)
+    filled_at gains =
+        let told = gains.1 in
+        let g : Gains (an_event (fill_event told.0 place)) old new = subst (λ (gain : Gain). Gains gain old new) told.2 gains.2 in
+        (works_with (fill_event told.0 place) old new g, step_at (λ index. fill_event index place) (told.0, told.1) g)
+
+    -- or broken
+    pub broken_at : GainsBy (spoil_gains place v) (Some (Begun, Broken)) old new
+        → WorksIn old new place 1 × AddsAt vector old new place (λ index. break_event index place)
+    broken_at gains =
+        let told = gains.1 in
+        let g : Gains (an_event (break_event told.0 place)) old new = subst (λ (gain : Gain). Gains gain old new) told.2 gains.2 in
+        (works_with (break_event told.0 place) old new g, step_at (λ index. break_event index place) (told.0, told.1) g)

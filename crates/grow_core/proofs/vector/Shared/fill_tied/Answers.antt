@@ -1,0 +1,27 @@
+use Rattle.std.proofs.Common.{sym, subst, ap}
+use Rattle.claim_core.specs.Gain.{IsLent}
+use Rattle.grow_core.proofs.Works.{at_after, works_twice}
+use Rattle.grow_core.proofs.TiedSteps.{filled_at}
+use Rattle.grow_core.proofs.vector.Shared.fill_tied.Goals as goal
+
+-- The names of goals are a guess. Not checked. The two clauses use the same terms: what the fill tells, after the begin.
+
+pub returns-clause-works : goal.returns-clause-works
+returns-clause-works g c =
+    let mid = c.begin_tied-pen.new.claims in let new = c.take_back.new.self in
+    let same = c.fill_for-placed.ensures.offer.1 in
+    let lent = subst (λ about. IsLent about.table_id about.view mid c.offer_fill-offer.new.self) (sym same) c.offer_fill-offer.ensures.lent in
+    let gained = c.take_back.ensures.gained mid lent in
+    let filled = filled_at c.args.place c.runs_are_apart.ensures c.args.self.now mid.of.floor _ _ mid new lent.seat
+    (subst (λ made. _) c.fill_for-placed.ensures.made gained) in
+    works_twice c.args.claims.now mid new c.args.place 1 c.begin_tied-pen.ensures.works filled.0
+
+pub returns-clause-adds : goal.returns-clause-adds
+returns-clause-adds g c =
+    let mid = c.begin_tied-pen.new.claims in let new = c.take_back.new.self in
+    let same = c.fill_for-placed.ensures.offer.1 in
+    let lent = subst (λ about. IsLent about.table_id about.view mid c.offer_fill-offer.new.self) (sym same) c.offer_fill-offer.ensures.lent in
+    let gained = c.take_back.ensures.gained mid lent in
+    let filled = filled_at c.args.place c.runs_are_apart.ensures c.args.self.now mid.of.floor _ _ mid new lent.seat
+    (subst (λ made. _) c.fill_for-placed.ensures.made gained) in
+    at_after c.args.self.now c.args.claims.now mid new c.args.place _ c.begin_tied-pen.ensures.works filled.1

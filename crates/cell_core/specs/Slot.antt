@@ -98,6 +98,15 @@ abbrev pub break_added : Bool → ℕ
 break_added true = 5
 break_added false = 4
 
+-- the state of a cell that its writer has, and how far the cell is: by whether it is begun and not busy
+abbrev pub writer_state : Bool → ℕ
+writer_state true = empty_state
+writer_state false = busy_state
+
+abbrev pub writer_stage : Bool → Stage
+writer_stage true = Begun
+writer_stage false = Mending
+
 -- the state of each phase
 abbrev pub state : {X : Type 0} → Phase X → ℕ
 state free = empty_state

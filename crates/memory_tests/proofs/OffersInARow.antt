@@ -21,6 +21,10 @@ pub is_made : (step : Step) (n : ℕ) (made : Option Made) → HasMade step n ma
 is_made step n None has = absurd has
 is_made step n (Some m) has = tt
 
+-- a fill of a begun cell is made
+pub fills_begun : (made : Option Made) → made ≡ Some (Begun, Filled) → HasMade fills 0 made
+fills_begun made is = subst (λ (o : Option Made). HasMade fills 0 o) (sym is) ((refl, tt, refl), tt)
+
 -- what a hand has lent, by other names of the same seat
 pub lent_on : {table also_table : TableId} {v also_v : SeatView} {hand lent : HandView} → table ≡ also_table → v ≡ also_v
     → IsLent also_table also_v hand lent → IsLent table v hand lent

@@ -7,7 +7,7 @@ ghost use Rattle.cell_core.specs.Slot.{AreTied, empty_state, broken_state};
 ghost use Rattle.cell_core.specs.Member.{IsUntied, KnowsCells};
 ghost use Rattle.cell_core.specs.Mould.{first_seat, last_seat, mould_of, row_mould, tie_in};
 ghost use Rattle.cell_core.specs.Run.{AreTiedTo, cells_from};
-ghost use Rattle.tie_core.specs.Tie.{Tie, HasMade, begins, breaks, fills, looks, mends, row_of, tie_further, tie_numbered};
+ghost use Rattle.tie_core.specs.Tie.{Tie, Begun, Mending, Filled, Broken, HasMade, begins, breaks, fills, looks, mends, row_of, tie_further, tie_numbered};
 ghost use Rattle.tie_core.specs.Run.{run_of};
 
 use crate::block::fields::{all_but, in_field, state_in, words_for};
@@ -198,7 +198,7 @@ impl<'a, T> Pen<'a, T, First> {
         ensures value { result.0.value ≡ value }
         ensures name { result.0.name ≡ self.entry.cell.value_name }
         ensures found { result.0.found ≡ self.entry.found }
-        ensures made { (n : ℕ) × HasMade fills n result.1.made }
+        ensures made { result.1.made ≡ Some (Begun, Filled) }
         ensures offer { (result.1.tie ≡ offer.entry.tie) × (result.1.about ≡ offer.entry.about) }
     {
         let Pen {
@@ -216,7 +216,7 @@ impl<'a, T> Pen<'a, T, First> {
         requires step { (offer.step ≡ breaks) × (offer.made ≡ None) }
         ensures offset { result.0.offset ≡ self.entry.offset }
         ensures name { result.0.name ≡ self.entry.cell.broken_name }
-        ensures made { (n : ℕ) × HasMade breaks n result.1.made }
+        ensures made { result.1.made ≡ Some (Begun, Broken) }
         ensures offer { (result.1.tie ≡ offer.entry.tie) × (result.1.about ≡ offer.entry.about) }
     {
         let Pen {
@@ -244,7 +244,7 @@ impl<'a, T> Pen<'a, T, Tied> {
         ensures value { result.0.value ≡ value }
         ensures name { result.0.name ≡ self.entry.cell.value_name }
         ensures found { result.0.found ≡ self.entry.found }
-        ensures made { (n : ℕ) × HasMade fills n result.1.made }
+        ensures made { result.1.made ≡ Some (Mending, Filled) }
         ensures offer { (result.1.tie ≡ offer.entry.tie) × (result.1.about ≡ offer.entry.about) }
     {
         let Pen {
@@ -262,7 +262,7 @@ impl<'a, T> Pen<'a, T, Tied> {
         requires step { (offer.step ≡ breaks) × (offer.made ≡ None) }
         ensures offset { result.0.offset ≡ self.entry.offset }
         ensures name { result.0.name ≡ self.entry.cell.broken_name }
-        ensures made { (n : ℕ) × HasMade breaks n result.1.made }
+        ensures made { result.1.made ≡ Some (Mending, Broken) }
         ensures offer { (result.1.tie ≡ offer.entry.tie) × (result.1.about ≡ offer.entry.about) }
     {
         let Pen {

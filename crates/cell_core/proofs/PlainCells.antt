@@ -43,6 +43,14 @@ none_kind tied = record { plain = λ none j. refl }
 pub cell_plain : (γs : List Names) (i : ℕ) → AreOfKind false γs → IsPlain (cell_in γs i)
 cell_plain γs i are = are.plain refl i
 
+plain_each : (γs : List Names) → ((i : ℕ) → IsPlain (cell_in γs i)) → ArePlain γs
+plain_each [] plain = tt
+plain_each (γ ∷ γs) plain = (plain 0, plain_each γs (λ i. plain (suc i)))
+
+-- cells of a kind that is not tied are not tied
+pub all_plain : (γs : List Names) → AreOfKind false γs → ArePlain γs
+all_plain γs are = plain_each γs (are.plain refl)
+
 true_is_not : true ≡ false → ⊥
 true_is_not e = cc
 

@@ -10,9 +10,8 @@ ghost use Rattle.cell_core.specs.Run.{AreTiedTo, cells_from};
 ghost use Rattle.tie_core.specs.Tie.{Tie, Begun, Mending, Filled, Broken, HasMade, begins, breaks, fills, looks, mends, row_of, tie_further, tie_numbered};
 ghost use Rattle.tie_core.specs.Run.{run_of};
 
-use crate::block::fields::{all_but, in_field, state_in, words_for};
-use crate::block::steps::{Laid, Link, Rooms};
-use crate::block::{Block, First, Found, Look, Pen, Placed, Row, Spoilt, Tied, lay_for};
+use crate::block::fields::{all_but, in_field, state_in};
+use crate::block::{Block, First, Found, Look, Pen, Placed, Row, Spoilt, Tied, lay_for, reserve_rows};
 use crate::slot::steps::{BROKEN, BUSY, FILLED};
 use std::alloc::{AllocError, Allocator};
 use std::marker::PhantomData;
@@ -37,16 +36,8 @@ impl<T, A: Allocator> Block<T, A, Tied> {
         ensures len { IfOk result (λ block. block_len block ≡ n) }
         ensures ties { IfOk result (λ block. AreTied seats.ties block.cells) }
     {
-        let (rooms, values) = Rooms::reserve(&alloc, n as usize)?;
-        let (words, states) = match Rooms::reserve(&alloc, words_for(n)) {
-            Ok(row) => row,
-            Err(error) => {
-                values.free(&alloc, rooms, n as usize);
-                return Err(error);
-            }
-        };
-        let link = Link::of(words, rooms);
-        let laid = lay_for(Laid::new(states, values), words, n, seats);
+        let (link, laid) = reserve_rows(&alloc, n)?;
+        let laid = lay_for(laid, link.words, n, seats);
         Ok(Block {
             alloc,
             link,

@@ -167,16 +167,6 @@ impl<'a, T> RawSlot<'a, T> {
         (found, sight)
     }
 
-    // The same of a cell that is not tied, so that nobody else need know of the look.
-    #[inline(always)]
-    pub(crate) fn look(self) -> (u64, RawSight<T>)
-        requires { IsPlain self.of }
-        ensures { (result.1.of ≡ self.entry.of)
-            × (result.1.found ≡ field result.0 self.entry.index) }
-    {
-        self.sight()
-    }
-
     // The word, and what the state of a tied cell shows. The caller's update runs in the load.
     #[inline(always)]
     pub(crate) fn sight_for<'b, X, K: Book<X>>(

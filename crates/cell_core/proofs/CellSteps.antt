@@ -20,7 +20,7 @@ use contract.Monad as monad
 use Rattle.core.proofs.once.Turns.{one_value}
 use Rattle.core.proofs.cell.Borrows.{by_one}
 use Rattle.cell_core.specs.Member.{HasNames, IsStateOf, MayBeStateOf, IsEpochOf, unfilled, known_as}
-use Rattle.cell_core.specs.Slot.{Names, IsPlain, fact, writer_state, writer_stage, free, begun, busy, full, broken, broken_by_owner, state, stage, broken_mark, was_broken, broken_once, content, mark, written, place, auths, unset, setting, fill_added, break_added, over, broken_unset, reserved, told, seat, inside, Room, tie, lent, bare, cell, Right, FirstRight, gained, won, sighted, sights}
+use Rattle.cell_core.specs.Slot.{Names, IsPlain, HasNoSeat, ShowsOwner, fact, writer_state, writer_stage, free, begun, busy, full, broken, broken_by_owner, state, stage, broken_mark, was_broken, broken_once, content, mark, written, place, auths, unset, setting, fill_added, break_added, over, broken_unset, reserved, told, seat, inside, Room, tie, lent, bare, cell, Right, FirstRight, gained, won, sighted, sights}
 use Rattle.tie_core.specs.Tie.{Tie, Stage, Idle, Begun, Mending, Filled, Broken, stage_number, IsHeld, IsTied, Step, begins as beginning, looks as looking, fills as filling, breaks as breaking, mends as mending, Shows, Moves, Gives, HasMade, Made, seat_at, left, update}
 use Rattle.cell_core.proofs.WordSteps.{S, Next, Law}
 
@@ -214,7 +214,7 @@ module _ {M : Type 1} {𝓤 : Ura M} (𝓛 : Logic 𝓤) (R : RattleType) (γ : 
   shows_with busy = qed 𝓛 (‵ (told R γ busy) ∷ []) ∵ nothing ! $ move ! (1 ∷ []) $ done !
   shows_with (full x) = qed 𝓛 (‵ (told R γ (full x)) ∷ []) ∵ fsplit ! $ move ! (1 ∷ []) $ res_dup ! $ move ! (2 ∷ 0 ∷ []) $ fjoin ! $ done !
   shows_with broken = qed 𝓛 (‵ (told R γ broken) ∷ []) ∵ fsplit ! $ move ! (1 ∷ []) $ fsplit ! $ res_dup ! $ move ! (0 ∷ 2 ∷ []) $ fjoin ! $ move ! (2 ∷ 0 ∷ []) $ fjoin ! $ done !
-  shows_with broken_by_owner = qed 𝓛 (‵ (told R γ broken_by_owner) ∷ []) ∵ fsplit ! $ res_dup ! $ move ! (0 ∷ 2 ∷ []) $ fjoin ! $ done !
+  shows_with broken_by_owner = qed 𝓛 (‵ (told R γ broken_by_owner) ∷ []) ∵ fsplit ! $ fsplit ! $ res_dup ! $ move ! (0 ∷ 2 ∷ []) $ fjoin ! $ move ! (0 ∷ 2 ∷ []) $ fjoin ! $ done !
 
   looked : (s : S R) → ⟦ Cell s ⟧ ⊢ ⟦ Cell s ⟧ ∗ ⟦ Sights (state s) ⟧
   looked s = qed 𝓛 (‵ (Cell s) ∷ []) ∵ fsplit3 ! $ move ! (1 ∷ []) $ use1 𝓛 (‵ (told R γ s) ⊛ ‵ (sighted R γ (state s) (seen_of s))) (shows_with s) $ split ! $
@@ -248,7 +248,7 @@ module _ {M : Type 1} {𝓤 : Ura M} (𝓛 : Logic 𝓤) (R : RattleType) (γ : 
       move ! (2 ∷ 1 ∷ 0 ∷ []) $ by ! seized
 
   unbreaks_owned : ⟦ Cell broken_by_owner ⟧ ∗ ⟦ over R γ ⟧ ⊢ ⟦ Cell busy ⟧ ∗ ⟦ Right R γ α δ b e ⟧
-  unbreaks_owned = qed 𝓛 (‵ (Cell broken_by_owner) ∷ ‵ (over R γ) ∷ []) ∵ fsplit3 ! $ move ! (1 ∷ []) $ fsplit ! $ drop ! $
+  unbreaks_owned = qed 𝓛 (‵ (Cell broken_by_owner) ∷ ‵ (over R γ) ∷ []) ∵ fsplit3 ! $ move ! (1 ∷ []) $ fsplit ! $ fsplit ! $ drop ! $ move ! (1 ∷ []) $ drop ! $
       -- [the right to set; the names; the room; the epoch has ended]
       move ! (1 ∷ 3 ∷ 0 ∷ []) $ by ! seized
 
@@ -296,6 +296,28 @@ module _ {M : Type 1} {𝓤 : Ura M} (𝓛 : Logic 𝓤) (R : RattleType) (γ : 
   pub mends_bare : BareLaw (moved mending) (λ c. bit_and c (15 - 4)) (Won 5) (emp 𝓤)
   mends_bare = alone (moved mending) 5 mending_by mends_at
 
+  -- only a cell without a seat is one that an owner broke
+  shows_owner : (s : S R) → ⟦ Cell s ⟧ ⊢ guard 𝓤 (ShowsOwner γ.tied (state s)) ⟦ Cell s ⟧
+  shows_owner free = qed 𝓛 (‵ (Cell free) ∷ []) ∵ check ! (λ more filled other. absurd (let l : 1 < 0 = more in omega (arith, l))) $ done !
+  shows_owner begun = qed 𝓛 (‵ (Cell begun) ∷ []) ∵ check ! (λ more filled other. absurd (let l : 1 < 0 = more in omega (arith, l))) $ done !
+  shows_owner busy = qed 𝓛 (‵ (Cell busy) ∷ []) ∵ check ! (λ more filled other. absurd (let l : 1 < 1 = more in omega (arith, l))) $ done !
+  shows_owner (full x) = qed 𝓛 (‵ (Cell (full x)) ∷ []) ∵ check ! (λ more filled other. absurd (filled refl)) $ done !
+  shows_owner broken = qed 𝓛 (‵ (Cell broken) ∷ []) ∵ check ! (λ more filled other. absurd (other refl)) $ done !
+  shows_owner broken_by_owner = qed 𝓛 (‵ (Cell broken_by_owner) ∷ []) ∵ fsplit3 ! $ move ! (1 ∷ []) $ fsplit ! $ move ! (1 ∷ []) $ fpick ! (λ none. check ! (λ more filled other. none) $
+      -- [true; what a broken cell has; the names; the room]
+      fpack ! (HasNoSeat γ.tied) (λ _. ftrue) none $ move ! (1 ∷ 0 ∷ []) $ fjoin ! $ move ! (1 ∷ 0 ∷ 2 ∷ []) $ fjoin3 ! $ done !)
+
+  -- what a mender gains, and whether an owner broke the cell
+  abbrev pub Taken : ℕ → Fml
+  Taken n = fsep (Won 5 n) (fact (ShowsOwner γ.tied n))
+
+  pub mends_shown : BareLaw (moved mending) (λ c. bit_and c (15 - 4)) Taken (emp 𝓤)
+  mends_shown s = let N : S R → Pr = BareNext (moved mending) mending_by Taken s in let n : ℕ = state s in
+      qed 𝓛 (‵ (Cell s) ∷ raw (emp 𝓤) ∷ []) ∵ suffices ! _ (upd_i 𝓤 (ex 𝓤 N)) $ keep ! (0 ∷ []) $
+      use1 𝓛 (given (ShowsOwner γ.tied n) (‵ (Cell s))) (shows_owner s) $ learn ! (λ so.
+      use1 𝓛 (some (λ (z : S R). given ((state z ≡ mending_by n) × moved mending s z) (‵ (Cell z) ⊛ ‵ (Won 5 n)))) (mends_at s) $ pick ! (λ z. learn ! (λ is. split ! $ show ! N z $ check ! is $
+      nothing ! $ fpack ! (ShowsOwner γ.tied n) (λ _. ftrue) so $ move ! (2 ∷ 0 ∷ []) $ fjoin ! $ move ! (1 ∷ 0 ∷ []) $ done !)))
+
   pub mends : IsPlain γ → Law 𝓛 R α b γ δ e (λ c. bit_and c (15 - 4)) (Won 5) (emp 𝓤)
   mends plain = untied (moved mending) mending_by (Won 5) (emp 𝓤) plain mends_bare
 
@@ -316,8 +338,8 @@ module _ {M : Type 1} {𝓤 : Ura M} (𝓛 : Logic 𝓤) (R : RattleType) (γ : 
       use2 𝓛 (given (gnil ≡ mark R (full y)) (‵ (fobs n gnil) ⊛ ‵ (fauth n (mark R (full y))))) (𝓛.names.name_agree n gnil (mark R (full y))) $ learn ! (λ e. absurd (let z : 0 ≡ 1 = ap paired e in omega arith))
   only_busy rel g after X law broken = let Z : Pr = ex 𝓤 (BareNext rel g after broken) in qed 𝓛 (‵ (Cell broken) ∷ ‵ (unset R γ) ∷ raw X ∷ []) ∵ fsplit3 ! $ fsplit ! $ move ! (2 ∷ []) $ fsplit ! $ move ! (1 ∷ []) $ fsplit ! $
       keep ! (1 ∷ 6 ∷ 3 ∷ []) $ by ! (two_rights gnil Z)
-  only_busy rel g after X law broken_by_owner = let Z : Pr = ex 𝓤 (BareNext rel g after broken_by_owner) in qed 𝓛 (‵ (Cell broken_by_owner) ∷ ‵ (unset R γ) ∷ raw X ∷ []) ∵ fsplit3 ! $ fsplit ! $ move ! (2 ∷ []) $ fsplit ! $
-      keep ! (1 ∷ 5 ∷ 2 ∷ []) $ by ! (two_rights gnil Z)
+  only_busy rel g after X law broken_by_owner = let Z : Pr = ex 𝓤 (BareNext rel g after broken_by_owner) in qed 𝓛 (‵ (Cell broken_by_owner) ∷ ‵ (unset R γ) ∷ raw X ∷ []) ∵ fsplit3 ! $ fsplit ! $ move ! (2 ∷ []) $ fsplit ! $ fsplit ! $
+      keep ! (1 ∷ 6 ∷ 3 ∷ []) $ by ! (two_rights gnil Z)
   only_busy rel g after X law begun = let Z : Pr = ex 𝓤 (BareNext rel g after begun) in let n : GName = γ.value_name in qed 𝓛 (‵ (Cell begun) ∷ ‵ (unset R γ) ∷ raw X ∷ []) ∵ fsplit3 ! $ fsplit ! $ move ! (4 ∷ 0 ∷ []) $
       use2 𝓛 (given (gnil ≡ mark R begun) (‵ (fobs n gnil) ⊛ ‵ (fauth n (mark R begun)))) (𝓛.names.name_agree n gnil (mark R begun)) $ learn ! (λ e. absurd (let z : 0 ≡ 1 = ap numbered e in omega arith))
 

@@ -4,7 +4,7 @@ ghost use Rattle.cell_core.specs.Block.{block_len, cell_at, IsPenAt, IsFresh, Is
 ghost use Rattle.cell_core.specs.Slot.{ArePlain, AreTied, IsPlain, empty_state, filled_state};
 ghost use Rattle.cell_core.specs.Laid.{AreOfKind, HasEachRenamed, IsLinked, IsWhole, word_cells};
 ghost use Rattle.cell_core.specs.Run.{cells_from};
-ghost use Rattle.cell_core.specs.Shown.{IsFoundIn, IsNotEmpty, ShowsFilled, IsLookAt, IsLookOf};
+ghost use Rattle.cell_core.specs.Shown.{IsFoundIn, IsFoundOf, IsNotEmpty, ShowsFilled, IsLookAt, IsLookOf};
 
 mod begun;
 mod epoch;
@@ -104,6 +104,7 @@ impl<T, A: Allocator, B: Kind> Block<T, A, B> {
         requires { (offset < block_len self.now) × (pen.of ≡ cell_at self.now offset)
             × (pen.found ≡ found) × (found ≢ pen.sought) }
         ensures found { IsFoundIn self.now offset result }
+        ensures state { IsFoundOf found result }
         ensures not_empty { found ≢ empty_state → IsNotEmpty result }
     {
         match found {

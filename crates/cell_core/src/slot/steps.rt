@@ -6,7 +6,7 @@ ghost use denote.Sharing.{said};
 ghost use Rattle.std.specs.Coded.{coded_option};
 ghost use Rattle.cell_core.specs.Fields.{field};
 ghost use Rattle.tie_core.specs.Tie.{Filled, Broken, HasMade, begins, breaks, fills, looks, mends};
-ghost use Rattle.cell_core.specs.Slot.{Names, IsPlain, names_coded, break_added, fill_added, writer_stage, slot_owned, pen_owned, sighted, written, was_broken};
+ghost use Rattle.cell_core.specs.Slot.{Names, IsPlain, ShowsOwner, names_coded, break_added, fill_added, writer_stage, slot_owned, pen_owned, sighted, written, was_broken};
 ghost use Rattle.cell_core.specs.Slot.{empty_state, busy_state, filled_state, broken_state, owner_broken_state};
 ghost use Rattle.cell_core.specs.Member.{HasNames, IsStateOf, MayBeStateOf, IsEpochOf};
 
@@ -222,7 +222,8 @@ impl<'a, T> RawSlot<'a, T> {
             × (result.1.found ≡ field result.0 self.entry.index)
             × (result.2.tie ≡ offer.entry.tie) × (result.2.about ≡ offer.entry.about)
             × (result.2.step ≡ offer.entry.step)
-            × HasMade mends (field result.0 self.entry.index) result.2.made }
+            × HasMade mends (field result.0 self.entry.index) result.2.made
+            × ShowsOwner self.entry.of.tied (field result.0 self.entry.index) }
     {
         let RawSlot { word, room, marker } = self;
         let found = unsafe { raw::fetch_and::<Brand>(word, mask, SeqCst) };

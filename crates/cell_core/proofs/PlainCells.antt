@@ -1,10 +1,11 @@
 -- Cells stay of their kind, and get the ties that a new block is given.
-use Rattle.std.proofs.Common.{Bool, true, false, take, drop, append_assoc, append-nil, take-append-drop, length-append, ◌≡◌, ℕ, zero, suc, List, [], ◌∷◌, ◌++◌, length, set, refl, sym, ap, ◌∙◌, subst, arith}
+use Rattle.std.proofs.Common.{Bool, true, false, take, drop, append_assoc, append-nil, take-append-drop, length-append, ◌≡◌, ◌≢◌, ℕ, zero, suc, List, [], ◌∷◌, ◌++◌, length, set, refl, sym, ap, ◌∙◌, subst, arith}
 use Rattle.std.specs.Prelude.{Option, Some, None}
 use Rattle.tie_core.specs.Tie.{Tie, Stage, fixed_at}
 use Rattle.cell_core.specs.Slot.{Names, IsPlain, ArePlain, AreTied, cell_in}
 use Rattle.cell_core.specs.Laid.{IsOfKind, AreOfKind, HasOneRenamed, HasMore, HasMoreTied}
 use Rattle.cell_core.specs.Run.{AreRunOfKind, cells_from}
+use Rattle.cell_core.specs.Block.{BlockView, RenewsCell, StaysPlain, cell_at}
 
 -- one cell that is renamed, if the former is plain
 plain_set : (γs : List Names) (i : ℕ) (c : Names) → (IsPlain (cell_in γs i) → IsPlain c) → ((j : ℕ) → IsPlain (cell_in γs j)) → (j : ℕ) → IsPlain (cell_in (set γs i c) j)
@@ -73,6 +74,19 @@ run_others tied γ γs Γs is are = record { plain = λ none. (subst ArePlain (s
 pub fixed_again : (τ : Option Tie) (a b : Stage) → fixed_at (fixed_at τ a) b ≡ fixed_at τ b
 fixed_again None a b = refl
 fixed_again (Some t) a b = refl
+
+-- a cell that is not tied is not tied when its tie is fixed
+pub fixed_plain : (τ τ' : Option Tie) (s : Stage) → τ' ≡ fixed_at τ s → τ ≡ None → τ' ≡ None
+fixed_plain None τ' s is none = is
+fixed_plain (Some t) τ' s is none = absurd (let z = none in cc)
+
+some_value : {X : Type 0} (x : X) → Some x ≡ None → ⊥
+some_value x e = cc
+
+-- nor when it is settled: it stays as it is, or gets fresh names
+pub settled_plain : {X : Type 0} (old new : BlockView) (offset : ℕ) (v : Option X) → (v ≢ None → new ≡ old) → (v ≡ None → RenewsCell old new offset) → StaysPlain old new offset
+settled_plain old new offset None same another plain = (another refl).2 plain
+settled_plain old new offset (Some x) same another plain = subst (λ (b : BlockView). IsPlain (cell_at b offset)) (sym (same (some_value x))) plain
 
 -- cells with ties, and more of them
 tied_join : (τs us : List (Option Tie)) (γs Γs : List Names) → AreTied τs γs → AreTied us Γs → AreTied (τs ++ us) (γs ++ Γs)

@@ -344,10 +344,7 @@ fn drop_values<T: Drop, A: Allocator>(laid: Laid<T, A>, link: Link<T>, len: u64)
 }
 
 // Room for the two rows of `n` cells, by two requests for memory. No cell is laid yet.
-fn reserve_rows<T, A: Allocator>(
-    alloc: &A,
-    n: u64,
-) -> Result<(Link<T>, Laid<T, A>), AllocError>
+fn reserve_rows<T, A: Allocator>(alloc: &A, n: u64) -> Result<(Link<T>, Laid<T, A>), AllocError>
     ensures heap { IfOk result (λ (_, laid). laid.heap ≡ alloc.now) }
     ensures words { IfOk result (λ (link, laid). IsLinked laid.rows.at link.words) }
     ensures rooms { IfOk result (λ (link, laid). IsLinked laid.rows.rooms link.rooms) }

@@ -90,9 +90,7 @@ impl<T, A: Allocator, B: Kind> Block<T, A, B> {
         ensures filled { (x : T) → member.now.value ≡ Some x → IsErrAnd result (ShowsFilled x) }
     {
         let mask = all_but(BROKEN_BY_OWNER - BUSY, offset);
-        let (word, pen) = self
-            .cell(offset)
-            .reopen(mask, &member.member, &ended.ended);
+        let (word, pen) = self.cell(offset).reopen(mask, &member.member, &ended.ended);
         let found = state_in(word, offset);
         match found {
             BROKEN_BY_OWNER => Ok(Pen {

@@ -11,7 +11,9 @@ ghost use Rattle.tie_core.specs.Tie.{Tie, Begun, Mending, Filled, Broken, HasMad
 ghost use Rattle.tie_core.specs.Run.{run_of};
 
 use crate::block::fields::{all_but, in_field, state_in};
-use crate::block::{Block, First, Found, Look, Pen, Placed, Row, Spoilt, Tied, lay_for, reserve_rows};
+use crate::block::{
+    Block, First, Found, Look, Pen, Placed, Row, Spoilt, Tied, lay_for, reserve_rows,
+};
 use crate::slot::steps::{BROKEN, BUSY, FILLED};
 use std::alloc::{AllocError, Allocator};
 use std::marker::PhantomData;
@@ -143,7 +145,7 @@ impl<T, A: Allocator> Block<T, A, Tied> {
     }
 
     /// Takes a tied cell that is broken by one step from broken to busy. The offer's update runs in the step, whatever
-    /// the step finds. If an owner broke the cell, this returns `Found::Broken`. A cell with a seat was not broken so.
+    /// the step finds. If an owner broke the cell, this returns `Found::Broken`; such a cell has no seat.
     #[tactic(auto, using(crate::proofs::FoundCells::not_broken))]
     pub fn mend_for<'a, 'b, X, K: Book<X>>(
         &'a self,
@@ -157,8 +159,8 @@ impl<T, A: Allocator> Block<T, A, Tied> {
         ensures broken { IfOk result.0 IsMending }
         ensures found { IfErr result.0 (IsFoundIn self.now offset) }
         ensures made { IfOk result.0 (λ _. HasMade mends broken_state result.1.made) }
-        ensures lost { IfErr result.0 (λ found. (n : ℕ) × HasMade mends n result.1.made × (n ≢ broken_state)
-            × IsFoundOf n found) }
+        ensures lost { IfErr result.0 (λ found.
+            (n : ℕ) × HasMade mends n result.1.made × (n ≢ broken_state) × IsFoundOf n found) }
         ensures seated { offer.entry.tie.fixed ≡ None → IfErr result.0 IsNotBroken }
         ensures offer { (result.1.tie ≡ offer.entry.tie) × (result.1.about ≡ offer.entry.about) }
     {

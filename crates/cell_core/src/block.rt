@@ -129,10 +129,10 @@ impl<T, A: Allocator, B: Kind> Block<T, A, B> {
 }
 
 impl<T, A: Allocator> Block<T, A> {
-    // Shows a proof that no cell is tied. The call does nothing.
+    // Shows a proof that no cell of a block of this kind is tied. The call does nothing.
     #[tactic(auto, using(crate::proofs::PlainCells::cell_plain, crate::proofs::PlainCells::plain_from))]
     #[inline(always)]
-    fn plain_laws(&self)
+    fn kind_laws(&self)
         ensures each { (i : ℕ) → IsPlain (cell_at self.now i) }
         ensures run { (n i : ℕ) → ArePlain (cells_from n i self.now.cells) }
     {
@@ -150,7 +150,7 @@ impl<T, A: Allocator> Block<T, A> {
         ensures found { IfErr result (IsFoundIn self.now offset) }
         ensures not_empty { IfErr result IsNotEmpty }
     {
-        self.plain_laws();
+        self.kind_laws();
         self.begin_plain(offset)
     }
 
@@ -163,7 +163,7 @@ impl<T, A: Allocator> Block<T, A> {
         ensures broken { IfOk result IsMending }
         ensures found { IfErr result (IsFoundIn self.now offset) }
     {
-        self.plain_laws();
+        self.kind_laws();
         self.mend_plain(offset)
     }
 
@@ -182,7 +182,7 @@ impl<T, A: Allocator> Block<T, A> {
         ensures found { IfErr result (IsFoundIn self.now offset) }
         ensures filled { (x : T) → member.now.value ≡ Some x → IsErrAnd result (ShowsFilled x) }
     {
-        self.plain_laws();
+        self.kind_laws();
         self.mend_member_plain(offset, member, ended)
     }
 

@@ -1,7 +1,8 @@
 // Cells that are not tied, in a block of any kind: the steps on such a cell, and blocks of the kind `Tied` that have no
 // others.
-ghost use Rattle.std.specs.Prelude.{◌≡◌, ◌<◌, Some, None, IfOk, IfErr, IsErrAnd};
+ghost use Rattle.std.specs.Prelude.{◌≡◌, ◌<◌, ℕ, Some, None, IfOk, IfErr, IsErrAnd};
 ghost use Rattle.cell_core.specs.Block.{block_len, cell_at, IsPenAt, IsFresh, IsMending, IsMemberAt};
+ghost use Rattle.cell_core.specs.Run.{cells_from};
 ghost use Rattle.cell_core.specs.Slot.{ArePlain, IsPlain};
 ghost use Rattle.cell_core.specs.Shown.{IsFoundIn, IsNotEmpty, ShowsFilled};
 
@@ -31,6 +32,15 @@ impl<T, A: Allocator> Block<T, A, Tied> {
 }
 
 impl<T, A: Allocator, B: Kind> Block<T, A, B> {
+    /// Shows a proof what it says of a block that its cells are not tied: it says so of each cell and of each run, and
+    /// follows if it holds of each cell. The call does nothing.
+    pub fn plain_laws(&self)
+        ensures each { ArePlain self.now.cells → (i : ℕ) → IsPlain (cell_at self.now i) }
+        ensures run { ArePlain self.now.cells → (n i : ℕ) → ArePlain (cells_from n i self.now.cells) }
+        ensures all { ((i : ℕ) → i < block_len self.now → IsPlain (cell_at self.now i))
+            → ArePlain self.now.cells }
+    {}
+
     /// Begins a cell like `begin`. The cell is not tied, though others of the block may be.
     pub fn begin_plain(&self, offset: u64) -> Result<Pen<'_, T>, Found<T>>
         requires within { offset < block_len self.now }

@@ -65,7 +65,7 @@ impl<T, A: Allocator> Block<T, A> {
         requires word { offset % word_cells + n ≤ word_cells }
         ensures { IfSome result (IsRunPenAt self.now offset n) }
     {
-        self.plain_laws();
+        self.kind_laws();
         self.begin_run_plain(offset, n)
     }
 }

@@ -94,7 +94,7 @@ broken_state = 5
 abbrev pub owner_broken_state : ℕ
 owner_broken_state = 9
 
--- a state that shows a cell broken by an owner shows that it has no seat
+-- if the state is that of a cell that an owner broke, the cell has no seat
 abbrev pub ShowsOwner : Option Tie → ℕ → Type 0
 ShowsOwner τ n = busy_state < n → n ≢ filled_state → n ≢ broken_state → HasNoSeat τ
 

@@ -1,6 +1,6 @@
 //! The table of segments.
 ghost use Rattle.std.specs.Prelude.{◌≡◌, ◌<◌, ◌≤◌, ℕ, None, slice_index, IfSome, IfOk};
-ghost use Rattle.table_core.specs.Table.{AllFit, AllPlain, IsBlockOf, IsKeyIn, IsKeyOf, IsLengthOf, entry_tie};
+ghost use Rattle.table_core.specs.Table.{AllFit, AllPlain, FitsTie, IsBlockOf, IsKeyIn, IsKeyOf, IsLengthOf, entry_tie};
 ghost use Rattle.seg_core.specs.Segment.{IsLayout, segment_count, most_segments};
 ghost use Rattle.table_core.specs.Entry.{length_of, tie_of};
 
@@ -173,6 +173,7 @@ impl<T, B: Kind> Table<T, B> {
     pub fn scout_key(&self, segment: u32) -> Option<(&Block<T, Global, B>, Key)>
         requires { segment < segment_count self.now.layout }
         ensures length { IfSome result (λ (block, _). IsBlockOf self.now.layout segment block.now) }
+        ensures tied { IfSome result (λ (block, _). FitsTie self.now segment block.now) }
         ensures key { IfSome result (λ (block, key). IsKeyOf self.now segment block.now key) }
     {
         let entry = &self.entries[segment as usize];
@@ -208,6 +209,7 @@ impl<T, B: Kind> Table<T, B> {
         requires { IsKeyIn self.now key.now }
         ensures block { result.now ≡ key.now.block }
         ensures length { IsBlockOf self.now.layout key.now.segment result.now }
+        ensures tied { FitsTie self.now key.now.segment result.now }
     {
         let mut sight = key.sight.again::<T, B>();
         match self.entries[key.segment as usize].look(&mut sight) {

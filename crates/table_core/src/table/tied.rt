@@ -9,6 +9,7 @@ use crate::table::{Key, Table};
 use cell_core::block::{Block, Tied};
 use seg_core::Layout;
 use std::alloc::Global;
+use std::mem::replace;
 use tie_core::{EntryBook, EntrySeat, Staged, Tag, Visit};
 
 impl<T> Table<T, Tied> {
@@ -67,11 +68,10 @@ impl<T> Table<T, Tied> {
             None => (None, visit),
         }
     }
-}
 
-impl<T: Drop> Table<T, Tied> {
     /// Ties the entry by its own seat, and the cells of its block by seats with numbers in a row, which have the codes
-    /// of the tag. The entry is then not set and has a fresh name: a block that it was set to is dropped.
+    /// of the tag. The entry is then not set and has a fresh name. A block that it was set to is freed, and so is one
+    /// that is lent: their values are not dropped.
     #[tactic(auto, using(crate::proofs::Bonds::retied))]
     pub fn tie<V, P: Staged<V>>(&mut self, segment: u32, seat: EntrySeat, cells: &Tag<V, P>)
         requires { segment < segment_count self.old.layout }
@@ -82,14 +82,16 @@ impl<T: Drop> Table<T, Tied> {
         ensures bonds { KeepsOtherBonds self.old self.new segment }
         ensures none_lent { self.new.lent ≡ None }
     {
-        self.put_back();
+        self.free_lent();
         self.held = None;
         let len = self.layout.len(segment);
         let mut new: Entry<Block<T, Global, Tied>> = Entry::new_for(self.alloc, len, seat, cells);
         new.rename(&mut self.entries[segment as usize]);
-        self.entries[segment as usize] = new;
+        replace(&mut self.entries[segment as usize], new).free();
     }
+}
 
+impl<T: Drop> Table<T, Tied> {
     // The entry's block: the given one, unless the entry is set.
     fn set_for<'a, 'b, X, K: EntryBook<X>>(
         &'a self,
@@ -111,13 +113,15 @@ impl<T: Drop> Table<T, Tied> {
     {
         let entry = &self.entries[segment as usize];
         let (first, back, visit) = entry.set_for(block, sight, visit);
-        drop(back);
+        if let Some(back) = back {
+            Box::into_inner(back).free();
+        }
         (first, visit)
     }
 
-    /// Sets the entry to the block and returns it, by one exchange. If the entry is set already, this drops the block
-    /// and returns the entry's. The visit brings the block's seat. Its update runs in the exchange, and the visit then
-    /// tells what the exchange found.
+    /// Sets the entry to the block and returns it, by one exchange. If the entry is set already, this frees the block,
+    /// without a look at its cells, and returns the entry's. The visit brings the block's seat. Its update runs in the
+    /// exchange, and the visit then tells what the exchange found.
     pub fn install_for<'a, 'b, X, K: EntryBook<X>>(
         &'a self,
         segment: u32,

@@ -230,9 +230,35 @@ impl<T, B: Kind> Table<T, B> {
     }
 }
 
+impl<T: Drop, B: Kind> Table<T, B> {
+    // The entry's block: this one, in a box, unless the entry is set. The entry is not tied.
+    #[tactic(auto, using(crate::proofs::Bonds::plain_there))]
+    fn put<'a>(
+        &'a self,
+        segment: u32,
+        block: Block<T, Global, B>,
+        sight: &mut EntrySight<Block<T, Global, B>>,
+    ) -> Result<&'a Block<T, Global, B>, AllocError>
+        requires within { segment < segment_count self.now.layout }
+        requires untied { entry_tie self.now segment ≡ None }
+        requires of { slice_index self.now.names segment ≡ sight.old.of }
+        requires length { IsBlockOf self.now.layout segment block }
+        ensures same { sight.new.of ≡ sight.old.of }
+        ensures known { IfOk result (λ block. sight.new.known ≡ Some block.now) }
+        ensures length { IfOk result (λ block. IsBlockOf self.now.layout segment block.now) }
+    {
+        let entry = &self.entries[segment as usize];
+        let (first, back) = entry.set(Box::new(self.alloc, block)?, sight);
+        if let Some(back) = back {
+            Box::into_inner(back).free();
+        }
+        Ok(first)
+    }
+}
+
 impl<T: Drop> Table<T> {
     // The entry's block: a new one, unless the entry is set.
-    #[tactic(auto, using(crate::proofs::Bonds::plain_there))]
+    #[tactic(auto, using(crate::proofs::Bonds::plain_table))]
     fn set<'a>(
         &'a self,
         segment: u32,
@@ -244,16 +270,11 @@ impl<T: Drop> Table<T> {
         ensures known { IfOk result (λ block. sight.new.known ≡ Some block.now) }
         ensures length { IfOk result (λ block. IsBlockOf self.now.layout segment block.now) }
     {
-        let entry = &self.entries[segment as usize];
-        match entry.look(sight) {
+        match self.entries[segment as usize].look(sight) {
             Some(block) => Ok(block),
             None => {
                 let block = Block::new(self.alloc, self.layout.len(segment))?;
-                let (first, back) = entry.set(Box::new(self.alloc, block)?, sight);
-                if let Some(back) = back {
-                    Box::into_inner(back).free();
-                }
-                Ok(first)
+                self.put(segment, block, sight)
             }
         }
     }

@@ -56,6 +56,10 @@ all_plain γs are = plain_each γs (λ i near. are.plain refl i)
 true_is_not : true ≡ false → ⊥
 true_is_not e = cc
 
+-- cells that are not tied are of every kind
+pub any_kind : (tied : Bool) (γs : List Names) → AreOfKind false γs → AreOfKind tied γs
+any_kind tied γs are = record { plain = λ none. are.plain refl }
+
 -- cells that may be tied are of that kind
 pub tied_kind : (γs : List Names) → AreOfKind true γs
 tied_kind γs = record { plain = λ none. absurd (true_is_not none) }

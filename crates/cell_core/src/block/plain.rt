@@ -1,5 +1,4 @@
-// Cells that are not tied, in a block of any kind: the steps on such a cell, and blocks of the kind `Tied` that have no
-// others.
+// Cells that are not tied, in a block of any kind: the steps on such a cell, and new blocks that have no others.
 ghost use Rattle.std.specs.Prelude.{◌≡◌, ◌<◌, ℕ, Some, None, IfOk, IfErr, IsErrAnd};
 ghost use Rattle.cell_core.specs.Block.{block_len, cell_at, IsPenAt, IsFresh, IsMending, IsMemberAt};
 ghost use Rattle.cell_core.specs.Run.{cells_from};
@@ -7,15 +6,15 @@ ghost use Rattle.cell_core.specs.Slot.{ArePlain, IsPlain};
 ghost use Rattle.cell_core.specs.Shown.{IsFoundIn, IsNotEmpty, ShowsFilled};
 
 use crate::block::fields::{all_but, in_field, state_in};
-use crate::block::{Block, EndedEpoch, Found, Kind, Member, Pen, Placed, Tied, lay, reserve_rows};
+use crate::block::{Block, EndedEpoch, Found, Kind, Member, Pen, Placed, lay, reserve_rows};
 use crate::slot::steps::{BROKEN, BROKEN_BY_OWNER, BUSY, EMPTY, FILLED};
 use std::alloc::{AllocError, Allocator};
 use std::marker::PhantomData;
 
-impl<T, A: Allocator> Block<T, A, Tied> {
-    /// Makes a block of `n` empty cells like `new`. They are not tied, though cells of this kind may be.
-    #[tactic(auto, using(crate::proofs::PlainCells::tied_kind, crate::proofs::PlainCells::all_plain))]
-    pub fn new_plain(alloc: A, n: u64) -> Result<Block<T, A, Tied>, AllocError>
+impl<T, A: Allocator, B: Kind> Block<T, A, B> {
+    /// Makes a block of `n` empty cells like `new`, of any kind. They are not tied, though cells of the kind may be.
+    #[tactic(auto, using(crate::proofs::PlainCells::any_kind, crate::proofs::PlainCells::all_plain))]
+    pub fn new_plain(alloc: A, n: u64) -> Result<Block<T, A, B>, AllocError>
         ensures len { IfOk result (λ block. block_len block ≡ n) }
         ensures plain { IfOk result (λ block. ArePlain block.cells) }
     {
@@ -29,9 +28,7 @@ impl<T, A: Allocator> Block<T, A, Tied> {
             marker: PhantomData,
         })
     }
-}
 
-impl<T, A: Allocator, B: Kind> Block<T, A, B> {
     /// Shows a proof what it says of a block that its cells are not tied: it says so of each cell and of each run, and
     /// follows if it holds of each cell. The call does nothing.
     pub fn plain_laws(&self)

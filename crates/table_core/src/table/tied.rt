@@ -2,7 +2,8 @@
 ghost use Rattle.std.specs.Prelude.{◌≡◌, ◌<◌, ℕ, Some, None, IfOk, IfSome, option_map, slice_index};
 ghost use Rattle.cell_core.specs.Mould.{last_seat};
 ghost use Rattle.seg_core.specs.Segment.{segment_count};
-ghost use Rattle.table_core.specs.Table.{HasSet, IsBlockOf, IsKeyOf, IsTiedBlockOf, IsTiedBy, KeepsOtherBonds, KeepsOtherEntries, RenewsEntry, content_in, entry_tie};
+ghost use Rattle.cell_core.specs.Slot.{ArePlain};
+ghost use Rattle.table_core.specs.Table.{HasSet, IsBlockOf, IsKeyOf, IsPlainAt, IsTiedBlockOf, IsTiedBy, KeepsOtherBonds, KeepsOtherEntries, RenewsEntry, content_in, entry_tie};
 
 use crate::entry::{Entry, EntrySight};
 use crate::table::{Key, Table};
@@ -17,6 +18,7 @@ impl<T> Table<T, Tied> {
     pub fn new_for(alloc: Global, layout: Layout) -> Table<T, Tied>
         ensures layout { result.layout ≡ layout }
         ensures untied { (k : ℕ) → k < segment_count layout → entry_tie result k ≡ None }
+        ensures plain { (k : ℕ) → k < segment_count layout → IsPlainAt result k }
     {
         Table::without_blocks(alloc, layout)
     }
@@ -93,6 +95,7 @@ impl<T> Table<T, Tied> {
 
 impl<T: Drop> Table<T, Tied> {
     // The block of an entry that is not tied: a new one, unless the entry is set.
+    #[tactic(auto, using(crate::proofs::PlainBlocks::found_plain))]
     fn set<'a>(
         &'a self,
         segment: u32,
@@ -104,6 +107,7 @@ impl<T: Drop> Table<T, Tied> {
         ensures same { sight.new.of ≡ sight.old.of }
         ensures known { IfOk result (λ block. sight.new.known ≡ Some block.now) }
         ensures length { IfOk result (λ block. IsBlockOf self.now.layout segment block.now) }
+        ensures plain { IsPlainAt self.now segment → IfOk result (λ block. ArePlain block.now.cells) }
     {
         match self.entries[segment as usize].look(sight) {
             Some(block) => Ok(block),
@@ -120,7 +124,9 @@ impl<T: Drop> Table<T, Tied> {
     pub fn install(&self, segment: u32) -> Result<&Block<T, Global, Tied>, AllocError>
         requires within { segment < segment_count self.now.layout }
         requires untied { entry_tie self.now segment ≡ None }
-        ensures { IfOk result (λ block. IsBlockOf self.now.layout segment block.now) }
+        ensures length { IfOk result (λ block. IsBlockOf self.now.layout segment block.now) }
+        // The cells of a plain entry's block are not tied.
+        ensures plain { IsPlainAt self.now segment → IfOk result (λ block. ArePlain block.now.cells) }
     {
         self.set(segment, &mut self.entries[segment as usize].sight())
     }
@@ -131,6 +137,8 @@ impl<T: Drop> Table<T, Tied> {
         requires untied { entry_tie self.now segment ≡ None }
         ensures length { IfOk result (λ (block, _). IsBlockOf self.now.layout segment block.now) }
         ensures key { IfOk result (λ (block, key). IsKeyOf self.now segment block.now key) }
+        ensures plain { IsPlainAt self.now segment
+            → IfOk result (λ (block, _). ArePlain block.now.cells) }
     {
         let mut sight = self.entries[segment as usize].sight();
         let block = self.set(segment, &mut sight)?;

@@ -2,11 +2,13 @@
 ghost use Rattle.std.specs.Prelude.{◌≡◌, ◌≤◌, ◌<◌, ◌+◌, ℕ, List, IfOk, IsSome, None};
 ghost use Rattle.seg_core.specs.Segment.{IsLayout, most_places, segment_count, most_segments};
 ghost use Rattle.grow_core.specs.Keys.{IsKeyAt, AreKeys, KeepsKeys, HasKeysOfRun, key_at, mark_of};
+ghost use Rattle.grow_core.specs.Ties.{ArePlainSegments};
 
+use crate::ties::SegmentTable;
 use seg_core::MOST_SEGMENTS;
 use std::alloc::AllocError;
 use std::array;
-use table_core::{Key, Table};
+use table_core::Key;
 
 // An optional key per segment, with room for the segments of every layout.
 pub(crate) type Keys = [Option<Key>; MOST_SEGMENTS];
@@ -87,12 +89,13 @@ pub(crate) fn put_keys(row: &mut Keys, other: &Keys)
 // The key of the segment, which is then in the row. If it is not there yet, the segment is installed first.
 #[inline(always)]
 pub(crate) fn key_for<T: Drop>(
-    table: &Table<T>,
+    table: &SegmentTable<T>,
     keys: &mut Keys,
     segment: u32,
 ) -> Result<Key, AllocError>
     requires layout { IsLayout table.now.layout }
     requires within { segment < segment_count table.now.layout }
+    requires plain { ArePlainSegments table.now }
     requires keys { AreKeys (mark_of table.now) keys.old }
     ensures keys { AreKeys (mark_of table.now) keys.new }
     ensures kept { KeepsKeys keys.old keys.new }
@@ -107,29 +110,35 @@ pub(crate) fn key_for<T: Drop>(
 
 // Installs the segment unless it is there, and puts its key into the row.
 #[cold]
-fn install_one<T: Drop>(table: &Table<T>, keys: &mut Keys, segment: u32) -> Result<Key, AllocError>
+fn install_one<T: Drop>(
+    table: &SegmentTable<T>,
+    keys: &mut Keys,
+    segment: u32,
+) -> Result<Key, AllocError>
     requires layout { IsLayout table.now.layout }
     requires within { segment < segment_count table.now.layout }
+    requires plain { ArePlainSegments table.now }
     requires keys { AreKeys (mark_of table.now) keys.old }
     ensures keys { AreKeys (mark_of table.now) keys.new }
     ensures kept { KeepsKeys keys.old keys.new }
     ensures put { IfOk result (λ _. IsSome (key_at keys.new segment)) }
     ensures key { IfOk result (IsKeyAt (mark_of table.now) segment) }
 {
-    let (_, key) = table.install_key(segment)?;
+    let (_, key) = table.install_key_plain(segment)?;
     put_key(keys, segment, key.again());
     Ok(key)
 }
 
 // Installs the segments of a run unless they are there, and puts their keys into the row.
 pub(crate) fn install<T: Drop>(
-    table: &Table<T>,
+    table: &SegmentTable<T>,
     keys: &mut Keys,
     from: u64,
     n: u64,
 ) -> Result<(), AllocError>
     requires some { 0 < n }
     requires places { from + n ≤ most_places }
+    requires plain { ArePlainSegments table.now }
     requires keys { AreKeys (mark_of table.now) keys.old }
     ensures keys { AreKeys (mark_of table.now) keys.new }
     ensures kept { KeepsKeys keys.old keys.new }

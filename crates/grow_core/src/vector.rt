@@ -7,20 +7,20 @@ ghost use Rattle.grow_core.specs.Vector.{IsHandOf, BeginsAsOpened, limit_of, lay
 
 use crate::hand::Hand;
 use crate::keys::Keys;
+use crate::ties::SegmentTable;
 use cell_core::block::{EndedEpoch, Row};
 use claim_core::{Word, laws};
 use seg_core::Layout;
 use std::alloc::Global;
 use std::fmt;
 use std::marker::Model;
-use table_core::Table;
 
 /// A vector that many callers share. Contracts see which vector it is, its limit and its base, and the list
 /// that it was opened on.
 #[derive(Drop)]
 pub struct Shared<T> {
     pub(crate) word: Word<Global>,
-    pub(crate) table: Table<T>,
+    pub(crate) table: SegmentTable<T>,
     // What is known of the opened list: the keys of its first `count` segments, and its members.
     pub(crate) keys: Keys,
     pub(crate) count: u32,

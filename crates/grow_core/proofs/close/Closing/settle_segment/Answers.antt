@@ -77,6 +77,7 @@ invariant_of-self g c =
         enough = subst (λ (l : ℕ). inside.size ≤ segment_start l inside.count) (sym same_layout) enough;
       },
       omega (arith, c.self.invariant.1, c.settle_cells.ensures.broken),
+      c.put_block.ensures.plain,
     )
 
 pub overflow_add-self : goal.overflow_add-self

@@ -124,7 +124,7 @@ fn install_one<T: Drop>(
     ensures put { IfOk result (λ _. IsSome (key_at keys.new segment)) }
     ensures key { IfOk result (IsKeyAt (mark_of table.now) segment) }
 {
-    let (_, key) = table.install_key_plain(segment)?;
+    let (_, key) = table.install_key(segment)?;
     put_key(keys, segment, key.again());
     Ok(key)
 }

@@ -207,7 +207,7 @@ impl<T: Drop> Parts<T> {
         ensures same { IfErr result (λ _. self.new.segments ≡ self.old.segments) }
     {
         self.closed = None;
-        let (_, key) = self.table.install_key_plain(self.count)?;
+        let (_, key) = self.table.install_key(self.count)?;
         self.keys[self.count as usize] = Some(key);
         self.count += 1;
         Ok(())

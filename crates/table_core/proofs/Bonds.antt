@@ -1,12 +1,12 @@
 -- What ties the entries of a table, and which kind they are of, after one entry was replaced.
-use Rattle.std.proofs.Common.{◌≡◌, Bool, true, false, ℕ, zero, suc, ◌<◌, List, [], ◌∷◌, length, map, slice_index_or, slice_set, get_or, refl, sym, ap, ◌∙◌, subst, arith, inl, inr}
+use Rattle.std.proofs.Common.{◌≡◌, ◌⊎◌, Bool, true, false, ℕ, zero, suc, ◌<◌, List, [], ◌∷◌, length, map, slice_index_or, slice_set, get_or, refl, sym, ap, ◌∙◌, subst, arith, inl, inr}
 use Rattle.std.specs.Prelude.{Option, None, Some}
 use Rattle.std.proofs.lemmas.Option.{none-some}
 use Rattle.seg_core.specs.Segment.{segment_count}
 use Rattle.tie_core.specs.Visit.{EntryTie}
 use Rattle.cell_core.specs.Block.{BlockView, block_len}
 use Rattle.cell_core.specs.Mould.{mould_of}
-use Rattle.table_core.specs.Entry.{EntryView, Bond, IsCast, IsPlainEntry, IsSoft, Mould, bond_of, length_of, mould_at, mould_in, seen_as, tie_of, tie_in}
+use Rattle.table_core.specs.Entry.{EntryView, Bond, IsCast, IsPlainEntry, IsSoft, Mould, bond_of, length_of, mould_at, mould_in, plain_mould, seen_as, tie_of, tie_in}
 use Rattle.table_core.specs.Table.{AllFit, AllPlain, AllPlainEntries, AllSoft, AreOfKind, IsLengthOf, bond_among, tie_among}
 use Rattle.table_core.proofs.Names.{names_kept, name_there, renamed_there}
 
@@ -84,6 +84,11 @@ loose_untied e loose = ap tie_in loose
 
 pub loose_soft : (e : EntryView) → bond_of e ≡ None → IsSoft e
 loose_soft e loose none = inl loose
+
+-- one that got another name is soft still
+pub soft_renamed : (e e' : EntryView) → bond_of e' ≡ bond_of e → length_of e' ≡ length_of e → IsSoft e → IsSoft e'
+soft_renamed e e' bond long soft none =
+    subst (λ (u : ℕ × Option Bond). (u.1 ≡ None) ⊎ (u.1 ≡ Some (None, plain_mould u.0))) (λ i. (sym long i, sym bond i)) (soft (ap tie_in (sym bond) ∙ none))
 
 -- one that is tied is soft
 pub tied_soft : (e : EntryView) (own : EntryTie) → tie_of e ≡ Some own → IsSoft e
@@ -223,7 +228,7 @@ cast_lent tied f lent entries k e x are some near is long =
 -- what follows for a table once an entry is replaced, is set to a block, or is tied; and once a block is lent or comes back
 pub ruleset attached_plain = (names_kept, name_there, bonds_kept, bond_there, untied_there, plain_untied, plain_soft, kind_soft_set)
 
-pub ruleset replaced = (names_kept, renamed_there, bonds_kept, bond_replaced, kind_replaced)
+pub ruleset replaced = (names_kept, renamed_there, bonds_kept, bond_replaced, untied_replaced, soft_renamed, kind_replaced)
 
 pub ruleset attached = (names_kept, name_there, bonds_kept, bond_there, untied_there, loose_untied, kind_set)
 

@@ -19,11 +19,11 @@ use base.Stored.{Coded, coded×, coded_ℕ, coded_list, coded_via}
 use Rattle.seg_core.specs.Segment.{segment_start, segment_end, segment_count, most_segments}
 use Rattle.cell_core.specs.Block.{BlockView, IsMemberAt, block_len, cell_at}
 use Rattle.cell_core.specs.Member.{MemberView}
-use Rattle.table_core.specs.Table.{TableView, KeyView, entry_tie}
+use Rattle.table_core.specs.Table.{TableView, KeyView, IsPlainAt}
 use Rattle.grow_core.specs.Keys.{KeyRow, AreKeys, key_at, mark_of, layout_in, names_in}
 use Rattle.grow_core.specs.Token.{PlacedView, place_in}
 use Rattle.grow_core.specs.Parts.{AreLong, AreMembers, AreWhole, HasFirstKeys, AreBrokenIn, values_in}
-use Rattle.grow_core.specs.Ties.{ArePlainKeys, IsBlockBy, KnowsRow}
+use Rattle.grow_core.specs.Ties.{ArePlainBelow, IsBlockBy, KnowsRow}
 use Rattle.grow_core.specs.Vector.{VectorView, IsPlacedOf}
 
 -- the list, by what is known of it, was closed from the vector, and is as it was then
@@ -188,10 +188,9 @@ pub record IsTiedByCells (cells : Tie) (f laid segment : ℕ) (block : BlockView
       → AreTied (row_of (tie_numbered cells (first_seat block.cells)) (block_len block)) block.cells
   pub plain : segment_start f segment < laid → ArePlain block.cells
 
--- the row has the keys of the segments of the opened list, which are not tied, and no others
+-- the row has the keys of the segments of the opened list, and no others
 pub record AreOpenedKeys {T : Type 0} (vector : VectorView T) (row : KeyRow) : Type 0 where
   pub named : AreKeys (mark_of vector.segments) row
-  pub plain : ArePlainKeys row
   pub there : (segment : ℕ) → segment < segment_count vector.segments.layout → segment_start vector.segments.layout segment < vector.laid
       → IsSome (key_at row segment)
   pub none : (segment : ℕ) → segment < most_segments → vector.laid ≤ segment_start vector.segments.layout segment
@@ -204,8 +203,8 @@ AreKnownFrom next segments laid hand row =
     → IsBlockBy segments laid segment key.block × KnowsRow hand segment key.block
 
 -- A vector that is being closed keeps this, next to its list. The word is open, and the whole hand is there. The segments
--- from `next` on are still tied, and the hand knows where their places stand; those before it are not. The members so far
--- are those of the history's list
+-- from `next` on are still as they were, and the hand knows where their places stand if they are tied; those before it are
+-- plain, and so are those of the opened list. The members so far are those of the history's list
 pub record IsStillOpen {T : Type 0} (word : WordView) (hand : HandView) (cells : Tie) (segments : TableView)
     (laid next count : ℕ) (row : KeyRow) (known : List (MemberView T)) : Type 0 where
   pub of : hand.of ≡ word
@@ -213,8 +212,9 @@ pub record IsStillOpen {T : Type 0} (word : WordView) (hand : HandView) (cells :
   pub tied : IsTiedTo word cells
   pub open_still : (segment : ℕ) (key : KeyView) → next ≤ segment → segment < count → key_at row segment ≡ Some key
       → IsTiedByCells cells segments.layout laid segment key.block × KnowsRow hand segment key.block
-  pub closed : (segment : ℕ) (key : KeyView) → segment < next → key_at row segment ≡ Some key → ArePlain key.block.cells
-  pub untied : (segment : ℕ) → segment < next → entry_tie segments segment ≡ None
+  pub closed : ArePlainBelow segments next
+  pub opened : (segment : ℕ) → segment < segment_count segments.layout → segment_start segments.layout segment < laid
+      → IsPlainAt segments segment
   pub list : IsListSoFar word laid hand.log (values_in known)
 
 -- each cell of a segment that was laid since the opening is fixed at its stage, and has its names except for the tie

@@ -16,6 +16,7 @@ pub mod Ties
 pub mod Steps
 pub mod Shown
 pub mod Segment
+pub mod Ties
 pub mod Stretch
 pub mod Filled
 pub mod Begun

@@ -11,7 +11,7 @@ use Rattle.claim_core.specs.Hand.{HandView}
 use Rattle.cell_core.specs.Slot.{ArePlain}
 use Rattle.cell_core.specs.Block.{BlockView, block_len, cell_at}
 use Rattle.cell_core.specs.Mould.{first_seat}
-use Rattle.table_core.specs.Table.{TableView, KeyView, IsKeyIn, IsBlockOf, IsLengthOf, IsTiedBlockOf, IsTiedBy, entry_tie}
+use Rattle.table_core.specs.Table.{TableView, KeyView, IsKeyIn, IsBlockOf, IsLengthOf, IsPlainAt, IsTiedBlockOf, IsTiedBy}
 use Rattle.grow_core.specs.Token.{place_in}
 use Rattle.grow_core.specs.Keys.{KeyRow, key_at, layout_in}
 
@@ -43,14 +43,17 @@ pub record AreTiedFrom (word : WordView) (segments : TableView) (cells : Tie) (t
   pub all : count + length tags ≡ segment_count segments.layout
   pub each : (i : ℕ) (tag : TagView) → slice_get tags i ≡ Some tag → IsTagOf word segments cells (count + i) tag
 
--- no entry of the table is tied
-abbrev pub AreUntied : TableView → Type 0
-AreUntied table = (segment : ℕ) → segment < segment_count table.layout → entry_tie table segment ≡ None
+-- no entry of the table is tied, and no cell of its blocks
+abbrev pub ArePlainSegments : TableView → Type 0
+ArePlainSegments table = (k : ℕ) → k < segment_count table.layout → IsPlainAt table k
 
--- no cell of a segment whose key is in the row is tied
-abbrev pub ArePlainKeys : KeyRow → Type 0
-ArePlainKeys row =
-    (segment : ℕ) (key : KeyView) → segment < most_segments → key_at row segment ≡ Some key → ArePlain key.block.cells
+-- the same of the first segments
+abbrev pub ArePlainBelow : TableView → ℕ → Type 0
+ArePlainBelow table count = (k : ℕ) → k < count → IsPlainAt table k
+
+-- the cells of the block are not tied if they were not
+abbrev pub StayPlain : BlockView → BlockView → Type 0
+StayPlain old new = ArePlain old.cells → ArePlain new.cells
 
 -- the cells of a block are tied, if the segment was laid since the opening, as the entry says; otherwise they are not
 pub record IsBlockBy (segments : TableView) (laid segment : ℕ) (block : BlockView) : Type 0 where

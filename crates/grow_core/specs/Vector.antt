@@ -13,7 +13,7 @@ use Rattle.table_core.specs.Table.{TableView, table_coded, IsKeyIn, IsBlockOf}
 use Rattle.seg_core.specs.Segment.{segment_start}
 use Rattle.tie_core.specs.Tie.{Tie}
 use Rattle.grow_core.specs.Keys.{KeyRow, mark_of}
-use Rattle.grow_core.specs.Ties.{TagRow, AreTiedFrom, ArePlainKeys}
+use Rattle.grow_core.specs.Ties.{TagRow, AreTiedFrom, ArePlainBelow}
 use Rattle.grow_core.specs.Parts.{AreWhole, AreBrokenIn, values_in, filled_in}
 use Rattle.grow_core.specs.Token.{PlacedView, SpoiltView, BegunView, place_in}
 
@@ -80,7 +80,7 @@ pub record IsShared {T : Type 0} (word : WordView) (segments : TableView) (keys 
   pub broken : AreBrokenIn ended known
   pub mark : word.mark ≡ mark_of segments
   pub filled : word.filled ≡ filled_in (values_in known)
-  pub plain : ArePlainKeys keys
+  pub plain : ArePlainBelow segments count
   pub tied : AreTiedFrom word segments cells tags count
 
 -- the hand belongs to the vector

@@ -18,6 +18,7 @@ use claim_core::Hand as ClaimHand;
 impl<T: Drop> Shared<T> {
     // Begins places of the segment from this one on, `left` of them at most: those whose states are in one word, all of
     // them or none.
+    #[tactic(auto, using(crate::proofs::PlainSegments::plain_cells))]
     fn begin_places<'a>(
         &self,
         segment: &Segment<'a, T>,

@@ -3,10 +3,11 @@ ghost use Rattle.std.specs.Prelude.{◌≡◌, ◌<◌, ◌≤◌, Some, None, I
 ghost use Rattle.seg_core.specs.Segment.{segment_start, segment_end, segment_count, segment_of, most_segments};
 ghost use Rattle.cell_core.specs.Block.{block_len, IsMemberAt, KeepsOtherCells};
 ghost use Rattle.cell_core.specs.Slot.{ArePlain};
-ghost use Rattle.table_core.specs.Table.{IsBlockOf, KeepsOtherEntries};
+ghost use Rattle.table_core.specs.Table.{IsBlockOf, IsPlainAt, KeepsOtherBonds, KeepsOtherEntries};
 ghost use Rattle.grow_core.specs.Keys.{AreKeys, HasBlock, IsBlockPut, key_at, mark_of};
 ghost use Rattle.grow_core.specs.Token.{place_in};
 ghost use Rattle.grow_core.specs.Parts.{HasFirstKeys, IsBrokenIn};
+ghost use Rattle.grow_core.specs.Ties.{StayPlain};
 
 use crate::keys::{Keys, key_of};
 use crate::ties::{CellBlock, SegmentTable};
@@ -86,8 +87,12 @@ pub(crate) fn take_block<T: Drop>(
     ensures within { place < segment_end table.old.layout result.0 }
     ensures block { HasBlock keys.now result.0 result.2.value }
     ensures length { IsBlockOf table.old.layout result.0 result.2.value }
+    ensures plain_cells { IsPlainAt table.old result.0 → ArePlain result.2.value.cells }
     ensures layout { table.new.layout ≡ table.old.layout }
     ensures others { KeepsOtherEntries table.old table.new result.0 }
+    ensures bonds { KeepsOtherBonds table.old table.new result.0 }
+    ensures plain { IsPlainAt table.new result.0 }
+    ensures none_lent { table.new.lent ≡ None }
 {
     let (segment, offset, key) = cell_of(table, keys, count, place);
     (segment, offset, table.detach(&key))
@@ -103,15 +108,20 @@ pub(crate) fn put_block<T: Drop>(
     requires within { segment < segment_count table.old.layout }
     requires small { segment < most_segments }
     requires length { IsBlockOf table.old.layout segment block.value }
+    requires plain_cells { ArePlain block.value.cells }
+    requires none_lent { table.old.lent ≡ None }
     ensures put { IsBlockPut table.new segment block.value keys.old keys.new }
     ensures layout { table.new.layout ≡ table.old.layout }
     ensures others { KeepsOtherEntries table.old table.new segment }
+    ensures bonds { KeepsOtherBonds table.old table.new segment }
+    ensures plain { IsPlainAt table.new segment }
 {
-    keys[segment as usize] = Some(table.attach(segment, block));
+    keys[segment as usize] = Some(table.attach_plain(segment, block));
 }
 
 // Writes a value into the cell, or breaks it. It returns what is then known of the cell, and the value that
 // it held.
+#[tactic(auto, using(crate::proofs::PlainSegments::plain_written))]
 pub(crate) fn write<T>(
     block: &mut CellBlock<T>,
     offset: u64,
@@ -122,7 +132,7 @@ pub(crate) fn write<T>(
     ensures member { IsMemberAt block.new offset result.0 }
     ensures value { result.0.value ≡ value }
     ensures broken { IsBrokenIn epoch.now result.0 }
-    ensures plain { ArePlain block.old.cells → ArePlain block.new.cells }
+    ensures plain { StayPlain block.old block.new }
     ensures len { block_len block.new ≡ block_len block.old }
     ensures others { KeepsOtherCells block.old block.new offset }
 {

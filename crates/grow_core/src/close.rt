@@ -49,7 +49,7 @@ impl<T> Shared<T> {
             None => key_of(&hand.keys, segment),
         };
         if let Some(key) = known {
-            self.table.known(&key);
+            self.known_block(&key);
             return Some(key);
         }
         self.scout_row(&mut hand.claims, segment)

@@ -173,6 +173,7 @@ impl<T: Drop> Shared<T> {
     // Fills places of the segment with values of the source from this number on, `left` of them at most: a run that
     // begins at this place, or this place alone.
     #[inline(always)]
+    #[tactic(auto, using(crate::proofs::PlainSegments::plain_cells))]
     fn copy_next<S: Source<T>>(
         &self,
         claims: &mut ClaimHand,

@@ -3,9 +3,7 @@ ghost use Rattle.std.specs.Prelude.{◌≡◌, ◌+◌, ◌<◌, ◌≤◌, [], 
 ghost use Rattle.std.specs.Vec.Iter.{into_iter_len};
 ghost use Rattle.claim_core.specs.Hand.{OwnsPlace};
 ghost use Rattle.claim_core.specs.History.{break_event, fill_event};
-ghost use Rattle.seg_core.specs.Segment.{segment_start};
 ghost use Rattle.cell_core.specs.Block.{block_len};
-ghost use Rattle.cell_core.specs.Slot.{ArePlain};
 ghost use Rattle.cell_core.specs.Shown.{IsFoundIn, IsNotEmpty};
 ghost use Rattle.table_core.specs.Table.{IsKeyIn, IsBlockOf};
 ghost use Rattle.grow_core.specs.Token.{place_in};
@@ -19,7 +17,6 @@ ghost use Rattle.grow_core.specs.Keys.{OwnsPlacesOf};
 ghost use Rattle.grow_core.specs.Ties.{IsBlockBy, IsCellOf, KnowsRow};
 
 use crate::hand::Hand;
-use crate::keys::key_of;
 use crate::stretch::{Stretch, publish};
 use crate::ties::CellBlock;
 use crate::token::{BegunPlace, Found, Placed, Spoilt};
@@ -60,32 +57,6 @@ impl<T: Drop> Shared<T> {
             key,
             from,
             end: from + layout.len(segment),
-        }
-    }
-
-    // The block of a key of the vector, by one load.
-    #[inline(always)]
-    pub(crate) fn known_block<'a>(&'a self, key: &Key) -> &'a CellBlock<T>
-        requires { IsKeyIn self.now.segments key.now }
-        ensures block { result.now ≡ key.now.block }
-        ensures long { IsBlockOf (layout_of self.now) key.now.segment key.now.block }
-        ensures by { IsBlockBy self.now.segments self.now.laid key.now.segment key.now.block }
-    {
-        let block = self.table.known(key);
-        self.opened_is_plain(key);
-        block
-    }
-
-    // Shows a proof that a key of a segment of the opened list is of the block that the list had, whose cells are not
-    // tied. It is laid into its callers, and leaves no instruction there.
-    #[inline(always)]
-    pub(crate) fn opened_is_plain(&self, key: &Key)
-        requires { IsKeyIn self.now.segments key.now }
-        ensures { segment_start (layout_of self.now) key.now.segment < self.now.laid
-            → ArePlain key.now.block.cells }
-    {
-        if let Some(known) = key_of(&self.keys, key.segment()) {
-            self.table.agree(&known, key);
         }
     }
 
@@ -156,6 +127,7 @@ impl<T: Drop> Shared<T> {
     // Fills places of the segment, which are the hand's own, with the next values: a run that begins at this place, or this
     // place alone. Returns the values that are left.
     #[inline(always)]
+    #[tactic(auto, using(crate::proofs::PlainSegments::plain_cells))]
     pub(crate) fn fill_next(
         &self,
         claims: &mut ClaimHand,
@@ -232,7 +204,7 @@ impl<T: Drop> Shared<T> {
     }
 
     // Breaks a place of the segment, which is the hand's own.
-    #[tactic(auto, using(crate::proofs::Cells::small_cell))]
+    #[tactic(auto, using(crate::proofs::Cells::small_cell, crate::proofs::PlainSegments::plain_cell))]
     pub(crate) fn break_place(
         &self,
         claims: &mut ClaimHand,
@@ -271,7 +243,7 @@ impl<T: Drop> Shared<T> {
     // Fills a cell of the segment that has this key, which is a place of the hand's own, with the value. `laid` says whether
     // the segment was laid since the vector was opened.
     #[inline(always)]
-    #[tactic(auto, using(crate::proofs::Cells::small_cell))]
+    #[tactic(auto, using(crate::proofs::Cells::small_cell, crate::proofs::PlainSegments::plain_cell))]
     pub(crate) fn fill_cell(
         &self,
         claims: &mut ClaimHand,

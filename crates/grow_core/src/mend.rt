@@ -139,6 +139,7 @@ impl<T> Shared<T> {
     }
 
     // The same of a place of the opened list. One that is broken there was broken in an epoch that has ended.
+    #[tactic(auto, using(crate::proofs::PlainSegments::plain_cell))]
     fn take_opened(&self, place: u64) -> Result<(Key, Pen<'_, T>), MendError<T>>
         requires { place < base_of self.now }
         ensures taken { IfOk result (IsTakenAt self.now.segments place) }
@@ -154,6 +155,7 @@ impl<T> Shared<T> {
     }
 
     // The same of a place past that list, or one that was not even claimed.
+    #[tactic(auto, using(crate::proofs::PlainSegments::plain_cell))]
     fn take_claimed(&self, place: u64) -> Result<(Key, Pen<'_, T>), MendError<T>>
         requires { place < self.now.laid }
         ensures taken { IfOk result (IsTakenAt self.now.segments place) }

@@ -40,7 +40,7 @@ impl<T> Model for Parts<T> {
     ghost use Rattle.std.specs.Prelude.{◌≡◌, option_map};
     ghost use Rattle.grow_core.specs.Parts.{PartsView, parts_coded, broken_count, values_in, AreWhole, AreBrokenIn};
     ghost use Rattle.grow_core.specs.Closing.{IsKept};
-    ghost use Rattle.grow_core.specs.Ties.{ArePlainKeys, AreUntied};
+    ghost use Rattle.grow_core.specs.Ties.{ArePlainSegments};
 
     ghost Value = { PartsView T };
 
@@ -58,7 +58,7 @@ impl<T> Model for Parts<T> {
         p.count
         × IsKept p.table.layout (option_map (λ m. m.numbers) p.closed) p.before p.table.names p.keys p.row p.count
         × AreBrokenIn p.epoch p.row × (p.broken ≡ broken_count (values_in p.row))
-        × AreUntied p.table × ArePlainKeys p.keys };
+        × ArePlainSegments p.table };
 }
 
 // Counts a member: 1 if it is broken, otherwise 0.
@@ -282,6 +282,7 @@ impl<T: Drop> Parts<T> {
     }
 
     /// Moves the last member out, or returns `None` if it was broken. It takes no memory.
+    #[tactic(auto, using(crate::proofs::PlainSegments::plain_written, crate::proofs::PlainSegments::plain_renewed))]
     pub fn pop(&mut self) -> Option<T>
         requires { 0 < length self.old.members }
         ensures member { self.old.members ≡ self.new.members ++ result ∷ [] }
@@ -305,6 +306,7 @@ impl<T: Drop> Parts<T> {
 
     /// Replaces the member at the place by a value or, with `None`, breaks it, and returns the value that was
     /// there, or `None` if it was broken. It takes no memory.
+    #[tactic(auto, using(crate::proofs::PlainSegments::plain_written, crate::proofs::PlainSegments::plain_renewed))]
     pub fn replace(&mut self, place: u64, value: Option<T>) -> Option<T>
         requires { place < length self.old.members }
         ensures members { self.new.members ≡ slice_set self.old.members place value }

@@ -7,11 +7,11 @@ ghost use Rattle.claim_core.specs.Plays.{block_view};
 ghost use Rattle.cell_core.specs.Block.{block_len};
 ghost use Rattle.cell_core.specs.Mould.{first_seat, last_seat};
 ghost use Rattle.cell_core.specs.Slot.{ArePlain};
-ghost use Rattle.table_core.specs.Table.{IsBlockOf, IsKeyOf, IsTiedBlockOf};
+ghost use Rattle.table_core.specs.Table.{IsBlockOf, IsKeyIn, IsKeyOf, IsTiedBlockOf};
 ghost use Rattle.grow_core.specs.Keys.{AreKeys, HasKeysOfRun, IsKeyAt, KeepsKeys, key_at, mark_of};
 ghost use Rattle.grow_core.specs.Logs.{pending_look, step_of};
 ghost use Rattle.grow_core.specs.Steps.{FindsMore, LooksAt};
-ghost use Rattle.grow_core.specs.Ties.{IsTagFor, KnowsRow, KnowsRows};
+ghost use Rattle.grow_core.specs.Ties.{IsBlockBy, IsTagFor, KnowsRow, KnowsRows};
 ghost use Rattle.grow_core.specs.Vector.{IsHandOf, IsLaid, layout_of, limit_of};
 
 use crate::keys::{Keys, key_of, put_key};
@@ -44,6 +44,17 @@ impl<T> Shared<T> {
         self.tags.at(u64::from(segment - self.count))
     }
 
+    // The block of a key of the vector, by one load.
+    #[inline(always)]
+    pub(crate) fn known_block<'a>(&'a self, key: &Key) -> &'a CellBlock<T>
+        requires { IsKeyIn self.now.segments key.now }
+        ensures block { result.now ≡ key.now.block }
+        ensures long { IsBlockOf (layout_of self.now) key.now.segment key.now.block }
+        ensures by { IsBlockBy self.now.segments self.now.laid key.now.segment key.now.block }
+    {
+        self.table.known(key)
+    }
+
     // The key of a segment of the opened list.
     pub(crate) fn opened_key(&self, segment: u32) -> Key
         requires within { segment < segment_count (layout_of self.now) }
@@ -54,7 +65,11 @@ impl<T> Shared<T> {
         // For the proof: the list has the keys of its segments.
         let _table = &self.table;
         match key_of(&self.keys, segment) {
-            Some(key) => key,
+            Some(key) => {
+                // For the proof: the cells of the entry's block are not tied.
+                self.table.known(&key);
+                key
+            }
             None => unreachable!(),
         }
     }

@@ -24,3 +24,4 @@ pub mod Counted
 pub mod Copying
 pub mod Breaking
 pub mod PlainSegments
+pub mod Loops

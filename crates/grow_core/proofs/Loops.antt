@@ -1,5 +1,8 @@
 -- What the loops over a run's places keep, turn by turn.
-use Rattle.std.proofs.Common.{◌≡◌, ℕ, ◌+◌, ◌<◌, ◌≤◌, [], ◌∷◌, refl, arith}
+use Rattle.std.proofs.Common.{◌≡◌, ℕ, zero, suc, ◌+◌, ◌-◌, ◌<◌, ◌≤◌, [], ◌∷◌, Option, Some, None, refl, subst, arith}
+use Rattle.std.specs.Prelude.{IsSome}
+use Rattle.cell_core.specs.Run.{RunView}
+use Rattle.grow_core.specs.Begun.{begun_count}
 use Rattle.claim_core.specs.declared.run.Run.{Run}
 use Rattle.claim_core.specs.Hand.{HandView}
 use Rattle.claim_core.specs.History.{fill_event, break_event}
@@ -56,3 +59,16 @@ module _ {T : Type 0} (vector : VectorView T) (run : Run) (a : HandView) where
 
     pub fresh_left : (n all : ℕ) → m + n ≡ all → WorksIn a b from m → AreFresh a from all → AreFresh b next n
     fresh_left n all sum works fresh = still_fresh a b from m next n all at sum works fresh
+
+-- some places are begun, if one is counted
+pub some_begun : {T : Type 0} (begun : Option (RunView T)) → 0 < begun_count begun → IsSome begun
+some_begun None some = absurd (omega (arith, some))
+some_begun (Some run) some = tt
+
+-- the places that are left are broken after those that were begun together, which are in a segment of the opened list
+pub stop_adds : {T : Type 0} (vector : VectorView T) (a b : HandView) (run : Run) (n first count : ℕ) → first ≡ n + count → (0 < count → run.from + n < vector.laid)
+    → AddsOn vector a b run (run.from + first) (λ index. break_steps index (run.from + first) (run.n - first))
+    → AddsOn vector a b run (run.from + n) (λ index. break_steps index (run.from + n) (run.n - n))
+stop_adds vector a b run n first zero is low adds =
+    let same : first ≡ n = omega (arith, is) in subst (λ (k : ℕ). AddsOn vector a b run (run.from + k) (λ index. break_steps index (run.from + k) (run.n - k))) same adds
+stop_adds vector a b run n first (suc count) is low adds index owns laid = let before = low (omega arith) in absurd (omega (arith, before, laid))

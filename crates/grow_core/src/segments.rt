@@ -261,7 +261,7 @@ impl<T: Drop> Shared<T> {
         }
         let (block, mut seat) = self.make_block(segment)?;
         let tag = self.entry_tag(segment);
-        let visit = claims.visit_publish_unseen::<Brand, Global>(&self.word, &tag, &mut seat);
+        let visit = claims.visit_publish_unseen::<Global>(&self.word, &tag, &mut seat);
         let (_, visit) = self.table.install_for(segment, block, visit);
         claims.take_back_unseen(visit);
         Ok(())

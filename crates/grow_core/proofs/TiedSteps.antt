@@ -1,6 +1,7 @@
 -- What a hand gains by a step on a tied cell, as the events of what the step returned.
-use Rattle.std.proofs.Common.{◌≡◌, ◌≢◌, ◌⊎◌, ℕ, zero, suc, ◌+◌, ◌<◌, ◌≤◌, List, [], ◌∷◌, ◌++◌, refl, sym, ◌∙◌, subst, inl, inr, ⊎_elim, arith}
-use Rattle.std.specs.Prelude.{Option, Some, None, slice_index_or}
+use Rattle.std.proofs.Common.{◌≡◌, ◌≢◌, ◌⊎◌, ℕ, zero, suc, ◌+◌, ◌<◌, ◌≤◌, List, [], ◌∷◌, ◌++◌, refl, sym, ap, ◌∙◌, subst, inl, inr, ⊎_elim, arith}
+use Rattle.std.specs.Prelude.{Option, Some, None, length, replicate, slice_index_or}
+use Rattle.std.proofs.lemmas.List.{length-replicate}
 use Rattle.std.specs.List.{Contains}
 use Rattle.std.proofs.lemmas.List.Elements.{Contains-append_right, Contains-append_cases}
 use Rattle.atomic_table.specs.Seated.{TableId}
@@ -15,17 +16,17 @@ use Rattle.claim_core.specs.declared.seat_view.SeatView.{SeatView}
 use Rattle.claim_core.specs.Lengths.{InRun}
 use Rattle.claim_core.specs.Hand.{HandView}
 use Rattle.claim_core.specs.History.{Log, Adds, fill_event, break_event}
-use Rattle.claim_core.specs.Gain.{Gain, Gains, GainsBy, an_event, a_begin}
-use Rattle.claim_core.specs.Laws.{RunsAreApart}
+use Rattle.claim_core.specs.Gain.{Gain, Gains, GainsBy, ChainGain, GainsAlong, GainsChain, an_event, a_begin}
+use Rattle.claim_core.specs.Laws.{BegunPlacesAreOfTheRun, BegunRunsAreFilled, RunsAreApart}
 use Rattle.claim_core.specs.Lent.{seat_hand}
-use Rattle.claim_core.specs.Plays.{cell_stage, look_gains, begin_gains, fill_gains, spoil_gains}
+use Rattle.claim_core.specs.Plays.{cell_stage, look_gains, begin_gains, fill_gains, spoil_gains, begin_run_gains, fill_run_gains, places_back}
 use Rattle.claim_core.specs.SeatSteps.{look_event}
-use Rattle.grow_core.specs.Logs.{step_of}
+use Rattle.grow_core.specs.Logs.{fill_steps, step_of}
 use Rattle.grow_core.specs.Shown.{look_steps}
 use Rattle.grow_core.specs.Vector.{VectorView}
-use Rattle.grow_core.specs.Steps.{KeepsHand, WorksIn, AddsAt, LooksAt}
+use Rattle.grow_core.specs.Steps.{KeepsHand, WorksIn, AddsAlong, AddsAt, LooksAt}
 use Rattle.grow_core.proofs.Logs.{log_goes_on}
-use Rattle.grow_core.proofs.Adds.{one_step}
+use Rattle.grow_core.proofs.Adds.{one_step, steps_go_on}
 
 -- ---- What a look shows
 
@@ -147,3 +148,47 @@ module _ (place : ℕ) where
         let told = gains.1 in
         let g : Gains (an_event (break_event told.0 place)) old new = subst (λ (gain : Gain). Gains gain old new) told.2 gains.2 in
         (works_with (break_event told.0 place) old new g, step_at (λ index. break_event index place) (told.0, told.1) g)
+
+-- ---- A hand that begins a run of places of its own, and fills them
+
+-- it has seen the same, and owns the same
+pub chain_keeps : (gain : ChainGain) (old new : HandView) → GainsChain gain old new → KeepsHand old new
+chain_keeps gain old new g =
+    record { own = record { of = g.of; mine = g.mine; shares = g.shares }; seen = g.seen }
+
+module _ (place n : ℕ) where
+  -- the places that it then knows begun are those of the run
+  pub begun_along : BegunPlacesAreOfTheRun → (v : SeatView) (old new : HandView)
+      → GainsAlong (begin_run_gains place v) (Some (replicate n (Idle, Begun))) old new → WorksIn old new place n
+  begun_along law v old new gains =
+      let run : ChainGain = record { steps = []; begun = places_back place n } in
+      let same : gains.0 ≡ run = gains.1 ∙ ap (λ (k : ℕ). record { steps = []; begun = places_back place k }) (length-replicate n (Idle, Begun)) in
+      let g : GainsChain run old new = subst (λ (gain : ChainGain). GainsChain gain old new) same gains.2 in record {
+        keeps = chain_keeps run old new g;
+        rows = g.rows;
+        begun = λ q it.
+            ⊎_elim (λ (now : Contains (places_back place n) q). inl (law place n q now))
+            (λ (was : Contains old.begun q). inr was)
+            (Contains-append_cases (places_back place n) old.begun q (subst (λ (l : List ℕ). Contains l q) g.begun it));
+        more = g.log;
+      }
+
+  -- and they are filled, in order, by the actor whose index their run has
+  pub filled_along : BegunRunsAreFilled → {T : Type 0} (vector : VectorView T) (floor : ℕ) (table : TableId) (v : SeatView) (old new : HandView)
+      → seat_hand floor table v ≡ old → GainsAlong (fill_run_gains place v) (Some (replicate n (Begun, Filled))) old new
+      → WorksIn old new place n × AddsAlong vector old new place n (λ index. fill_steps index place n)
+  filled_along law vector floor table v old new is gains =
+      let gain : ChainGain = gains.0 in let told = gains.1 in let g : GainsChain gain old new = gains.2 in (
+        record {
+          keeps = chain_keeps gain old new g;
+          rows = g.rows;
+          begun = λ q it. inr (subst (λ (l : List ℕ). Contains (l ++ old.begun) q) told.0 (subst (λ (l : List ℕ). Contains l q) g.begun it));
+          more = steps_go_on old.log new.log gain.steps g.log;
+        },
+        λ index owns laid.
+            let along : (i : ℕ) → i < length (replicate n (Begun, Filled)) → InRun v.base v.seen index (place + i) =
+              (λ i less. let near : i < n = omega (arith, less, length-replicate n (Begun, Filled)) in
+              subst (λ (h : HandView). InRun h.of.base h.seen index (place + i)) (sym is) (owns i near).in_run) in
+            let steps : gain.steps ≡ fill_steps index place n = told.1 index along ∙ law v.limit index place n in
+            subst (λ (ls : List Log). Adds old.log ls new.log) steps g.log,
+      )

@@ -239,8 +239,9 @@ impl<T: Drop> Shared<T> {
         ensures pen { IsRunPenAt segment.now.block.now (place - segment.now.from) n result }
         ensures works { WorksIn claims.old claims.new place n }
     {
-        // For the proof: the cells of a run have seats with numbers in a row.
+        // For the proof: the cells of a run have seats with numbers in a row, and a step on them takes its places in order.
         segment.block.ties_laws();
+        laws::runs_go_in_order();
         let offset = place - segment.from;
         let tag = self.cell_tag(segment.block, &segment.key, place, offset);
         let offer = claims.offer_begin_run(&self.word, &tag, place, n);
@@ -272,9 +273,9 @@ impl<T: Drop> Shared<T> {
         ensures works { WorksIn claims.old claims.new place n }
         ensures adds { AddsAlong self.now claims.old claims.new place n (λ index. fill_steps index place n) }
     {
-        // For the proof: the cells of a run have seats with numbers in a row, and a place is of one run.
-        laws::runs_are_apart();
+        // For the proof: the cells of a run have seats with numbers in a row, and a step on them takes its places in order.
         segment.block.ties_laws();
+        laws::runs_go_in_order();
         let tag = self.cell_tag(segment.block, &segment.key, place, place - segment.from);
         let offer = claims.offer_fill_run(&self.word, &tag, place, n);
         let (row, offer) = pen.publish_for(offer);

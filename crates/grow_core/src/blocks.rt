@@ -3,11 +3,11 @@ ghost use Rattle.std.specs.Prelude.{◌≡◌, ◌<◌, ◌≤◌, Some, None, I
 ghost use Rattle.seg_core.specs.Segment.{segment_start, segment_end, segment_count, segment_of, most_segments};
 ghost use Rattle.cell_core.specs.Block.{block_len, IsMemberAt, KeepsOtherCells};
 ghost use Rattle.cell_core.specs.Slot.{ArePlain};
-ghost use Rattle.table_core.specs.Table.{IsBlockOf, KeepsOtherEntries};
+ghost use Rattle.table_core.specs.Table.{IsBlockOf, IsPlainAt, KeepsOtherBonds, KeepsOtherEntries};
 ghost use Rattle.grow_core.specs.Keys.{AreKeys, HasBlock, IsBlockPut, key_at, mark_of};
 ghost use Rattle.grow_core.specs.Token.{place_in};
 ghost use Rattle.grow_core.specs.Parts.{HasFirstKeys, IsBrokenIn};
-ghost use Rattle.grow_core.specs.Ties.{ArePlainSegments, StayPlain};
+ghost use Rattle.grow_core.specs.Ties.{StayPlain};
 
 use crate::keys::{Keys, key_of};
 use crate::ties::{CellBlock, SegmentTable};
@@ -71,7 +71,6 @@ pub(crate) fn cell_of<T>(
 }
 
 // Takes the block of a place out of the table. Returns it behind its segment and the place's offset there.
-#[tactic(auto, using(crate::proofs::PlainSegments::plain_kept))]
 pub(crate) fn take_block<T: Drop>(
     table: &mut SegmentTable<T>,
     keys: &Keys,
@@ -82,17 +81,17 @@ pub(crate) fn take_block<T: Drop>(
     requires there { HasFirstKeys keys.now count }
     requires inside { place < segment_start table.old.layout count }
     requires named { AreKeys (mark_of table.old) keys.now }
-    requires plain { ArePlainSegments table.old }
     ensures small { result.0 < most_segments }
     ensures segment { result.0 < segment_count table.old.layout }
     ensures place { place_in table.old.layout result.0 result.1 ≡ place }
     ensures within { place < segment_end table.old.layout result.0 }
     ensures block { HasBlock keys.now result.0 result.2.value }
     ensures length { IsBlockOf table.old.layout result.0 result.2.value }
-    ensures plain_cells { ArePlain result.2.value.cells }
+    ensures plain_cells { IsPlainAt table.old result.0 → ArePlain result.2.value.cells }
     ensures layout { table.new.layout ≡ table.old.layout }
     ensures others { KeepsOtherEntries table.old table.new result.0 }
-    ensures plain { ArePlainSegments table.new }
+    ensures bonds { KeepsOtherBonds table.old table.new result.0 }
+    ensures plain { IsPlainAt table.new result.0 }
     ensures none_lent { table.new.lent ≡ None }
 {
     let (segment, offset, key) = cell_of(table, keys, count, place);
@@ -100,7 +99,6 @@ pub(crate) fn take_block<T: Drop>(
 }
 
 // Puts the block of a segment into the table, and its key into the row.
-#[tactic(auto, using(crate::proofs::PlainSegments::plain_kept))]
 pub(crate) fn put_block<T: Drop>(
     table: &mut SegmentTable<T>,
     keys: &mut Keys,
@@ -111,12 +109,12 @@ pub(crate) fn put_block<T: Drop>(
     requires small { segment < most_segments }
     requires length { IsBlockOf table.old.layout segment block.value }
     requires plain_cells { ArePlain block.value.cells }
-    requires plain { ArePlainSegments table.old }
     requires none_lent { table.old.lent ≡ None }
     ensures put { IsBlockPut table.new segment block.value keys.old keys.new }
     ensures layout { table.new.layout ≡ table.old.layout }
     ensures others { KeepsOtherEntries table.old table.new segment }
-    ensures plain { ArePlainSegments table.new }
+    ensures bonds { KeepsOtherBonds table.old table.new segment }
+    ensures plain { IsPlainAt table.new segment }
 {
     keys[segment as usize] = Some(table.attach_plain(segment, block));
 }

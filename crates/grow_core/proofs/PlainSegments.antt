@@ -63,3 +63,9 @@ pub plain_kept : (old new : TableView) (k : ℕ) → new.layout ≡ old.layout �
 plain_kept old new k layout others here all j less =
     dite (ℕ_discrete j k) (λ same. subst (IsPlainAt new) (sym same) here)
     (λ other. plain_other old new j layout (others j other) (all j (subst (λ (f : ℕ). j < segment_count f) layout less)))
+
+-- one entry is given up, and then set to a plain block
+pub plain_put : (old mid new : TableView) (k : ℕ) → mid.layout ≡ old.layout → new.layout ≡ mid.layout → KeepsOtherBonds old mid k → KeepsOtherBonds mid new k
+    → IsPlainAt new k → ArePlainSegments old → ArePlainSegments new
+plain_put old mid new k first later before after here all =
+    plain_kept old new k (later ∙ first) (λ j other. after j other ∙ before j other) here all

@@ -187,8 +187,8 @@ module _ (place n : ℕ) where
         },
         λ index owns laid.
             let along : (i : ℕ) → i < length (replicate n (Begun, Filled)) → InRun v.base v.seen index (place + i) =
-              (λ i less. let near : i < n = omega (arith, less, length-replicate n (Begun, Filled)) in
-              subst (λ (h : HandView). InRun h.of.base h.seen index (place + i)) (sym is) (owns i near).in_run) in
+            (λ i less. let near : i < n = omega (arith, less, length-replicate n (Begun, Filled)) in
+            subst (λ (h : HandView). InRun h.of.base h.seen index (place + i)) (sym is) (owns i near).in_run) in
             let steps : gain.steps ≡ fill_steps index place n = told.1 index along ∙ law v.limit index place n in
             subst (λ (ls : List Log). Adds old.log ls new.log) steps g.log,
       )

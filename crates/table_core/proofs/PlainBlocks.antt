@@ -78,12 +78,16 @@ entry_there [] k near = absurd (omega (arith, near))
 entry_there (x ∷ xs) zero near = (x, (λ d. refl), refl)
 entry_there (x ∷ xs) (suc k) near = entry_there xs k (omega (arith, near))
 
+-- what ties a plain entry whose block has this many cells
+plain_bond : ℕ → Option Bond
+plain_bond n = Some (None, plain_mould n)
+
 -- an entry that is plain, and as long as its segment, is plain in its table
 pub plain_now : (table : TableView) (k : ℕ) (e : EntryView) → entry_bond table k ≡ bond_of e → IsPlainEntry e → IsLengthOf table.layout k (length_of e)
     → IsPlainAt table k
 plain_now table k e there plain long = record {
   tie = ap tie_in (there ∙ plain);
-  mould = λ n is. let same : length_of e ≡ n = omega (arith, long, is) in there ∙ plain ∙ ap (λ (m : ℕ). Some (None, plain_mould m)) same;
+  mould = λ n is. let same : length_of e ≡ n = omega (arith, long, is) in there ∙ plain ∙ ap plain_bond same;
 }
 
 -- so is each entry of a table whose entries are plain

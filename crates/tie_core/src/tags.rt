@@ -1,4 +1,4 @@
-// The tags of entries in a row. It has no bytes, at any length.
+// The tags of entries in a row, which have no bytes at any length.
 ghost use Rattle.std.specs.Prelude.{◌≡◌, ◌<◌, ◌++◌, [], ◌∷◌, List, Some, length, slice_get};
 ghost use base.Stored.{coded_list};
 ghost use denote.Sharing.{said};

@@ -84,18 +84,18 @@ impl<T: Drop, B: Kind> Table<T, B> {
         &mut self,
         segment: u32,
         sight: &EntrySight<Block<T, Global, B>>,
-        new: Entry<Block<T, Global, B>>,
+        fresh: Entry<Block<T, Global, B>>,
     ) -> Option<Box<Block<T, Global, B>>>
         requires within { segment < segment_count self.old.layout }
         requires of { slice_index self.old.names segment ≡ sight.now.of }
-        requires long { IsLengthOf self.old.layout segment (length_of new) }
-        requires untied { tie_of new ≡ None }
-        requires soft { IsSoft new }
+        requires long { IsLengthOf self.old.layout segment (length_of fresh) }
+        requires untied { tie_of fresh ≡ None }
+        requires soft { IsSoft fresh }
         ensures layout { self.new.layout ≡ self.old.layout }
         ensures others { KeepsOtherEntries self.old self.new segment }
         ensures another { RenewsEntry self.old self.new segment }
         ensures bonds { KeepsOtherBonds self.old self.new segment }
-        ensures bond { entry_bond self.new segment ≡ bond_of new }
+        ensures bond { entry_bond self.new segment ≡ bond_of fresh }
         ensures untied { entry_tie self.new segment ≡ None }
         ensures none_lent { self.new.lent ≡ None }
         ensures length { IfSome result (λ block. IsBlockOf self.old.layout segment block.value) }
@@ -106,7 +106,7 @@ impl<T: Drop, B: Kind> Table<T, B> {
     {
         self.put_back();
         self.held = None;
-        let mut new = new;
+        let mut new = fresh;
         new.rename(&mut self.entries[segment as usize]);
         replace(&mut self.entries[segment as usize], new).into_box(sight)
     }

@@ -46,7 +46,7 @@ stop-requires g c =
     let f : ℕ = c.args.self.now.segments.layout in
     let laid_is : laid ≡ segment_start f c.self.inside.count = subst (λ (v : VectorView _). v.laid ≡ segment_start v.segments.layout c.self.inside.count) c.self.view_is refl in
     let ends : at.segment.from < laid → at.segment.end ≤ laid =
-      (λ low. let e = opened_ends f at.segment.key.segment c.self.inside.count laid laid_is (omega (arith, low, s.first)) in omega (arith, e, s.last)) in
+    (λ low. let e = opened_ends f at.segment.key.segment c.self.inside.count laid laid_is (omega (arith, low, s.first)) in omega (arith, e, s.last)) in
     let few = begun_few laid at.segment (run.from + at.i) (run.n - at.i) at.begun begun in (
       omega arith,
       (

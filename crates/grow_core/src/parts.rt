@@ -13,6 +13,7 @@ use claim_core::Mark;
 use seg_core::Layout;
 use std::alloc::{AllocError, Global};
 use std::marker::Model;
+use table_core::Table;
 
 /// The parts of a vector that an exclusive owner holds. It lends no cell, so nothing of it changes through a
 /// `&`. Contracts see it as a list of values and broken members (`None`), with its limit and the number of
@@ -94,7 +95,7 @@ impl<T> Parts<T> {
         // For the proof: its f is that of a layout.
         let _f = layout.f();
         Parts {
-            table: SegmentTable::new_for(alloc, layout),
+            table: Table::new_for(alloc, layout),
             keys: no_keys(),
             row: Row::new(),
             epoch: Epoch::new(),

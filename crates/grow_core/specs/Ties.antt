@@ -3,7 +3,7 @@ use Rattle.std.specs.Prelude.{◌≡◌, ℕ, ◌+◌, ◌-◌, ◌<◌, ◌≤�
 use Rattle.std.specs.List.{Contains}
 use Rattle.seg_core.specs.Segment.{segment_start, segment_count, most_segments}
 use Rattle.tie_core.specs.Tie.{Tie, IsTied}
-use Rattle.tie_core.specs.Visit.{EntryTie}
+use Rattle.tie_core.specs.Tags.{TagView}
 use Rattle.claim_core.specs.declared.role.RowAt.{RowAt}
 use Rattle.claim_core.specs.Word.{WordView}
 use Rattle.claim_core.specs.Gain.{IsTiedTo, IsEntryTo}
@@ -15,13 +15,7 @@ use Rattle.table_core.specs.Table.{TableView, KeyView, IsKeyIn, IsBlockOf, IsLen
 use Rattle.grow_core.specs.Token.{place_in}
 use Rattle.grow_core.specs.Keys.{KeyRow, key_at, layout_in}
 
--- the tie of an entry, with the first place of its segment and the number of its places, which the codes of the tie say
-pub record TagView : Type 0 where
-  pub tie : EntryTie
-  pub from : ℕ
-  pub n : ℕ
-
--- those of the entries from one segment on
+-- the tags of the entries from one segment on
 abbrev pub TagRow : Type 0
 TagRow = List TagView
 

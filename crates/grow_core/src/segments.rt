@@ -2,6 +2,7 @@
 // visit of the hand's seat, and the hand learns where the cells of the segment are.
 ghost use Rattle.std.specs.Prelude.{◌≡◌, ◌≤◌, ◌<◌, ◌+◌, [], ◌∷◌, IfOk, IfSome, IfNone, IsSome, IsTrue, IsFalse};
 ghost use Rattle.seg_core.specs.Segment.{HasPlace, most_places, segment_count, segment_end, segment_start};
+ghost use Rattle.tie_core.specs.Tags.{tag_of};
 ghost use Rattle.claim_core.specs.Hand.{IsWholeHand, seen_size};
 ghost use Rattle.claim_core.specs.Plays.{block_view};
 ghost use Rattle.cell_core.specs.Block.{block_len};
@@ -39,7 +40,8 @@ impl<T> Shared<T> {
     fn entry_tag(&self, segment: u32) -> RowTag
         requires within { segment < segment_count (layout_of self.now) }
         requires laid { IsLaid self.now (segment_start (layout_of self.now) segment) }
-        ensures { IsTagFor self.now.word self.now.segments segment result }
+        ensures { IsTagFor self.now.word self.now.segments segment
+            (tag_of result.tie result.from result.n) }
     {
         self.tags.at(u64::from(segment - self.count))
     }

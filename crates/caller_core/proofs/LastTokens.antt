@@ -1,10 +1,11 @@
--- The token of the last place of a run.
-use Rattle.std.proofs.Common.{◌≡◌, ◌∙◌, ◌+◌, ◌-◌, ◌<◌, Option, Some, length, refl, sym, arith}
+-- The token of the last place that a caller filled.
+use Rattle.std.proofs.Common.{◌≡◌, ◌∙◌, ℕ, ◌+◌, ◌-◌, ◌<◌, Option, Some, length, refl, sym, subst, arith}
 use Rattle.std.specs.Prelude.{slice_get}
 use Rattle.std.proofs.lemmas.List.{length-map}
 use Rattle.std.proofs.lemmas.Option.{slice_get_within}
 use Rattle.grow_core.specs.Token.{PlacedView}
 use Rattle.grow_core.specs.Grown.{GrownView, IsInOrder, values_of}
+use Rattle.caller_core.specs.Caller.{CallerView, Pushes, HasLast}
 use Rattle.caller_core.specs.Grows.{TellsLast}
 
 module _ {T : Type 0} (grown : GrownView T) (old : Option (PlacedView T)) (order : IsInOrder grown.run grown.tokens) where
@@ -31,3 +32,7 @@ module _ {T : Type 0} (grown : GrownView T) (old : Option (PlacedView T)) (order
         none = λ none. absurd (omega arith);
         some = λ x at. (here, let same : Some placed.value ≡ Some x = sym value ∙ at in cc);
       }
+
+-- after a push it is that of the place, with the value
+pub pushes_last : {T : Type 0} (value : T) (old new : CallerView T) (place : ℕ) → Pushes value old new place → HasLast place value new.last
+pushes_last value old new place p = subst (λ last. HasLast place value last) (sym p.last) (p.here, p.won.value)

@@ -8,6 +8,20 @@ use quiet_core::Quiet;
 use seg_core::Layout;
 use std::alloc::Global;
 
+// Appends a value, and reads it at its place.
+fn pushed_and_read(caller: &mut Caller<u64>, value: u64) -> Option<u64>
+    ensures read { IfSome result (λ read. read ≡ value) }
+    ensures kept { KeepsCaller caller.old caller.new }
+{
+    let Ok(place) = caller.push(value) else {
+        return None;
+    };
+    match caller.at(place) {
+        Ok(read) => Some(read),
+        Err(_refused) => None,
+    }
+}
+
 // Splits a caller off, which appends a value, and joins it: no share is lost.
 fn joined_after_a_push(caller: &mut Caller<u64>, shares: u32, value: u64)
     requires some_shares { 0 < shares }

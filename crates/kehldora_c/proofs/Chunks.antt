@@ -6,7 +6,7 @@ use Rattle.std.proofs.lemmas.List.{append_assoc, drop-drop, drop-take, drop_at, 
 use Rattle.std.proofs.lemmas.Option.{slice_get_within}
 use Rattle.std.proofs.lemmas.Nat.{div-mul-add, row_fits}
 use borrow.Author.Count.{below_more}
-use Rattle.kehldora_c.specs.Calls.{elements_in}
+use Rattle.kehldora_c.specs.Kind.{elements_in}
 
 -- there are as many parts as were asked for
 pub first_chunks-length : {X : Type 0} (w n : ℕ) (xs : List X) → length (first_chunks w n xs) ≡ n

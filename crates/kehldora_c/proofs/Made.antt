@@ -7,7 +7,8 @@ use Rattle.grow_core.specs.Grown.{values_of}
 use Rattle.grow_core.specs.Making.{Makes}
 use Rattle.caller_core.specs.Caller.{CallerView, HasLast}
 use Rattle.caller_core.specs.Grows.{GrowsUpTo}
-use Rattle.kehldora_c.specs.Calls.{HasLastElement, elements_in, source_of}
+use Rattle.kehldora_c.specs.Calls.{HasLastElement, source_of}
+use Rattle.kehldora_c.specs.Kind.{elements_in}
 
 module _ {F T E : Type 0} (step : F → ℕ → Result T E → F → Type 0) (keeps : F → Type 0) (says : ℕ → T → Type 0)
     (on : (f : F) (i : ℕ) (x : T) (g : F) → keeps f → step f i (Ok x) g → keeps g × says i x) where

@@ -1,20 +1,16 @@
 -- What each call on a hand leaves, and when each of its refusals comes.
-use Rattle.std.specs.Prelude.{◌≡◌, ◌≢◌, ℕ, ◌+◌, ◌-◌, ◌/◌, ◌%◌, ◌<◌, ◌≤◌, ◌⊎◌, min, [], Bool, true, false, List, Option, Some, None, IsSome, length, slice_get, replicate}
-use Rattle.std.specs.Simd.{first_chunks}
+use Rattle.std.specs.Prelude.{◌≡◌, ◌≢◌, ℕ, ◌+◌, ◌-◌, ◌/◌, ◌%◌, ◌<◌, ◌≤◌, ◌⊎◌, min, [], Bool, true, false, List, Option, Some, None, IsSome, length, slice_get}
 use Rattle.seg_core.specs.Segment.{IsLimit, IsLayout}
 use Rattle.claim_core.specs.Hand.{IsWholeHand, SeesSize, seen_size}
 use Rattle.grow_core.specs.Vector.{limit_of}
 use Rattle.caller_core.specs.Caller.{CallerView, IsNewCaller, JoinsCallers, Pushes, HasLast}
-use Rattle.caller_core.specs.Grows.{GrowsBy, WinsPlaces, Mends}
+use Rattle.caller_core.specs.Grows.{WinsPlaces, Mends}
+use Rattle.kehldora_c.specs.Kind.{elements_in}
 use Rattle.kehldora_c.specs.declared.held.Held.{Held}
 use Rattle.kehldora_c.specs.declared.held.Held.TheVariants as held
 use Rattle.kehldora_c.specs.declared.status.Status.{Status}
 use Rattle.kehldora_c.specs.declared.status.Status.TheVariants as status
-use Rattle.kehldora_c.specs.Held.{OnHands, caller_of, words_of, opaque_of, opaque_words}
-
--- the elements that these words make side by side, as lists of their words
-abbrev pub elements_in : ℕ → List ℕ → List (List ℕ)
-elements_in width words = first_chunks width (length words / width) words
+use Rattle.kehldora_c.specs.Held.{OnAll, OnHands, caller_of, words_of, opaque_of, opaque_words}
 
 -- the hand is of a new vector with this limit and layout, of elements of this many words and of this kind
 abbrev pub IsNewHand : ℕ → ℕ → ℕ → Bool → Held → Type 0
@@ -25,25 +21,15 @@ IsNewHand limit words layout opaque other = ⊥
 
 -- these words were appended at this place: the hand's own last token has the place, and the value if it has one
 abbrev pub PushesWords : List ℕ → ℕ → Held → Held → Type 0
-PushesWords words place (held.Hand old) (held.Hand new) = Pushes words (caller_of old) (caller_of new) place
-PushesWords words place (held.OpaqueHand old) (held.OpaqueHand new) = Pushes tt (opaque_of old) (opaque_of new) place
-PushesWords words place old new = ⊥
+PushesWords words place = OnAll (λ T kind old new. Pushes (kind.element_of words) old new place)
 
 -- the elements that these words make were appended from this place on, side by side
 abbrev pub GrowsByWords : List ℕ → ℕ → Held → Held → Type 0
-GrowsByWords words place (held.Hand old) (held.Hand new) =
-    GrowsBy (elements_in (words_of old) words) (caller_of old) (caller_of new) place
-GrowsByWords words place (held.OpaqueHand old) (held.OpaqueHand new) =
-    WinsPlaces (length words / opaque_words old) (opaque_of old) (opaque_of new) place
-GrowsByWords words place old new = ⊥
+GrowsByWords words place = OnAll (λ T kind old new. kind.grows words old new place)
 
 -- n copies of the element that these words make were appended from this place on
 abbrev pub GrowsByCopies : ℕ → List ℕ → ℕ → Held → Held → Type 0
-GrowsByCopies n words place (held.Hand old) (held.Hand new) =
-    GrowsBy (replicate n words) (caller_of old) (caller_of new) place
-GrowsByCopies n words place (held.OpaqueHand old) (held.OpaqueHand new) =
-    WinsPlaces n (opaque_of old) (opaque_of new) place
-GrowsByCopies n words place old new = ⊥
+GrowsByCopies n words place = OnAll (λ T kind old new. kind.fills n words old new place)
 
 -- n places from this one on were won and broken
 abbrev pub WinsPlacesOf : ℕ → ℕ → Held → Held → Type 0
@@ -66,18 +52,13 @@ HasLastElement element_of width words place n caller =
 
 -- the elements that were missing up to this size were appended
 abbrev pub GrowsUpToWords : ℕ → List ℕ → ℕ → ℕ → Held → Held → Type 0
-GrowsUpToWords size words place n (held.Hand old) (held.Hand new) =
-    ReachesSize size place n (caller_of old) (caller_of new)
-    × HasLastElement (λ ws. ws) (words_of old) words place n (caller_of new)
-GrowsUpToWords size words place n (held.OpaqueHand old) (held.OpaqueHand new) =
-    ReachesSize size place n (opaque_of old) (opaque_of new)
-GrowsUpToWords size words place n old new = ⊥
+GrowsUpToWords size words place n =
+    OnAll (λ T kind old new. ReachesSize size place n old new
+    × HasLastElement kind.element_of kind.width words place n new)
 
 -- the place was mended with these words: the hand's own last token has the place, and the value if it has one
 abbrev pub MendsWords : ℕ → List ℕ → Held → Held → Type 0
-MendsWords place words (held.Hand old) (held.Hand new) = Mends place words (caller_of old) (caller_of new)
-MendsWords place words (held.OpaqueHand old) (held.OpaqueHand new) = Mends place tt (opaque_of old) (opaque_of new)
-MendsWords place words old new = ⊥
+MendsWords place words = OnAll (λ T kind old new. Mends place (kind.element_of words) old new)
 
 -- the hand's own last place is this one, and its value of this many words is this one
 abbrev pub HasLastValue : ℕ → ℕ → List ℕ → Held → Type 0

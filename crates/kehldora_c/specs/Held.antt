@@ -2,6 +2,7 @@
 use Rattle.std.specs.Prelude.{◌≡◌, ℕ, List, Option, Some, None}
 use Rattle.quiet_core.specs.QuietList.{QuietList}
 use Rattle.caller_core.specs.Caller.{CallerView, KeepsCaller}
+use Rattle.kehldora_c.specs.Kind.{KindView, value_kind, opaque_kind}
 use Rattle.kehldora_c.specs.declared.held.AnyCaller.{AnyCaller}
 use Rattle.kehldora_c.specs.declared.held.AnyCaller.TheVariants as hand
 use Rattle.kehldora_c.specs.declared.held.AnyOpaque.{AnyOpaque}
@@ -113,11 +114,16 @@ OnHand says (held.Hand any) = says (List ℕ) (caller_of any)
 OnHand says (held.OpaqueHand any) = says (Unit {0}) (opaque_of any)
 OnHand says other = ⊥
 
+-- there is a hand of the same elements before and after, and this is true of the kind of the elements and of both hands
+abbrev pub OnAll : ((T : Type 0) → KindView T → CallerView T → CallerView T → Type 0) → Held → Held → Type 0
+OnAll says (held.Hand old) (held.Hand new) = says (List ℕ) (value_kind (words_of old)) (caller_of old) (caller_of new)
+OnAll says (held.OpaqueHand old) (held.OpaqueHand new) =
+    says (Unit {0}) (opaque_kind (opaque_words old)) (opaque_of old) (opaque_of new)
+OnAll says old new = ⊥
+
 -- there is a hand of the same elements before and after, and this is true of both
 abbrev pub OnHands : ((T : Type 0) → CallerView T → CallerView T → Type 0) → Held → Held → Type 0
-OnHands says (held.Hand old) (held.Hand new) = says (List ℕ) (caller_of old) (caller_of new)
-OnHands says (held.OpaqueHand old) (held.OpaqueHand new) = says (Unit {0}) (opaque_of old) (opaque_of new)
-OnHands says old new = ⊥
+OnHands says = OnAll (λ T kind old new. says T old new)
 
 -- there is a list, and this is true of it, whatever the elements are
 abbrev pub OnList : ((T : Type 0) → QuietList T → Type 0) → Held → Type 0
@@ -125,10 +131,18 @@ OnList says (held.List any) = says (List ℕ) (list_of any)
 OnList says (held.OpaqueList any) = says (Unit {0}) (opaque_list_of any)
 OnList says other = ⊥
 
+-- there is a list of the same elements before and after, and this is true of the words of an element, of the element that
+-- words make, and of both lists
+abbrev pub OnAllLists : ((T : Type 0) → ℕ → (List ℕ → T) → QuietList T → QuietList T → Type 0) → Held → Held → Type 0
+OnAllLists says (held.List old) (held.List new) =
+    says (List ℕ) (list_words old) (λ words. words) (list_of old) (list_of new)
+OnAllLists says (held.OpaqueList old) (held.OpaqueList new) =
+    says (Unit {0}) (opaque_list_words old) (λ words. tt) (opaque_list_of old) (opaque_list_of new)
+OnAllLists says old new = ⊥
+
+-- the same of both lists alone
 abbrev pub OnLists : ((T : Type 0) → QuietList T → QuietList T → Type 0) → Held → Held → Type 0
-OnLists says (held.List old) (held.List new) = says (List ℕ) (list_of old) (list_of new)
-OnLists says (held.OpaqueList old) (held.OpaqueList new) = says (Unit {0}) (opaque_list_of old) (opaque_list_of new)
-OnLists says old new = ⊥
+OnLists says = OnAllLists (λ T width element_of old new. says T old new)
 
 -- the words of an element of what the handle has
 abbrev pub width_of : Held → ℕ
@@ -151,3 +165,7 @@ OnBoth says old new = ⊥
 -- there is a hand
 abbrev pub IsHand : Held → Type 0
 IsHand = OnHand (λ T caller. Unit {0})
+
+-- there is a hand before and after
+abbrev pub AreHands : Held → Held → Type 0
+AreHands = OnHands (λ T old new. Unit {0})

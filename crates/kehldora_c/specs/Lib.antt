@@ -1,5 +1,6 @@
 pub mod Owned
 pub mod Lending
+pub mod Kind
 pub mod Held
 pub mod Status
 pub mod Outcomes

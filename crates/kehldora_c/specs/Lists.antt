@@ -10,8 +10,8 @@ use Rattle.kehldora_c.specs.declared.held.Held.{Held}
 use Rattle.kehldora_c.specs.declared.held.Held.TheVariants as held
 use Rattle.kehldora_c.specs.declared.status.Status.{Status}
 use Rattle.kehldora_c.specs.declared.status.Status.TheVariants as status
-use Rattle.kehldora_c.specs.Held.{OnList, caller_of, words_of, opaque_of, opaque_words, list_of, list_words, opaque_list_of, opaque_list_words}
-use Rattle.kehldora_c.specs.Calls.{elements_in}
+use Rattle.kehldora_c.specs.Held.{OnAllLists, OnList, caller_of, words_of, opaque_of, opaque_words, list_of, list_words, opaque_list_of, opaque_list_words}
+use Rattle.kehldora_c.specs.Kind.{elements_in}
 
 -- the list has the values of the list that the vector was opened on, and is as long as the size that the hand had seen
 pub record ClosesCaller {T : Type 0} (caller : CallerView T) (closed : QuietList T) : Type 0 where
@@ -67,10 +67,7 @@ pub record SetsMember {T : Type 0} (place : ℕ) (value : T) (old new : QuietLis
   pub layout : new.layout ≡ old.layout
 
 abbrev pub SetsWords : ℕ → List ℕ → Held → Held → Type 0
-SetsWords place words (held.List old) (held.List new) = SetsMember place words (list_of old) (list_of new)
-SetsWords place words (held.OpaqueList old) (held.OpaqueList new) =
-    SetsMember place tt (opaque_list_of old) (opaque_list_of new)
-SetsWords place words old new = ⊥
+SetsWords place words = OnAllLists (λ T width element_of old new. SetsMember place (element_of words) old new)
 
 -- the n members from this place on have values
 abbrev pub AreValues : {T : Type 0} → ℕ → ℕ → QuietList T → Type 0

@@ -1,81 +1,28 @@
 //! What the exports do with the hand that a handle has.
-ghost use Rattle.std.specs.Prelude.{◌≡◌, ◌<◌, ℕ, List, IfOk, IfErr, IsOkAnd, OnOk, OnErr, length};
-ghost use Rattle.claim_core.specs.Hand.{SeesSize, seen_size};
+ghost use Rattle.std.specs.Prelude.{◌≡◌, ℕ, List, IfOk, IfErr, IsOkAnd, OnOk, OnErr, length};
+ghost use Rattle.claim_core.specs.Hand.{seen_size};
 ghost use Rattle.grow_core.specs.Vector.{limit_of};
-ghost use Rattle.caller_core.specs.Grows.{AreSideBySide};
-ghost use Rattle.kehldora_c.specs.Held.{KeepsHeld, OnHand, OnHands, IsHand, width_of};
-ghost use Rattle.kehldora_c.specs.Calls.{PushesWords, GrowsByWords, GrowsByCopies, GrowsUpToWords, WinsPlacesOf};
-ghost use Rattle.kehldora_c.specs.Calls.{MendsWords, HasLastValue};
-ghost use Rattle.kehldora_c.specs.Calls.{IsDueOn, IsCopyDueOn, PushDue, GrowDue, FillDue, AtLeastDue, LeaveDue};
-ghost use Rattle.kehldora_c.specs.Calls.{AtDue, LookDue, MendsDue, RoomDue, NeverDue};
+ghost use Rattle.kehldora_c.specs.Held.{KeepsHeld, OnAll, OnHand, IsHand, width_of};
+ghost use Rattle.kehldora_c.specs.Calls.{HasLastValue};
+ghost use Rattle.kehldora_c.specs.Calls.{IsDueOn, IsCopyDueOn};
+ghost use Rattle.kehldora_c.specs.Calls.{AtDue, NeverDue};
 
+use crate::ask::Ask;
 use crate::held::Held;
 use crate::status::Status;
 use crate::{hands, opaque_hands};
 
-// Appends the element that these words make.
+// Does a call with the hand.
 #[inline(always)]
-pub(crate) fn push(held: &mut Held, words: &[u64]) -> Result<u64, Status>
-    ensures pushed { IfOk result (λ place. PushesWords words.now place held.old held.new) }
-    ensures refused { IfErr result (IsDueOn (PushDue (length words.now)) held.new) }
+pub(crate) fn ask<A: Ask>(held: &mut Held, ask: A) -> Result<A::Given, Status>
+    ensures left { IfOk result (λ given. OnAll
+        (λ T kind old new. A.leaves ask T kind old new given) held.old held.new) }
+    ensures refused { IfErr result (IsDueOn (A.due ask) held.new) }
     ensures kept { KeepsHeld held.old held.new }
 {
     match held {
-        Held::Hand(any) => hands::push(any, words),
-        Held::OpaqueHand(any) => opaque_hands::push(any, words),
-        Held::List(_) | Held::OpaqueList(_) | Held::Empty => Err(Status::BadHandle),
-    }
-}
-
-// Appends the elements that these words make.
-pub(crate) fn grow(held: &mut Held, words: &[u64]) -> Result<u64, Status>
-    ensures grown { IfOk result (λ place. GrowsByWords words.now place held.old held.new) }
-    ensures refused { IfErr result (IsDueOn (GrowDue (length words.now)) held.new) }
-    ensures kept { KeepsHeld held.old held.new }
-{
-    match held {
-        Held::Hand(any) => hands::grow(any, words),
-        Held::OpaqueHand(any) => opaque_hands::grow(any, words),
-        Held::List(_) | Held::OpaqueList(_) | Held::Empty => Err(Status::BadHandle),
-    }
-}
-
-// Appends `count` copies of the element that these words make.
-pub(crate) fn fill(held: &mut Held, words: &[u64], count: u64) -> Result<u64, Status>
-    ensures grown { IfOk result (λ place. GrowsByCopies count words.now place held.old held.new) }
-    ensures refused { IfErr result (IsDueOn (FillDue count (length words.now)) held.new) }
-    ensures kept { KeepsHeld held.old held.new }
-{
-    match held {
-        Held::Hand(any) => hands::fill(any, words, count),
-        Held::OpaqueHand(any) => opaque_hands::fill(any, words, count),
-        Held::List(_) | Held::OpaqueList(_) | Held::Empty => Err(Status::BadHandle),
-    }
-}
-
-// Appends what is missing up to this size.
-pub(crate) fn at_least(held: &mut Held, size: u64, words: &[u64]) -> Result<(u64, u64), Status>
-    ensures grown { IfOk result
-        (λ (place, n). GrowsUpToWords size words.now place n held.old held.new) }
-    ensures refused { IfErr result (IsDueOn (AtLeastDue size (length words.now)) held.new) }
-    ensures kept { KeepsHeld held.old held.new }
-{
-    match held {
-        Held::Hand(any) => hands::at_least(any, size, words),
-        Held::OpaqueHand(any) => opaque_hands::at_least(any, size, words),
-        Held::List(_) | Held::OpaqueList(_) | Held::Empty => Err(Status::BadHandle),
-    }
-}
-
-// Claims `count` places and breaks them.
-pub(crate) fn leave(held: &mut Held, count: u64) -> Result<u64, Status>
-    ensures broken { IfOk result (λ place. WinsPlacesOf count place held.old held.new) }
-    ensures refused { IfErr result (IsDueOn (LeaveDue count) held.new) }
-    ensures kept { KeepsHeld held.old held.new }
-{
-    match held {
-        Held::Hand(any) => hands::leave(any, count),
-        Held::OpaqueHand(any) => opaque_hands::leave(any, count),
+        Held::Hand(any) => hands::ask(any, ask),
+        Held::OpaqueHand(any) => opaque_hands::ask(any, ask),
         Held::List(_) | Held::OpaqueList(_) | Held::Empty => Err(Status::BadHandle),
     }
 }
@@ -94,75 +41,6 @@ pub(crate) fn copy(held: &mut Held, place: u64, value: &mut [u64]) -> Result<(),
         Held::Hand(any) => hands::copy(any, place, value),
         // An opaque element is copied by its address.
         Held::OpaqueHand(_) => Err(Status::BadSize),
-        Held::List(_) | Held::OpaqueList(_) | Held::Empty => Err(Status::BadHandle),
-    }
-}
-
-// Returns the address of the value at a place.
-#[inline(always)]
-pub(crate) fn look(held: &mut Held, place: u64) -> Result<*mut u64, Status>
-    ensures below { IfOk result (λ _. OnHand (λ T caller. place < seen_size caller.hand) held.new) }
-    ensures refused { IfErr result (IsDueOn (LookDue place) held.new) }
-    ensures kept { KeepsHeld held.old held.new }
-{
-    match held {
-        Held::Hand(any) => hands::look(any, place),
-        Held::OpaqueHand(any) => opaque_hands::look(any, place),
-        Held::List(_) | Held::OpaqueList(_) | Held::Empty => Err(Status::BadHandle),
-    }
-}
-
-// Returns the address of the value at a place, and how many filled ones lie there side by side.
-pub(crate) fn run(held: &mut Held, place: u64) -> Result<(*mut u64, u64), Status>
-    ensures run { IfOk result
-        (λ (_, n). OnHand (λ T caller. AreSideBySide caller.vector place n) held.old) }
-    ensures refused { IfErr result (IsDueOn (LookDue place) held.new) }
-    ensures kept { KeepsHeld held.old held.new }
-{
-    match held {
-        Held::Hand(any) => hands::run(any, place),
-        Held::OpaqueHand(any) => opaque_hands::run(any, place),
-        Held::List(_) | Held::OpaqueList(_) | Held::Empty => Err(Status::BadHandle),
-    }
-}
-
-// Fills a broken place.
-pub(crate) fn mend(held: &mut Held, place: u64, words: &[u64]) -> Result<(), Status>
-    ensures mended { OnOk result (MendsWords place words.now held.old held.new) }
-    ensures refused { IfErr result (IsDueOn (MendsDue place (length words.now)) held.new) }
-    ensures kept { KeepsHeld held.old held.new }
-{
-    match held {
-        Held::Hand(any) => hands::mend(any, place, words),
-        Held::OpaqueHand(any) => opaque_hands::mend(any, place, words),
-        Held::List(_) | Held::OpaqueList(_) | Held::Empty => Err(Status::BadHandle),
-    }
-}
-
-// Makes room for this many places in all.
-pub(crate) fn reserve(held: &mut Held, size: u64) -> Result<(), Status>
-    ensures hand { OnOk result (IsHand held.old) }
-    ensures refused { IfErr result (IsDueOn (RoomDue size) held.new) }
-    ensures kept { KeepsHeld held.old held.new }
-{
-    match held {
-        Held::Hand(any) => hands::reserve(any, size),
-        Held::OpaqueHand(any) => opaque_hands::reserve(any, size),
-        Held::List(_) | Held::OpaqueList(_) | Held::Empty => Err(Status::BadHandle),
-    }
-}
-
-// Loads the size.
-#[inline(always)]
-pub(crate) fn size(held: &mut Held) -> Result<u64, Status>
-    ensures seen { IfOk result (λ size. OnHands
-        (λ T old new. SeesSize old.hand new.hand size) held.old held.new) }
-    ensures refused { IfErr result (IsDueOn NeverDue held.new) }
-    ensures kept { KeepsHeld held.old held.new }
-{
-    match held {
-        Held::Hand(any) => Ok(hands::size(any)),
-        Held::OpaqueHand(any) => Ok(opaque_hands::size(any)),
         Held::List(_) | Held::OpaqueList(_) | Held::Empty => Err(Status::BadHandle),
     }
 }

@@ -1,6 +1,7 @@
 //! Words as elements, for growths whose values are made in place.
 ghost use Rattle.std.specs.Prelude.{◌≡◌, ◌≢◌, ◌<◌, ◌/◌, ℕ, List, Some, MatchOption, length, slice_get};
-ghost use Rattle.kehldora_c.specs.Calls.{elements_in, source_of};
+ghost use Rattle.kehldora_c.specs.Calls.{source_of};
+ghost use Rattle.kehldora_c.specs.Kind.{elements_in};
 
 use caller_core::Element;
 use std::marker::PhantomData;

@@ -1,16 +1,17 @@
 //! The exports that open, end and describe a hand.
-ghost use Rattle.std.specs.Prelude.{◌≡◌, ◌<◌, None, true, false, IfOk, IfErr, IfSome};
+ghost use Rattle.std.specs.Prelude.{◌≡◌, None, true, false, IfOk, IfErr, IfSome};
 ghost use Rattle.seg_core.specs.Segment.{IsLimit};
 ghost use Rattle.claim_core.specs.Hand.{SeesSize, seen_size};
 ghost use Rattle.grow_core.specs.Vector.{limit_of};
-ghost use Rattle.kehldora_c.specs.Held.{Keeps, OnBoth, OnHeld, OnHand, OnHands, IsHand, width_of};
+ghost use Rattle.kehldora_c.specs.Held.{AreHands, Keeps, OnBoth, OnHeld, OnHand, OnHands, IsHand, width_of};
 ghost use Rattle.kehldora_c.specs.Calls.{IsNewHand, OpenDue, IsOpenDueIn, IsDueIn, IsDueOn, NeverDue, RoomDue};
 ghost use Rattle.kehldora_c.specs.Status.{IsDone, IfRefused};
 
+use crate::ask::{Reserve, Size};
 use crate::handle::Handle;
 use crate::held::Held;
 use crate::status::{DONE, Status};
-use crate::{contents, hands, opaque_hands};
+use crate::{asking, contents, hands, opaque_hands};
 use seg_core::{Layout, MOST_PLACES};
 use std::alloc::Global;
 
@@ -159,7 +160,7 @@ pub extern "C" fn kehldora_raw_about(hand: &mut Handle, facts: &mut HandFacts) -
 }
 
 /// Loads the size.
-#[tactic(auto, using(crate::proofs::Codes::if_done, crate::proofs::Codes::refused_in, crate::proofs::Codes::refused_empty))]
+#[tactic(auto, using(crate::proofs::Codes::if_done))]
 #[unsafe(no_mangle)]
 pub extern "C" fn kehldora_raw_size(hand: &mut Handle, size: &mut u64) -> i32
     ensures seen { IsDone result → OnBoth (OnHands
@@ -167,17 +168,13 @@ pub extern "C" fn kehldora_raw_size(hand: &mut Handle, size: &mut u64) -> i32
     ensures refused { IfRefused result (IsDueIn (IsDueOn NeverDue) hand.new.owned.held) }
     ensures kept { Keeps hand.old.owned.held hand.new.owned.held }
 {
-    if hand.is_empty() {
-        return Status::BadHandle.code();
-    }
-    let held = hand.owned.held_mut();
-    let answer = contents::size(held);
+    let answer = asking::ask(hand, Size);
     match answer {
         Ok(now) => {
             *size = now;
             DONE
         }
-        Err(status) => status.code(),
+        Err(code) => code,
     }
 }
 
@@ -204,20 +201,16 @@ pub extern "C" fn kehldora_raw_where(hand: &mut Handle, at: &mut *mut u64) -> i3
 }
 
 /// Makes room for a number of places in all.
-#[tactic(auto, using(crate::proofs::Codes::if_done, crate::proofs::Codes::refused_in, crate::proofs::Codes::refused_empty))]
+#[tactic(auto, using(crate::proofs::Codes::if_done))]
 #[unsafe(no_mangle)]
 pub extern "C" fn kehldora_raw_reserve(hand: &mut Handle, size: u64) -> i32
-    ensures hand { IsDone result → OnHeld IsHand hand.old.owned.held }
+    ensures hand { IsDone result → OnBoth AreHands hand.old.owned.held hand.new.owned.held }
     ensures refused { IfRefused result (IsDueIn (IsDueOn (RoomDue size)) hand.new.owned.held) }
     ensures kept { Keeps hand.old.owned.held hand.new.owned.held }
 {
-    if hand.is_empty() {
-        return Status::BadHandle.code();
-    }
-    let held = hand.owned.held_mut();
-    let answer = contents::reserve(held, size);
+    let answer = asking::ask(hand, Reserve { size });
     match answer {
         Ok(()) => DONE,
-        Err(status) => status.code(),
+        Err(code) => code,
     }
 }

@@ -5,12 +5,13 @@ ghost use Rattle.kehldora_c.specs.Calls.{PushesWords, GrowsByWords, GrowsByCopie
 ghost use Rattle.kehldora_c.specs.Calls.{IsDueIn, IsDueOn, PushDue, GrowDue, FillDue, AtLeastDue, LeaveDue, MendsDue};
 ghost use Rattle.kehldora_c.specs.Status.{IsDone, IfRefused};
 
-use crate::contents;
+use crate::ask::{AtLeast, Fill, Grow, Leave, Mend, Push};
+use crate::asking;
 use crate::handle::Handle;
-use crate::status::{DONE, Status};
+use crate::status::DONE;
 
 /// Appends a value, and tells its place. It tries three times.
-#[tactic(auto, using(crate::proofs::Codes::if_done, crate::proofs::Codes::refused_in, crate::proofs::Codes::refused_empty))]
+#[tactic(auto, using(crate::proofs::Codes::if_done))]
 #[unsafe(no_mangle)]
 pub extern "C" fn kehldora_raw_push(hand: &mut Handle, value: &[u64], place: &mut u64) -> i32
     ensures pushed { IsDone result → OnBoth
@@ -19,22 +20,18 @@ pub extern "C" fn kehldora_raw_push(hand: &mut Handle, value: &[u64], place: &mu
         (IsDueIn (IsDueOn (PushDue (length value.now))) hand.new.owned.held) }
     ensures kept { Keeps hand.old.owned.held hand.new.owned.held }
 {
-    if hand.is_empty() {
-        return Status::BadHandle.code();
-    }
-    let held = hand.owned.held_mut();
-    let answer = contents::push(held, value);
+    let answer = asking::ask(hand, Push { value });
     match answer {
         Ok(at) => {
             *place = at;
             DONE
         }
-        Err(status) => status.code(),
+        Err(code) => code,
     }
 }
 
 /// Appends the elements of an array, and tells the place of the first one. It tries once.
-#[tactic(auto, using(crate::proofs::Codes::if_done, crate::proofs::Codes::refused_in, crate::proofs::Codes::refused_empty))]
+#[tactic(auto, using(crate::proofs::Codes::if_done))]
 #[unsafe(no_mangle)]
 pub extern "C" fn kehldora_raw_grow(hand: &mut Handle, values: &[u64], place: &mut u64) -> i32
     ensures grown { IsDone result → OnBoth
@@ -43,22 +40,18 @@ pub extern "C" fn kehldora_raw_grow(hand: &mut Handle, values: &[u64], place: &m
         (IsDueIn (IsDueOn (GrowDue (length values.now))) hand.new.owned.held) }
     ensures kept { Keeps hand.old.owned.held hand.new.owned.held }
 {
-    if hand.is_empty() {
-        return Status::BadHandle.code();
-    }
-    let held = hand.owned.held_mut();
-    let answer = contents::grow(held, values);
+    let answer = asking::ask(hand, Grow { values });
     match answer {
         Ok(at) => {
             *place = at;
             DONE
         }
-        Err(status) => status.code(),
+        Err(code) => code,
     }
 }
 
 /// Appends copies of a value, and tells the place of the first one. It tries once.
-#[tactic(auto, using(crate::proofs::Codes::if_done, crate::proofs::Codes::refused_in, crate::proofs::Codes::refused_empty))]
+#[tactic(auto, using(crate::proofs::Codes::if_done))]
 #[unsafe(no_mangle)]
 pub extern "C" fn kehldora_raw_fill(
     hand: &mut Handle,
@@ -72,22 +65,18 @@ pub extern "C" fn kehldora_raw_fill(
         (IsDueIn (IsDueOn (FillDue count (length value.now))) hand.new.owned.held) }
     ensures kept { Keeps hand.old.owned.held hand.new.owned.held }
 {
-    if hand.is_empty() {
-        return Status::BadHandle.code();
-    }
-    let held = hand.owned.held_mut();
-    let answer = contents::fill(held, value, count);
+    let answer = asking::ask(hand, Fill { value, count });
     match answer {
         Ok(at) => {
             *place = at;
             DONE
         }
-        Err(status) => status.code(),
+        Err(code) => code,
     }
 }
 
 /// Appends what is missing up to a size, and tells the place of the first one and how many there are.
-#[tactic(auto, using(crate::proofs::Codes::if_done, crate::proofs::Codes::refused_in, crate::proofs::Codes::refused_empty))]
+#[tactic(auto, using(crate::proofs::Codes::if_done))]
 #[unsafe(no_mangle)]
 pub extern "C" fn kehldora_raw_at_least(
     hand: &mut Handle,
@@ -102,23 +91,19 @@ pub extern "C" fn kehldora_raw_at_least(
         (IsDueIn (IsDueOn (AtLeastDue size (length values.now))) hand.new.owned.held) }
     ensures kept { Keeps hand.old.owned.held hand.new.owned.held }
 {
-    if hand.is_empty() {
-        return Status::BadHandle.code();
-    }
-    let held = hand.owned.held_mut();
-    let answer = contents::at_least(held, size, values);
+    let answer = asking::ask(hand, AtLeast { size, values });
     match answer {
         Ok((at, n)) => {
             *place = at;
             *count = n;
             DONE
         }
-        Err(status) => status.code(),
+        Err(code) => code,
     }
 }
 
 /// Claims places and breaks them, and tells the first one. It tries once.
-#[tactic(auto, using(crate::proofs::Codes::if_done, crate::proofs::Codes::refused_in, crate::proofs::Codes::refused_empty))]
+#[tactic(auto, using(crate::proofs::Codes::if_done))]
 #[unsafe(no_mangle)]
 pub extern "C" fn kehldora_raw_leave(hand: &mut Handle, count: u64, place: &mut u64) -> i32
     ensures broken { IsDone result → OnBoth
@@ -126,22 +111,18 @@ pub extern "C" fn kehldora_raw_leave(hand: &mut Handle, count: u64, place: &mut 
     ensures refused { IfRefused result (IsDueIn (IsDueOn (LeaveDue count)) hand.new.owned.held) }
     ensures kept { Keeps hand.old.owned.held hand.new.owned.held }
 {
-    if hand.is_empty() {
-        return Status::BadHandle.code();
-    }
-    let held = hand.owned.held_mut();
-    let answer = contents::leave(held, count);
+    let answer = asking::ask(hand, Leave { count });
     match answer {
         Ok(at) => {
             *place = at;
             DONE
         }
-        Err(status) => status.code(),
+        Err(code) => code,
     }
 }
 
 /// Fills a broken place.
-#[tactic(auto, using(crate::proofs::Codes::if_done, crate::proofs::Codes::refused_in, crate::proofs::Codes::refused_empty))]
+#[tactic(auto, using(crate::proofs::Codes::if_done))]
 #[unsafe(no_mangle)]
 pub extern "C" fn kehldora_raw_mend(hand: &mut Handle, place: u64, value: &[u64]) -> i32
     ensures mended { IsDone result → OnBoth
@@ -150,13 +131,9 @@ pub extern "C" fn kehldora_raw_mend(hand: &mut Handle, place: u64, value: &[u64]
         (IsDueIn (IsDueOn (MendsDue place (length value.now))) hand.new.owned.held) }
     ensures kept { Keeps hand.old.owned.held hand.new.owned.held }
 {
-    if hand.is_empty() {
-        return Status::BadHandle.code();
-    }
-    let held = hand.owned.held_mut();
-    let answer = contents::mend(held, place, value);
+    let answer = asking::ask(hand, Mend { place, value });
     match answer {
         Ok(()) => DONE,
-        Err(status) => status.code(),
+        Err(code) => code,
     }
 }

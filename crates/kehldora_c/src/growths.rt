@@ -2,7 +2,8 @@
 ghost use Rattle.std.specs.Prelude.{◌≡◌, ◌≢◌, ◌<◌, ◌≤◌, ◌/◌, ◌%◌, ℕ, List, IfOk, IfErr, IsTrue, IsFalse, Some, length, replicate, slice_get};
 ghost use Rattle.caller_core.specs.Caller.{KeepsCaller, Pushes};
 ghost use Rattle.caller_core.specs.Grows.{GrowsBy, WinsPlaces};
-ghost use Rattle.kehldora_c.specs.Calls.{GrowthDue, AtLeastDue, AreTooFew, ReachesSize, HasLastElement, elements_in, source_of};
+ghost use Rattle.kehldora_c.specs.Calls.{GrowthDue, AtLeastDue, AreTooFew, ReachesSize, HasLastElement, source_of};
+ghost use Rattle.kehldora_c.specs.Kind.{elements_in};
 
 use crate::elements::{Elements, One};
 use crate::status::{Status, of_growth};

@@ -1,18 +1,19 @@
 //! What the exports do with a hand of value elements, whatever their size.
-ghost use Rattle.std.specs.Prelude.{◌≡◌, ◌<◌, ◌↔◌, ℕ, List, IfOk, IfErr, OnOk, OnErr, IsOkAnd, IsTrue, length, replicate};
+ghost use Rattle.std.specs.Prelude.{◌≡◌, ◌↔◌, ℕ, List, IfOk, IfErr, OnErr, IsOkAnd, IsTrue, length};
 ghost use Rattle.seg_core.specs.Segment.{IsLimit};
-ghost use Rattle.claim_core.specs.Hand.{IsWholeHand, SeesSize, seen_size};
+ghost use Rattle.claim_core.specs.Hand.{IsWholeHand, seen_size};
 ghost use Rattle.grow_core.specs.Vector.{limit_of};
-ghost use Rattle.caller_core.specs.Caller.{IsNewCaller, HasLast, Pushes};
-ghost use Rattle.caller_core.specs.Grows.{AreSideBySide, GrowsBy, Mends, WinsPlaces};
+ghost use Rattle.caller_core.specs.Caller.{IsNewCaller, HasLast};
+ghost use Rattle.kehldora_c.specs.Kind.{value_kind};
 ghost use Rattle.kehldora_c.specs.Held.{KeepsAny, caller_of, words_of, list_of, list_words};
-ghost use Rattle.kehldora_c.specs.Calls.{OpenDue, PushDue, GrowDue, FillDue, AtLeastDue, GrowthDue, AtDue, ReadDue, MendsDue, RoomDue, SplitDue, SplitsCaller, ReachesSize, HasLastElement, elements_in};
+ghost use Rattle.kehldora_c.specs.Calls.{OpenDue, AtDue, SplitDue, SplitsCaller};
 ghost use Rattle.kehldora_c.specs.Lists.{ClosesCaller};
 
+use crate::ask::Ask;
 use crate::held::{AnyCaller, AnyList};
+use crate::reads;
 use crate::sizes::{by_size, keep_size, opened, try_size};
 use crate::status::Status;
-use crate::{growths, reads};
 use caller_core::Caller;
 use seg_core::Layout;
 use std::alloc::Global;
@@ -40,57 +41,15 @@ pub(crate) fn open(
     }
 }
 
-// Appends the element that these words make.
+// Does a call with the hand.
 #[inline(always)]
-pub(crate) fn push(any: &mut AnyCaller, words: &[u64]) -> Result<u64, Status>
-    ensures pushed { IfOk result (Pushes words.now (caller_of any.old) (caller_of any.new)) }
-    ensures refused { IfErr result
-        (PushDue (length words.now) (List ℕ) (words_of any.new) (caller_of any.new)) }
+pub(crate) fn ask<A: Ask>(any: &mut AnyCaller, ask: A) -> Result<A::Given, Status>
+    ensures left { IfOk result
+        (A.leaves ask (List ℕ) (value_kind (words_of any.old)) (caller_of any.old) (caller_of any.new)) }
+    ensures refused { IfErr result (A.due ask (List ℕ) (words_of any.new) (caller_of any.new)) }
     ensures kept { KeepsAny any.old any.new }
 {
-    by_size!(AnyCaller, any, caller => growths::push(caller, words))
-}
-
-// Appends the elements that these words make.
-pub(crate) fn grow(any: &mut AnyCaller, words: &[u64]) -> Result<u64, Status>
-    ensures grown { IfOk result
-        (GrowsBy (elements_in (words_of any.old) words.now) (caller_of any.old) (caller_of any.new)) }
-    ensures refused { IfErr result
-        (GrowDue (length words.now) (List ℕ) (words_of any.new) (caller_of any.new)) }
-    ensures kept { KeepsAny any.old any.new }
-{
-    by_size!(AnyCaller, any, caller => growths::grow_values(caller, words))
-}
-
-// Appends `count` copies of the element that these words make.
-pub(crate) fn fill(any: &mut AnyCaller, words: &[u64], count: u64) -> Result<u64, Status>
-    ensures grown { IfOk result (GrowsBy (replicate count words.now) (caller_of any.old) (caller_of any.new)) }
-    ensures refused { IfErr result
-        (FillDue count (length words.now) (List ℕ) (words_of any.new) (caller_of any.new)) }
-    ensures kept { KeepsAny any.old any.new }
-{
-    by_size!(AnyCaller, any, caller => growths::fill_values(caller, words, count))
-}
-
-// Appends what is missing up to this size.
-pub(crate) fn at_least(any: &mut AnyCaller, size: u64, words: &[u64]) -> Result<(u64, u64), Status>
-    ensures grown { IfOk result (λ (place, n). ReachesSize size place n (caller_of any.old) (caller_of any.new)) }
-    ensures last { IfOk result (λ (place, n).
-        HasLastElement (λ ws. ws) (words_of any.old) words.now place n (caller_of any.new)) }
-    ensures refused { IfErr result
-        (AtLeastDue size (length words.now) (List ℕ) (words_of any.new) (caller_of any.new)) }
-    ensures kept { KeepsAny any.old any.new }
-{
-    by_size!(AnyCaller, any, caller => growths::at_least(caller, size, words))
-}
-
-// Claims `count` places and breaks them.
-pub(crate) fn leave(any: &mut AnyCaller, count: u64) -> Result<u64, Status>
-    ensures broken { IfOk result (WinsPlaces count (caller_of any.old) (caller_of any.new)) }
-    ensures refused { IfErr result (GrowthDue count ⊥ (List ℕ) (caller_of any.new)) }
-    ensures kept { KeepsAny any.old any.new }
-{
-    by_size!(AnyCaller, any, caller => growths::leave(caller, count))
+    by_size!(AnyCaller, any, caller => ask.of(caller))
 }
 
 // Copies the value at a place.
@@ -105,52 +64,6 @@ pub(crate) fn copy(any: &mut AnyCaller, place: u64, value: &mut [u64]) -> Result
     ensures length { length value.new ≡ length value.old }
 {
     by_size!(AnyCaller, any, caller => reads::copy(caller, place, value))
-}
-
-// Returns the address of the value at a place.
-#[inline(always)]
-pub(crate) fn look(any: &mut AnyCaller, place: u64) -> Result<*mut u64, Status>
-    ensures below { IfOk result (λ _. place < seen_size (caller_of any.new).hand) }
-    ensures refused { IfErr result (ReadDue place ⊥ (List ℕ) (caller_of any.new)) }
-    ensures kept { KeepsAny any.old any.new }
-{
-    by_size!(AnyCaller, any, caller => reads::look(caller, place))
-}
-
-// Returns the address of the value at a place, and how many filled ones lie there side by side.
-pub(crate) fn run(any: &mut AnyCaller, place: u64) -> Result<(*mut u64, u64), Status>
-    ensures run { IfOk result (λ (_, n). AreSideBySide (caller_of any.old).vector place n) }
-    ensures refused { IfErr result (ReadDue place ⊥ (List ℕ) (caller_of any.new)) }
-    ensures kept { KeepsAny any.old any.new }
-{
-    by_size!(AnyCaller, any, caller => reads::run(caller, place))
-}
-
-// Fills a broken place.
-pub(crate) fn mend(any: &mut AnyCaller, place: u64, words: &[u64]) -> Result<(), Status>
-    ensures mended { OnOk result (Mends place words.now (caller_of any.old) (caller_of any.new)) }
-    ensures refused { IfErr result
-        (MendsDue place (length words.now) (List ℕ) (words_of any.new) (caller_of any.new)) }
-    ensures kept { KeepsAny any.old any.new }
-{
-    by_size!(AnyCaller, any, caller => reads::mend(caller, place, words))
-}
-
-// Makes room for this many places in all.
-pub(crate) fn reserve(any: &mut AnyCaller, size: u64) -> Result<(), Status>
-    ensures refused { IfErr result (RoomDue size (List ℕ) (words_of any.new) (caller_of any.new)) }
-    ensures kept { KeepsAny any.old any.new }
-{
-    by_size!(AnyCaller, any, caller => reads::reserve(caller, size))
-}
-
-// Loads the size.
-#[inline(always)]
-pub(crate) fn size(any: &mut AnyCaller) -> u64
-    ensures seen { SeesSize (caller_of any.old).hand (caller_of any.new).hand result }
-    ensures kept { KeepsAny any.old any.new }
-{
-    by_size!(AnyCaller, any, caller => caller.size())
 }
 
 // Returns the shares, the size that was seen, and the limit.

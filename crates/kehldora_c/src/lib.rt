@@ -3,12 +3,17 @@
 //! An export works on what its handle has where it lies, and takes it out only if the handle is to have something else.
 //! `contents.rt`, `list_contents.rt` and `moves.rt` do what the export asks, by the kind of what is there. `hands.rt`,
 //! `lists.rt` and their kin do it by the size of an element, and `growths.rt`, `reads.rt` and `members.rt` for one
-//! size. A push and a look are laid into their exports, so that nothing of them goes through memory.
+//! size. Calls on a hand, and those that change a list, are in `ask.rt` and `ask_list.rt`, with one body for all elements;
+//! `asking.rt` does them with what a handle has. A push and a look are laid into their exports, so that nothing of them
+//! goes through memory.
 //!
 //! A caller in C can rely on the clauses of the exports as long as it keeps what `include/kehldora.h` asks. No clause
 //! says what is at an address, nor that two addresses differ.
 #![tactic(auto)]
 
+mod ask;
+mod ask_list;
+mod asking;
 mod contents;
 mod elements;
 mod exports;
@@ -18,6 +23,7 @@ mod handle;
 mod hands;
 mod held;
 mod joins;
+mod kind;
 mod list_contents;
 mod list_exports;
 mod lists;

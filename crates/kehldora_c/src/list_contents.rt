@@ -1,10 +1,11 @@
 //! What the exports do with the list that a handle has.
 ghost use Rattle.std.specs.Prelude.{◌≡◌, IfOk, IfErr, OnOk, OnErr, length};
-ghost use Rattle.kehldora_c.specs.Held.{OnList, OnLists, width_of};
-ghost use Rattle.kehldora_c.specs.Lists.{HasMember, HasValueAt, AreMembersOf, SetsWords, CutsList, ShrinksList};
-ghost use Rattle.kehldora_c.specs.Lists.{IsDueOnList, IsCopyDueOnList, GetDue, ListCopyDue, ListSetDue, ListLookDue};
+ghost use Rattle.kehldora_c.specs.Held.{OnAllLists, OnList, width_of};
+ghost use Rattle.kehldora_c.specs.Lists.{HasMember, HasValueAt, AreMembersOf};
+ghost use Rattle.kehldora_c.specs.Lists.{IsDueOnList, IsCopyDueOnList, GetDue, ListCopyDue, ListLookDue};
 ghost use Rattle.kehldora_c.specs.Lists.{NeverDueOfList};
 
+use crate::ask_list::AskList;
 use crate::held::Held;
 use crate::status::Status;
 use crate::{lists, opaque_lists};
@@ -59,15 +60,16 @@ pub(crate) fn copy_all(held: &Held, place: u64, values: &mut [u64]) -> Result<()
     }
 }
 
-// Replaces the member at a place, or mends it.
-pub(crate) fn set(held: &mut Held, place: u64, words: &[u64]) -> Result<(), Status>
-    ensures set { OnOk result (SetsWords place words.now held.old held.new) }
-    ensures refused { IfErr result (IsDueOnList (ListSetDue place (length words.now)) held.old) }
+// Does a call that changes the list.
+pub(crate) fn ask<A: AskList>(held: &mut Held, ask: A) -> Result<(), Status>
+    ensures left { OnOk result (OnAllLists
+        (λ T width element_of old new. A.leaves ask T width element_of old new) held.old held.new) }
+    ensures refused { IfErr result (IsDueOnList (A.due ask) held.old) }
     ensures unchanged { OnErr result (held.new ≡ held.old) }
 {
     match held {
-        Held::List(any) => lists::set(any, place, words),
-        Held::OpaqueList(any) => opaque_lists::set(any, place, words),
+        Held::List(any) => lists::ask(any, ask),
+        Held::OpaqueList(any) => opaque_lists::ask(any, ask),
         Held::Hand(_) | Held::OpaqueHand(_) | Held::Empty => Err(Status::BadHandle),
     }
 }
@@ -80,44 +82,6 @@ pub(crate) fn look(held: &Held, place: u64) -> Result<*mut u64, Status>
     match held {
         Held::List(any) => lists::look(any, place),
         Held::OpaqueList(any) => opaque_lists::look(any, place),
-        Held::Hand(_) | Held::OpaqueHand(_) | Held::Empty => Err(Status::BadHandle),
-    }
-}
-
-// Drops the members from a place on.
-pub(crate) fn cut(held: &mut Held, size: u64) -> Result<(), Status>
-    ensures cut { OnOk result (OnLists (λ T old new. CutsList size old new) held.old held.new) }
-    ensures refused { IfErr result (IsDueOnList NeverDueOfList held.old) }
-    ensures unchanged { OnErr result (held.new ≡ held.old) }
-{
-    match held {
-        Held::List(any) => {
-            lists::cut(any, size);
-            Ok(())
-        }
-        Held::OpaqueList(any) => {
-            opaque_lists::cut(any, size);
-            Ok(())
-        }
-        Held::Hand(_) | Held::OpaqueHand(_) | Held::Empty => Err(Status::BadHandle),
-    }
-}
-
-// Frees the segments without a member.
-pub(crate) fn shrink(held: &mut Held) -> Result<(), Status>
-    ensures shrunk { OnOk result (OnLists (λ T old new. ShrinksList old new) held.old held.new) }
-    ensures refused { IfErr result (IsDueOnList NeverDueOfList held.old) }
-    ensures unchanged { OnErr result (held.new ≡ held.old) }
-{
-    match held {
-        Held::List(any) => {
-            lists::shrink(any);
-            Ok(())
-        }
-        Held::OpaqueList(any) => {
-            opaque_lists::shrink(any);
-            Ok(())
-        }
         Held::Hand(_) | Held::OpaqueHand(_) | Held::Empty => Err(Status::BadHandle),
     }
 }

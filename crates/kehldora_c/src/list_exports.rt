@@ -7,9 +7,10 @@ ghost use Rattle.kehldora_c.specs.Lists.{IsDueOnList, IsCopyDueOnList, GetDue, L
 ghost use Rattle.kehldora_c.specs.Lists.{NeverDueOfList};
 ghost use Rattle.kehldora_c.specs.Status.{IsDone, IfRefused};
 
+use crate::ask_list::{Cut, Set, Shrink};
 use crate::handle::Handle;
-use crate::list_contents;
 use crate::status::{DONE, Status};
+use crate::{asking, list_contents};
 use std::alloc::Global;
 
 /// A list's size, its limit and the words of an element.
@@ -69,7 +70,7 @@ pub extern "C" fn kehldora_raw_list_get(list: &mut Handle, place: u64, value: &m
 }
 
 /// Replaces the member at a place, or mends it.
-#[tactic(auto, using(crate::proofs::Codes::if_done, crate::proofs::Codes::refused_in, crate::proofs::Codes::refused_empty))]
+#[tactic(auto, using(crate::proofs::Codes::if_done))]
 #[unsafe(no_mangle)]
 pub extern "C" fn kehldora_raw_list_set(list: &mut Handle, place: u64, value: &[u64]) -> i32
     ensures set { IsDone result → OnBoth (SetsWords place value.now) list.old.owned.held list.new.owned.held }
@@ -77,14 +78,10 @@ pub extern "C" fn kehldora_raw_list_set(list: &mut Handle, place: u64, value: &[
         (IsDueIn (IsDueOnList (ListSetDue place (length value.now))) list.old.owned.held) }
     ensures kept { (IsDone result → ⊥) → list.new.owned.held ≡ list.old.owned.held }
 {
-    if list.is_empty() {
-        return Status::BadHandle.code();
-    }
-    let held = list.owned.held_mut();
-    let answer = list_contents::set(held, place, value);
+    let answer = asking::ask_list(list, Set { place, value });
     match answer {
         Ok(()) => DONE,
-        Err(status) => status.code(),
+        Err(code) => code,
     }
 }
 
@@ -132,7 +129,7 @@ pub extern "C" fn kehldora_raw_list_look(list: &mut Handle, place: u64, at: &mut
 }
 
 /// Drops the members from a place on. Their memory stays.
-#[tactic(auto, using(crate::proofs::Codes::if_done, crate::proofs::Codes::refused_in, crate::proofs::Codes::refused_empty))]
+#[tactic(auto, using(crate::proofs::Codes::if_done))]
 #[unsafe(no_mangle)]
 pub extern "C" fn kehldora_raw_list_cut(list: &mut Handle, size: u64) -> i32
     ensures cut { IsDone result → OnBoth
@@ -140,19 +137,15 @@ pub extern "C" fn kehldora_raw_list_cut(list: &mut Handle, size: u64) -> i32
     ensures refused { IfRefused result (IsDueIn (IsDueOnList NeverDueOfList) list.old.owned.held) }
     ensures kept { (IsDone result → ⊥) → list.new.owned.held ≡ list.old.owned.held }
 {
-    if list.is_empty() {
-        return Status::BadHandle.code();
-    }
-    let held = list.owned.held_mut();
-    let answer = list_contents::cut(held, size);
+    let answer = asking::ask_list(list, Cut { size });
     match answer {
         Ok(()) => DONE,
-        Err(status) => status.code(),
+        Err(code) => code,
     }
 }
 
 /// Frees the segments that have no member.
-#[tactic(auto, using(crate::proofs::Codes::if_done, crate::proofs::Codes::refused_in, crate::proofs::Codes::refused_empty))]
+#[tactic(auto, using(crate::proofs::Codes::if_done))]
 #[unsafe(no_mangle)]
 pub extern "C" fn kehldora_raw_list_shrink(list: &mut Handle) -> i32
     ensures shrunk { IsDone result → OnBoth
@@ -160,14 +153,10 @@ pub extern "C" fn kehldora_raw_list_shrink(list: &mut Handle) -> i32
     ensures refused { IfRefused result (IsDueIn (IsDueOnList NeverDueOfList) list.old.owned.held) }
     ensures kept { (IsDone result → ⊥) → list.new.owned.held ≡ list.old.owned.held }
 {
-    if list.is_empty() {
-        return Status::BadHandle.code();
-    }
-    let held = list.owned.held_mut();
-    let answer = list_contents::shrink(held);
+    let answer = asking::ask_list(list, Shrink);
     match answer {
         Ok(()) => DONE,
-        Err(status) => status.code(),
+        Err(code) => code,
     }
 }
 

@@ -2,8 +2,9 @@
 ghost use Rattle.std.specs.Prelude.{◌≡◌, ℕ, List, Some, IfOk, IfErr, OnOk, OnErr, length, slice_get};
 ghost use Rattle.caller_core.specs.Grows.{OpensList, IsSameList};
 ghost use Rattle.kehldora_c.specs.Held.{caller_of, words_of, list_of, list_words};
-ghost use Rattle.kehldora_c.specs.Lists.{AreMembersFrom, CutsList, GetDue, ListCopyDue, ListSetDue, MemberDue, SetsMember, ShrinksList};
+ghost use Rattle.kehldora_c.specs.Lists.{AreMembersFrom, GetDue, ListCopyDue, MemberDue};
 
+use crate::ask_list::AskList;
 use crate::held::{AnyCaller, AnyList};
 use crate::members;
 use crate::sizes::{by_size, try_size};
@@ -55,15 +56,15 @@ pub(crate) fn copy_all(any: &AnyList, place: u64, values: &mut [u64]) -> Result<
     by_size!(AnyList, any, list => members::copy_all(list, place, values))
 }
 
-// Replaces the member at a place, or mends it.
-pub(crate) fn set(any: &mut AnyList, place: u64, words: &[u64]) -> Result<(), Status>
-    ensures set { OnOk result (SetsMember place words.now (list_of any.old) (list_of any.new)) }
-    ensures refused { IfErr result
-        (ListSetDue place (length words.now) (List ℕ) (list_words any.old) (list_of any.old)) }
+// Does a call that changes the list.
+pub(crate) fn ask<A: AskList>(any: &mut AnyList, ask: A) -> Result<(), Status>
+    ensures left { OnOk result
+        (A.leaves ask (List ℕ) (list_words any.old) (λ words. words) (list_of any.old) (list_of any.new)) }
+    ensures refused { IfErr result (A.due ask (List ℕ) (list_words any.old) (list_of any.old)) }
     ensures unchanged { OnErr result (any.new ≡ any.old) }
     ensures words { list_words any.new ≡ list_words any.old }
 {
-    by_size!(AnyList, any, list => members::set(list, place, words))
+    by_size!(AnyList, any, list => ask.of(list))
 }
 
 // Returns the address of the member at a place.
@@ -73,22 +74,6 @@ pub(crate) fn look(any: &AnyList, place: u64) -> Result<*mut u64, Status>
     ensures refused { IfErr result (MemberDue place ⊥ (List ℕ) (list_of any.now)) }
 {
     by_size!(AnyList, any, list => members::look(list, place))
-}
-
-// Drops the members from a place on.
-pub(crate) fn cut(any: &mut AnyList, size: u64)
-    ensures cut { CutsList size (list_of any.old) (list_of any.new) }
-    ensures words { list_words any.new ≡ list_words any.old }
-{
-    by_size!(AnyList, any, list => list.truncate(size))
-}
-
-// Frees the segments without a member.
-pub(crate) fn shrink(any: &mut AnyList)
-    ensures shrunk { ShrinksList (list_of any.old) (list_of any.new) }
-    ensures words { list_words any.new ≡ list_words any.old }
-{
-    by_size!(AnyList, any, list => list.shrink_to_fit())
 }
 
 // Opens the list into a vector, or gives it back.

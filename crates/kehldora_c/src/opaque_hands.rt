@@ -1,18 +1,19 @@
 //! What the exports do with a hand of opaque elements, whatever their size.
-ghost use Rattle.std.specs.Prelude.{◌≡◌, ◌<◌, ◌/◌, ◌↔◌, IfOk, IfErr, OnOk, OnErr, IsTrue, length};
+ghost use Rattle.std.specs.Prelude.{◌≡◌, ◌↔◌, IfOk, IfErr, OnErr, IsTrue};
 ghost use Rattle.seg_core.specs.Segment.{IsLimit};
-ghost use Rattle.claim_core.specs.Hand.{IsWholeHand, SeesSize, seen_size};
+ghost use Rattle.claim_core.specs.Hand.{IsWholeHand, seen_size};
 ghost use Rattle.grow_core.specs.Vector.{limit_of};
-ghost use Rattle.caller_core.specs.Caller.{IsNewCaller, Pushes};
-ghost use Rattle.caller_core.specs.Grows.{AreSideBySide, Mends, WinsPlaces};
+ghost use Rattle.caller_core.specs.Caller.{IsNewCaller};
+ghost use Rattle.kehldora_c.specs.Kind.{opaque_kind};
 ghost use Rattle.kehldora_c.specs.Held.{KeepsOpaque, opaque_of, opaque_words, opaque_list_of, opaque_list_words};
-ghost use Rattle.kehldora_c.specs.Calls.{OpenDue, PushDue, GrowDue, FillDue, AtLeastDue, GrowthDue, ReadDue, MendsDue, RoomDue, SplitDue, SplitsCaller, ReachesSize};
+ghost use Rattle.kehldora_c.specs.Calls.{OpenDue, SplitDue, SplitsCaller};
 ghost use Rattle.kehldora_c.specs.Lists.{ClosesCaller};
 
+use crate::ask::Ask;
 use crate::held::{AnyOpaque, AnyOpaqueList};
+use crate::reads;
 use crate::sizes::{by_size, keep_size, opened, try_size};
 use crate::status::Status;
-use crate::{growths, reads};
 use caller_core::Caller;
 use seg_core::Layout;
 use std::alloc::Global;
@@ -40,101 +41,15 @@ pub(crate) fn open(
     }
 }
 
-// Appends the element that these words make.
+// Does a call with the hand.
 #[inline(always)]
-pub(crate) fn push(any: &mut AnyOpaque, words: &[u64]) -> Result<u64, Status>
-    ensures pushed { IfOk result (Pushes tt (opaque_of any.old) (opaque_of any.new)) }
-    ensures refused { IfErr result
-        (PushDue (length words.now) (Unit {0}) (opaque_words any.new) (opaque_of any.new)) }
+pub(crate) fn ask<A: Ask>(any: &mut AnyOpaque, ask: A) -> Result<A::Given, Status>
+    ensures left { IfOk result
+        (A.leaves ask (Unit {0}) (opaque_kind (opaque_words any.old)) (opaque_of any.old) (opaque_of any.new)) }
+    ensures refused { IfErr result (A.due ask (Unit {0}) (opaque_words any.new) (opaque_of any.new)) }
     ensures kept { KeepsOpaque any.old any.new }
 {
-    by_size!(AnyOpaque, any, caller => growths::push(caller, words))
-}
-
-// Appends the elements that these words make.
-pub(crate) fn grow(any: &mut AnyOpaque, words: &[u64]) -> Result<u64, Status>
-    ensures grown { IfOk result
-        (WinsPlaces (length words.now / opaque_words any.old) (opaque_of any.old) (opaque_of any.new)) }
-    ensures refused { IfErr result
-        (GrowDue (length words.now) (Unit {0}) (opaque_words any.new) (opaque_of any.new)) }
-    ensures kept { KeepsOpaque any.old any.new }
-{
-    by_size!(AnyOpaque, any, caller => growths::grow_opaque(caller, words))
-}
-
-// Appends `count` elements, each of which these words make.
-pub(crate) fn fill(any: &mut AnyOpaque, words: &[u64], count: u64) -> Result<u64, Status>
-    ensures grown { IfOk result (WinsPlaces count (opaque_of any.old) (opaque_of any.new)) }
-    ensures refused { IfErr result
-        (FillDue count (length words.now) (Unit {0}) (opaque_words any.new) (opaque_of any.new)) }
-    ensures kept { KeepsOpaque any.old any.new }
-{
-    by_size!(AnyOpaque, any, caller => growths::fill_opaque(caller, words, count))
-}
-
-// Appends what is missing up to this size.
-pub(crate) fn at_least(any: &mut AnyOpaque, size: u64, words: &[u64]) -> Result<(u64, u64), Status>
-    ensures grown { IfOk result (λ (place, n). ReachesSize size place n (opaque_of any.old) (opaque_of any.new)) }
-    ensures refused { IfErr result
-        (AtLeastDue size (length words.now) (Unit {0}) (opaque_words any.new) (opaque_of any.new)) }
-    ensures kept { KeepsOpaque any.old any.new }
-{
-    by_size!(AnyOpaque, any, caller => growths::at_least(caller, size, words))
-}
-
-// Claims `count` places and breaks them.
-pub(crate) fn leave(any: &mut AnyOpaque, count: u64) -> Result<u64, Status>
-    ensures broken { IfOk result (WinsPlaces count (opaque_of any.old) (opaque_of any.new)) }
-    ensures refused { IfErr result (GrowthDue count ⊥ (Unit {0}) (opaque_of any.new)) }
-    ensures kept { KeepsOpaque any.old any.new }
-{
-    by_size!(AnyOpaque, any, caller => growths::leave(caller, count))
-}
-
-// Returns the address of the value at a place.
-#[inline(always)]
-pub(crate) fn look(any: &mut AnyOpaque, place: u64) -> Result<*mut u64, Status>
-    ensures below { IfOk result (λ _. place < seen_size (opaque_of any.new).hand) }
-    ensures refused { IfErr result (ReadDue place ⊥ (Unit {0}) (opaque_of any.new)) }
-    ensures kept { KeepsOpaque any.old any.new }
-{
-    by_size!(AnyOpaque, any, caller => reads::look(caller, place))
-}
-
-// Returns the address of the value at a place, and how many filled ones lie there side by side.
-pub(crate) fn run(any: &mut AnyOpaque, place: u64) -> Result<(*mut u64, u64), Status>
-    ensures run { IfOk result (λ (_, n). AreSideBySide (opaque_of any.old).vector place n) }
-    ensures refused { IfErr result (ReadDue place ⊥ (Unit {0}) (opaque_of any.new)) }
-    ensures kept { KeepsOpaque any.old any.new }
-{
-    by_size!(AnyOpaque, any, caller => reads::run(caller, place))
-}
-
-// Fills a broken place.
-pub(crate) fn mend(any: &mut AnyOpaque, place: u64, words: &[u64]) -> Result<(), Status>
-    ensures mended { OnOk result (Mends place tt (opaque_of any.old) (opaque_of any.new)) }
-    ensures refused { IfErr result
-        (MendsDue place (length words.now) (Unit {0}) (opaque_words any.new) (opaque_of any.new)) }
-    ensures kept { KeepsOpaque any.old any.new }
-{
-    by_size!(AnyOpaque, any, caller => reads::mend(caller, place, words))
-}
-
-// Makes room for this many places in all.
-pub(crate) fn reserve(any: &mut AnyOpaque, size: u64) -> Result<(), Status>
-    ensures refused { IfErr result (RoomDue size (Unit {0}) (opaque_words any.new) (opaque_of any.new)) }
-    ensures kept { KeepsOpaque any.old any.new }
-{
-    by_size!(AnyOpaque, any, caller => reads::reserve(caller, size))
-}
-
-// Loads the size.
-#[inline(always)]
-pub(crate) fn size(any: &mut AnyOpaque) -> u64
-    ensures seen { SeesSize (opaque_of any.old).hand (opaque_of any.new).hand result }
-    ensures kept { KeepsOpaque any.old any.new }
-{
-    by_size!(AnyOpaque, any, caller => caller.size())
+    by_size!(AnyOpaque, any, caller => ask.of(caller))
 }
 
 // Returns the shares, the size that was seen, and the limit.

@@ -2,8 +2,9 @@
 ghost use Rattle.std.specs.Prelude.{◌≡◌, Some, IfOk, IfErr, OnOk, OnErr, length, slice_get};
 ghost use Rattle.caller_core.specs.Grows.{OpensList, IsSameList};
 ghost use Rattle.kehldora_c.specs.Held.{opaque_of, opaque_words, opaque_list_of, opaque_list_words};
-ghost use Rattle.kehldora_c.specs.Lists.{CutsList, ListSetDue, MemberDue, SetsMember, ShrinksList};
+ghost use Rattle.kehldora_c.specs.Lists.{MemberDue};
 
+use crate::ask_list::AskList;
 use crate::held::{AnyOpaque, AnyOpaqueList};
 use crate::members;
 use crate::sizes::{by_size, try_size};
@@ -33,15 +34,15 @@ pub(crate) fn words(any: &AnyOpaqueList) -> u64
     }
 }
 
-// Replaces the member at a place, or mends it.
-pub(crate) fn set(any: &mut AnyOpaqueList, place: u64, words: &[u64]) -> Result<(), Status>
-    ensures set { OnOk result (SetsMember place tt (opaque_list_of any.old) (opaque_list_of any.new)) }
-    ensures refused { IfErr result
-        (ListSetDue place (length words.now) (Unit {0}) (opaque_list_words any.old) (opaque_list_of any.old)) }
+// Does a call that changes the list.
+pub(crate) fn ask<A: AskList>(any: &mut AnyOpaqueList, ask: A) -> Result<(), Status>
+    ensures left { OnOk result (A.leaves ask (Unit {0})
+        (opaque_list_words any.old) (λ words. tt) (opaque_list_of any.old) (opaque_list_of any.new)) }
+    ensures refused { IfErr result (A.due ask (Unit {0}) (opaque_list_words any.old) (opaque_list_of any.old)) }
     ensures unchanged { OnErr result (any.new ≡ any.old) }
     ensures words { opaque_list_words any.new ≡ opaque_list_words any.old }
 {
-    by_size!(AnyOpaqueList, any, list => members::set(list, place, words))
+    by_size!(AnyOpaqueList, any, list => ask.of(list))
 }
 
 // Returns the address of the member at a place.
@@ -51,22 +52,6 @@ pub(crate) fn look(any: &AnyOpaqueList, place: u64) -> Result<*mut u64, Status>
     ensures refused { IfErr result (MemberDue place ⊥ (Unit {0}) (opaque_list_of any.now)) }
 {
     by_size!(AnyOpaqueList, any, list => members::look(list, place))
-}
-
-// Drops the members from a place on.
-pub(crate) fn cut(any: &mut AnyOpaqueList, size: u64)
-    ensures cut { CutsList size (opaque_list_of any.old) (opaque_list_of any.new) }
-    ensures words { opaque_list_words any.new ≡ opaque_list_words any.old }
-{
-    by_size!(AnyOpaqueList, any, list => list.truncate(size))
-}
-
-// Frees the segments without a member.
-pub(crate) fn shrink(any: &mut AnyOpaqueList)
-    ensures shrunk { ShrinksList (opaque_list_of any.old) (opaque_list_of any.new) }
-    ensures words { opaque_list_words any.new ≡ opaque_list_words any.old }
-{
-    by_size!(AnyOpaqueList, any, list => list.shrink_to_fit())
 }
 
 // Opens the list into a vector, or gives it back.

@@ -2,13 +2,14 @@
 ghost use Rattle.std.specs.Prelude.{◌≡◌, ◌<◌, ℕ, List, IsSomeAnd, length};
 ghost use Rattle.claim_core.specs.Hand.{seen_size};
 ghost use Rattle.caller_core.specs.Grows.{AreSideBySide};
-ghost use Rattle.kehldora_c.specs.Held.{Keeps, OnHeld, OnHand};
+ghost use Rattle.kehldora_c.specs.Held.{Keeps, OnBoth, OnHands};
 ghost use Rattle.kehldora_c.specs.Calls.{HasLastValue, IsDueIn, IsDueOn, IsCopyDueOn, AtDue, LookDue};
 ghost use Rattle.kehldora_c.specs.Status.{IsDone, IfRefused};
 
-use crate::contents;
+use crate::ask::{FindRun, Look};
 use crate::handle::Handle;
 use crate::status::{DONE, Status};
+use crate::{asking, contents};
 
 /// Copies the value at a place. The hand's own last place has its value.
 #[tactic(auto, using(crate::proofs::Codes::if_done, crate::proofs::Codes::refused_in, crate::proofs::Codes::refused_empty))]
@@ -33,30 +34,26 @@ pub extern "C" fn kehldora_raw_at(hand: &mut Handle, place: u64, value: &mut [u6
 }
 
 /// Gives the address of the value at a place.
-#[tactic(auto, using(crate::proofs::Codes::if_done, crate::proofs::Codes::refused_in, crate::proofs::Codes::refused_empty))]
+#[tactic(auto, using(crate::proofs::Codes::if_done))]
 #[unsafe(no_mangle)]
 pub extern "C" fn kehldora_raw_look(hand: &mut Handle, place: u64, at: &mut *mut u64) -> i32
-    ensures below { IsDone result → OnHeld
-        (OnHand (λ T caller. place < seen_size caller.hand)) hand.new.owned.held }
+    ensures below { IsDone result → OnBoth
+        (OnHands (λ T old new. place < seen_size new.hand)) hand.old.owned.held hand.new.owned.held }
     ensures refused { IfRefused result (IsDueIn (IsDueOn (LookDue place)) hand.new.owned.held) }
     ensures kept { Keeps hand.old.owned.held hand.new.owned.held }
 {
-    if hand.is_empty() {
-        return Status::BadHandle.code();
-    }
-    let held = hand.owned.held_mut();
-    let answer = contents::look(held, place);
+    let answer = asking::ask(hand, Look { place });
     match answer {
         Ok(address) => {
             *at = address;
             DONE
         }
-        Err(status) => status.code(),
+        Err(code) => code,
     }
 }
 
 /// Gives the address of the value at a place, and the number of filled ones that lie there side by side.
-#[tactic(auto, using(crate::proofs::Codes::if_done, crate::proofs::Codes::refused_in, crate::proofs::Codes::refused_empty))]
+#[tactic(auto, using(crate::proofs::Codes::if_done))]
 #[unsafe(no_mangle)]
 pub extern "C" fn kehldora_raw_run(
     hand: &mut Handle,
@@ -64,22 +61,18 @@ pub extern "C" fn kehldora_raw_run(
     at: &mut *mut u64,
     count: &mut u64,
 ) -> i32
-    ensures run { IsDone result → OnHeld
-        (OnHand (λ T caller. AreSideBySide caller.vector place count.new)) hand.old.owned.held }
+    ensures run { IsDone result → OnBoth
+        (OnHands (λ T old new. AreSideBySide old.vector place count.new)) hand.old.owned.held hand.new.owned.held }
     ensures refused { IfRefused result (IsDueIn (IsDueOn (LookDue place)) hand.new.owned.held) }
     ensures kept { Keeps hand.old.owned.held hand.new.owned.held }
 {
-    if hand.is_empty() {
-        return Status::BadHandle.code();
-    }
-    let held = hand.owned.held_mut();
-    let answer = contents::run(held, place);
+    let answer = asking::ask(hand, FindRun { place });
     match answer {
         Ok((address, n)) => {
             *at = address;
             *count = n;
             DONE
         }
-        Err(status) => status.code(),
+        Err(code) => code,
     }
 }

@@ -3,7 +3,7 @@ use Rattle.std.specs.Prelude.{slice_get}
 use Rattle.std.proofs.lemmas.Nat.{row_fits}
 use Rattle.std.proofs.lemmas.Option.{slice_get_within}
 use Rattle.quiet_core.specs.QuietAt.{IsRefusalAt}
-use Rattle.kehldora_c.specs.Calls.{elements_in}
+use Rattle.kehldora_c.specs.Kind.{elements_in}
 use Rattle.kehldora_c.proofs.Chunks.{elements_at, elements_length, parts_count, written_parts}
 use Rattle.kehldora_c.proofs.members.copy_values.Goals as goal
 

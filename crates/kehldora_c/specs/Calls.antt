@@ -178,6 +178,11 @@ CloseDue T width caller other = ⊥
 abbrev pub NeverDue : (T : Type 0) → ℕ → CallerView T → Status → Type 0
 NeverDue T width caller why = ⊥
 
+-- the segment of a place is not there, or there is no such place
+abbrev pub StatesDue : (T : Type 0) → ℕ → CallerView T → Status → Type 0
+StatesDue T width caller status.Pending = Unit {0}
+StatesDue T width caller other = ⊥
+
 -- no element has this many words
 pub record IsNoSize (words : ℕ) : Type 0 where
   pub one : words ≢ 1

@@ -191,6 +191,31 @@ impl Ask for FindRun {
     }
 }
 
+/// Finds the address of the words with the states of this place's segment.
+#[derive(Drop)]
+pub(crate) struct FindStates {
+    pub(crate) place: u64,
+}
+
+impl Ask for FindStates {
+    ghost use Rattle.std.specs.Prelude.{◌<◌};
+    ghost use Rattle.grow_core.specs.Vector.{limit_of};
+    ghost use Rattle.kehldora_c.specs.Calls.{StatesDue};
+
+    type Given = *mut u64;
+
+    ghost leaves = { λ it T kind old new given. it.place < limit_of old.vector };
+
+    ghost due = { λ it. StatesDue };
+
+    fn of<E: Kind>(self, caller: &mut Caller<E>) -> Result<*mut u64, Status> {
+        match caller.states(self.place) {
+            Some(at) => Ok(at),
+            None => Err(Status::Pending),
+        }
+    }
+}
+
 /// Fills this broken place with the element that these words make.
 #[derive(Drop)]
 pub(crate) struct Mend<'a> {

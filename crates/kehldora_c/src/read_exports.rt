@@ -1,12 +1,13 @@
 //! The exports that read.
 ghost use Rattle.std.specs.Prelude.{◌≡◌, ◌<◌, ℕ, List, IsSomeAnd, length};
 ghost use Rattle.claim_core.specs.Hand.{seen_size};
+ghost use Rattle.grow_core.specs.Vector.{limit_of};
 ghost use Rattle.caller_core.specs.Grows.{AreSideBySide};
 ghost use Rattle.kehldora_c.specs.Held.{Keeps, OnBoth, OnHands};
-ghost use Rattle.kehldora_c.specs.Calls.{HasLastValue, IsDueIn, IsDueOn, IsCopyDueOn, AtDue, LookDue};
+ghost use Rattle.kehldora_c.specs.Calls.{HasLastValue, IsDueIn, IsDueOn, IsCopyDueOn, AtDue, LookDue, StatesDue};
 ghost use Rattle.kehldora_c.specs.Status.{IsDone, IfRefused};
 
-use crate::ask::{FindRun, Look};
+use crate::ask::{FindRun, FindStates, Look};
 use crate::handle::Handle;
 use crate::status::{DONE, Status};
 use crate::{asking, contents};
@@ -43,6 +44,25 @@ pub extern "C" fn kehldora_raw_look(hand: &mut Handle, place: u64, at: &mut *mut
     ensures kept { Keeps hand.old.owned.held hand.new.owned.held }
 {
     let answer = asking::ask(hand, Look { place });
+    match answer {
+        Ok(address) => {
+            *at = address;
+            DONE
+        }
+        Err(code) => code,
+    }
+}
+
+/// Gives the address of the words with the states of a place's segment, if that is there: four bits for each place.
+#[tactic(auto, using(crate::proofs::Codes::if_done))]
+#[unsafe(no_mangle)]
+pub extern "C" fn kehldora_raw_states(hand: &mut Handle, place: u64, at: &mut *mut u64) -> i32
+    ensures within { IsDone result → OnBoth
+        (OnHands (λ T old new. place < limit_of old.vector)) hand.old.owned.held hand.new.owned.held }
+    ensures refused { IfRefused result (IsDueIn (IsDueOn StatesDue) hand.new.owned.held) }
+    ensures kept { Keeps hand.old.owned.held hand.new.owned.held }
+{
+    let answer = asking::ask(hand, FindStates { place });
     match answer {
         Ok(address) => {
             *at = address;

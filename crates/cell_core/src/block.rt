@@ -3,7 +3,7 @@ ghost use Rattle.std.specs.Prelude.{◌≡◌, ◌≢◌, ◌+◌, ◌/◌, ◌%
 ghost use Rattle.cell_core.specs.Block.{block_len, cell_at, IsPenAt, IsFresh, IsMending, IsPlacedIn, IsPlacedAt, IsMemberAt};
 ghost use Rattle.cell_core.specs.Slot.{AreTied, IsPlain, empty_state, filled_state};
 ghost use Rattle.cell_core.specs.Laid.{AreOfKind, HasEachRenamed, IsLinked, IsWhole, word_cells};
-ghost use Rattle.cell_core.specs.Shown.{IsFoundIn, IsNotEmpty, ShowsFilled, IsLookAt, IsLookOf};
+ghost use Rattle.cell_core.specs.Shown.{IsFoundIn, IsFoundOf, IsNotEmpty, ShowsFilled, IsLookAt, IsLookOf};
 
 mod begun;
 mod epoch;
@@ -125,6 +125,7 @@ impl<T, A: Allocator, B: Kind> Block<T, A, B> {
             × (pen.found ≡ found) × (found ≢ pen.sought) }
         ensures found { IsFoundIn self.now offset result }
         ensures not_empty { found ≢ empty_state → IsNotEmpty result }
+        ensures state { IsFoundOf found result }
     {
         match found {
             EMPTY => {

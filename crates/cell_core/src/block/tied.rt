@@ -2,7 +2,7 @@
 // update that the caller brings.
 ghost use Rattle.std.specs.Prelude.{◌≡◌, ◌≢◌, ◌<◌, ◌≤◌, ◌+◌, ℕ, Some, None, IfOk, IfErr, length};
 ghost use Rattle.cell_core.specs.Block.{block_len, cell_at, IsPenAt, IsFresh, IsMending};
-ghost use Rattle.cell_core.specs.Shown.{IsFoundIn, IsLookAt, IsLookOf};
+ghost use Rattle.cell_core.specs.Shown.{IsFoundIn, IsFoundOf, IsLookAt, IsLookOf};
 ghost use Rattle.cell_core.specs.Slot.{AreTied, empty_state, broken_state};
 ghost use Rattle.cell_core.specs.Member.{IsUntied, KnowsCells};
 ghost use Rattle.cell_core.specs.Mould.{first_seat, last_seat, mould_of, row_mould, tie_in};
@@ -165,7 +165,8 @@ impl<T, A: Allocator> Block<T, A, Tied> {
         ensures broken { IfOk result.0 IsMending }
         ensures found { IfErr result.0 (IsFoundIn self.now offset) }
         ensures made { IfOk result.0 (λ _. HasMade mends broken_state result.1.made) }
-        ensures lost { IfErr result.0 (λ _. (n : ℕ) × HasMade mends n result.1.made × (n ≢ broken_state)) }
+        ensures lost { IfErr result.0 (λ found. (n : ℕ) × HasMade mends n result.1.made
+            × (n ≢ broken_state) × IsFoundOf n found) }
         ensures offer { (result.1.tie ≡ offer.entry.tie) × (result.1.about ≡ offer.entry.about) }
     {
         let mask = all_but(BROKEN - BUSY, offset);

@@ -21,4 +21,5 @@ mod RunFields
 mod SliceSteps
 mod SliceParts
 mod PlainCells
+mod FoundCells
 mod Moulds

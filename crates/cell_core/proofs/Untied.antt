@@ -17,7 +17,7 @@ use denote.Steps.{nothing}
 use denote.Param.{param}
 use denote.Param.Laws.{Laws}
 use Rattle.cell_core.specs.Fields.{pack}
-use Rattle.cell_core.specs.Slot.{Names, Phase, Rest, IsPlain, cell_in, free, begun, busy, full, broken, broken_by_owner, state, mark, place, told, word, step}
+use Rattle.cell_core.specs.Slot.{Names, Phase, Rest, IsPlain, HasNoSeat, cell_in, free, begun, busy, full, broken, broken_by_owner, state, mark, place, told, word, step}
 use Rattle.cell_core.specs.Slot.{Lies as Fills}
 use Rattle.cell_core.specs.Laid.{AreOfKind, Extent, Lies, words_ty, rooms_ty, lying, rests, still, along, laid}
 use Rattle.cell_core.specs.Member.{MemberView, HasNames, KnowsCells, IsUntied, AreUntied, known_as, members}
@@ -214,7 +214,8 @@ module _ (T : RattleType) (L : Laws T) {M : Type 1} {𝓤 : Ura M} (𝓛 : Logic
   one γ (v, busy) c e o known = stays γ v busy c e o known (id⊢ 𝓤 _)
   one γ (v, full x) c e o known = stays γ v (full x) c e o known (id⊢ 𝓤 _)
   one γ (v, broken) c e o known = stays γ v broken c e o known (id⊢ 𝓤 _)
-  one γ (v, broken_by_owner) c e o known = stays γ v broken_by_owner c e o known (id⊢ 𝓤 _)
+  one γ (v, broken_by_owner) c e o known = stays γ v broken_by_owner c e o known (qed 𝓛 (‵ (told R γ broken_by_owner) ∷ []) ∵ fsplit ! $ keep ! (0 ∷ []) $
+      nothing ! $ fpack ! (HasNoSeat None) (λ _. ftrue) tt $ move ! (1 ∷ 0 ∷ []) $ fjoin ! $ done !)
 
   -- cells with the same states
   abbrev Many : List Names → ℕ → ℕ → (ℕ → Rest R.Denot) → List View → ℕ → List Names × (ℕ → Rest R.Denot) → Pr

@@ -1,7 +1,7 @@
 -- A block of cells as callers see it, and what is seen of its pens and tokens.
 use Rattle.std.specs.Prelude.{◌≡◌, ◌≢◌, ℕ, ◌+◌, ◌<◌, List, Some, None, length, slice_get}
 use base.Stored.{Coded, coded×, coded_ℕ, coded_list, coded_via}
-use Rattle.cell_core.specs.Slot.{Names, names_coded, cell_in, empty_state, filled_state}
+use Rattle.cell_core.specs.Slot.{Names, IsPlain, names_coded, cell_in, empty_state, filled_state}
 use Rattle.tie_core.specs.Tie.{Stage}
 use Rattle.cell_core.specs.Laid.{IsAnother, IsFixedAt}
 use Rattle.cell_core.specs.Member.{MemberView, HasNames}
@@ -131,6 +131,10 @@ RenewsCell old new offset = IsAnother (cell_at old offset) (cell_at new offset)
 -- the cell at the offset keeps its tie, fixed at a stage: it has no seat, and its stage is known
 abbrev pub FixesTie : BlockView → BlockView → ℕ → Stage → Type 0
 FixesTie old new offset s = IsFixedAt old.cells offset new.cells s
+
+-- the cell at the offset is not tied if it was not
+abbrev pub StaysPlain : BlockView → BlockView → ℕ → Type 0
+StaysPlain old new offset = IsPlain (cell_at old offset) → IsPlain (cell_at new offset)
 
 -- each cell but the one at the offset keeps its names
 abbrev pub KeepsOtherCells : BlockView → BlockView → ℕ → Type 0

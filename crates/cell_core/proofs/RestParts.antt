@@ -35,7 +35,7 @@ some_stage : (s : Stage) → Some s ≡ None → ⊥
 some_stage s e = cc
 
 -- a cell whose tie is fixed has no seat
-no_seat : (τ : Option Tie) (s : Stage) → HasNoSeat (fixed_at τ s)
+pub no_seat : (τ : Option Tie) (s : Stage) → HasNoSeat (fixed_at τ s)
 no_seat None s = tt
 no_seat (Some t) s = some_stage s
 
@@ -67,7 +67,7 @@ module _ {M : Type 1} {𝓤 : Ura M} (𝓛 : Logic 𝓤) (R : RattleType) where
   full_is_not_unset x y v e unset = subst IsUnset (sym e) unset
 
   -- a tie that is fixed at a stage has no seat
-  fixed_seat : (τ : Option Tie) (n : Stage) → base.Logic.emp 𝓤 ⊢ ⟦ seat_at (fixed_at τ n) n ⟧
+  pub fixed_seat : (τ : Option Tie) (n : Stage) → base.Logic.emp 𝓤 ⊢ ⟦ seat_at (fixed_at τ n) n ⟧
   fixed_seat None n = id⊢ 𝓤 _
   fixed_seat (Some t) n = qed 𝓛 [] ∵ nothing ! $ fpack ! (n ≡ n) (λ _. ftrue) refl $ done !
 

@@ -10,6 +10,7 @@ mod begun;
 mod epoch;
 mod fields;
 mod filled;
+mod fixed;
 mod kind;
 mod member;
 mod owner;

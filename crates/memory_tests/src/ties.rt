@@ -7,6 +7,7 @@ ghost use Rattle.tie_core.specs.Desk.{IsTieOf};
 ghost use Rattle.memory_tests.specs.Found.{content_number};
 
 mod entries;
+mod fixed;
 mod runs;
 
 use atomic_table::{Badge, Shared, Table, TableRule};

@@ -67,10 +67,12 @@ impl<T, A: Allocator> Block<T, A, Tied> {
             len,
             marker: _,
         } = self;
+        let mut laid = laid;
+        laid.untie(&row.row, from);
         Block {
             alloc,
             link,
-            laid: laid.untie(&row.row, from),
+            laid,
             len,
             marker: PhantomData,
         }

@@ -5,6 +5,7 @@ ghost use base.Stored.{coded_bool};
 ghost use denote.Sharing.{said};
 ghost use Rattle.std.specs.Coded.{coded_option};
 ghost use Rattle.cell_core.specs.Fields.{field};
+ghost use Rattle.cell_core.specs.Fixed.{ShowsStage};
 ghost use Rattle.tie_core.specs.Tie.{Filled, Broken, HasMade, begins, breaks, fills, looks, mends};
 ghost use Rattle.cell_core.specs.Slot.{Names, IsPlain, ShowsOwner, names_coded, break_added, fill_added, writer_stage, slot_owned, pen_owned, sighted, written, was_broken};
 ghost use Rattle.cell_core.specs.Slot.{empty_state, busy_state, filled_state, broken_state, owner_broken_state};
@@ -247,7 +248,8 @@ impl<'a, T> RawSlot<'a, T> {
     pub(crate) fn known(self, member: &RawMember<T>) -> (u64, RawSight<T>)
         requires { HasNames self.of member.now.of.value member.now.of.name member.now.of.epoch }
         ensures { (result.1.of ≡ self.entry.of) × (result.1.found ≡ field result.0 self.entry.index)
-            × MayBeStateOf member.now.of.value (field result.0 self.entry.index) }
+            × MayBeStateOf member.now.of.value (field result.0 self.entry.index)
+            × ShowsStage self.entry.of (field result.0 self.entry.index) }
     {
         let RawSlot {
             word,

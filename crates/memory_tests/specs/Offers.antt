@@ -1,14 +1,16 @@
 -- What a hand has gained by steps on tied cells.
-use Rattle.std.specs.Prelude.{◌≡◌, ℕ, Result, Ok, Err, [], ◌∷◌}
+use Rattle.std.specs.Prelude.{◌≡◌, ℕ, Result, Ok, Err, [], ◌∷◌, ◌++◌}
 use Rattle.std.specs.List.{Contains}
+use mathlib.Core.List.{IsPrefix}
 use Rattle.cell_core.specs.declared.block.shown.Found.{Found}
 use Rattle.cell_core.specs.declared.block.shown.Found.TheVariants as found
 use Rattle.cell_core.specs.Shown.{IsNotBroken}
 use Rattle.claim_core.specs.declared.role.CellStage.{CellStage}
 use Rattle.claim_core.specs.declared.role.CellStage.TheVariants as stages
 use Rattle.claim_core.specs.Lengths.{InRun}
-use Rattle.claim_core.specs.History.{AddsEvents, fill_event, mend_event}
+use Rattle.claim_core.specs.History.{AddsEvents, Adds, fill_event, fill_steps, mend_event}
 use Rattle.claim_core.specs.Hand.{HandView}
+use Rattle.claim_core.specs.Plays.{places_back, AreInRun}
 use Rattle.claim_core.specs.SeatSteps.{look_event}
 
 -- the last event that it has seen is a look at the place, which shows how far the cell was
@@ -35,3 +37,13 @@ found_stage (found.Broken spoilt) = stages.Broken
 abbrev pub HasTried : {P T : Type 0} → ℕ → HandView → HandView → Result P (Found T) → Type 0
 HasTried place old new (Ok pen) = AddsEvents old.log (mend_event old.of.limit place ∷ []) new.log
 HasTried place old new (Err it) = IsNotBroken it × AddsEvents old.log (look_event place (found_stage it) ∷ []) new.log
+
+-- it knows that n places from one on are begun, and knows no other begun that it did not know so before
+pub record HasBegunRun (place n : ℕ) (old new : HandView) : Type 0 where
+  pub begun : new.begun ≡ places_back place n ++ old.begun
+  pub log : IsPrefix old.log new.log
+
+-- if n places from one on are all in one run, it has added a fill of each, in order, by the claim that has its index
+abbrev pub HasFilledRun : ℕ → ℕ → HandView → HandView → Type 0
+HasFilledRun place n old new =
+    (index : ℕ) → AreInRun old.of.base old.seen index place n → Adds old.log (fill_steps index place n) new.log

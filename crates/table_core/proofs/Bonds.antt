@@ -73,10 +73,15 @@ plain_among f entries k all less = plain_read entries k (λ d. all k d less)
 pub plain_kind : (tied : Bool) (f : ℕ) (entries : List EntryView) → AllPlain f entries → AreOfKind tied f None entries
 plain_kind tied f entries all = record { plain = λ none. all; untied = λ k some. absurd (none-some k some) }
 
--- an entry that is read at a place is not tied, if its kind is not
-pub plain_there : (f : ℕ) (lent : Option ℕ) (entries : List EntryView) (k : ℕ) (e : EntryView) → AreOfKind false f lent entries
-    → k < segment_count f → e ≡ get_or entries k e → tie_of e ≡ None
-plain_there f lent entries k e are within is = ap tie_of is ∙ are.plain refl k e within
+-- an entry is not tied, if its kind is not
+pub plain_table : (f : ℕ) (lent : Option ℕ) (entries : List EntryView) (k : ℕ) → AreOfKind false f lent entries → k < segment_count f
+    → tie_among entries k ≡ None
+plain_table f lent entries k are less = plain_among f entries k (are.plain refl) less
+
+-- an entry that is read at a place is not tied, if the one there is not
+pub plain_there : (entries : List EntryView) (k : ℕ) (e : EntryView) → tie_among entries k ≡ None → k < length entries → e ≡ get_or entries k e
+    → tie_of e ≡ None
+plain_there entries k e none near is = sym (ap tie_in (bond_read entries k e near is)) ∙ none
 
 -- one entry is replaced by another that is not tied
 plain_set : (entries : List EntryView) (k : ℕ) (e : EntryView) (j : ℕ) (d : EntryView) → tie_of (get_or entries j d) ≡ None → tie_of e ≡ None
@@ -151,7 +156,7 @@ untied_lent tied f lent entries k are some = are.untied k some
 
 pub plain_lent : (tied : Bool) (f : ℕ) (lent : Option ℕ) (entries : List EntryView) (k : ℕ) (e : EntryView) → AreOfKind tied f lent entries
     → lent ≡ Some k → k < length entries → e ≡ get_or entries k e → tie_of e ≡ None
-plain_lent tied f lent entries k e are some near is = sym (ap tie_in (bond_read entries k e near is)) ∙ are.untied k some
+plain_lent tied f lent entries k e are some near is = plain_there entries k e (are.untied k some) near is
 
 -- what follows for a table once an entry is replaced, is set to a block, or is tied; and once a block is lent or comes back
 pub ruleset replaced = (names_kept, renamed_there, bonds_kept, untied_replaced, kind_replaced)

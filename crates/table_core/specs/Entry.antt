@@ -62,6 +62,10 @@ tie_of e = tie_in e.3
 abbrev pub mould_at : EntryView → Mould
 mould_at e = mould_in e.3
 
+-- the mould is the one that the entry says, if it is tied
+abbrev pub FitsEntry : EntryView → Mould → Type 0
+FitsEntry e m = (t : EntryTie) → tie_of e ≡ Some t → m ≡ mould_at e
+
 -- the block x is the one that is known, if any is
 abbrev pub Agrees : {X : Type 0} → Option X → X → Type 0
 Agrees k x = IfSome k (λ y. y ≡ x)

@@ -75,6 +75,10 @@ pub record IsTiedBlockOf (table : TableView) (k : ℕ) (block : BlockView) : Typ
   pub length : IsBlockOf table.layout k block
   pub mould : mould_of block.cells ≡ entry_mould table k
 
+-- the cells of the block are tied as the entry says, if the entry is tied
+abbrev pub FitsTie : TableView → ℕ → BlockView → Type 0
+FitsTie table k block = (own : EntryTie) → entry_tie table k ≡ Some own → mould_of block.cells ≡ entry_mould table k
+
 -- the entry has the tie `own`, and the cells of its block have seats with numbers in a row, and the codes of the tie
 -- `cells`
 pub record IsTiedBy (table : TableView) (k : ℕ) (own : EntryTie) (cells : Tie) : Type 0 where

@@ -1,6 +1,6 @@
 //! The table of segments.
 ghost use Rattle.std.specs.Prelude.{◌≡◌, ◌<◌, ◌≤◌, ℕ, None, slice_index, IfSome, IfOk};
-ghost use Rattle.table_core.specs.Table.{AllFit, AllPlain, IsBlockOf, IsKeyIn, IsKeyOf, IsLengthOf, entry_tie};
+ghost use Rattle.table_core.specs.Table.{AllFit, AllPlain, FitsTie, IsBlockOf, IsKeyIn, IsKeyOf, IsLengthOf, entry_tie};
 ghost use Rattle.seg_core.specs.Segment.{IsLayout, segment_count, most_segments};
 ghost use Rattle.table_core.specs.Entry.{length_of, tie_of};
 
@@ -173,6 +173,7 @@ impl<T, B: Kind> Table<T, B> {
     pub fn scout_key(&self, segment: u32) -> Option<(&Block<T, Global, B>, Key)>
         requires { segment < segment_count self.now.layout }
         ensures length { IfSome result (λ (block, _). IsBlockOf self.now.layout segment block.now) }
+        ensures tied { IfSome result (λ (block, _). FitsTie self.now segment block.now) }
         ensures key { IfSome result (λ (block, key). IsKeyOf self.now segment block.now key) }
     {
         let entry = &self.entries[segment as usize];
@@ -208,6 +209,7 @@ impl<T, B: Kind> Table<T, B> {
         requires { IsKeyIn self.now key.now }
         ensures block { result.now ≡ key.now.block }
         ensures length { IsBlockOf self.now.layout key.now.segment result.now }
+        ensures tied { FitsTie self.now key.now.segment result.now }
     {
         let mut sight = key.sight.again::<T, B>();
         match self.entries[key.segment as usize].look(&mut sight) {
@@ -228,9 +230,35 @@ impl<T, B: Kind> Table<T, B> {
     }
 }
 
+impl<T: Drop, B: Kind> Table<T, B> {
+    // The entry's block: this one, in a box, unless the entry is set. The entry is not tied.
+    #[tactic(auto, using(crate::proofs::Bonds::plain_there))]
+    fn put<'a>(
+        &'a self,
+        segment: u32,
+        block: Block<T, Global, B>,
+        sight: &mut EntrySight<Block<T, Global, B>>,
+    ) -> Result<&'a Block<T, Global, B>, AllocError>
+        requires within { segment < segment_count self.now.layout }
+        requires untied { entry_tie self.now segment ≡ None }
+        requires of { slice_index self.now.names segment ≡ sight.old.of }
+        requires length { IsBlockOf self.now.layout segment block }
+        ensures same { sight.new.of ≡ sight.old.of }
+        ensures known { IfOk result (λ block. sight.new.known ≡ Some block.now) }
+        ensures length { IfOk result (λ block. IsBlockOf self.now.layout segment block.now) }
+    {
+        let entry = &self.entries[segment as usize];
+        let (first, back) = entry.set(Box::new(self.alloc, block)?, sight);
+        if let Some(back) = back {
+            Box::into_inner(back).free();
+        }
+        Ok(first)
+    }
+}
+
 impl<T: Drop> Table<T> {
     // The entry's block: a new one, unless the entry is set.
-    #[tactic(auto, using(crate::proofs::Bonds::plain_there))]
+    #[tactic(auto, using(crate::proofs::Bonds::plain_table))]
     fn set<'a>(
         &'a self,
         segment: u32,
@@ -242,16 +270,11 @@ impl<T: Drop> Table<T> {
         ensures known { IfOk result (λ block. sight.new.known ≡ Some block.now) }
         ensures length { IfOk result (λ block. IsBlockOf self.now.layout segment block.now) }
     {
-        let entry = &self.entries[segment as usize];
-        match entry.look(sight) {
+        match self.entries[segment as usize].look(sight) {
             Some(block) => Ok(block),
             None => {
                 let block = Block::new(self.alloc, self.layout.len(segment))?;
-                let (first, back) = entry.set(Box::new(self.alloc, block)?, sight);
-                if let Some(back) = back {
-                    Box::into_inner(back).free();
-                }
-                Ok(first)
+                self.put(segment, block, sight)
             }
         }
     }

@@ -8,7 +8,7 @@ ghost use Rattle.std.specs.Sync.Atomic.Pointer.{atomic_ptr_value, atomic_ptr_hol
 ghost use Rattle.std.specs.declared.option.Option.{Option};
 ghost use Rattle.std.specs.declared.option.Option.TheVariants.{None, Some};
 ghost use Rattle.tie_core.specs.Tie.{Tie};
-ghost use Rattle.table_core.specs.Entry.{EntryView, entry_coded, noted, Agrees, length_of, name_of, tie_of, mould_at};
+ghost use Rattle.table_core.specs.Entry.{EntryView, entry_coded, noted, Agrees, FitsEntry, length_of, name_of, tie_of, mould_at};
 ghost use Rattle.table_core.specs.TiedEntry.{entry_owned, entry_shared};
 
 mod tied;
@@ -95,6 +95,7 @@ impl<B: Measured> Entry<B> {
         ensures block { MatchOption result ((sight.old.known ≡ None) × (sight.new.known ≡ None))
             (λ b. (sight.new.known ≡ Some b.now) × Agrees sight.old.known b.now) }
         ensures length { IfSome result (λ b. B.measure b.now ≡ length_of self.now) }
+        ensures mould { IfSome result (λ b. FitsEntry self.now (B.mould b.now)) }
     {
         let at = unsafe { self.word.load::<Brand>(SeqCst) };
         if at.is_null() {
@@ -230,6 +231,17 @@ impl<B: Measured + Drop> Entry<B> {
         match self.into_loose(sight) {
             Some(block) => Some(block.into_box()),
             None => None,
+        }
+    }
+}
+
+impl<T, B: Kind> Entry<Block<T, Global, B>> {
+    // Frees the block of an entry that the caller has whole, if it is set. No value of it is dropped.
+    pub(crate) fn free(self) {
+        let sight = self.sight();
+        match self.into_loose(&sight) {
+            Some(block) => Box::into_inner(block.into_box()).free(),
+            None => {}
         }
     }
 }

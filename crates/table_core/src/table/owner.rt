@@ -37,6 +37,23 @@ fn has_length_of<T, B: Kind>(lent: &Option<Lent<T, B>>, layout: Layout, segment:
     }
 }
 
+impl<T, B: Kind> Table<T, B> {
+    // Frees the block that is lent, if one is. No value of it is dropped.
+    #[tactic(auto, using(crate::proofs::Bonds::lending))]
+    pub(crate) fn free_lent(&mut self)
+        ensures layout { self.new.layout ≡ self.old.layout }
+        ensures names { self.new.names ≡ self.old.names }
+        ensures bonds { self.new.bonds ≡ self.old.bonds }
+        ensures none_lent { self.new.lent ≡ None }
+    {
+        self.out = None;
+        match self.lent.take() {
+            Some(Lent { block }) => Box::into_inner(block).free(),
+            None => {}
+        }
+    }
+}
+
 impl<T: Drop, B: Kind> Table<T, B> {
     ghost use Rattle.std.specs.Borrow.{sem};
     ghost use Rattle.table_core.specs.Lending.{LendsBlock};

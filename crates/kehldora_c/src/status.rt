@@ -58,12 +58,14 @@ impl Status {
 pub(crate) fn of_growth<T: Drop, V: Drop>(refused: GrowError<T, V, Never>) -> Status
     ensures { result ≡ growth_status refused }
 {
-    match refused {
+    let status = match &refused {
         GrowError::NoMemory { .. } => Status::NoMemory,
         GrowError::Full { .. } => Status::Full,
         GrowError::Moved { .. } => Status::Moved,
         GrowError::Refused { .. } | GrowError::Taken { .. } => Status::Taken,
-    }
+    };
+    drop(refused);
+    status
 }
 
 // The status of a refused read.

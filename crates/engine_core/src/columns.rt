@@ -79,20 +79,20 @@ fn push_call(text: &mut Vec<u8>, name: u8, step: &TracedStep) -> Result<(), Allo
 fn write_phase<W: Write>(w: &mut W, phase: Phase) -> Result<(), WriteFault>
     ensures { OnOk result (Appends (W.contents w.old) (W.contents w.new) (step_text phase)) }
 {
-    match phase {
-        Phase::Load => write!(w, "Load")?,
-        Phase::Scout { segment, .. } => write!(w, "Scout {segment}")?,
-        Phase::Put { segment, .. } => write!(w, "Put {segment}")?,
-        Phase::Exchange { .. } => write!(w, "Exchange")?,
-        Phase::Raise { .. } => write!(w, "Raise")?,
-        Phase::Begin { place, .. } => write!(w, "Begin {place}")?,
-        Phase::Fill { place, .. } => write!(w, "Fill {place}")?,
-        Phase::Spoil { place, .. } => write!(w, "Spoil {place}")?,
-        Phase::Mend { place } => write!(w, "Mend {place}")?,
-        Phase::FillMended { place } => write!(w, "FillMended {place}")?,
-        Phase::Look { place } => write!(w, "Look {place}")?,
-    }
-    Ok(())
+    let written = match phase {
+        Phase::Load => write!(w, "Load"),
+        Phase::Scout { segment, .. } => write!(w, "Scout {segment}"),
+        Phase::Put { segment, .. } => write!(w, "Put {segment}"),
+        Phase::Exchange { .. } => write!(w, "Exchange"),
+        Phase::Raise { .. } => write!(w, "Raise"),
+        Phase::Begin { place, .. } => write!(w, "Begin {place}"),
+        Phase::Fill { place, .. } => write!(w, "Fill {place}"),
+        Phase::Spoil { place, .. } => write!(w, "Spoil {place}"),
+        Phase::Mend { place } => write!(w, "Mend {place}"),
+        Phase::FillMended { place } => write!(w, "FillMended {place}"),
+        Phase::Look { place } => write!(w, "Look {place}"),
+    };
+    written.map_err(WriteFault::from)
 }
 
 fn push_phase(text: &mut Vec<u8>, phase: Phase) -> Result<(), AllocError>
@@ -128,36 +128,36 @@ fn finding_word(finding: Finding) -> &'static [u8]
 fn write_event<W: Write>(w: &mut W, event: &Event) -> Result<(), WriteFault>
     ensures { OnOk result (Appends (W.contents w.old) (W.contents w.new) (event_text event.now)) }
 {
-    match event {
-        Event::Claim { n, .. } => write!(w, "Claim {n}")?,
-        Event::Raise { to, .. } => write!(w, "Raise {to}")?,
-        Event::Finish { place, value, .. } => write!(w, "Finish {place} {value}")?,
-        Event::Break { place, .. } => write!(w, "Break {place}")?,
-        Event::Mend { place, .. } => write!(w, "Mend {place}")?,
-        Event::Look { place, .. } => write!(w, "Look {place}")?,
-        Event::Size { .. } => write!(w, "Size")?,
-        Event::RefusedFull { n, .. } => write!(w, "RefusedFull {n}")?,
-        Event::RefusedMemory { .. } => write!(w, "RefusedMemory")?,
-    }
-    Ok(())
+    let written = match event {
+        Event::Claim { n, .. } => write!(w, "Claim {n}"),
+        Event::Raise { to, .. } => write!(w, "Raise {to}"),
+        Event::Finish { place, value, .. } => write!(w, "Finish {place} {value}"),
+        Event::Break { place, .. } => write!(w, "Break {place}"),
+        Event::Mend { place, .. } => write!(w, "Mend {place}"),
+        Event::Look { place, .. } => write!(w, "Look {place}"),
+        Event::Size { .. } => write!(w, "Size"),
+        Event::RefusedFull { n, .. } => write!(w, "RefusedFull {n}"),
+        Event::RefusedMemory { .. } => write!(w, "RefusedMemory"),
+    };
+    written.map_err(WriteFault::from)
 }
 
 fn write_event_reply<W: Write>(w: &mut W, reply: &Reply) -> Result<(), WriteFault>
     ensures { OnOk result (Appends (W.contents w.old) (W.contents w.new) (reply_text reply.now)) }
 {
-    match reply {
-        Reply::Run { from, n } => write!(w, "Run {from} {n}")?,
-        Reply::Enough { size } => write!(w, "Enough {size}")?,
-        Reply::Done => write!(w, "Done")?,
-        Reply::Value { value } => write!(w, "Value {value}")?,
-        Reply::Pending => write!(w, "Pending")?,
-        Reply::Broken => write!(w, "Broken")?,
-        Reply::OutOfRange { size } => write!(w, "OutOfRange {size}")?,
-        Reply::Size { size } => write!(w, "Size {size}")?,
-        Reply::Full { size } => write!(w, "Full {size}")?,
-        Reply::NoMemory => write!(w, "NoMemory")?,
-    }
-    Ok(())
+    let written = match reply {
+        Reply::Run { from, n } => write!(w, "Run {from} {n}"),
+        Reply::Enough { size } => write!(w, "Enough {size}"),
+        Reply::Done => write!(w, "Done"),
+        Reply::Value { value } => write!(w, "Value {value}"),
+        Reply::Pending => write!(w, "Pending"),
+        Reply::Broken => write!(w, "Broken"),
+        Reply::OutOfRange { size } => write!(w, "OutOfRange {size}"),
+        Reply::Size { size } => write!(w, "Size {size}"),
+        Reply::Full { size } => write!(w, "Full {size}"),
+        Reply::NoMemory => write!(w, "NoMemory"),
+    };
+    written.map_err(WriteFault::from)
 }
 
 fn write_row<W: Write>(w: &mut W, row: &Option<(Event, Reply)>) -> Result<(), WriteFault>

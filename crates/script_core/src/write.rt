@@ -26,20 +26,20 @@ pub fn command_word(command: &Command) -> &'static [u8]
 fn write_answer<W: Write>(w: &mut W, answer: &Answer) -> Result<(), WriteFault>
     ensures { OnOk result (Appends (W.contents w.old) (W.contents w.new) (answer_text answer.now)) }
 {
-    match answer {
-        Answer::At { place } => write!(w, "at {place}")?,
-        Answer::Run { from, n } => write!(w, "run {from} {n}")?,
-        Answer::Enough { size } => write!(w, "enough {size}")?,
-        Answer::BrokenRun { from, n, made } => write!(w, "broken {from} {n} {made}")?,
-        Answer::Full { size } => write!(w, "full {size}")?,
-        Answer::NoMemory => write!(w, "nomemory")?,
-        Answer::Value { value } => write!(w, "value {value}")?,
-        Answer::Pending => write!(w, "pending")?,
-        Answer::Broken => write!(w, "broken")?,
-        Answer::OutOfRange { size } => write!(w, "outofrange {size}")?,
-        Answer::Size { size } => write!(w, "{size}")?,
-    }
-    Ok(())
+    let written = match answer {
+        Answer::At { place } => write!(w, "at {place}"),
+        Answer::Run { from, n } => write!(w, "run {from} {n}"),
+        Answer::Enough { size } => write!(w, "enough {size}"),
+        Answer::BrokenRun { from, n, made } => write!(w, "broken {from} {n} {made}"),
+        Answer::Full { size } => write!(w, "full {size}"),
+        Answer::NoMemory => write!(w, "nomemory"),
+        Answer::Value { value } => write!(w, "value {value}"),
+        Answer::Pending => write!(w, "pending"),
+        Answer::Broken => write!(w, "broken"),
+        Answer::OutOfRange { size } => write!(w, "outofrange {size}"),
+        Answer::Size { size } => write!(w, "{size}"),
+    };
+    written.map_err(WriteFault::from)
 }
 
 fn write_line<W: Write>(w: &mut W, name: u8, ended: &Ended) -> Result<(), WriteFault>
@@ -92,12 +92,12 @@ fn write_cell<W: Write>(w: &mut W, cell: &Cell) -> Result<(), WriteFault>
     ensures { OnOk result
         (Appends (W.contents w.old) (W.contents w.new) (codes " " ++ cell_text cell.now)) }
 {
-    match cell {
-        Cell::Pending(_) => write!(w, " .")?,
-        Cell::Filled(value) => write!(w, " {value}")?,
-        Cell::Broken => write!(w, " x")?,
-    }
-    Ok(())
+    let written = match cell {
+        Cell::Pending(_) => write!(w, " ."),
+        Cell::Filled(value) => write!(w, " {value}"),
+        Cell::Broken => write!(w, " x"),
+    };
+    written.map_err(WriteFault::from)
 }
 
 fn put_cell<W: Write>(w: &mut W, cell: &Cell) -> Result<(), WriteFault>

@@ -44,7 +44,6 @@ fn add_up<R: Wait>(rt: &R, notes: Receiver<Note<'_>, Global>) -> u64 {
     let mut sum: u64 = 0;
     for note in notes.iter(rt) {
         sum = sum.wrapping_add(*note.value());
-        drop(note);
     }
     drop(notes);
     sum
@@ -89,9 +88,7 @@ fn main(rt: HostRuntime) -> anyhow::Result<()> {
     let (vector, hand) = opened.context("out of memory")?;
     let sum = sum_squares(&rt, &vector, hand);
     drop(vector);
-    println!(rt;
-        "{COUNT} notes were read, and their values add up to {}",
-        sum?
-    )?;
+    let sum = sum?;
+    println!(rt; "{COUNT} notes were read, and their values add up to {sum}")?;
     Ok(())
 }

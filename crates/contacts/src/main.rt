@@ -38,8 +38,7 @@ fn collect_contacts<R: Threads + Wait + AllocGlobal + Sync>(
     let counts = with_writers(rt, alloc, &vector, &mut hand, FINDERS + 1, search, &Free);
     let closed = Quiet::try_close(vector, hand).ok();
     let list = closed.context("a worker lost its shares")?;
-    check_counts(counts, &list)?;
-    Ok(list)
+    check_counts(counts, &list).and(Ok(list))
 }
 
 // The same of particles that are scattered first.
@@ -54,10 +53,7 @@ fn find_contacts<R: Threads + Wait + AllocGlobal + Sync>(
 
 // The contacts that there are, in order.
 fn sort_contacts<R: AllocGlobal>(rt: &R, list: Quiet<Contact>) -> Result<Vec<Contact>> {
-    let mut contacts = Vec::new(rt.alloc());
-    for contact in list.into_iter().flatten() {
-        contacts.push(contact)?;
-    }
+    let mut contacts: Vec<Contact> = list.into_iter().flatten().collect(rt.alloc())?;
     contacts.sort()?;
     Ok(contacts)
 }

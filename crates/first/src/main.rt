@@ -11,6 +11,7 @@ fn main(rt: HostRuntime) -> Result<()> {
     let placed = vector.push_back(&rt, &mut hand, 7u64);
     let list = Quiet::close(vector, hand);
     let placed = placed?;
-    println!(rt; "place {} holds {}", placed.place(), list.recall(&placed))?;
-    Ok(())
+    let printed = println!(rt; "place {} holds {}", placed.place(), list.recall(&placed));
+    drop((list, placed));
+    Ok(printed?)
 }

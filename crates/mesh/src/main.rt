@@ -44,13 +44,15 @@ fn find_edges<R: Threads + Wait + Clock + Eprint + Sync>(
     );
     let closed = Quiet::try_close(vector, hand).ok();
     let list = closed.context("a worker lost its shares")?;
-    found?;
-    Ok(list)
+    Ok(found.and(Ok(list))?)
 }
 
 // Prints how many edges there are, each once, and the first five.
 fn print_edges<R: Print>(rt: &R, list: Quiet<Edge>) -> Result<()> {
-    let mut edges = list.into_vec().map_err(|(error, _list)| error)?;
+    let mut edges = list.into_vec().map_err(|(error, list)| {
+        drop(list);
+        error
+    })?;
     let appended = edges.len();
     edges.sort_unstable();
     edges.dedup();

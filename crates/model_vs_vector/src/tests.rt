@@ -16,10 +16,10 @@ use std::test::Fail;
 use step_core::{Played, play_calls};
 
 // The answer of a growth that was refused. With no other thread none is lost, and no place is taken.
-fn refusal<V: Drop, E: Drop>(error: GrowError<u64, V, E>) -> Option<Answer> {
+fn refusal<V: Drop, E: Drop>(error: &GrowError<u64, V, E>) -> Option<Answer> {
     match error {
         GrowError::NoMemory { .. } => Some(Answer::NoMemory),
-        GrowError::Full { size, .. } => Some(Answer::Full { size }),
+        GrowError::Full { size, .. } => Some(Answer::Full { size: *size }),
         GrowError::Refused { run, made, .. } => Some(Answer::BrokenRun {
             from: run.from,
             n: run.n,
@@ -30,12 +30,14 @@ fn refusal<V: Drop, E: Drop>(error: GrowError<u64, V, E>) -> Option<Answer> {
 }
 
 fn push_answer(pushed: Result<Placed<u64>, GrowError<u64, u64, Never>>) -> Option<Answer> {
-    match pushed {
+    let answer = match &pushed {
         Ok(placed) => Some(Answer::At {
             place: placed.place(),
         }),
         Err(error) => refusal(error),
-    }
+    };
+    drop(pushed);
+    answer
 }
 
 fn run_answer(grown: &Grown<u64>) -> Answer {
@@ -47,27 +49,33 @@ fn run_answer(grown: &Grown<u64>) -> Answer {
 }
 
 fn growth_answer<E: Drop>(grown: Result<Grown<u64>, GrowError<u64, (), E>>) -> Option<Answer> {
-    match grown {
-        Ok(grown) => Some(run_answer(&grown)),
+    let answer = match &grown {
+        Ok(grown) => Some(run_answer(grown)),
         Err(error) => refusal(error),
-    }
+    };
+    drop(grown);
+    answer
 }
 
 fn raise_answer(raised: Result<AtLeast<u64>, GrowError<u64, (), Never>>) -> Option<Answer> {
-    match raised {
-        Ok(AtLeast::Ran(grown)) => Some(run_answer(&grown)),
-        Ok(AtLeast::Enough { size }) => Some(Answer::Enough { size }),
+    let answer = match &raised {
+        Ok(AtLeast::Ran(grown)) => Some(run_answer(grown)),
+        Ok(AtLeast::Enough { size }) => Some(Answer::Enough { size: *size }),
         Err(error) => refusal(error),
-    }
+    };
+    drop(raised);
+    answer
 }
 
 fn look_answer(looked: Result<At<'_, u64>, AtError>) -> Answer {
-    match looked {
+    let answer = match &looked {
         Ok(at) => Answer::Value { value: *at.value },
-        Err(AtError::OutOfRange { size }) => Answer::OutOfRange { size },
+        Err(AtError::OutOfRange { size }) => Answer::OutOfRange { size: *size },
         Err(AtError::Pending) => Answer::Pending,
         Err(AtError::Broken(_)) => Answer::Broken,
-    }
+    };
+    drop(looked);
+    answer
 }
 
 // The answer of a mend. The value at a place that is filled is read by the token that the refusal has.
@@ -75,18 +83,21 @@ fn mend(vector: &Shared<u64>, hand: &mut Hand<u64>, place: u64, value: u64) -> A
     requires ours { IsHandOf vector.now hand.old }
     ensures of { hand.new.of ≡ hand.old.of }
 {
-    match vector.mend(hand, place, value) {
+    let mended = vector.mend(hand, place, value);
+    let answer = match &mended {
         Ok(placed) => Answer::At {
             place: placed.place(),
         },
         Err((error, _back)) => match error {
-            MendError::OutOfRange { size } => Answer::OutOfRange { size },
+            MendError::OutOfRange { size } => Answer::OutOfRange { size: *size },
             MendError::Pending => Answer::Pending,
             MendError::Filled(placed) => Answer::Value {
-                value: *vector.get(&placed),
+                value: *vector.get(placed),
             },
         },
-    }
+    };
+    drop(mended);
+    answer
 }
 
 // The answer of a call by a hand.
@@ -170,6 +181,7 @@ impl Actors {
         if first.is_whole() {
             Some(Quiet::close(vector, first))
         } else {
+            drop((vector, first));
             None
         }
     }
@@ -202,7 +214,9 @@ fn plays_alike(alloc: Global, limit: u64, played: &Played) -> Option<bool>
     let mut actors = Actors::open(alloc, limit)?;
     let alike = actors.answer_alike(played.ended.as_slice());
     let list = actors.close()?;
-    Some(alike && has_cells(&list, played.cells.as_slice()))
+    let alike = alike && has_cells(&list, played.cells.as_slice());
+    drop(list);
+    Some(alike)
 }
 
 // The items of a seed, one for each of the first hundred words of its generator.

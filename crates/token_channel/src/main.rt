@@ -8,7 +8,7 @@ ghost use Rattle.grow_core.specs.Vector.{IsHandOf};
 mod note;
 
 use crate::note::Note;
-use anyhow::{Context, anyhow};
+use anyhow::Context;
 use crossbeam_channel::{Receiver, Sender, unbounded};
 use grow_core::{Hand, Shared};
 use quiet_core::Quiet;
@@ -25,18 +25,16 @@ fn send_squares<'a, R: Wait>(
     rt: &R,
     vector: &'a Shared<u64>,
     hand: &mut Hand<u64>,
-    notes: Sender<Note<'a>, Global>,
+    notes: &Sender<Note<'a>, Global>,
 ) -> anyhow::Result<()>
     requires { IsHandOf vector.now hand.old }
     ensures { IsHandOf vector.now hand.new }
 {
     for number in 1..COUNT + 1 {
-        let Ok(placed) = vector.push_back(rt, hand, number * number) else {
-            return Err(anyhow!("a square was refused"));
-        };
-        let Ok(()) = notes.send(rt, Note { vector, placed }) else {
-            return Err(anyhow!("nobody reads the notes"));
-        };
+        let pushed = vector.push_back(rt, hand, number * number).ok();
+        let placed = pushed.context("a square was refused")?;
+        let sent = notes.send(rt, Note { vector, placed }).ok();
+        sent.context("nobody reads the notes")?;
     }
     Ok(())
 }
@@ -47,6 +45,7 @@ fn add_up<R: Wait>(rt: &R, notes: Receiver<Note<'_>, Global>) -> u64 {
     for note in notes.iter(rt) {
         sum = sum.wrapping_add(*note.value());
     }
+    drop(notes);
     sum
 }
 
@@ -59,7 +58,9 @@ fn send_all<'a, R: Wait>(
 ) -> anyhow::Result<()>
     requires { IsHandOf vector.now hand }
 {
-    send_squares(rt, vector, &mut hand, notes)
+    let sent = send_squares(rt, vector, &mut hand, &notes);
+    drop((hand, notes));
+    sent
 }
 
 // The sum of the squares, which one thread sends and another adds up.
@@ -85,7 +86,9 @@ fn sum_squares<R: Threads + Wait + AllocGlobal + Sync>(
 fn main(rt: HostRuntime) -> anyhow::Result<()> {
     let opened = Quiet::new(rt.alloc(), COUNT).open().ok();
     let (vector, hand) = opened.context("out of memory")?;
-    let sum = sum_squares(&rt, &vector, hand)?;
+    let sum = sum_squares(&rt, &vector, hand);
+    drop(vector);
+    let sum = sum?;
     println!(rt; "{COUNT} notes were read, and their values add up to {sum}")?;
     Ok(())
 }

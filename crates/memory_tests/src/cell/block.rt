@@ -1,6 +1,7 @@
 ghost use Rattle.std.specs.Prelude.{◌≡◌, ◌<◌, IfSome};
 ghost use Rattle.cell_core.specs.Block.{block_len, IsPlacedIn, KeepsOtherCells};
 
+use crate::is_some;
 use cell_core::block::{Block, Found, Look, Pen, Placed, Spoilt};
 use std::alloc::{AllocError, AllocGlobal, Global};
 use std::process::Abort;
@@ -56,7 +57,7 @@ pub(crate) fn is_broken<T>(block: &Block<T>, offset: u64) -> bool
 pub(crate) fn is_filled<T: Drop>(block: &Block<T>, offset: u64, value: T) -> bool
     requires { offset < block_len block.now }
 {
-    fill(block, offset, value).is_some()
+    is_some(fill(block, offset, value))
 }
 
 // The offset of the token that a lost begin gives, if another call is at the cell.

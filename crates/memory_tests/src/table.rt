@@ -3,6 +3,7 @@ ghost use Rattle.cell_core.specs.Block.{block_len};
 ghost use Rattle.seg_core.specs.Segment.{segment_count};
 ghost use Rattle.table_core.specs.Table.{IsKeyIn};
 
+use crate::is_some;
 use cell_core::block::{Block, Look};
 use seg_core::Layout;
 use std::alloc::Global;
@@ -19,7 +20,7 @@ fn fill<T: Drop>(block: &Block<T>, offset: u64, value: T) -> bool {
     }
     match block.begin(offset) {
         Ok(pen) => {
-            let _placed = pen.fill(value);
+            drop(pen.fill(value));
             true
         }
         Err(_found) => false,
@@ -264,7 +265,10 @@ fn has_by_key(table: &Table<u64>, k: u32, offset: u64, value: u64) -> bool
 {
     let _layout = table.layout();
     match table.install_key(k) {
-        Ok((block, _key)) => shows(block, offset, value),
+        Ok((block, key)) => {
+            drop(key);
+            shows(block, offset, value)
+        }
         Err(_no_memory) => false,
     }
 }
@@ -379,7 +383,7 @@ fn has_key_now(table: &mut Table<u64>, k: u32) -> bool
     requires { k < 33 }
 {
     let _layout = table.layout();
-    table.key_now(k).is_some()
+    is_some(table.key_now(k))
 }
 
 #[test]
@@ -423,7 +427,9 @@ fn comes_back(table: &mut Table<u64>, key: &Key) -> bool
     let block = table.detach(key);
     let is_new = len_of(table, 2) == Some(4) && !has(table, 2, 3, 9);
     let again = table.attach(2, block);
-    is_new && shows(table.known(&again), 3, 9) && table.installed() == 2
+    let is_back = is_new && shows(table.known(&again), 3, 9) && table.installed() == 2;
+    drop(again);
+    is_back
 }
 
 fn attaches_for_another(table: &mut Table<u64>) -> bool {
@@ -481,7 +487,7 @@ fn keeps_what_is_detached(table: &mut Table<Counted<'_>>, drops: &AtomicU64, key
 {
     let block = table.detach(key);
     let is_kept = drops_so_far(drops) == 1;
-    let _again = table.attach(3, block);
+    drop(table.attach(3, block));
     is_kept && drops_so_far(drops) == 1
 }
 

@@ -1,6 +1,7 @@
 ghost use Rattle.std.specs.Prelude.{◌≡◌, ◌<◌, IfSome};
 ghost use Rattle.cell_core.specs.Block.{block_len, IsPlacedIn, KeepsOtherCells};
 
+use crate::is_some;
 use cell_core::block::{Block, Found, Look, Pen, Placed, Spoilt};
 use std::alloc::{AllocError, AllocGlobal, Global};
 use std::process::Abort;
@@ -30,13 +31,23 @@ pub(crate) fn fill<T: Drop>(block: &Block<T>, offset: u64, value: T) -> Option<P
 pub(crate) fn number<T>(tried: Result<Pen<'_, T>, Found<T>>) -> u64 {
     match tried {
         Ok(pen) => {
-            pen.spoil();
+            drop(pen.spoil());
             5
         }
-        Err(Found::Empty) => 0,
-        Err(Found::Busy(_)) => 1,
-        Err(Found::Filled(_)) => 2,
-        Err(Found::Broken(_)) => 3,
+        Err(found) => {
+            let number = number_found(&found);
+            drop(found);
+            number
+        }
+    }
+}
+
+fn number_found<T>(found: &Found<T>) -> u64 {
+    match found {
+        Found::Empty => 0,
+        Found::Busy(_) => 1,
+        Found::Filled(_) => 2,
+        Found::Broken(_) => 3,
     }
 }
 
@@ -56,7 +67,7 @@ pub(crate) fn is_broken<T>(block: &Block<T>, offset: u64) -> bool
 pub(crate) fn is_filled<T: Drop>(block: &Block<T>, offset: u64, value: T) -> bool
     requires { offset < block_len block.now }
 {
-    fill(block, offset, value).is_some()
+    is_some(fill(block, offset, value))
 }
 
 // The offset of the token that a lost begin gives, if another call is at the cell.
@@ -65,11 +76,17 @@ fn busy_place<T>(block: &Block<T>, offset: u64) -> Option<u64>
 {
     match block.begin(offset) {
         Ok(pen) => {
-            pen.spoil();
+            drop(pen.spoil());
             None
         }
-        Err(Found::Busy(begun)) => Some(begun.offset()),
-        Err(_found) => None,
+        Err(found) => {
+            let place = match &found {
+                Found::Busy(begun) => Some(begun.offset()),
+                _ => None,
+            };
+            drop(found);
+            place
+        }
     }
 }
 
@@ -125,7 +142,9 @@ fn is_busy_until_filled(block: &Block<u64>) -> bool
     let is_busy = matches!(block.look(1), Look::Busy);
     let found = busy_place(block, 1);
     let placed = pen.fill(7);
-    is_busy && found == Some(1) && *block.value(&placed) == 7
+    let value = *block.value(&placed);
+    drop(placed);
+    is_busy && found == Some(1) && value == 7
 }
 
 #[test]
@@ -139,7 +158,10 @@ fn broken_offsets(block: &Block<u64>, offset: u64) -> Option<(u64, u64)>
     requires { offset < block_len block.now }
 {
     let spoilt = block.begin(offset).ok()?.spoil();
-    Some((spoilt.offset(), spoilt.again().offset()))
+    let again = spoilt.again();
+    let places = (spoilt.offset(), again.offset());
+    drop((spoilt, again));
+    Some(places)
 }
 
 fn stays_broken(block: &Block<u64>) -> bool

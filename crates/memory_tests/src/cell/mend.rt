@@ -2,8 +2,10 @@
 ghost use Rattle.std.specs.Prelude.{◌≡◌, ◌<◌, None, IfSome};
 ghost use Rattle.cell_core.specs.Block.{block_len, IsPlacedAt, IsMemberAt};
 
-use crate::cell::block::{Counted, fill, made, number};
-use cell_core::block::{Block, EndedEpoch, Epoch, Look, Member, Placed};
+use crate::cell::block::{Counted, fill, is_broken, is_filled, made, number};
+use crate::cell::words::shown;
+use crate::is_some;
+use cell_core::block::{Block, EndedEpoch, Epoch, Member, Placed};
 use std::sync::atomic::{AtomicU64, Ordering};
 use std::thread::{Threads, join};
 
@@ -31,7 +33,7 @@ fn is_busy_to_a_mend(block: &Block<u64>) -> bool
         return false;
     };
     let found = number(block.mend(0));
-    pen.spoil();
+    drop(pen.spoil());
     found == 1
 }
 
@@ -44,7 +46,9 @@ fn is_filled_by_its_writer(block: &Block<u64>) -> bool
     };
     let found = number(block.mend(0));
     let placed = pen.fill(6);
-    found == 1 && *block.value(&placed) == 6 && matches!(block.look(0), Look::Filled(6, _))
+    let value = *block.value(&placed);
+    drop(placed);
+    found == 1 && value == 6 && shown(block, 0) == 6
 }
 
 #[test]
@@ -60,9 +64,9 @@ fn is_mended_only_where_broken(block: &Block<u64>) -> bool
     number(block.mend(0)) == 0
         && is_busy_to_a_mend(block)
         && number(block.mend(0)) == 5
-        && mend(block, 0, 7).is_some()
+        && is_some(mend(block, 0, 7))
         && number(block.mend(0)) == 2
-        && matches!(block.look(0), Look::Filled(7, _))
+        && shown(block, 0) == 7
 }
 
 #[test]
@@ -78,7 +82,8 @@ fn broken_in(block: &mut Block<u64>, epoch: &Epoch) -> Member<u64>
     ensures epoch { result.epoch ≡ epoch.now }
     ensures len { block_len block.new ≡ block_len block.old }
 {
-    block.spoil_now(0, epoch).0
+    let (broken, _held) = block.spoil_now(0, epoch);
+    broken
 }
 
 // What calls find in a cell that an owner broke, while its epoch lasts.
@@ -87,9 +92,9 @@ fn is_kept_broken(block: &Block<u64>, broken: &Member<u64>, epoch: &Epoch) -> bo
 {
     number(block.mend(0)) == 3
         && number(block.begin(0)) == 3
-        && block.member(0, broken, epoch).is_none()
-        && block.known(0, broken).is_none()
-        && matches!(block.look(0), Look::Broken(_))
+        && !is_some(block.member(0, broken, epoch))
+        && !is_some(block.known(0, broken))
+        && is_broken(block, 0)
 }
 
 // The number of a mend by what was known in an epoch that has ended.
@@ -106,7 +111,7 @@ fn is_mended_after(block: &Block<u64>, broken: &Member<u64>, ended: &EndedEpoch)
     number(block.mend(0)) == 3
         && number_after(block, broken, ended) == 5
         && number_after(block, broken, &ended.again()) == 5
-        && mend(block, 0, 8).is_some()
+        && is_some(mend(block, 0, 8))
         && matches!(block.known(0, broken), Some((8, _)))
         && number_after(block, broken, ended) == 2
 }
@@ -166,9 +171,9 @@ fn a_mended_cell_is_settled_with_its_value(rt: HostRuntime) {
 fn a_mended_value_is_dropped_once(rt: HostRuntime) {
     let drops = AtomicU64::new(0);
     let block = made(&rt, 2);
-    assert!(rt; break_cell(&block, 0) && mend(&block, 0, Counted(&drops)).is_some());
+    assert!(rt; break_cell(&block, 0) && is_some(mend(&block, 0, Counted(&drops))));
     assert!(rt;
-        fill(&block, 1, Counted(&drops)).is_some() && mend(&block, 1, Counted(&drops)).is_none()
+        is_filled(&block, 1, Counted(&drops)) && !is_some(mend(&block, 1, Counted(&drops)))
     );
     assert_eq!(rt; drops.load(Ordering::SeqCst), 1);
     drop(block);
@@ -202,14 +207,17 @@ fn mend_by_two<R: Threads + Sync>(
 fn is_mended_by_one<R: Threads + Sync>(rt: &R, block: &Block<u64>, offset: u64) -> bool
     requires { offset < block_len block.now }
 {
-    break_cell(block, offset)
-        && match mend_by_two(rt, block, offset) {
-            (Some(a), None) => *block.value(&a) == 5
-                && matches!(block.look(offset), Look::Filled(5, _)),
-            (None, Some(b)) => *block.value(&b) == 6
-                && matches!(block.look(offset), Look::Filled(6, _)),
-            _other => false,
-        }
+    if !break_cell(block, offset) {
+        return false;
+    }
+    let (first, second) = mend_by_two(rt, block, offset);
+    let is_mended = match (&first, &second) {
+        (Some(a), None) => *block.value(a) == 5 && shown(block, offset) == 5,
+        (None, Some(b)) => *block.value(b) == 6 && shown(block, offset) == 6,
+        _other => false,
+    };
+    drop((first, second));
+    is_mended
 }
 
 #[test]

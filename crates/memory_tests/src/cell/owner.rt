@@ -10,7 +10,8 @@ fn value_of(block: &Block<u64>, offset: u64, member: &Member<u64>, epoch: &Epoch
     requires member { IsMemberAt block.now offset member.now }
     requires epoch { member.now.value ≡ None → member.now.epoch ≡ epoch.now }
 {
-    let (value, _placed) = block.member(offset, member, epoch)?;
+    let (value, placed) = block.member(offset, member, epoch)?;
+    drop(placed);
     Some(*value)
 }
 
@@ -21,7 +22,9 @@ pub(crate) fn settled_value(block: &mut Block<u64>, offset: u64, epoch: &Epoch) 
     ensures others { KeepsOtherCells block.old block.new offset }
 {
     let member = block.settle_now(offset, epoch);
-    value_of(block, offset, &member, epoch)
+    let value = value_of(block, offset, &member, epoch);
+    drop(member);
+    value
 }
 
 // Settles a filled cell, and returns what is then known of it.
@@ -34,6 +37,7 @@ fn settled_filled(block: &mut Block<u64>, epoch: &Epoch) -> Option<Member<u64>>
     let placed = fill(block, 1, 5)?;
     let filled = block.settle_now(1, epoch);
     filled.agree(&placed);
+    drop(placed);
     Some(filled)
 }
 
@@ -75,8 +79,11 @@ fn kept_value(block: &mut Block<u64>, epoch: &Epoch) -> (Option<u64>, u64)
     ensures { block_len block.new ≡ block_len block.old }
 {
     let (placed, _held) = block.put_now(1, 5);
-    let filled = block.settle_known(1, &Member::of(&placed), epoch);
-    (value_of(block, 1, &filled, epoch), *block.value(&placed))
+    let known = Member::of(&placed);
+    let filled = block.settle_known(1, &known, epoch);
+    let values = (value_of(block, 1, &filled, epoch), *block.value(&placed));
+    drop((placed, known, filled));
+    values
 }
 
 // The value of a cell that is known to be broken, and is settled.
@@ -86,7 +93,9 @@ fn value_of_broken(block: &mut Block<u64>, epoch: &Epoch) -> Option<u64>
 {
     let (broken, _held) = block.spoil_now(0, epoch);
     let again = block.settle_known(0, &broken, epoch);
-    value_of(block, 0, &again, epoch)
+    let value = value_of(block, 0, &again, epoch);
+    drop((broken, again));
+    value
 }
 
 fn is_settled_as_known(block: &mut Block<u64>, epoch: &Epoch) -> bool
@@ -110,7 +119,9 @@ fn put(block: &mut Block<u64>, offset: u64, value: u64) -> (u64, u64, Option<u64
     ensures { block_len block.new ≡ block_len block.old }
 {
     let (placed, held) = block.put_now(offset, value);
-    (*block.value(&placed), placed.offset(), held)
+    let (there, place) = (*block.value(&placed), placed.offset());
+    drop(placed);
+    (there, place, held)
 }
 
 // The value that a cell held before it is broken.
@@ -118,7 +129,9 @@ fn break_cell(block: &mut Block<u64>, offset: u64, epoch: &Epoch) -> Option<u64>
     requires { offset < block_len block.old }
     ensures { block_len block.new ≡ block_len block.old }
 {
-    block.spoil_now(offset, epoch).1
+    let (broken, held) = block.spoil_now(offset, epoch);
+    drop(broken);
+    held
 }
 
 // Tests whether the second cell takes a value if it is empty, filled or broken.
@@ -157,7 +170,9 @@ fn take_members(block: &mut Block<u64>, epoch: &Epoch) -> (Option<u64>, Option<u
     let filled = Member::of(&placed);
     let (broken, _held) = block.spoil_now(0, epoch);
     let first = block.take_member(2, &filled, epoch);
-    (first, block.take_member(0, &broken, epoch))
+    let second = block.take_member(0, &broken, epoch);
+    drop((placed, filled, broken));
+    (first, second)
 }
 
 // Tests whether both cells are empty then.
@@ -210,9 +225,12 @@ fn has_three(
     requires second { IsMemberAt block.now 1 b.now × (b.now.epoch ≡ epoch.now) }
     requires third { IsMemberAt block.now 2 c.now × (c.now.value ≢ None) }
 {
-    value_of(block, 0, &row.at(0), epoch) == Some(5)
-        && value_of(block, 1, &row.at(1), epoch).is_none()
-        && value_of(block, 2, &row.at(2), epoch) == Some(6)
+    let (first, second, third) = (row.at(0), row.at(1), row.at(2));
+    let has_three = value_of(block, 0, &first, epoch) == Some(5)
+        && value_of(block, 1, &second, epoch).is_none()
+        && value_of(block, 2, &third, epoch) == Some(6);
+    drop((first, second, third));
+    has_three
 }
 
 // Tests whether a row of two has another second member, once it is set.
@@ -223,9 +241,14 @@ fn has_another(block: &mut Block<u64>, row: &mut Row<u64>, a: &Member<u64>, epoc
     requires within { 1 < block_len block.old }
 {
     let (second, _held) = block.put_now(1, 7);
-    row.set(1, &Member::of(&second));
-    value_of(block, 1, &row.at(1), epoch) == Some(7)
-        && value_of(block, 0, &row.at(0), epoch) == Some(5)
+    let member = Member::of(&second);
+    row.set(1, &member);
+    drop((second, member));
+    let (first, second) = (row.at(0), row.at(1));
+    let has_another = value_of(block, 1, &second, epoch) == Some(7)
+        && value_of(block, 0, &first, epoch) == Some(5);
+    drop((first, second));
+    has_another
 }
 
 // Tests whether a row has what is pushed to it and set in it.
@@ -276,7 +299,8 @@ fn put_over<T>(block: &mut Block<T>, offset: u64, value: T) -> Option<T>
     requires { offset < block_len block.old }
     ensures { block_len block.new ≡ block_len block.old }
 {
-    let (_placed, held) = block.put_now(offset, value);
+    let (placed, held) = block.put_now(offset, value);
+    drop(placed);
     held
 }
 
@@ -316,6 +340,7 @@ fn count_taken(
     let member = block.settle_now(offset, epoch);
     let settled = count(drops);
     drop(block.take_member(offset, &member, epoch));
+    drop(member);
     (settled, count(drops))
 }
 
@@ -355,13 +380,16 @@ fn value_now(block: &mut Block<u64>, offset: u64) -> Option<u64>
     requires { offset < block_len block.old }
     ensures { block_len block.new ≡ block_len block.old }
 {
-    match (block.token_now(offset), block.token_now(offset)) {
+    let (first, second) = (block.token_now(offset), block.token_now(offset));
+    let value = match (&first, &second) {
         (Some(first), Some(second)) => {
-            block.agree(&first, &second);
-            Some(*block.value(&second))
+            block.agree(first, second);
+            Some(*block.value(second))
         }
         _ => None,
-    }
+    };
+    drop((first, second));
+    value
 }
 
 // Returns whether a cell gives its token while it is filled, and none while it is empty, broken or taken.

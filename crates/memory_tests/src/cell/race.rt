@@ -33,11 +33,14 @@ fn fill_by_two<R: Threads + Sync>(
 fn is_begun_by_one<R: Threads + Sync>(rt: &R, block: &Block<u64>, offset: u64) -> bool
     requires { offset < block_len block.now }
 {
-    match fill_by_two(rt, block, offset) {
-        (Some(a), None) => *block.value(&a) == 5,
-        (None, Some(b)) => *block.value(&b) == 6,
+    let (first, second) = fill_by_two(rt, block, offset);
+    let is_begun = match (&first, &second) {
+        (Some(a), None) => *block.value(a) == 5,
+        (None, Some(b)) => *block.value(b) == 6,
         _other => false,
-    }
+    };
+    drop((first, second));
+    is_begun
 }
 
 #[test]

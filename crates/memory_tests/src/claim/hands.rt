@@ -110,7 +110,9 @@ impl Hands {
             return Answer::NotMade;
         }
         let mut third = self.word.split(&mut self.a, 1);
-        by_hand(&self.word, &mut third, Call::Raise(to))
+        let answer = by_hand(&self.word, &mut third, Call::Raise(to));
+        drop(third);
+        answer
     }
 
     // Joins the hands, and closes the word if one with all shares is left.

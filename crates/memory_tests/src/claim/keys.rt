@@ -171,16 +171,26 @@ fn claim_by_two<A: Allocator>(word: &Word<A>, mut a: KeyedHand) -> Option<(Run, 
     requires ours { IsHandOf word.now a }
     requires some_shares { 1 < a.shares }
 {
-    let (first, _, _) = claim_and_look(word, &mut a, 2)?;
+    let runs = claim_and_join(word, &mut a);
+    let has_keys = runs.is_some() && a.has_first_keys() && a.hand.is_whole();
+    drop(a);
+    if has_keys { runs } else { None }
+}
+
+// The runs of two hands, which are then joined.
+fn claim_and_join<A: Allocator>(word: &Word<A>, a: &mut KeyedHand) -> Option<(Run, Run)>
+    requires ours { IsHandOf word.now a.old }
+    requires some_shares { 1 < a.old.shares }
+{
+    let (first, _, _) = claim_and_look(word, a, 2)?;
     let mut b = a.split(word, 1);
-    let (second, _, _) = claim_and_look(word, &mut b, BLOCK)?;
+    let Some((second, _, _)) = claim_and_look(word, &mut b, BLOCK) else {
+        drop(b);
+        return None;
+    };
     a.meet(word, &mut b);
     a.join(word, b);
-    if a.has_first_keys() && a.hand.is_whole() {
-        Some((first, second))
-    } else {
-        None
-    }
+    Some((first, second))
 }
 
 const FIRST: Run = Run {

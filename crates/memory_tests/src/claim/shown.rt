@@ -7,7 +7,9 @@ use std::test::Fail;
 // The base of a new word and what its hand has seen.
 fn opened(alloc: Global, limit: u64, base: u64) -> Result<(u64, u64), OpenError> {
     let (word, hand) = Word::open(alloc, limit, base)?;
-    Ok((word.base(), hand.seen()))
+    let opened = (word.base(), hand.seen());
+    drop((word, hand));
+    Ok(opened)
 }
 
 static BAD_BOUNDS: [(u64, u64); 3] = [(8, 9), (0, 0), ((1 << 40) + 1, 0)];
@@ -35,6 +37,13 @@ fn a_refused_allocation_is_no_memory(rt: HostRuntime) {
 // A word of size 5 and a hand that has seen the size 2, as they are shown.
 fn shown(alloc: Global) -> Result<String, Fail> {
     let mut hands = Hands::new(alloc, 8, 0)?;
+    let shown = shown_after_steps(alloc, &mut hands);
+    drop(hands);
+    shown
+}
+
+// Makes the steps to these sizes.
+fn shown_after_steps(alloc: Global, hands: &mut Hands) -> Result<String, Fail> {
     for step in [Step::A(Call::Raise(2)), Step::Split(1), Step::Third(5)].as_slice() {
         hands.make(*step);
     }

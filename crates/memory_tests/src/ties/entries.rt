@@ -9,6 +9,7 @@ ghost use Rattle.tie_core.specs.Tie.{row_of};
 ghost use Rattle.tie_core.specs.Desk.{IsTieOf};
 ghost use Rattle.tie_core.specs.Visit.{IsEntryOf};
 
+use crate::is_some;
 use crate::ties::{Telling, is_found_empty};
 use atomic_table::{Badge, Shared, Table};
 use cell_core::block::{Block, Tied};
@@ -202,10 +203,10 @@ fn is_attached_again(
 {
     let key = segments.attach(1, block);
     let block = segments.detach(&key);
-    let _key = segments.attach(1, block);
+    drop((key, segments.attach(1, block)));
     let is_lent = segments.block_mut(1).is_some();
     let _layout = segments.layout();
-    let is_back = segments.key_now(1).is_some();
+    let is_back = is_some(segments.key_now(1));
     segments.give_up(1);
     is_lent && is_back && segments.scout(1).is_none() && segments.installed() == 0
 }

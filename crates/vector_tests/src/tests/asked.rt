@@ -127,7 +127,7 @@ fn grow_by_two<R: AllocGlobal + Threads + Wait + Sync>(
     requires ours { IsHandOf vector.now a }
     requires also_ours { IsHandOf vector.now b }
 {
-    let ((mut all, first), (_other, second)) = join(
+    let ((mut all, first), (other, second)) = join(
         rt,
         || -> (Hand<u64>, u64)
             requires { IsSync R.row × IsHandOf vector.now a }
@@ -138,7 +138,9 @@ fn grow_by_two<R: AllocGlobal + Threads + Wait + Sync>(
             ensures { result.0.of ≡ vector.entry.now.word }
         { grow_each(rt, vector, b) },
     );
-    (first.wrapping_add(second), vector.size(&mut all))
+    let size = vector.size(&mut all);
+    drop((all, other));
+    (first.wrapping_add(second), size)
 }
 
 // The vector has just room for all runs. A run whose exchange is lost is none that finds no memory, and

@@ -167,6 +167,11 @@ pub(super) fn on_two<T: Drop, R: AllocGlobal + Abort, F: FnOnce(&mut Callers<T>)
     is_right
 }
 
+// Whether a call succeeded. A generic function drops the result, which costs a proof less than a drop in each caller.
+pub(super) fn succeeded<T: Drop, E: Drop>(outcome: Result<T, E>) -> bool {
+    outcome.is_ok()
+}
+
 pub(super) fn place_of<T: Drop, V: Drop, E: Drop>(
     pushed: Result<Placed<T>, GrowError<T, V, E>>,
 ) -> Option<u64> {

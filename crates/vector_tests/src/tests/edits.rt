@@ -49,7 +49,9 @@ pub(super) fn first_wrong_of_new(alloc: Global, limit: u64, edits: &[(Edit, Foun
     requires { IsLimit limit }
 {
     let mut parts = Parts::new(alloc, limit);
-    first_wrong_edit(&mut parts, edits)
+    let wrong = first_wrong_edit(&mut parts, edits);
+    drop(parts);
+    wrong
 }
 
 fn make(parts: &mut Parts<u64>, edit: Edit) -> Found {
@@ -100,6 +102,7 @@ pub(super) fn edited(
     if first_wrong_edit(&mut parts, edits) == None {
         Some(parts)
     } else {
+        drop(parts);
         None
     }
 }
@@ -107,7 +110,11 @@ pub(super) fn edited(
 // Tests whether there is a list, and each edit of it returns what it should.
 pub(super) fn ends_as(parts: Option<Parts<u64>>, edits: &[(Edit, Found)]) -> bool {
     match parts {
-        Some(mut parts) => first_wrong_edit(&mut parts, edits) == None,
+        Some(mut parts) => {
+            let is_right = first_wrong_edit(&mut parts, edits) == None;
+            drop(parts);
+            is_right
+        }
         None => false,
     }
 }

@@ -232,7 +232,9 @@ fn first_read(vector: &Shared<u64>, grown: &Grown<u64>, value: u64) -> Option<u6
         return None;
     }
     let first = grown.placed(0);
-    Some(*vector.get(&first))
+    let read = *vector.get(&first);
+    drop(first);
+    Some(read)
 }
 
 // A clone that was made is read as the value, whether the growth won or was refused after it, by the clauses

@@ -18,7 +18,10 @@ fn refused(vector: &Shared<u64>, hand: &mut Hand<u64>, values: Vec<u64>) -> (u64
 {
     match vector.try_grow_vec(hand, values) {
         Err(GrowError::Full { size, back }) => (size, back),
-        _ => unreachable!(),
+        other => {
+            drop(other);
+            unreachable!()
+        }
     }
 }
 
@@ -97,10 +100,13 @@ fn nothing(vector: &Shared<u64>, hand: &mut Hand<u64>, values: Vec<u64>) -> u64
     ensures from { result ≡ seen_size hand.new }
     ensures mine { hand.new.mine ≡ hand.old.mine }
 {
-    match vector.try_grow_vec(hand, values) {
+    let grown = vector.try_grow_vec(hand, values);
+    let from = match &grown {
         Ok(grown) => grown.run().from,
         Err(_refused) => unreachable!(),
-    }
+    };
+    drop(grown);
+    from
 }
 
 // The value at a place below the size that the hand has then seen.

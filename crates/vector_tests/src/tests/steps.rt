@@ -96,11 +96,14 @@ impl Callers<u64> {
 }
 
 fn look(vector: &Shared<u64>, place: u64) -> Reply {
-    match vector.look(place) {
+    let shown = vector.look(place);
+    let reply = match &shown {
         Shown::Pending => Reply::Pending,
         Shown::Filled(at) => Reply::Is(*at.value),
         Shown::Broken(_spoilt) => Reply::Broken,
-    }
+    };
+    drop(shown);
+    reply
 }
 
 fn walk(vector: &Shared<u64>, wanted: &[u64]) -> Reply {

@@ -14,7 +14,9 @@ fn read(vector: &Shared<u64>, hand: &mut Hand<u64>, token: &Placed<u64>) -> Opti
     ensures { hand.new.of ≡ hand.old.of }
 {
     let first = *vector.get(token);
-    let second = *vector.get(&token.again());
+    let again = token.again();
+    let second = *vector.get(&again);
+    drop(again);
     let third = look_by(vector, hand, token)?;
     Some([first, second, third])
 }

@@ -20,10 +20,12 @@ fn push_within(
     for _try in 0..tries {
         match vector.try_push_seen(hand, value) {
             Ok(placed) => return Some(placed),
-            Err(GrowError::Moved { size: _, back: _ }) => {}
             Err(refused) => {
+                let is_moved = matches!(&refused, GrowError::Moved { .. });
                 drop(refused);
-                return None;
+                if !is_moved {
+                    return None;
+                }
             }
         }
     }

@@ -34,7 +34,9 @@ fn read_tokens(vector: &Shared<u64>, grown: &Grown<u64>, first: u64, step: u64) 
         let value = first.wrapping_add(i.wrapping_mul(step));
         let is_read = {
             let token = grown.placed(i);
-            token.place() == run.from.wrapping_add(i) && *vector.get(&token) == value
+            let is_so = token.place() == run.from.wrapping_add(i) && *vector.get(&token) == value;
+            drop(token);
+            is_so
         };
         if !is_read {
             return Err(OTHER);
@@ -225,7 +227,15 @@ pub(crate) fn append<R: AllocGlobal + Wait>(
 
 // Tests whether nothing was claimed or filled from a place on.
 fn is_as_it_was(two: &mut Callers<u64>, from: u64) -> bool {
-    two.a.seen() == from && two.size_b() == from && matches!(two.vector.look(from), Shown::Pending)
+    two.a.seen() == from && two.size_b() == from && is_pending(&two.vector, from)
+}
+
+// Tests whether a look shows nothing yet at a place.
+fn is_pending(vector: &Shared<u64>, place: u64) -> bool {
+    let shown = vector.look(place);
+    let is_pending = matches!(&shown, Shown::Pending);
+    drop(shown);
+    is_pending
 }
 
 // The same, by a second call if memory was refused to the first, which then left the vector as it was and

@@ -23,6 +23,7 @@ fn claim(word: &Word<Global>, mut hand: Hand, tries: u64) -> u64
             won = won.wrapping_add(run.n);
         }
     }
+    drop(hand);
     won
 }
 
@@ -78,5 +79,7 @@ pub fn run_claims<R: Threads + Clock + AllocGlobal + Sync>(
     tries: u64,
 ) -> Result<Trial> {
     let (word, mut hand) = Word::open(rt.alloc(), 1 << 32, 0)?;
-    claim_on(rt, &word, &mut hand, threads, tries)
+    let claimed = claim_on(rt, &word, &mut hand, threads, tries);
+    drop((hand, word));
+    claimed
 }

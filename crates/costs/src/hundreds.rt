@@ -16,7 +16,9 @@ const VECTORS: u64 = 100_000;
 // Makes a vector, appends its values, and drops it: how many it had.
 fn fill_one<R: Wait + AllocGlobal>(rt: &R, layout: Layout) -> Result<u64, OpenError> {
     let (vector, hand) = open_empty_in(rt.alloc(), layout, VALUES)?;
-    Ok(push(rt, &vector, hand, VALUES))
+    let pushed = push(rt, &vector, hand, VALUES);
+    drop(vector);
+    Ok(pushed)
 }
 
 fn fill_all<R: Wait + AllocGlobal>(rt: &R, layout: Layout) -> Result<()> {

@@ -38,9 +38,16 @@ fn append_all(parts: &mut Parts<u64>) {
 // A list of all values.
 fn fill_list(alloc: Global) -> Result<Parts<u64>, AllocError> {
     let mut parts = Parts::new(alloc, VALUES);
-    parts.room(VALUES)?;
-    append_all(&mut parts);
-    Ok(parts)
+    match parts.room(VALUES) {
+        Ok(()) => {
+            append_all(&mut parts);
+            Ok(parts)
+        }
+        Err(error) => {
+            drop(parts);
+            Err(error)
+        }
+    }
 }
 
 // How long it took from the start to now.
@@ -56,13 +63,26 @@ fn open_list(parts: Parts<u64>) -> Option<(Shared<u64>, Hand<u64>)>
     Shared::of_parts(parts).ok()
 }
 
+// Reports that a list was not opened.
+fn check_open(is_open: bool) -> Result<()> {
+    ensure!(is_open, "no memory");
+    Ok(())
+}
+
+// Reports that a list has too few values.
+fn check_size(size: u64) -> Result<()> {
+    ensure!(size == VALUES, "values were lost");
+    Ok(())
+}
+
 // How long the list takes to be opened.
 fn time_open<R: Clock>(rt: &R, parts: Parts<u64>) -> Result<Duration> {
     let start = Instant::now(rt);
     let opened = open_list(parts);
     let took = time_since(rt, start);
-    ensure!(opened.is_some(), "no memory");
-    took
+    let is_open = opened.is_some();
+    drop(opened);
+    check_open(is_open).and(took)
 }
 
 // How long the vector takes to be closed.
@@ -73,8 +93,9 @@ fn time_close<R: Clock>(rt: &R, vector: Shared<u64>, hand: Hand<u64>) -> Result<
     let start = Instant::now(rt);
     let parts = vector.into_parts(hand);
     let took = time_since(rt, start);
-    ensure!(parts.len() == VALUES, "values were lost");
-    took
+    let size = parts.len();
+    drop(parts);
+    check_size(size).and(took)
 }
 
 // Reports what a vector lacks that was moved into a `Vec`.
@@ -82,8 +103,7 @@ fn check_values(values: &Option<Vec<u64>>) -> Result<()> {
     let Some(values) = values else {
         bail!("no vector")
     };
-    ensure!(values.len() as u64 == VALUES, "values were lost");
-    Ok(())
+    check_size(values.len() as u64)
 }
 
 // How long the vector takes to be closed and moved into a `Vec`.
@@ -94,8 +114,9 @@ fn time_into_vec<R: Clock>(rt: &R, vector: Shared<u64>, hand: Hand<u64>) -> Resu
     let start = Instant::now(rt);
     let values = Quiet::close(vector, hand).into_vec().ok();
     let took = time_since(rt, start);
-    check_values(&values)?;
-    took
+    let checked = check_values(&values);
+    drop(values);
+    checked.and(took)
 }
 
 // How long a vector of the list takes to be closed, by one of these.

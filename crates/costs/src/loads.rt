@@ -9,7 +9,7 @@ use crate::reads::{
     pick_places, print_get_time, read_at, read_boxcar, read_look, read_segment_walks, read_walks,
 };
 use crate::shared_vector::{hands_for, open_empty_in, push, push_by_calls};
-use crate::trial::{print_nanoseconds, time_hands, time_threads};
+use crate::trial::{print_nanoseconds, succeeded, time_hands, time_threads};
 use crate::writers::{push_buffered, push_by_writer};
 use anyhow::{Result, bail};
 use grow_core::{Hand, Never, Shared};
@@ -162,7 +162,7 @@ fn grow_by_list<R: Wait>(rt: &R, vector: &Shared<u64>, hand: &mut Hand<u64>, lis
     requires ours { IsHandOf vector.now hand.old }
     ensures of { hand.new.of ≡ hand.old.of }
 {
-    vector.grow_vec(rt, hand, list).is_ok()
+    succeeded(vector.grow_vec(rt, hand, list))
 }
 
 // Appends the values without tokens, and returns whether that was done.
@@ -171,7 +171,7 @@ fn append_list<R: Wait>(rt: &R, vector: &Shared<u64>, hand: &mut Hand<u64>, list
     requires ours { IsHandOf vector.now hand.old }
     ensures of { hand.new.of ≡ hand.old.of }
 {
-    vector.append(rt, hand, list).is_ok()
+    succeeded(vector.append(rt, hand, list))
 }
 
 // Appends a list of values, with tokens or without: whether that was done, or nothing without memory for the list.
@@ -212,6 +212,7 @@ fn grow<R: Wait + AllocGlobal>(
             won = won.wrapping_add(LIST);
         }
     }
+    drop(hand);
     won
 }
 
@@ -225,14 +226,16 @@ fn copy<R: Wait + AllocGlobal>(
     requires ours { IsHandOf vector.now hand }
 {
     let Ok(list) = list_from(rt, 0) else {
+        drop(hand);
         return 0;
     };
     let mut won: u64 = 0;
     for _growth in 0..values / LIST {
-        if vector.grow_from(rt, &mut hand, list.as_slice()).is_ok() {
+        if succeeded(vector.grow_from(rt, &mut hand, list.as_slice())) {
             won = won.wrapping_add(LIST);
         }
     }
+    drop((list, hand));
     won
 }
 
@@ -242,7 +245,7 @@ fn make_once<R: Wait>(rt: &R, vector: &Shared<u64>, hand: &mut Hand<u64>, from: 
     ensures of { hand.new.of ≡ hand.old.of }
 {
     let make = |i: u64| -> Result<u64, Never> { Ok(from.wrapping_add(i)) };
-    vector.grow_with(rt, hand, LIST, make).is_ok()
+    succeeded(vector.grow_with(rt, hand, LIST, make))
 }
 
 // Grows the vector up to 64 places above what the hand has seen, and returns whether that was done.
@@ -252,7 +255,7 @@ fn raise_once(vector: &Shared<u64>, hand: &mut Hand<u64>, from: u64) -> bool
 {
     let make = |i: u64| -> Result<u64, Never> { Ok(from.wrapping_add(i)) };
     let size = hand.seen().saturating_add(LIST);
-    vector.grow_to_at_least(hand, size, make).is_ok()
+    succeeded(vector.grow_to_at_least(hand, size, make))
 }
 
 // Appends values by calls with a maker for 64 each, and returns how many were appended.
@@ -276,10 +279,23 @@ fn make<R: Wait>(
             won = won.wrapping_add(LIST);
         }
     }
+    drop(hand);
     won
 }
 
 impl Work {
+    // One thread's part of a load that only reads.
+    fn read(self, vector: &Shared<u64>, hand: &mut Hand<u64>, times: u64) -> u64
+        requires ours { IsHandOf vector.now hand.old }
+    {
+        match self {
+            Work::Look => read_look(vector, vector.size(hand), times),
+            Work::Walk => read_walks(vector, times),
+            Work::Segments => read_segment_walks(vector, times),
+            _ => pick_places(vector.size(hand), times),
+        }
+    }
+
     // One thread's part.
     fn run<R: Wait + AllocGlobal>(
         self,
@@ -301,10 +317,11 @@ impl Work {
             Work::Make => make(rt, vector, hand, times, false),
             Work::AtLeast => make(rt, vector, hand, times, true),
             Work::At => read_at(vector, hand, times),
-            Work::Look => read_look(vector, vector.size(&mut hand), times),
-            Work::Walk => read_walks(vector, times),
-            Work::Segments => read_segment_walks(vector, times),
-            Work::Get | Work::Pick => pick_places(vector.size(&mut hand), times),
+            Work::Look | Work::Walk | Work::Segments | Work::Get | Work::Pick => {
+                let read = self.read(vector, &mut hand, times);
+                drop(hand);
+                read
+            }
         }
     }
 }
@@ -364,6 +381,23 @@ impl Load {
         print_nanoseconds(rt, took)
     }
 
+    // Runs it on the vector in an `Arc`.
+    fn print_time_in_arc<R: Threads + Wait + Clock + Print + AllocGlobal + Sync>(
+        self,
+        rt: &R,
+        vector: Shared<u64>,
+        hand: &mut Hand<u64>,
+        threads: usize,
+    ) -> Result<()>
+        requires ours { IsHandOf vector hand.old }
+        requires more_than_one { 1 < hand.old.shares }
+    {
+        let vector = Arc::new(rt.alloc(), vector)?;
+        let printed = self.print_time_on(rt, &vector, hand, threads);
+        drop(vector);
+        printed
+    }
+
     // Runs it by hands. The vector is kept until the nanoseconds are printed, so that its memory can be seen from
     // outside.
     fn print_time_by_hands<R: Threads + Wait + Clock + Print + AllocGlobal + Sync>(
@@ -376,12 +410,15 @@ impl Load {
             self.layout,
             self.filled.saturating_add(self.values),
         )?;
-        if self.is_in_arc {
-            let vector = Arc::new(rt.alloc(), vector)?;
-            self.print_time_on(rt, &vector, &mut hand, threads)
+        let printed = if self.is_in_arc {
+            self.print_time_in_arc(rt, vector, &mut hand, threads)
         } else {
-            self.print_time_on(rt, &vector, &mut hand, threads)
-        }
+            let printed = self.print_time_on(rt, &vector, &mut hand, threads);
+            drop(vector);
+            printed
+        };
+        drop(hand);
+        printed
     }
 
     // Reads by tokens.
@@ -437,7 +474,9 @@ pub fn print_boxcar_reads<R: Threads + Wait + Clock + Print + AllocGlobal + Sync
     threads: usize,
 ) -> Result<()> {
     let list = boxcar::Vec::new(rt.alloc())?;
-    print_boxcar_reads_on(rt, &list, threads)
+    let printed = print_boxcar_reads_on(rt, &list, threads);
+    drop(list);
+    printed
 }
 
 /// Pushes as many values as the load `push` on a new `boxcar::Vec`, and prints the nanoseconds that it took.
@@ -446,5 +485,7 @@ pub fn print_boxcar_time<R: Threads + Wait + Clock + Print + AllocGlobal + Sync>
     threads: usize,
 ) -> Result<()> {
     let list = boxcar::Vec::new(rt.alloc())?;
-    print_boxcar_time_on(rt, &list, threads)
+    let printed = print_boxcar_time_on(rt, &list, threads);
+    drop(list);
+    printed
 }

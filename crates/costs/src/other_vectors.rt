@@ -65,5 +65,7 @@ pub fn run_boxcar<R: Threads + Wait + Clock + AllocGlobal + Sync>(
 ) -> Result<Trial> {
     let room = threads.saturating_mul(tries as usize);
     let list = boxcar::Vec::with_capacity(rt.alloc(), room)?;
-    push_on_boxcar(rt, &list, threads, tries)
+    let pushed = push_on_boxcar(rt, &list, threads, tries);
+    drop(list);
+    pushed
 }

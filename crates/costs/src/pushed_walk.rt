@@ -48,6 +48,7 @@ fn push_until<R: Wait>(
             won = won.wrapping_add(1);
         }
     }
+    drop(hand);
     won
 }
 
@@ -60,6 +61,7 @@ fn walk_or_push<R: Wait>(rt: &R, vector: &Shared<u64>, hand: Hand<u64>, walk: &W
     }
     let odd = read_walk(vector, WALKED);
     walk.is_over.store(true, Ordering::SeqCst);
+    drop(hand);
     odd
 }
 
@@ -97,5 +99,7 @@ pub fn print_pushed_walk<R: Threads + Wait + Clock + Print + AllocGlobal + Sync>
 ) -> Result<()> {
     let limit = (threads as u64).saturating_mul(MORE).saturating_add(FILLED);
     let (vector, mut hand) = open_empty(rt.alloc(), limit)?;
-    print_walk_on(rt, &vector, &mut hand, threads)
+    let printed = print_walk_on(rt, &vector, &mut hand, threads);
+    drop((hand, vector));
+    printed
 }

@@ -65,10 +65,13 @@ fn at_once(vector: &Shared<u64>, hand: &mut Hand<u64>, place: u64) -> u64
     requires ours { IsHandOf vector.now hand.old }
     ensures of { hand.new.of ≡ hand.old.of }
 {
-    match vector.at(hand, place, None) {
+    let answer = vector.at(hand, place, None);
+    let bit = match &answer {
         Ok(at) => *at.value & 1,
         Err(_) => 0,
-    }
+    };
+    drop(answer);
+    bit
 }
 
 /// Reads by `at` without a token, and returns how many values were odd.
@@ -83,16 +86,20 @@ pub fn read_at(vector: &Shared<u64>, mut hand: Hand<u64>, reads: u64) -> u64
         random = next(random);
         sum = sum.wrapping_add(at_once(vector, &mut hand, place_of(random, last)));
     }
+    drop(hand);
     sum
 }
 
 // The last bit of the value that `look` shows, if there is one.
 #[inline(always)]
 fn look_once(vector: &Shared<u64>, place: u64) -> u64 {
-    match vector.look(place) {
+    let shown = vector.look(place);
+    let bit = match &shown {
         Shown::Filled(at) => *at.value & 1,
         _ => 0,
-    }
+    };
+    drop(shown);
+    bit
 }
 
 // The last bit of the value that `boxcar` has at the place, if there is one.
@@ -194,7 +201,10 @@ fn get_once(vector: &Shared<u64>, grown: &Grown<u64>, i: u64) -> u64
     requires ours { IsGrownOf vector.now grown.now }
     requires inside { i < grown.now.run.n }
 {
-    *vector.get(&grown.placed(i)) & 1
+    let placed = grown.placed(i);
+    let bit = *vector.get(&placed) & 1;
+    drop(placed);
+    bit
 }
 
 // Reads by `get`, and returns how many values were odd.
@@ -230,13 +240,15 @@ fn print_get_time_on<R: Threads + Wait + Clock + Print + AllocGlobal + Sync>(
     let Some(grown) = vector.grow_with(rt, hand, filled, number).ok() else {
         bail!("the values to be read were not appended")
     };
-    let (took, _sums) = time_threads(
+    let timed = time_threads(
         rt,
         threads,
         &|_: usize| -> u64
             requires { IsGrownOf vector.now grown }
         { read_get(vector, &grown, reads) },
-    )?;
+    );
+    drop(grown);
+    let (took, _sums) = timed?;
     print_nanoseconds(rt, took)
 }
 
@@ -249,5 +261,7 @@ pub fn print_get_time<R: Threads + Wait + Clock + Print + AllocGlobal + Sync>(
     threads: usize,
 ) -> Result<()> {
     let (vector, mut hand) = open_empty(rt.alloc(), filled)?;
-    print_get_time_on(rt, &vector, &mut hand, filled, reads, threads)
+    let printed = print_get_time_on(rt, &vector, &mut hand, filled, reads, threads);
+    drop((hand, vector));
+    printed
 }

@@ -4,7 +4,7 @@ ghost use Rattle.std.specs.Thread.{IsSync};
 ghost use Rattle.claim_core.specs.Hand.{IsWholeHand};
 ghost use Rattle.grow_core.specs.Vector.{IsHandOf};
 
-use crate::trial::{Trial, time_hands};
+use crate::trial::{Trial, succeeded, time_hands};
 use anyhow::Result;
 use grow_core::{Hand, OpenError, Parts, Shared};
 use seg_core::{Layout, MOST_PLACES};
@@ -33,7 +33,10 @@ pub fn open_empty_in<T: Drop>(
     }
     match Shared::of_parts(Parts::new_in(alloc, layout, limit)) {
         Ok(opened) => Ok(opened),
-        Err((_, error)) => Err(error),
+        Err((parts, error)) => {
+            drop(parts);
+            Err(error)
+        }
     }
 }
 
@@ -48,7 +51,7 @@ pub(crate) fn push_once<R: Wait>(
     requires ours { IsHandOf vector.now hand.old }
     ensures of { hand.new.of ≡ hand.old.of }
 {
-    vector.push_back(rt, hand, value).is_ok()
+    succeeded(vector.push_back(rt, hand, value))
 }
 
 // The same as a call that the compiler does not lay into the loop.
@@ -70,6 +73,7 @@ pub fn push_by_calls<R: Wait>(rt: &R, vector: &Shared<u64>, mut hand: Hand<u64>,
             won = won.wrapping_add(1);
         }
     }
+    drop(hand);
     won
 }
 
@@ -83,6 +87,7 @@ pub fn push<R: Wait>(rt: &R, vector: &Shared<u64>, mut hand: Hand<u64>, tries: u
             won = won.wrapping_add(1);
         }
     }
+    drop(hand);
     won
 }
 
@@ -141,5 +146,7 @@ pub fn run_pushes<R: Threads + Wait + Clock + AllocGlobal + Sync>(
 ) -> Result<Trial> {
     let limit = (threads as u64).saturating_mul(tries);
     let (vector, mut hand) = open_empty(rt.alloc(), limit)?;
-    push_on(rt, &vector, &mut hand, threads, tries)
+    let pushed = push_on(rt, &vector, &mut hand, threads, tries);
+    drop((hand, vector));
+    pushed
 }

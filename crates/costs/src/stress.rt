@@ -122,11 +122,13 @@ fn stress_on<R: Threads + Wait + AllocGlobal + Sync>(
 fn close_vector(vector: Shared<u64>, hand: Hand<u64>) -> bool
     requires ours { IsHandOf vector hand }
 {
-    if !hand.is_whole() {
-        return false;
+    let is_whole = hand.is_whole();
+    if is_whole {
+        drop(vector.into_parts(hand));
+    } else {
+        drop((hand, vector));
     }
-    drop(vector.into_parts(hand));
-    true
+    is_whole
 }
 
 // The limit of the vector of this number.

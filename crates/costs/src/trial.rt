@@ -88,6 +88,13 @@ pub fn time_hands<R: Threads + Clock + Sync, H: Send + Drop, F: Fn(H) -> u64 + S
     total_of(parts.as_slice())
 }
 
+/// Returns whether a call succeeded. A generic function drops the result, which costs a proof less than a drop in each
+/// caller.
+#[inline(always)]
+pub fn succeeded<T: Drop, E: Drop>(answer: Result<T, E>) -> bool {
+    answer.is_ok()
+}
+
 /// Prints the nanoseconds of a time.
 pub fn print_nanoseconds<R: Print>(rt: &R, time: Duration) -> Result<()> {
     println!(rt; "{}", time.as_nanos())?;

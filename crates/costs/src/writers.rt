@@ -1,6 +1,7 @@
 //! The loads of writers: a vector and a hand in one value, without a buffer and with one.
 ghost use Rattle.grow_core.specs.Vector.{IsHandOf};
 
+use crate::trial::succeeded;
 use grow_core::{Hand, Shared};
 use span_core::{BufferedWriter, Writer};
 use std::alloc::AllocGlobal;
@@ -12,7 +13,7 @@ const BUFFER: usize = 64;
 // Appends a value, and returns whether that was done.
 #[inline(always)]
 fn push_back<R: Wait>(rt: &R, writer: &mut Writer<'_, u64>, value: u64) -> bool {
-    writer.push_back(rt, value).is_ok()
+    succeeded(writer.push_back(rt, value))
 }
 
 /// Pushes values by a writer, and returns how many were appended.
@@ -26,18 +27,19 @@ pub fn push_by_writer<R: Wait>(rt: &R, vector: &Shared<u64>, hand: Hand<u64>, tr
             won = won.wrapping_add(1);
         }
     }
+    drop(writer);
     won
 }
 
 // Puts a value into the buffer, and returns whether that was done.
 #[inline(always)]
 fn push_one<R: Wait>(rt: &R, writer: &mut BufferedWriter<'_, u64>, value: u64) -> bool {
-    writer.push(rt, value).is_ok()
+    succeeded(writer.push(rt, value))
 }
 
 // Appends what is buffered, and returns whether that was done.
 fn flush<R: Wait>(rt: &R, writer: &mut BufferedWriter<'_, u64>) -> bool {
-    writer.flush(rt).is_ok()
+    succeeded(writer.flush(rt))
 }
 
 /// Pushes values by a writer with a buffer, and appends the last ones too. Returns how many were taken, or 0 if
@@ -57,5 +59,7 @@ pub fn push_buffered<R: Wait + AllocGlobal>(
             won = won.wrapping_add(1);
         }
     }
-    if flush(rt, &mut writer) { won } else { 0 }
+    let is_flushed = flush(rt, &mut writer);
+    drop(writer);
+    if is_flushed { won } else { 0 }
 }

@@ -112,8 +112,13 @@ fn note_push(
     requires { IfOk answer (IsPlacedOf vector.now) }
     ensures { IfOk result (λ token. IfSome token (IsPlacedOf vector.now)) }
 {
-    note_answer(&mut caller.record, value, &answer)?;
-    Ok(answer.ok())
+    match note_answer(&mut caller.record, value, &answer) {
+        Ok(()) => Ok(answer.ok()),
+        Err(error) => {
+            drop(answer);
+            Err(error)
+        }
+    }
 }
 
 fn try_push(
@@ -157,11 +162,14 @@ fn look(
     requires known { IfSome known (λ p. IsPlacedOf vector.now p.now × (p.now.place ≡ place)) }
     ensures of { hand.new.of ≡ hand.old.of }
 {
-    match vector.at(hand, place, known) {
+    let answer = vector.at(hand, place, known);
+    let noted = match &answer {
         Ok(at) => caller.record.note_read(place, Some(*at.value)),
-        Err(AtError::Broken(_spoilt)) => caller.record.note_read(place, None),
+        Err(AtError::Broken(_)) => caller.record.note_read(place, None),
         Err(AtError::OutOfRange { .. } | AtError::Pending) => Ok(()),
-    }
+    };
+    drop(answer);
+    noted
 }
 
 // Looks at the token's place, if there is a token.
@@ -250,11 +258,20 @@ pub fn make_call<R: Wait>(
     ensures token { IfOk result (λ token. IfSome token (IsPlacedOf vector.now)) }
 {
     match KINDS[caller.below(KINDS.len())] {
-        Kind::TryPush => try_push(vector, hand, caller),
-        Kind::Push => push(rt, vector, hand, caller),
-        kind => {
-            make_plain_call(kind, alloc, vector, hand, other, &token, caller)?;
-            Ok(token)
+        Kind::TryPush => {
+            drop(token);
+            try_push(vector, hand, caller)
         }
+        Kind::Push => {
+            drop(token);
+            push(rt, vector, hand, caller)
+        }
+        kind => match make_plain_call(kind, alloc, vector, hand, other, &token, caller) {
+            Ok(()) => Ok(token),
+            Err(error) => {
+                drop(token);
+                Err(error)
+            }
+        },
     }
 }

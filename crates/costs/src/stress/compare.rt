@@ -50,11 +50,14 @@ fn value_at(vector: &Shared<u64>, hand: &mut Hand<u64>, place: u64) -> Result<Op
     requires ours { IsHandOf vector.now hand.old }
     ensures of { hand.new.of ≡ hand.old.of }
 {
-    match vector.at(hand, place, None) {
+    let answer = vector.at(hand, place, None);
+    let value = match &answer {
         Ok(at) => Ok(Some(*at.value)),
-        Err(AtError::Broken(_spoilt)) => Ok(None),
-        Err(error) => Err(error_at(place, &error)),
-    }
+        Err(AtError::Broken(_)) => Ok(None),
+        Err(error) => Err(error_at(place, error)),
+    };
+    drop(answer);
+    value
 }
 
 // Each place has the value that a call's result gives.

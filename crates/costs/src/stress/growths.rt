@@ -20,7 +20,10 @@ fn values_from(alloc: Global, first: u64, n: u64) -> Result<Vec<u64>, AllocError
 fn place_of(grown: &Grown<u64>, i: u64) -> u64
     requires inside { i < grown.now.run.n }
 {
-    grown.placed(i).place()
+    let placed = grown.placed(i);
+    let place = placed.place();
+    drop(placed);
+    place
 }
 
 // Notes the values of a run: the first, and each next one greater by the step.
@@ -40,21 +43,35 @@ fn note_broken(record: &mut Record, run: Run, made: u64) -> Result<()> {
     Ok(())
 }
 
+// Notes a growth that was refused.
+fn note_failure<V: Drop, E: Drop>(
+    record: &mut Record,
+    first: u64,
+    step: u64,
+    error: &GrowError<u64, V, E>,
+) -> Result<()> {
+    match error {
+        GrowError::Refused { run, made, .. } => {
+            note_run(record, first, step, made)?;
+            note_broken(record, *run, made.run().n)
+        }
+        error => record.note_refused(error),
+    }
+}
+
 // Notes the result of a growth.
 fn note_growth<V: Drop, E: Drop>(
     record: &mut Record,
     first: u64,
     step: u64,
-    answer: &Result<Grown<u64>, GrowError<u64, V, E>>,
+    answer: Result<Grown<u64>, GrowError<u64, V, E>>,
 ) -> Result<()> {
-    match answer {
+    let noted = match &answer {
         Ok(grown) => note_run(record, first, step, grown),
-        Err(GrowError::Refused { run, made, .. }) => {
-            note_run(record, first, step, made)?;
-            note_broken(record, *run, made.run().n)
-        }
-        Err(error) => record.note_refused(error),
-    }
+        Err(error) => note_failure(record, first, step, error),
+    };
+    drop(answer);
+    noted
 }
 
 /// Grows by at most `most` values, which are moved in.
@@ -72,7 +89,7 @@ pub fn grow(
     let n = caller.up_to(most);
     let first = caller.take_values(n);
     let answer = vector.try_grow_vec(hand, values_from(alloc, first, n)?);
-    note_growth(&mut caller.record, first, 1, &answer)
+    note_growth(&mut caller.record, first, 1, answer)
 }
 
 /// Grows by at most `most` clones of one value.
@@ -89,7 +106,7 @@ pub fn grow_by(
     let n = caller.up_to(most);
     let value = caller.take_values(1);
     let answer = vector.try_grow_by(hand, n, &value);
-    note_growth(&mut caller.record, value, 0, &answer)
+    note_growth(&mut caller.record, value, 0, answer)
 }
 
 /// Grows by at most `most` values that are made in place, one of them perhaps refused.
@@ -114,7 +131,7 @@ pub fn grow_with(
         }
     };
     let answer = vector.try_grow_with(hand, n, make);
-    note_growth(&mut caller.record, first, 1, &answer)
+    note_growth(&mut caller.record, first, 1, answer)
 }
 
 /// Grows up to at most `most` places above the size that the hand has seen, by values that are made in place,
@@ -139,9 +156,13 @@ pub fn grow_to_at_least(
             Ok(first.wrapping_add(i))
         }
     };
-    match vector.grow_to_at_least(hand, size, make) {
-        Ok(AtLeast::Ran(grown)) => note_run(&mut caller.record, first, 1, &grown),
+    let answer = vector.grow_to_at_least(hand, size, make);
+    let record = &mut caller.record;
+    let noted = match &answer {
+        Ok(AtLeast::Ran(grown)) => note_run(record, first, 1, grown),
         Ok(AtLeast::Enough { .. }) => Ok(()),
-        Err(refused) => note_growth::<(), u64>(&mut caller.record, first, 1, &Err(refused)),
-    }
+        Err(error) => note_failure(record, first, 1, error),
+    };
+    drop(answer);
+    noted
 }

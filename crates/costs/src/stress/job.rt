@@ -79,6 +79,7 @@ fn call_often<R: Wait>(
     for _call in 0..CALLS {
         token = call_with_another(rt, alloc, vector, hand, others, token, caller)?;
     }
+    drop(token);
     Ok(())
 }
 
@@ -118,7 +119,14 @@ pub fn run_job<R: Wait + AllocGlobal>(rt: &R, vector: &Shared<u64>, job: Job) ->
     let mut hand = job.hand;
     let alloc = rt.alloc();
     let mut caller = Caller::new(alloc, job.vector, job.thread);
-    call_by_many(rt, alloc, vector, &mut hand, &mut caller)?;
-    let Caller { record, .. } = caller;
-    Ok(Outcome { hand, record })
+    match call_by_many(rt, alloc, vector, &mut hand, &mut caller) {
+        Ok(()) => {
+            let Caller { record, .. } = caller;
+            Ok(Outcome { hand, record })
+        }
+        Err(error) => {
+            drop((caller, hand));
+            Err(error)
+        }
+    }
 }

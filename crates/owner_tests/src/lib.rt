@@ -11,6 +11,8 @@ mod quiet;
 #[cfg(test)]
 mod race;
 #[cfg(test)]
+mod results;
+#[cfg(test)]
 mod span;
 #[cfg(test)]
 mod vector;

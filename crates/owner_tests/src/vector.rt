@@ -4,6 +4,7 @@ ghost use Rattle.grow_core.specs.Vector.{IsHandOf, IsOpenedAt};
 ghost use Rattle.grow_core.specs.Closing.{KeepsValues};
 
 use crate::quiet::resized;
+use crate::results::succeeded;
 use grow_core::{AtError, AtLeast, GrowError, Hand, Shared, Shown, makers};
 use quiet_core::{Quiet, QuietMendError, laws};
 use std::alloc::AllocGlobal;
@@ -25,12 +26,15 @@ pub(crate) fn grow_refused(
     let make = |i: u64| -> Result<u64, u64>
         ensures { IfErr result (λ why. why ≡ 9) }
     { if i == at { Err(9) } else { Ok(7) } };
-    match vector.try_grow_with(hand, n, make) {
+    let grown = vector.try_grow_with(hand, n, make);
+    let told = match &grown {
         Err(GrowError::Refused { run, made, cause }) => {
-            Some((run.from, run.n, made.run().n, cause))
+            Some((run.from, run.n, made.run().n, *cause))
         }
         _ => None,
-    }
+    };
+    drop(grown);
+    told
 }
 
 // Grows by `n` values, of which the first is 70; the maker refuses number `at`. If the construction is
@@ -68,11 +72,14 @@ fn grow_to(vector: &Shared<u64>, hand: &mut Hand<u64>, size: u64) -> Option<u64>
     ensures enough { IfSome result (λ known. size ≤ known) }
 {
     let make = |i: u64| -> Result<u64, u64> { Ok(i) };
-    match vector.grow_to_at_least(hand, size, make) {
+    let grown = vector.grow_to_at_least(hand, size, make);
+    let known = match &grown {
         Ok(AtLeast::Ran(_grown)) => Some(size),
-        Ok(AtLeast::Enough { size }) => Some(size),
+        Ok(AtLeast::Enough { size }) => Some(*size),
         Err(_refused) => None,
-    }
+    };
+    drop(grown);
+    known
 }
 
 // The first item of a walk over a vector is the first value that it was opened with.
@@ -92,8 +99,10 @@ fn first_published(list: Quiet<u64>) -> Option<Option<u64>>
     ensures { (x : ℕ) → slice_get list.members 0 ≡ Some (Some x)
         → IfSome result (λ shown. shown ≡ Some x) }
 {
-    let (vector, _hand) = list.open().ok()?;
-    Some(first_shown(&vector))
+    let (vector, hand) = list.open().ok()?;
+    let shown = first_shown(&vector);
+    drop((vector, hand));
+    Some(shown)
 }
 
 // The place of the token that a look at a broken place gives is that place, and so is the one that `at`
@@ -102,14 +111,20 @@ fn broken_places(vector: &Shared<u64>, hand: &mut Hand<u64>, place: u64) -> Opti
     requires ours { IsHandOf vector.now hand.old }
     ensures { IfSome result (λ (looked, read). (looked ≡ place) × (read ≡ place)) }
 {
-    let looked = match vector.look(place) {
-        Shown::Broken(spoilt) => spoilt.place(),
-        _ => return None,
+    let shown = vector.look(place);
+    let looked = match &shown {
+        Shown::Broken(spoilt) => Some(spoilt.place()),
+        _ => None,
     };
-    match vector.at(hand, place, None) {
+    drop(shown);
+    let looked = looked?;
+    let found = vector.at(hand, place, None);
+    let both = match &found {
         Err(AtError::Broken(spoilt)) => Some((looked, spoilt.place())),
         _ => None,
-    }
+    };
+    drop(found);
+    both
 }
 
 // Mends a member of a list, and returns the value that it has afterwards.
@@ -134,7 +149,7 @@ fn push_with_room(list: &mut Quiet<u64>, more: u64, value: u64)
     ensures { length list.new.members ≡ length list.old.members + 1 }
 {
     let _granted = list.reserve(more).is_ok();
-    let pushed = list.push(value).is_ok();
+    let pushed = succeeded(list.push(value));
     prove!(pushed);
 }
 
@@ -160,6 +175,7 @@ fn read_two(list: Quiet<u64>, a: u64, b: u64) -> Option<(Option<u64>, Option<u64
     let (vector, mut hand) = list.open().ok()?;
     let first = read(&vector, &mut hand, a);
     let second = read(&vector, &mut hand, b);
+    drop((vector, hand));
     Some((first, second))
 }
 
@@ -205,7 +221,7 @@ fn equals_with_room(list: &mut Quiet<u64>, other: &Quiet<u64>, n: u64) -> bool
 // it.
 fn numbers<R: AllocGlobal>(rt: &R, n: u64, refused: u64) -> Quiet<u64> {
     let mut list = Quiet::new(rt.alloc(), 8);
-    let _made = resized(&mut list, n, 0, refused);
+    drop(resized(&mut list, n, 0, refused));
     list
 }
 
@@ -224,13 +240,17 @@ fn learned(vector: &Shared<u64>, hand: &mut Hand<u64>) -> Option<Learned>
 
 fn grown_over(list: Quiet<u64>) -> Option<Learned> {
     let (vector, mut hand) = list.open().ok()?;
-    learned(&vector, &mut hand)
+    let told = learned(&vector, &mut hand);
+    drop((vector, hand));
+    told
 }
 
 // The first value of a growth that is refused its third one.
 fn first_made(list: Quiet<u64>) -> Option<u64> {
     let (vector, mut hand) = list.open().ok()?;
-    first_of_refused(&vector, &mut hand, 4, 2)
+    let first = first_of_refused(&vector, &mut hand, 4, 2);
+    drop((vector, hand));
+    first
 }
 
 #[test]
@@ -264,16 +284,18 @@ fn pushes_a_fourth(list: &mut Quiet<u64>) -> bool {
 fn lists_of_equal_members_are_equal(rt: HostRuntime) {
     let mut list = numbers(&rt, 3, 1);
     let other = numbers(&rt, 3, 1);
-    assert!(rt; list.reserve(8).is_ok() && list == other && list.capacity() > other.capacity());
+    let are_equal = list.reserve(8).is_ok() && list == other && list.capacity() > other.capacity();
+    drop((list, other));
+    assert!(rt; are_equal);
 }
 
 #[test]
 fn callers_know_what_a_refusal_leaves_of_a_list(rt: HostRuntime) {
     let mut broken = numbers(&rt, 3, 1);
     let mut list = numbers(&rt, 3, 9);
-    assert!(rt;
-        has_once_mended(&mut broken, 0, 0)
-            && has_once_mended(&mut broken, 2, 7)
-            && pushes_a_fourth(&mut list)
-    );
+    let is_left = has_once_mended(&mut broken, 0, 0)
+        && has_once_mended(&mut broken, 2, 7)
+        && pushes_a_fourth(&mut list);
+    drop((broken, list));
+    assert!(rt; is_left);
 }

@@ -2,6 +2,7 @@
 ghost use Rattle.seg_core.specs.Segment.{IsLimit};
 
 use super::steps::resized;
+use crate::results::succeeded;
 use quiet_core::Quiet;
 use seg_core::Layout;
 use std::alloc::{AllocGlobal, Global};
@@ -17,24 +18,32 @@ pub(crate) fn layout_of<R: Abort>(rt: &R, f: u32) -> Layout {
 // A list of the layout with two members: 1 and another value.
 fn one_and<R: AllocGlobal + Abort>(rt: &R, layout: Layout, second: u64) -> Quiet<u64> {
     let mut list = Quiet::new_in(rt.alloc(), layout, 16);
-    assert!(rt; list.push(1).is_ok() && list.push(second).is_ok());
-    list
+    let are_pushed = succeeded(list.push(1)) && succeeded(list.push(second));
+    match are_pushed.then_some(list) {
+        Some(list) => list,
+        None => panic!(rt; "no memory"),
+    }
 }
 
 // Tests whether the capacity follows the layout's segments.
-fn follows_its_segments(list: &mut Quiet<u64>, layout: Layout) -> bool {
+fn follows_its_segments(mut list: Quiet<u64>, layout: Layout) -> bool {
     let is_made = list.layout() == layout
         && list.capacity() == layout.capacity_for(2)
         && list.reserve(15).is_ok()
         && list.capacity() == layout.capacity_for(15);
     list.shrink_to_fit();
-    is_made && list.capacity() == layout.capacity_for(2)
+    let is_left = list.capacity() == layout.capacity_for(2);
+    drop(list);
+    is_made && is_left
 }
 
 // The length of a list, once it was opened and closed.
 fn len_when_closed(list: Quiet<u64>) -> Option<u64> {
     let (vector, hand) = list.open().ok()?;
-    Some(Quiet::close(vector, hand).len())
+    let list = Quiet::close(vector, hand);
+    let len = list.len();
+    drop(list);
+    Some(len)
 }
 
 // The same of a list of a thousand members.
@@ -42,10 +51,8 @@ fn len_after_a_life(alloc: Global, layout: Layout, limit: u64) -> Option<u64>
     requires { IsLimit limit }
 {
     let mut list = Quiet::new_in(alloc, layout, limit);
-    if resized(&mut list, 1_000, 0, 1_000) != (Ok(()), Some(1_000)) {
-        return None;
-    }
-    len_when_closed(list)
+    let is_made = resized(&mut list, 1_000, 0, 1_000) == (Ok(()), Some(1_000));
+    len_when_closed(is_made.then_some(list)?)
 }
 
 #[test]
@@ -54,7 +61,7 @@ fn lists_of_each_layout_have_its_capacities_and_are_opened(rt: HostRuntime) {
         let layout = layout_of(&rt, f);
         let limit = if f < 5 { 1 << 33 } else { 1 << 40 };
         assert!(rt;
-            follows_its_segments(&mut one_and(&rt, layout, 2), layout)
+            follows_its_segments(one_and(&rt, layout, 2), layout)
                 && len_after_a_life(rt.alloc(), layout, limit) == Some(1_000),
             "{f}"
         );
@@ -62,11 +69,15 @@ fn lists_of_each_layout_have_its_capacities_and_are_opened(rt: HostRuntime) {
 }
 
 pub(super) fn are_equal(a: Quiet<u64>, b: Quiet<u64>) -> bool {
-    a == b
+    let are_equal = a == b;
+    drop((a, b));
+    are_equal
 }
 
 fn is_less(a: Quiet<u64>, b: Quiet<u64>) -> bool {
-    a < b
+    let is_less = a < b;
+    drop((a, b));
+    is_less
 }
 
 #[test]

@@ -19,20 +19,25 @@ fn pushed_while_open(list: Quiet<u64>, value: u64) -> Option<(Quiet<u64>, u64)>
     ensures limit { IfSome result (λ (new, _). new.limit ≡ list.limit) }
 {
     let (vector, mut hand) = list.open().ok()?;
-    let placed = vector.try_push_back(&mut hand, value).ok()?;
-    let closed = Quiet::close(vector, hand);
-    let read = *closed.recall(&placed);
-    Some((closed, read))
+    match vector.try_push_back(&mut hand, value).ok() {
+        Some(placed) => {
+            let closed = Quiet::close(vector, hand);
+            let read = *closed.recall(&placed);
+            drop(placed);
+            Some((closed, read))
+        }
+        None => {
+            drop((vector, hand));
+            None
+        }
+    }
 }
 
 // The list after ten lives; each appends a value and reads it.
 fn live_ten_times(mut list: Quiet<u64>) -> Option<Quiet<u64>> {
     for value in 10..20u64 {
         let (closed, read) = pushed_while_open(list, value)?;
-        if read != value {
-            return None;
-        }
-        list = closed;
+        list = (read == value).then_some(closed)?;
     }
     Some(list)
 }
@@ -60,10 +65,25 @@ static AFTER_TEN_LIVES: [Step; 15] = [
 fn ten_lives_lose_nothing(rt: HostRuntime) {
     match live_ten_times(list_of(&rt, &[1, 2, 3])) {
         Some(mut list) => {
-            assert_eq!(rt; first_wrong(rt.alloc(), &mut list, &AFTER_TEN_LIVES), None);
+            let wrong = first_wrong(rt.alloc(), &mut list, &AFTER_TEN_LIVES);
+            drop(list);
+            assert_eq!(rt; wrong, None);
         }
         None => panic!(rt; "no list"),
     }
+}
+
+// Tests whether a place is past the end of a vector of this size.
+fn is_past_the_end(vector: &Shared<u64>, hand: &mut Hand<u64>, place: u64, size: u64) -> bool
+    requires ours { IsHandOf vector.now hand.old }
+{
+    let found = vector.at(hand, place, None);
+    let is_past = match &found {
+        Err(AtError::OutOfRange { size: known }) => *known == size,
+        _ => false,
+    };
+    drop(found);
+    is_past
 }
 
 // Tests whether one hand appends a value, and two others that were there before it see it.
@@ -78,13 +98,15 @@ fn see_one_push<R: Wait>(
     requires second { IsHandOf vector.now g.old }
     requires third { IsHandOf vector.now k.old }
 {
-    let is_first = match vector.push_back(rt, h, 5) {
+    let pushed = vector.push_back(rt, h, 5);
+    let is_first = match &pushed {
         Ok(placed) => placed.place() == 0,
         Err(_refused) => false,
     };
+    drop(pushed);
     is_first
         && read(vector, g, 0) == Some(5)
-        && matches!(vector.at(g, 1, None), Err(AtError::OutOfRange { size: 1 }))
+        && is_past_the_end(vector, g, 1, 1)
         && vector.size(k) == 1
 }
 
@@ -95,12 +117,16 @@ fn three_see_one_push<R: Wait>(rt: &R, vector: &Shared<u64>, h: &mut Hand<u64>) 
 {
     let mut g = vector.split(h, 1);
     let mut k = vector.split(h, 1);
-    see_one_push(rt, vector, h, &mut g, &mut k)
+    let is_seen = see_one_push(rt, vector, h, &mut g, &mut k);
+    drop((g, k));
+    is_seen
 }
 
 fn shows_its_hands<R: Wait>(rt: &R, list: Quiet<u64>) -> Option<bool> {
     let (vector, mut h) = list.open().ok()?;
-    Some(three_see_one_push(rt, &vector, &mut h))
+    let is_seen = three_see_one_push(rt, &vector, &mut h);
+    drop((vector, h));
+    Some(is_seen)
 }
 
 #[test]
@@ -128,6 +154,7 @@ static BROKEN_FROM_THE_SECOND: [Step; 5] = [
 fn is_broken_after_refusal(alloc: Global, list: Quiet<u64>) -> Option<bool> {
     let (refused, mut list) = closed_after_refusal(list)?;
     let wrong = first_wrong(alloc, &mut list, &BROKEN_FROM_THE_SECOND);
+    drop(list);
     Some(refused == Some((0, 3, 1, 9)) && wrong == None)
 }
 
@@ -144,10 +171,8 @@ fn token_at(vector: &Shared<u64>, hand: &mut Hand<u64>, place: u64) -> Option<Pl
     ensures shares { hand.new.shares ≡ hand.old.shares }
     ensures token { IfSome result (IsPlacedOf vector.now) }
 {
-    match vector.at(hand, place, None) {
-        Ok(at) => Some(at.placed),
-        Err(_refused) => None,
-    }
+    let at = vector.at(hand, place, None).ok()?;
+    Some(at.placed)
 }
 
 // The token of a value that is appended.
@@ -173,8 +198,13 @@ fn tokens(
     ensures new { IfSome result (λ (_, new). IsPlacedOf vector.now new) }
 {
     let old = token_at(vector, hand, place)?;
-    let new = pushed(vector, hand, value)?;
-    Some((old, new))
+    match pushed(vector, hand, value) {
+        Some(new) => Some((old, new)),
+        None => {
+            drop(old);
+            None
+        }
+    }
 }
 
 // Closes a vector. Returns what it has by the first token, and what the closed list recalls by both.
@@ -186,15 +216,23 @@ fn recalled_by(vector: Shared<u64>, hand: Hand<u64>, old: Placed<u64>, new: Plac
 {
     let read = *vector.get(&old);
     let list = Quiet::close(vector, hand);
-    [read, *list.recall(&old), *list.recall(&new)]
+    let all = [read, *list.recall(&old), *list.recall(&new)];
+    drop((old, new));
+    drop(list);
+    all
 }
 
 // Opens a list, reads one of its places, appends a value, and closes it. Returns what was read, and what the
 // closed list recalls by the two tokens.
 fn recalled(list: Quiet<u64>, place: u64, value: u64) -> Option<[u64; 3]> {
     let (vector, mut hand) = list.open().ok()?;
-    let (old, new) = tokens(&vector, &mut hand, place, value)?;
-    Some(recalled_by(vector, hand, old, new))
+    match tokens(&vector, &mut hand, place, value) {
+        Some((old, new)) => Some(recalled_by(vector, hand, old, new)),
+        None => {
+            drop((vector, hand));
+            None
+        }
+    }
 }
 
 #[test]
@@ -216,11 +254,13 @@ fn has_values<R: AllocGlobal + Abort>(rt: &R, list: Quiet<u64>, wanted: &[u64]) 
 // Tests whether the members of three come from both ends.
 fn comes_from_both_ends(list: Quiet<u64>) -> bool {
     let mut members = list.into_iter();
-    members.next_back() == Some(Some(3))
+    let come = members.next_back() == Some(Some(3))
         && members.next() == Some(Some(1))
         && members.len() == 1
         && members.next() == Some(Some(2))
-        && (members.next(), members.next_back()) == (None, None)
+        && (members.next(), members.next_back()) == (None, None);
+    drop(members);
+    come
 }
 
 #[test]
@@ -235,7 +275,9 @@ fn values_come_out_in_order(rt: HostRuntime) {
 #[test]
 fn a_list_shows_its_members(rt: HostRuntime) {
     let list = broken_after(&rt, 7);
-    match format!(in rt.alloc(); "{list:?}") {
+    let text = format!(in rt.alloc(); "{list:?}");
+    drop(list);
+    match text {
         Ok(text) => assert!(rt; text.as_str() == "[Some(7), None]"),
         Err(_refused) => panic!(rt; "no memory"),
     }

@@ -24,7 +24,7 @@ pub(super) enum Step {
 
 pub(crate) fn pushes_all(list: &mut Quiet<u64>, from: u64, to: u64) -> bool {
     for place in from..to {
-        if list.push(place) != Ok(place) {
+        if list.push(place).ok() != Some(place) {
             return false;
         }
     }

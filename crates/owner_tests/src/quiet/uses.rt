@@ -35,7 +35,9 @@ fn value_at(
         Ok(list) => list,
         Err((error, _)) => return Err(error),
     };
-    match member_with_room(&mut list, room, place) {
+    let member = member_with_room(&mut list, room, place);
+    drop(list);
+    match member {
         Ok(Some(Some(value))) => Ok(Some(value)),
         Ok(Some(None)) => unreachable!(),
         Ok(None) => Ok(None),
@@ -49,7 +51,10 @@ fn zeros(alloc: Global, n: u64) -> Result<Quiet<u64>, QuietError>
     ensures { IfOk result (λ list. list.members ≡ replicate n (Some 0)) }
 {
     let mut list = Quiet::new(alloc, n);
-    list.reserve(n)?;
+    if let Err(error) = list.reserve(n) {
+        drop(list);
+        return Err(error);
+    }
     for _turn in 0..n {
         let pushed = list.push(0);
         prove!(pushed.is_ok());
@@ -66,8 +71,13 @@ fn values_of(list: Quiet<u64>) -> Result<Vec<u64>, Quiet<u64>>
     list.compact();
     match list.into_vec() {
         Ok(values) => Ok(values),
-        Err((IntoVecError::NoMemory, back)) => Err(back),
-        Err((IntoVecError::Broken { .. }, _)) => unreachable!(),
+        Err((error, back)) => {
+            match error {
+                IntoVecError::NoMemory => {}
+                IntoVecError::Broken { .. } => unreachable!(),
+            }
+            Err(back)
+        }
     }
 }
 
@@ -85,15 +95,19 @@ fn a_value_is_given_back_at_its_place(rt: HostRuntime) {
 #[test]
 fn room_that_was_made_is_filled(rt: HostRuntime) {
     match zeros(rt.alloc(), 5) {
-        Ok(list) => assert!(rt; measures(&list, 5, 8)),
+        Ok(list) => {
+            let is_filled = measures(&list, 5, 8);
+            drop(list);
+            assert!(rt; is_filled);
+        }
         Err(_refused) => panic!(rt; "no memory"),
     }
 }
 
 #[test]
 fn the_values_of_a_list_with_a_broken_member_are_a_vector(rt: HostRuntime) {
-    match values_of(broken_after(&rt, 7)) {
-        Ok(values) => assert!(rt; values.as_slice() == [7].as_slice()),
-        Err(_refused) => panic!(rt; "no memory"),
+    match values_of(broken_after(&rt, 7)).ok() {
+        Some(values) => assert!(rt; values.as_slice() == [7].as_slice()),
+        None => panic!(rt; "no memory"),
     }
 }

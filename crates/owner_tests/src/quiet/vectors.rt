@@ -1,18 +1,28 @@
 // Lists as vectors of their values.
 use super::layouts::layout_of;
 use super::resized;
+use crate::results::succeeded;
 use quiet_core::{IntoVecError, Quiet, QuietError};
 use seg_core::Layout;
 use std::alloc::Global;
 
+// Appends `n` values, each twice its number, if there is memory and room.
+fn pushes_doubles(list: &mut Quiet<u64>, n: u64) -> bool {
+    if list.reserve(n).is_err() {
+        return false;
+    }
+    for place in 0..n {
+        if !succeeded(list.push(place.wrapping_mul(2))) {
+            return false;
+        }
+    }
+    true
+}
+
 // A list of `n` values, each twice its place.
 fn doubles(alloc: Global, layout: Layout, n: u64) -> Option<Quiet<u64>> {
     let mut list = Quiet::new_in(alloc, layout, 1 << 32);
-    list.reserve(n).ok()?;
-    for place in 0..n {
-        list.push(place.wrapping_mul(2)).ok()?;
-    }
-    Some(list)
+    pushes_doubles(&mut list, n).then_some(list)
 }
 
 // Tests whether these are `n` values, each twice its place.
@@ -55,13 +65,9 @@ fn a_million_members_become_a_vector(rt: HostRuntime) {
 // Tests whether the list comes back with this refusal, and mends the member there.
 fn comes_back(list: Quiet<u64>, place: u64) -> Option<Quiet<u64>> {
     let len = list.len();
-    match list.into_vec() {
-        Err((IntoVecError::Broken { place: first }, mut back)) => {
-            let is_told = first == place && back.len() == len;
-            (is_told && back.mend(place, place.wrapping_mul(2)).is_ok()).then_some(back)
-        }
-        _ => None,
-    }
+    let (error, mut back) = list.into_vec().err()?;
+    let is_told = error == IntoVecError::Broken { place } && back.len() == len;
+    (is_told && back.mend(place, place.wrapping_mul(2)).is_ok()).then_some(back)
 }
 
 // Makes 20 members of 17, the last two broken. Tests whether the list is a vector once both are mended.

@@ -19,18 +19,10 @@ fn pushed_while_open(list: Quiet<u64>, value: u64) -> Option<(Quiet<u64>, u64)>
     ensures limit { IfSome result (λ (new, _). new.limit ≡ list.limit) }
 {
     let (vector, mut hand) = list.open().ok()?;
-    match vector.try_push_back(&mut hand, value).ok() {
-        Some(placed) => {
-            let closed = Quiet::close(vector, hand);
-            let read = *closed.recall(&placed);
-            drop(placed);
-            Some((closed, read))
-        }
-        None => {
-            drop((vector, hand));
-            None
-        }
-    }
+    let placed = vector.try_push_back(&mut hand, value).ok()?;
+    let closed = Quiet::close(vector, hand);
+    let read = *closed.recall(&placed);
+    Some((closed, read))
 }
 
 // The list after ten lives; each appends a value and reads it.

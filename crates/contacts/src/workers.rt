@@ -43,7 +43,7 @@ impl<'a, R: Wait> Search<'a, R> {
         let mut found: u64 = 0;
         for second in 0..first {
             if let Some(contact) = touch(self.particles.as_slice(), first, second) {
-                drop(writer.push_back(self.rt, contact).map_err(reason)?);
+                writer.push_back(self.rt, contact).map_err(reason)?;
                 found = found.saturating_add(1);
             }
         }

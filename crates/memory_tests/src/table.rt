@@ -23,7 +23,10 @@ fn fill<T: Drop>(block: &Block<T>, offset: u64, value: T) -> bool {
             drop(pen.fill(value));
             true
         }
-        Err(_found) => false,
+        Err(found) => {
+            drop(found);
+            false
+        }
     }
 }
 

@@ -94,13 +94,16 @@ fn busy_place<T>(block: &Block<T>, offset: u64) -> Option<u64>
 fn seen(block: &Block<u64>, placed: &Placed<u64>) -> Option<(u64, u64)>
     requires { IsPlacedIn block.now placed.now × (2 < block_len block.now) }
 {
-    match block.look(2) {
+    let look = block.look(2);
+    let seen = match &look {
         Look::Filled(value, again) => {
-            block.agree(placed, &again);
-            Some((*value, again.offset()))
+            block.agree(placed, again);
+            Some((**value, again.offset()))
         }
         _ => None,
-    }
+    };
+    drop(look);
+    seen
 }
 
 // What a look and a second begin find at a filled cell.

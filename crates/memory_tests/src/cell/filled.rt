@@ -25,7 +25,8 @@ fn fill_cells(block: &Block<u64>, offset: u64, n: u64) -> bool
 fn filled_of(block: &Block<u64>, offset: u64, n: u64) -> Option<u64>
     requires { offset + n ≤ block_len block.now }
 {
-    let (values, _row) = block.filled(offset, n);
+    let (values, row) = block.filled(offset, n);
+    drop(row);
     let mut next = offset;
     for value in values {
         if *value != next {
@@ -54,7 +55,10 @@ fn is_mended(block: &Block<u64>, offset: u64) -> bool
             drop(pen.fill(offset));
             true
         }
-        Err(_found) => false,
+        Err(found) => {
+            drop(found);
+            false
+        }
     }
 }
 
@@ -187,7 +191,8 @@ fn lends_two<T: Copy + PartialEq>(alloc: Global, a: T, b: T) -> bool {
 fn shows_two<T: Copy + PartialEq>(block: &Block<T>, a: T, b: T) -> bool
     requires { 3 ≤ block_len block.now }
 {
-    let (values, _row) = block.filled(0, 3);
+    let (values, row) = block.filled(0, 3);
+    drop(row);
     values.len() == 2 && values[0] == a && values[1] == b
 }
 
@@ -204,10 +209,13 @@ fn last_value(block: &Block<u64>, n: u64) -> Option<u64>
 {
     let (count, row) = block.filled_row(0, n);
     if count == 0 {
+        drop(row);
         return None;
     }
     let placed = block.token_at(0, &row, count - 1);
-    Some(*block.value(&placed))
+    let value = *block.value(&placed);
+    drop((placed, row));
+    Some(value)
 }
 
 #[test]

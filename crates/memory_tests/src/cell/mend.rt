@@ -104,6 +104,15 @@ fn number_after(block: &Block<u64>, broken: &Member<u64>, ended: &EndedEpoch) ->
     number(block.mend_member(0, broken, ended))
 }
 
+// The value that the first cell is known to have.
+fn known_value(block: &Block<u64>, member: &Member<u64>) -> Option<u64>
+    requires { IsMemberAt block.now 0 member.now }
+{
+    let (value, placed) = block.known(0, member)?;
+    drop(placed);
+    Some(*value)
+}
+
 // The same once the epoch has ended.
 fn is_mended_after(block: &Block<u64>, broken: &Member<u64>, ended: &EndedEpoch) -> bool
     requires { IsMemberAt block.now 0 broken.now × (broken.now.epoch ≡ ended.now) }
@@ -112,7 +121,7 @@ fn is_mended_after(block: &Block<u64>, broken: &Member<u64>, ended: &EndedEpoch)
         && number_after(block, broken, ended) == 5
         && number_after(block, broken, &ended.again()) == 5
         && is_some(mend(block, 0, 8))
-        && matches!(block.known(0, broken), Some((8, _)))
+        && known_value(block, broken) == Some(8)
         && number_after(block, broken, ended) == 2
 }
 
@@ -152,13 +161,14 @@ fn is_settled_mended(block: &mut Block<u64>) -> bool
     let ended = epoch.end();
     let next = Epoch::new();
     match block.mend_member(0, &broken, &ended) {
-        Ok(pen) => {
-            pen.fill(9);
-        }
-        Err(_found) => {}
+        Ok(pen) => drop(pen.fill(9)),
+        Err(found) => drop(found),
     }
     let member = block.settle_known(0, &broken, &next);
-    matches!(block.known(0, &member), Some((9, _))) && block.take(0) == Some(9)
+    let value = known_value(block, &member);
+    drop(broken);
+    drop(member);
+    value == Some(9) && block.take(0) == Some(9)
 }
 
 #[test]

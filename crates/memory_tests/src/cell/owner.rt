@@ -2,7 +2,8 @@ ghost use Rattle.std.specs.Prelude.{◌≡◌, ◌≢◌, ◌<◌, ◌∷◌, []
 ghost use Rattle.cell_core.specs.Block.{block_len, IsMemberAt, KeepsOtherCells};
 
 use super::block::{Counted, count, fill, is_broken, is_empty, is_filled, made};
-use cell_core::block::{Block, EndedEpoch, Epoch, Look, Member, Row};
+use crate::cell::words::shown;
+use cell_core::block::{Block, EndedEpoch, Epoch, Member, Row};
 use std::sync::atomic::AtomicU64;
 
 // The value of a cell by what is known of it.
@@ -151,7 +152,7 @@ fn takes_any_value(block: &mut Block<u64>, epoch: &Epoch) -> bool
 fn has_one_value(block: &Block<u64>) -> bool
     requires { 2 < block_len block.now }
 {
-    matches!(block.look(1), Look::Filled(7, _)) && is_empty(block, 0) && is_empty(block, 2)
+    shown(block, 1) == 7 && is_empty(block, 0) && is_empty(block, 2)
 }
 
 #[test]

@@ -54,7 +54,10 @@ fn number_busy(block: &Block<u64>, offset: u64) -> u64
             drop(pen.fill(7));
             begun.wrapping_mul(10).wrapping_add(mended)
         }
-        Err(_found) => 0,
+        Err(found) => {
+            drop(found);
+            0
+        }
     }
 }
 

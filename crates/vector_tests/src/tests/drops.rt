@@ -2,7 +2,7 @@
 ghost use Rattle.std.specs.Prelude.{◌≡◌};
 ghost use Rattle.grow_core.specs.Vector.{IsHandOf};
 
-use super::callers::Callers;
+use super::callers::{Callers, succeeded};
 use grow_core::{GrowError, Hand, Shared};
 use seg_core::Layout;
 use std::alloc::{AllocGlobal, Global};
@@ -25,7 +25,7 @@ fn many_counted<'a>(alloc: Global, drops: &'a AtomicU64, n: u64) -> Option<Vec<C
 
 fn grow_two<'a>(two: &mut Callers<Counted<'a>>, drops: &'a AtomicU64, alloc: Global) -> bool {
     match many_counted(alloc, drops, 2) {
-        Some(others) => two.vector.try_grow_vec(&mut two.b, others).is_ok(),
+        Some(others) => succeeded(two.vector.try_grow_vec(&mut two.b, others)),
         None => false,
     }
 }
@@ -83,7 +83,9 @@ fn drop_refused<'a>(two: &mut Callers<Counted<'a>>, drops: &'a AtomicU64) -> (bo
 fn a_value_that_comes_back_is_not_dropped(rt: HostRuntime) {
     let drops = AtomicU64::new(0);
     let mut two = Callers::new(&rt, 1);
-    assert!(rt; drop_refused(&mut two, &drops) == (true, 0, 1));
+    let came = drop_refused(&mut two, &drops);
+    drop(two);
+    assert!(rt; came == (true, 0, 1));
 }
 
 // How many values come back of a growth without tokens by n values: none or all of them.
@@ -175,7 +177,8 @@ fn drops_of_a_cause<'a>(two: &mut Callers<Counted<'a>>, drops: &'a AtomicU64) ->
 fn a_cause_is_dropped_once_and_the_values_before_it_stay(rt: HostRuntime) {
     let drops = AtomicU64::new(0);
     let mut two = Callers::new(&rt, 4);
-    assert!(rt; drops_of_a_cause(&mut two, &drops) == (true, 0, 1));
+    let came = drops_of_a_cause(&mut two, &drops);
     drop(two);
+    assert!(rt; came == (true, 0, 1));
     assert!(rt; drops.load(Ordering::SeqCst) == 2);
 }

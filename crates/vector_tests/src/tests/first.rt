@@ -1,7 +1,7 @@
 // The first pushes of two threads on new vectors.
 ghost use Rattle.grow_core.specs.Vector.{IsHandOf};
 
-use super::callers::empty;
+use super::callers::{empty, succeeded};
 use super::steps::Reply::Is;
 use super::steps::read;
 use grow_core::{Hand, Shared};
@@ -51,10 +51,7 @@ fn meet(mine: &AtomicU64, other: &AtomicU64, turn: u64) {
 }
 
 fn try_push(seat: &mut Seat, value: u64) -> bool {
-    let pushed = seat.vector.try_push_back(&mut seat.hand, value);
-    let is_pushed = pushed.is_ok();
-    drop(pushed);
-    is_pushed
+    succeeded(seat.vector.try_push_back(&mut seat.hand, value))
 }
 
 // Pushes, and again if the other thread was first.
@@ -85,8 +82,8 @@ fn push_each<R: Abort>(
 fn add_seats<R: AllocGlobal>(rt: &R, a: &mut Vec<Seat>, b: &mut Vec<Seat>) -> bool {
     match seats(rt) {
         Some((first, second)) => {
-            let is_added = a.push(first).is_ok();
-            b.push(second).is_ok() && is_added
+            let is_added = succeeded(a.push(first));
+            succeeded(b.push(second)) && is_added
         }
         None => false,
     }
@@ -98,6 +95,7 @@ fn all_seats<R: AllocGlobal>(rt: &R) -> Option<(Vec<Seat>, Vec<Seat>)> {
     let mut b = Vec::with_capacity(rt.alloc(), VECTORS as usize).ok()?;
     for _vector in 0..VECTORS {
         if !add_seats(rt, &mut a, &mut b) {
+            drop((a, b));
             return None;
         }
     }
@@ -107,11 +105,12 @@ fn all_seats<R: AllocGlobal>(rt: &R) -> Option<(Vec<Seat>, Vec<Seat>)> {
 // The seats of one thread, once both have pushed on each vector.
 fn push_by_both<R: Threads + Abort + Sync>(rt: &R, a: Vec<Seat>, b: Vec<Seat>) -> Vec<Seat> {
     let (first, second) = (AtomicU64::new(0), AtomicU64::new(0));
-    let (a, _b) = join(
+    let (a, b) = join(
         rt,
         || push_each(rt, a, 5, &first, &second),
         || push_each(rt, b, 6, &second, &first),
     );
+    drop(b);
     a
 }
 
@@ -132,7 +131,9 @@ fn two_first_pushes_share_one_segment(rt: HostRuntime) {
     match all_seats(&rt) {
         Some((a, b)) => {
             let mut seats = push_by_both(&rt, a, b);
-            assert!(rt; have_both(&mut seats));
+            let is_so = have_both(&mut seats);
+            drop(seats);
+            assert!(rt; is_so);
         }
         None => panic!(rt; "no memory"),
     }

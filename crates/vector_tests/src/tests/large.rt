@@ -1,5 +1,5 @@
 // Growths, limits and values that are large.
-use super::callers::Callers;
+use super::callers::{Callers, on_two, succeeded};
 use super::edits::Found::Sizes;
 use super::edits::{Edit, Found, ends_as};
 use super::steps::Call::{Grow, Read, TryGrow, TryPush};
@@ -31,16 +31,23 @@ fn appends_numbers(two: &mut Callers<u64>, alloc: Global, from: u64, first: u64,
 #[test]
 fn two_growths_are_appended_over_twelve_segments(rt: HostRuntime) {
     let mut two = Callers::new(&rt, 1 << 40);
-    assert!(rt; appends_numbers(&mut two, rt.alloc(), 0, 7, 1_000));
-    assert!(rt; appends_numbers(&mut two, rt.alloc(), 1_000, 5_000, 1_100));
-    assert!(rt; ends_as(two.close(), &[(Edit::Sizes, Sizes(2_100, 1 << 40, 4_096))]));
+    let first = appends_numbers(&mut two, rt.alloc(), 0, 7, 1_000);
+    let second = appends_numbers(&mut two, rt.alloc(), 1_000, 5_000, 1_100);
+    let sizes = [(Edit::Sizes, Sizes(2_100, 1 << 40, 4_096))];
+    let ends = ends_as(two.close(), &sizes);
+    assert!(rt; first);
+    assert!(rt; second);
+    assert!(rt; ends);
 }
 
 #[test]
 fn a_thousand_values_are_appended_over_ten_segments(rt: HostRuntime) {
     let mut two = Callers::new(&rt, 1 << 40);
-    assert!(rt; appends_numbers(&mut two, rt.alloc(), 0, 7, 1_000));
-    assert!(rt; ends_as(two.close(), &[(Edit::Sizes, Sizes(1_000, 1 << 40, 1_024))]));
+    let is_appended = appends_numbers(&mut two, rt.alloc(), 0, 7, 1_000);
+    let sizes = [(Edit::Sizes, Sizes(1_000, 1 << 40, 1_024))];
+    let ends = ends_as(two.close(), &sizes);
+    assert!(rt; is_appended);
+    assert!(rt; ends);
 }
 
 // Tests whether a vector has this limit, and is pushed to.
@@ -110,8 +117,7 @@ fn keeps_large(two: &mut Callers<[u64; 32]>) -> bool {
 
 #[test]
 fn values_may_be_large(rt: HostRuntime) {
-    let mut two = Callers::new(&rt, 100);
-    assert!(rt; keeps_large(&mut two));
+    assert!(rt; on_two(&rt, 100, keeps_large));
 }
 
 // Pushes by either caller, and the length, the limit and the capacity of the list that is closed after them.
@@ -166,16 +172,27 @@ static GROWTHS: [Way; 6] = [
     Way::By,
 ];
 
-// The values of each are the numbers from 5 on, or clones of 5.
-#[test]
-fn each_growth_may_have_many_tokens(rt: HostRuntime) {
-    let mut two = Callers::new(&rt, 1 << 36);
+// The first growth that does not append its run. The values of each are the numbers from 5 on, or clones of 5.
+fn wrong_growth<R: AllocGlobal + Wait>(rt: &R, two: &mut Callers<u64>) -> Option<&'static Way> {
     let mut from = 0u64;
     for growth in GROWTHS.as_slice() {
         let run = Run { from, n: TOKENS };
-        let (outcome, _asked) = append(&rt, &mut two, growth, run, 5);
-        assert!(rt; outcome == Ok(run), "{growth:?}");
+        let (outcome, _asked) = append(rt, two, growth, run, 5);
+        if outcome != Ok(run) {
+            return Some(growth);
+        }
         from = from.wrapping_add(TOKENS);
+    }
+    None
+}
+
+#[test]
+fn each_growth_may_have_many_tokens(rt: HostRuntime) {
+    let mut two = Callers::new(&rt, 1 << 36);
+    let wrong = wrong_growth(&rt, &mut two);
+    drop(two);
+    if let Some(growth) = wrong {
+        panic!(rt; "{growth:?}");
     }
 }
 
@@ -247,6 +264,14 @@ fn reads_last_byte(two: &mut Callers<u8>) -> bool {
     is_read
 }
 
+// Tests whether a look shows that a place is broken.
+fn is_broken(vector: &Shared<u8>, place: u64) -> bool {
+    let shown = vector.look(place);
+    let is_broken = matches!(&shown, Shown::Broken(_));
+    drop(shown);
+    is_broken
+}
+
 // Tests whether a construction of BYTES places is refused at its second, and the others show that they are
 // broken.
 fn breaks_many(two: &mut Callers<u8>) -> bool {
@@ -258,7 +283,7 @@ fn breaks_many(two: &mut Callers<u8>) -> bool {
     };
     drop(grown);
     for place in BYTES + 1..2 * BYTES {
-        if !matches!(two.vector.look(place), Shown::Broken(_)) {
+        if !is_broken(&two.vector, place) {
             return false;
         }
     }
@@ -268,7 +293,7 @@ fn breaks_many(two: &mut Callers<u8>) -> bool {
 // Tests whether 2^17 of them are mended, the last of them first.
 fn mends_many(two: &mut Callers<u8>) -> bool {
     for place in (2 * BYTES - TOKENS..2 * BYTES).rev() {
-        if two.vector.mend(&mut two.b, place, byte_of(place)).is_err() {
+        if !succeeded(two.vector.mend(&mut two.b, place, byte_of(place))) {
             return false;
         }
     }
@@ -308,7 +333,11 @@ fn lives_with_bytes<R: AllocGlobal + Wait>(rt: &R, mut two: Callers<u8>) -> bool
         && breaks_many(&mut two)
         && mends_many(&mut two);
     match two.close() {
-        Some(parts) => is_shown && has_bytes(&parts),
+        Some(parts) => {
+            let has_them = has_bytes(&parts);
+            drop(parts);
+            is_shown && has_them
+        }
         None => false,
     }
 }

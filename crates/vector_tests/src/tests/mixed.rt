@@ -241,7 +241,9 @@ fn tally_of(parts: Option<Parts<u64>>) -> Option<Tally> {
 fn eight_threads_grow_in_every_form(rt: HostRuntime) -> Result<(), Fail> {
     let (vector, hand) = empty(rt.alloc(), 1 << 20)?;
     let (mut hand, tally) = call_by_eight(&rt, &vector, hand);
-    assert!(rt; vector.size(&mut hand) == tally.places);
-    assert!(rt; tally_of(Life { vector, hand }.close()) == Some(tally));
+    let size = vector.size(&mut hand);
+    let listed = tally_of(Life { vector, hand }.close());
+    assert!(rt; size == tally.places);
+    assert!(rt; listed == Some(tally));
     Ok(())
 }

@@ -147,12 +147,12 @@ fn gives_a_million_back(parts: &mut Parts<u64>) -> bool {
 #[test]
 fn a_million_members_come_and_go(rt: HostRuntime) {
     let mut parts = Parts::new(rt.alloc(), 4_294_967_296);
-    assert!(rt;
-        room(&mut parts, MILLION) == Ok(true)
-            && appends_a_million(&mut parts)
-            && has_a_million(&parts)
-            && gives_a_million_back(&mut parts)
-    );
+    let is_so = room(&mut parts, MILLION) == Ok(true)
+        && appends_a_million(&mut parts)
+        && has_a_million(&parts)
+        && gives_a_million_back(&mut parts);
+    drop(parts);
+    assert!(rt; is_so);
 }
 
 // Tests whether five members are appended. Each counts its drop.
@@ -182,12 +182,11 @@ fn drops_one<'a>(parts: &mut Parts<Counted<'a>>, drops: &'a AtomicU64) -> bool {
 fn each_member_is_dropped_once(rt: HostRuntime) {
     let drops = AtomicU64::new(0);
     let mut parts = Parts::new(rt.alloc(), 64);
-    assert!(rt;
-        room(&mut parts, 64) == Ok(true)
-            && appends_five(&mut parts, &drops)
-            && drops_one(&mut parts, &drops)
-    );
+    let is_so = room(&mut parts, 64) == Ok(true)
+        && appends_five(&mut parts, &drops)
+        && drops_one(&mut parts, &drops);
     drop(parts);
+    assert!(rt; is_so);
     assert!(rt; drops.load(Ordering::SeqCst) == 5);
 }
 

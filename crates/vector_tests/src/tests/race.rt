@@ -146,9 +146,11 @@ fn keeps_all(vector: &Shared<u64>, hand: &mut Hand<u64>) -> bool
 fn four_threads_lose_nothing_and_keep_their_orders(rt: HostRuntime) -> Result<(), Fail> {
     let (vector, hand) = empty(rt.alloc(), 4 * EACH)?;
     let mut hand = push_by_four(&rt, &vector, hand);
-    assert!(rt; keeps_all(&vector, &mut hand));
+    let keeps = keeps_all(&vector, &mut hand);
     let sizes = [(Edit::Sizes, Sizes(4 * EACH, 4 * EACH, 131_072))];
-    assert!(rt; ends_as(Life { vector, hand }.close(), &sizes));
+    let ends = ends_as(Life { vector, hand }.close(), &sizes);
+    assert!(rt; keeps);
+    assert!(rt; ends);
     Ok(())
 }
 
@@ -186,7 +188,9 @@ fn two_threads_append_runs_that_stay_whole(rt: HostRuntime) {
     let alloc = rt.alloc();
     let works = [Work::Grow { alloc, n: RUNS }, Work::Grow { alloc, n: RUNS }];
     let mut hand = work_by_two(&rt, &vector, a, b, &works);
-    assert!(rt; count_runs(&vector, &mut hand) == 2 * RUNS);
+    let runs = count_runs(&vector, &mut hand);
     let sizes = [(Edit::Sizes, Sizes(6 * RUNS, 6 * RUNS, 65_536))];
-    assert!(rt; ends_as(Life { vector, hand }.close(), &sizes));
+    let ends = ends_as(Life { vector, hand }.close(), &sizes);
+    assert!(rt; runs == 2 * RUNS);
+    assert!(rt; ends);
 }

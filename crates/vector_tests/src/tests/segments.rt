@@ -1,5 +1,5 @@
 // What a shared vector shows segment by segment, and what a walk shows of places that are filled meanwhile.
-use super::callers::{Callers, on_two};
+use super::callers::{Callers, on_two, succeeded};
 use super::parts::{append, room};
 use super::ways::numbers;
 use grow_core::{Parts, Run, Shared, ShownCells};
@@ -59,11 +59,11 @@ fn makes_few(two: &mut Callers<u64>, n: u64, made: u64) -> bool {
             Err(i)
         }
     };
-    two.vector.try_grow_with(&mut two.a, n, make).is_err()
+    !succeeded(two.vector.try_grow_with(&mut two.a, n, make))
 }
 
 fn mends(two: &mut Callers<u64>, place: u64, value: u64) -> bool {
-    two.vector.mend(&mut two.b, place, value).is_ok()
+    succeeded(two.vector.mend(&mut two.b, place, value))
 }
 
 static HUNDRED: [Seen; 7] = [
@@ -215,8 +215,10 @@ fn shows_twenty(vector: &Shared<u64>) -> bool {
 }
 
 fn twenty_are_shown(alloc: Global) -> Option<bool> {
-    let (vector, _hand) = Shared::of_parts(twenty(alloc)?).ok()?;
-    Some(shows_twenty(&vector))
+    let (vector, hand) = Shared::of_parts(twenty(alloc)?).ok()?;
+    let are_shown = shows_twenty(&vector);
+    drop((vector, hand));
+    Some(are_shown)
 }
 
 #[test]
@@ -228,7 +230,7 @@ fn the_values_of_an_opened_list_are_shown_by_segments(rt: HostRuntime) {
 fn walk(two: &mut Callers<u64>) -> [Option<Option<u64>>; 4] {
     let mut walk = two.vector.published();
     let first = walk.next().map(|item| item.copied());
-    let is_mended = two.vector.mend(&mut two.b, 1, 7).is_ok();
+    let is_mended = succeeded(two.vector.mend(&mut two.b, 1, 7));
     [
         first,
         walk.next().map(|item| item.copied()),
@@ -261,7 +263,8 @@ fn counts<R: AllocGlobal + Wait>(rt: &R, two: &mut Callers<u64>) -> Option<[u64;
     let is_mended = mends(two, 170, 7) && two.vector.claimed() == 200;
     let mended = two.vector.published_count();
     let values = numbers(rt.alloc(), 0, 100)?;
-    let is_full = two.vector.append(rt, &mut two.a, values).is_ok() && two.vector.claimed() == 300;
+    let is_full = succeeded(two.vector.append(rt, &mut two.a, values))
+        && two.vector.claimed() == 300;
     (is_made && is_mended && is_full).then_some([none, made, mended, two.vector.published_count()])
 }
 

@@ -85,7 +85,8 @@ fn push_here_read_there<R: Threads + Sync>(
     requires ours { IsHandOf vector.now hand }
     ensures { IfSome result (λ read. read ≡ value) }
 {
-    let (_, placed) = push_one(vector, hand, value);
+    let (hand, placed) = push_one(vector, hand, value);
+    drop(hand);
     let placed = placed?;
     let (read, ()) = join(
         rt,
@@ -95,6 +96,7 @@ fn push_here_read_there<R: Threads + Sync>(
         { *vector.get(&placed) },
         || (),
     );
+    drop(placed);
     Some(read)
 }
 
@@ -116,6 +118,19 @@ fn close_both(vector: Shared<u64>, mut a: Hand<u64>, b: Hand<u64>) -> u64
     len
 }
 
+// The same if they have all shares.
+fn close_whole(vector: Shared<u64>, a: Hand<u64>, b: Hand<u64>) -> Option<u64>
+    requires ours { IsHandOf vector a }
+    requires also_ours { IsHandOf vector b }
+{
+    if u64::from(a.share()) + u64::from(b.share()) == 65_536 {
+        Some(close_both(vector, a, b))
+    } else {
+        drop((vector, a, b));
+        None
+    }
+}
+
 // A value of the opened list is what anybody reads at its place, with a token of the place or without.
 fn read_opened(
     vector: &Shared<u64>,
@@ -129,7 +144,10 @@ fn read_opened(
 {
     match vector.at(hand, place, known) {
         Ok(at) => Some(*at.value),
-        Err(_refused) => None,
+        Err(refused) => {
+            drop(refused);
+            None
+        }
     }
 }
 
@@ -158,9 +176,14 @@ fn push_and_recall(vector: Shared<u64>, mut hand: Hand<u64>, value: u64) -> Opti
     requires whole { IsWholeHand hand }
     ensures { IfSome result (λ read. read ≡ value) }
 {
-    let placed = vector.try_push_back(&mut hand, value).ok()?;
+    let placed = vector.try_push_back(&mut hand, value).ok();
     let parts = vector.into_parts(hand);
-    Some(*parts.recall(&placed))
+    let read = match &placed {
+        Some(placed) => Some(*parts.recall(placed)),
+        None => None,
+    };
+    drop((placed, parts));
+    read
 }
 
 // The value of a push is the closed list's member at its place, and each opened value is still at its own.
@@ -176,7 +199,9 @@ fn push_and_close(vector: Shared<u64>, hand: Hand<u64>, value: u64) -> Option<(P
     match placed {
         Some(placed) => {
             let _value = parts.recall(&placed);
-            Some((parts, placed.place()))
+            let place = placed.place();
+            drop(placed);
+            Some((parts, place))
         }
         None => {
             drop(parts);
@@ -256,16 +281,22 @@ fn hands_that_were_joined_close_the_vector(rt: HostRuntime) {
     let _first = two.push_a(5);
     let _second = two.push_b(6);
     let Callers { vector, a, b, .. } = two;
-    assert!(rt; u64::from(a.share()) + u64::from(b.share()) == 65_536);
-    assert_eq!(rt; close_both(vector, a, b), 2);
+    assert_eq!(rt; close_whole(vector, a, b), Some(2));
 }
 
 // The first member of a list that was opened and closed twice.
 fn read_after_two_lives(alloc: Global) -> Option<Option<u64>> {
     let parts = live_once(Parts::new(alloc, 8), 5)?;
     match live_once(parts, 6) {
-        Some(parts) if parts.len() == 2 => open_and_read(parts, 0),
-        _ => None,
+        Some(parts) => {
+            if parts.len() == 2 {
+                open_and_read(parts, 0)
+            } else {
+                drop(parts);
+                None
+            }
+        }
+        None => None,
     }
 }
 

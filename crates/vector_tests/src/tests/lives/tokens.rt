@@ -14,7 +14,10 @@ fn token_of_old(vector: &Shared<u64>, hand: &mut Hand<u64>) -> Option<Placed<u64
 {
     match vector.at(hand, 2, None) {
         Ok(at) => Some(at.placed),
-        Err(_due) => None,
+        Err(due) => {
+            drop(due);
+            None
+        }
     }
 }
 
@@ -24,12 +27,20 @@ fn tokens_of_both(vector: &Shared<u64>, hand: &mut Hand<u64>) -> Option<(Placed<
     ensures of { hand.new.of ≡ hand.old.of }
     ensures tokens { IfSome result (λ (x, y). IsPlacedOf vector.now x × IsPlacedOf vector.now y) }
 {
-    match (
-        token_of_old(vector, hand),
-        vector.try_push_back(hand, 40).ok(),
-    ) {
-        (Some(old), Some(new)) => Some((old, new)),
-        _ => None,
+    let old = token_of_old(vector, hand);
+    let new = vector.try_push_back(hand, 40).ok();
+    match old {
+        Some(old) => match new {
+            Some(new) => Some((old, new)),
+            None => {
+                drop(old);
+                None
+            }
+        },
+        None => {
+            drop(new);
+            None
+        }
     }
 }
 

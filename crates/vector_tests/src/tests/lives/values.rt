@@ -131,6 +131,8 @@ fn lives_with_texts(parts: Parts<String>) -> Option<bool> {
 #[test]
 fn a_million_owning_values_come_back(rt: HostRuntime) {
     let mut parts = Parts::new(rt.alloc(), MANY);
-    assert!(rt; room(&mut parts, MANY) == Ok(true) && append_texts(&mut parts, rt.alloc()));
-    assert!(rt; lives_with_texts(parts) == Some(true));
+    let is_made = room(&mut parts, MANY) == Ok(true) && append_texts(&mut parts, rt.alloc());
+    let lives = lives_with_texts(parts);
+    assert!(rt; is_made);
+    assert!(rt; lives == Some(true));
 }

@@ -81,13 +81,15 @@ fn print_walk_on<R: Threads + Wait + Clock + Print + AllocGlobal + Sync>(
         begun: AtomicU64::new(0),
         is_over: AtomicBool::new(false),
     };
-    let (took, _wins) = time_hands(
+    let timed = time_hands(
         rt,
         hands,
         &|hand: Hand<u64>| -> u64
             requires { IsSync R.row × IsHandOf vector.now hand }
         { walk_or_push(rt, vector, hand, &walk) },
-    )?;
+    );
+    drop(walk);
+    let (took, _wins) = timed?;
     print_nanoseconds(rt, took)
 }
 

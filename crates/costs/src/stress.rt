@@ -47,11 +47,15 @@ fn jobs_for(
     let mut jobs = Vec::new(alloc);
     for thread in 0..THREADS {
         if hand.share() > SHARES {
-            jobs.push(Job {
+            let pushed = jobs.push(Job {
                 vector: number,
                 thread,
                 hand: vector.split(hand, SHARES),
-            })?;
+            });
+            if let Err(error) = pushed {
+                drop(jobs);
+                return Err(error.into());
+            }
         }
     }
     Ok(jobs)

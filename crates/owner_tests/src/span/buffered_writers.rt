@@ -3,6 +3,7 @@ ghost use Rattle.std.specs.Prelude.{◌≡◌, ◌<◌, [], IsTrue, IfSome};
 ghost use Rattle.grow_core.specs.Vector.{IsHandOf};
 
 use super::writers::shows_below;
+use crate::results::succeeded;
 use grow_core::{GrowError, Hand, Never, Shared};
 use quiet_core::Quiet;
 use span_core::{BufferedWriter, Writer};
@@ -25,12 +26,9 @@ fn push_below<R: Wait>(
     n: u64,
 ) -> Result<(), &'static str> {
     for number in 0..n {
-        writer
-            .push(rt, number)
-            .map_err(|(refused, _back)| reason(&refused))?;
+        push_one(rt, writer, number)?;
     }
-    writer.flush(rt).map_err(|refused| reason(&refused))?;
-    Ok(())
+    flush_all(rt, writer)
 }
 
 // Pushes a value, or says why it is refused.
@@ -70,7 +68,9 @@ fn gives_back<R: Wait>(rt: &R, writer: &mut BufferedWriter<'_, u64>, bound: u64)
             return false;
         }
     }
-    let is_back = matches!(writer.push(rt, 7), Err((GrowError::Full { .. }, 7)));
+    let pushed = writer.push(rt, 7);
+    let is_back = matches!(&pushed, Err((GrowError::Full { .. }, 7)));
+    drop(pushed);
     is_told && is_back && writer.buffered().iter().copied().eq(0..bound)
 }
 
@@ -89,8 +89,10 @@ fn fills_vector<R: Wait>(
     let mut writer = BufferedWriter::new(alloc, Writer::new(vector, hand), bound);
     let is_filled = push_below(rt, &mut writer, n) == Ok(()) && shows_below(vector, n);
     let is_back = gives_back(rt, &mut writer, bound as u64);
-    let (_writer, left) = writer.into_parts();
-    is_filled && is_back && left.len() == bound && shows_below(vector, n)
+    let parts = writer.into_parts();
+    let left = parts.1.len();
+    drop(parts);
+    is_filled && is_back && left == bound && shows_below(vector, n)
 }
 
 // The same of a new vector with a limit of n.
@@ -99,7 +101,9 @@ fn fills<R: Wait>(rt: &R, alloc: Global, bound: usize, n: u64) -> Option<bool> {
         return None;
     }
     let (vector, hand) = Quiet::new(alloc, n).open().ok()?;
-    Some(fills_vector(rt, alloc, &vector, hand, bound, n))
+    let is_filled = fills_vector(rt, alloc, &vector, hand, bound, n);
+    drop(vector);
+    Some(is_filled)
 }
 
 // The bounds of buffers, and how many numbers fill the vector: whole runs, and runs with a shorter one at the end.
@@ -120,7 +124,7 @@ fn is_flushed<R: Wait>(rt: &R, writer: &mut BufferedWriter<'_, u64>) -> bool
     ensures flushed { IsTrue result → writer.new.buffered ≡ [] }
     ensures vector { writer.new.writer.vector ≡ writer.old.writer.vector }
 {
-    writer.push(rt, 5).is_ok() && writer.flush(rt).is_ok()
+    succeeded(writer.push(rt, 5)) && succeeded(writer.flush(rt))
 }
 
 // The hand of a writer that was flushed.
@@ -135,6 +139,7 @@ fn hand_after_flush<R: Wait>(
 {
     let mut writer = BufferedWriter::new(alloc, Writer::new(vector, hand), 2);
     if !is_flushed(rt, &mut writer) {
+        drop(writer);
         return None;
     }
     Some(writer.into_writer().into_hand())
@@ -143,8 +148,18 @@ fn hand_after_flush<R: Wait>(
 // The length of the list that a vector is closed into after a push and a flush.
 fn len_of_closed<R: Wait>(rt: &R, alloc: Global) -> Option<u64> {
     let (vector, hand) = Quiet::new(alloc, 8).open().ok()?;
-    let hand = hand_after_flush(rt, alloc, &vector, hand)?;
-    Some(Quiet::try_close(vector, hand).ok()?.len())
+    match hand_after_flush(rt, alloc, &vector, hand) {
+        Some(hand) => {
+            let list = Quiet::try_close(vector, hand).ok()?;
+            let len = list.len();
+            drop(list);
+            Some(len)
+        }
+        None => {
+            drop(vector);
+            None
+        }
+    }
 }
 
 #[test]

@@ -5,6 +5,7 @@ ghost use Rattle.grow_core.specs.Vector.{IsHandOf};
 ghost use Rattle.span_core.specs.Hands.{KeepsShares};
 
 use super::watch::Watch;
+use crate::results::succeeded;
 use grow_core::{Hand, Shared};
 use quiet_core::Quiet;
 use span_core::{Free, Gate, PairGate, Refusal, split_even, with_hands};
@@ -63,7 +64,7 @@ fn append_all<R: Wait>(
     ensures { KeepsShares hand.old hand.new }
 {
     for count in 0..task.begin(worker) {
-        if vector.push_back(rt, hand, count).is_err() {
+        if !succeeded(vector.push_back(rt, hand, count)) {
             return Err(GROWTH);
         }
     }
@@ -125,7 +126,10 @@ pub(super) fn append_to_new<R: Threads + Wait + Sync, G: Gate + Sync>(
     }
     let (vector, mut hand) = Quiet::new(alloc, limit).open().ok()?;
     let told = append_by(rt, alloc, &vector, &mut hand, workers, task, gate);
-    Some((told, Quiet::close(vector, hand).len()))
+    let list = Quiet::close(vector, hand);
+    let len = list.len();
+    drop(list);
+    Some((told, len))
 }
 
 // The one of eight workers that stops after five of ten values, whether all return in order, and the length of
@@ -160,6 +164,14 @@ fn the_vector_closes_if_growths_or_workers_are_refused(rt: HostRuntime) {
     assert!(rt; stuck == Some((Err(Refusal::Stuck), 60)));
 }
 
+// The shares of the last hand, if there is one.
+fn share_of_last(hands: &[Hand<u64>]) -> u32 {
+    match hands.last() {
+        Some(last) => last.share(),
+        None => 0,
+    }
+}
+
 // Splits a hand with `shares` off, and `n` hands off that.
 fn split_evenly(
     alloc: Global,
@@ -173,12 +185,14 @@ fn split_evenly(
     requires enough { n < shares }
 {
     let mut hand = vector.split(rest, shares);
-    let hands = split_even(alloc, vector, &mut hand, n).ok()?;
-    let each = match hands.last() {
-        Some(last) => last.share(),
-        None => 0,
+    let hands = split_even(alloc, vector, &mut hand, n).ok();
+    let each = match &hands {
+        Some(hands) => Some(share_of_last(hands.as_slice())),
+        None => None,
     };
-    Some((each, hand.share()))
+    let left = hand.share();
+    drop((hands, hand));
+    Some((each?, left))
 }
 
 // The shares of each of `n` hands, and of what is left of one that had `shares`, if the parts are even.
@@ -187,7 +201,9 @@ fn even_shares(alloc: Global, shares: u32, n: u32) -> Option<(u32, u32)> {
         return None;
     }
     let (vector, mut rest) = Quiet::<u64>::new(alloc, 8).open().ok()?;
-    split_evenly(alloc, &vector, &mut rest, shares, n)
+    let told = split_evenly(alloc, &vector, &mut rest, shares, n);
+    drop((vector, rest));
+    told
 }
 
 // Shares, how many hands are split off, the shares of each, and those that are left.

@@ -51,10 +51,13 @@ type Written<A> = (Result<Vec<A>, Refusal<u32>>, Result<u64, u32>);
 pub(super) fn len_or_shares(vector: Shared<u64>, hand: Hand<u64>) -> Result<u64, u32>
     requires { IsHandOf vector hand }
 {
-    match Quiet::try_close(vector, hand) {
+    let closed = Quiet::try_close(vector, hand);
+    let told = match &closed {
         Ok(list) => Ok(list.len()),
         Err((_vector, hand)) => Err(hand.share()),
-    }
+    };
+    drop(closed);
+    told
 }
 
 // Lets workers write to a new vector.

@@ -3,6 +3,7 @@ ghost use Rattle.std.specs.Prelude.{◌≡◌};
 
 use super::writers::shows_below;
 use crate::quiet::layout_of;
+use crate::results::succeeded;
 use grow_core::{GrowError, Never, Run, Shown};
 use quiet_core::Quiet;
 use seg_core::Layout;
@@ -13,8 +14,13 @@ use std::sync::{Arc, Wait};
 // A writer of a new vector with a limit of 100.
 fn writer_in(alloc: Global, layout: Layout) -> Option<SharedWriter<u64>> {
     let (vector, hand) = Quiet::new_in(alloc, layout, 100).open().ok()?;
-    let vector = Arc::new(alloc, vector).ok()?;
-    Some(SharedWriter::new(vector, hand))
+    match Arc::new(alloc, vector).ok() {
+        Some(vector) => Some(SharedWriter::new(vector, hand)),
+        None => {
+            drop(hand);
+            None
+        }
+    }
 }
 
 // Tests whether a list has two values, and the limit and the layout of its vector.
@@ -30,7 +36,7 @@ fn is_list_of_two(list: &Quiet<u64>, layout: Layout) -> bool {
 fn appends<R: Wait>(rt: &R, writer: &mut SharedWriter<u64>, value: u64) -> bool
     ensures { writer.new.vector ≡ writer.old.vector }
 {
-    writer.push_back(rt, value).is_ok()
+    succeeded(writer.push_back(rt, value))
 }
 
 // Two writers append a value each, and neither closes the vector. Tests whether they do once they are joined.
@@ -46,7 +52,9 @@ fn closes_with_all_shares<R: Wait>(rt: &R, alloc: Global, layout: Layout) -> Opt
     let second = second.try_close().err()?;
     first.join(second);
     let list = first.try_close().ok()?;
-    Some(five && seven && is_list_of_two(&list, layout))
+    let is_closed = five && seven && is_list_of_two(&list, layout);
+    drop(list);
+    Some(is_closed)
 }
 
 // A writer has all shares, and its vector another owner. Tests whether it closes the vector once that is gone.
@@ -58,7 +66,9 @@ fn closes_as_the_last_owner<R: Wait>(rt: &R, alloc: Global, layout: Layout) -> O
     let writer = SharedWriter::new(vector, hand).try_close().err()?;
     drop(other);
     let list = writer.try_close().ok()?;
-    Some(is_pushed && is_list_of_two(&list, layout))
+    let is_closed = is_pushed && is_list_of_two(&list, layout);
+    drop(list);
+    Some(is_closed)
 }
 
 #[test]
@@ -81,33 +91,41 @@ fn appends_eight<R: Wait>(
     next: Vec<u64>,
 ) -> bool {
     let make = |i: u64| -> Result<u64, Never> { Ok(i.wrapping_add(7)) };
-    writer.try_push_back(0).is_ok()
-        && writer.grow_vec(rt, three).is_ok()
+    succeeded(writer.try_push_back(0))
+        && succeeded(writer.grow_vec(rt, three))
         && writer.append(rt, next).ok() == Some(Run { from: 4, n: 3 })
-        && writer.grow_with(rt, 1, make).is_ok()
+        && succeeded(writer.grow_with(rt, 1, make))
         && writer.size() == 8
 }
 
 // Tests whether a place has its own number, read by its token.
 fn reads(writer: &SharedWriter<u64>, place: u64) -> bool {
-    match writer.look(place) {
+    let shown = writer.look(place);
+    let is_shown = match &shown {
         Shown::Filled(at) => *writer.get(&at.placed) == place,
         _ => false,
-    }
+    };
+    drop(shown);
+    is_shown
 }
 
 // A writer of a new vector with a limit of eight.
 fn writer_of_eight(alloc: Global) -> Option<SharedWriter<u64>> {
     let (vector, hand) = Quiet::new(alloc, 8).open().ok()?;
-    Some(SharedWriter::new(Arc::new(alloc, vector).ok()?, hand))
+    match Arc::new(alloc, vector).ok() {
+        Some(vector) => Some(SharedWriter::new(vector, hand)),
+        None => {
+            drop(hand);
+            None
+        }
+    }
 }
 
 // Tests whether a full vector shows eight numbers, and gives a ninth one back.
 fn has_eight<R: Wait>(rt: &R, writer: &mut SharedWriter<u64>) -> bool {
-    let is_full = matches!(
-        writer.push_back(rt, 9),
-        Err(GrowError::Full { size: 8, back: 9 })
-    );
+    let pushed = writer.push_back(rt, 9);
+    let is_full = matches!(&pushed, Err(GrowError::Full { size: 8, back: 9 }));
+    drop(pushed);
     is_full && reads(writer, 3) && shows_below(writer.vector(), 8)
 }
 
@@ -116,8 +134,9 @@ fn takes_eight<R: Wait>(rt: &R, alloc: Global) -> Option<bool> {
     let three = Vec::from_slice(alloc, &[1, 2, 3]).ok()?;
     let next = Vec::from_slice(alloc, &[4, 5, 6]).ok()?;
     let mut writer = writer_of_eight(alloc)?;
-    let is_filled = appends_eight(rt, &mut writer, three, next);
-    Some(is_filled && has_eight(rt, &mut writer))
+    let is_filled = appends_eight(rt, &mut writer, three, next) && has_eight(rt, &mut writer);
+    drop(writer);
+    Some(is_filled)
 }
 
 #[test]

@@ -90,13 +90,16 @@ fn numbers(alloc: Global, first: u64, n: u64) -> Result<Vec<u64>, AllocError> {
 }
 
 fn push_all<R: Wait>(rt: &R, writer: &mut Writer<'_, u64>, first: u64, n: u64) -> Outcome {
-    match writer.push_all(rt, first..first.saturating_add(n)) {
+    let pushed = writer.push_all(rt, first..first.saturating_add(n));
+    let outcome = match &pushed {
         Ok(count) => Ok(Run {
             from: first,
-            n: count,
+            n: *count,
         }),
-        Err((_count, refused)) => Err(reason_of(&refused)),
-    }
+        Err((_count, refused)) => Err(reason_of(refused)),
+    };
+    drop(pushed);
+    outcome
 }
 
 fn move_in<R: Wait>(rt: &R, writer: &mut Writer<'_, u64>, way: &Way, values: Vec<u64>) -> Outcome {
@@ -189,14 +192,18 @@ fn is_full<R: AllocGlobal + Wait>(rt: &R, writer: &mut Writer<'_, u64>) -> bool 
 
 // Tests whether a place has its own number, however it is read.
 fn reads(writer: &mut Writer<'_, u64>, place: u64) -> bool {
-    let is_shown = match writer.look(place) {
+    let shown = writer.look(place);
+    let is_shown = match &shown {
         Shown::Filled(at) => *at.value == place,
         _ => false,
     };
-    let is_read = match writer.at(place, None) {
+    drop(shown);
+    let found = writer.at(place, None);
+    let is_read = match &found {
         Ok(at) => *at.value == place && *writer.get(&at.placed) == place,
         Err(_refused) => false,
     };
+    drop(found);
     is_shown && is_read
 }
 
@@ -210,14 +217,29 @@ fn reads_all(writer: &mut Writer<'_, u64>) -> bool {
     writer.size() == LIMIT
         && writer.published().count() as u64 == LIMIT
         && shows_below(writer.vector(), LIMIT)
-        && matches!(writer.look(LIMIT), Shown::Pending)
-        && matches!(writer.at(LIMIT, None), Err(AtError::OutOfRange { size }) if size == LIMIT)
+        && ends_at_the_limit(writer)
+}
+
+// Tests whether the place after the last one is pending, and out of range.
+fn ends_at_the_limit(writer: &mut Writer<'_, u64>) -> bool {
+    let shown = writer.look(LIMIT);
+    let is_pending = matches!(&shown, Shown::Pending);
+    drop(shown);
+    let found = writer.at(LIMIT, None);
+    let is_past = matches!(&found, Err(AtError::OutOfRange { size }) if *size == LIMIT);
+    drop(found);
+    is_pending && is_past
 }
 
 fn fills_and_reads<R: AllocGlobal + Wait>(rt: &R) -> Option<bool> {
     let (vector, hand) = Quiet::new(rt.alloc(), LIMIT).open().ok()?;
     let mut writer = Writer::new(&vector, hand);
-    Some(fills(rt, &mut writer, false) && is_full(rt, &mut writer) && reads_all(&mut writer))
+    let is_right = fills(rt, &mut writer, false)
+        && is_full(rt, &mut writer)
+        && reads_all(&mut writer);
+    drop(writer);
+    drop(vector);
+    Some(is_right)
 }
 
 #[test]
@@ -239,9 +261,12 @@ fn mended(mended: Result<Placed<u64>, (MendError<u64>, u64)>) -> Option<bool> {
 // Tests whether two broken places are mended, one of them once.
 fn mends_once<R: Wait>(rt: &R, writer: &mut Writer<'_, u64>) -> bool {
     let make = |i: u64| -> Result<u64, u64> { if i == 1 { Err(i) } else { Ok(i) } };
-    let is_broken = grown(writer.grow_with(rt, 3, make)) == Err(Why::Other)
-        && matches!(writer.look(1), Shown::Broken(_));
-    is_broken
+    let is_refused = grown(writer.grow_with(rt, 3, make)) == Err(Why::Other);
+    let shown = writer.look(1);
+    let is_broken = matches!(&shown, Shown::Broken(_));
+    drop(shown);
+    is_refused
+        && is_broken
         && mended(writer.mend(1, 1)) == Some(true)
         && mended(writer.mend(2, 2)) == Some(true)
         && mended(writer.mend(1, 7)) == Some(false)
@@ -258,7 +283,10 @@ fn stops_at_the_limit<R: Wait>(rt: &R, writer: &mut Writer<'_, u64>) -> bool {
 fn mends_and_stops<R: Wait>(rt: &R, alloc: Global) -> Option<bool> {
     let (vector, hand) = Quiet::new(alloc, 6).open().ok()?;
     let mut writer = Writer::new(&vector, hand);
-    Some(mends_once(rt, &mut writer) && stops_at_the_limit(rt, &mut writer))
+    let is_right = mends_once(rt, &mut writer) && stops_at_the_limit(rt, &mut writer);
+    drop(writer);
+    drop(vector);
+    Some(is_right)
 }
 
 #[test]
@@ -296,7 +324,9 @@ fn closes_by_three<R: Wait>(rt: &R, alloc: Global) -> Option<bool> {
     a.join(c);
     let hand = a.into_hand();
     let list = Quiet::try_close(vector, hand).ok()?;
-    Some(is_seen && list.get(0) == Ok(&5) && list.get(1) == Ok(&6) && list.len() == 2)
+    let is_closed = is_seen && list.get(0) == Ok(&5) && list.get(1) == Ok(&6) && list.len() == 2;
+    drop(list);
+    Some(is_closed)
 }
 
 #[test]

@@ -26,9 +26,12 @@ fn push_below<R: Wait>(
     n: u64,
 ) -> Result<(), &'static str> {
     for number in 0..n {
-        push_one(rt, writer, number)?;
+        writer
+            .push(rt, number)
+            .map_err(|(refused, _back)| reason(&refused))?;
     }
-    flush_all(rt, writer)
+    writer.flush(rt).map_err(|refused| reason(&refused))?;
+    Ok(())
 }
 
 // Pushes a value, or says why it is refused.

@@ -64,7 +64,7 @@ fn append_all<R: Wait>(
     ensures { KeepsShares hand.old hand.new }
 {
     for count in 0..task.begin(worker) {
-        if !succeeded(vector.push_back(rt, hand, count)) {
+        if vector.push_back(rt, hand, count).is_err() {
             return Err(GROWTH);
         }
     }

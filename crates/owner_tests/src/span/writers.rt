@@ -9,7 +9,7 @@ use std::sync::Wait;
 // Appends the numbers below n.
 fn push_below<R: Wait>(rt: &R, writer: &mut Writer<'_, u64>, n: u64) -> bool {
     for number in 0..n {
-        if !succeeded(writer.push_back(rt, number)) {
+        if writer.push_back(rt, number).is_err() {
             return false;
         }
     }

@@ -66,13 +66,10 @@ fn count_broken<R: AllocGlobal + Wait>(
 // Tests whether a construction of n places is refused at one of them.
 fn is_refused(two: &mut Callers<u64>, n: u64, at: u64) -> bool {
     let make = |i: u64| -> Result<u64, u64> { if i == at { Err(9) } else { Ok(i) } };
-    let grown = two.vector.try_grow_with(&mut two.a, n, make);
-    let is_so = match &grown {
-        Err(GrowError::Refused { made, cause, .. }) => (made.run().n, *cause) == (at, 9),
+    match two.vector.try_grow_with(&mut two.a, n, make) {
+        Err(GrowError::Refused { made, cause, .. }) => (made.run().n, cause) == (at, 9),
         _ => false,
-    };
-    drop(grown);
-    is_so
+    }
 }
 
 // Tests whether each place from one on is mended with its number, and shows it.

@@ -176,14 +176,9 @@ fn push_and_recall(vector: Shared<u64>, mut hand: Hand<u64>, value: u64) -> Opti
     requires whole { IsWholeHand hand }
     ensures { IfSome result (λ read. read ≡ value) }
 {
-    let placed = vector.try_push_back(&mut hand, value).ok();
+    let placed = vector.try_push_back(&mut hand, value).ok()?;
     let parts = vector.into_parts(hand);
-    let read = match &placed {
-        Some(placed) => Some(*parts.recall(placed)),
-        None => None,
-    };
-    drop((placed, parts));
-    read
+    Some(*parts.recall(&placed))
 }
 
 // The value of a push is the closed list's member at its place, and each opened value is still at its own.

@@ -4,6 +4,7 @@ ghost use Rattle.std.specs.Prelude.{◌≡◌};
 ghost use Rattle.grow_core.specs.Vector.{IsHandOf};
 
 use super::{has, measures, resized};
+use crate::results::succeeded;
 use grow_core::GrowError;
 use quiet_core::{Hand, IntoVecError, OpenError, Quiet, QuietError, Shared};
 use std::alloc::Global;
@@ -17,28 +18,37 @@ fn pushes_again(list: &mut Quiet<u64>, value: u64) -> bool {
         Err(refused) => {
             refused == (QuietError::NoMemory, value)
                 && measures(list, len, capacity)
-                && list.push(value) == Ok(len)
+                && list.push(value).ok() == Some(len)
         }
     }
+}
+
+// Tests the same of each number below `n`.
+fn pushes_below_again(list: &mut Quiet<u64>, n: u64) -> bool {
+    for value in 0..n {
+        if !pushes_again(list, value) {
+            return false;
+        }
+    }
+    true
 }
 
 #[test]
 fn a_push_is_tried_again(rt: HostRuntime) {
     let mut list = Quiet::new(rt.alloc(), 16);
-    for value in 0..6u64 {
-        assert!(rt; pushes_again(&mut list, value));
-    }
-    assert!(rt; measures(&list, 6, 8) && has(&list, 5, 5));
+    let are_pushed = pushes_below_again(&mut list, 6) && measures(&list, 6, 8) && has(&list, 5, 5);
+    drop(list);
+    assert!(rt; are_pushed);
 }
 
 // The list of three values, at the second try if need be.
 fn listed_again(alloc: Global, three: Vec<u64>) -> Option<Quiet<u64>> {
     match Quiet::from_vec(alloc, 16, three) {
         Ok(list) => Some(list),
-        Err((QuietError::NoMemory, back)) if back.len() == 3 => {
-            Quiet::from_vec(alloc, 16, back).ok()
+        Err((error, back)) => {
+            let is_kept = error == QuietError::NoMemory && back.len() == 3;
+            Quiet::from_vec(alloc, 16, is_kept.then_some(back)?).ok()
         }
-        Err(_refused) => None,
     }
 }
 
@@ -48,7 +58,7 @@ fn assigns_again(list: &mut Quiet<u64>, five: Vec<u64>) -> bool {
     let is_assigned = match list.assign(five) {
         Ok(()) => true,
         Err((error, back)) => {
-            error == QuietError::NoMemory && has(list, 2, 3) && list.assign(back).is_ok()
+            error == QuietError::NoMemory && has(list, 2, 3) && succeeded(list.assign(back))
         }
     };
     three && is_assigned && measures(list, 5, 8) && has(list, 4, 8)
@@ -59,9 +69,12 @@ fn values_are_moved_in_again(rt: HostRuntime) {
     if let Ok(three) = Vec::from_slice(rt.alloc(), &[1u64, 2, 3]) {
         match listed_again(rt.alloc(), three) {
             Some(mut list) => {
-                if let Ok(five) = Vec::from_slice(rt.alloc(), &[4u64, 5, 6, 7, 8]) {
-                    assert!(rt; assigns_again(&mut list, five));
-                }
+                let is_assigned = match Vec::from_slice(rt.alloc(), &[4u64, 5, 6, 7, 8]) {
+                    Ok(five) => assigns_again(&mut list, five),
+                    Err(_refused) => true,
+                };
+                drop(list);
+                assert!(rt; is_assigned);
             }
             None => panic!(rt; "no list"),
         }
@@ -76,9 +89,9 @@ fn is_a_vector_again(list: Quiet<u64>) -> bool {
             let is_kept = error == IntoVecError::NoMemory
                 && measures(&back, 3, 4)
                 && has(&back, 2, 2);
-            match back.into_vec() {
-                Ok(values) => is_kept && values.as_slice() == [0, 1, 2].as_slice(),
-                Err(_refused) => false,
+            match back.into_vec().ok() {
+                Some(values) => is_kept && values.as_slice() == [0, 1, 2].as_slice(),
+                None => false,
             }
         }
     }
@@ -87,14 +100,15 @@ fn is_a_vector_again(list: Quiet<u64>) -> bool {
 #[test]
 fn a_list_becomes_a_vector_again(rt: HostRuntime) {
     let mut list = Quiet::new(rt.alloc(), 16);
-    for value in 0..3u64 {
-        assert!(rt; pushes_again(&mut list, value));
+    let are_pushed = pushes_below_again(&mut list, 3);
+    match are_pushed.then_some(list) {
+        Some(list) => assert!(rt; is_a_vector_again(list)),
+        None => panic!(rt; "a push is refused twice"),
     }
-    assert!(rt; is_a_vector_again(list));
 }
 
 fn is_opened(list: Quiet<u64>) -> bool {
-    list.open().is_ok()
+    succeeded(list.open())
 }
 
 // Tests whether a list of one member is opened, at the second try if need be.
@@ -106,10 +120,15 @@ fn opens_again(list: Quiet<u64>) -> bool {
     is_opened(back) && is_kept
 }
 
+// The same of a list that gets its one member, at the second try if need be.
+fn pushes_and_opens_again(mut list: Quiet<u64>) -> Option<bool> {
+    let is_pushed = pushes_again(&mut list, 5);
+    Some(opens_again(is_pushed.then_some(list)?))
+}
+
 #[test]
 fn a_list_is_opened_again(rt: HostRuntime) {
-    let mut list = Quiet::new(rt.alloc(), 16);
-    assert!(rt; pushes_again(&mut list, 5) && opens_again(list));
+    assert!(rt; pushes_and_opens_again(Quiet::new(rt.alloc(), 16)) == Some(true));
 }
 
 // Tests whether three values are made, at the second try if need be. The maker is asked for each of them once,
@@ -130,7 +149,9 @@ fn resizes_again(list: &mut Quiet<u64>) -> bool {
 #[test]
 fn a_list_is_made_longer_again(rt: HostRuntime) {
     let mut list = Quiet::new(rt.alloc(), 16);
-    assert!(rt; resizes_again(&mut list));
+    let is_resized = resizes_again(&mut list);
+    drop(list);
+    assert!(rt; is_resized);
 }
 
 // Tests whether room for nine is made, at the second try if need be. A refusal loses no room and no value.
@@ -149,7 +170,9 @@ fn reserves_again(list: &mut Quiet<u64>) -> bool {
 #[test]
 fn room_is_made_again(rt: HostRuntime) {
     let mut list = Quiet::new(rt.alloc(), 16);
-    assert!(rt; pushes_again(&mut list, 5) && reserves_again(&mut list) && has(&list, 0, 5));
+    let is_made = pushes_again(&mut list, 5) && reserves_again(&mut list) && has(&list, 0, 5);
+    drop(list);
+    assert!(rt; is_made);
 }
 
 // The place of a value that is appended, or the value that came back without memory.
@@ -199,6 +222,8 @@ fn appended<R: Wait>(rt: &R, list: Quiet<u64>) -> Option<(bool, Quiet<u64>)> {
 #[test]
 fn a_push_while_open_is_tried_again(rt: HostRuntime) {
     if let Some((all, list)) = appended(&rt, Quiet::new(rt.alloc(), 16)) {
-        assert!(rt; all && measures(&list, 3, 4) && has(&list, 2, 2));
+        let is_right = all && measures(&list, 3, 4) && has(&list, 2, 2);
+        drop(list);
+        assert!(rt; is_right);
     }
 }

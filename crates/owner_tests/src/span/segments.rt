@@ -50,6 +50,7 @@ fn find(cells: WorkerCells<'_, u64>, workers: u32) -> Found {
         found.sum = found.sum.wrapping_add(sum_shown(&part));
         found.places = found.places.wrapping_add(part.len());
         after = part.from().wrapping_add(part.len());
+        drop(part);
     }
     found
 }
@@ -109,8 +110,10 @@ fn find_all<R: Threads + Wait + Sync + AllocGlobal + Abort>(
     size: u64,
     numbers: &[u32],
 ) -> Option<bool> {
-    let (vector, _hand) = numbered(rt, size).open().ok()?;
-    Some(find_all_of(rt, rt.alloc(), &vector, size, numbers))
+    let (vector, hand) = numbered(rt, size).open().ok()?;
+    let is_found = find_all_of(rt, rt.alloc(), &vector, size, numbers);
+    drop((vector, hand));
+    Some(is_found)
 }
 
 static NUMBERS: [u32; 5] = [1, 2, 3, 7, 64];
@@ -136,8 +139,10 @@ fn refusal_of<R: Threads + Wait + Sync + AllocGlobal + Abort, G: Gate + Sync>(
     workers: u32,
     gate: &G,
 ) -> Option<ParError> {
-    let (vector, _hand) = numbered(rt, 10).open().ok()?;
-    found_by(rt, rt.alloc(), &vector, workers, gate).err()
+    let (vector, hand) = numbered(rt, 10).open().ok()?;
+    let refusal = found_by(rt, rt.alloc(), &vector, workers, gate).err();
+    drop((vector, hand));
+    refusal
 }
 
 #[test]

@@ -124,7 +124,8 @@ impl CallPlay {
         requires actors { HaveActors (length programs.now) self.old.ended }
         ensures actors { OnOk result (HaveActors (length programs.now) self.new.ended) }
         ensures ok { OnOk result
-            (with_call self.old actor (next_call programs.now self.old.counts actor) ≡ Some self.new) }
+            (with_call self.old actor (next_call programs.now self.old.counts actor)
+            ≡ Some self.new) }
         ensures counted { OnOk result (length self.new.counts ≡ length self.old.counts) }
     {
         match self.next_call(programs, actor) {

@@ -187,7 +187,8 @@ impl CountedPlay {
     fn play_item(&mut self, item: &Item) -> Result<(), AllocError>
         requires { AreWithin (2 ^ 64 - 2) self.old.tallies }
         ensures { OnOk result (self.new ≡ tally_step self.old item.now.actor
-            (step_of self.old.play.at item.now.actor item.now.memory) (has_call self.old.play.at item.now.actor)) }
+            (step_of self.old.play.at item.now.actor item.now.memory)
+            (has_call self.old.play.at item.now.actor)) }
     {
         let layout = self.play.layout();
         let step = self.play.play_item(item)?;

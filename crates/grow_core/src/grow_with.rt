@@ -153,7 +153,7 @@ impl<T: Drop> Shared<T> {
             let (put, others) = self.fill_begun(&segment, place, run.n - i, begun, value);
             begun = others;
             match put {
-                Ok(placed) => filled = self.know(filled, self.alone(placed)),
+                Ok(placed) => filled = self.know(filled, self.stretch_of(placed)),
                 Err(found) => return Err(report_taken(place, found, begun)),
             }
         }

@@ -65,7 +65,7 @@ impl<T> Shared<T> {
 
     // The stretch of one place, by its token.
     #[inline(always)]
-    pub(crate) fn alone(&self, placed: Placed<T>) -> Stretch<T>
+    pub(crate) fn stretch_of(&self, placed: Placed<T>) -> Stretch<T>
         requires { IsPlacedOf self.now placed }
         ensures { IsStretchOf self.now placed.place (placed.value ∷ []) result }
     {

@@ -55,7 +55,8 @@ impl<T> Shared<T> {
             × IsStretchOf self.now from values stretch.now }
         requires within { i < stretch.now.n }
         ensures { (from : ℕ) → (values : List T) → IsStretchOf self.now from values stretch.now
-            → IsPlacedOf self.now result × (result.place ≡ from + i) × (slice_get values i ≡ Some result.value) }
+            → IsPlacedOf self.now result × (result.place ≡ from + i)
+            × (slice_get values i ≡ Some result.value) }
     {
         Placed {
             key: stretch.key.again(),

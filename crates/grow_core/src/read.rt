@@ -125,7 +125,7 @@ impl<T> Shared<T> {
         }
     }
 
-    // What a place shows at which a look found no value: that, or the value that the opened list has there.
+    // What a place shows if a look at it found no value: that, or the value that the opened list has there.
     #[inline(always)]
     #[tactic(auto, using(crate::proofs::Places::within_length))]
     fn look_again<'a>(&'a self, place: u64, found: Shown<'a, T>) -> Shown<'a, T>

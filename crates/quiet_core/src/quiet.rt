@@ -197,7 +197,8 @@ impl<T: Drop> Quiet<T> {
           closed = self.new.closed;
         } }
         ensures capacity { OnOk result
-            (GrowsFor self.old.layout (length self.new.members) self.old.capacity self.new.capacity) }
+            (GrowsFor self.old.layout (length self.new.members)
+            self.old.capacity self.new.capacity) }
         // The limit is looked at before memory is asked for.
         ensures too_long { (result ≡ Err (QuietError.TooLong, value)) ↔ IsAtLimit self.old }
         ensures value_back { IfErr result (λ (_, back). back ≡ value) }

@@ -2,8 +2,7 @@
 ghost use Rattle.std.specs.Prelude.{◌≡◌, ◌+◌, ◌<◌, ◌≤◌, [], ◌∷◌, Ok, Err, IfOk, IfErr};
 ghost use mathlib.Core.List.{IsPrefix};
 ghost use Rattle.grow_core.specs.Vector.{IsHandOf};
-ghost use Rattle.span_core.specs.Workers.{IsOfRange};
-ghost use Rattle.span_core.specs.Hands.{AreCallable, KeepHands, Leaves, SaysOfPart, HaveAnswered, of_answer, of_refusal};
+ghost use Rattle.span_core.specs.Hands.{AreCallable, HaveAnswered, IsOfHands, KeepHands, Leaves, of_answer};
 ghost use Rattle.span_core.specs.Hands.{BringsHand, LeavesHand};
 
 use crate::by_halves::{ForkJoin, fork_join};
@@ -148,13 +147,10 @@ pub(crate) fn list_result<A: Drop, E>(
     }
 }
 
-/// Lets workers append to one vector, all except the first in a thread of their own, and returns their
-/// results in order.
-///
-/// Each worker borrows a hand with one of the shares of `hand`, and passes the gate before its work and after
-/// it. All hands are joined again, whatever the workers return and also if a thread cannot be started, so
-/// that `hand` has its shares again. `fork_join` starts the workers. The refusal of the worker with the
-/// lowest number is returned.
+/// Lets workers append to one vector, all except the first in a thread of their own, and returns their results
+/// in order, or the refusal of the worker with the lowest number. Each borrows a hand with one of the shares of
+/// `hand`, and passes the gate before its work and after it. All hands are joined again, whatever the workers
+/// return and also if a thread cannot be started. `fork_join` starts the workers.
 pub fn with_hands<
     R: Threads + Wait + Sync,
     T: Send + Sync,
@@ -181,13 +177,10 @@ pub fn with_hands<
     ensures shares { hand.new.shares ≡ hand.old.shares }
     ensures begins { IsPrefix hand.old.seen hand.new.seen }
     ensures mine { IsPrefix hand.old.mine hand.new.mine }
-    ensures answers { IfOk result (λ answers.
-        HaveAnswered (of_answer (Leaves (F.post work.now) vector.now))
-        hand.old hand.new workers answers.items) }
+    ensures answers { IfOk result (λ answers. HaveAnswered
+        (of_answer (Leaves (F.post work.now) vector.now)) hand.old hand.new workers answers.items) }
     // Each worker below the one that was refused has returned.
-    ensures refused { IfErr result (IsOfRange
-        (SaysOfPart (of_answer (Leaves (F.post work.now) vector.now)) hand.new)
-        (SaysOfPart (of_refusal (Leaves (F.post work.now) vector.now)) hand.new)
+    ensures refused { IfErr result (IsOfHands (Leaves (F.post work.now) vector.now) hand.new
         (G.may_refuse gate.now) 0 workers) }
 {
     let theirs = vector.split(hand, workers);

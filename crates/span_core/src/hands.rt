@@ -54,7 +54,8 @@ impl<
     // One worker passes the gate and works.
     fn work(&self, worker: u32, brought: Hand<T>) -> Result<Left<T, A, E>, Never>
         requires { BringsHand (F.pre self.now.work.now) (F.post self.now.work.now)
-            (G.lets_through self.now.gate.now) self.now.vector.now self.now.workers worker 1 brought }
+            (G.lets_through self.now.gate.now) self.now.vector.now self.now.workers
+            worker 1 brought }
         ensures answer { IfOk result (λ left. LeavesHand (F.post self.now.work.now)
             (G.may_refuse self.now.gate.now) self.now.vector.now worker 1 left.hand left.answers) }
         ensures refused { IfErr result (λ _. ⊥) }
@@ -76,9 +77,11 @@ impl<
             (G.lets_through self.now.gate.now) self.now.vector.now self.now.workers
             first (low + high) brought) × (0 < low) × (0 < high) }
         ensures lower { BringsHand (F.pre self.now.work.now) (F.post self.now.work.now)
-            (G.lets_through self.now.gate.now) self.now.vector.now self.now.workers first low result.0 }
+            (G.lets_through self.now.gate.now) self.now.vector.now self.now.workers
+            first low result.0 }
         ensures upper { BringsHand (F.pre self.now.work.now) (F.post self.now.work.now)
-            (G.lets_through self.now.gate.now) self.now.vector.now self.now.workers (first + low) high result.1 }
+            (G.lets_through self.now.gate.now) self.now.vector.now self.now.workers
+            (first + low) high result.1 }
     {
         // Only the contract speaks of the first worker.
         let _first = first;
@@ -99,10 +102,12 @@ impl<
             (G.may_refuse self.now.gate.now) self.now.vector.now first low left.hand left.answers)
             × IfErr lower (λ _. ⊥) }
         requires upper { IfOk upper (λ left. LeavesHand (F.post self.now.work.now)
-            (G.may_refuse self.now.gate.now) self.now.vector.now (first + low) high left.hand left.answers)
+            (G.may_refuse self.now.gate.now) self.now.vector.now
+            (first + low) high left.hand left.answers)
             × IfErr upper (λ _. ⊥) }
         ensures answer { IfOk result (λ left. LeavesHand (F.post self.now.work.now)
-            (G.may_refuse self.now.gate.now) self.now.vector.now first (low + high) left.hand left.answers) }
+            (G.may_refuse self.now.gate.now) self.now.vector.now
+            first (low + high) left.hand left.answers) }
         ensures refused { IfErr result (λ _. ⊥) }
     {
         let Left { mut hand, answers } = lower?;
@@ -121,7 +126,8 @@ impl<
             (G.lets_through self.now.gate.now) self.now.vector.now self.now.workers
             _first _count brought) × (0 < _count) }
         ensures answer { IfOk result (λ left. LeavesHand (F.post self.now.work.now)
-            (G.may_refuse self.now.gate.now) self.now.vector.now _first _count left.hand left.answers) }
+            (G.may_refuse self.now.gate.now) self.now.vector.now
+            _first _count left.hand left.answers) }
         ensures refused { IfErr result (λ _. ⊥) }
     {
         let answers = Err(Refusal::NoMemory);

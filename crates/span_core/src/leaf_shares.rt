@@ -66,8 +66,8 @@ impl<'a, L, G> Shares<'a, L, G> {
     where
         L: LeafJob<A>,
         requires shares { EachFrom (λ worker share.
-            IsShare (GivesLeaf (L.gives self.now.each.now) self.now.leaves.now) (length self.now.leaves.now)
-            self.now.workers worker share.items) 0 shares.items }
+            IsShare (GivesLeaf (L.gives self.now.each.now) self.now.leaves.now)
+            (length self.now.leaves.now) self.now.workers worker share.items) 0 shares.items }
         requires workers { length shares.items ≡ self.now.workers }
         ensures { IfOk result (λ all. AllZip
             (L.gives self.now.each.now) self.now.leaves.now all.items) }

@@ -153,7 +153,8 @@ impl<'a, S: Drop, A: Drop, E: Drop, W: Gated<S, A, E>, G: Gate> ForkJoin<S, Vec<
 
     fn unstarted(&self, _brought: S, _first: u32, _count: u32) -> Result<Vec<A>, Refusal<E>>
         requires { (W.brings self.now.work.now _first _count _brought
-            × AreReadyBy (G.lets_through self.now.gate.now) (W.ready self.now.work.now)) × (0 < _count) }
+            × AreReadyBy (G.lets_through self.now.gate.now) (W.ready self.now.work.now))
+            × (0 < _count) }
         ensures answer { IfOk result
             (λ answers. EachGives (W.gives self.now.work.now) _first _count answers.items) }
         ensures refused { IfErr result (IsOfRange (W.gives self.now.work.now)

@@ -2,7 +2,7 @@ use Rattle.std.proofs.Common.{◌≡◌, ◌+◌, length}
 use Rattle.quiet_core.specs.Between.{between}
 use Rattle.span_core.specs.Each.{EachFrom}
 use Rattle.span_core.specs.Loops.{AnswersAt}
-use Rattle.span_core.proofs.map.MapLeafLeafJobVec.leaf.Given as goal
+use Rattle.span_core.proofs.map.MapLeafLeafJobVec.work_leaf.Given as goal
 
 abbrev pub invariant-loop-place : goal.invariant-loop-place
 invariant-loop-place g l =

@@ -2,7 +2,7 @@ use Rattle.std.proofs.Common.{◌≡◌, length}
 use Rattle.std.specs.Vec.Iter.{into_iter_items, into_iter_len}
 use Rattle.span_core.specs.Loops.{AnswersAt}
 use Rattle.span_core.proofs.Tiles.{Reaches}
-use Rattle.span_core.proofs.map.MapLeaf.flat.Given as goal
+use Rattle.span_core.proofs.map.MapLeaf.flatten.Given as goal
 
 abbrev pub invariant-loop-part : goal.invariant-loop-part
 invariant-loop-part g l =

@@ -3,7 +3,7 @@ use Rattle.std.specs.Vec.Iter.{into_iter_items}
 use Rattle.std.proofs.lemmas.List.{nil_from_length}
 use Rattle.span_core.specs.Loops.{AnswersAt}
 use Rattle.span_core.proofs.Tiles.{reaches-none, reaches-step, reaches-all}
-use Rattle.span_core.proofs.map.MapLeaf.flat.Goals as goal
+use Rattle.span_core.proofs.map.MapLeaf.flatten.Goals as goal
 
 pub loop-part-init : goal.loop-part-init
 loop-part-init g c = (

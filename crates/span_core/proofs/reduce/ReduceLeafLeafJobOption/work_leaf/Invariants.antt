@@ -1,7 +1,7 @@
 use Rattle.std.proofs.Common.{◌≡◌}
 use Rattle.quiet_core.specs.Between.{between}
 use Rattle.span_core.specs.Loops.{AnswersAt, SumsUpTo}
-use Rattle.span_core.proofs.reduce.ReduceLeafLeafJobOption.leaf.Given as goal
+use Rattle.span_core.proofs.reduce.ReduceLeafLeafJobOption.work_leaf.Given as goal
 
 abbrev pub invariant-loop-place : goal.invariant-loop-place
 invariant-loop-place g l =

@@ -2,7 +2,7 @@ use Rattle.std.proofs.Common.{◌≡◌, length}
 use Rattle.std.specs.Vec.Iter.{into_iter_items, into_iter_len}
 use Rattle.span_core.specs.Loops.{AnswersAt}
 use Rattle.span_core.proofs.Folds.{SumReaches}
-use Rattle.span_core.proofs.reduce.ReduceLeaf.total.Given as goal
+use Rattle.span_core.proofs.reduce.ReduceLeaf.add_up.Given as goal
 
 abbrev pub invariant-loop-part : goal.invariant-loop-part
 invariant-loop-part g l =

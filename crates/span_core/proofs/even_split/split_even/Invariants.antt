@@ -1,6 +1,6 @@
 use Rattle.std.proofs.Common.{◌≡◌, ◌+◌, ◌*◌, ◌≤◌, replicate, vec_capacity}
 use Rattle.span_core.specs.Hands.{split_off}
-use Rattle.span_core.proofs.even.split_even.Given as goal
+use Rattle.span_core.proofs.even_split.split_even.Given as goal
 
 abbrev pub invariant-loop-given : goal.invariant-loop-given
 invariant-loop-given g l =

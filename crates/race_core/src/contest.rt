@@ -29,10 +29,9 @@ fn is_bad_size(workers: u32, each: u32) -> bool
     workers == 0 || workers > MOST_WORKERS || each == 0 || each > MOST_EACH
 }
 
-/// Runs workers that append to one shared vector concurrently, and checks what they won.
-///
-/// Worker w appends w * each + j for j from 0 to each - 1. It passes the gate before its first value and
-/// after its last. They are started by `with_hands`. Time and memory are linear in the number of values.
+/// Runs workers that append to one shared vector concurrently, and checks what they won. Worker w appends
+/// w * each + j for j from 0 to each - 1. It passes the gate before its first value and after its last. Time
+/// and memory are linear in the number of values.
 pub fn race<R: Threads + Wait + Sync, G: Gate + Sync>(
     rt: &R,
     alloc: Global,

@@ -4,7 +4,7 @@ use Rattle.book_core.specs.Cells.{empty_list}
 use Rattle.book_core.specs.History.{IsLegalFrom}
 use Rattle.sweep_core.specs.Sweep.{sampled_limit}
 use Rattle.sweep_core.proofs.Sampled.{is_legal, is_report}
-use Rattle.sweep_core.proofs.single.report_of.Goals as goal
+use Rattle.sweep_core.proofs.one_schedule.report_of.Goals as goal
 
 pub returns : goal.returns
 returns c =

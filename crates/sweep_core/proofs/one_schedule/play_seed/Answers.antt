@@ -3,7 +3,7 @@ use Rattle.book_core.specs.Commands.{AreSound}
 use Rattle.step_core.specs.machine.Work.{play_shown}
 use Rattle.sweep_core.specs.Sweep.{sampled_limit}
 use Rattle.sweep_core.proofs.Sampled.{are_sound, have_programs, shows_events, shows_ended}
-use Rattle.sweep_core.proofs.single.play_seed.Goals as goal
+use Rattle.sweep_core.proofs.one_schedule.play_seed.Goals as goal
 
 pub play_valid-requires-clause-sound : goal.play_valid-requires-clause-sound
 play_valid-requires-clause-sound c = subst AreSound (sym c.in_ok-programs.ensures) are_sound

@@ -85,6 +85,6 @@ abbrev pub RunEnd : Type 0
 RunEnd = Result (Unit {0}) RunError
 
 -- how the program ends, by how a run ends
-abbrev pub by_run : RunEnd → Result (Unit {0}) ProgramError
+abbrev pub by_run : Result (Unit {0}) RunError → Result (Unit {0}) ProgramError
 by_run (Ok done) = Ok done
 by_run (Err error) = Err (Run error)

@@ -51,7 +51,8 @@ fn stepped(
     requires { length programs ≤ 65536 }
     ensures at { IfOk result (λ machine. machine ≡ (play_of layout limit programs items.now).at) }
     ensures sum { IfOk result (λ machine.
-        machine.storage.size ≡ places_in (runs_of (play_of layout limit programs items.now).events)) }
+        machine.storage.size
+        ≡ places_in (runs_of (play_of layout limit programs items.now).events)) }
 {
     laws::stepping();
     laws::tiling();

@@ -39,6 +39,7 @@ fn shows(block: &Block<u64>, offset: u64, value: u64) -> bool {
 fn len_of(table: &Table<u64>, k: u32) -> Option<u64>
     requires { k < 33 }
 {
+    // For the proof: the segments are those of a layout.
     let _layout = table.layout();
     match table.install(k) {
         Ok(block) => Some(block.len()),
@@ -50,6 +51,7 @@ fn len_of(table: &Table<u64>, k: u32) -> Option<u64>
 fn takes<T: Drop>(table: &Table<T>, k: u32, offset: u64, value: T) -> bool
     requires { k < 33 }
 {
+    // For the proof: the segments are those of a layout.
     let _layout = table.layout();
     match table.install(k) {
         Ok(block) => fill(block, offset, value),
@@ -61,6 +63,7 @@ fn takes<T: Drop>(table: &Table<T>, k: u32, offset: u64, value: T) -> bool
 fn has(table: &Table<u64>, k: u32, offset: u64, value: u64) -> bool
     requires { k < 33 }
 {
+    // For the proof: the segments are those of a layout.
     let _layout = table.layout();
     match table.install(k) {
         Ok(block) => shows(block, offset, value),
@@ -72,6 +75,7 @@ fn has(table: &Table<u64>, k: u32, offset: u64, value: u64) -> bool
 fn is_seen(table: &Table<u64>, k: u32, offset: u64, value: u64) -> bool
     requires { k < 33 }
 {
+    // For the proof: the segments are those of a layout.
     let _layout = table.layout();
     match table.scout(k) {
         Some(block) => shows(block, offset, value),
@@ -80,6 +84,7 @@ fn is_seen(table: &Table<u64>, k: u32, offset: u64, value: u64) -> bool
 }
 
 fn is_set_once(table: &Table<u64>) -> bool {
+    // For the proof: the segments are those of a layout.
     let _layout = table.layout();
     table.installed() == 0
         && table.scout(3).is_none()
@@ -116,6 +121,7 @@ fn is_one_block(table: &Table<u64>, a: &Key, b: &Key) -> bool
 fn has_another_key(table: &Table<u64>, key: &Key) -> bool
     requires { IsKeyIn table.now key.now }
 {
+    // For the proof: the segments are those of a layout.
     let _layout = table.layout();
     match table.scout_key(2) {
         Some((block, other)) => shows(block, 0, 6) && is_one_block(table, key, &other.again()),
@@ -124,6 +130,7 @@ fn has_another_key(table: &Table<u64>, key: &Key) -> bool
 }
 
 fn has_keys_of_one_block(table: &Table<u64>) -> bool {
+    // For the proof: the segments are those of a layout.
     let _layout = table.layout();
     match table.install_key(2) {
         Ok((block, key)) => fill(block, 0, 6) && has_another_key(table, &key),
@@ -142,6 +149,7 @@ fn keys_of_one_entry_have_one_block(rt: HostRuntime) {
 fn is_there_at_last(table: &Table<u64>, k: u32, installed: u32) -> bool
     requires { k < 33 }
 {
+    // For the proof: the segments are those of a layout.
     let _layout = table.layout();
     len_of(table, k).is_some() || table.installed() == installed && len_of(table, k).is_some()
 }
@@ -149,6 +157,7 @@ fn is_there_at_last(table: &Table<u64>, k: u32, installed: u32) -> bool
 fn has_a_key_at_last(table: &Table<u64>, k: u32, installed: u32) -> bool
     requires { k < 33 }
 {
+    // For the proof: the segments are those of a layout.
     let _layout = table.layout();
     table.install_key(k).is_ok() || table.installed() == installed && table.install_key(k).is_ok()
 }
@@ -166,6 +175,7 @@ fn a_refused_install_sets_nothing(rt: HostRuntime) {
 fn lends(table: &mut Table<u64>, k: u32, value: u64) -> bool
     requires { k < 33 }
 {
+    // For the proof: the segments are those of a layout.
     let _layout = table.layout();
     match table.block_mut(k) {
         Some(block) => shows(block, 0, value),
@@ -174,6 +184,7 @@ fn lends(table: &mut Table<u64>, k: u32, value: u64) -> bool
 }
 
 fn lends_two(table: &mut Table<u64>) -> bool {
+    // For the proof: the segments are those of a layout.
     let _layout = table.layout();
     table.block_mut(1).is_none()
         && takes(table, 1, 0, 7)
@@ -190,6 +201,7 @@ fn has_two(table: &mut Table<u64>) -> bool {
 }
 
 fn gives_one_up(table: &mut Table<u64>) -> bool {
+    // For the proof: the segments are those of a layout.
     let _layout = table.layout();
     table.give_up(2);
     table.scout(2).is_none() && has(table, 1, 0, 7)
@@ -203,6 +215,7 @@ fn an_exclusive_owner_has_the_blocks(rt: HostRuntime) {
 
 // Puts another block into an entry whose block was lent, and returns whether one was.
 fn puts_another(table: &mut Table<u64>, other: Block<u64>) -> bool {
+    // For the proof: the segments are those of a layout.
     let _layout = table.layout();
     match table.block_mut(1) {
         Some(block) => {
@@ -229,12 +242,14 @@ fn a_block_of_another_length_is_not_put_back(rt: HostRuntime) -> Result<(), Fail
 }
 
 fn is_lent(table: &mut Table<u64>) -> bool {
+    // For the proof: the segments are those of a layout.
     let _layout = table.layout();
     table.block_mut(1).is_some()
 }
 
 // Tests whether an entry whose block was lent has none once it is given up.
 fn gives_it_up(table: &mut Table<u64>) -> bool {
+    // For the proof: the segments are those of a layout.
     let _layout = table.layout();
     table.give_up(1);
     table.put_back();
@@ -266,6 +281,7 @@ fn counts_entries(table: &Table<u64>) -> bool {
 fn has_by_key(table: &Table<u64>, k: u32, offset: u64, value: u64) -> bool
     requires { k < 33 }
 {
+    // For the proof: the segments are those of a layout.
     let _layout = table.layout();
     match table.install_key(k) {
         Ok((block, key)) => {
@@ -278,6 +294,7 @@ fn has_by_key(table: &Table<u64>, k: u32, offset: u64, value: u64) -> bool
 
 // It would take hours if a block were made each time.
 fn has_a_million_times(table: &Table<u64>) -> bool {
+    // For the proof: the segments are those of a layout.
     let _layout = table.layout();
     for _again in 0..1_000_000u32 {
         if !has_by_key(table, 22, (1 << 22) - 1, 22) {
@@ -288,6 +305,7 @@ fn has_a_million_times(table: &Table<u64>) -> bool {
 }
 
 fn gives_the_last_up(table: &mut Table<u64>) -> bool {
+    // For the proof: the segments are those of a layout.
     let _layout = table.layout();
     table.give_up(31);
     table.give_up(22);
@@ -308,6 +326,7 @@ fn counts_two(table: &mut Table<()>, a: u32, b: u32) -> bool
     requires first { a < 33 }
     requires second { b < 33 }
 {
+    // For the proof: the segments are those of a layout.
     let _layout = table.layout();
     if !takes(table, a, 0, ()) || table.installed() != 1 {
         return false;
@@ -340,6 +359,7 @@ fn key_of<T: Drop>(table: &Table<T>, k: u32) -> Option<Key>
     ensures of { IfSome result (λ key. IsKeyIn table.now key) }
     ensures entry { IfSome result (λ key. key.segment ≡ k) }
 {
+    // For the proof: the segments are those of a layout.
     let _layout = table.layout();
     match table.install_key(k) {
         Ok((_block, key)) => Some(key),
@@ -352,6 +372,7 @@ fn is_held(table: &mut Table<u64>, key: &Key, k: u32) -> bool
     requires key { IsKeyIn table.old key.now }
     requires entry { key.now.segment ≡ k }
 {
+    // For the proof: the segments are those of a layout.
     let _layout = table.layout();
     let Some(now) = table.key_now(k) else {
         return false;
@@ -374,6 +395,7 @@ fn lent(table: &mut Table<u64>, k: u32) -> &Block<u64>
 }
 
 fn holds_one(table: &mut Table<u64>) -> bool {
+    // For the proof: the segments are those of a layout.
     let _layout = table.layout();
     match key_of(table, 2) {
         Some(key) => is_held(table, &key, 2),
@@ -385,6 +407,7 @@ fn holds_one(table: &mut Table<u64>) -> bool {
 fn has_key_now(table: &mut Table<u64>, k: u32) -> bool
     requires { k < 33 }
 {
+    // For the proof: the segments are those of a layout.
     let _layout = table.layout();
     is_some(table.key_now(k))
 }
@@ -477,6 +500,7 @@ fn fills_four<'a>(table: &Table<Counted<'a>>, drops: &'a AtomicU64) -> bool {
 }
 
 fn drops_what_is_given_up(table: &mut Table<Counted<'_>>, drops: &AtomicU64) -> bool {
+    // For the proof: the segments are those of a layout.
     let _layout = table.layout();
     table.give_up(2);
     let is_dropped = drops_so_far(drops) == 1;

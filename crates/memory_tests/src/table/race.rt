@@ -36,6 +36,7 @@ fn install_each<'a>(
     for table in tables {
         turn = turn.wrapping_add(1);
         meet(mine, other, turn);
+        // For the proof: the segments are those of a layout.
         let _layout = table.layout();
         let block = table.install(0)?;
         if fill(block, 0, Counted(drops)) {

@@ -1,7 +1,8 @@
 // Two threads at one table.
 ghost use Rattle.table_core.specs.Table.{IsKeyIn};
 
-use crate::table::{Counted, drops_so_far, fill, key_of, shows, takes};
+use crate::table::drops::{Counted, drops_so_far};
+use crate::table::{fill, key_of, shows, takes};
 use std::alloc::{AllocError, Global};
 use std::sync::atomic::{AtomicU64, Ordering};
 use std::test::Fail;

@@ -13,19 +13,21 @@ use grow_core::{AtLeast, GrowError, Grown, Never, Placed};
 
 // Keeps the token of the last place of a run, if the run has a place, and returns the first place.
 #[tactic(auto, using(crate::proofs::LastTokens::tells_none, crate::proofs::LastTokens::tells_some))]
-fn keep_last<T: Drop>(last: &mut Option<Placed<T>>, grown: &Grown<T>) -> u64
-    ensures place { result ≡ grown.now.run.from }
-    ensures last { TellsLast grown.now last.old last.new }
-    ensures of { (v : VectorView T) → IsGrownOf v grown.now → IsLastOf v last.old
+fn keep_last<T: Drop>(last: &mut Option<Placed<T>>, grown: Grown<T>) -> u64
+    ensures place { result ≡ grown.run.from }
+    ensures last { TellsLast grown last.old last.new }
+    ensures of { (v : VectorView T) → IsGrownOf v grown → IsLastOf v last.old
         → IsLastOf v last.new }
 {
     // For the proof: a run has a token of each of its places.
     grown.laws();
     let run = grown.run();
     if run.n == 0 {
+        drop(grown);
         return run.from;
     }
     *last = Some(grown.placed(run.n - 1));
+    drop(grown);
     run.from
 }
 
@@ -42,7 +44,7 @@ impl<T: Copy> Caller<T> {
         ensures last { OnErr result (self.new.last ≡ self.old.last) }
     {
         let grown = self.hub.vector.try_grow_from(&mut self.hand, values)?;
-        Ok(keep_last(&mut self.last, &grown))
+        Ok(keep_last(&mut self.last, grown))
     }
 
     /// Appends `n` copies of the value side by side, and returns the place of the first one. It tries once.
@@ -56,7 +58,7 @@ impl<T: Copy> Caller<T> {
         ensures last { OnErr result (self.new.last ≡ self.old.last) }
     {
         let grown = self.hub.vector.try_grow_copies(&mut self.hand, n, value)?;
-        Ok(keep_last(&mut self.last, &grown))
+        Ok(keep_last(&mut self.last, grown))
     }
 }
 
@@ -77,7 +79,7 @@ impl<T: Drop> Caller<T> {
         ensures last { OnErr result (self.new.last ≡ self.old.last) }
     {
         let grown = self.hub.vector.try_grow_with(&mut self.hand, n, make)?;
-        Ok(keep_last(&mut self.last, &grown))
+        Ok(keep_last(&mut self.last, grown))
     }
 
     /// Appends the values that are missing up to this size, which `make` makes. Returns the place of the first one
@@ -106,7 +108,7 @@ impl<T: Drop> Caller<T> {
             AtLeast::Enough { size } => Ok((size, 0)),
             AtLeast::Ran(grown) => {
                 let n = grown.run().n;
-                Ok((keep_last(&mut self.last, &grown), n))
+                Ok((keep_last(&mut self.last, grown), n))
             }
         }
     }

@@ -96,9 +96,11 @@ pub(crate) fn report_of(
     drop(wins);
     let history = history_of(alloc, &slots)?;
     drop(slots);
+    let legal = is_legal(alloc, size, &history);
+    drop(history);
     Ok(RaceReport {
         size,
         sum,
-        legal: is_legal(alloc, size, &history)?,
+        legal: legal?,
     })
 }

@@ -54,8 +54,12 @@ pub fn race<R: Threads + Wait + Sync, G: Gate + Sync>(
     }
     let each = u64::from(each);
     let size = u64::from(workers) * each;
-    let Ok((vector, mut hand)) = Quiet::new(alloc, size).open() else {
-        return Err(RaceError::NoMemory)
+    let (vector, mut hand) = match Quiet::new(alloc, size).open() {
+        Ok((vector, hand)) => (vector, hand),
+        Err(refused) => {
+            drop(refused);
+            return Err(RaceError::NoMemory);
+        }
     };
     let work = |vector: &Shared<u64>, worker: u32, hand: &mut Hand<u64>| -> Won
         requires { G.lets_through gate.now worker

@@ -82,6 +82,7 @@ impl<T: Drop> Parts<T> {
             parts.pop_segment(&mut values);
         }
         values.reverse();
+        drop(parts);
         Ok(values)
     }
 }

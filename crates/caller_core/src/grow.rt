@@ -100,16 +100,14 @@ impl<T: Drop> Caller<T> {
         ensures kept { KeepsCaller self.old self.new }
         ensures last { OnErr result (self.new.last ≡ self.old.last) }
     {
-        let reached = self
-            .hub
-            .vector
-            .grow_to_at_least(&mut self.hand, size, make)?;
+        let reached = self.hub.vector.grow_to_at_least(&mut self.hand, size, make);
         match reached {
-            AtLeast::Enough { size } => Ok((size, 0)),
-            AtLeast::Ran(grown) => {
+            Ok(AtLeast::Enough { size }) => Ok((size, 0)),
+            Ok(AtLeast::Ran(grown)) => {
                 let n = grown.run().n;
                 Ok((keep_last(&mut self.last, grown), n))
             }
+            Err(refused) => Err(refused),
         }
     }
 
@@ -123,7 +121,9 @@ impl<T: Drop> Caller<T> {
         ensures kept { KeepsCaller self.old self.new }
         ensures last { self.new.last ≡ self.old.last }
     {
-        let run = self.hub.vector.try_break_run(&mut self.hand, n)?;
-        Ok(run.from)
+        match self.hub.vector.try_break_run(&mut self.hand, n) {
+            Ok(run) => Ok(run.from),
+            Err(refused) => Err(refused),
+        }
     }
 }

@@ -49,15 +49,14 @@ impl<T: Drop> Caller<T> {
         requires { IsLimit limit }
         ensures { IfOk result (IsNewCaller limit layout) }
     {
-        let Ok((vector, hand)) = Quiet::new_in(alloc, layout, limit).open() else {
-            return Err(AllocError);
-        };
-        let hub = Arc::new(alloc, Hub { vector, mark: 0 })?;
-        Ok(Caller {
-            hub,
-            hand,
-            last: None,
-        })
+        let list = Quiet::new_in(alloc, layout, limit);
+        match Caller::of_list(alloc, list) {
+            Ok(caller) => Ok(caller),
+            Err(list) => {
+                drop(list);
+                Err(AllocError)
+            }
+        }
     }
 }
 

@@ -26,6 +26,7 @@ impl<T: Drop> Caller<T> {
         }
         match Arc::try_unwrap(hub) {
             Ok(hub) => {
+                drop(last);
                 let Hub { vector, mark: _ } = hub;
                 Ok(Quiet::close(vector, hand))
             }

@@ -37,8 +37,7 @@ fn read_reopened(alloc: Global, list: Quiet<u64>, place: u64) -> Option<u64>
         → IfSome result (λ read. read ≡ x) }
 {
     let mut caller = Caller::of_list(alloc, list).ok()?;
-    match caller.at(place) {
-        Ok(read) => Some(read),
-        Err(_refused) => None,
-    }
+    let read = caller.at(place).ok();
+    drop(caller);
+    read
 }

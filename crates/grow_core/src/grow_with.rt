@@ -196,7 +196,10 @@ impl<T: Drop> Shared<T> {
                 made: self.grown(made, filled),
                 cause,
             },
-            Err((place, found)) => GrowError::Taken { place, found },
+            Err((place, found)) => {
+                drop((filled, cause));
+                GrowError::Taken { place, found }
+            }
         }
     }
 }

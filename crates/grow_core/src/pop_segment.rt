@@ -84,6 +84,7 @@ impl<T: Drop> Parts<T> {
             parts.pop_segment(&mut values);
         }
         values.reverse();
+        drop(parts);
         Ok(values)
     }
 }

@@ -52,7 +52,10 @@ impl<T: Drop> Quiet<T> {
         let mut list = Quiet::new_in(alloc, layout, limit);
         match list.assign(values) {
             Ok(()) => Ok(list),
-            Err(refused) => Err(refused),
+            Err(refused) => {
+                drop(list);
+                Err(refused)
+            }
         }
     }
 

@@ -61,6 +61,7 @@ fn push_value<R: Wait>(
         place: placed.place(),
         value: *vector.get(&placed),
     };
+    drop(placed);
     match wins.push(win) {
         Ok(()) => Ok(()),
         Err(_) => Err(RaceError::NoMemory),

@@ -110,11 +110,11 @@ impl<
             first (low + high) left.hand left.answers) }
         ensures refused { IfErr result (λ _. ⊥) }
     {
-        let Left { mut hand, answers } = lower?;
+        let Left { mut hand, answers } = left_by(lower);
         let Left {
             hand: other,
             answers: more,
-        } = upper?;
+        } = left_by(upper);
         self.vector.join(&mut hand, other);
         let answers = join_results(answers, more);
         Ok(Left { hand, answers })
@@ -135,6 +135,16 @@ impl<
             hand: brought,
             answers,
         })
+    }
+}
+
+// What a range of workers leaves. It is never refused.
+pub(crate) fn left_by<T, A, E>(left: Result<Left<T, A, E>, Never>) -> Left<T, A, E>
+    ensures { left ≡ Ok result }
+{
+    match left {
+        Ok(given) => given,
+        Err(never) => match never {},
     }
 }
 

@@ -8,7 +8,7 @@ use crate::by_halves::{ForkJoin, fork_join};
 use crate::crew::Crew;
 use crate::errors::Refusal;
 use crate::gate::Gate;
-use crate::hands::{Left, list_result};
+use crate::hands::{Left, left_by, list_result};
 use crate::tie::Tie;
 use crate::workers::join_results;
 use crate::writer::Writer;
@@ -130,11 +130,11 @@ impl<'a, R: Wait, T, A: Drop, E: Drop, W: WriterJob<T, A, E>, G: Gate, J: Tie> F
             first (low + high) left.hand left.answers) }
         ensures refused { IfErr result (λ _. ⊥) }
     {
-        let Left { mut hand, answers } = lower?;
+        let Left { mut hand, answers } = left_by(lower);
         let Left {
             hand: other,
             answers: more,
-        } = upper?;
+        } = left_by(upper);
         self.vector.join(&mut hand, other);
         let answers = join_results(answers, more);
         Ok(Left { hand, answers })

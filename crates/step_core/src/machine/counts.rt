@@ -142,11 +142,17 @@ impl CountedPlay {
         ensures { IfOk result (λ counted. counted
             ≡ record { play = play; tallies = replicate actors no_tally; work = [] }) }
     {
-        Ok(CountedPlay {
-            play,
-            tallies: vec![in alloc; NO_TALLY; actors]?,
-            work: Vec::new(alloc),
-        })
+        match vec![in alloc; NO_TALLY; actors] {
+            Ok(tallies) => Ok(CountedPlay {
+                play,
+                tallies,
+                work: Vec::new(alloc),
+            }),
+            Err(error) => {
+                drop(play);
+                Err(error)
+            }
+        }
     }
 
     fn tally(&self, actor: u32) -> Tally

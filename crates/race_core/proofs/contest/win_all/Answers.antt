@@ -1,19 +1,19 @@
-use Rattle.std.proofs.Common.{rules, ◌≡◌, ◌*◌, ◌∙◌, ap, subst, sym}
+use Rattle.std.proofs.Common.{rules, ◌∙◌, ap, subst, sym}
 use Rattle.claim_core.specs.Hand.{HandView, SeesOwn}
 use Rattle.grow_core.specs.Vector.{VectorView}
 use Rattle.race_core.specs.Race.{IsTeam, IsTeamOf, team_of}
 use Rattle.race_core.proofs.AllTeams.{all_team}
-use Rattle.race_core.proofs.contest.race.Goals as goal
+use Rattle.race_core.proofs.contest.win_all.Goals as goal
 
-pub report_of-requires-clause-team : goal.report_of-requires-clause-team
-report_of-requires-clause-team g c =
-    let vector = c.in-Ok.vector in
-    let each = c.from-each.result in
+pub returns-clause-team : goal.returns-clause-team
+returns-clause-team g c =
+    let vector = c.args.vector.now in
+    let each = c.args.each in
     let new = c.with_hands.new.hand in
     let wins = c.in_ok-wins.wins.items in
     let all = c.in_ok-teams.ensures in
-    let opened = c.in-Ok.ensures.hand in
-    let team = all_team (λ v. v.items) vector.word each c.in-Ok.hand new c.args.workers 65536 c.in_ok-teams.teams.items wins all.answers
+    let opened = c.requires.new in
+    let team = all_team (λ v. v.items) vector.word each c.args.hand.now new c.args.workers 65536 c.in_ok-teams.teams.items wins all.answers
     (λ worker own v (shown, old, last, same, fresh, met, is).
     let told : IsTeamOf shown.now.word each worker (team_of last.now v.items) = search rules in
     let sees : SeesOwn last.now = search rules in (
@@ -22,5 +22,4 @@ report_of-requires-clause-team g c =
     ))
     c.places_stay.ensures c.seen_runs_stay.ensures (ap (λ (h : HandView). h.mine) opened) (all.of ∙ ap (λ (h : HandView). h.of) opened)
     (all.shares ∙ ap (λ (h : HandView). h.shares) opened) c.laws.ensures.below c.in_ok-wins.ensures in
-    let count : c.from.result ≡ c.args.workers = search rules in
-    subst (λ n. IsTeam vector.word 65536 0 (n * each) (team_of new wins)) (sym count) team
+    subst (λ n. IsTeam vector.word 65536 0 n (team_of new wins)) (sym c.requires.size) team

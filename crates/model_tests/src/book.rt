@@ -73,9 +73,14 @@ fn first_wrong(list: &mut CellVec, rows: &[(Event, Reply)]) -> Option<Event> {
 #[test]
 fn each_event_has_its_reply(rt: HostRuntime) {
     let mut list = CellVec::new(rt.alloc(), 6);
-    assert_eq!(rt; first_wrong(&mut list, EVENTS.as_slice()), None);
-    assert!(rt; list.cells() == CELLS.as_slice() && list.limit() == 6);
-    assert!(rt; list.into_cells().len() == 4);
+    let wrong = first_wrong(&mut list, EVENTS.as_slice());
+    let is_right = list.cells() == CELLS.as_slice() && list.limit() == 6;
+    let cells = list.into_cells();
+    let len = cells.len();
+    drop(cells);
+    assert_eq!(rt; wrong, None);
+    assert!(rt; is_right);
+    assert!(rt; len == 4);
 }
 
 // None of them is legal if actor 0 has claimed two places of a list with a limit of 3.
@@ -121,9 +126,13 @@ fn first_legal(list: &mut CellVec, events: &[Event]) -> Option<Event> {
 #[test]
 fn an_event_that_is_not_legal_changes_nothing(rt: HostRuntime) {
     let mut list = CellVec::new(rt.alloc(), 3);
-    assert!(rt; first_wrong(&mut list, TWO_CLAIMED.as_slice()).is_none());
-    assert_eq!(rt; first_legal(&mut list, REFUSED.as_slice()), None);
-    assert!(rt; list.cells() == TWO_PENDING.as_slice());
+    let wrong = first_wrong(&mut list, TWO_CLAIMED.as_slice());
+    let legal = first_legal(&mut list, REFUSED.as_slice());
+    let is_same = list.cells() == TWO_PENDING.as_slice();
+    drop(list);
+    assert!(rt; wrong.is_none());
+    assert_eq!(rt; legal, None);
+    assert!(rt; is_same);
 }
 
 // Numbers, and whether each is a limit.
@@ -150,7 +159,9 @@ fn is_lent_and_given_back(values: Vec<u64>) -> bool {
         && sequence.len() == 2
         && !sequence.is_empty();
     let values = sequence.into_vec();
-    is_lent && values.as_slice() == THREE_AND_FOUR.as_slice()
+    let is_given_back = values.as_slice() == THREE_AND_FOUR.as_slice();
+    drop(values);
+    is_lent && is_given_back
 }
 
 #[test]
@@ -188,19 +199,18 @@ fn check_refuses_two_equal_starts(rt: HostRuntime) -> Result<(), Fail> {
     Ok(())
 }
 
-// The events with the replies of the rows, and with the last entry of the row in the place of the reply of
-// one of them.
-fn with_wrong_reply(
-    alloc: Global,
+// Adds the events with the replies of the rows, and with the last entry of the row in the place of the reply
+// of one of them.
+fn add_rows(
+    history: &mut Vec<(Event, Reply)>,
     rows: &[(Event, Reply, Reply)],
     wrong: usize,
-) -> Result<Vec<(Event, Reply)>, AllocError> {
-    let mut history = Vec::new(alloc);
+) -> Result<(), AllocError> {
     for (row, at) in rows.iter().zip(0..rows.len()) {
         let reply = if at == wrong { row.2 } else { row.1 };
         history.push((row.0, reply))?;
     }
-    Ok(history)
+    Ok(())
 }
 
 // An event, its reply, and a wrong one.
@@ -283,10 +293,11 @@ fn says_of_rows(
     wrong: usize,
     is_legal: bool,
 ) -> bool {
-    match with_wrong_reply(alloc, rows, wrong) {
-        Ok(history) => says(alloc, 8, history.as_slice(), is_legal),
-        Err(AllocError) => false,
-    }
+    let mut history = Vec::new(alloc);
+    let is_said = add_rows(&mut history, rows, wrong).is_ok()
+        && says(alloc, 8, history.as_slice(), is_legal);
+    drop(history);
+    is_said
 }
 
 #[test]
@@ -339,14 +350,9 @@ fn check_refuses_each_event_that_is_not_legal(rt: HostRuntime) {
     }
 }
 
-// Claims of one place each, and then the places are finished, the last one by another actor if `owned` is
-// false.
-fn long_history(
-    alloc: Global,
-    places: u64,
-    owned: bool,
-) -> Result<Vec<(Event, Reply)>, AllocError> {
-    let mut history = Vec::new(alloc);
+// Adds claims of one place each, and then the places are finished, the last one by another actor if `owned`
+// is false.
+fn add_long(history: &mut Vec<(Event, Reply)>, places: u64, owned: bool) -> Result<(), AllocError> {
     for from in 0..places {
         history.push((Event::Claim { actor: 0, n: 1 }, Reply::Run { from, n: 1 }))?;
     }
@@ -362,15 +368,17 @@ fn long_history(
             Reply::Done,
         ))?;
     }
-    Ok(history)
+    Ok(())
 }
 
 // Tests whether `check` reads a history of 100,000 events, and says whether it is owned.
 fn reads_a_long_one(alloc: Global, owned: bool) -> bool {
-    match long_history(alloc, 50_000, owned) {
-        Ok(history) => history.len() == 100_000 && says(alloc, 65536, history.as_slice(), owned),
-        Err(AllocError) => false,
-    }
+    let mut history = Vec::new(alloc);
+    let is_read = add_long(&mut history, 50_000, owned).is_ok()
+        && history.len() == 100_000
+        && says(alloc, 65536, history.as_slice(), owned);
+    drop(history);
+    is_read
 }
 
 #[test]

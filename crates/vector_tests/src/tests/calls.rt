@@ -123,12 +123,30 @@ fn ran(grown: &Grown<u64>) -> Reply {
 fn placed(pushed: Result<Placed<u64>, GrowError<u64, u64, Never>>, value: u64) -> Reply {
     let reply = match &pushed {
         Ok(placed) => Reply::At(placed.place()),
-        Err(GrowError::Full { size, back }) if *back == value => Reply::Full(*size),
-        Err(GrowError::Moved { size: _, back }) if *back == value => Reply::Moved,
-        Err(_refused) => Reply::Other,
+        Err(refused) => not_placed(refused, value),
     };
     drop(pushed);
     reply
+}
+
+fn not_placed(refused: &GrowError<u64, u64, Never>, value: u64) -> Reply {
+    match refused {
+        GrowError::Full { size, back } => {
+            if *back == value {
+                Reply::Full(*size)
+            } else {
+                Reply::Other
+            }
+        }
+        GrowError::Moved { size: _, back } => {
+            if *back == value {
+                Reply::Moved
+            } else {
+                Reply::Other
+            }
+        }
+        _other => Reply::Other,
+    }
 }
 
 // A growth by copies of the values of a slice.
@@ -286,15 +304,19 @@ fn make_sevens<R: Wait>(
         Form::Again => made(vector.grow_with(rt, hand, n, make)),
         Form::UpTo => raised(vector.grow_to_at_least(hand, n, make)),
     };
-    let due = match reply {
-        Reply::Ran(_, n) => n,
-        Reply::Refused(_, _, made) => made.wrapping_add(1),
-        _ => 0,
-    };
-    if asked == due {
+    if asked == times_asked(reply) {
         reply
     } else {
         Reply::Asked(asked)
+    }
+}
+
+// How often the maker of a growth with this reply is asked.
+fn times_asked(reply: Reply) -> u64 {
+    match reply {
+        Reply::Ran(_, n) => n,
+        Reply::Refused(_, _, made) => made.wrapping_add(1),
+        _ => 0,
     }
 }
 

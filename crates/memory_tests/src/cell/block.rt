@@ -24,7 +24,13 @@ pub(crate) fn fill<T: Drop>(block: &Block<T>, offset: u64, value: T) -> Option<P
     ensures offset { IfSome result (λ placed. placed.offset ≡ offset) }
     ensures value { IfSome result (λ placed. placed.value ≡ value) }
 {
-    Some(block.begin(offset).ok()?.fill(value))
+    match block.begin(offset) {
+        Ok(pen) => Some(pen.fill(value)),
+        Err(found) => {
+            drop((found, value));
+            None
+        }
+    }
 }
 
 // A number for what a call got or found: 5 is a pen, which breaks the cell.
@@ -54,13 +60,19 @@ fn number_found<T>(found: &Found<T>) -> u64 {
 pub(crate) fn is_empty<T>(block: &Block<T>, offset: u64) -> bool
     requires { offset < block_len block.now }
 {
-    matches!(block.look(offset), Look::Empty)
+    let look = block.look(offset);
+    let is_empty = matches!(&look, Look::Empty);
+    drop(look);
+    is_empty
 }
 
 pub(crate) fn is_broken<T>(block: &Block<T>, offset: u64) -> bool
     requires { offset < block_len block.now }
 {
-    matches!(block.look(offset), Look::Broken(_))
+    let look = block.look(offset);
+    let is_broken = matches!(&look, Look::Broken(_));
+    drop(look);
+    is_broken
 }
 
 // Tests whether a value goes into the cell.

@@ -24,7 +24,7 @@ fn fill<T: Drop>(block: &Block<T>, offset: u64, value: T) -> bool {
             true
         }
         Err(found) => {
-            drop(found);
+            drop((found, value));
             false
         }
     }
@@ -353,13 +353,17 @@ fn is_held(table: &mut Table<u64>, key: &Key, k: u32) -> bool
     requires entry { key.now.segment ≡ k }
 {
     let _layout = table.layout();
-    let Some(now) = table.key_now(k) else {
-        return false;
-    };
-    table.agree(key, &now);
-    let is_one = shows(table.known(&now), 1, 7) && table.scout(k).is_some();
-    table.holds_now(&now);
-    is_one && shows(lent(table, k), 1, 7)
+    match table.key_now(k) {
+        Some(now) => {
+            table.agree(key, &now);
+            let is_one = shows(table.known(&now), 1, 7) && table.scout(k).is_some();
+            table.holds_now(&now);
+            let is_held = is_one && shows(lent(table, k), 1, 7);
+            drop(now);
+            is_held
+        }
+        None => false,
+    }
 }
 
 // Returns the block of an entry that is known to be set.

@@ -32,7 +32,16 @@ fn fill<T: Drop>(block: &Block<T>, offset: u64, value: T) -> bool {
 
 // Tests whether the cell at an offset shows the value.
 fn shows(block: &Block<u64>, offset: u64, value: u64) -> bool {
-    offset < block.len() && matches!(block.look(offset), Look::Filled(there, _) if *there == value)
+    if offset >= block.len() {
+        return false;
+    }
+    let look = block.look(offset);
+    let shows = match &look {
+        Look::Filled(there, _) => **there == value,
+        _ => false,
+    };
+    drop(look);
+    shows
 }
 
 // The length of an entry's block, which is installed if it is not there.
@@ -118,7 +127,12 @@ fn has_another_key(table: &Table<u64>, key: &Key) -> bool
 {
     let _layout = table.layout();
     match table.scout_key(2) {
-        Some((block, other)) => shows(block, 0, 6) && is_one_block(table, key, &other.again()),
+        Some((block, other)) => {
+            let again = other.again();
+            let is_so = shows(block, 0, 6) && is_one_block(table, key, &again);
+            drop((other, again));
+            is_so
+        }
         None => false,
     }
 }
@@ -126,7 +140,11 @@ fn has_another_key(table: &Table<u64>, key: &Key) -> bool
 fn has_keys_of_one_block(table: &Table<u64>) -> bool {
     let _layout = table.layout();
     match table.install_key(2) {
-        Ok((block, key)) => fill(block, 0, 6) && has_another_key(table, &key),
+        Ok((block, key)) => {
+            let has_keys = fill(block, 0, 6) && has_another_key(table, &key);
+            drop(key);
+            has_keys
+        }
         Err(_no_memory) => false,
     }
 }
@@ -134,7 +152,9 @@ fn has_keys_of_one_block(table: &Table<u64>) -> bool {
 #[test]
 fn keys_of_one_entry_have_one_block(rt: HostRuntime) {
     let table = Table::new(rt.alloc());
-    assert!(rt; table.scout_key(2).is_none() && has_keys_of_one_block(&table));
+    let is_so = !is_some(table.scout_key(2)) && has_keys_of_one_block(&table);
+    drop(table);
+    assert!(rt; is_so);
 }
 
 // Tests whether an entry's block is there, at the second try if need be. A refused try leaves this many
@@ -380,7 +400,11 @@ fn lent(table: &mut Table<u64>, k: u32) -> &Block<u64>
 fn holds_one(table: &mut Table<u64>) -> bool {
     let _layout = table.layout();
     match key_of(table, 2) {
-        Some(key) => is_held(table, &key, 2),
+        Some(key) => {
+            let is_held = is_held(table, &key, 2);
+            drop(key);
+            is_held
+        }
         None => false,
     }
 }
@@ -412,11 +436,13 @@ fn is_attached_again(table: &mut Table<u64>, key: &Key, other: &Key) -> bool
     let is_out = table.scout(2).is_none() && table.installed() == 1;
     put(&mut block, 3, 9);
     let again = table.attach(2, block);
-    is_out
+    let is_back = is_out
         && again.segment() == 2
         && shows(table.known(&again), 1, 7)
         && shows(table.known(&again), 3, 9)
-        && shows(table.known(other), 1, 6)
+        && shows(table.known(other), 1, 6);
+    drop(again);
+    is_back
 }
 
 fn attaches_again(table: &mut Table<u64>) -> bool {
@@ -441,7 +467,11 @@ fn comes_back(table: &mut Table<u64>, key: &Key) -> bool
 
 fn attaches_for_another(table: &mut Table<u64>) -> bool {
     match key_of(table, 2) {
-        Some(key) => comes_back(table, &key),
+        Some(key) => {
+            let is_back = comes_back(table, &key);
+            drop(key);
+            is_back
+        }
         None => false,
     }
 }
@@ -500,16 +530,22 @@ fn keeps_what_is_detached(table: &mut Table<Counted<'_>>, drops: &AtomicU64, key
 
 fn keeps_the_fourth(table: &mut Table<Counted<'_>>, drops: &AtomicU64) -> bool {
     match key_of(table, 3) {
-        Some(key) => keeps_what_is_detached(table, drops, &key),
+        Some(key) => {
+            let are_kept = keeps_what_is_detached(table, drops, &key);
+            drop(key);
+            are_kept
+        }
         None => false,
     }
 }
 
 // The table is dropped at the end.
 fn drops_one_so_far<'a>(mut table: Table<Counted<'a>>, drops: &'a AtomicU64) -> bool {
-    fills_four(&table, drops)
+    let is_so = fills_four(&table, drops)
         && drops_what_is_given_up(&mut table, drops)
-        && keeps_the_fourth(&mut table, drops)
+        && keeps_the_fourth(&mut table, drops);
+    drop(table);
+    is_so
 }
 
 #[test]
@@ -526,7 +562,9 @@ fn has_segments_of(alloc: Global, f: u32) -> bool {
     let table: Table<u64> = Table::new_in(alloc, layout);
     let lens = (len_of(&table, 0), len_of(&table, 1), len_of(&table, 2));
     let first = 1 << f.min(8);
-    lens == (Some(first), Some(first), Some(2 * first)) && table.installed() == 3
+    let installed = table.installed();
+    drop(table);
+    lens == (Some(first), Some(first), Some(2 * first)) && installed == 3
 }
 
 #[test]

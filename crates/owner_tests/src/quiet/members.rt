@@ -1,6 +1,7 @@
 // Members of lists over many segments, forwards, backwards and from both ends.
 use super::layouts::layout_of;
 use super::steps::{pushes_all, resized};
+use crate::results::succeeded;
 use quiet_core::{MemberSegment, Members, Quiet, QuietError};
 use seg_core::Layout;
 use std::alloc::Global;
@@ -166,9 +167,9 @@ fn are_places(values: &[u64]) -> bool {
 
 // Mends the broken members, and tests whether the list knows which one is the first.
 fn mends_both(list: &mut Quiet<u64>, segments: u64) -> bool {
-    list.mend(FIRST_BROKEN, FIRST_BROKEN).is_ok()
+    succeeded(list.mend(FIRST_BROKEN, FIRST_BROKEN))
         && list.first_broken() == Some(SECOND_BROKEN)
-        && list.mend(SECOND_BROKEN, SECOND_BROKEN).is_ok()
+        && succeeded(list.mend(SECOND_BROKEN, SECOND_BROKEN))
         && list.first_broken().is_none()
         && lent(list) == (segments, None)
 }

@@ -80,7 +80,8 @@ fn drops_each_once<'a>(alloc: Global, drops: &'a AtomicU64) -> Option<bool> {
     let mut list = Quiet::new(alloc, 16);
     let cut = drops_what_it_cuts(&mut list, drops);
     let replaced = drops_what_it_replaces(&mut list, drops, two);
-    Some(cut && replaced && drops_all(list, drops))
+    let dropped = drops_all(list, drops);
+    Some(cut && replaced && dropped)
 }
 
 #[test]

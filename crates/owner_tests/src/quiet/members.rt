@@ -187,7 +187,9 @@ fn come_in_order(alloc: Global, layout: Layout, segments: u64) -> Option<bool> {
     let mut list = after_a_life(list)?;
     let after = are_in_order(&list, segments) && mends_both(&mut list, segments);
     let values = after_a_life(list)?.into_vec().ok()?;
-    Some(before && after && are_places(&values))
+    let are_places = are_places(&values);
+    drop(values);
+    Some(before && after && are_places)
 }
 
 #[test]

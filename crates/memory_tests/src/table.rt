@@ -21,7 +21,7 @@ fn fill<T: Drop>(block: &Block<T>, offset: u64, value: T) -> bool {
             true
         }
         Err(found) => {
-            drop(found);
+            drop((found, value));
             false
         }
     }
@@ -29,7 +29,16 @@ fn fill<T: Drop>(block: &Block<T>, offset: u64, value: T) -> bool {
 
 // Tests whether the cell at an offset shows the value.
 fn shows(block: &Block<u64>, offset: u64, value: u64) -> bool {
-    offset < block.len() && matches!(block.look(offset), Look::Filled(there, _) if *there == value)
+    if offset >= block.len() {
+        return false;
+    }
+    let look = block.look(offset);
+    let shows = match &look {
+        Look::Filled(there, _) => **there == value,
+        _ => false,
+    };
+    drop(look);
+    shows
 }
 
 // The length of an entry's block, which is installed if it is not there.
@@ -135,7 +144,12 @@ fn has_another_key(table: &Table<u64>, key: &Key) -> bool
     // For the proof: the segments are those of a layout.
     let _layout = table.layout();
     match table.scout_key(2) {
-        Some((block, other)) => shows(block, 0, 6) && is_one_block(table, key, &other.again()),
+        Some((block, other)) => {
+            let again = other.again();
+            let is_so = shows(block, 0, 6) && is_one_block(table, key, &again);
+            drop((other, again));
+            is_so
+        }
         None => false,
     }
 }
@@ -144,7 +158,11 @@ fn has_keys_of_one_block(table: &Table<u64>) -> bool {
     // For the proof: the segments are those of a layout.
     let _layout = table.layout();
     match table.install_key(2) {
-        Ok((block, key)) => fill(block, 0, 6) && has_another_key(table, &key),
+        Ok((block, key)) => {
+            let has_keys = fill(block, 0, 6) && has_another_key(table, &key);
+            drop(key);
+            has_keys
+        }
         Err(_no_memory) => false,
     }
 }
@@ -152,7 +170,9 @@ fn has_keys_of_one_block(table: &Table<u64>) -> bool {
 #[test]
 fn keys_of_one_entry_have_one_block(rt: HostRuntime) {
     let table = Table::new(rt.alloc());
-    assert!(rt; table.scout_key(2).is_none() && has_keys_of_one_block(&table));
+    let is_so = !is_some(table.scout_key(2)) && has_keys_of_one_block(&table);
+    drop(table);
+    assert!(rt; is_so);
 }
 
 // Tests whether an entry's block is there, at the second try if need be. A refused try leaves this many
@@ -268,7 +288,9 @@ fn has_segments_of(alloc: Global, f: u32) -> bool {
     let table: Table<u64> = Table::new_in(alloc, layout);
     let lens = (len_of(&table, 0), len_of(&table, 1), len_of(&table, 2));
     let first = 1 << f.min(8);
-    lens == (Some(first), Some(first), Some(2 * first)) && table.installed() == 3
+    let installed = table.installed();
+    drop(table);
+    lens == (Some(first), Some(first), Some(2 * first)) && installed == 3
 }
 
 #[test]

@@ -121,13 +121,17 @@ fn is_held(table: &mut Table<u64>, key: &Key, k: u32) -> bool
 {
     // For the proof: the segments are those of a layout.
     let _layout = table.layout();
-    let Some(now) = table.key_now(k) else {
-        return false;
-    };
-    table.agree(key, &now);
-    let is_one = shows(table.known(&now), 1, 7) && table.scout(k).is_some();
-    table.holds_now(&now);
-    is_one && shows(lent(table, k), 1, 7)
+    match table.key_now(k) {
+        Some(now) => {
+            table.agree(key, &now);
+            let is_one = shows(table.known(&now), 1, 7) && table.scout(k).is_some();
+            table.holds_now(&now);
+            let is_held = is_one && shows(lent(table, k), 1, 7);
+            drop(now);
+            is_held
+        }
+        None => false,
+    }
 }
 
 // Returns the block of an entry that is known to be set.
@@ -145,7 +149,11 @@ fn holds_one(table: &mut Table<u64>) -> bool {
     // For the proof: the segments are those of a layout.
     let _layout = table.layout();
     match key_of(table, 2) {
-        Some(key) => is_held(table, &key, 2),
+        Some(key) => {
+            let is_held = is_held(table, &key, 2);
+            drop(key);
+            is_held
+        }
         None => false,
     }
 }
@@ -178,11 +186,13 @@ fn is_attached_again(table: &mut Table<u64>, key: &Key, other: &Key) -> bool
     let is_out = table.scout(2).is_none() && table.installed() == 1;
     put(&mut block, 3, 9);
     let again = table.attach(2, block);
-    is_out
+    let is_back = is_out
         && again.segment() == 2
         && shows(table.known(&again), 1, 7)
         && shows(table.known(&again), 3, 9)
-        && shows(table.known(other), 1, 6)
+        && shows(table.known(other), 1, 6);
+    drop(again);
+    is_back
 }
 
 fn attaches_again(table: &mut Table<u64>) -> bool {
@@ -207,7 +217,11 @@ fn comes_back(table: &mut Table<u64>, key: &Key) -> bool
 
 fn attaches_for_another(table: &mut Table<u64>) -> bool {
     match key_of(table, 2) {
-        Some(key) => comes_back(table, &key),
+        Some(key) => {
+            let is_back = comes_back(table, &key);
+            drop(key);
+            is_back
+        }
         None => false,
     }
 }

@@ -88,7 +88,10 @@ fn is_begun(cells: &Block<u64>, offset: u64) -> bool
             drop(pen.fill(9));
             true
         }
-        Err(_) => false,
+        Err(found) => {
+            drop(found);
+            false
+        }
     }
 }
 
@@ -99,13 +102,20 @@ fn third_untied(cells: Block<u64, Global, Tied>) -> u64
 {
     let (count, row) = cells.filled_row(0, 20);
     let plain = cells.untie(&row, 0);
-    if count != 3 || !is_begun(&plain, 5) {
-        return 0;
-    }
-    match plain.known(2, &row.at(2)) {
-        Some((value, _)) => *value,
-        None => 0,
-    }
+    let value = if count == 3 && is_begun(&plain, 5) {
+        let third = row.at(2);
+        let known = plain.known(2, &third);
+        let value = match &known {
+            Some((value, _)) => **value,
+            None => 0,
+        };
+        drop((known, third));
+        value
+    } else {
+        0
+    };
+    drop((row, plain));
+    value
 }
 
 #[test]

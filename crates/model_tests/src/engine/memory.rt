@@ -70,7 +70,9 @@ fn ends(alloc: Global, engine: Engine, row: &Row) -> bool {
     if got == Err(RunError::NoMemory) && text.is_empty() {
         got = run(alloc, engine, &mut script.as_bytes(), &mut text);
     }
-    got == *want && text.as_slice() == written.as_bytes()
+    let is_right = got == *want && text.as_slice() == written.as_bytes();
+    drop(text);
+    is_right
 }
 
 #[test]

@@ -72,24 +72,28 @@ pub(super) static ROWS: [Row; 8] = [
 pub(super) fn played(alloc: Global, by_steps: bool, text: &str) -> Result<Played, Fail> {
     let script = read(alloc, text.as_bytes())?;
     let (limit, programs, items) = (script.limit, script.programs, script.items);
-    if by_steps {
-        Ok(play_in(
+    let played = if by_steps {
+        play_in(
             alloc,
             layout_of(script.first),
             limit,
             programs,
             items.as_slice(),
-        )?)
+        )
     } else {
-        Ok(play_calls(alloc, limit, programs, items.as_slice())?)
-    }
+        play_calls(alloc, limit, programs, items.as_slice())
+    };
+    drop((script.names, items));
+    Ok(played?)
 }
 
 #[test]
 fn the_work_of_each_call_is_counted(rt: HostRuntime) -> Result<(), Fail> {
     for (script, works) in ROWS.as_slice() {
         let played = played(rt.alloc(), true, script)?;
-        assert!(rt; played.work.as_slice() == *works, "{script}");
+        let is_counted = played.work.as_slice() == *works;
+        drop(played);
+        assert!(rt; is_counted, "{script}");
     }
     Ok(())
 }
@@ -98,7 +102,9 @@ fn the_work_of_each_call_is_counted(rt: HostRuntime) -> Result<(), Fail> {
 fn whole_calls_have_no_counts(rt: HostRuntime) -> Result<(), Fail> {
     for (script, _) in ROWS.as_slice() {
         let played = played(rt.alloc(), false, script)?;
-        assert!(rt; played.work.is_empty(), "{script}");
+        let is_empty = played.work.is_empty();
+        drop(played);
+        assert!(rt; is_empty, "{script}");
     }
     Ok(())
 }

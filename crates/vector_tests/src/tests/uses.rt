@@ -144,7 +144,11 @@ fn read_opened(
     ensures { (x : ℕ) → IsOpenedAt vector.now place x → result ≡ Some x }
 {
     match vector.at(hand, place, known) {
-        Ok(at) => Some(*at.value),
+        Ok(at) => {
+            let value = *at.value;
+            drop(at);
+            Some(value)
+        }
         Err(refused) => {
             drop(refused);
             None

@@ -50,7 +50,6 @@ const NO_STEP: PhasedStep = PhasedStep {
 };
 
 /// Actors with programs on one vector, which they change by one atomic step at a time.
-#[derive(Drop)]
 pub struct Machine {
     limit: u64,
     storage: Storage,
@@ -71,6 +70,17 @@ impl Model for Machine {
     ghost invariant = { λ m. IsInLimit
         (record { limit = m.limit; storage = m.storage; actors = m.actors.items })
         × HasSegments (record { limit = m.limit; storage = m.storage; actors = m.actors.items }) };
+}
+
+// By hand, since the proof of each caller would go through all fields of a derived drop.
+impl Drop for Machine {
+    fn drop(self) {
+        let Self {
+            limit: _,
+            storage: _,
+            actors: _,
+        } = self;
+    }
 }
 
 impl Machine {

@@ -44,10 +44,8 @@ fn two_have<R: Threads>(rt: &R, element: &Opaque<2>) -> bool {
 #[test]
 fn two_threads_share_an_element(rt: HostRuntime) {
     let element = Opaque::from_words([3, 4]);
-    let have = two_have(&rt, &element);
-    let words = element.into_words();
-    assert!(rt; have);
-    assert_eq!(rt; words, [3, 4]);
+    assert!(rt; two_have(&rt, &element));
+    assert_eq!(rt; element.into_words(), [3, 4]);
 }
 
 // Puts an element into a cell, and takes it out again.
@@ -64,7 +62,5 @@ fn through_a_cell(block: &mut Block<Opaque<3>>, words: [u64; 3]) -> Option<[u64;
 #[test]
 fn an_element_keeps_its_words_in_a_cell(rt: HostRuntime) {
     let mut block = made(&rt, 1);
-    let words = through_a_cell(&mut block, [1, 2, 3]);
-    drop(block);
-    assert!(rt; words == Some([1, 2, 3]));
+    assert!(rt; through_a_cell(&mut block, [1, 2, 3]) == Some([1, 2, 3]));
 }

@@ -21,7 +21,7 @@ fn fill<T: Drop>(block: &Block<T>, offset: u64, value: T) -> bool {
             true
         }
         Err(found) => {
-            drop((found, value));
+            drop(found);
             false
         }
     }
@@ -29,16 +29,7 @@ fn fill<T: Drop>(block: &Block<T>, offset: u64, value: T) -> bool {
 
 // Tests whether the cell at an offset shows the value.
 fn shows(block: &Block<u64>, offset: u64, value: u64) -> bool {
-    if offset >= block.len() {
-        return false;
-    }
-    let look = block.look(offset);
-    let shows = match &look {
-        Look::Filled(there, _) => **there == value,
-        _ => false,
-    };
-    drop(look);
-    shows
+    offset < block.len() && matches!(block.look(offset), Look::Filled(there, _) if *there == value)
 }
 
 // The length of an entry's block, which is installed if it is not there.
@@ -144,12 +135,7 @@ fn has_another_key(table: &Table<u64>, key: &Key) -> bool
     // For the proof: the segments are those of a layout.
     let _layout = table.layout();
     match table.scout_key(2) {
-        Some((block, other)) => {
-            let again = other.again();
-            let is_so = shows(block, 0, 6) && is_one_block(table, key, &again);
-            drop((other, again));
-            is_so
-        }
+        Some((block, other)) => shows(block, 0, 6) && is_one_block(table, key, &other.again()),
         None => false,
     }
 }
@@ -158,11 +144,7 @@ fn has_keys_of_one_block(table: &Table<u64>) -> bool {
     // For the proof: the segments are those of a layout.
     let _layout = table.layout();
     match table.install_key(2) {
-        Ok((block, key)) => {
-            let has_keys = fill(block, 0, 6) && has_another_key(table, &key);
-            drop(key);
-            has_keys
-        }
+        Ok((block, key)) => fill(block, 0, 6) && has_another_key(table, &key),
         Err(_no_memory) => false,
     }
 }
@@ -170,9 +152,7 @@ fn has_keys_of_one_block(table: &Table<u64>) -> bool {
 #[test]
 fn keys_of_one_entry_have_one_block(rt: HostRuntime) {
     let table = Table::new(rt.alloc());
-    let is_so = !is_some(table.scout_key(2)) && has_keys_of_one_block(&table);
-    drop(table);
-    assert!(rt; is_so);
+    assert!(rt; table.scout_key(2).is_none() && has_keys_of_one_block(&table));
 }
 
 // Tests whether an entry's block is there, at the second try if need be. A refused try leaves this many
@@ -288,9 +268,7 @@ fn has_segments_of(alloc: Global, f: u32) -> bool {
     let table: Table<u64> = Table::new_in(alloc, layout);
     let lens = (len_of(&table, 0), len_of(&table, 1), len_of(&table, 2));
     let first = 1 << f.min(8);
-    let installed = table.installed();
-    drop(table);
-    lens == (Some(first), Some(first), Some(2 * first)) && installed == 3
+    lens == (Some(first), Some(first), Some(2 * first)) && table.installed() == 3
 }
 
 #[test]

@@ -145,9 +145,10 @@ fn is_empty_when_taken(
     let offer = Desk::offer_look::<IdleLook, _>(table, desk, badge, &*cells, offset, offset);
     let (look, offer) = cells.look_for(offset, offer);
     offer.back(badge);
-    let is_empty = matches!(&look, Look::Empty);
-    drop(look);
-    is_empty
+    match look {
+        Look::Empty => true,
+        _ => false,
+    }
 }
 
 #[test]
@@ -159,16 +160,17 @@ fn a_tied_cell_is_looked_at_and_the_seat_comes_back(rt: HostRuntime) -> Result<(
     let cells: Block<u64, Global, Tied> = Block::new_for(rt.alloc(), 20, seats)?;
     cells.ties_laws();
     let mut badge = seat.into_badge();
-    let further = tag.further(17);
-    let offer = Desk::offer::<Anything>(&table.shared, &desk, &mut badge, &further, 17);
+    let tag = tag.further(17);
+    let offer = Desk::offer::<Anything>(&table.shared, &desk, &mut badge, &tag, 17);
     let (look, offer) = cells.look_for(17, offer);
-    let empty = matches!(&look, Look::Empty);
-    drop(look);
+    let empty = match look {
+        Look::Empty => true,
+        _ => false,
+    };
     offer.back(&mut badge);
     let seat = badge.into_seat::<u8>();
     let closed = table.close_with(seat);
     closed.free();
-    drop((further, cells, tag, last, desk));
     assert!(rt; empty);
     Ok(())
 }
@@ -182,12 +184,11 @@ fn a_taken_cell_has_no_seat(rt: HostRuntime) -> Result<(), Fail> {
     let mut cells: Block<u64, Global, Tied> = Block::new_for(rt.alloc(), 3, seats)?;
     cells.ties_laws();
     let mut badge = seat.into_badge();
-    let further = tag.further(2);
-    let empty = is_empty_when_taken(&table.shared, &desk, &mut badge, &mut cells, &further, 2);
+    let tag = tag.further(2);
+    let empty = is_empty_when_taken(&table.shared, &desk, &mut badge, &mut cells, &tag, 2);
     let seat = badge.into_seat::<u8>();
     let closed = table.close_with(seat);
     closed.free();
-    drop((further, cells, tag, last, desk));
     assert!(rt; empty);
     Ok(())
 }
@@ -201,8 +202,6 @@ fn an_entry_gets_a_seat_and_a_visit_is_made(rt: HostRuntime) -> Result<(), Fail>
     let visit = Desk::visit::<Anything>(&table.shared, &desk, &mut badge, &tag, 0);
     drop(visit);
     own.lose();
-    let word = table.shared.peek(0);
-    drop((tag, badge, desk, table));
-    assert!(rt; word == 3);
+    assert!(rt; table.shared.peek(0) == 3);
     Ok(())
 }

@@ -70,14 +70,9 @@ fn first_wrong(list: &mut CellVec, rows: &[(Event, Reply)]) -> Option<Event> {
 #[test]
 fn each_event_has_its_reply(rt: HostRuntime) {
     let mut list = CellVec::new(rt.alloc(), 6);
-    let wrong = first_wrong(&mut list, EVENTS.as_slice());
-    let is_right = list.cells() == CELLS.as_slice() && list.limit() == 6;
-    let cells = list.into_cells();
-    let len = cells.len();
-    drop(cells);
-    assert_eq!(rt; wrong, None);
-    assert!(rt; is_right);
-    assert!(rt; len == 4);
+    assert_eq!(rt; first_wrong(&mut list, EVENTS.as_slice()), None);
+    assert!(rt; list.cells() == CELLS.as_slice() && list.limit() == 6);
+    assert!(rt; list.into_cells().len() == 4);
 }
 
 // None of them is legal if actor 0 has claimed two places of a list with a limit of 3.
@@ -123,13 +118,9 @@ fn first_legal(list: &mut CellVec, events: &[Event]) -> Option<Event> {
 #[test]
 fn an_event_that_is_not_legal_changes_nothing(rt: HostRuntime) {
     let mut list = CellVec::new(rt.alloc(), 3);
-    let wrong = first_wrong(&mut list, TWO_CLAIMED.as_slice());
-    let legal = first_legal(&mut list, REFUSED.as_slice());
-    let is_same = list.cells() == TWO_PENDING.as_slice();
-    drop(list);
-    assert!(rt; wrong.is_none());
-    assert_eq!(rt; legal, None);
-    assert!(rt; is_same);
+    assert!(rt; first_wrong(&mut list, TWO_CLAIMED.as_slice()).is_none());
+    assert_eq!(rt; first_legal(&mut list, REFUSED.as_slice()), None);
+    assert!(rt; list.cells() == TWO_PENDING.as_slice());
 }
 
 // Numbers, and whether each is a limit.
@@ -156,9 +147,7 @@ fn is_lent_and_given_back(values: Vec<u64>) -> bool {
         && sequence.len() == 2
         && !sequence.is_empty();
     let values = sequence.into_vec();
-    let is_given_back = values.as_slice() == THREE_AND_FOUR.as_slice();
-    drop(values);
-    is_lent && is_given_back
+    is_lent && values.as_slice() == THREE_AND_FOUR.as_slice()
 }
 
 #[test]

@@ -26,17 +26,16 @@ use step_core::{Played, play, play_calls};
 fn played(alloc: Global, by_steps: bool, text: &str) -> Result<Played, Fail> {
     let Script {
         limit,
-        names,
         programs,
         items,
         ..
     } = read(alloc, text.as_bytes())?;
+    let items = items.as_slice();
     let played = if by_steps {
-        play(alloc, limit, programs, items.as_slice())
+        play(alloc, limit, programs, items)
     } else {
-        play_calls(alloc, limit, programs, items.as_slice())
+        play_calls(alloc, limit, programs, items)
     };
-    drop((names, items));
     Ok(played?)
 }
 

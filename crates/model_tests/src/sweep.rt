@@ -9,9 +9,7 @@ use sweep_core::{SweepReport, sweep};
 fn two_items_cause_no_event_and_end_no_call(rt: HostRuntime) -> Result<(), AllocError> {
     let report = sweep(&rt, rt.alloc(), 1, 5, 2)?;
     let text = report.to_string(rt.alloc())?;
-    let is_right = text.as_str() == "schedules 5\nlegal 5\nevents 0\nended 0\n";
-    drop(text);
-    assert!(rt; is_right);
+    assert!(rt; text.as_str() == "schedules 5\nlegal 5\nevents 0\nended 0\n");
     Ok(())
 }
 

@@ -13,7 +13,6 @@ mod steps;
 mod uses;
 mod vectors;
 
-use crate::results::succeeded;
 use layouts::are_equal;
 pub(crate) use layouts::layout_of;
 use quiet_core::{MemberSegment, Quiet, QuietAt, QuietError};
@@ -66,12 +65,10 @@ fn measures(list: &Quiet<u64>, len: u64, capacity: u64) -> bool {
 
 // Tests whether a list with a broken member is less than one with a zero there.
 fn is_less(broken: Quiet<u64>, zero: Quiet<u64>) -> bool {
-    let is_less = broken < zero
+    broken < zero
         && broken != zero
         && broken.get(1) == Err(QuietAt::Broken)
-        && broken.get(2) == Err(QuietAt::OutOfRange { size: 2 });
-    drop((broken, zero));
-    is_less
+        && broken.get(2) == Err(QuietAt::OutOfRange { size: 2 })
 }
 
 #[test]
@@ -84,12 +81,10 @@ fn broken_is_less_than_every_value(rt: HostRuntime) {
 
 fn gives_from_both_ends(list: &Quiet<u64>) -> bool {
     let mut members = list.iter();
-    let are_given = members.len() == 3
+    members.len() == 3
         && members.next().flatten().copied() == Some(1)
         && members.next_back().flatten().copied() == Some(3)
-        && members.len() == 1;
-    drop(members);
-    are_given
+        && members.len() == 1
 }
 
 fn sum(list: &Quiet<u64>) -> u64 {
@@ -103,9 +98,7 @@ fn sum(list: &Quiet<u64>) -> u64 {
 #[test]
 fn members_come_from_both_ends(rt: HostRuntime) {
     let list = list_of(&rt, &[1, 2, 3]);
-    let are_given = gives_from_both_ends(&list) && sum(&list) == 6;
-    drop(list);
-    assert!(rt; are_given);
+    assert!(rt; gives_from_both_ends(&list) && sum(&list) == 6);
 }
 
 // A number with the digits of `before`, and then these values as digits.
@@ -122,34 +115,29 @@ fn digits(before: u64, values: &[u64]) -> u64 {
 fn walk(list: &Quiet<u64>) -> (u64, u64, u64) {
     let (mut lent, mut lengths, mut broken) = (0u64, 0u64, 0u64);
     for segment in list.segments() {
-        match &segment {
+        match segment {
             MemberSegment::Values(values) => {
-                lent = digits(lent, *values);
+                lent = digits(lent, values);
                 lengths = digits(lengths, &[values.len() as u64]);
             }
-            MemberSegment::Broken { from, n } => broken = digits(broken, &[*from, *n]),
+            MemberSegment::Broken { from, n } => broken = digits(broken, &[from, n]),
         }
-        drop(segment);
     }
     (lent, lengths, broken)
 }
 
 // The same of a list that goes.
 fn walked(list: Quiet<u64>) -> (u64, u64, u64) {
-    let told = walk(&list);
-    drop(list);
-    told
+    walk(&list)
 }
 
 // Makes five members of three, the last one broken, and then six. Tests whether the segments before it still lend.
 fn lends_the_others(mut list: Quiet<u64>) -> bool {
     let refused = Err(QuietError::Refused { made: 1 });
-    let are_lent = resized(&mut list, 5, 4, 1) == (refused, Some(2))
+    resized(&mut list, 5, 4, 1) == (refused, Some(2))
         && walk(&list) == (1_234, 22, 41)
-        && succeeded(list.push(6))
-        && walk(&list) == (1_234, 22, 42);
-    drop(list);
-    are_lent
+        && list.push(6).is_ok()
+        && walk(&list) == (1_234, 22, 42)
 }
 
 #[test]
@@ -177,10 +165,7 @@ fn are_exchanged(list: &mut Quiet<u64>, other: &mut Quiet<u64>) -> bool {
 
 // The same of lists that go, and whether the first one then takes five values.
 fn are_exchanged_and_replaced(alloc: Global, mut list: Quiet<u64>, mut other: Quiet<u64>) -> bool {
-    let is_right = are_exchanged(&mut list, &mut other)
-        && first_wrong(alloc, &mut list, &ASSIGNS_FIVE) == None;
-    drop((list, other));
-    is_right
+    are_exchanged(&mut list, &mut other) && first_wrong(alloc, &mut list, &ASSIGNS_FIVE) == None
 }
 
 #[test]
@@ -206,9 +191,7 @@ fn a_million_values_are_moved_in_and_pushed_on(rt: HostRuntime) {
     match vec![in rt.alloc(); 7u64; 1_000_000] {
         Ok(million) => {
             let mut list = listed(&rt, 1 << 32, million);
-            let wrong = first_wrong(rt.alloc(), &mut list, &AFTER_A_MILLION);
-            drop(list);
-            assert_eq!(rt; wrong, None);
+            assert_eq!(rt; first_wrong(rt.alloc(), &mut list, &AFTER_A_MILLION), None);
         }
         Err(_refused) => panic!(rt; "no memory"),
     }

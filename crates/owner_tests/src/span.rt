@@ -58,10 +58,8 @@ fn leaves_are_cut_in_the_middle(rt: HostRuntime) {
 // A list of the numbers below n.
 fn numbered<R: AllocGlobal + Abort>(rt: &R, n: u64) -> Quiet<u64> {
     let mut list = Quiet::new(rt.alloc(), 1 << 32);
-    match pushes_all(&mut list, 0, n).then_some(list) {
-        Some(list) => list,
-        None => panic!(rt; "no memory"),
-    }
+    assert!(rt; pushes_all(&mut list, 0, n));
+    list
 }
 
 // Tests whether a map returns these places with their values.
@@ -168,26 +166,14 @@ fn sums_of<R: Threads + Wait + Sync>(
     )
 }
 
-// How many workers sum something else, if some do. The sum of the squares is 285, and 29 in eight bits.
-fn sums_something_else<R: Threads + Wait + Sync>(
-    rt: &R,
-    alloc: Global,
-    squares: &Quiet<u64>,
-) -> Option<u32> {
-    for workers in [1, 3].as_slice() {
-        if sums_of(rt, alloc, squares, *workers) != Ok(((29, 285), ((285, 285), 285))) {
-            return Some(*workers);
-        }
-    }
-    None
-}
-
+// The sum of the squares is 285, and 29 in eight bits.
 #[test]
 fn numbers_of_all_types_are_summed_in_pairs(rt: HostRuntime) {
     let list = list_of(&rt, &SQUARES);
-    let wrong = sums_something_else(&rt, rt.alloc(), &list);
-    drop(list);
-    assert_eq!(rt; wrong, None);
+    for workers in [1, 3].as_slice() {
+        let sums = sums_of(&rt, rt.alloc(), &list, *workers);
+        assert!(rt; sums == Ok(((29, 285), ((285, 285), 285))), "{workers}");
+    }
 }
 
 static ALL: [(u64, Option<u64>); 10] = [
@@ -211,30 +197,16 @@ static PAIRS: [(u32, u64, Result<bool, ParError>); 3] = [
     (1, 1000, Err(ParError::Stuck)),
 ];
 
-// The number of workers and of turns of the first pair that a map returns something else for.
-fn returns_something_else<R: Threads + Wait + Sync>(
-    rt: &R,
-    alloc: Global,
-    squares: &Quiet<u64>,
-) -> Option<(u32, u64)> {
-    for (workers, turns, returned) in PAIRS.as_slice() {
-        let gate = PairGate::new(*turns);
-        let span = Span::new(0, squares.len(), 3);
-        if maps(rt, alloc, squares, span, *workers, &gate, &ALL) != *returned {
-            return Some((*workers, *turns));
-        }
-    }
-    None
-}
-
 #[test]
 fn loops_over_ten_squares_return_if_the_gate_lets_them_through(rt: HostRuntime) {
     let list = list_of(&rt, &SQUARES);
-    let is_the_same = every_number_of_workers_answers_the_same(&rt, rt.alloc(), &list);
-    let wrong = returns_something_else(&rt, rt.alloc(), &list);
-    drop(list);
-    assert!(rt; is_the_same);
-    assert_eq!(rt; wrong, None);
+    assert!(rt; every_number_of_workers_answers_the_same(&rt, rt.alloc(), &list));
+    for (workers, turns, returned) in PAIRS.as_slice() {
+        let gate = PairGate::new(*turns);
+        let span = Span::new(0, list.len(), 3);
+        let mapped = maps(&rt, rt.alloc(), &list, span, *workers, &gate, &ALL);
+        assert!(rt; mapped == *returned, "{workers} {turns}");
+    }
 }
 
 #[test]

@@ -24,13 +24,7 @@ pub(crate) fn fill<T: Drop>(block: &Block<T>, offset: u64, value: T) -> Option<P
     ensures offset { IfSome result (λ placed. placed.offset ≡ offset) }
     ensures value { IfSome result (λ placed. placed.value ≡ value) }
 {
-    match block.begin(offset) {
-        Ok(pen) => Some(pen.fill(value)),
-        Err(found) => {
-            drop((found, value));
-            None
-        }
-    }
+    Some(block.begin(offset).ok()?.fill(value))
 }
 
 // A number for what a call got or found: 5 is a pen, which breaks the cell.
@@ -60,19 +54,13 @@ fn number_found<T>(found: &Found<T>) -> u64 {
 pub(crate) fn is_empty<T>(block: &Block<T>, offset: u64) -> bool
     requires { offset < block_len block.now }
 {
-    let look = block.look(offset);
-    let is_empty = matches!(&look, Look::Empty);
-    drop(look);
-    is_empty
+    matches!(block.look(offset), Look::Empty)
 }
 
 pub(crate) fn is_broken<T>(block: &Block<T>, offset: u64) -> bool
     requires { offset < block_len block.now }
 {
-    let look = block.look(offset);
-    let is_broken = matches!(&look, Look::Broken(_));
-    drop(look);
-    is_broken
+    matches!(block.look(offset), Look::Broken(_))
 }
 
 // Tests whether a value goes into the cell.
@@ -135,11 +123,7 @@ fn is_filled_once(block: &Block<u64>) -> bool
 {
     is_empty(block, 2)
         && match fill(block, 2, 5) {
-            Some(placed) => {
-                let stays = stays_filled(block, &placed);
-                drop(placed);
-                stays
-            }
+            Some(placed) => stays_filled(block, &placed),
             None => false,
         }
         && is_empty(block, 1)
@@ -235,11 +219,7 @@ fn is_taken_alone(block: &mut Block<u64>) -> bool
     requires { 2 < block_len block.old }
 {
     match fill(block, 2, 9) {
-        Some(other) => {
-            let is_alone = is_empty_once_taken(block) && *block.value(&other) == 9;
-            drop(other);
-            is_alone
-        }
+        Some(other) => is_empty_once_taken(block) && *block.value(&other) == 9,
         None => false,
     }
 }
@@ -257,11 +237,7 @@ fn gives_up_by_token(block: &mut Block<u64>) -> bool
     ensures others { KeepsOtherCells block.old block.new 1 }
 {
     match fill(block, 1, 5) {
-        Some(placed) => {
-            let value = block.take_value(&placed);
-            drop(placed);
-            value == 5 && is_empty(block, 1)
-        }
+        Some(placed) => block.take_value(&placed) == 5 && is_empty(block, 1),
         None => false,
     }
 }
@@ -270,11 +246,7 @@ fn is_taken_by_token(block: &mut Block<u64>) -> bool
     requires { 2 < block_len block.old }
 {
     match fill(block, 2, 9) {
-        Some(other) => {
-            let is_taken = gives_up_by_token(block) && *block.value(&other) == 9;
-            drop(other);
-            is_taken
-        }
+        Some(other) => gives_up_by_token(block) && *block.value(&other) == 9,
         None => false,
     }
 }
@@ -359,10 +331,9 @@ fn drops_three<'a>(block: &mut Block<Counted<'a>>, drops: &'a AtomicU64) -> bool
 fn each_value_is_dropped_once(rt: HostRuntime) {
     let drops = AtomicU64::new(0);
     let mut block = made(&rt, 5);
-    let are_dropped = drops_three(&mut block, &drops);
+    assert!(rt; drops_three(&mut block, &drops));
     // Cells 0 and 3 are filled, 1 is broken, 2 and 4 are empty.
     drop(block);
-    assert!(rt; are_dropped);
     assert_eq!(rt; count(&drops), 5);
 }
 
@@ -370,9 +341,8 @@ fn each_value_is_dropped_once(rt: HostRuntime) {
 fn a_freed_block_drops_no_value(rt: HostRuntime) {
     let drops = AtomicU64::new(0);
     let block = made(&rt, 3);
-    let is_filled = is_filled(&block, 1, Counted(&drops));
+    assert!(rt; is_filled(&block, 1, Counted(&drops)));
     block.free();
-    assert!(rt; is_filled);
     assert_eq!(rt; count(&drops), 0);
 }
 
@@ -381,27 +351,14 @@ fn ends<T: Copy>(block: &Block<T>, a: T, b: T) -> Option<(T, T)>
     requires { 2 < block_len block.now }
 {
     let first = fill(block, 0, a)?;
-    match fill(block, 2, b) {
-        Some(last) => {
-            let values = (*block.value(&first), *block.value(&last));
-            drop((first, last));
-            Some(values)
-        }
-        None => {
-            drop(first);
-            None
-        }
-    }
+    let last = fill(block, 2, b)?;
+    Some((*block.value(&first), *block.value(&last)))
 }
 
 // Tests whether they are the values that were put into a new block.
 fn lie_apart<T: Copy + PartialEq>(alloc: Global, a: T, b: T) -> bool {
     match Block::new(alloc, 3) {
-        Ok(block) => {
-            let ends = ends(&block, a, b);
-            drop(block);
-            ends == Some((a, b))
-        }
+        Ok(block) => ends(&block, a, b) == Some((a, b)),
         Err(_no_memory) => false,
     }
 }

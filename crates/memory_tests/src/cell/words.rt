@@ -40,7 +40,7 @@ fn number_filled(tried: Result<Pen<'_, u64>, Found<u64>>) -> u64 {
             drop(pen.fill(7));
             6
         }
-        Err(found) => number(Err(found)),
+        lost => number(lost),
     }
 }
 
@@ -78,15 +78,12 @@ fn act(block: &Block<u64>, offset: u64, case: u64) -> u64
 pub(crate) fn shown(block: &Block<u64>, offset: u64) -> u64
     requires { offset < block_len block.now }
 {
-    let look = block.look(offset);
-    let number = match &look {
+    match block.look(offset) {
         Look::Empty => 0,
         Look::Busy => 1,
-        Look::Filled(value, _placed) => **value,
+        Look::Filled(value, _placed) => *value,
         Look::Broken(_spoilt) => 3,
-    };
-    drop(look);
-    number
+    }
 }
 
 // What the calls of a case find, and what the cell then shows.

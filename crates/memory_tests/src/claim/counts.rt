@@ -125,7 +125,6 @@ fn count_by_two<A: Allocator>(
     if a.hand.is_whole() {
         (won, Some(a.close(word)))
     } else {
-        drop((word, a));
         (won, None)
     }
 }

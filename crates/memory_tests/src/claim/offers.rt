@@ -110,8 +110,6 @@ fn lend_whole<A: Allocator>(word: &Word<A>, hand: &mut Hand) -> u64
 #[test]
 fn a_hand_lends_its_seat_to_a_visit(rt: HostRuntime) -> Result<(), Fail> {
     let (word, mut hand) = Word::open(rt.alloc(), 8, 0)?;
-    let seen = lend_whole(&word, &mut hand);
-    drop((word, hand));
-    assert!(rt; seen == 0);
+    assert!(rt; lend_whole(&word, &mut hand) == 0);
     Ok(())
 }

@@ -21,7 +21,7 @@ fn claim_to_limit(word: &Word<Global>, mut hand: Hand) -> (Hand, u64)
         if from >= word.limit() {
             break;
         }
-        if let Some(run) = word.exchange(&mut hand, from, 1).ok() {
+        if let Ok(run) = word.exchange(&mut hand, from, 1) {
             won = won.wrapping_add(run.n);
         }
     }
@@ -81,7 +81,6 @@ fn ended_by_four<R: Threads + Sync>(rt: &R, word: Word<Global>, a: Hand) -> (u64
     if all.is_whole() {
         (won, Some(word.close(all)))
     } else {
-        drop((word, all));
         (won, None)
     }
 }

@@ -49,22 +49,16 @@ fn keeps_what_is_detached(table: &mut Table<Counted<'_>>, drops: &AtomicU64, key
 
 fn keeps_the_fourth(table: &mut Table<Counted<'_>>, drops: &AtomicU64) -> bool {
     match key_of(table, 3) {
-        Some(key) => {
-            let are_kept = keeps_what_is_detached(table, drops, &key);
-            drop(key);
-            are_kept
-        }
+        Some(key) => keeps_what_is_detached(table, drops, &key),
         None => false,
     }
 }
 
 // The table is dropped at the end.
 fn drops_one_so_far<'a>(mut table: Table<Counted<'a>>, drops: &'a AtomicU64) -> bool {
-    let is_so = fills_four(&table, drops)
+    fills_four(&table, drops)
         && drops_what_is_given_up(&mut table, drops)
-        && keeps_the_fourth(&mut table, drops);
-    drop(table);
-    is_so
+        && keeps_the_fourth(&mut table, drops)
 }
 
 #[test]

@@ -121,17 +121,13 @@ fn is_held(table: &mut Table<u64>, key: &Key, k: u32) -> bool
 {
     // For the proof: the segments are those of a layout.
     let _layout = table.layout();
-    match table.key_now(k) {
-        Some(now) => {
-            table.agree(key, &now);
-            let is_one = shows(table.known(&now), 1, 7) && table.scout(k).is_some();
-            table.holds_now(&now);
-            let is_held = is_one && shows(lent(table, k), 1, 7);
-            drop(now);
-            is_held
-        }
-        None => false,
-    }
+    let Some(now) = table.key_now(k) else {
+        return false;
+    };
+    table.agree(key, &now);
+    let is_one = shows(table.known(&now), 1, 7) && table.scout(k).is_some();
+    table.holds_now(&now);
+    is_one && shows(lent(table, k), 1, 7)
 }
 
 // Returns the block of an entry that is known to be set.
@@ -149,11 +145,7 @@ fn holds_one(table: &mut Table<u64>) -> bool {
     // For the proof: the segments are those of a layout.
     let _layout = table.layout();
     match key_of(table, 2) {
-        Some(key) => {
-            let is_held = is_held(table, &key, 2);
-            drop(key);
-            is_held
-        }
+        Some(key) => is_held(table, &key, 2),
         None => false,
     }
 }
@@ -186,13 +178,11 @@ fn is_attached_again(table: &mut Table<u64>, key: &Key, other: &Key) -> bool
     let is_out = table.scout(2).is_none() && table.installed() == 1;
     put(&mut block, 3, 9);
     let again = table.attach(2, block);
-    let is_back = is_out
+    is_out
         && again.segment() == 2
         && shows(table.known(&again), 1, 7)
         && shows(table.known(&again), 3, 9)
-        && shows(table.known(other), 1, 6);
-    drop(again);
-    is_back
+        && shows(table.known(other), 1, 6)
 }
 
 fn attaches_again(table: &mut Table<u64>) -> bool {
@@ -217,11 +207,7 @@ fn comes_back(table: &mut Table<u64>, key: &Key) -> bool
 
 fn attaches_for_another(table: &mut Table<u64>) -> bool {
     match key_of(table, 2) {
-        Some(key) => {
-            let is_back = comes_back(table, &key);
-            drop(key);
-            is_back
-        }
+        Some(key) => comes_back(table, &key),
         None => false,
     }
 }

@@ -59,22 +59,12 @@ fn install_all<'a>(
     won
 }
 
-fn add_tables(alloc: Global, tables: &mut Vec<Table<Counted<'_>>>) -> Result<(), AllocError> {
+fn new_tables<'a>(alloc: Global) -> Result<Vec<Table<Counted<'a>>>, AllocError> {
+    let mut tables = Vec::with_capacity(alloc, TABLES as usize)?;
     for _table in 0..TABLES {
         tables.push(Table::new(alloc))?;
     }
-    Ok(())
-}
-
-fn new_tables<'a>(alloc: Global) -> Result<Vec<Table<Counted<'a>>>, AllocError> {
-    let mut tables = Vec::with_capacity(alloc, TABLES as usize)?;
-    match add_tables(alloc, &mut tables) {
-        Ok(()) => Ok(tables),
-        Err(refused) => {
-            drop(tables);
-            Err(refused)
-        }
-    }
+    Ok(tables)
 }
 
 // How often a thread of two was the first to fill a cell.
@@ -98,10 +88,7 @@ fn have_one_block_each<'a, R: Threads>(
     tables: Vec<Table<Counted<'a>>>,
     drops: &'a AtomicU64,
 ) -> bool {
-    let have = install_from_two(rt, tables.as_slice(), drops) == Some(TABLES)
-        && drops_so_far(drops) == TABLES;
-    drop(tables);
-    have
+    install_from_two(rt, tables.as_slice(), drops) == Some(TABLES) && drops_so_far(drops) == TABLES
 }
 
 #[test]
@@ -133,17 +120,12 @@ fn is_seen_by_two<R: Threads>(rt: &R, table: &Table<u64>, key: &Key) -> bool
             requires { IsKeyIn table.now other }
         { sees(table, &other) },
     );
-    drop(other);
     a && b
 }
 
 fn has_a_key_for_two<R: Threads>(rt: &R, table: &Table<u64>) -> bool {
     match key_of(table, 2) {
-        Some(key) => {
-            let is_seen = is_seen_by_two(rt, table, &key);
-            drop(key);
-            is_seen
-        }
+        Some(key) => is_seen_by_two(rt, table, &key),
         None => false,
     }
 }

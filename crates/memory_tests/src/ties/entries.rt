@@ -154,16 +154,11 @@ fn is_installed_and_found(
     requires row { AreTied (row_of cells.now.tie 2) block.value.cells }
     requires number { last.old.id ≡ last_seat block.value.cells }
 {
-    let is_none = !is_some(find_cell(table, desk, badge, segments, 1, tag, cells, 1));
+    let is_none = find_cell(table, desk, badge, segments, 1, tag, cells, 1).is_none();
     let key = install(table, desk, badge, last, segments, 1, tag, cells, block);
-    let is_again = is_some(find_again(table, desk, badge, segments, tag, cells, &key));
-    drop(key);
+    let is_again = find_again(table, desk, badge, segments, tag, cells, &key).is_some();
     let is_empty = match find_cell(table, desk, badge, segments, 1, tag, cells, 1) {
-        Some((block, cell)) => {
-            let is_empty = is_found_empty(table, desk, badge, block, &cell, 1);
-            drop(cell);
-            is_empty
-        }
+        Some((block, cell)) => is_found_empty(table, desk, badge, block, &cell, 1),
         None => false,
     };
     is_none && is_again && is_empty
@@ -183,18 +178,18 @@ fn a_block_is_installed_and_found_by_visits(rt: HostRuntime) -> Result<(), Fail>
     let (own, tag) = Desk::enter::<Telling>(&table.shared, &desk, &mut badge, 2, 2);
     let mut segments: Segments<u64, Tied> = Segments::new_for(rt.alloc(), Layout::default());
     segments.tie(1, own, &cells);
-    let is_found = is_installed_and_found(
-        &table.shared,
-        &desk,
-        &mut badge,
-        &mut last,
-        &segments,
-        &tag,
-        &cells,
-        block,
+    assert!(rt;
+        is_installed_and_found(
+            &table.shared,
+            &desk,
+            &mut badge,
+            &mut last,
+            &segments,
+            &tag,
+            &cells,
+            block
+        )
     );
-    drop((segments, tag, badge, cells, last, desk, table));
-    assert!(rt; is_found);
     Ok(())
 }
 
@@ -219,15 +214,13 @@ fn is_attached_again(
 
 #[test]
 fn an_owner_has_the_blocks_of_a_tied_table(rt: HostRuntime) -> Result<(), Fail> {
-    let (table, seat) = Table::<u8, u64, (), Telling, Global>::of_words(rt.alloc(), &[0], &())?;
+    let (table, _seat) = Table::<u8, u64, (), Telling, Global>::of_words(rt.alloc(), &[0], &())?;
     let desk = Desk::of(&table.shared);
     let mut last = Badge::blank();
-    let (seats, cells) = Desk::lay::<Telling>(&table.shared, &desk, &mut last, 2);
+    let (seats, _cells) = Desk::lay::<Telling>(&table.shared, &desk, &mut last, 2);
     let block: Block<u64, Global, Tied> = Block::new_for(rt.alloc(), 2, seats)?;
     let block = Box::new(rt.alloc(), block)?;
     let mut segments: Segments<u64, Tied> = Segments::new_for(rt.alloc(), Layout::default());
-    let is_back = is_attached_again(&mut segments, block);
-    drop((segments, cells, last, desk, seat, table));
-    assert!(rt; is_back);
+    assert!(rt; is_attached_again(&mut segments, block));
     Ok(())
 }

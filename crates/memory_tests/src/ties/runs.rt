@@ -88,10 +88,7 @@ fn is_begun(cells: &Block<u64>, offset: u64) -> bool
             drop(pen.fill(9));
             true
         }
-        Err(found) => {
-            drop(found);
-            false
-        }
+        Err(_) => false,
     }
 }
 
@@ -102,20 +99,13 @@ fn third_untied(cells: Block<u64, Global, Tied>) -> u64
 {
     let (count, row) = cells.filled_row(0, 20);
     let plain = cells.untie(&row, 0);
-    let value = if count == 3 && is_begun(&plain, 5) {
-        let third = row.at(2);
-        let known = plain.known(2, &third);
-        let value = match &known {
-            Some((value, _)) => **value,
-            None => 0,
-        };
-        drop((known, third));
-        value
-    } else {
-        0
-    };
-    drop((row, plain));
-    value
+    if count != 3 || !is_begun(&plain, 5) {
+        return 0;
+    }
+    match plain.known(2, &row.at(2)) {
+        Some((value, _)) => *value,
+        None => 0,
+    }
 }
 
 #[test]

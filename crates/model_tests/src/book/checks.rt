@@ -35,18 +35,19 @@ fn check_refuses_two_equal_starts(rt: HostRuntime) -> Result<(), Fail> {
     Ok(())
 }
 
-// Adds the events with the replies of the rows, and with the last entry of the row in the place of the reply
-// of one of them.
-fn add_rows(
-    history: &mut Vec<(Event, Reply)>,
+// The events with the replies of the rows, and with the last entry of the row in the place of the reply of
+// one of them.
+fn with_wrong_reply(
+    alloc: Global,
     rows: &[(Event, Reply, Reply)],
     wrong: usize,
-) -> Result<(), AllocError> {
+) -> Result<Vec<(Event, Reply)>, AllocError> {
+    let mut history = Vec::new(alloc);
     for (row, at) in rows.iter().zip(0..rows.len()) {
         let reply = if at == wrong { row.2 } else { row.1 };
         history.push((row.0, reply))?;
     }
-    Ok(())
+    Ok(history)
 }
 
 // An event, its reply, and a wrong one.
@@ -129,11 +130,10 @@ fn says_of_rows(
     wrong: usize,
     is_legal: bool,
 ) -> bool {
-    let mut history = Vec::new(alloc);
-    let is_said = add_rows(&mut history, rows, wrong).is_ok()
-        && says(alloc, 8, history.as_slice(), is_legal);
-    drop(history);
-    is_said
+    match with_wrong_reply(alloc, rows, wrong) {
+        Ok(history) => says(alloc, 8, history.as_slice(), is_legal),
+        Err(AllocError) => false,
+    }
 }
 
 #[test]
@@ -186,9 +186,14 @@ fn check_refuses_each_event_that_is_not_legal(rt: HostRuntime) {
     }
 }
 
-// Adds claims of one place each, and then the places are finished, the last one by another actor if `owned`
-// is false.
-fn add_long(history: &mut Vec<(Event, Reply)>, places: u64, owned: bool) -> Result<(), AllocError> {
+// Claims of one place each, and then the places are finished, the last one by another actor if `owned` is
+// false.
+fn long_history(
+    alloc: Global,
+    places: u64,
+    owned: bool,
+) -> Result<Vec<(Event, Reply)>, AllocError> {
+    let mut history = Vec::new(alloc);
     for from in 0..places {
         history.push((Event::Claim { actor: 0, n: 1 }, Reply::Run { from, n: 1 }))?;
     }
@@ -204,17 +209,15 @@ fn add_long(history: &mut Vec<(Event, Reply)>, places: u64, owned: bool) -> Resu
             Reply::Done,
         ))?;
     }
-    Ok(())
+    Ok(history)
 }
 
 // Tests whether `check` reads a history of 100,000 events, and says whether it is owned.
 fn reads_a_long_one(alloc: Global, owned: bool) -> bool {
-    let mut history = Vec::new(alloc);
-    let is_read = add_long(&mut history, 50_000, owned).is_ok()
-        && history.len() == 100_000
-        && says(alloc, 65536, history.as_slice(), owned);
-    drop(history);
-    is_read
+    match long_history(alloc, 50_000, owned) {
+        Ok(history) => history.len() == 100_000 && says(alloc, 65536, history.as_slice(), owned),
+        Err(AllocError) => false,
+    }
 }
 
 #[test]

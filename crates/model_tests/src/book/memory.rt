@@ -25,12 +25,8 @@ fn first_wrong(list: &mut CellVec, rows: &[(Event, Reply)]) -> Option<Event> {
 #[test]
 fn an_event_is_tried_again(rt: HostRuntime) {
     let mut list = CellVec::new(rt.alloc(), 6);
-    let wrong = first_wrong(&mut list, EVENTS.as_slice());
-    let cells = list.into_cells();
-    let len = cells.len();
-    drop(cells);
-    assert_eq!(rt; wrong, None);
-    assert!(rt; len == 4);
+    assert_eq!(rt; first_wrong(&mut list, EVENTS.as_slice()), None);
+    assert!(rt; list.into_cells().len() == 4);
 }
 
 #[test]

@@ -70,9 +70,7 @@ fn ends(alloc: Global, engine: Engine, row: &Row) -> bool {
     if got == Err(RunError::NoMemory) && text.is_empty() {
         got = run(alloc, engine, &mut script.as_bytes(), &mut text);
     }
-    let is_right = got == *want && text.as_slice() == written.as_bytes();
-    drop(text);
-    is_right
+    got == *want && text.as_slice() == written.as_bytes()
 }
 
 #[test]

@@ -37,11 +37,9 @@ fn is_read_slowly(alloc: Global, row: &Row) -> bool {
         fails: false,
     };
     let fault = RunError::Script(ScriptError::Empty { line: 1 });
-    let is_whole = run(alloc, engine, &mut reader, &mut text) == Ok(())
+    run(alloc, engine, &mut reader, &mut text) == Ok(())
         && run(alloc, engine, &mut reader, &mut text) == Err(fault)
-        && text.as_slice() == written;
-    drop(text);
-    is_whole
+        && text.as_slice() == written
 }
 
 #[test]
@@ -51,25 +49,18 @@ fn a_reader_may_give_a_byte_at_a_time(rt: HostRuntime) {
     }
 }
 
-// Tests whether a reader that fails after these bytes has no text.
-fn fails_after(alloc: Global, engine: Engine, rest: &'static [u8]) -> bool {
-    let mut text = Vec::new(alloc);
-    let mut reader = Slow {
-        rest,
-        interrupted: false,
-        fails: true,
-    };
-    let ended = run(alloc, engine, &mut reader, &mut text);
-    let is_empty = text.is_empty();
-    drop(text);
-    ended == Err(RunError::Read) && is_empty
-}
-
 // Tests whether a reader that fails after any number of bytes has no text.
 fn fails_without_text(alloc: Global, row: &Row) -> bool {
     let (engine, script, _text) = *row;
     for given in 0..script.len() + 1 {
-        if !fails_after(alloc, engine, &script[..given]) {
+        let mut text = Vec::new(alloc);
+        let mut reader = Slow {
+            rest: &script[..given],
+            interrupted: false,
+            fails: true,
+        };
+        let ended = run(alloc, engine, &mut reader, &mut text);
+        if ended != Err(RunError::Read) || !text.is_empty() {
             return false;
         }
     }
@@ -89,10 +80,8 @@ fn a_read_may_be_interrupted_less_than_1_048_576_times(rt: HostRuntime) {
         let mut text = Vec::new(rt.alloc());
         let mut reader = Interrupted { times: 0 };
         let ended = run(rt.alloc(), *engine, &mut reader, &mut text);
-        let is_empty = text.is_empty();
-        drop(text);
         assert!(rt; ended == Err(RunError::Read), "{engine:?}");
-        assert!(rt; reader.times == 1_048_576 && is_empty, "{engine:?}");
+        assert!(rt; reader.times == 1_048_576 && text.is_empty(), "{engine:?}");
     }
 }
 
@@ -128,15 +117,13 @@ fn ended_after(
     };
     let mut whole = Vec::new(alloc);
     let mut reader = rest;
-    let told = if reads {
+    if reads {
         let ended = run(alloc, engine, &mut slow, &mut whole);
         (ended, whole.as_slice() == text)
     } else {
         let ended = run(alloc, engine, &mut reader, &mut slow);
         (ended, slow.text.as_slice() == text)
-    };
-    drop((slow, whole));
-    told
+    }
 }
 
 #[test]
@@ -169,9 +156,7 @@ fn is_read_to_its_fault(alloc: Global, engine: Engine, line: &(usize, ScriptErro
         interrupted: false,
     };
     let ended = run(alloc, engine, &mut reader, &mut text);
-    let is_empty = text.is_empty();
-    drop(text);
-    ended == Err(RunError::Script(fault)) && reader.given == given && is_empty
+    ended == Err(RunError::Script(fault)) && reader.given == given && text.is_empty()
 }
 
 #[test]
@@ -186,18 +171,14 @@ fn one_byte_too_many_is_read_of_an_endless_line(rt: HostRuntime) {
     }
 }
 
-// Adds a text this many times.
-fn add_times(text: &mut Vec<u8>, added: &[u8], times: u32) -> Result<(), AllocError> {
-    for _time in 0..times {
-        text.extend_from_slice(added)?;
-    }
-    Ok(())
-}
-
-// Adds a script whose play fills 49,000 places.
-fn add_long_script(script: &mut Vec<u8>) -> Result<(), AllocError> {
+// A script whose play fills 49,000 places.
+fn long_script(alloc: Global) -> Result<Vec<u8>, AllocError> {
+    let mut script = Vec::new(alloc);
     script.extend_from_slice(b"limit 65536\nactor a grow 49000 18446744073709551615\nsteps")?;
-    add_times(script, b" a", 98_034)
+    for _step in 0..98_034 {
+        script.extend_from_slice(b" a")?;
+    }
+    Ok(script)
 }
 
 // An engine, and how long the text of that play is: a line of the growth, one of the cells with 21 bytes a
@@ -227,36 +208,35 @@ fn ends_late(
     ended == want && writer.taken == room && writer.flushed == want.is_ok()
 }
 
-// The engine of the first row whose text is not written to its end, or not to a fault at its last byte.
-fn first_cut(alloc: Global, script: &[u8], rows: &[(Engine, usize)]) -> Option<Engine> {
-    for (engine, length) in rows {
-        let whole = ends_late(alloc, *engine, script, *length, Ok(()));
-        let fault = Err(RunError::Write);
-        let part = ends_late(alloc, *engine, script, length.saturating_sub(1), fault);
-        if !whole || !part {
-            return Some(*engine);
-        }
-    }
-    None
-}
-
 #[test]
 fn a_long_text_is_written_to_its_end_or_to_a_late_fault(rt: HostRuntime) -> Result<(), AllocError> {
-    let mut script = Vec::new(rt.alloc());
-    let added = add_long_script(&mut script);
-    let cut = first_cut(rt.alloc(), script.as_slice(), &LONG_TEXTS);
-    drop(script);
-    added?;
-    assert_eq!(rt; cut, None);
+    let script = long_script(rt.alloc())?;
+    for (engine, length) in LONG_TEXTS.as_slice() {
+        let whole = ends_late(rt.alloc(), *engine, &script, *length, Ok(()));
+        assert!(rt; whole, "{engine:?}");
+        let fault = Err(RunError::Write);
+        let part = ends_late(rt.alloc(), *engine, &script, *length - 1, fault);
+        assert!(rt; part, "{engine:?}");
+    }
     Ok(())
 }
 
-// Adds a script of a thousand calls that take one step each.
-fn add_many_calls(script: &mut Vec<u8>) -> Result<(), AllocError> {
+// Adds a text this many times.
+fn add_times(text: &mut Vec<u8>, added: &[u8], times: u32) -> Result<(), AllocError> {
+    for _time in 0..times {
+        text.extend_from_slice(added)?;
+    }
+    Ok(())
+}
+
+// A script of a thousand calls that take one step each.
+fn many_calls(alloc: Global) -> Result<Vec<u8>, AllocError> {
+    let mut script = Vec::new(alloc);
     script.extend_from_slice(b"limit 8\nactor a size")?;
-    add_times(script, b", size", 999)?;
+    add_times(&mut script, b", size", 999)?;
     script.extend_from_slice(b"\nsteps")?;
-    add_times(script, b" a", 1_000)
+    add_times(&mut script, b" a", 1_000)?;
+    Ok(script)
 }
 
 // An engine, and how long the text of that play is: a line of each call, one of no cells, and one of counts for
@@ -266,24 +246,13 @@ static MANY_CALLS: [(Engine, usize); 3] = [
     (Engine::Calls, 11_901), (Engine::Steps, 11_901), (Engine::Counted, 31_794),
 ];
 
-// The engine of the first row whose text is not written to its end.
-fn first_not_whole(alloc: Global, script: &[u8], rows: &[(Engine, usize)]) -> Option<Engine> {
-    for (engine, length) in rows {
-        if !ends_late(alloc, *engine, script, *length, Ok(())) {
-            return Some(*engine);
-        }
-    }
-    None
-}
-
 #[test]
 fn a_text_of_many_calls_is_flushed(rt: HostRuntime) -> Result<(), AllocError> {
-    let mut script = Vec::new(rt.alloc());
-    let added = add_many_calls(&mut script);
-    let wrong = first_not_whole(rt.alloc(), script.as_slice(), &MANY_CALLS);
-    drop(script);
-    added?;
-    assert_eq!(rt; wrong, None);
+    let script = many_calls(rt.alloc())?;
+    for (engine, length) in MANY_CALLS.as_slice() {
+        let whole = ends_late(rt.alloc(), *engine, &script, *length, Ok(()));
+        assert!(rt; whole, "{engine:?}");
+    }
     Ok(())
 }
 
@@ -292,10 +261,7 @@ fn is_written_slowly(alloc: Global, row: &Row) -> bool {
     let (engine, script, text) = *row;
     let mut reader = script;
     let mut writer = Narrow::new(alloc, 100, None);
-    let is_whole = run(alloc, engine, &mut reader, &mut writer) == Ok(())
-        && writer.text.as_slice() == text;
-    drop(writer);
-    is_whole
+    run(alloc, engine, &mut reader, &mut writer) == Ok(()) && writer.text.as_slice() == text
 }
 
 #[test]
@@ -305,21 +271,14 @@ fn a_writer_may_take_a_few_bytes_at_a_time(rt: HostRuntime) {
     }
 }
 
-// Tests whether a writer that fails for want of room has exactly this text.
-fn fails_with(alloc: Global, engine: Engine, script: &[u8], text: &[u8]) -> bool {
-    let mut reader = script;
-    let mut writer = Narrow::new(alloc, text.len(), Some(ErrorKind::StorageFull));
-    let ended = run(alloc, engine, &mut reader, &mut writer);
-    let is_whole = writer.text.as_slice() == text;
-    drop(writer);
-    ended == Err(RunError::Write) && is_whole
-}
-
 // Tests whether a writer that fails has exactly the first bytes of the text, however many it has room for.
 fn fails_at_a_prefix(alloc: Global, row: &Row) -> bool {
     let (engine, script, text) = *row;
     for room in 0..text.len() {
-        if !fails_with(alloc, engine, script, &text[..room]) {
+        let mut reader = script;
+        let mut writer = Narrow::new(alloc, room, Some(ErrorKind::StorageFull));
+        let ended = run(alloc, engine, &mut reader, &mut writer);
+        if ended != Err(RunError::Write) || writer.text.as_slice() != &text[..room] {
             return false;
         }
     }
@@ -338,10 +297,8 @@ fn a_writer_that_takes_no_byte_fails(rt: HostRuntime) {
     for engine in ENGINES.as_slice() {
         let mut writer = Narrow::new(rt.alloc(), 0, None);
         let ended = run(rt.alloc(), *engine, &mut &SCRIPT[..], &mut writer);
-        let is_empty = writer.text.is_empty();
-        drop(writer);
         assert!(rt; ended == Err(RunError::Write), "{engine:?}");
-        assert!(rt; is_empty, "{engine:?}");
+        assert!(rt; writer.text.is_empty(), "{engine:?}");
     }
 }
 
@@ -352,9 +309,7 @@ fn a_text_that_is_not_flushed_is_a_fault(rt: HostRuntime) {
         let mut writer = Unflushed { text };
         let mut reader = *script;
         let ended = run(rt.alloc(), *engine, &mut reader, &mut writer);
-        let is_whole = writer.text.as_slice() == *written;
-        drop(writer);
         assert!(rt; ended == Err(RunError::Write), "{engine:?}");
-        assert!(rt; is_whole, "{engine:?}");
+        assert!(rt; writer.text.as_slice() == *written, "{engine:?}");
     }
 }

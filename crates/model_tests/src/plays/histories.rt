@@ -1,13 +1,11 @@
 //! Plays by atomic steps: which events they have. The program prints none.
 
-ghost use Rattle.std.specs.Prelude.{◌≤◌, length};
-
 use super::played;
-use book_core::{Command, Event, Item, Reply, Sequence, check};
+use book_core::{Event, Reply, check};
 use script_core::{Script, read};
 use std::alloc::Global;
 use std::test::Fail;
-use step_core::{PlayError, Played, play};
+use step_core::play;
 
 // A script, and the events of its play.
 type Row = (&'static str, &'static [(Event, Reply)]);
@@ -52,10 +50,7 @@ pub(super) static ROWS: [Row; 5] = [
 
 // Tests whether the play of a script has these events.
 fn has_events(alloc: Global, script: &str, events: &[(Event, Reply)]) -> Result<bool, Fail> {
-    let played = played(alloc, true, script)?;
-    let are_these = played.events.as_slice() == events;
-    drop(played);
-    Ok(are_these)
+    Ok(played(alloc, true, script)?.events.as_slice() == events)
 }
 
 #[test]
@@ -97,47 +92,22 @@ static SCRIPTS: [&'static str; 26] = [
     "limit 8\nactor a atleast 0 3\nsteps a",
 ];
 
-// The play of the first `stop` items, if there are as many.
-fn played_until(
-    alloc: Global,
-    limit: u64,
-    programs: Sequence<Sequence<Command>>,
-    items: &[Item],
-    stop: usize,
-) -> Result<Option<Played>, PlayError>
-    requires { length programs ≤ 65536 }
-{
-    match items.get(..stop) {
-        Some(items) => Ok(Some(play(alloc, limit, programs, items)?)),
-        None => {
-            drop(programs);
-            Ok(None)
-        }
-    }
-}
-
 // Tests whether the events are a history if the play of a script stops after `stop` items.
 fn is_history(alloc: Global, script: &str, stop: usize) -> Result<bool, Fail> {
     let Script {
         limit,
-        names,
         programs,
         items,
         ..
     } = read(alloc, script.as_bytes())?;
-    let played = played_until(alloc, limit, programs, items.as_slice(), stop);
-    drop((names, items));
-    let played = played?.ok_or("no such item")?;
-    let is_legal = check(alloc, limit, played.events.as_slice());
-    drop(played);
-    Ok(is_legal?)
+    let items = items.as_slice().get(..stop).ok_or("no such item")?;
+    let played = play(alloc, limit, programs, items)?;
+    Ok(check(alloc, limit, played.events.as_slice())?)
 }
 
 // Tests whether they are, at every stop, after the last item too.
 fn are_histories(alloc: Global, script: &str) -> Result<bool, Fail> {
-    let parts = read(alloc, script.as_bytes())?;
-    let items = parts.items.len();
-    drop(parts);
+    let items = read(alloc, script.as_bytes())?.items.len();
     for stop in 0..items + 1 {
         if !is_history(alloc, script, stop)? {
             return Ok(false);

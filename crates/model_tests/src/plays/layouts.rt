@@ -21,24 +21,16 @@ pub(super) fn layout_of(f: u32) -> Layout {
 // A new machine at the programs of a script.
 fn machine_in(alloc: Global, f: u32, text: &[u8]) -> Result<Machine, Fail> {
     let script = read(alloc, text)?;
-    drop((script.names, script.items));
     Ok(Machine::new_in(alloc, layout_of(f), script.limit, script.programs)?)
 }
 
-// The size of a machine after some steps of its one actor.
-fn stepped_size(machine: &mut Machine, steps: u32) -> Result<u64, Fail> {
+// The size of a new machine after some steps of its one actor, which grows it by 300.
+fn size_after(alloc: Global, f: u32, steps: u32) -> Result<u64, Fail> {
+    let mut machine = machine_in(alloc, f, b"limit 300\nactor a grow 300 7\nsteps")?;
     for _step in 0..steps {
         machine.step(0, true)?;
     }
     Ok(machine.size())
-}
-
-// The same of a new machine, whose actor grows it by 300.
-fn size_after(alloc: Global, f: u32, steps: u32) -> Result<u64, Fail> {
-    let mut machine = machine_in(alloc, f, b"limit 300\nactor a grow 300 7\nsteps")?;
-    let size = stepped_size(&mut machine, steps);
-    drop(machine);
-    size
 }
 
 #[test]
@@ -81,9 +73,7 @@ fn is_filled_after(machine: &mut Machine, steps: u32) -> bool {
 // Tests whether the last of 65,536 places is filled exactly at the last of these steps.
 fn is_filled_by(alloc: Global, f: u32, steps: u32) -> Result<bool, Fail> {
     let mut machine = machine_in(alloc, f, b"limit 65536\nactor a grow 65536 7\nsteps")?;
-    let is_filled = is_filled_after(&mut machine, steps.saturating_sub(1));
-    drop(machine);
-    Ok(is_filled)
+    Ok(is_filled_after(&mut machine, steps.saturating_sub(1)))
 }
 
 #[test]
@@ -117,22 +107,17 @@ static PLAYS: [(u32, Seen, Seen); 8] = [
 fn played_in(alloc: Global, f: u32, text: &str) -> Result<Played, Fail> {
     let Script {
         limit,
-        names,
         programs,
         items,
         ..
     } = read(alloc, text.as_bytes())?;
-    let played = play_in(alloc, layout_of(f), limit, programs, items.as_slice());
-    drop((names, items));
-    Ok(played?)
+    Ok(play_in(alloc, layout_of(f), limit, programs, items.as_slice())?)
 }
 
 fn seen(alloc: Global, f: u32, text: &str) -> Result<Seen, Fail> {
     let played = played_in(alloc, f, text)?;
     let answer = played.ended.as_slice().first().map(|ended| ended.answer);
-    let cell = played.cells.as_slice().get(2).copied();
-    drop(played);
-    Ok((answer, cell))
+    Ok((answer, played.cells.as_slice().get(2).copied()))
 }
 
 #[test]

@@ -37,41 +37,29 @@ pub(super) fn line_of(alloc: Global, row: &Row) -> Result<Vec<u8>, WriteFault> {
         answer: row.2,
     };
     let mut text = Vec::new(alloc);
-    match write_reply(&mut text, b'a', &ended) {
-        Ok(()) => Ok(text),
-        Err(fault) => {
-            drop(text);
-            Err(fault)
-        }
-    }
+    write_reply(&mut text, b'a', &ended)?;
+    Ok(text)
 }
 
 #[test]
 fn answer_lines_are_written(rt: HostRuntime) -> Result<(), WriteFault> {
     for row in ANSWERS.as_slice() {
-        let line = line_of(rt.alloc(), row)?;
-        let is_right = line.as_slice() == row.3.as_bytes();
-        drop(line);
-        assert!(rt; is_right, "{}", row.3);
+        assert!(rt;
+            line_of(rt.alloc(), row)?.as_slice() == row.3.as_bytes(),
+            "{}",
+            row.3
+        );
     }
     Ok(())
 }
 
 static CELLS: [Cell; 3] = [Cell::Filled(7), Cell::Pending(1), Cell::Broken];
 
-// Writes no cells, and then three.
-fn write_both(text: &mut Vec<u8>) -> Result<(), WriteFault> {
-    write_cells(text, &[])?;
-    write_cells(text, &CELLS)
-}
-
 #[test]
 fn cells_are_written(rt: HostRuntime) -> Result<(), WriteFault> {
     let mut text = Vec::new(rt.alloc());
-    let written = write_both(&mut text);
-    let is_right = text.as_slice() == b"size 0:\nsize 3: 7 . x\n".as_slice();
-    drop(text);
-    written?;
-    assert!(rt; is_right);
+    write_cells(&mut text, &[])?;
+    write_cells(&mut text, &CELLS)?;
+    assert!(rt; text.as_slice() == b"size 0:\nsize 3: 7 . x\n".as_slice());
     Ok(())
 }

@@ -44,12 +44,11 @@ pub(super) static PLAYS: [(&'static str, &'static [Row]); 3] = [
 // A machine at the programs of a script.
 pub(super) fn machine(alloc: Global, script: &str) -> Result<Machine, Fail> {
     let script = read(alloc, script.as_bytes())?;
-    drop((script.names, script.items));
     Ok(Machine::new(alloc, script.limit, script.programs)?)
 }
 
 // Tests whether the size and the events after each step of a machine are those of these rows.
-fn takes(machine: &mut Machine, rows: &[Row]) -> Result<bool, Fail> {
+fn takes(mut machine: Machine, rows: &[Row]) -> Result<bool, Fail> {
     for (actor, size, is_event) in rows {
         let stepped = machine.step(*actor, true)?;
         if machine.size() != *size || stepped.event.is_some() != *is_event {
@@ -62,10 +61,7 @@ fn takes(machine: &mut Machine, rows: &[Row]) -> Result<bool, Fail> {
 #[test]
 fn the_size_moves_at_the_claiming_steps(rt: HostRuntime) -> Result<(), Fail> {
     for (script, rows) in PLAYS.as_slice() {
-        let mut machine = machine(rt.alloc(), script)?;
-        let are_taken = takes(&mut machine, rows);
-        drop(machine);
-        assert!(rt; are_taken?, "{script}");
+        assert!(rt; takes(machine(rt.alloc(), script)?, rows)?, "{script}");
     }
     Ok(())
 }
@@ -102,9 +98,7 @@ fn has_slots(machine: &mut Machine, slots: &[Option<CellSlot>]) -> bool {
 #[test]
 fn a_slot_is_busy_for_the_actor_that_began_it(rt: HostRuntime) -> Result<(), Fail> {
     let mut machine = machine(rt.alloc(), PUSHES)?;
-    let is_busy = has_slots(&mut machine, SLOTS.as_slice()) && machine.slot(1).is_none();
-    drop(machine);
-    assert!(rt; is_busy);
+    assert!(rt; has_slots(&mut machine, SLOTS.as_slice()) && machine.slot(1).is_none());
     Ok(())
 }
 
@@ -132,43 +126,23 @@ fn ends_without_memory(machine: &mut Machine) -> bool {
 #[test]
 fn a_refused_segment_ends_the_call_though_it_is_there(rt: HostRuntime) -> Result<(), Fail> {
     let mut machine = machine(rt.alloc(), PUSHES)?;
-    let are_no_events = have_no_event(&mut machine, BEFORE.as_slice());
-    let is_empty = machine.actors() == 2 && machine.size() == 0 && machine.slot(0).is_none();
-    let is_ended = ends_without_memory(&mut machine);
-    drop(machine);
-    assert!(rt; are_no_events);
-    assert!(rt; is_empty);
-    assert!(rt; is_ended);
+    assert!(rt; have_no_event(&mut machine, BEFORE.as_slice()));
+    assert!(rt; machine.actors() == 2 && machine.size() == 0 && machine.slot(0).is_none());
+    assert!(rt; ends_without_memory(&mut machine));
     Ok(())
 }
 
-// Adds an actor for each number below a bound, each with one call.
-fn add_one_call_each(
-    alloc: Global,
-    programs: &mut Vec<Sequence<Command>>,
-    actors: u32,
-    call: Command,
-) -> Result<(), AllocError> {
-    for _actor in 0..actors {
-        programs.push(Sequence::from_vec(vec![in alloc; call]?))?;
-    }
-    Ok(())
-}
-
-// Actors with one call each.
+// An actor for each number below a bound, each with one call.
 fn one_call_each(
     alloc: Global,
     actors: u32,
     call: Command,
 ) -> Result<Sequence<Sequence<Command>>, AllocError> {
     let mut programs = Vec::new(alloc);
-    match add_one_call_each(alloc, &mut programs, actors, call) {
-        Ok(()) => Ok(Sequence::from_vec(programs)),
-        Err(refused) => {
-            drop(programs);
-            Err(refused)
-        }
+    for _actor in 0..actors {
+        programs.push(Sequence::from_vec(vec![in alloc; call]?))?;
     }
+    Ok(Sequence::from_vec(programs))
 }
 
 // Takes six steps of an actor, and returns whether there was memory.
@@ -193,30 +167,12 @@ fn is_filled_by_all(machine: &mut Machine) -> bool {
         && machine.slot(65_535) == Some(CellSlot::Filled(9))
 }
 
-// The machine of these programs, if they are the most that there may be.
-fn machine_of_most(
-    alloc: Global,
-    programs: Sequence<Sequence<Command>>,
-) -> Result<Option<Machine>, MakeError> {
-    if programs.len() == 65_536 {
-        Ok(Some(Machine::new(alloc, 1_099_511_627_776, programs)?))
-    } else {
-        drop(programs);
-        Ok(None)
-    }
-}
-
 #[test]
 fn the_most_programs_are_played(rt: HostRuntime) -> Result<(), Fail> {
     let programs = one_call_each(rt.alloc(), 65_536, Command::Push { value: 9 })?;
-    match machine_of_most(rt.alloc(), programs)? {
-        Some(mut machine) => {
-            let is_filled = is_filled_by_all(&mut machine);
-            drop(machine);
-            assert!(rt; is_filled);
-        }
-        None => panic!(rt; "not every actor has its call"),
-    }
+    assert!(rt; programs.len() == 65_536);
+    let mut machine = Machine::new(rt.alloc(), 1_099_511_627_776, programs)?;
+    assert!(rt; is_filled_by_all(&mut machine));
     Ok(())
 }
 

@@ -8,7 +8,7 @@ use super::{histories, layouts, lines, machine, scripts, whole_calls, work};
 use book_core::{Event, Reply};
 use script_core::{Script, ScriptError, read};
 use std::alloc::Global;
-use step_core::{Machine, MakeError, PlayError, Played, Stepped, play, play_calls, play_in};
+use step_core::{Machine, MakeError, PlayError, Stepped, play, play_calls, play_in};
 
 fn is_read_again(alloc: Global, row: &scripts::Row) -> bool {
     let mut answer = scripts::is_read(alloc, row);
@@ -48,23 +48,15 @@ fn texts_are_read_again(rt: HostRuntime) {
     }
 }
 
-// The line of a row, at the second try if its writer was refused memory.
-fn line_again(alloc: Global, row: &lines::Row) -> Option<Vec<u8>> {
-    match lines::line_of(alloc, row) {
-        Ok(line) => Some(line),
-        Err(_fault) => lines::line_of(alloc, row).ok(),
-    }
-}
-
-// Tests whether a line is written so.
+// Tests whether a line is written, at the second try if its writer was refused memory.
 fn is_written_again(alloc: Global, row: &lines::Row) -> bool {
-    match line_again(alloc, row) {
-        Some(line) => {
-            let is_right = line.as_slice() == row.3.as_bytes();
-            drop(line);
-            is_right
-        }
-        None => false,
+    let mut line = lines::line_of(alloc, row);
+    if line.is_err() {
+        line = lines::line_of(alloc, row);
+    }
+    match line {
+        Ok(line) => line.as_slice() == row.3.as_bytes(),
+        Err(_fault) => false,
     }
 }
 
@@ -80,30 +72,19 @@ fn script_again(alloc: Global, text: &str) -> Result<Script, ScriptError>
     ensures { IfOk result (λ script. length script.programs ≤ most_programs) }
 {
     match read(alloc, text.as_bytes()) {
-        Ok(script) => Ok(script),
-        Err(fault) => {
-            if fault == ScriptError::NoMemory {
-                read(alloc, text.as_bytes())
-            } else {
-                Err(fault)
-            }
-        }
+        Err(ScriptError::NoMemory) => read(alloc, text.as_bytes()),
+        ended => ended,
     }
 }
 
 // The machine of a script, by `new_in`, or by `new` if no layout is named.
 fn machine_of(alloc: Global, first: Option<u32>, text: &str) -> Result<Machine, MakeError> {
-    match script_again(alloc, text) {
-        Ok(script) => {
-            drop((script.names, script.items));
-            match first {
-                Some(f) => {
-                    Machine::new_in(alloc, layouts::layout_of(f), script.limit, script.programs)
-                }
-                None => Machine::new(alloc, script.limit, script.programs),
-            }
-        }
-        Err(_fault) => Err(MakeError::BadLimit),
+    let Ok(script) = script_again(alloc, text) else {
+        return Err(MakeError::BadLimit);
+    };
+    match first {
+        Some(f) => Machine::new_in(alloc, layouts::layout_of(f), script.limit, script.programs),
+        None => Machine::new(alloc, script.limit, script.programs),
     }
 }
 
@@ -129,26 +110,17 @@ fn step_again(machine: &mut Machine, actor: u32) -> Option<Stepped> {
 }
 
 // Tests whether a machine takes its steps as these rows have them.
-fn takes_again(machine: &mut Machine, rows: &[machine::Row]) -> bool {
+fn steps_again(alloc: Global, first: Option<u32>, text: &str, rows: &[machine::Row]) -> bool {
+    let Ok(mut machine) = machine_again(alloc, first, text) else {
+        return false;
+    };
     for (actor, size, is_event) in rows {
-        match step_again(machine, *actor) {
+        match step_again(&mut machine, *actor) {
             Some(stepped) if stepped.event.is_some() == *is_event && machine.size() == *size => {}
             _ => return false,
         }
     }
     true
-}
-
-// The same of a new machine.
-fn steps_again(alloc: Global, first: Option<u32>, text: &str, rows: &[machine::Row]) -> bool {
-    match machine_again(alloc, first, text) {
-        Ok(mut machine) => {
-            let are_taken = takes_again(&mut machine, rows);
-            drop(machine);
-            are_taken
-        }
-        Err(_refused) => false,
-    }
 }
 
 #[test]
@@ -159,34 +131,23 @@ fn machines_are_made_again_and_steps_taken_again(rt: HostRuntime) {
     }
 }
 
-// The play of a script, by `play` or `play_calls`.
-fn played(alloc: Global, by_steps: bool, text: &str) -> Result<Played, PlayError> {
-    match script_again(alloc, text) {
-        Ok(script) => {
-            let (limit, programs, items) = (script.limit, script.programs, script.items);
-            let played = if by_steps {
-                play(alloc, limit, programs, items.as_slice())
-            } else {
-                play_calls(alloc, limit, programs, items.as_slice())
-            };
-            drop((script.names, items));
-            played
-        }
-        Err(_fault) => Err(PlayError::BadLimit),
-    }
-}
-
-// Tests whether that play has these events.
+// Tests whether the play of a script, by `play` or `play_calls`, has these events.
 fn has_events(
     alloc: Global,
     by_steps: bool,
     text: &str,
     events: &[(Event, Reply)],
 ) -> Result<bool, PlayError> {
-    let played = played(alloc, by_steps, text)?;
-    let are_these = played.events.as_slice() == events;
-    drop(played);
-    Ok(are_these)
+    let Ok(script) = script_again(alloc, text) else {
+        return Err(PlayError::BadLimit);
+    };
+    let (limit, programs, items) = (script.limit, script.programs, script.items);
+    let played = if by_steps {
+        play(alloc, limit, programs, items.as_slice())?
+    } else {
+        play_calls(alloc, limit, programs, items.as_slice())?
+    };
+    Ok(played.events.as_slice() == events)
 }
 
 fn has_events_again(alloc: Global, by_steps: bool, text: &str, events: &[(Event, Reply)]) -> bool {
@@ -206,26 +167,15 @@ fn schedules_are_played_again(rt: HostRuntime) {
     assert!(rt; has_events_again(rt.alloc(), false, whole_calls::EVERY_COMMAND, events));
 }
 
-// The play of a script by `play_in`.
-fn played_in(alloc: Global, text: &str) -> Result<Played, PlayError> {
-    match script_again(alloc, text) {
-        Ok(script) => {
-            let layout = layouts::layout_of(script.first);
-            let (limit, programs, items) = (script.limit, script.programs, script.items);
-            let played = play_in(alloc, layout, limit, programs, items.as_slice());
-            drop((script.names, items));
-            played
-        }
-        Err(_fault) => Err(PlayError::BadLimit),
-    }
-}
-
-// Tests whether that play took what its row has.
+// Tests whether the play of a script by `play_in` took what its row has.
 fn took(alloc: Global, row: &work::Row) -> Result<bool, PlayError> {
-    let played = played_in(alloc, row.0)?;
-    let is_right = played.work.as_slice() == row.1;
-    drop(played);
-    Ok(is_right)
+    let Ok(script) = script_again(alloc, row.0) else {
+        return Err(PlayError::BadLimit);
+    };
+    let layout = layouts::layout_of(script.first);
+    let (limit, programs, items) = (script.limit, script.programs, script.items);
+    let played = play_in(alloc, layout, limit, programs, items.as_slice())?;
+    Ok(played.work.as_slice() == row.1)
 }
 
 fn took_again(alloc: Global, row: &work::Row) -> bool {

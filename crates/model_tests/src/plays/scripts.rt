@@ -1,6 +1,6 @@
 //! Scripts as values: what is read, and how a fault is shown.
 
-use book_core::{Command, Item, Sequence};
+use book_core::{Command, Item};
 use script_core::{ScriptError, read};
 use std::alloc::Global;
 use std::test::Fail;
@@ -38,13 +38,13 @@ pub(super) static ROWS: [Row; 7] = [
 pub(super) fn is_read(alloc: Global, row: &Row) -> Result<bool, ScriptError> {
     let (text, limit, first, names, items) = row;
     let script = read(alloc, text.as_bytes())?;
-    let is_right = script.limit == *limit
-        && script.first == *first
-        && script.names.as_slice() == *names
-        && script.items.as_slice() == *items
-        && script.programs.len() == names.len();
-    drop(script);
-    Ok(is_right)
+    Ok(
+        script.limit == *limit
+            && script.first == *first
+            && script.names.as_slice() == *names
+            && script.items.as_slice() == *items
+            && script.programs.len() == names.len(),
+    )
 }
 
 #[test]
@@ -71,33 +71,20 @@ static PROGRAM: [Command; 6] = [
 const COMMANDS: &str =
     "limit 2\nactor z push 18446744073709551615, grow 0 7, atleast 9 2, fail 3 7 2, read 1, size\nsteps";
 
-// Tests whether there is one program, which has each command.
-fn are_commands(programs: &[Sequence<Command>]) -> bool {
-    programs.len() == 1 && programs[0].as_slice() == PROGRAM.as_slice()
-}
-
 #[test]
 fn each_command_is_read(rt: HostRuntime) -> Result<(), Fail> {
-    let script = read(rt.alloc(), COMMANDS.as_bytes())?;
-    let are_read = are_commands(script.programs.as_slice());
-    drop(script);
-    assert!(rt; are_read);
+    let programs = read(rt.alloc(), COMMANDS.as_bytes())?.programs;
+    assert!(rt; programs.len() == 1);
+    assert!(rt; programs.as_slice()[0].as_slice() == PROGRAM.as_slice());
     Ok(())
-}
-
-// Tests whether an error is shown as this text.
-fn is_shown(alloc: Global, error: ScriptError, shown: &str) -> Result<bool, Fail> {
-    let text = error.to_string(alloc)?;
-    let is_so = text.as_str() == shown;
-    drop(text);
-    Ok(is_so)
 }
 
 #[test]
 fn an_error_is_shown_in_one_line(rt: HostRuntime) -> Result<(), Fail> {
-    let fault = ScriptError::BadCommand { line: 2 };
-    assert!(rt; is_shown(rt.alloc(), fault, "line 2: fault 7")?);
-    assert!(rt; is_shown(rt.alloc(), ScriptError::NoMemory, "memory")?);
+    let fault = ScriptError::BadCommand { line: 2 }.to_string(rt.alloc())?;
+    assert!(rt; fault.as_str() == "line 2: fault 7");
+    let memory = ScriptError::NoMemory.to_string(rt.alloc())?;
+    assert!(rt; memory.as_str() == "memory");
     assert!(rt; ScriptError::NoMemory.number() == 1 && ScriptError::NoMemory.line().is_none());
     Ok(())
 }

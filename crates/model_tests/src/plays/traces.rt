@@ -39,7 +39,7 @@ static TRACES: [Row; 3] = [
 ];
 
 // Tests whether the steps of a machine find this.
-fn finds(machine: &mut Machine, steps: &[(u32, Finding)]) -> Result<bool, Fail> {
+fn finds(mut machine: Machine, steps: &[(u32, Finding)]) -> Result<bool, Fail> {
     for (actor, want) in steps {
         let item = Item {
             actor: *actor,
@@ -56,10 +56,7 @@ fn finds(machine: &mut Machine, steps: &[(u32, Finding)]) -> Result<bool, Fail> 
 #[test]
 fn each_step_finds_what_the_table_says(rt: HostRuntime) -> Result<(), Fail> {
     for (script, steps) in TRACES.as_slice() {
-        let mut machine = machine(rt.alloc(), script)?;
-        let are_found = finds(&mut machine, steps);
-        drop(machine);
-        assert!(rt; are_found?, "{script}");
+        assert!(rt; finds(machine(rt.alloc(), script)?, steps)?, "{script}");
     }
     Ok(())
 }
@@ -73,23 +70,14 @@ static PHASES: [Phase; 6] = [
     Phase::Fill { from: 0, n: 1, place: 0 },
 ];
 
-// Tests whether an actor's one push has these phases, and then no call is left.
-fn has_phases(machine: &mut Machine, phases: &[Phase]) -> Result<bool, Fail> {
-    for phase in phases {
-        if machine.call(0) != Some((1, PUSH)) || machine.phase(0) != *phase {
-            return Ok(false);
-        }
-        machine.step(0, true)?;
-    }
-    Ok(machine.call(0).is_none() && machine.phase(0) == Phase::Load)
-}
-
 #[test]
 fn a_push_has_six_phases_and_then_no_call_is_left(rt: HostRuntime) -> Result<(), Fail> {
     let mut machine = machine(rt.alloc(), "limit 8\nactor a push 5\nsteps")?;
-    let are_passed = has_phases(&mut machine, PHASES.as_slice());
-    drop(machine);
-    assert!(rt; are_passed?);
+    for phase in PHASES.as_slice() {
+        assert!(rt; machine.call(0) == Some((1, PUSH)) && machine.phase(0) == *phase);
+        machine.step(0, true)?;
+    }
+    assert!(rt; machine.call(0).is_none() && machine.phase(0) == Phase::Load);
     Ok(())
 }
 

@@ -74,7 +74,6 @@ fn callers_know_who_owns_each_place_and_value(rt: HostRuntime) -> Result<(), Fai
     let text = b"limit 8\nactor a push 5\nactor b push 6, read 0\nsteps a a a a a a b b b b b b b";
     let Script {
         limit,
-        names,
         programs,
         items,
         ..
@@ -85,12 +84,8 @@ fn callers_know_who_owns_each_place_and_value(rt: HostRuntime) -> Result<(), Fai
         limit,
         programs,
         items.as_slice(),
-    );
-    drop((names, items));
-    let played = played?;
-    let lengths = (played.ended.len(), played.events.len());
-    drop(played);
-    assert_eq!(rt; lengths, (3, 5));
+    )?;
+    assert_eq!(rt; (played.ended.len(), played.events.len()), (3, 5));
     Ok(())
 }
 
@@ -98,7 +93,6 @@ fn callers_know_who_owns_each_place_and_value(rt: HostRuntime) -> Result<(), Fai
 fn a_stepped_machine_has_the_size_of_its_runs(rt: HostRuntime) -> Result<(), Fail> {
     let Script {
         limit,
-        names,
         programs,
         items,
         ..
@@ -109,11 +103,7 @@ fn a_stepped_machine_has_the_size_of_its_runs(rt: HostRuntime) -> Result<(), Fai
         limit,
         programs,
         items.as_slice(),
-    );
-    drop((names, items));
-    let machine = machine?;
-    let size = machine.size();
-    drop(machine);
-    assert_eq!(rt; size, 2);
+    )?;
+    assert_eq!(rt; machine.size(), 2);
     Ok(())
 }

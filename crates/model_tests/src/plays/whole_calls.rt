@@ -31,13 +31,9 @@ static CELLS: [Cell; 4] = [Cell::Filled(7), Cell::Broken, Cell::Broken, Cell::Fi
 #[test]
 fn whole_calls_have_their_events_and_cells(rt: HostRuntime) -> Result<(), Fail> {
     let played = played(rt.alloc(), false, EVERY_COMMAND)?;
-    let has_events = played.events.as_slice() == EVENTS.as_slice();
-    let has_cells = played.cells.as_slice() == CELLS.as_slice();
-    let ended = played.ended.len();
-    drop(played);
-    assert!(rt; has_events);
-    assert!(rt; has_cells);
-    assert!(rt; ended == 7);
+    assert!(rt; played.events.as_slice() == EVENTS.as_slice());
+    assert!(rt; played.cells.as_slice() == CELLS.as_slice());
+    assert!(rt; played.ended.len() == 7);
     Ok(())
 }
 
@@ -52,9 +48,7 @@ static PAST_THE_LIMIT: [(Event, Reply); 3] = [
 fn a_growth_to_a_size_past_the_limit_has_its_events(rt: HostRuntime) -> Result<(), Fail> {
     let script = "limit 4\nactor a push 5, atleast 9 0\nsteps a a";
     let played = played(rt.alloc(), false, script)?;
-    let has_events = played.events.as_slice() == PAST_THE_LIMIT.as_slice();
-    drop(played);
-    assert!(rt; has_events);
+    assert!(rt; played.events.as_slice() == PAST_THE_LIMIT.as_slice());
     Ok(())
 }
 

@@ -72,28 +72,24 @@ pub(super) static ROWS: [Row; 8] = [
 pub(super) fn played(alloc: Global, by_steps: bool, text: &str) -> Result<Played, Fail> {
     let script = read(alloc, text.as_bytes())?;
     let (limit, programs, items) = (script.limit, script.programs, script.items);
-    let played = if by_steps {
-        play_in(
+    if by_steps {
+        Ok(play_in(
             alloc,
             layout_of(script.first),
             limit,
             programs,
             items.as_slice(),
-        )
+        )?)
     } else {
-        play_calls(alloc, limit, programs, items.as_slice())
-    };
-    drop((script.names, items));
-    Ok(played?)
+        Ok(play_calls(alloc, limit, programs, items.as_slice())?)
+    }
 }
 
 #[test]
 fn the_work_of_each_call_is_counted(rt: HostRuntime) -> Result<(), Fail> {
     for (script, works) in ROWS.as_slice() {
         let played = played(rt.alloc(), true, script)?;
-        let is_counted = played.work.as_slice() == *works;
-        drop(played);
-        assert!(rt; is_counted, "{script}");
+        assert!(rt; played.work.as_slice() == *works, "{script}");
     }
     Ok(())
 }
@@ -102,9 +98,7 @@ fn the_work_of_each_call_is_counted(rt: HostRuntime) -> Result<(), Fail> {
 fn whole_calls_have_no_counts(rt: HostRuntime) -> Result<(), Fail> {
     for (script, _) in ROWS.as_slice() {
         let played = played(rt.alloc(), false, script)?;
-        let is_empty = played.work.is_empty();
-        drop(played);
-        assert!(rt; is_empty, "{script}");
+        assert!(rt; played.work.is_empty(), "{script}");
     }
     Ok(())
 }

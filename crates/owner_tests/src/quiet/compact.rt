@@ -21,22 +21,17 @@ fn appends(list: &mut Quiet<u64>, first: u64, values: u64, broken: u64) -> bool 
         )
 }
 
-// Appends these stretches. Each value is the number of those before it.
-fn appends_stretches(list: &mut Quiet<u64>) -> bool {
+// The list with these stretches. Each value is the number of those before it.
+fn stretched(alloc: Global, layout: Layout) -> Option<Quiet<u64>> {
+    let mut list = Quiet::new_in(alloc, layout, 1 << 32);
     let mut first = 0u64;
     for (values, broken) in STRETCHES.as_slice() {
-        if !appends(list, first, *values, *broken) {
-            return false;
+        if !appends(&mut list, first, *values, *broken) {
+            return None;
         }
         first = first.wrapping_add(*values);
     }
-    true
-}
-
-// The list with these stretches.
-fn stretched(alloc: Global, layout: Layout) -> Option<Quiet<u64>> {
-    let mut list = Quiet::new_in(alloc, layout, 1 << 32);
-    appends_stretches(&mut list).then_some(list)
+    Some(list)
 }
 
 // Tests whether the members are the numbers below `len`, in order.
@@ -59,9 +54,7 @@ fn closes_up(alloc: Global, layout: Layout) -> Option<bool> {
     let is_compact = list.capacity() == capacity && are_numbers(&list, VALUES);
     list.compact();
     let is_same = list.capacity() == capacity && are_numbers(&list, VALUES);
-    let is_right = is_compact && is_same && list.push(VALUES).ok() == Some(VALUES);
-    drop(list);
-    Some(is_right)
+    Some(is_compact && is_same && list.push(VALUES) == Ok(VALUES))
 }
 
 #[test]
@@ -79,9 +72,7 @@ fn ends_empty(alloc: Global) -> bool {
     let is_empty = list.len() == 0;
     let is_broken = appends(&mut list, 0, 0, 5);
     list.compact();
-    let is_right = is_empty && is_broken && list.len() == 0 && list.capacity() == 8;
-    drop(list);
-    is_right
+    is_empty && is_broken && list.len() == 0 && list.capacity() == 8
 }
 
 #[test]

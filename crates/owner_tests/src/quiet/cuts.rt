@@ -19,10 +19,7 @@ fn pops_both(list: &mut Quiet<u64>) -> bool {
 
 #[test]
 fn the_last_member_is_moved_out_broken_or_not(rt: HostRuntime) {
-    let mut list = broken_after(&rt, 7);
-    let are_moved = pops_both(&mut list);
-    drop(list);
-    assert!(rt; are_moved);
+    assert!(rt; pops_both(&mut broken_after(&rt, 7)));
 }
 
 // The cuts of a list, and its lengths afterwards.
@@ -52,9 +49,7 @@ fn is_cut(alloc: Global, layout: Layout) -> bool {
     for (n, len) in CUTS.as_slice() {
         is_right = keeps_the_first(&mut list, *n, *len) && is_right;
     }
-    is_right = is_right && list.push(5).ok() == Some(0);
-    drop(list);
-    is_right
+    is_right && list.push(5) == Ok(0)
 }
 
 #[test]
@@ -73,7 +68,7 @@ fn takes_up_to(list: &mut Quiet<u64>, limit: u64) -> bool {
     list.set_limit(limit);
     list.limit() == limit
         && pushes_all(list, len, limit)
-        && list.push(9).err() == Some((QuietError::TooLong, 9))
+        && list.push(9) == Err((QuietError::TooLong, 9))
 }
 
 // The length itself, one more, and the first place of another segment.
@@ -90,15 +85,12 @@ fn gets_each_limit(list: &mut Quiet<u64>) -> bool {
         return false;
     }
     list.set_limit(MOST_PLACES);
-    list.limit() == MOST_PLACES && list.push(4_097).ok() == Some(4_097)
+    list.limit() == MOST_PLACES && list.push(4_097) == Ok(4_097)
 }
 
 #[test]
 fn a_list_takes_values_up_to_a_limit_that_is_set(rt: HostRuntime) {
-    let mut list = list_of(&rt, &[0, 1, 2]);
-    let is_right = gets_each_limit(&mut list);
-    drop(list);
-    assert!(rt; is_right);
+    assert!(rt; gets_each_limit(&mut list_of(&rt, &[0, 1, 2])));
 }
 
 // Tests whether values become a list whose limit is their number, and none whose limit is one less.
@@ -110,8 +102,7 @@ fn fits_exactly(alloc: Global, layout: Layout, values: Vec<u64>) -> Option<bool>
     let (error, values) = Quiet::from_vec_in(alloc, layout, n - 1, values).err()?;
     let mut list = Quiet::from_vec_in(alloc, layout, n, values).ok()?;
     let is_made = list.layout() == layout && measures(&list, n, layout.capacity_for(n));
-    let is_full = has(&list, n - 1, 7) && list.push(7).err() == Some((QuietError::TooLong, 7));
-    drop(list);
+    let is_full = has(&list, n - 1, 7) && list.push(7) == Err((QuietError::TooLong, 7));
     Some(error == QuietError::TooLong && is_made && is_full)
 }
 

@@ -1,5 +1,4 @@
 // Members and causes that count their drops.
-use crate::results::succeeded;
 use quiet_core::{Quiet, QuietError};
 use std::alloc::Global;
 use std::sync::atomic::{AtomicU64, Ordering};
@@ -55,7 +54,7 @@ fn drops_what_it_replaces<'a>(
 ) -> bool {
     list.shrink_to_fit();
     let shrunk = are_dropped(drops, 5);
-    let is_assigned = succeeded(list.assign(two));
+    let is_assigned = list.assign(two).is_ok();
     let assigned = are_dropped(drops, 12);
     list.shrink_to_fit();
     shrunk && is_assigned && assigned && list.capacity() == 2 && are_dropped(drops, 12)
@@ -65,7 +64,7 @@ fn drops_what_it_replaces<'a>(
 fn drops_all<'a>(mut list: Quiet<Counted<'a>>, drops: &'a AtomicU64) -> bool {
     list.clear();
     let cleared = are_dropped(drops, 14);
-    let is_pushed = succeeded(list.push(Counted(drops)));
+    let is_pushed = list.push(Counted(drops)).is_ok();
     let pushed = are_dropped(drops, 14);
     drop(list);
     cleared && is_pushed && pushed && are_dropped(drops, 15)
@@ -80,8 +79,7 @@ fn drops_each_once<'a>(alloc: Global, drops: &'a AtomicU64) -> Option<bool> {
     let mut list = Quiet::new(alloc, 16);
     let cut = drops_what_it_cuts(&mut list, drops);
     let replaced = drops_what_it_replaces(&mut list, drops, two);
-    let dropped = drops_all(list, drops);
-    Some(cut && replaced && dropped)
+    Some(cut && replaced && drops_all(list, drops))
 }
 
 #[test]

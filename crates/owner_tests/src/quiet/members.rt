@@ -1,7 +1,6 @@
 // Members of lists over many segments, forwards, backwards and from both ends.
 use super::layouts::layout_of;
 use super::steps::{pushes_all, resized};
-use crate::results::succeeded;
 use quiet_core::{MemberSegment, Members, Quiet, QuietError};
 use seg_core::Layout;
 use std::alloc::Global;
@@ -82,64 +81,42 @@ fn come_next(members: &mut Members<'_, u64>, first: u64, last: u64) -> bool {
     front == Some(wanted(first)) && back == Some(wanted(last))
 }
 
-fn meet_in_the_middle(members: &mut Members<'_, u64>) -> bool {
+fn come_from_both_ends(list: &Quiet<u64>) -> bool {
+    let mut members = list.iter();
     for place in 0..LEN / 2 {
-        if !come_next(members, place, LEN - 1 - place) {
+        if !come_next(&mut members, place, LEN - 1 - place) {
             return false;
         }
     }
     members.len() == 0 && members.next().is_none() && members.next_back().is_none()
 }
 
-fn come_from_both_ends(list: &Quiet<u64>) -> bool {
-    let mut members = list.iter();
-    let come = meet_in_the_middle(&mut members);
-    drop(members);
-    come
-}
-
 // Tests whether the last member comes from the back in the middle of a segment, and a copy goes on like the original.
-fn go_on(members: &mut Members<'_, u64>, copy: &mut Members<'_, u64>) -> bool {
-    come_next(members, 100_000, 131_071)
-        && come_next(copy, 100_000, 131_071)
-        && come_next(copy, 100_001, 131_070)
-        && members.len() == 31_070
-        && copy.len() == 31_068
-}
-
-// The same after a hundred thousand members.
-fn go_on_after_many(members: &mut Members<'_, u64>) -> bool {
+fn copies_go_on(list: &Quiet<u64>) -> bool {
+    let mut members = list.iter();
     for _place in 0..100_000 {
         if members.next().is_none() {
             return false;
         }
     }
-    match members.clone().ok() {
-        Some(mut copy) => {
-            let both = go_on(members, &mut copy);
-            drop(copy);
-            both
-        }
-        None => false,
-    }
-}
-
-fn copies_go_on(list: &Quiet<u64>) -> bool {
-    let mut members = list.iter();
-    let both = go_on_after_many(&mut members);
-    drop(members);
-    both
+    let Ok(mut copy) = members.clone() else {
+        return false;
+    };
+    come_next(&mut members, 100_000, 131_071)
+        && come_next(&mut copy, 100_000, 131_071)
+        && come_next(&mut copy, 100_001, 131_070)
+        && members.len() == 31_070
+        && copy.len() == 31_068
 }
 
 // How many segments lend their members, and the first place and the number of members of the last one that lends none.
 fn lent(list: &Quiet<u64>) -> (u64, Option<(u64, u64)>) {
     let (mut count, mut broken) = (0u64, None);
     for segment in list.segments() {
-        match &segment {
+        match segment {
             MemberSegment::Values(_) => count = count.wrapping_add(1),
-            MemberSegment::Broken { from, n } => broken = Some((*from, *n)),
+            MemberSegment::Broken { from, n } => broken = Some((from, n)),
         }
-        drop(segment);
     }
     (count, broken)
 }
@@ -167,9 +144,9 @@ fn are_places(values: &[u64]) -> bool {
 
 // Mends the broken members, and tests whether the list knows which one is the first.
 fn mends_both(list: &mut Quiet<u64>, segments: u64) -> bool {
-    succeeded(list.mend(FIRST_BROKEN, FIRST_BROKEN))
+    list.mend(FIRST_BROKEN, FIRST_BROKEN).is_ok()
         && list.first_broken() == Some(SECOND_BROKEN)
-        && succeeded(list.mend(SECOND_BROKEN, SECOND_BROKEN))
+        && list.mend(SECOND_BROKEN, SECOND_BROKEN).is_ok()
         && list.first_broken().is_none()
         && lent(list) == (segments, None)
 }
@@ -187,9 +164,7 @@ fn come_in_order(alloc: Global, layout: Layout, segments: u64) -> Option<bool> {
     let mut list = after_a_life(list)?;
     let after = are_in_order(&list, segments) && mends_both(&mut list, segments);
     let values = after_a_life(list)?.into_vec().ok()?;
-    let are_places = are_places(&values);
-    drop(values);
-    Some(before && after && are_places)
+    Some(before && after && are_places(&values))
 }
 
 #[test]

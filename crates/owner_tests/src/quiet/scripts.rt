@@ -138,9 +138,7 @@ fn first_wrong_of<R: AllocGlobal + Abort>(rt: &R, script: &Script) -> Option<usi
     } else {
         listed(rt, script.limit, vec_of(rt, script.values))
     };
-    let wrong = first_wrong(rt.alloc(), &mut list, script.steps);
-    drop(list);
-    wrong
+    first_wrong(rt.alloc(), &mut list, script.steps)
 }
 
 #[test]

@@ -41,9 +41,7 @@ fn are_doubles(values: &[u64], n: u64) -> bool {
 fn moves_in_order(alloc: Global, layout: Layout, n: u64) -> Option<bool> {
     let list = doubles(alloc, layout, n)?;
     let values = list.into_vec().ok()?;
-    let are_doubles = are_doubles(&values, n);
-    drop(values);
-    Some(are_doubles)
+    Some(are_doubles(&values, n))
 }
 
 #[test]
@@ -69,7 +67,7 @@ fn comes_back(list: Quiet<u64>, place: u64) -> Option<Quiet<u64>> {
     let len = list.len();
     let (error, mut back) = list.into_vec().err()?;
     let is_told = error == IntoVecError::Broken { place } && back.len() == len;
-    (is_told && succeeded(back.mend(place, place.wrapping_mul(2)))).then_some(back)
+    (is_told && back.mend(place, place.wrapping_mul(2)).is_ok()).then_some(back)
 }
 
 // Makes 20 members of 17, the last two broken. Tests whether the list is a vector once both are mended.
@@ -81,9 +79,7 @@ fn comes_back_until_mended(alloc: Global) -> Option<bool> {
     let list = comes_back(list, 19)?;
     let values = list.into_vec().ok()?;
     let is_refused = refused == (Err(QuietError::Refused { made: 1 }), Some(2));
-    let are_doubles = are_doubles(&values, 20);
-    drop(values);
-    Some(unbroken == None && is_refused && are_doubles)
+    Some(unbroken == None && is_refused && are_doubles(&values, 20))
 }
 
 #[test]

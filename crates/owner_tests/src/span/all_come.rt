@@ -64,9 +64,7 @@ fn run_at_once<R: Threads + Wait + Sync>(
 fn all_workers_run_at_once(rt: HostRuntime) {
     for workers in [2, 3, 4, 9, 64].as_slice() {
         let list = numbered(&rt, u64::from(*workers));
-        let run = run_at_once(&rt, rt.alloc(), &list, *workers);
-        drop(list);
-        assert!(rt; run, "{workers}");
+        assert!(rt; run_at_once(&rt, rt.alloc(), &list, *workers), "{workers}");
     }
 }
 

@@ -4,7 +4,6 @@ ghost use Rattle.std.specs.Prelude.{◌<◌, ◌≤◌};
 ghost use Rattle.grow_core.specs.Vector.{IsHandOf};
 
 use super::hands::are_all;
-use crate::results::succeeded;
 use grow_core::{Hand, Shared};
 use quiet_core::Quiet;
 use span_core::{Free, Gate, PairGate, Refusal, Tie, Writer, WriterJob, with_writers};
@@ -36,7 +35,7 @@ impl<'a, R: Wait> WriterJob<u64, u32, u32> for Appends<'a, R> {
         let stops = worker >= self.stops;
         let n = if stops { self.each / 2 } else { self.each };
         for count in 0..n {
-            if !succeeded(writer.push_back(self.rt, count)) {
+            if writer.push_back(self.rt, count).is_err() {
                 return Err(GROWTH);
             }
         }
@@ -132,7 +131,7 @@ impl WriterJob<u64, u32, u32> for Parts {
     fn work<B: Tie>(&self, writer: &mut Writer<'_, u64, B>, _worker: u32) -> Result<u32, u32> {
         let shares = writer.hand().share();
         if 0 < self.dropped && self.dropped < shares {
-            drop(writer.split(self.dropped));
+            let _dropped = writer.split(self.dropped);
         }
         Ok(shares)
     }
@@ -247,7 +246,7 @@ impl<'a, R: Wait> WriterJob<u64, u32, u32> for Splits<'a, R> {
             return Err(worker);
         }
         let mut part = writer.split(100);
-        let is_pushed = succeeded(part.push_back(self.rt, 7));
+        let is_pushed = part.push_back(self.rt, 7).is_ok();
         writer.join(Writer::tied(writer.vector(), part.into_hand()));
         if is_pushed { Ok(worker) } else { Err(GROWTH) }
     }

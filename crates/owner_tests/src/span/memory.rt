@@ -11,7 +11,6 @@ use super::writer_calls::{LIMIT, fills};
 use super::writers::shows_below;
 use super::{maps, sum_of};
 use crate::gates::Refusing;
-use crate::results::succeeded;
 use grow_core::{Hand, Shared};
 use quiet_core::Quiet;
 use span_core::{BufferedWriter, Free, ParError, Refusal, Span, Writer, split_even, with_writers};
@@ -23,7 +22,10 @@ use std::thread::Threads;
 // A list of six values, if there is memory for it.
 fn six(alloc: Global) -> Option<Quiet<u64>> {
     let values = vec![in alloc; 0u64, 1, 4, 9, 16, 25].ok()?;
-    Quiet::from_vec(alloc, 16, values).ok()
+    match Quiet::from_vec(alloc, 16, values) {
+        Ok(list) => Some(list),
+        Err(_refused) => None,
+    }
 }
 
 static SIX: [(u64, Option<u64>); 6] = [
@@ -59,9 +61,7 @@ fn return_again<R: Threads + Wait + Sync>(rt: &R, alloc: Global, list: &Quiet<u6
 #[test]
 fn a_map_and_a_reduction_are_tried_again(rt: HostRuntime) {
     if let Some(list) = six(rt.alloc()) {
-        let is_right = return_again(&rt, rt.alloc(), &list);
-        drop(list);
-        assert!(rt; is_right);
+        assert!(rt; return_again(&rt, rt.alloc(), &list));
     }
 }
 
@@ -74,10 +74,7 @@ fn append_again<R: Threads + Wait + Sync>(rt: &R, alloc: Global) -> Option<(bool
     if told.is_err() {
         told = append_by(rt, alloc, &vector, &mut hand, 3, &task, &Free);
     }
-    let list = Quiet::close(vector, hand);
-    let len = list.len();
-    drop(list);
-    Some((told == Ok(true), len))
+    Some((told == Ok(true), Quiet::close(vector, hand).len()))
 }
 
 #[test]
@@ -117,10 +114,10 @@ fn are_written_again<R: Threads + Wait + Sync>(
     ensures of { hand.new.of ≡ hand.old.of }
 {
     let job = Appends::new(rt, 1, 3);
-    if succeeded(with_writers(rt, alloc, vector, hand, 3, &job, &Free)) {
+    if with_writers(rt, alloc, vector, hand, 3, &job, &Free).is_ok() {
         return true;
     }
-    succeeded(with_writers(rt, alloc, vector, hand, 3, &job, &Free))
+    with_writers(rt, alloc, vector, hand, 3, &job, &Free).is_ok()
 }
 
 // The same on a new vector. Returns the length of the closed list as well.
@@ -165,10 +162,7 @@ fn no_worker_waits_for_one_that_cannot_be_started(rt: HostRuntime) {
 fn fills_again<R: AllocGlobal + Wait>(rt: &R) -> Option<bool> {
     let (vector, hand) = Quiet::new(rt.alloc(), LIMIT).open().ok()?;
     let mut writer = Writer::new(&vector, hand);
-    let is_filled = fills(rt, &mut writer, true) && shows_below(&vector, LIMIT);
-    drop(writer);
-    drop(vector);
-    Some(is_filled)
+    Some(fills(rt, &mut writer, true) && shows_below(&vector, LIMIT))
 }
 
 #[test]
@@ -208,10 +202,7 @@ fn appends_five_again<R: Wait>(rt: &R, writer: &mut BufferedWriter<'_, u64>) -> 
 fn buffers_again<R: Wait>(rt: &R, alloc: Global) -> Option<bool> {
     let (vector, hand) = Quiet::new(alloc, 8).open().ok()?;
     let mut writer = BufferedWriter::new(alloc, Writer::new(&vector, hand), 2);
-    let are_appended = appends_five_again(rt, &mut writer) && shows_below(&vector, 5);
-    drop(writer);
-    drop(vector);
-    Some(are_appended)
+    Some(appends_five_again(rt, &mut writer) && shows_below(&vector, 5))
 }
 
 #[test]
@@ -225,20 +216,16 @@ fn splits_again(alloc: Global, vector: &Shared<u64>, hand: &mut Hand<u64>) -> bo
     requires ours { IsHandOf vector.now hand.old }
     requires shares { IsWholeHand hand.old }
 {
-    if succeeded(split_even(alloc, vector, hand, 3)) {
+    if split_even(alloc, vector, hand, 3).is_ok() {
         return hand.share() == 16_384;
     }
-    hand.share() == 65_536
-        && succeeded(split_even(alloc, vector, hand, 3))
-        && hand.share() == 16_384
+    hand.share() == 65_536 && split_even(alloc, vector, hand, 3).is_ok() && hand.share() == 16_384
 }
 
 // The same of the first hand of a new vector, if there is memory for that.
 fn first_splits_again(alloc: Global) -> Option<bool> {
     let (vector, mut hand) = Quiet::<u64>::new(alloc, 8).open().ok()?;
-    let is_split = splits_again(alloc, &vector, &mut hand);
-    drop((vector, hand));
-    Some(is_split)
+    Some(splits_again(alloc, &vector, &mut hand))
 }
 
 #[test]

@@ -45,34 +45,21 @@ static REFUSED: [(u32, (u32, u32)); 6] = [
     (64, (63, 64)),
 ];
 
-// The number of workers, and the refused ones, of the first row whose loops do not pass so.
-fn first_wrong<R: Threads + Wait + Sync>(
-    rt: &R,
-    alloc: Global,
-    list: &Quiet<u64>,
-) -> Option<(u32, (u32, u32))> {
-    for (workers, refused) in REFUSED.as_slice() {
-        if !loops_pass(rt, alloc, list, 2, *workers, *refused) {
-            return Some((*workers, *refused));
-        }
-    }
-    None
-}
-
 #[test]
 fn loops_are_stuck_whichever_worker_is_refused(rt: HostRuntime) {
     let list = numbered(&rt, 12);
-    let wrong = first_wrong(&rt, rt.alloc(), &list);
-    drop(list);
-    assert_eq!(rt; wrong, None);
+    for (workers, refused) in REFUSED.as_slice() {
+        assert!(rt;
+            loops_pass(&rt, rt.alloc(), &list, 2, *workers, *refused),
+            "{workers} {}",
+            refused.0
+        );
+    }
 }
 
 #[test]
 fn workers_without_work_pass_the_gate(rt: HostRuntime) {
     let list = list_of(&rt, &[0, 1, 4, 9, 16, 25, 36, 49, 64, 81]);
-    let are_passed = loops_pass(&rt, rt.alloc(), &list, 5, 5, (5, u32::MAX));
-    let are_stuck = loops_pass(&rt, rt.alloc(), &list, 5, 5, (2, u32::MAX));
-    drop(list);
-    assert!(rt; are_passed);
-    assert!(rt; are_stuck);
+    assert!(rt; loops_pass(&rt, rt.alloc(), &list, 5, 5, (5, u32::MAX)));
+    assert!(rt; loops_pass(&rt, rt.alloc(), &list, 5, 5, (2, u32::MAX)));
 }

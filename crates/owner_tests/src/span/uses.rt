@@ -191,49 +191,30 @@ fn leaves_are_walked_to_the_end(rt: HostRuntime) {
 #[test]
 fn the_values_are_mapped_in_order_and_summed(rt: HostRuntime) {
     let list = numbered(&rt, 1000);
-    let sum = wrapped_sum(&rt, rt.alloc(), &list, 3);
-    let all = with_zeros(&rt, rt.alloc(), &list, 3);
-    drop(list);
-    assert!(rt; sum == Ok(499_500));
-    match all {
+    assert!(rt; wrapped_sum(&rt, rt.alloc(), &list, 3) == Ok(499_500));
+    match with_zeros(&rt, rt.alloc(), &list, 3) {
         Ok(all) => assert!(rt; all.len() == 1000 && all.get(999) == Some(&999)),
         Err(_refused) => panic!(rt; "no memory"),
     }
 }
 
-// Tests whether these workers multiply the steps in order: 0 + 1 / (1 + 1 / (2 + 1 / 3)) is 7 / 10, and without
-// its last step 2 / 3.
-fn is_multiplied<R: Threads + Wait + Sync>(
-    rt: &R,
-    alloc: Global,
-    list: &Quiet<u64>,
-    workers: u32,
-) -> bool {
-    matches!(
-        product(rt, alloc, list, workers),
-        Ok(Matrix {
-            a: 7,
-            b: 2,
-            c: 10,
-            d: 3
-        })
-    )
-}
-
-// The first of these numbers of workers that multiply something else.
-fn first_wrong<R: Threads + Wait + Sync>(rt: &R, alloc: Global, list: &Quiet<u64>) -> Option<u32> {
-    for workers in [1, 2, 3, 64].as_slice() {
-        if !is_multiplied(rt, alloc, list, *workers) {
-            return Some(*workers);
-        }
-    }
-    None
-}
-
+// 0 + 1 / (1 + 1 / (2 + 1 / 3)) is 7 / 10, and without its last step 2 / 3.
 #[test]
 fn joins_that_do_not_commute_are_done_in_order(rt: HostRuntime) {
     let list = numbered(&rt, 4);
-    let wrong = first_wrong(&rt, rt.alloc(), &list);
-    drop(list);
-    assert_eq!(rt; wrong, None);
+    for workers in [1, 2, 3, 64].as_slice() {
+        let fraction = product(&rt, rt.alloc(), &list, *workers);
+        assert!(rt;
+            matches!(
+                fraction,
+                Ok(Matrix {
+                    a: 7,
+                    b: 2,
+                    c: 10,
+                    d: 3
+                })
+            ),
+            "{workers}"
+        );
+    }
 }

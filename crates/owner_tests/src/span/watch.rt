@@ -241,8 +241,9 @@ static LOOPS: [(u32, u64); 5] = [(1, 2), (1, 8), (3, 2), (3, 16), (64, 131_072)]
 fn each_place_is_asked_for_once_between_the_gates(rt: HostRuntime) {
     for (workers, places) in LOOPS.as_slice() {
         let list = numbered(&rt, *places);
-        let are_passed = list.len() == *places && loops_pass(&rt, rt.alloc(), &list, *workers);
-        drop(list);
-        assert!(rt; are_passed, "{workers} {places}");
+        assert!(rt;
+            list.len() == *places && loops_pass(&rt, rt.alloc(), &list, *workers),
+            "{workers} {places}"
+        );
     }
 }

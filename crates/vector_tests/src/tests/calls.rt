@@ -116,17 +116,10 @@ pub(super) fn mend(vector: &Shared<u64>, hand: &mut Hand<u64>, place: u64, value
     let mended = vector.mend(hand, place, value);
     let reply = match &mended {
         Ok(placed) => Reply::At(placed.place()),
-        Err((error, back)) => {
-            if *back == value {
-                match error {
-                    MendError::OutOfRange { size } => Reply::OutOfRange(*size),
-                    MendError::Pending => Reply::Pending,
-                    MendError::Filled(placed) => Reply::Filled(*vector.get(placed)),
-                }
-            } else {
-                Reply::Other
-            }
-        }
+        Err((_error, back)) if *back != value => Reply::Other,
+        Err((MendError::OutOfRange { size }, _back)) => Reply::OutOfRange(*size),
+        Err((MendError::Pending, _back)) => Reply::Pending,
+        Err((MendError::Filled(placed), _back)) => Reply::Filled(*vector.get(placed)),
     };
     drop(mended);
     reply

@@ -28,20 +28,8 @@ struct Seat {
 // The seats of both threads at a new vector.
 fn seats<R: AllocGlobal>(rt: &R) -> Option<(Seat, Seat)> {
     let (vector, mut hand) = empty(rt.alloc(), 2).ok()?;
-    let vector = match Arc::new(rt.alloc(), vector) {
-        Ok(vector) => vector,
-        Err(_refused) => {
-            drop(hand);
-            return None;
-        }
-    };
-    let also = match Arc::try_clone(&vector) {
-        Ok(also) => also,
-        Err(_refused) => {
-            drop((vector, hand));
-            return None;
-        }
-    };
+    let vector = Arc::new(rt.alloc(), vector).ok()?;
+    let also = Arc::try_clone(&vector).ok()?;
     let other = vector.split(&mut hand, 1);
     let first = Seat { vector, hand };
     let second = Seat {

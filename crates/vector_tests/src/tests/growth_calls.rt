@@ -27,30 +27,12 @@ pub(super) fn reply_of_push(
 ) -> Reply {
     let reply = match &pushed {
         Ok(placed) => Reply::At(placed.place()),
-        Err(refused) => reply_of_refused_push(refused, value),
+        Err(GrowError::Full { size, back }) if *back == value => Reply::Full(*size),
+        Err(GrowError::Moved { size: _, back }) if *back == value => Reply::Moved,
+        Err(_refused) => Reply::Other,
     };
     drop(pushed);
     reply
-}
-
-fn reply_of_refused_push(refused: &GrowError<u64, u64, Never>, value: u64) -> Reply {
-    match refused {
-        GrowError::Full { size, back } => {
-            if *back == value {
-                Reply::Full(*size)
-            } else {
-                Reply::Other
-            }
-        }
-        GrowError::Moved { size: _, back } => {
-            if *back == value {
-                Reply::Moved
-            } else {
-                Reply::Other
-            }
-        }
-        _other => Reply::Other,
-    }
 }
 
 // A growth by copies of the values of a slice.
@@ -211,19 +193,15 @@ pub(super) fn make_sevens<R: Wait>(
         Form::Again => reply_of_made(vector.grow_with(rt, hand, n, make)),
         Form::UpTo => reply_of_raise(vector.grow_to_at_least(hand, n, make)),
     };
-    if asked == times_asked(reply) {
-        reply
-    } else {
-        Reply::Asked(asked)
-    }
-}
-
-// How often the maker of a growth with this reply is asked.
-fn times_asked(reply: Reply) -> u64 {
-    match reply {
+    let due = match reply {
         Reply::Ran(_, n) => n,
         Reply::Refused(_, _, made) => made.wrapping_add(1),
         _ => 0,
+    };
+    if asked == due {
+        reply
+    } else {
+        Reply::Asked(asked)
     }
 }
 

@@ -96,32 +96,8 @@ fn a_mended_value_is_dropped_once(rt: HostRuntime) {
 // How many places are broken before threads mend them.
 const PLACES: u64 = 10_000;
 
-// Whether the mend of a place won it, if it is mended. If another value was first, the value comes back.
-fn is_won(reply: Reply, place: u64) -> Option<bool> {
-    match reply {
-        At(at) => (at == place).then_some(true),
-        Pending | Filled(_) => Some(false),
-        _ => None,
-    }
-}
-
-// Mends all places with a value, and returns how many it won, or the first place that is not mended.
-fn mend_all(vector: &Shared<u64>, hand: &mut Hand<u64>, value: u64) -> Result<u64, u64>
-    requires ours { IsHandOf vector.now hand.old }
-    ensures of { hand.new.of ≡ hand.old.of }
-{
-    let mut won = 0u64;
-    for place in 0..PLACES {
-        match is_won(mend(vector, hand, place, value), place) {
-            Some(true) => won = won.wrapping_add(1),
-            Some(false) => {}
-            None => return Err(place),
-        }
-    }
-    Ok(won)
-}
-
-// Mends all places with a value, and returns how many it won.
+// Mends all places with a value, and returns how many it won. If another value was first, the value comes
+// back.
 fn mend_each<R: Abort>(
     rt: &R,
     vector: &Shared<u64>,
@@ -131,13 +107,15 @@ fn mend_each<R: Abort>(
     requires ours { IsHandOf vector.now hand }
     ensures { result.0.of ≡ vector.now.word }
 {
-    match mend_all(vector, &mut hand, value) {
-        Ok(won) => (hand, won),
-        Err(place) => {
-            drop(hand);
-            panic!(rt; "place {place} is not mended")
+    let mut won = 0u64;
+    for place in 0..PLACES {
+        match mend(vector, &mut hand, place, value) {
+            At(at) if at == place => won = won.wrapping_add(1),
+            Pending | Filled(_) => {}
+            _ => panic!(rt; "place {place} is not mended"),
         }
     }
+    (hand, won)
 }
 
 // Two threads mend all places, with 1 and with 2: how many each won.

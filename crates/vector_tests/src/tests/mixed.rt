@@ -67,18 +67,11 @@ fn tally_of<V: Drop, E: Drop>(
 ) -> Option<Tally> {
     let tally = match &answer {
         Ok(grown) => Some(Tally::of(grown.run(), grown.run().n, value)),
-        Err(refused) => told_refused(refused, value),
+        Err(GrowError::Refused { run, made, .. }) => Some(Tally::of(*run, made.run().n, value)),
+        Err(_other) => None,
     };
     drop(answer);
     tally
-}
-
-// The same of a growth that was refused.
-fn told_refused<V: Drop, E: Drop>(refused: &GrowError<u64, V, E>, value: u64) -> Option<Tally> {
-    match refused {
-        GrowError::Refused { run, made, .. } => Some(Tally::of(*run, made.run().n, value)),
-        _other => None,
-    }
 }
 
 // The same of a growth up to a size.
@@ -89,7 +82,8 @@ fn tally_at_least<E: Drop>(
     let tally = match &answer {
         Ok(AtLeast::Ran(grown)) => Some(Tally::of(grown.run(), grown.run().n, value)),
         Ok(AtLeast::Enough { .. }) => Some(NONE),
-        Err(refused) => told_refused(refused, value),
+        Err(GrowError::Refused { run, made, .. }) => Some(Tally::of(*run, made.run().n, value)),
+        Err(_other) => None,
     };
     drop(answer);
     tally
@@ -126,27 +120,7 @@ fn call<R: AllocGlobal + Wait + Abort>(
     }
 }
 
-// Makes the calls of one thread, and returns what they returned, or the number of the first that was refused.
-fn call_all<R: AllocGlobal + Wait + Abort>(
-    rt: &R,
-    vector: &Shared<u64>,
-    hand: &mut Hand<u64>,
-    value: u64,
-) -> Result<Tally, u64>
-    requires ours { IsHandOf vector.now hand.old }
-    ensures of { hand.new.of ≡ hand.old.of }
-{
-    let mut tally = NONE;
-    for number in 0..CALLS {
-        match call(rt, vector, hand, number.wrapping_add(value), value) {
-            Some(more) => tally = tally.and(more),
-            None => return Err(number),
-        }
-    }
-    Ok(tally)
-}
-
-// The same with a hand of one's own. No call may be refused.
+// Makes the calls of one thread, and returns what they returned.
 fn call_each<R: AllocGlobal + Wait + Abort>(
     rt: &R,
     vector: &Shared<u64>,
@@ -156,13 +130,14 @@ fn call_each<R: AllocGlobal + Wait + Abort>(
     requires ours { IsHandOf vector.now hand }
     ensures { result.0.of ≡ vector.now.word }
 {
-    match call_all(rt, vector, &mut hand, value) {
-        Ok(tally) => (hand, tally),
-        Err(number) => {
-            drop(hand);
-            panic!(rt; "call {number} was refused")
+    let mut tally = NONE;
+    for number in 0..CALLS {
+        match call(rt, vector, &mut hand, number.wrapping_add(value), value) {
+            Some(more) => tally = tally.and(more),
+            None => panic!(rt; "call {number} was refused"),
         }
     }
+    (hand, tally)
 }
 
 fn call_by_two<R: AllocGlobal + Threads + Wait + Abort + Sync>(

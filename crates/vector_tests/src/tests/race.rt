@@ -77,21 +77,18 @@ pub(super) fn push_by_two<R: Threads + Wait + Abort + Sync>(
     work_by_two(rt, vector, a, b, &works)
 }
 
-// Two pairs of threads append EACH values by each hand, and the hands are joined.
-fn push_by_pairs<R: Threads + Wait + Abort + Sync>(
+fn push_by_four<R: Threads + Wait + Abort + Sync>(
     rt: &R,
     vector: &Shared<u64>,
-    a: Hand<u64>,
-    b: Hand<u64>,
-    c: Hand<u64>,
-    d: Hand<u64>,
+    mut a: Hand<u64>,
 ) -> Hand<u64>
-    requires first { IsHandOf vector.now a }
-    requires second { IsHandOf vector.now b }
-    requires third { IsHandOf vector.now c }
-    requires fourth { IsHandOf vector.now d }
+    requires ours { IsHandOf vector.now a }
+    requires enough { 3 < a.shares }
     ensures { result.of ≡ vector.now.word }
 {
+    let b = vector.split(&mut a, 1);
+    let c = vector.split(&mut a, 1);
+    let d = vector.split(&mut a, 1);
     let (mut all, other) = join(
         rt,
         || -> Hand<u64>
@@ -105,21 +102,6 @@ fn push_by_pairs<R: Threads + Wait + Abort + Sync>(
     );
     vector.join(&mut all, other);
     all
-}
-
-fn push_by_four<R: Threads + Wait + Abort + Sync>(
-    rt: &R,
-    vector: &Shared<u64>,
-    mut a: Hand<u64>,
-) -> Hand<u64>
-    requires ours { IsHandOf vector.now a }
-    requires enough { 3 < a.shares }
-    ensures { result.of ≡ vector.now.word }
-{
-    let b = vector.split(&mut a, 1);
-    let c = vector.split(&mut a, 1);
-    let d = vector.split(&mut a, 1);
-    push_by_pairs(rt, vector, a, b, c, d)
 }
 
 // How far each thread's values have come, in order of place. It stops at a value that is out of its thread's

@@ -144,11 +144,7 @@ fn read_opened(
     ensures { (x : ℕ) → IsOpenedAt vector.now place x → result ≡ Some x }
 {
     match vector.at(hand, place, known) {
-        Ok(at) => {
-            let value = *at.value;
-            drop(at);
-            Some(value)
-        }
+        Ok(at) => Some(*at.value),
         Err(refused) => {
             drop(refused);
             None

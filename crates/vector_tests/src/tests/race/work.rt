@@ -3,7 +3,7 @@ ghost use Rattle.std.specs.Prelude.{◌≡◌};
 ghost use Rattle.grow_core.specs.Vector.{IsHandOf, IsPlacedOf};
 
 use super::super::steps::Reply::Is;
-use super::super::steps::{Reply, read};
+use super::super::steps::read;
 use super::EACH;
 use grow_core::{Hand, Placed, Shared};
 use std::alloc::{AllocError, Global};
@@ -22,30 +22,6 @@ pub(super) enum Work {
 // Why a step of a thread failed.
 type Failure = &'static str;
 
-// Does the work up to the first step that fails. Of that it returns the number, and why.
-fn work_until<R: Wait>(
-    rt: &R,
-    vector: &Shared<u64>,
-    hand: &mut Hand<u64>,
-    work: &Work,
-) -> Result<(), (u64, Failure)>
-    requires ours { IsHandOf vector.now hand.old }
-    ensures of { hand.new.of ≡ hand.old.of }
-{
-    let (Work::Push { n, .. } | Work::Read { n } | Work::Grow { n, .. }) = work;
-    for j in 0..*n {
-        let done = match work {
-            Work::Push { first, .. } => push_and_read(rt, vector, hand, first.wrapping_add(j)),
-            Work::Read { .. } => wait_and_read(rt, vector, hand, j),
-            Work::Grow { alloc, .. } => grow_three(rt, vector, hand, *alloc, j),
-        };
-        if let Err(why) = done {
-            return Err((j, why));
-        }
-    }
-    Ok(())
-}
-
 pub(super) fn work_each<R: Wait + Abort>(
     rt: &R,
     vector: &Shared<u64>,
@@ -55,13 +31,18 @@ pub(super) fn work_each<R: Wait + Abort>(
     requires ours { IsHandOf vector.now hand }
     ensures { result.of ≡ vector.now.word }
 {
-    match work_until(rt, vector, &mut hand, work) {
-        Ok(()) => hand,
-        Err((j, why)) => {
-            drop(hand);
-            panic!(rt; "number {j} {why}")
+    let (Work::Push { n, .. } | Work::Read { n } | Work::Grow { n, .. }) = work;
+    for j in 0..*n {
+        let done = match work {
+            Work::Push { first, .. } => push_and_read(rt, vector, &mut hand, first.wrapping_add(j)),
+            Work::Read { .. } => wait_and_read(rt, vector, &mut hand, j),
+            Work::Grow { alloc, .. } => grow_three(rt, vector, &mut hand, *alloc, j),
+        };
+        if let Err(why) = done {
+            panic!(rt; "number {j} {why}");
         }
     }
+    hand
 }
 
 // Appends a value, reads it by its token, and looks at a place further down.
@@ -97,18 +78,9 @@ fn read_back(
     if *vector.get(placed) != value {
         return Err("is not the value that its token reads");
     }
-    if is_strange(read(vector, hand, placed.place() / 2)) {
-        Err("sees a value that no thread appends")
-    } else {
-        Ok(())
-    }
-}
-
-// Tests whether a read shows a value that no thread appends.
-fn is_strange(shown: Reply) -> bool {
-    match shown {
-        Is(value) => value >= 4 * EACH,
-        _ => false,
+    match read(vector, hand, placed.place() / 2) {
+        Is(read) if read >= 4 * EACH => Err("sees a value that no thread appends"),
+        _ => Ok(()),
     }
 }
 

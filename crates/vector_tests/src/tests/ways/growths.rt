@@ -46,22 +46,11 @@ fn read_tokens(vector: &Shared<u64>, grown: &Grown<u64>, first: u64, step: u64) 
 }
 
 // Why values were not made.
-fn why<E: Drop>(refused: GrowError<u64, (), E>) -> &'static str {
-    let told = match &refused {
+fn why<E: Drop>(refused: &GrowError<u64, (), E>) -> &'static str {
+    match refused {
         GrowError::NoMemory { .. } => NO_MEMORY,
         _ => OTHER,
-    };
-    drop(refused);
-    told
-}
-
-// The outcome of a growth that was granted.
-fn granted(vector: &Shared<u64>, grown: Grown<u64>, first: u64, step: u64) -> Outcome
-    requires { IsGrownOf vector.now grown }
-{
-    let outcome = read_tokens(vector, &grown, first, step);
-    drop(grown);
-    outcome
+    }
 }
 
 // Why numbers were not moved in.
@@ -87,10 +76,12 @@ fn outcome_of_making<E: Drop>(
 ) -> Outcome
     requires { IfOk grown (λ g. IsGrownOf vector.now g) }
 {
-    match grown {
-        Ok(grown) => granted(vector, grown, first, step),
+    let outcome = match &grown {
+        Ok(grown) => read_tokens(vector, grown, first, step),
         Err(refused) => Err(why(refused)),
-    }
+    };
+    drop(grown);
+    outcome
 }
 
 // The outcome of a growth by n numbers that are moved in.

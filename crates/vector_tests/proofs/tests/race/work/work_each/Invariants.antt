@@ -1,5 +1,5 @@
 use Rattle.grow_core.specs.Vector.{IsHandOf}
-use Rattle.vector_tests.proofs.tests.race.work.work_until.Given as goal
+use Rattle.vector_tests.proofs.tests.race.work.work_each.Given as goal
 
 abbrev pub invariant-loop-j : goal.invariant-loop-j
 invariant-loop-j g l = IsHandOf l.vector l.hand

@@ -17,7 +17,7 @@ impl<T> Model for Sequence<T> {
     ghost view = { λ s. s.members.items };
 }
 
-// By hand, since the proof of each caller would go through all fields of a derived drop.
+// By hand, so that proofs of callers do not go into its fields.
 impl<T: Drop> Drop for Sequence<T> {
     fn drop(self) {
         let Self { members: _ } = self;

@@ -55,7 +55,7 @@ impl Model for CellVec {
     ghost invariant = { λ v. IsLimit v.limit × (vec_len v.cells ≤ v.limit) };
 }
 
-// By hand, since the proof of each caller would go through all fields of a derived drop.
+// By hand, so that proofs of callers do not go into its fields.
 impl Drop for CellVec {
     fn drop(self) {
         let Self { limit: _, cells: _ } = self;

@@ -37,7 +37,8 @@ fn read_reopened(alloc: Global, list: Quiet<u64>, place: u64) -> Option<u64>
         → IfSome result (λ read. read ≡ x) }
 {
     let mut caller = Caller::of_list(alloc, list).ok()?;
-    let read = caller.at(place).ok();
-    drop(caller);
-    read
+    match caller.at(place) {
+        Ok(read) => Some(read),
+        Err(_refused) => None,
+    }
 }

@@ -44,7 +44,7 @@ impl Model for Hand {
     ghost invariant = { λ h. IsKept h.badge.views h.shares h.seen };
 }
 
-// By hand, since the proof of each caller would go through all fields of a derived drop.
+// By hand, so that proofs of callers do not go into its fields.
 impl Drop for Hand {
     #[inline(always)]
     fn drop(self) {

@@ -106,7 +106,7 @@ impl<A: Allocator> Model for Word<A> {
         IsOpened w.table.shared.table_id w.table.shared.key w.terms w.desk.table_id w.desk.key };
 }
 
-// By hand, since the proof of each caller would go through all fields of a derived drop.
+// By hand, so that proofs of callers do not go into its fields.
 impl<A: Allocator> Drop for Word<A> {
     fn drop(self) {
         let Self {

@@ -72,7 +72,7 @@ impl Model for Machine {
         × HasSegments (record { limit = m.limit; storage = m.storage; actors = m.actors.items }) };
 }
 
-// By hand, since the proof of each caller would go through all fields of a derived drop.
+// By hand, so that proofs of callers do not go into its fields.
 impl Drop for Machine {
     fn drop(self) {
         let Self {

@@ -67,7 +67,7 @@ impl<T, B: Kind> Model for Table<T, B> {
         × ForSome t.held (λ h. slice_index (map name_of t.entries) h.segment ≡ h.sight.of) };
 }
 
-// By hand, since the proof of each caller would go through all fields of a derived drop.
+// By hand, so that proofs of callers do not go into its fields.
 impl<T: Drop, B: Kind> Drop for Table<T, B> {
     fn drop(self) {
         let Self {

@@ -21,7 +21,7 @@ impl Model for Begun {
     ghost view = { λ b. record { offset = b.offset; cell = b.begun.of } };
 }
 
-// By hand, since the proof of each caller would go through all fields of a derived drop.
+// By hand, so that proofs of callers do not go into its fields.
 impl Drop for Begun {
     #[inline(always)]
     fn drop(self) {

@@ -21,7 +21,7 @@ impl Model for Epoch {
     ghost view = { λ e. e.epoch.of ∷ [] };
 }
 
-// By hand, since the proof of each caller would go through all fields of a derived drop.
+// By hand, so that proofs of callers do not go into its fields.
 impl Drop for Epoch {
     #[inline(always)]
     fn drop(self) {
@@ -63,7 +63,7 @@ impl Model for EndedEpoch {
     ghost view = { λ e. e.ended.of ∷ [] };
 }
 
-// By hand, since the proof of each caller would go through all fields of a derived drop.
+// By hand, so that proofs of callers do not go into its fields.
 impl Drop for EndedEpoch {
     #[inline(always)]
     fn drop(self) {

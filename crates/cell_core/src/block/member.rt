@@ -23,7 +23,7 @@ impl<T> Model for Member<T> {
     ghost view = { λ m. m.member.of };
 }
 
-// By hand, since the proof of each caller would go through all fields of a derived drop.
+// By hand, so that proofs of callers do not go into its fields.
 impl<T> Drop for Member<T> {
     #[inline(always)]
     fn drop(self) {
@@ -89,7 +89,7 @@ impl<T> Model for Row<T> {
     ghost view = { λ r. r.row.of };
 }
 
-// By hand, since the proof of each caller would go through all fields of a derived drop.
+// By hand, so that proofs of callers do not go into its fields.
 impl<T> Drop for Row<T> {
     #[inline(always)]
     fn drop(self) {

@@ -27,7 +27,7 @@ impl<T> Model for Placed<T> {
     } };
 }
 
-// By hand, since the proof of each caller would go through all fields of a derived drop.
+// By hand, so that proofs of callers do not go into its fields.
 impl<T> Drop for Placed<T> {
     #[inline(always)]
     fn drop(self) {

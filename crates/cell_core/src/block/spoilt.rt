@@ -20,7 +20,7 @@ impl Model for Spoilt {
     ghost view = { λ s. record { offset = s.offset; name = s.broken.of } };
 }
 
-// By hand, since the proof of each caller would go through all fields of a derived drop.
+// By hand, so that proofs of callers do not go into its fields.
 impl Drop for Spoilt {
     #[inline(always)]
     fn drop(self) {

@@ -33,7 +33,7 @@ impl Model for Key {
     ghost invariant = { λ k. k.sight.known ≡ Some (block_or_empty k.sight.known) };
 }
 
-// By hand, since the proof of each caller would go through all fields of a derived drop.
+// By hand, so that proofs of callers do not go into its fields.
 impl Drop for Key {
     #[inline(always)]
     fn drop(self) {

@@ -37,7 +37,7 @@ impl Model for KeySet {
     } };
 }
 
-// By hand, since the proof of each caller would go through all fields of a derived drop.
+// By hand, so that proofs of callers do not go into its fields.
 impl Drop for KeySet {
     #[inline(always)]
     fn drop(self) {

@@ -228,7 +228,7 @@ fn tally_in(parts: &Parts<u64>) -> Tally {
 }
 
 // The tally of a list, if there is one.
-fn tally_of(parts: Option<Parts<u64>>) -> Option<Tally> {
+fn tally_of_list(parts: Option<Parts<u64>>) -> Option<Tally> {
     let tally = match &parts {
         Some(parts) => Some(tally_in(parts)),
         None => None,
@@ -242,7 +242,7 @@ fn eight_threads_grow_in_every_form(rt: HostRuntime) -> Result<(), Fail> {
     let (vector, hand) = empty(rt.alloc(), 1 << 20)?;
     let (mut hand, tally) = call_by_eight(&rt, &vector, hand);
     let size = vector.size(&mut hand);
-    let listed = tally_of(Life { vector, hand }.close());
+    let listed = tally_of_list(Life { vector, hand }.close());
     assert!(rt; size == tally.places);
     assert!(rt; listed == Some(tally));
     Ok(())

@@ -20,7 +20,7 @@ impl<T: Drop> Caller<T> {
         ensures closed { IfOk result (λ list. IsClosedFrom self.vector list.closed) }
         ensures back { IfErr result (λ back. back ≡ self) }
     {
-        let Caller { hub, hand, last } = self;
+        let (hub, hand, last) = self.into_parts();
         if !hand.is_whole() {
             return Err(Caller { hub, hand, last });
         }

@@ -2,7 +2,7 @@
 ghost use Rattle.std.specs.Prelude.{◌≡◌, ◌≤◌, [], length, slice_get, Some, IfOk, IfErr};
 ghost use Rattle.quiet_core.specs.QuietAt.{IsRefusalAt};
 ghost use Rattle.seg_core.specs.Segment.{IsLimit, most_places};
-ghost use Rattle.quiet_core.specs.QuietList.{IsWhole};
+ghost use Rattle.quiet_core.specs.QuietList.{IsWhole, list_of};
 
 use crate::errors::QuietAt;
 use grow_core::Parts;
@@ -12,7 +12,6 @@ use std::fmt;
 use std::marker::Model;
 
 /// A list of values and broken members, with a limit and a capacity of whole segments.
-#[derive(Drop)]
 pub struct Quiet<T> {
     pub(crate) parts: Parts<T>,
 }
@@ -25,6 +24,23 @@ impl<T> Model for Quiet<T> {
     ghost coded = { quiet_code T.code };
 
     ghost view = { λ q. list_of q.parts };
+}
+
+// By hand, so that proofs of callers do not go into its fields.
+impl<T: Drop> Drop for Quiet<T> {
+    fn drop(self) {
+        let Self { parts: _ } = self;
+    }
+}
+
+impl<T> Quiet<T> {
+    // Takes the list apart.
+    pub(crate) fn into_parts(self) -> Parts<T>
+        ensures { list_of result ≡ self }
+    {
+        let Quiet { parts } = self;
+        parts
+    }
 }
 
 impl<T: fmt::Debug> fmt::Debug for Quiet<T> {

@@ -1,7 +1,7 @@
 //! The work of each worker: four find contacts, and a fifth reads along.
 use crate::particles::{Contact, Particle, touch};
-use anyhow::{Error, Result, anyhow};
-use grow_core::{GrowError, Never, Shared};
+use anyhow::{Error, Result, bail};
+use grow_core::{GrowError, Shared};
 use span_core::{Tie, Writer, WriterJob};
 use std::sync::Wait;
 
@@ -43,22 +43,15 @@ impl<'a, R: Wait> Search<'a, R> {
         let mut found: u64 = 0;
         for second in 0..first {
             if let Some(contact) = touch(self.particles.as_slice(), first, second) {
-                writer.push_back(self.rt, contact).map_err(reason)?;
-                found = found.saturating_add(1);
+                match writer.push_back(self.rt, contact) {
+                    Ok(_placed) => found = found.saturating_add(1),
+                    Err(GrowError::Full { size, .. }) => bail!("more than {size} contacts"),
+                    Err(refused) => bail!("{refused}"),
+                }
             }
         }
         Ok(found)
     }
-}
-
-// Says why a contact was refused.
-fn reason(refused: GrowError<Contact, Contact, Never>) -> Error {
-    let error = match &refused {
-        GrowError::Full { size, .. } => anyhow!("more than {size} contacts"),
-        refused => anyhow!("{refused}"),
-    };
-    drop(refused);
-    error
 }
 
 // The most contacts that a walk over the vector shows.

@@ -231,7 +231,7 @@ fn copy<R: Wait + AllocGlobal>(
     };
     let mut won: u64 = 0;
     for _growth in 0..values / LIST {
-        if succeeded(vector.grow_from(rt, &mut hand, list.as_slice())) {
+        if vector.grow_from(rt, &mut hand, list.as_slice()).is_ok() {
             won = won.wrapping_add(LIST);
         }
     }

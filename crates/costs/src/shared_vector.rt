@@ -4,7 +4,7 @@ ghost use Rattle.std.specs.Thread.{IsSync};
 ghost use Rattle.claim_core.specs.Hand.{IsWholeHand};
 ghost use Rattle.grow_core.specs.Vector.{IsHandOf};
 
-use crate::trial::{Trial, succeeded, time_hands};
+use crate::trial::{Trial, time_hands};
 use anyhow::Result;
 use grow_core::{Hand, OpenError, Parts, Shared};
 use seg_core::{Layout, MOST_PLACES};
@@ -51,7 +51,7 @@ pub(crate) fn push_once<R: Wait>(
     requires ours { IsHandOf vector.now hand.old }
     ensures of { hand.new.of ≡ hand.old.of }
 {
-    succeeded(vector.push_back(rt, hand, value))
+    vector.push_back(rt, hand, value).is_ok()
 }
 
 // The same as a call that the compiler does not lay into the loop.

@@ -13,7 +13,7 @@ const BUFFER: usize = 64;
 // Appends a value, and returns whether that was done.
 #[inline(always)]
 fn push_back<R: Wait>(rt: &R, writer: &mut Writer<'_, u64>, value: u64) -> bool {
-    succeeded(writer.push_back(rt, value))
+    writer.push_back(rt, value).is_ok()
 }
 
 /// Pushes values by a writer, and returns how many were appended.

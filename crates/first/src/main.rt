@@ -11,7 +11,6 @@ fn main(rt: HostRuntime) -> Result<()> {
     let placed = vector.push_back(&rt, &mut hand, 7u64);
     let list = Quiet::close(vector, hand);
     let placed = placed?;
-    let printed = println!(rt; "place {} holds {}", placed.place(), list.recall(&placed));
-    drop((list, placed));
-    Ok(printed?)
+    println!(rt; "place {} holds {}", placed.place(), list.recall(&placed))?;
+    Ok(())
 }

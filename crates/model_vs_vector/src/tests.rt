@@ -83,21 +83,18 @@ fn mend(vector: &Shared<u64>, hand: &mut Hand<u64>, place: u64, value: u64) -> A
     requires ours { IsHandOf vector.now hand.old }
     ensures of { hand.new.of ≡ hand.old.of }
 {
-    let mended = vector.mend(hand, place, value);
-    let answer = match &mended {
+    match vector.mend(hand, place, value) {
         Ok(placed) => Answer::At {
             place: placed.place(),
         },
         Err((error, _back)) => match error {
-            MendError::OutOfRange { size } => Answer::OutOfRange { size: *size },
+            MendError::OutOfRange { size } => Answer::OutOfRange { size },
             MendError::Pending => Answer::Pending,
             MendError::Filled(placed) => Answer::Value {
-                value: *vector.get(placed),
+                value: *vector.get(&placed),
             },
         },
-    };
-    drop(mended);
-    answer
+    }
 }
 
 // The answer of a call by a hand.

@@ -38,7 +38,8 @@ fn collect_contacts<R: Threads + Wait + AllocGlobal + Sync>(
     let counts = with_writers(rt, alloc, &vector, &mut hand, FINDERS + 1, search, &Free);
     let closed = Quiet::try_close(vector, hand).ok();
     let list = closed.context("a worker lost its shares")?;
-    check_counts(counts, &list).and(Ok(list))
+    check_counts(counts, &list)?;
+    Ok(list)
 }
 
 // The same of particles that are scattered first.

@@ -38,16 +38,9 @@ fn append_all(parts: &mut Parts<u64>) {
 // A list of all values.
 fn fill_list(alloc: Global) -> Result<Parts<u64>, AllocError> {
     let mut parts = Parts::new(alloc, VALUES);
-    match parts.room(VALUES) {
-        Ok(()) => {
-            append_all(&mut parts);
-            Ok(parts)
-        }
-        Err(error) => {
-            drop(parts);
-            Err(error)
-        }
-    }
+    parts.room(VALUES)?;
+    append_all(&mut parts);
+    Ok(parts)
 }
 
 // How long it took from the start to now.

@@ -47,15 +47,11 @@ fn jobs_for(
     let mut jobs = Vec::new(alloc);
     for thread in 0..THREADS {
         if hand.share() > SHARES {
-            let pushed = jobs.push(Job {
+            jobs.push(Job {
                 vector: number,
                 thread,
                 hand: vector.split(hand, SHARES),
-            });
-            if let Err(error) = pushed {
-                drop(jobs);
-                return Err(error.into());
-            }
+            })?;
         }
     }
     Ok(jobs)

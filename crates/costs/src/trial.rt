@@ -88,8 +88,7 @@ pub fn time_hands<R: Threads + Clock + Sync, H: Send + Drop, F: Fn(H) -> u64 + S
     total_of(parts.as_slice())
 }
 
-/// Returns whether a call succeeded. A generic function drops the result, which costs a proof less than a drop in each
-/// caller.
+/// Tests whether a call succeeded. It is generic, and drops the result, so that no caller's proof has to.
 #[inline(always)]
 pub fn succeeded<T: Drop, E: Drop>(answer: Result<T, E>) -> bool {
     answer.is_ok()

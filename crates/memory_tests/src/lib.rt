@@ -14,7 +14,7 @@ mod table;
 #[cfg(test)]
 mod ties;
 
-// Whether there is a value. A generic function drops it, which costs a proof less than a drop in each caller.
+// Tests whether there is a value. It is generic, and drops the value, so that no caller's proof has to.
 fn is_some<T: Drop>(value: Option<T>) -> bool {
     value.is_some()
 }

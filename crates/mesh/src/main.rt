@@ -44,15 +44,13 @@ fn find_edges<R: Threads + Wait + Clock + Eprint + Sync>(
     );
     let closed = Quiet::try_close(vector, hand).ok();
     let list = closed.context("a worker lost its shares")?;
-    Ok(found.and(Ok(list))?)
+    found?;
+    Ok(list)
 }
 
 // Prints how many edges there are, each once, and the first five.
 fn print_edges<R: Print>(rt: &R, list: Quiet<Edge>) -> Result<()> {
-    let mut edges = list.into_vec().map_err(|(error, list)| {
-        drop(list);
-        error
-    })?;
+    let mut edges = list.into_vec().map_err(|(error, _list)| error)?;
     let appended = edges.len();
     edges.sort_unstable();
     edges.dedup();

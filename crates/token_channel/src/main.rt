@@ -8,7 +8,7 @@ ghost use Rattle.grow_core.specs.Vector.{IsHandOf};
 mod note;
 
 use crate::note::Note;
-use anyhow::Context;
+use anyhow::{Context, anyhow};
 use crossbeam_channel::{Receiver, Sender, unbounded};
 use grow_core::{Hand, Shared};
 use quiet_core::Quiet;
@@ -25,16 +25,18 @@ fn send_squares<'a, R: Wait>(
     rt: &R,
     vector: &'a Shared<u64>,
     hand: &mut Hand<u64>,
-    notes: &Sender<Note<'a>, Global>,
+    notes: Sender<Note<'a>, Global>,
 ) -> anyhow::Result<()>
     requires { IsHandOf vector.now hand.old }
     ensures { IsHandOf vector.now hand.new }
 {
     for number in 1..COUNT + 1 {
-        let pushed = vector.push_back(rt, hand, number * number).ok();
-        let placed = pushed.context("a square was refused")?;
-        let sent = notes.send(rt, Note { vector, placed }).ok();
-        sent.context("nobody reads the notes")?;
+        let Ok(placed) = vector.push_back(rt, hand, number * number) else {
+            return Err(anyhow!("a square was refused"));
+        };
+        let Ok(()) = notes.send(rt, Note { vector, placed }) else {
+            return Err(anyhow!("nobody reads the notes"));
+        };
     }
     Ok(())
 }
@@ -45,7 +47,6 @@ fn add_up<R: Wait>(rt: &R, notes: Receiver<Note<'_>, Global>) -> u64 {
     for note in notes.iter(rt) {
         sum = sum.wrapping_add(*note.value());
     }
-    drop(notes);
     sum
 }
 
@@ -58,9 +59,7 @@ fn send_all<'a, R: Wait>(
 ) -> anyhow::Result<()>
     requires { IsHandOf vector.now hand }
 {
-    let sent = send_squares(rt, vector, &mut hand, &notes);
-    drop((hand, notes));
-    sent
+    send_squares(rt, vector, &mut hand, notes)
 }
 
 // The sum of the squares, which one thread sends and another adds up.
@@ -86,9 +85,7 @@ fn sum_squares<R: Threads + Wait + AllocGlobal + Sync>(
 fn main(rt: HostRuntime) -> anyhow::Result<()> {
     let opened = Quiet::new(rt.alloc(), COUNT).open().ok();
     let (vector, hand) = opened.context("out of memory")?;
-    let sum = sum_squares(&rt, &vector, hand);
-    drop(vector);
-    let sum = sum?;
+    let sum = sum_squares(&rt, &vector, hand)?;
     println!(rt; "{COUNT} notes were read, and their values add up to {sum}")?;
     Ok(())
 }

@@ -112,13 +112,8 @@ fn note_push(
     requires { IfOk answer (IsPlacedOf vector.now) }
     ensures { IfOk result (λ token. IfSome token (IsPlacedOf vector.now)) }
 {
-    match note_answer(&mut caller.record, value, &answer) {
-        Ok(()) => Ok(answer.ok()),
-        Err(error) => {
-            drop(answer);
-            Err(error)
-        }
-    }
+    note_answer(&mut caller.record, value, &answer)?;
+    Ok(answer.ok())
 }
 
 fn try_push(
@@ -258,20 +253,11 @@ pub fn make_call<R: Wait>(
     ensures token { IfOk result (λ token. IfSome token (IsPlacedOf vector.now)) }
 {
     match KINDS[caller.below(KINDS.len())] {
-        Kind::TryPush => {
-            drop(token);
-            try_push(vector, hand, caller)
+        Kind::TryPush => try_push(vector, hand, caller),
+        Kind::Push => push(rt, vector, hand, caller),
+        kind => {
+            make_plain_call(kind, alloc, vector, hand, other, &token, caller)?;
+            Ok(token)
         }
-        Kind::Push => {
-            drop(token);
-            push(rt, vector, hand, caller)
-        }
-        kind => match make_plain_call(kind, alloc, vector, hand, other, &token, caller) {
-            Ok(()) => Ok(token),
-            Err(error) => {
-                drop(token);
-                Err(error)
-            }
-        },
     }
 }

@@ -119,14 +119,7 @@ pub fn run_job<R: Wait + AllocGlobal>(rt: &R, vector: &Shared<u64>, job: Job) ->
     let mut hand = job.hand;
     let alloc = rt.alloc();
     let mut caller = Caller::new(alloc, job.vector, job.thread);
-    match call_by_many(rt, alloc, vector, &mut hand, &mut caller) {
-        Ok(()) => {
-            let Caller { record, .. } = caller;
-            Ok(Outcome { hand, record })
-        }
-        Err(error) => {
-            drop((caller, hand));
-            Err(error)
-        }
-    }
+    call_by_many(rt, alloc, vector, &mut hand, &mut caller)?;
+    let Caller { record, .. } = caller;
+    Ok(Outcome { hand, record })
 }

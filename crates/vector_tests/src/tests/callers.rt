@@ -167,7 +167,7 @@ pub(super) fn on_two<T: Drop, R: AllocGlobal + Abort, F: FnOnce(&mut Callers<T>)
     is_right
 }
 
-// Whether a call succeeded. A generic function drops the result, which costs a proof less than a drop in each caller.
+// Tests whether a call succeeded. It is generic, and drops the result, so that no caller's proof has to.
 pub(super) fn succeeded<T: Drop, E: Drop>(outcome: Result<T, E>) -> bool {
     outcome.is_ok()
 }

@@ -13,7 +13,7 @@
 
 using Value = std::uint64_t;
 
-// As in crates/costs/src/loads.rt.
+// As in crates/costs/src/loads.rt, and the length of a list as in growths.rt there.
 constexpr Value fresh = 10'000'000;
 constexpr Value filled = (Value{1} << 23) + 1;
 constexpr Value more = 8'000'000;

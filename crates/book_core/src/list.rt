@@ -4,7 +4,7 @@ ghost use Rattle.std.specs.Prelude.{◌≡◌, ◌==◌, length};
 use std::marker::Model;
 
 /// A `Vec` that contracts see as a list. It takes no more memory than the `Vec`.
-#[derive(Debug, Drop)]
+#[derive(Debug)]
 pub struct Sequence<T> {
     members: Vec<T>,
 }
@@ -15,6 +15,13 @@ impl<T> Model for Sequence<T> {
     ghost Value = { List T };
 
     ghost view = { λ s. s.members.items };
+}
+
+// By hand, so that proofs of callers do not go into its fields.
+impl<T: Drop> Drop for Sequence<T> {
+    fn drop(self) {
+        let Self { members: _ } = self;
+    }
 }
 
 impl<T> Sequence<T> {
@@ -36,7 +43,8 @@ impl<T> Sequence<T> {
     pub fn into_vec(self) -> Vec<T>
         ensures { result.items ≡ self }
     {
-        self.members
+        let Self { members } = self;
+        members
     }
 
     /// Returns the number of members.

@@ -37,7 +37,7 @@ impl fmt::Display for BookError {
 impl Error for BookError {}
 
 /// The sequential vector: a limit and a list of cells. It changes by one event at a time.
-#[derive(Debug, Drop)]
+#[derive(Debug)]
 pub struct CellVec {
     limit: u64,
     cells: Vec<Cell>,
@@ -53,6 +53,13 @@ impl Model for CellVec {
     ghost view = { λ v. record { limit = v.limit; cells = v.cells.items } };
 
     ghost invariant = { λ v. IsLimit v.limit × (vec_len v.cells ≤ v.limit) };
+}
+
+// By hand, so that proofs of callers do not go into its fields.
+impl Drop for CellVec {
+    fn drop(self) {
+        let Self { limit: _, cells: _ } = self;
+    }
 }
 
 impl CellVec {
@@ -116,7 +123,8 @@ impl CellVec {
     pub fn into_cells(self) -> Vec<Cell>
         ensures { result.items ≡ self.cells }
     {
-        self.cells
+        let Self { limit: _, cells } = self;
+        cells
     }
 
     /// Returns the greatest length that the list may reach.

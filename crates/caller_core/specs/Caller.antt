@@ -1,15 +1,12 @@
 -- A thread's hand of a vector with its vector, and what each call leaves of it.
-use Rattle.std.specs.Prelude.{◌≡◌, ℕ, ◌+◌, ◌<◌, ◌≤◌, ◌++◌, ◌⊎◌, [], List, Option, Some, None}
+use Rattle.std.specs.Prelude.{◌≡◌, ℕ, ◌+◌, ◌++◌, ◌⊎◌, [], Option, Some, None}
 use Rattle.std.specs.Coded.{coded_option}
 use base.Stored.{Coded, coded×, coded_via}
 use mathlib.Core.List.{IsPrefix}
-use Rattle.claim_core.specs.Hand.{HandView, hand_coded, IsWholeHand, OwnApart, SeesSize, seen_size}
+use Rattle.claim_core.specs.Hand.{HandView, hand_coded, IsWholeHand, seen_size}
 use Rattle.grow_core.specs.Vector.{VectorView, vector_coded, IsHandOf, IsPlacedOf, limit_of, layout_of}
 use Rattle.grow_core.specs.Token.{PlacedView, placed_coded}
-use Rattle.grow_core.specs.Growth.{WonPlace, Refuses}
-use Rattle.grow_core.specs.declared.errors.AtError.{AtError}
-use Rattle.grow_core.specs.Read.{IsDueAt}
-use Rattle.seg_core.specs.Segment.{IsLimit}
+use Rattle.grow_core.specs.Growth.{WonPlace}
 
 -- the vector, the hand of it, and the token of the last place that the caller filled by itself
 pub record CallerView (T : Type 0) : Type 0 where

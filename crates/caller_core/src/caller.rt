@@ -1,9 +1,10 @@
 //! A hand with its vector.
+ghost use Rattle.std.specs.Arc.{arc_value};
 ghost use Rattle.std.specs.Prelude.{◌≡◌, ◌≤◌, ◌↔◌, IfOk, IsTrue};
 ghost use Rattle.claim_core.specs.Hand.{IsWholeHand, SeesSize, seen_size};
 ghost use Rattle.grow_core.specs.Vector.{limit_of, layout_of};
 ghost use Rattle.seg_core.specs.Segment.{IsLimit};
-ghost use Rattle.caller_core.specs.Caller.{IsNewCaller, KeepsCaller};
+ghost use Rattle.caller_core.specs.Caller.{IsCaller, IsNewCaller, KeepsCaller};
 
 use grow_core::{Hand, Placed, Shared};
 use quiet_core::Quiet;
@@ -23,7 +24,6 @@ pub(crate) struct Hub<T> {
 /// One thread's hand of a vector, with the vector and the token of the last place that it filled.
 ///
 /// If it is dropped, its hand's shares are lost. `join` and `close` keep them.
-#[derive(Drop)]
 pub struct Caller<T> {
     pub(crate) hub: Arc<Hub<T>>,
     pub(crate) hand: Hand<T>,
@@ -43,21 +43,46 @@ impl<T> Model for Caller<T> {
     ghost invariant = { λ c. IsCaller (arc_value c.hub).vector c.hand c.last };
 }
 
+// By hand, so that proofs of callers do not go into its fields.
+impl<T: Drop> Drop for Caller<T> {
+    fn drop(self) {
+        let Self {
+            hub: _,
+            hand: _,
+            last: _,
+        } = self;
+    }
+}
+
+impl<T> Caller<T> {
+    // Takes the caller apart.
+    pub(crate) fn into_parts(self) -> (Arc<Hub<T>>, Hand<T>, Option<Placed<T>>)
+        ensures parts { self ≡ record {
+          vector = (arc_value result.0).vector;
+          hand = result.1;
+          last = result.2;
+        } }
+        ensures its { IsCaller (arc_value result.0).vector result.1 result.2 }
+    {
+        let Caller { hub, hand, last } = self;
+        (hub, hand, last)
+    }
+}
+
 impl<T: Drop> Caller<T> {
     /// Opens a new, empty vector. The caller has all its shares. The only refusal is out of memory.
     pub fn open(alloc: Global, limit: u64, layout: Layout) -> Result<Caller<T>, AllocError>
         requires { IsLimit limit }
         ensures { IfOk result (IsNewCaller limit layout) }
     {
-        let Ok((vector, hand)) = Quiet::new_in(alloc, layout, limit).open() else {
-            return Err(AllocError);
-        };
-        let hub = Arc::new(alloc, Hub { vector, mark: 0 })?;
-        Ok(Caller {
-            hub,
-            hand,
-            last: None,
-        })
+        let list = Quiet::new_in(alloc, layout, limit);
+        match Caller::of_list(alloc, list) {
+            Ok(caller) => Ok(caller),
+            Err(list) => {
+                drop(list);
+                Err(AllocError)
+            }
+        }
     }
 }
 

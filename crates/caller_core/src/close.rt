@@ -20,12 +20,13 @@ impl<T: Drop> Caller<T> {
         ensures closed { IfOk result (λ list. IsClosedFrom self.vector list.closed) }
         ensures back { IfErr result (λ back. back ≡ self) }
     {
-        let Caller { hub, hand, last } = self;
+        let (hub, hand, last) = self.into_parts();
         if !hand.is_whole() {
             return Err(Caller { hub, hand, last });
         }
         match Arc::try_unwrap(hub) {
             Ok(hub) => {
+                drop(last);
                 let Hub { vector, mark: _ } = hub;
                 Ok(Quiet::close(vector, hand))
             }

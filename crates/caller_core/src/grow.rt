@@ -13,19 +13,21 @@ use grow_core::{AtLeast, GrowError, Grown, Never, Placed};
 
 // Keeps the token of the last place of a run, if the run has a place, and returns the first place.
 #[tactic(auto, using(crate::proofs::LastTokens::tells_none, crate::proofs::LastTokens::tells_some))]
-fn keep_last<T: Drop>(last: &mut Option<Placed<T>>, grown: &Grown<T>) -> u64
-    ensures place { result ≡ grown.now.run.from }
-    ensures last { TellsLast grown.now last.old last.new }
-    ensures of { (v : VectorView T) → IsGrownOf v grown.now → IsLastOf v last.old
+fn keep_last<T: Drop>(last: &mut Option<Placed<T>>, grown: Grown<T>) -> u64
+    ensures place { result ≡ grown.run.from }
+    ensures last { TellsLast grown last.old last.new }
+    ensures of { (v : VectorView T) → IsGrownOf v grown → IsLastOf v last.old
         → IsLastOf v last.new }
 {
     // For the proof: a run has a token of each of its places.
     grown.laws();
     let run = grown.run();
     if run.n == 0 {
+        drop(grown);
         return run.from;
     }
     *last = Some(grown.placed(run.n - 1));
+    drop(grown);
     run.from
 }
 
@@ -42,7 +44,7 @@ impl<T: Copy> Caller<T> {
         ensures last { OnErr result (self.new.last ≡ self.old.last) }
     {
         let grown = self.hub.vector.try_grow_from(&mut self.hand, values)?;
-        Ok(keep_last(&mut self.last, &grown))
+        Ok(keep_last(&mut self.last, grown))
     }
 
     /// Appends `n` copies of the value side by side, and returns the place of the first one. It tries once.
@@ -56,7 +58,7 @@ impl<T: Copy> Caller<T> {
         ensures last { OnErr result (self.new.last ≡ self.old.last) }
     {
         let grown = self.hub.vector.try_grow_copies(&mut self.hand, n, value)?;
-        Ok(keep_last(&mut self.last, &grown))
+        Ok(keep_last(&mut self.last, grown))
     }
 }
 
@@ -77,7 +79,7 @@ impl<T: Drop> Caller<T> {
         ensures last { OnErr result (self.new.last ≡ self.old.last) }
     {
         let grown = self.hub.vector.try_grow_with(&mut self.hand, n, make)?;
-        Ok(keep_last(&mut self.last, &grown))
+        Ok(keep_last(&mut self.last, grown))
     }
 
     /// Appends the values that are missing up to this size, which `make` makes. Returns the place of the first one
@@ -98,16 +100,14 @@ impl<T: Drop> Caller<T> {
         ensures kept { KeepsCaller self.old self.new }
         ensures last { OnErr result (self.new.last ≡ self.old.last) }
     {
-        let reached = self
-            .hub
-            .vector
-            .grow_to_at_least(&mut self.hand, size, make)?;
+        let reached = self.hub.vector.grow_to_at_least(&mut self.hand, size, make);
         match reached {
-            AtLeast::Enough { size } => Ok((size, 0)),
-            AtLeast::Ran(grown) => {
+            Ok(AtLeast::Enough { size }) => Ok((size, 0)),
+            Ok(AtLeast::Ran(grown)) => {
                 let n = grown.run().n;
-                Ok((keep_last(&mut self.last, &grown), n))
+                Ok((keep_last(&mut self.last, grown), n))
             }
+            Err(refused) => Err(refused),
         }
     }
 
@@ -121,7 +121,9 @@ impl<T: Drop> Caller<T> {
         ensures kept { KeepsCaller self.old self.new }
         ensures last { self.new.last ≡ self.old.last }
     {
-        let run = self.hub.vector.try_break_run(&mut self.hand, n)?;
-        Ok(run.from)
+        match self.hub.vector.try_break_run(&mut self.hand, n) {
+            Ok(run) => Ok(run.from),
+            Err(refused) => Err(refused),
+        }
     }
 }

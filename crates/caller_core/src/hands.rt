@@ -34,11 +34,8 @@ impl<T: Drop> Caller<T> {
         ensures joined { JoinsCallers self.old other self.new }
         ensures last { self.new.last ≡ self.old.last }
     {
-        let Caller {
-            hub: _hub,
-            hand,
-            last: _last,
-        } = other;
+        let (hub, hand, last) = other.into_parts();
         self.hub.vector.join(&mut self.hand, hand);
+        drop((hub, last));
     }
 }

@@ -25,7 +25,9 @@ fn address_at<'a, T: Element>(
 {
     let no_token: Option<&'a Placed<T>> = None;
     let at = vector.at(hand, place, no_token)?;
-    Ok(at.value.address())
+    let address = at.value.address();
+    drop(at);
+    Ok(address)
 }
 
 // The address of the value at the place, and how many filled places lie side by side from there on.

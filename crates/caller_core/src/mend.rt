@@ -21,9 +21,13 @@ impl<T: Drop> Caller<T> {
         ensures kept { KeepsCaller self.old self.new }
         ensures last { OnErr result (self.new.last ≡ self.old.last) }
     {
-        let placed = self.hub.vector.mend(&mut self.hand, place, value)?;
-        self.last = Some(placed);
-        Ok(())
+        match self.hub.vector.mend(&mut self.hand, place, value) {
+            Ok(placed) => {
+                self.last = Some(placed);
+                Ok(())
+            }
+            Err(refused) => Err(refused),
+        }
     }
 
     /// Installs the segments of the first `n` places, in all.

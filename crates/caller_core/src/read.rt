@@ -37,7 +37,9 @@ fn copy_at<T: Copy>(
     ensures hand { SeesMore hand.old hand.new }
 {
     let at = vector.at(hand, place, token_of(last, place))?;
-    Ok(*at.value)
+    let value = *at.value;
+    drop(at);
+    Ok(value)
 }
 
 impl<T: Copy> Caller<T> {

@@ -1,19 +1,18 @@
 -- The values of cells next to each other, lent together. Assumes `Logic`.
-use Rattle.std.proofs.Common.{◌≡◌, ℕ, zero, suc, ◌+◌, ◌*◌, ◌/◌, ◌%◌, ◌<◌, ◌≤◌, List, [], ◌∷◌, length, Option, Some, refl, sym, ap, ◌∙◌, suc-mul, arith}
+use Rattle.std.proofs.Common.{◌≡◌, ℕ, suc, ◌+◌, ◌*◌, ◌/◌, ◌%◌, ◌≤◌, List, [], ◌∷◌, length, Option, refl, suc-mul, arith}
 use seplogic.Ra.Ura.{Ura}
 use base.Logic.{SProp, ent, sep, wand, apply∗}
-use base.Fml.{Lft, Share, Fml, ftrue, fsep, flft}
+use base.Fml.{Lft, Share, Fml, ftrue, flft}
 use base.Before.{before}
 use types.Logic.{Logic, sem}
 use types.Na.{before_dup}
-use types.Kit.{‵, raw, ◌⊛◌, some, later, updating, await, now, ◌$◌, ◌∵◌, !, qed, move, drop, use1, use2, use3, split, join, fsplit, fjoin, fpick, pick, rewrite, frame, done}
+use types.Kit.{‵, raw, ◌⊛◌, some, later, updating, await, now, ◌$◌, ◌∵◌, !, qed, move, drop, use1, use2, use3, split, fsplit, fjoin, fpick, pick, rewrite, frame, done}
 use prog.Model.{Model}
 use contract.Running.{Running}
 use contract.Shared.{Lends-one}
 use denote.RattleType.{RattleType, RowLaws}
 use denote.Memory.{shared_of, each_shared}
 use denote.RawPtr.{block_ptr}
-use denote.Steps.{nothing}
 use Rattle.cell_core.specs.Slot.{Names, Turn, cell_in, step, written, slot_owned}
 use Rattle.cell_core.specs.Laid.{along_lent}
 use Rattle.cell_core.specs.Member.{MemberView, HaveValues, known_as, members}

@@ -5,9 +5,12 @@ ghost use Rattle.claim_core.specs.Lengths.{Tiles, times};
 ghost use Rattle.claim_core.specs.Hand.{IsWholeHand, SeesBegun, seen_size, own_places};
 ghost use Rattle.claim_core.specs.Shares.{all_shares};
 ghost use Rattle.claim_core.specs.History.{IsHistoryOf, lengths_of};
+ghost use Rattle.claim_core.specs.Rule.{word_count};
+ghost use Rattle.claim_core.specs.Seat.{IsHeld, hand_view};
 ghost use mathlib.Core.List.{IsPrefix};
 
 use crate::mark::Mark;
+use crate::rule::ClaimSeat;
 use crate::seat_view::SeatView;
 use atomic_table::Badge;
 use std::fmt;
@@ -20,7 +23,6 @@ pub(crate) const WHOLE: u32 = 65536;
 /// A caller's knowledge of the size, and its shares. Closing the word needs all shares, so once a hand is
 /// dropped the word can only be dropped. It takes 16 bytes. While an offer or a visit has its seat, it is a
 /// hand of no word, so no call of a word takes it.
-#[derive(Drop)]
 pub struct Hand {
     pub(crate) badge: Badge<SeatView>,
     // The number of the word's desk.
@@ -40,6 +42,19 @@ impl Model for Hand {
         hand_by (floor_in h.floor.numbers) h.badge.table_id h.badge.views h.shares h.seen };
 
     ghost invariant = { λ h. IsKept h.badge.views h.shares h.seen };
+}
+
+// By hand, so that proofs of callers do not go into its fields.
+impl Drop for Hand {
+    #[inline(always)]
+    fn drop(self) {
+        let Self {
+            badge: _,
+            floor: _,
+            shares: _,
+            seen: _,
+        } = self;
+    }
 }
 
 impl fmt::Debug for Hand {
@@ -105,5 +120,21 @@ impl Hand {
         ensures { result ≡ seen_size self.now }
     {
         self.seen
+    }
+
+    // Takes the seat out of a hand that is given up.
+    #[inline(always)]
+    pub(crate) fn into_seat(self) -> ClaimSeat
+        requires { self.of.table.words ≡ word_count }
+        ensures seat { hand_view self.of.floor result ≡ self }
+        ensures held { IsHeld result self.shares (seen_size self) }
+    {
+        let Hand {
+            badge,
+            floor: _,
+            shares: _,
+            seen: _,
+        } = self;
+        badge.into_seat()
     }
 }

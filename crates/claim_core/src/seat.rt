@@ -83,20 +83,4 @@ impl Hand {
         // For the proof: reading a field shows the type's invariant.
         let _seen = self.seen;
     }
-
-    // Takes the seat out of a hand that is given up.
-    #[inline(always)]
-    pub(crate) fn into_seat(self) -> ClaimSeat
-        requires { self.of.table.words ≡ word_count }
-        ensures seat { hand_view self.of.floor result ≡ self }
-        ensures held { IsHeld result self.shares (seen_size self) }
-    {
-        let Hand {
-            badge,
-            floor: _,
-            shares: _,
-            seen: _,
-        } = self;
-        badge.into_seat()
-    }
 }

@@ -1,39 +1,36 @@
 //! Loads of millions of calls, one in each run of the program. `bench/compare` runs them in turns with the
 //! same loads on other libraries.
-ghost use Rattle.std.specs.Prelude.{◌≡◌, ◌<◌};
+ghost use Rattle.std.specs.Prelude.{◌<◌};
 ghost use Rattle.std.specs.Thread.{IsSync};
 ghost use Rattle.grow_core.specs.Vector.{IsHandOf};
 
-use crate::other_vectors::push_boxcar;
+use crate::growths::{append_copies, append_lists, append_made};
 use crate::reads::{
-    pick_places, print_get_time, read_at, read_boxcar, read_look, read_segment_walks, read_walks,
+    pick_places, print_get_time, read_at, read_look, read_segment_walks, read_walks,
 };
 use crate::shared_vector::{hands_for, open_empty_in, push, push_by_calls};
-use crate::trial::{print_nanoseconds, succeeded, time_hands, time_threads};
+use crate::trial::{print_nanoseconds, time_hands};
 use crate::writers::{push_buffered, push_by_writer};
 use anyhow::{Result, bail};
-use grow_core::{Hand, Never, Shared};
+use grow_core::{Hand, Shared};
 use seg_core::Layout;
-use std::alloc::{AllocError, AllocGlobal};
+use std::alloc::AllocGlobal;
 use std::rt::Clock;
 use std::sync::{Arc, Wait};
 use std::thread::Threads;
 use std::time::Duration;
 
 // The values that all threads append together on a new vector.
-const FRESH: u64 = 10_000_000;
+pub const FRESH: u64 = 10_000_000;
 
 // The size of a vector before the other loads are timed: the last place is the first of its segment.
-const FILLED: u64 = (1 << 23) + 1;
+pub const FILLED: u64 = (1 << 23) + 1;
 
 // The values that are then appended, all in that segment, or read.
-const MORE: u64 = 8_000_000;
+pub const MORE: u64 = 8_000_000;
 
 // The values that walks read in all: sixteen times as many.
 const WALKED: u64 = 128_000_000;
-
-// The values of a growth.
-const LIST: u64 = 64;
 
 // The size of a small vector before a load: the last place is the first of its segment.
 const FILLED_SMALL: u64 = (1 << 16) + 1;
@@ -147,142 +144,6 @@ pub fn load_of(name: &str) -> Result<Load> {
     })
 }
 
-// A list of a growth.
-fn list_from<R: AllocGlobal>(rt: &R, from: u64) -> Result<Vec<u64>, AllocError> {
-    let mut list = Vec::with_capacity(rt.alloc(), LIST as usize)?;
-    for i in 0..LIST {
-        list.push(from.wrapping_add(i))?;
-    }
-    Ok(list)
-}
-
-// Appends the values with tokens, and returns whether that was done.
-#[inline(always)]
-fn grow_by_list<R: Wait>(rt: &R, vector: &Shared<u64>, hand: &mut Hand<u64>, list: Vec<u64>) -> bool
-    requires ours { IsHandOf vector.now hand.old }
-    ensures of { hand.new.of ≡ hand.old.of }
-{
-    succeeded(vector.grow_vec(rt, hand, list))
-}
-
-// Appends the values without tokens, and returns whether that was done.
-#[inline(always)]
-fn append_list<R: Wait>(rt: &R, vector: &Shared<u64>, hand: &mut Hand<u64>, list: Vec<u64>) -> bool
-    requires ours { IsHandOf vector.now hand.old }
-    ensures of { hand.new.of ≡ hand.old.of }
-{
-    succeeded(vector.append(rt, hand, list))
-}
-
-// Appends a list of values, with tokens or without: whether that was done, or nothing without memory for the list.
-fn grow_once<R: Wait + AllocGlobal>(
-    rt: &R,
-    vector: &Shared<u64>,
-    hand: &mut Hand<u64>,
-    from: u64,
-    has_tokens: bool,
-) -> Option<bool>
-    requires ours { IsHandOf vector.now hand.old }
-    ensures of { hand.new.of ≡ hand.old.of }
-{
-    let list = list_from(rt, from).ok()?;
-    if has_tokens {
-        Some(grow_by_list(rt, vector, hand, list))
-    } else {
-        Some(append_list(rt, vector, hand, list))
-    }
-}
-
-// How many of the values were appended, a list at a time.
-fn grow<R: Wait + AllocGlobal>(
-    rt: &R,
-    vector: &Shared<u64>,
-    mut hand: Hand<u64>,
-    values: u64,
-    has_tokens: bool,
-) -> u64
-    requires ours { IsHandOf vector.now hand }
-{
-    let mut won: u64 = 0;
-    for i in 0..values / LIST {
-        let Some(is_done) = grow_once(rt, vector, &mut hand, i, has_tokens) else {
-            break;
-        };
-        if is_done {
-            won = won.wrapping_add(LIST);
-        }
-    }
-    drop(hand);
-    won
-}
-
-// Appends copies of one list, and returns how many values were appended.
-fn copy<R: Wait + AllocGlobal>(
-    rt: &R,
-    vector: &Shared<u64>,
-    mut hand: Hand<u64>,
-    values: u64,
-) -> u64
-    requires ours { IsHandOf vector.now hand }
-{
-    let Ok(list) = list_from(rt, 0) else {
-        drop(hand);
-        return 0;
-    };
-    let mut won: u64 = 0;
-    for _growth in 0..values / LIST {
-        if vector.grow_from(rt, &mut hand, list.as_slice()).is_ok() {
-            won = won.wrapping_add(LIST);
-        }
-    }
-    drop((list, hand));
-    won
-}
-
-// Appends values that are made in place: whether that was done.
-fn make_once<R: Wait>(rt: &R, vector: &Shared<u64>, hand: &mut Hand<u64>, from: u64) -> bool
-    requires ours { IsHandOf vector.now hand.old }
-    ensures of { hand.new.of ≡ hand.old.of }
-{
-    let make = |i: u64| -> Result<u64, Never> { Ok(from.wrapping_add(i)) };
-    succeeded(vector.grow_with(rt, hand, LIST, make))
-}
-
-// Grows the vector up to 64 places above what the hand has seen, and returns whether that was done.
-fn raise_once(vector: &Shared<u64>, hand: &mut Hand<u64>, from: u64) -> bool
-    requires ours { IsHandOf vector.now hand.old }
-    ensures of { hand.new.of ≡ hand.old.of }
-{
-    let make = |i: u64| -> Result<u64, Never> { Ok(from.wrapping_add(i)) };
-    let size = hand.seen().saturating_add(LIST);
-    succeeded(vector.grow_to_at_least(hand, size, make))
-}
-
-// Appends values by calls with a maker for 64 each, and returns how many were appended.
-fn make<R: Wait>(
-    rt: &R,
-    vector: &Shared<u64>,
-    mut hand: Hand<u64>,
-    values: u64,
-    is_up_to: bool,
-) -> u64
-    requires ours { IsHandOf vector.now hand }
-{
-    let mut won: u64 = 0;
-    for i in 0..values / LIST {
-        let is_done = if is_up_to {
-            raise_once(vector, &mut hand, i)
-        } else {
-            make_once(rt, vector, &mut hand, i)
-        };
-        if is_done {
-            won = won.wrapping_add(LIST);
-        }
-    }
-    drop(hand);
-    won
-}
-
 impl Work {
     // One thread's part of a load that only reads.
     fn read(self, vector: &Shared<u64>, hand: &mut Hand<u64>, times: u64) -> u64
@@ -311,11 +172,11 @@ impl Work {
             Work::CallPush => push_by_calls(rt, vector, hand, times),
             Work::WriterPush => push_by_writer(rt, vector, hand, times),
             Work::BufferedPush => push_buffered(rt, vector, hand, times),
-            Work::Grow => grow(rt, vector, hand, times, true),
-            Work::Append => grow(rt, vector, hand, times, false),
-            Work::Copy => copy(rt, vector, hand, times),
-            Work::Make => make(rt, vector, hand, times, false),
-            Work::AtLeast => make(rt, vector, hand, times, true),
+            Work::Grow => append_lists(rt, vector, hand, times, true),
+            Work::Append => append_lists(rt, vector, hand, times, false),
+            Work::Copy => append_copies(rt, vector, hand, times),
+            Work::Make => append_made(rt, vector, hand, times, false),
+            Work::AtLeast => append_made(rt, vector, hand, times, true),
             Work::At => read_at(vector, hand, times),
             Work::Look | Work::Walk | Work::Segments | Work::Get | Work::Pick => {
                 let read = self.read(vector, &mut hand, times);
@@ -443,49 +304,4 @@ impl Load {
             _ => self.print_time_by_hands(rt, threads),
         }
     }
-}
-
-// Pushes the load's values on this one, and prints the nanoseconds that it took.
-fn print_boxcar_time_on<R: Threads + Wait + Clock + Print + AllocGlobal + Sync>(
-    rt: &R,
-    list: &boxcar::Vec<u64>,
-    threads: usize,
-) -> Result<()> {
-    let times = FRESH / (threads as u64).max(1);
-    let (took, _wins) = time_threads(rt, threads, &|_| push_boxcar(rt, list, times))?;
-    print_nanoseconds(rt, took)
-}
-
-// Reads as many values of this one as the load `at`, and prints the nanoseconds that it took.
-fn print_boxcar_reads_on<R: Threads + Wait + Clock + Print + AllocGlobal + Sync>(
-    rt: &R,
-    list: &boxcar::Vec<u64>,
-    threads: usize,
-) -> Result<()> {
-    push_boxcar(rt, list, FILLED);
-    let times = MORE / (threads as u64).max(1);
-    let (took, _odd) = time_threads(rt, threads, &|_| read_boxcar(list, times))?;
-    print_nanoseconds(rt, took)
-}
-
-/// Fills a new `boxcar::Vec`, reads it at random places, and prints the nanoseconds that the reads took.
-pub fn print_boxcar_reads<R: Threads + Wait + Clock + Print + AllocGlobal + Sync>(
-    rt: &R,
-    threads: usize,
-) -> Result<()> {
-    let list = boxcar::Vec::new(rt.alloc())?;
-    let printed = print_boxcar_reads_on(rt, &list, threads);
-    drop(list);
-    printed
-}
-
-/// Pushes as many values as the load `push` on a new `boxcar::Vec`, and prints the nanoseconds that it took.
-pub fn print_boxcar_time<R: Threads + Wait + Clock + Print + AllocGlobal + Sync>(
-    rt: &R,
-    threads: usize,
-) -> Result<()> {
-    let list = boxcar::Vec::new(rt.alloc())?;
-    let printed = print_boxcar_time_on(rt, &list, threads);
-    drop(list);
-    printed
 }

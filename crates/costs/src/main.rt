@@ -15,8 +15,10 @@
 #![tactic(auto)]
 
 mod bare_number;
+mod boxcar_loads;
 mod claim_word;
 mod figures;
+mod growths;
 mod hundreds;
 mod lives;
 mod loads;
@@ -30,10 +32,11 @@ mod stress;
 mod trial;
 mod writers;
 
+use crate::boxcar_loads::{print_boxcar_reads, print_boxcar_time};
 use crate::figures::print_figures;
 use crate::hundreds::print_hundreds;
 use crate::lives::{Turn, print_turn};
-use crate::loads::{layout_of, load_of, print_boxcar_reads, print_boxcar_time};
+use crate::loads::{layout_of, load_of};
 use crate::operation::{GROUPS, Group, Operation};
 use crate::pushed_walk::print_pushed_walk;
 use crate::stress::print_stress;

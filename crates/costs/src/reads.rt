@@ -31,7 +31,7 @@ const ROUNDS: u64 = 16;
 // How many bits of a number are cut off: the first 23 are left, as in the other program.
 const CUT: u32 = 41;
 
-// The last place at which a load reads: the greatest power of two that the size has, less one.
+// The last place that a load reads: the greatest power of two that the size has, less one.
 fn last_place(size: u64) -> u64
     ensures { 0 < size → result < size }
 {

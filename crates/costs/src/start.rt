@@ -5,7 +5,7 @@ use std::sync::atomic::{AtomicU64, Ordering};
 use std::time::Instant;
 
 // The steps of arithmetic that each of several threads does first: about 100 milliseconds. The kernel may start a
-// thread on a processor that another one uses, and has then moved it to a processor of its own.
+// thread on a processor that is in use, and has then moved it to a processor of its own.
 const STEPS: u64 = 75_000_000;
 
 // How often a thread looks at most whether all have come: seconds, so that it waits in vain only if a thread could not
@@ -20,7 +20,7 @@ pub struct Timed {
     pub wins: u64,
 }
 
-/// Where a number of threads gather before their time starts.
+/// A place for threads to gather before their time starts.
 #[derive(Drop)]
 pub struct Start {
     threads: u64,

@@ -80,6 +80,10 @@ abbrev pub IsRaceEnd : ℕ → ℕ → ProgramError → Type 0
 IsRaceEnd workers each (Run error) = (error ≡ runs.NoMemory) ⊎ (error ≡ runs.Write)
 IsRaceEnd workers each (Race refusal) = IsFreeRefusal workers each refusal
 
+-- how a run ends: well, or by an error
+abbrev pub RunEnd : Type 0
+RunEnd = Result (Unit {0}) RunError
+
 -- how the program ends, by how a run ends
 abbrev pub by_run : Result (Unit {0}) RunError → Result (Unit {0}) ProgramError
 by_run (Ok done) = Ok done

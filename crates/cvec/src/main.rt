@@ -11,6 +11,7 @@
 #![tactic(auto)]
 
 mod command_line;
+mod commands;
 mod error;
 mod program;
 mod schedule;

@@ -7,7 +7,7 @@ ghost use Rattle.engine_core.specs.Output.{Plays};
 ghost use Rattle.race_core.specs.Race.{race_text, IsBadSize};
 ghost use Rattle.sweep_core.specs.Sweep.{sweep_text};
 ghost use Rattle.cvec.specs.Program.{EndsAs, EndsExplained, Races, Shows, Writes};
-ghost use Rattle.cvec.specs.ProgramError.{by_run, error_line, explained_lines, IsRaceEnd};
+ghost use Rattle.cvec.specs.ProgramError.{RunEnd, by_run, error_line, explained_lines, IsRaceEnd};
 ghost use Rattle.cvec.specs.Request.{IsSweep, StartsThreads};
 ghost use Rattle.cvec.specs.Schedule.{schedule_text};
 
@@ -183,10 +183,38 @@ fn refuse<E: Write>(errors: &mut E, text: &str) -> u8
     REFUSED
 }
 
-/// Does what a command line asks for, except races and sweeps, and returns the exit status of the program.
-///
-/// The writer of errors may fail too: clauses allow any prefix of its line, and then the status alone reports
-/// the error.
+// Plays the script that the reader has, and reports how the run ended.
+fn serve_play<R: Read, W: Write, E: Write>(
+    alloc: Global,
+    engine: Engine,
+    reader: &mut R,
+    writer: &mut W,
+    errors: &mut E,
+) -> u8
+    ensures { (ended : RunEnd) × Plays engine ended (R.remaining reader.old)
+        (W.contents writer.old) (W.contents writer.new)
+        × EndsAs (by_run ended) result (E.contents errors.old) (E.contents errors.new) }
+{
+    report_run_error(errors, run_script(alloc, engine, reader, writer))
+}
+
+// The same, and the error is explained.
+fn serve_explained<R: Read, W: Write, E: Write>(
+    alloc: Global,
+    engine: Engine,
+    reader: &mut R,
+    writer: &mut W,
+    errors: &mut E,
+) -> u8
+    ensures { (ended : RunEnd) × Plays engine ended (R.remaining reader.old)
+        (W.contents writer.old) (W.contents writer.new)
+        × EndsExplained ended result (E.contents errors.old) (E.contents errors.new) }
+{
+    explain_run_error(errors, run_script(alloc, engine, reader, writer))
+}
+
+/// Does what a command line asks for, except races and sweeps, and returns the exit status of the program. The
+/// writer of errors may fail too: clauses allow any prefix of its line. Then the status reports the error.
 pub fn serve<R: Read, W: Write, E: Write>(
     alloc: Global,
     request: &Request,
@@ -195,39 +223,32 @@ pub fn serve<R: Read, W: Write, E: Write>(
     errors: &mut E,
 ) -> u8
     requires no_threads { StartsThreads request.now → ⊥ }
-    ensures plays { (engine : Engine) → request.now ≡ Request.Play engine
-        → (ended : Result (Unit {0}) RunError)
+    ensures plays { (engine : Engine) → request.now ≡ Request.Play engine → (ended : RunEnd)
         × Plays engine ended (R.remaining reader.old)
         (W.contents writer.old) (W.contents writer.new)
         × EndsAs (by_run ended) result (E.contents errors.old) (E.contents errors.new) }
     ensures explains { (engine : Engine) → request.now ≡ Request.PlayExplained engine
-        → (ended : Result (Unit {0}) RunError)
-        × Plays engine ended (R.remaining reader.old)
+        → (ended : RunEnd) × Plays engine ended (R.remaining reader.old)
         (W.contents writer.old) (W.contents writer.new)
         × EndsExplained ended result (E.contents errors.old) (E.contents errors.new) }
     ensures prints { (seed number len : ℕ) → request.now ≡ Request.Schedule seed number len
-        → (ended : Result (Unit {0}) RunError)
-        × Writes (schedule_text seed number len) ended
+        → (ended : RunEnd) × Writes (schedule_text seed number len) ended
         (W.contents writer.old) (W.contents writer.new)
         × EndsAs (by_run ended) result (E.contents errors.old) (E.contents errors.new) }
-    ensures shows { (text : String Global) → request.now ≡ Request.Show text
-        → (ended : Result (Unit {0}) RunError)
+    ensures shows { (text : String Global) → request.now ≡ Request.Show text → (ended : RunEnd)
         × Shows (string_bytes text) ended (W.contents writer.old) (W.contents writer.new)
         × EndsAs (by_run ended) result (E.contents errors.old) (E.contents errors.new) }
     ensures refuses { (text : String Global) → request.now ≡ Request.Refuse text → (result ≡ 5)
         × Keeps (W.contents writer.old) (W.contents writer.new)
         × AppendsPrefix (E.contents errors.old) (E.contents errors.new) (string_bytes text) }
     ensures memory { request.now ≡ Request.NoMemory
-        → EndsAs (by_run (Err RunError.NoMemory)) result (E.contents errors.old) (E.contents errors.new)
+        → EndsAs (by_run (Err RunError.NoMemory)) result
+        (E.contents errors.old) (E.contents errors.new)
         × Keeps (W.contents writer.old) (W.contents writer.new) }
 {
     match request {
-        Request::Play(engine) => {
-            report_run_error(errors, run_script(alloc, *engine, reader, writer))
-        }
-        Request::PlayExplained(engine) => {
-            explain_run_error(errors, run_script(alloc, *engine, reader, writer))
-        }
+        Request::Play(engine) => serve_play(alloc, *engine, reader, writer, errors),
+        Request::PlayExplained(engine) => serve_explained(alloc, *engine, reader, writer, errors),
         Request::Race { .. } | Request::Sweep { .. } => unreachable!(),
         Request::Schedule { seed, number, len } => {
             report_run_error(errors, print_schedule(alloc, *seed, *number, *len, writer))
@@ -265,8 +286,7 @@ pub fn serve_sweep<X: Threads + Sync, W: Write, E: Write>(
     errors: &mut E,
 ) -> u8
     requires { IsSweep count len }
-    ensures sweeps { (ended : Result (Unit {0}) RunError)
-        × Writes (sweep_text seed count len) ended
+    ensures sweeps { (ended : RunEnd) × Writes (sweep_text seed count len) ended
         (W.contents writer.old) (W.contents writer.new)
         × EndsAs (by_run ended) result (E.contents errors.old) (E.contents errors.new) }
 {

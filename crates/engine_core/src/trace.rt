@@ -97,13 +97,20 @@ fn trace_script(alloc: Global, script: &Script) -> Result<Vec<u8>, AllocError>
 {
     let mut machine = machine_of(alloc, script)?;
     let mut text = Vec::new(alloc);
-    trace_items(
+    let traced = trace_items(
         &mut text,
         script.names.as_slice(),
         &mut machine,
         script.items.as_slice(),
-    )?;
-    Ok(text)
+    );
+    drop(machine);
+    match traced {
+        Ok(()) => Ok(text),
+        Err(error) => {
+            drop(text);
+            Err(error)
+        }
+    }
 }
 
 // What the engine writes before the text of a play: its trace, or nothing.

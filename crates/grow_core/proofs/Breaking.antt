@@ -1,10 +1,10 @@
 -- The tokens of places that are broken one by one.
-use Rattle.std.proofs.Common.{◌≡◌, ℕ, zero, suc, ◌+◌, List, [], ◌∷◌, ◌++◌, length, Some, refl, ap, ⊎_elim, ◌⊎◌, arith}
+use Rattle.std.proofs.Common.{◌≡◌, ℕ, zero, suc, ◌+◌, List, [], ◌∷◌, ◌++◌, length, Some, ap, ⊎_elim, arith}
 use Rattle.std.specs.Prelude.{slice_get}
 use Rattle.std.proofs.lemmas.List.Elements.{All-append}
 use Rattle.grow_core.specs.Token.{SpoiltView}
 use Rattle.grow_core.specs.Vector.{VectorView, IsSpoiltOf}
-use Rattle.grow_core.specs.BrokenRun.{AreBrokenFrom, AreKeptBroken}
+use Rattle.grow_core.specs.BrokenRun.{AreBrokenFrom}
 use Rattle.grow_core.proofs.Filling.{all_none, all_one, slice_get-append}
 
 one_place : (from : ℕ) (token : SpoiltView) → token.place ≡ from → (i : ℕ) (t : SpoiltView) → slice_get (token ∷ []) i ≡ Some t → t.place ≡ from + i

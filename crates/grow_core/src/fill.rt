@@ -154,7 +154,7 @@ impl<T: Drop> Shared<T> {
         ensures found { IfErr result (IsFoundAt self.now place) }
     {
         let placed = self.fill(segment, place, value)?;
-        Ok(self.alone(placed))
+        Ok(self.stretch_of(placed))
     }
 
     // Breaks a place of the segment.

@@ -153,11 +153,8 @@ impl<T: Drop> Shared<T> {
             let (put, others) = self.fill_begun(&segment, place, run.n - i, begun, value);
             begun = others;
             match put {
-                Ok(placed) => filled = self.know(filled, self.alone(placed)),
-                Err(found) => {
-                    break_begun(begun);
-                    return Err(GrowError::Taken { place, found });
-                }
+                Ok(placed) => filled = self.know(filled, self.stretch_of(placed)),
+                Err(found) => return Err(report_taken(place, found, begun)),
             }
         }
         // By now every place that was begun is filled, so this breaks none: a run must be spent.
@@ -199,9 +196,26 @@ impl<T: Drop> Shared<T> {
                 made: self.grown(made, filled),
                 cause,
             },
-            Err((place, found)) => GrowError::Taken { place, found },
+            Err((place, found)) => {
+                drop((filled, cause));
+                GrowError::Taken { place, found }
+            }
         }
     }
+}
+
+// A place of the run was taken: the places that were begun after it are broken.
+#[cold]
+fn report_taken<T, E>(
+    place: u64,
+    found: Found<T>,
+    begun: Option<RunPen<'_, T>>,
+) -> GrowError<T, (), E>
+    requires { AreUnwritten begun }
+    ensures { result ≡ GrowError.Taken place found }
+{
+    break_begun(begun);
+    GrowError::Taken { place, found }
 }
 
 impl<T: Clone> Shared<T> {

@@ -83,8 +83,11 @@ impl<T> Shared<T> {
             epoch,
             count,
             alloc,
+            before,
+            closed,
             ..
         } = parts;
+        drop((before, closed));
         let vector = Shared {
             word,
             table,

@@ -24,7 +24,8 @@ fn pop_values<T: Drop>(
     requires members { (i : ℕ) (m : MemberView T) → i < n → slice_get row.old (len - n + i) ≡ Some m
         → IsMemberAt block.old i m × IsFilled m }
     requires room { vec_len values.old + n ≤ vec_capacity values.old }
-    ensures popped { PopsValues block.old block.new n row.old row.new values.old.items values.new.items n }
+    ensures popped { PopsValues block.old block.new n row.old row.new
+        values.old.items values.new.items n }
     ensures added { vec_len values.new ≡ vec_len values.old + n }
     ensures capacity { vec_capacity values.new ≡ vec_capacity values.old }
 {
@@ -45,7 +46,8 @@ impl<T: Drop> Parts<T> {
             → segment_start self.old.layout k < length self.old.members }
         requires unbroken { IsUnbroken self.old.members }
         requires room { vec_len values.old + length self.old.members ≤ vec_capacity values.old }
-        ensures moved { MovesLast self.old.members self.new.members values.old.items values.new.items }
+        ensures moved { MovesLast self.old.members self.new.members
+            values.old.items values.new.items }
         ensures fewer { length self.new.members < length self.old.members }
         ensures unbroken { IsUnbroken self.new.members }
         ensures room { vec_len values.new + length self.new.members ≤ vec_capacity values.new }
@@ -82,6 +84,7 @@ impl<T: Drop> Parts<T> {
             parts.pop_segment(&mut values);
         }
         values.reverse();
+        drop(parts);
         Ok(values)
     }
 }

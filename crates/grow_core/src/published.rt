@@ -176,7 +176,8 @@ impl<'a, T> Published<'a, T> {
     fn values_ahead(&self) -> Option<(u64, &'a [T], usize)>
         ensures place { IfSome result (λ (from, _, shown). from + shown ≡ self.now.place) }
         ensures more { IfSome result (λ (_, filled, shown). shown < length filled.now) }
-        ensures within { IfSome result (λ (from, filled, _). from + length filled.now ≤ self.now.end) }
+        ensures within { IfSome result
+            (λ (from, filled, _). from + length filled.now ≤ self.now.end) }
         ensures opened { IfSome result
             (λ (from, filled, _). HoldOpened self.now.vector from filled.now) }
         ensures shown { (x : T) → self.now.place < self.now.end

@@ -60,11 +60,7 @@ impl<T> Shared<T> {
         ensures logs_refusal { IfErr result (LogsAtRefusal place hand.old hand.new) }
     {
         if let Some(token) = known {
-            self.opened_agrees(token);
-            return Ok(At {
-                value: self.get(token),
-                placed: token.again(),
-            });
+            return Ok(self.at_token(token));
         }
         let size = self.size_seen(hand, place);
         if place >= size {
@@ -76,6 +72,21 @@ impl<T> Shared<T> {
             Shown::Pending => Err(AtError::Pending),
             Shown::Filled(at) => Ok(at),
             Shown::Broken(spoilt) => Err(AtError::Broken(spoilt)),
+        }
+    }
+
+    // The value of a token, with the token. If the opened list has a value at its place, it is that one.
+    #[inline(always)]
+    fn at_token<'a>(&'a self, token: &Placed<T>) -> At<'a, T>
+        requires { IsPlacedOf self.now token.now }
+        ensures at { IsAt self.now token.now.place result }
+        ensures value { result.value.now ≡ token.now.value }
+        ensures opened { (x : T) → IsOpenedAt self.now token.now.place x → result.value.now ≡ x }
+    {
+        self.opened_agrees(token);
+        At {
+            value: self.get(token),
+            placed: token.again(),
         }
     }
 
@@ -114,7 +125,7 @@ impl<T> Shared<T> {
         }
     }
 
-    // What a place shows at which a look found no value: that, or the value that the opened list has there.
+    // What a place shows if a look at it found no value: that, or the value that the opened list has there.
     #[inline(always)]
     #[tactic(auto, using(crate::proofs::Places::within_length))]
     fn look_again<'a>(&'a self, place: u64, found: Shown<'a, T>) -> Shown<'a, T>

@@ -33,6 +33,7 @@ impl<T> Parts<T> {
         ensures member { slice_get self.now.members placed.now.place
             ≡ Some (Some placed.now.value) }
     {
+        // For the proof: each place lies in one segment.
         places();
         let place = placed.place();
         let (_, offset, key) = cell_of(&self.table, &self.keys, self.count, place);

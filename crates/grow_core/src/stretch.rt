@@ -55,7 +55,8 @@ impl<T> Shared<T> {
             × IsStretchOf self.now from values stretch.now }
         requires within { i < stretch.now.n }
         ensures { (from : ℕ) → (values : List T) → IsStretchOf self.now from values stretch.now
-            → IsPlacedOf self.now result × (result.place ≡ from + i) × (slice_get values i ≡ Some result.value) }
+            → IsPlacedOf self.now result × (result.place ≡ from + i)
+            × (slice_get values i ≡ Some result.value) }
     {
         Placed {
             key: stretch.key.again(),
@@ -65,7 +66,7 @@ impl<T> Shared<T> {
 
     // The stretch of one place, by its token.
     #[inline(always)]
-    pub(crate) fn alone(&self, placed: Placed<T>) -> Stretch<T>
+    pub(crate) fn stretch_of(&self, placed: Placed<T>) -> Stretch<T>
         requires { IsPlacedOf self.now placed }
         ensures { IsStretchOf self.now placed.place (placed.value ∷ []) result }
     {

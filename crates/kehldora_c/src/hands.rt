@@ -189,7 +189,7 @@ pub(crate) fn split(any: &mut AnyCaller, shares: u32) -> Result<AnyCaller, Statu
     ensures unchanged { OnErr result (any.new ≡ any.old) }
     ensures words_kept { words_of any.new ≡ words_of any.old }
 {
-    Ok(keep_size!(AnyCaller, any, caller => AnyCaller, reads::split(caller, shares)?))
+    keep_size!(AnyCaller, any, caller => AnyCaller, reads::split(caller, shares))
 }
 
 // Tests whether the hand has all shares.

@@ -173,7 +173,7 @@ pub(crate) fn split(any: &mut AnyOpaque, shares: u32) -> Result<AnyOpaque, Statu
     ensures unchanged { OnErr result (any.new ≡ any.old) }
     ensures words_kept { opaque_words any.new ≡ opaque_words any.old }
 {
-    Ok(keep_size!(AnyOpaque, any, caller => AnyOpaque, reads::split(caller, shares)?))
+    keep_size!(AnyOpaque, any, caller => AnyOpaque, reads::split(caller, shares))
 }
 
 // Tests whether the hand has all shares.

@@ -14,16 +14,34 @@ macro_rules! by_size {
     };
 }
 
-// The same, if what it gives is of the same size: it is put into an enum.
+// The same for a call that gives something of the same size: it is put into an enum, unless the call is refused.
 macro_rules! keep_size {
     ($kind:ident, $any:expr, $it:ident => $to:ident, $call:expr) => {
         match $any {
-            $kind::One($it) => $to::One($call),
-            $kind::Two($it) => $to::Two($call),
-            $kind::Three($it) => $to::Three($call),
-            $kind::Four($it) => $to::Four($call),
-            $kind::Six($it) => $to::Six($call),
-            $kind::Eight($it) => $to::Eight($call),
+            $kind::One($it) => match $call {
+                Ok(kept) => Ok($to::One(kept)),
+                Err(refused) => Err(refused),
+            },
+            $kind::Two($it) => match $call {
+                Ok(kept) => Ok($to::Two(kept)),
+                Err(refused) => Err(refused),
+            },
+            $kind::Three($it) => match $call {
+                Ok(kept) => Ok($to::Three(kept)),
+                Err(refused) => Err(refused),
+            },
+            $kind::Four($it) => match $call {
+                Ok(kept) => Ok($to::Four(kept)),
+                Err(refused) => Err(refused),
+            },
+            $kind::Six($it) => match $call {
+                Ok(kept) => Ok($to::Six(kept)),
+                Err(refused) => Err(refused),
+            },
+            $kind::Eight($it) => match $call {
+                Ok(kept) => Ok($to::Eight(kept)),
+                Err(refused) => Err(refused),
+            },
         }
     };
 }

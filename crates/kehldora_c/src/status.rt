@@ -72,22 +72,26 @@ pub(crate) fn of_growth<T: Drop, V: Drop>(refused: GrowError<T, V, Never>) -> St
 pub(crate) fn of_read(refused: AtError) -> Status
     ensures { result ≡ read_status refused }
 {
-    match refused {
+    let status = match &refused {
         AtError::OutOfRange { .. } => Status::OutOfRange,
         AtError::Pending => Status::Pending,
         AtError::Broken(_) => Status::Broken,
-    }
+    };
+    drop(refused);
+    status
 }
 
 // The status of a refused mend.
 pub(crate) fn of_mend<T: Drop>(refused: MendError<T>) -> Status
     ensures { result ≡ mend_status refused }
 {
-    match refused {
+    let status = match &refused {
         MendError::OutOfRange { .. } => Status::OutOfRange,
         MendError::Pending => Status::Pending,
         MendError::Filled(_) => Status::Filled,
-    }
+    };
+    drop(refused);
+    status
 }
 
 // The status of a refused call for room.

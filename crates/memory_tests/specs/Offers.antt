@@ -1,4 +1,4 @@
--- What a hand has gained by steps on tied cells.
+-- The gains of a hand by steps on tied cells.
 use Rattle.std.specs.Prelude.{◌≡◌, ℕ, [], ◌∷◌}
 use Rattle.std.specs.List.{Contains}
 use Rattle.claim_core.specs.declared.role.CellStage.{CellStage}

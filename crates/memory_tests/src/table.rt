@@ -1,16 +1,13 @@
-ghost use Rattle.std.specs.Prelude.{◌≡◌, ◌<◌, Some, IfSome};
-ghost use Rattle.cell_core.specs.Block.{block_len};
-ghost use Rattle.seg_core.specs.Segment.{segment_count};
+ghost use Rattle.std.specs.Prelude.{◌≡◌, ◌<◌, IfSome};
 ghost use Rattle.table_core.specs.Table.{IsKeyIn};
 
-use crate::is_some;
 use cell_core::block::{Block, Look};
 use seg_core::Layout;
 use std::alloc::Global;
-use std::sync::atomic::{AtomicU64, Ordering};
-use std::test::Fail;
 use table_core::{Key, Table};
 
+mod drops;
+mod owner;
 mod race;
 
 // Fills the cell at an offset, unless another came first.
@@ -39,6 +36,7 @@ fn shows(block: &Block<u64>, offset: u64, value: u64) -> bool {
 fn len_of(table: &Table<u64>, k: u32) -> Option<u64>
     requires { k < 33 }
 {
+    // For the proof: the segments are those of a layout.
     let _layout = table.layout();
     match table.install(k) {
         Ok(block) => Some(block.len()),
@@ -50,6 +48,7 @@ fn len_of(table: &Table<u64>, k: u32) -> Option<u64>
 fn takes<T: Drop>(table: &Table<T>, k: u32, offset: u64, value: T) -> bool
     requires { k < 33 }
 {
+    // For the proof: the segments are those of a layout.
     let _layout = table.layout();
     match table.install(k) {
         Ok(block) => fill(block, offset, value),
@@ -61,6 +60,7 @@ fn takes<T: Drop>(table: &Table<T>, k: u32, offset: u64, value: T) -> bool
 fn has(table: &Table<u64>, k: u32, offset: u64, value: u64) -> bool
     requires { k < 33 }
 {
+    // For the proof: the segments are those of a layout.
     let _layout = table.layout();
     match table.install(k) {
         Ok(block) => shows(block, offset, value),
@@ -72,6 +72,7 @@ fn has(table: &Table<u64>, k: u32, offset: u64, value: u64) -> bool
 fn is_seen(table: &Table<u64>, k: u32, offset: u64, value: u64) -> bool
     requires { k < 33 }
 {
+    // For the proof: the segments are those of a layout.
     let _layout = table.layout();
     match table.scout(k) {
         Some(block) => shows(block, offset, value),
@@ -79,7 +80,22 @@ fn is_seen(table: &Table<u64>, k: u32, offset: u64, value: u64) -> bool
     }
 }
 
+// A key of an entry, whose block is installed if it is not there.
+fn key_of<T: Drop>(table: &Table<T>, k: u32) -> Option<Key>
+    requires { k < 33 }
+    ensures of { IfSome result (λ key. IsKeyIn table.now key) }
+    ensures entry { IfSome result (λ key. key.segment ≡ k) }
+{
+    // For the proof: the segments are those of a layout.
+    let _layout = table.layout();
+    match table.install_key(k) {
+        Ok((_block, key)) => Some(key),
+        Err(_no_memory) => None,
+    }
+}
+
 fn is_set_once(table: &Table<u64>) -> bool {
+    // For the proof: the segments are those of a layout.
     let _layout = table.layout();
     table.installed() == 0
         && table.scout(3).is_none()
@@ -116,6 +132,7 @@ fn is_one_block(table: &Table<u64>, a: &Key, b: &Key) -> bool
 fn has_another_key(table: &Table<u64>, key: &Key) -> bool
     requires { IsKeyIn table.now key.now }
 {
+    // For the proof: the segments are those of a layout.
     let _layout = table.layout();
     match table.scout_key(2) {
         Some((block, other)) => shows(block, 0, 6) && is_one_block(table, key, &other.again()),
@@ -124,6 +141,7 @@ fn has_another_key(table: &Table<u64>, key: &Key) -> bool
 }
 
 fn has_keys_of_one_block(table: &Table<u64>) -> bool {
+    // For the proof: the segments are those of a layout.
     let _layout = table.layout();
     match table.install_key(2) {
         Ok((block, key)) => fill(block, 0, 6) && has_another_key(table, &key),
@@ -142,6 +160,7 @@ fn keys_of_one_entry_have_one_block(rt: HostRuntime) {
 fn is_there_at_last(table: &Table<u64>, k: u32, installed: u32) -> bool
     requires { k < 33 }
 {
+    // For the proof: the segments are those of a layout.
     let _layout = table.layout();
     len_of(table, k).is_some() || table.installed() == installed && len_of(table, k).is_some()
 }
@@ -149,6 +168,7 @@ fn is_there_at_last(table: &Table<u64>, k: u32, installed: u32) -> bool
 fn has_a_key_at_last(table: &Table<u64>, k: u32, installed: u32) -> bool
     requires { k < 33 }
 {
+    // For the proof: the segments are those of a layout.
     let _layout = table.layout();
     table.install_key(k).is_ok() || table.installed() == installed && table.install_key(k).is_ok()
 }
@@ -160,95 +180,6 @@ fn a_refused_install_sets_nothing(rt: HostRuntime) {
     assert!(rt;
         is_there_at_last(&table, 4, 0) && has_a_key_at_last(&table, 5, 1) && table.installed() == 2
     );
-}
-
-// Tests whether an entry's block is lent, and shows the value at its first place.
-fn lends(table: &mut Table<u64>, k: u32, value: u64) -> bool
-    requires { k < 33 }
-{
-    let _layout = table.layout();
-    match table.block_mut(k) {
-        Some(block) => shows(block, 0, value),
-        None => false,
-    }
-}
-
-fn lends_two(table: &mut Table<u64>) -> bool {
-    let _layout = table.layout();
-    table.block_mut(1).is_none()
-        && takes(table, 1, 0, 7)
-        && takes(table, 2, 0, 8)
-        && lends(table, 1, 7)
-        && lends(table, 2, 8)
-        && lends(table, 1, 7)
-        && lends(table, 2, 8)
-}
-
-fn has_two(table: &mut Table<u64>) -> bool {
-    table.put_back();
-    table.installed() == 2 && has(table, 2, 0, 8)
-}
-
-fn gives_one_up(table: &mut Table<u64>) -> bool {
-    let _layout = table.layout();
-    table.give_up(2);
-    table.scout(2).is_none() && has(table, 1, 0, 7)
-}
-
-#[test]
-fn an_exclusive_owner_has_the_blocks(rt: HostRuntime) {
-    let mut table = Table::new(rt.alloc());
-    assert!(rt; lends_two(&mut table) && has_two(&mut table) && gives_one_up(&mut table));
-}
-
-// Puts another block into an entry whose block was lent, and returns whether one was.
-fn puts_another(table: &mut Table<u64>, other: Block<u64>) -> bool {
-    let _layout = table.layout();
-    match table.block_mut(1) {
-        Some(block) => {
-            *block = other;
-            true
-        }
-        None => false,
-    }
-}
-
-fn is_not_put_back(table: &mut Table<u64>, other: Block<u64>) -> bool {
-    len_of(table, 1) == Some(2)
-        && puts_another(table, other)
-        && !is_lent(table)
-        && table.installed() == 0
-}
-
-#[test]
-fn a_block_of_another_length_is_not_put_back(rt: HostRuntime) -> Result<(), Fail> {
-    let other = Block::new(rt.alloc(), 3)?;
-    let mut table = Table::new(rt.alloc());
-    assert!(rt; is_not_put_back(&mut table, other));
-    Ok(())
-}
-
-fn is_lent(table: &mut Table<u64>) -> bool {
-    let _layout = table.layout();
-    table.block_mut(1).is_some()
-}
-
-// Tests whether an entry whose block was lent has none once it is given up.
-fn gives_it_up(table: &mut Table<u64>) -> bool {
-    let _layout = table.layout();
-    table.give_up(1);
-    table.put_back();
-    table.scout(1).is_none() && !is_lent(table)
-}
-
-fn gives_up_what_was_lent(table: &mut Table<u64>) -> bool {
-    len_of(table, 1) == Some(2) && is_lent(table) && gives_it_up(table)
-}
-
-#[test]
-fn a_block_that_was_lent_is_given_up(rt: HostRuntime) {
-    let mut table = Table::new(rt.alloc());
-    assert!(rt; gives_up_what_was_lent(&mut table));
 }
 
 // Each is counted once, and a block of four million cells among them.
@@ -266,6 +197,7 @@ fn counts_entries(table: &Table<u64>) -> bool {
 fn has_by_key(table: &Table<u64>, k: u32, offset: u64, value: u64) -> bool
     requires { k < 33 }
 {
+    // For the proof: the segments are those of a layout.
     let _layout = table.layout();
     match table.install_key(k) {
         Ok((block, key)) => {
@@ -278,6 +210,7 @@ fn has_by_key(table: &Table<u64>, k: u32, offset: u64, value: u64) -> bool
 
 // It would take hours if a block were made each time.
 fn has_a_million_times(table: &Table<u64>) -> bool {
+    // For the proof: the segments are those of a layout.
     let _layout = table.layout();
     for _again in 0..1_000_000u32 {
         if !has_by_key(table, 22, (1 << 22) - 1, 22) {
@@ -288,6 +221,7 @@ fn has_a_million_times(table: &Table<u64>) -> bool {
 }
 
 fn gives_the_last_up(table: &mut Table<u64>) -> bool {
+    // For the proof: the segments are those of a layout.
     let _layout = table.layout();
     table.give_up(31);
     table.give_up(22);
@@ -308,6 +242,7 @@ fn counts_two(table: &mut Table<()>, a: u32, b: u32) -> bool
     requires first { a < 33 }
     requires second { b < 33 }
 {
+    // For the proof: the segments are those of a layout.
     let _layout = table.layout();
     if !takes(table, a, 0, ()) || table.installed() != 1 {
         return false;
@@ -323,195 +258,6 @@ fn counts_two(table: &mut Table<()>, a: u32, b: u32) -> bool
 fn entries_23_and_24_are_counted_alone(rt: HostRuntime) {
     let mut table = Table::new(rt.alloc());
     assert!(rt; counts_two(&mut table, 23, 24));
-}
-
-// Puts a value into a cell of a block that is owned, if there is such a cell.
-fn put(block: &mut Block<u64>, offset: u64, value: u64)
-    ensures { block_len block.new ≡ block_len block.old }
-{
-    if offset < block.len() {
-        drop(block.put_now(offset, value));
-    }
-}
-
-// A key of an entry, whose block is installed if it is not there.
-fn key_of<T: Drop>(table: &Table<T>, k: u32) -> Option<Key>
-    requires { k < 33 }
-    ensures of { IfSome result (λ key. IsKeyIn table.now key) }
-    ensures entry { IfSome result (λ key. key.segment ≡ k) }
-{
-    let _layout = table.layout();
-    match table.install_key(k) {
-        Ok((_block, key)) => Some(key),
-        Err(_no_memory) => None,
-    }
-}
-
-// Returns whether an owner gets the key of an entry, and then its block.
-fn is_held(table: &mut Table<u64>, key: &Key, k: u32) -> bool
-    requires key { IsKeyIn table.old key.now }
-    requires entry { key.now.segment ≡ k }
-{
-    let _layout = table.layout();
-    let Some(now) = table.key_now(k) else {
-        return false;
-    };
-    table.agree(key, &now);
-    let is_one = shows(table.known(&now), 1, 7) && table.scout(k).is_some();
-    table.holds_now(&now);
-    is_one && shows(lent(table, k), 1, 7)
-}
-
-// Returns the block of an entry that is known to be set.
-fn lent(table: &mut Table<u64>, k: u32) -> &Block<u64>
-    requires within { k < segment_count table.old.layout }
-    requires held { table.old.held ≡ Some k }
-{
-    match table.block_mut(k) {
-        Some(block) => &*block,
-        None => unreachable!(),
-    }
-}
-
-fn holds_one(table: &mut Table<u64>) -> bool {
-    let _layout = table.layout();
-    match key_of(table, 2) {
-        Some(key) => is_held(table, &key, 2),
-        None => false,
-    }
-}
-
-// Returns whether the owner gets a key of the entry.
-fn has_key_now(table: &mut Table<u64>, k: u32) -> bool
-    requires { k < 33 }
-{
-    let _layout = table.layout();
-    is_some(table.key_now(k))
-}
-
-#[test]
-fn an_owner_has_the_key_of_an_entry_that_is_set(rt: HostRuntime) {
-    let mut table = Table::new(rt.alloc());
-    assert!(rt; !has_key_now(&mut table, 2) && takes(&table, 2, 1, 7) && holds_one(&mut table));
-    assert!(rt; has_key_now(&mut table, 2) && !has_key_now(&mut table, 3));
-}
-
-// Takes the block of a key out, and attaches it again with an added value. The other key is of an entry that
-// keeps its block.
-fn is_attached_again(table: &mut Table<u64>, key: &Key, other: &Key) -> bool
-    requires key { IsKeyIn table.old key.now }
-    requires other { IsKeyIn table.old other.now }
-    requires third { key.now.segment ≡ 2 }
-    requires first { other.now.segment ≡ 0 }
-{
-    let mut block = table.detach(key);
-    let is_out = table.scout(2).is_none() && table.installed() == 1;
-    put(&mut block, 3, 9);
-    let again = table.attach(2, block);
-    is_out
-        && again.segment() == 2
-        && shows(table.known(&again), 1, 7)
-        && shows(table.known(&again), 3, 9)
-        && shows(table.known(other), 1, 6)
-}
-
-fn attaches_again(table: &mut Table<u64>) -> bool {
-    match (key_of(table, 2), key_of(table, 0)) {
-        (Some(key), Some(other)) => is_attached_again(table, &key, &other),
-        _ => false,
-    }
-}
-
-// Tests whether the block of a key comes back in the place of one that was installed meanwhile.
-fn comes_back(table: &mut Table<u64>, key: &Key) -> bool
-    requires key { IsKeyIn table.old key.now }
-    requires third { key.now.segment ≡ 2 }
-{
-    let block = table.detach(key);
-    let is_new = len_of(table, 2) == Some(4) && !has(table, 2, 3, 9);
-    let again = table.attach(2, block);
-    let is_back = is_new && shows(table.known(&again), 3, 9) && table.installed() == 2;
-    drop(again);
-    is_back
-}
-
-fn attaches_for_another(table: &mut Table<u64>) -> bool {
-    match key_of(table, 2) {
-        Some(key) => comes_back(table, &key),
-        None => false,
-    }
-}
-
-#[test]
-fn a_detached_block_is_attached_again(rt: HostRuntime) {
-    let mut table = Table::new(rt.alloc());
-    assert!(rt;
-        takes(&table, 2, 1, 7)
-            && takes(&table, 0, 1, 6)
-            && attaches_again(&mut table)
-            && has(&table, 2, 3, 9)
-            && attaches_for_another(&mut table)
-    );
-}
-
-struct Counted<'a>(&'a AtomicU64);
-
-impl Drop for Counted<'_> {
-    fn drop(self) {
-        let Counted(drops) = self;
-        drops.fetch_add(1, Ordering::SeqCst);
-    }
-}
-
-fn drops_so_far(drops: &AtomicU64) -> u64 {
-    drops.load(Ordering::SeqCst)
-}
-
-fn fills_four<'a>(table: &Table<Counted<'a>>, drops: &'a AtomicU64) -> bool {
-    for k in 0..4u32 {
-        if !takes(table, k, 1, Counted(drops)) {
-            return false;
-        }
-    }
-    true
-}
-
-fn drops_what_is_given_up(table: &mut Table<Counted<'_>>, drops: &AtomicU64) -> bool {
-    let _layout = table.layout();
-    table.give_up(2);
-    let is_dropped = drops_so_far(drops) == 1;
-    table.give_up(2);
-    is_dropped && table.block_mut(1).is_some() && drops_so_far(drops) == 1
-}
-
-fn keeps_what_is_detached(table: &mut Table<Counted<'_>>, drops: &AtomicU64, key: &Key) -> bool
-    requires key { IsKeyIn table.old key.now }
-    requires fourth { key.now.segment ≡ 3 }
-{
-    let block = table.detach(key);
-    let is_kept = drops_so_far(drops) == 1;
-    drop(table.attach(3, block));
-    is_kept && drops_so_far(drops) == 1
-}
-
-fn keeps_the_fourth(table: &mut Table<Counted<'_>>, drops: &AtomicU64) -> bool {
-    match key_of(table, 3) {
-        Some(key) => keeps_what_is_detached(table, drops, &key),
-        None => false,
-    }
-}
-
-// The table is dropped at the end.
-fn drops_one_so_far<'a>(mut table: Table<Counted<'a>>, drops: &'a AtomicU64) -> bool {
-    fills_four(&table, drops)
-        && drops_what_is_given_up(&mut table, drops)
-        && keeps_the_fourth(&mut table, drops)
-}
-
-#[test]
-fn each_block_is_dropped_once(rt: HostRuntime) {
-    let drops = AtomicU64::new(0);
-    assert!(rt; drops_one_so_far(Table::new(rt.alloc()), &drops) && drops_so_far(&drops) == 4);
 }
 
 // Tests whether the first segments of this layout are as long as they should be, and the last is not there.

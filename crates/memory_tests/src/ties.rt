@@ -50,8 +50,8 @@ impl EntryPlay<()> for Anything {
     ghost then = { λ _ _ _ _. Unit {0} };
 }
 
-// Any table is right. Views are numbers: a stage shows as its number, and a look at a cell tells the seat of its caller
-// the number that was told, and how far the cell was. A step on an entry tells the number of the seat that it found.
+// Any table is right. Views are numbers: a stage shows as its number, and a look at a cell gives the seat of its caller
+// the number that the offer has, and how far the cell was. A step on an entry gives it the number of the seat there.
 struct Telling;
 
 impl<S> TableRule<S, u64, ()> for Telling {
@@ -114,7 +114,7 @@ fn is_found_empty(
     }
 }
 
-// A look at a cell that is fixed as idle tells the caller's seat that it is idle, and the number that was told.
+// A look at a cell that is fixed as idle gives the caller's seat that fact, and the number that the offer has.
 struct IdleLook;
 
 impl CellPlay<u64> for IdleLook {
@@ -123,7 +123,7 @@ impl CellPlay<u64> for IdleLook {
     ghost then = { λ told _ from _ after. (after ≡ told) × (from ≡ Idle) };
 }
 
-// Empties a cell, which then has no seat, and looks at it: the caller's seat is told the number.
+// Empties a cell, which then has no seat, and looks at it: the caller's seat gets the number.
 fn is_empty_when_taken(
     table: &Shared<u8, u64, (), Telling>,
     desk: &Desk<u8, u64, (), Telling>,

@@ -3,6 +3,7 @@
 
 mod lines;
 mod memory;
+mod slow_streams;
 mod streams;
 
 use engine_core::{Engine, RunError, run_calls, run_script, run_steps, run_steps_counted};

@@ -37,7 +37,7 @@ pub(crate) fn grow_refused(
     told
 }
 
-// Grows by `n` values, of which the first is 70; the maker refuses number `at`. If the construction is
+// Grows by `n` values, the first being 70; the maker refuses number `at`. If the construction is
 // refused after the first value, returns that value.
 fn first_of_refused(vector: &Shared<u64>, hand: &mut Hand<u64>, n: u64, at: u64) -> Option<u64>
     requires ours { IsHandOf vector.now hand.old }
@@ -225,8 +225,8 @@ fn numbers<R: AllocGlobal>(rt: &R, n: u64, refused: u64) -> Quiet<u64> {
     list
 }
 
-// What callers learn of a growth that was refused its second value, of a growth to a size of four, and of
-// the last place.
+// The values that callers know after a growth that was refused its second value, after a growth to a size of
+// four, and of the last place.
 type Learned = ((u64, u64, u64, u64), u64, (u64, u64));
 
 fn learned(vector: &Shared<u64>, hand: &mut Hand<u64>) -> Option<Learned>

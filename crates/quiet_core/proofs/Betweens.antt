@@ -52,7 +52,7 @@ module _ {X : Type 0} where
       let n : ℕ = to - (from + 1) in let one : to - from ≡ suc n = omega (arith, some) in
       (λ i. take (one i) (drop_first xs from x is i))
 
-  -- the same, where the place after it is said in another way
+  -- the same, with the place after it given by an equation
   pub between_next_first : (xs : List X) (from next to : ℕ) (x : X) → from < to → next ≡ from + 1 → slice_get xs from ≡ Some x → between xs from to ≡ x ∷ between xs next to
   between_next_first xs from next to x some after is = between_first xs from to x some is ∙ ap (λ n. x ∷ between xs n to) (sym after)
 

@@ -86,7 +86,7 @@ impl Error for QuietMendError {}
 pub enum IntoVecError {
     /// There was no memory for the vector.
     NoMemory,
-    /// The member at this place is broken, and none before it.
+    /// The member at this place is broken. It is the first that is.
     Broken { place: u64 },
 }
 

@@ -38,7 +38,7 @@ impl<T: Drop> IntoIterator for Quiet<T> {
     ghost into_iter_gives = { λ list it. it ≡ list.members };
 
     fn into_iter(self) -> IntoMembers<T> {
-        let Quiet { parts } = self;
+        let parts = self.into_parts();
         IntoMembers { parts, from: 0 }
     }
 }

@@ -38,7 +38,7 @@ impl<T: Drop> Quiet<T> {
         if let Some(place) = self.first_broken() {
             return Err((IntoVecError::Broken { place }, self));
         }
-        let Quiet { parts } = self;
+        let parts = self.into_parts();
         match parts.into_values() {
             Ok(values) => Ok(values),
             Err(parts) => Err((IntoVecError::NoMemory, Quiet { parts })),

@@ -72,9 +72,9 @@ fn look_ahead<T>(parts: &Parts<T>, from: u64, to: u64, known_to: u64) -> (&[T], 
     }
 }
 
-// The values with the next member, the place of the first of them, and how many come before it: those at hand, if one
-// is left, and otherwise those that a look finds. There are none if that member is broken, or lies beside one, or at
-// the end. Returns also up to which place this is known then.
+// The values with the next member, the place of the first of them, and how many come before it: those that were found
+// before, if one is left, and otherwise those that a look finds. There are none if that member is broken, or lies next
+// to one that is, or at the end. Also returns up to which place this is known then.
 #[inline(always)]
 fn values_ahead<'a, T>(
     parts: &'a Parts<T>,

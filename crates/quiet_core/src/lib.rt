@@ -19,10 +19,13 @@ mod into_iter;
 mod into_vec;
 mod iter;
 pub mod laws;
+mod members;
 mod open;
 mod quiet;
+mod resizing;
 mod room;
 mod segments;
+mod values;
 
 pub use errors::{IntoVecError, QuietAt, QuietError, QuietMendError};
 pub use grow_core::{Hand, OpenError, Placed, Shared};

@@ -20,7 +20,7 @@ impl<T> Quiet<T> {
         ensures back { IfErr result (λ (back, _). back ≡ self) }
         ensures no_memory { IfErr result (λ (_, error). error ≡ OpenError.NoMemory) }
     {
-        let Quiet { parts } = self;
+        let parts = self.into_parts();
         match Shared::of_parts(parts) {
             Ok(opened) => Ok(opened),
             Err((parts, error)) => Err((Quiet { parts }, error)),

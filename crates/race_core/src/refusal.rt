@@ -74,7 +74,10 @@ pub fn race_error_of(error: GrowError<u64, u64, Never>) -> RaceError
     match error {
         GrowError::NoMemory { back: _ } => RaceError::NoMemory,
         GrowError::Full { .. } => RaceError::Grow { number: 2 },
-        GrowError::Taken { .. } => RaceError::Grow { number: 5 },
+        GrowError::Taken { found, .. } => {
+            drop(found);
+            RaceError::Grow { number: 5 }
+        }
         GrowError::Moved { .. } => unreachable!(),
         GrowError::Refused { cause, .. } => match cause {},
     }

@@ -1,5 +1,6 @@
 //! What a race found.
 ghost use Rattle.std.specs.Prelude.{◌≡◌, ◌^◌, ◌<◌, ◌≤◌, true, IfOk, sum_by};
+ghost use Rattle.claim_core.specs.Hand.{IsWholeHand, seen_size};
 ghost use Rattle.claim_core.specs.Shares.{all_shares};
 ghost use Rattle.grow_core.specs.Vector.{IsHandOf, base_of};
 ghost use Rattle.race_core.specs.Race.{sum_below, IsTeam, team_of, verdict_of};
@@ -58,6 +59,18 @@ fn sum_of(wins: &[Win]) -> u64
     sum
 }
 
+// The size of the vector, which is closed and dropped.
+fn closed_size(vector: Shared<u64>, hand: Hand<u64>) -> u64
+    requires ours { IsHandOf vector hand }
+    requires whole { IsWholeHand hand }
+    ensures { result ≡ seen_size hand }
+{
+    let list = Quiet::close(vector, hand);
+    let size = list.len();
+    drop(list);
+    size
+}
+
 // The report of a team that has all values, and a hand with all shares.
 pub(crate) fn report_of(
     alloc: Global,
@@ -77,15 +90,17 @@ pub(crate) fn report_of(
     // For the proof: a whole hand knows exactly the places that were claimed.
     hand.whole_laws();
     laws::seen_runs_are_within();
-    let size = Quiet::close(vector, hand).len();
+    let size = closed_size(vector, hand);
     let sum = sum_of(&wins);
     let slots = sort_wins(alloc, size, &wins)?;
     drop(wins);
     let history = history_of(alloc, &slots)?;
     drop(slots);
+    let legal = is_legal(alloc, size, &history);
+    drop(history);
     Ok(RaceReport {
         size,
         sum,
-        legal: is_legal(alloc, size, &history)?,
+        legal: legal?,
     })
 }

@@ -44,7 +44,8 @@ fn push_value<R: Wait>(
     ensures due { IfErr result (IsPushRefusal vector.now hand.old) }
     ensures team { (shares from : ℕ)
         → IsTeam vector.now.word shares from value (team_of hand.old wins.old.items)
-        → OnOk result (IsTeam vector.now.word shares from (value + 1) (team_of hand.new wins.new.items)) }
+        → OnOk result
+        (IsTeam vector.now.word shares from (value + 1) (team_of hand.new wins.new.items)) }
 {
     // For the proof: the new place is the last of those that the hand knows, and its others stay.
     hand.laws();
@@ -60,6 +61,7 @@ fn push_value<R: Wait>(
         place: placed.place(),
         value: *vector.get(&placed),
     };
+    drop(placed);
     match wins.push(win) {
         Ok(()) => Ok(()),
         Err(_) => Err(RaceError::NoMemory),

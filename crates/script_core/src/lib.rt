@@ -8,7 +8,7 @@
 //! - `write_reply` and `write_cells` write the answer lines and the last line, as `specs/Text.antt` has them.
 //!   `write_bytes` is the one loop that writes, and `Line` a line on the stack.
 //!
-//! A caller can prove which script a text is, which fault it has at which line, and every byte that is
+//! A caller can prove which script a text is, which fault it has on which line, and every byte that is
 //! written. `read` may be out of memory for any text. Nothing here knows what a call does. No proof is by
 //! hand over memory.
 #![tactic(auto)]

@@ -83,6 +83,13 @@ of_answer says worker own answer = says worker own (Ok answer)
 abbrev pub of_refusal : {A E : Type 0} → (ℕ → HandView → Result A E → Type 0) → ℕ → HandView → E → Type 0
 of_refusal says worker own e = says worker own (Err e)
 
+-- why a range of workers with a hand each has no results: each below the one that was refused has returned, and
+-- left a hand that is part of this one
+abbrev pub IsOfHands : {A E : Type 0} → (ℕ → HandView → Result A E → Type 0) → HandView → (ℕ → Type 0) → ℕ → ℕ
+    → Refusal E → Type 0
+IsOfHands says hand may_refuse first count e =
+    IsOfRange (SaysOfPart (of_answer says) hand) (SaysOfPart (of_refusal says) hand) may_refuse first count e
+
 -- what a range of workers leaves: one hand of all its runs, with a share of each; and the results, or why
 -- there are none
 pub record IsLeft {A E : Type 0} (says : ℕ → HandView → Result A E → Type 0) (may_refuse : ℕ → Type 0)
@@ -91,8 +98,7 @@ pub record IsLeft {A E : Type 0} (says : ℕ → HandView → Result A E → Typ
   pub shares : hand.shares ≡ count
   pub answered : IfOk answers
       (λ all. SayInTurn (of_answer says) hand first all.items hand.mine × (length all.items ≡ count))
-  pub refused : IfErr answers
-      (IsOfRange (SaysOfPart (of_answer says) hand) (SaysOfPart (of_refusal says) hand) may_refuse first count)
+  pub refused : IfErr answers (IsOfHands says hand may_refuse first count)
 
 -- what a range of workers brings: a hand of the vector that owns nothing, with a share for each. Each worker
 -- that was let through may be called, and leaves its hand with its shares

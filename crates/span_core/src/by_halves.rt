@@ -76,7 +76,7 @@ impl<S, A, E, J: ForkJoin<S, A, E>> Promise<Result<A, E>> for Upper<S, J> {
 /// A range of one is the worker; a larger one starts a thread for its upper half, does its lower half itself,
 /// and joins. If that thread cannot be started, nobody of the range works, and each half returns its
 /// `unstarted` result with what it brought. By then, every thread that was started has ended.
-#[cycle(halves)]
+#[cycle(work_by_halves)]
 pub fn fork_join<
     R: Threads + Wait + Sync,
     S: Send + Drop,
@@ -94,12 +94,12 @@ pub fn fork_join<
         return job.work(first, brought);
     }
     let low = count / 2;
-    halves(rt, job, brought, first, low, count - low)
+    work_by_halves(rt, job, brought, first, low, count - low)
 }
 
 // The same for a range of at least two workers.
-#[cycle(halves)]
-fn halves<
+#[cycle(work_by_halves)]
+fn work_by_halves<
     R: Threads + Wait + Sync,
     S: Send + Drop,
     A: Send + Drop,
@@ -141,7 +141,7 @@ fn halves<
 }
 
 // The same for a half of a range, which does not work if `stops` is set.
-#[cycle(halves)]
+#[cycle(work_by_halves)]
 fn work_unless<
     R: Threads + Wait + Sync,
     S: Send + Drop,

@@ -2,8 +2,7 @@
 ghost use Rattle.std.specs.Prelude.{◌≡◌, ◌+◌, ◌<◌, ◌≤◌, [], ◌∷◌, Ok, Err, IfOk, IfErr};
 ghost use mathlib.Core.List.{IsPrefix};
 ghost use Rattle.grow_core.specs.Vector.{IsHandOf};
-ghost use Rattle.span_core.specs.Workers.{IsOfRange};
-ghost use Rattle.span_core.specs.Hands.{AreCallable, KeepHands, Leaves, SaysOfPart, HaveAnswered, of_answer, of_refusal};
+ghost use Rattle.span_core.specs.Hands.{AreCallable, HaveAnswered, IsOfHands, KeepHands, Leaves, of_answer};
 ghost use Rattle.span_core.specs.Hands.{BringsHand, LeavesHand};
 
 use crate::by_halves::{ForkJoin, fork_join};
@@ -55,7 +54,8 @@ impl<
     // One worker passes the gate and works.
     fn work(&self, worker: u32, brought: Hand<T>) -> Result<Left<T, A, E>, Never>
         requires { BringsHand (F.pre self.now.work.now) (F.post self.now.work.now)
-            (G.lets_through self.now.gate.now) self.now.vector.now self.now.workers worker 1 brought }
+            (G.lets_through self.now.gate.now) self.now.vector.now self.now.workers
+            worker 1 brought }
         ensures answer { IfOk result (λ left. LeavesHand (F.post self.now.work.now)
             (G.may_refuse self.now.gate.now) self.now.vector.now worker 1 left.hand left.answers) }
         ensures refused { IfErr result (λ _. ⊥) }
@@ -77,9 +77,11 @@ impl<
             (G.lets_through self.now.gate.now) self.now.vector.now self.now.workers
             first (low + high) brought) × (0 < low) × (0 < high) }
         ensures lower { BringsHand (F.pre self.now.work.now) (F.post self.now.work.now)
-            (G.lets_through self.now.gate.now) self.now.vector.now self.now.workers first low result.0 }
+            (G.lets_through self.now.gate.now) self.now.vector.now self.now.workers
+            first low result.0 }
         ensures upper { BringsHand (F.pre self.now.work.now) (F.post self.now.work.now)
-            (G.lets_through self.now.gate.now) self.now.vector.now self.now.workers (first + low) high result.1 }
+            (G.lets_through self.now.gate.now) self.now.vector.now self.now.workers
+            (first + low) high result.1 }
     {
         // Only the contract speaks of the first worker.
         let _first = first;
@@ -100,17 +102,19 @@ impl<
             (G.may_refuse self.now.gate.now) self.now.vector.now first low left.hand left.answers)
             × IfErr lower (λ _. ⊥) }
         requires upper { IfOk upper (λ left. LeavesHand (F.post self.now.work.now)
-            (G.may_refuse self.now.gate.now) self.now.vector.now (first + low) high left.hand left.answers)
+            (G.may_refuse self.now.gate.now) self.now.vector.now
+            (first + low) high left.hand left.answers)
             × IfErr upper (λ _. ⊥) }
         ensures answer { IfOk result (λ left. LeavesHand (F.post self.now.work.now)
-            (G.may_refuse self.now.gate.now) self.now.vector.now first (low + high) left.hand left.answers) }
+            (G.may_refuse self.now.gate.now) self.now.vector.now
+            first (low + high) left.hand left.answers) }
         ensures refused { IfErr result (λ _. ⊥) }
     {
-        let Left { mut hand, answers } = lower?;
+        let Left { mut hand, answers } = left_by(lower);
         let Left {
             hand: other,
             answers: more,
-        } = upper?;
+        } = left_by(upper);
         self.vector.join(&mut hand, other);
         let answers = join_results(answers, more);
         Ok(Left { hand, answers })
@@ -122,7 +126,8 @@ impl<
             (G.lets_through self.now.gate.now) self.now.vector.now self.now.workers
             _first _count brought) × (0 < _count) }
         ensures answer { IfOk result (λ left. LeavesHand (F.post self.now.work.now)
-            (G.may_refuse self.now.gate.now) self.now.vector.now _first _count left.hand left.answers) }
+            (G.may_refuse self.now.gate.now) self.now.vector.now
+            _first _count left.hand left.answers) }
         ensures refused { IfErr result (λ _. ⊥) }
     {
         let answers = Err(Refusal::NoMemory);
@@ -130,6 +135,16 @@ impl<
             hand: brought,
             answers,
         })
+    }
+}
+
+// What a range of workers leaves. It is never refused.
+pub(crate) fn left_by<T, A, E>(left: Result<Left<T, A, E>, Never>) -> Left<T, A, E>
+    ensures { left ≡ Ok result }
+{
+    match left {
+        Ok(given) => given,
+        Err(never) => match never {},
     }
 }
 
@@ -148,13 +163,10 @@ pub(crate) fn list_result<A: Drop, E>(
     }
 }
 
-/// Lets workers append to one vector, all except the first in a thread of their own, and returns their
-/// results in order.
-///
-/// Each worker borrows a hand with one of the shares of `hand`, and passes the gate before its work and after
-/// it. All hands are joined again, whatever the workers return and also if a thread cannot be started, so
-/// that `hand` has its shares again. `fork_join` starts the workers. The refusal of the worker with the
-/// lowest number is returned.
+/// Lets workers append to one vector, all except the first in a thread of their own, and returns their results
+/// in order, or the refusal of the worker with the lowest number. Each borrows a hand with one of the shares of
+/// `hand`, and passes the gate before its work and after it. All hands are joined again, whatever the workers
+/// return and also if a thread cannot be started. `fork_join` starts the workers.
 pub fn with_hands<
     R: Threads + Wait + Sync,
     T: Send + Sync,
@@ -181,13 +193,10 @@ pub fn with_hands<
     ensures shares { hand.new.shares ≡ hand.old.shares }
     ensures begins { IsPrefix hand.old.seen hand.new.seen }
     ensures mine { IsPrefix hand.old.mine hand.new.mine }
-    ensures answers { IfOk result (λ answers.
-        HaveAnswered (of_answer (Leaves (F.post work.now) vector.now))
-        hand.old hand.new workers answers.items) }
+    ensures answers { IfOk result (λ answers. HaveAnswered
+        (of_answer (Leaves (F.post work.now) vector.now)) hand.old hand.new workers answers.items) }
     // Each worker below the one that was refused has returned.
-    ensures refused { IfErr result (IsOfRange
-        (SaysOfPart (of_answer (Leaves (F.post work.now) vector.now)) hand.new)
-        (SaysOfPart (of_refusal (Leaves (F.post work.now) vector.now)) hand.new)
+    ensures refused { IfErr result (IsOfHands (Leaves (F.post work.now) vector.now) hand.new
         (G.may_refuse gate.now) 0 workers) }
 {
     let theirs = vector.split(hand, workers);

@@ -23,7 +23,8 @@ pub(crate) trait LeafJob<A> {
     // What may be returned for a leaf.
     ghost gives: { Self → Interval → A → Type 0 };
 
-    fn leaf(&self, leaf: Span) -> Result<A, AllocError>
+    // Does the work of a leaf.
+    fn work_leaf(&self, leaf: Span) -> Result<A, AllocError>
         requires { ready self.now }
         ensures { IfOk result (gives self.now leaf) };
 }
@@ -50,7 +51,7 @@ impl<'a, A: Drop, L: LeafJob<A>, G: Gate> Job<VecDeque<A>> for Shares<'a, L, G> 
         let mut share = VecDeque::new(self.alloc);
         let mut next = worker as usize;
         while next < self.leaves.len() {
-            let answer = self.each.leaf(self.leaves[next])?;
+            let answer = self.each.work_leaf(self.leaves[next])?;
             if share.push_back(answer).is_err() {
                 return Err(AllocError);
             }
@@ -66,8 +67,8 @@ impl<'a, L, G> Shares<'a, L, G> {
     where
         L: LeafJob<A>,
         requires shares { EachFrom (λ worker share.
-            IsShare (GivesLeaf (L.gives self.now.each.now) self.now.leaves.now) (length self.now.leaves.now)
-            self.now.workers worker share.items) 0 shares.items }
+            IsShare (GivesLeaf (L.gives self.now.each.now) self.now.leaves.now)
+            (length self.now.leaves.now) self.now.workers worker share.items) 0 shares.items }
         requires workers { length shares.items ≡ self.now.workers }
         ensures { IfOk result (λ all. AllZip
             (L.gives self.now.each.now) self.now.leaves.now all.items) }
@@ -87,8 +88,8 @@ impl<'a, L, G> Shares<'a, L, G> {
     }
 }
 
-// The result for each leaf of the span, in order.
-pub(crate) fn each_leaf<
+// Does the work of each leaf of the span, and returns the results in order.
+pub(crate) fn work_leaves<
     R: Threads + Wait + Sync,
     A: Send + Drop,
     L: LeafJob<A> + Sync,

@@ -8,7 +8,7 @@ ghost use Rattle.span_core.specs.Workers.{MayRefuseOne, IsBadNumber};
 
 use crate::errors::ParError;
 use crate::gate::Gate;
-use crate::leaf_shares::{LeafJob, each_leaf};
+use crate::leaf_shares::{LeafJob, work_leaves};
 use crate::span::Span;
 use quiet_core::{Members, Quiet};
 use std::alloc::{AllocError, Global};
@@ -29,19 +29,19 @@ impl<'a, T, U: Drop, F: Fn(u64, Option<&T>) -> U> LeafJob<Vec<U>> for MapLeaf<'a
     ghost gives = { λ m leaf answers. AnswersOver
         (F.post m.f.now) m.list.now.members leaf answers.items };
 
-    fn leaf(&self, leaf: Span) -> Result<Vec<U>, AllocError> {
+    fn work_leaf(&self, leaf: Span) -> Result<Vec<U>, AllocError> {
         let mut answers = Vec::new(self.alloc);
         let mut members = self.list.range(leaf.from(), leaf.to());
         for place in leaf.from()..leaf.to() {
-            let answer = answer_for(self.f, place, &mut members);
+            let answer = call_on_next(self.f, place, &mut members);
             answers.push(answer).map_err(AllocError::from)?;
         }
         Ok(answers)
     }
 }
 
-// The result of a function for a place and the first of the members that are left.
-pub(crate) fn answer_for<T, U, F: Fn(u64, Option<&T>) -> U>(
+// Calls a function for a place, with the first of the members that are left.
+pub(crate) fn call_on_next<T, U, F: Fn(u64, Option<&T>) -> U>(
     f: &F,
     place: u64,
     members: &mut Members<'_, T>,
@@ -50,11 +50,11 @@ pub(crate) fn answer_for<T, U, F: Fn(u64, Option<&T>) -> U>(
     ensures answer { AnswersFirst (F.post f.now) members.old place result }
     ensures rest { members.new ≡ drop 1 members.old }
 {
-    f(place, first_of(members))
+    f(place, take_first(members))
 }
 
-// The first of the members that are left: its value, or `None` if it is broken or if there is none.
-fn first_of<'a, T>(members: &mut Members<'a, T>) -> Option<&'a T>
+// Takes the first of the members that are left: its value, or `None` if it is broken or if there is none.
+fn take_first<'a, T>(members: &mut Members<'a, T>) -> Option<&'a T>
     ensures first { option_copied result ≡ slice_index_or members.old 0 None }
     ensures rest { members.new ≡ drop 1 members.old }
 {
@@ -65,8 +65,8 @@ fn first_of<'a, T>(members: &mut Members<'a, T>) -> Option<&'a T>
 }
 
 impl<'a, T, F> MapLeaf<'a, T, F> {
-    // The results for all leaves, in one list.
-    fn flat<U: Drop>(&self, span: Span, parts: Vec<Vec<U>>) -> Result<Vec<U>, AllocError>
+    // Puts the results for all leaves into one list.
+    fn flatten<U: Drop>(&self, span: Span, parts: Vec<Vec<U>>) -> Result<Vec<U>, AllocError>
     where
         F: Fn(u64, Option<&T>) -> U,
         requires { (leaves : List Interval) × AreLeaves span leaves
@@ -114,6 +114,6 @@ pub fn par_map<
     ensures stuck { IsErrOf result ParError.Stuck → MayRefuseOne (G.may_refuse gate.now) 0 workers }
 {
     let each = MapLeaf { alloc, list, f: &f };
-    let parts = each_leaf(rt, alloc, span, workers, &each, gate)?;
-    each.flat(span, parts).map_err(|_| ParError::NoMemory)
+    let parts = work_leaves(rt, alloc, span, workers, &each, gate)?;
+    each.flatten(span, parts).map_err(|_| ParError::NoMemory)
 }

@@ -7,8 +7,8 @@ ghost use Rattle.span_core.specs.Workers.{MayRefuseOne, IsBadNumber};
 
 use crate::errors::ParError;
 use crate::gate::Gate;
-use crate::leaf_shares::{LeafJob, each_leaf};
-use crate::map::answer_for;
+use crate::leaf_shares::{LeafJob, work_leaves};
+use crate::map::call_on_next;
 use crate::span::Span;
 use quiet_core::Quiet;
 use std::alloc::{AllocError, Global};
@@ -88,7 +88,7 @@ impl<A: Domain, B: Domain> Domain for (A, B) {
 }
 
 // Joins two sums, if there are two.
-fn merged<U: Domain, J: Fn(U, U) -> U>(join: &J, sum: Option<U>, part: Option<U>) -> Option<U>
+fn merge<U: Domain, J: Fn(U, U) -> U>(join: &J, sum: Option<U>, part: Option<U>) -> Option<U>
     requires { J.IsAlwaysCallable join.now }
     ensures { Merges (J.post join.now) U.is_in sum part result }
 {
@@ -121,21 +121,21 @@ impl<'a, T, U: Domain + Drop, F: Fn(u64, Option<&T>) -> U, J: Fn(U, U) -> U> Lea
         SumsUpTo (J.post r.join.now) U.is_in (AnswersAt (F.post r.f.now) r.list.now.members)
         leaf.from leaf.to sum };
 
-    fn leaf(&self, leaf: Span) -> Result<Option<U>, AllocError> {
+    fn work_leaf(&self, leaf: Span) -> Result<Option<U>, AllocError> {
         let mut sum = None;
         let mut members = self.list.range(leaf.from(), leaf.to());
         for place in leaf.from()..leaf.to() {
-            let answer = answer_for(self.f, place, &mut members);
+            let answer = call_on_next(self.f, place, &mut members);
             answer.tell();
-            sum = merged(self.join, sum, Some(answer));
+            sum = merge(self.join, sum, Some(answer));
         }
         Ok(sum)
     }
 }
 
 impl<'a, T, F, J> ReduceLeaf<'a, T, F, J> {
-    // The sum of the sums of all leaves, in order.
-    fn total<U: Domain + Drop>(&self, span: Span, parts: Vec<Option<U>>) -> Option<U>
+    // Joins the sums of all leaves, in order.
+    fn add_up<U: Domain + Drop>(&self, span: Span, parts: Vec<Option<U>>) -> Option<U>
     where
         F: Fn(u64, Option<&T>) -> U,
         J: Fn(U, U) -> U,
@@ -149,7 +149,7 @@ impl<'a, T, F, J> ReduceLeaf<'a, T, F, J> {
     {
         let mut sum = None;
         for part in parts {
-            sum = merged(self.join, sum, part);
+            sum = merge(self.join, sum, part);
         }
         sum
     }
@@ -192,8 +192,8 @@ pub fn par_reduce<
         f: &f,
         join: &join,
     };
-    let parts = each_leaf(rt, alloc, span, workers, &each, gate)?;
-    match each.total(span, parts) {
+    let parts = work_leaves(rt, alloc, span, workers, &each, gate)?;
+    match each.add_up(span, parts) {
         Some(sum) => Ok(sum),
         None => Ok(unit),
     }

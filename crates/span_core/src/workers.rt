@@ -153,7 +153,8 @@ impl<'a, S: Drop, A: Drop, E: Drop, W: Gated<S, A, E>, G: Gate> ForkJoin<S, Vec<
 
     fn unstarted(&self, _brought: S, _first: u32, _count: u32) -> Result<Vec<A>, Refusal<E>>
         requires { (W.brings self.now.work.now _first _count _brought
-            × AreReadyBy (G.lets_through self.now.gate.now) (W.ready self.now.work.now)) × (0 < _count) }
+            × AreReadyBy (G.lets_through self.now.gate.now) (W.ready self.now.work.now))
+            × (0 < _count) }
         ensures answer { IfOk result
             (λ answers. EachGives (W.gives self.now.work.now) _first _count answers.items) }
         ensures refused { IfErr result (IsOfRange (W.gives self.now.work.now)
@@ -202,13 +203,13 @@ pub fn run_gated<
     fork_join(rt, &job, brought, 0, workers)
 }
 
-// A job as work that brings nothing.
+// A job as gated work that brings nothing.
 #[derive(Drop)]
-struct Plain<'a, J> {
+struct GatedJob<'a, J> {
     job: &'a J,
 }
 
-impl<'a, A, J: Job<A>> Gated<(), A, AllocError> for Plain<'a, J> {
+impl<'a, A, J: Job<A>> Gated<(), A, AllocError> for GatedJob<'a, J> {
     ghost use Rattle.std.specs.Prelude.{IfOk, IfErr, ⊤};
 
     ghost ready = { λ p. J.ready p.job.now };
@@ -254,7 +255,7 @@ pub fn run_workers<R: Threads + Wait + Sync, A: Send + Drop, J: Job<A> + Sync, G
     if !are_workers(workers) {
         return Err(ParError::BadWorkers);
     }
-    match run_gated(rt, alloc, &Plain { job }, gate, (), workers) {
+    match run_gated(rt, alloc, &GatedJob { job }, gate, (), workers) {
         Ok(answers) => Ok(answers),
         Err(Refusal::NoMemory | Refusal::NoThread | Refusal::Worker(AllocError)) => {
             Err(ParError::NoMemory)

@@ -2,14 +2,13 @@
 ghost use Rattle.std.specs.Prelude.{◌≡◌, ◌+◌, ◌*◌, ◌<◌, IfOk, IfErr};
 ghost use mathlib.Core.List.{IsPrefix};
 ghost use Rattle.grow_core.specs.Vector.{IsHandOf};
-ghost use Rattle.span_core.specs.Hands.{HaveAnswered, SaysOfPart, even_share, of_answer, of_refusal};
-ghost use Rattle.span_core.specs.Crew.{BringsParts, IsOfCrew, LeavesPart, LeavesParts};
+ghost use Rattle.span_core.specs.Crew.{BringsParts, HaveWritten, IsOfWriters, LeavesPart, LeavesParts};
 
 use crate::by_halves::{ForkJoin, fork_join};
 use crate::crew::Crew;
 use crate::errors::Refusal;
 use crate::gate::Gate;
-use crate::hands::{Left, list_result};
+use crate::hands::{Left, left_by, list_result};
 use crate::tie::Tie;
 use crate::workers::join_results;
 use crate::writer::Writer;
@@ -131,11 +130,11 @@ impl<'a, R: Wait, T, A: Drop, E: Drop, W: WriterJob<T, A, E>, G: Gate, J: Tie> F
             first (low + high) left.hand left.answers) }
         ensures refused { IfErr result (λ _. ⊥) }
     {
-        let Left { mut hand, answers } = lower?;
+        let Left { mut hand, answers } = left_by(lower);
         let Left {
             hand: other,
             answers: more,
-        } = upper?;
+        } = left_by(upper);
         self.vector.join(&mut hand, other);
         let answers = join_results(answers, more);
         Ok(Left { hand, answers })
@@ -175,16 +174,11 @@ impl<'a, R, T, W, G, J: Tie> WriterWorkers<'a, R, T, W, G, J> {
     }
 }
 
-/// Lets workers append to one vector, all except the first in a thread of their own, and returns their
-/// results in order.
-///
-/// Each worker borrows a writer with an equal part of the shares of `hand`, which it may split. Nothing is
-/// required of what it does with them. All hands are joined again, whatever the workers return, so `hand` has
-/// its shares again unless a worker gave some away or dropped them: `Quiet::try_close` tests that. The refusal of
-/// the worker with the lowest number is returned.
-///
-/// No worker begins before all threads have been started; if one cannot be, nobody passes the gate or works, and
-/// the refusal is `NoThread`. So a worker may wait for any other one.
+/// Lets workers append to one vector, all except the first in a thread of their own, and returns their results
+/// in order, or the refusal of the lowest. Each borrows a writer with an equal part of the shares of `hand`. All
+/// hands are joined again, so `hand` lacks only shares that a worker gave away or dropped (`Quiet::try_close`
+/// tests that). No worker begins before all threads have been started, so a worker may wait for any other one;
+/// if a thread cannot be started, nobody passes the gate or works, and the refusal is `NoThread`.
 pub fn with_writers<
     R: Threads + Wait + Sync,
     T: Send + Sync,
@@ -210,16 +204,10 @@ pub fn with_writers<
     ensures again { workers < hand.new.shares }
     ensures begins { IsPrefix hand.old.seen hand.new.seen }
     ensures mine { IsPrefix hand.old.mine hand.new.mine }
-    ensures answers { IfOk result (λ answers. HaveAnswered (of_answer
-        (LeavesPart (W.says work.now) vector.now (even_share hand.old workers)))
-        hand.old hand.new workers answers.items) }
-    // Each worker below the one that was refused has returned.
-    ensures refused { IfErr result (IsOfCrew
-        (SaysOfPart (of_answer (LeavesPart (W.says work.now) vector.now
-        (even_share hand.old workers))) hand.new)
-        (SaysOfPart (of_refusal (LeavesPart (W.says work.now) vector.now
-        (even_share hand.old workers))) hand.new)
-        (G.may_refuse gate.now) 0 workers) }
+    ensures answers { IfOk result (λ answers.
+        HaveWritten (W.says work.now) vector.now hand.old hand.new workers answers.items) }
+    ensures refused { IfErr result (IsOfWriters (W.says work.now) vector.now hand.old hand.new
+        (G.may_refuse gate.now) workers) }
 {
     // For the proof: no hand has more shares than there are.
     hand.laws();

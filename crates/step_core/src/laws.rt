@@ -42,7 +42,7 @@ pub fn kept()
 /// legal history.
 ///
 /// That history holds each call that claimed once, at its claim, in its caller's order; its runs tile the
-/// claimed size; a filled cell keeps the value with which it was filled; and a refused construction breaks
+/// claimed size; a filled cell keeps the value that it was filled with; and a refused construction breaks
 /// its own cells alone.
 pub fn interleavings()
     ensures { EveryInterleavingIsSequential }

@@ -50,7 +50,6 @@ const NO_STEP: PhasedStep = PhasedStep {
 };
 
 /// Actors with programs on one vector, which they change by one atomic step at a time.
-#[derive(Drop)]
 pub struct Machine {
     limit: u64,
     storage: Storage,
@@ -71,6 +70,17 @@ impl Model for Machine {
     ghost invariant = { λ m. IsInLimit
         (record { limit = m.limit; storage = m.storage; actors = m.actors.items })
         × HasSegments (record { limit = m.limit; storage = m.storage; actors = m.actors.items }) };
+}
+
+// By hand, so that proofs of callers do not go into its fields.
+impl Drop for Machine {
+    fn drop(self) {
+        let Self {
+            limit: _,
+            storage: _,
+            actors: _,
+        } = self;
+    }
 }
 
 impl Machine {
@@ -215,7 +225,8 @@ fn step_among(
     requires segments { HasSegments
         (record { limit = limit; storage = storage.old; actors = actors.old.items }) }
     ensures steps { IfOk result (λ step. IsStepped
-        (step_of (record { limit = limit; storage = storage.old; actors = actors.old.items }) actor memory)
+        (step_of (record { limit = limit; storage = storage.old; actors = actors.old.items })
+        actor memory)
         (record { limit = limit; storage = storage.new; actors = actors.new.items })
         step.stepped) }
     ensures phases { IfOk result (λ step. step.phases ≡ phases_at
@@ -224,7 +235,8 @@ fn step_among(
     ensures err { OnErr result
         ((storage.new ≡ storage.old) × (actors.new.items ≡ actors.old.items)) }
     ensures memory { OnErr result
-        (MayRunOut (record { limit = limit; storage = storage.old; actors = actors.old.items }) actor memory) }
+        (MayRunOut (record { limit = limit; storage = storage.old; actors = actors.old.items })
+        actor memory) }
 {
     let Some(current) = actors.get_mut(actor as usize) else {
         return Ok(NO_STEP);
@@ -246,7 +258,8 @@ fn step_among(
 
 fn actors_of(alloc: Global, programs: Sequence<Sequence<Command>>) -> Result<Vec<Actor>, AllocError>
     ensures { IfOk result (λ actors. actors.items
-        ≡ list_map (λ program. record { program = program; ended = 0; phase = Phase.Load }) programs) }
+        ≡ list_map (λ program. record { program = program; ended = 0; phase = Phase.Load })
+        programs) }
 {
     programs
         .into_vec()

@@ -8,10 +8,10 @@
 //! report.
 #![tactic(auto)]
 
+mod one_schedule;
 mod report;
 mod schedule;
 mod schedule_shares;
-mod single;
 
 pub use report::SweepReport;
 pub use schedule::schedule_items;

@@ -3,8 +3,8 @@ ghost use Rattle.std.specs.Prelude.{◌≡◌, ◌≤◌, IfOk, Ok};
 ghost use Rattle.sweep_core.specs.Sweep.{seed_of, all_events, all_ended};
 ghost use Rattle.sweep_core.specs.Sums.{sum_of_results, no_report, report_of, reports_of, total_of};
 
+use crate::one_schedule::report_of;
 use crate::report::{SweepReport, add_results};
-use crate::single::report_of;
 use rayon::prelude::*;
 use std::alloc::{AllocError, Global};
 use std::thread::Threads;

@@ -33,7 +33,6 @@ impl<T, B: Kind> Measured for Block<T, Global, B> {
 
 /// The table of a vector's segments: 41 - f entries, each set at most once, to the block of its segment. It
 /// has room for 40 pointers. `B` says whether entries and their blocks may be tied to a table of `atomic_table`.
-#[derive(Drop)]
 pub struct Table<T, B: Kind = Plain> {
     layout: Layout,
     alloc: Global,
@@ -66,6 +65,20 @@ impl<T, B: Kind> Model for Table<T, B> {
     ghost invariant = { λ t. IsLayout t.layout × AllFit t.layout t.entries
         × AreOfKind B.tied t.layout t.out t.entries
         × ForSome t.held (λ h. slice_index (map name_of t.entries) h.segment ≡ h.sight.of) };
+}
+
+// By hand, so that proofs of callers do not go into its fields.
+impl<T: Drop, B: Kind> Drop for Table<T, B> {
+    fn drop(self) {
+        let Self {
+            layout: _,
+            alloc: _,
+            entries: _,
+            lent: _,
+            out: _,
+            held: _,
+        } = self;
+    }
 }
 
 fn empty_entry<T, B: Kind>(

@@ -5,6 +5,7 @@ mod copies;
 mod drops;
 mod edits;
 mod first;
+mod growth_calls;
 mod histories;
 mod keys;
 mod large;

@@ -5,7 +5,6 @@ use crate::slot::epoch;
 use std::marker::Model;
 
 /// A period: until it ends, the cells that an exclusive owner broke stay broken. It has no bytes.
-#[derive(Drop)]
 pub struct Epoch {
     pub(crate) epoch: epoch::RawEpoch,
 }
@@ -20,6 +19,14 @@ impl Model for Epoch {
     ghost coded = { coded_list coded_ℕ };
 
     ghost view = { λ e. e.epoch.of ∷ [] };
+}
+
+// By hand, so that proofs of callers do not go into its fields.
+impl Drop for Epoch {
+    #[inline(always)]
+    fn drop(self) {
+        let Self { epoch: _ } = self;
+    }
 }
 
 impl Epoch {
@@ -40,7 +47,6 @@ impl Epoch {
 }
 
 /// Evidence that an epoch has ended. It has no bytes.
-#[derive(Drop)]
 pub struct EndedEpoch {
     pub(crate) ended: epoch::RawEnded,
 }
@@ -55,6 +61,14 @@ impl Model for EndedEpoch {
     ghost coded = { coded_list coded_ℕ };
 
     ghost view = { λ e. e.ended.of ∷ [] };
+}
+
+// By hand, so that proofs of callers do not go into its fields.
+impl Drop for EndedEpoch {
+    #[inline(always)]
+    fn drop(self) {
+        let Self { ended: _ } = self;
+    }
 }
 
 impl EndedEpoch {

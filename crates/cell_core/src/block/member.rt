@@ -9,7 +9,6 @@ use std::mem::replace;
 
 /// An exclusive owner's knowledge of a cell: the value that it always keeps, or its epoch, if it is broken
 /// until that ends. It has no bytes.
-#[derive(Drop)]
 pub struct Member<T> {
     pub(crate) member: member::RawMember<T>,
 }
@@ -22,6 +21,14 @@ impl<T> Model for Member<T> {
     ghost coded = { member_coded T.code };
 
     ghost view = { λ m. m.member.of };
+}
+
+// By hand, so that proofs of callers do not go into its fields.
+impl<T> Drop for Member<T> {
+    #[inline(always)]
+    fn drop(self) {
+        let Self { member: _ } = self;
+    }
 }
 
 impl<T> Member<T> {
@@ -66,7 +73,6 @@ impl<T> Member<T> {
 }
 
 /// The knowledge of each cell of a row, in order. It has no bytes, at any length.
-#[derive(Drop)]
 pub struct Row<T> {
     pub(crate) row: member::RawRow<T>,
 }
@@ -81,6 +87,14 @@ impl<T> Model for Row<T> {
     ghost coded = { coded_list (member_coded T.code) };
 
     ghost view = { λ r. r.row.of };
+}
+
+// By hand, so that proofs of callers do not go into its fields.
+impl<T> Drop for Row<T> {
+    #[inline(always)]
+    fn drop(self) {
+        let Self { row: _ } = self;
+    }
 }
 
 impl<T> Row<T> {

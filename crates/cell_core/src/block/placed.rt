@@ -7,7 +7,6 @@ use std::marker::Model;
 
 // `grow_core` has a `Placed` too: this one, with the key of its segment.
 /// Evidence that the cell at an offset holds a value, which it keeps. It has no bytes except its offset.
-#[derive(Drop)]
 pub struct Placed<T> {
     pub(crate) offset: u64,
     pub(crate) written: Written<T>,
@@ -26,6 +25,17 @@ impl<T> Model for Placed<T> {
       name = p.written.of;
       found = p.written.found;
     } };
+}
+
+// By hand, so that proofs of callers do not go into its fields.
+impl<T> Drop for Placed<T> {
+    #[inline(always)]
+    fn drop(self) {
+        let Self {
+            offset: _,
+            written: _,
+        } = self;
+    }
 }
 
 impl<T> fmt::Debug for Placed<T> {

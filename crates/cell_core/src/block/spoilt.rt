@@ -7,7 +7,6 @@ use std::marker::Model;
 
 // `grow_core` has a `Spoilt` too: this one, with the key of its segment.
 /// Evidence that the cell at an offset was once broken. It has no bytes except its offset.
-#[derive(Drop)]
 pub struct Spoilt {
     pub(crate) offset: u64,
     pub(crate) broken: RawBroken,
@@ -19,6 +18,17 @@ impl Model for Spoilt {
     ghost Value = { SpoiltView };
 
     ghost view = { λ s. record { offset = s.offset; name = s.broken.of } };
+}
+
+// By hand, so that proofs of callers do not go into its fields.
+impl Drop for Spoilt {
+    #[inline(always)]
+    fn drop(self) {
+        let Self {
+            offset: _,
+            broken: _,
+        } = self;
+    }
 }
 
 impl fmt::Debug for Spoilt {

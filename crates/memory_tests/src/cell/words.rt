@@ -44,7 +44,7 @@ fn number_filled(tried: Result<Pen<'_, u64>, Found<u64>>) -> u64 {
     }
 }
 
-// What a begin and a mend find in a busy cell, of which one digit each is.
+// What a begin and a mend find in a busy cell, as one digit each.
 fn number_busy(block: &Block<u64>, offset: u64) -> u64
     requires { offset < block_len block.now }
 {

@@ -39,6 +39,7 @@ fn differ<A: Allocator>(word: &Word<A>, a: &mut Hand, b: &mut Hand, x: u64, y: u
     ensures also_still_owned { OwnsRun b.new (single y) }
     ensures differ { x ≢ y }
 {
+    // Only the contract speaks of the places.
     let _ = (x, y);
     word.meet(a, b);
     laws::own_runs_stay();
@@ -56,6 +57,7 @@ fn join<A: Allocator>(word: &Word<A>, a: &mut Hand, b: Hand, x: u64, y: u64)
     ensures also_owned { OwnsRun a.new (single y) }
     ensures places { own_places a.new ≡ own_places a.old + own_places b }
 {
+    // Only the contract speaks of the places.
     let _ = (x, y);
     a.laws();
     b.laws();

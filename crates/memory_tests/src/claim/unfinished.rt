@@ -11,7 +11,7 @@ use claim_core::{Hand, Word};
 use std::alloc::Global;
 use std::test::Fail;
 
-// Claims three places, of which it fills the first and the last, and closes the word. The size is then three.
+// Claims three places, fills the first and the last, and closes the word. The size is then three.
 fn closes_at_three(word: Word<Global>, mut hand: Hand, block: &Block<u64>) -> bool
     requires new { IsNewHand word hand }
     requires limit { word.limit ≡ 3 }

@@ -1,7 +1,8 @@
 // Two threads at one table.
 ghost use Rattle.table_core.specs.Table.{IsKeyIn};
 
-use crate::table::{Counted, drops_so_far, fill, key_of, shows, takes};
+use crate::table::drops::{Counted, drops_so_far};
+use crate::table::{fill, key_of, shows, takes};
 use std::alloc::{AllocError, Global};
 use std::sync::atomic::{AtomicU64, Ordering};
 use std::test::Fail;
@@ -36,6 +37,7 @@ fn install_each<'a>(
     for table in tables {
         turn = turn.wrapping_add(1);
         meet(mine, other, turn);
+        // For the proof: the segments are those of a layout.
         let _layout = table.layout();
         let block = table.install(0)?;
         if fill(block, 0, Counted(drops)) {

@@ -205,6 +205,7 @@ fn is_attached_again(
     let block = segments.detach(&key);
     drop((key, segments.attach(1, block)));
     let is_lent = segments.block_mut(1).is_some();
+    // For the proof: the segments are those of a layout.
     let _layout = segments.layout();
     let is_back = is_some(segments.key_now(1));
     segments.give_up(1);

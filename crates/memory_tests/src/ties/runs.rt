@@ -1,4 +1,4 @@
-// Runs of tied cells, under a rule by which the seat of a block begins the block's cells in order.
+// Runs of tied cells, under a rule that lets the seat of a block begin the block's cells in order.
 ghost use Rattle.std.specs.Prelude.{◌≡◌, ◌+◌, ◌<◌, [], ◌∷◌, length};
 ghost use Rattle.cell_core.specs.Block.{block_len};
 ghost use Rattle.cell_core.specs.Slot.{AreTied};
@@ -12,7 +12,7 @@ use std::alloc::Global;
 use std::test::Fail;
 use tie_core::{Desk, RowPlay, RunPlay, Staged, Tag};
 
-// A stage shows as its number, and a block's seat says from which seat on its cells are idle.
+// A stage shows as its number, and a block's seat as that of the first idle cell.
 struct InOrder;
 
 impl<S> TableRule<S, u64, ()> for InOrder {

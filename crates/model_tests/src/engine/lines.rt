@@ -1,6 +1,6 @@
 //! Answer lines, and the line of the cells, to writers that fail.
 
-use super::streams::{Interrupted, Narrow};
+use super::slow_streams::{Interrupted, Narrow};
 use book_core::{Answer, Cell, Command, Ended};
 use script_core::{WriteFault, write_cells, write_reply};
 use std::io::ErrorKind;

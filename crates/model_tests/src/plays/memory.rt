@@ -2,6 +2,7 @@
 //! refuses each request in turn.
 
 ghost use Rattle.std.specs.Prelude.{◌≤◌, IfOk, length};
+ghost use Rattle.book_core.specs.Commands.{most_programs};
 
 use super::{histories, layouts, lines, machine, scripts, whole_calls, work};
 use book_core::{Event, Reply};
@@ -68,7 +69,7 @@ fn lines_are_written_again(rt: HostRuntime) {
 
 // A script, at the second try if memory was refused.
 fn script_again(alloc: Global, text: &str) -> Result<Script, ScriptError>
-    ensures { IfOk result (λ script. length script.programs ≤ 65536) }
+    ensures { IfOk result (λ script. length script.programs ≤ most_programs) }
 {
     match read(alloc, text.as_bytes()) {
         Err(ScriptError::NoMemory) => read(alloc, text.as_bytes()),

@@ -3,6 +3,7 @@ ghost use Rattle.std.specs.Prelude.{◌≡◌, ◌≤◌, length, IfOk};
 ghost use Rattle.model_tests.specs.CallSteps.{PushesTakeFewSteps};
 ghost use Rattle.model_tests.specs.Places.{places_in};
 ghost use Rattle.model_tests.specs.Uses.{PushesAreApart, ReadsTellTheWriters, LaterRunsLiePast};
+ghost use Rattle.book_core.specs.Commands.{most_programs};
 ghost use Rattle.book_core.specs.History.{runs_of};
 ghost use Rattle.step_core.specs.machine.Play.{play_of};
 
@@ -24,7 +25,7 @@ fn play_known(
     programs: Sequence<Sequence<Command>>,
     items: &[Item],
 ) -> Result<Played, PlayError>
-    requires { length programs ≤ 65536 }
+    requires { length programs ≤ most_programs }
     ensures apart { IfOk result (λ played. PushesAreApart played.ended) }
     ensures writers { IfOk result (λ played. ReadsTellTheWriters played.ended played.events) }
     ensures past { IfOk result (λ played. LaterRunsLiePast played.events) }
@@ -48,10 +49,11 @@ fn stepped(
     programs: Sequence<Sequence<Command>>,
     items: &[Item],
 ) -> Result<Machine, MakeError>
-    requires { length programs ≤ 65536 }
+    requires { length programs ≤ most_programs }
     ensures at { IfOk result (λ machine. machine ≡ (play_of layout limit programs items.now).at) }
     ensures sum { IfOk result (λ machine.
-        machine.storage.size ≡ places_in (runs_of (play_of layout limit programs items.now).events)) }
+        machine.storage.size
+        ≡ places_in (runs_of (play_of layout limit programs items.now).events)) }
 {
     laws::stepping();
     laws::tiling();

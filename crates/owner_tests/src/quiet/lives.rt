@@ -1,5 +1,6 @@
 // Lists that were opened and closed, and what comes out of them.
 ghost use Rattle.std.specs.Prelude.{◌≡◌, ◌+◌, IfSome, length};
+ghost use Rattle.grow_core.specs.Hand.{IsWholeHand};
 ghost use Rattle.grow_core.specs.Vector.{IsHandOf, IsPlacedOf};
 
 use super::steps::{Step, first_wrong};
@@ -105,7 +106,7 @@ fn see_one_push<R: Wait>(
 // The same of three hands that are split from one.
 fn three_see_one_push<R: Wait>(rt: &R, vector: &Shared<u64>, h: &mut Hand<u64>) -> bool
     requires ours { IsHandOf vector.now h.old }
-    requires shares { h.old.shares ≡ 65536 }
+    requires shares { IsWholeHand h.old }
 {
     let mut g = vector.split(h, 1);
     let mut k = vector.split(h, 1);
@@ -202,7 +203,7 @@ fn tokens(
 // Closes a vector. Returns what it has by the first token, and what the closed list recalls by both.
 fn recalled_by(vector: Shared<u64>, hand: Hand<u64>, old: Placed<u64>, new: Placed<u64>) -> [u64; 3]
     requires ours { IsHandOf vector hand }
-    requires whole { hand.shares ≡ 65536 }
+    requires whole { IsWholeHand hand }
     requires old { IsPlacedOf vector old }
     requires new { IsPlacedOf vector new }
 {

@@ -1,6 +1,7 @@
 // Any one allocation may be refused: then the loop says so, and the next one succeeds. `tests/refuse-memory`
 // refuses each request in turn.
 ghost use Rattle.std.specs.Prelude.{◌≡◌, ◌<◌};
+ghost use Rattle.grow_core.specs.Hand.{IsWholeHand};
 ghost use Rattle.grow_core.specs.Vector.{IsHandOf};
 
 use super::buffered_writers::{flush_all, push_one};
@@ -213,7 +214,7 @@ fn buffered_values_are_appended_again(rt: HostRuntime) {
 // it all of them.
 fn splits_again(alloc: Global, vector: &Shared<u64>, hand: &mut Hand<u64>) -> bool
     requires ours { IsHandOf vector.now hand.old }
-    requires shares { hand.old.shares ≡ 65536 }
+    requires shares { IsWholeHand hand.old }
 {
     if split_even(alloc, vector, hand, 3).is_ok() {
         return hand.share() == 16_384;

@@ -103,6 +103,7 @@ impl Domain for Matrix {
     ghost is_in = { λ m. IsMatrix m };
 
     fn tell(&self) {
+        // For the proof: reading a field shows the type's invariant.
         let _first = self.a;
     }
 }

@@ -124,7 +124,8 @@ impl CallPlay {
         requires actors { HaveActors (length programs.now) self.old.ended }
         ensures actors { OnOk result (HaveActors (length programs.now) self.new.ended) }
         ensures ok { OnOk result
-            (with_call self.old actor (next_call programs.now self.old.counts actor) ≡ Some self.new) }
+            (with_call self.old actor (next_call programs.now self.old.counts actor)
+            ≡ Some self.new) }
         ensures counted { OnOk result (length self.new.counts ≡ length self.old.counts) }
     {
         match self.next_call(programs, actor) {
@@ -180,8 +181,13 @@ pub fn play_valid_calls(
     ensures actors { IfOk result (λ played. HaveActors (length programs.now) played.ended) }
 {
     let mut play = CallPlay::new(alloc, limit, programs)?;
-    play.play_items(alloc, programs, items)?;
-    Ok(play.into_played(alloc))
+    match play.play_items(alloc, programs, items) {
+        Ok(()) => Ok(play.into_played(alloc)),
+        Err(error) => {
+            drop(play);
+            Err(error)
+        }
+    }
 }
 
 /// Plays one whole call per item, on a list of cells. An item of an actor with no call left plays nothing.

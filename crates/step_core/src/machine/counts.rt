@@ -142,11 +142,17 @@ impl CountedPlay {
         ensures { IfOk result (λ counted. counted
             ≡ record { play = play; tallies = replicate actors no_tally; work = [] }) }
     {
-        Ok(CountedPlay {
-            play,
-            tallies: vec![in alloc; NO_TALLY; actors]?,
-            work: Vec::new(alloc),
-        })
+        match vec![in alloc; NO_TALLY; actors] {
+            Ok(tallies) => Ok(CountedPlay {
+                play,
+                tallies,
+                work: Vec::new(alloc),
+            }),
+            Err(error) => {
+                drop(play);
+                Err(error)
+            }
+        }
     }
 
     fn tally(&self, actor: u32) -> Tally
@@ -187,7 +193,8 @@ impl CountedPlay {
     fn play_item(&mut self, item: &Item) -> Result<(), AllocError>
         requires { AreWithin (2 ^ 64 - 2) self.old.tallies }
         ensures { OnOk result (self.new ≡ tally_step self.old item.now.actor
-            (step_of self.old.play.at item.now.actor item.now.memory) (has_call self.old.play.at item.now.actor)) }
+            (step_of self.old.play.at item.now.actor item.now.memory)
+            (has_call self.old.play.at item.now.actor)) }
     {
         let layout = self.play.layout();
         let step = self.play.play_item(item)?;

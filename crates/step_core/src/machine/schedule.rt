@@ -101,18 +101,40 @@ impl MachinePlay {
         Ok(cells)
     }
 
+    // The cells of all claimed places, in order.
+    fn all_cells(&self, alloc: Global) -> Result<Vec<Cell>, AllocError>
+        ensures { IfOk result (λ cells. cells.items
+            ≡ cells_from (map.get self.now.at.storage.slots) 0 (owners_of (runs_of self.now.events))) }
+    {
+        let owners = self.owners(alloc)?;
+        let cells = self.cells(alloc, &owners);
+        drop(owners);
+        cells
+    }
+
     // What the play shows, with what its calls took.
     pub(crate) fn into_played(self, alloc: Global, work: Vec<Work>) -> Result<Played, AllocError>
         ensures { IfOk result (λ played. played ≡ played_by_owners self work.items) }
     {
-        let owners = self.owners(alloc)?;
-        let cells = self.cells(alloc, &owners)?;
-        Ok(Played {
-            events: Sequence::from_vec(self.events),
-            ended: Sequence::from_vec(self.ended),
-            cells: Sequence::from_vec(cells),
-            work: Sequence::from_vec(work),
-        })
+        let shown = self.all_cells(alloc);
+        let MachinePlay {
+            machine,
+            events,
+            ended,
+        } = self;
+        drop(machine);
+        match shown {
+            Ok(cells) => Ok(Played {
+                events: Sequence::from_vec(events),
+                ended: Sequence::from_vec(ended),
+                cells: Sequence::from_vec(cells),
+                work: Sequence::from_vec(work),
+            }),
+            Err(error) => {
+                drop((events, ended, work));
+                Err(error)
+            }
+        }
     }
 }
 

@@ -3,7 +3,10 @@
 ghost use Rattle.std.specs.Prelude.{◌≡◌};
 ghost use Rattle.grow_core.specs.Vector.{IsHandOf};
 
-use grow_core::{AtError, AtLeast, GrowError, Grown, Hand, MendError, Never, Placed, Run, Shared};
+use super::growth_calls::{
+    break_places, copy_slice, copy_value, make_sevens, move_in, reply_of_clones, reply_of_push,
+};
+use grow_core::{AtError, Hand, MendError, Shared};
 use std::alloc::{AllocError, AllocGlobal};
 use std::sync::Wait;
 
@@ -84,8 +87,8 @@ pub(super) fn by_hand<R: AllocGlobal + Wait>(
     ensures of { hand.new.of ≡ hand.old.of }
 {
     match call {
-        Call::TryPush(value) => placed(vector.try_push_back(hand, value), value),
-        Call::Push(value) => placed(vector.push_back(rt, hand, value), value),
+        Call::TryPush(value) => reply_of_push(vector.try_push_back(hand, value), value),
+        Call::Push(value) => reply_of_push(vector.push_back(rt, hand, value), value),
         Call::TryGrow(values) | Call::Grow(values) | Call::Append(values) => {
             match Vec::from_slice(rt.alloc(), values) {
                 Ok(moved) => move_in(rt, vector, hand, call, moved, values),
@@ -93,240 +96,16 @@ pub(super) fn by_hand<R: AllocGlobal + Wait>(
             }
         }
         Call::Make(form, n, refused) => make_sevens(rt, vector, hand, form, n, refused),
-        Call::Clones(n, value) => cloned(vector.grow_by(rt, hand, n, &value)),
-        Call::PushSeen(value) => placed(vector.try_push_seen(hand, value), value),
-        Call::Copy(form, values) => copy(rt, vector, hand, form, values),
-        Call::Copies(form, n, value) => copy_one(rt, vector, hand, form, n, value),
+        Call::Clones(n, value) => reply_of_clones(vector.grow_by(rt, hand, n, &value)),
+        Call::PushSeen(value) => reply_of_push(vector.try_push_seen(hand, value), value),
+        Call::Copy(form, values) => copy_slice(rt, vector, hand, form, values),
+        Call::Copies(form, n, value) => copy_value(rt, vector, hand, form, n, value),
         Call::Break(form, n) => break_places(rt, vector, hand, form, n),
         Call::Mend(place, value) => mend(vector, hand, place, value),
         Call::Read(place) => read(vector, hand, place),
         Call::Size => Reply::Is(vector.size(hand)),
         Call::Seen => Reply::Is(hand.seen()),
         Call::Share => Reply::Is(u64::from(hand.share())),
-    }
-}
-
-fn cloned(grown: Result<Grown<u64>, GrowError<u64, (), AllocError>>) -> Reply {
-    let reply = match &grown {
-        Ok(grown) => ran(grown),
-        Err(_refused) => Reply::Other,
-    };
-    drop(grown);
-    reply
-}
-
-fn ran(grown: &Grown<u64>) -> Reply {
-    let run = grown.run();
-    Reply::Ran(run.from, run.n)
-}
-
-fn placed(pushed: Result<Placed<u64>, GrowError<u64, u64, Never>>, value: u64) -> Reply {
-    let reply = match &pushed {
-        Ok(placed) => Reply::At(placed.place()),
-        Err(GrowError::Full { size, back }) if *back == value => Reply::Full(*size),
-        Err(GrowError::Moved { size: _, back }) if *back == value => Reply::Moved,
-        Err(_refused) => Reply::Other,
-    };
-    drop(pushed);
-    reply
-}
-
-// A growth by copies of the values of a slice.
-fn copy<R: Wait>(
-    rt: &R,
-    vector: &Shared<u64>,
-    hand: &mut Hand<u64>,
-    form: Form,
-    values: &[u64],
-) -> Reply
-    requires ours { IsHandOf vector.now hand.old }
-    ensures of { hand.new.of ≡ hand.old.of }
-{
-    match form {
-        Form::Again => copied(vector.grow_from(rt, hand, values)),
-        _ => copied(vector.try_grow_from(hand, values)),
-    }
-}
-
-// A growth by copies of one value.
-fn copy_one<R: Wait>(
-    rt: &R,
-    vector: &Shared<u64>,
-    hand: &mut Hand<u64>,
-    form: Form,
-    n: u64,
-    value: u64,
-) -> Reply
-    requires ours { IsHandOf vector.now hand.old }
-    ensures of { hand.new.of ≡ hand.old.of }
-{
-    match form {
-        Form::Again => copied(vector.grow_copies(rt, hand, n, value)),
-        _ => copied(vector.try_grow_copies(hand, n, value)),
-    }
-}
-
-fn copied(grown: Result<Grown<u64>, GrowError<u64, (), Never>>) -> Reply {
-    let reply = match &grown {
-        Ok(grown) => ran(grown),
-        Err(refused) => not_copied(refused),
-    };
-    drop(grown);
-    reply
-}
-
-fn not_copied(refused: &GrowError<u64, (), Never>) -> Reply {
-    match refused {
-        GrowError::Full { size, .. } => Reply::Full(*size),
-        GrowError::Moved { .. } => Reply::Moved,
-        _other => Reply::Other,
-    }
-}
-
-// A growth whose places are broken on purpose.
-fn break_places<R: Wait>(
-    rt: &R,
-    vector: &Shared<u64>,
-    hand: &mut Hand<u64>,
-    form: Form,
-    n: u64,
-) -> Reply
-    requires ours { IsHandOf vector.now hand.old }
-    ensures of { hand.new.of ≡ hand.old.of }
-{
-    let broken = match form {
-        Form::Again => vector.break_run(rt, hand, n),
-        _ => vector.try_break_run(hand, n),
-    };
-    let reply = match &broken {
-        Ok(run) => Reply::Ran(run.from, run.n),
-        Err(refused) => not_copied(refused),
-    };
-    drop(broken);
-    reply
-}
-
-// A growth by values that are the same as those of a slice.
-fn move_in<R: Wait>(
-    rt: &R,
-    vector: &Shared<u64>,
-    hand: &mut Hand<u64>,
-    call: Call,
-    moved: Vec<u64>,
-    values: &[u64],
-) -> Reply
-    requires ours { IsHandOf vector.now hand.old }
-    ensures of { hand.new.of ≡ hand.old.of }
-{
-    match call {
-        Call::TryGrow(_) => moved_in(vector.try_grow_vec(hand, moved), values),
-        Call::Grow(_) => moved_in(vector.grow_vec(rt, hand, moved), values),
-        _ => appended(vector.append(rt, hand, moved), values),
-    }
-}
-
-fn appended(grown: Result<Run, GrowError<u64, Vec<u64>, Never>>, values: &[u64]) -> Reply {
-    let reply = match &grown {
-        Ok(run) => Reply::Ran(run.from, run.n),
-        Err(error) => given_back(error, values),
-    };
-    drop(grown);
-    reply
-}
-
-fn moved_in(grown: Result<Grown<u64>, GrowError<u64, Vec<u64>, Never>>, values: &[u64]) -> Reply {
-    let reply = match &grown {
-        Ok(grown) => ran(grown),
-        Err(error) => given_back(error, values),
-    };
-    drop(grown);
-    reply
-}
-
-fn given_back(error: &GrowError<u64, Vec<u64>, Never>, values: &[u64]) -> Reply {
-    match error {
-        GrowError::Full { size, back } => {
-            if back.as_slice() == values {
-                Reply::Full(*size)
-            } else {
-                Reply::Other
-            }
-        }
-        _other => Reply::Other,
-    }
-}
-
-// A growth whose maker refuses one number for the cause 9, and each number that it is asked for out of turn.
-// The maker has to be asked once for each value, and once for the refusal.
-fn make_sevens<R: Wait>(
-    rt: &R,
-    vector: &Shared<u64>,
-    hand: &mut Hand<u64>,
-    form: Form,
-    n: u64,
-    refused: u64,
-) -> Reply
-    requires ours { IsHandOf vector.now hand.old }
-    ensures of { hand.new.of ≡ hand.old.of }
-{
-    let mut asked = 0u64;
-    let make = |i: u64| -> Result<u64, u64> {
-        let turn = asked;
-        asked = asked.wrapping_add(1);
-        if i != turn {
-            Err(0)
-        } else if i == refused {
-            Err(9)
-        } else {
-            Ok(7)
-        }
-    };
-    let reply = match form {
-        Form::Try => made(vector.try_grow_with(hand, n, make)),
-        Form::Again => made(vector.grow_with(rt, hand, n, make)),
-        Form::UpTo => raised(vector.grow_to_at_least(hand, n, make)),
-    };
-    let due = match reply {
-        Reply::Ran(_, n) => n,
-        Reply::Refused(_, _, made) => made.wrapping_add(1),
-        _ => 0,
-    };
-    if asked == due {
-        reply
-    } else {
-        Reply::Asked(asked)
-    }
-}
-
-fn made(grown: Result<Grown<u64>, GrowError<u64, (), u64>>) -> Reply {
-    let reply = match &grown {
-        Ok(grown) => ran(grown),
-        Err(refused) => not_made(refused),
-    };
-    drop(grown);
-    reply
-}
-
-fn raised(grown: Result<AtLeast<u64>, GrowError<u64, (), u64>>) -> Reply {
-    let reply = match &grown {
-        Ok(AtLeast::Ran(grown)) => ran(grown),
-        Ok(AtLeast::Enough { size }) => Reply::Enough(*size),
-        Err(refused) => not_made(refused),
-    };
-    drop(grown);
-    reply
-}
-
-fn not_made(refused: &GrowError<u64, (), u64>) -> Reply {
-    match refused {
-        GrowError::Refused {
-            run,
-            made,
-            cause: 9,
-        } => Reply::Refused(run.from, run.n, made.run().n),
-        GrowError::Full { size, .. } => Reply::Full(*size),
-        GrowError::Moved { .. } => Reply::Moved,
-        _other => Reply::Other,
     }
 }
 

@@ -2,7 +2,9 @@
 ghost use Rattle.std.specs.Prelude.{◌≡◌, ◌+◌, ◌≤◌, [], ◌∷◌, Some, None, IfSome};
 ghost use Rattle.std.specs.Thread.{IsSync};
 ghost use Rattle.seg_core.specs.Segment.{IsLimit};
+ghost use Rattle.claim_core.specs.Hand.{IsWholeHand};
 ghost use Rattle.claim_core.specs.History.{Log, IsHistoryOf, lengths_of};
+ghost use Rattle.claim_core.specs.Shares.{all_shares};
 ghost use Rattle.grow_core.specs.Lengths.{runs_end};
 ghost use Rattle.grow_core.specs.Parts.{capacity_of};
 ghost use Rattle.grow_core.specs.Vector.{IsHandOf, base_of, limit_of};
@@ -90,7 +92,7 @@ fn call_by_three<R: Threads + Sync>(
     requires ours { IsHandOf vector a }
     requires also_ours { IsHandOf vector b }
     requires third_ours { IsHandOf vector c }
-    requires whole { a.shares + b.shares + c.shares ≡ 65536 }
+    requires whole { a.shares + b.shares + c.shares ≡ all_shares }
     ensures { (log : Log)
         × IsHistoryOf (limit_of vector) (base_of vector) vector.word.filled log
         × IsAnsweredIn a.log 2 result.1.pushed result.1.grown result.1.size log
@@ -120,12 +122,24 @@ fn call_by_three<R: Threads + Sync>(
     );
     vector.join(&mut all, other);
     laws::steps_stay();
-    all.laws();
-    all.whole_laws();
-    let parts = vector.into_parts(all);
+    let len = close_whole(vector, all);
+    (len, first, second, third)
+}
+
+// Closes the vector of a whole hand. What the hand has seen is a history, and the list has the length that this
+// history claims.
+fn close_whole(vector: Shared<u64>, hand: Hand<u64>) -> u64
+    requires ours { IsHandOf vector hand }
+    requires whole { IsWholeHand hand }
+    ensures history { IsHistoryOf (limit_of vector) (base_of vector) vector.word.filled hand.log }
+    ensures length { result ≡ runs_end (base_of vector) (lengths_of hand.log) }
+{
+    hand.laws();
+    hand.whole_laws();
+    let parts = vector.into_parts(hand);
     let len = parts.len();
     drop(parts);
-    (len, first, second, third)
+    len
 }
 
 // The length of the closed list, if there is memory for a vector.

@@ -61,7 +61,7 @@ fn single(place: u64) -> Run {
 }
 
 // What a growth of equal values reported. Only a construction may be refused.
-fn told<V: Drop, E: Drop>(
+fn tally_of<V: Drop, E: Drop>(
     answer: Result<Grown<u64>, GrowError<u64, V, E>>,
     value: u64,
 ) -> Option<Tally> {
@@ -75,7 +75,7 @@ fn told<V: Drop, E: Drop>(
 }
 
 // The same of a growth up to a size.
-fn told_at_least<E: Drop>(
+fn tally_at_least<E: Drop>(
     answer: Result<AtLeast<u64>, GrowError<u64, (), E>>,
     value: u64,
 ) -> Option<Tally> {
@@ -107,15 +107,15 @@ fn call<R: AllocGlobal + Wait + Abort>(
             Some(place) => Some(Tally::of(single(place), 1, value)),
             None => None,
         },
-        1 => told(vector.grow_by(rt, hand, number % 4, &value), value),
-        2 => told(vector.grow_with(rt, hand, number % 6, make), value),
+        1 => tally_of(vector.grow_by(rt, hand, number % 4, &value), value),
+        2 => tally_of(vector.grow_with(rt, hand, number % 6, make), value),
         3 => match Vec::from_slice(rt.alloc(), &[value; 3]) {
-            Ok(values) => told(vector.grow_vec(rt, hand, values), value),
+            Ok(values) => tally_of(vector.grow_vec(rt, hand, values), value),
             Err(AllocError) => None,
         },
         _ => {
             let size = vector.size(hand).saturating_add(2);
-            told_at_least(vector.grow_to_at_least(hand, size, make), value)
+            tally_at_least(vector.grow_to_at_least(hand, size, make), value)
         }
     }
 }
@@ -228,7 +228,7 @@ fn tally_in(parts: &Parts<u64>) -> Tally {
 }
 
 // The tally of a list, if there is one.
-fn tally_of(parts: Option<Parts<u64>>) -> Option<Tally> {
+fn tally_of_list(parts: Option<Parts<u64>>) -> Option<Tally> {
     let tally = match &parts {
         Some(parts) => Some(tally_in(parts)),
         None => None,
@@ -242,7 +242,7 @@ fn eight_threads_grow_in_every_form(rt: HostRuntime) -> Result<(), Fail> {
     let (vector, hand) = empty(rt.alloc(), 1 << 20)?;
     let (mut hand, tally) = call_by_eight(&rt, &vector, hand);
     let size = vector.size(&mut hand);
-    let listed = tally_of(Life { vector, hand }.close());
+    let listed = tally_of_list(Life { vector, hand }.close());
     assert!(rt; size == tally.places);
     assert!(rt; listed == Some(tally));
     Ok(())

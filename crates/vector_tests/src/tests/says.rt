@@ -9,7 +9,11 @@ use std::alloc::AllocGlobal;
 use std::process::Abort;
 
 // If what the hand has seen leaves no room, the values come back with the size.
-fn refused(vector: &Shared<u64>, hand: &mut Hand<u64>, values: Vec<u64>) -> (u64, Vec<u64>)
+fn grow_without_room(
+    vector: &Shared<u64>,
+    hand: &mut Hand<u64>,
+    values: Vec<u64>,
+) -> (u64, Vec<u64>)
     requires ours { IsHandOf vector.now hand.old }
     requires no_room { limit_of vector.now < seen_size hand.old + vec_len values }
     ensures of { hand.new.of ≡ hand.old.of }
@@ -26,60 +30,60 @@ fn refused(vector: &Shared<u64>, hand: &mut Hand<u64>, values: Vec<u64>) -> (u64
 }
 
 // The size that a growth was overtaken by: another caller moved it, and there is room still.
-fn overtaken(vector: &Shared<u64>, hand: &mut Hand<u64>, values: Vec<u64>) -> Option<u64>
+fn grow_overtaken(vector: &Shared<u64>, hand: &mut Hand<u64>, values: Vec<u64>) -> Option<u64>
     requires ours { IsHandOf vector.now hand.old }
     ensures of { hand.new.of ≡ hand.old.of }
     ensures further { IfSome result (λ size. seen_size hand.old < size) }
     ensures room { IfSome result (λ size. size + vec_len values ≤ limit_of vector.now) }
 {
     let grown = vector.try_grow_vec(hand, values);
-    let told = match &grown {
+    let reported = match &grown {
         Err(GrowError::Moved { size, .. }) => Some(*size),
         _ => None,
     };
     drop(grown);
-    told
+    reported
 }
 
 // A value that found no memory, though there was room for it.
-fn kept(vector: &Shared<u64>, hand: &mut Hand<u64>, value: u64) -> Option<u64>
+fn push_without_memory(vector: &Shared<u64>, hand: &mut Hand<u64>, value: u64) -> Option<u64>
     requires ours { IsHandOf vector.now hand.old }
     ensures of { hand.new.of ≡ hand.old.of }
     ensures same { IfSome result (λ back. back ≡ value) }
     ensures room { IfSome result (λ _. seen_size hand.new < limit_of vector.now) }
 {
     let pushed = vector.try_push_back(hand, value);
-    let told = match &pushed {
+    let reported = match &pushed {
         Err(GrowError::NoMemory { back }) => Some(*back),
         _ => None,
     };
     drop(pushed);
-    told
+    reported
 }
 
 // A place that was taken lies below the size that the hand has then seen.
-fn taken(vector: &Shared<u64>, hand: &mut Hand<u64>, values: Vec<u64>) -> Option<u64>
+fn grow_into_taken(vector: &Shared<u64>, hand: &mut Hand<u64>, values: Vec<u64>) -> Option<u64>
     requires ours { IsHandOf vector.now hand.old }
     ensures of { hand.new.of ≡ hand.old.of }
     ensures below { IfSome result (λ place. place < seen_size hand.new) }
 {
     let grown = vector.try_grow_vec(hand, values);
-    let told = match &grown {
+    let reported = match &grown {
         Err(GrowError::Taken { place, .. }) => Some(*place),
         _ => None,
     };
     drop(grown);
-    told
+    reported
 }
 
 // A taken place that holds nothing yet is the place that is reported.
-fn busy(vector: &Shared<u64>, hand: &mut Hand<u64>, value: u64) -> Option<(u64, u64)>
+fn push_into_busy(vector: &Shared<u64>, hand: &mut Hand<u64>, value: u64) -> Option<(u64, u64)>
     requires ours { IsHandOf vector.now hand.old }
     ensures of { hand.new.of ≡ hand.old.of }
-    ensures same { IfSome result (λ (told, found). told ≡ found) }
+    ensures same { IfSome result (λ (reported, found). reported ≡ found) }
 {
     let pushed = vector.try_push_back(hand, value);
-    let told = match &pushed {
+    let reported = match &pushed {
         Err(
             GrowError::Taken {
                 place,
@@ -89,11 +93,11 @@ fn busy(vector: &Shared<u64>, hand: &mut Hand<u64>, value: u64) -> Option<(u64, 
         _ => None,
     };
     drop(pushed);
-    told
+    reported
 }
 
 // A growth of nothing claims nothing, and returns the size that the hand has then seen.
-fn nothing(vector: &Shared<u64>, hand: &mut Hand<u64>, values: Vec<u64>) -> u64
+fn grow_by_nothing(vector: &Shared<u64>, hand: &mut Hand<u64>, values: Vec<u64>) -> u64
     requires ours { IsHandOf vector.now hand.old }
     requires nothing { vec_len values ≡ 0 }
     ensures of { hand.new.of ≡ hand.old.of }
@@ -126,10 +130,10 @@ fn seen_value(vector: &Shared<u64>, hand: &mut Hand<u64>, place: u64) -> Option<
 
 // Tests whether no refusal comes, if one caller is at work and there is room for four values.
 fn is_not_refused<R: AllocGlobal + Abort>(rt: &R, two: &mut Callers<u64>) -> bool {
-    overtaken(&two.vector, &mut two.a, list(rt, &[5])).is_none()
-        && taken(&two.vector, &mut two.a, list(rt, &[6])).is_none()
-        && kept(&two.vector, &mut two.a, 7).is_none()
-        && busy(&two.vector, &mut two.a, 8).is_none()
+    grow_overtaken(&two.vector, &mut two.a, list(rt, &[5])).is_none()
+        && grow_into_taken(&two.vector, &mut two.a, list(rt, &[6])).is_none()
+        && push_without_memory(&two.vector, &mut two.a, 7).is_none()
+        && push_into_busy(&two.vector, &mut two.a, 8).is_none()
         && seen_value(&two.vector, &mut two.a, 3) == Some(8)
 }
 
@@ -138,7 +142,7 @@ fn a_caller_alone_is_not_refused(rt: HostRuntime) {
     let mut callers = Callers::new(&rt, 8);
     let two = &mut callers;
     let is_alone = is_not_refused(&rt, two);
-    let size = nothing(&two.vector, &mut two.b, Vec::new(rt.alloc()));
+    let size = grow_by_nothing(&two.vector, &mut two.b, Vec::new(rt.alloc()));
     drop(callers);
     assert!(rt; is_alone);
     assert_eq!(rt; size, 4);
@@ -147,7 +151,7 @@ fn a_caller_alone_is_not_refused(rt: HostRuntime) {
 // The size that comes back with the values, if they go beyond the limit.
 fn size_beyond(two: &mut Callers<u64>, values: Vec<u64>) -> Option<u64> {
     if values.len() as u64 > two.vector.limit() {
-        let (size, back) = refused(&two.vector, &mut two.b, values);
+        let (size, back) = grow_without_room(&two.vector, &mut two.b, values);
         drop(back);
         Some(size)
     } else {

@@ -1,5 +1,6 @@
 // What callers prove by the public clauses alone.
 ghost use Rattle.std.specs.Prelude.{◌≡◌, ◌+◌, ◌<◌, ◌≤◌, ◌++◌, ℕ, List, Some, IfSome, slice_get};
+ghost use Rattle.claim_core.specs.Shares.{all_shares};
 ghost use Rattle.grow_core.specs.Lengths.{Tiles, runs_end};
 ghost use Rattle.grow_core.specs.Hand.{OwnsRun, AreDisjoint, IsWholeHand, seen_size};
 ghost use Rattle.grow_core.specs.Vector.{IsHandOf, IsPlacedOf, IsOpenedAt, base_of, limit_of};
@@ -105,7 +106,7 @@ fn push_here_read_there<R: Threads + Sync>(
 fn close_both(vector: Shared<u64>, mut a: Hand<u64>, b: Hand<u64>) -> u64
     requires ours { IsHandOf vector a }
     requires also_ours { IsHandOf vector b }
-    requires whole { a.shares + b.shares ≡ 65536 }
+    requires whole { a.shares + b.shares ≡ all_shares }
     ensures { (lengths : List ℕ)
         × Tiles (base_of vector) lengths (a.mine ++ b.mine)
         × (result ≡ runs_end (base_of vector) lengths) }

@@ -1,4 +1,4 @@
-use Rattle.std.proofs.Common.{ℕ, ◌^◌, ◌<◌, List, arith, subst, sym, ap, ◌∙◌}
+use Rattle.std.proofs.Common.{ℕ, ◌^◌, ◌<◌, List, arith, subst, sym, ap}
 use Rattle.claim_core.specs.Word.{WordView}
 use Rattle.std.specs.List.{sum_by}
 use Rattle.race_core.specs.declared.team.Win.{Win}
@@ -10,12 +10,12 @@ pub sort_wins-requires-clause-all : goal.sort_wins-requires-clause-all
 sort_wins-requires-clause-all c =
     let team = c.requires.team in
     let base = ap (λ (w : WordView). w.base) team.of in
-    subst (λ (u : ℕ × List Win). AreAllPlaces u.0 u.1) (λ i. (sym (c.len-size.ensures.value ∙ c.close.ensures.length) i, sym c.deref-2.ensures.value i))
+    subst (λ (u : ℕ × List Win). AreAllPlaces u.0 u.1) (λ i. (sym c.closed_size-size.ensures i, sym c.deref-2.ensures.value i))
     (all_won c.args.hand c.args.wins.items (omega (arith, base, c.requires.base)) c.whole_laws.ensures.tiles team.wins)
 
 pub sort_wins-requires-clause-below : goal.sort_wins-requires-clause-below
 sort_wins-requires-clause-below c =
-    subst (λ (u : ℕ × List Win). AreBelow u.0 u.1) (λ i. (sym (c.len-size.ensures.value ∙ c.close.ensures.length) i, sym c.deref-2.ensures.value i))
+    subst (λ (u : ℕ × List Win). AreBelow u.0 u.1) (λ i. (sym c.closed_size-size.ensures i, sym c.deref-2.ensures.value i))
     (all_below c.seen_runs_are_within.ensures c.args.hand c.args.wins.items c.requires.team.seen)
 
 pub sum_of-sum-requires : goal.sum_of-sum-requires

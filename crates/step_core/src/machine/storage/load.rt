@@ -12,7 +12,8 @@ impl Storage {
 
     pub(crate) fn refuse(&self, actor: u32, n: u64) -> StepOutcome
         ensures { given self.now result
-            ≡ ends_with self.now (Event.RefusedFull actor n) (Reply.Full self.now.size) (Answer.Full self.now.size) }
+            ≡ ends_with self.now
+            (Event.RefusedFull actor n) (Reply.Full self.now.size) (Answer.Full self.now.size) }
     {
         let size = self.size;
         end_call(
@@ -27,7 +28,8 @@ impl Storage {
         requires some { 0 < n }
         requires places { self.now.size + n ≤ most_places }
         ensures { (segment : ℕ) × (segment ≡ segment_of self.now.layout self.now.size)
-            × (segment < segment_count self.now.layout) × (result ≡ Phase.Scout self.now.size n segment) }
+            × (segment < segment_count self.now.layout)
+            × (result ≡ Phase.Scout self.now.size n segment) }
     {
         let (segment, _) = self.blocks.layout().locate(self.size);
         Phase::Scout {

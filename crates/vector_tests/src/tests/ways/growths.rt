@@ -68,7 +68,7 @@ fn why_not_moved(refused: &GrowError<u64, Vec<u64>, Never>, first: u64, n: u64) 
 }
 
 // The outcome of a growth by a maker or by clones.
-fn made<E: Drop>(
+fn outcome_of_making<E: Drop>(
     vector: &Shared<u64>,
     grown: Result<Grown<u64>, GrowError<u64, (), E>>,
     first: u64,
@@ -85,7 +85,7 @@ fn made<E: Drop>(
 }
 
 // The outcome of a growth by n numbers that are moved in.
-fn moved(
+fn outcome_of_moving(
     vector: &Shared<u64>,
     grown: Result<Grown<u64>, GrowError<u64, Vec<u64>, Never>>,
     first: u64,
@@ -142,7 +142,7 @@ fn move_in<R: Wait>(
         Way::TryFrom | Way::From => return copy(rt, two, way, first, &values),
         _ => return appended(two.vector.append(rt, &mut two.a, values), first, n),
     };
-    moved(&two.vector, grown, first, n)
+    outcome_of_moving(&two.vector, grown, first, n)
 }
 
 // Appends values that are made, and counts how often the maker is asked.
@@ -168,7 +168,7 @@ fn make<R: Wait>(
             Err(refused) => Err(refused),
         },
     };
-    made(&two.vector, grown, first, 1)
+    outcome_of_making(&two.vector, grown, first, 1)
 }
 
 // Appends copies of the values.
@@ -177,7 +177,7 @@ fn copy<R: Wait>(rt: &R, two: &mut Callers<u64>, way: &Way, first: u64, values: 
         Way::TryFrom => two.vector.try_grow_from(&mut two.a, values),
         _ => two.vector.grow_from(rt, &mut two.a, values),
     };
-    made(&two.vector, grown, first, 1)
+    outcome_of_making(&two.vector, grown, first, 1)
 }
 
 // Appends copies of one value.
@@ -186,7 +186,7 @@ fn copy_one<R: Wait>(rt: &R, two: &mut Callers<u64>, way: &Way, n: u64, value: u
         Way::TryCopies => two.vector.try_grow_copies(&mut two.a, n, value),
         _ => two.vector.grow_copies(rt, &mut two.a, n, value),
     };
-    made(&two.vector, grown, value, 0)
+    outcome_of_making(&two.vector, grown, value, 0)
 }
 
 // Appends clones.
@@ -195,7 +195,7 @@ fn clone<R: Wait>(rt: &R, two: &mut Callers<u64>, way: &Way, n: u64, value: u64)
         Way::TryBy => two.vector.try_grow_by(&mut two.a, n, &value),
         _ => two.vector.grow_by(rt, &mut two.a, n, &value),
     };
-    made(&two.vector, grown, value, 0)
+    outcome_of_making(&two.vector, grown, value, 0)
 }
 
 // Appends this run by any way, and returns the outcome and how often a maker was asked. The values are the

@@ -1,5 +1,4 @@
 use Rattle.std.proofs.Common.{refl, sym, subst}
-use Rattle.grow_core.specs.Vector.{VectorView}
 use Rattle.grow_core.specs.Growth.{WonPlace}
 use Rattle.caller_core.specs.Caller.{CallerView}
 use Rattle.caller_core.proofs.caller.Caller.push.Goals as goal

@@ -1,4 +1,4 @@
-use Rattle.std.proofs.Common.{◌≡◌, ◌+◌, ◌≤◌, sym, ap, ◌∙◌, subst, length, arith}
+use Rattle.std.proofs.Common.{sym, ap, ◌∙◌, subst, length, arith}
 use Rattle.cell_core.specs.Block.{BlockView, AreFilledFrom, block_len}
 use Rattle.cell_core.proofs.SliceParts.{EachHasOne, values_of, values_are}
 use Rattle.cell_core.proofs.block.Block.values.Goals as goal

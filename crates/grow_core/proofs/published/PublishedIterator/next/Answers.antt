@@ -1,4 +1,4 @@
-use Rattle.std.proofs.Common.{◌+◌, ◌<◌, ◌≤◌, Some, sym, ap, subst, arith}
+use Rattle.std.proofs.Common.{◌+◌, Some, sym, ap, subst, arith}
 use Rattle.grow_core.specs.Published.{PublishedView}
 use Rattle.grow_core.specs.ShownCells.{HoldOpened}
 use Rattle.grow_core.specs.Vector.{VectorView}

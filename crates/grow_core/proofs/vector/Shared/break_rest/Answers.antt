@@ -1,4 +1,4 @@
-use Rattle.std.proofs.Common.{of_calls, ◌+◌, ◌++◌, ◌∷◌, [], refl, length, length-append, arith}
+use Rattle.std.proofs.Common.{of_calls, ◌+◌, ◌++◌, ◌∷◌, [], refl, length-append, arith}
 use Rattle.std.proofs.lemmas.Fn.{FoldsTo-push}
 use Rattle.grow_core.proofs.Breaking.{none_broken, more_broken}
 use Rattle.grow_core.proofs.vector.Shared.break_rest.Goals as goal

@@ -1,4 +1,4 @@
-use Rattle.std.proofs.Common.{take, drop, ◌++◌, [], ◌∙◌, sym, subst, length, arith, take_all}
+use Rattle.std.proofs.Common.{take, [], sym, subst, arith}
 use Rattle.std.proofs.Math.Seq.{take-add}
 use Rattle.std.proofs.lemmas.List.{length-take-le}
 use Rattle.grow_core.specs.Filled.{IsFilledOf}

@@ -51,7 +51,7 @@ know-filled-requires g c =
     let token = c.in-Ok-put.placed in let v = c.args.self.now in let run = c.args.run in let put = c.fill_begun-put.ensures in
     let here : token.place ≡ run.from + at.i = subst (λ r. IfOk r (λ placed. placed.place ≡ run.from + at.i)) c.in-Ok-put.is put.here in
     let there : token.place ≡ run.from + length had.0 = omega (arith, here, had.2) in
-    let next = subst (λ (p : ℕ). IsStretchOf v p (token.value ∷ []) c.alone.result) there c.alone.ensures in
+    let next = subst (λ (p : ℕ). IsStretchOf v p (token.value ∷ []) c.stretch_of.result) there c.stretch_of.ensures in
     (omega arith, (run.from, had.0, token.value ∷ [], record { known = had.1; next = next }))
 
 pub loop-i-preserved : goal.loop-i-preserved
@@ -61,7 +61,7 @@ loop-i-preserved g c =
     let here : token.place ≡ run.from + at.i = subst (λ r. IfOk r (λ placed. placed.place ≡ run.from + at.i)) is put.here in
     let value : token.value ≡ c.in-Ok.value = subst (λ r. IfOk r (λ placed. placed.value ≡ c.in-Ok.value)) is put.value in
     let there : token.place ≡ run.from + length had.0 = omega (arith, here, had.2) in
-    let next = subst (λ (p : ℕ). IsStretchOf v p (token.value ∷ []) c.alone.result) there c.alone.ensures in
+    let next = subst (λ (p : ℕ). IsStretchOf v p (token.value ∷ []) c.stretch_of.result) there c.stretch_of.ensures in
     let call = subst (λ x. goal.F-step g at.make at.i (Ok x) c.make.new.self) (sym value) (subst (λ r. goal.F-step g at.make at.i r c.make.new.self) c.in-Ok.is c.make.ensures) in
     let segment = c.next_segment.new.segment in let others = c.fill_begun-put.result.1 in
     let near : run.from + at.i + 1 ≡ run.from + (at.i + 1) = omega arith in let rest : run.n - at.i - 1 ≡ run.n - (at.i + 1) = omega arith in (

@@ -28,7 +28,7 @@ returns-in-Some g c = λ x there.
     ∙ ap (λ (v : VectorView g.row.T.Denot). slice_get v.opened c.args.placed.now.place) c.self.view_is ∙ there in
     let is : m.value ≡ Some x = (let z = opened in cc) in
     let named : placed.cell.name ≡ (cell_at key.block offset).value_name = token.cell.named ∙ (λ i. (cell_at (sym same i) (cell.1 i)).value_name) in
-    sym (ap (λ (p : PlacedView g.row.T.Denot). p.value) c.placed.view_is) ∙ opened_is key.block offset m placed.cell.name placed.cell.value x member is named c.agree-in-Some-2.ensures
+    sym (ap (λ (p : PlacedView g.row.T.Denot). p.value) c.placed.view_is) ∙ opened_is key.block offset m placed.cell.name placed.cell.value x member is named c.agree-in-Some.ensures
 
 pub returns-else-place-base : goal.returns-else-place-base
 returns-else-place-base g c = λ x there.

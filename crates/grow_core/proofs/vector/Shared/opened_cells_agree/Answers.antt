@@ -36,7 +36,7 @@ loop-i-preserved g c j x less there = elim c.match-find_cell.branch [
       let is : m.value ≡ Some x = (let z = opened in cc) in
       let same_block : c.args.block.now ≡ key.block = c.requires.block ∙ sym block in let same_offset : token.offset ≡ offset = placed.at ∙ sym one.1 in
       let named : token.name ≡ (cell_at key.block offset).value_name = placed.of.named ∙ (λ k. (cell_at (same_block k) (same_offset k)).value_name) in
-      let value : token.value ≡ x = opened_is key.block offset m token.name token.value x member is named w.agree-in-Some-3.ensures in
+      let value : token.value ≡ x = opened_is key.block offset m token.name token.value x member is named w.agree-in-Some.ensures in
       ap (slice_get (values_in c.args.found.now)) same ∙ w.token_at.ensures.value ∙ ap (λ (v : g.row.T.Denot). Some (Some v)) value))
   | in_default w ↦ absurd (let lost : false ≡ true = subst IsSome w.in_default.is c.find_cell.ensures.some in let z = lost in cc)
 ]

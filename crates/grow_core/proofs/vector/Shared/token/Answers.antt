@@ -15,9 +15,9 @@ placed-requires g c = let s = c.requires.stretch in has_value c.args.self.now s.
 pub invariant_of-result : goal.invariant_of-result
 invariant_of-result g c =
     let is = c.requires.stretch.2 in let m = is.members c.args.i c.at.result c.at.ensures in
-    rw (c.again.ensures) (rw (c.placed-2.ensures.offset) (small_cell c.args.self.now.segments c.args.stretch.now.key (c.args.stretch.now.offset + c.args.i) is.key is.long m.within))
+    rw (c.again.ensures) (rw (c.placed.ensures.offset) (small_cell c.args.self.now.segments c.args.stretch.now.key (c.args.stretch.now.offset + c.args.i) is.key is.long m.within))
 
 pub returns : goal.returns
 returns g c from values is =
-    let cell = c.placed-2.result in
-    rw c.again.ensures (stretch_token c.args.self.now from values c.args.stretch.now is c.args.i c.at.result c.at.ensures cell c.placed-2.ensures.offset c.placed-2.ensures.value c.placed-2.ensures.name)
+    let cell = c.placed.result in
+    rw c.again.ensures (stretch_token c.args.self.now from values c.args.stretch.now is c.args.i c.at.result c.at.ensures cell c.placed.ensures.offset c.placed.ensures.value c.placed.ensures.name)

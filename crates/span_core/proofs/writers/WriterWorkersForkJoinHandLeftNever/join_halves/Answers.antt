@@ -12,12 +12,12 @@ returns-clause-answer g c =
     let says = LeavesPart (g.W.WriterJob.says c.args.self.now.work.now) c.args.self.now.vector.now c.args.self.now.shares in
     let may = g.G.Gate.may_refuse c.args.self.now.gate.now in
     let middle = c.args.first + c.args.low in
-    let a = c.in_ok-hand.field-0 in
-    let b = c.in_ok-other.field-0 in
+    let a = c.left_by-hand.result in
+    let b = c.left_by-other.result in
     let new = c.join.new.hand in
     let join = c.join.ensures in
-    let p = IfOk-at_ok (λ left. IsLeftBy says may word c.args.first c.args.low left.hand left.answers) c.in_ok-hand.was c.requires.lower.0 in
-    let q = IfOk-at_ok (λ left. IsLeftBy says may word middle c.args.high left.hand left.answers) c.in_ok-other.was c.requires.upper.0 in
+    let p = IfOk-at_ok (λ left. IsLeftBy says may word c.args.first c.args.low left.hand left.answers) c.left_by-hand.ensures c.requires.lower.0 in
+    let q = IfOk-at_ok (λ left. IsLeftBy says may word middle c.args.high left.hand left.answers) c.left_by-other.ensures c.requires.upper.0 in
     let left = part_left a.hand b.hand new join.of join.begins join.mine in
     let right = part_right a.hand b.hand new (join.of ∙ (p.of ∙ sym q.of)) join.also_begins join.mine in
     record {

@@ -1,20 +1,20 @@
 -- `values` lends the rooms of cells next to each other as a slice, by what shows that each has a value.
-use Rattle.std.proofs.Common.{◌≡◌, ℕ, ◌+◌, length, ◌*◌, ◌/◌, ◌%◌, ◌^◌, ◌<◌, ◌≤◌, List, [], ◌∷◌, sym, refl, ap, subst, arith, w64}
+use Rattle.std.proofs.Common.{◌≡◌, ℕ, ◌+◌, length, ◌*◌, ◌^◌, ◌<◌, ◌≤◌, List, [], ◌∷◌, sym, refl, ap, subst, arith, w64}
 use mir.Syntax.{a_type, dcons, dnil, named}
 use mir.Val.{Val, vint, vptr}
 use mir.MapTy.{inst_fn}
 use base.Logic.{SProp, ent, emp, id⊢}
 use base.Fml.{Fml, ftrue, fsep, flft, flt, Lft, Share}
 use prog.Wp.{WpFn}
-use types.Kit.{use3, later, await, feq_i, flt_i, ◌∵◌, ‵, raw, ◌⊛◌, at_ret, ◌$◌, !, qed, by, move, keep, use0, use1, split, join, fsplit, fjoin, suffices, rewrite, drop, fpick}
-use types.Run.{stop, fld, lit, no_more, and_then, size_word, of_opd, bin, first, blocks, exec, returns, enter}
+use types.Kit.{use3, later, await, feq_i, flt_i, ◌∵◌, ‵, raw, ◌⊛◌, at_ret, ◌$◌, !, qed, by, move, keep, use0, split, join, fsplit, fjoin, suffices, rewrite, drop, fpick}
+use types.Run.{stop, fld, no_more, and_then, size_word, of_opd, bin, first, blocks, exec, returns, enter}
 use types.ByLocal.{alloc_all, pass_all, free_all, look_at, get, get_in, sets, sets_last, is, env}
 use types.Part.{agg, sub, whole as all_of_it}
 use contract.Running.{tables}
 use contract.Monad.{fact, fact_i}
 use denote.Exit.{yes, no}
 use denote.RattleType.{RattleType, owns}
-use denote.Signature.{types_at, plain, named_lft}
+use denote.Signature.{types_at, plain}
 use denote.RawPtr.{Ptr, block_ptr, block_of, count_of, at_block, InBlock}
 use denote.Steps.{nothing, heard}
 use denote.Param.{param, bounded}
@@ -25,7 +25,7 @@ use denote.Triple.Walked.{Stays, stay_dropped, walk_of, Goes-dropped}
 use Rattle.core.proofs.atomic.Steps.{tail}
 use Rattle.atomic_table.proofs.Walks.{proved, leaves}
 use Rattle.cell_core.specs.Slot.{Names, step}
-use Rattle.cell_core.specs.Member.{MemberView, HaveValues, members}
+use Rattle.cell_core.specs.Member.{MemberView, HaveValues}
 use Rattle.cell_core.specs.Laid.{Extent, along_lent}
 use Rattle.cell_core.specs.contracts.block.steps.Link as link
 use Rattle.cell_core.specs.contracts.block.steps.Laid as loose

@@ -1,5 +1,0 @@
-use Rattle.grow_core.specs.Vector.{IsHandOf}
-use Rattle.costs.proofs.loads.copy.Given as goal
-
-abbrev pub invariant-loop-growth : goal.invariant-loop-growth
-invariant-loop-growth g l = IsHandOf l.vector l.hand

@@ -1,0 +1,26 @@
+use Rattle.std.proofs.Common.{rules, arith}
+use Rattle.std.specs.Vec.Iter.{into_iter_items}
+use Rattle.std.proofs.lemmas.List.{nil_from_length}
+use Rattle.span_core.specs.Loops.{AnswersAt}
+use Rattle.span_core.proofs.Tiles.{reaches-none, reaches-step, reaches-all}
+use Rattle.span_core.proofs.map.MapLeaf.flatten.Goals as goal
+
+pub loop-part-init : goal.loop-part-init
+loop-part-init g c = (
+  reaches-none (λ part. part.items) (AnswersAt (goal.F-post g c.args.self.now.f.now) c.args.self.now.list.now.members) c.args.span
+      c.in_ok-all.all.items c.args.parts.items (into_iter_items c.into_iter-part-iterator.result) (search rules) (search rules) c.requires,
+  search rules,
+)
+
+pub loop-part-preserved : goal.loop-part-preserved
+loop-part-preserved g c = (
+  reaches-step (λ part. part.items) (AnswersAt (goal.F-post g c.args.self.now.f.now) c.args.self.now.list.now.members) c.args.span.from c.args.span.to
+      c.loop-part.all.items c.append.new.self.items c.in-Some.part (into_iter_items c.loop-part.part-iterator) (into_iter_items c.next.new.self)
+      (search rules) (search rules) c.loop-part.invariant.0,
+  grind (arith, c.in-Some.ensures.steps.0, c.in-Some.ensures.steps.1, c.loop-part.invariant.1),
+)
+
+pub returns : goal.returns
+returns g c =
+    reaches-all (λ part. part.items) (AnswersAt (goal.F-post g c.args.self.now.f.now) c.args.self.now.list.now.members) c.args.span.from c.args.span.to
+    c.loop-part.all.items (into_iter_items c.loop-part.part-iterator) (nil_from_length (into_iter_items c.loop-part.part-iterator) (omega (arith, c.loop-part.invariant.1, c.in-None.ensures.steps.0))) c.loop-part.invariant.0

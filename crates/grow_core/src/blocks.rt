@@ -100,7 +100,7 @@ pub(crate) fn put_block<T: Drop>(
     ensures layout { table.new.layout ≡ table.old.layout }
     ensures others { KeepsOtherEntries table.old table.new segment }
 {
-    keys[segment as usize] = Some(table.attach(segment, block));
+    keys.set(segment, Some(table.attach(segment, block)));
 }
 
 // Writes a value into the cell, or breaks it. It returns what is then known of the cell, and the value that

@@ -68,7 +68,7 @@ fn first_keys<T>(table: &Table<T>, opened: &Keys, own: &Keys) -> (Keys, u32)
         let Some(key) = find_key(table, opened, own, segment) else {
             return (keys, segment)
         };
-        keys[segment as usize] = Some(key);
+        keys.set(segment, Some(key));
     }
     (keys, layout.segments())
 }

@@ -1,25 +1,62 @@
 // The keys of the segments that a hand's runs touch.
-ghost use Rattle.std.specs.Prelude.{◌≡◌, ◌≤◌, ◌<◌, ◌+◌, ℕ, List, IfOk, IsSome, None};
+ghost use Rattle.std.specs.Prelude.{◌≡◌, ◌≤◌, ◌<◌, ◌+◌, ℕ, List, IfOk, IsSome, None, slice_set};
 ghost use Rattle.seg_core.specs.Segment.{IsLayout, most_places, segment_count, most_segments};
 ghost use Rattle.grow_core.specs.Keys.{IsKeyAt, AreKeys, KeepsKeys, HasKeysOfRun, key_at, mark_of};
 
 use seg_core::MOST_SEGMENTS;
 use std::alloc::AllocError;
 use std::array;
+use std::marker::Model;
 use table_core::{Key, Table};
 
 // An optional key per segment, with room for the segments of every layout.
-pub(crate) type Keys = [Option<Key>; MOST_SEGMENTS];
+pub(crate) struct Keys {
+    row: [Option<Key>; MOST_SEGMENTS],
+}
+
+impl Model for Keys {
+    ghost use Rattle.std.specs.Prelude.{List, Option};
+    ghost use Rattle.std.specs.Coded.{coded_option};
+    ghost use base.Stored.{coded_list};
+    ghost use Rattle.table_core.specs.Table.{KeyView, key_coded};
+
+    ghost Value = { List (Option KeyView) };
+
+    ghost coded = { coded_list (coded_option key_coded) };
+
+    ghost view = { λ k. k.row };
+}
+
+// By hand, so that proofs of callers do not go into its fields.
+impl Drop for Keys {
+    #[inline(always)]
+    fn drop(self) {
+        let Self { row: _ } = self;
+    }
+}
+
+impl Keys {
+    // Sets what the row has for the segment.
+    #[inline(always)]
+    pub(crate) fn set(&mut self, segment: u32, key: Option<Key>)
+        requires { segment < most_segments }
+        ensures set { self.new ≡ slice_set self.old segment key }
+        ensures put { key_at self.new segment ≡ key }
+    {
+        self.row[segment as usize] = key;
+    }
+}
 
 // No key.
 pub(crate) fn no_keys() -> Keys
     ensures { (segment : ℕ) → segment < most_segments → key_at result segment ≡ None }
 {
-    array::from_fn(
+    let row = array::from_fn(
         |_: usize| -> Option<Key>
             ensures { result ≡ None }
         { None },
-    )
+    );
+    Keys { row }
 }
 
 // A duplicate of the segment's key, if the row has it.
@@ -27,7 +64,7 @@ pub(crate) fn key_of(row: &Keys, segment: u32) -> Option<Key>
     requires { segment < most_segments }
     ensures { result ≡ key_at row.now segment }
 {
-    match &row[segment as usize] {
+    match &row.row[segment as usize] {
         Some(key) => Some(key.again()),
         None => None,
     }
@@ -38,12 +75,13 @@ pub(crate) fn keys_again(row: &Keys) -> Keys
     ensures { (segment : ℕ) → segment < most_segments
         → key_at result segment ≡ key_at row.now segment }
 {
-    array::from_fn(
+    let again = array::from_fn(
         |segment: usize| -> Option<Key>
             requires { segment < most_segments }
             ensures { result ≡ key_at row.entry.now segment }
         { key_of(row, segment as u32) },
-    )
+    );
+    Keys { row: again }
 }
 
 // Puts the key of a segment into the row.
@@ -54,7 +92,7 @@ fn put_key(row: &mut Keys, segment: u32, key: Key)
     ensures kept { KeepsKeys row.old row.new }
     ensures put { IsSome (key_at row.new segment) }
 {
-    row[segment as usize] = Some(key);
+    row.set(segment, Some(key));
 }
 
 // Copies the other row's key of a segment into the row, if the row has none.
@@ -65,7 +103,7 @@ fn put_other(row: &mut Keys, other: &Keys, segment: u32)
     ensures kept { KeepsKeys row.old row.new }
     ensures put { IsSome (key_at other.now segment) → IsSome (key_at row.new segment) }
 {
-    if row[segment as usize].is_none() {
+    if row.row[segment as usize].is_none() {
         if let Some(key) = key_of(other, segment) {
             put_key(row, segment, key);
         }

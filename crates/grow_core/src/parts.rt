@@ -206,7 +206,7 @@ impl<T: Drop> Parts<T> {
     {
         self.closed = None;
         let (_, key) = self.table.install_key(self.count)?;
-        self.keys[self.count as usize] = Some(key);
+        self.keys.set(self.count, Some(key));
         self.count += 1;
         Ok(())
     }
@@ -240,7 +240,7 @@ impl<T: Drop> Parts<T> {
         self.closed = None;
         self.count -= 1;
         self.table.give_up(self.count);
-        self.keys[self.count as usize] = None;
+        self.keys.set(self.count, None);
     }
 
     /// Drops each segment that lies wholly above the members. It takes no memory.

@@ -63,7 +63,7 @@ impl<T: Drop> Parts<T> {
         pop_values(&mut block, n, &mut self.row, self.len, values);
         // Its cells are empty.
         Box::into_inner(block).free();
-        self.keys[segment as usize] = None;
+        self.keys.set(segment, None);
         self.count = segment;
         self.len -= n;
     }

@@ -13,10 +13,10 @@ invariant_of-self g c =
     let spare : (0 < inside.count) × (length (values_in inside.row) ≤ segment_start inside.table.layout (inside.count - 1)) = subst (λ (v : PartsView _). IsSpare v) (sym c.self.view_is) c.requires in
     let some = spare.0 in let counted : length (values_in inside.row) ≡ inside.len = length-map inside.row (λ (u : MemberView _). u.value) ∙ whole.all in
     let one : inside.count ≡ (inside.count - 1) + 1 = omega (arith, some) in (
-      subst (λ (l : ℕ). AreWhole l c.give_up.new.self.names (slice_set inside.keys (inside.count - 1) None) inside.row inside.len inside.limit (inside.count - 1)) (sym c.give_up.ensures.layout)
+      rw c.set.ensures.set (subst (λ (l : ℕ). AreWhole l c.give_up.new.self.names (slice_set inside.keys (inside.count - 1) None) inside.row inside.len inside.limit (inside.count - 1)) (sym c.give_up.ensures.layout)
           (cut_whole inside.table.layout inside.table.names c.give_up.new.self.names inside.keys inside.row inside.len inside.limit (inside.count - 1)
           (subst (λ (n : ℕ). AreWhole inside.table.layout inside.table.names inside.keys inside.row inside.len inside.limit n) one whole) (subst (λ (n : ℕ). n ≤ segment_start inside.table.layout (inside.count - 1)) counted spare.1)
-          c.give_up.ensures.others),
+          c.give_up.ensures.others)),
       tt,
       c.self.invariant.2,
       c.self.invariant.3,

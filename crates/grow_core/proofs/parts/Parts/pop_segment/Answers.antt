@@ -48,9 +48,9 @@ invariant_of-self g c =
     (λ k low. subst (λ (l : ℕ). segment_start f k < l) counted (each k low)) in
     let small : AreWhole f names row known' (len - n) inside.limit inside.count = fewer_whole f names row known known' popped.popped len (len - n) inside.limit inside.count whole popped.row
     (omega (arith, fewer, all)) (omega arith) in (
-      subst (λ (l : ℕ). AreWhole l c.take_block-segment.new.table.names (slice_set row segment None) known' (len - n) inside.limit segment) (sym taken.ensures.layout)
+      rw c.set.ensures.set (subst (λ (l : ℕ). AreWhole l c.take_block-segment.new.table.names (slice_set row segment None) known' (len - n) inside.limit segment) (sym taken.ensures.layout)
           (cut_whole f names c.take_block-segment.new.table.names row known' (len - n) inside.limit segment
-          (subst (λ (k : ℕ). AreWhole f names row known' (len - n) inside.limit k) (sym one) small) (omega (arith, at_last, some, counted)) taken.ensures.others),
+          (subst (λ (k : ℕ). AreWhole f names row known' (len - n) inside.limit k) (sym one) small) (omega (arith, at_last, some, counted)) taken.ensures.others)),
       tt,
       broken_first inside.epoch known' popped.popped (subst (AreBrokenIn inside.epoch) popped.row c.self.invariant.2),
       (let none = unbroken_count (values_in known) (subst (λ (v : PartsView _). IsUnbroken v.members) (sym c.self.view_is) c.requires.unbroken) in

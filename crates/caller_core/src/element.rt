@@ -31,7 +31,8 @@ pub trait Element: Drop {
     fn nth(words: &[u64], i: u64) -> Self
         requires width { 0 < width }
         requires there { i < length words.now / width }
-        ensures { (ws : List ℕ) → slice_get (first_chunks width (length words.now / width) words.now) i
+        ensures { (ws : List ℕ)
+            → slice_get (first_chunks width (length words.now / width) words.now) i
             ≡ Some ws → result ≡ element_of ws };
 
     /// Returns the address of the element's words.

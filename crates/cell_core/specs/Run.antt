@@ -79,13 +79,16 @@ pub record IsRunPenAt {T : Type 0} (block : BlockView) (offset n : ℕ) (pen : R
 module _ (R : RattleType) where
   -- a cell that has its value, which nobody sees yet, by whether the cell is begun and not busy
   abbrev pub Ready : Bool → Names → Lft → GName → ℕ → ℕ → R.Denot → Fml
-  Ready first γ α δ b e x = fsep (fsep (over R γ) (setting R γ first)) (fsep (tie R γ α δ b e (full x)) (lent R γ α δ b e (full x)))
+  Ready first γ α δ b e x = fsep (fsep (over R γ) (setting R γ first))
+      (fsep (tie R γ α δ b e (full x)) (lent R γ α δ b e (full x)))
 
   -- what a run has of its cells, in a turn of their word: the first have their values, and the others can be written
   abbrev pub held : Bool → Turn → ℕ → ℕ → List Names → ℕ → List R.Denot → Fml
   held first t b e [] i xs = ftrue
-  held first t b e (γ ∷ γs) i [] = fsep (right_of R γ t.0 (t.1 i) b (room_at R e i) first) (held first t b e γs (suc i) [])
-  held first t b e (γ ∷ γs) i (x ∷ xs) = fsep (Ready first γ t.0 (t.1 i) b (room_at R e i) x) (held first t b e γs (suc i) xs)
+  held first t b e (γ ∷ γs) i [] = fsep (right_of R γ t.0 (t.1 i) b (room_at R e i) first)
+      (held first t b e γs (suc i) [])
+  held first t b e (γ ∷ γs) i (x ∷ xs) = fsep (Ready first γ t.0 (t.1 i) b (room_at R e i) x)
+      (held first t b e γs (suc i) xs)
 
   -- what shows the values of the cells
   abbrev pub all_written : List Names → List R.Denot → Fml

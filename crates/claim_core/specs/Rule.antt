@@ -55,7 +55,8 @@ pub record Latest (log : Log) (views : List SeatView) : Type 0 where
 
 -- there is one history, which leads to this list. It is legal, it claims these lengths, each once, and each seat has
 -- seen a prefix of it
-pub record Logged (limit base : ℕ) (filled : List Bool) (lengths : List ℕ) (list : CellList) (views : List SeatView) : Type 0 where
+pub record Logged (limit base : ℕ) (filled : List Bool) (lengths : List ℕ) (list : CellList)
+    (views : List SeatView) : Type 0 where
   pub log : Log
   pub history : IsHistoryOf limit base filled log
   pub leads : IsHistory (first_list limit base filled) log list

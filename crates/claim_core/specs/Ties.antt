@@ -111,7 +111,8 @@ pub record IsRole (ties : Ties) (views : List SeatView) (id : ℕ) (role : Role)
 -- The list shows of each place what its cell is at. A cell's seat shows the same, and no two places have one. A place
 -- without a seat is as it was opened. A place whose cell has a seat has an entry. What each seat knows is true, and so
 -- is what its role says
-pub record TiedBy (limit base : ℕ) (filled : List Bool) (lengths : List ℕ) (list : CellList) (ties : Ties) (views : List SeatView) : Type 0 where
+pub record TiedBy (limit base : ℕ) (filled : List Bool) (lengths : List ℕ) (list : CellList) (ties : Ties)
+    (views : List SeatView) : Type 0 where
   pub shown : (place : ℕ) → Matches limit base lengths place (slice_get list.cells place) (ties.stage place)
   pub seats : (place seat : ℕ) → ties.seat_of place ≡ Some seat
       → get_elem? views seat ≡ some (cell_view (ties.stage place))

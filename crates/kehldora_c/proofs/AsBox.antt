@@ -8,7 +8,7 @@ use Rattle.std_heap.specs.contracts.GlobalAllocator.TheImpl.{ghosts, dict}
 use Rattle.std_heap.proofs.Global.TheLaws as heap
 use Rattle.kehldora_c.specs.contracts.held.Held as Held
 use Rattle.kehldora_c.proofs.held.Held.TheLaws as held
-use Rattle.kehldora_c.specs.contracts.parts.Parts as Parts
+use Rattle.kehldora_c.specs.contracts.box_parts.BoxParts as Parts
 use Rattle.kehldora_c.specs.contracts.owned.Owned as Owned
 
 abbrev pub E : Bx

@@ -53,7 +53,8 @@ pub(crate) struct One<'a, E: Element> {
 impl<'a, E: Element> One<'a, E> {
     // These words, if they are as many as an element has.
     pub(crate) fn of(words: &'a [u64]) -> Option<One<'a, E>>
-        ensures { MatchOption result (length words.now ≢ E.width) (λ one. one.words.now ≡ words.now) }
+        ensures { MatchOption result (length words.now ≢ E.width)
+            (λ one. one.words.now ≡ words.now) }
     {
         E::from_words(words)?;
         Some(One {

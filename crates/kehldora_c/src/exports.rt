@@ -74,7 +74,10 @@ fn new_hand(
 }
 
 /// Opens a vector. Its first hand has all shares.
-#[tactic(auto, using(crate::proofs::Codes::if_done, crate::proofs::Codes::refused_open, crate::proofs::Codes::refused_open_full))]
+#[tactic(auto, using(
+    crate::proofs::Codes::if_done, crate::proofs::Codes::refused_open,
+    crate::proofs::Codes::refused_open_full,
+))]
 #[unsafe(no_mangle)]
 pub extern "C" fn kehldora_raw_open(
     alloc: Global,
@@ -126,7 +129,10 @@ pub struct HandFacts {
 }
 
 /// Tells what a hand knows. It loads nothing.
-#[tactic(auto, using(crate::proofs::Codes::if_done, crate::proofs::Codes::refused_in, crate::proofs::Codes::refused_empty))]
+#[tactic(auto, using(
+    crate::proofs::Codes::if_done, crate::proofs::Codes::refused_in,
+    crate::proofs::Codes::refused_empty,
+))]
 #[unsafe(no_mangle)]
 pub extern "C" fn kehldora_raw_about(hand: &mut Handle, facts: &mut HandFacts) -> i32
     ensures shares { IsDone result → OnHeld
@@ -135,7 +141,8 @@ pub extern "C" fn kehldora_raw_about(hand: &mut Handle, facts: &mut HandFacts) -
         (OnHand (λ T caller. facts.new.seen ≡ seen_size caller.hand)) hand.old.owned.held }
     ensures limit { IsDone result → OnHeld
         (OnHand (λ T caller. facts.new.limit ≡ limit_of caller.vector)) hand.old.owned.held }
-    ensures words { IsDone result → OnHeld (λ held. facts.new.words ≡ width_of held) hand.old.owned.held }
+    ensures words { IsDone result
+        → OnHeld (λ held. facts.new.words ≡ width_of held) hand.old.owned.held }
     ensures refused { IfRefused result (IsDueIn (IsDueOn NeverDue) hand.old.owned.held) }
     ensures kept { hand.new.owned.held ≡ hand.old.owned.held }
 {
@@ -159,7 +166,10 @@ pub extern "C" fn kehldora_raw_about(hand: &mut Handle, facts: &mut HandFacts) -
 }
 
 /// Loads the size.
-#[tactic(auto, using(crate::proofs::Codes::if_done, crate::proofs::Codes::refused_in, crate::proofs::Codes::refused_empty))]
+#[tactic(auto, using(
+    crate::proofs::Codes::if_done, crate::proofs::Codes::refused_in,
+    crate::proofs::Codes::refused_empty,
+))]
 #[unsafe(no_mangle)]
 pub extern "C" fn kehldora_raw_size(hand: &mut Handle, size: &mut u64) -> i32
     ensures seen { IsDone result → OnBoth (OnHands
@@ -182,7 +192,10 @@ pub extern "C" fn kehldora_raw_size(hand: &mut Handle, size: &mut u64) -> i32
 }
 
 /// Gives an address that is the same for all hands of a vector, and another for each other open vector.
-#[tactic(auto, using(crate::proofs::Codes::if_done, crate::proofs::Codes::refused_in, crate::proofs::Codes::refused_empty))]
+#[tactic(auto, using(
+    crate::proofs::Codes::if_done, crate::proofs::Codes::refused_in,
+    crate::proofs::Codes::refused_empty,
+))]
 #[unsafe(no_mangle)]
 pub extern "C" fn kehldora_raw_where(hand: &mut Handle, at: &mut *mut u64) -> i32
     ensures hand { IsDone result → OnHeld IsHand hand.old.owned.held }
@@ -204,7 +217,10 @@ pub extern "C" fn kehldora_raw_where(hand: &mut Handle, at: &mut *mut u64) -> i3
 }
 
 /// Makes room for a number of places in all.
-#[tactic(auto, using(crate::proofs::Codes::if_done, crate::proofs::Codes::refused_in, crate::proofs::Codes::refused_empty))]
+#[tactic(auto, using(
+    crate::proofs::Codes::if_done, crate::proofs::Codes::refused_in,
+    crate::proofs::Codes::refused_empty,
+))]
 #[unsafe(no_mangle)]
 pub extern "C" fn kehldora_raw_reserve(hand: &mut Handle, size: u64) -> i32
     ensures hand { IsDone result → OnHeld IsHand hand.old.owned.held }

@@ -10,7 +10,10 @@ use crate::handle::Handle;
 use crate::status::{DONE, Status};
 
 /// Appends a value, and tells its place. It tries three times.
-#[tactic(auto, using(crate::proofs::Codes::if_done, crate::proofs::Codes::refused_in, crate::proofs::Codes::refused_empty))]
+#[tactic(auto, using(
+    crate::proofs::Codes::if_done, crate::proofs::Codes::refused_in,
+    crate::proofs::Codes::refused_empty,
+))]
 #[unsafe(no_mangle)]
 pub extern "C" fn kehldora_raw_push(hand: &mut Handle, value: &[u64], place: &mut u64) -> i32
     ensures pushed { IsDone result → OnBoth
@@ -34,7 +37,10 @@ pub extern "C" fn kehldora_raw_push(hand: &mut Handle, value: &[u64], place: &mu
 }
 
 /// Appends the elements of an array, and tells the place of the first one. It tries once.
-#[tactic(auto, using(crate::proofs::Codes::if_done, crate::proofs::Codes::refused_in, crate::proofs::Codes::refused_empty))]
+#[tactic(auto, using(
+    crate::proofs::Codes::if_done, crate::proofs::Codes::refused_in,
+    crate::proofs::Codes::refused_empty,
+))]
 #[unsafe(no_mangle)]
 pub extern "C" fn kehldora_raw_grow(hand: &mut Handle, values: &[u64], place: &mut u64) -> i32
     ensures grown { IsDone result → OnBoth
@@ -58,7 +64,10 @@ pub extern "C" fn kehldora_raw_grow(hand: &mut Handle, values: &[u64], place: &m
 }
 
 /// Appends copies of a value, and tells the place of the first one. It tries once.
-#[tactic(auto, using(crate::proofs::Codes::if_done, crate::proofs::Codes::refused_in, crate::proofs::Codes::refused_empty))]
+#[tactic(auto, using(
+    crate::proofs::Codes::if_done, crate::proofs::Codes::refused_in,
+    crate::proofs::Codes::refused_empty,
+))]
 #[unsafe(no_mangle)]
 pub extern "C" fn kehldora_raw_fill(
     hand: &mut Handle,
@@ -87,7 +96,10 @@ pub extern "C" fn kehldora_raw_fill(
 }
 
 /// Appends what is missing up to a size, and tells the place of the first one and how many there are.
-#[tactic(auto, using(crate::proofs::Codes::if_done, crate::proofs::Codes::refused_in, crate::proofs::Codes::refused_empty))]
+#[tactic(auto, using(
+    crate::proofs::Codes::if_done, crate::proofs::Codes::refused_in,
+    crate::proofs::Codes::refused_empty,
+))]
 #[unsafe(no_mangle)]
 pub extern "C" fn kehldora_raw_at_least(
     hand: &mut Handle,
@@ -118,7 +130,10 @@ pub extern "C" fn kehldora_raw_at_least(
 }
 
 /// Claims places and breaks them, and tells the first one. It tries once.
-#[tactic(auto, using(crate::proofs::Codes::if_done, crate::proofs::Codes::refused_in, crate::proofs::Codes::refused_empty))]
+#[tactic(auto, using(
+    crate::proofs::Codes::if_done, crate::proofs::Codes::refused_in,
+    crate::proofs::Codes::refused_empty,
+))]
 #[unsafe(no_mangle)]
 pub extern "C" fn kehldora_raw_leave(hand: &mut Handle, count: u64, place: &mut u64) -> i32
     ensures broken { IsDone result → OnBoth
@@ -141,7 +156,10 @@ pub extern "C" fn kehldora_raw_leave(hand: &mut Handle, count: u64, place: &mut 
 }
 
 /// Fills a broken place.
-#[tactic(auto, using(crate::proofs::Codes::if_done, crate::proofs::Codes::refused_in, crate::proofs::Codes::refused_empty))]
+#[tactic(auto, using(
+    crate::proofs::Codes::if_done, crate::proofs::Codes::refused_in,
+    crate::proofs::Codes::refused_empty,
+))]
 #[unsafe(no_mangle)]
 pub extern "C" fn kehldora_raw_mend(hand: &mut Handle, place: u64, value: &[u64]) -> i32
     ensures mended { IsDone result → OnBoth

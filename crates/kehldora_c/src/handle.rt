@@ -3,7 +3,7 @@ ghost use Rattle.std.specs.Prelude.{◌≡◌, Option, Some, None, MatchOption, 
 
 use crate::held::Held;
 use crate::owned::Owned;
-use crate::parts::Parts;
+use crate::box_parts::BoxParts;
 use std::alloc::Global;
 use std::mem;
 use std::ptr::null_mut;
@@ -53,7 +53,7 @@ impl Handle {
         ensures { result.owned.held ≡ Some held.value }
     {
         Handle {
-            owned: Owned::of_parts(Parts::of(held)),
+            owned: Owned::of_parts(BoxParts::of(held)),
             full: true,
         }
     }

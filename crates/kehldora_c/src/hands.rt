@@ -64,7 +64,8 @@ pub(crate) fn grow(any: &mut AnyCaller, words: &[u64]) -> Result<u64, Status>
 
 // Appends `count` copies of the element that these words make.
 pub(crate) fn fill(any: &mut AnyCaller, words: &[u64], count: u64) -> Result<u64, Status>
-    ensures grown { IfOk result (GrowsBy (replicate count words.now) (caller_of any.old) (caller_of any.new)) }
+    ensures grown { IfOk result
+        (GrowsBy (replicate count words.now) (caller_of any.old) (caller_of any.new)) }
     ensures refused { IfErr result
         (FillDue count (length words.now) (List ℕ) (words_of any.new) (caller_of any.new)) }
     ensures kept { KeepsAny any.old any.new }
@@ -74,7 +75,8 @@ pub(crate) fn fill(any: &mut AnyCaller, words: &[u64], count: u64) -> Result<u64
 
 // Appends what is missing up to this size.
 pub(crate) fn at_least(any: &mut AnyCaller, size: u64, words: &[u64]) -> Result<(u64, u64), Status>
-    ensures grown { IfOk result (λ (place, n). ReachesSize size place n (caller_of any.old) (caller_of any.new)) }
+    ensures grown { IfOk result
+        (λ (place, n). ReachesSize size place n (caller_of any.old) (caller_of any.new)) }
     ensures last { IfOk result (λ (place, n).
         HasLastElement (λ ws. ws) (words_of any.old) words.now place n (caller_of any.new)) }
     ensures refused { IfErr result
@@ -183,9 +185,11 @@ pub(crate) fn address(any: &AnyCaller) -> *mut u64 {
 
 // Moves shares into a new hand.
 pub(crate) fn split(any: &mut AnyCaller, shares: u32) -> Result<AnyCaller, Status>
-    ensures split { IfOk result (λ other. SplitsCaller shares (caller_of any.old) (caller_of any.new) (caller_of other)) }
+    ensures split { IfOk result
+        (λ other. SplitsCaller shares (caller_of any.old) (caller_of any.new) (caller_of other)) }
     ensures words { IfOk result (λ other. words_of other ≡ words_of any.old) }
-    ensures refused { IfErr result (SplitDue shares (List ℕ) (words_of any.old) (caller_of any.old)) }
+    ensures refused { IfErr result
+        (SplitDue shares (List ℕ) (words_of any.old) (caller_of any.old)) }
     ensures unchanged { OnErr result (any.new ≡ any.old) }
     ensures words_kept { words_of any.new ≡ words_of any.old }
 {

@@ -100,7 +100,8 @@ fn join_eight(caller: &mut Caller<[u64; 8]>, other: AnyCaller) -> Result<(), Any
 // Joins the other hand's runs and shares, unless its elements have another size.
 pub(crate) fn join(any: &mut AnyCaller, other: AnyCaller) -> Result<(), AnyCaller>
     requires same { (caller_of other).vector ≡ (caller_of any.old).vector }
-    ensures joined { OnOk result (JoinsCallers (caller_of any.old) (caller_of other) (caller_of any.new)) }
+    ensures joined { OnOk result
+        (JoinsCallers (caller_of any.old) (caller_of other) (caller_of any.new)) }
     ensures words { words_of any.new ≡ words_of any.old }
     ensures back { IfErr result (λ back. back ≡ other) }
     ensures unchanged { OnErr result (any.new ≡ any.old) }

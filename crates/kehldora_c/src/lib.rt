@@ -9,6 +9,7 @@
 //! says what is at an address, nor that two addresses differ.
 #![tactic(auto)]
 
+mod box_parts;
 mod contents;
 mod elements;
 mod exports;
@@ -27,7 +28,6 @@ mod opaque_hands;
 mod opaque_joins;
 mod opaque_lists;
 mod owned;
-mod parts;
 mod read_exports;
 mod reads;
 mod share_exports;

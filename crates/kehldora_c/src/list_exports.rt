@@ -22,14 +22,18 @@ pub struct ListFacts {
 }
 
 /// Tells how long a list is.
-#[tactic(auto, using(crate::proofs::Codes::if_done, crate::proofs::Codes::refused_in, crate::proofs::Codes::refused_empty))]
+#[tactic(auto, using(
+    crate::proofs::Codes::if_done, crate::proofs::Codes::refused_in,
+    crate::proofs::Codes::refused_empty,
+))]
 #[unsafe(no_mangle)]
 pub extern "C" fn kehldora_raw_list_about(list: &mut Handle, facts: &mut ListFacts) -> i32
     ensures size { IsDone result → OnHeld
         (OnList (λ T list. facts.new.size ≡ length list.members)) list.old.owned.held }
     ensures limit { IsDone result → OnHeld
         (OnList (λ T list. facts.new.limit ≡ list.limit)) list.old.owned.held }
-    ensures words { IsDone result → OnHeld (λ held. facts.new.words ≡ width_of held) list.old.owned.held }
+    ensures words { IsDone result
+        → OnHeld (λ held. facts.new.words ≡ width_of held) list.old.owned.held }
     ensures refused { IfRefused result (IsDueIn (IsDueOnList NeverDueOfList) list.old.owned.held) }
     ensures kept { list.new.owned.held ≡ list.old.owned.held }
 {
@@ -48,7 +52,10 @@ pub extern "C" fn kehldora_raw_list_about(list: &mut Handle, facts: &mut ListFac
 }
 
 /// Copies the member at a place.
-#[tactic(auto, using(crate::proofs::Codes::if_done, crate::proofs::Codes::refused_in, crate::proofs::Codes::refused_empty))]
+#[tactic(auto, using(
+    crate::proofs::Codes::if_done, crate::proofs::Codes::refused_in,
+    crate::proofs::Codes::refused_empty,
+))]
 #[unsafe(no_mangle)]
 pub extern "C" fn kehldora_raw_list_get(list: &mut Handle, place: u64, value: &mut [u64]) -> i32
     ensures value { IsDone result → OnHeld (HasMember place value.new) list.old.owned.held }
@@ -69,10 +76,14 @@ pub extern "C" fn kehldora_raw_list_get(list: &mut Handle, place: u64, value: &m
 }
 
 /// Replaces the member at a place, or mends it.
-#[tactic(auto, using(crate::proofs::Codes::if_done, crate::proofs::Codes::refused_in, crate::proofs::Codes::refused_empty))]
+#[tactic(auto, using(
+    crate::proofs::Codes::if_done, crate::proofs::Codes::refused_in,
+    crate::proofs::Codes::refused_empty,
+))]
 #[unsafe(no_mangle)]
 pub extern "C" fn kehldora_raw_list_set(list: &mut Handle, place: u64, value: &[u64]) -> i32
-    ensures set { IsDone result → OnBoth (SetsWords place value.now) list.old.owned.held list.new.owned.held }
+    ensures set { IsDone result
+        → OnBoth (SetsWords place value.now) list.old.owned.held list.new.owned.held }
     ensures refused { IfRefused result
         (IsDueIn (IsDueOnList (ListSetDue place (length value.now))) list.old.owned.held) }
     ensures kept { (IsDone result → ⊥) → list.new.owned.held ≡ list.old.owned.held }
@@ -89,7 +100,10 @@ pub extern "C" fn kehldora_raw_list_set(list: &mut Handle, place: u64, value: &[
 }
 
 /// Copies members side by side from a place on, as many as there is room for, or none.
-#[tactic(auto, using(crate::proofs::Codes::if_done, crate::proofs::Codes::refused_in, crate::proofs::Codes::refused_empty))]
+#[tactic(auto, using(
+    crate::proofs::Codes::if_done, crate::proofs::Codes::refused_in,
+    crate::proofs::Codes::refused_empty,
+))]
 #[unsafe(no_mangle)]
 pub extern "C" fn kehldora_raw_list_copy(list: &mut Handle, place: u64, values: &mut [u64]) -> i32
     ensures copied { IsDone result → OnHeld (AreMembersOf place values.new) list.old.owned.held }
@@ -110,11 +124,15 @@ pub extern "C" fn kehldora_raw_list_copy(list: &mut Handle, place: u64, values: 
 }
 
 /// Gives the address of the member at a place.
-#[tactic(auto, using(crate::proofs::Codes::if_done, crate::proofs::Codes::refused_in, crate::proofs::Codes::refused_empty))]
+#[tactic(auto, using(
+    crate::proofs::Codes::if_done, crate::proofs::Codes::refused_in,
+    crate::proofs::Codes::refused_empty,
+))]
 #[unsafe(no_mangle)]
 pub extern "C" fn kehldora_raw_list_look(list: &mut Handle, place: u64, at: &mut *mut u64) -> i32
     ensures there { IsDone result → OnHeld (HasValueAt place) list.old.owned.held }
-    ensures refused { IfRefused result (IsDueIn (IsDueOnList (ListLookDue place)) list.old.owned.held) }
+    ensures refused { IfRefused result
+        (IsDueIn (IsDueOnList (ListLookDue place)) list.old.owned.held) }
     ensures kept { list.new.owned.held ≡ list.old.owned.held }
 {
     if list.is_empty() {
@@ -132,7 +150,10 @@ pub extern "C" fn kehldora_raw_list_look(list: &mut Handle, place: u64, at: &mut
 }
 
 /// Drops the members from a place on. Their memory stays.
-#[tactic(auto, using(crate::proofs::Codes::if_done, crate::proofs::Codes::refused_in, crate::proofs::Codes::refused_empty))]
+#[tactic(auto, using(
+    crate::proofs::Codes::if_done, crate::proofs::Codes::refused_in,
+    crate::proofs::Codes::refused_empty,
+))]
 #[unsafe(no_mangle)]
 pub extern "C" fn kehldora_raw_list_cut(list: &mut Handle, size: u64) -> i32
     ensures cut { IsDone result → OnBoth
@@ -152,7 +173,10 @@ pub extern "C" fn kehldora_raw_list_cut(list: &mut Handle, size: u64) -> i32
 }
 
 /// Frees the segments that have no member.
-#[tactic(auto, using(crate::proofs::Codes::if_done, crate::proofs::Codes::refused_in, crate::proofs::Codes::refused_empty))]
+#[tactic(auto, using(
+    crate::proofs::Codes::if_done, crate::proofs::Codes::refused_in,
+    crate::proofs::Codes::refused_empty,
+))]
 #[unsafe(no_mangle)]
 pub extern "C" fn kehldora_raw_list_shrink(list: &mut Handle) -> i32
     ensures shrunk { IsDone result → OnBoth

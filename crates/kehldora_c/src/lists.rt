@@ -35,7 +35,8 @@ pub(crate) fn words(any: &AnyList) -> u64
 
 // Copies the member at a place.
 pub(crate) fn copy(any: &AnyList, place: u64, value: &mut [u64]) -> Result<(), Status>
-    ensures value { OnOk result (slice_get (list_of any.now).members place ≡ Some (Some value.new)) }
+    ensures value { OnOk result
+        (slice_get (list_of any.now).members place ≡ Some (Some value.new)) }
     ensures refused { IfErr result
         (GetDue place (length value.old) (list_words any.now) (list_of any.now)) }
     ensures unchanged { OnErr result (value.new ≡ value.old) }

@@ -129,7 +129,8 @@ pub(crate) fn set<E: Element>(list: &mut Quiet<E>, place: u64, words: &[u64]) ->
 // The address of the member at a place.
 #[tactic(auto, using(crate::proofs::Due::member_due))]
 pub(crate) fn look<E: Element>(list: &Quiet<E>, place: u64) -> Result<*mut u64, Status>
-    ensures there { IfOk result (λ _. (x : E) × (slice_get list.now.members place ≡ Some (Some x))) }
+    ensures there { IfOk result
+        (λ _. (x : E) × (slice_get list.now.members place ≡ Some (Some x))) }
     ensures refused { IfErr result (MemberDue place ⊥ E list.now) }
 {
     match list.get(place) {

@@ -74,7 +74,8 @@ pub(crate) fn fill(any: &mut AnyOpaque, words: &[u64], count: u64) -> Result<u64
 
 // Appends what is missing up to this size.
 pub(crate) fn at_least(any: &mut AnyOpaque, size: u64, words: &[u64]) -> Result<(u64, u64), Status>
-    ensures grown { IfOk result (λ (place, n). ReachesSize size place n (opaque_of any.old) (opaque_of any.new)) }
+    ensures grown { IfOk result
+        (λ (place, n). ReachesSize size place n (opaque_of any.old) (opaque_of any.new)) }
     ensures refused { IfErr result
         (AtLeastDue size (length words.now) (Unit {0}) (opaque_words any.new) (opaque_of any.new)) }
     ensures kept { KeepsOpaque any.old any.new }
@@ -122,7 +123,8 @@ pub(crate) fn mend(any: &mut AnyOpaque, place: u64, words: &[u64]) -> Result<(),
 
 // Makes room for this many places in all.
 pub(crate) fn reserve(any: &mut AnyOpaque, size: u64) -> Result<(), Status>
-    ensures refused { IfErr result (RoomDue size (Unit {0}) (opaque_words any.new) (opaque_of any.new)) }
+    ensures refused { IfErr result
+        (RoomDue size (Unit {0}) (opaque_words any.new) (opaque_of any.new)) }
     ensures kept { KeepsOpaque any.old any.new }
 {
     by_size!(AnyOpaque, any, caller => reads::reserve(caller, size))
@@ -167,9 +169,11 @@ pub(crate) fn address(any: &AnyOpaque) -> *mut u64 {
 
 // Moves shares into a new hand.
 pub(crate) fn split(any: &mut AnyOpaque, shares: u32) -> Result<AnyOpaque, Status>
-    ensures split { IfOk result (λ other. SplitsCaller shares (opaque_of any.old) (opaque_of any.new) (opaque_of other)) }
+    ensures split { IfOk result
+        (λ other. SplitsCaller shares (opaque_of any.old) (opaque_of any.new) (opaque_of other)) }
     ensures words { IfOk result (λ other. opaque_words other ≡ opaque_words any.old) }
-    ensures refused { IfErr result (SplitDue shares (Unit {0}) (opaque_words any.old) (opaque_of any.old)) }
+    ensures refused { IfErr result
+        (SplitDue shares (Unit {0}) (opaque_words any.old) (opaque_of any.old)) }
     ensures unchanged { OnErr result (any.new ≡ any.old) }
     ensures words_kept { opaque_words any.new ≡ opaque_words any.old }
 {

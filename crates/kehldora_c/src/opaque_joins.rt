@@ -101,7 +101,8 @@ fn join_eight(caller: &mut Caller<Opaque<8>>, other: AnyOpaque) -> Result<(), An
 // Joins the other hand's runs and shares, unless its elements have another size.
 pub(crate) fn join(any: &mut AnyOpaque, other: AnyOpaque) -> Result<(), AnyOpaque>
     requires same { (opaque_of other).vector ≡ (opaque_of any.old).vector }
-    ensures joined { OnOk result (JoinsCallers (opaque_of any.old) (opaque_of other) (opaque_of any.new)) }
+    ensures joined { OnOk result
+        (JoinsCallers (opaque_of any.old) (opaque_of other) (opaque_of any.new)) }
     ensures words { opaque_words any.new ≡ opaque_words any.old }
     ensures back { IfErr result (λ back. back ≡ other) }
     ensures unchanged { OnErr result (any.new ≡ any.old) }

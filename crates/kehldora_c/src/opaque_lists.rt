@@ -35,7 +35,8 @@ pub(crate) fn words(any: &AnyOpaqueList) -> u64
 
 // Replaces the member at a place, or mends it.
 pub(crate) fn set(any: &mut AnyOpaqueList, place: u64, words: &[u64]) -> Result<(), Status>
-    ensures set { OnOk result (SetsMember place tt (opaque_list_of any.old) (opaque_list_of any.new)) }
+    ensures set { OnOk result
+        (SetsMember place tt (opaque_list_of any.old) (opaque_list_of any.new)) }
     ensures refused { IfErr result
         (ListSetDue place (length words.now) (Unit {0}) (opaque_list_words any.old) (opaque_list_of any.old)) }
     ensures unchanged { OnErr result (any.new ≡ any.old) }

@@ -4,7 +4,7 @@ ghost use Rattle.kehldora_c.specs.declared.held.Held.{Held};
 ghost use Rattle.kehldora_c.specs.Owned.{held_coded, held_owns};
 
 use crate::held::Held;
-use crate::parts::Parts;
+use crate::box_parts::BoxParts;
 use std::alloc::Global;
 use std::marker::Model;
 
@@ -27,22 +27,22 @@ impl Owned {
         Owned { at, alloc }
     }
 
-    pub(crate) fn of_parts(parts: Parts<Held, Global>) -> Owned
+    pub(crate) fn of_parts(parts: BoxParts<Held, Global>) -> Owned
         ensures { result.held ≡ Some parts.value }
     {
-        let Parts { ptr, alloc } = parts;
+        let BoxParts { ptr, alloc } = parts;
         Owned {
             at: ptr.cast::<u64>(),
             alloc,
         }
     }
 
-    pub(crate) fn into_parts(self) -> Parts<Held, Global>
+    pub(crate) fn into_parts(self) -> BoxParts<Held, Global>
         requires { IsSome self.held }
         ensures { self.held ≡ Some result.value }
     {
         let Owned { at, alloc } = self;
-        Parts {
+        BoxParts {
             ptr: at.cast::<Held>(),
             alloc,
         }

@@ -11,7 +11,10 @@ use crate::handle::Handle;
 use crate::status::{DONE, Status};
 
 /// Copies the value at a place. The hand's own last place has its value.
-#[tactic(auto, using(crate::proofs::Codes::if_done, crate::proofs::Codes::refused_in, crate::proofs::Codes::refused_empty))]
+#[tactic(auto, using(
+    crate::proofs::Codes::if_done, crate::proofs::Codes::refused_in,
+    crate::proofs::Codes::refused_empty,
+))]
 #[unsafe(no_mangle)]
 pub extern "C" fn kehldora_raw_at(hand: &mut Handle, place: u64, value: &mut [u64]) -> i32
     ensures own { (x : List ℕ) → IsSomeAnd hand.old.owned.held
@@ -33,7 +36,10 @@ pub extern "C" fn kehldora_raw_at(hand: &mut Handle, place: u64, value: &mut [u6
 }
 
 /// Gives the address of the value at a place.
-#[tactic(auto, using(crate::proofs::Codes::if_done, crate::proofs::Codes::refused_in, crate::proofs::Codes::refused_empty))]
+#[tactic(auto, using(
+    crate::proofs::Codes::if_done, crate::proofs::Codes::refused_in,
+    crate::proofs::Codes::refused_empty,
+))]
 #[unsafe(no_mangle)]
 pub extern "C" fn kehldora_raw_look(hand: &mut Handle, place: u64, at: &mut *mut u64) -> i32
     ensures below { IsDone result → OnHeld
@@ -56,7 +62,10 @@ pub extern "C" fn kehldora_raw_look(hand: &mut Handle, place: u64, at: &mut *mut
 }
 
 /// Gives the address of the value at a place, and the number of filled ones that lie there side by side.
-#[tactic(auto, using(crate::proofs::Codes::if_done, crate::proofs::Codes::refused_in, crate::proofs::Codes::refused_empty))]
+#[tactic(auto, using(
+    crate::proofs::Codes::if_done, crate::proofs::Codes::refused_in,
+    crate::proofs::Codes::refused_empty,
+))]
 #[unsafe(no_mangle)]
 pub extern "C" fn kehldora_raw_run(
     hand: &mut Handle,

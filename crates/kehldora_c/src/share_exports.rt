@@ -12,7 +12,10 @@ use crate::status::{DONE, Status};
 use std::alloc::Global;
 
 /// Moves shares of a hand, not all, into a new one.
-#[tactic(auto, using(crate::proofs::Codes::if_done, crate::proofs::Codes::refused_also_in, crate::proofs::Codes::refused_also_empty, crate::proofs::Codes::refused_full))]
+#[tactic(auto, using(
+    crate::proofs::Codes::if_done, crate::proofs::Codes::refused_also_in,
+    crate::proofs::Codes::refused_also_empty, crate::proofs::Codes::refused_full,
+))]
 #[unsafe(no_mangle)]
 pub extern "C" fn kehldora_raw_split(
     alloc: Global,
@@ -45,7 +48,10 @@ pub extern "C" fn kehldora_raw_split(
 }
 
 /// Joins another hand of the same vector into a hand.
-#[tactic(auto, using(crate::proofs::Codes::if_done, crate::proofs::Codes::refused_join, crate::proofs::Codes::refused_join_empty, crate::proofs::Codes::refused_join_other))]
+#[tactic(auto, using(
+    crate::proofs::Codes::if_done, crate::proofs::Codes::refused_join,
+    crate::proofs::Codes::refused_join_empty, crate::proofs::Codes::refused_join_other,
+))]
 #[unsafe(no_mangle)]
 pub extern "C" fn kehldora_raw_join(alloc: Global, hand: &mut Handle, other: &mut Handle) -> i32
     requires same { AreOfOneVector hand.old.owned.held other.old.owned.held }
@@ -74,7 +80,10 @@ pub extern "C" fn kehldora_raw_join(alloc: Global, hand: &mut Handle, other: &mu
 }
 
 /// Closes the vector of a hand into a list. The hand's box becomes the list's, so it takes no memory.
-#[tactic(auto, using(crate::proofs::Codes::if_done, crate::proofs::Codes::refused_also_in, crate::proofs::Codes::refused_also_empty, crate::proofs::Codes::refused_full))]
+#[tactic(auto, using(
+    crate::proofs::Codes::if_done, crate::proofs::Codes::refused_also_in,
+    crate::proofs::Codes::refused_also_empty, crate::proofs::Codes::refused_full,
+))]
 #[unsafe(no_mangle)]
 pub extern "C" fn kehldora_raw_close(alloc: Global, hand: &mut Handle, list: &mut Handle) -> i32
     ensures closed { IsDone result → OnBoth ClosesHeld hand.old.owned.held list.new.owned.held }
@@ -103,7 +112,10 @@ pub extern "C" fn kehldora_raw_close(alloc: Global, hand: &mut Handle, list: &mu
 }
 
 /// Opens a list into a vector again. Its first hand has all shares. Without memory the list keeps its values.
-#[tactic(auto, using(crate::proofs::Codes::if_done, crate::proofs::Codes::refused_also_in, crate::proofs::Codes::refused_also_empty, crate::proofs::Codes::refused_full))]
+#[tactic(auto, using(
+    crate::proofs::Codes::if_done, crate::proofs::Codes::refused_also_in,
+    crate::proofs::Codes::refused_also_empty, crate::proofs::Codes::refused_full,
+))]
 #[unsafe(no_mangle)]
 pub extern "C" fn kehldora_raw_list_open(alloc: Global, list: &mut Handle, hand: &mut Handle) -> i32
     ensures opened { IsDone result → OnBoth OpensHeld list.old.owned.held hand.new.owned.held }

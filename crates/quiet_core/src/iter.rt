@@ -72,9 +72,10 @@ fn look_ahead<T>(parts: &Parts<T>, from: u64, to: u64, known_to: u64) -> (&[T], 
     }
 }
 
-// The values with the next member, the place of the first of them, and how many come before it: those that were found
-// before, if one is left, and otherwise those that a look finds. There are none if that member is broken, or lies next
-// to one that is, or at the end. Also returns up to which place this is known then.
+// Finds the values that lie side by side with the next member. Returns the place of the first of them, the values, and
+// how many come before the next member: of those that were found before, if one is left, and otherwise of those that a
+// look finds. Returns `None` if the member is broken or lies beside a broken one, and at the end. Also returns up to
+// which place this is known.
 #[inline(always)]
 fn values_ahead<'a, T>(
     parts: &'a Parts<T>,

@@ -6,7 +6,7 @@
 //! - `specs/Spelling.antt` says the same in the grammar's own words: `text_of` is a script's spelling, with
 //!   or without a layout line, and a text is read exactly if it is the spelling of a script (`IsScript`).
 //! - `write_reply` and `write_cells` write the answer lines and the last line, as `specs/Text.antt` has them.
-//!   `write_bytes` is the one loop that writes, and `Line` a line on the stack.
+//!   All of them write through `write_bytes`. `Line` holds a line without allocating.
 //!
 //! A caller can prove which script a text is, which fault it has on which line, and every byte that is
 //! written. `read` may be out of memory for any text. Nothing here knows what a call does. No proof is by

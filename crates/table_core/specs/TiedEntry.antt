@@ -25,7 +25,8 @@ module _ (R : RattleType) (number : R.Denot → ℕ) (a : Global) (γ : ℕ) (τ
   abbrev pub tied_kept : Ptr → Fml
   tied_kept null_ptr = fsep (pending R γ) (entry_seat τ None)
   tied_kept (block_ptr b o) = fsep (testable R a (block_ptr b o))
-      (fex (R.Denot × Lft) (λ s. fsep (fsep (resting R a (block_ptr b o) s) (settled R γ s.0)) (entry_seat τ (Some (number s.0)))))
+      (fex (R.Denot × Lft) (λ s. fsep (fsep (resting R a (block_ptr b o) s) (settled R γ s.0))
+          (entry_seat τ (Some (number s.0)))))
 
   abbrev pub tied_owned : (Ptr → Fml) → Fml
   tied_owned fields = fex Ptr (λ p. fsep (fields p) (tied_kept p))
@@ -38,7 +39,8 @@ module _ (R : RattleType) (number : R.Denot → ℕ) (a : Global) (γ : ℕ) (τ
 
     abbrev pub tied_shown : Ptr → Fml
     tied_shown null_ptr = fsep (pending R γ) (entry_seat τ None)
-    tied_shown (block_ptr b o) = fsep (testable R a (block_ptr b o)) (fex (R.Denot × ℕ × Share) (published (block_ptr b o)))
+    tied_shown (block_ptr b o) = fsep (testable R a (block_ptr b o))
+        (fex (R.Denot × ℕ × Share) (published (block_ptr b o)))
 
     -- the word at a place, with what is shared of its block
     abbrev pub tied_at : ℕ → ℕ → Ptr → Fml

@@ -14,7 +14,7 @@ use cell_core::block::{Block, Kind, Plain};
 pub use key::Key;
 pub use key_set::KeySet;
 use key_set::no_sights;
-use owner::{Held, Lent};
+use owner::{KnownEntry, Lent};
 use seg_core::{Layout, MOST_SEGMENTS};
 use std::alloc::{AllocError, Global};
 use std::array;
@@ -40,7 +40,7 @@ pub struct Table<T, B: Kind = Plain> {
     lent: Option<Lent<T, B>>,
     // The entry whose block is lent.
     out: Option<u32>,
-    held: Option<Held>,
+    held: Option<KnownEntry>,
 }
 
 impl<T, B: Kind> Model for Table<T, B> {

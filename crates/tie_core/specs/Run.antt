@@ -20,7 +20,8 @@ run_floor (t ∷ ts) = t.floor
 
 -- how the stages of each cell before and after a step are stored, in order
 abbrev pub run_made_coded : Coded (Option (List Made))
-run_made_coded = coded_option (coded_list (coded_via (coded× stage_coded stage_coded) (λ (m : Made). (m.0, m.1)) (λ x y e i. ((e i).0, (e i).1))))
+run_made_coded = coded_option
+    (coded_list (coded_via (coded× stage_coded stage_coded) (λ (m : Made). (m.0, m.1)) (λ x y e i. ((e i).0, (e i).1))))
 
 -- the updates of a run have run
 abbrev pub IsRunMade : Option (List Made) → Type 0
@@ -47,7 +48,8 @@ IsBackWith {V} then (Some ms) views = (u : V) × (views ≡ u ∷ []) × then ms
 -- The seat `id`, at the view v, goes along with a step on each of n cells, one after the other, whose seats have
 -- numbers in a row from k on: `then` holds of no step and of v; and if it holds of some steps and of a view, the rule
 -- permits the next one, after which it holds too.
-pub record PermitsRun {S V : Type 0} (holds : State S V → Type 0) (shows : Stage → V) (step : Step) (id : ℕ) (v : V) (k n : ℕ) (then : List Made → V → Type 0) : Type 0 where
+pub record PermitsRun {S V : Type 0} (holds : State S V → Type 0) (shows : Stage → V) (step : Step) (id : ℕ) (v : V)
+    (k n : ℕ) (then : List Made → V → Type 0) : Type 0 where
   pub start : then [] v
   pub next : (ms : List Made) (u : V) → length ms < n → then ms u
       → PermitsCell holds shows step id u (k + length ms) (λ a b w. then (ms ++ (a, b) ∷ []) w)

@@ -195,7 +195,8 @@ Made = Stage × Stage
 
 -- how it is stored
 abbrev pub made_coded : Coded (Option Made)
-made_coded = coded_option (coded_via (coded× stage_coded stage_coded) (λ (m : Made). (m.0, m.1)) (λ x y e i. ((e i).0, (e i).1)))
+made_coded = coded_option
+    (coded_via (coded× stage_coded stage_coded) (λ (m : Made). (m.0, m.1)) (λ x y e i. ((e i).0, (e i).1)))
 
 -- the step found the state n, and its update has run
 abbrev pub HasMade : Step → ℕ → Option Made → Type 0

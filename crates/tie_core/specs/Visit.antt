@@ -107,12 +107,14 @@ IsBackFrom then None views = ⊥
 IsBackFrom {V} then (Some v) views = (u : V) × (views ≡ u ∷ []) × then v u
 
 -- the caller's seat goes along with a look at an entry, whatever it holds
-pub record PermitsVisit {S V : Type 0} (holds : State S V → Type 0) (id : ℕ) (v : V) (t : EntryTie) (empty placed : V) (then : Content → V → Type 0) : Type 0 where
+pub record PermitsVisit {S V : Type 0} (holds : State S V → Type 0) (id : ℕ) (v : V) (t : EntryTie) (empty placed : V)
+    (then : Content → V → Type 0) : Type 0 where
   pub at_none : PermitsLook holds id v t.own empty (then None)
   pub at_block : (k : ℕ) → PermitsLook holds id v k placed (then (Some k))
 
 -- the same with an exchange that publishes a block whose seat is j, at the view y: an empty entry's own seat is spent
-pub record PermitsPublish {S V : Type 0} (holds : State S V → Type 0) (id : ℕ) (v : V) (t : EntryTie) (empty spent placed : V) (j : ℕ) (y : V) (then : Content → V → Type 0) : Type 0 where
+pub record PermitsPublish {S V : Type 0} (holds : State S V → Type 0) (id : ℕ) (v : V) (t : EntryTie)
+    (empty spent placed : V) (j : ℕ) (y : V) (then : Content → V → Type 0) : Type 0 where
   pub at_none : PermitsTrade holds id v t.own empty spent j y placed (then None)
   pub at_block : (k : ℕ) → PermitsLook holds id v k placed (then (Some k))
 

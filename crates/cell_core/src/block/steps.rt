@@ -88,7 +88,8 @@ fn fits<X>(len: usize) -> bool
 impl<X, A: Allocator> Rooms<X, A> {
     fn allocate(alloc: &A, len: usize) -> Result<(*mut X, Rooms<X, A>), AllocError>
         requires { FitsMemory X.row len }
-        ensures { IfOk result (λ l. (l.1.heap ≡ alloc.now) × IsLinked l.1.at l.0 × (l.1.len ≡ len)) }
+        ensures { IfOk result
+            (λ l. (l.1.heap ≡ alloc.now) × IsLinked l.1.at l.0 × (l.1.len ≡ len)) }
     {
         match alloc.allocate(len * size_of::<X>(), align_of::<X>()) {
             Ok(room) => {
@@ -101,7 +102,8 @@ impl<X, A: Allocator> Rooms<X, A> {
 
     // Requests room for `len` values. It refuses 2^63 bytes or more, which no allocator can give.
     pub(crate) fn reserve(alloc: &A, len: usize) -> Result<(*mut X, Rooms<X, A>), AllocError>
-        ensures { IfOk result (λ l. (l.1.heap ≡ alloc.now) × IsLinked l.1.at l.0 × (l.1.len ≡ len)) }
+        ensures { IfOk result
+            (λ l. (l.1.heap ≡ alloc.now) × IsLinked l.1.at l.0 × (l.1.len ≡ len)) }
     {
         if !fits::<X>(len) {
             return Err(AllocError);

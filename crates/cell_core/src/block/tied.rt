@@ -59,7 +59,10 @@ impl<T, A: Allocator> Block<T, A, Tied> {
     /// Makes the block one of cells that are not tied: each cell's seat is given up. What is known of the cells by a
     /// row, whose member at `from` is the first cell, stays known; tokens of these cells stay good. The call does
     /// nothing.
-    #[tactic(auto, using(crate::proofs::Untied::untied_kind, crate::proofs::Untied::untied_length, crate::proofs::Untied::untied_at))]
+    #[tactic(auto, using(
+        crate::proofs::Untied::untied_kind, crate::proofs::Untied::untied_length,
+        crate::proofs::Untied::untied_at,
+    ))]
     pub fn untie(self, row: &Row<T>, from: u64) -> Block<T, A>
         requires { KnowsCells row.now from self.cells }
         ensures len { block_len result ≡ block_len self }
@@ -165,7 +168,8 @@ impl<T, A: Allocator> Block<T, A, Tied> {
         ensures broken { IfOk result.0 IsMending }
         ensures found { IfErr result.0 (IsFoundIn self.now offset) }
         ensures made { IfOk result.0 (λ _. HasMade mends broken_state result.1.made) }
-        ensures lost { IfErr result.0 (λ _. (n : ℕ) × HasMade mends n result.1.made × (n ≢ broken_state)) }
+        ensures lost { IfErr result.0
+            (λ _. (n : ℕ) × HasMade mends n result.1.made × (n ≢ broken_state)) }
         ensures offer { (result.1.tie ≡ offer.entry.tie) × (result.1.about ≡ offer.entry.about) }
     {
         let mask = all_but(BROKEN - BUSY, offset);

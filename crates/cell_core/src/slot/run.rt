@@ -88,6 +88,7 @@ impl<'a, T> RawCells<'a, T> {
             × (result.1.made ≡ Some (replicate (length self.entry.of) (Idle, Begun))) }
     {
         let RawCells { word, room, marker } = self;
+        // The step is this load. The cells are idle by what is known of them, so it can find nothing else.
         let _found = unsafe { raw::load::<Brand>(word, SeqCst) };
         (RawRun { word, room, marker }, offer)
     }

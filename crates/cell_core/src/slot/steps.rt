@@ -113,7 +113,8 @@ impl<'a, T> RawSlot<'a, T> {
     pub(crate) fn begin(self, unit: u64) -> (u64, RawPen<'a, T>)
         requires { (unit ≡ 16 ^ self.index) × IsPlain self.of }
         ensures { (result.1.of ≡ self.entry.of) × (result.1.index ≡ self.entry.index)
-            × (result.1.first ≡ false) × (result.1.sought ≡ empty_state) × (result.1.found ≡ field result.0 self.entry.index) }
+            × (result.1.first ≡ false) × (result.1.sought ≡ empty_state)
+            × (result.1.found ≡ field result.0 self.entry.index) }
     {
         let RawSlot { word, room, marker } = self;
         let found = unsafe { raw::fetch_or::<Brand>(word, unit, SeqCst) };
@@ -124,7 +125,8 @@ impl<'a, T> RawSlot<'a, T> {
     pub(crate) fn mend(self, mask: u64) -> (u64, RawPen<'a, T>)
         requires { (mask ≡ 2 ^ 64 - 1 - 4 * 16 ^ self.index) × IsPlain self.of }
         ensures { (result.1.of ≡ self.entry.of) × (result.1.index ≡ self.entry.index)
-            × (result.1.first ≡ false) × (result.1.sought ≡ broken_state) × (result.1.found ≡ field result.0 self.entry.index) }
+            × (result.1.first ≡ false) × (result.1.sought ≡ broken_state)
+            × (result.1.found ≡ field result.0 self.entry.index) }
     {
         let RawSlot { word, room, marker } = self;
         let found = unsafe { raw::fetch_and::<Brand>(word, mask, SeqCst) };
@@ -142,7 +144,8 @@ impl<'a, T> RawSlot<'a, T> {
             × HasNames self.of member.now.of.value member.now.of.name member.now.of.epoch
             × IsEpochOf member.now.of.value member.now.of.epoch (ended.now.of ∷ []) × IsPlain self.of }
         ensures { (result.1.of ≡ self.entry.of) × (result.1.index ≡ self.entry.index)
-            × (result.1.first ≡ false) × (result.1.sought ≡ owner_broken_state) × (result.1.found ≡ field result.0 self.entry.index)
+            × (result.1.first ≡ false) × (result.1.sought ≡ owner_broken_state)
+            × (result.1.found ≡ field result.0 self.entry.index)
             × MayBeStateOf member.now.of.value (field result.0 self.entry.index) }
     {
         let RawSlot { word, room, marker } = self;
@@ -214,6 +217,7 @@ impl<'a, T> RawSlot<'a, T> {
             × (result.1.step ≡ offer.entry.step) × HasMade begins empty_state result.1.made }
     {
         let RawSlot { word, room, marker } = self;
+        // The step is this load. The cell is idle by what is known of it, so it can find nothing else.
         let _found = unsafe { raw::load::<Brand>(word, SeqCst) };
         (RawPen { word, room, marker }, offer)
     }

@@ -19,7 +19,7 @@ pub(crate) struct Lent<T, B: Kind = Plain> {
 
 // An entry that is known to be set.
 #[derive(Drop)]
-pub(crate) struct Held {
+pub(crate) struct KnownEntry {
     pub(crate) segment: u32,
     pub(crate) sight: EntrySight<Block<()>>,
     ghost set: { sight.known ≢ None },
@@ -149,7 +149,7 @@ impl<T: Drop, B: Kind> Table<T, B> {
         ensures bonds { self.new.bonds ≡ self.old.bonds }
         ensures lent { self.new.lent ≡ self.old.lent }
     {
-        self.held = Some(Held {
+        self.held = Some(KnownEntry {
             segment: key.segment(),
             sight: key.sight.again(),
         });

@@ -142,13 +142,7 @@ impl<T: Drop> Closing<T> {
         let (before, count) = first_keys(&vector.table, &vector.keys, hand.whole_keys());
         let limit = vector.limit();
         let base = vector.word.base();
-        let Shared {
-            word,
-            table,
-            row,
-            alloc,
-            ..
-        } = vector;
+        let (word, table, (_, _, row, _), alloc) = vector.take_apart();
         let size = word.close(hand.claims);
         Closing {
             table,

@@ -71,23 +71,13 @@ impl<T> Shared<T> {
         ensures back { IfErr result (λ (back, _). back ≡ parts) }
         ensures no_memory { IfErr result (λ (_, error). error ≡ OpenError.NoMemory) }
     {
+        let alloc = parts.alloc;
         let mark = opening_mark(&parts.table, &parts.row);
-        let (word, claims) = match Word::open_marked(parts.alloc, parts.limit, parts.len, mark) {
+        let (word, claims) = match Word::open_marked(alloc, parts.limit, parts.len, mark) {
             Ok(opened) => opened,
             Err(error) => return Err((parts, error)),
         };
-        let Parts {
-            table,
-            keys,
-            row,
-            epoch,
-            count,
-            alloc,
-            before,
-            closed,
-            ..
-        } = parts;
-        drop((before, closed));
+        let (table, (keys, count, row, epoch)) = parts.take_apart();
         let vector = Shared {
             word,
             table,

@@ -3,7 +3,8 @@ ghost use Rattle.std.specs.Prelude.{◌≡◌, ◌≤◌, [], ◌∷◌, length}
 ghost use Rattle.claim_core.specs.Word.{AreBounds};
 ghost use Rattle.claim_core.specs.Hand.{IsWholeHand, SeesSize, seen_size};
 ghost use Rattle.claim_core.specs.History.{AddsEvents, size_event};
-ghost use Rattle.grow_core.specs.Vector.{IsHandOf, BeginsAsOpened, limit_of, layout_of, base_of};
+ghost use Rattle.grow_core.specs.Parts.{values_in};
+ghost use Rattle.grow_core.specs.Vector.{IsHandOf, IsShared, BeginsAsOpened, limit_of, layout_of, base_of};
 
 use crate::hand::Hand;
 use crate::keys::Keys;
@@ -17,7 +18,6 @@ use table_core::Table;
 
 /// A vector that many callers share. Contracts see which vector it is, its limit and its base, and the list
 /// that it was opened on.
-#[derive(Drop)]
 pub struct Shared<T> {
     pub(crate) word: Word<Global>,
     pub(crate) table: Table<T>,
@@ -41,6 +41,46 @@ impl<T> Model for Shared<T> {
     ghost view = { λ v. record { word = v.word; segments = v.table; opened = values_in v.row } };
 
     ghost invariant = { λ v. IsShared v.word v.table v.keys v.row v.ended v.count };
+}
+
+// By hand, so that proofs of callers do not go into its fields.
+impl<T: Drop> Drop for Shared<T> {
+    fn drop(self) {
+        let Self {
+            word: _,
+            table: _,
+            keys: _,
+            count: _,
+            row: _,
+            ended: _,
+            alloc: _,
+        } = self;
+    }
+}
+
+impl<T> Shared<T> {
+    // Takes the vector apart: its word, its segments, and what is known of the opened list.
+    pub(crate) fn take_apart(
+        self,
+    ) -> (Word<Global>, Table<T>, (Keys, u32, Row<T>, EndedEpoch), Global)
+        ensures parts { self ≡ record {
+          word = result.0;
+          segments = result.1;
+          opened = values_in result.2.2;
+        } }
+        ensures its { IsShared result.0 result.1 result.2.0 result.2.2 result.2.3 result.2.1 }
+    {
+        let Shared {
+            word,
+            table,
+            keys,
+            count,
+            row,
+            ended,
+            alloc,
+        } = self;
+        (word, table, (keys, count, row, ended), alloc)
+    }
 }
 
 // The size and the values are left out: only a step with a hand may look at them.

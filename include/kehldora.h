@@ -10,7 +10,8 @@
  *  - One thread at a time uses a handle, and its calls are ordered (by a lock, a join or a SeqCst atomic).
  *  - A handle starts as KEHLDORA_EMPTY_HAND or KEHLDORA_EMPTY_LIST. Only these calls change it, and it is never copied.
  *  - A pointer leads to as many words as the call says, aligned to 8 bytes, and no argument lies within an element.
- *  - A pointer to elements is not used after the vector, and the list it was closed into, have ended.
+ *  - A pointer to elements is not used after the vector, and the list it was closed into, have ended; one to states is not used
+ *    after the vector was closed or has ended.
  *  - Value elements are never written through a pointer.
  *  - Threads order their own accesses to one opaque element. Nobody touches one during `kehldora_close` and `kehldora_free`.
  */
@@ -115,6 +116,9 @@ typedef struct kehldora_hand_facts {
   uint64_t shares, seen, limit, words;
 } kehldora_hand_facts;
 
+/* The four bits of the state of a place that is filled. */
+#define KEHLDORA_FILLED_BITS 3u
+
 /* A list's size, its limit and the words of an element. */
 typedef struct kehldora_list_facts {
   uint64_t size, limit, words;
@@ -141,6 +145,7 @@ kehldora_status kehldora_raw_at_least(kehldora_hand *hand, uint64_t size, const 
 kehldora_status kehldora_raw_at(kehldora_hand *hand, uint64_t place, uint64_t *value, size_t words);
 kehldora_status kehldora_raw_look(kehldora_hand *hand, uint64_t place, uint64_t **at);
 kehldora_status kehldora_raw_run(kehldora_hand *hand, uint64_t place, uint64_t **at, uint64_t *count);
+kehldora_status kehldora_raw_states(kehldora_hand *hand, uint64_t place, const uint64_t **at);
 kehldora_status kehldora_raw_leave(kehldora_hand *hand, uint64_t count, uint64_t *place);
 kehldora_status kehldora_raw_mend(kehldora_hand *hand, uint64_t place, const uint64_t *value, size_t words);
 kehldora_status kehldora_raw_list_about(kehldora_list *list, kehldora_list_facts *facts);
@@ -303,6 +308,13 @@ static inline kehldora_status kehldora_run(kehldora_hand *hand, uint64_t place, 
   status = kehldora_raw_run(hand, place, at, count);
   KEHLDORA_HAS_LOOKED(hand);
   return status;
+}
+
+/* Returns the address of the words with the states of a place's segment, if that is there: four bits for each of its places,
+   sixteen places a word, from the lowest bits up. They become KEHLDORA_FILLED_BITS when the place is filled, and then stay so
+   until the vector is closed. Read a word by one atomic load, acquire or stronger, and never write it. */
+static inline kehldora_status kehldora_states(kehldora_hand *hand, uint64_t place, const uint64_t **at) {
+  return hand && at ? kehldora_raw_states(hand, place, at) : KEHLDORA_NULL;
 }
 
 /* Claims places side by side and breaks them, and returns the first one. Each can be mended later. */

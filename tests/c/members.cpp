@@ -196,9 +196,9 @@ template <typename T> void one_thread() {
   CHECK(v.size() == 4 && v[2] == T(1) && v[3] == T() && v.capacity() == 32);
   T *const kept = &v[1];
   v.shrink_to_fit();
-  CHECK(v.capacity() == 8 && kept == &v[1]);
+  CHECK(v.capacity() == 16 && kept == &v[1]);
   v.clear();
-  CHECK(v.empty() && v.capacity() == 8);
+  CHECK(v.empty() && v.capacity() == 16);
   v.push_back(T(1));
   v.push_back(T(2));
   auto list = v.close();

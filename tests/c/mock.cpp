@@ -13,7 +13,8 @@ extern "C" void library_free(void *block);
 
 namespace {
 
-enum State : uint8_t { EMPTY, BUSY, FILLED, BROKEN };
+// Four bits for each cell, as in the library.
+enum State : uint64_t { EMPTY = 0, BUSY = 1, FILLED = KEHLDORA_FILLED_BITS, BROKEN = 5 };
 
 template <typename T, typename... Args> T *make(Args &&...args) {
   void *block = library_malloc(sizeof(T));
@@ -28,7 +29,36 @@ template <typename T> void end(T *it) {
 // The cells of one segment.
 struct Segment {
   uint64_t *words;
-  std::atomic<uint8_t> *states;
+  std::atomic<uint64_t> *states;
+};
+
+// The state of one cell.
+class Cell {
+public:
+  Cell(std::atomic<uint64_t> &word, uint64_t offset) : word_(word), shift_(4 * (offset % 16)) {}
+
+  uint64_t load() const { return word_.load(std::memory_order_acquire) >> shift_ & 15; }
+  void store(uint64_t state) {
+    uint64_t found = load();
+    while (!step(found, state)) {
+    }
+  }
+  // Makes one state another, or says which one it found.
+  bool step(uint64_t &from, uint64_t to) {
+    uint64_t word = word_.load(std::memory_order_acquire);
+    do {
+      const uint64_t found = word >> shift_ & 15;
+      if (found != from) {
+        from = found;
+        return false;
+      }
+    } while (!word_.compare_exchange_weak(word, word ^ (from ^ to) << shift_, std::memory_order_acq_rel));
+    return true;
+  }
+
+private:
+  std::atomic<uint64_t> &word_;
+  const uint64_t shift_;
 };
 
 struct Vector {
@@ -53,9 +83,14 @@ struct Vector {
   uint64_t begin_of(unsigned k) const { return k ? uint64_t{1} << (k + first - 1) : 0; }
   uint64_t length_of(unsigned k) const { return k ? begin_of(k) : uint64_t{1} << first; }
 
-  std::atomic<uint8_t> &state(uint64_t place) {
+  std::atomic<uint64_t> *states(unsigned k) {
+    Segment *const segment = segments[k].load(std::memory_order_acquire);
+    return segment ? segment->states : nullptr;
+  }
+  Cell state(uint64_t place) {
     const unsigned k = segment_of(place);
-    return segments[k].load(std::memory_order_acquire)->states[place - begin_of(k)];
+    const uint64_t offset = place - begin_of(k);
+    return Cell(states(k)[offset / 16], offset);
   }
   uint64_t *value(uint64_t place) {
     const unsigned k = segment_of(place);
@@ -64,17 +99,17 @@ struct Vector {
 
   // Makes a segment. It is of no use if another thread makes it first.
   bool install(unsigned k) {
-    const uint64_t length = length_of(k);
-    void *cells = library_malloc(length * words * 8), *states = cells ? library_malloc(length) : nullptr;
+    const uint64_t length = length_of(k), count = (length + 15) / 16;
+    void *cells = library_malloc(length * words * 8), *states = cells ? library_malloc(count * 8) : nullptr;
     Segment *segment = states ? make<Segment>() : nullptr;
     if (!segment) {
       library_free(states);
       library_free(cells);
       return false;
     }
-    *segment = {static_cast<uint64_t *>(cells), static_cast<std::atomic<uint8_t> *>(states)};
-    for (uint64_t i = 0; i < length; ++i)
-      new (segment->states + i) std::atomic<uint8_t>(EMPTY);
+    *segment = {static_cast<uint64_t *>(cells), static_cast<std::atomic<uint64_t> *>(states)};
+    for (uint64_t i = 0; i < count; ++i)
+      new (segment->states + i) std::atomic<uint64_t>(0);
     Segment *found = nullptr;
     if (!segments[k].compare_exchange_strong(found, segment, std::memory_order_acq_rel))
       drop(segment);
@@ -98,7 +133,7 @@ struct Vector {
 
   void fill(uint64_t place, const uint64_t *words_of_it) {
     memcpy(value(place), words_of_it, words * 8);
-    state(place).store(FILLED, std::memory_order_release);
+    state(place).store(FILLED);
   }
 };
 
@@ -120,7 +155,7 @@ uint64_t see(Hand *hand) { return hand->seen = hand->vector->size.load(std::memo
 kehldora_status shown(Vector *vector, uint64_t size, uint64_t place) {
   if (place >= size)
     return KEHLDORA_OUT_OF_RANGE;
-  switch (vector->state(place).load(std::memory_order_acquire)) {
+  switch (vector->state(place).load()) {
   case FILLED: return KEHLDORA_DONE;
   case BROKEN: return KEHLDORA_BROKEN;
   default: return KEHLDORA_PENDING;
@@ -362,12 +397,23 @@ kehldora_status kehldora_raw_run(kehldora_hand *hand, uint64_t place, uint64_t *
   return KEHLDORA_DONE;
 }
 
+kehldora_status kehldora_raw_states(kehldora_hand *hand, uint64_t place, const uint64_t **at) {
+  if (!hand->full)
+    return KEHLDORA_BAD_HANDLE;
+  Vector *vector = of(hand)->vector;
+  const std::atomic<uint64_t> *states = place < vector->limit ? vector->states(vector->segment_of(place)) : nullptr;
+  if (!states)
+    return KEHLDORA_PENDING;
+  *at = reinterpret_cast<const uint64_t *>(states);
+  return KEHLDORA_DONE;
+}
+
 kehldora_status kehldora_raw_leave(kehldora_hand *hand, uint64_t count, uint64_t *place) {
   if (!hand->full)
     return KEHLDORA_BAD_HANDLE;
   const kehldora_status status = claim_once(of(hand), count, place);
   for (uint64_t i = 0; status == KEHLDORA_DONE && i < count; ++i)
-    of(hand)->vector->state(*place + i).store(BROKEN, std::memory_order_release);
+    of(hand)->vector->state(*place + i).store(BROKEN);
   return status;
 }
 
@@ -379,8 +425,8 @@ kehldora_status kehldora_raw_mend(kehldora_hand *hand, uint64_t place, const uin
     return KEHLDORA_BAD_SIZE;
   if (place >= see(of(hand)))
     return KEHLDORA_OUT_OF_RANGE;
-  uint8_t state = BROKEN;
-  if (!vector->state(place).compare_exchange_strong(state, BUSY, std::memory_order_acq_rel))
+  uint64_t state = BROKEN;
+  if (!vector->state(place).step(state, BUSY))
     return state == FILLED ? KEHLDORA_FILLED : KEHLDORA_PENDING;
   vector->fill(place, value);
   return KEHLDORA_DONE;
@@ -411,7 +457,7 @@ kehldora_status kehldora_raw_list_copy(kehldora_list *list, uint64_t place, uint
   if (place > size || count > size - place)
     return KEHLDORA_OUT_OF_RANGE;
   for (uint64_t i = 0; i < count; ++i)
-    if (of(list)->state(place + i) != FILLED)
+    if (of(list)->state(place + i).load() != FILLED)
       return KEHLDORA_BROKEN;
   for (uint64_t i = 0; i < count; ++i)
     memcpy(values + i * each, of(list)->value(place + i), each * 8);
@@ -439,7 +485,7 @@ kehldora_status kehldora_raw_list_cut(kehldora_list *list, uint64_t size) {
   if (!list->full)
     return KEHLDORA_BAD_HANDLE;
   for (uint64_t place = size; place < of(list)->size; ++place)
-    of(list)->state(place) = EMPTY;
+    of(list)->state(place).store(EMPTY);
   if (size < of(list)->size)
     of(list)->size = size;
   return KEHLDORA_DONE;

@@ -164,6 +164,7 @@ static void growths(uint64_t words, bool opaque) {
 static void reads(uint64_t words, bool opaque) {
   kehldora_hand hand = opened(20, words, opaque);
   uint64_t got[MOST_WORDS + 1], place, count, *at;
+  const uint64_t *states;
   EXPECT(kehldora_fill(&hand, value(7), words, 6, &place), KEHLDORA_DONE);
   EXPECT(kehldora_leave(&hand, 2, &place), KEHLDORA_DONE);
   CHECK(place == 6);
@@ -175,6 +176,12 @@ static void reads(uint64_t words, bool opaque) {
   CHECK(count == 3 && is_value(at + 2 * words, words, 7));
   EXPECT(kehldora_run(&hand, 4, &at, &count), KEHLDORA_DONE);
   CHECK(count == 2);
+  /* The second segment has places 4 to 7, of which the last two are broken. */
+  EXPECT(kehldora_states(&hand, 16, &states), KEHLDORA_PENDING);
+  EXPECT(kehldora_states(&hand, 20, &states), KEHLDORA_PENDING);
+  EXPECT(kehldora_states(&hand, 6, &states), KEHLDORA_DONE);
+  for (uint64_t i = 0; i < 16; ++i)
+    CHECK(((*states >> 4 * i & 15) == KEHLDORA_FILLED_BITS) == (i < 2));
   EXPECT(kehldora_at(&hand, 0, got, words + 1), KEHLDORA_BAD_SIZE);
   if (opaque) {
     EXPECT(kehldora_at(&hand, 0, got, words), KEHLDORA_BAD_SIZE);
@@ -188,6 +195,7 @@ static void reads(uint64_t words, bool opaque) {
   EXPECT(kehldora_mend(&hand, 5, value(8), words), KEHLDORA_FILLED);
   EXPECT(kehldora_mend(&hand, 7, value(8), words + 1), KEHLDORA_BAD_SIZE);
   EXPECT(kehldora_mend(&hand, 7, value(8), words), KEHLDORA_DONE);
+  CHECK(*states >> 12 == KEHLDORA_FILLED_BITS);
   EXPECT(kehldora_look(&hand, 7, &at), KEHLDORA_DONE);
   CHECK(is_value(at, words, 8));
   EXPECT(kehldora_free(&hand), KEHLDORA_DONE);
@@ -345,6 +353,7 @@ static void empty_handles(void) {
   kehldora_hand_facts facts;
   kehldora_list_facts list_facts;
   const void *where;
+  const uint64_t *states;
   uint64_t word = 0, *at;
   for (int round = 0; round < 2; ++round) {
     kehldora_hand *h = round ? NULL : &hand;
@@ -365,6 +374,7 @@ static void empty_handles(void) {
     EXPECT(kehldora_at(h, 0, &word, 1), expected);
     EXPECT(kehldora_look(h, 0, &at), expected);
     EXPECT(kehldora_run(h, 0, &at, &word), expected);
+    EXPECT(kehldora_states(h, 0, &states), expected);
     EXPECT(kehldora_leave(h, 1, &word), expected);
     EXPECT(kehldora_mend(h, 0, &word, 1), expected);
     EXPECT(kehldora_list_about(l, &list_facts), expected);

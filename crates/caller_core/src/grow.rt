@@ -9,7 +9,7 @@ ghost use Rattle.caller_core.specs.Caller.{KeepsCaller, IsLastOf};
 ghost use Rattle.caller_core.specs.Grows.{GrowsBy, GrowsMade, GrowsUpTo, TellsLast, WinsPlaces, IsNoPlace};
 
 use crate::caller::Caller;
-use grow_core::{AtLeast, GrowError, Grown, Never, Placed};
+use grow_core::{AtLeast, GrowError, Grown, Never, Placed, Source};
 
 // Keeps the token of the last place of a run, if the run has a place, and returns the first place.
 #[tactic(auto, using(crate::proofs::LastTokens::tells_none, crate::proofs::LastTokens::tells_some))]
@@ -63,6 +63,22 @@ impl<T: Copy> Caller<T> {
 }
 
 impl<T: Drop> Caller<T> {
+    /// Appends the values of the source side by side, and returns the place of the first one. It tries once.
+    #[inline(always)]
+    #[tactic(auto, using(crate::proofs::Kept::grows_shares, crate::proofs::Kept::grows_of))]
+    pub fn grow_source<S: Source<T>>(&mut self, source: &S) -> Result<u64, GrowError<T, (), Never>>
+        ensures grown { IfOk result (GrowsBy (S.values source.now) self.old self.new) }
+        ensures refused { IfErr result (Refuses self.old.vector
+            (length (S.values source.now)) tt self.old.hand self.new.hand) }
+        ensures full { HasNoRoom self.old.vector (length (S.values source.now)) self.old.hand
+            → IsErrAnd result SaysFull }
+        ensures kept { KeepsCaller self.old self.new }
+        ensures last { OnErr result (self.new.last ≡ self.old.last) }
+    {
+        let grown = self.hub.vector.try_grow_source(&mut self.hand, source)?;
+        Ok(keep_last(&mut self.last, grown))
+    }
+
     /// Appends `n` values that `make` makes, side by side, and returns the place of the first one. It tries once.
     #[tactic(auto, using(crate::proofs::Kept::grows_shares, crate::proofs::Kept::grows_of))]
     pub fn grow_made<F: FnMut(u64) -> Result<T, Never>>(

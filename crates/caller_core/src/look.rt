@@ -1,7 +1,7 @@
 //! How a caller gets the address of values. They stay there as long as the vector.
-ghost use Rattle.std.specs.Prelude.{◌≡◌, ◌+◌, ◌<◌, IfOk, IfErr};
+ghost use Rattle.std.specs.Prelude.{◌≡◌, ◌+◌, ◌<◌, IfOk, IfErr, IfSome};
 ghost use Rattle.claim_core.specs.Hand.{seen_size};
-ghost use Rattle.grow_core.specs.Vector.{IsHandOf, SeesMore};
+ghost use Rattle.grow_core.specs.Vector.{IsHandOf, SeesMore, limit_of};
 ghost use Rattle.grow_core.specs.Read.{IsDueAt, IsInRange};
 ghost use Rattle.caller_core.specs.Caller.{KeepsCaller};
 ghost use Rattle.caller_core.specs.Grows.{AreSideBySide};
@@ -53,6 +53,15 @@ fn run_at<T: Element>(
     vector.laws();
     let _one = vector.cells(place, place + 1);
     Ok((at, 1))
+}
+
+impl<T> Caller<T> {
+    /// Returns the address of the words with the states of the place's segment, if that is installed.
+    pub fn states(&self, place: u64) -> Option<*mut u64>
+        ensures { IfSome result (λ _. place < limit_of self.now.vector) }
+    {
+        self.hub.vector.states_at(place)
+    }
 }
 
 impl<T: Element> Caller<T> {

@@ -112,6 +112,29 @@ impl<T: Copy> Shared<T> {
 }
 
 impl<T: Drop> Shared<T> {
+    /// Appends the values of the source in one run, like `try_grow_from`. It asks for each value once, in order.
+    #[inline(always)]
+    pub fn try_grow_source<S: Source<T>>(
+        &self,
+        hand: &mut Hand<T>,
+        source: &S,
+    ) -> Result<Grown<T>, GrowError<T, (), Never>>
+        requires ours { IsHandOf self.now hand.old }
+        ensures won { IfOk result (WonRun self.now (S.values source.now) hand.old hand.new) }
+        ensures refused { IfErr result
+            (Refuses self.now (length (S.values source.now)) tt hand.old hand.new) }
+        // Room that is missing by what the hand has seen is reported before memory is asked for.
+        ensures full { HasNoRoom self.now (length (S.values source.now)) hand.old
+            → IsErrAnd result SaysFull }
+        // The history gets the claim of the run, or the event whose reply the refusal is.
+        ensures logs { IfOk result (λ grown. LogsGrowth hand.old hand.new grown.run) }
+        ensures logs_refusal { IfErr result
+            (LogsRefusal (length (S.values source.now)) hand.old hand.new) }
+    {
+        let (run, ()) = self.claim_run(hand, source.len(), ())?;
+        self.copy_run(hand, run, source)
+    }
+
     // Fills the places of a run of the hand's with the values of the source. It stops at a place that was taken.
     fn copy_run<S: Source<T>>(
         &self,

@@ -65,5 +65,6 @@ pub use parts::Parts;
 pub use published::Published;
 pub use read::{At, Shown};
 pub use shown_cells::{ShownCells, ShownSegments};
+pub use source::Source;
 pub use token::{BegunPlace, Found, Placed, Spoilt};
 pub use vector::Shared;

@@ -1,5 +1,5 @@
 //! The segments of a vector, and what their places show.
-ghost use Rattle.std.specs.Prelude.{◌≡◌, ℕ, ◌+◌, ◌-◌, ◌<◌, ◌≤◌, Some, length, slice_get};
+ghost use Rattle.std.specs.Prelude.{◌≡◌, ℕ, ◌+◌, ◌-◌, ◌<◌, ◌≤◌, Some, IfSome, length, slice_get};
 ghost use Rattle.std.specs.Iterator.{at_most};
 ghost use Rattle.std.specs.Option.{option_copied};
 ghost use Rattle.cell_core.specs.Block.{AreFilledFrom};
@@ -126,6 +126,23 @@ impl<T> Shared<T> {
             return &[];
         }
         self.cells(place, limit).filled(0)
+    }
+
+    /// Returns the address of the words with the states of the place's segment (`Block::states` of `cell_core`), if the
+    /// segment is installed. They stay there as long as the vector.
+    pub fn states_at(&self, place: u64) -> Option<*mut u64>
+        ensures { IfSome result (λ _. place < limit_of self.now) }
+    {
+        // For the proof: the limit is that of a vector.
+        self.laws();
+        if place >= self.limit() {
+            return None;
+        }
+        let (segment, _offset) = self.table.layout().locate(place);
+        match self.table.scout(segment) {
+            Some(block) => Some(block.states()),
+            None => None,
+        }
     }
 
     // The values of the filled places of one segment from this one on, up to the first that is not filled, and `n` at

@@ -1,15 +1,23 @@
-// The values that a growth copies into its places.
+//! The values that a growth makes in its places.
 ghost use Rattle.std.specs.Prelude.{◌≡◌, ◌<◌, List, Some, length, slice_get, replicate};
 
 use std::marker::Copy;
 
-// A list of values. Each can be read at any time, by its number.
-pub(crate) trait Source<T> {
+/// A list of values that are made one by one, for `try_grow_source`.
+///
+/// That call asks for each value once, in order, when its place is claimed, and shows up to sixteen of them at once. So
+/// readers wait for a slow `value`, and there is a growth by a maker for that (`try_grow_with`).
+pub trait Source<T> {
     ghost use Rattle.std.specs.Prelude.{List};
 
+    // The values, in order.
     ghost values: { Self → List T };
 
-    // The value with this number.
+    /// Returns the number of values.
+    fn len(&self) -> u64
+        ensures { result ≡ length (values self.now) };
+
+    /// Makes the value with this number.
     fn value(&self, i: u64) -> T
         requires { i < length (values self.now) }
         ensures { slice_get (values self.now) i ≡ Some result };
@@ -23,6 +31,13 @@ pub(crate) struct FromSlice<'a, T> {
 
 impl<'a, T: Copy> Source<T> for FromSlice<'a, T> {
     ghost values = { λ s. s.slice.now };
+
+    #[inline(always)]
+    fn len(&self) -> u64
+        ensures { result ≡ length self.now.slice.now }
+    {
+        self.slice.len() as u64
+    }
 
     #[inline(always)]
     fn value(&self, i: u64) -> T
@@ -44,6 +59,13 @@ impl<T: Copy> Source<T> for Copies<T> {
     ghost use Rattle.std.specs.Prelude.{replicate};
 
     ghost values = { λ c. replicate c.n c.value };
+
+    #[inline(always)]
+    fn len(&self) -> u64
+        ensures { result ≡ length (replicate self.now.n self.now.value) }
+    {
+        self.n
+    }
 
     #[inline(always)]
     fn value(&self, i: u64) -> T

@@ -1,6 +1,6 @@
 -- What a refusal of the crates below says of the status that is made of it.
 use Rattle.std.proofs.Common.{◌≡◌, ◌∙◌, ◌+◌, ◌<◌, ◌≤◌, ℕ, Result, refl, sym, subst}
-use Rattle.std.specs.Prelude.{Bool, true, false, IsTrue, ◌↔◌}
+use Rattle.std.specs.Prelude.{Bool, true, false, IsTrue, ◌↔◌, List, length}
 use Rattle.claim_core.specs.Hand.{IsWholeHand, seen_size}
 use Rattle.grow_core.specs.declared.errors.GrowError.{GrowError}
 use Rattle.grow_core.specs.declared.errors.GrowError.TheVariants as grow
@@ -20,7 +20,7 @@ use Rattle.grow_core.specs.Mend.{IsMendDue}
 use Rattle.quiet_core.specs.QuietList.{QuietList}
 use Rattle.quiet_core.specs.QuietAt.{IsRefusalAt}
 use Rattle.caller_core.specs.Caller.{CallerView, KeepsCaller}
-use Rattle.caller_core.specs.Grows.{GrowsMade, GrowsUpTo, WinsPlaces}
+use Rattle.caller_core.specs.Grows.{GrowsBy, GrowsMade, GrowsUpTo, WinsPlaces}
 use Rattle.kehldora_c.specs.declared.status.Status.{Status}
 use Rattle.kehldora_c.specs.declared.status.Status.TheVariants as status
 use Rattle.kehldora_c.specs.Outcomes.{growth_status, read_status, mend_status, reserve_status, close_status, member_status}
@@ -99,6 +99,22 @@ pub member_due : {T : Type 0} (place : ℕ) (bad_size : Type 0) (list : QuietLis
     → IsRefusalAt list.members place refused → MemberDue place bad_size T list (member_status refused)
 member_due place bad_size list (quiet.OutOfRange size) due = due.1
 member_due place bad_size list quiet.Broken due = due
+
+-- a growth of a list of values wins its places
+pub wins_grown : {T : Type 0} (values : List T) (n : ℕ) (old new : CallerView T) (place : ℕ)
+    → n ≡ length values → GrowsBy values old new place → WinsPlaces n old new place
+wins_grown values n old new place is g =
+    record {
+      run = g.grown.run;
+      here = g.here;
+      won = record {
+        n = g.won.n ∙ sym is;
+        run = g.won.run;
+        owned = g.won.owned;
+        not_below = g.won.not_below;
+        alone = g.won.alone;
+      };
+    }
 
 -- a growth by a maker wins its places
 pub wins_made : {F T E : Type 0} (step : F → ℕ → Result T E → F → Type 0) (maker : F) (n : ℕ) (old new : CallerView T) (place : ℕ)

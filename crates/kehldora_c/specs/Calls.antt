@@ -180,6 +180,11 @@ MendDue place bad_size T caller status.Pending = place < seen_size caller.hand
 MendDue place bad_size T caller status.Filled = place < seen_size caller.hand
 MendDue place bad_size T caller other = ⊥
 
+-- the segment of a place is not there, or there is no such place
+abbrev pub StatesDue : (T : Type 0) → ℕ → CallerView T → Status → Type 0
+StatesDue T width caller status.Pending = Unit {0}
+StatesDue T width caller other = ⊥
+
 -- as many shares cannot be split off
 abbrev pub SplitDue : ℕ → (T : Type 0) → ℕ → CallerView T → Status → Type 0
 SplitDue shares T width caller status.NoMemory = Unit {0}

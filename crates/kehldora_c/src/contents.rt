@@ -7,7 +7,7 @@ ghost use Rattle.kehldora_c.specs.Held.{KeepsHeld, OnHand, OnHands, IsHand, widt
 ghost use Rattle.kehldora_c.specs.Calls.{PushesWords, GrowsByWords, GrowsByCopies, GrowsUpToWords, WinsPlacesOf};
 ghost use Rattle.kehldora_c.specs.Calls.{MendsWords, HasLastValue};
 ghost use Rattle.kehldora_c.specs.Calls.{IsDueOn, IsCopyDueOn, PushDue, GrowDue, FillDue, AtLeastDue, LeaveDue};
-ghost use Rattle.kehldora_c.specs.Calls.{AtDue, LookDue, MendsDue, RoomDue, NeverDue};
+ghost use Rattle.kehldora_c.specs.Calls.{AtDue, LookDue, MendsDue, RoomDue, StatesDue, NeverDue};
 
 use crate::held::Held;
 use crate::status::Status;
@@ -187,6 +187,19 @@ pub(crate) fn facts(held: &Held) -> Result<(u64, u64, u64, u64), Status>
             let (shares, seen, limit) = opaque_hands::facts(any);
             Ok((shares, seen, limit, opaque_hands::words(any)))
         }
+        Held::List(_) | Held::OpaqueList(_) | Held::Empty => Err(Status::BadHandle),
+    }
+}
+
+// Returns the address of the words with the states of a place's segment.
+pub(crate) fn states(held: &Held, place: u64) -> Result<*mut u64, Status>
+    ensures within { IfOk result
+        (λ _. OnHand (λ T caller. place < limit_of caller.vector) held.now) }
+    ensures refused { IfErr result (IsDueOn StatesDue held.now) }
+{
+    match held {
+        Held::Hand(any) => hands::states(any, place),
+        Held::OpaqueHand(any) => opaque_hands::states(any, place),
         Held::List(_) | Held::OpaqueList(_) | Held::Empty => Err(Status::BadHandle),
     }
 }

@@ -1,8 +1,10 @@
-//! Words as elements, for growths whose values are made in place.
-ghost use Rattle.std.specs.Prelude.{◌≡◌, ◌≢◌, ◌<◌, ◌/◌, ℕ, List, Some, MatchOption, length, slice_get};
+//! Words as elements, for growths whose elements are made in place.
+ghost use Rattle.std.specs.Prelude.{◌≡◌, ◌<◌, ◌/◌, ℕ, List, Some, length, slice_get, replicate};
 ghost use Rattle.kehldora_c.specs.Calls.{elements_in, source_of};
 
 use caller_core::Element;
+use grow_core::Source;
+use opaque_core::Opaque;
 use std::marker::PhantomData;
 
 // Elements that words make, at least one. The last one stands for all that would follow.
@@ -42,35 +44,59 @@ impl<'a, E: Element> Elements<'a, E> {
     }
 }
 
-// One element that words make, again and again.
+// Opaque elements that words make, side by side.
 #[derive(Drop)]
-pub(crate) struct One<'a, E: Element> {
-    words: &'a [u64],
-    of: PhantomData<E>,
-    ghost fits: { length words.now ≡ E.width },
+pub(crate) struct OpaqueElements<'a, const N: usize> {
+    pub(crate) words: &'a [[u64; N]],
 }
 
-impl<'a, E: Element> One<'a, E> {
-    // These words, if they are as many as an element has.
-    pub(crate) fn of(words: &'a [u64]) -> Option<One<'a, E>>
-        ensures { MatchOption result (length words.now ≢ E.width)
-            (λ one. one.words.now ≡ words.now) }
+impl<'a, const N: usize> Source<Opaque<N>> for OpaqueElements<'a, N> {
+    ghost use Rattle.std.specs.Prelude.{length, replicate};
+
+    ghost values = { λ e. replicate (length e.words.now) tt };
+
+    #[inline(always)]
+    fn len(&self) -> u64
+        ensures { result ≡ length (replicate (length self.now.words.now) tt) }
     {
-        E::from_words(words)?;
-        Some(One {
-            words,
-            of: PhantomData,
-        })
+        self.words.len() as u64
     }
 
-    // The element.
-    #[inline]
-    pub(crate) fn again(&self) -> E
-        ensures { result ≡ E.element_of self.now.words.now }
+    #[inline(always)]
+    fn value(&self, i: u64) -> Opaque<N>
+        requires { i < length (replicate (length self.now.words.now) tt) }
+        ensures { slice_get (replicate (length self.now.words.now) tt) i ≡ Some result }
     {
-        match E::from_words(self.words) {
-            Some(element) => element,
-            None => unreachable!(),
-        }
+        Opaque::from_words(self.words[i as usize])
+    }
+}
+
+// `n` opaque elements, each of which these words make.
+#[derive(Drop)]
+pub(crate) struct OpaqueCopies<const N: usize> {
+    pub(crate) n: u64,
+    pub(crate) words: [u64; N],
+}
+
+impl<const N: usize> Source<Opaque<N>> for OpaqueCopies<N> {
+    ghost use Rattle.std.specs.Prelude.{replicate};
+
+    ghost values = { λ c. replicate c.n tt };
+
+    #[inline(always)]
+    fn len(&self) -> u64
+        ensures { result ≡ length (replicate self.now.n tt) }
+    {
+        self.n
+    }
+
+    #[inline(always)]
+    fn value(&self, i: u64) -> Opaque<N>
+        requires { i < length (replicate self.now.n tt) }
+        ensures { slice_get (replicate self.now.n tt) i ≡ Some result }
+    {
+        // Only the contract speaks of the number.
+        let _ = i;
+        Opaque::from_words(self.words)
     }
 }

@@ -4,10 +4,11 @@ ghost use Rattle.caller_core.specs.Caller.{KeepsCaller, Pushes};
 ghost use Rattle.caller_core.specs.Grows.{GrowsBy, WinsPlaces};
 ghost use Rattle.kehldora_c.specs.Calls.{GrowthDue, AtLeastDue, AreTooFew, ReachesSize, HasLastElement, elements_in, source_of};
 
-use crate::elements::{Elements, One};
+use crate::elements::{Elements, OpaqueCopies, OpaqueElements};
 use crate::status::{Status, of_growth};
 use caller_core::{Caller, Element};
 use grow_core::{GrowError, Never};
+use opaque_core::Opaque;
 
 // How often a push is tried before it says that others came first each time.
 const PUSH_TRIES: u64 = 3;
@@ -88,26 +89,23 @@ pub(crate) fn grow_values<const N: usize>(
 }
 
 // Appends the opaque elements that these words make.
-#[tactic(auto, using(crate::proofs::Due::growth_due, crate::proofs::Due::wins_made))]
-pub(crate) fn grow_opaque<E: Element>(caller: &mut Caller<E>, words: &[u64]) -> Result<u64, Status>
-    requires { 0 < E.width }
-    ensures grown { IfOk result (WinsPlaces (length words.now / E.width) caller.old caller.new) }
+#[tactic(auto, using(crate::proofs::Due::growth_due, crate::proofs::Due::wins_grown))]
+pub(crate) fn grow_opaque<const N: usize>(
+    caller: &mut Caller<Opaque<N>>,
+    words: &[u64],
+) -> Result<u64, Status>
+    requires some { 0 < N }
+    requires small { N ≤ 8 }
+    ensures grown { IfOk result (WinsPlaces (length words.now / N) caller.old caller.new) }
     ensures refused { IfErr result
-        (GrowthDue (length words.now / E.width) (length words.now % E.width ≢ 0) E caller.new) }
+        (GrowthDue (length words.now / N) (length words.now % N ≢ 0) (Unit {0}) caller.new) }
     ensures kept { KeepsCaller caller.old caller.new }
 {
-    let Some(count) = E::count(words) else {
+    let (elements, rest) = words.as_chunks::<N>();
+    if !rest.is_empty() {
         return Err(Status::BadSize);
-    };
-    if count == 0 {
-        // Without an element it only loads the size.
-        return match caller.break_run(count) {
-            Ok(place) => Ok(place),
-            Err(refused) => Err(of_growth(refused)),
-        };
     }
-    let elements = Elements::<E>::new(words, count);
-    match caller.grow_made(count, |i: u64| -> Result<E, Never> { Ok(elements.at(i)) }) {
+    match caller.grow_source(&OpaqueElements { words: elements }) {
         Ok(place) => Ok(place),
         Err(refused) => Err(of_growth(refused)),
     }
@@ -135,20 +133,20 @@ pub(crate) fn fill_values<const N: usize>(
 }
 
 // Appends `n` opaque elements, each of which these words make.
-#[tactic(auto, using(crate::proofs::Due::growth_due, crate::proofs::Due::wins_made))]
-pub(crate) fn fill_opaque<E: Element>(
-    caller: &mut Caller<E>,
+#[tactic(auto, using(crate::proofs::Due::growth_due, crate::proofs::Due::wins_grown))]
+pub(crate) fn fill_opaque<const N: usize>(
+    caller: &mut Caller<Opaque<N>>,
     words: &[u64],
     n: u64,
 ) -> Result<u64, Status>
     ensures grown { IfOk result (WinsPlaces n caller.old caller.new) }
-    ensures refused { IfErr result (GrowthDue n (length words.now ≢ E.width) E caller.new) }
+    ensures refused { IfErr result (GrowthDue n (length words.now ≢ N) (Unit {0}) caller.new) }
     ensures kept { KeepsCaller caller.old caller.new }
 {
-    let Some(element) = One::<E>::of(words) else {
+    let Some(words) = words.as_array::<N>() else {
         return Err(Status::BadSize);
     };
-    match caller.grow_made(n, |_i: u64| -> Result<E, Never> { Ok(element.again()) }) {
+    match caller.grow_source(&OpaqueCopies { n, words: *words }) {
         Ok(place) => Ok(place),
         Err(refused) => Err(of_growth(refused)),
     }

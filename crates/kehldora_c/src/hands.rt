@@ -6,7 +6,7 @@ ghost use Rattle.grow_core.specs.Vector.{limit_of};
 ghost use Rattle.caller_core.specs.Caller.{IsNewCaller, HasLast, Pushes};
 ghost use Rattle.caller_core.specs.Grows.{AreSideBySide, GrowsBy, Mends, WinsPlaces};
 ghost use Rattle.kehldora_c.specs.Held.{KeepsAny, caller_of, words_of, list_of, list_words};
-ghost use Rattle.kehldora_c.specs.Calls.{OpenDue, PushDue, GrowDue, FillDue, AtLeastDue, GrowthDue, AtDue, ReadDue, MendsDue, RoomDue, SplitDue, SplitsCaller, ReachesSize, HasLastElement, elements_in};
+ghost use Rattle.kehldora_c.specs.Calls.{OpenDue, PushDue, GrowDue, FillDue, AtLeastDue, GrowthDue, AtDue, ReadDue, MendsDue, RoomDue, SplitDue, SplitsCaller, ReachesSize, HasLastElement, StatesDue, elements_in};
 ghost use Rattle.kehldora_c.specs.Lists.{ClosesCaller};
 
 use crate::held::{AnyCaller, AnyList};
@@ -176,6 +176,14 @@ pub(crate) fn words(any: &AnyCaller) -> u64
         AnyCaller::Six(_) => 6,
         AnyCaller::Eight(_) => 8,
     }
+}
+
+// Returns the address of the words with the states of a place's segment.
+pub(crate) fn states(any: &AnyCaller, place: u64) -> Result<*mut u64, Status>
+    ensures within { IfOk result (λ _. place < limit_of (caller_of any.now).vector) }
+    ensures refused { IfErr result (StatesDue (List ℕ) (words_of any.now) (caller_of any.now)) }
+{
+    by_size!(AnyCaller, any, caller => reads::states(caller, place))
 }
 
 // Returns an address that tells open vectors apart.

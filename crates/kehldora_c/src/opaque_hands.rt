@@ -6,7 +6,7 @@ ghost use Rattle.grow_core.specs.Vector.{limit_of};
 ghost use Rattle.caller_core.specs.Caller.{IsNewCaller, Pushes};
 ghost use Rattle.caller_core.specs.Grows.{AreSideBySide, Mends, WinsPlaces};
 ghost use Rattle.kehldora_c.specs.Held.{KeepsOpaque, opaque_of, opaque_words, opaque_list_of, opaque_list_words};
-ghost use Rattle.kehldora_c.specs.Calls.{OpenDue, PushDue, GrowDue, FillDue, AtLeastDue, GrowthDue, ReadDue, MendsDue, RoomDue, SplitDue, SplitsCaller, ReachesSize};
+ghost use Rattle.kehldora_c.specs.Calls.{OpenDue, PushDue, GrowDue, FillDue, AtLeastDue, GrowthDue, ReadDue, MendsDue, RoomDue, SplitDue, SplitsCaller, StatesDue, ReachesSize};
 ghost use Rattle.kehldora_c.specs.Lists.{ClosesCaller};
 
 use crate::held::{AnyOpaque, AnyOpaqueList};
@@ -160,6 +160,14 @@ pub(crate) fn words(any: &AnyOpaque) -> u64
         AnyOpaque::Six(_) => 6,
         AnyOpaque::Eight(_) => 8,
     }
+}
+
+// Returns the address of the words with the states of a place's segment.
+pub(crate) fn states(any: &AnyOpaque, place: u64) -> Result<*mut u64, Status>
+    ensures within { IfOk result (λ _. place < limit_of (opaque_of any.now).vector) }
+    ensures refused { IfErr result (StatesDue (Unit {0}) (opaque_words any.now) (opaque_of any.now)) }
+{
+    by_size!(AnyOpaque, any, caller => reads::states(caller, place))
 }
 
 // Returns an address that tells open vectors apart.

@@ -1,9 +1,10 @@
 //! The exports that read.
 ghost use Rattle.std.specs.Prelude.{◌≡◌, ◌<◌, ℕ, List, IsSomeAnd, length};
 ghost use Rattle.claim_core.specs.Hand.{seen_size};
+ghost use Rattle.grow_core.specs.Vector.{limit_of};
 ghost use Rattle.caller_core.specs.Grows.{AreSideBySide};
 ghost use Rattle.kehldora_c.specs.Held.{Keeps, OnHeld, OnHand};
-ghost use Rattle.kehldora_c.specs.Calls.{HasLastValue, IsDueIn, IsDueOn, IsCopyDueOn, AtDue, LookDue};
+ghost use Rattle.kehldora_c.specs.Calls.{HasLastValue, IsDueIn, IsDueOn, IsCopyDueOn, AtDue, LookDue, StatesDue};
 ghost use Rattle.kehldora_c.specs.Status.{IsDone, IfRefused};
 
 use crate::contents;
@@ -52,6 +53,32 @@ pub extern "C" fn kehldora_raw_look(hand: &mut Handle, place: u64, at: &mut *mut
     }
     let held = hand.owned.held_mut();
     let answer = contents::look(held, place);
+    match answer {
+        Ok(address) => {
+            *at = address;
+            DONE
+        }
+        Err(status) => status.code(),
+    }
+}
+
+/// Gives the address of the words with the states of a place's segment, if that is there: four bits for each place.
+#[tactic(auto, using(
+    crate::proofs::Codes::if_done, crate::proofs::Codes::refused_in,
+    crate::proofs::Codes::refused_empty,
+))]
+#[unsafe(no_mangle)]
+pub extern "C" fn kehldora_raw_states(hand: &mut Handle, place: u64, at: &mut *mut u64) -> i32
+    ensures within { IsDone result → OnHeld
+        (OnHand (λ T caller. place < limit_of caller.vector)) hand.old.owned.held }
+    ensures refused { IfRefused result (IsDueIn (IsDueOn StatesDue) hand.old.owned.held) }
+    ensures kept { hand.new.owned.held ≡ hand.old.owned.held }
+{
+    if hand.is_empty() {
+        return Status::BadHandle.code();
+    }
+    let held = hand.owned.held_mut();
+    let answer = contents::states(held, place);
     match answer {
         Ok(address) => {
             *at = address;

@@ -4,7 +4,7 @@ ghost use Rattle.claim_core.specs.Hand.{seen_size};
 ghost use Rattle.grow_core.specs.Vector.{limit_of};
 ghost use Rattle.caller_core.specs.Caller.{KeepsCaller, HasLast};
 ghost use Rattle.caller_core.specs.Grows.{AreSideBySide, Mends};
-ghost use Rattle.kehldora_c.specs.Calls.{AtDue, ReadDue, MendDue, RoomDue, SplitDue, SplitsCaller};
+ghost use Rattle.kehldora_c.specs.Calls.{AtDue, ReadDue, MendDue, RoomDue, SplitDue, SplitsCaller, StatesDue};
 
 use crate::status::{Status, of_mend, of_read, of_reserve};
 use caller_core::{Caller, Element};
@@ -102,6 +102,17 @@ pub(crate) fn reserve<E: Element>(caller: &mut Caller<E>, size: u64) -> Result<(
     match caller.reserve(size) {
         Ok(()) => Ok(()),
         Err(refused) => Err(of_reserve(refused)),
+    }
+}
+
+// The address of the words with the states of a place's segment.
+pub(crate) fn states<E: Element>(caller: &Caller<E>, place: u64) -> Result<*mut u64, Status>
+    ensures within { IfOk result (λ _. place < limit_of caller.now.vector) }
+    ensures refused { IfErr result (StatesDue E E.width caller.now) }
+{
+    match caller.states(place) {
+        Some(at) => Ok(at),
+        None => Err(Status::Pending),
     }
 }
 

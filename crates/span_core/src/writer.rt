@@ -54,27 +54,21 @@ impl<'a, T> Writer<'a, T> {
         requires { IsHandOf vector.now hand }
         ensures { result ≡ record { vector = vector.now; hand = hand } }
     {
-        Writer {
-            vector,
-            hand,
-            tie: PhantomData,
-        }
+        Self::tied(vector, hand)
     }
 }
 
 impl<'a, T, B: Tie> Writer<'a, T, B> {
     /// Ties a hand to its vector like `new`, for a type whose writers may be of this vector. So a hand that
     /// `into_hand` returned becomes a lent writer again.
+    #[inline(always)]
     pub fn tied(vector: &'a Shared<T>, hand: Hand<T>) -> Self
         requires ours { IsHandOf vector.now hand }
         requires tied { IsTied B.tied vector.now }
         ensures { result ≡ record { vector = vector.now; hand = hand } }
     {
-        Writer {
-            vector,
-            hand,
-            tie: PhantomData,
-        }
+        let tie = PhantomData;
+        Writer { vector, hand, tie }
     }
 
     /// Returns the vector, for calls that take no hand.
@@ -193,11 +187,7 @@ impl<'a, T, B: Tie> Writer<'a, T, B> {
     {
         let vector = self.vector;
         let hand = vector.split(&mut self.hand, shares);
-        Writer {
-            vector,
-            hand,
-            tie: PhantomData,
-        }
+        Writer::tied(vector, hand)
     }
 
     /// Joins the other writer's runs and shares into this one, which has then seen whichever is more of what

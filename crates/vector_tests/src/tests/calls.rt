@@ -10,12 +10,13 @@ use grow_core::{AtError, Hand, MendError, Shared};
 use std::alloc::{AllocError, AllocGlobal};
 use std::sync::Wait;
 
-// The growths by a maker: one that tries once, one that tries again, and one up to a size.
+// The forms of a growth: one that tries once, one that tries again, one up to a size, and one from a source.
 #[derive(Clone, Copy)]
 pub(super) enum Form {
     Try,
     Again,
     UpTo,
+    Source,
 }
 
 // No number is refused.

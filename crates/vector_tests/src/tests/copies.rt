@@ -44,6 +44,22 @@ fn copies_fill_the_next_places_or_claim_nothing(rt: HostRuntime) {
     assert_eq!(rt; first_wrong(&rt, 7, &COPIES), None);
 }
 
+// A source's values in order over five segments, none, and too many.
+static MANY: [u64; 20] = [3, 1, 4, 1, 5, 9, 2, 6, 5, 3, 5, 8, 9, 7, 9, 3, 2, 3, 8, 4];
+static SOURCES: [(Step, Reply); 6] = [
+    (A(Copy(Form::Source, &MANY)), Ran(0, 20)),
+    (B(Copy(Form::Source, &[])), Ran(20, 0)),
+    (B(Copy(Form::Source, &[1, 2, 3])), Full(20)),
+    (B(Copy(Form::Source, &[6, 2])), Ran(20, 2)),
+    (A(Size), Is(22)),
+    (Walk(&[3, 1, 4, 1, 5, 9, 2, 6, 5, 3, 5, 8, 9, 7, 9, 3, 2, 3, 8, 4, 6, 2]), Reply::Done),
+];
+
+#[test]
+fn the_values_of_a_source_fill_the_next_places_in_order(rt: HostRuntime) {
+    assert_eq!(rt; first_wrong(&rt, 22, &SOURCES), None);
+}
+
 // Two runs are broken on purpose, and one of their places is mended.
 static BREAKS: [(Step, Reply); 9] = [
     (A(TryPush(5)), At(0)),

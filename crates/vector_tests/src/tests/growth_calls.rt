@@ -1,9 +1,9 @@
 // Growths of a vector of numbers by one hand, and what each returns.
-ghost use Rattle.std.specs.Prelude.{◌≡◌};
+ghost use Rattle.std.specs.Prelude.{◌≡◌, ◌<◌, Some, length, slice_get};
 ghost use Rattle.grow_core.specs.Vector.{IsHandOf};
 
 use super::calls::{Call, Form, Reply};
-use grow_core::{AtLeast, GrowError, Grown, Hand, Never, Placed, Run, Shared};
+use grow_core::{AtLeast, GrowError, Grown, Hand, Never, Placed, Run, Shared, Source};
 use std::alloc::AllocError;
 use std::sync::Wait;
 
@@ -35,6 +35,29 @@ pub(super) fn reply_of_push(
     reply
 }
 
+// A source of a caller's own.
+#[derive(Drop)]
+struct Numbers<'a> {
+    values: &'a [u64],
+}
+
+impl<'a> Source<u64> for Numbers<'a> {
+    ghost values = { λ s. s.values.now };
+
+    fn len(&self) -> u64
+        ensures { result ≡ length self.now.values.now }
+    {
+        self.values.len() as u64
+    }
+
+    fn value(&self, i: u64) -> u64
+        requires { i < length self.now.values.now }
+        ensures { slice_get self.now.values.now i ≡ Some result }
+    {
+        self.values[i as usize]
+    }
+}
+
 // A growth by copies of the values of a slice.
 pub(super) fn copy_slice<R: Wait>(
     rt: &R,
@@ -48,6 +71,7 @@ pub(super) fn copy_slice<R: Wait>(
 {
     match form {
         Form::Again => reply_of_copies(vector.grow_from(rt, hand, values)),
+        Form::Source => reply_of_copies(vector.try_grow_source(hand, &Numbers { values })),
         _ => reply_of_copies(vector.try_grow_from(hand, values)),
     }
 }
@@ -189,7 +213,7 @@ pub(super) fn make_sevens<R: Wait>(
         }
     };
     let reply = match form {
-        Form::Try => reply_of_made(vector.try_grow_with(hand, n, make)),
+        Form::Try | Form::Source => reply_of_made(vector.try_grow_with(hand, n, make)),
         Form::Again => reply_of_made(vector.grow_with(rt, hand, n, make)),
         Form::UpTo => reply_of_raise(vector.grow_to_at_least(hand, n, make)),
     };

@@ -90,8 +90,13 @@ impl<T> Parts<T> {
             keys,
             row,
             epoch,
+            broken: _,
+            len: _,
+            limit: _,
             count,
-            ..
+            alloc: _,
+            before: _,
+            closed: _,
         } = self;
         (table, (keys, count, row, epoch))
     }

@@ -138,11 +138,11 @@ impl<T: Drop> Closing<T> {
         // For the proof: the vector's base is within its limit, and the hand's places are within its size.
         vector.laws();
         hand.laws();
-        let mark = Mark::of::<Table<T>, Segments>(&vector.table);
-        let (before, count) = first_keys(&vector.table, &vector.keys, hand.whole_keys());
         let limit = vector.limit();
-        let base = vector.word.base();
-        let (word, table, (_, _, row, _), alloc) = vector.take_apart();
+        let (word, table, (opened, _, row, _), alloc) = vector.take_apart();
+        let base = word.base();
+        let mark = Mark::of::<Table<T>, Segments>(&table);
+        let (before, count) = first_keys(&table, &opened, hand.whole_keys());
         let size = word.close(hand.claims);
         Closing {
             table,

@@ -71,13 +71,23 @@ impl<T> Shared<T> {
         ensures back { IfErr result (λ (back, _). back ≡ parts) }
         ensures no_memory { IfErr result (λ (_, error). error ≡ OpenError.NoMemory) }
     {
-        let alloc = parts.alloc;
         let mark = opening_mark(&parts.table, &parts.row);
-        let (word, claims) = match Word::open_marked(alloc, parts.limit, parts.len, mark) {
+        let (word, claims) = match Word::open_marked(parts.alloc, parts.limit, parts.len, mark) {
             Ok(opened) => opened,
             Err(error) => return Err((parts, error)),
         };
-        let (table, (keys, count, row, epoch)) = parts.take_apart();
+        let Parts {
+            table,
+            keys,
+            row,
+            epoch,
+            count,
+            alloc,
+            before,
+            closed,
+            ..
+        } = parts;
+        drop((before, closed));
         let vector = Shared {
             word,
             table,

@@ -1,7 +1,7 @@
 //! What an exclusive owner holds of a vector: a list of values and broken members.
 ghost use Rattle.std.specs.Prelude.{◌≡◌, ℕ, ◌+◌, ◌-◌, ◌<◌, ◌≤◌, ◌++◌, ◌∷◌, [], Some, None, MatchOption, IsOk, IfOk, IfErr, IsTrue, IsFalse, length, slice_get, slice_set};
 ghost use Rattle.seg_core.specs.Segment.{IsLimit, segment_start, segment_count};
-ghost use Rattle.grow_core.specs.Parts.{AreBrokenIn, AreWhole, IsSpare, capacity_of, one_if_broken, values_in};
+ghost use Rattle.grow_core.specs.Parts.{IsSpare, capacity_of, one_if_broken};
 ghost use Rattle.grow_core.specs.PopSegment.{IsUnbroken};
 ghost use Rattle.grow_core.specs.Slices.{HasBroken};
 
@@ -17,6 +17,7 @@ use table_core::Table;
 /// The parts of a vector that an exclusive owner holds. It lends no cell, so nothing of it changes through a
 /// `&`. Contracts see it as a list of values and broken members (`None`), with its limit and the number of
 /// its segments.
+#[derive(Drop)]
 pub struct Parts<T> {
     pub(crate) table: Table<T>,
     pub(crate) keys: Keys,
@@ -56,50 +57,6 @@ impl<T> Model for Parts<T> {
         p.count
         × IsKept p.table.layout (option_map (λ m. m.numbers) p.closed) p.before p.table.names p.keys p.row p.count
         × AreBrokenIn p.epoch p.row × (p.broken ≡ broken_count (values_in p.row)) };
-}
-
-// By hand, so that proofs of callers do not go into its fields.
-impl<T: Drop> Drop for Parts<T> {
-    fn drop(self) {
-        let Self {
-            table: _,
-            keys: _,
-            row: _,
-            epoch: _,
-            broken: _,
-            len: _,
-            limit: _,
-            count: _,
-            alloc: _,
-            before: _,
-            closed: _,
-        } = self;
-    }
-}
-
-impl<T> Parts<T> {
-    // Takes the list apart: its segments, and what is known of its members.
-    pub(crate) fn take_apart(self) -> (Table<T>, (Keys, u32, Row<T>, Epoch))
-        ensures members { self.members ≡ values_in result.1.2 }
-        ensures layout { self.layout ≡ result.0.layout }
-        ensures its { AreWhole result.0.layout result.0.names result.1.0 result.1.2 (length self.members) self.limit
-            result.1.1 × AreBrokenIn result.1.3 result.1.2 }
-    {
-        let Parts {
-            table,
-            keys,
-            row,
-            epoch,
-            broken: _,
-            len: _,
-            limit: _,
-            count,
-            alloc: _,
-            before: _,
-            closed: _,
-        } = self;
-        (table, (keys, count, row, epoch))
-    }
 }
 
 // Counts a member: 1 if it is broken, otherwise 0.

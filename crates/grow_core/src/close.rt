@@ -139,10 +139,11 @@ impl<T: Drop> Closing<T> {
         vector.laws();
         hand.laws();
         let limit = vector.limit();
-        let (word, table, (opened, _, row, _), alloc) = vector.take_apart();
+        let alloc = vector.alloc;
+        let (word, table, keys, _, row, _) = vector.take_apart();
         let base = word.base();
         let mark = Mark::of::<Table<T>, Segments>(&table);
-        let (before, count) = first_keys(&table, &opened, hand.whole_keys());
+        let (before, count) = first_keys(&table, &keys, hand.whole_keys());
         let size = word.close(hand.claims);
         Closing {
             table,

@@ -60,15 +60,13 @@ impl<T: Drop> Drop for Shared<T> {
 
 impl<T> Shared<T> {
     // Takes the vector apart: its word, its segments, and what is known of the opened list.
-    pub(crate) fn take_apart(
-        self,
-    ) -> (Word<Global>, Table<T>, (Keys, u32, Row<T>, EndedEpoch), Global)
+    pub(crate) fn take_apart(self) -> (Word<Global>, Table<T>, Keys, u32, Row<T>, EndedEpoch)
         ensures parts { self ≡ record {
           word = result.0;
           segments = result.1;
-          opened = values_in result.2.2;
+          opened = values_in result.4;
         } }
-        ensures its { IsShared result.0 result.1 result.2.0 result.2.2 result.2.3 result.2.1 }
+        ensures its { IsShared result.0 result.1 result.2 result.4 result.5 result.3 }
     {
         let Shared {
             word,
@@ -77,9 +75,9 @@ impl<T> Shared<T> {
             count,
             row,
             ended,
-            alloc,
+            alloc: _,
         } = self;
-        (word, table, (keys, count, row, ended), alloc)
+        (word, table, keys, count, row, ended)
     }
 }
 

@@ -16,11 +16,7 @@ const PUSH_TRIES: u64 = 3;
 // Appends an element that was overtaken once. It is tried as often as is left.
 #[cold]
 #[inline(never)]
-#[tactic(auto, using(
-    crate::proofs::Due::growth_due, crate::proofs::Again::trying_self,
-    crate::proofs::Again::trying_more, crate::proofs::Again::keeps_twice,
-    crate::proofs::Again::pushes_after,
-))]
+#[tactic(auto, using(crate::proofs::Due::growth_due, crate::proofs::Again::trying_self, crate::proofs::Again::trying_more, crate::proofs::Again::keeps_twice, crate::proofs::Again::pushes_after))]
 fn push_again<E: Element>(caller: &mut Caller<E>, mut element: E) -> Result<u64, Status>
     ensures pushed { IfOk result (Pushes element caller.old caller.new) }
     ensures refused { IfErr result (GrowthDue 1 ⊥ E caller.new) }
@@ -42,11 +38,7 @@ fn push_again<E: Element>(caller: &mut Caller<E>, mut element: E) -> Result<u64,
 // Appends the element that these words make. It is tried a few times; all but the first try are a call of their own,
 // since they are seldom made.
 #[inline(always)]
-#[tactic(auto, using(
-    crate::proofs::Due::growth_due, crate::proofs::Due::due_of_good,
-    crate::proofs::Again::trying_self, crate::proofs::Again::trying_more,
-    crate::proofs::Again::keeps_twice, crate::proofs::Again::pushes_after,
-))]
+#[tactic(auto, using(crate::proofs::Due::growth_due, crate::proofs::Due::due_of_good, crate::proofs::Again::trying_self, crate::proofs::Again::trying_more, crate::proofs::Again::keeps_twice, crate::proofs::Again::pushes_after))]
 pub(crate) fn push<E: Element>(caller: &mut Caller<E>, words: &[u64]) -> Result<u64, Status>
     ensures pushed { IfOk result (Pushes (E.element_of words.now) caller.old caller.new) }
     ensures refused { IfErr result (GrowthDue 1 (length words.now ≢ E.width) E caller.new) }

@@ -1,9 +1,9 @@
 //! What C has of a vector or a list: an address, and whether there is something.
 ghost use Rattle.std.specs.Prelude.{◌≡◌, Option, Some, None, MatchOption, IsSome, IsTrue, IsFalse, is_some};
 
+use crate::box_parts::BoxParts;
 use crate::held::Held;
 use crate::owned::Owned;
-use crate::box_parts::BoxParts;
 use std::alloc::Global;
 use std::mem;
 use std::ptr::null_mut;

@@ -3,8 +3,8 @@ ghost use Rattle.std.specs.Prelude.{◌≡◌, Option, Some, None, IsSome};
 ghost use Rattle.handle_core.specs.declared.held.Held.{Held};
 ghost use Rattle.handle_core.specs.Owned.{held_coded, held_owns};
 
-use crate::held::Held;
 use crate::box_parts::BoxParts;
+use crate::held::Held;
 use std::alloc::Global;
 use std::marker::Model;
 

@@ -6,7 +6,7 @@ ghost use Rattle.handle_core.specs.Held.{Keeps, OnBoth, OnHeld, OnHand, OnHands,
 ghost use Rattle.handle_core.specs.Calls.{IsNewHand, OpenDue, IsOpenDueIn, IsDueIn, IsDueOn, NeverDue, RoomDue};
 ghost use Rattle.handle_core.specs.Status.{IsDone, IfRefused};
 
-use handle_core::{DONE, Handle, HandFacts};
+use handle_core::{DONE, HandFacts, Handle};
 use std::alloc::Global;
 
 /// Returns the version of the exports.

@@ -16,6 +16,10 @@ use Rattle.handle_core.specs.Held.{OnHands, caller_of, words_of, opaque_of, opaq
 abbrev pub elements_in : ℕ → List ℕ → List (List ℕ)
 elements_in width words = first_chunks width (length words / width) words
 
+-- n opaque elements, of which nothing is seen
+abbrev pub unseen : ℕ → List (Unit {0})
+unseen n = replicate n tt
+
 -- the hand is of a new vector with this limit and layout, of elements of this many words and of this kind
 abbrev pub IsNewHand : ℕ → ℕ → ℕ → Bool → Held → Type 0
 IsNewHand limit words layout false (held.Hand any) = IsNewCaller limit layout (caller_of any) × (words_of any ≡ words)

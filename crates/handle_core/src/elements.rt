@@ -1,6 +1,6 @@
 //! Words as elements, for growths whose elements are made in place.
-ghost use Rattle.std.specs.Prelude.{◌≡◌, ◌<◌, ◌/◌, ℕ, List, Some, length, slice_get, replicate};
-ghost use Rattle.handle_core.specs.Calls.{elements_in, source_of};
+ghost use Rattle.std.specs.Prelude.{◌≡◌, ◌<◌, ◌/◌, ℕ, List, Some, length, slice_get};
+ghost use Rattle.handle_core.specs.Calls.{elements_in, source_of, unseen};
 
 use caller_core::Element;
 use grow_core::Source;
@@ -51,21 +51,22 @@ pub(crate) struct OpaqueElements<'a, const N: usize> {
 }
 
 impl<'a, const N: usize> Source<Opaque<N>> for OpaqueElements<'a, N> {
-    ghost use Rattle.std.specs.Prelude.{length, replicate};
+    ghost use Rattle.std.specs.Prelude.{length};
+    ghost use Rattle.handle_core.specs.Calls.{unseen};
 
-    ghost values = { λ e. replicate (length e.words.now) tt };
+    ghost values = { λ e. unseen (length e.words.now) };
 
     #[inline(always)]
     fn len(&self) -> u64
-        ensures { result ≡ length (replicate (length self.now.words.now) tt) }
+        ensures { result ≡ length (unseen (length self.now.words.now)) }
     {
         self.words.len() as u64
     }
 
     #[inline(always)]
     fn value(&self, i: u64) -> Opaque<N>
-        requires { i < length (replicate (length self.now.words.now) tt) }
-        ensures { slice_get (replicate (length self.now.words.now) tt) i ≡ Some result }
+        requires { i < length (unseen (length self.now.words.now)) }
+        ensures { slice_get (unseen (length self.now.words.now)) i ≡ Some result }
     {
         Opaque::from_words(self.words[i as usize])
     }
@@ -73,30 +74,30 @@ impl<'a, const N: usize> Source<Opaque<N>> for OpaqueElements<'a, N> {
 
 // `n` opaque elements, each of which these words make.
 #[derive(Drop)]
-pub(crate) struct OpaqueCopies<const N: usize> {
+pub(crate) struct OpaqueCopies<'a, const N: usize> {
     pub(crate) n: u64,
-    pub(crate) words: [u64; N],
+    pub(crate) words: &'a [u64; N],
 }
 
-impl<const N: usize> Source<Opaque<N>> for OpaqueCopies<N> {
-    ghost use Rattle.std.specs.Prelude.{replicate};
+impl<'a, const N: usize> Source<Opaque<N>> for OpaqueCopies<'a, N> {
+    ghost use Rattle.handle_core.specs.Calls.{unseen};
 
-    ghost values = { λ c. replicate c.n tt };
+    ghost values = { λ c. unseen c.n };
 
     #[inline(always)]
     fn len(&self) -> u64
-        ensures { result ≡ length (replicate self.now.n tt) }
+        ensures { result ≡ length (unseen self.now.n) }
     {
         self.n
     }
 
     #[inline(always)]
     fn value(&self, i: u64) -> Opaque<N>
-        requires { i < length (replicate self.now.n tt) }
-        ensures { slice_get (replicate self.now.n tt) i ≡ Some result }
+        requires { i < length (unseen self.now.n) }
+        ensures { slice_get (unseen self.now.n) i ≡ Some result }
     {
         // Only the contract speaks of the number.
         let _ = i;
-        Opaque::from_words(self.words)
+        Opaque::from_words(*self.words)
     }
 }

@@ -138,7 +138,7 @@ pub(crate) fn fill_opaque<const N: usize>(
     let Some(words) = words.as_array::<N>() else {
         return Err(Status::BadSize);
     };
-    match caller.grow_source(&OpaqueCopies { n, words: *words }) {
+    match caller.grow_source(&OpaqueCopies { n, words }) {
         Ok(place) => Ok(place),
         Err(refused) => Err(of_growth(refused)),
     }

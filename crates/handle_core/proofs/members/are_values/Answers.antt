@@ -1,4 +1,4 @@
-use Rattle.std.proofs.Common.{◌≡◌, ◌+◌, ◌<◌, ℕ, List, Some, subst, arith}
+use Rattle.std.proofs.Common.{◌≡◌, ◌+◌, ℕ, List, Some}
 use Rattle.std.specs.Prelude.{slice_get}
 use borrow.Author.Count.{below_more}
 use Rattle.handle_core.proofs.members.are_values.Goals as goal

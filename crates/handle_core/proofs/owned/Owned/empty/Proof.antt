@@ -1,5 +1,5 @@
 -- `empty` keeps an address, and owns nothing there.
-use mathlib.Core.Path.{◌≡◌, refl, sym, subst}
+use mathlib.Core.Path.{refl, sym, subst}
 use mathlib.Core.List.{List, [], ◌∷◌, ◌++◌}
 use mathlib.Core.Bool.{Bool, true, false, ◌&&◌}
 use lib.Dec.{T}
@@ -21,7 +21,7 @@ use types.Part.{agg}
 use types.Run.{no_more, and_then, returns, enter}
 use types.ByLocal.{alloc_all, pass_all, free_all, look_at, get, sets}
 use denote.Exit.{yes}
-use denote.RattleType.{RattleType, Valss}
+use denote.RattleType.{Valss}
 use denote.RawPtr.{Ptr, ptr_val, rawptr_Lawful}
 use denote.Builtin.{RawPtr}
 use denote.Signature.{plain}

@@ -1,7 +1,1 @@
-mod AsBox
-mod There
 pub mod Codes
-pub mod Due
-pub mod Made
-pub mod Chunks
-pub mod Again

@@ -1,19 +1,14 @@
 //! The exports that append, break and mend.
 ghost use Rattle.std.specs.Prelude.{length};
-ghost use Rattle.kehldora_c.specs.Held.{Keeps, OnBoth};
-ghost use Rattle.kehldora_c.specs.Calls.{PushesWords, GrowsByWords, GrowsByCopies, GrowsUpToWords, WinsPlacesOf, MendsWords};
-ghost use Rattle.kehldora_c.specs.Calls.{IsDueIn, IsDueOn, PushDue, GrowDue, FillDue, AtLeastDue, LeaveDue, MendsDue};
-ghost use Rattle.kehldora_c.specs.Status.{IsDone, IfRefused};
+ghost use Rattle.handle_core.specs.Held.{Keeps, OnBoth};
+ghost use Rattle.handle_core.specs.Calls.{PushesWords, GrowsByWords, GrowsByCopies, GrowsUpToWords, WinsPlacesOf, MendsWords};
+ghost use Rattle.handle_core.specs.Calls.{IsDueIn, IsDueOn, PushDue, GrowDue, FillDue, AtLeastDue, LeaveDue, MendsDue};
+ghost use Rattle.handle_core.specs.Status.{IsDone, IfRefused};
 
-use crate::contents;
-use crate::handle::Handle;
-use crate::status::{DONE, Status};
+use handle_core::{DONE, Handle};
 
 /// Appends a value, and tells its place. It tries three times.
-#[tactic(auto, using(
-    crate::proofs::Codes::if_done, crate::proofs::Codes::refused_in,
-    crate::proofs::Codes::refused_empty,
-))]
+#[tactic(auto, using(crate::proofs::Codes::if_done, crate::proofs::Codes::if_refused))]
 #[unsafe(no_mangle)]
 pub extern "C" fn kehldora_raw_push(hand: &mut Handle, value: &[u64], place: &mut u64) -> i32
     ensures pushed { IsDone result → OnBoth
@@ -22,12 +17,7 @@ pub extern "C" fn kehldora_raw_push(hand: &mut Handle, value: &[u64], place: &mu
         (IsDueIn (IsDueOn (PushDue (length value.now))) hand.new.owned.held) }
     ensures kept { Keeps hand.old.owned.held hand.new.owned.held }
 {
-    if hand.is_empty() {
-        return Status::BadHandle.code();
-    }
-    let held = hand.owned.held_mut();
-    let answer = contents::push(held, value);
-    match answer {
+    match hand.push(value) {
         Ok(at) => {
             *place = at;
             DONE
@@ -37,10 +27,7 @@ pub extern "C" fn kehldora_raw_push(hand: &mut Handle, value: &[u64], place: &mu
 }
 
 /// Appends the elements of an array, and tells the place of the first one. It tries once.
-#[tactic(auto, using(
-    crate::proofs::Codes::if_done, crate::proofs::Codes::refused_in,
-    crate::proofs::Codes::refused_empty,
-))]
+#[tactic(auto, using(crate::proofs::Codes::if_done, crate::proofs::Codes::if_refused))]
 #[unsafe(no_mangle)]
 pub extern "C" fn kehldora_raw_grow(hand: &mut Handle, values: &[u64], place: &mut u64) -> i32
     ensures grown { IsDone result → OnBoth
@@ -49,12 +36,7 @@ pub extern "C" fn kehldora_raw_grow(hand: &mut Handle, values: &[u64], place: &m
         (IsDueIn (IsDueOn (GrowDue (length values.now))) hand.new.owned.held) }
     ensures kept { Keeps hand.old.owned.held hand.new.owned.held }
 {
-    if hand.is_empty() {
-        return Status::BadHandle.code();
-    }
-    let held = hand.owned.held_mut();
-    let answer = contents::grow(held, values);
-    match answer {
+    match hand.grow(values) {
         Ok(at) => {
             *place = at;
             DONE
@@ -64,10 +46,7 @@ pub extern "C" fn kehldora_raw_grow(hand: &mut Handle, values: &[u64], place: &m
 }
 
 /// Appends copies of a value, and tells the place of the first one. It tries once.
-#[tactic(auto, using(
-    crate::proofs::Codes::if_done, crate::proofs::Codes::refused_in,
-    crate::proofs::Codes::refused_empty,
-))]
+#[tactic(auto, using(crate::proofs::Codes::if_done, crate::proofs::Codes::if_refused))]
 #[unsafe(no_mangle)]
 pub extern "C" fn kehldora_raw_fill(
     hand: &mut Handle,
@@ -81,12 +60,7 @@ pub extern "C" fn kehldora_raw_fill(
         (IsDueIn (IsDueOn (FillDue count (length value.now))) hand.new.owned.held) }
     ensures kept { Keeps hand.old.owned.held hand.new.owned.held }
 {
-    if hand.is_empty() {
-        return Status::BadHandle.code();
-    }
-    let held = hand.owned.held_mut();
-    let answer = contents::fill(held, value, count);
-    match answer {
+    match hand.fill(value, count) {
         Ok(at) => {
             *place = at;
             DONE
@@ -96,10 +70,7 @@ pub extern "C" fn kehldora_raw_fill(
 }
 
 /// Appends what is missing up to a size, and tells the place of the first one and how many there are.
-#[tactic(auto, using(
-    crate::proofs::Codes::if_done, crate::proofs::Codes::refused_in,
-    crate::proofs::Codes::refused_empty,
-))]
+#[tactic(auto, using(crate::proofs::Codes::if_done, crate::proofs::Codes::if_refused))]
 #[unsafe(no_mangle)]
 pub extern "C" fn kehldora_raw_at_least(
     hand: &mut Handle,
@@ -114,12 +85,7 @@ pub extern "C" fn kehldora_raw_at_least(
         (IsDueIn (IsDueOn (AtLeastDue size (length values.now))) hand.new.owned.held) }
     ensures kept { Keeps hand.old.owned.held hand.new.owned.held }
 {
-    if hand.is_empty() {
-        return Status::BadHandle.code();
-    }
-    let held = hand.owned.held_mut();
-    let answer = contents::at_least(held, size, values);
-    match answer {
+    match hand.at_least(size, values) {
         Ok((at, n)) => {
             *place = at;
             *count = n;
@@ -130,10 +96,7 @@ pub extern "C" fn kehldora_raw_at_least(
 }
 
 /// Claims places and breaks them, and tells the first one. It tries once.
-#[tactic(auto, using(
-    crate::proofs::Codes::if_done, crate::proofs::Codes::refused_in,
-    crate::proofs::Codes::refused_empty,
-))]
+#[tactic(auto, using(crate::proofs::Codes::if_done, crate::proofs::Codes::if_refused))]
 #[unsafe(no_mangle)]
 pub extern "C" fn kehldora_raw_leave(hand: &mut Handle, count: u64, place: &mut u64) -> i32
     ensures broken { IsDone result → OnBoth
@@ -141,12 +104,7 @@ pub extern "C" fn kehldora_raw_leave(hand: &mut Handle, count: u64, place: &mut 
     ensures refused { IfRefused result (IsDueIn (IsDueOn (LeaveDue count)) hand.new.owned.held) }
     ensures kept { Keeps hand.old.owned.held hand.new.owned.held }
 {
-    if hand.is_empty() {
-        return Status::BadHandle.code();
-    }
-    let held = hand.owned.held_mut();
-    let answer = contents::leave(held, count);
-    match answer {
+    match hand.leave(count) {
         Ok(at) => {
             *place = at;
             DONE
@@ -156,10 +114,7 @@ pub extern "C" fn kehldora_raw_leave(hand: &mut Handle, count: u64, place: &mut 
 }
 
 /// Fills a broken place.
-#[tactic(auto, using(
-    crate::proofs::Codes::if_done, crate::proofs::Codes::refused_in,
-    crate::proofs::Codes::refused_empty,
-))]
+#[tactic(auto, using(crate::proofs::Codes::if_done, crate::proofs::Codes::if_refused))]
 #[unsafe(no_mangle)]
 pub extern "C" fn kehldora_raw_mend(hand: &mut Handle, place: u64, value: &[u64]) -> i32
     ensures mended { IsDone result → OnBoth
@@ -168,12 +123,7 @@ pub extern "C" fn kehldora_raw_mend(hand: &mut Handle, place: u64, value: &[u64]
         (IsDueIn (IsDueOn (MendsDue place (length value.now))) hand.new.owned.held) }
     ensures kept { Keeps hand.old.owned.held hand.new.owned.held }
 {
-    if hand.is_empty() {
-        return Status::BadHandle.code();
-    }
-    let held = hand.owned.held_mut();
-    let answer = contents::mend(held, place, value);
-    match answer {
+    match hand.mend(place, value) {
         Ok(()) => DONE,
         Err(status) => status.code(),
     }

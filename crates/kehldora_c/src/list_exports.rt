@@ -1,31 +1,17 @@
 //! The exports over a list.
 ghost use Rattle.std.specs.Prelude.{◌≡◌, None, length};
-ghost use Rattle.kehldora_c.specs.Held.{OnBoth, OnHeld, OnList, OnLists, width_of};
-ghost use Rattle.kehldora_c.specs.Calls.{IsDueIn};
-ghost use Rattle.kehldora_c.specs.Lists.{HasMember, HasValueAt, AreMembersOf, SetsWords, CutsList, ShrinksList};
-ghost use Rattle.kehldora_c.specs.Lists.{IsDueOnList, IsCopyDueOnList, GetDue, ListCopyDue, ListSetDue, ListLookDue};
-ghost use Rattle.kehldora_c.specs.Lists.{NeverDueOfList};
-ghost use Rattle.kehldora_c.specs.Status.{IsDone, IfRefused};
+ghost use Rattle.handle_core.specs.Held.{OnBoth, OnHeld, OnList, OnLists, width_of};
+ghost use Rattle.handle_core.specs.Calls.{IsDueIn};
+ghost use Rattle.handle_core.specs.Lists.{HasMember, HasValueAt, AreMembersOf, SetsWords, CutsList, ShrinksList};
+ghost use Rattle.handle_core.specs.Lists.{IsDueOnList, IsCopyDueOnList, GetDue, ListCopyDue, ListSetDue, ListLookDue};
+ghost use Rattle.handle_core.specs.Lists.{NeverDueOfList};
+ghost use Rattle.handle_core.specs.Status.{IsDone, IfRefused};
 
-use crate::handle::Handle;
-use crate::list_contents;
-use crate::status::{DONE, Status};
+use handle_core::{DONE, Handle, ListFacts};
 use std::alloc::Global;
 
-/// A list's size, its limit and the words of an element.
-#[repr(C)]
-#[derive(Drop)]
-pub struct ListFacts {
-    pub size: u64,
-    pub limit: u64,
-    pub words: u64,
-}
-
 /// Tells how long a list is.
-#[tactic(auto, using(
-    crate::proofs::Codes::if_done, crate::proofs::Codes::refused_in,
-    crate::proofs::Codes::refused_empty,
-))]
+#[tactic(auto, using(crate::proofs::Codes::if_done, crate::proofs::Codes::if_refused))]
 #[unsafe(no_mangle)]
 pub extern "C" fn kehldora_raw_list_about(list: &mut Handle, facts: &mut ListFacts) -> i32
     ensures size { IsDone result → OnHeld
@@ -37,14 +23,9 @@ pub extern "C" fn kehldora_raw_list_about(list: &mut Handle, facts: &mut ListFac
     ensures refused { IfRefused result (IsDueIn (IsDueOnList NeverDueOfList) list.old.owned.held) }
     ensures kept { list.new.owned.held ≡ list.old.owned.held }
 {
-    if list.is_empty() {
-        return Status::BadHandle.code();
-    }
-    let held = list.owned.held_mut();
-    let answer = list_contents::facts(held);
-    match answer {
-        Ok((size, limit, words)) => {
-            *facts = ListFacts { size, limit, words };
+    match list.list_facts() {
+        Ok(known) => {
+            *facts = known;
             DONE
         }
         Err(status) => status.code(),
@@ -52,10 +33,7 @@ pub extern "C" fn kehldora_raw_list_about(list: &mut Handle, facts: &mut ListFac
 }
 
 /// Copies the member at a place.
-#[tactic(auto, using(
-    crate::proofs::Codes::if_done, crate::proofs::Codes::refused_in,
-    crate::proofs::Codes::refused_empty,
-))]
+#[tactic(auto, using(crate::proofs::Codes::if_done, crate::proofs::Codes::if_refused))]
 #[unsafe(no_mangle)]
 pub extern "C" fn kehldora_raw_list_get(list: &mut Handle, place: u64, value: &mut [u64]) -> i32
     ensures value { IsDone result → OnHeld (HasMember place value.new) list.old.owned.held }
@@ -64,22 +42,14 @@ pub extern "C" fn kehldora_raw_list_get(list: &mut Handle, place: u64, value: &m
     ensures unchanged { (IsDone result → ⊥) → value.new ≡ value.old }
     ensures kept { list.new.owned.held ≡ list.old.owned.held }
 {
-    if list.is_empty() {
-        return Status::BadHandle.code();
-    }
-    let held = list.owned.held_mut();
-    let answer = list_contents::copy(held, place, value);
-    match answer {
+    match list.copy_member(place, value) {
         Ok(()) => DONE,
         Err(status) => status.code(),
     }
 }
 
 /// Replaces the member at a place, or mends it.
-#[tactic(auto, using(
-    crate::proofs::Codes::if_done, crate::proofs::Codes::refused_in,
-    crate::proofs::Codes::refused_empty,
-))]
+#[tactic(auto, using(crate::proofs::Codes::if_done, crate::proofs::Codes::if_refused))]
 #[unsafe(no_mangle)]
 pub extern "C" fn kehldora_raw_list_set(list: &mut Handle, place: u64, value: &[u64]) -> i32
     ensures set { IsDone result
@@ -88,22 +58,14 @@ pub extern "C" fn kehldora_raw_list_set(list: &mut Handle, place: u64, value: &[
         (IsDueIn (IsDueOnList (ListSetDue place (length value.now))) list.old.owned.held) }
     ensures kept { (IsDone result → ⊥) → list.new.owned.held ≡ list.old.owned.held }
 {
-    if list.is_empty() {
-        return Status::BadHandle.code();
-    }
-    let held = list.owned.held_mut();
-    let answer = list_contents::set(held, place, value);
-    match answer {
+    match list.set_member(place, value) {
         Ok(()) => DONE,
         Err(status) => status.code(),
     }
 }
 
 /// Copies members side by side from a place on, as many as there is room for, or none.
-#[tactic(auto, using(
-    crate::proofs::Codes::if_done, crate::proofs::Codes::refused_in,
-    crate::proofs::Codes::refused_empty,
-))]
+#[tactic(auto, using(crate::proofs::Codes::if_done, crate::proofs::Codes::if_refused))]
 #[unsafe(no_mangle)]
 pub extern "C" fn kehldora_raw_list_copy(list: &mut Handle, place: u64, values: &mut [u64]) -> i32
     ensures copied { IsDone result → OnHeld (AreMembersOf place values.new) list.old.owned.held }
@@ -112,22 +74,14 @@ pub extern "C" fn kehldora_raw_list_copy(list: &mut Handle, place: u64, values: 
     ensures unchanged { (IsDone result → ⊥) → values.new ≡ values.old }
     ensures kept { list.new.owned.held ≡ list.old.owned.held }
 {
-    if list.is_empty() {
-        return Status::BadHandle.code();
-    }
-    let held = list.owned.held_mut();
-    let answer = list_contents::copy_all(held, place, values);
-    match answer {
+    match list.copy_members(place, values) {
         Ok(()) => DONE,
         Err(status) => status.code(),
     }
 }
 
 /// Gives the address of the member at a place.
-#[tactic(auto, using(
-    crate::proofs::Codes::if_done, crate::proofs::Codes::refused_in,
-    crate::proofs::Codes::refused_empty,
-))]
+#[tactic(auto, using(crate::proofs::Codes::if_done, crate::proofs::Codes::if_refused))]
 #[unsafe(no_mangle)]
 pub extern "C" fn kehldora_raw_list_look(list: &mut Handle, place: u64, at: &mut *mut u64) -> i32
     ensures there { IsDone result → OnHeld (HasValueAt place) list.old.owned.held }
@@ -135,12 +89,7 @@ pub extern "C" fn kehldora_raw_list_look(list: &mut Handle, place: u64, at: &mut
         (IsDueIn (IsDueOnList (ListLookDue place)) list.old.owned.held) }
     ensures kept { list.new.owned.held ≡ list.old.owned.held }
 {
-    if list.is_empty() {
-        return Status::BadHandle.code();
-    }
-    let held = list.owned.held_mut();
-    let answer = list_contents::look(held, place);
-    match answer {
+    match list.look_at_member(place) {
         Ok(address) => {
             *at = address;
             DONE
@@ -150,10 +99,7 @@ pub extern "C" fn kehldora_raw_list_look(list: &mut Handle, place: u64, at: &mut
 }
 
 /// Drops the members from a place on. Their memory stays.
-#[tactic(auto, using(
-    crate::proofs::Codes::if_done, crate::proofs::Codes::refused_in,
-    crate::proofs::Codes::refused_empty,
-))]
+#[tactic(auto, using(crate::proofs::Codes::if_done, crate::proofs::Codes::if_refused))]
 #[unsafe(no_mangle)]
 pub extern "C" fn kehldora_raw_list_cut(list: &mut Handle, size: u64) -> i32
     ensures cut { IsDone result → OnBoth
@@ -161,22 +107,14 @@ pub extern "C" fn kehldora_raw_list_cut(list: &mut Handle, size: u64) -> i32
     ensures refused { IfRefused result (IsDueIn (IsDueOnList NeverDueOfList) list.old.owned.held) }
     ensures kept { (IsDone result → ⊥) → list.new.owned.held ≡ list.old.owned.held }
 {
-    if list.is_empty() {
-        return Status::BadHandle.code();
-    }
-    let held = list.owned.held_mut();
-    let answer = list_contents::cut(held, size);
-    match answer {
+    match list.cut(size) {
         Ok(()) => DONE,
         Err(status) => status.code(),
     }
 }
 
 /// Frees the segments that have no member.
-#[tactic(auto, using(
-    crate::proofs::Codes::if_done, crate::proofs::Codes::refused_in,
-    crate::proofs::Codes::refused_empty,
-))]
+#[tactic(auto, using(crate::proofs::Codes::if_done, crate::proofs::Codes::if_refused))]
 #[unsafe(no_mangle)]
 pub extern "C" fn kehldora_raw_list_shrink(list: &mut Handle) -> i32
     ensures shrunk { IsDone result → OnBoth
@@ -184,12 +122,7 @@ pub extern "C" fn kehldora_raw_list_shrink(list: &mut Handle) -> i32
     ensures refused { IfRefused result (IsDueIn (IsDueOnList NeverDueOfList) list.old.owned.held) }
     ensures kept { (IsDone result → ⊥) → list.new.owned.held ≡ list.old.owned.held }
 {
-    if list.is_empty() {
-        return Status::BadHandle.code();
-    }
-    let held = list.owned.held_mut();
-    let answer = list_contents::shrink(held);
-    match answer {
+    match list.shrink() {
         Ok(()) => DONE,
         Err(status) => status.code(),
     }
@@ -201,8 +134,8 @@ pub extern "C" fn kehldora_raw_list_free(alloc: Global, list: &mut Handle) -> i3
     ensures ended { list.new.owned.held ≡ None }
     ensures full { (IsDone result → ⊥) → list.old.owned.held ≡ None }
 {
-    match list.take(alloc) {
-        Some(_held) => DONE,
-        None => Status::BadHandle.code(),
+    match list.free(alloc) {
+        Ok(()) => DONE,
+        Err(status) => status.code(),
     }
 }

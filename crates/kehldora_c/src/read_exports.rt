@@ -3,19 +3,14 @@ ghost use Rattle.std.specs.Prelude.{◌≡◌, ◌<◌, ℕ, List, IsSomeAnd, le
 ghost use Rattle.claim_core.specs.Hand.{seen_size};
 ghost use Rattle.grow_core.specs.Vector.{limit_of};
 ghost use Rattle.caller_core.specs.Grows.{AreSideBySide};
-ghost use Rattle.kehldora_c.specs.Held.{Keeps, OnHeld, OnHand};
-ghost use Rattle.kehldora_c.specs.Calls.{HasLastValue, IsDueIn, IsDueOn, IsCopyDueOn, AtDue, LookDue, StatesDue};
-ghost use Rattle.kehldora_c.specs.Status.{IsDone, IfRefused};
+ghost use Rattle.handle_core.specs.Held.{Keeps, OnHeld, OnHand};
+ghost use Rattle.handle_core.specs.Calls.{HasLastValue, IsDueIn, IsDueOn, IsCopyDueOn, AtDue, LookDue, StatesDue};
+ghost use Rattle.handle_core.specs.Status.{IsDone, IfRefused};
 
-use crate::contents;
-use crate::handle::Handle;
-use crate::status::{DONE, Status};
+use handle_core::{DONE, Handle};
 
 /// Copies the value at a place. The hand's own last place has its value.
-#[tactic(auto, using(
-    crate::proofs::Codes::if_done, crate::proofs::Codes::refused_in,
-    crate::proofs::Codes::refused_empty,
-))]
+#[tactic(auto, using(crate::proofs::Codes::if_done, crate::proofs::Codes::if_refused))]
 #[unsafe(no_mangle)]
 pub extern "C" fn kehldora_raw_at(hand: &mut Handle, place: u64, value: &mut [u64]) -> i32
     ensures own { (x : List ℕ) → IsSomeAnd hand.old.owned.held
@@ -25,22 +20,14 @@ pub extern "C" fn kehldora_raw_at(hand: &mut Handle, place: u64, value: &mut [u6
     ensures unchanged { (IsDone result → ⊥) → value.new ≡ value.old }
     ensures kept { Keeps hand.old.owned.held hand.new.owned.held }
 {
-    if hand.is_empty() {
-        return Status::BadHandle.code();
-    }
-    let held = hand.owned.held_mut();
-    let answer = contents::copy(held, place, value);
-    match answer {
+    match hand.copy(place, value) {
         Ok(()) => DONE,
         Err(status) => status.code(),
     }
 }
 
 /// Gives the address of the value at a place.
-#[tactic(auto, using(
-    crate::proofs::Codes::if_done, crate::proofs::Codes::refused_in,
-    crate::proofs::Codes::refused_empty,
-))]
+#[tactic(auto, using(crate::proofs::Codes::if_done, crate::proofs::Codes::if_refused))]
 #[unsafe(no_mangle)]
 pub extern "C" fn kehldora_raw_look(hand: &mut Handle, place: u64, at: &mut *mut u64) -> i32
     ensures below { IsDone result → OnHeld
@@ -48,12 +35,7 @@ pub extern "C" fn kehldora_raw_look(hand: &mut Handle, place: u64, at: &mut *mut
     ensures refused { IfRefused result (IsDueIn (IsDueOn (LookDue place)) hand.new.owned.held) }
     ensures kept { Keeps hand.old.owned.held hand.new.owned.held }
 {
-    if hand.is_empty() {
-        return Status::BadHandle.code();
-    }
-    let held = hand.owned.held_mut();
-    let answer = contents::look(held, place);
-    match answer {
+    match hand.look(place) {
         Ok(address) => {
             *at = address;
             DONE
@@ -63,10 +45,7 @@ pub extern "C" fn kehldora_raw_look(hand: &mut Handle, place: u64, at: &mut *mut
 }
 
 /// Gives the address of the words with the states of a place's segment, if that is there: four bits for each place.
-#[tactic(auto, using(
-    crate::proofs::Codes::if_done, crate::proofs::Codes::refused_in,
-    crate::proofs::Codes::refused_empty,
-))]
+#[tactic(auto, using(crate::proofs::Codes::if_done, crate::proofs::Codes::if_refused))]
 #[unsafe(no_mangle)]
 pub extern "C" fn kehldora_raw_states(hand: &mut Handle, place: u64, at: &mut *mut u64) -> i32
     ensures within { IsDone result → OnHeld
@@ -74,12 +53,7 @@ pub extern "C" fn kehldora_raw_states(hand: &mut Handle, place: u64, at: &mut *m
     ensures refused { IfRefused result (IsDueIn (IsDueOn StatesDue) hand.old.owned.held) }
     ensures kept { hand.new.owned.held ≡ hand.old.owned.held }
 {
-    if hand.is_empty() {
-        return Status::BadHandle.code();
-    }
-    let held = hand.owned.held_mut();
-    let answer = contents::states(held, place);
-    match answer {
+    match hand.states(place) {
         Ok(address) => {
             *at = address;
             DONE
@@ -89,10 +63,7 @@ pub extern "C" fn kehldora_raw_states(hand: &mut Handle, place: u64, at: &mut *m
 }
 
 /// Gives the address of the value at a place, and the number of filled ones that lie there side by side.
-#[tactic(auto, using(
-    crate::proofs::Codes::if_done, crate::proofs::Codes::refused_in,
-    crate::proofs::Codes::refused_empty,
-))]
+#[tactic(auto, using(crate::proofs::Codes::if_done, crate::proofs::Codes::if_refused))]
 #[unsafe(no_mangle)]
 pub extern "C" fn kehldora_raw_run(
     hand: &mut Handle,
@@ -105,12 +76,7 @@ pub extern "C" fn kehldora_raw_run(
     ensures refused { IfRefused result (IsDueIn (IsDueOn (LookDue place)) hand.new.owned.held) }
     ensures kept { Keeps hand.old.owned.held hand.new.owned.held }
 {
-    if hand.is_empty() {
-        return Status::BadHandle.code();
-    }
-    let held = hand.owned.held_mut();
-    let answer = contents::run(held, place);
-    match answer {
+    match hand.run(place) {
         Ok((address, n)) => {
             *at = address;
             *count = n;

@@ -1,0 +1,7 @@
+mod AsBox
+mod There
+pub mod Refused
+pub mod Due
+pub mod Made
+pub mod Chunks
+pub mod Again

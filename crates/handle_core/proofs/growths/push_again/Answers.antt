@@ -1,0 +1,16 @@
+use Rattle.std.proofs.Common.{subst}
+use Rattle.caller_core.specs.Caller.{Pushes}
+use Rattle.handle_core.proofs.Again.{pushes_after}
+use Rattle.handle_core.proofs.growths.push_again.Goals as goal
+
+pub returns-in-Ok-clause-pushed : goal.returns-in-Ok-clause-pushed
+returns-in-Ok-clause-pushed g c =
+    pushes_after c.args.element c.args.caller.now c.loop-try.caller c.push.new.self c.in-Ok.place
+    c.loop-try.invariant.0 c.loop-try.invariant.1
+    (subst (λ x. Pushes x c.loop-try.caller c.push.new.self c.in-Ok.place) c.loop-try.invariant.2 c.in-Ok.ensures.pushed)
+
+pub returns-in-Ok-push-clause-pushed : goal.returns-in-Ok-push-clause-pushed
+returns-in-Ok-push-clause-pushed g c =
+    pushes_after c.args.element c.args.caller.now c.loop-try.caller c.push-2.new.self c.in-Ok-push.place
+    c.loop-try.invariant.0 c.loop-try.invariant.1
+    (subst (λ x. Pushes x c.loop-try.caller c.push-2.new.self c.in-Ok-push.place) c.loop-try.invariant.2 c.in-Ok-push.ensures.pushed)

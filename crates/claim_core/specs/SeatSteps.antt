@@ -155,7 +155,7 @@ abbrev pub PermitsBlock : (ClaimState → Type 0) → ℕ → Type 0
 PermitsBlock holds n =
     (s : ClaimState) → holds s
     → holds (with_views s
-        ((s.views ++ replicate n (cell_view stages.Idle)) ++ role_view (roles.Block (length s.views) n) ∷ []))
+    ((s.views ++ replicate n (cell_view stages.Idle)) ++ role_view (roles.Block (length s.views) n) ∷ []))
 
 -- Whatever the table is, the seat id may have a new view, and seats be made that have these roles and nothing else.
 -- They have the next numbers, which their roles may use

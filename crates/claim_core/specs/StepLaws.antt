@@ -90,7 +90,7 @@ abbrev pub RowsArePermitted : Type 0
 RowsArePermitted =
     (terms : Terms) (id seat from n : ℕ) (v : SeatView) → IsHandSeat terms v
     → PermitsEntry (Kept terms) id v seat (roles.Placed from n)
-        (LearnsRow v (record { from = from; n = n; seat = seat - n }))
+    (LearnsRow v (record { from = from; n = n; seat = seat - n }))
 
 -- an entry that is not set may be set to a block
 abbrev pub PublishingIsPermitted : Type 0
@@ -98,7 +98,7 @@ PublishingIsPermitted =
     (terms : Terms) (id entry seat from first n : ℕ) (v : SeatView) → IsHandSeat terms v → v.base ≤ from
     → PermitsTrade (Kept terms) id v entry (role_view (roles.EmptyEntry from n)) spent_view seat
     (role_view (roles.Block first n)) (role_view (roles.Placed from n))
-        (LearnsRow v (record { from = from; n = n; seat = first }))
+    (LearnsRow v (record { from = from; n = n; seat = first }))
 
 -- a block and its cells may be made
 abbrev pub LayingIsPermitted : Type 0
@@ -115,7 +115,7 @@ abbrev pub AdoptionIsPermitted : Type 0
 AdoptionIsPermitted =
     (terms : Terms) (id from n : ℕ) (v : SeatView) → IsHandSeat terms v → v.shares ≡ all_shares → v.laid ≤ from
     → PermitsMore (Kept terms) id v (placed_roles (first_stage terms.base terms.mark.filled) from n)
-        (LearnsEnd v (from + n))
+    (LearnsEnd v (from + n))
 
 -- the history of a whole hand leads to a list that shows of each place, of a row that it knows, what its cell is at
 pub record ShowsWhole (terms : Terms) (s : ClaimState) (v : SeatView) : Type 0 where

@@ -45,7 +45,7 @@ impl Handle {
         contents::look(held, place)
     }
 
-    /// Returns the address of the words with the states of a place's segment, if that is there: four bits for each place.
+    /// Returns the address of the words with the states of a place's segment, if that is there: four bits a place.
     #[tactic(auto, using(crate::proofs::Refused::due_in, crate::proofs::Refused::due_empty))]
     pub fn states(&mut self, place: u64) -> Result<*mut u64, Status>
         ensures within { IfOk result (λ _. OnHeld

@@ -6,8 +6,8 @@
 //! `lists.rt` and their kin do it by the size of an element, and `growths.rt`, `reads.rt` and `members.rt` for one
 //! size. A push and a look are laid into their callers, so that nothing of them goes through memory.
 //!
-//! A caller can rely on the clauses of the calls, which say what the handle has before and after. No clause says what is
-//! at an address, nor that two addresses differ.
+//! A caller can rely on the clauses of the calls, which say what the handle has before and after. No clause says what
+//! is at an address, nor that two addresses differ.
 #![tactic(auto)]
 
 mod box_parts;

@@ -165,7 +165,8 @@ pub(crate) fn words(any: &AnyOpaque) -> u64
 // Returns the address of the words with the states of a place's segment.
 pub(crate) fn states(any: &AnyOpaque, place: u64) -> Result<*mut u64, Status>
     ensures within { IfOk result (λ _. place < limit_of (opaque_of any.now).vector) }
-    ensures refused { IfErr result (StatesDue (Unit {0}) (opaque_words any.now) (opaque_of any.now)) }
+    ensures refused { IfErr result
+        (StatesDue (Unit {0}) (opaque_words any.now) (opaque_of any.now)) }
 {
     by_size!(AnyOpaque, any, caller => reads::states(caller, place))
 }

@@ -26,7 +26,7 @@ module _ (R : RattleType) (number : R.Denot → ℕ) (a : Global) (γ : ℕ) (τ
   tied_kept null_ptr = fsep (pending R γ) (entry_seat τ None)
   tied_kept (block_ptr b o) = fsep (testable R a (block_ptr b o))
       (fex (R.Denot × Lft) (λ s. fsep (fsep (resting R a (block_ptr b o) s) (settled R γ s.0))
-          (entry_seat τ (Some (number s.0)))))
+      (entry_seat τ (Some (number s.0)))))
 
   abbrev pub tied_owned : (Ptr → Fml) → Fml
   tied_owned fields = fex Ptr (λ p. fsep (fields p) (tied_kept p))

@@ -46,12 +46,23 @@ fn copies_fill_the_next_places_or_claim_nothing(rt: HostRuntime) {
 
 // A source's values in order over five segments, none, and too many.
 static SOURCES: [(Step, Reply); 6] = [
-    (A(Copy(Form::Source, &[3, 1, 4, 1, 5, 9, 2, 6, 5, 3, 5, 8, 9, 7, 9, 3, 2, 3, 8, 4])), Ran(0, 20)),
+    (
+        A(Copy(
+            Form::Source,
+            &[3, 1, 4, 1, 5, 9, 2, 6, 5, 3, 5, 8, 9, 7, 9, 3, 2, 3, 8, 4],
+        )),
+        Ran(0, 20),
+    ),
     (B(Copy(Form::Source, &[])), Ran(20, 0)),
     (B(Copy(Form::Source, &[1, 2, 3])), Full(20)),
     (B(Copy(Form::Source, &[6, 2])), Ran(20, 2)),
     (A(Size), Is(22)),
-    (Walk(&[3, 1, 4, 1, 5, 9, 2, 6, 5, 3, 5, 8, 9, 7, 9, 3, 2, 3, 8, 4, 6, 2]), Reply::Done),
+    (
+        Walk(&[
+            3, 1, 4, 1, 5, 9, 2, 6, 5, 3, 5, 8, 9, 7, 9, 3, 2, 3, 8, 4, 6, 2,
+        ]),
+        Reply::Done,
+    ),
 ];
 
 #[test]

@@ -156,6 +156,7 @@ impl<T, A: Allocator, B: Kind> Block<T, A, B> {
 impl<T, A: Allocator> Block<T, A> {
     /// Begins a cell by one step from empty to busy. The pen is the right to fill or break the cell. Calls on the
     /// other cells whose states are in the same word, up to fifteen, may make the processor retry the step.
+    #[inline(always)]
     pub fn begin(&self, offset: u64) -> Result<Pen<'_, T>, Found<T>>
         requires { offset < block_len self.now }
         ensures pen { IfOk result (IsPenAt self.now offset) }

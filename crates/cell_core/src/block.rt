@@ -99,7 +99,7 @@ impl<T, A: Allocator, B: Kind> Block<T, A, B> {
     }
 
     /// Returns the address of the words with the cells' states, for programs in C: sixteen cells a word, four bits a
-    /// cell, from the lowest bits up. The bits are 3 exactly if the cell is filled. No clause says so, and tests show it.
+    /// cell, from the lowest bits up. The bits are 3 exactly if the cell is filled. Only tests show that.
     pub fn states(&self) -> *mut u64 {
         self.link.words
     }

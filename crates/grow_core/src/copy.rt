@@ -112,7 +112,7 @@ impl<T: Copy> Shared<T> {
 }
 
 impl<T: Drop> Shared<T> {
-    /// Appends the values of the source in one run, like `try_grow_from`. It asks for each value once, in order.
+    /// Appends the values of the source in one run, like `try_grow_from`.
     #[inline(always)]
     pub fn try_grow_source<S: Source<T>>(
         &self,

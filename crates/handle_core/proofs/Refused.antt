@@ -1,4 +1,4 @@
--- What is due of what handles have is due of the handles.
+-- A refusal that is due by the content of a handle is due by the handle.
 use Rattle.std.proofs.Common.{◌≡◌, sym, subst, inl, inr, refl}
 use Rattle.std.specs.Prelude.{Option, Some, None, IsSome}
 use Rattle.handle_core.specs.declared.status.Status.{Status}
@@ -15,7 +15,7 @@ due_in due handle held why is it = subst (λ (h : Option Held). IsDueIn due h wh
 pub due_empty : (due : Held → Status → Type 0) (handle : Option Held) → handle ≡ None → IsDueIn due handle status.BadHandle
 due_empty due handle is = subst (λ (h : Option Held). IsDueIn due h status.BadHandle) (sym is) refl
 
--- what is due of a handle is due of it in a call that fills another one, and so it is if that one was full
+-- a refusal that is due by a handle is due in a call that also fills a second handle, even if the second one was full
 pub due_also_in : (due : Held → Status → Type 0) (other handle : Option Held) (held : Held) (why : Status)
     → handle ≡ Some held → due held why → IsDueOrFull due other handle why
 due_also_in due other handle held why is it = inr (due_in due handle held why is it)

@@ -16,7 +16,7 @@ use Rattle.handle_core.specs.Held.{OnHands, caller_of, words_of, opaque_of, opaq
 abbrev pub elements_in : ℕ → List ℕ → List (List ℕ)
 elements_in width words = first_chunks width (length words / width) words
 
--- n opaque elements, of which nothing is seen
+-- n opaque elements, as contracts see them
 abbrev pub unseen : ℕ → List (Unit {0})
 unseen n = replicate n tt
 

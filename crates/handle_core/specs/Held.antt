@@ -31,7 +31,7 @@ words_of (hand.Four caller) = 4
 words_of (hand.Six caller) = 6
 words_of (hand.Eight caller) = 8
 
--- the same of opaque elements, of which nothing is seen
+-- the same of opaque elements
 abbrev pub opaque_of : AnyOpaque → CallerView (Unit {0})
 opaque_of (opaque.One caller) = caller
 opaque_of (opaque.Two caller) = caller

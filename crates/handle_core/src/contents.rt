@@ -1,4 +1,4 @@
-//! What the calls do with the hand that a handle has.
+//! The calls on the hand that a handle has.
 ghost use Rattle.std.specs.Prelude.{◌≡◌, ◌<◌, ℕ, List, IfOk, IfErr, IsOkAnd, OnOk, OnErr, length};
 ghost use Rattle.claim_core.specs.Hand.{SeesSize, seen_size};
 ghost use Rattle.grow_core.specs.Vector.{limit_of};

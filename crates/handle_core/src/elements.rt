@@ -7,7 +7,7 @@ use grow_core::Source;
 use opaque_core::Opaque;
 use std::marker::PhantomData;
 
-// Elements that words make, at least one. The last one stands for all that would follow.
+// Elements that words make, at least one. Numbers past the last one give the last one.
 #[derive(Drop)]
 pub(crate) struct Elements<'a, E: Element> {
     words: &'a [u64],
@@ -72,7 +72,7 @@ impl<'a, const N: usize> Source<Opaque<N>> for OpaqueElements<'a, N> {
     }
 }
 
-// `n` opaque elements, each of which these words make.
+// `n` opaque elements that are made of the same words.
 #[derive(Drop)]
 pub(crate) struct OpaqueCopies<'a, const N: usize> {
     pub(crate) n: u64,

@@ -124,7 +124,7 @@ pub(crate) fn fill_values<const N: usize>(
     }
 }
 
-// Appends `n` opaque elements, each of which these words make.
+// Appends `n` opaque elements that are made of the same words.
 #[tactic(auto, using(crate::proofs::Due::copies_due, crate::proofs::Due::wins_copies))]
 pub(crate) fn fill_opaque<const N: usize>(
     caller: &mut Caller<Opaque<N>>,

@@ -63,7 +63,7 @@ impl Handle {
         list_contents::set(held, place, words)
     }
 
-    /// Copies members side by side from a place on, as many as there is room for, or none.
+    /// Copies members side by side from a place on until the array is full, or copies none.
     #[tactic(auto, using(crate::proofs::Refused::due_in, crate::proofs::Refused::due_empty))]
     pub fn copy_members(&mut self, place: u64, values: &mut [u64]) -> Result<(), Status>
         ensures copied { OnOk result (OnHeld (AreMembersOf place values.new) self.old.owned.held) }

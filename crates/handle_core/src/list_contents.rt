@@ -1,4 +1,4 @@
-//! What the calls do with the list that a handle has.
+//! The calls on the list that a handle has.
 ghost use Rattle.std.specs.Prelude.{◌≡◌, IfOk, IfErr, OnOk, OnErr, length};
 ghost use Rattle.handle_core.specs.Held.{OnList, OnLists, width_of};
 ghost use Rattle.handle_core.specs.Lists.{HasMember, HasValueAt, AreMembersOf, SetsWords, CutsList, ShrinksList};

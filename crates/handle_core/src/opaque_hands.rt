@@ -62,7 +62,7 @@ pub(crate) fn grow(any: &mut AnyOpaque, words: &[u64]) -> Result<u64, Status>
     by_size!(AnyOpaque, any, caller => growths::grow_opaque(caller, words))
 }
 
-// Appends `count` elements, each of which these words make.
+// Appends `count` elements that are made of the same words.
 pub(crate) fn fill(any: &mut AnyOpaque, words: &[u64], count: u64) -> Result<u64, Status>
     ensures grown { IfOk result (WinsPlaces count (opaque_of any.old) (opaque_of any.new)) }
     ensures refused { IfErr result

@@ -11,7 +11,7 @@ use crate::{hands, opaque_hands};
 use seg_core::{Layout, MOST_PLACES};
 use std::alloc::Global;
 
-// What a handle is to have, in a box, if there is memory.
+// Puts the content of a handle into a box, if there is memory.
 fn boxed(alloc: Global, held: Held) -> Option<Box<Held>>
     ensures { IfSome result (λ boxed. boxed.value ≡ held) }
 {
@@ -63,7 +63,7 @@ fn new_hand(
 }
 
 impl Handle {
-    /// Opens a vector, of elements of so many words and of this kind. Its first hand has all shares.
+    /// Opens a vector with elements of this many words and this kind. Its first hand has all shares.
     #[tactic(auto, using(crate::proofs::Refused::due_open, crate::proofs::Refused::due_open_full))]
     pub fn open(
         &mut self,

@@ -20,7 +20,7 @@ size_of span = span.to - span.from
 abbrev pub IsDivisible : Interval → Type 0
 IsDivisible span = span.grain < size_of span
 
--- the place at which it is divided: the middle, rounded down
+-- its middle, rounded down: where it is divided
 abbrev pub middle_of : Interval → ℕ
 middle_of span = span.from + size_of span / 2
 

@@ -1,5 +1,7 @@
 //! How a caller appends one value.
-ghost use Rattle.std.specs.Prelude.{◌≡◌, IfOk, IfErr, OnErr, IsErrAnd};
+ghost use Rattle.std.specs.Prelude.{◌≡◌, ◌<◌, IfOk, IfErr, OnErr, IsErrAnd, IsTrue};
+ghost use Rattle.claim_core.specs.Hand.{seen_size};
+ghost use Rattle.grow_core.specs.Vector.{limit_of};
 ghost use Rattle.grow_core.specs.Growth.{Refuses, HasNoRoom, SaysFull};
 ghost use Rattle.caller_core.specs.Caller.{KeepsCaller, Pushes};
 
@@ -17,9 +19,18 @@ impl<T: Drop> Caller<T> {
         ensures kept { KeepsCaller self.old self.new }
         ensures last { OnErr result (self.new.last ≡ self.old.last) }
     {
+        // The push wins the place that follows what the hand has seen, or none.
+        let place = self.hand.seen();
         let placed = self.hub.vector.try_push_seen(&mut self.hand, value)?;
-        let place = placed.place();
         self.last = Some(placed);
         Ok(place)
+    }
+
+    /// Tests whether the next push has room and a segment, by what the hand has seen. Then it requests no memory.
+    #[inline(always)]
+    pub fn knows_next(&self) -> bool
+        ensures room { IsTrue result → seen_size self.now.hand < limit_of self.now.vector }
+    {
+        self.hub.vector.knows_next(&self.hand)
     }
 }

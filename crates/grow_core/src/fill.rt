@@ -212,8 +212,8 @@ impl<T: Drop> Shared<T> {
         }
     }
 
-    // What a cell of the segment with this key held.
-    #[cold]
+    // What a cell of the segment with this key held. If it were called, a push would clear room for its result.
+    #[inline(always)]
     #[tactic(auto, using(crate::proofs::Cells::small_cell))]
     fn found(&self, key: Key, offset: u64, found: block::Found<T>) -> Found<T>
         requires key { IsKeyIn self.now.segments key }

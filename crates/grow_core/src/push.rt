@@ -1,13 +1,13 @@
 //! How one value is appended.
-ghost use Rattle.std.specs.Prelude.{◌≡◌, IfOk, IfErr, IsErrAnd};
+ghost use Rattle.std.specs.Prelude.{◌≡◌, ◌<◌, IfOk, IfErr, IsErrAnd, IsTrue};
 ghost use Rattle.claim_core.specs.Hand.{LogsRun, seen_size};
-ghost use Rattle.grow_core.specs.Vector.{IsHandOf};
+ghost use Rattle.grow_core.specs.Vector.{IsHandOf, limit_of};
 ghost use Rattle.grow_core.specs.Growth.{WonPlace, Refuses, HasNoRoom, SaysFull, IsNotMoved, single};
 ghost use Rattle.grow_core.specs.Logs.{LogsRefusal};
 
 use crate::errors::{GrowError, Never};
 use crate::hand::{Hand, claiming_laws};
-use crate::keys::key_for;
+use crate::keys::{key_for, key_of};
 use crate::token::Placed;
 use crate::vector::Shared;
 use claim_core::Moved;
@@ -58,6 +58,23 @@ impl<T: Drop> Shared<T> {
     {
         let seen = hand.seen();
         self.push_at(hand, seen, value)
+    }
+
+    /// Tests whether there is room at the size that the hand has seen, and the hand has the key of the segment there.
+    /// Then `try_push_seen` requests no memory.
+    #[inline(always)]
+    pub fn knows_next(&self, hand: &Hand<T>) -> bool
+        ensures room { IsTrue result → seen_size hand.now < limit_of self.now }
+    {
+        // For the proof: a place below the limit is in a segment.
+        self.laws();
+        places();
+        let seen = hand.seen();
+        if seen >= self.limit() {
+            return false;
+        }
+        let (segment, _) = self.table.layout().locate(seen);
+        key_of(&hand.keys, segment).is_some()
     }
 
     // One try to append a value at the size that the hand has seen. All that it reads of the segment it reads

@@ -85,3 +85,6 @@ pushes_after value a b c place kept trying p =
         value = p.won.value;
       };
     }
+
+-- what a push is proved by that may be tried again
+pub ruleset trying = (trying_self, trying_more, keeps_twice, pushes_after)

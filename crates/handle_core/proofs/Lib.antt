@@ -1,5 +1,6 @@
 mod AsBox
 mod There
+pub mod Codes
 pub mod Refused
 pub mod Due
 pub mod Made

@@ -1,15 +1,21 @@
 -- A refusal that is due by the content of a handle is due by the handle.
 use Rattle.std.proofs.Common.{◌≡◌, sym, subst, inl, inr, refl}
-use Rattle.std.specs.Prelude.{Option, Some, None, IsSome}
+use Rattle.std.specs.Prelude.{ℤ, Option, Some, None, IsSome}
 use Rattle.handle_core.specs.declared.status.Status.{Status}
 use Rattle.handle_core.specs.declared.status.Status.TheVariants as status
 use Rattle.handle_core.specs.declared.held.Held.{Held}
+use Rattle.handle_core.specs.Status.{IfRefused}
 use Rattle.handle_core.specs.Calls.{IsDueIn, IsDueOrFull, IsOpenDueIn, IsJoinDue, JoinDue}
 
 -- what is due of what the handle has is due of the handle
 pub due_in : (due : Held → Status → Type 0) (handle : Option Held) (held : Held) (why : Status)
     → handle ≡ Some held → due held why → IsDueIn due handle why
 due_in due handle held why is it = subst (λ (h : Option Held). IsDueIn due h why) (sym is) it
+
+-- the same of the number of a refusal
+pub if_due_in : (due : Held → Status → Type 0) (handle : Option Held) (held : Held) (code : ℤ)
+    → handle ≡ Some held → IfRefused code (due held) → IfRefused code (IsDueIn due handle)
+if_due_in due handle held code is it = record { due = λ why of. due_in due handle held why is (it.due why of) }
 
 -- an empty handle is a bad handle
 pub due_empty : (due : Held → Status → Type 0) (handle : Option Held) → handle ≡ None → IsDueIn due handle status.BadHandle
@@ -50,3 +56,10 @@ pub due_join_other : (handle other : Option Held) (held : Held)
 due_join_other handle other held is is_none =
     subst (λ (h : Option Held). IsJoinDue h other status.BadHandle) (sym is)
     (subst (λ (h : Option Held). IsJoinDue (Some held) h status.BadHandle) (sym is_none) refl)
+
+-- what is due of a handle whose call returns a number, of one that is split, and of one that joins another
+pub ruleset due_number = (if_due_in, due_empty)
+
+pub ruleset due_split = (due_also_in, due_also_empty, due_full)
+
+pub ruleset due_joined = (due_join, due_join_empty, due_join_other)

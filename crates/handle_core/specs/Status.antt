@@ -24,6 +24,10 @@ number_of status.Taken = 12
 number_of status.Filled = 13
 number_of status.OtherVector = 14
 
+-- if the number is that of a call that did what it was asked, this is true
+pub record IfDone (code : ℤ) (says : Type 0) : Type 0 where
+  pub done : IsDone code → says
+
 -- if the number is that of a status, this is true of the status
 pub record IfRefused (code : ℤ) (says : Status → Type 0) : Type 0 where
   pub due : (why : Status) → code ≡ pos (number_of why) → says why

@@ -7,6 +7,7 @@ ghost use Rattle.handle_core.specs.Held.{KeepsHeld, OnHand, OnHands, IsHand, wid
 ghost use Rattle.handle_core.specs.Calls.{PushesWords, GrowsByWords, GrowsByCopies, GrowsUpToWords, WinsPlacesOf};
 ghost use Rattle.handle_core.specs.Calls.{MendsWords, HasLastValue};
 ghost use Rattle.handle_core.specs.Calls.{IsDueOn, IsCopyDueOn, PushDue, GrowDue, FillDue, AtLeastDue, LeaveDue};
+ghost use Rattle.handle_core.specs.Status.{IfDone, IfRefused};
 ghost use Rattle.handle_core.specs.Calls.{AtDue, LookDue, MendsDue, RoomDue, StatesDue, NeverDue};
 
 use crate::facts::HandFacts;
@@ -16,15 +17,16 @@ use crate::{hands, opaque_hands};
 
 // Appends the element that these words make.
 #[inline(always)]
-pub(crate) fn push(held: &mut Held, words: &[u64]) -> Result<u64, Status>
-    ensures pushed { IfOk result (λ place. PushesWords words.now place held.old held.new) }
-    ensures refused { IfErr result (IsDueOn (PushDue (length words.now)) held.new) }
+#[tactic(auto, using(crate::proofs::Codes::if_refused, crate::proofs::Codes::not_done))]
+pub(crate) fn push(held: &mut Held, words: &[u64], place: &mut u64) -> i32
+    ensures pushed { IfDone result (PushesWords words.now place.new held.old held.new) }
+    ensures refused { IfRefused result (IsDueOn (PushDue (length words.now)) held.new) }
     ensures kept { KeepsHeld held.old held.new }
 {
     match held {
-        Held::Hand(any) => hands::push(any, words),
-        Held::OpaqueHand(any) => opaque_hands::push(any, words),
-        Held::List(_) | Held::OpaqueList(_) | Held::Empty => Err(Status::BadHandle),
+        Held::Hand(any) => hands::push(any, words, place),
+        Held::OpaqueHand(any) => opaque_hands::push(any, words, place),
+        Held::List(_) | Held::OpaqueList(_) | Held::Empty => Status::BadHandle.code(),
     }
 }
 

@@ -2,10 +2,11 @@
 ghost use Rattle.std.specs.Prelude.{◌≡◌, ◌≢◌, ◌<◌, ◌≤◌, ◌/◌, ◌%◌, ℕ, List, IfOk, IfErr, IsTrue, IsFalse, Some, length, replicate, slice_get};
 ghost use Rattle.caller_core.specs.Caller.{KeepsCaller, Pushes};
 ghost use Rattle.caller_core.specs.Grows.{GrowsBy, WinsPlaces};
+ghost use Rattle.handle_core.specs.Status.{IfDone, IfRefused};
 ghost use Rattle.handle_core.specs.Calls.{GrowthDue, AtLeastDue, AreTooFew, ReachesSize, HasLastElement, elements_in, source_of};
 
 use crate::elements::{Elements, OpaqueCopies, OpaqueElements};
-use crate::status::{Status, of_growth};
+use crate::status::{DONE, Status, of_growth};
 use caller_core::{Caller, Element};
 use grow_core::{GrowError, Never};
 use opaque_core::Opaque;
@@ -13,47 +14,87 @@ use opaque_core::Opaque;
 // How often a push is tried before it says that others came first each time.
 const PUSH_TRIES: u64 = 3;
 
-// Appends an element that was overtaken once. It is tried as often as is left.
+// Appends the element that these words make, which was overtaken once. It is tried as often as is left.
 #[cold]
 #[inline(never)]
-#[tactic(auto, using(crate::proofs::Due::growth_due, crate::proofs::Again::trying_self, crate::proofs::Again::trying_more, crate::proofs::Again::keeps_twice, crate::proofs::Again::pushes_after))]
-fn push_again<E: Element>(caller: &mut Caller<E>, mut element: E) -> Result<u64, Status>
-    ensures pushed { IfOk result (Pushes element caller.old caller.new) }
-    ensures refused { IfErr result (GrowthDue 1 ⊥ E caller.new) }
+#[tactic(auto, using(crate::proofs::Due::growth_due, crate::proofs::Again::trying, crate::proofs::Codes::codes))]
+fn push_again<E: Element>(caller: &mut Caller<E>, words: &[u64], place: &mut u64) -> i32
+    ensures pushed { IfDone result
+        (Pushes (E.element_of words.now) caller.old caller.new place.new) }
+    ensures refused { IfRefused result (GrowthDue 1 (length words.now ≢ E.width) E caller.new) }
     ensures kept { KeepsCaller caller.old caller.new }
 {
+    let Some(mut element) = E::from_words(words) else {
+        return Status::BadSize.code();
+    };
     for _try in 2..PUSH_TRIES {
         match caller.push(element) {
-            Ok(place) => return Ok(place),
+            Ok(at) => {
+                *place = at;
+                return DONE;
+            }
             Err(GrowError::Moved { size: _, back }) => element = back,
-            Err(refused) => return Err(of_growth(refused)),
+            Err(refused) => return of_growth(refused).code(),
         }
     }
     match caller.push(element) {
-        Ok(place) => Ok(place),
-        Err(refused) => Err(of_growth(refused)),
+        Ok(at) => {
+            *place = at;
+            DONE
+        }
+        Err(refused) => of_growth(refused).code(),
     }
 }
 
 // Appends the element that these words make. It is tried a few times; all but the first try are a call of their own,
 // since they are seldom made.
 #[inline(always)]
-#[tactic(auto, using(crate::proofs::Due::growth_due, crate::proofs::Due::due_of_good, crate::proofs::Again::trying_self, crate::proofs::Again::trying_more, crate::proofs::Again::keeps_twice, crate::proofs::Again::pushes_after))]
-pub(crate) fn push<E: Element>(caller: &mut Caller<E>, words: &[u64]) -> Result<u64, Status>
-    ensures pushed { IfOk result (Pushes (E.element_of words.now) caller.old caller.new) }
-    ensures refused { IfErr result (GrowthDue 1 (length words.now ≢ E.width) E caller.new) }
+#[tactic(auto, using(crate::proofs::Due::growth_due, crate::proofs::Again::trying, crate::proofs::Codes::codes))]
+fn push_element<E: Element>(caller: &mut Caller<E>, words: &[u64], place: &mut u64) -> i32
+    ensures pushed { IfDone result
+        (Pushes (E.element_of words.now) caller.old caller.new place.new) }
+    ensures refused { IfRefused result (GrowthDue 1 (length words.now ≢ E.width) E caller.new) }
     ensures kept { KeepsCaller caller.old caller.new }
 {
     let Some(element) = E::from_words(words) else {
-        return Err(Status::BadSize);
+        return Status::BadSize.code();
     };
     match caller.push(element) {
-        Ok(place) => Ok(place),
-        Err(GrowError::Moved { size: _, back }) => match push_again(caller, back) {
-            Ok(place) => Ok(place),
-            Err(status) => Err(status),
-        },
-        Err(refused) => Err(of_growth(refused)),
+        Ok(at) => {
+            *place = at;
+            DONE
+        }
+        Err(GrowError::Moved { .. }) => push_again(caller, words, place),
+        Err(refused) => of_growth(refused).code(),
+    }
+}
+
+// The same where the segment has to be found first, or there is no room.
+#[cold]
+#[inline(never)]
+fn push_slowly<E: Element>(caller: &mut Caller<E>, words: &[u64], place: &mut u64) -> i32
+    ensures pushed { IfDone result
+        (Pushes (E.element_of words.now) caller.old caller.new place.new) }
+    ensures refused { IfRefused result (GrowthDue 1 (length words.now ≢ E.width) E caller.new) }
+    ensures kept { KeepsCaller caller.old caller.new }
+{
+    push_element(caller, words, place)
+}
+
+// Appends the element that these words make, writes its place, and returns the number of a status. It ends with each
+// call that it makes, so it saves no registers. It is a call of its own for each type of elements, and so is what is
+// seldom done.
+#[inline(never)]
+pub(crate) fn push<E: Element>(caller: &mut Caller<E>, words: &[u64], place: &mut u64) -> i32
+    ensures pushed { IfDone result
+        (Pushes (E.element_of words.now) caller.old caller.new place.new) }
+    ensures refused { IfRefused result (GrowthDue 1 (length words.now ≢ E.width) E caller.new) }
+    ensures kept { KeepsCaller caller.old caller.new }
+{
+    if caller.knows_next() {
+        push_element(caller, words, place)
+    } else {
+        push_slowly(caller, words, place)
     }
 }
 

@@ -1,6 +1,7 @@
 //! The calls on a handle that append, break and mend.
 ghost use Rattle.std.specs.Prelude.{IfOk, IfErr, OnOk, length};
 ghost use Rattle.handle_core.specs.Held.{Keeps, OnBoth};
+ghost use Rattle.handle_core.specs.Status.{IfDone, IfRefused};
 ghost use Rattle.handle_core.specs.Calls.{PushesWords, GrowsByWords, GrowsByCopies, GrowsUpToWords, WinsPlacesOf, MendsWords};
 ghost use Rattle.handle_core.specs.Calls.{IsDueIn, IsDueOn, PushDue, GrowDue, FillDue, AtLeastDue, LeaveDue, MendsDue};
 
@@ -9,21 +10,22 @@ use crate::handle::Handle;
 use crate::status::Status;
 
 impl Handle {
-    /// Appends the element that these words make, and returns its place. It tries three times.
+    /// Appends the element that these words make, and writes its place. It tries three times. It returns `DONE`, or the
+    /// number of a status: what it passes on and returns goes through no memory.
     #[inline(always)]
-    #[tactic(auto, using(crate::proofs::Refused::due_in, crate::proofs::Refused::due_empty))]
-    pub fn push(&mut self, words: &[u64]) -> Result<u64, Status>
-        ensures pushed { IfOk result (λ place.
-            OnBoth (PushesWords words.now place) self.old.owned.held self.new.owned.held) }
-        ensures refused { IfErr result
+    #[tactic(auto, using(crate::proofs::Refused::due_number, crate::proofs::Codes::refusals))]
+    pub fn push(&mut self, words: &[u64], place: &mut u64) -> i32
+        ensures pushed { IfDone result (OnBoth
+            (PushesWords words.now place.new) self.old.owned.held self.new.owned.held) }
+        ensures refused { IfRefused result
             (IsDueIn (IsDueOn (PushDue (length words.now))) self.new.owned.held) }
         ensures kept { Keeps self.old.owned.held self.new.owned.held }
     {
         if self.is_empty() {
-            return Err(Status::BadHandle);
+            return Status::BadHandle.code();
         }
         let held = self.owned.held_mut();
-        contents::push(held, words)
+        contents::push(held, words, place)
     }
 
     /// Appends the elements that these words make, and returns the place of the first one. It tries once.

@@ -12,7 +12,7 @@ use std::alloc::Global;
 
 impl Handle {
     /// Moves shares of a hand, not all, into a new one, which another handle gets.
-    #[tactic(auto, using(crate::proofs::Refused::due_also_in, crate::proofs::Refused::due_also_empty, crate::proofs::Refused::due_full))]
+    #[tactic(auto, using(crate::proofs::Refused::due_split))]
     pub fn split(&mut self, alloc: Global, shares: u32, other: &mut Handle) -> Result<(), Status>
         ensures split { OnOk result (SplitsFrom shares
             self.old.owned.held self.new.owned.held other.new.owned.held) }
@@ -39,7 +39,7 @@ impl Handle {
     }
 
     /// Joins another hand of the same vector into a hand.
-    #[tactic(auto, using(crate::proofs::Refused::due_join, crate::proofs::Refused::due_join_empty, crate::proofs::Refused::due_join_other))]
+    #[tactic(auto, using(crate::proofs::Refused::due_joined))]
     pub fn join(&mut self, alloc: Global, other: &mut Handle) -> Result<(), Status>
         requires same { AreOfOneVector self.old.owned.held other.old.owned.held }
         ensures joined { OnOk result
@@ -67,7 +67,7 @@ impl Handle {
     }
 
     /// Closes the vector of a hand into a list. The hand's box becomes the list's, so it takes no memory.
-    #[tactic(auto, using(crate::proofs::Refused::due_also_in, crate::proofs::Refused::due_also_empty, crate::proofs::Refused::due_full))]
+    #[tactic(auto, using(crate::proofs::Refused::due_split))]
     pub fn close(&mut self, alloc: Global, list: &mut Handle) -> Result<(), Status>
         ensures closed { OnOk result (OnBoth ClosesHeld self.old.owned.held list.new.owned.held) }
         ensures ended { OnOk result (self.new.owned.held ≡ None) }
@@ -95,7 +95,7 @@ impl Handle {
     }
 
     /// Opens a list into a vector again. Its first hand has all shares. Without memory the list keeps its values.
-    #[tactic(auto, using(crate::proofs::Refused::due_also_in, crate::proofs::Refused::due_also_empty, crate::proofs::Refused::due_full))]
+    #[tactic(auto, using(crate::proofs::Refused::due_split))]
     pub fn open_list(&mut self, alloc: Global, hand: &mut Handle) -> Result<(), Status>
         ensures opened { OnOk result (OnBoth OpensHeld self.old.owned.held hand.new.owned.held) }
         ensures ended { OnOk result (self.new.owned.held ≡ None) }

@@ -7,6 +7,7 @@ ghost use Rattle.caller_core.specs.Caller.{IsNewCaller, HasLast, Pushes};
 ghost use Rattle.caller_core.specs.Grows.{AreSideBySide, GrowsBy, Mends, WinsPlaces};
 ghost use Rattle.handle_core.specs.Held.{KeepsAny, caller_of, words_of, list_of, list_words};
 ghost use Rattle.handle_core.specs.Calls.{OpenDue, PushDue, GrowDue, FillDue, AtLeastDue, GrowthDue, AtDue, ReadDue, MendsDue, RoomDue, SplitDue, SplitsCaller, ReachesSize, HasLastElement, StatesDue, elements_in};
+ghost use Rattle.handle_core.specs.Status.{IfDone, IfRefused};
 ghost use Rattle.handle_core.specs.Lists.{ClosesCaller};
 
 use crate::held::{AnyCaller, AnyList};
@@ -42,13 +43,14 @@ pub(crate) fn open(
 
 // Appends the element that these words make.
 #[inline(always)]
-pub(crate) fn push(any: &mut AnyCaller, words: &[u64]) -> Result<u64, Status>
-    ensures pushed { IfOk result (Pushes words.now (caller_of any.old) (caller_of any.new)) }
-    ensures refused { IfErr result
+pub(crate) fn push(any: &mut AnyCaller, words: &[u64], place: &mut u64) -> i32
+    ensures pushed { IfDone result
+        (Pushes words.now (caller_of any.old) (caller_of any.new) place.new) }
+    ensures refused { IfRefused result
         (PushDue (length words.now) (List ℕ) (words_of any.new) (caller_of any.new)) }
     ensures kept { KeepsAny any.old any.new }
 {
-    by_size!(AnyCaller, any, caller => growths::push(caller, words))
+    by_size!(AnyCaller, any, caller => growths::push(caller, words, place))
 }
 
 // Appends the elements that these words make.

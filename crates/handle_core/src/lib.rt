@@ -4,7 +4,7 @@
 //! Each call works on what the handle has where it lies, and takes it out only if the handle is to have something else.
 //! `contents.rt`, `list_contents.rt` and `moves.rt` do what the call asks, by the kind of what is there. `hands.rt`,
 //! `lists.rt` and their kin do it by the size of an element, and `growths.rt`, `reads.rt` and `members.rt` for one
-//! size. A push and a look are laid into their callers, so that nothing of them goes through memory.
+//! size. A look is laid into its callers, and a push is jumped to, so that nothing of them goes through memory.
 //!
 //! A caller can rely on the clauses of the calls, which say what the handle has before and after. No clause says what
 //! is at an address, nor that two addresses differ.

@@ -7,6 +7,7 @@ ghost use Rattle.caller_core.specs.Caller.{IsNewCaller, Pushes};
 ghost use Rattle.caller_core.specs.Grows.{AreSideBySide, Mends, WinsPlaces};
 ghost use Rattle.handle_core.specs.Held.{KeepsOpaque, opaque_of, opaque_words, opaque_list_of, opaque_list_words};
 ghost use Rattle.handle_core.specs.Calls.{OpenDue, PushDue, GrowDue, FillDue, AtLeastDue, GrowthDue, ReadDue, MendsDue, RoomDue, SplitDue, SplitsCaller, StatesDue, ReachesSize};
+ghost use Rattle.handle_core.specs.Status.{IfDone, IfRefused};
 ghost use Rattle.handle_core.specs.Lists.{ClosesCaller};
 
 use crate::held::{AnyOpaque, AnyOpaqueList};
@@ -42,13 +43,13 @@ pub(crate) fn open(
 
 // Appends the element that these words make.
 #[inline(always)]
-pub(crate) fn push(any: &mut AnyOpaque, words: &[u64]) -> Result<u64, Status>
-    ensures pushed { IfOk result (Pushes tt (opaque_of any.old) (opaque_of any.new)) }
-    ensures refused { IfErr result
+pub(crate) fn push(any: &mut AnyOpaque, words: &[u64], place: &mut u64) -> i32
+    ensures pushed { IfDone result (Pushes tt (opaque_of any.old) (opaque_of any.new) place.new) }
+    ensures refused { IfRefused result
         (PushDue (length words.now) (Unit {0}) (opaque_words any.new) (opaque_of any.new)) }
     ensures kept { KeepsOpaque any.old any.new }
 {
-    by_size!(AnyOpaque, any, caller => growths::push(caller, words))
+    by_size!(AnyOpaque, any, caller => growths::push(caller, words, place))
 }
 
 // Appends the elements that these words make.

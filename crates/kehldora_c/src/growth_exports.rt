@@ -8,7 +8,6 @@ ghost use Rattle.handle_core.specs.Status.{IsDone, IfRefused};
 use handle_core::{DONE, Handle};
 
 /// Appends a value, and tells its place. It tries three times.
-#[tactic(auto, using(crate::proofs::Codes::if_done, crate::proofs::Codes::if_refused))]
 #[unsafe(no_mangle)]
 pub extern "C" fn kehldora_raw_push(hand: &mut Handle, value: &[u64], place: &mut u64) -> i32
     ensures pushed { IsDone result → OnBoth
@@ -17,13 +16,7 @@ pub extern "C" fn kehldora_raw_push(hand: &mut Handle, value: &[u64], place: &mu
         (IsDueIn (IsDueOn (PushDue (length value.now))) hand.new.owned.held) }
     ensures kept { Keeps hand.old.owned.held hand.new.owned.held }
 {
-    match hand.push(value) {
-        Ok(at) => {
-            *place = at;
-            DONE
-        }
-        Err(status) => status.code(),
-    }
+    hand.push(value, place)
 }
 
 /// Appends the elements of an array, and tells the place of the first one. It tries once.

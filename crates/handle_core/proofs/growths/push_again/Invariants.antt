@@ -8,4 +8,4 @@ abbrev pub invariant-loop-try : goal.invariant-loop-try
 invariant-loop-try g l =
     KeepsCaller l.fn.caller l.caller
     × IsTrying l.fn.caller.hand l.caller.hand
-    × (l.element ≡ l.fn.element)
+    × (l.element ≡ g.E.Element.element_of l.fn.words)

@@ -279,3 +279,6 @@ module _ (T : RattleType) (L : Laws T) {M : Type 1} {𝓤 : Ura M} (𝓛 : Logic
         -- [the cells; the row; the rooms]
         rewrite ! 2 (λ (n : ℕ). ‵ (Others n)) same refl $ keep ! (0 ∷ 2 ∷ []) $ fjoin ! $ nothing ! $ fpack ! (Lies R x (length us)) (λ _. ftrue) (subst (Lies R x) same so) $ fjoin ! $
         show ! (Rows x γs ms j) us $ check ! are $ done !)))
+
+-- what the owner's call needs of all cells
+pub ruleset untied_cells = (untied_kind, untied_length, untied_at)

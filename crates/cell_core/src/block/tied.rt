@@ -59,7 +59,7 @@ impl<T, A: Allocator> Block<T, A, Tied> {
     /// Makes the block one of cells that are not tied: each cell's seat is given up. What is known of the cells by a
     /// row, whose member at `from` is the first cell, stays known; tokens of these cells stay good. The call does
     /// nothing.
-    #[tactic(auto, using(crate::proofs::Untied::untied_kind, crate::proofs::Untied::untied_length, crate::proofs::Untied::untied_at))]
+    #[tactic(auto, using(crate::proofs::Untied::untied_cells))]
     pub fn untie(self, row: &Row<T>, from: u64) -> Block<T, A>
         requires { KnowsCells row.now from self.cells }
         ensures len { block_len result ≡ block_len self }

@@ -60,14 +60,16 @@ fn drops_what_it_replaces<'a>(
     shrunk && is_assigned && assigned && list.capacity() == 2 && are_dropped(drops, 12)
 }
 
-// The two values go, and a new one goes with the list.
+// One of the two values is cut off, the other goes with a clear, and a new one goes with the list.
 fn drops_all<'a>(mut list: Quiet<Counted<'a>>, drops: &'a AtomicU64) -> bool {
+    list.truncate(1);
+    let cut = are_dropped(drops, 13);
     list.clear();
     let cleared = are_dropped(drops, 14);
     let is_pushed = list.push(Counted(drops)).is_ok();
     let pushed = are_dropped(drops, 14);
     drop(list);
-    cleared && is_pushed && pushed && are_dropped(drops, 15)
+    cut && cleared && is_pushed && pushed && are_dropped(drops, 15)
 }
 
 fn two_counted<'a>(alloc: Global, drops: &'a AtomicU64) -> Option<Vec<Counted<'a>>> {

@@ -106,6 +106,11 @@ impl<T: Drop> Callers<T> {
         place_of(self.vector.push_back(rt, &mut self.a, value))
     }
 
+    // Tests whether a's next push has room and a segment.
+    pub(super) fn knows_next(&self) -> bool {
+        self.vector.knows_next(&self.a)
+    }
+
     // The run of values that a try appends.
     pub(super) fn grow_a(&mut self, values: Vec<T>) -> Option<Run> {
         let grown = self.vector.try_grow_vec(&mut self.a, values);

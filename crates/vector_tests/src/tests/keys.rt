@@ -38,3 +38,23 @@ fn a_joined_hand_finds_each_place(rt: HostRuntime) {
     drop(life);
     assert!(rt; (wrong, then_wrong) == (None, None));
 }
+
+// Appends up to the limit. The segments have two places each, and the hand has the key of one only once it has a place
+// there.
+fn knows_second_places(two: &mut Callers<u64>) -> bool {
+    !two.knows_next()
+        && two.push_seen(5) == Some(0)
+        && two.knows_next()
+        && two.push_seen(6) == Some(1)
+        && !two.knows_next()
+        && two.push_seen(7) == Some(2)
+        && two.knows_next()
+        && two.push_seen(8) == Some(3)
+        && !two.knows_next()
+}
+
+#[test]
+fn a_hand_knows_the_segments_of_its_places(rt: HostRuntime) {
+    let mut two = Callers::new(&rt, 4);
+    assert!(rt; knows_second_places(&mut two));
+}

@@ -73,10 +73,15 @@ template <typename Vector> void walk_often(Vector &vector, Value times) {
 
 template <typename Library> long long run(const std::string &load, bool is_installed, unsigned threads) {
   typename Library::Vector vector;
-  is_installed |= load == "index" || load == "find" || load == "walk";
-  if (is_installed)
+  const bool reads = load == "index" || load == "find" || load == "walk";
+  if (reads)
     push_often(vector, filled);
-  const Value times = (is_installed ? more : fresh) / threads;
+  // The system has given the vector the memory of its last segment by then.
+  if (is_installed) {
+    push_often(vector, filled + more);
+    vector.resize(filled);
+  }
+  const Value times = (is_installed || reads ? more : fresh) / threads;
   std::function<void()> work;
   if (load == "push")
     work = [&] { push_often(vector, times); };

@@ -23,6 +23,8 @@ struct OneTbb {
   // What a token is for: a place that is known to have a value.
   Value get(Value place) { return values[place]; }
   Value walk(Value times) { return count_odd(values, times); }
+  // Keeps the segment of the last place, with its memory.
+  void cut(Value size) { values.resize(size); }
 };
 
 struct Locked {
@@ -61,6 +63,7 @@ struct Locked {
     std::lock_guard<std::mutex> guard(lock);
     return count_odd(values, times);
   }
+  void cut(Value size) { values.resize(size); }
 };
 
 // The least that a vector of this layout could do: values in rows, the states of sixteen cells in a word. It tests nothing,
@@ -138,6 +141,14 @@ struct Bare {
       fill(place, value);
   }
   Value size() { return claimed.load(); }
+  // Empties the places from this size on, which lie in one segment.
+  void cut(Value size) {
+    unsigned number = segment_of(size);
+    Segment *found = segment(number);
+    for (Value offset = size - first(number); offset < end(number) - first(number); ++offset)
+      found->states[offset / 16] &= ~(Value{15} << offset % 16 * 4);
+    claimed = size;
+  }
   Value look(Value place) {
     unsigned number = segment_of(place);
     Segment *found = segments[number].load(std::memory_order_acquire);
@@ -169,6 +180,12 @@ struct Bare {
 template <typename Vector> void push_often(Vector &vector, Value times) {
   for (Value value = 0; value < times; ++value)
     vector.push(value);
+}
+
+// Fills a vector, and then cuts it to the first place of its last segment, whose memory the system has given it by then.
+template <typename Vector> void fill_and_cut(Vector &vector) {
+  push_often(vector, filled + more);
+  vector.cut(filled);
 }
 
 // Pushes values until a walk is over.
@@ -226,11 +243,13 @@ template <typename Vector> void walk_over(Vector &vector, Value times) {
 
 template <typename Vector> long long run(const char *load, unsigned threads) {
   Vector vector;
-  bool installed = std::strstr(load, "-installed") || !std::strcmp(load, "at") || !std::strcmp(load, "get") ||
-                   !std::strncmp(load, "walk", 4);
-  if (installed)
+  bool appends = std::strstr(load, "-installed");
+  bool reads = !std::strcmp(load, "at") || !std::strcmp(load, "get") || !std::strncmp(load, "walk", 4);
+  if (reads)
     push_often(vector, filled);
-  Value times = (installed ? more : fresh) / threads;
+  if (appends)
+    fill_and_cut(vector);
+  Value times = (appends || reads ? more : fresh) / threads;
   std::function<void()> work = [&] { push_often(vector, times); };
   // oneTBB has no tokens.
   if (!std::strncmp(load, "grow", 4) || !std::strncmp(load, "append", 6))

@@ -1,14 +1,15 @@
 //! How long it takes to open a list of ten million values as a shared vector, to close it into a list again, and to
 //! move the values out of that.
-ghost use Rattle.std.specs.Prelude.{IfSome};
 ghost use Rattle.claim_core.specs.Hand.{IsWholeHand};
 ghost use Rattle.grow_core.specs.Vector.{IsHandOf};
 
+use crate::lists::{fill_list, open_list};
 use crate::trial::print_nanoseconds;
 use anyhow::{Result, bail, ensure};
 use grow_core::{Hand, Parts, Shared};
 use quiet_core::Quiet;
-use std::alloc::{AllocError, AllocGlobal, Global};
+use seg_core::Layout;
+use std::alloc::AllocGlobal;
 use std::io;
 use std::rt::Clock;
 use std::time::{Duration, Instant};
@@ -26,34 +27,9 @@ pub enum Turn {
     IntoVec,
 }
 
-// Appends all values to a list that has room for them.
-fn append_all(parts: &mut Parts<u64>) {
-    for value in 0..VALUES {
-        if parts.len() < parts.limit() && parts.len() < parts.capacity() {
-            parts.append(Some(value));
-        }
-    }
-}
-
-// A list of all values.
-fn fill_list(alloc: Global) -> Result<Parts<u64>, AllocError> {
-    let mut parts = Parts::new(alloc, VALUES);
-    parts.room(VALUES)?;
-    append_all(&mut parts);
-    Ok(parts)
-}
-
 // How long it took from the start to now.
 fn time_since<R: Clock>(rt: &R, start: io::Result<Instant>) -> Result<Duration> {
     Ok(start?.elapsed(rt)?)
-}
-
-// The list as a vector with its hand, if there is memory.
-fn open_list(parts: Parts<u64>) -> Option<(Shared<u64>, Hand<u64>)>
-    ensures ours { IfSome result (λ (vector, hand). IsHandOf vector hand) }
-    ensures whole { IfSome result (λ (_, hand). IsWholeHand hand) }
-{
-    Shared::of_parts(parts).ok()
 }
 
 // Reports that a list was not opened.
@@ -135,6 +111,6 @@ fn time_turn<R: Clock>(rt: &R, parts: Parts<u64>, turn: Turn) -> Result<Duration
 
 /// Opens a list and closes it, and prints the nanoseconds that this turn took.
 pub fn print_turn<R: Clock + Print + AllocGlobal>(rt: &R, turn: Turn) -> Result<()> {
-    let took = time_turn(rt, fill_list(rt.alloc())?, turn)?;
+    let took = time_turn(rt, fill_list(rt.alloc(), Layout::default(), VALUES)?, turn)?;
     print_nanoseconds(rt, took)
 }

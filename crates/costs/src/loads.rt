@@ -5,6 +5,7 @@ ghost use Rattle.std.specs.Thread.{IsSync};
 ghost use Rattle.grow_core.specs.Vector.{IsHandOf};
 
 use crate::growths::{append_copies, append_lists, append_made};
+use crate::lists::open_cut;
 use crate::reads::{
     pick_places, print_get_time, read_at, read_look, read_segment_walks, read_walks,
 };
@@ -76,6 +77,9 @@ pub struct Load {
     pub work: Work,
     pub filled: u64,
     pub values: u64,
+    /// Whether the system has given the vector's segments their memory before its time starts: the vector begins with a
+    /// list of the values that there are, which had all values before.
+    pub is_resident: bool,
     /// Whether the vector lies in an `Arc`.
     pub is_in_arc: bool,
     /// The layout of its segments.
@@ -139,12 +143,21 @@ pub fn load_of(name: &str) -> Result<Load> {
         work,
         filled,
         values,
+        is_resident: filled > 0 && work.appends(),
         is_in_arc: name == "push-arc",
         layout: layout_of(name),
     })
 }
 
 impl Work {
+    // Whether it appends values.
+    fn appends(self) -> bool {
+        match self {
+            Work::At | Work::Look | Work::Get | Work::Walk | Work::Segments | Work::Pick => false,
+            _ => true,
+        }
+    }
+
     // One thread's part of a load that only reads.
     fn read(self, vector: &Shared<u64>, hand: &mut Hand<u64>, times: u64) -> u64
         requires ours { IsHandOf vector.now hand.old }
@@ -194,6 +207,7 @@ impl Load {
             work: self.work,
             filled: self.filled.min(FILLED_SMALL),
             values,
+            is_resident: false,
             is_in_arc: self.is_in_arc,
             layout: self.layout,
         }
@@ -237,7 +251,8 @@ impl Load {
         requires ours { IsHandOf vector.now hand.old }
         requires more_than_one { 1 < hand.old.shares }
     {
-        push(rt, vector, vector.split(hand, 1), self.filled);
+        let values = if self.is_resident { 0 } else { self.filled };
+        push(rt, vector, vector.split(hand, 1), values);
         let took = self.time(rt, vector, hand, threads)?;
         print_nanoseconds(rt, took)
     }
@@ -266,11 +281,12 @@ impl Load {
         rt: &R,
         threads: usize,
     ) -> Result<()> {
-        let (vector, mut hand) = open_empty_in(
-            rt.alloc(),
-            self.layout,
-            self.filled.saturating_add(self.values),
-        )?;
+        let limit = self.filled.saturating_add(self.values);
+        let (vector, mut hand) = if self.is_resident {
+            open_cut(rt.alloc(), self.layout, limit, self.filled)?
+        } else {
+            open_empty_in(rt.alloc(), self.layout, limit)?
+        };
         let printed = if self.is_in_arc {
             self.print_time_in_arc(rt, vector, &mut hand, threads)
         } else {

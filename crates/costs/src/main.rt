@@ -20,6 +20,7 @@ mod claim_word;
 mod figures;
 mod growths;
 mod hundreds;
+mod lists;
 mod lives;
 mod loads;
 mod operation;

@@ -1,0 +1,3 @@
+/* What kehldora.h uses of this header. */
+typedef __SIZE_TYPE__ size_t;
+#define NULL ((void *)0)

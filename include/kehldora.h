@@ -289,7 +289,10 @@ static inline kehldora_status kehldora_at(kehldora_hand *hand, uint64_t place, u
   return status;
 }
 
-/* Returns the address of the value at a place. It stays there until the vector, or the list it is closed into, has ended. */
+/* Returns the address of the value at a place. It stays there until the vector, or the list it is closed into, has ended.
+   The first segment has the places below 2^first, and segment k > 0 has the places from 2^(first+k-1) to 2^(first+k) - 1. The
+   elements of a segment lie side by side: place p lies (p - q) * words * 8 bytes after place q of the same segment, whatever is at
+   the places between them. */
 static inline kehldora_status kehldora_look(kehldora_hand *hand, uint64_t place, uint64_t **at) {
   kehldora_status status;
   if (!hand || !at)
@@ -311,7 +314,7 @@ static inline kehldora_status kehldora_run(kehldora_hand *hand, uint64_t place, 
 }
 
 /* Returns the address of the words with the states of a place's segment, if that is there: four bits for each of its places,
-   sixteen places a word, from the lowest bits up. They become KEHLDORA_FILLED_BITS when the place is filled, and then stay so
+   from its first one on, sixteen places a word, from the lowest bits up. They become KEHLDORA_FILLED_BITS when the place is filled, and then stay so
    until the vector is closed. Read a word by one atomic load, acquire or stronger, and never write it. */
 static inline kehldora_status kehldora_states(kehldora_hand *hand, uint64_t place, const uint64_t **at) {
   return hand && at ? kehldora_raw_states(hand, place, at) : KEHLDORA_NULL;

@@ -161,6 +161,24 @@ static void growths(uint64_t words, bool opaque) {
   EXPECT(kehldora_free(&hand), KEHLDORA_DONE);
 }
 
+/* That each value of a segment lies as many elements after the first one of that segment as there are places between them, whatever
+   these hold. The first segment has 4 places. Returns how many values there are. */
+static int check_addresses(kehldora_hand *hand, uint64_t words, uint64_t size) {
+  int filled = 0;
+  for (uint64_t begin = 0, end = 4; begin < size; begin = end, end *= 2) {
+    uint64_t first = 0, *first_at = NULL, *at;
+    for (uint64_t place = begin; place < end && place < size; ++place) {
+      if (STATUS(kehldora_look(hand, place, &at)))
+        continue;
+      if (!first_at)
+        first = place, first_at = at;
+      CHECK(at == first_at + (place - first) * words);
+      ++filled;
+    }
+  }
+  return filled;
+}
+
 static void reads(uint64_t words, bool opaque) {
   kehldora_hand hand = opened(20, words, opaque);
   uint64_t got[MOST_WORDS + 1], place, count, *at;
@@ -198,6 +216,12 @@ static void reads(uint64_t words, bool opaque) {
   CHECK(*states >> 12 == KEHLDORA_FILLED_BITS);
   EXPECT(kehldora_look(&hand, 7, &at), KEHLDORA_DONE);
   CHECK(is_value(at, words, 8));
+  /* Place 6 is still broken, and so will be places 9 and 10. */
+  CHECK(check_addresses(&hand, words, 8) == 7);
+  EXPECT(kehldora_push(&hand, value(7), words, &place), KEHLDORA_DONE);
+  EXPECT(kehldora_leave(&hand, 2, &place), KEHLDORA_DONE);
+  EXPECT(kehldora_fill(&hand, value(7), words, 9, &place), KEHLDORA_DONE);
+  CHECK(place == 11 && check_addresses(&hand, words, 20) == 17);
   EXPECT(kehldora_free(&hand), KEHLDORA_DONE);
 }
 
@@ -249,14 +273,15 @@ static struct {
   unsigned char *page;
   size_t bytes;
   struct other *other;
+  uint64_t *later;
   int count;
 } unreadable;
 
-/* What another hand finds at the last place of a growth, which is claimed and not filled yet. */
+/* What another hand finds at the last place of a growth, which is claimed and not filled yet. That hand fills the place after it. */
 static void look_between(int signal) {
   kehldora_hand *const hand = &unreadable.other->hand;
   static const uint64_t zeros[MOST_WORDS];
-  uint64_t got[MOST_WORDS], size, count, *at;
+  uint64_t got[MOST_WORDS], size, count, place, *at;
   (void)signal;
   EXPECT(kehldora_size(hand, &size), KEHLDORA_DONE);
   CHECK(size == 3);
@@ -265,6 +290,10 @@ static void look_between(int signal) {
   EXPECT(kehldora_mend(hand, 2, zeros, unreadable.other->words), KEHLDORA_PENDING);
   if (STATUS(kehldora_at(hand, 2, got, unreadable.other->words)) != KEHLDORA_BAD_SIZE)
     EXPECT(kehldora_at(hand, 2, got, unreadable.other->words), KEHLDORA_PENDING);
+  EXPECT(kehldora_push(hand, zeros, unreadable.other->words, &place), KEHLDORA_DONE);
+  EXPECT(kehldora_look(hand, place, &unreadable.later), KEHLDORA_DONE);
+  EXPECT(kehldora_look(hand, 2, &at), KEHLDORA_PENDING);
+  CHECK(place == 3);
   ++unreadable.count;
   CHECK(mprotect(unreadable.page, unreadable.bytes, PROT_READ) == 0);
 }
@@ -291,6 +320,8 @@ static void pending(uint64_t words, bool opaque) {
   EXPECT(kehldora_look(&other.hand, 2, &at), KEHLDORA_DONE);
   EXPECT(kehldora_free(&hand), KEHLDORA_DONE);
   CHECK(is_value(at, words, 2));
+  /* The place after those that were pending was where it had to be. */
+  CHECK(unreadable.later == at + words && check_addresses(&other.hand, words, 4) == 4);
   EXPECT(kehldora_free(&other.hand), KEHLDORA_DONE);
 }
 

@@ -313,9 +313,9 @@ static inline kehldora_status kehldora_run(kehldora_hand *hand, uint64_t place, 
   return status;
 }
 
-/* Returns the address of the words with the states of a place's segment, if that is there: four bits for each of its places,
-   from its first one on, sixteen places a word, from the lowest bits up. They become KEHLDORA_FILLED_BITS when the place is filled, and then stay so
-   until the vector is closed. Read a word by one atomic load, acquire or stronger, and never write it. */
+/* Returns the address of the words with the states of a place's segment, if that is there: four bits for each of its places, from
+   its first one on, sixteen places a word, from the lowest bits up. They become KEHLDORA_FILLED_BITS when the place is filled, and
+   then stay so until the vector is closed. Read a word by one atomic load, acquire or stronger, and never write it. */
 static inline kehldora_status kehldora_states(kehldora_hand *hand, uint64_t place, const uint64_t **at) {
   return hand && at ? kehldora_raw_states(hand, place, at) : KEHLDORA_NULL;
 }

@@ -161,7 +161,7 @@ static void growths(uint64_t words, bool opaque) {
   EXPECT(kehldora_free(&hand), KEHLDORA_DONE);
 }
 
-/* That each value of a segment lies as many elements after the first one of that segment as there are places between them, whatever
+/* That each value of a segment lies as many elements after the segment's first value as there are places between them, whatever
    these hold. The first segment has 4 places. Returns how many values there are. */
 static int check_addresses(kehldora_hand *hand, uint64_t words, uint64_t size) {
   int filled = 0;
@@ -277,7 +277,7 @@ static struct {
   int count;
 } unreadable;
 
-/* What another hand finds at the last place of a growth, which is claimed and not filled yet. That hand fills the place after it. */
+/* What another hand finds at the last place of a growth, which is claimed and not filled yet. It fills the place after that. */
 static void look_between(int signal) {
   kehldora_hand *const hand = &unreadable.other->hand;
   static const uint64_t zeros[MOST_WORDS];

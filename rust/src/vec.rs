@@ -28,6 +28,37 @@ pub struct Vec<T> {
 #[cfg(doctest)]
 struct NoShorterLife;
 
+/// A vector of values that stay with their thread stays there too.
+///
+/// ```compile_fail,E0277
+/// fn send<T: Send>() {}
+/// send::<kehldora::Vec<std::rc::Rc<u8>>>();
+/// ```
+///
+/// A vector of values that threads may not share is not shared, nor is a walk over it.
+///
+/// ```compile_fail,E0277
+/// fn sync<T: Sync>() {}
+/// sync::<kehldora::Vec<std::cell::Cell<u8>>>();
+/// ```
+///
+/// ```compile_fail,E0277
+/// fn sync<T: Sync>() {}
+/// sync::<kehldora::Iter<'static, std::cell::Cell<u8>>>();
+/// ```
+///
+/// ```compile_fail,E0277
+/// fn send<T: Send>() {}
+/// send::<kehldora::Iter<'static, std::cell::Cell<u8>>>();
+/// ```
+///
+/// ```compile_fail,E0277
+/// fn send<T: Send>() {}
+/// send::<kehldora::IntoIter<std::rc::Rc<u8>>>();
+/// ```
+#[cfg(doctest)]
+struct NoOtherThreads;
+
 // A vector gives out its values by `&` in all threads that share it, and drops them, and takes new ones, in any of them.
 unsafe impl<T: Send> Send for Vec<T> {}
 unsafe impl<T: Send + Sync> Sync for Vec<T> {}

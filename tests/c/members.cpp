@@ -58,13 +58,16 @@ struct Text : std::string {
   Text(int number = 0) : std::string("a text that is longer than a short one: " + std::to_string(number)) {}
 };
 
-// An allocator that can be told from others, and counts.
-template <typename T> struct Named {
+// An allocator that can be told from others, and counts. If it propagates, assignments and swaps of vectors take it along.
+template <typename T, typename Propagates = std::false_type> struct Named {
   using value_type = T;
+  using propagate_on_container_copy_assignment = Propagates;
+  using propagate_on_container_move_assignment = Propagates;
+  using propagate_on_container_swap = Propagates;
   int name;
   static inline int blocks = 0;
   explicit Named(int name = 0) : name(name) {}
-  template <typename U> Named(const Named<U> &other) : name(other.name) {}
+  template <typename U> Named(const Named<U, Propagates> &other) : name(other.name) {}
   T *allocate(size_t count) {
     ++blocks;
     return std::allocator<T>().allocate(count);
@@ -95,7 +98,7 @@ template <typename Exception, typename Call> bool throws(Call call) {
 template <typename T> void constructors_and_assignments() {
   using Vector = concurrent_vector<T>;
   const std::list<T> list{T(1), T(2)};
-  CHECK(holds(Vector(), {}) && Vector().empty() && Vector().capacity() == 0);
+  CHECK(holds(Vector(), {}) && Vector().empty() && Vector().capacity() == 0 && Vector().max_size() == uint64_t{1} << 40);
   CHECK(Vector(3).size() == 3 && Vector(3)[2] == T());
   CHECK(holds(Vector(2, T(5)), {5, 5}));
   CHECK(holds(Vector(list.begin(), list.end()), {1, 2}));
@@ -172,14 +175,19 @@ template <typename T> void access() {
   CHECK(kept == &v[7] && kept == v.find(7) && kept == &c.at(7) && kept == *v.try_at(7) && kept == *c.try_at(7));
   CHECK(v.front() == T(0) && c.front() == T(0) && v.back() == T() && c.back() == T());
   CHECK(throws<std::out_of_range>([&] { c.at(1020); }) && c.try_at(1020).status() == KEHLDORA_OUT_OF_RANGE);
+  CHECK(v.try_at(7).value() == kept && *v.try_at(7).operator->() == kept && c.try_at(7).text() == std::string("done"));
+  CHECK(throws<std::out_of_range>([&] { c.try_at(1020).value(); }));
+  CHECK(c.try_at(1020).text() == std::string("the place is not below the size"));
   v.resize(20);
   int sum = 0;
   for (const T &it : c)
     sum += int(&it - &it) + 1;
   CHECK(sum == 20 && c.cend() - c.cbegin() == 20 && *(c.rbegin()) == T(19) && *(v.rend() - 1) == T(0) && *v.crbegin() == T(19));
+  CHECK(*(c.rend() - 1) == T(0) && *(v.crend() - 1) == T(0) && c.rend() - c.rbegin() == 20 && v.crend() == c.rend());
   CHECK(v.shown([](T &it) { it = T(1); }) == 20 && c.shown([](const T &it) { CHECK(it == T(1)); }) == 20);
   typename concurrent_vector<T>::const_iterator from = v.begin();
   auto it = v.begin() + 5;
+  CHECK(it.place() == 5 && from.place() == 0 && c.end().place() == 20);
   CHECK(it - from == 5 && from < it && it > from && from <= it && it >= from && from != it && it-- != from);
   --it;
   CHECK(&it[0] == &v[3] && &*it++ == &v[3] && &*(2 + it - 1) == &v[5] && &*(it -= 2) == &v[2] && &*(it += 1) == &v[3]);
@@ -276,12 +284,43 @@ static void unique_pointers() {
   CHECK(values.size() == 100 && values[0]->number == 1);
 }
 
+// Types whose copies share what they point to.
+static void shared_pointers() {
+  using Pointer = std::shared_ptr<Counted>;
+  using Weak = std::weak_ptr<Counted>;
+  static_assert(kehldora::detail::cell<Pointer>::in_place && kehldora::detail::cell<Weak>::in_place);
+  concurrent_vector<Weak> watch;
+  {
+    const Pointer one = std::make_shared<Counted>(1);
+    concurrent_vector<Pointer> v(3, one);
+    v.push_back(one);
+    v.push_back(std::make_shared<Counted>(2));
+    v.grow_by({one, nullptr});
+    v.grow_to_at_least(100, one);
+    CHECK(one.use_count() == 1 + 3 + 1 + 1 + 93 && v[4]->number == 2 && !v[6] && v[99] == one);
+    for (const Pointer &it : v)
+      watch.push_back(it);
+    Pointer *const kept = &v[0];
+    v.resize(4);
+    CHECK(kept == &v[0] && one.use_count() == 5 && watch[4].expired() && watch[0].lock() == one);
+    const concurrent_vector<Pointer> copy(v);
+    CHECK(one.use_count() == 9 && copy == v);
+    v.clear();
+    CHECK(one.use_count() == 5 && v.into_vector().empty());
+    watch.grow_by(3, watch[0]);
+    watch.grow_by(2);
+  }
+  CHECK(watch.size() == 105 && watch.shown([](const Weak &it) { CHECK(it.expired()); }) == 105);
+  CHECK(watch.into_vector().size() == 105);
+}
+
 // What a construction that throws leaves, for each construction of some growths.
 template <typename T> void throwing() {
   for (int at = 0; at < 12; ++at) {
     concurrent_vector<T> v{T(1), T(2)};
     const T three(3);
-    const std::vector<T> more{T(4), T(5)};
+    const std::vector<T> more{T(4), T(5)}, others{T(1), T(6)};
+    auto hand = v.make_hand();
     const auto refused = [&](auto call) {
       const size_t size = v.size();
       const int before = alive;
@@ -299,7 +338,31 @@ template <typename T> void throwing() {
     refused([&] { v.grow_to_at_least(v.size() + 3); });
     refused([&] { v.grow_to_at_least(v.size() + 3, three); });
     refused([&] { v.resize(v.size() + 3); });
+    refused([&] { v.resize(v.size() + 3, three); });
+    refused([&] { v.push_back(T(3)); });
+    refused([&] { v.grow_by({T(3), T(4)}); });
+    refused([&] { v.try_push_back(three); });
+    refused([&] { v.try_push_back(T(3)); });
+    refused([&] { v.try_emplace_back(3); });
+    refused([&] { v.try_grow_by(more.begin(), more.end()); });
+    refused([&] { v.try_grow_by({T(3), T(4)}); });
+    refused([&] { hand.push_back(three); });
+    refused([&] { hand.push_back(T(3)); });
+    refused([&] { hand.emplace_back(3); });
+    refused([&] { hand.grow_by(more.begin(), more.end()); });
+    refused([&] { v.buffered(2).push_back(three); });
+    refused([&] { v.buffered(2).push_back(T(3)); });
+    refused([&] { v.buffered(2).emplace_back(3); });
+    refused([&] { v.assign({T(1), T(3)}); });
+    refused([&] { v = {T(1), T(4)}; });
+    refused([&] { v.assign(others.begin(), others.end()); });
+    refused([&] { v.assign(2, others[0]); });
     refused([&] { concurrent_vector<T> other(4); });
+    refused([&] { concurrent_vector<T> other(4, three); });
+    refused([&] { concurrent_vector<T> other(more.begin(), more.end()); });
+    refused([&] { concurrent_vector<T> other{T(3), T(4)}; });
+    refused([&] { concurrent_vector<T> other(v); });
+    refused([&] { concurrent_vector<T>(1) = v; });
     refused([&] { v = concurrent_vector<T>(v); });
   }
   CHECK(alive == 0 && hook_blocks() == 0);
@@ -389,6 +452,39 @@ static void allocators() {
     CHECK(b.empty() && holds(c, {1, 1, 1}) && d == c && d.get_allocator().name == 4);
   }
   CHECK(Named<Counted>::blocks == 0 && alive == 0);
+  {
+    const Named<Counted> seven(7);
+    const std::list<Counted> list{1, 2};
+    Vector a(seven), b(kehldora::limit{4}, seven), c(3, seven), d(list.begin(), list.end(), seven), e({1, 2, 3}, seven);
+    for (const Vector *it : {&a, &b, &c, &d, &e})
+      CHECK(it->get_allocator().name == 7);
+    CHECK(a.empty() && b.empty() && b.max_size() == 4 && holds(c, {0, 0, 0}) && holds(d, {1, 2}) && holds(e, {1, 2, 3}));
+    CHECK(Named<Counted>::blocks == 8);
+  }
+  CHECK(Named<Counted>::blocks == 0 && alive == 0);
+}
+
+// An allocator that propagates goes where the values go, and with them no value is moved.
+static void propagating_allocators() {
+  using Taken = Named<Counted, std::true_type>;
+  using Vector = concurrent_vector<Counted, Taken>;
+  static_assert(std::is_nothrow_move_assignable_v<Vector> && std::is_nothrow_swappable_v<Vector>);
+  {
+    Vector a({1, 2}, Taken(1)), b(1, Counted(3), Taken(2)), c(1, Counted(4), Taken(3));
+    Counted *const kept = &a[0];
+    b = a;
+    CHECK(b.get_allocator().name == 1 && holds(b, {1, 2}) && a.get_allocator().name == 1 && Taken::blocks == 5);
+    c = std::move(a);
+    CHECK(c.get_allocator().name == 1 && holds(c, {1, 2}) && kept == &c[0] && a.empty() && Taken::blocks == 4);
+    Vector d(1, Counted(5), Taken(4));
+    d.swap(c);
+    CHECK(d.get_allocator().name == 1 && holds(d, {1, 2}) && kept == &d[0]);
+    CHECK(c.get_allocator().name == 4 && holds(c, {5}));
+    swap(c, d);
+    c.push_back(6);
+    CHECK(c.get_allocator().name == 1 && holds(c, {1, 2, 6}) && holds(d, {5}) && Taken::blocks == 6);
+  }
+  CHECK(Taken::blocks == 0 && alive == 0);
 }
 
 // What a reader finds at the last place of a long growth, which is claimed and not filled yet. It may come too late: then there are
@@ -433,6 +529,7 @@ int main() {
   all<Counted>();
   all<Relocated>();
   unique_pointers();
+  shared_pointers();
   throwing<Counted>();
   throwing<Relocated>();
   without_memory<int>();
@@ -446,6 +543,7 @@ int main() {
   }
   ends_without_memory();
   allocators();
+  propagating_allocators();
   pending();
   runs();
   CHECK(alive == 0 && hook_blocks() == 0);

@@ -37,71 +37,136 @@ template <> struct As<std::unique_ptr<uint64_t>> {
   static uint64_t number(const std::unique_ptr<uint64_t> &value) { return *value; }
 };
 
-// Each thread appends its own numbers in another way each time, and looks at once whether they are there.
-template <typename T> void grow(concurrent_vector<T> &v, unsigned thread) {
-  const auto make = [thread](uint64_t i) { return As<T>::make(thread * 1000 + i); };
-  const auto holds = [&](auto it, uint64_t i) { return As<T>::number(*it) == thread * 1000 + i; };
+template <> struct As<std::shared_ptr<uint64_t>> {
+  static std::shared_ptr<uint64_t> make(uint64_t number) { return std::make_shared<uint64_t>(number); }
+  static uint64_t number(const std::shared_ptr<uint64_t> &value) { return *value; }
+};
+
+// How often a thread appends its last number at once, if values can be copied.
+constexpr uint64_t COPIES = 4;
+
+// Each thread appends its own numbers, from 0 on, in another way each time, and looks at once whether they are there. Returns how
+// many numbers it has appended once.
+template <typename T> uint64_t grow(concurrent_vector<T> &v, unsigned thread) {
   uint64_t i = 0;
-  for (; i < 8; ++i)
-    CHECK(holds(v.push_back(make(i)), i));
+  const auto make = [thread](uint64_t number) { return As<T>::make(thread * 1000 + number); };
+  const auto next = [&](uint64_t count) {
+    std::vector<T> values;
+    for (uint64_t k = 0; k < count; ++k)
+      values.push_back(make(i + k));
+    return values;
+  };
+  const auto moved = [](auto it) { return std::make_move_iterator(it); };
+  const auto has_next = [&](auto it, uint64_t count = 1) {
+    for (uint64_t k = 0; k < count; ++k, ++i)
+      CHECK(As<T>::number(it[ptrdiff_t(k)]) == thread * 1000 + i);
+  };
   auto hand = v.make_hand();
-  for (; i < 16; ++i)
-    CHECK(holds(hand.emplace_back(make(i)), i));
-  std::vector<T> some;
-  for (uint64_t k = i; k < 32; ++k)
-    some.push_back(make(k));
-  const auto from = v.grow_by(std::make_move_iterator(some.begin()), std::make_move_iterator(some.end()));
-  for (uint64_t k = 0; k < 16; ++k, ++i)
-    CHECK(holds(from + ptrdiff_t(k), i));
-  auto buffer = v.buffered(5);
-  for (; i < 50; ++i)
-    buffer.push_back(make(i));
+  for (unsigned round = 0; round < 4; ++round) {
+    has_next(v.push_back(make(i)));
+    has_next(v.emplace_back(make(i)));
+    has_next(v.try_push_back(make(i)).value());
+    has_next(v.try_emplace_back(make(i)).value());
+    has_next(hand.push_back(make(i)));
+    has_next(hand.emplace_back(make(i)));
+  }
+  std::vector<T> some = next(16);
+  has_next(v.grow_by(moved(some.begin()), moved(some.end())), 16);
+  some = next(3);
+  has_next(v.try_grow_by(moved(some.begin()), moved(some.end())).value(), 3);
+  some = next(3);
+  has_next(hand.grow_by(moved(some.begin()), moved(some.end())), 3);
+  {
+    auto buffer = v.buffered(5);
+    for (unsigned round = 0; round < 9; ++round) {
+      buffer.push_back(make(i++));
+      buffer.emplace_back(make(i++));
+    }
+  }
+  if constexpr (std::is_copy_constructible_v<T>) {
+    const std::vector<T> ones = next(6);
+    has_next(v.push_back(ones[0]));
+    has_next(v.try_push_back(ones[1]).value());
+    has_next(hand.push_back(ones[2]));
+    has_next(v.grow_by({ones[3], ones[4]}), 2);
+    has_next(v.try_grow_by({ones[5]}).value());
+    const std::vector<T> more = next(6);
+    has_next(v.grow_by(more.begin(), more.begin() + 2), 2);
+    has_next(v.try_grow_by(more.begin() + 2, more.begin() + 4).value(), 2);
+    has_next(hand.grow_by(more.begin() + 4, more.end()), 2);
+    const auto from = v.grow_by(COPIES, make(i));
+    for (uint64_t k = 0; k < COPIES; ++k)
+      CHECK(As<T>::number(from[ptrdiff_t(k)]) == thread * 1000 + i);
+  }
+  return i;
 }
 
 template <typename T> void all_growths() {
   for (unsigned round = 0; round < ROUNDS; ++round) {
     concurrent_vector<T> v;
     std::atomic<unsigned> left{THREADS};
+    std::atomic<uint64_t> once{0};
     in_threads(THREADS + 1, [&](unsigned number) {
       if (number < THREADS) {
-        grow(v, number);
+        once = grow(v, number);
         --left;
         return;
       }
       // What a reader finds is whole.
       size_t before = 0;
       do {
-        const size_t count = v.shown([](const T &it) { CHECK(As<T>::number(it) % 1000 < 50); });
+        const size_t count = v.shown([](const T &it) { CHECK(As<T>::number(it) % 1000 < 100); });
         CHECK(before <= count && count <= v.size());
         before = count;
       } while (left);
     });
-    CHECK(v.size() == THREADS * 50);
-    std::vector<bool> seen(THREADS * 1000);
-    std::vector<uint64_t> last(THREADS, 0);
+    const uint64_t copies = std::is_copy_constructible_v<T> ? COPIES : 0;
+    CHECK(v.size() == THREADS * (once + copies));
+    std::vector<uint64_t> seen(THREADS * 1000), last(THREADS, 0);
     v.shown([&](const T &it) {
       const uint64_t number = As<T>::number(it);
-      CHECK(!seen[number] && last[number / 1000] <= number);
-      seen[number] = true, last[number / 1000] = number;
+      CHECK(++seen[number] <= (number % 1000 < once ? 1 : copies) && last[number / 1000] <= number);
+      last[number / 1000] = number;
     });
-    CHECK(v.into_vector().size() == THREADS * 50);
+    CHECK(v.into_vector().size() == THREADS * (once + copies));
   }
 }
 
-// Growths up to a size, and of copies: together they never leave a gap or pass the size.
+// Growths up to a size, of values by default and of copies: together they never leave a gap or pass the size.
 template <typename T> void up_to_sizes() {
   for (unsigned round = 0; round < ROUNDS; ++round) {
     concurrent_vector<T> v;
-    std::atomic<size_t> appended{0};
-    in_threads(THREADS, [&](unsigned) {
+    const auto is_one = [](const T &it) { return it == T() || As<T>::number(it) == 7; };
+    in_threads(THREADS, [&](unsigned number) {
       for (size_t size = 10; size <= 200; size += 10) {
-        const auto from = v.grow_to_at_least(size);
+        if constexpr (std::is_copy_constructible_v<T>)
+          number % 2 ? v.grow_to_at_least(size, As<T>::make(7)) : v.grow_to_at_least(size);
+        else
+          v.grow_to_at_least(size);
         // Also what other threads have claimed is there.
-        CHECK(v.size() >= size && v.find(size - 1) && v.find(size - 10));
-        appended += from == v.end() ? 0 : 1;
+        CHECK(v.size() >= size && is_one(*v.find(size - 1)) && is_one(*v.find(size - 10)));
       }
     });
-    CHECK(v.size() == 200 && v.shown([](const T &) {}) == 200);
+    CHECK(v.size() == 200 && v.shown([&](const T &it) { CHECK(is_one(it)); }) == 200);
+  }
+}
+
+// Threads write to the values by default of their own growths.
+template <typename T> void by_default() {
+  for (unsigned round = 0; round < ROUNDS; ++round) {
+    concurrent_vector<T> v;
+    in_threads(THREADS, [&](unsigned number) {
+      for (uint64_t i = 0; i < 10; ++i) {
+        const auto it = v.grow_by(3);
+        CHECK(it[0] == T() && it[2] == T());
+        for (int k = 0; k < 3; ++k)
+          it[k] = As<T>::make(number);
+      }
+    });
+    std::vector<size_t> count(THREADS);
+    CHECK(v.shown([&](const T &it) { ++count[As<T>::number(it)]; }) == THREADS * 30);
+    for (const size_t it : count)
+      CHECK(it == 30);
   }
 }
 
@@ -231,9 +296,12 @@ int main() {
   all_growths<int>();
   all_growths<std::string>();
   all_growths<std::unique_ptr<uint64_t>>();
+  all_growths<std::shared_ptr<uint64_t>>();
   up_to_sizes<uint64_t>();
   up_to_sizes<std::string>();
   up_to_sizes<std::unique_ptr<uint64_t>>();
+  by_default<uint64_t>();
+  by_default<std::string>();
   writes_while_others_push();
   twenty_vectors();
   short_threads();

@@ -4,6 +4,7 @@ ghost use Rattle.std.specs.Prelude.{◌<◌, ◌≤◌, length};
 
 mod all_come;
 mod buffered_writers;
+mod halves;
 mod hands;
 mod lent_writers;
 mod many_hands;

@@ -1,11 +1,11 @@
 // What callers prove of the running vector and of its list by the public clauses alone.
 ghost use Rattle.std.specs.Prelude.{◌≡◌, ◌+◌, ◌<◌, ◌≤◌, Some, IfSome, IfOk, IfErr, ℕ, length, slice_get, true};
-ghost use Rattle.grow_core.specs.Vector.{IsHandOf, IsOpenedAt};
+ghost use Rattle.grow_core.specs.Vector.{IsHandOf, IsOpenedAt, IsSpoiltOf};
 ghost use Rattle.grow_core.specs.Closing.{KeepsValues};
 
 use crate::quiet::resized;
 use crate::results::succeeded;
-use grow_core::{AtError, AtLeast, GrowError, Hand, Shared, Shown, makers};
+use grow_core::{AtError, AtLeast, GrowError, Hand, Shared, Shown, Spoilt, makers};
 use quiet_core::{Quiet, QuietMendError, laws};
 use std::alloc::AllocGlobal;
 
@@ -127,6 +127,28 @@ fn broken_places(vector: &Shared<u64>, hand: &mut Hand<u64>, place: u64) -> Opti
     both
 }
 
+// The token that a look gives of a broken place. It is of this vector.
+fn spoilt_shown(vector: &Shared<u64>, place: u64) -> Option<Spoilt>
+    ensures { IfSome result (IsSpoiltOf vector.now) }
+{
+    match vector.look(place) {
+        Shown::Broken(spoilt) => Some(spoilt),
+        _ => None,
+    }
+}
+
+// The same of the token that `at` gives.
+fn spoilt_at(vector: &Shared<u64>, hand: &mut Hand<u64>, place: u64) -> Option<Spoilt>
+    requires ours { IsHandOf vector.now hand.old }
+    ensures of { hand.new.of ≡ hand.old.of }
+    ensures ours { IfSome result (IsSpoiltOf vector.now) }
+{
+    match vector.at(hand, place, None) {
+        Err(AtError::Broken(spoilt)) => Some(spoilt),
+        _ => None,
+    }
+}
+
 // Mends a member of a list, and returns the value that it has afterwards.
 fn mended_or_there(list: &mut Quiet<u64>, place: u64, value: u64) -> u64
     requires there { place < length list.old.members }
@@ -226,16 +248,18 @@ fn numbers<R: AllocGlobal>(rt: &R, n: u64, refused: u64) -> Quiet<u64> {
 }
 
 // The values that callers know after a growth that was refused its second value, after a growth to a size of
-// four, and of the last place.
-type Learned = ((u64, u64, u64, u64), u64, (u64, u64));
+// four, and of the last two places.
+type Learned = ((u64, u64, u64, u64), u64, (u64, u64), (u64, u64));
 
 fn learned(vector: &Shared<u64>, hand: &mut Hand<u64>) -> Option<Learned>
     requires ours { IsHandOf vector.now hand.old }
 {
     let refused = grow_refused(vector, hand, 3, 1)?;
     let size = grow_to(vector, hand, 4)?;
+    let looked = spoilt_shown(vector, 4)?;
+    let read = spoilt_at(vector, hand, 4)?;
     let broken = broken_places(vector, hand, 5)?;
-    Some((refused, size, broken))
+    Some((refused, size, (looked.place(), read.place()), broken))
 }
 
 fn grown_over(list: Quiet<u64>) -> Option<Learned> {
@@ -255,7 +279,7 @@ fn first_made(list: Quiet<u64>) -> Option<u64> {
 
 #[test]
 fn callers_know_what_a_growth_reports(rt: HostRuntime) {
-    assert!(rt; grown_over(numbers(&rt, 3, 9)) == Some(((3, 3, 1, 9), 6, (5, 5))));
+    assert!(rt; grown_over(numbers(&rt, 3, 9)) == Some(((3, 3, 1, 9), 6, (4, 4), (5, 5))));
     assert!(rt; first_made(numbers(&rt, 3, 9)) == Some(70));
 }
 

@@ -2,7 +2,7 @@
 use super::callers::{Callers, on_two, succeeded};
 use super::parts::{append, room};
 use super::ways::numbers;
-use grow_core::{Parts, Run, Shared, ShownCells};
+use grow_core::{Parts, Published, Run, Shared, ShownCells};
 use std::alloc::{AllocGlobal, Global};
 use std::sync::Wait;
 
@@ -197,10 +197,10 @@ static TWENTY: [Seen; 5] = [
     (16, 4, 4, 70),
 ];
 
-// What a walk over the vector shows in all: the sum of the values, and the places without one.
-fn walked(vector: &Shared<u64>) -> (u64, u64) {
+// What a walk shows in all: the sum of the values, and the places without one.
+fn walked(walk: Published<'_, u64>) -> (u64, u64) {
     let (mut sum, mut none) = (0u64, 0u64);
-    for item in vector.published() {
+    for item in walk {
         match item {
             Some(value) => sum = sum.wrapping_add(*value),
             None => none = none.wrapping_add(1),
@@ -211,7 +211,9 @@ fn walked(vector: &Shared<u64>) -> (u64, u64) {
 
 // Tests whether the vector that is opened on the list shows all of them.
 fn shows_twenty(vector: &Shared<u64>) -> bool {
-    are_seen(vector, &TWENTY) && walked(vector) == (181, 1) && vector.published_count() == 19
+    are_seen(vector, &TWENTY)
+        && walked(vector.published()) == (181, 1)
+        && vector.published_count() == 19
 }
 
 fn twenty_are_shown(alloc: Global) -> Option<bool> {
@@ -224,6 +226,35 @@ fn twenty_are_shown(alloc: Global) -> Option<bool> {
 #[test]
 fn the_values_of_an_opened_list_are_shown_by_segments(rt: HostRuntime) {
     assert!(rt; twenty_are_shown(rt.alloc()) == Some(true));
+}
+
+// Tests whether of eight places of the last segment the first `made` show 1, and the others nothing: also the next one,
+// whose maker calls this.
+fn shows_made(vector: &Shared<u64>, made: u64) -> bool {
+    match last_of(vector) {
+        Some(cells) if made < cells.len() && cells.len() == 8 => {
+            cells.get(made).is_none()
+                && cells.filled(made).is_empty()
+                && cells.filled(0).len() as u64 == made
+                && walked(cells.iter()) == (made, 8 - made)
+        }
+        _ => false,
+    }
+}
+
+// Appends eight values, and then makes eight in the next segment, each if the segment shows those before it.
+fn makes_in_view<R: AllocGlobal + Wait>(rt: &R, two: &mut Callers<u64>) -> bool {
+    if !appends(rt, two, 8) {
+        return false;
+    }
+    let vector = &two.vector;
+    let make = |i: u64| -> Result<u64, u64> { if shows_made(vector, i) { Ok(1) } else { Err(i) } };
+    succeeded(vector.try_grow_with(&mut two.a, 8, make)) && walked(vector.published()) == (36, 0)
+}
+
+#[test]
+fn a_place_whose_value_is_being_made_shows_none_in_its_segment(rt: HostRuntime) {
+    assert!(rt; on_two(&rt, 100, |two| makes_in_view(&rt, two)));
 }
 
 // A walk over three broken places. The second place is mended when the first item has come.

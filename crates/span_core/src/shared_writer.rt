@@ -1,11 +1,13 @@
 //! A vector with several owners and a hand of it, in one value.
-ghost use Rattle.std.specs.Prelude.{◌≡◌, ◌+◌, ◌-◌, ◌<◌, ◌≤◌, ◌++◌, ◌⊎◌, IfOk, IfErr, IsErrAnd, OnOk, OnErr, length, vec_len};
+ghost use Rattle.std.specs.Prelude.{◌≡◌, ◌+◌, ◌-◌, ◌<◌, ◌≤◌, [], ◌∷◌, ◌++◌, ◌⊎◌, IfOk, IfErr, IsErrAnd, OnOk, OnErr, length, vec_len};
 ghost use Rattle.std.specs.Arc.{arc_value};
 ghost use mathlib.Core.List.{IsPrefix};
-ghost use Rattle.claim_core.specs.Hand.{IsWholeHand, OwnApart, SeesSize, seen_size};
+ghost use Rattle.claim_core.specs.Hand.{IsWholeHand, LogsRun, OwnApart, SeesSize, seen_size};
+ghost use Rattle.claim_core.specs.History.{AddsEvents, size_event};
 ghost use Rattle.grow_core.specs.Vector.{IsHandOf, IsOpenedAt, IsPlacedOf, limit_of, layout_of};
 ghost use Rattle.grow_core.specs.Closing.{KeepsValues, IsClosedFrom};
-ghost use Rattle.grow_core.specs.Growth.{WonPlace, WonRun, WonPlaces, Refuses, HasNoRoom, SaysFull, IsNotMoved};
+ghost use Rattle.grow_core.specs.Growth.{WonPlace, WonRun, WonPlaces, Refuses, HasNoRoom, SaysFull, IsNotMoved, single};
+ghost use Rattle.grow_core.specs.Logs.{LogsGrowth, LogsRefusal};
 ghost use Rattle.grow_core.specs.Making.{WonMade, StopsAfter, IsRefusedBy};
 ghost use Rattle.grow_core.specs.Read.{IsShownAt, ShowsValue};
 ghost use Rattle.span_core.specs.Hands.{split_off};
@@ -88,6 +90,7 @@ impl<T> SharedWriter<T> {
         ensures seen { SeesSize self.old.hand self.new.hand result }
         ensures grows { seen_size self.old.hand ≤ result }
         ensures opened { length self.old.vector.opened ≤ result }
+        ensures logs { AddsEvents self.old.hand.log (size_event result ∷ []) self.new.hand.log }
         // Nobody else can append while one hand has all shares.
         ensures whole { IsWholeHand self.old.hand → result ≡ seen_size self.old.hand }
         ensures vector { self.new.vector ≡ self.old.vector }
@@ -137,12 +140,15 @@ impl<T: Drop> SharedWriter<T> {
     /// the two had seen.
     pub fn join(&mut self, other: SharedWriter<T>)
         requires same { other.vector ≡ self.old.vector }
+        ensures of { self.new.hand.of ≡ self.old.hand.of }
         ensures mine { self.new.hand.mine ≡ self.old.hand.mine ++ other.hand.mine }
         ensures shares { self.new.hand.shares ≡ self.old.hand.shares + other.hand.shares }
         ensures seen { (self.new.hand.seen ≡ self.old.hand.seen)
             ⊎ (self.new.hand.seen ≡ other.hand.seen) }
         ensures begins { IsPrefix self.old.hand.seen self.new.hand.seen }
         ensures also_begins { IsPrefix other.hand.seen self.new.hand.seen }
+        ensures begins_log { IsPrefix self.old.hand.log self.new.hand.log }
+        ensures also_begins_log { IsPrefix other.hand.log self.new.hand.log }
         ensures apart { OwnApart self.old.hand other.hand }
         ensures vector { self.new.vector ≡ self.old.vector }
     {
@@ -184,6 +190,10 @@ impl<T: Drop> SharedWriter<T> {
         // Room that is missing by what the hand has seen is reported before memory is asked for.
         ensures full { HasNoRoom self.old.vector 1 self.old.hand → IsErrAnd result SaysFull }
         ensures not_moved { IfErr result IsNotMoved }
+        // The history gets the claim of the place, or the event whose reply the refusal is.
+        ensures logs { IfOk result
+            (λ placed. LogsRun self.old.hand self.new.hand (single placed.place)) }
+        ensures logs_refusal { IfErr result (LogsRefusal 1 self.old.hand self.new.hand) }
         ensures vector { self.new.vector ≡ self.old.vector }
     {
         self.vector.push_back(rt, &mut self.hand, value)
@@ -197,6 +207,10 @@ impl<T: Drop> SharedWriter<T> {
             (Refuses self.old.vector 1 value self.old.hand self.new.hand) }
         // Room that is missing by what the hand has seen is reported before memory is asked for.
         ensures full { HasNoRoom self.old.vector 1 self.old.hand → IsErrAnd result SaysFull }
+        // The history gets the claim of the place, or the event whose reply the refusal is.
+        ensures logs { IfOk result
+            (λ placed. LogsRun self.old.hand self.new.hand (single placed.place)) }
+        ensures logs_refusal { IfErr result (LogsRefusal 1 self.old.hand self.new.hand) }
         ensures vector { self.new.vector ≡ self.old.vector }
     {
         self.vector.try_push_back(&mut self.hand, value)
@@ -216,6 +230,10 @@ impl<T: Drop> SharedWriter<T> {
         ensures full { HasNoRoom self.old.vector (vec_len values) self.old.hand
             → IsErrAnd result SaysFull }
         ensures not_moved { IfErr result IsNotMoved }
+        // The history gets the claim of the run, or the event whose reply the refusal is.
+        ensures logs { IfOk result (λ grown. LogsGrowth self.old.hand self.new.hand grown.run) }
+        ensures logs_refusal { IfErr result
+            (LogsRefusal (vec_len values) self.old.hand self.new.hand) }
         ensures vector { self.new.vector ≡ self.old.vector }
     {
         self.vector.grow_vec(rt, &mut self.hand, values)
@@ -234,6 +252,10 @@ impl<T: Drop> SharedWriter<T> {
         ensures full { HasNoRoom self.old.vector (vec_len values) self.old.hand
             → IsErrAnd result SaysFull }
         ensures not_moved { IfErr result IsNotMoved }
+        // The history gets the claim of the run, or the event whose reply the refusal is.
+        ensures logs { IfOk result (λ run. LogsGrowth self.old.hand self.new.hand run) }
+        ensures logs_refusal { IfErr result
+            (LogsRefusal (vec_len values) self.old.hand self.new.hand) }
         ensures vector { self.new.vector ≡ self.old.vector }
     {
         self.vector.append(rt, &mut self.hand, values)
@@ -254,6 +276,9 @@ impl<T: Drop> SharedWriter<T> {
         ensures cause { IfErr result (IsRefusedBy (StopsAfter F.step make)) }
         ensures full { HasNoRoom self.old.vector n self.old.hand → IsErrAnd result SaysFull }
         ensures not_moved { IfErr result IsNotMoved }
+        // The history gets the claim of the run, or the event whose reply the refusal is.
+        ensures logs { IfOk result (λ grown. LogsGrowth self.old.hand self.new.hand grown.run) }
+        ensures logs_refusal { IfErr result (LogsRefusal n self.old.hand self.new.hand) }
         ensures vector { self.new.vector ≡ self.old.vector }
     {
         self.vector.grow_with(rt, &mut self.hand, n, make)

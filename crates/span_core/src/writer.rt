@@ -1,9 +1,12 @@
 //! A vector and a hand of it, in one value.
-ghost use Rattle.std.specs.Prelude.{◌≡◌, ◌+◌, ◌-◌, ◌<◌, ◌≤◌, ◌++◌, ◌⊎◌, IfOk, IfErr, IfSome, IsOkAnd, IsErrAnd, None, length};
+ghost use Rattle.std.specs.Prelude.{◌≡◌, ◌+◌, ◌-◌, ◌<◌, ◌≤◌, [], ◌∷◌, ◌++◌, ◌⊎◌, IfOk, IfErr, IfSome, IsOkAnd, IsErrAnd, None, length};
 ghost use mathlib.Core.List.{IsPrefix};
-ghost use Rattle.claim_core.specs.Hand.{IsWholeHand, KeepsOwn, OwnApart, SeesSize, seen_size};
+ghost use Rattle.seg_core.specs.Segment.{most_places};
+ghost use Rattle.claim_core.specs.Hand.{IsWholeHand, KeepsOwn, LogsRun, OwnApart, SeesSize, seen_size};
+ghost use Rattle.claim_core.specs.History.{AddsEvents, size_event};
 ghost use Rattle.grow_core.specs.Vector.{IsHandOf, IsPlacedOf, IsOpenedAt, SeesMore, base_of, limit_of};
-ghost use Rattle.grow_core.specs.Growth.{WonPlace, Refuses, HasNoRoom, SaysFull, IsNotMoved};
+ghost use Rattle.grow_core.specs.Growth.{WonPlace, Refuses, HasNoRoom, SaysFull, IsNotMoved, single};
+ghost use Rattle.grow_core.specs.Logs.{LogsNothing, LogsAtRefusal, LogsRefusal};
 ghost use Rattle.grow_core.specs.Read.{IsAt, IsShownAt, ShowsValue, IsDueAt, IsInRange};
 ghost use Rattle.span_core.specs.Hands.{split_off};
 ghost use Rattle.span_core.specs.Writer.{IsTied};
@@ -110,6 +113,7 @@ impl<'a, T, B: Tie> Writer<'a, T, B> {
         ensures seen { SeesSize self.old.hand self.new.hand result }
         ensures grows { seen_size self.old.hand ≤ result }
         ensures opened { length self.old.vector.opened ≤ result }
+        ensures logs { AddsEvents self.old.hand.log (size_event result ∷ []) self.new.hand.log }
         // Nobody else can append while one hand has all shares.
         ensures whole { IsWholeHand self.old.hand → result ≡ seen_size self.old.hand }
         ensures vector { self.new.vector ≡ self.old.vector }
@@ -136,6 +140,9 @@ impl<'a, T, B: Tie> Writer<'a, T, B> {
         // A place that was claimed stays claimed.
         ensures in_range { place < seen_size self.old.hand → IfErr result IsInRange }
         ensures hand { SeesMore self.old.hand self.new.hand }
+        // The history gets the look at a place that is not below the size.
+        ensures logs { IfOk result (λ _. LogsNothing self.old.hand self.new.hand) }
+        ensures logs_refusal { IfErr result (LogsAtRefusal place self.old.hand self.new.hand) }
         ensures vector { self.new.vector ≡ self.old.vector }
     {
         let vector = self.vector;
@@ -172,6 +179,7 @@ impl<'a, T, B: Tie> Writer<'a, T, B> {
         ensures from { result.place ≡ 0 }
         ensures opened { base_of self.now.vector ≤ result.end }
         ensures within { result.end ≤ limit_of self.now.vector }
+        ensures small { result.end ≤ most_places }
     {
         let vector = self.vector;
         vector.published()
@@ -201,6 +209,8 @@ impl<'a, T, B: Tie> Writer<'a, T, B> {
             ⊎ (self.new.hand.seen ≡ other.entry.hand.seen) }
         ensures begins { IsPrefix self.old.hand.seen self.new.hand.seen }
         ensures also_begins { IsPrefix other.entry.hand.seen self.new.hand.seen }
+        ensures begins_log { IsPrefix self.old.hand.log self.new.hand.log }
+        ensures also_begins_log { IsPrefix other.entry.hand.log self.new.hand.log }
         ensures apart { OwnApart self.old.hand other.entry.hand }
         ensures vector { self.new.vector ≡ self.old.vector }
     {
@@ -218,6 +228,9 @@ impl<'a, T, B: Tie> Writer<'a, T, B> {
         ensures begins { IsPrefix self.old.hand.seen self.new.hand.seen }
         ensures also_begins { IsPrefix other.old.hand.seen self.new.hand.seen }
         ensures same { other.new.hand.seen ≡ self.new.hand.seen }
+        ensures begins_log { IsPrefix self.old.hand.log self.new.hand.log }
+        ensures also_begins_log { IsPrefix other.old.hand.log self.new.hand.log }
+        ensures same_log { other.new.hand.log ≡ self.new.hand.log }
         ensures apart { OwnApart self.new.hand other.new.hand }
         ensures vector { self.new.vector ≡ self.old.vector }
         ensures also_vector { other.new.vector ≡ other.old.vector }
@@ -241,6 +254,10 @@ impl<'a, T: Drop, B: Tie> Writer<'a, T, B> {
         // Room that is missing by what the hand has seen is reported before memory is asked for.
         ensures full { HasNoRoom self.old.vector 1 self.old.hand → IsErrAnd result SaysFull }
         ensures not_moved { IfErr result IsNotMoved }
+        // The history gets the claim of the place, or the event whose reply the refusal is.
+        ensures logs { IfOk result
+            (λ placed. LogsRun self.old.hand self.new.hand (single placed.place)) }
+        ensures logs_refusal { IfErr result (LogsRefusal 1 self.old.hand self.new.hand) }
         ensures vector { self.new.vector ≡ self.old.vector }
     {
         let vector = self.vector;
@@ -255,6 +272,10 @@ impl<'a, T: Drop, B: Tie> Writer<'a, T, B> {
             (Refuses self.old.vector 1 value self.old.hand self.new.hand) }
         // Room that is missing by what the hand has seen is reported before memory is asked for.
         ensures full { HasNoRoom self.old.vector 1 self.old.hand → IsErrAnd result SaysFull }
+        // The history gets the claim of the place, or the event whose reply the refusal is.
+        ensures logs { IfOk result
+            (λ placed. LogsRun self.old.hand self.new.hand (single placed.place)) }
+        ensures logs_refusal { IfErr result (LogsRefusal 1 self.old.hand self.new.hand) }
         ensures vector { self.new.vector ≡ self.old.vector }
     {
         let vector = self.vector;

@@ -7,6 +7,7 @@ ghost use Rattle.grow_core.specs.Vector.{IsOpenedAt, IsPlacedOf, SeesMore, limit
 ghost use Rattle.grow_core.specs.Growth.{WonRun, WonPlaces, Refuses, HasNoRoom, SaysFull, IsNotMoved};
 ghost use Rattle.grow_core.specs.Making.{WonMade, WonClones, StopsAfter, IsRefusedBy};
 ghost use Rattle.grow_core.specs.AtLeast.{WonAtLeast, RefusesAtLeast, SaysEnough};
+ghost use Rattle.grow_core.specs.Logs.{LogsNothing, LogsGrowth, LogsRefusal, LogsAtLeast, LogsRefusalUpTo, LogsMendRefusal};
 ghost use Rattle.grow_core.specs.Mend.{IsMendDue, IsSeen, TellsValue};
 ghost use Rattle.span_core.specs.Writer.{AppendsAll, StopsAppending};
 
@@ -26,6 +27,10 @@ impl<'a, T: Drop, B: Tie> Writer<'a, T, B> {
         // Room that is missing by what the hand has seen is reported before memory is asked for.
         ensures full { HasNoRoom self.old.vector (vec_len values) self.old.hand
             → IsErrAnd result SaysFull }
+        // The history gets the claim of the run, or the event whose reply the refusal is.
+        ensures logs { IfOk result (λ grown. LogsGrowth self.old.hand self.new.hand grown.run) }
+        ensures logs_refusal { IfErr result
+            (LogsRefusal (vec_len values) self.old.hand self.new.hand) }
         ensures vector { self.new.vector ≡ self.old.vector }
     {
         let vector = self.vector;
@@ -46,6 +51,10 @@ impl<'a, T: Drop, B: Tie> Writer<'a, T, B> {
         ensures full { HasNoRoom self.old.vector (vec_len values) self.old.hand
             → IsErrAnd result SaysFull }
         ensures not_moved { IfErr result IsNotMoved }
+        // The history gets the claim of the run, or the event whose reply the refusal is.
+        ensures logs { IfOk result (λ grown. LogsGrowth self.old.hand self.new.hand grown.run) }
+        ensures logs_refusal { IfErr result
+            (LogsRefusal (vec_len values) self.old.hand self.new.hand) }
         ensures vector { self.new.vector ≡ self.old.vector }
     {
         let vector = self.vector;
@@ -65,6 +74,10 @@ impl<'a, T: Drop, B: Tie> Writer<'a, T, B> {
         ensures full { HasNoRoom self.old.vector (vec_len values) self.old.hand
             → IsErrAnd result SaysFull }
         ensures not_moved { IfErr result IsNotMoved }
+        // The history gets the claim of the run, or the event whose reply the refusal is.
+        ensures logs { IfOk result (λ run. LogsGrowth self.old.hand self.new.hand run) }
+        ensures logs_refusal { IfErr result
+            (LogsRefusal (vec_len values) self.old.hand self.new.hand) }
         ensures vector { self.new.vector ≡ self.old.vector }
     {
         let vector = self.vector;
@@ -88,6 +101,9 @@ impl<'a, T: Drop, B: Tie> Writer<'a, T, B> {
         ensures cause { IfErr result (IsRefusedBy (StopsAfter F.step make)) }
         // Room that is missing by what the hand has seen is reported before memory is asked for.
         ensures full { HasNoRoom self.old.vector n self.old.hand → IsErrAnd result SaysFull }
+        // The history gets the claim of the run, or the event whose reply the refusal is.
+        ensures logs { IfOk result (λ grown. LogsGrowth self.old.hand self.new.hand grown.run) }
+        ensures logs_refusal { IfErr result (LogsRefusal n self.old.hand self.new.hand) }
         ensures vector { self.new.vector ≡ self.old.vector }
     {
         let vector = self.vector;
@@ -109,6 +125,9 @@ impl<'a, T: Drop, B: Tie> Writer<'a, T, B> {
         ensures cause { IfErr result (IsRefusedBy (StopsAfter F.step make)) }
         ensures full { HasNoRoom self.old.vector n self.old.hand → IsErrAnd result SaysFull }
         ensures not_moved { IfErr result IsNotMoved }
+        // The history gets the claim of the run, or the event whose reply the refusal is.
+        ensures logs { IfOk result (λ grown. LogsGrowth self.old.hand self.new.hand grown.run) }
+        ensures logs_refusal { IfErr result (LogsRefusal n self.old.hand self.new.hand) }
         ensures vector { self.new.vector ≡ self.old.vector }
     {
         let vector = self.vector;
@@ -132,6 +151,10 @@ impl<'a, T: Drop, B: Tie> Writer<'a, T, B> {
         // The hand's size or the limit decides before memory is asked for.
         ensures enough { size ≤ seen_size self.old.hand → IsOkAnd result SaysEnough }
         ensures full { limit_of self.old.vector < size → IsErrAnd result SaysFull }
+        // The history gets the claim of the run up to the size, or the event whose reply the refusal is.
+        ensures logs { IfOk result (LogsAtLeast size self.old.hand self.new.hand) }
+        ensures logs_refusal { IfErr result
+            (LogsRefusalUpTo size self.old.hand self.new.hand) }
         ensures vector { self.new.vector ≡ self.old.vector }
     {
         let vector = self.vector;
@@ -186,6 +209,9 @@ impl<'a, T: Clone, B: Tie> Writer<'a, T, B> {
             (Refuses self.old.vector n tt self.old.hand self.new.hand) }
         ensures made { IfErr result (IsRefusedBy (λ values _. All (T.is_clone value.now) values)) }
         ensures full { HasNoRoom self.old.vector n self.old.hand → IsErrAnd result SaysFull }
+        // The history gets the claim of the run, or the event whose reply the refusal is.
+        ensures logs { IfOk result (λ grown. LogsGrowth self.old.hand self.new.hand grown.run) }
+        ensures logs_refusal { IfErr result (LogsRefusal n self.old.hand self.new.hand) }
         ensures vector { self.new.vector ≡ self.old.vector }
     {
         let vector = self.vector;
@@ -206,6 +232,9 @@ impl<'a, T: Clone, B: Tie> Writer<'a, T, B> {
         ensures made { IfErr result (IsRefusedBy (λ values _. All (T.is_clone value.now) values)) }
         ensures full { HasNoRoom self.old.vector n self.old.hand → IsErrAnd result SaysFull }
         ensures not_moved { IfErr result IsNotMoved }
+        // The history gets the claim of the run, or the event whose reply the refusal is.
+        ensures logs { IfOk result (λ grown. LogsGrowth self.old.hand self.new.hand grown.run) }
+        ensures logs_refusal { IfErr result (LogsRefusal n self.old.hand self.new.hand) }
         ensures vector { self.new.vector ≡ self.old.vector }
     {
         let vector = self.vector;
@@ -232,6 +261,10 @@ impl<'a, T, B: Tie> Writer<'a, T, B> {
         ensures in_range { place < seen_size self.old.hand
             → IfErr result (λ (error, _). IsSeen error) }
         ensures hand { SeesMore self.old.hand self.new.hand }
+        // The history gets the look at a place that is not below the size.
+        ensures logs { IfOk result (λ _. LogsNothing self.old.hand self.new.hand) }
+        ensures logs_refusal { IfErr result
+            (λ (error, _). LogsMendRefusal place self.old.hand self.new.hand error) }
         ensures vector { self.new.vector ≡ self.old.vector }
     {
         let vector = self.vector;

@@ -37,7 +37,9 @@ mod span;
 mod tie;
 mod workers;
 mod writer;
+mod writer_copies;
 mod writer_growths;
+mod writer_push;
 mod writers;
 
 pub use buffered_writer::BufferedWriter;

@@ -1,21 +1,19 @@
 //! A vector and a hand of it, in one value.
-ghost use Rattle.std.specs.Prelude.{◌≡◌, ◌+◌, ◌-◌, ◌<◌, ◌≤◌, [], ◌∷◌, ◌++◌, ◌⊎◌, IfOk, IfErr, IfSome, IsOkAnd, IsErrAnd, None, length};
+ghost use Rattle.std.specs.Prelude.{◌≡◌, ◌+◌, ◌-◌, ◌<◌, ◌≤◌, [], ◌∷◌, ◌++◌, ◌⊎◌, IfOk, IfErr, IfSome, IsOkAnd, None, length};
 ghost use mathlib.Core.List.{IsPrefix};
 ghost use Rattle.seg_core.specs.Segment.{most_places};
-ghost use Rattle.claim_core.specs.Hand.{IsWholeHand, KeepsOwn, LogsRun, OwnApart, SeesSize, seen_size};
+ghost use Rattle.claim_core.specs.Hand.{IsWholeHand, KeepsOwn, OwnApart, SeesSize, seen_size};
 ghost use Rattle.claim_core.specs.History.{AddsEvents, size_event};
 ghost use Rattle.grow_core.specs.Vector.{IsHandOf, IsPlacedOf, IsOpenedAt, SeesMore, base_of, limit_of};
-ghost use Rattle.grow_core.specs.Growth.{WonPlace, Refuses, HasNoRoom, SaysFull, IsNotMoved, single};
-ghost use Rattle.grow_core.specs.Logs.{LogsNothing, LogsAtRefusal, LogsRefusal};
+ghost use Rattle.grow_core.specs.Logs.{LogsNothing, LogsAtRefusal};
 ghost use Rattle.grow_core.specs.Read.{IsAt, IsShownAt, ShowsValue, IsDueAt, IsInRange};
 ghost use Rattle.span_core.specs.Hands.{split_off};
 ghost use Rattle.span_core.specs.Writer.{IsTied};
 
 use crate::tie::{Tie, Untied};
-use grow_core::{At, AtError, GrowError, Hand, Never, Placed, Published, Shared, Shown};
+use grow_core::{At, AtError, Hand, Placed, Published, Shared, Shown};
 use std::fmt;
 use std::marker::{Model, PhantomData};
-use std::sync::Wait;
 
 /// A vector and a hand of it. Each call is the vector's call of the same name, with this hand.
 ///
@@ -237,48 +235,5 @@ impl<'a, T, B: Tie> Writer<'a, T, B> {
     {
         let vector = self.vector;
         vector.meet(&mut self.hand, &mut other.hand);
-    }
-}
-
-impl<'a, T: Drop, B: Tie> Writer<'a, T, B> {
-    /// Appends a value. It begins at the size that the hand has seen, and retries if another caller was first.
-    #[inline(always)]
-    pub fn push_back<R: Wait>(
-        &mut self,
-        rt: &R,
-        value: T,
-    ) -> Result<Placed<T>, GrowError<T, T, Never>>
-        ensures won { IfOk result (WonPlace self.old.vector value self.old.hand self.new.hand) }
-        ensures refused { IfErr result
-            (Refuses self.old.vector 1 value self.old.hand self.new.hand) }
-        // Room that is missing by what the hand has seen is reported before memory is asked for.
-        ensures full { HasNoRoom self.old.vector 1 self.old.hand → IsErrAnd result SaysFull }
-        ensures not_moved { IfErr result IsNotMoved }
-        // The history gets the claim of the place, or the event whose reply the refusal is.
-        ensures logs { IfOk result
-            (λ placed. LogsRun self.old.hand self.new.hand (single placed.place)) }
-        ensures logs_refusal { IfErr result (LogsRefusal 1 self.old.hand self.new.hand) }
-        ensures vector { self.new.vector ≡ self.old.vector }
-    {
-        let vector = self.vector;
-        vector.push_back(rt, &mut self.hand, value)
-    }
-
-    /// Appends a value. It tries once, and waits for nobody.
-    #[inline(always)]
-    pub fn try_push_back(&mut self, value: T) -> Result<Placed<T>, GrowError<T, T, Never>>
-        ensures won { IfOk result (WonPlace self.old.vector value self.old.hand self.new.hand) }
-        ensures refused { IfErr result
-            (Refuses self.old.vector 1 value self.old.hand self.new.hand) }
-        // Room that is missing by what the hand has seen is reported before memory is asked for.
-        ensures full { HasNoRoom self.old.vector 1 self.old.hand → IsErrAnd result SaysFull }
-        // The history gets the claim of the place, or the event whose reply the refusal is.
-        ensures logs { IfOk result
-            (λ placed. LogsRun self.old.hand self.new.hand (single placed.place)) }
-        ensures logs_refusal { IfErr result (LogsRefusal 1 self.old.hand self.new.hand) }
-        ensures vector { self.new.vector ≡ self.old.vector }
-    {
-        let vector = self.vector;
-        vector.try_push_back(&mut self.hand, value)
     }
 }

@@ -1,6 +1,5 @@
 //! How a writer appends many values, or up to a size, and mends.
 ghost use Rattle.std.specs.Prelude.{◌≡◌, ◌<◌, ◌≤◌, All, IfOk, IfErr, IsOkAnd, IsErrAnd, vec_len};
-ghost use Rattle.std.specs.Iterator.{IsFinite};
 ghost use Rattle.claim_core.specs.Hand.{seen_size};
 ghost use Rattle.cell_core.specs.Block.{IsMended};
 ghost use Rattle.grow_core.specs.Vector.{IsOpenedAt, IsPlacedOf, SeesMore, limit_of};
@@ -9,11 +8,10 @@ ghost use Rattle.grow_core.specs.Making.{WonMade, WonClones, StopsAfter, IsRefus
 ghost use Rattle.grow_core.specs.AtLeast.{WonAtLeast, RefusesAtLeast, SaysEnough};
 ghost use Rattle.grow_core.specs.Logs.{LogsNothing, LogsGrowth, LogsRefusal, LogsAtLeast, LogsRefusalUpTo, LogsMendRefusal};
 ghost use Rattle.grow_core.specs.Mend.{IsMendDue, IsSeen, TellsValue};
-ghost use Rattle.span_core.specs.Writer.{AppendsAll, StopsAppending};
 
 use crate::tie::Tie;
 use crate::writer::Writer;
-use grow_core::{AtLeast, GrowError, Grown, MendError, Never, Placed, Run, laws};
+use grow_core::{AtLeast, GrowError, Grown, MendError, Never, Placed, Run};
 use std::alloc::AllocError;
 use std::sync::Wait;
 
@@ -159,39 +157,6 @@ impl<'a, T: Drop, B: Tie> Writer<'a, T, B> {
     {
         let vector = self.vector;
         vector.grow_to_at_least(&mut self.hand, size, make)
-    }
-}
-
-impl<'a, T: Drop, B: Tie> Writer<'a, T, B> {
-    /// Appends the items of an iterator one by one, like `push_back`, and returns their number. If one is
-    /// refused, the iterator is not asked again, and the number of the items before that one comes back with
-    /// the refusal.
-    pub fn push_all<R: Wait, I: Iterator<Item = T> + Drop>(
-        &mut self,
-        rt: &R,
-        items: I,
-    ) -> Result<u64, (u64, GrowError<T, T, Never>)>
-        requires can { I.can_next items }
-        requires ends { IsFinite (I.remaining items) }
-        ensures appended { IfOk result (AppendsAll I.next_gives items self.old.hand self.new.hand) }
-        ensures stopped { IfErr result
-            (StopsAppending I.next_gives items self.old.vector self.old.hand self.new.hand) }
-        ensures not_moved { IfErr result (λ (_, refused). IsNotMoved refused) }
-        ensures vector { self.new.vector ≡ self.old.vector }
-    {
-        // For the proof: a hand that wins a place owns one more.
-        laws::added_places_add_up();
-        let mut n = 0;
-        for item in items {
-            // For the proof: the hand owns no more places than the vector may have.
-            self.vector().laws();
-            self.hand().laws();
-            match self.push_back(rt, item) {
-                Ok(_placed) => n += 1,
-                Err(refused) => return Err((n, refused)),
-            }
-        }
-        Ok(n)
     }
 }
 

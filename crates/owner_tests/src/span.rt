@@ -9,6 +9,7 @@ mod hands;
 mod lent_writers;
 mod many_hands;
 mod memory;
+mod outcomes;
 mod ratios;
 mod refusals;
 mod segments;
@@ -16,6 +17,7 @@ mod shared_writers;
 mod stuck;
 mod uses;
 mod watch;
+mod ways;
 mod writer_calls;
 mod writers;
 

@@ -7,7 +7,7 @@ ghost use Rattle.grow_core.specs.Vector.{IsHandOf};
 use super::buffered_writers::{flush_all, push_one};
 use super::hands::{Task, append_by, append_to_new};
 use super::lent_writers::{Appends, Meets, len_or_shares, write_new};
-use super::writer_calls::{LIMIT, fills};
+use super::ways::{LIMIT, fills};
 use super::writers::shows_below;
 use super::{maps, sum_of};
 use crate::gates::Refusing;

@@ -1,194 +1,14 @@
 // The calls of a writer. Their clauses are those of the vector's calls; these tests show that none of them gives up.
 ghost use Rattle.std.specs.Prelude.{◌≡◌};
 
+use super::outcomes::{Why, grown, mended, placed};
+use super::ways::{LIMIT, fills, is_full};
 use super::writers::shows_below;
-use grow_core::{AtError, AtLeast, GrowError, Grown, MendError, Never, Placed, Run, Shown};
+use grow_core::{AtError, GrowError, Shown};
 use quiet_core::Quiet;
 use span_core::Writer;
-use std::alloc::{AllocError, AllocGlobal, Global};
+use std::alloc::{AllocGlobal, Global};
 use std::sync::Wait;
-
-// A way to append.
-enum Way {
-    TryPush,
-    Push,
-    All,
-    TryVec,
-    Vec,
-    Append,
-    TryWith,
-    With,
-    TryBy,
-    By,
-    UpTo,
-}
-
-// Why nothing was appended.
-#[derive(Clone, Copy, PartialEq, Eq)]
-enum Why {
-    Full(u64),
-    NoMemory,
-    Other,
-}
-
-// The run that was appended.
-type Outcome = Result<Run, Why>;
-
-fn reason_of<V: Drop, E: Drop>(refused: &GrowError<u64, V, E>) -> Why {
-    match refused {
-        GrowError::Full { size, .. } => Why::Full(*size),
-        GrowError::NoMemory { .. } => Why::NoMemory,
-        _ => Why::Other,
-    }
-}
-
-fn placed(pushed: Result<Placed<u64>, GrowError<u64, u64, Never>>) -> Outcome {
-    let outcome = match &pushed {
-        Ok(placed) => Ok(Run {
-            from: placed.place(),
-            n: 1,
-        }),
-        Err(refused) => Err(reason_of(refused)),
-    };
-    drop(pushed);
-    outcome
-}
-
-fn grown<V: Drop, E: Drop>(grown: Result<Grown<u64>, GrowError<u64, V, E>>) -> Outcome {
-    let outcome = match &grown {
-        Ok(grown) => Ok(grown.run()),
-        Err(refused) => Err(reason_of(refused)),
-    };
-    drop(grown);
-    outcome
-}
-
-fn appended(appended: Result<Run, GrowError<u64, Vec<u64>, Never>>) -> Outcome {
-    let outcome = match &appended {
-        Ok(run) => Ok(*run),
-        Err(refused) => Err(reason_of(refused)),
-    };
-    drop(appended);
-    outcome
-}
-
-fn reached(reached: Result<AtLeast<u64>, GrowError<u64, (), Never>>) -> Outcome {
-    let outcome = match &reached {
-        Ok(AtLeast::Ran(run)) => Ok(run.run()),
-        Ok(AtLeast::Enough { .. }) => Err(Why::Other),
-        Err(refused) => Err(reason_of(refused)),
-    };
-    drop(reached);
-    outcome
-}
-
-// The numbers from one on, in order.
-fn numbers(alloc: Global, first: u64, n: u64) -> Result<Vec<u64>, AllocError> {
-    let mut made = Vec::with_capacity(alloc, n as usize)?;
-    made.extend(first..first.saturating_add(n))?;
-    Ok(made)
-}
-
-fn push_all<R: Wait>(rt: &R, writer: &mut Writer<'_, u64>, first: u64, n: u64) -> Outcome {
-    let pushed = writer.push_all(rt, first..first.saturating_add(n));
-    let outcome = match &pushed {
-        Ok(count) => Ok(Run {
-            from: first,
-            n: *count,
-        }),
-        Err((_count, refused)) => Err(reason_of(refused)),
-    };
-    drop(pushed);
-    outcome
-}
-
-fn move_in<R: Wait>(rt: &R, writer: &mut Writer<'_, u64>, way: &Way, values: Vec<u64>) -> Outcome {
-    match way {
-        Way::TryVec => grown(writer.try_grow_vec(values)),
-        Way::Vec => grown(writer.grow_vec(rt, values)),
-        _ => appended(writer.append(rt, values)),
-    }
-}
-
-fn make<R: Wait>(rt: &R, writer: &mut Writer<'_, u64>, way: &Way, first: u64, n: u64) -> Outcome {
-    let make = |i: u64| -> Result<u64, Never> { Ok(first.wrapping_add(i)) };
-    match way {
-        Way::TryWith => grown(writer.try_grow_with(n, make)),
-        Way::With => grown(writer.grow_with(rt, n, make)),
-        _ => reached(writer.grow_to_at_least(first.wrapping_add(n), make)),
-    }
-}
-
-// Appends n numbers from one on by any way, or clones of it.
-fn append<R: AllocGlobal + Wait>(
-    rt: &R,
-    writer: &mut Writer<'_, u64>,
-    way: &Way,
-    first: u64,
-    n: u64,
-) -> Outcome {
-    match way {
-        Way::TryPush => placed(writer.try_push_back(first)),
-        Way::Push => placed(writer.push_back(rt, first)),
-        Way::All => push_all(rt, writer, first, n),
-        Way::TryVec | Way::Vec | Way::Append => match numbers(rt.alloc(), first, n) {
-            Ok(values) => move_in(rt, writer, way, values),
-            Err(AllocError) => Err(Why::NoMemory),
-        },
-        Way::TryBy => grown(writer.try_grow_by(n, &first)),
-        Way::By => grown(writer.grow_by(rt, n, &first)),
-        _ => make(rt, writer, way, first, n),
-    }
-}
-
-// Each way, and how many numbers it appends. Those that may append only a part of them append one.
-static WAYS: [(Way, u64); 11] = [
-    (Way::TryPush, 1),
-    (Way::Push, 1),
-    (Way::All, 1),
-    (Way::TryVec, 2),
-    (Way::Vec, 3),
-    (Way::Append, 2),
-    (Way::TryWith, 2),
-    (Way::With, 3),
-    (Way::TryBy, 1),
-    (Way::By, 1),
-    (Way::UpTo, 2),
-];
-
-// How many numbers these are in all.
-pub(super) const LIMIT: u64 = 19;
-
-// Tests whether each way appends its numbers at their own places, at the second try if there may be one and the
-// first found no memory.
-pub(super) fn fills<R: AllocGlobal + Wait>(
-    rt: &R,
-    writer: &mut Writer<'_, u64>,
-    tries_again: bool,
-) -> bool {
-    let mut next = 0u64;
-    for (way, n) in WAYS.as_slice() {
-        let mut outcome = append(rt, writer, way, next, *n);
-        if tries_again && outcome == Err(Why::NoMemory) {
-            outcome = append(rt, writer, way, next, *n);
-        }
-        if outcome != Ok(Run { from: next, n: *n }) {
-            return false;
-        }
-        next = next.wrapping_add(*n);
-    }
-    true
-}
-
-// Tests whether no way appends one more.
-fn is_full<R: AllocGlobal + Wait>(rt: &R, writer: &mut Writer<'_, u64>) -> bool {
-    for (way, _n) in WAYS.as_slice() {
-        if append(rt, writer, way, LIMIT, 1) != Err(Why::Full(LIMIT)) {
-            return false;
-        }
-    }
-    true
-}
 
 // Tests whether a place has its own number, however it is read.
 fn reads(writer: &mut Writer<'_, u64>, place: u64) -> bool {
@@ -245,17 +65,6 @@ fn fills_and_reads<R: AllocGlobal + Wait>(rt: &R) -> Option<bool> {
 #[test]
 fn each_way_to_append_fills_a_vector_to_its_limit(rt: HostRuntime) {
     assert!(rt; fills_and_reads(&rt) == Some(true));
-}
-
-// Tests whether a place was mended. It is false if the place had a value already, and 7 came back.
-fn mended(mended: Result<Placed<u64>, (MendError<u64>, u64)>) -> Option<bool> {
-    let is_new = match &mended {
-        Ok(_placed) => Some(true),
-        Err((MendError::Filled(_), 7)) => Some(false),
-        Err(_refused) => None,
-    };
-    drop(mended);
-    is_new
 }
 
 // Tests whether two broken places are mended, one of them once.

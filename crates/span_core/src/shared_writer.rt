@@ -1,31 +1,30 @@
 //! A vector with several owners and a hand of it, in one value.
-ghost use Rattle.std.specs.Prelude.{◌≡◌, ◌+◌, ◌-◌, ◌<◌, ◌≤◌, [], ◌∷◌, ◌++◌, ◌⊎◌, IfOk, IfErr, IsErrAnd, OnOk, OnErr, length, vec_len};
+ghost use Rattle.std.specs.Prelude.{◌≡◌, ◌+◌, ◌-◌, ◌<◌, ◌≤◌, [], ◌∷◌, ◌++◌, ◌⊎◌, IfOk, IfErr, IfSome, IsOkAnd, OnOk, OnErr, None, length};
 ghost use Rattle.std.specs.Arc.{arc_value};
 ghost use mathlib.Core.List.{IsPrefix};
-ghost use Rattle.claim_core.specs.Hand.{IsWholeHand, LogsRun, OwnApart, SeesSize, seen_size};
+ghost use Rattle.seg_core.specs.Segment.{most_places};
+ghost use Rattle.claim_core.specs.Hand.{IsWholeHand, KeepsOwn, OwnApart, SeesSize, seen_size};
 ghost use Rattle.claim_core.specs.History.{AddsEvents, size_event};
-ghost use Rattle.grow_core.specs.Vector.{IsHandOf, IsOpenedAt, IsPlacedOf, limit_of, layout_of};
+ghost use Rattle.grow_core.specs.Vector.{IsHandOf, IsOpenedAt, IsPlacedOf, SeesMore, base_of, limit_of, layout_of};
 ghost use Rattle.grow_core.specs.Closing.{KeepsValues, IsClosedFrom};
-ghost use Rattle.grow_core.specs.Growth.{WonPlace, WonRun, WonPlaces, Refuses, HasNoRoom, SaysFull, IsNotMoved, single};
-ghost use Rattle.grow_core.specs.Logs.{LogsGrowth, LogsRefusal};
-ghost use Rattle.grow_core.specs.Making.{WonMade, StopsAfter, IsRefusedBy};
-ghost use Rattle.grow_core.specs.Read.{IsShownAt, ShowsValue};
+ghost use Rattle.grow_core.specs.Logs.{LogsNothing, LogsAtRefusal};
+ghost use Rattle.grow_core.specs.Read.{IsAt, IsShownAt, ShowsValue, IsDueAt, IsInRange};
 ghost use Rattle.span_core.specs.Hands.{split_off};
 
-use grow_core::{GrowError, Grown, Hand, Never, Placed, Run, Shared, Shown};
+use grow_core::{At, AtError, Hand, Placed, Published, Shared, Shown};
 use quiet_core::Quiet;
 use std::alloc::AllocError;
 use std::fmt;
 use std::marker::Model;
-use std::sync::{Arc, Wait};
+use std::sync::Arc;
 
 /// A vector that several owners share, and a hand of it: a `Writer` for a thread that outlives a scope.
 ///
 /// If it is dropped, its hand's shares are lost. `into_parts`, `join` and `try_close` keep them.
 #[derive(Drop)]
 pub struct SharedWriter<T> {
-    vector: Arc<Shared<T>>,
-    hand: Hand<T>,
+    pub(crate) vector: Arc<Shared<T>>,
+    pub(crate) hand: Hand<T>,
 }
 
 impl<T> Model for SharedWriter<T> {
@@ -98,6 +97,32 @@ impl<T> SharedWriter<T> {
         self.vector.size(&mut self.hand)
     }
 
+    /// Returns the value at the place. With a token it does what `get` does. Without one it loads the size, unless the
+    /// hand has seen that it is above the place, and then looks once at the place.
+    #[inline(always)]
+    pub fn at(&mut self, place: u64, known: Option<&Placed<T>>) -> Result<At<'_, T>, AtError>
+        requires known { IfSome known (λ p.
+            IsPlacedOf self.old.vector p.now × (p.now.place ≡ place)) }
+        ensures at { IfOk result (IsAt self.old.vector place) }
+        // Without a token it is a place that the hand has then seen.
+        ensures below { known.entry ≡ None → IfOk result (λ _. place < seen_size self.new.hand) }
+        ensures refused { IfErr result (IsDueAt self.old.vector place self.old.hand self.new.hand) }
+        // A caller with a token reads the token's value.
+        ensures known { IfSome known.entry (λ p. IsOkAnd result (λ a. a.value.now ≡ p.now.value)) }
+        // A value of the opened list is read by everybody, token or not.
+        ensures opened { (x : T) → IsOpenedAt self.old.vector place x
+            → IsOkAnd result (λ a. a.value.now ≡ x) }
+        // A place that was claimed stays claimed.
+        ensures in_range { place < seen_size self.old.hand → IfErr result IsInRange }
+        ensures hand { SeesMore self.old.hand self.new.hand }
+        // The history gets the look at a place that is not below the size.
+        ensures logs { IfOk result (λ _. LogsNothing self.old.hand self.new.hand) }
+        ensures logs_refusal { IfErr result (LogsAtRefusal place self.old.hand self.new.hand) }
+        ensures vector { self.new.vector ≡ self.old.vector }
+    {
+        self.vector.at(&mut self.hand, place, known)
+    }
+
     /// Looks once at what the place shows now. A place that nobody claimed, or past the limit, shows nothing
     /// yet.
     #[inline(always)]
@@ -117,6 +142,18 @@ impl<T> SharedWriter<T> {
         ensures { result.now ≡ placed.now.value }
     {
         self.vector.get(placed)
+    }
+
+    /// Walks over what each place shows, from place 0 to the size that one load finds now. The hand does not
+    /// see that size.
+    pub fn published(&self) -> Published<'_, T>
+        ensures vector { result.vector ≡ self.now.vector }
+        ensures from { result.place ≡ 0 }
+        ensures opened { base_of self.now.vector ≤ result.end }
+        ensures within { result.end ≤ limit_of self.now.vector }
+        ensures small { result.end ≤ most_places }
+    {
+        self.vector.published()
     }
 
     /// Splits shares off into a new writer, whose hand has seen the same. A refusal leaves all shares here.
@@ -156,6 +193,25 @@ impl<T: Drop> SharedWriter<T> {
         self.vector.join(&mut self.hand, hand);
     }
 
+    /// Shows the hands of two writers to each other, by one load of the size: both have then seen all that was
+    /// claimed.
+    pub fn meet(&mut self, other: &mut SharedWriter<T>)
+        requires same { other.old.vector ≡ self.old.vector }
+        ensures own { KeepsOwn self.old.hand self.new.hand }
+        ensures also_own { KeepsOwn other.old.hand other.new.hand }
+        ensures begins { IsPrefix self.old.hand.seen self.new.hand.seen }
+        ensures also_begins { IsPrefix other.old.hand.seen self.new.hand.seen }
+        ensures same { other.new.hand.seen ≡ self.new.hand.seen }
+        ensures begins_log { IsPrefix self.old.hand.log self.new.hand.log }
+        ensures also_begins_log { IsPrefix other.old.hand.log self.new.hand.log }
+        ensures same_log { other.new.hand.log ≡ self.new.hand.log }
+        ensures apart { OwnApart self.new.hand other.new.hand }
+        ensures vector { self.new.vector ≡ self.old.vector }
+        ensures also_vector { other.new.vector ≡ other.old.vector }
+    {
+        self.vector.meet(&mut self.hand, &mut other.hand);
+    }
+
     /// Closes the vector into a list, if this writer has all shares and nobody else owns the vector. Otherwise
     /// the writer comes back.
     pub fn try_close(self) -> Result<Quiet<T>, SharedWriter<T>>
@@ -175,112 +231,5 @@ impl<T: Drop> SharedWriter<T> {
             Ok(vector) => Ok(Quiet::close(vector, hand)),
             Err(vector) => Err(SharedWriter { vector, hand }),
         }
-    }
-
-    /// Appends a value. It begins at the size that the hand has seen, and retries if another caller was first.
-    #[inline(always)]
-    pub fn push_back<R: Wait>(
-        &mut self,
-        rt: &R,
-        value: T,
-    ) -> Result<Placed<T>, GrowError<T, T, Never>>
-        ensures won { IfOk result (WonPlace self.old.vector value self.old.hand self.new.hand) }
-        ensures refused { IfErr result
-            (Refuses self.old.vector 1 value self.old.hand self.new.hand) }
-        // Room that is missing by what the hand has seen is reported before memory is asked for.
-        ensures full { HasNoRoom self.old.vector 1 self.old.hand → IsErrAnd result SaysFull }
-        ensures not_moved { IfErr result IsNotMoved }
-        // The history gets the claim of the place, or the event whose reply the refusal is.
-        ensures logs { IfOk result
-            (λ placed. LogsRun self.old.hand self.new.hand (single placed.place)) }
-        ensures logs_refusal { IfErr result (LogsRefusal 1 self.old.hand self.new.hand) }
-        ensures vector { self.new.vector ≡ self.old.vector }
-    {
-        self.vector.push_back(rt, &mut self.hand, value)
-    }
-
-    /// Appends a value. It tries once, and waits for nobody.
-    #[inline(always)]
-    pub fn try_push_back(&mut self, value: T) -> Result<Placed<T>, GrowError<T, T, Never>>
-        ensures won { IfOk result (WonPlace self.old.vector value self.old.hand self.new.hand) }
-        ensures refused { IfErr result
-            (Refuses self.old.vector 1 value self.old.hand self.new.hand) }
-        // Room that is missing by what the hand has seen is reported before memory is asked for.
-        ensures full { HasNoRoom self.old.vector 1 self.old.hand → IsErrAnd result SaysFull }
-        // The history gets the claim of the place, or the event whose reply the refusal is.
-        ensures logs { IfOk result
-            (λ placed. LogsRun self.old.hand self.new.hand (single placed.place)) }
-        ensures logs_refusal { IfErr result (LogsRefusal 1 self.old.hand self.new.hand) }
-        ensures vector { self.new.vector ≡ self.old.vector }
-    {
-        self.vector.try_push_back(&mut self.hand, value)
-    }
-
-    /// Appends the values in one run, and retries if another caller was first.
-    pub fn grow_vec<R: Wait>(
-        &mut self,
-        rt: &R,
-        values: Vec<T>,
-    ) -> Result<Grown<T>, GrowError<T, Vec<T>, Never>>
-        ensures won { IfOk result
-            (WonRun self.old.vector values.items self.old.hand self.new.hand) }
-        ensures refused { IfErr result
-            (Refuses self.old.vector (vec_len values) values self.old.hand self.new.hand) }
-        // Room that is missing by what the hand has seen is reported before memory is asked for.
-        ensures full { HasNoRoom self.old.vector (vec_len values) self.old.hand
-            → IsErrAnd result SaysFull }
-        ensures not_moved { IfErr result IsNotMoved }
-        // The history gets the claim of the run, or the event whose reply the refusal is.
-        ensures logs { IfOk result (λ grown. LogsGrowth self.old.hand self.new.hand grown.run) }
-        ensures logs_refusal { IfErr result
-            (LogsRefusal (vec_len values) self.old.hand self.new.hand) }
-        ensures vector { self.new.vector ≡ self.old.vector }
-    {
-        self.vector.grow_vec(rt, &mut self.hand, values)
-    }
-
-    /// Appends the values like `grow_vec`, without tokens.
-    pub fn append<R: Wait>(
-        &mut self,
-        rt: &R,
-        values: Vec<T>,
-    ) -> Result<Run, GrowError<T, Vec<T>, Never>>
-        ensures won { IfOk result (WonPlaces (vec_len values) self.old.hand self.new.hand) }
-        ensures refused { IfErr result
-            (Refuses self.old.vector (vec_len values) values self.old.hand self.new.hand) }
-        // Room that is missing by what the hand has seen is reported before memory is asked for.
-        ensures full { HasNoRoom self.old.vector (vec_len values) self.old.hand
-            → IsErrAnd result SaysFull }
-        ensures not_moved { IfErr result IsNotMoved }
-        // The history gets the claim of the run, or the event whose reply the refusal is.
-        ensures logs { IfOk result (λ run. LogsGrowth self.old.hand self.new.hand run) }
-        ensures logs_refusal { IfErr result
-            (LogsRefusal (vec_len values) self.old.hand self.new.hand) }
-        ensures vector { self.new.vector ≡ self.old.vector }
-    {
-        self.vector.append(rt, &mut self.hand, values)
-    }
-
-    /// Appends values like `try_grow_with`, and retries if another caller was first.
-    pub fn grow_with<R: Wait, E: Drop, F: FnMut(u64) -> Result<T, E>>(
-        &mut self,
-        rt: &R,
-        n: u64,
-        make: F,
-    ) -> Result<Grown<T>, GrowError<T, (), E>>
-        requires callable { F.IsAlwaysCallable make }
-        ensures won { IfOk result
-            (WonMade F.step make self.old.vector n self.old.hand self.new.hand) }
-        ensures refused { IfErr result
-            (Refuses self.old.vector n tt self.old.hand self.new.hand) }
-        ensures cause { IfErr result (IsRefusedBy (StopsAfter F.step make)) }
-        ensures full { HasNoRoom self.old.vector n self.old.hand → IsErrAnd result SaysFull }
-        ensures not_moved { IfErr result IsNotMoved }
-        // The history gets the claim of the run, or the event whose reply the refusal is.
-        ensures logs { IfOk result (λ grown. LogsGrowth self.old.hand self.new.hand grown.run) }
-        ensures logs_refusal { IfErr result (LogsRefusal n self.old.hand self.new.hand) }
-        ensures vector { self.new.vector ≡ self.old.vector }
-    {
-        self.vector.grow_with(rt, &mut self.hand, n, make)
     }
 }

@@ -1,10 +1,12 @@
 // Writers that own their vector together, append to it, and close it into a list.
 ghost use Rattle.std.specs.Prelude.{◌≡◌};
 
+mod memory;
+
 use super::writers::shows_below;
 use crate::quiet::layout_of;
 use crate::results::succeeded;
-use grow_core::{GrowError, Never, Run, Shown};
+use grow_core::{AtError, AtLeast, GrowError, Never, ReserveError, Run, Shown};
 use quiet_core::Quiet;
 use seg_core::Layout;
 use span_core::SharedWriter;
@@ -109,9 +111,9 @@ fn reads(writer: &SharedWriter<u64>, place: u64) -> bool {
     is_shown
 }
 
-// A writer of a new vector with a limit of eight.
-fn writer_of_eight(alloc: Global) -> Option<SharedWriter<u64>> {
-    let (vector, hand) = Quiet::new(alloc, 8).open().ok()?;
+// A writer of a new vector with this limit.
+fn writer_of(alloc: Global, limit: u64) -> Option<SharedWriter<u64>> {
+    let (vector, hand) = Quiet::new(alloc, limit).open().ok()?;
     match Arc::new(alloc, vector).ok() {
         Some(vector) => Some(SharedWriter::new(vector, hand)),
         None => {
@@ -133,7 +135,7 @@ fn has_eight<R: Wait>(rt: &R, writer: &mut SharedWriter<u64>) -> bool {
 fn takes_eight<R: Wait>(rt: &R, alloc: Global) -> Option<bool> {
     let three = Vec::from_slice(alloc, &[1, 2, 3]).ok()?;
     let next = Vec::from_slice(alloc, &[4, 5, 6]).ok()?;
-    let mut writer = writer_of_eight(alloc)?;
+    let mut writer = writer_of(alloc, 8)?;
     let is_filled = appends_eight(rt, &mut writer, three, next) && has_eight(rt, &mut writer);
     drop(writer);
     Some(is_filled)
@@ -142,4 +144,80 @@ fn takes_eight<R: Wait>(rt: &R, alloc: Global) -> Option<bool> {
 #[test]
 fn each_way_to_append_fills_a_shared_vector(rt: HostRuntime) {
     assert!(rt; takes_eight(&rt, rt.alloc()) == Some(true));
+}
+
+// Tests whether there is room for eight numbers and no more.
+fn reserves_eight(writer: &mut SharedWriter<u64>) -> bool {
+    writer.reserve(9) == Err(ReserveError::TooLong) && writer.reserve(8) == Ok(())
+}
+
+// Tests whether the other ways to append fill the vector, with a broken place that is mended.
+fn fills_and_mends<R: Wait>(rt: &R, writer: &mut SharedWriter<u64>) -> bool {
+    let make = |i: u64| -> Result<u64, Never> { Ok(i.wrapping_add(4)) };
+    let refuse = |i: u64| -> Result<u64, u64> { Err(i) };
+    succeeded(writer.push_all(rt, 0..3u64))
+        && succeeded(writer.grow_by(rt, 1, &3))
+        && succeeded(writer.grow_to_at_least(7, make))
+        && !succeeded(writer.grow_with(rt, 1, refuse))
+        && succeeded(writer.mend(7, 7))
+        && !succeeded(writer.mend(7, 8))
+}
+
+// Tests whether no way appends one more to a vector of eight.
+fn is_full<R: Wait>(rt: &R, writer: &mut SharedWriter<u64>) -> bool {
+    let make = |i: u64| -> Result<u64, Never> { Ok(i) };
+    let pushed = writer.push_all(rt, 8..9u64);
+    let cloned = writer.grow_by(rt, 1, &8);
+    let made = writer.grow_to_at_least(9, make);
+    let is_told = matches!(&pushed, Err((0, GrowError::Full { size: 8, back: 8 })))
+        && matches!(&cloned, Err(GrowError::Full { size: 8, back: () }))
+        && matches!(&made, Err(GrowError::Full { size: 8, back: () }));
+    drop(pushed);
+    drop(cloned);
+    drop(made);
+    let enough = writer.grow_to_at_least(8, make);
+    let is_enough = matches!(&enough, Ok(AtLeast::Enough { size: 8 }));
+    drop(enough);
+    is_told && is_enough
+}
+
+// Tests whether a value is read without a token, and a place past the limit is out of range.
+fn reads_up_to_the_limit(writer: &mut SharedWriter<u64>) -> bool {
+    let found = writer.at(7, None);
+    let is_read = matches!(&found, Ok(at) if *at.value == 7);
+    drop(found);
+    let past = writer.at(8, None);
+    let is_past = matches!(&past, Err(AtError::OutOfRange { size: 8 }));
+    drop(past);
+    is_read && is_past && writer.published().count() == 8
+}
+
+// Tests whether two writers that meet have seen the same.
+fn meet_at_eight(writer: &mut SharedWriter<u64>) -> Option<bool> {
+    if writer.hand().share() < 2 {
+        return None;
+    }
+    let mut other = writer.split(1).ok()?;
+    other.meet(writer);
+    let have_met = other.hand().seen() == 8 && writer.hand().seen() == 8;
+    writer.join(other);
+    Some(have_met)
+}
+
+// Tests whether a vector has room for eight numbers by the other ways, and shows them.
+fn takes_eight_otherwise<R: Wait>(rt: &R, alloc: Global) -> Option<bool> {
+    let mut writer = writer_of(alloc, 8)?;
+    let is_filled = reserves_eight(&mut writer)
+        && fills_and_mends(rt, &mut writer)
+        && is_full(rt, &mut writer)
+        && reads_up_to_the_limit(&mut writer)
+        && shows_below(writer.vector(), 8);
+    let have_met = meet_at_eight(&mut writer);
+    drop(writer);
+    Some(is_filled && have_met == Some(true))
+}
+
+#[test]
+fn each_other_way_to_append_fills_a_shared_vector(rt: HostRuntime) {
+    assert!(rt; takes_eight_otherwise(&rt, rt.alloc()) == Some(true));
 }

@@ -51,7 +51,7 @@ impl<E> From<AllocError> for Refusal<E> {
     ghost from_gives = { λ _ e. e ≡ NoMemory };
 
     fn from(_error: AllocError) -> Self {
-        Refusal::NoMemory
+        Self::NoMemory
     }
 }
 

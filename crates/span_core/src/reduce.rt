@@ -29,7 +29,7 @@ impl Domain for u64 {
 
     fn tell(&self) {
         // For the proof: a value that is read is in its type's range.
-        let _value = *self;
+        let _value: u64 = *self;
     }
 }
 
@@ -38,7 +38,7 @@ impl Domain for u8 {
 
     fn tell(&self) {
         // For the proof: a value that is read is in its type's range.
-        let _value = *self;
+        let _value: u8 = *self;
     }
 }
 
@@ -47,7 +47,7 @@ impl Domain for u16 {
 
     fn tell(&self) {
         // For the proof: a value that is read is in its type's range.
-        let _value = *self;
+        let _value: u16 = *self;
     }
 }
 
@@ -56,7 +56,7 @@ impl Domain for u32 {
 
     fn tell(&self) {
         // For the proof: a value that is read is in its type's range.
-        let _value = *self;
+        let _value: u32 = *self;
     }
 }
 
@@ -65,7 +65,7 @@ impl Domain for u128 {
 
     fn tell(&self) {
         // For the proof: a value that is read is in its type's range.
-        let _value = *self;
+        let _value: u128 = *self;
     }
 }
 
@@ -74,7 +74,7 @@ impl Domain for usize {
 
     fn tell(&self) {
         // For the proof: a value that is read is in its type's range.
-        let _value = *self;
+        let _value: usize = *self;
     }
 }
 

@@ -1,6 +1,7 @@
 //! A writer that appends many values at once.
 ghost use Rattle.std.specs.Prelude.{◌≡◌, ◌<◌, ◌≤◌, [], IfOk, IfErr, OnOk, IsErrAnd, length, vec_len};
 ghost use Rattle.grow_core.specs.Growth.{WonRun, Refuses, HasNoRoom, SaysFull, IsNotMoved};
+ghost use Rattle.grow_core.specs.Logs.{LogsGrowth, LogsRefusal};
 ghost use Rattle.span_core.specs.Writer.{with_hand};
 ghost use Rattle.span_core.specs.Buffered.{Pushes, LeavesBuffer, RefusesPush, IsOutOfMemory};
 
@@ -114,6 +115,11 @@ impl<'a, T: Drop, B: Tie> BufferedWriter<'a, T, B> {
         ensures full { HasNoRoom self.old.writer.vector (length self.old.buffered)
             self.old.writer.hand → IsErrAnd result SaysFull }
         ensures not_moved { IfErr result IsNotMoved }
+        // The history gets the claim of the run, or the event whose reply the refusal is.
+        ensures logs { IfOk result
+            (λ grown. LogsGrowth self.old.writer.hand self.new.writer.hand grown.run) }
+        ensures logs_refusal { IfErr result (LogsRefusal (length self.old.buffered)
+            self.old.writer.hand self.new.writer.hand) }
         ensures rest_kept { self.new ≡ record self.old {
           buffered = self.new.buffered;
           writer = with_hand self.old.writer self.new.writer.hand;
@@ -215,6 +221,9 @@ fn append_all<T: Drop, B: Tie, R: Wait>(
     ensures full { HasNoRoom writer.old.vector (vec_len buffer.old) writer.old.hand
         → IsErrAnd result SaysFull }
     ensures not_moved { IfErr result IsNotMoved }
+    ensures logs { IfOk result (λ grown. LogsGrowth writer.old.hand writer.new.hand grown.run) }
+    ensures logs_refusal { IfErr result
+        (LogsRefusal (vec_len buffer.old) writer.old.hand writer.new.hand) }
     ensures vector { writer.new.vector ≡ writer.old.vector }
 {
     let values = mem::replace(buffer, room);

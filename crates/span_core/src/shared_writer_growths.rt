@@ -1,18 +1,16 @@
-//! How a writer that shares its vector appends values, and mends.
+//! How a writer that shares its vector appends values.
 ghost use Rattle.std.specs.Prelude.{◌≡◌, ◌<◌, ◌≤◌, ◌↔◌, All, IfOk, IfErr, IsOkAnd, IsErrAnd, IsErrOf, vec_len};
 ghost use Rattle.std.specs.Iterator.{IsFinite};
 ghost use Rattle.claim_core.specs.Hand.{LogsRun, seen_size};
-ghost use Rattle.cell_core.specs.Block.{IsMended};
-ghost use Rattle.grow_core.specs.Vector.{IsOpenedAt, IsPlacedOf, SeesMore, limit_of};
+ghost use Rattle.grow_core.specs.Vector.{limit_of};
 ghost use Rattle.grow_core.specs.Growth.{WonPlace, WonRun, WonPlaces, Refuses, HasNoRoom, SaysFull, IsNotMoved, single};
 ghost use Rattle.grow_core.specs.Making.{WonMade, WonClones, StopsAfter, IsRefusedBy};
 ghost use Rattle.grow_core.specs.AtLeast.{WonAtLeast, RefusesAtLeast, SaysEnough};
-ghost use Rattle.grow_core.specs.Logs.{LogsNothing, LogsGrowth, LogsRefusal, LogsAtLeast, LogsRefusalUpTo, LogsMendRefusal};
-ghost use Rattle.grow_core.specs.Mend.{IsMendDue, IsSeen, TellsValue};
+ghost use Rattle.grow_core.specs.Logs.{LogsGrowth, LogsRefusal, LogsAtLeast, LogsRefusalUpTo};
 ghost use Rattle.span_core.specs.Writer.{AppendsAll, StopsAppending};
 
 use crate::shared_writer::SharedWriter;
-use grow_core::{AtLeast, GrowError, Grown, MendError, Never, Placed, ReserveError, Run, laws};
+use grow_core::{AtLeast, GrowError, Grown, Never, Placed, ReserveError, Run, laws};
 use std::alloc::AllocError;
 use std::sync::Wait;
 
@@ -218,34 +216,5 @@ impl<T: Clone> SharedWriter<T> {
         ensures vector { self.new.vector ≡ self.old.vector }
     {
         self.vector.grow_by(rt, &mut self.hand, n, value)
-    }
-}
-
-impl<T> SharedWriter<T> {
-    /// Fills a broken place. It waits for nobody, and takes no memory.
-    pub fn mend(&mut self, place: u64, value: T) -> Result<Placed<T>, (MendError<T>, T)>
-        ensures token { IfOk result (IsPlacedOf self.old.vector) }
-        ensures here { IfOk result (λ placed. placed.place ≡ place) }
-        ensures value { IfOk result (λ placed. placed.value ≡ value) }
-        // The step found the place broken.
-        ensures mended { IfOk result (λ placed. IsMended placed.cell) }
-        ensures below { IfOk result (λ _. place < seen_size self.new.hand) }
-        ensures refused { IfErr result
-            (λ (error, _). IsMendDue self.old.vector place self.old.hand self.new.hand error) }
-        ensures value_back { IfErr result (λ (_, back). back ≡ value) }
-        // A value of the opened list is found by everybody.
-        ensures opened { (x : T) → IsOpenedAt self.old.vector place x
-            → IsErrAnd result (λ (error, _). TellsValue x error) }
-        // A place that was claimed stays claimed.
-        ensures in_range { place < seen_size self.old.hand
-            → IfErr result (λ (error, _). IsSeen error) }
-        ensures hand { SeesMore self.old.hand self.new.hand }
-        // The history gets the look at a place that is not below the size.
-        ensures logs { IfOk result (λ _. LogsNothing self.old.hand self.new.hand) }
-        ensures logs_refusal { IfErr result
-            (λ (error, _). LogsMendRefusal place self.old.hand self.new.hand error) }
-        ensures vector { self.new.vector ≡ self.old.vector }
-    {
-        self.vector.mend(&mut self.hand, place, value)
     }
 }

@@ -6,7 +6,7 @@ mod memory;
 use super::writers::shows_below;
 use crate::quiet::layout_of;
 use crate::results::succeeded;
-use grow_core::{AtError, AtLeast, GrowError, Never, ReserveError, Run, Shown};
+use grow_core::{AtLeast, GrowError, Never, ReserveError, Run, Shown};
 use quiet_core::Quiet;
 use seg_core::Layout;
 use span_core::SharedWriter;
@@ -151,16 +151,12 @@ fn reserves_eight(writer: &mut SharedWriter<u64>) -> bool {
     writer.reserve(9) == Err(ReserveError::TooLong) && writer.reserve(8) == Ok(())
 }
 
-// Tests whether the other ways to append fill the vector, with a broken place that is mended.
-fn fills_and_mends<R: Wait>(rt: &R, writer: &mut SharedWriter<u64>) -> bool {
+// Tests whether the other ways to append fill the vector.
+fn fills_otherwise<R: Wait>(rt: &R, writer: &mut SharedWriter<u64>) -> bool {
     let make = |i: u64| -> Result<u64, Never> { Ok(i.wrapping_add(4)) };
-    let refuse = |i: u64| -> Result<u64, u64> { Err(i) };
     succeeded(writer.push_all(rt, 0..3u64))
         && succeeded(writer.grow_by(rt, 1, &3))
-        && succeeded(writer.grow_to_at_least(7, make))
-        && !succeeded(writer.grow_with(rt, 1, refuse))
-        && succeeded(writer.mend(7, 7))
-        && !succeeded(writer.mend(7, 8))
+        && succeeded(writer.grow_to_at_least(8, make))
 }
 
 // Tests whether no way appends one more to a vector of eight.
@@ -181,17 +177,6 @@ fn is_full<R: Wait>(rt: &R, writer: &mut SharedWriter<u64>) -> bool {
     is_told && is_enough
 }
 
-// Tests whether a value is read without a token, and a place past the limit is out of range.
-fn reads_up_to_the_limit(writer: &mut SharedWriter<u64>) -> bool {
-    let found = writer.at(7, None);
-    let is_read = matches!(&found, Ok(at) if *at.value == 7);
-    drop(found);
-    let past = writer.at(8, None);
-    let is_past = matches!(&past, Err(AtError::OutOfRange { size: 8 }));
-    drop(past);
-    is_read && is_past && writer.published().count() == 8
-}
-
 // Tests whether two writers that meet have seen the same.
 fn meet_at_eight(writer: &mut SharedWriter<u64>) -> Option<bool> {
     if writer.hand().share() < 2 {
@@ -208,9 +193,9 @@ fn meet_at_eight(writer: &mut SharedWriter<u64>) -> Option<bool> {
 fn takes_eight_otherwise<R: Wait>(rt: &R, alloc: Global) -> Option<bool> {
     let mut writer = writer_of(alloc, 8)?;
     let is_filled = reserves_eight(&mut writer)
-        && fills_and_mends(rt, &mut writer)
+        && fills_otherwise(rt, &mut writer)
         && is_full(rt, &mut writer)
-        && reads_up_to_the_limit(&mut writer)
+        && writer.published().count() == 8
         && shows_below(writer.vector(), 8);
     let have_met = meet_at_eight(&mut writer);
     drop(writer);

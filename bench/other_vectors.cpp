@@ -244,7 +244,9 @@ template <typename Vector> void walk_over(Vector &vector, Value times) {
 template <typename Vector> long long run(const char *load, unsigned threads) {
   Vector vector;
   bool appends = std::strstr(load, "-installed");
-  bool reads = !std::strcmp(load, "at") || !std::strcmp(load, "get") || !std::strncmp(load, "walk", 4);
+  bool looks = !std::strcmp(load, "at") || !std::strcmp(load, "look");
+  bool walks = !std::strncmp(load, "walk", 4) || !std::strcmp(load, "iter");
+  bool reads = looks || walks || !std::strcmp(load, "get");
   if (reads)
     push_often(vector, filled);
   if (appends)
@@ -262,11 +264,11 @@ template <typename Vector> long long run(const char *load, unsigned threads) {
     work = [&] { make_often(vector, times); };
   if (!std::strncmp(load, "at-least", 8))
     work = [&] { raise_often(vector, times); };
-  if (!std::strcmp(load, "at"))
+  if (looks)
     work = [&] { read_often(times, [&](Value place) { return vector.look(place); }); };
   if (!std::strcmp(load, "get"))
     work = [&] { read_often(times, [&](Value place) { return vector.get(place); }); };
-  if (!std::strncmp(load, "walk", 4))
+  if (walks)
     work = [&] {
       for (unsigned round = 0; round < rounds; ++round)
         walk_over(vector, times);

@@ -6,11 +6,11 @@ ghost use Rattle.grow_core.specs.Vector.{IsHandOf};
 
 use crate::growths::{append_copies, append_lists, append_made};
 use crate::lists::open_cut;
-use crate::reads::{
-    pick_places, print_get_time, read_at, read_look, read_segment_walks, read_walks,
-};
+use crate::reads::{pick_places, read_at, read_look, read_segment_walks, read_walks};
 use crate::shared_vector::{hands_for, open_empty_in, push, push_by_calls};
+use crate::tokens::print_get_time;
 use crate::trial::{print_nanoseconds, time_hands};
+use crate::walks::{print_iter_time, print_parallel_time};
 use crate::writers::{push_buffered, push_by_writer};
 use anyhow::{Result, bail};
 use grow_core::{Hand, Shared};
@@ -61,12 +61,18 @@ pub enum Work {
     At,
     /// Reads such a place by `look`.
     Look,
-    /// Reads such a place by `get` with its token.
+    /// Reads such a place by `get` with its token, which the read makes.
     Get,
+    /// Reads by `get` with tokens that were kept.
+    GetKept,
     /// Walks over the places in order.
     Walk,
     /// Walks over them segment by segment.
     Segments,
+    /// Walks over a list.
+    Iter,
+    /// Walks over the places by workers together.
+    Parallel,
     /// Picks a place at random, and reads nothing.
     Pick,
 }
@@ -97,7 +103,7 @@ pub fn layout_of(name: &str) -> Layout {
 
 // The name of a load, what is done, how many values there are before its time starts, and how many while it
 // runs.
-static ROWS: [(&'static str, Work, u64, u64); 24] = [
+static ROWS: [(&'static str, Work, u64, u64); 27] = [
     ("push", Work::Push, 0, FRESH),
     ("push-256", Work::Push, 0, FRESH),
     ("push-installed", Work::Push, FILLED, MORE),
@@ -119,8 +125,11 @@ static ROWS: [(&'static str, Work, u64, u64); 24] = [
     ("at", Work::At, FILLED, MORE),
     ("look", Work::Look, FILLED, MORE),
     ("get", Work::Get, FILLED, MORE),
+    ("get-kept", Work::GetKept, FILLED, MORE),
     ("walk", Work::Walk, FILLED, WALKED),
     ("walk-segments", Work::Segments, FILLED, WALKED),
+    ("iter", Work::Iter, FILLED, WALKED),
+    ("walk-parallel", Work::Parallel, MORE, WALKED),
     ("pick", Work::Pick, FILLED, MORE),
 ];
 
@@ -153,7 +162,8 @@ impl Work {
     // Whether it appends values.
     fn appends(self) -> bool {
         match self {
-            Work::At | Work::Look | Work::Get | Work::Walk | Work::Segments | Work::Pick => false,
+            Work::At | Work::Look | Work::Get | Work::GetKept | Work::Pick => false,
+            Work::Walk | Work::Segments | Work::Iter | Work::Parallel => false,
             _ => true,
         }
     }
@@ -191,7 +201,7 @@ impl Work {
             Work::Make => append_made(rt, vector, hand, times, false),
             Work::AtLeast => append_made(rt, vector, hand, times, true),
             Work::At => read_at(vector, hand, times),
-            Work::Look | Work::Walk | Work::Segments | Work::Get | Work::Pick => {
+            _ => {
                 let read = self.read(vector, &mut hand, times);
                 drop(hand);
                 read
@@ -298,25 +308,18 @@ impl Load {
         printed
     }
 
-    // Reads by tokens.
-    fn print_get_time<R: Threads + Wait + Clock + Print + AllocGlobal + Sync>(
-        self,
-        rt: &R,
-        threads: usize,
-    ) -> Result<()> {
-        let filled = self.filled;
-        let reads = self.values_of_one(threads);
-        print_get_time(rt, filled, reads, threads)
-    }
-
     /// Runs it in this many threads, and prints the nanoseconds that it took.
     pub fn print_time<R: Threads + Wait + Clock + Print + AllocGlobal + Sync>(
         self,
         rt: &R,
         threads: usize,
     ) -> Result<()> {
+        let (filled, reads) = (self.filled, self.values_of_one(threads));
         match self.work {
-            Work::Get => self.print_get_time(rt, threads),
+            Work::Get => print_get_time(rt, filled, reads, threads, false),
+            Work::GetKept => print_get_time(rt, filled, reads, threads, true),
+            Work::Iter => print_iter_time(rt, filled, reads, threads),
+            Work::Parallel => print_parallel_time(rt, filled, self.values, threads),
             _ => self.print_time_by_hands(rt, threads),
         }
     }

@@ -30,7 +30,9 @@ mod reads;
 mod shared_vector;
 mod start;
 mod stress;
+mod tokens;
 mod trial;
+mod walks;
 mod writers;
 
 use crate::boxcar_loads::{print_boxcar_reads, print_boxcar_time};

@@ -2,16 +2,8 @@
 //! own, as in the other program, so that no other loop takes its registers.
 ghost use Rattle.std.specs.Prelude.{◌≡◌, ◌<◌, ◌≤◌, ℕ};
 ghost use Rattle.grow_core.specs.Vector.{IsHandOf};
-ghost use Rattle.grow_core.specs.Grown.{IsGrownOf};
 
-use crate::shared_vector::open_empty;
-use crate::trial::{print_nanoseconds, time_threads};
-use anyhow::{Result, bail};
-use grow_core::{Grown, Hand, Never, Shared, Shown};
-use std::alloc::AllocGlobal;
-use std::rt::Clock;
-use std::sync::Wait;
-use std::thread::Threads;
+use grow_core::{Hand, Shared, Shown};
 
 // The first number of the sequence.
 const FIRST: u64 = 88_172_645_463_325_252;
@@ -26,13 +18,13 @@ fn next(random: u64) -> u64 {
 
 // How often a load walks over its places. A single walk takes some milliseconds, so the start of its threads would
 // count.
-const ROUNDS: u64 = 16;
+pub const ROUNDS: u64 = 16;
 
 // How many bits of a number are cut off: the first 23 are left, as in the other program.
 const CUT: u32 = 41;
 
-// The last place that a load reads: the greatest power of two that the size has, less one.
-fn last_place(size: u64) -> u64
+/// Returns the last place that a load reads: the greatest power of two that the size has, less one.
+pub fn last_place(size: u64) -> u64
     ensures { 0 < size → result < size }
 {
     (1 << size.max(1).ilog2()) - 1
@@ -46,9 +38,9 @@ fn place_of(random: u64, last: u64) -> u64
     (random >> CUT) & last
 }
 
-// What the reads at random places up to the last one add up to.
+/// Returns what the reads at random places up to the last one add up to.
 #[inline(always)]
-fn sum_at_random<F: Fn(u64) -> u64>(last: u64, reads: u64, read: &F) -> u64
+pub fn sum_at_random<F: Fn(u64) -> u64>(last: u64, reads: u64, read: &F) -> u64
     requires callable { (place : ℕ) → place ≤ last → F.pre read.now place }
 {
     let mut sum: u64 = 0;
@@ -155,8 +147,8 @@ pub fn read_walks(vector: &Shared<u64>, reads: u64) -> u64 {
     odd
 }
 
-// How many of the values are odd.
-fn count_odd(values: &[u64]) -> u64 {
+/// Returns how many of the values are odd.
+pub fn count_odd(values: &[u64]) -> u64 {
     let mut odd: u64 = 0;
     for value in values {
         odd = odd.wrapping_add(*value & 1);
@@ -193,75 +185,4 @@ pub fn read_segment_walks(vector: &Shared<u64>, reads: u64) -> u64 {
 #[inline(never)]
 pub fn pick_places(size: u64, reads: u64) -> u64 {
     sum_at_random(last_place(size), reads, &|place: u64| -> u64 { place & 1 })
-}
-
-// The last bit of a value that was appended.
-#[inline(always)]
-fn get_once(vector: &Shared<u64>, grown: &Grown<u64>, i: u64) -> u64
-    requires ours { IsGrownOf vector.now grown.now }
-    requires inside { i < grown.now.run.n }
-{
-    let placed = grown.placed(i);
-    let bit = *vector.get(&placed) & 1;
-    drop(placed);
-    bit
-}
-
-// Reads by `get`, and returns how many values were odd.
-#[inline(never)]
-fn read_get(vector: &Shared<u64>, grown: &Grown<u64>, reads: u64) -> u64
-    requires ours { IsGrownOf vector.now grown.now }
-{
-    let n = grown.run().n;
-    if n == 0 {
-        return 0;
-    }
-    sum_at_random(
-        last_place(n),
-        reads,
-        &|i: u64| -> u64
-            requires { IsGrownOf vector.now grown.now × (i < grown.now.run.n) }
-        { get_once(vector, grown, i) },
-    )
-}
-
-// Appends values, reads them by their tokens in this many threads, and prints the nanoseconds that the reads took.
-fn print_get_time_on<R: Threads + Wait + Clock + Print + AllocGlobal + Sync>(
-    rt: &R,
-    vector: &Shared<u64>,
-    hand: &mut Hand<u64>,
-    filled: u64,
-    reads: u64,
-    threads: usize,
-) -> Result<()>
-    requires ours { IsHandOf vector.now hand.old }
-{
-    let number = |i: u64| -> Result<u64, Never> { Ok(i) };
-    let Some(grown) = vector.grow_with(rt, hand, filled, number).ok() else {
-        bail!("the values to be read were not appended")
-    };
-    let timed = time_threads(
-        rt,
-        threads,
-        &|_: usize| -> u64
-            requires { IsGrownOf vector.now grown }
-        { read_get(vector, &grown, reads) },
-    );
-    drop(grown);
-    let (took, _sums) = timed?;
-    print_nanoseconds(rt, took)
-}
-
-/// Appends values to a new vector, reads them by their tokens in this many threads, and prints the nanoseconds that
-/// the reads took.
-pub fn print_get_time<R: Threads + Wait + Clock + Print + AllocGlobal + Sync>(
-    rt: &R,
-    filled: u64,
-    reads: u64,
-    threads: usize,
-) -> Result<()> {
-    let (vector, mut hand) = open_empty(rt.alloc(), filled)?;
-    let printed = print_get_time_on(rt, &vector, &mut hand, filled, reads, threads);
-    drop((hand, vector));
-    printed
 }

@@ -308,18 +308,34 @@ impl Load {
         printed
     }
 
+    // Reads by tokens, a list's members, or by workers together.
+    fn print_read_time<R: Threads + Wait + Clock + Print + AllocGlobal + Sync>(
+        self,
+        rt: &R,
+        threads: usize,
+    ) -> Result<()> {
+        let filled = self.filled;
+        let values = self.values;
+        let work = self.work;
+        let reads = self.values_of_one(threads);
+        match work {
+            Work::Get => print_get_time(rt, filled, reads, threads, false),
+            Work::GetKept => print_get_time(rt, filled, reads, threads, true),
+            Work::Iter => print_iter_time(rt, filled, reads, threads),
+            _ => print_parallel_time(rt, filled, values, threads),
+        }
+    }
+
     /// Runs it in this many threads, and prints the nanoseconds that it took.
     pub fn print_time<R: Threads + Wait + Clock + Print + AllocGlobal + Sync>(
         self,
         rt: &R,
         threads: usize,
     ) -> Result<()> {
-        let (filled, reads) = (self.filled, self.values_of_one(threads));
         match self.work {
-            Work::Get => print_get_time(rt, filled, reads, threads, false),
-            Work::GetKept => print_get_time(rt, filled, reads, threads, true),
-            Work::Iter => print_iter_time(rt, filled, reads, threads),
-            Work::Parallel => print_parallel_time(rt, filled, self.values, threads),
+            Work::Get | Work::GetKept | Work::Iter | Work::Parallel => {
+                self.print_read_time(rt, threads)
+            }
             _ => self.print_time_by_hands(rt, threads),
         }
     }

@@ -15,6 +15,9 @@ use std::rt::Clock;
 use std::sync::Wait;
 use std::thread::Threads;
 
+// The most workers that walk together.
+const MOST_WORKERS: usize = 64;
+
 // Walks over the first members of a list, and returns how many of them were odd.
 #[inline(never)]
 fn read_list(list: &Quiet<u64>, reads: u64) -> u64 {
@@ -78,7 +81,9 @@ fn read_by_workers<R: Threads + Wait + Sync>(
 ) -> u64 {
     let work = |parts: WorkerCells<'_, u64>| -> u64 { count_odd_of(parts) };
     match par_for_segments(rt, alloc, vector, workers, &work, &Free) {
-        Ok(counts) => counts.iter().copied().sum(),
+        Ok(counts) => counts
+            .iter()
+            .fold(0u64, |sum, count| sum.wrapping_add(*count)),
         Err(_) => 0,
     }
 }
@@ -108,12 +113,13 @@ pub fn print_parallel_time<R: Threads + Wait + Clock + Print + AllocGlobal + Syn
     let (vector, hand) = open_empty(rt.alloc(), filled)?;
     let filled = push(rt, &vector, hand, filled);
     let rounds = reads / filled.max(1);
+    let count = workers.min(MOST_WORKERS) as u32;
     let timed = time_threads(
         rt,
         1,
         &|_: usize| -> u64
             requires { IsSync R.row }
-        { read_walks_by_workers(rt, &vector, workers as u32, rounds) },
+        { read_walks_by_workers(rt, &vector, count, rounds) },
     );
     drop(vector);
     let (took, odd) = timed?;

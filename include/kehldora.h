@@ -364,7 +364,7 @@ static inline kehldora_status kehldora_list_look(kehldora_list *list, uint64_t p
   return list && at ? kehldora_raw_list_look(list, place, at) : KEHLDORA_NULL;
 }
 
-/* Drops the members from place `size` on. Their memory stays. */
+/* Drops the members from place `size` on. Their memory stays. If there are none, it does nothing. */
 static inline kehldora_status kehldora_list_cut(kehldora_list *list, uint64_t size) {
   return list ? kehldora_raw_list_cut(list, size) : KEHLDORA_NULL;
 }

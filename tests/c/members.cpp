@@ -218,6 +218,15 @@ template <typename T> void one_thread() {
   CHECK(holds(v, {3, 2}));
   const std::vector<T> values = v.into_vector();
   CHECK(values.size() == 2 && values[0] == T(3) && v.empty());
+  v.grow_by({T(1), T(1), T(2), T(2)});
+  auto fewer = v.close();
+  fewer.cut(std::unique(fewer.begin(), fewer.end()).place());
+  fewer.cut(3);
+  CHECK(fewer.size() == 2 && fewer[1] == T(2) && throws<std::out_of_range>([&] { fewer[2]; }));
+  v = fewer.open();
+  fewer.cut(0);
+  CHECK(fewer.empty() && *v.push_back(T(3)) == T(3) && holds(v, {1, 2, 3}));
+  v.clear();
   v.push_back(T(1));
   CHECK(v.close().into_vector().size() == 1);
 }

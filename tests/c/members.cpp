@@ -417,6 +417,23 @@ template <typename T> void without_memory() {
   CHECK(alive == 0 && hook_blocks() == 0);
 }
 
+// A list whose values get no memory for a std::vector keeps them, also if the refused request is the library's.
+template <typename T> void list_without_memory() {
+  for (const bool is_library : {false, true}) {
+    concurrent_vector<T> v{T(1), T(2)};
+    auto list = v.close();
+    if (is_library)
+      hook_refuse(0);
+    else
+      until_no_memory = 0;
+    CHECK(throws<std::bad_alloc>([&] { list.into_vector(); }));
+    until_no_memory = -1;
+    hook_refuse(-1);
+    CHECK(list.size() == 2 && list[1] == T(2) && list.into_vector().size() == 2 && list.empty());
+  }
+  CHECK(alive == 0 && hook_blocks() == 0);
+}
+
 // A thread that has no hand yet walks over what others appended, without memory for one. It finds all or is told.
 template <typename T> void first_walk_without_memory(int library, int header) {
   concurrent_vector<T> v;
@@ -544,6 +561,8 @@ int main() {
   without_memory<int>();
   without_memory<Counted>();
   without_memory<Relocated>();
+  list_without_memory<int>();
+  list_without_memory<Counted>();
   for (int at = 0; at < 8; ++at) {
     first_walk_without_memory<int>(at, -1);
     first_walk_without_memory<int>(-1, at);

@@ -1,5 +1,5 @@
 // Writers that own their vector together, append to it, and close it into a list.
-ghost use Rattle.std.specs.Prelude.{◌≡◌};
+ghost use Rattle.std.specs.Prelude.{◌≡◌, ◌<◌, ◌≤◌};
 
 mod memory;
 
@@ -112,7 +112,9 @@ fn reads(writer: &SharedWriter<u64>, place: u64) -> bool {
 }
 
 // A writer of a new vector with this limit.
-fn writer_of(alloc: Global, limit: u64) -> Option<SharedWriter<u64>> {
+fn writer_of(alloc: Global, limit: u64) -> Option<SharedWriter<u64>>
+    requires { 0 < limit × limit ≤ 1000 }
+{
     let (vector, hand) = Quiet::new(alloc, limit).open().ok()?;
     match Arc::new(alloc, vector).ok() {
         Some(vector) => Some(SharedWriter::new(vector, hand)),

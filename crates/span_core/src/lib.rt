@@ -34,6 +34,7 @@ mod reduce;
 mod segments;
 mod shared_writer;
 mod shared_writer_growths;
+mod shared_writer_push;
 mod span;
 mod tie;
 mod workers;

@@ -31,7 +31,7 @@ enum Way {
 }
 
 // The numbers from one on, in order.
-fn numbers(alloc: Global, first: u64, n: u64) -> Result<Vec<u64>, AllocError> {
+pub(super) fn numbers(alloc: Global, first: u64, n: u64) -> Result<Vec<u64>, AllocError> {
     let mut made = Vec::with_capacity(alloc, n as usize)?;
     made.extend(first..first.saturating_add(n))?;
     Ok(made)

@@ -1,0 +1,96 @@
+//! How a writer that shares its vector appends values one by one, and gets room for growths to come.
+ghost use Rattle.std.specs.Prelude.{◌≡◌, ◌<◌, ◌↔◌, IfOk, IfErr, IsErrAnd, IsErrOf};
+ghost use Rattle.std.specs.Iterator.{IsFinite};
+ghost use Rattle.claim_core.specs.Hand.{LogsRun};
+ghost use Rattle.grow_core.specs.Vector.{limit_of};
+ghost use Rattle.grow_core.specs.Growth.{WonPlace, Refuses, HasNoRoom, SaysFull, IsNotMoved, single};
+ghost use Rattle.grow_core.specs.Logs.{LogsRefusal};
+ghost use Rattle.span_core.specs.Writer.{AppendsAll, StopsAppending};
+
+use crate::shared_writer::SharedWriter;
+use grow_core::{GrowError, Never, Placed, ReserveError, laws};
+use std::sync::Wait;
+
+impl<T: Drop> SharedWriter<T> {
+    /// Appends a value. It begins at the size that the hand has seen, and retries if another caller was first.
+    #[inline(always)]
+    pub fn push_back<R: Wait>(
+        &mut self,
+        rt: &R,
+        value: T,
+    ) -> Result<Placed<T>, GrowError<T, T, Never>>
+        ensures won { IfOk result (WonPlace self.old.vector value self.old.hand self.new.hand) }
+        ensures refused { IfErr result
+            (Refuses self.old.vector 1 value self.old.hand self.new.hand) }
+        // Room that is missing by what the hand has seen is reported before memory is asked for.
+        ensures full { HasNoRoom self.old.vector 1 self.old.hand → IsErrAnd result SaysFull }
+        ensures not_moved { IfErr result IsNotMoved }
+        // The history gets the claim of the place, or the event whose reply the refusal is.
+        ensures logs { IfOk result
+            (λ placed. LogsRun self.old.hand self.new.hand (single placed.place)) }
+        ensures logs_refusal { IfErr result (LogsRefusal 1 self.old.hand self.new.hand) }
+        ensures vector { self.new.vector ≡ self.old.vector }
+    {
+        self.vector.push_back(rt, &mut self.hand, value)
+    }
+
+    /// Appends a value. It tries once, and waits for nobody.
+    #[inline(always)]
+    pub fn try_push_back(&mut self, value: T) -> Result<Placed<T>, GrowError<T, T, Never>>
+        ensures won { IfOk result (WonPlace self.old.vector value self.old.hand self.new.hand) }
+        ensures refused { IfErr result
+            (Refuses self.old.vector 1 value self.old.hand self.new.hand) }
+        // Room that is missing by what the hand has seen is reported before memory is asked for.
+        ensures full { HasNoRoom self.old.vector 1 self.old.hand → IsErrAnd result SaysFull }
+        // The history gets the claim of the place, or the event whose reply the refusal is.
+        ensures logs { IfOk result
+            (λ placed. LogsRun self.old.hand self.new.hand (single placed.place)) }
+        ensures logs_refusal { IfErr result (LogsRefusal 1 self.old.hand self.new.hand) }
+        ensures vector { self.new.vector ≡ self.old.vector }
+    {
+        self.vector.try_push_back(&mut self.hand, value)
+    }
+
+    /// Installs the segments of the first `n` places, in all, unless they are there: growths up to that size then ask
+    /// for no memory. It claims nothing, and looks at no size. If memory is refused, the segments that it has installed
+    /// stay.
+    pub fn reserve(&mut self, n: u64) -> Result<(), ReserveError>
+        // The limit is looked at before memory is asked for.
+        ensures too_long { IsErrOf result ReserveError.TooLong ↔ (limit_of self.old.vector < n) }
+        // It logs nothing, and the hand has seen what it had seen.
+        ensures unchanged { self.new ≡ self.old }
+    {
+        self.vector.reserve(&mut self.hand, n)
+    }
+
+    /// Appends the items of an iterator one by one, like `push_back`, and returns their number. If one is
+    /// refused, the iterator is not asked again, and the number of the items before that one comes back with
+    /// the refusal.
+    pub fn push_all<R: Wait, I: Iterator<Item = T> + Drop>(
+        &mut self,
+        rt: &R,
+        items: I,
+    ) -> Result<u64, (u64, GrowError<T, T, Never>)>
+        requires can { I.can_next items }
+        requires ends { IsFinite (I.remaining items) }
+        ensures appended { IfOk result (AppendsAll I.next_gives items self.old.hand self.new.hand) }
+        ensures stopped { IfErr result
+            (StopsAppending I.next_gives items self.old.vector self.old.hand self.new.hand) }
+        ensures not_moved { IfErr result (λ (_, refused). IsNotMoved refused) }
+        ensures vector { self.new.vector ≡ self.old.vector }
+    {
+        // For the proof: a hand that wins a place owns one more.
+        laws::added_places_add_up();
+        let mut n = 0;
+        for item in items {
+            // For the proof: the hand owns no more places than the vector may have.
+            self.vector().laws();
+            self.hand().laws();
+            match self.push_back(rt, item) {
+                Ok(_placed) => n += 1,
+                Err(refused) => return Err((n, refused)),
+            }
+        }
+        Ok(n)
+    }
+}

@@ -33,6 +33,7 @@ mod map;
 mod reduce;
 mod segments;
 mod shared_writer;
+mod shared_writer_copies;
 mod shared_writer_growths;
 mod shared_writer_push;
 mod span;

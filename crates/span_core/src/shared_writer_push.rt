@@ -1,7 +1,7 @@
 //! How a writer that shares its vector appends values one by one, and gets room for growths to come.
-ghost use Rattle.std.specs.Prelude.{◌≡◌, ◌<◌, ◌↔◌, IfOk, IfErr, IsErrAnd, IsErrOf};
+ghost use Rattle.std.specs.Prelude.{◌≡◌, ◌<◌, ◌↔◌, IfOk, IfErr, IsErrAnd, IsErrOf, IsTrue};
 ghost use Rattle.std.specs.Iterator.{IsFinite};
-ghost use Rattle.claim_core.specs.Hand.{LogsRun};
+ghost use Rattle.claim_core.specs.Hand.{LogsRun, seen_size};
 ghost use Rattle.grow_core.specs.Vector.{limit_of};
 ghost use Rattle.grow_core.specs.Growth.{WonPlace, Refuses, HasNoRoom, SaysFull, IsNotMoved, single};
 ghost use Rattle.grow_core.specs.Logs.{LogsRefusal};
@@ -49,6 +49,34 @@ impl<T: Drop> SharedWriter<T> {
         ensures vector { self.new.vector ≡ self.old.vector }
     {
         self.vector.try_push_back(&mut self.hand, value)
+    }
+
+    /// Appends a value like `try_push_back`, but begins at the size that the hand has seen: it loads the size only if
+    /// that leaves no room. So it wins the place that follows what the hand has seen, or none.
+    #[inline(always)]
+    pub fn try_push_seen(&mut self, value: T) -> Result<Placed<T>, GrowError<T, T, Never>>
+        ensures won { IfOk result (WonPlace self.old.vector value self.old.hand self.new.hand) }
+        ensures here { IfOk result (λ placed. placed.place ≡ seen_size self.old.hand) }
+        ensures refused { IfErr result
+            (Refuses self.old.vector 1 value self.old.hand self.new.hand) }
+        // Room that is missing by what the hand has seen is reported before memory is asked for.
+        ensures full { HasNoRoom self.old.vector 1 self.old.hand → IsErrAnd result SaysFull }
+        // The history gets the claim of the place, or the event whose reply the refusal is.
+        ensures logs { IfOk result
+            (λ placed. LogsRun self.old.hand self.new.hand (single placed.place)) }
+        ensures logs_refusal { IfErr result (LogsRefusal 1 self.old.hand self.new.hand) }
+        ensures vector { self.new.vector ≡ self.old.vector }
+    {
+        self.vector.try_push_seen(&mut self.hand, value)
+    }
+
+    /// Tests whether there is room at the size that the hand has seen, and the hand has the key of the segment there.
+    /// Then `try_push_seen` requests no memory.
+    #[inline(always)]
+    pub fn knows_next(&self) -> bool
+        ensures room { IsTrue result → seen_size self.now.hand < limit_of self.now.vector }
+    {
+        self.vector.knows_next(&self.hand)
     }
 
     /// Installs the segments of the first `n` places, in all, unless they are there: growths up to that size then ask

@@ -69,8 +69,8 @@ fn make<R: Wait>(rt: &R, writer: &mut Writer<'_, u64>, way: &Way, first: u64, n:
 
 // A source of a caller's own.
 #[derive(Drop)]
-struct Listed<'a> {
-    values: &'a [u64],
+pub(super) struct Listed<'a> {
+    pub(super) values: &'a [u64],
 }
 
 impl<'a> Source<u64> for Listed<'a> {

@@ -57,12 +57,12 @@ fn shared_writer_calls_are_tried_again(rt: HostRuntime) {
 }
 
 // Tests whether each further way to append fills a shared vector, at the second try if need be.
-fn fills_again(alloc: Global) -> Option<bool> {
+fn fills_again<R: Wait>(rt: &R, alloc: Global) -> Option<bool> {
     let mut writer = writer_of(alloc, LIMIT)?;
-    Some(fills(alloc, &mut writer) && shows_below(writer.vector(), LIMIT))
+    Some(fills(rt, alloc, &mut writer) && shows_below(writer.vector(), LIMIT))
 }
 
 #[test]
 fn further_shared_writer_calls_are_tried_again(rt: HostRuntime) {
-    assert!(rt; fills_again(rt.alloc()) != Some(false));
+    assert!(rt; fills_again(&rt, rt.alloc()) != Some(false));
 }

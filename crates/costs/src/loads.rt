@@ -83,8 +83,8 @@ pub struct Load {
     pub work: Work,
     pub filled: u64,
     pub values: u64,
-    /// Whether the system has given the vector's segments their memory before the time starts: the vector begins with a
-    /// list that had all values and was cut to those that there are.
+    /// Whether the system has given the vector's segments their memory before its time starts: the vector begins with a
+    /// list of the values that there are, which had all values before.
     pub is_resident: bool,
     /// Whether the vector lies in an `Arc`.
     pub is_in_arc: bool,

@@ -42,8 +42,8 @@ fn read_list_walks(list: &Quiet<u64>, reads: u64) -> u64 {
     odd
 }
 
-/// Walks over the members of a list in this many threads, each with this many reads, and prints the nanoseconds that
-/// the walks took.
+/// Walks over the members of a list in this many threads, each with this many reads, and prints the nanoseconds that the
+/// walks took.
 pub fn print_iter_time<R: Threads + Clock + Print + AllocGlobal + Sync>(
     rt: &R,
     filled: u64,

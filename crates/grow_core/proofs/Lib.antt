@@ -1,6 +1,13 @@
 pub mod Later
 pub mod Logs
+pub mod Adds
+pub mod Works
+pub mod TiedSteps
+pub mod Entries
+pub mod TiedCells
+pub mod Wins
 pub mod Places
+pub mod Entered
 pub mod OpenedValues
 pub mod Filling
 pub mod KnownPlaces
@@ -10,6 +17,11 @@ pub mod KeyRows
 pub mod FirstPlaces
 pub mod Cells
 pub mod Settled
+pub mod LastKeys
+pub mod StillOpen
+pub mod Fixing
+pub mod ListLength
+pub mod Unties
 pub mod FoundFilled
 pub mod Stopped
 pub mod Made
@@ -20,3 +32,4 @@ pub mod Counted
 pub mod Copying
 pub mod Breaking
 pub mod PlainSegments
+pub mod Loops

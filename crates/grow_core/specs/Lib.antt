@@ -12,6 +12,9 @@ pub mod Growth
 pub mod Making
 pub mod AtLeast
 pub mod Logs
+pub mod Ties
+pub mod Steps
+pub mod Shown
 pub mod Segment
 pub mod Ties
 pub mod Stretch

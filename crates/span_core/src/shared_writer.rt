@@ -1,17 +1,16 @@
 //! A vector with several owners and a hand of it, in one value.
-ghost use Rattle.std.specs.Prelude.{◌≡◌, ◌+◌, ◌-◌, ◌<◌, ◌≤◌, [], ◌∷◌, ◌++◌, ◌⊎◌, IfOk, IfErr, IfSome, IsOkAnd, OnOk, OnErr, None, length};
+ghost use Rattle.std.specs.Prelude.{◌≡◌, ◌+◌, ◌-◌, ◌<◌, ◌≤◌, [], ◌∷◌, ◌++◌, ◌⊎◌, IfOk, IfErr, OnOk, OnErr, length};
 ghost use Rattle.std.specs.Arc.{arc_value};
 ghost use mathlib.Core.List.{IsPrefix};
 ghost use Rattle.seg_core.specs.Segment.{most_places};
 ghost use Rattle.claim_core.specs.Hand.{IsWholeHand, KeepsOwn, OwnApart, SeesSize, seen_size};
 ghost use Rattle.claim_core.specs.History.{AddsEvents, size_event};
-ghost use Rattle.grow_core.specs.Vector.{IsHandOf, IsOpenedAt, IsPlacedOf, SeesMore, base_of, limit_of, layout_of};
+ghost use Rattle.grow_core.specs.Vector.{IsHandOf, IsOpenedAt, IsPlacedOf, base_of, limit_of, layout_of};
 ghost use Rattle.grow_core.specs.Closing.{KeepsValues, IsClosedFrom};
-ghost use Rattle.grow_core.specs.Logs.{LogsNothing, LogsAtRefusal};
-ghost use Rattle.grow_core.specs.Read.{IsShownAt, ShowsValue, IsDueAt, IsInRange};
+ghost use Rattle.grow_core.specs.Read.{IsShownAt, ShowsValue};
 ghost use Rattle.span_core.specs.Hands.{split_off};
 
-use grow_core::{At, AtError, Hand, Placed, Published, Shared, Shown};
+use grow_core::{Hand, Placed, Published, Shared, Shown};
 use quiet_core::Quiet;
 use std::alloc::AllocError;
 use std::fmt;
@@ -95,35 +94,6 @@ impl<T> SharedWriter<T> {
         ensures vector { self.new.vector ≡ self.old.vector }
     {
         self.vector.size(&mut self.hand)
-    }
-
-    /// Returns the token of the place, whose value `get` reads. With a token it returns that again. Without one
-    /// it loads the size, unless the hand has seen that it is above the place, and then looks once at the place.
-    #[inline(always)]
-    pub fn at(&mut self, place: u64, known: Option<&Placed<T>>) -> Result<Placed<T>, AtError>
-        requires known { IfSome known (λ p.
-            IsPlacedOf self.old.vector p.now × (p.now.place ≡ place)) }
-        ensures at { IfOk result (λ placed.
-            IsPlacedOf self.old.vector placed × (placed.place ≡ place)) }
-        // Without a token it is a place that the hand has then seen.
-        ensures below { known.entry ≡ None → IfOk result (λ _. place < seen_size self.new.hand) }
-        ensures refused { IfErr result (IsDueAt self.old.vector place self.old.hand self.new.hand) }
-        // A caller with a token gets a token of its value.
-        ensures known { IfSome known.entry (λ p.
-            IsOkAnd result (λ placed. placed.value ≡ p.now.value)) }
-        // A value of the opened list is found by everybody, token or not.
-        ensures opened { (x : T) → IsOpenedAt self.old.vector place x
-            → IsOkAnd result (λ placed. placed.value ≡ x) }
-        // A place that was claimed stays claimed.
-        ensures in_range { place < seen_size self.old.hand → IfErr result IsInRange }
-        ensures hand { SeesMore self.old.hand self.new.hand }
-        // The history gets the look at a place that is not below the size.
-        ensures logs { IfOk result (λ _. LogsNothing self.old.hand self.new.hand) }
-        ensures logs_refusal { IfErr result (LogsAtRefusal place self.old.hand self.new.hand) }
-        ensures vector { self.new.vector ≡ self.old.vector }
-    {
-        let At { value: _, placed } = self.vector.at(&mut self.hand, place, known)?;
-        Ok(placed)
     }
 
     /// Looks once at what the place shows now. A place that nobody claimed, or past the limit, shows nothing

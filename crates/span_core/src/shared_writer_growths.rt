@@ -1,36 +1,57 @@
-//! How a writer that shares its vector appends many values, or up to a size, and mends.
-ghost use Rattle.std.specs.Prelude.{◌≡◌, ◌<◌, ◌≤◌, All, IfOk, IfErr, IsOkAnd, IsErrAnd, vec_len};
-ghost use Rattle.claim_core.specs.Hand.{seen_size};
-ghost use Rattle.cell_core.specs.Block.{IsMended};
-ghost use Rattle.grow_core.specs.Vector.{IsOpenedAt, IsPlacedOf, SeesMore, limit_of};
-ghost use Rattle.grow_core.specs.Growth.{WonRun, WonPlaces, Refuses, HasNoRoom, SaysFull, IsNotMoved};
+//! How a writer that shares its vector appends values.
+ghost use Rattle.std.specs.Prelude.{◌≡◌, ◌<◌, ◌≤◌, ◌↔◌, All, IfOk, IfErr, IsOkAnd, IsErrAnd, IsErrOf, vec_len};
+ghost use Rattle.std.specs.Iterator.{IsFinite};
+ghost use Rattle.claim_core.specs.Hand.{LogsRun, seen_size};
+ghost use Rattle.grow_core.specs.Vector.{limit_of};
+ghost use Rattle.grow_core.specs.Growth.{WonPlace, WonRun, WonPlaces, Refuses, HasNoRoom, SaysFull, IsNotMoved, single};
 ghost use Rattle.grow_core.specs.Making.{WonMade, WonClones, StopsAfter, IsRefusedBy};
 ghost use Rattle.grow_core.specs.AtLeast.{WonAtLeast, RefusesAtLeast, SaysEnough};
-ghost use Rattle.grow_core.specs.Logs.{LogsNothing, LogsGrowth, LogsRefusal, LogsAtLeast, LogsRefusalUpTo, LogsMendRefusal};
-ghost use Rattle.grow_core.specs.Mend.{IsMendDue, IsSeen, TellsValue};
+ghost use Rattle.grow_core.specs.Logs.{LogsGrowth, LogsRefusal, LogsAtLeast, LogsRefusalUpTo};
+ghost use Rattle.span_core.specs.Writer.{AppendsAll, StopsAppending};
 
 use crate::shared_writer::SharedWriter;
-use grow_core::{AtLeast, GrowError, Grown, MendError, Never, Placed, Run};
+use grow_core::{AtLeast, GrowError, Grown, Never, Placed, ReserveError, Run, laws};
 use std::alloc::AllocError;
 use std::sync::Wait;
 
 impl<T: Drop> SharedWriter<T> {
-    /// Appends the values in one run. It tries once, and waits for nobody.
-    pub fn try_grow_vec(&mut self, values: Vec<T>) -> Result<Grown<T>, GrowError<T, Vec<T>, Never>>
-        ensures won { IfOk result
-            (WonRun self.old.vector values.items self.old.hand self.new.hand) }
+    /// Appends a value. It begins at the size that the hand has seen, and retries if another caller was first.
+    #[inline(always)]
+    pub fn push_back<R: Wait>(
+        &mut self,
+        rt: &R,
+        value: T,
+    ) -> Result<Placed<T>, GrowError<T, T, Never>>
+        ensures won { IfOk result (WonPlace self.old.vector value self.old.hand self.new.hand) }
         ensures refused { IfErr result
-            (Refuses self.old.vector (vec_len values) values self.old.hand self.new.hand) }
+            (Refuses self.old.vector 1 value self.old.hand self.new.hand) }
         // Room that is missing by what the hand has seen is reported before memory is asked for.
-        ensures full { HasNoRoom self.old.vector (vec_len values) self.old.hand
-            → IsErrAnd result SaysFull }
-        // The history gets the claim of the run, or the event whose reply the refusal is.
-        ensures logs { IfOk result (λ grown. LogsGrowth self.old.hand self.new.hand grown.run) }
-        ensures logs_refusal { IfErr result
-            (LogsRefusal (vec_len values) self.old.hand self.new.hand) }
+        ensures full { HasNoRoom self.old.vector 1 self.old.hand → IsErrAnd result SaysFull }
+        ensures not_moved { IfErr result IsNotMoved }
+        // The history gets the claim of the place, or the event whose reply the refusal is.
+        ensures logs { IfOk result
+            (λ placed. LogsRun self.old.hand self.new.hand (single placed.place)) }
+        ensures logs_refusal { IfErr result (LogsRefusal 1 self.old.hand self.new.hand) }
         ensures vector { self.new.vector ≡ self.old.vector }
     {
-        self.vector.try_grow_vec(&mut self.hand, values)
+        self.vector.push_back(rt, &mut self.hand, value)
+    }
+
+    /// Appends a value. It tries once, and waits for nobody.
+    #[inline(always)]
+    pub fn try_push_back(&mut self, value: T) -> Result<Placed<T>, GrowError<T, T, Never>>
+        ensures won { IfOk result (WonPlace self.old.vector value self.old.hand self.new.hand) }
+        ensures refused { IfErr result
+            (Refuses self.old.vector 1 value self.old.hand self.new.hand) }
+        // Room that is missing by what the hand has seen is reported before memory is asked for.
+        ensures full { HasNoRoom self.old.vector 1 self.old.hand → IsErrAnd result SaysFull }
+        // The history gets the claim of the place, or the event whose reply the refusal is.
+        ensures logs { IfOk result
+            (λ placed. LogsRun self.old.hand self.new.hand (single placed.place)) }
+        ensures logs_refusal { IfErr result (LogsRefusal 1 self.old.hand self.new.hand) }
+        ensures vector { self.new.vector ≡ self.old.vector }
+    {
+        self.vector.try_push_back(&mut self.hand, value)
     }
 
     /// Appends the values in one run, and retries if another caller was first.
@@ -80,30 +101,7 @@ impl<T: Drop> SharedWriter<T> {
 
     /// Appends `n` values that `make` makes, in one run. `make` is called with 0, 1, 2 and so on once the run
     /// is won. After its first refusal it is not called again, and the places from there on are broken. It
-    /// tries once, and waits for nobody.
-    pub fn try_grow_with<E: Drop, F: FnMut(u64) -> Result<T, E>>(
-        &mut self,
-        n: u64,
-        make: F,
-    ) -> Result<Grown<T>, GrowError<T, (), E>>
-        requires callable { F.IsAlwaysCallable make }
-        ensures won { IfOk result
-            (WonMade F.step make self.old.vector n self.old.hand self.new.hand) }
-        ensures refused { IfErr result
-            (Refuses self.old.vector n tt self.old.hand self.new.hand) }
-        // The cause of a refused construction is what the maker returned after the values of `made`.
-        ensures cause { IfErr result (IsRefusedBy (StopsAfter F.step make)) }
-        // Room that is missing by what the hand has seen is reported before memory is asked for.
-        ensures full { HasNoRoom self.old.vector n self.old.hand → IsErrAnd result SaysFull }
-        // The history gets the claim of the run, or the event whose reply the refusal is.
-        ensures logs { IfOk result (λ grown. LogsGrowth self.old.hand self.new.hand grown.run) }
-        ensures logs_refusal { IfErr result (LogsRefusal n self.old.hand self.new.hand) }
-        ensures vector { self.new.vector ≡ self.old.vector }
-    {
-        self.vector.try_grow_with(&mut self.hand, n, make)
-    }
-
-    /// Appends values like `try_grow_with`, and retries if another caller was first.
+    /// retries if another caller was first.
     pub fn grow_with<R: Wait, E: Drop, F: FnMut(u64) -> Result<T, E>>(
         &mut self,
         rt: &R,
@@ -127,7 +125,7 @@ impl<T: Drop> SharedWriter<T> {
     }
 
     /// Appends the fewest values that make the size at least `size`, in one run that `make` makes as in
-    /// `try_grow_with`. If the size is large enough, nothing is appended and that size is returned. It waits
+    /// `grow_with`. If the size is large enough, nothing is appended and that size is returned. It waits
     /// for nobody, and never returns `Moved`.
     pub fn grow_to_at_least<E: Drop, F: FnMut(u64) -> Result<T, E>>(
         &mut self,
@@ -151,31 +149,54 @@ impl<T: Drop> SharedWriter<T> {
     {
         self.vector.grow_to_at_least(&mut self.hand, size, make)
     }
+
+    /// Appends the items of an iterator one by one, like `push_back`, and returns their number. If one is
+    /// refused, the iterator is not asked again, and the number of the items before that one comes back with
+    /// the refusal.
+    pub fn push_all<R: Wait, I: Iterator<Item = T> + Drop>(
+        &mut self,
+        rt: &R,
+        items: I,
+    ) -> Result<u64, (u64, GrowError<T, T, Never>)>
+        requires can { I.can_next items }
+        requires ends { IsFinite (I.remaining items) }
+        ensures appended { IfOk result (AppendsAll I.next_gives items self.old.hand self.new.hand) }
+        ensures stopped { IfErr result
+            (StopsAppending I.next_gives items self.old.vector self.old.hand self.new.hand) }
+        ensures not_moved { IfErr result (λ (_, refused). IsNotMoved refused) }
+        ensures vector { self.new.vector ≡ self.old.vector }
+    {
+        // For the proof: a hand that wins a place owns one more.
+        laws::added_places_add_up();
+        let mut n = 0;
+        for item in items {
+            // For the proof: the hand owns no more places than the vector may have.
+            self.vector().laws();
+            self.hand().laws();
+            match self.push_back(rt, item) {
+                Ok(_placed) => n += 1,
+                Err(refused) => return Err((n, refused)),
+            }
+        }
+        Ok(n)
+    }
+
+    /// Installs the segments of the first `n` places, in all, unless they are there: growths up to that size then ask
+    /// for no memory. It claims nothing, and looks at no size. If memory is refused, the segments that it has installed
+    /// stay.
+    pub fn reserve(&mut self, n: u64) -> Result<(), ReserveError>
+        // The limit is looked at before memory is asked for.
+        ensures too_long { IsErrOf result ReserveError.TooLong ↔ (limit_of self.old.vector < n) }
+        // It logs nothing, and the hand has seen what it had seen.
+        ensures unchanged { self.new ≡ self.old }
+    {
+        self.vector.reserve(&mut self.hand, n)
+    }
 }
 
 impl<T: Clone> SharedWriter<T> {
     /// Appends `n` clones of the value in one run, each made once the run is won. A clone that finds no memory
-    /// is a refused construction: the places from there on are broken. It tries once, and waits for nobody.
-    pub fn try_grow_by(
-        &mut self,
-        n: u64,
-        value: &T,
-    ) -> Result<Grown<T>, GrowError<T, (), AllocError>>
-        ensures won { IfOk result
-            (WonClones T.is_clone value.now self.old.vector n self.old.hand self.new.hand) }
-        ensures refused { IfErr result
-            (Refuses self.old.vector n tt self.old.hand self.new.hand) }
-        ensures made { IfErr result (IsRefusedBy (λ values _. All (T.is_clone value.now) values)) }
-        ensures full { HasNoRoom self.old.vector n self.old.hand → IsErrAnd result SaysFull }
-        // The history gets the claim of the run, or the event whose reply the refusal is.
-        ensures logs { IfOk result (λ grown. LogsGrowth self.old.hand self.new.hand grown.run) }
-        ensures logs_refusal { IfErr result (LogsRefusal n self.old.hand self.new.hand) }
-        ensures vector { self.new.vector ≡ self.old.vector }
-    {
-        self.vector.try_grow_by(&mut self.hand, n, value)
-    }
-
-    /// Appends clones like `try_grow_by`, and retries if another caller was first.
+    /// is a refused construction: the places from there on are broken. It retries if another caller was first.
     pub fn grow_by<R: Wait>(
         &mut self,
         rt: &R,
@@ -195,34 +216,5 @@ impl<T: Clone> SharedWriter<T> {
         ensures vector { self.new.vector ≡ self.old.vector }
     {
         self.vector.grow_by(rt, &mut self.hand, n, value)
-    }
-}
-
-impl<T> SharedWriter<T> {
-    /// Fills a broken place. It waits for nobody, and takes no memory.
-    pub fn mend(&mut self, place: u64, value: T) -> Result<Placed<T>, (MendError<T>, T)>
-        ensures token { IfOk result (IsPlacedOf self.old.vector) }
-        ensures here { IfOk result (λ placed. placed.place ≡ place) }
-        ensures value { IfOk result (λ placed. placed.value ≡ value) }
-        // The step found the place broken.
-        ensures mended { IfOk result (λ placed. IsMended placed.cell) }
-        ensures below { IfOk result (λ _. place < seen_size self.new.hand) }
-        ensures refused { IfErr result
-            (λ (error, _). IsMendDue self.old.vector place self.old.hand self.new.hand error) }
-        ensures value_back { IfErr result (λ (_, back). back ≡ value) }
-        // A value of the opened list is found by everybody.
-        ensures opened { (x : T) → IsOpenedAt self.old.vector place x
-            → IsErrAnd result (λ (error, _). TellsValue x error) }
-        // A place that was claimed stays claimed.
-        ensures in_range { place < seen_size self.old.hand
-            → IfErr result (λ (error, _). IsSeen error) }
-        ensures hand { SeesMore self.old.hand self.new.hand }
-        // The history gets the look at a place that is not below the size.
-        ensures logs { IfOk result (λ _. LogsNothing self.old.hand self.new.hand) }
-        ensures logs_refusal { IfErr result
-            (λ (error, _). LogsMendRefusal place self.old.hand self.new.hand error) }
-        ensures vector { self.new.vector ≡ self.old.vector }
-    {
-        self.vector.mend(&mut self.hand, place, value)
     }
 }

@@ -31,7 +31,6 @@ fn has_value_as_told(
     requires tie { ((cell_at cells.old offset).tied ≡ Some tag.now.tie)
         × IsTieOf table.now.table_id desk.now.floor tag.now.tie }
     ensures seat { (badge.new.table_id ≡ badge.old.table_id) × (badge.new.id ≡ badge.old.id) }
-    ensures view { (v : ℕ) × (badge.new.views ≡ v ∷ []) }
     ensures told { IsTrue result
         ↔ (badge.new.views ≡ (offset * 8 + stage_number Filled) ∷ []) }
     ensures len { block_len cells.new ≡ block_len cells.old }

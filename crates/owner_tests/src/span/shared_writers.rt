@@ -1,7 +1,6 @@
 // Writers that own their vector together, append to it, and close it into a list.
 ghost use Rattle.std.specs.Prelude.{◌≡◌, ◌<◌, ◌≤◌};
 
-mod calls;
 mod memory;
 
 use super::writers::shows_below;

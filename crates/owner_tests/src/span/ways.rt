@@ -31,7 +31,7 @@ enum Way {
 }
 
 // The numbers from one on, in order.
-pub(super) fn numbers(alloc: Global, first: u64, n: u64) -> Result<Vec<u64>, AllocError> {
+fn numbers(alloc: Global, first: u64, n: u64) -> Result<Vec<u64>, AllocError> {
     let mut made = Vec::with_capacity(alloc, n as usize)?;
     made.extend(first..first.saturating_add(n))?;
     Ok(made)
@@ -69,8 +69,8 @@ fn make<R: Wait>(rt: &R, writer: &mut Writer<'_, u64>, way: &Way, first: u64, n:
 
 // A source of a caller's own.
 #[derive(Drop)]
-pub(super) struct Listed<'a> {
-    pub(super) values: &'a [u64],
+struct Listed<'a> {
+    values: &'a [u64],
 }
 
 impl<'a> Source<u64> for Listed<'a> {

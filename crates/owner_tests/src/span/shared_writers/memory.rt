@@ -1,6 +1,5 @@
 // Any one allocation may be refused: then the call says so, and the next one succeeds. `tests/refuse-memory` refuses
 // each request in turn.
-use super::calls::{LIMIT, fills};
 use super::writer_of;
 use crate::results::succeeded;
 use crate::span::writers::shows_below;
@@ -54,15 +53,4 @@ fn shares_again<R: Wait>(rt: &R, alloc: Global) -> Option<bool> {
 #[test]
 fn shared_writer_calls_are_tried_again(rt: HostRuntime) {
     assert!(rt; shares_again(&rt, rt.alloc()) != Some(false));
-}
-
-// Tests whether each further way to append fills a shared vector, at the second try if need be.
-fn fills_again<R: Wait>(rt: &R, alloc: Global) -> Option<bool> {
-    let mut writer = writer_of(alloc, LIMIT)?;
-    Some(fills(rt, alloc, &mut writer) && shows_below(writer.vector(), LIMIT))
-}
-
-#[test]
-fn further_shared_writer_calls_are_tried_again(rt: HostRuntime) {
-    assert!(rt; fills_again(&rt, rt.alloc()) != Some(false));
 }

@@ -1,20 +1,48 @@
-use Rattle.std.proofs.Common.{of_calls, ◌+◌, ◌++◌, ◌∷◌, [], refl, length-append, arith}
+use Rattle.std.proofs.Common.{of_calls, ◌≡◌, ℕ, ◌+◌, ◌-◌, ◌++◌, ◌∷◌, [], refl, sym, ◌∙◌, subst, length, length-append, arith}
+use Rattle.std.specs.List.{Contains}
 use Rattle.std.proofs.lemmas.Fn.{FoldsTo-push}
+use Rattle.grow_core.specs.Logs.{break_steps}
+use Rattle.grow_core.specs.Steps.{AddsOn, WorksIn}
 use Rattle.grow_core.proofs.Breaking.{none_broken, more_broken}
+use Rattle.grow_core.proofs.Loops.{fresh_left, nothing_broken, place_broken}
+use Rattle.grow_core.proofs.Works.{place_still, segment_still}
 use Rattle.grow_core.proofs.vector.Shared.break_rest.Goals as goal
 
+-- The names of goals, and of the hand after a call, are a guess. Not checked.
+
 pub loop-place-init : goal.loop-place-init
-loop-place-init g c = (
-  ([], none_broken c.args.self.now (c.args.run.from + c.args.first), refl, omega arith),
-  c.find_segment-segment.ensures.segment,
-  omega arith,
-  omega arith,
-  search of_calls,
-)
+loop-place-init g c =
+    let run = c.args.run in let hand = c.args.hand.now in let from = run.from + c.args.first in
+    let first = nothing_broken c.args.self.now run hand from in let zero_is : 0 ≡ from - from = omega arith in (
+      ([], none_broken c.args.self.now from, refl, omega arith),
+      c.find_segment-segment.ensures.segment,
+      omega arith,
+      omega arith,
+      c.find_segment-segment.ensures.row,
+      subst (λ (k : ℕ). WorksIn hand hand from k) zero_is first.0,
+      subst (λ (k : ℕ). AddsOn c.args.self.now hand hand run from (λ index. break_steps index from k)) zero_is first.1,
+      search of_calls,
+    )
+
+-- the hand of this turn owns the place, and knows where it is
+pub next_segment-requires : goal.next_segment-requires
+next_segment-requires g c =
+    let at = c.loop-place in let keeps = at.invariant.5.keeps in
+    (omega arith, (keeps.own.of ∙ c.requires.ours, (place_still c.args.hand.now at.hand keeps _ (c.requires.owned _ (omega arith, omega arith)), (omega arith, (at.invariant.1, (at.invariant.4, (at.invariant.2, at.invariant.3)))))))
+
+pub break_place-requires-clause-fresh : goal.break_place-requires-clause-fresh
+break_place-requires-clause-fresh g c =
+    let at = c.loop-place in let run = c.args.run in let from = run.from + c.args.first in let had = at.invariant.0 in
+    λ place low high. fresh_left c.args.self.now run c.args.hand.now c.seen_runs_have_places.ensures at.hand at.hand from (at.place - from) at.place (omega (arith, had.3))
+    (run.from + run.n - at.place) (run.n - c.args.first) (omega (arith, had.3)) at.invariant.5 c.requires.fresh place low (omega (arith, high))
 
 pub loop-place-preserved : goal.loop-place-preserved
 loop-place-preserved g c =
-    let at = c.loop-place in let had = at.invariant.0 in let t = c.in-Ok.spoilt in let from = c.args.run.from + c.args.first in (
+    let at = c.loop-place in let had = at.invariant.0 in let t = c.in-Ok.spoilt in let run = c.args.run in let from = run.from + c.args.first in
+    let after = c.break_place.new.claims in let works = c.break_place.ensures.works in
+    let more = place_broken c.args.self.now run c.args.hand.now c.seen_runs_have_places.ensures at.hand after from (at.place - from) at.place (omega (arith, had.3))
+    (omega arith) (omega arith) at.invariant.5 at.invariant.6 works c.break_place.ensures.adds in
+    let one_more : at.place - from + 1 ≡ at.place + 1 - from = omega (arith, had.3) in (
       (
         had.0 ++ t ∷ [],
         more_broken c.args.self.now from had.0 t had.1 c.in-Ok.ensures.token (omega (arith, c.in-Ok.ensures.here, had.3)),
@@ -24,5 +52,8 @@ loop-place-preserved g c =
       c.next_segment.ensures.segment,
       omega arith,
       omega arith,
+      segment_still at.hand after works.keeps (λ row it. subst (λ l. Contains l row) (sym works.rows) it) _ _ c.next_segment.ensures.row,
+      subst (λ (k : ℕ). WorksIn c.args.hand.now after from k) one_more more.0,
+      subst (λ (k : ℕ). AddsOn c.args.self.now c.args.hand.now after run from (λ index. break_steps index from k)) one_more more.1,
       search of_calls,
     )

@@ -1,9 +1,17 @@
-use Rattle.std.proofs.Common.{of_calls, IfOk, ℕ, ◌≡◌, ◌+◌, ◌-◌, ◌++◌, ◌∷◌, [], Ok, refl, length, length-append, subst, sym, arith}
+use Rattle.std.proofs.Common.{of_calls, IfOk, ℕ, ◌≡◌, ◌<◌, ◌≤◌, ◌+◌, ◌-◌, ◌++◌, ◌∷◌, [], Ok, refl, length, length-append, subst, sym, ◌∙◌, arith}
+use Rattle.std.specs.List.{Contains}
 use Rattle.grow_core.specs.Begun.{AreBegun}
 use Rattle.grow_core.specs.Stretch.{IsStretchOf}
 use Rattle.grow_core.proofs.Made.{made_push, stops_at, left_by_stop}
-use Rattle.grow_core.proofs.BegunPlaces.{unwritten, begun_few}
+use Rattle.grow_core.proofs.BegunPlaces.{unwritten, begun_few, begun_low, begun_stays}
+use Rattle.grow_core.proofs.Loops.{fresh_left, nothing_filled, place_filled}
+use Rattle.grow_core.proofs.Places.{opened_ends}
+use Rattle.grow_core.proofs.Works.{place_still, segment_still}
+use Rattle.grow_core.specs.Vector.{VectorView}
+use Rattle.seg_core.specs.Segment.{segment_start}
 use Rattle.grow_core.proofs.vector.Shared.make_run.Goals as goal
+
+-- The names of goals, and of the hand after a call, are a guess. Not checked.
 
 pub grown-requires : goal.grown-requires
 grown-requires g c = (omega arith, (c.requires.within, ([], omega arith, c.no_places-filled.ensures c.args.run.from)))
@@ -17,23 +25,49 @@ returns-in-Err-clause-asked g c =
 
 pub next_segment-requires : goal.next_segment-requires
 next_segment-requires g c =
-    let at = c.loop-i in
-    (omega arith, (c.requires.ours, (c.requires.owned _ (omega arith, omega arith), (omega arith, (at.invariant.1, (at.invariant.2, at.invariant.3))))))
+    let at = c.loop-i in let keeps = at.invariant.5.keeps in
+    (omega arith, (keeps.own.of ∙ c.requires.ours, (place_still c.args.hand.now at.hand keeps _ (c.requires.owned _ (omega arith, omega arith)), (omega arith, (at.invariant.1, (at.invariant.4, (at.invariant.2, at.invariant.3)))))))
+
+pub fill_begun-put-requires-clause-fresh : goal.fill_begun-put-requires-clause-fresh
+fill_begun-put-requires-clause-fresh g c =
+    let at = c.loop-i in let run = c.args.run in
+    λ place low high. fresh_left c.args.self.now run c.args.hand.now c.seen_runs_have_places.ensures at.hand at.hand run.from at.i (run.from + at.i) refl
+    (run.n - at.i) run.n (omega arith) at.invariant.5 c.requires.fresh place low (omega (arith, high))
+
+-- what is begun of a segment is begun still, since another segment follows only where it ends
+pub fill_begun-put-requires-clause-begun : goal.fill_begun-put-requires-clause-begun
+fill_begun-put-requires-clause-begun g c =
+    let at = c.loop-i in let run = c.args.run in
+    begun_stays c.args.self.now.laid at.segment c.next_segment.new.segment (run.from + at.i) (run.n - at.i) at.begun at.invariant.7 c.next_segment.ensures.same
 
 pub stop-requires : goal.stop-requires
 stop-requires g c =
-    let at = c.loop-i in let run = c.args.run in let begun = at.invariant.4 in let had = at.invariant.0 in
-    let few = begun_few at.segment (run.from + at.i) (run.n - at.i) at.begun begun in (
+    let at = c.loop-i in let run = c.args.run in let begun = at.invariant.7 in let laid : ℕ = c.args.self.now.laid in let keeps = at.invariant.5.keeps in let had = at.invariant.0 in let s = at.invariant.1 in
+    let f : ℕ = c.args.self.now.segments.layout in
+    let laid_is : laid ≡ segment_start f c.self.inside.count = subst (λ (v : VectorView _). v.laid ≡ segment_start v.segments.layout c.self.inside.count) c.self.view_is refl in
+    let ends : at.segment.from < laid → at.segment.end ≤ laid =
+    (λ low. let e = opened_ends f at.segment.key.segment c.self.inside.count laid laid_is (omega (arith, low, s.first)) in omega (arith, e, s.last)) in
+    let few = begun_few laid at.segment (run.from + at.i) (run.n - at.i) at.begun begun in (
       omega arith,
       (
-        c.requires.ours,
+        keeps.own.of ∙ c.requires.ours,
         (
-          c.requires.owned,
+          λ place it. place_still c.args.hand.now at.hand keeps place (c.requires.owned place it),
           (
-            c.requires.within,
+            fresh_left c.args.self.now run c.args.hand.now c.seen_runs_have_places.ensures at.hand at.hand run.from at.i (run.from + at.i) refl
+                (run.n - at.i) run.n (omega arith) at.invariant.5 c.requires.fresh,
             (
-              (had.0, had.2, had.1),
-              (omega arith, (unwritten at.segment (run.from + at.i) (run.n - at.i) at.begun begun, omega (arith, few))),
+              c.requires.within,
+              (
+                (had.0, had.2, had.1),
+                (
+                  omega arith,
+                  (
+                    unwritten laid at.segment (run.from + at.i) (run.n - at.i) at.begun begun,
+                    (omega (arith, few), begun_low laid at.segment (run.from + at.i) (run.n - at.i) at.begun begun ends),
+                  ),
+                ),
+              ),
             ),
           ),
         ),
@@ -42,8 +76,8 @@ stop-requires g c =
 
 pub loop-i-init : goal.loop-i-init
 loop-i-init g c =
-    let found = c.find_segment-segment.ensures in
-    (([], c.no_places-filled.ensures c.args.run.from, refl, refl), found.segment, omega (arith, found.from), omega (arith, found.before), tt, search of_calls)
+    let found = c.find_segment-segment.ensures in let first = nothing_filled c.args.self.now c.args.run c.args.hand.now in
+    (([], c.no_places-filled.ensures c.args.run.from, refl, refl), found.segment, omega (arith, found.from), omega (arith, found.before), found.row, first.0, first.1, tt, search of_calls)
 
 pub know-filled-requires : goal.know-filled-requires
 know-filled-requires g c =
@@ -63,7 +97,10 @@ loop-i-preserved g c =
     let there : token.place ≡ run.from + length had.0 = omega (arith, here, had.2) in
     let next = subst (λ (p : ℕ). IsStretchOf v p (token.value ∷ []) c.stretch_of.result) there c.stretch_of.ensures in
     let call = subst (λ x. goal.F-step g at.make at.i (Ok x) c.make.new.self) (sym value) (subst (λ r. goal.F-step g at.make at.i r c.make.new.self) c.in-Ok.is c.make.ensures) in
-    let segment = c.next_segment.new.segment in let others = c.fill_begun-put.result.1 in
+    let segment = c.next_segment.new.segment in let others = c.fill_begun-put.result.1 in let laid : ℕ = c.args.self.now.laid in
+    let after = c.fill_begun-put.new.claims in let works = put.works in
+    let more = place_filled v run c.args.hand.now c.seen_runs_have_places.ensures at.hand after run.from at.i (run.from + at.i) refl (omega arith) (omega arith)
+    at.invariant.5 at.invariant.6 works put.adds in
     let near : run.from + at.i + 1 ≡ run.from + (at.i + 1) = omega arith in let rest : run.n - at.i - 1 ≡ run.n - (at.i + 1) = omega arith in (
       (
         had.0 ++ token.value ∷ [],
@@ -74,6 +111,9 @@ loop-i-preserved g c =
       c.next_segment.ensures.segment,
       omega arith,
       omega arith,
-      subst (λ (k : ℕ). AreBegun segment k (run.n - (at.i + 1)) others) near (subst (λ (m : ℕ). AreBegun segment (run.from + at.i + 1) m others) rest put.begun),
+      segment_still at.hand after works.keeps (λ row it. subst (λ l. Contains l row) (sym works.rows) it) _ _ c.next_segment.ensures.row,
+      more.0,
+      more.1,
+      subst (λ (k : ℕ). AreBegun laid segment k (run.n - (at.i + 1)) others) near (subst (λ (m : ℕ). AreBegun laid segment (run.from + at.i + 1) m others) rest put.begun),
       search of_calls,
     )

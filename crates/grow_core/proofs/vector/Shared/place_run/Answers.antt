@@ -1,23 +1,52 @@
-use Rattle.std.proofs.Common.{of_calls, refl, ◌+◌, ◌++◌, [], ◌∙◌, sym, ap, subst, append_assoc, length, length-append, arith}
+use Rattle.std.proofs.Common.{of_calls, refl, ◌≡◌, ℕ, ◌+◌, ◌-◌, ◌++◌, [], ◌∙◌, sym, ap, subst, append_assoc, length, length-append, arith}
 use Rattle.std.specs.Vec.Iter.{into_iter_items}
+use Rattle.std.specs.List.{Contains}
+use Rattle.grow_core.specs.Logs.{fill_steps}
+use Rattle.grow_core.specs.Steps.{AddsOn, WorksIn}
 use Rattle.grow_core.specs.Grown.{AreKeptFrom}
 use Rattle.grow_core.proofs.Filling.{tokens_none, tokens_count, kept_none, kept_join}
+use Rattle.grow_core.proofs.Loops.{fresh_left, nothing_filled, owns_left, stretch_filled}
+use Rattle.grow_core.proofs.Works.{place_still, segment_still}
 use Rattle.grow_core.proofs.vector.Shared.place_run.Goals as goal
+
+-- The names of goals, and of the hand after a call, are a guess. Not checked.
 
 pub returns-then-run-eq0-clause-kept : goal.returns-then-run-eq0-clause-kept
 returns-then-run-eq0-clause-kept g c = kept_none (goal.K-step g) c.args.self.now c.args.run.from c.args.keep.now c.args.values.items (omega (arith, c.requires.values, c.args.values.ok))
 
 pub loop-place-init : goal.loop-place-init
 loop-place-init g c =
-    let made = c.into_iter-left.ensures in let items = ap length made.rest in (
+    let made = c.into_iter-left.ensures in let items = ap length made.rest in let run = c.args.run in let hand = c.args.hand.now in
+    let first = nothing_filled c.args.self.now run hand in let zero_is : 0 ≡ run.from - run.from = omega arith in (
       ([], [], tokens_none c.args.self.now c.args.run.from, refl, omega arith, made.rest),
       omega (arith, items, made.len, c.args.values.ok),
       omega (arith, items, c.requires.values, c.args.values.ok),
       c.find_segment-segment.ensures.segment,
       omega arith,
       omega arith,
+      c.find_segment-segment.ensures.row,
+      subst (λ (k : ℕ). WorksIn hand hand run.from k) zero_is first.0,
+      subst (λ (k : ℕ). AddsOn c.args.self.now hand hand run run.from (λ index. fill_steps index run.from k)) zero_is first.1,
       search of_calls,
     )
+
+-- the hand of this turn owns the place, and knows where it is
+pub next_segment-requires : goal.next_segment-requires
+next_segment-requires g c =
+    let at = c.loop-place in let keeps = at.invariant.7.keeps in
+    (omega arith, (keeps.own.of ∙ c.requires.ours, (place_still c.args.hand.now at.hand keeps _ (c.requires.owned _ (omega arith, omega arith)), (omega arith, (at.invariant.3, (at.invariant.6, (at.invariant.4, at.invariant.5)))))))
+
+pub fill_next-requires-clause-owned : goal.fill_next-requires-clause-owned
+fill_next-requires-clause-owned g c =
+    let at = c.loop-place in let run = c.args.run in
+    owns_left c.args.self.now run c.args.hand.now c.seen_runs_have_places.ensures at.hand at.hand run.from (at.place - run.from) at.place (omega (arith, at.invariant.0)) _
+    at.invariant.7 c.requires.owned (omega arith) (omega (arith, at.invariant.2))
+
+pub fill_next-requires-clause-fresh : goal.fill_next-requires-clause-fresh
+fill_next-requires-clause-fresh g c =
+    let at = c.loop-place in let run = c.args.run in
+    fresh_left c.args.self.now run c.args.hand.now c.seen_runs_have_places.ensures at.hand at.hand run.from (at.place - run.from) at.place (omega (arith, at.invariant.0)) _ run.n
+    (omega (arith, at.invariant.2)) at.invariant.7 c.requires.fresh
 
 pub loop-place-preserved : goal.loop-place-preserved
 loop-place-preserved g c =
@@ -27,7 +56,10 @@ loop-place-preserved g c =
     let kept = c.keep_tokens.ensures.kept at.place took.values took.is in
     let next = subst (λ p. AreKeptFrom (goal.K-step g) at.keep c.keep_tokens.new.keep v p took.values) had.4 kept in
     let joined = kept_join (goal.K-step g) v from c.args.keep.now at.keep c.keep_tokens.new.keep had.0 took.values had.1 had.3 had.2 next in
-    let firsts = ap length took.first ∙ length-append took.values rest in (
+    let firsts = ap length took.first ∙ length-append took.values rest in
+    let after = c.fill_next.new.claims in let works = c.in-Ok.ensures.works in let n = c.in-Ok.stretch.n in
+    let more = stretch_filled v c.args.run c.args.hand.now c.seen_runs_have_places.ensures at.hand after from (at.place - from) at.place (omega (arith, had.4)) n
+    (at.place + n - from) (omega (arith, had.4)) (omega arith) (omega (arith, at.invariant.2, firsts, took.is.n)) at.invariant.7 at.invariant.8 works c.in-Ok.ensures.adds in (
       (
         had.0 ++ took.values,
         had.1 ++ next.tokens,
@@ -41,5 +73,8 @@ loop-place-preserved g c =
       c.next_segment.ensures.segment,
       omega arith,
       omega (arith, c.in-Ok.ensures.within),
+      segment_still at.hand after works.keeps (λ row it. subst (λ l. Contains l row) (sym works.rows) it) _ _ c.next_segment.ensures.row,
+      more.0,
+      more.1,
       search of_calls,
     )
